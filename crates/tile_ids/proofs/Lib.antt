@@ -1,0 +1,9 @@
+pub mod Bijection
+pub mod Children
+pub mod Curve
+pub mod Halving
+pub mod Indexes
+pub mod Neighbours
+pub mod Places
+pub mod Pyramid
+pub mod Subtree

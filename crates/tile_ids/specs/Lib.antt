@@ -1,0 +1,4 @@
+pub mod Counts
+pub mod Coord
+pub mod Hilbert
+pub mod Interval
