@@ -1,0 +1,6 @@
+use Rattle.std.proofs.Common.{◌≡◌}
+use Rattle.tile_hash.specs.Xxh3.{blocks}
+use Rattle.tile_hash.proofs.xxh3.long.blocks.Given as goal
+
+abbrev pub invariant-loop-i : goal.invariant-loop-i
+invariant-loop-i l = l.v ≡ blocks l.bytes l.i
