@@ -1,0 +1,5 @@
+use Rattle.pm_format.proofs.ColumnReads.{IdsReading}
+use Rattle.pm_format.proofs.directory.decode.read_ids.Given as goal
+
+abbrev pub invariant-loop-i : goal.invariant-loop-i
+invariant-loop-i l = IdsReading l.bytes l.start l.count l._i l.at l.last l.ids.items

@@ -1,0 +1,6 @@
+use Rattle.std.proofs.Common.{◌≡◌, ◌++◌, drop, map}
+use Rattle.pm_format.specs.Directory.{spell_all}
+use Rattle.pm_format.proofs.directory.encode.write_lengths.Given as goal
+
+abbrev pub invariant-loop-entry : goal.invariant-loop-entry
+invariant-loop-entry l = l.out.items ++ spell_all (map (λ e. e.length) (drop l.entry-index l.entries)) ≡ l.fn.out.items ++ spell_all (map (λ e. e.length) l.entries)

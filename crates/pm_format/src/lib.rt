@@ -1,0 +1,31 @@
+//! The format of archives: varints, directories and headers, and the media that hold them.
+#![tactic(auto)]
+
+pub mod archive_laws;
+mod backend;
+mod compression;
+mod directory;
+mod entry;
+mod entry_coords;
+mod error;
+mod header;
+pub mod header_laws;
+pub mod laws;
+mod medium;
+mod mem_medium;
+mod steps;
+mod tile_type;
+mod varint;
+
+pub use backend::{Backend, BackendResponse, ReadFault};
+pub use compression::Compression;
+pub use directory::{Directory, encode_entries};
+pub use entry::DirEntry;
+pub use entry_coords::DirEntryCoordsIter;
+pub use error::{PmtError, PmtResult, ReadCause};
+pub use header::Header;
+pub use medium::{Medium, MediumFault, WriteFault};
+pub use mem_medium::MemMedium;
+pub use steps::Steps;
+pub use tile_type::TileType;
+pub use varint::{read_varint_u32, read_varint_u64, write_varint};
