@@ -1,0 +1,76 @@
+-- The state after an add.
+use Rattle.std.proofs.Common.{◌≡◌, ℕ, ◌+◌, ◌<◌, ◌≤◌, ◌^◌, ◌&&◌, Bool, true, false, List, [], ◌∷◌, ◌++◌, length, flat_map, nat_lt, Some, refl, sym, ◌∙◌, ap, arith, Vec, Global}
+use Rattle.tile_ids.specs.declared.id.TheConstants.{MAX_TILE_ID}
+use Rattle.pm_format.specs.Directory.{Entry}
+use Rattle.pm_writer.specs.Adds.{contents_from, place_in, unsorted, longest_run}
+use Rattle.pm_writer.specs.Archive.{ids_of, rising}
+use Rattle.pm_writer.specs.Bounds.{AddsFilled, AllLow, AllSized}
+use Rattle.pm_writer.specs.Contents.{found_in}
+use Rattle.pm_writer.specs.Growing.{put}
+use Rattle.pm_writer.specs.Means.{HasEntries, IsReady, Means, is_above, last_of}
+use Rattle.pm_writer.specs.declared.adds.Adds.{Adds}
+use Rattle.pm_writer.proofs.ContentLemmas.{add_known, add_new}
+use Rattle.pm_writer.proofs.ContentPlaces.{found_is, new_is, total_push}
+
+filled_more : (adds : List (ℕ × List ℕ)) (a : ℕ × List ℕ) → AddsFilled adds → 0 < length a.1 → AddsFilled (adds ++ a ∷ [])
+filled_more [] a f h = (h, tt)
+filled_more (b ∷ adds) a f h = (f.0, filled_more adds a f.1 h)
+
+low_more : (adds : List (ℕ × List ℕ)) (a : ℕ × List ℕ) → AllLow adds → a.0 ≤ MAX_TILE_ID → AllLow (adds ++ a ∷ [])
+low_more [] a f h = (h, tt)
+low_more (b ∷ adds) a f h = (f.0, low_more adds a f.1 h)
+
+sized_more : (adds : List (ℕ × List ℕ)) (a : ℕ × List ℕ) → AllSized adds → length a.1 < 2 ^ 32 → AllSized (adds ++ a ∷ [])
+sized_more [] a f h = (h, tt)
+sized_more (b ∷ adds) a f h = (f.0, sized_more adds a f.1 h)
+
+pub last_push : (adds : List (ℕ × List ℕ)) (a : ℕ × List ℕ) → last_of (adds ++ a ∷ []) ≡ Some a.0
+last_push [] a = refl
+last_push (b ∷ []) a = refl
+last_push (b ∷ c ∷ adds) a = last_push (c ∷ adds) a
+
+and_assoc : (x y z : Bool) → (x && (y && z)) ≡ ((x && y) && z)
+and_assoc true y z = refl
+and_assoc false y z = refl
+
+and_true : (x : Bool) → (x && true) ≡ x
+and_true true = refl
+and_true false = refl
+
+pub rising_push : (adds : List (ℕ × List ℕ)) (a : ℕ × List ℕ) → rising (ids_of (adds ++ a ∷ [])) ≡ (rising (ids_of adds) && is_above (last_of adds) a.0)
+rising_push [] a = refl
+rising_push (b ∷ []) a = and_true (nat_lt b.0 a.0)
+rising_push (b ∷ c ∷ adds) a = ap (λ z. nat_lt b.0 c.0 && z) (rising_push (c ∷ adds) a) ∙ and_assoc (nat_lt b.0 c.0) (rising (ids_of (c ∷ adds))) (is_above (last_of (c ∷ adds)) a.0)
+
+rest_after : (adds : List (ℕ × List ℕ)) (s t : Adds) (id : ℕ) (bytes : List ℕ) → HasEntries s adds → t.entries.items ≡ unsorted (place_in (contents_from [] (adds ++ (id, bytes) ∷ []))) (adds ++ (id, bytes) ∷ [])
+    → t.last ≡ Some id → t.rises ≡ (s.rises && is_above s.last id) → 0 < length bytes → id ≤ MAX_TILE_ID → length bytes < 2 ^ 32 → HasEntries t (adds ++ (id, bytes) ∷ [])
+rest_after adds s t id bytes h e l r some low sized = record {
+  entries = e;
+  last = l ∙ sym (last_push adds (id, bytes));
+  rises = r ∙ (ap (λ z. z && is_above s.last id) h.rises ∙ (ap (λ z. rising (ids_of adds) && is_above z id) h.last ∙ sym (rising_push adds (id, bytes))));
+  filled = filled_more adds (id, bytes) h.filled some;
+  low = low_more adds (id, bytes) h.low low;
+  sized = sized_more adds (id, bytes) h.sized sized;
+}
+
+pub known_after : (adds : List (ℕ × List ℕ)) (s : Adds) (es : Vec Entry Global) (rises : Bool) (id place size : ℕ) (bytes : List ℕ) → Means s adds → found_in (contents_from [] adds) bytes ≡ Some place
+    → 0 < length bytes → size ≡ length bytes → size < 2 ^ 32 → id ≤ MAX_TILE_ID → es.items ≡ put longest_run id place size s.entries.items → rises ≡ (s.rises && is_above s.last id)
+    → Means (record s { entries = es; last = Some id; rises = rises }) (adds ++ (id, bytes) ∷ [])
+known_after adds s es rises id place size bytes m f some z fits low e r =
+    let at = found_is bytes (contents_from [] adds) place f in
+    let k = add_known adds (id, bytes) m.rest.filled at.0 in
+    record {
+      contents = rw (k.0) m.contents;
+      rest = rest_after adds s (record s { entries = es; last = Some id; rises = rises }) id bytes m.rest (e ∙ (rw (at.1, z, m.rest.entries) (sym k.1))) refl r some low (omega (arith, z, fits));
+    }
+
+pub new_after : (adds : List (ℕ × List ℕ)) (s : Adds) (es : Vec Entry Global) (rises : Bool) (id place size : ℕ) (bytes : List ℕ) → IsReady s adds bytes → place + size ≡ s.contents.total
+    → 0 < length bytes → size ≡ length bytes → size < 2 ^ 32 → id ≤ MAX_TILE_ID → es.items ≡ put longest_run id place size s.entries.items → rises ≡ (s.rises && is_above s.last id)
+    → Means (record s { entries = es; last = Some id; rises = rises }) (adds ++ (id, bytes) ∷ [])
+new_after adds s es rises id place size bytes m p some z fits low e r =
+    let k = add_new adds (id, bytes) m.rest.filled some (new_is bytes (contents_from [] adds) m.new) in
+    let at : place ≡ length (flat_map (λ c. c) (contents_from [] adds)) = omega (arith, p, z, m.contents.total, total_push (contents_from [] adds) bytes) in
+    record {
+      contents = rw (k.0) m.contents;
+      rest = rest_after adds s (record s { entries = es; last = Some id; rises = rises }) id bytes m.rest (e ∙ (rw (at, z, m.rest.entries) (sym k.1))) refl r some low (omega (arith, z, fits));
+    }

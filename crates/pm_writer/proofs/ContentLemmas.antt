@@ -1,0 +1,218 @@
+-- Contents, once each, and their places.
+use Rattle.std.proofs.Common.{◌≡◌, ◌≢◌, ℕ, ◌+◌, ◌<◌, ◌⊎◌, inl, inr, Bool, true, false, List, [], ◌∷◌, ◌++◌, length, flat_map, take, drop, ◌&&◌, nat_eq, refl, sym, ◌∙◌, ap, arith, append_assoc, length-append}
+use Rattle.std.proofs.lemmas.Slice.Eq.{bytes_eq-Decides}
+use Rattle.std.proofs.lemmas.List.{take_at, drop_at, drop-drop}
+use Rattle.std.specs.Str.{bytes_eq}
+use Rattle.std.specs.List.{list_any}
+use Rattle.pm_format.specs.Directory.{Entry}
+use Rattle.pm_writer.specs.Adds.{Block, put_new, contents_from, place_in, onto, blocks, entries_at, unsorted, longest_run}
+use Rattle.pm_writer.specs.Growing.{put, Separates}
+use Rattle.pm_writer.specs.Bounds.{AddsFilled}
+use Rattle.pm_writer.proofs.Blocks.{one_more, AllBlocks}
+
+pub same_or : (x y : List ℕ) → ((bytes_eq x y ≡ true) × (x ≡ y)) ⊎ ((bytes_eq x y ≡ false) × (x ≢ y))
+same_or x y = go (bytes_eq x y) refl
+  where
+    go : (b : Bool) → bytes_eq x y ≡ b → ((bytes_eq x y ≡ true) × (x ≡ y)) ⊎ ((bytes_eq x y ≡ false) × (x ≢ y))
+    go true e = inl (e, (bytes_eq-Decides x y).0 e)
+    go false e = inr (e, λ s. let t = (bytes_eq-Decides x y).1 s in cc)
+
+-- a content is among the contents
+abbrev pub Has : List (List ℕ) → List ℕ → Type 0
+Has cs x = list_any (bytes_eq x) cs ≡ true
+
+pub has_front : (c x : List ℕ) (cs : List (List ℕ)) → Has (c ∷ cs) x → (x ≡ c) ⊎ Has cs x
+has_front c x cs h = elim (same_or x c) [ inl s ↦ inl s.1 | inr s ↦ inr (let e : list_any (bytes_eq x) (c ∷ cs) ≡ list_any (bytes_eq x) cs = rw (s.0) refl in sym e ∙ h) ]
+
+has_here : (x : List ℕ) (cs : List (List ℕ)) → Has (x ∷ cs) x
+has_here x cs = let s = (bytes_eq-Decides x x).1 refl in rw s refl
+
+pub has_equal : (c x : List ℕ) (cs : List (List ℕ)) → x ≡ c → Has (c ∷ cs) x
+has_equal c x cs e = let s = (bytes_eq-Decides x c).1 e in rw s refl
+
+pub has_later : (c x : List ℕ) (cs : List (List ℕ)) → Has cs x → Has (c ∷ cs) x
+has_later c x cs h = elim (same_or x c) [ inl s ↦ rw (s.0) refl | inr s ↦ rw (s.0) h ]
+
+pub has_append : (x : List ℕ) (cs ds : List (List ℕ)) → Has cs x → Has (cs ++ ds) x
+has_append x [] ds h = absurd (cc)
+has_append x (c ∷ cs) ds h = elim (has_front c x cs h) [ inl e ↦ has_equal c x (cs ++ ds) e | inr g ↦ has_later c x (cs ++ ds) (has_append x cs ds g) ]
+
+pub has_last : (x : List ℕ) (cs : List (List ℕ)) → Has (cs ++ x ∷ []) x
+has_last x [] = has_here x []
+has_last x (c ∷ cs) = has_later c x (cs ++ x ∷ []) (has_last x cs)
+
+not_front : (c x : List ℕ) (cs : List (List ℕ)) → list_any (bytes_eq x) (c ∷ cs) ≡ false → (x ≢ c) × (list_any (bytes_eq x) cs ≡ false)
+not_front c x cs h = elim (same_or x c) [
+  | inl s ↦ absurd (let e : list_any (bytes_eq x) (c ∷ cs) ≡ true = rw (s.0) refl in cc)
+  | inr s ↦ (s.1, let e : list_any (bytes_eq x) (c ∷ cs) ≡ list_any (bytes_eq x) cs = rw (s.0) refl in sym e ∙ h)
+]
+
+-- one more add
+pub contents_push : (seen : List (List ℕ)) (adds : List (ℕ × List ℕ)) (a : ℕ × List ℕ) → contents_from seen (adds ++ a ∷ []) ≡ put_new (contents_from seen adds) a.1
+contents_push seen [] a = refl
+contents_push seen (x ∷ adds) a = contents_push (put_new seen x.1) adds a
+
+pub place_here : (c x : List ℕ) (cs : List (List ℕ)) → c ≡ x → place_in (c ∷ cs) x ≡ 0
+place_here c x cs e = let s = (bytes_eq-Decides c x).1 e in rw s refl
+
+pub place_later : (c x : List ℕ) (cs : List (List ℕ)) → c ≢ x → place_in (c ∷ cs) x ≡ length c + place_in cs x
+place_later c x cs n = elim (same_or c x) [ inl s ↦ absurd (n s.1) | inr s ↦ rw (s.0) refl ]
+
+-- a content that is there keeps its place
+pub place_stays : (x : List ℕ) (cs ds : List (List ℕ)) → Has cs x → place_in (cs ++ ds) x ≡ place_in cs x
+place_stays x [] ds h = absurd (cc)
+place_stays x (c ∷ cs) ds h = elim (same_or c x) [
+  | inl s ↦ place_here c x (cs ++ ds) s.1 ∙ sym (place_here c x cs s.1)
+  | inr s ↦ elim (has_front c x cs h) [
+    | inl e ↦ absurd (s.1 (sym e))
+    | inr g ↦ place_later c x (cs ++ ds) s.1 ∙ (ap (λ n. length c + n) (place_stays x cs ds g) ∙ sym (place_later c x cs s.1))
+  ]
+]
+
+-- a new one lies behind all
+pub place_new : (x : List ℕ) (cs : List (List ℕ)) → list_any (bytes_eq x) cs ≡ false → place_in (cs ++ x ∷ []) x ≡ length (flat_map (λ c. c) cs)
+place_new x [] h = place_here x x [] refl
+place_new x (c ∷ cs) h =
+    let n = not_front c x cs h in
+    place_later c x (cs ++ x ∷ []) (λ e. n.0 (sym e)) ∙ (ap (λ k. length c + k) (place_new x cs n.1) ∙ sym (length-append c (flat_map (λ c. c) cs)))
+
+-- what lies at a place: the range of a content is the content
+pub at_place : (x : List ℕ) (cs : List (List ℕ)) (rest : List ℕ) → Has cs x → take (length x) (drop (place_in cs x) (flat_map (λ c. c) cs ++ rest)) ≡ x
+at_place x [] rest h = absurd (cc)
+at_place x (c ∷ cs) rest h = elim (same_or c x) [
+  | inl s ↦ rw (place_here c x cs s.1, append_assoc c (flat_map (λ c. c) cs) rest, s.1) (take_at x (flat_map (λ c. c) cs ++ rest) (length x) refl)
+  | inr s ↦ elim (has_front c x cs h) [
+    | inl e ↦ absurd (s.1 (sym e))
+    | inr g ↦ rw (place_later c x cs s.1, append_assoc c (flat_map (λ c. c) cs) rest) (ap (take (length x)) (drop_behind c (place_in cs x) (flat_map (λ c. c) cs ++ rest)) ∙ at_place x cs rest g)
+  ]
+]
+  where
+    drop_behind : (c : List ℕ) (n : ℕ) (ys : List ℕ) → drop (length c + n) (c ++ ys) ≡ drop n ys
+    drop_behind c n ys = sym (drop-drop n (length c) (c ++ ys)) ∙ ap (drop n) (drop_at c ys (length c) refl)
+
+-- contents that aren't empty have places of their own
+abbrev pub Filled : List (List ℕ) → Type 0
+Filled [] = Unit {0}
+Filled (c ∷ cs) = (0 < length c) × Filled cs
+
+pub place_apart : (x y : List ℕ) (cs : List (List ℕ)) → Filled cs → Has cs x → Has cs y → place_in cs x ≡ place_in cs y → x ≡ y
+place_apart x y [] f h g e = absurd (cc)
+place_apart x y (c ∷ cs) f h g e = elim (same_or c x) [
+  | inl s ↦ elim (same_or c y) [
+    | inl t ↦ sym s.1 ∙ t.1
+    | inr t ↦ absurd (omega (arith, f.0, place_here c x cs s.1, place_later c y cs t.1, e))
+  ]
+  | inr s ↦ elim (same_or c y) [
+    | inl t ↦ absurd (omega (arith, f.0, place_here c y cs t.1, place_later c x cs s.1, e))
+    | inr t ↦ elim (has_front c x cs h) [
+      | inl u ↦ absurd (s.1 (sym u))
+      | inr u ↦ elim (has_front c y cs g) [
+        | inl v ↦ absurd (t.1 (sym v))
+        | inr v ↦ place_apart x y cs f.1 u v (omega (arith, place_later c x cs s.1, place_later c y cs t.1, e))
+      ]
+    ]
+  ]
+]
+
+-- the bytes of all adds are among the contents
+abbrev pub AllHad : List (List ℕ) → List (ℕ × List ℕ) → Type 0
+AllHad cs [] = Unit {0}
+AllHad cs (a ∷ adds) = Has cs a.1 × AllHad cs adds
+
+put_new_had : (cs : List (List ℕ)) (x : List ℕ) → Has (put_new cs x) x
+put_new_had cs x = go (list_any (bytes_eq x) cs) refl
+  where
+    go : (b : Bool) → list_any (bytes_eq x) cs ≡ b → Has (put_new cs x) x
+    go true e = rw (e) e
+    go false e = rw (e) (has_last x cs)
+
+put_new_keeps : (cs : List (List ℕ)) (x y : List ℕ) → Has cs y → Has (put_new cs x) y
+put_new_keeps cs x y h = go (list_any (bytes_eq x) cs) refl
+  where
+    go : (b : Bool) → list_any (bytes_eq x) cs ≡ b → Has (put_new cs x) y
+    go true e = rw e h
+    go false e = rw e (has_append y cs (x ∷ []) h)
+
+contents_keep : (seen : List (List ℕ)) (adds : List (ℕ × List ℕ)) (y : List ℕ) → Has seen y → Has (contents_from seen adds) y
+contents_keep seen [] y h = h
+contents_keep seen (a ∷ adds) y h = contents_keep (put_new seen a.1) adds y (put_new_keeps seen a.1 y h)
+
+pub all_had : (seen : List (List ℕ)) (adds : List (ℕ × List ℕ)) → AllHad (contents_from seen adds) adds
+all_had seen [] = tt
+all_had seen (a ∷ adds) = (contents_keep (put_new seen a.1) adds a.1 (put_new_had seen a.1), all_had (put_new seen a.1) adds)
+
+-- no add is empty, so no content is
+filled_push : (cs : List (List ℕ)) (x : List ℕ) → Filled cs → 0 < length x → Filled (cs ++ x ∷ [])
+filled_push [] x f h = (h, tt)
+filled_push (c ∷ cs) x f h = (f.0, filled_push cs x f.1 h)
+
+filled_put : (cs : List (List ℕ)) (x : List ℕ) → Filled cs → 0 < length x → Filled (put_new cs x)
+filled_put cs x f h = go (list_any (bytes_eq x) cs) refl
+  where
+    go : (b : Bool) → list_any (bytes_eq x) cs ≡ b → Filled (put_new cs x)
+    go true e = rw e f
+    go false e = rw e (filled_push cs x f h)
+
+pub contents_filled : (seen : List (List ℕ)) (adds : List (ℕ × List ℕ)) → Filled seen → AddsFilled adds → Filled (contents_from seen adds)
+contents_filled seen [] f g = f
+contents_filled seen (a ∷ adds) f g = contents_filled (put_new seen a.1) adds (filled_put seen a.1 f g.0) g.1
+
+-- entries depend on the places of the adds' bytes alone
+abbrev AllSame : (List ℕ → ℕ) → (List ℕ → ℕ) → List (ℕ × List ℕ) → Type 0
+AllSame p q [] = Unit {0}
+AllSame p q (a ∷ adds) = (p a.1 ≡ q a.1) × AllSame p q adds
+
+same_onto : (p q : List ℕ → ℕ) (a : ℕ × List ℕ) (bs : List Block) → p a.1 ≡ q a.1 → AllBlocks (λ b. p b.bytes ≡ q b.bytes) bs → AllBlocks (λ b. p b.bytes ≡ q b.bytes) (onto a bs)
+same_onto p q a [] e h = (e, tt)
+same_onto p q a (b ∷ bs) e h = go (nat_eq (a.0 + 1) b.first && bytes_eq a.1 b.bytes) refl
+  where
+    go : (t : Bool) → (nat_eq (a.0 + 1) b.first && bytes_eq a.1 b.bytes) ≡ t → AllBlocks (λ b. p b.bytes ≡ q b.bytes) (onto a (b ∷ bs))
+    go true g = rw g h
+    go false g = rw g (e, h)
+
+same_blocks : (p q : List ℕ → ℕ) (adds : List (ℕ × List ℕ)) → AllSame p q adds → AllBlocks (λ b. p b.bytes ≡ q b.bytes) (blocks adds)
+same_blocks p q [] h = tt
+same_blocks p q (a ∷ adds) h = same_onto p q a (blocks adds) h.0 (same_blocks p q adds h.1)
+
+same_entries : (p q : List ℕ → ℕ) (bs : List Block) → AllBlocks (λ b. p b.bytes ≡ q b.bytes) bs → flat_map (entries_at p) bs ≡ flat_map (entries_at q) bs
+same_entries p q [] h = refl
+same_entries p q (b ∷ bs) h = rw (h.0, same_entries p q bs h.1) refl
+
+pub same_unsorted : (p q : List ℕ → ℕ) (adds : List (ℕ × List ℕ)) → AllSame p q adds → unsorted p adds ≡ unsorted q adds
+same_unsorted p q adds h = same_entries p q (blocks adds) (same_blocks p q adds h)
+
+-- the entries so far, with the places among the contents so far
+abbrev pub placed : List (ℕ × List ℕ) → List Entry
+placed adds = unsorted (place_in (contents_from [] adds)) adds
+
+separates : (cs : List (List ℕ)) (adds : List (ℕ × List ℕ)) (a : ℕ × List ℕ) → Filled cs → Has cs a.1 → AllHad cs adds → Separates (place_in cs) adds a
+separates cs [] a f h g = tt
+separates cs (b ∷ adds) a f h g = (λ e. place_apart b.1 a.1 cs f g.0 h e, separates cs adds a f h g.1)
+
+same_places : (cs ds : List (List ℕ)) (adds : List (ℕ × List ℕ)) → AllHad cs adds → AllSame (place_in (cs ++ ds)) (place_in cs) adds
+same_places cs ds [] h = tt
+same_places cs ds (a ∷ adds) h = (place_stays a.1 cs ds h.0, same_places cs ds adds h.1)
+
+pub had_append : (cs ds : List (List ℕ)) (adds : List (ℕ × List ℕ)) → AllHad cs adds → AllHad (cs ++ ds) adds
+had_append cs ds [] h = tt
+had_append cs ds (a ∷ adds) h = (has_append a.1 cs ds h.0, had_append cs ds adds h.1)
+
+-- one more add of known bytes, and of new ones
+pub add_known : (adds : List (ℕ × List ℕ)) (a : ℕ × List ℕ) → AddsFilled adds → Has (contents_from [] adds) a.1
+    → (contents_from [] (adds ++ a ∷ []) ≡ contents_from [] adds)
+    × (placed (adds ++ a ∷ []) ≡ put longest_run a.0 (place_in (contents_from [] adds) a.1) (length a.1) (placed adds))
+add_known adds a f h =
+    let cs = contents_from [] adds in
+    let same : contents_from [] (adds ++ a ∷ []) ≡ cs = contents_push [] adds a ∙ rw h refl in
+    (same, rw same (one_more (place_in cs) adds a (separates cs adds a (contents_filled [] adds tt f) h (all_had [] adds))))
+
+pub add_new : (adds : List (ℕ × List ℕ)) (a : ℕ × List ℕ) → AddsFilled adds → 0 < length a.1 → list_any (bytes_eq a.1) (contents_from [] adds) ≡ false
+    → (contents_from [] (adds ++ a ∷ []) ≡ contents_from [] adds ++ a.1 ∷ [])
+    × (placed (adds ++ a ∷ []) ≡ put longest_run a.0 (length (flat_map (λ c. c) (contents_from [] adds))) (length a.1) (placed adds))
+add_new adds a f s h =
+    let cs = contents_from [] adds in
+    let ds = cs ++ a.1 ∷ [] in
+    let same : contents_from [] (adds ++ a ∷ []) ≡ ds = contents_push [] adds a ∙ rw h refl in
+    let more = one_more (place_in ds) adds a (separates ds adds a (filled_push cs a.1 (contents_filled [] adds tt f) s) (has_last a.1 cs) (had_append cs (a.1 ∷ []) adds (all_had [] adds))) in
+    let stays = same_unsorted (place_in ds) (place_in cs) adds (same_places cs (a.1 ∷ []) adds (all_had [] adds)) in
+    (same, rw same (more ∙ rw (place_new a.1 cs h, stays) refl))

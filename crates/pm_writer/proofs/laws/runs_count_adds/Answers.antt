@@ -1,0 +1,6 @@
+use Rattle.std.proofs.Common.{sym}
+use Rattle.pm_writer.proofs.Formed.{addressed}
+use Rattle.pm_writer.proofs.laws.runs_count_adds.Goals as goal
+
+pub returns : goal.returns
+returns c = λ adds. sym (addressed adds)

@@ -1,0 +1,6 @@
+use Rattle.std.proofs.Common.{◌≡◌, ◌-◌, drop}
+use Rattle.pm_writer.specs.Twice.{first_within}
+use Rattle.pm_writer.proofs.order.first_overlap.Given as goal
+
+abbrev pub invariant-loop-i : goal.invariant-loop-i
+invariant-loop-i l = first_within l.entries ≡ first_within (drop (l.i - 1) l.entries)

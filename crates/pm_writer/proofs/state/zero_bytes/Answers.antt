@@ -1,0 +1,7 @@
+use Rattle.std.proofs.Common.{rules}
+use Rattle.pm_writer.specs.Writing.{zeros}
+use Rattle.pm_writer.proofs.state.zero_bytes.Goals as goal
+
+pub returns : goal.returns
+unfolding zeros
+returns c = search rules

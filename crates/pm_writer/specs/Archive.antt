@@ -1,0 +1,61 @@
+-- The one archive of a list of adds, and that of a map.
+use Rattle.std.specs.Prelude.{◌≡◌, ℕ, zero, suc, ◌+◌, Bool, true, List, [], ◌∷◌, ◌++◌, map, nat_lt, nat_eq, ◌&&◌, if◌then◌else◌, option_to_list, Option, Some, None, refl}
+use Rattle.tile_ids.specs.declared.id.TheConstants.{MAX_TILE_ID}
+use Rattle.pm_format.specs.declared.tile_type.TileType.TheVariants as tile_type
+use Rattle.pm_format.specs.Directory.{dir_of, dir_bytes}
+use Rattle.pm_format.specs.Header.{head}
+use Rattle.pm_format.specs.LookUp.{archive_map, tile_by}
+use Rattle.pm_format.specs.Opened.{opened}
+use Rattle.pm_format.specs.Options.{Options, default_options}
+use Rattle.pm_format.specs.Scan.{scan}
+use Rattle.pm_format.specs.Varint.{varint, u64_at}
+use Rattle.pm_format.specs.Vectors.{one_tile}
+use Rattle.pm_format.specs.WellFormed.{Parts, archive_bytes}
+use Rattle.pm_writer.specs.Adds.{contents_from, entries_of_adds}
+use Rattle.pm_writer.specs.Leaves.{laid}
+
+-- whether ids strictly rise
+abbrev pub rising : List ℕ → Bool
+rising [] = true
+rising (a ∷ []) = true
+rising (a ∷ b ∷ ids) = nat_lt a b && rising (b ∷ ids)
+
+abbrev pub ids_of : List (ℕ × List ℕ) → List ℕ
+ids_of adds = map (λ a. a.0) adds
+
+-- the parts of the archive of adds with distinct ids, none of them empty
+abbrev pub parts_of : List (ℕ × List ℕ) → Parts
+parts_of adds =
+    let l = laid (entries_of_adds adds) in
+    record { root = l.root; leaves = l.leaves; contents = contents_from [] adds }
+
+-- its bytes
+unfoldable pub archive : Options → List (ℕ × List ℕ) → List ℕ
+archive o adds = archive_bytes o (rising (ids_of adds)) (parts_of adds)
+
+-- the tile at an id, where there is one
+abbrev pub tile_in : List (ℕ × List ℕ) → ℕ → Option (List ℕ)
+tile_in [] t = None
+tile_in (a ∷ adds) t = if nat_eq a.0 t then Some a.1 else tile_in adds t
+
+-- the pairs of a map whose ids are below a number, by rising id
+unfoldable pub pairs_below : ℕ → (ℕ → Option (List ℕ)) → List (ℕ × List ℕ)
+pairs_below zero tiles = []
+pairs_below (suc n) tiles = pairs_below n tiles ++ map (λ bytes. (n, bytes)) (option_to_list (tiles n))
+
+-- the one archive of a map from ids to tiles
+unfoldable pub canon : Options → (ℕ → Option (List ℕ)) → List ℕ
+canon o tiles = archive o (pairs_below (MAX_TILE_ID + 1) tiles)
+
+-- the archive of one tile of one byte, whose bytes are known
+pub one_tile_archive : archive (default_options tile_type.Unknown) ((0, 48 ∷ []) ∷ []) ≡ one_tile
+unfolding archive archive_bytes dir_bytes varint
+one_tile_archive = refl
+
+pub its_tile : archive_map (archive (default_options tile_type.Unknown) ((0, 48 ∷ []) ∷ [])) 0 ≡ Some (48 ∷ [])
+unfolding archive archive_bytes dir_bytes varint opened head dir_of u64_at scan tile_by
+its_tile = refl
+
+pub two_pairs : pairs_below 4 (tile_in ((1, 48 ∷ []) ∷ (3, 49 ∷ []) ∷ (7, 50 ∷ []) ∷ [])) ≡ (1, 48 ∷ []) ∷ (3, 49 ∷ []) ∷ []
+unfolding pairs_below
+two_pairs = refl

@@ -1,0 +1,72 @@
+-- Where the parts of an archive lie, and what it counts.
+use Rattle.std.specs.Prelude.{ℕ, ◌+◌, Bool, List, length, nat_eq, if◌then◌else◌}
+use Rattle.pm_format.specs.Options.{Options}
+use Rattle.pm_format.specs.WellFormed.{header_of}
+use Rattle.pm_format.specs.declared.compression.Compression.TheVariants as compression
+use Rattle.pm_format.specs.declared.header.Header.{Header}
+use Rattle.pm_writer.specs.Archive.{archive, ids_of, parts_of, rising}
+use Rattle.pm_writer.specs.declared.directories.Directories.{Directories}
+use Rattle.pm_writer.specs.declared.places.ArchivePlaces.{ArchivePlaces}
+use Rattle.pm_writer.specs.declared.settings.Settings.{Settings}
+
+-- those of the archive of adds
+abbrev pub places_of : Options → List (ℕ × List ℕ) → ArchivePlaces
+places_of o adds =
+    let h = header_of o (rising (ids_of adds)) (parts_of adds) in
+    record {
+      length = length (archive o adds);
+      root_length = h.root_length;
+      leaf_offset = h.leaf_offset;
+      leaf_length = h.leaf_length;
+      leaves = length (parts_of adds).leaves;
+      data_offset = h.data_offset;
+      data_length = h.data_length;
+      addressed = h.n_addressed_tiles;
+      entries = h.n_tile_entries;
+      contents = h.n_tile_contents;
+    }
+
+-- those of directories behind data, as they are kept while an archive is finished
+abbrev pub places_with : Directories → ℕ → ℕ → ℕ → ArchivePlaces
+places_with d data_offset data_length contents = record {
+  length = data_offset + data_length + length d.leaves.items;
+  root_length = length d.root.items;
+  leaf_offset = if nat_eq d.leaf_count 0 then 0 else (data_offset + data_length);
+  leaf_length = length d.leaves.items;
+  leaves = d.leaf_count;
+  data_offset = data_offset;
+  data_length = data_length;
+  addressed = d.addressed;
+  entries = d.entries;
+  contents = contents;
+}
+
+-- the header of settings and places
+abbrev pub header_with : Settings → ArchivePlaces → ℕ → Bool → Header
+header_with s p metadata_length clustered = record {
+  version = 3;
+  root_offset = 127;
+  root_length = p.root_length;
+  metadata_offset = 16384;
+  metadata_length = metadata_length;
+  leaf_offset = p.leaf_offset;
+  leaf_length = p.leaf_length;
+  data_offset = p.data_offset;
+  data_length = p.data_length;
+  n_addressed_tiles = p.addressed;
+  n_tile_entries = p.entries;
+  n_tile_contents = p.contents;
+  clustered = clustered;
+  internal_compression = compression.None;
+  tile_compression = s.tile_compression;
+  tile_type = s.tile_type;
+  min_zoom = s.min_zoom;
+  max_zoom = s.max_zoom;
+  min_longitude = s.min_longitude;
+  min_latitude = s.min_latitude;
+  max_longitude = s.max_longitude;
+  max_latitude = s.max_latitude;
+  center_zoom = s.center_zoom;
+  center_longitude = s.center_longitude;
+  center_latitude = s.center_latitude;
+}

@@ -1,0 +1,167 @@
+// The adds so far: their contents once each, and their entries.
+ghost use Rattle.std.specs.Prelude.{◌≡◌, ◌<◌, ◌≤◌, ◌&&◌, ◌+◌, ◌^◌, ℕ, List, [], ◌∷◌, ◌++◌, length, Some, OnOk, OnErr, vec_len};
+ghost use Rattle.std.specs.Vec.{vec_capacity};
+ghost use Rattle.tile_ids.specs.declared.id.TheConstants.{MAX_TILE_ID};
+ghost use Rattle.pm_format.specs.Directory.{entry};
+ghost use Rattle.pm_writer.specs.Adds.{contents_from, longest_run};
+ghost use Rattle.pm_writer.specs.Archive.{ids_of, rising};
+ghost use Rattle.pm_writer.specs.Contents.{IsNew, found_in};
+ghost use Rattle.pm_writer.specs.Growing.{grows, put};
+ghost use Rattle.pm_writer.specs.Means.{IsReady, Means, is_above};
+
+use crate::contents::Contents;
+use pm_format::DirEntry;
+use std::alloc::{AllocError, Global};
+use tile_ids::OutOfMemory;
+
+/// The contents and entries of the adds so far.
+#[derive(Drop)]
+pub(crate) struct Adds {
+    contents: Contents,
+    entries: Vec<DirEntry>,
+    last: Option<u64>,
+    rises: bool,
+}
+
+// Whether the entry is the one before the id, of the contents at the place, and its run isn't full.
+fn is_next(last: &DirEntry, id: u64, place: u64) -> bool
+    ensures { result ≡ grows longest_run id place last.now }
+{
+    last.offset() == place
+        && id >= last.tile_id()
+        && id - last.tile_id() == u64::from(last.run_length())
+        && last.run_length() < u32::MAX
+}
+
+// Grows the last entry, or puts a new one behind it. Refused, it changes nothing.
+fn put_entry(entries: &mut Vec<DirEntry>, id: u64, place: u64, size: u32) -> Result<(), AllocError>
+    ensures ok { OnOk result (entries.new.items ≡ put longest_run id place size entries.old.items) }
+    ensures err { OnErr result (entries.new.items ≡ entries.old.items) }
+    ensures full { OnErr result (vec_capacity entries.old ≤ vec_len entries.old) }
+{
+    let count = entries.len();
+    if count > 0 {
+        let last = entries[count - 1];
+        if is_next(&last, id, place) {
+            let grown = last.run_length() + 1;
+            entries[count - 1] = DirEntry::new(last.tile_id(), last.offset(), last.length(), grown);
+            return Ok(());
+        }
+    }
+    if entries.push(DirEntry::new(id, place, size, 1)).is_err() {
+        return Err(AllocError);
+    }
+    Ok(())
+}
+
+// Whether ids that rose so far rise with one more.
+fn still_rises(rises: bool, last: Option<u64>, id: u64) -> bool
+    ensures { result ≡ (rises && is_above last id) }
+{
+    match last {
+        None => rises,
+        Some(last) => rises && last < id,
+    }
+}
+
+impl Adds {
+    /// No add.
+    pub(crate) fn new(alloc: Global) -> Adds
+        ensures { Means result [] }
+    {
+        Adds {
+            contents: Contents::new(alloc),
+            entries: Vec::new(alloc),
+            last: None,
+            rises: true,
+        }
+    }
+
+    /// Where the contents have these bytes, where they do.
+    pub(crate) fn find(&self, bytes: &[u8]) -> Option<u64>
+        ensures { (adds : List (ℕ × List ℕ)) → Means self.now adds → result ≡ found_in (contents_from [] adds) bytes.now }
+    {
+        self.contents.find(bytes)
+    }
+
+    /// How many bytes the contents have together.
+    pub(crate) fn total(&self) -> u64
+        ensures { result ≡ self.now.contents.total }
+    {
+        self.contents.total()
+    }
+
+    /// How many contents there are.
+    pub(crate) fn count(&self) -> u64
+        ensures { (adds : List (ℕ × List ℕ)) → Means self.now adds → result ≡ length (contents_from [] adds) }
+    {
+        self.contents.count()
+    }
+
+    /// Whether the ids rose so far.
+    pub(crate) fn rises(&self) -> bool
+        ensures { (adds : List (ℕ × List ℕ)) → Means self.now adds → result ≡ rising (ids_of adds) }
+    {
+        self.rises
+    }
+
+    /// Adds bytes that the contents have at a place. After `OutOfMemory` the adds are as before.
+    pub(crate) fn add_known(&mut self, id: u64, place: u64, size: u32) -> Result<(), OutOfMemory>
+        requires { id ≤ MAX_TILE_ID }
+        ensures added { (adds : List (ℕ × List ℕ)) (bytes : List ℕ) → Means self.old adds → found_in (contents_from [] adds) bytes ≡ Some place → 0 < length bytes → size ≡ length bytes
+            → OnOk result (Means self.new (adds ++ (id, bytes) ∷ [])) }
+        ensures kept { (adds : List (ℕ × List ℕ)) → Means self.old adds → OnErr result (Means self.new adds) }
+    {
+        put_entry(&mut self.entries, id, place, size)?;
+        self.rises = still_rises(self.rises, self.last, id);
+        self.last = Some(id);
+        Ok(())
+    }
+
+    /// Makes ready for new bytes: they are among the contents, and there is room for their entry. After `OutOfMemory` the adds are as before.
+    pub(crate) fn get_ready(&mut self, alloc: Global, bytes: &[u8]) -> Result<(), OutOfMemory>
+        requires { self.old.contents.total + length bytes.now < 2 ^ 64 }
+        ensures ready { (adds : List (ℕ × List ℕ)) → Means self.old adds → IsNew (contents_from [] adds) bytes.now → OnOk result (IsReady self.new adds bytes.now) }
+        ensures room { OnOk result (vec_len self.new.entries < vec_capacity self.new.entries) }
+        ensures total { OnOk result (self.new.contents.total ≡ self.old.contents.total + length bytes.now) }
+        ensures kept { (adds : List (ℕ × List ℕ)) → Means self.old adds → OnErr result (Means self.new adds) }
+    {
+        self.entries.reserve(1)?;
+        self.contents.push(alloc, bytes)
+    }
+
+    /// Takes the bytes away again that the adds were made ready for.
+    pub(crate) fn give_up(&mut self, bytes: &[u8])
+        requires { length bytes.now ≤ self.old.contents.total }
+        ensures { (adds : List (ℕ × List ℕ)) → IsReady self.old adds bytes.now → Means self.new adds }
+    {
+        self.contents.pop(bytes);
+    }
+
+    /// Adds the bytes that the adds were made ready for.
+    pub(crate) fn add_ready(&mut self, id: u64, place: u64, size: u32)
+        requires id { id ≤ MAX_TILE_ID }
+        requires room { vec_len self.old.entries < vec_capacity self.old.entries }
+        ensures { (adds : List (ℕ × List ℕ)) (bytes : List ℕ) → IsReady self.old adds bytes → place + size ≡ self.old.contents.total → 0 < length bytes → size ≡ length bytes
+            → Means self.new (adds ++ (id, bytes) ∷ []) }
+    {
+        let Ok(()) = put_entry(&mut self.entries, id, place, size) else {
+            unreachable!()
+        };
+        self.rises = still_rises(self.rises, self.last, id);
+        self.last = Some(id);
+    }
+
+    /// The entries in order of the adds.
+    pub(crate) fn into_unsorted(self) -> Vec<DirEntry>
+        ensures { result ≡ self.entries }
+    {
+        let Adds {
+            contents: _,
+            entries,
+            last: _,
+            rises: _,
+        } = self;
+        entries
+    }
+}

@@ -1,0 +1,27 @@
+//! Archives from tiles: runs and contents once, leaves, and the writer that puts them onto a medium.
+#![tactic(auto)]
+
+mod adding;
+mod adds;
+mod assembling;
+mod builder;
+mod contents;
+mod directories;
+mod finishing;
+pub mod laws;
+mod layout;
+mod leaf_root;
+mod leaves;
+mod order;
+mod pieces;
+mod places;
+mod settings;
+mod state;
+mod stream;
+#[cfg(test)]
+mod tests;
+
+pub use builder::PmTilesWriter;
+pub use places::ArchivePlaces;
+pub use state::WriterState;
+pub use stream::PmTilesStreamWriter;

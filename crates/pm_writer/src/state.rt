@@ -1,0 +1,69 @@
+// The state of a writer: all that it owns, beside the medium that it borrows.
+ghost use Rattle.std.specs.Prelude.{◌≡◌, ◌≢◌, ◌≤◌, ◌<◌, ◌+◌, ◌^◌, ℕ, List, [], ◌∷◌, ◌++◌, false, length, IfSome, IfOk, OnOk, OnErr, is_some};
+ghost use Rattle.pm_format.specs.declared.compression.Compression.TheVariants as compression;
+ghost use Rattle.pm_format.specs.Options.{Options};
+ghost use Rattle.pm_writer.specs.Causes.{CreateCauses};
+ghost use Rattle.pm_writer.specs.Pieces.{IsHidden};
+ghost use Rattle.pm_writer.specs.Writing.{Writes, has_failed, zeros};
+
+use crate::PmTilesWriter;
+use crate::adds::Adds;
+use crate::pieces::put;
+use crate::settings::Settings;
+use pm_format::{Compression, Medium, PmtError, PmtResult};
+use std::alloc::{AllocError, Global};
+
+/// Where the root ends at the latest, and the metadata begins.
+pub(crate) const ROOT_END: u64 = 16_384;
+
+/// What a writer owns beside the medium that it borrows: its options, its adds, and whether the medium has failed.
+#[derive(Drop)]
+pub struct WriterState {
+    pub(crate) alloc: Global,
+    pub(crate) settings: Settings,
+    pub(crate) data_offset: u64,
+    pub(crate) adds: Adds,
+    pub(crate) failed: bool,
+}
+
+// So many zeros.
+fn zero_bytes(alloc: Global, count: usize) -> Result<Vec<u8>, AllocError>
+    ensures { IfOk result (λ v. v.items ≡ zeros count) }
+{
+    vec![in alloc; 0; count]
+}
+
+impl PmTilesWriter {
+    /// Begins an archive on an empty medium, without borrowing it any longer: 16,384 zeros, where the header and the root will be, and the metadata behind them.
+    ///
+    /// `UnsupportedCompression` comes exactly where directories aren't labelled `None`; then the medium is as before. `Reading(Fault)` comes only where the medium's
+    /// count of faults rose. After each answer byte 97 of the medium, the label of directories, is 0 or missing.
+    pub fn start<M: Medium>(&self, alloc: Global, medium: &mut M) -> PmtResult<WriterState>
+        requires empty { IfSome (M.told medium.old) (λ b. b ≡ []) }
+        ensures begun { IfOk result (λ s. Writes self.now (M.told medium.new) s []) }
+        ensures alive { IfOk result (λ s. has_failed s ≡ false) }
+        ensures causes { CreateCauses self.now.internal_compression (M.faults medium.old) (M.faults medium.new) result }
+        ensures hidden { IfSome (M.told medium.new) IsHidden }
+        ensures refused { self.now.internal_compression ≢ compression.None → medium.new ≡ medium.old }
+        ensures versions { is_some (M.versions medium.new) ≡ is_some (M.versions medium.old) }
+        ensures faults { M.faults medium.old ≤ M.faults medium.new }
+        ensures reads { M.reads medium.new ≡ M.reads medium.old }
+        ensures calm { M.steady medium.old → M.steady medium.new × (M.faults medium.new ≡ M.faults medium.old) }
+    {
+        let label = self.directory_label();
+        if label != Compression::None {
+            return Err(PmtError::UnsupportedCompression(label));
+        }
+        let metadata = self.metadata_bytes();
+        let room = zero_bytes(alloc, ROOT_END as usize)?;
+        put(medium, 0, &room)?;
+        put(medium, ROOT_END, metadata)?;
+        Ok(WriterState {
+            alloc,
+            settings: self.settings(),
+            data_offset: ROOT_END + metadata.len() as u64,
+            adds: Adds::new(alloc),
+            failed: false,
+        })
+    }
+}
