@@ -1,0 +1,102 @@
+-- What a commit leaves under the keys of its changes, under each other key, and of all rows.
+use Rattle.std.proofs.Common.{◌≡◌, ◌∙◌, ap, sym, subst, ℕ, ◌<◌, ◌&&◌, Option, Some, None, List, [], ◌∷◌, Bool, true, false, not, cond, filter, find, refl, length, get_or, inl, inr}
+use Rattle.std.specs.Prelude.{All, IfSome, option_to_list}
+use Rattle.std.specs.List.{Any}
+use Rattle.std.proofs.lemmas.Bool.{false≢true, cases_Bool}
+use Rattle.std.proofs.lemmas.List.Elements.{All-nil, All-cons, All-filter, All-weaker}
+use Rattle.std.proofs.lemmas.List.Folds.{list_any_none, Any-from_list_any}
+use Rattle.mb_store.specs.Cells.{cells_eq}
+use Rattle.mb_store.specs.Commits.{CommitsTable, is_changed}
+use Rattle.mb_store.specs.Keys.{has_key, key_cells}
+use Rattle.mb_store.specs.Tables.{key_of, table_eq}
+use Rattle.mb_store.specs.declared.cell.Cell.{Cell}
+use Rattle.mb_store.specs.declared.change.Change.{Change}
+use Rattle.mb_store.specs.declared.key.RowKey.{RowKey}
+use Rattle.mb_store.specs.declared.table.TableName.{TableName}
+use Rattle.mb_store.proofs.CellLemmas.{cells_eq-Decides}
+use Rattle.mb_store.proofs.Edited.{of_passed}
+use Rattle.mb_store.proofs.Parts.{filter_within}
+
+first_of : {X : Type 0} → List X → Option X
+first_of [] = None
+first_of (x ∷ xs) = Some x
+
+first_of-option : {X : Type 0} (o : Option X) → first_of (option_to_list o) ≡ o
+unfolding first_of
+first_of-option None = refl
+first_of-option (Some x) = refl
+
+-- what is found is the first of all that passes
+find_is : {X : Type 0} (p : X → Bool) (xs : List X) → find p xs ≡ first_of (filter p xs)
+unfolding first_of
+find_is p [] = refl
+find_is p (x ∷ xs) = by (p x) (find_is p xs)
+  where
+    by : (b : Bool) → find p xs ≡ first_of (filter p xs) → cond b (Some x) (find p xs) ≡ first_of (cond b (x ∷ filter p xs) (filter p xs))
+    by true e = refl
+    by false e = e
+
+-- where one alone passes, or none, that is what is found
+pub find_only : {X : Type 0} (p : X → Bool) (xs : List X) (o : Option X) → filter p xs ≡ option_to_list o → find p xs ≡ o
+find_only p xs o e = find_is p xs ∙ (ap first_of e ∙ first_of-option o)
+
+-- equal lists of those that pass have one first
+pub find_same : {X : Type 0} (p : X → Bool) (xs ys : List X) → filter p xs ≡ filter p ys → find p xs ≡ find p ys
+find_same p xs ys e = find_is p xs ∙ (ap first_of e ∙ sym (find_is p ys))
+
+not_both : (a b : Bool) → (a ≡ true → b ≡ true → ⊥) → (a && b) ≡ false
+not_both true true f = absurd (f refl refl)
+not_both true false f = refl
+not_both false b f = refl
+
+both : (a b : Bool) → (a && b) ≡ true → (a ≡ true) × (b ≡ true)
+both true b h = (refl, h)
+both false b h = absurd (false≢true h)
+
+-- two keys of one row are equal
+pub one_key : (table : TableName) (k l : RowKey) (row : List Cell) → has_key table k row ≡ true → has_key table l row ≡ true → cells_eq (key_cells k) (key_cells l) ≡ true
+one_key table k l row h i =
+    (cells_eq-Decides (key_cells k) (key_cells l)).1 (sym ((cells_eq-Decides (key_of table row) (key_cells k)).0 h) ∙ (cells_eq-Decides (key_of table row) (key_cells l)).0 i)
+
+module _ (changes : List Change) (table : TableName) (old new : List (List Cell)) (made : CommitsTable changes table old new) where
+  -- under the key of each change its row is found, or none
+  pub found_committed : All (λ c. table_eq c.table table ≡ true → find (has_key table c.key) new ≡ c.row) changes
+  found_committed = All-weaker (λ c. table_eq c.table table ≡ true → filter (has_key table c.key) new ≡ option_to_list c.row) (λ c. table_eq c.table table ≡ true → find (has_key table c.key) new ≡ c.row) (λ c f same. find_only (has_key table c.key) new c.row (f same)) changes made.changed
+
+  -- rows that no change is of stay
+  pub others_stay : (q : List Cell → Bool) → ((row : List Cell) → q row ≡ true → is_changed changes table row ≡ false) → filter q new ≡ filter q old
+  others_stay q apart =
+      let p : List Cell → Bool = λ row. not (is_changed changes table row) in
+      let stays : (row : List Cell) → q row ≡ true → p row ≡ true = λ row h. ap not (apart row h) in
+      sym (filter_within p q stays new) ∙ (ap (filter q) made.others ∙ filter_within p q stays old)
+
+  -- so do those under a key that no change has
+  pub left_committed : (key : RowKey) → All (λ c. table_eq c.table table ≡ true → cells_eq (key_cells c.key) (key_cells key) ≡ false) changes → filter (has_key table key) new ≡ filter (has_key table key) old
+  left_committed key apart = others_stay (has_key table key) (λ row has.
+      list_any_none (λ c. table_eq c.table table && has_key table c.key row) changes
+      (All-weaker (λ c. table_eq c.table table ≡ true → cells_eq (key_cells c.key) (key_cells key) ≡ false) (λ c. (table_eq c.table table && has_key table c.key row) ≡ false)
+      (λ c f. not_both (table_eq c.table table) (has_key table c.key row) (λ same own. false≢true (sym (f same) ∙ one_key table c.key key row own has)))
+      changes apart))
+
+  -- what holds of the old rows and of each row that is put holds of the new rows
+  pub all_committed : (P : List Cell → Type 0) → All P old → All (λ c. table_eq c.table table ≡ true → IfSome c.row P) changes → All P new
+  all_committed P olds puts =
+      let p : List Cell → Bool = λ row. not (is_changed changes table row) in
+      let Q : List (List Cell) → Type 0 = λ rows. All P rows in
+      let stay : All (λ row. p row ≡ true → P row) new = of_passed p P new (subst Q (sym made.others) (All-filter p P old olds)) in
+      λ k d lt. elim (cases_Bool (is_changed changes table (get_or new k d))) [
+        | inl changed ↦ by_change k d lt (Any-from_list_any (λ c. table_eq c.table table && has_key table c.key (get_or new k d)) changes changed)
+        | inr left ↦ stay k d lt (ap not left)
+      ]
+    where
+      one : (o : Option (List Cell)) → IfSome o P → All P (option_to_list o)
+      one None h = All-nil P
+      one (Some x) h = All-cons P x [] h (All-nil P)
+
+      by_change : (k : ℕ) (d : List Cell) → k < length new → Any (λ c. (table_eq c.table table && has_key table c.key (get_or new k d)) ≡ true) changes → P (get_or new k d)
+      by_change k d lt (i, c, far, is, found) =
+          let two = both (table_eq c.table table) (has_key table c.key (get_or new k d)) found in
+          let M : Change → Type 0 = λ c. table_eq c.table table ≡ true → filter (has_key table c.key) new ≡ option_to_list c.row in
+          let N : Change → Type 0 = λ c. table_eq c.table table ≡ true → IfSome c.row P in
+          let Q : List (List Cell) → Type 0 = λ rows. All P rows in
+          of_passed (has_key table c.key) P new (subst Q (sym (subst M is (made.changed i c far) two.0)) (one c.row (subst N is (puts i c far) two.0))) k d lt two.1

@@ -1,0 +1,16 @@
+pub mod Ordered
+pub mod RowOrder
+pub mod CellLemmas
+pub mod TableLemmas
+pub mod Kept
+pub mod TileLemmas
+pub mod ChangeLemmas
+pub mod IndexLemmas
+pub mod KeyedLists
+pub mod Parts
+pub mod Edited
+pub mod EditSteps
+pub mod Sorting
+pub mod KeptCommit
+pub mod DescribedLemmas
+pub mod Committed

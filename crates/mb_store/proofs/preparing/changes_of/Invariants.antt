@@ -1,0 +1,6 @@
+use Rattle.std.proofs.Common.{◌≡◌, filter, take}
+use Rattle.mb_store.specs.Tables.{table_eq}
+use Rattle.mb_store.proofs.preparing.changes_of.Given as goal
+
+abbrev pub invariant-loop-change : goal.invariant-loop-change
+invariant-loop-change l = l.own.items ≡ filter (λ c. table_eq c.table l.table) (take l.change-index l.changes)

@@ -1,0 +1,23 @@
+-- What a store in memory tells.
+use Rattle.std.specs.Prelude.{ℕ, ◌≡◌, true, []}
+use Rattle.mb_store.specs.Store.{IsSound}
+use Rattle.mb_store.specs.Tables.{Tables}
+use Rattle.mb_store.specs.MemTables.{tables_of}
+use Rattle.mb_store.specs.declared.mem_store.MemStore.{MemStore}
+
+-- its descriptions and rows
+unfoldable pub told_of : MemStore → Tables
+told_of s = tables_of s.descriptions.items s.tables
+
+-- how often it failed
+unfoldable pub faults_of : MemStore → ℕ
+faults_of s = s.failing.faults
+
+-- no call is to fail
+unfoldable pub IsSteady : MemStore → Type 0
+IsSteady s = s.failing.listed.items ≡ []
+
+-- what it tells is sound
+pub told_sound : (s : MemStore) → true ≡ true → IsSound (told_of s)
+unfolding told_of
+told_sound s _ = s.kept.sound

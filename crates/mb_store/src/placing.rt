@@ -1,0 +1,81 @@
+// Where rows stand in the order of their keys.
+ghost use Rattle.std.specs.Prelude.{◌≡◌, ◌↔◌, ◌⊎◌, ◌≤◌, ◌<◌, true, length, IfErr, OnOk, OnErr, IsErrOf, ◌&&◌};
+ghost use Rattle.std.specs.List.{list_any};
+ghost use Rattle.std.specs.Ordering.{is_eq};
+ghost use Rattle.mb_store.specs.Cells.{is_null};
+ghost use Rattle.mb_store.specs.Tables.{key_of};
+ghost use Rattle.mb_store.specs.Store.{IsInOrder, clash, place_for, placed, row_cmp};
+
+use crate::{Cell, MbtError, MbtResult, Row, TableName};
+use std::cmp::Ordering;
+
+// The key of a row.
+pub(crate) fn key_of(table: TableName, row: &[Cell]) -> &[Cell]
+    ensures { result.now ≡ key_of table row.now }
+{
+    &row[..table.key_width().min(row.len())]
+}
+
+// The order of two rows by their keys.
+pub(crate) fn compare(table: TableName, row: &[Cell], other: &[Cell]) -> Ordering
+    ensures { result ≡ row_cmp table row.now other.now }
+{
+    key_of(table, row).cmp(&key_of(table, other))
+}
+
+// Where a row goes: before the first row of a greater key. A row that isn't below the last takes one comparison.
+pub(crate) fn place_for(table: TableName, row: &[Cell], rows: &[Row]) -> usize
+    requires { IsInOrder table rows.now }
+    ensures { result ≡ place_for table row.now rows.now }
+{
+    if let [.., last] = rows {
+        if !compare(table, last.cells(), row).is_gt() {
+            return rows.len();
+        }
+    }
+    rows.partition_point(|other| !compare(table, other.cells(), row).is_gt())
+}
+
+// Whether rows have one with the key of this one. The place is where this one goes.
+fn is_tied(table: TableName, row: &[Cell], rows: &[Row], place: usize) -> bool
+    requires order { IsInOrder table rows.now }
+    requires place { place ≡ place_for table row.now rows.now }
+    ensures { result ≡ list_any (λ other. is_eq (row_cmp table row.now other)) rows.now }
+{
+    match &rows[..place] {
+        [.., before] => compare(table, before.cells(), row).is_eq(),
+        [] => false,
+    }
+}
+
+// Whether a cell of the row's key is null.
+fn has_null_key(table: TableName, row: &[Cell]) -> bool
+    ensures { result ≡ list_any is_null (key_of table row.now) }
+{
+    key_of(table, row).iter().any(|cell| cell.is_null())
+}
+
+// Whether rows have one with the key of this one, no cell of it null. The place is where this one goes.
+fn has_clash(table: TableName, row: &[Cell], rows: &[Row], place: usize) -> bool
+    requires order { IsInOrder table rows.now }
+    requires place { place ≡ place_for table row.now rows.now }
+    ensures { result ≡ list_any (clash table row.now) rows.now }
+{
+    is_tied(table, row, rows, place) && !has_null_key(table, row)
+}
+
+// Adds a row at its place, or refuses it where the table is keyed and has its key. Refused, it leaves the rows.
+pub(crate) fn push(table: TableName, keyed: bool, row: Row, rows: &mut Vec<Row>) -> MbtResult<()>
+    requires { IsInOrder table rows.old.items }
+    ensures duplicate { IsErrOf result (MbtError.DuplicateRow table) ↔ ((keyed && list_any (clash table row) rows.old.items) ≡ true) }
+    ensures errors { IfErr result (λ e. (e ≡ MbtError.DuplicateRow table) ⊎ (e ≡ MbtError.OutOfMemory)) }
+    ensures ok { OnOk result (rows.new.items ≡ placed table row rows.old.items) }
+    ensures err { OnErr result (rows.new.items ≡ rows.old.items) }
+{
+    let place = place_for(table, row.cells(), rows.as_slice());
+    if keyed && has_clash(table, row.cells(), rows.as_slice(), place) {
+        return Err(MbtError::DuplicateRow(table));
+    }
+    rows.insert(place, row)?;
+    Ok(())
+}
