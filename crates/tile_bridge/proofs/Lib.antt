@@ -1,0 +1,9 @@
+pub mod FlatAddLemmas
+pub mod FlatAggregateLemmas
+pub mod FlatAnswerLemmas
+pub mod FlatRowLemmas
+pub mod FlatSizeLemmas
+pub mod OneTileLemmas
+pub mod PlaceLemmas
+pub mod RowTreeLemmas
+pub mod SmallArchiveLemmas

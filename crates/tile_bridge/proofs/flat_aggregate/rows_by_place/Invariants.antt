@@ -1,0 +1,11 @@
+-- the tree of the rows from the end down to here
+use Rattle.std.proofs.Common.{◌≡◌, ◌≤◌, length, drop}
+use Rattle.std.specs.FinMap.{entries}
+use Rattle.tile_bridge.specs.FlatRows.{flat_set, places_in}
+use Rattle.tile_bridge.proofs.flat_aggregate.rows_by_place.Given as goal
+
+abbrev pub invariant-loop-left : goal.invariant-loop-left
+invariant-loop-left l = (l.left ≤ length l.rows) × (places_in l.rows l.tree.entries ≡ entries (flat_set (drop l.left l.rows)))
+
+abbrev pub decreases-loop-left : goal.decreases-loop-left
+decreases-loop-left l = l.left

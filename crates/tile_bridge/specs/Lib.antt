@@ -1,0 +1,6 @@
+pub mod Aggregate
+pub mod Convert
+pub mod FlatAdds
+pub mod FlatRows
+pub mod OneTile
+pub mod SmallArchive

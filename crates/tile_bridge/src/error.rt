@@ -1,0 +1,71 @@
+// Why a conversion ends without an archive.
+ghost use Rattle.std.specs.Prelude.{◌≡◌};
+
+use pm_format::{MediumFault, WriteFault};
+use std::alloc::AllocError;
+use thiserror::Error;
+use tile_ids::OutOfMemory;
+
+/// Why a conversion ends without an archive.
+#[derive(Clone, Copy, Debug, PartialEq, Eq, Error)]
+pub enum ConvertError {
+    /// The medium wasn't empty: its length.
+    #[error("medium not empty {length}")]
+    MediumNotEmpty { length: u64 },
+    /// A tile has 2^32 bytes or more, there are 2^32 tiles or more, or their bytes are 2^60 or more.
+    #[error("index entry overflow")]
+    IndexEntryOverflow,
+    /// The medium failed, and its count of faults rose.
+    #[error("medium fault")]
+    MediumFault,
+    /// Memory ran out.
+    #[error("out of memory")]
+    OutOfMemory,
+}
+
+impl From<AllocError> for ConvertError {
+    ghost use Rattle.std.specs.Prelude.{◌≡◌};
+    ghost use Rattle.tile_bridge.specs.declared.error.ConvertError.TheVariants as errors;
+
+    ghost from_gives = { λ _ e. e ≡ errors.OutOfMemory };
+
+    fn from(_: AllocError) -> Self {
+        ConvertError::OutOfMemory
+    }
+}
+
+impl From<OutOfMemory> for ConvertError {
+    ghost use Rattle.std.specs.Prelude.{◌≡◌};
+    ghost use Rattle.tile_bridge.specs.declared.error.ConvertError.TheVariants as errors;
+
+    ghost from_gives = { λ _ e. e ≡ errors.OutOfMemory };
+
+    fn from(_: OutOfMemory) -> Self {
+        ConvertError::OutOfMemory
+    }
+}
+
+impl From<MediumFault> for ConvertError {
+    ghost use Rattle.std.specs.Prelude.{◌≡◌};
+    ghost use Rattle.tile_bridge.specs.declared.error.ConvertError.TheVariants as errors;
+
+    ghost from_gives = { λ _ e. e ≡ errors.MediumFault };
+
+    fn from(_: MediumFault) -> Self {
+        ConvertError::MediumFault
+    }
+}
+
+impl From<WriteFault> for ConvertError {
+    ghost use Rattle.std.specs.Prelude.{◌≡◌};
+    ghost use Rattle.tile_bridge.specs.Convert.{of_write_fault};
+
+    ghost from_gives = { λ w e. e ≡ of_write_fault w };
+
+    fn from(fault: WriteFault) -> Self {
+        match fault {
+            WriteFault::Fault => ConvertError::MediumFault,
+            WriteFault::OutOfMemory => ConvertError::OutOfMemory,
+        }
+    }
+}

@@ -1,0 +1,19 @@
+//! The conversion of tile sets to archives.
+#![tactic(auto)]
+
+mod conversion;
+mod error;
+mod flat_adds;
+mod flat_aggregate;
+mod flat_answers;
+mod flat_rows;
+mod one_tile;
+mod report;
+mod small_archive;
+pub mod small_laws;
+#[cfg(test)]
+mod tests;
+
+pub use conversion::convert_flat;
+pub use error::ConvertError;
+pub use report::{Answers, ConvertReport};
