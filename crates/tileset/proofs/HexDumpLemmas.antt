@@ -1,0 +1,89 @@
+-- one line of a dump after another
+use Rattle.std.proofs.Common.{◌≡◌, ◌≢◌, ℕ, zero, suc, ◌+◌, ◌*◌, ◌/◌, ◌%◌, ◌<◌, ◌≤◌, min, List, [], ◌∷◌, ◌++◌, length, take, drop, nat_eq, false, refl, sym, ◌∙◌, ap, arith, length-drop, length-append, append_assoc, append-nil}
+use Rattle.std.proofs.lemmas.Bool.Decides.{nat_tests}
+use Rattle.std.proofs.lemmas.List.{take_all, drop_all, take-append-le, drop-append-le}
+use Rattle.tileset.specs.HexDump.{hex_lines, hex_dump, shown_line, trimmed}
+
+-- a zero in front goes
+pub trimmed-zero : (n m : ℕ) (digits tail : List ℕ) → n ≡ m + 1 → digits ≡ 48 ∷ tail → trimmed n digits ≡ trimmed m tail
+trimmed-zero zero m digits tail e r = absurd (omega arith)
+trimmed-zero (suc n) m digits tail e r = let q : n ≡ m = omega arith in rw (r, q) refl
+
+-- another digit in front stays
+pub trimmed-other : (n d : ℕ) (digits tail : List ℕ) → digits ≡ d ∷ tail → d ≢ 48 → trimmed n digits ≡ digits
+trimmed-other zero d digits tail r h = refl
+trimmed-other (suc n) d digits tail r h = let q : nat_eq d 48 ≡ false = grind (arith, nat_tests) in rw r (rw q refl)
+
+pub trimmed-none : (n : ℕ) (digits : List ℕ) → digits ≡ [] → trimmed n digits ≡ digits
+trimmed-none zero digits e = refl
+trimmed-none (suc n) digits e = rw e refl
+
+pub trimmed-end : (n : ℕ) (digits : List ℕ) → n ≡ 0 → trimmed n digits ≡ digits
+trimmed-end zero digits e = refl
+trimmed-end (suc n) digits e = absurd (omega arith)
+
+pub ruleset trimming = (trimmed-zero, trimmed-other, trimmed-none, trimmed-end)
+
+-- more turns than there are bytes change nothing
+pub hex_lines-enough : (n m at : ℕ) (bs : List ℕ) → length bs ≤ n → length bs ≤ m → hex_lines n at bs ≡ hex_lines m at bs
+hex_lines-enough zero zero at [] p q = refl
+hex_lines-enough zero (suc m) at [] p q = refl
+hex_lines-enough (suc n) zero at [] p q = refl
+hex_lines-enough (suc n) (suc m) at [] p q = refl
+hex_lines-enough zero m at (b ∷ bs) p q = absurd (omega arith)
+hex_lines-enough (suc n) zero at (b ∷ bs) p q = absurd (omega arith)
+hex_lines-enough (suc n) (suc m) at (b ∷ bs) p q =
+    let l = length-drop 32 (b ∷ bs) in
+    ap (λ r. shown_line at (take 32 (b ∷ bs)) ++ r) (hex_lines-enough n m (at + 32) (drop 32 (b ∷ bs)) (omega (arith, l)) (omega (arith, l)))
+
+-- the first line, and the dump of the rest
+pub dump-step : (at : ℕ) (bs : List ℕ) → 0 < length bs → hex_dump at bs ≡ shown_line at (take 32 bs) ++ hex_dump (at + 32) (drop 32 bs)
+unfolding hex_dump
+dump-step at [] h = absurd (omega arith)
+dump-step at (b ∷ bs) h =
+    let l = length-drop 32 (b ∷ bs) in
+    ap (λ r. shown_line at (take 32 (b ∷ bs)) ++ r) (hex_lines-enough (length bs) (length (drop 32 (b ∷ bs))) (at + 32) (drop 32 (b ∷ bs)) (omega (arith, l)) (omega arith))
+
+-- as many as there are, and at most n, are at most n
+take-least : (n : ℕ) (bs : List ℕ) → take (min (length bs) n) bs ≡ take n bs
+take-least n bs = grind (arith, take_all {A = ℕ})
+
+drop-least : (n : ℕ) (bs : List ℕ) → drop (min (length bs) n) bs ≡ drop n bs
+drop-least n bs = grind (arith, drop_all {X = ℕ})
+
+pub hex_dump-step : (at n : ℕ) (bs front back : List ℕ) → 0 < length bs → n ≡ min (length bs) 32 → front ≡ take n bs → back ≡ drop n bs → hex_dump at bs ≡ shown_line at front ++ hex_dump (at + 32) back
+hex_dump-step at n bs front back h e f g = rw (f, g, e, take-least 32 bs, drop-least 32 bs) (dump-step at bs h)
+
+pub hex_dump-none : (at : ℕ) (bs : List ℕ) → length bs ≤ 0 → hex_dump at bs ≡ []
+unfolding hex_dump
+hex_dump-none at [] h = refl
+hex_dump-none at (b ∷ bs) h = absurd (omega arith)
+
+-- one more line, and what is left of the whole
+pub one_line : (old new whole : List ℕ) (place n : ℕ) (rest front back : List ℕ) → 0 < length rest → n ≡ min (length rest) 32 → front ≡ take n rest → back ≡ drop n rest → new ≡ old ++ shown_line place front → old ++ hex_dump place rest ≡ whole → new ++ hex_dump (place + 32) back ≡ whole
+one_line old new whole place n rest front back h e f g w i =
+    let step = hex_dump-step place n rest front back h e f g in
+    ap (λ l. l ++ hex_dump (place + 32) back) w ∙ append_assoc old (shown_line place front) (hex_dump (place + 32) back) ∙ ap (λ r. old ++ r) (sym step) ∙ i
+
+-- nothing is left
+pub no_line : (old whole rest : List ℕ) (place : ℕ) → length rest ≤ 0 → old ++ hex_dump place rest ≡ whole → old ≡ whole
+no_line old whole rest place h i = sym (append-nil old) ∙ ap (λ r. old ++ r) (sym (hex_dump-none place rest h)) ∙ i
+
+-- the dump of whole lines, and then of more
+lines-append : (k at : ℕ) (a c : List ℕ) → length a ≡ 32 * k → hex_dump at (a ++ c) ≡ hex_dump at a ++ hex_dump (at + length a) c
+lines-append zero at [] c e = let here : at + 0 ≡ at = omega arith in ap (λ n. hex_dump n c) (sym here) ∙ ap (λ d. d ++ hex_dump (at + 0) c) (sym (hex_dump-none at [] (omega arith)))
+lines-append zero at (x ∷ a) c e = absurd (omega arith)
+lines-append (suc k) at a c e =
+    let long : 32 ≤ length a = omega arith in
+    let rest : length (drop 32 a) ≡ 32 * k = omega (arith, length-drop 32 a) in
+    let first = dump-step at (a ++ c) (omega (arith, length-append a c)) in
+    let front : take 32 (a ++ c) ≡ take 32 a = take-append-le 32 a c long in
+    let back : drop 32 (a ++ c) ≡ drop 32 a ++ c = drop-append-le 32 a c long in
+    let inner = lines-append k (at + 32) (drop 32 a) c rest in
+    let place : at + 32 + length (drop 32 a) ≡ at + length a = omega (arith, length-drop 32 a) in
+    first ∙ (ap (λ t. shown_line at t ++ hex_dump (at + 32) (drop 32 (a ++ c))) front ∙ (ap (λ d. shown_line at (take 32 a) ++ hex_dump (at + 32) d) back
+    ∙ (ap (λ d. shown_line at (take 32 a) ++ d) (inner ∙ ap (λ n. hex_dump (at + 32) (drop 32 a) ++ hex_dump n c) place)
+    ∙ (sym (append_assoc (shown_line at (take 32 a)) (hex_dump (at + 32) (drop 32 a)) (hex_dump (at + length a) c)) ∙ ap (λ d. d ++ hex_dump (at + length a) c) (sym (dump-step at a (omega arith)))))))
+
+pub hex_dump-append : (at : ℕ) (a c : List ℕ) → length a % 32 ≡ 0 → hex_dump at (a ++ c) ≡ hex_dump at a ++ hex_dump (at + length a) c
+hex_dump-append at a c e = lines-append (length a / 32) at a c (omega arith)

@@ -1,0 +1,7 @@
+-- what is left, with as many zeros as may still go
+use Rattle.std.proofs.Common.{◌≡◌, ◌-◌}
+use Rattle.tileset.specs.HexDump.{trimmed}
+use Rattle.tileset.proofs.hex_dump.without_zeros.Given as goal
+
+abbrev pub invariant-loop-i : goal.invariant-loop-i
+invariant-loop-i l = trimmed (8 - l._i) l.rest ≡ trimmed 8 l.fn.digits

@@ -1,0 +1,20 @@
+-- what was read so far is what the source lost
+use Rattle.std.proofs.Common.{◌≡◌, ◌≤◌, ◌-◌, length, vec_len}
+use Rattle.tileset.specs.Streams.{Loses}
+use Rattle.tile_ids.specs.Counts.{Grew}
+use Rattle.tileset.specs.declared.input.TheConstants.{MAX_INPUT}
+use Rattle.tileset.proofs.input.read_input.Given as goal
+
+abbrev pub invariant-loop-count : goal.invariant-loop-count
+invariant-loop-count g l =
+    let s = g.S.Source in
+    record {
+      moved : Loses (s.left l.fn.source) (s.left l.source) l.bytes.items;
+      few : vec_len l.bytes ≤ MAX_INPUT;
+      counted : Grew (s.taken l.fn.source) (s.taken l.source) (length l.bytes.items);
+      faults : s.faults l.fn.source ≤ s.faults l.source;
+      calm : s.steady l.fn.source → s.steady l.source × (s.faults l.source ≡ s.faults l.fn.source);
+    }
+
+abbrev pub decreases-loop-count : goal.decreases-loop-count
+decreases-loop-count g l = MAX_INPUT - vec_len l.bytes

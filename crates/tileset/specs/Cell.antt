@@ -1,0 +1,30 @@
+-- Cells as words of a script.
+use Rattle.std.specs.Prelude.{◌≡◌, ℕ, List, [], ◌∷◌, nat_eq, if◌then◌else◌, Option, Some, None, Result, Ok, Err, codes, refl}
+use Rattle.hex.specs.declared.error.FromHexError.{FromHexError}
+use Rattle.hex.specs.Hex.{decode_of, decode_pairs}
+use Rattle.mb_store.specs.declared.cell.Cell.{Cell}
+use Rattle.mb_store.specs.declared.cell.Cell.TheVariants.{Null, Blob}
+
+abbrev pub null_of : List ℕ → Option Cell
+null_of [] = Some Null
+null_of (b ∷ rest) = None
+
+abbrev pub blob_of : Result (List ℕ) FromHexError → Option Cell
+blob_of (Ok bytes) = Some (Blob bytes)
+blob_of (Err e) = None
+
+-- `n`, or `x` and an even number of hexadecimal digits
+abbrev pub cell_of : List ℕ → Option Cell
+cell_of [] = None
+cell_of (b ∷ rest) = if nat_eq b 110 then null_of rest else (if nat_eq b 120 then blob_of (decode_of rest) else None)
+
+pub two_bytes : cell_of (codes "x0fA0") ≡ Some (Blob (15 ∷ 160 ∷ []))
+unfolding decode_pairs
+two_bytes = refl
+
+pub no_bytes : cell_of (codes "x") ≡ Some (Blob [])
+unfolding decode_pairs
+no_bytes = refl
+
+pub odd_digits : cell_of (codes "x012") ≡ None
+odd_digits = refl

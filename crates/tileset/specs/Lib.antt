@@ -1,0 +1,14 @@
+pub mod Cell
+pub mod Dump
+pub mod HexDump
+pub mod Input
+pub mod Lines
+pub mod OutcomeText
+pub mod Outcomes
+pub mod Reading
+pub mod Report
+pub mod Run
+pub mod Script
+pub mod Streams
+pub mod Summary
+pub mod Words

@@ -1,0 +1,63 @@
+-- The status and the line of each outcome.
+use Rattle.std.specs.Prelude.{◌≡◌, ℕ, ◌++◌, List, [], codes, refl}
+use Rattle.std.specs.Fmt.{decimal}
+use Rattle.pm_format.specs.declared.error.PmtError.{PmtError}
+use Rattle.pm_format.specs.declared.error.PmtError.TheVariants as errors
+use Rattle.tile_bridge.specs.declared.error.ConvertError.{ConvertError}
+use Rattle.tile_bridge.specs.declared.error.ConvertError.TheVariants as convert
+use Rattle.tileset.specs.declared.outcome.Outcome.{Outcome}
+use Rattle.tileset.specs.declared.outcome.Outcome.TheVariants.{Done, Refused, Usage, BadScript, InputFault, OutputFault, MediumFault, OutOfMemory, InputTooLong, ReadBack}
+
+abbrev pub status : Outcome → ℕ
+status Done = 0
+status (Refused e) = 1
+status Usage = 2
+status (BadScript n) = 3
+status InputFault = 4
+status OutputFault = 5
+status MediumFault = 6
+status OutOfMemory = 7
+status InputTooLong = 8
+status (ReadBack e) = 9
+
+-- an error of archives by its name alone
+abbrev pub error_name : PmtError → List ℕ
+error_name (errors.InvalidCoordinate z x y) = codes "InvalidCoordinate"
+error_name (errors.InvalidTileId id) = codes "InvalidTileId"
+error_name errors.InvalidEntry = codes "InvalidEntry"
+error_name errors.InvalidHeader = codes "InvalidHeader"
+error_name errors.InvalidMagicNumber = codes "InvalidMagicNumber"
+error_name errors.UnsupportedPmTilesVersion = codes "UnsupportedPmTilesVersion"
+error_name errors.InvalidCompression = codes "InvalidCompression"
+error_name errors.InvalidTileType = codes "InvalidTileType"
+error_name (errors.UnsupportedCompression c) = codes "UnsupportedCompression"
+error_name errors.IndexEntryOverflow = codes "IndexEntryOverflow"
+error_name (errors.Reading cause) = codes "Reading"
+error_name errors.Failed = codes "Failed"
+error_name (errors.OverlappingEntries id) = codes "OverlappingEntries"
+error_name (errors.UnexpectedNumberOfBytesReturned asked got) = codes "UnexpectedNumberOfBytesReturned"
+error_name errors.OutOfMemory = codes "OutOfMemory"
+
+abbrev pub refusal : ConvertError → List ℕ
+refusal (convert.MediumNotEmpty n) = codes "medium not empty " ++ decimal n
+refusal convert.IndexEntryOverflow = codes "IndexEntryOverflow"
+refusal convert.MediumFault = codes "MediumFault"
+refusal convert.OutOfMemory = codes "OutOfMemory"
+
+abbrev pub line : Outcome → List ℕ
+line Done = []
+line (Refused e) = codes "refused: " ++ (refusal e ++ codes "\n")
+line Usage = codes "usage: tileset convert hex | convert file PATH | bulk N K\n"
+line (BadScript n) = codes "bad script: line " ++ (decimal n ++ codes "\n")
+line InputFault = codes "input fault\n"
+line OutputFault = codes "output fault\n"
+line MediumFault = codes "medium fault\n"
+line OutOfMemory = codes "out of memory\n"
+line InputTooLong = codes "input too long\n"
+line (ReadBack e) = codes "read back: " ++ (error_name e ++ codes "\n")
+
+pub overflowing_set : line (Refused convert.IndexEntryOverflow) ≡ codes "refused: IndexEntryOverflow\n"
+overflowing_set = refl
+
+pub short_medium : line (ReadBack (errors.UnexpectedNumberOfBytesReturned 32 31)) ≡ codes "read back: UnexpectedNumberOfBytesReturned\n"
+short_medium = refl

@@ -1,0 +1,37 @@
+-- The text that is written on the way to Done.
+use Rattle.std.specs.Prelude.{ℕ, ◌++◌, List, [], length, flat_map, Option, Some, None, Result, Ok, Err, codes}
+use Rattle.std.specs.Fmt.{decimal}
+use Rattle.hex.specs.Hex.{encode_lower}
+use Rattle.tile_ids.specs.Coord.{Coord}
+use Rattle.tile_ids.specs.Hilbert.{id_of}
+use Rattle.pm_format.specs.declared.error.PmtError.{PmtError}
+use Rattle.pm_format.specs.LookUp.{archive_map}
+use Rattle.pm_format.specs.Opened.{Opened, opened}
+use Rattle.tileset.specs.HexDump.{hex_dump}
+
+-- a tile in hexadecimal, or none
+abbrev pub tile_text : Option (List ℕ) → List ℕ
+tile_text None = codes "none"
+tile_text (Some bytes) = encode_lower bytes
+
+-- the line that answers a query
+abbrev pub query_line : Coord → Option (List ℕ) → List ℕ
+query_line c tile = codes "tile " ++ (decimal c.z ++ (codes "/" ++ (decimal c.x ++ (codes "/" ++ (decimal c.y ++ (codes " " ++ (tile_text tile ++ codes "\n")))))))
+
+-- the lines of all queries, by the archive's own tiles
+abbrev pub query_lines : List ℕ → List Coord → List ℕ
+query_lines b queries = flat_map (λ c. query_line c (archive_map b (id_of c))) queries
+
+-- the lines of the aggregate and the numbers
+abbrev pub number_lines : List ℕ → ℕ → ℕ → ℕ → ℕ → List ℕ
+number_lines aggregate addressed entries contents total =
+    codes "aggregate " ++ (aggregate ++ (codes "\naddressed " ++ (decimal addressed ++ (codes "\nentries " ++ (decimal entries ++ (codes "\ncontents " ++ (decimal contents ++ (codes "\nlength " ++ (decimal total ++ codes "\n")))))))))
+
+-- the numbers are those of the archive's header
+abbrev pub summary_lines : List ℕ → List ℕ → Result Opened PmtError → List ℕ
+summary_lines aggregate b (Err e) = []
+summary_lines aggregate b (Ok o) = number_lines aggregate o.0.n_addressed_tiles o.0.n_tile_entries o.0.n_tile_contents (length b)
+
+-- the report on an archive whose set has this aggregate
+unfoldable pub report_text : List Coord → List ℕ → List ℕ → List ℕ
+report_text queries aggregate b = query_lines b queries ++ (summary_lines aggregate b (opened b) ++ hex_dump 0 b)

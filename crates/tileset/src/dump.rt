@@ -1,0 +1,71 @@
+// The dump of a medium's bytes, read back and written piece by piece.
+ghost use Rattle.std.specs.Prelude.{◌≡◌, ◌≤◌, ◌<◌, ◌+◌, ◌^◌, length, take, drop, IfSome, OnOk, IsErrOf};
+ghost use Rattle.tile_ids.specs.Counts.{Rose};
+ghost use Rattle.tileset.specs.Dump.{DumpCauses, HasLength};
+ghost use Rattle.tileset.specs.HexDump.{hex_dump};
+ghost use Rattle.tileset.specs.Streams.{Gains, GainsFront};
+
+use crate::hex_dump::push_hex_dump;
+use crate::{Outcome, Sink, write_all};
+use pm_format::Medium;
+use std::alloc::Global;
+
+// A whole number of lines.
+const PIECE: u64 = 16_384;
+
+// Writes the lines of a range of the medium.
+fn write_piece<O: Sink, M: Medium>(
+    alloc: Global,
+    at: u64,
+    size: u64,
+    output: &mut O,
+    medium: &mut M,
+) -> Result<(), Outcome>
+    requires small { at + size < 2 ^ 63 }
+    requires within { IfSome (M.told medium.old) (λ b. at + size ≤ length b) }
+    ensures all { OnOk result (IfSome (M.told medium.old) (λ b. Gains (O.held output.old) (O.held output.new) (hex_dump at (take size (drop at b))))) }
+    ensures front { IfSome (M.told medium.old) (λ b. GainsFront (O.held output.old) (O.held output.new) (hex_dump at (take size (drop at b)))) }
+    ensures told { M.told medium.new ≡ M.told medium.old }
+    ensures causes { DumpCauses (M.told medium.old) result }
+    ensures output_fault { IsErrOf result Outcome.OutputFault → Rose (O.faults output.old) (O.faults output.new) }
+    ensures medium_fault { IsErrOf result Outcome.MediumFault → Rose (M.faults medium.old) (M.faults medium.new) }
+    ensures output_faults { O.faults output.old ≤ O.faults output.new }
+    ensures medium_faults { M.faults medium.old ≤ M.faults medium.new }
+    ensures output_calm { O.steady output.old → O.steady output.new × (O.faults output.new ≡ O.faults output.old) }
+    ensures medium_calm { M.steady medium.old → M.steady medium.new × (M.faults medium.new ≡ M.faults medium.old) }
+{
+    let response = medium.read_exact(alloc, at, size)?;
+    let mut text = Vec::new(alloc);
+    push_hex_dump(&mut text, at, response.bytes.as_slice())?;
+    write_all(output, text.as_slice())?;
+    Ok(())
+}
+
+/// Writes the lines of all bytes of a medium, whose length this is.
+pub(crate) fn write_dump<O: Sink, M: Medium>(
+    alloc: Global,
+    length: u64,
+    output: &mut O,
+    medium: &mut M,
+) -> Result<(), Outcome>
+    requires small { length < 2 ^ 63 }
+    requires whole { IfSome (M.told medium.old) (HasLength length) }
+    ensures all { OnOk result (IfSome (M.told medium.old) (λ b. Gains (O.held output.old) (O.held output.new) (hex_dump 0 b))) }
+    ensures front { IfSome (M.told medium.old) (λ b. GainsFront (O.held output.old) (O.held output.new) (hex_dump 0 b)) }
+    ensures told { M.told medium.new ≡ M.told medium.old }
+    ensures causes { DumpCauses (M.told medium.old) result }
+    ensures output_fault { IsErrOf result Outcome.OutputFault → Rose (O.faults output.old) (O.faults output.new) }
+    ensures medium_fault { IsErrOf result Outcome.MediumFault → Rose (M.faults medium.old) (M.faults medium.new) }
+    ensures output_faults { O.faults output.old ≤ O.faults output.new }
+    ensures medium_faults { M.faults medium.old ≤ M.faults medium.new }
+    ensures output_calm { O.steady output.old → O.steady output.new × (O.faults output.new ≡ O.faults output.old) }
+    ensures medium_calm { M.steady medium.old → M.steady medium.new × (M.faults medium.new ≡ M.faults medium.old) }
+{
+    let mut at = 0;
+    while at < length {
+        let size = (length - at).min(PIECE);
+        write_piece(alloc, at, size, output, medium)?;
+        at += size;
+    }
+    Ok(())
+}

@@ -1,0 +1,84 @@
+// The lines of an archive's bytes in hexadecimal.
+ghost use Rattle.std.specs.Prelude.{◌≡◌, ◌≤◌, ◌<◌, ◌+◌, ◌*◌, ◌^◌, ◌++◌, length, nat_eq, OnOk};
+ghost use Rattle.std.specs.List.{list_all};
+ghost use Rattle.tileset.specs.HexDump.{hex_dump, shown_line, hex_line, place_text, trimmed};
+
+use std::alloc::AllocError;
+
+/// How many bytes a line has at most.
+pub(crate) const LINE: usize = 32;
+
+#[tactic(auto, using(crate::proofs::HexDumpLemmas::trimming))]
+// The digits without the zeros in front, of which at most eight go.
+fn without_zeros(digits: &[u8]) -> &[u8]
+    ensures { result.now ≡ trimmed 8 digits.now }
+{
+    let mut rest = digits;
+    for _i in 0..8u32 {
+        let Some((first, tail)) = rest.split_first() else {
+            return rest;
+        };
+        if *first != 48 {
+            return rest;
+        }
+        rest = tail;
+    }
+    rest
+}
+
+// Appends a place in hexadecimal, by at least eight digits.
+fn push_place(text: &mut Vec<u8>, at: u64) -> Result<(), AllocError>
+    ensures { OnOk result (text.new.items ≡ text.old.items ++ place_text at) }
+{
+    let mut digits = [48u8; 16];
+    let _ = hex::encode_to_slice(&at.to_be_bytes(), &mut digits);
+    text.extend_from_slice(without_zeros(&digits))
+}
+
+// Appends the line of some bytes at a place.
+fn push_line(text: &mut Vec<u8>, at: u64, bytes: &[u8]) -> Result<(), AllocError>
+    requires { length bytes.now ≤ 32 }
+    ensures { OnOk result (text.new.items ≡ text.old.items ++ hex_line at bytes.now) }
+{
+    let mut digits = [48u8; 64];
+    let shown = &mut digits[..2 * bytes.len()];
+    let _ = hex::encode_to_slice(bytes, shown);
+    push_place(text, at)?;
+    text.push(b' ')?;
+    text.extend_from_slice(&digits[..2 * bytes.len()])?;
+    text.push(b'\n')?;
+    Ok(())
+}
+
+fn is_blank(bytes: &[u8]) -> bool
+    ensures { result ≡ list_all (λ b. nat_eq b 0) bytes.now }
+{
+    bytes.iter().all(|byte| *byte == 0)
+}
+
+// Appends that line, unless its bytes are all zero.
+fn push_shown(text: &mut Vec<u8>, at: u64, bytes: &[u8]) -> Result<(), AllocError>
+    requires { length bytes.now ≤ 32 }
+    ensures { OnOk result (text.new.items ≡ text.old.items ++ shown_line at bytes.now) }
+{
+    if is_blank(bytes) {
+        return Ok(());
+    }
+    push_line(text, at, bytes)
+}
+
+/// Appends the lines of these bytes, the first of them at a place.
+pub(crate) fn push_hex_dump(text: &mut Vec<u8>, at: u64, bytes: &[u8]) -> Result<(), AllocError>
+    requires { at + length bytes.now < 2 ^ 63 }
+    ensures { OnOk result (text.new.items ≡ text.old.items ++ hex_dump at bytes.now) }
+{
+    let mut place = at;
+    let mut rest = bytes;
+    while !rest.is_empty() {
+        let (line, tail) = rest.split_at(rest.len().min(LINE));
+        push_shown(text, place, line)?;
+        place += LINE as u64;
+        rest = tail;
+    }
+    Ok(())
+}

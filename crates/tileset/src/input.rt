@@ -1,0 +1,68 @@
+// Reading all of the input.
+ghost use Rattle.std.specs.Prelude.{◌≡◌, ℕ, ◌≤◌, ◌<◌, length, OnOk, IfOk, IfSome, IsErrOf};
+ghost use Rattle.tile_ids.specs.Counts.{Rose};
+ghost use Rattle.tileset.specs.Input.{InputCounts};
+ghost use Rattle.tileset.specs.Streams.{Loses, IsAtEnd};
+
+use crate::Source;
+use std::alloc::{AllocError, Global};
+use thiserror::Error;
+
+/// The greatest number of bytes that an input may have.
+pub const MAX_INPUT: usize = 268_435_456;
+
+const CHUNK: usize = 65_536;
+
+/// Why the input wasn't read to its end.
+#[derive(Clone, Copy, Debug, PartialEq, Eq, Error)]
+pub enum InputError {
+    /// The source failed, and its count of faults rose.
+    #[error("input fault")]
+    Fault,
+    /// More than `MAX_INPUT` bytes were taken.
+    #[error("input too long")]
+    TooLong,
+    /// Memory ran out.
+    #[error("out of memory")]
+    OutOfMemory,
+}
+
+impl From<AllocError> for InputError {
+    ghost use Rattle.std.specs.Prelude.{◌≡◌};
+    ghost use Rattle.tileset.specs.declared.input.InputError.TheVariants as errors;
+
+    ghost from_gives = { λ _ e. e ≡ errors.OutOfMemory };
+
+    fn from(_: AllocError) -> Self {
+        InputError::OutOfMemory
+    }
+}
+
+#[tactic(auto, using(crate::proofs::StreamsLemmas::reading))]
+/// All the bytes that are left, where they aren't too many. Memory is asked for as they come.
+pub fn read_input<S: Source>(alloc: Global, source: &mut S) -> Result<Vec<u8>, InputError>
+    // What is answered is what was left, and nothing is left.
+    ensures all { IfOk result (λ bytes. Loses (S.left source.old) (S.left source.new) bytes.items) }
+    ensures end { OnOk result (IsAtEnd (S.left source.new)) }
+    // Too much was taken exactly where the answer is TooLong.
+    ensures counted { InputCounts (S.taken source.old) (S.taken source.new) result }
+    ensures too_long_told { IsErrOf result InputError.TooLong → IfSome (S.left source.old) (λ left. MAX_INPUT < length left) }
+    ensures fault { IsErrOf result InputError.Fault → Rose (S.faults source.old) (S.faults source.new) }
+    ensures faults { S.faults source.old ≤ S.faults source.new }
+    ensures calm { S.steady source.old → S.steady source.new × (S.faults source.new ≡ S.faults source.old) }
+{
+    let mut bytes = Vec::new(alloc);
+    let mut buffer = [0u8; CHUNK];
+    loop {
+        let Ok(count) = source.read(&mut buffer) else {
+            return Err(InputError::Fault);
+        };
+        if count == 0 {
+            return Ok(bytes);
+        }
+        if count > MAX_INPUT - bytes.len() {
+            return Err(InputError::TooLong);
+        }
+        bytes.extend_from_slice(&buffer[..count])?;
+    }
+}

@@ -1,0 +1,28 @@
+// The script that the input spells.
+ghost use Rattle.std.specs.Prelude.{◌≡◌, ◌≤◌, All, Ok, IfOk, IfErr, OnOk, IsErrOf};
+ghost use Rattle.tile_bridge.specs.OneTile.{IsOneTile, origin};
+ghost use Rattle.tile_ids.specs.Counts.{Rose};
+ghost use Rattle.tileset.specs.Reading.{base_rows, script_text};
+ghost use Rattle.tileset.specs.Run.{IsShort, LoadCauses, LoadTakes, Spells};
+ghost use Rattle.tileset.specs.Streams.{IsAtEnd};
+
+use crate::script::{ParsedScript, parse_script};
+use crate::{Outcome, Source, read_input};
+use std::alloc::Global;
+
+/// The script that the input spells, which is read to its end.
+pub(crate) fn load<I: Source>(alloc: Global, input: &mut I) -> Result<ParsedScript, Outcome>
+    ensures script { IfOk result (λ s. Spells (I.left input.old) (script_text s)) }
+    ensures base { IfOk result (λ s. IsOneTile (base_rows s.base)) }
+    ensures queries { IfOk result (λ s. All (λ c. c ≡ origin) s.queries.items) }
+    ensures short { OnOk result (IsShort (I.left input.old)) }
+    ensures read { OnOk result (IsAtEnd (I.left input.new)) }
+    ensures taken { LoadTakes (I.taken input.old) (I.taken input.new) result }
+    ensures causes { IfErr result (LoadCauses (I.left input.old)) }
+    ensures fault { IsErrOf result Outcome.InputFault → Rose (I.faults input.old) (I.faults input.new) }
+    ensures faults { I.faults input.old ≤ I.faults input.new }
+    ensures calm { I.steady input.old → I.steady input.new × (I.faults input.new ≡ I.faults input.old) }
+{
+    let bytes = read_input(alloc, input)?;
+    Ok(parse_script(alloc, bytes.as_slice())?)
+}

@@ -1,0 +1,88 @@
+// How outcomes are shown: a status and a line.
+ghost use Rattle.std.specs.Prelude.{◌≡◌, IfOk, string_bytes};
+ghost use Rattle.tileset.specs.OutcomeText.{error_name, line, refusal, status};
+
+use crate::Outcome;
+use pm_format::PmtError;
+use std::alloc::Global;
+use tile_bridge::ConvertError;
+use tile_ids::{OutOfMemory, TextVal};
+
+/// The status that a program ends with: 0 for `Done`, and 1 to 9 for the others in their order.
+pub fn outcome_status(outcome: &Outcome) -> u8
+    ensures { result ≡ status outcome.now }
+{
+    match outcome {
+        Outcome::Done => 0,
+        Outcome::Refused(_) => 1,
+        Outcome::Usage => 2,
+        Outcome::BadScript { .. } => 3,
+        Outcome::InputFault => 4,
+        Outcome::OutputFault => 5,
+        Outcome::MediumFault => 6,
+        Outcome::OutOfMemory => 7,
+        Outcome::InputTooLong => 8,
+        Outcome::ReadBack(_) => 9,
+    }
+}
+
+/// The line that tells of an outcome, ended by a line feed; empty for `Done`.
+pub fn outcome_line(alloc: Global, outcome: &Outcome) -> Result<TextVal, OutOfMemory>
+    ensures { IfOk result (λ text. text ≡ line outcome.now) }
+{
+    Ok(TextVal::new(match outcome {
+        Outcome::Done => String::new(alloc),
+        Outcome::Refused(error) => {
+            let refusal = refusal_of(alloc, error)?;
+            format!(in alloc; "refused: {refusal}\n")?
+        }
+        Outcome::Usage => String::from_str(alloc, USAGE)?,
+        Outcome::BadScript { line } => format!(in alloc; "bad script: line {line}\n")?,
+        Outcome::InputFault => String::from_str(alloc, "input fault\n")?,
+        Outcome::OutputFault => String::from_str(alloc, "output fault\n")?,
+        Outcome::MediumFault => String::from_str(alloc, "medium fault\n")?,
+        Outcome::OutOfMemory => String::from_str(alloc, "out of memory\n")?,
+        Outcome::InputTooLong => String::from_str(alloc, "input too long\n")?,
+        Outcome::ReadBack(error) => {
+            let name = name_of(error);
+            format!(in alloc; "read back: {name}\n")?
+        }
+    }))
+}
+
+const USAGE: &str = "usage: tileset convert hex | convert file PATH | bulk N K\n";
+
+fn refusal_of(alloc: Global, error: &ConvertError) -> Result<String, OutOfMemory>
+    ensures { IfOk result (λ text. string_bytes text ≡ refusal error.now) }
+{
+    Ok(match error {
+        ConvertError::MediumNotEmpty { length } => {
+            format!(in alloc; "medium not empty {length}")?
+        }
+        ConvertError::IndexEntryOverflow => String::from_str(alloc, "IndexEntryOverflow")?,
+        ConvertError::MediumFault => String::from_str(alloc, "MediumFault")?,
+        ConvertError::OutOfMemory => String::from_str(alloc, "OutOfMemory")?,
+    })
+}
+
+fn name_of(error: &PmtError) -> &'static str
+    ensures { result.now ≡ error_name error.now }
+{
+    match error {
+        PmtError::InvalidCoordinate(_, _, _) => "InvalidCoordinate",
+        PmtError::InvalidTileId(_) => "InvalidTileId",
+        PmtError::InvalidEntry => "InvalidEntry",
+        PmtError::InvalidHeader => "InvalidHeader",
+        PmtError::InvalidMagicNumber => "InvalidMagicNumber",
+        PmtError::UnsupportedPmTilesVersion => "UnsupportedPmTilesVersion",
+        PmtError::InvalidCompression => "InvalidCompression",
+        PmtError::InvalidTileType => "InvalidTileType",
+        PmtError::UnsupportedCompression(_) => "UnsupportedCompression",
+        PmtError::IndexEntryOverflow => "IndexEntryOverflow",
+        PmtError::Reading(_) => "Reading",
+        PmtError::Failed => "Failed",
+        PmtError::OverlappingEntries(_) => "OverlappingEntries",
+        PmtError::UnexpectedNumberOfBytesReturned(_, _) => "UnexpectedNumberOfBytesReturned",
+        PmtError::OutOfMemory => "OutOfMemory",
+    }
+}

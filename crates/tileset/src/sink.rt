@@ -1,0 +1,38 @@
+// Where bytes go.
+ghost use Rattle.std.specs.Prelude.{◌≡◌, ℕ, List, ◌≤◌, IsErrOf};
+ghost use Rattle.std.specs.declared.option.Option.{Option};
+ghost use Rattle.tile_ids.specs.Counts.{Rose};
+ghost use Rattle.tileset.specs.Streams.{WriteAppends};
+
+use thiserror::Error;
+
+/// Why nothing was appended.
+#[derive(Clone, Copy, Debug, PartialEq, Eq, Error)]
+pub enum SinkFault {
+    /// The sink failed, and its count of faults rose.
+    #[error("output fault")]
+    Fault,
+    /// Memory ran out.
+    #[error("out of memory")]
+    OutOfMemory,
+}
+
+/// An object that bytes are appended to.
+pub trait Sink {
+    /// The bytes that the sink holds, where it tells them.
+    ghost held: { Self → Option (List ℕ) };
+
+    /// How often the sink has failed. It never falls.
+    ghost faults: { Self → ℕ };
+
+    /// No call from here on fails.
+    ghost steady: { Self → Type 0 };
+
+    /// Appends a front of the piece, of at least one byte where the piece has one.
+    fn write(&mut self, piece: &[u8]) -> Result<usize, SinkFault>
+        ensures appends { WriteAppends (held self.old) (held self.new) result piece.now }
+        ensures cause { IsErrOf result SinkFault.Fault → Rose (faults self.old) (faults self.new) }
+        ensures faults { faults self.old ≤ faults self.new }
+        ensures steady { steady self.old → steady self.new }
+        ensures none { steady self.old → faults self.new ≡ faults self.old };
+}

@@ -1,0 +1,285 @@
+// Worked rows over memory, faults at each call in turn, and objects that give or take one byte at a time.
+use crate::{
+    MemSink, MemSource, Outcome, Sink, SinkFault, Source, SourceFault, StdSink, StdSource,
+    outcome_line, outcome_status, run,
+};
+use pm_format::MemMedium;
+use std::alloc::{AllocError, Global};
+use std::io::Cursor;
+use std::test::Fail;
+use tile_ids::TextVal;
+
+mod short_medium;
+mod single_bytes;
+
+use short_medium::ShortMedium;
+use single_bytes::{SingleBytesSink, SingleBytesSource};
+
+const ONE_TILE: &str = "base flat\nrow tiles i0 i0 i0 x30\nquery 0 0 0\n";
+
+const ONE_TILE_REPORT: &str = "tile 0/0/0 30
+aggregate 4A7D1ED414474E4033AC29CCB8653D9B
+addressed 1
+entries 1
+contents 1
+length 16387
+00000000 504d54696c6573037f0000000000000005000000000000000040000000000000
+00000020 0200000000000000000000000000000000000000000000000240000000000000
+00000040 0100000000000000010000000000000001000000000000000100000000000000
+00000060 010101000016002eb694463a4ecd00d2496bbac5b13200000000000000000001
+00000080 0001010100000000000000000000000000000000000000000000000000000000
+00004000 7b7d30
+";
+
+const EMPTY_ARCHIVE: &str = "addressed 0
+entries 0
+contents 0
+length 16386
+00000000 504d54696c6573037f0000000000000001000000000000000040000000000000
+00000020 0200000000000000000000000000000000000000000000000240000000000000
+00000060 010101000016002eb694463a4ecd00d2496bbac5b13200000000000000000000
+00004000 7b7d
+";
+
+fn words_of(alloc: Global, words: &[&str]) -> Result<Vec<TextVal>, AllocError> {
+    let mut texts = Vec::new(alloc);
+    for word in words {
+        texts.push(TextVal::new(String::from_str(alloc, word)?))?;
+    }
+    Ok(texts)
+}
+
+// Runs `convert hex` over objects of the caller.
+fn convert<I: Source, O: Sink>(
+    alloc: Global,
+    input: &mut I,
+    output: &mut O,
+    medium: &mut MemMedium,
+) -> Result<Outcome, AllocError> {
+    let words = words_of(alloc, &["convert", "hex"])?;
+    Ok(run(alloc, &words, input, output, medium))
+}
+
+fn source_of(alloc: Global, script: &[u8]) -> Result<MemSource, AllocError> {
+    Ok(MemSource::new(script.to_vec(alloc)?))
+}
+
+#[test]
+fn one_tile_and_empty_sets(rt: HostRuntime) -> Result<(), Fail> {
+    let alloc = rt.alloc();
+    for (script, first, rest) in [
+        (ONE_TILE, "", ONE_TILE_REPORT),
+        (
+            "base flat\nquery 0 0 0\n",
+            "tile 0/0/0 none\naggregate D41D8CD98F00B204E9800998ECF8427E\n",
+            EMPTY_ARCHIVE,
+        ),
+        (
+            "base flat\nrow tiles i0 i0 i0 x",
+            "aggregate C6F057B86584942E415435FFB1FA93D4\n",
+            EMPTY_ARCHIVE,
+        ),
+        (
+            "base flat\nrow tiles i0 i0 i0 n\nquery 0 0 0",
+            "tile 0/0/0 none\naggregate C6F057B86584942E415435FFB1FA93D4\n",
+            EMPTY_ARCHIVE,
+        ),
+    ] {
+        let mut output = MemSink::new(alloc);
+        let outcome = convert(
+            alloc,
+            &mut source_of(alloc, script.as_bytes())?,
+            &mut output,
+            &mut MemMedium::new(alloc),
+        )?;
+        assert_eq!(rt; outcome, Outcome::Done, "{script}");
+        let want = format!(in alloc; "{first}{rest}")?;
+        assert_eq!(rt; output.as_bytes(), want.as_bytes(), "{script}");
+    }
+    Ok(())
+}
+
+#[test]
+fn refused_words_and_scripts(rt: HostRuntime) -> Result<(), Fail> {
+    let alloc = rt.alloc();
+    for words in [
+        ["convert"].as_slice(),
+        &["convert", "Hex"],
+        &["hex", "convert"],
+        &["convert", "hex", ""],
+        &[],
+    ] {
+        let mut output = MemSink::new(alloc);
+        let outcome = run(
+            alloc,
+            &words_of(alloc, words)?,
+            &mut source_of(alloc, ONE_TILE.as_bytes())?,
+            &mut output,
+            &mut MemMedium::new(alloc),
+        );
+        assert_eq!(rt; outcome, Outcome::Usage);
+        assert!(rt; output.as_bytes().is_empty());
+    }
+    for (script, line) in [
+        (b"".as_slice(), 1),
+        (b"base flat\nrow tiles i0 i0 i0\n", 2),
+        (
+            b"base flat\nrow tiles i0 i0 i0 x30\nrow tiles i0 i0 i0 x30\n",
+            3,
+        ),
+        (b"base  flat\n", 1),
+        (b"base flat\n\n", 2),
+        (b"base flat\r\n", 1),
+        (b"base flat\nquery 0 0 0\nrow tiles i0 i0 i0 n\n", 3),
+        (b"base flat\nrow tiles i0 i0 i0 x3\n", 2),
+        (b"base flat\nrow tiles i0 i0 i0 xg0\n", 2),
+        (b"base flat\nquery 0 0 0 \n", 2),
+        (b"base flat\n\xff\x00\n", 2),
+    ] {
+        let mut output = MemSink::new(alloc);
+        let mut medium = MemMedium::new(alloc);
+        let outcome = convert(
+            alloc,
+            &mut source_of(alloc, script)?,
+            &mut output,
+            &mut medium,
+        )?;
+        assert_eq!(rt; outcome, Outcome::BadScript { line });
+        assert!(rt; output.as_bytes().is_empty() && medium.as_bytes().is_empty());
+    }
+    Ok(())
+}
+
+#[test]
+fn medium_not_empty(rt: HostRuntime) -> Result<(), Fail> {
+    let alloc = rt.alloc();
+    let mut output = MemSink::new(alloc);
+    let mut medium = MemMedium::from_bytes(b"a".to_vec(alloc)?);
+    let mut input = source_of(alloc, ONE_TILE.as_bytes())?;
+    let outcome = convert(alloc, &mut input, &mut output, &mut medium)?;
+    let line = outcome_line(alloc, &outcome)?;
+    assert_eq!(rt; line.as_str(), "refused: medium not empty 1\n");
+    assert_eq!(rt; outcome_status(&outcome), 1);
+    assert_eq!(rt; medium.as_bytes(), b"a".as_slice());
+    assert!(rt; output.as_bytes().is_empty());
+    Ok(())
+}
+
+// What a run leaves.
+#[derive(Drop)]
+struct Ended {
+    outcome: Outcome,
+    output: MemSink,
+    medium: MemMedium,
+}
+
+#[derive(Clone, Copy, Debug)]
+enum Place {
+    Input,
+    Output,
+    Medium,
+}
+
+// A run on one_tile in which the call of this number fails at one of the three objects.
+fn run_failing(alloc: Global, place: Place, number: u64) -> Result<Ended, AllocError> {
+    let mut input = source_of(alloc, ONE_TILE.as_bytes())?;
+    let mut output = MemSink::new(alloc);
+    let mut medium = MemMedium::new(alloc);
+    let calls = vec![in alloc; number]?;
+    match place {
+        Place::Input => input.fail_at(calls),
+        Place::Output => output.fail_at(calls),
+        Place::Medium => medium.fail_at(calls),
+    }
+    let outcome = convert(alloc, &mut input, &mut output, &mut medium)?;
+    Ok(Ended {
+        outcome,
+        output,
+        medium,
+    })
+}
+
+#[test]
+fn faults_at_each_call(rt: HostRuntime) -> Result<(), Fail> {
+    let whole = ONE_TILE_REPORT.as_bytes();
+    for (place, wanted) in [
+        (Place::Input, Outcome::InputFault),
+        (Place::Output, Outcome::OutputFault),
+        (Place::Medium, Outcome::MediumFault),
+    ] {
+        let mut ended_at = 0;
+        for number in 1..1000u64 {
+            let ended = run_failing(rt.alloc(), place, number)?;
+            let written = ended.output.as_bytes();
+            assert!(rt; whole.starts_with(written), "{place:?} {number}");
+            if ended.outcome == Outcome::Done {
+                assert_eq!(rt; written, whole, "{place:?} {number}");
+                ended_at = number;
+                break;
+            }
+            assert_eq!(rt; ended.outcome, wanted, "{place:?} {number}");
+            assert!(rt; written.len() < whole.len(), "{place:?} {number}");
+            if ended.outcome == Outcome::OutputFault {
+                assert_eq!(rt; ended.medium.as_bytes().len(), 16_387);
+                assert!(rt; ended.medium.as_bytes().ends_with(b"{}0"));
+            }
+        }
+        assert!(rt; ended_at > 2, "{place:?}");
+    }
+    Ok(())
+}
+
+#[test]
+fn a_medium_that_answers_short(rt: HostRuntime) -> Result<(), Fail> {
+    let alloc = rt.alloc();
+    let words = words_of(alloc, &["convert", "hex"])?;
+    let mut input = source_of(alloc, ONE_TILE.as_bytes())?;
+    let mut output = MemSink::new(alloc);
+    let mut medium = ShortMedium::new();
+    let outcome = run(alloc, &words, &mut input, &mut output, &mut medium);
+    let line = outcome_line(alloc, &outcome)?;
+    assert_eq!(rt;
+        line.as_str(),
+        "read back: UnexpectedNumberOfBytesReturned\n"
+    );
+    assert_eq!(rt; outcome_status(&outcome), 9);
+    Ok(())
+}
+
+#[test]
+fn single_bytes_and_streams(rt: HostRuntime) -> Result<(), Fail> {
+    let alloc = rt.alloc();
+    let mut input = SingleBytesSource::new(ONE_TILE.as_bytes().to_vec(alloc)?);
+    let mut output = SingleBytesSink::new(alloc);
+    let outcome = convert(alloc, &mut input, &mut output, &mut MemMedium::new(alloc))?;
+    assert_eq!(rt; outcome, Outcome::Done);
+    assert_eq!(rt; output.as_bytes(), ONE_TILE_REPORT.as_bytes());
+    let mut reader = StdSource::new(Cursor::new(ONE_TILE.as_bytes()));
+    let mut writer = StdSink::new(Vec::new(alloc));
+    let outcome = convert(alloc, &mut reader, &mut writer, &mut MemMedium::new(alloc))?;
+    assert_eq!(rt; outcome, Outcome::Done);
+    Ok(())
+}
+
+#[test]
+fn outcomes_as_texts(rt: HostRuntime) -> Result<(), Fail> {
+    let alloc = rt.alloc();
+    for (outcome, status, want) in [
+        (Outcome::Done, 0, ""),
+        (
+            Outcome::Usage,
+            2,
+            "usage: tileset convert hex | convert file PATH | bulk N K\n",
+        ),
+        (Outcome::BadScript { line: 12 }, 3, "bad script: line 12\n"),
+        (Outcome::InputFault, 4, "input fault\n"),
+        (Outcome::OutputFault, 5, "output fault\n"),
+        (Outcome::MediumFault, 6, "medium fault\n"),
+        (Outcome::OutOfMemory, 7, "out of memory\n"),
+        (Outcome::InputTooLong, 8, "input too long\n"),
+    ] {
+        assert_eq!(rt; outcome_line(alloc, &outcome)?.as_str(), want);
+        assert_eq!(rt; outcome_status(&outcome), status);
+    }
+    Ok(())
+}

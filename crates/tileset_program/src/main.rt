@@ -1,0 +1,94 @@
+//! Runs the converter on the words of the command line, standard input and output.
+#![tactic(auto)]
+
+use pm_format::MemMedium;
+use std::alloc::{AllocError, Global};
+use std::env;
+use std::io::Write;
+use std::process::ExitCode;
+use tile_ids::TextVal;
+use tileset::{Outcome, StdSink, StdSource, outcome_line, outcome_status, run};
+
+const HELP: &str = "Converts sets of map tiles to archives of the PMTiles format.
+
+usage: tileset convert hex
+
+convert hex    reads a script from standard input, and prints the answers to
+               its queries, the archive's numbers and its bytes in hexadecimal
+--help         prints this text
+--version      prints the version
+
+status: 0 done, 1 refused, 2 no command, 3 bad script, 4 input fault,
+5 output fault, 6 medium fault, 7 out of memory, 8 input too long, 9 read back
+";
+
+const VERSION: &str = "tileset 0.1.0\n";
+
+// The words after the program's name, where each of them is a text.
+fn words_of(rt: &HostRuntime, alloc: Global) -> Result<Option<Vec<TextVal>>, AllocError> {
+    let Ok(args) = env::args(rt) else {
+        return Ok(None);
+    };
+    let mut words = Vec::new(alloc);
+    for arg in args.skip(1) {
+        words.push(TextVal::new(arg))?;
+    }
+    Ok(Some(words))
+}
+
+// The text that a single word asks for in place of a run.
+fn text_of(words: &[TextVal]) -> Option<&'static str> {
+    match words {
+        [word] => match word.as_str() {
+            "--help" => Some(HELP),
+            "--version" => Some(VERSION),
+            _ => None,
+        },
+        _ => None,
+    }
+}
+
+fn print<W: Write>(out: &mut W, text: &str) -> bool {
+    out.write_all(text.as_bytes()).is_ok() && out.flush().is_ok()
+}
+
+// Prints the line of an outcome. Where it can't be written, that is the outcome.
+fn tell(rt: &HostRuntime, outcome: Outcome) -> Outcome {
+    let Ok(line) = outcome_line(rt.alloc(), &outcome) else {
+        return outcome;
+    };
+    if line.as_str().is_empty() || print(&mut rt.stdout(), line.as_str()) {
+        outcome
+    } else {
+        Outcome::OutputFault
+    }
+}
+
+fn convert(rt: &HostRuntime, words: &[TextVal]) -> Outcome {
+    let mut input = StdSource::new(rt.stdin());
+    let mut output = StdSink::new(rt.stdout());
+    let mut medium = MemMedium::new(rt.alloc());
+    run(rt.alloc(), words, &mut input, &mut output, &mut medium)
+}
+
+fn outcome_of(rt: &HostRuntime) -> Outcome {
+    let words = match words_of(rt, rt.alloc()) {
+        Err(_) => return tell(rt, Outcome::OutOfMemory),
+        Ok(None) => return tell(rt, Outcome::Usage),
+        Ok(Some(words)) => words,
+    };
+    match text_of(words.as_slice()) {
+        Some(text) => {
+            if print(&mut rt.stdout(), text) {
+                Outcome::Done
+            } else {
+                Outcome::OutputFault
+            }
+        }
+        None => tell(rt, convert(rt, words.as_slice())),
+    }
+}
+
+fn main(rt: HostRuntime) -> ExitCode {
+    ExitCode::from(outcome_status(&outcome_of(&rt)))
+}
