@@ -1,11 +1,9 @@
 -- One edit of rows that stand in two lists: those below the edits to come, and those above them, the last first.
-use Rattle.std.proofs.Common.{◌≡◌, ◌++◌, ◌∙◌, true, false, filter, List, [], ◌∷◌, Option, Some, None, length, length-append, get_or, refl, sym, ap, subst, append-nil, reverse, arith, inl, inr, ◌⊎◌}
+use Rattle.std.proofs.Common.{◌≡◌, ◌++◌, ◌∙◌, true, false, filter, List, [], ◌∷◌, Option, Some, None, length, get_or, refl, sym, ap, subst, append-nil, reverse, inl, inr, ◌⊎◌}
 use Rattle.std.specs.Prelude.{All, AllPairs, IfSome, option_to_list}
 use Rattle.std.specs.declared.cmp.Ordering.{Ordering}
 use Rattle.std.specs.declared.cmp.Ordering.TheVariants.{Less, Equal, Greater}
 use Rattle.std.specs.Ordering.{is_eq, is_gt, is_lt}
-use Rattle.std.proofs.Math.ListN.{get_or-append}
-use Rattle.std.proofs.Math.Seq.{get_or-append_seam}
 use Rattle.std.proofs.lemmas.List.{reverse-append, reverse-reverse}
 use Rattle.std.proofs.lemmas.List.Kept.{AllPairs-filter}
 use Rattle.mb_store.specs.Store.{IsInOrder, row_cmp}
@@ -19,6 +17,7 @@ use Rattle.mb_store.specs.declared.cell.Cell.{Cell}
 use Rattle.mb_store.specs.declared.change.Change.{Change}
 use Rattle.mb_store.specs.declared.table.TableName.{TableName}
 use Rattle.mb_store.proofs.CellLemmas.{lists_of_cells_total}
+use Rattle.mb_store.proofs.Fronts.{All-front, All-last, AllPairs-front, AllPairs-last}
 use Rattle.mb_store.proofs.Parts.{below_lower, filter_every, filter_none}
 
 All-reverse : {X : Type 0} (P : X → Type 0) (xs : List X) → All P xs → All P (reverse xs)
@@ -97,21 +96,6 @@ module _ (table : TableName) (c : Change) (rows moved : List (List Cell)) where
       one : (o : Option (List Cell)) → IfSome o (λ row. (is_eq (against table c.key row) ≡ true) × (length row ≡ width table)) → All (λ row. is_gt (against table d.key row) ≡ true) (option_to_list o)
       one None fits = All-nil (λ row. is_gt (against table d.key row) ≡ true)
       one (Some row) fits = All-cons (λ row. is_gt (against table d.key row) ≡ true) row [] (higher d rise row (level (against table c.key row) fits.0)) (All-nil (λ row. is_gt (against table d.key row) ≡ true))
-
--- what holds of a list holds of its front, and of its last
-All-front : {X : Type 0} (P : X → Type 0) (xs : List X) (x : X) → All P (xs ++ x ∷ []) → All P xs
-All-front P xs x all k d far = subst P (get_or-append xs (x ∷ []) d k far) (all k d (omega (arith, length-append xs (x ∷ []))))
-
-All-last : {X : Type 0} (P : X → Type 0) (xs : List X) (x : X) → All P (xs ++ x ∷ []) → P x
-All-last P xs x all = subst P (get_or-append_seam xs x [] x) (all (length xs) x (omega (arith, length-append xs (x ∷ []))))
-
-AllPairs-front : {X : Type 0} (R : X → X → Type 0) (xs : List X) (x : X) → AllPairs R (xs ++ x ∷ []) → AllPairs R xs
-AllPairs-front R xs x pairs i j d less far =
-    subst (λ y. R y (get_or xs j d)) (get_or-append xs (x ∷ []) d i (omega arith)) (subst (R (get_or (xs ++ x ∷ []) i d)) (get_or-append xs (x ∷ []) d j far) (pairs i j d less (omega (arith, length-append xs (x ∷ [])))))
-
-AllPairs-last : {X : Type 0} (R : X → X → Type 0) (xs : List X) (x : X) → AllPairs R (xs ++ x ∷ []) → All (λ y. R y x) xs
-AllPairs-last R xs x pairs k d far =
-    subst (λ y. R y x) (get_or-append xs (x ∷ []) d k far) (subst (R (get_or (xs ++ x ∷ []) k d)) (get_or-append_seam xs x [] d) (pairs k (length xs) d far (omega (arith, length-append xs (x ∷ [])))))
 
 -- where the edits so far have come
 pub record Editing (table : TableName) (all edits : List Change) (first rows moved : List (List Cell)) : Type 0 where

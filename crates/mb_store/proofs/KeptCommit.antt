@@ -1,22 +1,28 @@
 -- What stays of the tables in memory after a commit.
-use Rattle.std.proofs.Common.{◌≡◌, ◌∙◌, List, [], ◌∷◌, Bool, true, false, filter, length, sym, ap, subst, refl, arith, Result, Ok, Err}
-use Rattle.std.specs.Prelude.{All, AllPairs, OnErr, OnOk}
+use Rattle.std.proofs.Common.{◌≡◌, ◌<◌, ◌^◌, ◌∙◌, List, [], ◌∷◌, Bool, true, false, filter, length, sym, ap, subst, refl, arith, Result, Ok, Err}
+use Rattle.std.specs.Prelude.{All, AllPairs, OnErr}
 use Rattle.std.proofs.lemmas.Bool.{false≢true}
 use Rattle.std.proofs.lemmas.List.Elements.{All-weaker}
 use Rattle.std.proofs.lemmas.List.Sorted.{length_permutation}
 use Rattle.mb_store.specs.Changes.{AreChanges}
 use Rattle.mb_store.specs.Commits.{AreOfTables}
 use Rattle.mb_store.specs.Editing.{AreEdits, Fits, edited_all}
-use Rattle.mb_store.specs.MemTables.{IsKept, MemTables, rows_at}
+use Rattle.mb_store.specs.ByTable.{at}
+use Rattle.mb_store.specs.MemTables.{AreOneList, IsKept, MemTables, base_at, rows_at}
 use Rattle.mb_store.specs.Store.{IsInOrder, clash, is_table}
 use Rattle.mb_store.specs.Tables.{table_eq, width}
+use Rattle.mb_store.specs.declared.cell.Cell.{Cell}
 use Rattle.mb_store.specs.declared.change.Change.{Change}
 use Rattle.mb_store.specs.declared.description.TableDesc.{TableDesc}
 use Rattle.mb_store.specs.declared.table.TableName.{TableName}
 use Rattle.mb_store.proofs.Edited.{apart-edited_all, edits_fit, order-edited_all, wide-edited_all}
-use Rattle.mb_store.proofs.Kept.{counted, kept_same}
 use Rattle.mb_store.proofs.Parts.{filter_none}
-use Rattle.mb_store.proofs.TableLemmas.{same_table}
+use Rattle.mb_store.proofs.TableLemmas.{by_tables, same_table}
+use Rattle.mb_store.proofs.TableLists.{all_ordered, one_list, one_ordered}
+
+-- a list in memory has fewer rows than a count can hold
+counted : (m : MemTables) (table : TableName) → length (base_at m table) < 2 ^ 64
+counted m table = by_tables (λ t. length (base_at m t) < 2 ^ 64) (omega arith) (omega arith) (omega arith) (omega arith) (omega arith) (omega arith) (omega arith) (omega arith) table
 
 nothing : {X : Type 0} (xs : List X) → length xs ≡ 0 → xs ≡ []
 nothing [] e = refl
@@ -34,25 +40,23 @@ module _ (ds : List TableDesc) (changes : List Change) (sound : AreChanges chang
       (λ c h. not_so (table_eq c.table table) (λ here. false≢true (sym none ∙ (ap (is_table ds) (sym (same_table c.table table here)) ∙ h)))) changes of_tables) in
       nothing edits (length_permutation (filter (λ c. table_eq c.table table) changes) edits chosen.same ∙ ap length no)
 
-  pub kept_committed : (m n : MemTables) (edits : TableName → List Change) → ((table : TableName) → AreEdits table changes (edits table)) → ((table : TableName) → rows_at n table ≡ edited_all table (edits table) (rows_at m table)) → IsKept ds m → IsKept ds n
-  kept_committed m n edits chosen now kept = record {
+  pub kept_committed : (m n : MemTables) (edits : TableName → List Change) → ((table : TableName) → AreEdits table changes (edits table)) → ((table : TableName) → rows_at n table ≡ edited_all table (edits table) (rows_at m table)) → AreOneList n → IsKept ds m → IsKept ds n
+  kept_committed m n edits chosen now one kept = record {
     sound = record {
       names = kept.sound.names;
       described = λ u none. now u ∙ (ap (λ es. edited_all u es (rows_at m u)) (no_edits u (edits u) (chosen u) none) ∙ kept.sound.described u none);
-      keys = λ u keyed. subst (AllPairs (λ r s. clash u r s ≡ false)) (sym (now u)) (apart-edited_all u (rows_at m u) (kept.ordered u) (edits u) (fits u) (kept.sound.keys u keyed));
-      widths = λ u. subst (All (λ row. length row ≡ width u)) (sym (now u)) (wide-edited_all u (rows_at m u) (kept.ordered u) (edits u) (fits u) (kept.sound.widths u));
-      counts = counted n;
+      keys = λ u keyed. subst (AllPairs (λ r s. clash u r s ≡ false)) (sym (now u)) (apart-edited_all u (rows_at m u) (up u) (edits u) (fits u) (kept.sound.keys u keyed));
+      widths = λ u. subst (All (λ row. length row ≡ width u)) (sym (now u)) (wide-edited_all u (rows_at m u) (up u) (edits u) (fits u) (kept.sound.widths u));
+      counts = λ u. subst (λ (rows : List (List Cell)). length rows < 2 ^ 64) (sym (one_list u (at n u) (one u))) (counted n u);
     };
-    ordered = λ u. subst (IsInOrder u) (sym (now u)) (order-edited_all u (rows_at m u) (kept.ordered u) (edits u) (fits u));
+    ordered = λ u. one_ordered u (at n u) (one u) (subst (IsInOrder u) (sym (now u)) (order-edited_all u (rows_at m u) (up u) (edits u) (fits u)));
   }
     where
       fits : (u : TableName) → All (Fits u) (edits u)
       fits u = edits_fit u changes (edits u) sound (chosen u)
 
--- what a commit leaves, made or refused
-pub kept_after : {T E : Type 0} (r : Result T E) (ds : List TableDesc) (changes : List Change) (m n : MemTables) → OnOk r ((ds : List TableDesc) → AreOfTables ds changes → IsKept ds m → IsKept ds n) → OnErr r ((table : TableName) → rows_at n table ≡ rows_at m table) → AreOfTables ds changes → IsKept ds m → IsKept ds n
-kept_after (Ok x) ds changes m n ok err of_tables kept = ok ds of_tables kept
-kept_after (Err e) ds changes m n ok err of_tables kept = kept_same ds m n err kept
+      up : (u : TableName) → IsInOrder u (rows_at m u)
+      up u = all_ordered u (at m u) (kept.ordered u)
 
 pub on_err : {T E : Type 0} (r : Result T E) (P : Type 0) → P → OnErr r P
 on_err (Ok x) P p = tt

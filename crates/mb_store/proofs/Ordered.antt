@@ -97,13 +97,20 @@ module _ {X : Type 0} {R : X → X → Ordering} (o : IsTotalOrder R) where
       (λ k e from lt. absurd (omega arith)),
     )
 
+    -- where those from a place on are above x, and the one before it isn't, x goes there
+    pub place_below_others : (i : ℕ) → i ≤ length xs → ((k : ℕ) (d : X) → i ≤ k → k < length xs → is_gt (R (get_or xs k d) x) ≡ true) → (0 < i → (d : X) → is_gt (R (get_or xs (i - 1) d) x) ≡ false) → i ≡ position_or_len (λ y. is_gt (R y x)) xs
+    place_below_others i within above before = place_at_point i within (
+      (λ k e from lt. ap not (upto o (get_or xs k e) (get_or xs (i - 1) e) x (up_to k (i - 1) e (omega arith) (omega arith)) (before (omega arith) e))),
+      (λ k e from lt. ap not (above k e from lt)),
+    )
+
     pub place_within : position_or_len (λ y. is_gt (R y x)) xs ≤ length xs
     place_within = prefix_len-le-length _ xs
 
-    not_above : (k : ℕ) (d : X) → k < position_or_len (λ y. is_gt (R y x)) xs → is_gt (R (get_or xs k d) x) ≡ false
+    pub not_above : (k : ℕ) (d : X) → k < position_or_len (λ y. is_gt (R y x)) xs → is_gt (R (get_or xs k d) x) ≡ false
     not_above k d lt = fails_before_first (λ y. is_gt (R y x)) xs k d lt
 
-    is_above : (k : ℕ) (d : X) → position_or_len (λ y. is_gt (R y x)) xs ≤ k → k < length xs → is_gt (R (get_or xs k d) x) ≡ true
+    pub is_above : (k : ℕ) (d : X) → position_or_len (λ y. is_gt (R y x)) xs ≤ k → k < length xs → is_gt (R (get_or xs k d) x) ≡ true
     is_above k d from far =
         let i = position_or_len (λ y. is_gt (R y x)) xs in
         let first : is_gt (R (get_or xs i d) x) ≡ true = passes_at_first (λ y. is_gt (R y x)) xs d (omega arith) in

@@ -15,6 +15,7 @@ pub mod Ready
 pub mod Sizes
 pub mod Tiles
 pub mod TileExamples
+pub mod TableRows
 pub mod ByTable
 pub mod MemTables
 pub mod MemStore

@@ -2,7 +2,7 @@
 use Rattle.std.specs.Prelude.{ℕ, ◌≡◌, true, []}
 use Rattle.mb_store.specs.Store.{IsSound}
 use Rattle.mb_store.specs.Tables.{Tables}
-use Rattle.mb_store.specs.MemTables.{tables_of}
+use Rattle.mb_store.specs.MemTables.{AreOneList, tables_of}
 use Rattle.mb_store.specs.declared.mem_store.MemStore.{MemStore}
 
 -- its descriptions and rows
@@ -16,6 +16,10 @@ faults_of s = s.failing.faults
 -- no call is to fail
 unfoldable pub IsSteady : MemStore → Type 0
 IsSteady s = s.failing.listed.items ≡ []
+
+-- the rows of each table are in one list
+unfoldable pub IsSettled : MemStore → Type 0
+IsSettled s = AreOneList s.tables
 
 -- what it tells is sound
 pub told_sound : (s : MemStore) → true ≡ true → IsSound (told_of s)

@@ -30,7 +30,7 @@ fn place_not_below(table: TableName, key: &RowKey, rows: &[Row]) -> usize
 }
 
 // Moves the rows from a place on to another list, the last first.
-fn move_tail(rows: &mut Vec<Row>, place: usize, moved: &mut Vec<Row>)
+pub(crate) fn move_tail(rows: &mut Vec<Row>, place: usize, moved: &mut Vec<Row>)
     requires place { place ≤ vec_len rows.old }
     requires room { vec_len moved.old + (vec_len rows.old - place) ≤ vec_capacity moved.old }
     ensures rows { rows.new.items ≡ take place rows.old.items }

@@ -21,6 +21,7 @@ mod kind;
 pub mod laws;
 mod mem_store;
 mod mem_tables;
+mod merging;
 mod patch_type;
 mod placing;
 mod preparing;
@@ -29,6 +30,7 @@ mod row;
 mod schema;
 mod store;
 mod table;
+mod table_rows;
 #[cfg(test)]
 mod tests;
 

@@ -12,6 +12,7 @@ use crate::{
     TileStore, committing, described, mem_tables, reading, schema,
 };
 use std::alloc::Global;
+use tile_ids::OutOfMemory;
 
 /// A store of tables in memory. The rows of a table stand in the order of their keys, rows of equal keys in order of arrival.
 #[derive(Debug, Drop)]
@@ -22,15 +23,16 @@ pub struct MemStore {
     ghost kept: { IsKept descriptions.items tables },
 }
 
-#[tactic(auto, unfolding(crate::specs::MemStore::told_of, crate::specs::MemStore::faults_of, crate::specs::MemStore::IsSteady))]
+#[tactic(auto, unfolding(crate::specs::MemStore::told_of, crate::specs::MemStore::faults_of, crate::specs::MemStore::IsSteady, crate::specs::MemStore::IsSettled))]
 impl MemStore {
-    ghost use Rattle.mb_store.specs.MemStore.{told_of, faults_of, IsSteady};
+    ghost use Rattle.mb_store.specs.MemStore.{told_of, faults_of, IsSettled, IsSteady};
 
     /// A store without tables. No call of it fails.
     pub fn new(alloc: Global) -> MemStore
         ensures told { told_of result ≡ no_rows [] }
         ensures faults { faults_of result ≡ 0 }
         ensures steady { IsSteady result }
+        ensures settled { IsSettled result }
     {
         MemStore::of_tables(alloc, Vec::new(alloc))
     }
@@ -41,6 +43,7 @@ impl MemStore {
         ensures told { IfOk result (λ store. told_of store ≡ no_rows (set_tables layout)) }
         ensures faults { IfOk result (λ store. faults_of store ≡ 0) }
         ensures steady { IfOk result IsSteady }
+        ensures settled { IfOk result IsSettled }
     {
         Ok(MemStore::of_tables(alloc, schema::set_tables(alloc, layout)?))
     }
@@ -51,6 +54,7 @@ impl MemStore {
         ensures told { told_of result ≡ no_rows descriptions.items }
         ensures faults { faults_of result ≡ 0 }
         ensures steady { IsSteady result }
+        ensures settled { IsSettled result }
     {
         MemStore {
             descriptions,
@@ -75,12 +79,24 @@ impl MemStore {
         mem_tables::push(&mut self.tables, table, keyed, row)
     }
 
-    /// The rows of a table, in the order of their keys.
+    /// Brings the rows that were pushed into one list a table, so that `table_rows` can give them. What the store tells stays, also where
+    /// memory is wanting.
+    pub fn settle(&mut self) -> Result<(), OutOfMemory>
+        ensures told { told_of self.new ≡ told_of self.old }
+        ensures settled { OnOk result (IsSettled self.new) }
+        ensures faults { faults_of self.new ≡ faults_of self.old }
+        ensures steady { IsSteady self.new ↔ IsSteady self.old }
+    {
+        mem_tables::settle(&mut self.tables)
+    }
+
+    /// The rows of a table, in the order of their keys. The store is settled: `settle` was the last call that pushed, read or changed rows.
     pub fn table_rows(&self, table: TableName) -> &[Row]
+        requires settled { IsSettled self.now }
         ensures rows { result.now ≡ (told_of self.now).rows table }
         ensures order { IsInOrder table result.now }
     {
-        self.tables.of(table).as_slice()
+        self.tables.of(table).base.as_slice()
     }
 
     /// From here on the calls of a store with these numbers fail, counted from 1 over all calls that this store has been asked.
@@ -88,6 +104,7 @@ impl MemStore {
         ensures told { told_of self.new ≡ told_of self.old }
         ensures faults { faults_of self.new ≡ faults_of self.old }
         ensures steady { IsSteady self.new ↔ (calls.items ≡ []) }
+        ensures settled { IsSettled self.new ↔ IsSettled self.old }
     {
         self.failing.listed = calls;
     }
@@ -117,7 +134,7 @@ impl TileStore for MemStore {
         if self.failing.fails() {
             return Err(StoreError::Fault);
         }
-        Ok(self.tables.of(table).len() as u64)
+        Ok(self.tables.of(table).len())
     }
 
     fn rows(
@@ -130,7 +147,8 @@ impl TileStore for MemStore {
         if self.failing.fails() {
             return Err(StoreError::Fault);
         }
-        Ok(reading::page_of(alloc, self.tables.of(table).as_slice(), from, limit)?)
+        self.settle()?;
+        Ok(reading::page_of(alloc, self.table_rows(table), from, limit)?)
     }
 
     fn find(
@@ -142,7 +160,8 @@ impl TileStore for MemStore {
         if self.failing.fails() {
             return Err(StoreError::Fault);
         }
-        Ok(reading::find_in(alloc, table, key, self.tables.of(table).as_slice())?)
+        self.settle()?;
+        Ok(reading::find_in(alloc, table, key, self.table_rows(table))?)
     }
 
     fn create(&mut self, alloc: Global, tables: &[TableDesc]) -> Result<(), StoreError> {
@@ -157,6 +176,7 @@ impl TileStore for MemStore {
         if self.failing.fails() {
             return Err(StoreError::Fault);
         }
+        self.settle()?;
         committing::commit_all(alloc, changes.as_slice(), &mut self.tables)?;
         Ok(())
     }

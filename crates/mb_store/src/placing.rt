@@ -1,13 +1,14 @@
 // Where rows stand in the order of their keys.
-ghost use Rattle.std.specs.Prelude.{◌≡◌, ◌↔◌, ◌⊎◌, ◌≤◌, ◌<◌, true, length, IfErr, OnOk, OnErr, IsErrOf, ◌&&◌};
+ghost use Rattle.std.specs.Prelude.{◌≡◌, OnOk, OnErr};
 ghost use Rattle.std.specs.List.{list_any};
-ghost use Rattle.std.specs.Ordering.{is_eq};
+ghost use Rattle.std.specs.Ordering.{is_eq, is_gt};
 ghost use Rattle.mb_store.specs.Cells.{is_null};
 ghost use Rattle.mb_store.specs.Tables.{key_of};
 ghost use Rattle.mb_store.specs.Store.{IsInOrder, clash, place_for, placed, row_cmp};
 
-use crate::{Cell, MbtError, MbtResult, Row, TableName};
+use crate::{Cell, Row, TableName};
 use std::cmp::Ordering;
+use tile_ids::OutOfMemory;
 
 // The key of a row.
 pub(crate) fn key_of(table: TableName, row: &[Cell]) -> &[Cell]
@@ -23,6 +24,13 @@ pub(crate) fn compare(table: TableName, row: &[Cell], other: &[Cell]) -> Orderin
     key_of(table, row).cmp(&key_of(table, other))
 }
 
+// Whether a row has a greater key than another.
+pub(crate) fn is_above(table: TableName, row: &[Cell], other: &[Cell]) -> bool
+    ensures { result ≡ is_gt (row_cmp table row.now other.now) }
+{
+    compare(table, row, other).is_gt()
+}
+
 // Where a row goes: before the first row of a greater key. A row that isn't below the last takes one comparison.
 pub(crate) fn place_for(table: TableName, row: &[Cell], rows: &[Row]) -> usize
     requires { IsInOrder table rows.now }
@@ -34,6 +42,21 @@ pub(crate) fn place_for(table: TableName, row: &[Cell], rows: &[Row]) -> usize
         }
     }
     rows.partition_point(|other| !compare(table, other.cells(), row).is_gt())
+}
+
+// The same place, looked for from the end. It takes a comparison for each row above this one, and one more.
+pub(crate) fn place_from_end(table: TableName, row: &[Cell], rows: &[Row]) -> usize
+    requires { IsInOrder table rows.now }
+    ensures { result ≡ place_for table row.now rows.now }
+{
+    let mut place = rows.len();
+    while let [.., last] = &rows[..place] {
+        if !is_above(table, last.cells(), row) {
+            return place;
+        }
+        place -= 1;
+    }
+    0
 }
 
 // Whether rows have one with the key of this one. The place is where this one goes.
@@ -55,27 +78,22 @@ fn has_null_key(table: TableName, row: &[Cell]) -> bool
     key_of(table, row).iter().any(|cell| cell.is_null())
 }
 
-// Whether rows have one with the key of this one, no cell of it null. The place is where this one goes.
-fn has_clash(table: TableName, row: &[Cell], rows: &[Row], place: usize) -> bool
-    requires order { IsInOrder table rows.now }
-    requires place { place ≡ place_for table row.now rows.now }
+// Whether rows have one with the key of this one, no cell of it null.
+pub(crate) fn has_clash(table: TableName, row: &[Cell], rows: &[Row]) -> bool
+    requires { IsInOrder table rows.now }
     ensures { result ≡ list_any (clash table row.now) rows.now }
 {
+    let place = place_for(table, row, rows);
     is_tied(table, row, rows, place) && !has_null_key(table, row)
 }
 
-// Adds a row at its place, or refuses it where the table is keyed and has its key. Refused, it leaves the rows.
-pub(crate) fn push(table: TableName, keyed: bool, row: Row, rows: &mut Vec<Row>) -> MbtResult<()>
+// Puts a row at its place. Where memory is wanting, the rows stay.
+pub(crate) fn insert(table: TableName, row: Row, rows: &mut Vec<Row>) -> Result<(), OutOfMemory>
     requires { IsInOrder table rows.old.items }
-    ensures duplicate { IsErrOf result (MbtError.DuplicateRow table) ↔ ((keyed && list_any (clash table row) rows.old.items) ≡ true) }
-    ensures errors { IfErr result (λ e. (e ≡ MbtError.DuplicateRow table) ⊎ (e ≡ MbtError.OutOfMemory)) }
     ensures ok { OnOk result (rows.new.items ≡ placed table row rows.old.items) }
     ensures err { OnErr result (rows.new.items ≡ rows.old.items) }
 {
     let place = place_for(table, row.cells(), rows.as_slice());
-    if keyed && has_clash(table, row.cells(), rows.as_slice(), place) {
-        return Err(MbtError::DuplicateRow(table));
-    }
     rows.insert(place, row)?;
     Ok(())
 }

@@ -12,6 +12,7 @@ pub mod Opened
 pub mod Options
 pub mod Scan
 pub mod Sound
+pub mod TileJson
 pub mod TileType
 pub mod Varint
 pub mod Vectors

@@ -73,9 +73,9 @@ WriteLeaves offset piece result None (Some new) = ⊥
 WriteLeaves offset piece result (Some old) None = ⊥
 WriteLeaves offset piece result (Some old) (Some new) = WriteGives offset piece result old new
 
--- an error that is no word on the bytes
-abbrev pub IsFaultOrMemory : ReadFault → Type 0
-IsFaultOrMemory Fault = Unit {0}
-IsFaultOrMemory PastEnd = ⊥
-IsFaultOrMemory (Short asked got) = ⊥
-IsFaultOrMemory OutOfMemory = Unit {0}
+-- why a read of bytes that end at most there gives none: Short never, PastEnd not where that is the front
+abbrev pub IsPartFault : ℕ → ReadFault → Type 0
+IsPartFault end Fault = Unit {0}
+IsPartFault end PastEnd = 0 < end
+IsPartFault end (Short asked got) = ⊥
+IsPartFault end OutOfMemory = Unit {0}

@@ -5,12 +5,12 @@ ghost use Rattle.tile_ids.specs.Counts.{Grew};
 ghost use Rattle.pm_format.specs.Media.{ReadAnswers, ReadExactAnswers, HasVersion, ReadCauses, ReadExactCauses};
 
 use bytes::Bytes;
-use std::alloc::{AllocError, Global};
+use std::alloc::{AllocError, AllocFailed, Global};
 use thiserror::Error;
 use tile_ids::{OutOfMemory, TextVal};
 
 #[cfg(test)]
-mod tests;
+pub mod tests;
 
 /// What a read gives: its bytes, and the version text of the data where the backend has one.
 #[derive(Drop)]
@@ -121,6 +121,17 @@ impl From<AllocError> for ReadFault {
     ghost from_gives = { λ _ e. e ≡ OutOfMemory };
 
     fn from(_: AllocError) -> Self {
+        ReadFault::OutOfMemory
+    }
+}
+
+impl<T: Drop> From<AllocFailed<T>> for ReadFault {
+    ghost use Rattle.std.specs.Prelude.{◌≡◌};
+    ghost use Rattle.pm_format.specs.declared.backend.ReadFault.TheVariants.{OutOfMemory};
+
+    ghost from_gives = { λ _ e. e ≡ OutOfMemory };
+
+    fn from(_: AllocFailed<T>) -> Self {
         ReadFault::OutOfMemory
     }
 }

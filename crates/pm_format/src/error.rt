@@ -4,7 +4,7 @@ ghost use Rattle.std.specs.Prelude.{◌≡◌};
 use crate::Compression;
 use std::alloc::{AllocError, AllocFailed};
 use thiserror::Error;
-use tile_ids::{OutOfMemory, TileError};
+use tile_ids::{OutOfMemory, TextVal, TileError};
 
 #[cfg(test)]
 mod tests;
@@ -24,7 +24,7 @@ pub enum ReadCause {
 }
 
 /// What is refused in an archive, or hinders reading or writing it.
-#[derive(Clone, Copy, Debug, PartialEq, Eq, Error)]
+#[derive(Debug, Drop, PartialEq, Eq, Error)]
 pub enum PmtError {
     /// The coordinate isn't one of its zoom.
     #[error("invalid coordinate {0}/{1}/{2}")]
@@ -68,6 +68,18 @@ pub enum PmtError {
     /// Fewer or more bytes came than were asked for: asked, and got.
     #[error("asked for {0} bytes, got {1}")]
     UnexpectedNumberOfBytesReturned(u64, u64),
+    /// The backend gave another version text with a tile than when the archive was opened: both texts.
+    #[error("the source was modified: {opened} when it was opened, now {read}")]
+    SourceModified { opened: TextVal, read: TextVal },
+    /// The metadata isn't the JSON that is asked for.
+    #[error("invalid metadata")]
+    InvalidMetadata,
+    /// The metadata isn't UTF-8.
+    #[error("metadata that isn't UTF-8")]
+    InvalidMetadataUtf8Encoding,
+    /// A leaf comes next in a walk, and each unit of its budget was spent on one.
+    #[error("the budget is spent")]
+    BudgetSpent,
     /// Memory ran out.
     #[error("out of memory")]
     OutOfMemory,

@@ -6,7 +6,8 @@ ghost use Rattle.pm_format.specs.HeaderDefaults.{default_header};
 
 mod reading;
 #[cfg(test)]
-mod tests;
+pub mod tests;
+mod tilejson;
 mod writing;
 
 use crate::{Compression, PmtError, TileType};

@@ -3,11 +3,13 @@
 
 pub mod archive_laws;
 mod backend;
+mod bytes_backend;
 mod compression;
 mod directory;
 mod entry;
 mod entry_coords;
 mod error;
+mod file_backend;
 mod header;
 pub mod header_laws;
 pub mod laws;
@@ -18,11 +20,13 @@ mod tile_type;
 mod varint;
 
 pub use backend::{Backend, BackendResponse, ReadFault};
+pub use bytes_backend::BytesBackend;
 pub use compression::Compression;
 pub use directory::{Directory, encode_entries};
 pub use entry::DirEntry;
 pub use entry_coords::DirEntryCoordsIter;
 pub use error::{PmtError, PmtResult, ReadCause};
+pub use file_backend::FileBackend;
 pub use header::Header;
 pub use medium::{Medium, MediumFault, WriteFault};
 pub use mem_medium::MemMedium;

@@ -32,7 +32,7 @@ within_end o told s adds at w alive e = if_some_map (λ b. b ≡ begun o adds) (
 pub contents_new : (adds : List (ℕ × List ℕ)) (id : ℕ) (bytes : List ℕ) → IsNew (contents_from [] adds) bytes → contents_from [] (adds ++ (id, bytes) ∷ []) ≡ contents_from [] adds ++ bytes ∷ []
 contents_new adds id bytes n = let h = new_is bytes (contents_from [] adds) n in contents_push [] adds (id, bytes) ∙ rw h refl
 
-flat_push : (cs : List (List ℕ)) (x : List ℕ) → flat_map (λ c. c) (cs ++ x ∷ []) ≡ flat_map (λ c. c) cs ++ x
+pub flat_push : (cs : List (List ℕ)) (x : List ℕ) → flat_map (λ c. c) (cs ++ x ∷ []) ≡ flat_map (λ c. c) cs ++ x
 flat_push [] x = append-nil x
 flat_push (c ∷ cs) x = ap (λ z. c ++ z) (flat_push cs x) ∙ sym (append_assoc c (flat_map (λ c. c) cs) x)
 

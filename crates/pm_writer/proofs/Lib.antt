@@ -32,3 +32,9 @@ pub mod Whole
 pub mod RootFits
 pub mod AssembledParts
 pub mod FinishedArchive
+pub mod Few
+pub mod Sorted
+pub mod InTurn
+pub mod Labelled
+pub mod PlacesRead
+pub mod Complete

@@ -8,7 +8,7 @@ use Rattle.pm_writer.specs.Leaves.{cut, leaves_by}
 use Rattle.pm_format.specs.WellFormed.{root_of}
 use Rattle.pm_writer.proofs.Walking.{le_or}
 
-short_length : (k n : ℕ) → length (short_of k n) ≤ k
+pub short_length : (k n : ℕ) → length (short_of k n) ≤ k
 short_length zero n = omega arith
 short_length (suc k) n = go (nat_lt n 128) refl (short_length k (n / 128))
   where
@@ -33,7 +33,7 @@ small_root (e ∷ []) h =
     omega (arith, short_length 10 1, one_spelled (e.tile_id - 0), one_spelled e.run_length, one_spelled e.length, one_spelled (e.offset + 1), length-append n (a ++ (b ++ (c ++ d))), length-append a (b ++ (c ++ d)), length-append b (c ++ d), length-append c d)
 small_root (e ∷ f ∷ es) h = absurd (omega (arith, h))
 
-cut_nil : (n size : ℕ) → cut n size [] ≡ []
+pub cut_nil : (n size : ℕ) → cut n size [] ≡ []
 cut_nil zero size = refl
 cut_nil (suc n) size = refl
 

@@ -1,6 +1,7 @@
 -- The one archive of a list of adds, and that of a map.
-use Rattle.std.specs.Prelude.{◌≡◌, ℕ, zero, suc, ◌+◌, Bool, true, List, [], ◌∷◌, ◌++◌, map, nat_lt, nat_eq, ◌&&◌, if◌then◌else◌, option_to_list, Option, Some, None, refl}
-use Rattle.tile_ids.specs.declared.id.TheConstants.{MAX_TILE_ID}
+use Rattle.std.specs.Prelude.{◌≡◌, ℕ, Bool, true, List, [], ◌∷◌, map, nat_lt, nat_eq, ◌&&◌, if◌then◌else◌, Option, Some, None, refl}
+use Rattle.std.specs.FinMap.{FinMap, entries}
+use Rattle.std.specs.Ordering.{nat_cmp}
 use Rattle.pm_format.specs.declared.tile_type.TileType.TheVariants as tile_type
 use Rattle.pm_format.specs.Directory.{dir_of, dir_bytes}
 use Rattle.pm_format.specs.Header.{head}
@@ -38,14 +39,9 @@ abbrev pub tile_in : List (ℕ × List ℕ) → ℕ → Option (List ℕ)
 tile_in [] t = None
 tile_in (a ∷ adds) t = if nat_eq a.0 t then Some a.1 else tile_in adds t
 
--- the pairs of a map whose ids are below a number, by rising id
-unfoldable pub pairs_below : ℕ → (ℕ → Option (List ℕ)) → List (ℕ × List ℕ)
-pairs_below zero tiles = []
-pairs_below (suc n) tiles = pairs_below n tiles ++ map (λ bytes. (n, bytes)) (option_to_list (tiles n))
-
--- the one archive of a map from ids to tiles
-unfoldable pub canon : Options → (ℕ → Option (List ℕ)) → List ℕ
-canon o tiles = archive o (pairs_below (MAX_TILE_ID + 1) tiles)
+-- the one archive of a finite map from ids to tiles: that of its pairs by rising id
+abbrev pub canon : Options → FinMap nat_cmp (List ℕ) → List ℕ
+canon o tiles = archive o (entries tiles)
 
 -- the archive of one tile of one byte, whose bytes are known
 pub one_tile_archive : archive (default_options tile_type.Unknown) ((0, 48 ∷ []) ∷ []) ≡ one_tile
@@ -55,7 +51,3 @@ one_tile_archive = refl
 pub its_tile : archive_map (archive (default_options tile_type.Unknown) ((0, 48 ∷ []) ∷ [])) 0 ≡ Some (48 ∷ [])
 unfolding archive archive_bytes dir_bytes varint opened head dir_of u64_at scan tile_by
 its_tile = refl
-
-pub two_pairs : pairs_below 4 (tile_in ((1, 48 ∷ []) ∷ (3, 49 ∷ []) ∷ (7, 50 ∷ []) ∷ [])) ≡ (1, 48 ∷ []) ∷ (3, 49 ∷ []) ∷ []
-unfolding pairs_below
-two_pairs = refl

@@ -1,6 +1,7 @@
 pub mod Adds
 pub mod Archive
 pub mod Bounds
+pub mod Few
 pub mod Contents
 pub mod Growing
 pub mod Leaves

@@ -1,8 +1,14 @@
 -- Where the parts of an archive lie, and what it counts.
-use Rattle.std.specs.Prelude.{ℕ, ◌+◌, Bool, List, length, nat_eq, if◌then◌else◌}
+use Rattle.std.specs.Prelude.{◌≡◌, ℕ, ◌+◌, Bool, List, [], filter, length, nat_eq, if◌then◌else◌, Option, Some, None, Result, Ok, Err, refl}
+use Rattle.pm_format.specs.Opened.{Opened, opened}
 use Rattle.pm_format.specs.Options.{Options}
+use Rattle.pm_format.specs.Directory.{dir_of}
+use Rattle.pm_format.specs.Header.{head}
+use Rattle.pm_format.specs.Varint.{u64_at}
+use Rattle.pm_format.specs.Vectors.{one_tile}
 use Rattle.pm_format.specs.WellFormed.{header_of}
 use Rattle.pm_format.specs.declared.compression.Compression.TheVariants as compression
+use Rattle.pm_format.specs.declared.error.PmtError.{PmtError}
 use Rattle.pm_format.specs.declared.header.Header.{Header}
 use Rattle.pm_writer.specs.Archive.{archive, ids_of, parts_of, rising}
 use Rattle.pm_writer.specs.declared.directories.Directories.{Directories}
@@ -25,6 +31,26 @@ places_of o adds =
       entries = h.n_tile_entries;
       contents = h.n_tile_contents;
     }
+
+-- as they are read from bytes of this length that open
+abbrev pub places_opened : ℕ → Result Opened PmtError → Option ArchivePlaces
+places_opened n (Err e) = None
+places_opened n (Ok o) = Some (record {
+  length = n;
+  root_length = o.0.root_length;
+  leaf_offset = o.0.leaf_offset;
+  leaf_length = o.0.leaf_length;
+  leaves = length (filter (λ e. nat_eq e.run_length 0) o.1);
+  data_offset = o.0.data_offset;
+  data_length = o.0.data_length;
+  addressed = o.0.n_addressed_tiles;
+  entries = o.0.n_tile_entries;
+  contents = o.0.n_tile_contents;
+})
+
+-- by the header, the leaf entries of the root, and the length of the bytes, where they open
+abbrev pub places_read : List ℕ → Option ArchivePlaces
+places_read b = places_opened (length b) (opened b)
 
 -- those of directories behind data, as they are kept while an archive is finished
 abbrev pub places_with : Directories → ℕ → ℕ → ℕ → ArchivePlaces
@@ -70,3 +96,26 @@ header_with s p metadata_length clustered = record {
   center_longitude = s.center_longitude;
   center_latitude = s.center_latitude;
 }
+
+-- the places of the archive of one tile of one byte, and of no archive
+abbrev pub one_tile_places : ArchivePlaces
+one_tile_places = record {
+  length = 16387;
+  root_length = 5;
+  leaf_offset = 0;
+  leaf_length = 0;
+  leaves = 0;
+  data_offset = 16386;
+  data_length = 1;
+  addressed = 1;
+  entries = 1;
+  contents = 1;
+}
+
+pub one_tile_read : places_read one_tile ≡ Some one_tile_places
+unfolding opened head dir_of u64_at
+one_tile_read = refl
+
+pub nothing_read : places_read [] ≡ None
+unfolding opened head
+nothing_read = refl

@@ -34,6 +34,7 @@ impl WriterState {
         ensures causes { (o : Options) (adds : List (ℕ × List ℕ)) → Writes o (M.told medium.old) self.old adds
             → AddCauses compression.None false (EndFits o adds bytes.now) (M.faults medium.old) (M.faults medium.new) result }
         ensures failed { has_failed self.new ≡ failed_after false result }
+        ensures tells { is_some (M.told medium.new) ≡ is_some (M.told medium.old) }
         ensures versions { is_some (M.versions medium.new) ≡ is_some (M.versions medium.old) }
         ensures faults { M.faults medium.old ≤ M.faults medium.new }
         ensures reads { M.reads medium.new ≡ M.reads medium.old }
@@ -73,6 +74,7 @@ impl WriterState {
         ensures causes { (o : Options) (adds : List (ℕ × List ℕ)) → Writes o (M.told medium.old) self.old adds
             → AddCauses compression.None false (FilledFits o adds id bytes.now) (M.faults medium.old) (M.faults medium.new) result }
         ensures failed { has_failed self.new ≡ failed_after false result }
+        ensures tells { is_some (M.told medium.new) ≡ is_some (M.told medium.old) }
         ensures versions { is_some (M.versions medium.new) ≡ is_some (M.versions medium.old) }
         ensures faults { M.faults medium.old ≤ M.faults medium.new }
         ensures reads { M.reads medium.new ≡ M.reads medium.old }
@@ -108,6 +110,7 @@ impl WriterState {
         ensures causes { (o : Options) (adds : List (ℕ × List ℕ)) → Writes o (M.told medium.old) self.old adds
             → AddCauses compression.None (has_failed self.old) (AddFits o adds (id_of coord) bytes.now) (M.faults medium.old) (M.faults medium.new) result }
         ensures failed { has_failed self.new ≡ failed_after (has_failed self.old) result }
+        ensures tells { is_some (M.told medium.new) ≡ is_some (M.told medium.old) }
         ensures versions { is_some (M.versions medium.new) ≡ is_some (M.versions medium.old) }
         ensures faults { M.faults medium.old ≤ M.faults medium.new }
         ensures reads { M.reads medium.new ≡ M.reads medium.old }
@@ -137,6 +140,7 @@ impl WriterState {
         ensures causes { (o : Options) (adds : List (ℕ × List ℕ)) → Writes o (M.told medium.old) self.old adds
             → AddCauses o.tile_compression (has_failed self.old) (AddFits o adds (id_of coord) bytes.now) (M.faults medium.old) (M.faults medium.new) result }
         ensures failed { has_failed self.new ≡ failed_after (has_failed self.old) result }
+        ensures tells { is_some (M.told medium.new) ≡ is_some (M.told medium.old) }
         ensures versions { is_some (M.versions medium.new) ≡ is_some (M.versions medium.old) }
         ensures faults { M.faults medium.old ≤ M.faults medium.new }
         ensures reads { M.reads medium.new ≡ M.reads medium.old }

@@ -1,6 +1,7 @@
 // The options of an archive, before there is a medium.
-ghost use Rattle.std.specs.Prelude.{◌≡◌, Some};
+ghost use Rattle.std.specs.Prelude.{◌≡◌, ◌<◌, ◌^◌, length, Some};
 ghost use Rattle.pm_format.specs.Options.{default_options};
+ghost use Rattle.pm_writer.specs.Bounds.{OptionsFit};
 ghost use Rattle.pm_writer.specs.Settings.{options_with};
 
 use crate::settings::Settings;
@@ -126,6 +127,15 @@ impl PmTilesWriter {
         ensures { result ≡ self.now.internal_compression }
     {
         self.settings.internal_compression
+    }
+
+    /// That zooms and degrees lie within their types and the metadata has fewer than 2^63 bytes, whatever the setters were given. It does nothing.
+    pub fn fits(&self)
+        ensures options { OptionsFit self.now }
+        ensures metadata { length self.now.metadata < 2 ^ 63 }
+    {
+        self.settings().fit();
+        let _metadata = self.metadata_bytes();
     }
 
     /// The metadata as bytes.

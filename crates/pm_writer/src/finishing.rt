@@ -25,6 +25,7 @@ impl WriterState {
         ensures places { (o : Options) (adds : List (ℕ × List ℕ)) → Writes o (M.told medium.old) self adds → IfOk result (λ p. p ≡ places_of o adds) }
         ensures shown { (o : Options) (adds : List (ℕ × List ℕ)) → Writes o (M.told medium.old) self adds → IfSome (M.told medium.new) (IsHiddenOr (archive o adds)) }
         ensures causes { (o : Options) (adds : List (ℕ × List ℕ)) → Writes o (M.told medium.old) self adds → FinishCauses o adds (has_failed self) (M.faults medium.old) (M.faults medium.new) result }
+        ensures tells { is_some (M.told medium.new) ≡ is_some (M.told medium.old) }
         ensures versions { is_some (M.versions medium.new) ≡ is_some (M.versions medium.old) }
         ensures faults { M.faults medium.old ≤ M.faults medium.new }
         ensures reads { M.reads medium.new ≡ M.reads medium.old }

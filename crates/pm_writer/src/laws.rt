@@ -1,7 +1,12 @@
 // Laws of archives: facts about their definitions, as contracts of functions that do nothing.
-ghost use Rattle.std.specs.Prelude.{◌≡◌, ◌<◌, ◌≤◌, ◌+◌, ◌^◌, ℕ, List, [], ◌∷◌, ◌++◌, length, sum_by, MatchOption, Ok, None};
+ghost use Rattle.std.specs.Prelude.{◌≡◌, ◌≢◌, ◌<◌, ◌≤◌, ◌+◌, ◌^◌, ℕ, true, List, [], ◌∷◌, ◌++◌, All, length, get_or, take, sum_by, slice_index, MatchOption, Ok, OnOk, Err, false, Some, None};
+ghost use Rattle.std.specs.FinMap.{FinMap, entries, find, from_entries, get, is_sorted};
+ghost use Rattle.std.specs.Ordering.{nat_cmp};
 ghost use Rattle.std.specs.declared.option.Option.{Option};
 ghost use Rattle.tile_ids.specs.declared.id.TheConstants.{MAX_TILE_ID};
+ghost use Rattle.pm_format.specs.declared.compression.Compression.{Compression};
+ghost use Rattle.pm_format.specs.declared.compression.Compression.TheVariants as compression;
+ghost use Rattle.pm_format.specs.declared.error.PmtError.{PmtError};
 ghost use Rattle.pm_format.specs.Directory.{DirFits, Entry, dir_bytes};
 ghost use Rattle.pm_format.specs.LookUp.{archive_map, archive_tile, data_of, hops};
 ghost use Rattle.pm_format.specs.Opened.{opened};
@@ -11,12 +16,17 @@ ghost use Rattle.pm_format.specs.WellFormed.{ConsistsOf, WellFormed, data_part, 
 ghost use Rattle.pm_writer.specs.Adds.{entries_of_adds, longest_run, unsorted};
 ghost use Rattle.pm_writer.specs.Archivable.{IsArchivable};
 ghost use Rattle.pm_writer.specs.Archive.{archive, canon, ids_of, parts_of, rising, tile_in};
-ghost use Rattle.pm_writer.specs.Bounds.{AllLow, AllSized};
+ghost use Rattle.pm_writer.specs.Bounds.{AllLow, AllSized, OptionsFit};
+ghost use Rattle.pm_writer.specs.Causes.{AddCauses, ArchiveFits, CreateCauses, FinishCauses};
+ghost use Rattle.pm_writer.specs.Few.{AreFew};
 ghost use Rattle.pm_writer.specs.Growing.{Separates, put};
 ghost use Rattle.pm_writer.specs.Leaves.{cut, found_leaves};
 ghost use Rattle.pm_writer.specs.Maps.{Covers, Gives, IsIn, RisingAdds, Tiles};
+ghost use Rattle.pm_writer.specs.Pieces.{IsHidden, IsHiddenOr, PutCauses};
+ghost use Rattle.pm_writer.specs.Places.{places_of, places_read};
 ghost use Rattle.pm_writer.specs.Through.{Rising, Through};
 ghost use Rattle.pm_writer.specs.Twice.{Distinct, adds_at, times};
+ghost use Rattle.pm_writer.specs.Writing.{AddFits};
 
 /// One more add grows the last entry, or is an entry of its own.
 pub fn one_more_add()
@@ -55,9 +65,14 @@ pub fn one_archive()
     ensures { (o : Options) (xs ys : List (ℕ × List ℕ)) → RisingAdds xs → RisingAdds ys → ((t : ℕ) → tile_in xs t ≡ tile_in ys t) → archive o xs ≡ archive o ys }
 {}
 
-/// The archive of adds by rising id is the one archive of their map.
+/// Finite maps that answer alike have one archive, and the archive of adds by strictly rising id is that of each map that has them.
+/// It has exactly the tiles of its map, which therefore determine it.
 pub fn archive_is_canonical()
-    ensures { (o : Options) (adds : List (ℕ × List ℕ)) (tiles : ℕ → Option (List ℕ)) → RisingAdds adds → ((t : ℕ) → t ≤ MAX_TILE_ID → tile_in adds t ≡ tiles t) → archive o adds ≡ canon o tiles }
+    ensures entries { (adds : List (ℕ × List ℕ)) → is_sorted nat_cmp adds ≡ true → entries (from_entries {R = nat_cmp} adds) ≡ adds }
+    ensures maps { (o : Options) (m n : FinMap nat_cmp (List ℕ)) → ((id : ℕ) → get m id ≡ get n id) → canon o m ≡ canon o n }
+    ensures adds { (o : Options) (adds : List (ℕ × List ℕ)) (m : FinMap nat_cmp (List ℕ)) → is_sorted nat_cmp adds ≡ true → ((id : ℕ) → get m id ≡ find nat_cmp id adds) → archive o adds ≡ canon o m }
+    ensures tiles { (o : Options) (m : FinMap nat_cmp (List ℕ)) (id : ℕ) → IsArchivable o (entries m) → archive_map (canon o m) id ≡ get m id }
+    ensures again { (o : Options) (m n : FinMap nat_cmp (List ℕ)) → IsArchivable o (entries m) → ((id : ℕ) → get n id ≡ archive_map (canon o m) id) → canon o n ≡ canon o m }
 {}
 
 /// The entries fit a directory, by bounds on the adds alone.
@@ -93,4 +108,42 @@ pub fn one_leaf_at_most()
     ensures flat { (o : Options) (adds : List (ℕ × List ℕ)) (t : ℕ) → IsArchivable o adds
         → MatchOption (scan (entries_of_adds adds) t) (archive_tile (archive o adds) t ≡ Ok None) (λ e. archive_tile (archive o adds) t ≡ data_of (header_of o (rising (ids_of adds)) (parts_of adds)) (archive o adds) e) }
     ensures hops { (o : Options) (adds : List (ℕ × List ℕ)) (t : ℕ) → IsArchivable o adds → hops (archive o adds) t ≤ 1 }
+{}
+
+/// Few and short adds are neither refused by `IndexEntryOverflow` when they are added, each behind those before it, nor when the archive is finished.
+pub fn few_adds_fit()
+    ensures archive { (o : Options) (adds : List (ℕ × List ℕ)) → AreFew o adds → ArchiveFits o adds }
+    ensures adds { (o : Options) (before after : List (ℕ × List ℕ)) (id : ℕ) (bytes : List ℕ) → AreFew o (before ++ (id, bytes) ∷ after) → AddFits o before id bytes }
+    ensures turns { (o : Options) (adds : List (ℕ × List ℕ)) (i : ℕ) (d : ℕ × List ℕ) → i < length adds → AreFew o adds → AddFits o (take i adds) (get_or adds i d).0 (get_or adds i d).1 }
+{}
+
+/// Adds by strictly rising id, as the entries of a finite map are: no id is twice, the archive is clustered, and it gives what is found among the adds.
+pub fn rising_adds_are_distinct()
+    ensures distinct { (adds : List (ℕ × List ℕ)) → is_sorted nat_cmp adds ≡ true → Distinct adds }
+    ensures clustered { (adds : List (ℕ × List ℕ)) → is_sorted nat_cmp adds ≡ true → rising (ids_of adds) ≡ true }
+    ensures pairs { (adds : List (ℕ × List ℕ)) → is_sorted nat_cmp adds ≡ true → All (λ a. a.0 ≤ MAX_TILE_ID) adds → All (λ a. a.1 ≢ []) adds → RisingAdds adds }
+    ensures archivable { (o : Options) (adds : List (ℕ × List ℕ)) → OptionsFit o → AreFew o adds → is_sorted nat_cmp adds ≡ true → All (λ a. a.0 ≤ MAX_TILE_ID) adds → All (λ a. a.1 ≢ []) adds → IsArchivable o adds }
+    ensures tiles { (o : Options) (adds : List (ℕ × List ℕ)) (t : ℕ) → IsArchivable o adds → archive_map (archive o adds) t ≡ find nat_cmp t adds }
+    ensures formed { (o : Options) (adds : List (ℕ × List ℕ)) → IsArchivable o adds → is_sorted nat_cmp adds ≡ true → WellFormed (archive o adds) o true }
+{}
+
+/// Bytes open only where byte 97, the label of directories, is 1. So hidden bytes don't, and of bytes that are hidden or a whole archive only the archive does.
+pub fn only_labelled_bytes_open()
+    ensures label { (b : List ℕ) → OnOk (opened b) (slice_index b 97 ≡ 1) }
+    ensures hidden { (b : List ℕ) → IsHidden b → OnOk (opened b) ⊥ }
+    ensures whole { (whole b : List ℕ) → IsHiddenOr whole b → OnOk (opened b) (b ≡ whole) }
+{}
+
+/// What its header, its root and its length say of an archive of adds are its places.
+pub fn places_are_read()
+    ensures { (o : Options) (adds : List (ℕ × List ℕ)) → IsArchivable o adds → places_read (archive o adds) ≡ Some (places_of o adds) }
+{}
+
+/// What fits is refused by a fault of the medium, whose count of faults then rose, and by want of memory alone: the beginning of a writer whose directories
+/// are labelled `None`, an add that fits to a writer that didn't fail, and the end of an archive of distinct ids that fits.
+pub fn only_faults_refuse_what_fits()
+    ensures start { (label : Compression) (before now : ℕ) (e : PmtError) → label ≡ compression.None → CreateCauses {A = Unit {0}} label before now (Err e) → PutCauses before now (Err e) }
+    ensures add { (o : Options) (adds : List (ℕ × List ℕ)) (id : ℕ) (bytes : List ℕ) (label : Compression) (before now : ℕ) (e : PmtError) → label ≡ compression.None → AddFits o adds id bytes
+        → AddCauses label false (AddFits o adds id bytes) before now (Err e) → PutCauses before now (Err e) }
+    ensures finish { (o : Options) (adds : List (ℕ × List ℕ)) (before now : ℕ) (e : PmtError) → Distinct adds → ArchiveFits o adds → FinishCauses {A = Unit {0}} o adds false before now (Err e) → PutCauses before now (Err e) }
 {}

@@ -5,8 +5,12 @@ mod adding;
 mod adds;
 mod assembling;
 mod builder;
+#[cfg(test)]
+mod bulk_tests;
 mod contents;
 mod directories;
+#[cfg(test)]
+mod fault_tests;
 mod finishing;
 pub mod laws;
 mod layout;

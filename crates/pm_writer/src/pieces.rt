@@ -14,6 +14,7 @@ pub(crate) fn put<M: Medium>(medium: &mut M, offset: u64, piece: &[u8]) -> PmtRe
     ensures part { BothTold (WroteFront offset piece.now) (M.told medium.old) (M.told medium.new) }
     ensures memory { IsErrOf result PmtError.OutOfMemory → BothTold (λ b c. c ≡ b) (M.told medium.old) (M.told medium.new) }
     ensures causes { PutCauses (M.faults medium.old) (M.faults medium.new) result }
+    ensures tells { is_some (M.told medium.new) ≡ is_some (M.told medium.old) }
     ensures versions { is_some (M.versions medium.new) ≡ is_some (M.versions medium.old) }
     ensures faults { M.faults medium.old ≤ M.faults medium.new }
     ensures reads { M.reads medium.new ≡ M.reads medium.old }
@@ -42,6 +43,7 @@ pub(crate) fn write_parts<M: Medium>(
     ensures done { OnOk result (BothTold (λ b c. c ≡ finished b leaves.now root.now header.now) (M.told medium.old) (M.told medium.new)) }
     ensures shown { BothTold (λ b c. IsHiddenOr (finished b leaves.now root.now header.now) c) (M.told medium.old) (M.told medium.new) }
     ensures causes { PutCauses (M.faults medium.old) (M.faults medium.new) result }
+    ensures tells { is_some (M.told medium.new) ≡ is_some (M.told medium.old) }
     ensures versions { is_some (M.versions medium.new) ≡ is_some (M.versions medium.old) }
     ensures faults { M.faults medium.old ≤ M.faults medium.new }
     ensures reads { M.reads medium.new ≡ M.reads medium.old }

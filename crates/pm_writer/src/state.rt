@@ -45,6 +45,7 @@ impl PmTilesWriter {
         ensures causes { CreateCauses self.now.internal_compression (M.faults medium.old) (M.faults medium.new) result }
         ensures hidden { IfSome (M.told medium.new) IsHidden }
         ensures refused { self.now.internal_compression ≢ compression.None → medium.new ≡ medium.old }
+        ensures tells { is_some (M.told medium.new) ≡ is_some (M.told medium.old) }
         ensures versions { is_some (M.versions medium.new) ≡ is_some (M.versions medium.old) }
         ensures faults { M.faults medium.old ≤ M.faults medium.new }
         ensures reads { M.reads medium.new ≡ M.reads medium.old }

@@ -44,6 +44,7 @@ impl PmTilesWriter {
         ensures same_reference { IfOk result (λ w. w.medium.ghost_name ≡ medium.entry.ghost_name) }
         ensures begun { IfOk result (λ w. IsTied M.told self.now w []) }
         ensures alive { IfOk result (λ w. has_failed w.state ≡ false) }
+        ensures tells { IfOk result (λ w. is_some (M.told w.medium.now) ≡ is_some (M.told medium.old)) }
         ensures versions { IfOk result (λ w. is_some (M.versions w.medium.now) ≡ is_some (M.versions medium.old)) }
         ensures faults { IfOk result (λ w. M.faults medium.old ≤ M.faults w.medium.now) }
         ensures reads { IfOk result (λ w. M.reads w.medium.now ≡ M.reads medium.old) }
@@ -74,6 +75,7 @@ impl<'a, M: Medium> PmTilesStreamWriter<'a, M> {
         ensures causes { (o : Options) (adds : List (ℕ × List ℕ)) → IsTied M.told o self.old adds
             → AddCauses o.tile_compression (has_failed self.old.state) (AddFits o adds (id_of coord) bytes.now) (M.faults self.old.medium.now) (M.faults self.new.medium.now) result }
         ensures failed { has_failed self.new.state ≡ failed_after (has_failed self.old.state) result }
+        ensures tells { is_some (M.told self.new.medium.now) ≡ is_some (M.told self.old.medium.now) }
         ensures versions { is_some (M.versions self.new.medium.now) ≡ is_some (M.versions self.old.medium.now) }
         ensures faults { M.faults self.old.medium.now ≤ M.faults self.new.medium.now }
         ensures reads { M.reads self.new.medium.now ≡ M.reads self.old.medium.now }
@@ -92,6 +94,7 @@ impl<'a, M: Medium> PmTilesStreamWriter<'a, M> {
         ensures causes { (o : Options) (adds : List (ℕ × List ℕ)) → IsTied M.told o self.old adds
             → AddCauses compression.None (has_failed self.old.state) (AddFits o adds (id_of coord) bytes.now) (M.faults self.old.medium.now) (M.faults self.new.medium.now) result }
         ensures failed { has_failed self.new.state ≡ failed_after (has_failed self.old.state) result }
+        ensures tells { is_some (M.told self.new.medium.now) ≡ is_some (M.told self.old.medium.now) }
         ensures versions { is_some (M.versions self.new.medium.now) ≡ is_some (M.versions self.old.medium.now) }
         ensures faults { M.faults self.old.medium.now ≤ M.faults self.new.medium.now }
         ensures reads { M.reads self.new.medium.now ≡ M.reads self.old.medium.now }
@@ -108,6 +111,7 @@ impl<'a, M: Medium> PmTilesStreamWriter<'a, M> {
         ensures shown { (o : Options) (adds : List (ℕ × List ℕ)) → IsTied M.told o self.entry adds → IfSome (M.told self.exit.0.now) (IsHiddenOr (archive o adds)) }
         ensures causes { (o : Options) (adds : List (ℕ × List ℕ)) → IsTied M.told o self.entry adds
             → FinishCauses o adds (has_failed self.entry.state) (M.faults self.entry.medium.now) (M.faults self.exit.0.now) result }
+        ensures tells { is_some (M.told self.exit.0.now) ≡ is_some (M.told self.entry.medium.now) }
         ensures versions { is_some (M.versions self.exit.0.now) ≡ is_some (M.versions self.entry.medium.now) }
         ensures faults { M.faults self.entry.medium.now ≤ M.faults self.exit.0.now }
         ensures reads { M.reads self.exit.0.now ≡ M.reads self.entry.medium.now }

@@ -26,18 +26,18 @@ use Rattle.tile_bridge.specs.FlatRows.{coord_at, flat_place, flat_set, tiles_in}
 use Rattle.tile_bridge.proofs.PlaceLemmas.{InRange, is_Equal, tied_place, coord_in_range, place_in_range, one_tie, place_for}
 use Rattle.tile_bridge.proofs.RowTreeLemmas.{row_put}
 
-nil_of_length : {A : Type 0} (xs : List A) → length xs ≡ 0 → xs ≡ []
+pub nil_of_length : {A : Type 0} (xs : List A) → length xs ≡ 0 → xs ≡ []
 nil_of_length [] e = refl
 nil_of_length (x ∷ xs) e = absurd (omega arith)
 
-abbrev Pairs : Type 0
+abbrev pub Pairs : Type 0
 Pairs = List (Place × Option (List ℕ))
 
-abbrev ids : Pairs → List (ℕ × Option (List ℕ))
+abbrev pub ids : Pairs → List (ℕ × Option (List ℕ))
 ids pairs = map (λ e. (address e.0, e.1)) pairs
 
 -- all places are in range
-abbrev Ranged : Pairs → Type 0
+abbrev pub Ranged : Pairs → Type 0
 Ranged [] = Unit {0}
 Ranged (e ∷ es) = InRange e.0 × Ranged es
 
@@ -47,12 +47,12 @@ ranged_row row None (Some x) rest e f h = let t : tile_of row (cell_at 3 row) �
 ranged_row row (Some p) None rest e f h = let t : tile_of row (cell_at 3 row) ≡ None = simp (e, f) in subst (λ o. Ranged (cons_option o rest)) (sym t) h
 ranged_row row (Some p) (Some x) rest e f h = let t : tile_of row (cell_at 3 row) ≡ Some (p, x) = simp (e, f) in subst (λ o. Ranged (cons_option o rest)) (sym t) (place_in_range row p e, h)
 
-ranged_rows : (rows : List (List Cell)) → Ranged (pairs_at 3 rows)
+pub ranged_rows : (rows : List (List Cell)) → Ranged (pairs_at 3 rows)
 ranged_rows [] = tt
 ranged_rows (row ∷ rows) = ranged_row row (place_of row) (contents_of (cell_at 3 row)) (pairs_at 3 rows) refl refl (ranged_rows rows)
 
 -- looking up by id and by place is the same
-find_same : (es : Pairs) → Ranged es → (p : Place) → InRange p → find nat_cmp (address p) (ids es) ≡ find place_cmp p es
+pub find_same : (es : Pairs) → Ranged es → (p : Place) → InRange p → find nat_cmp (address p) (ids es) ≡ find place_cmp p es
 find_same [] h p at = refl
 find_same (e ∷ es) h p at = ap (λ b. cond b (Some e.1) (find nat_cmp (address p) (ids es))) (one_tie p e.0 at h.0) ∙ ap (λ r. cond (eq_by_cmp place_cmp p e.0) (Some e.1) r) (find_same es h.1 p at)
 
@@ -192,7 +192,7 @@ filled_some : (g : Option (Option (List ℕ))) (bytes : List ℕ) → filled_of 
 filled_some None bytes h = absurd (cc)
 filled_some (Some c) bytes h = (c, refl)
 
-sorted_true : (b : Bool) → T b → b ≡ true
+pub sorted_true : (b : Bool) → T b → b ≡ true
 sorted_true true h = refl
 sorted_true false h = absurd h
 

@@ -1,9 +1,10 @@
+pub mod ConvertLemmas
+pub mod FewAddLemmas
 pub mod FlatAddLemmas
 pub mod FlatAggregateLemmas
 pub mod FlatAnswerLemmas
 pub mod FlatRowLemmas
 pub mod FlatSizeLemmas
-pub mod OneTileLemmas
 pub mod PlaceLemmas
 pub mod RowTreeLemmas
-pub mod SmallArchiveLemmas
+pub mod WritingLemmas

@@ -1,20 +1,21 @@
 -- What a conversion answers, and what it leaves.
-use Rattle.std.specs.Prelude.{ℕ, ◌≡◌, ◌-◌, ◌^◌, ◌<◌, Bool, true, false, ◌||◌, List, [], length, map, sum_by, nat_le, Option, Some, None, Result, Ok, Err, IfSome, IfOk}
+use Rattle.std.specs.Prelude.{ℕ, ◌≡◌, ◌≢◌, ◌⊎◌, ◌-◌, ◌^◌, ◌<◌, Bool, true, false, ◌||◌, List, [], ◌∷◌, length, map, sum_by, nat_le, Option, Some, None, Result, Ok, Err, IfSome}
 use Rattle.std.specs.List.{list_any}
-use Rattle.std.specs.FinMap.{entries, get}
+use Rattle.std.specs.FinMap.{FinMap, entries, get}
+use Rattle.std.specs.Ordering.{nat_cmp}
 use Rattle.tile_ids.specs.Coord.{Coord}
 use Rattle.tile_ids.specs.Hilbert.{id_of, tile_id}
 use Rattle.mb_store.specs.Tiles.{Place, TileSet, solid}
-use Rattle.pm_format.specs.declared.medium.WriteFault.{WriteFault}
-use Rattle.pm_format.specs.declared.medium.WriteFault.TheVariants as writes
-use Rattle.pm_format.specs.declared.tile_type.TileType.TheVariants.{Unknown}
+use Rattle.pm_format.specs.declared.compression.Compression.TheVariants as compression
 use Rattle.pm_format.specs.LookUp.{archive_map}
-use Rattle.pm_format.specs.Opened.{opened}
-use Rattle.pm_format.specs.Options.{default_options}
+use Rattle.pm_format.specs.Options.{Options}
 use Rattle.pm_format.specs.WellFormed.{WellFormed}
+use Rattle.pm_writer.specs.Archive.{canon}
+use Rattle.pm_writer.specs.Pieces.{IsHidden}
+use Rattle.pm_writer.specs.Places.{places_read}
 use Rattle.tile_bridge.specs.Aggregate.{bytes_of}
 use Rattle.tile_bridge.specs.declared.error.ConvertError.{ConvertError}
-use Rattle.tile_bridge.specs.declared.error.ConvertError.TheVariants.{MediumNotEmpty, IndexEntryOverflow, MediumFault, OutOfMemory}
+use Rattle.tile_bridge.specs.declared.error.ConvertError.TheVariants.{MediumNotEmpty, UnsupportedCompression, IndexEntryOverflow, MediumFault, OutOfMemory}
 use Rattle.tile_bridge.specs.declared.report.ConvertReport.{ConvertReport}
 
 -- the id of a place, whose row is counted from the bottom
@@ -32,16 +33,20 @@ overflows tiles =
     list_any (λ e. nat_le (2 ^ 32) (length (bytes_of e.1))) (entries tiles)
     || (nat_le (2 ^ 32) (length (entries tiles)) || nat_le (2 ^ 60) (sum_by (λ e. length (bytes_of e.1)) (entries tiles)))
 
--- the report's numbers are those of the archive
-abbrev pub HasNumbers : List ℕ → ConvertReport → Type 0
-HasNumbers b r = (r.length ≡ length b) × IfOk (opened b) (λ o. (r.addressed ≡ o.0.n_addressed_tiles) × (r.entries ≡ o.0.n_tile_entries) × (r.contents ≡ o.0.n_tile_contents))
+-- The bytes are a well-formed archive with the options, which has exactly the tiles, and they are the one archive of these options and of the map of
+-- these tiles by their ids.
+pub record IsArchiveOf (b : List ℕ) (o : Options) (tiles : TileSet) : Type 0 where
+  pub formed : WellFormed b o true
+  pub holds : HoldsExactly b tiles
+  pub by_id : FinMap nat_cmp (List ℕ)
+  pub has : (id : ℕ) → get by_id id ≡ archive_map b id
+  pub one : b ≡ canon o by_id
 
 -- the bytes are the archive of the tiles, and the report is of them
-pub record IsConverted (b : List ℕ) (tiles : TileSet) (coords : List Coord) (r : ConvertReport) : Type 0 where
-  pub formed : WellFormed b (default_options Unknown) true
-  pub holds : HoldsExactly b tiles
+pub record IsConverted (b : List ℕ) (o : Options) (tiles : TileSet) (coords : List Coord) (r : ConvertReport) : Type 0 where
+  pub archive : IsArchiveOf b o tiles
   pub answers : r.answers ≡ map (λ c. archive_map b (id_of c)) coords
-  pub numbers : HasNumbers b r
+  pub places : places_read b ≡ Some r.places
 
 -- the medium is empty, where it tells
 abbrev pub IsEmpty : Option (List ℕ) → Type 0
@@ -49,20 +54,31 @@ IsEmpty told = IfSome told (λ bytes. bytes ≡ [])
 
 -- When each answer comes. Where the medium tells, the answers but want of memory and the fault rule each other out, so each
 -- comes exactly where its line says.
-abbrev pub ConvertCauses : TileSet → Option (List ℕ) → Result ConvertReport ConvertError → Type 0
-ConvertCauses tiles told (Ok r) = IsEmpty told × (overflows tiles ≡ false)
-ConvertCauses tiles told (Err (MediumNotEmpty n)) = (0 < n) × IfSome told (λ bytes. n ≡ length bytes)
-ConvertCauses tiles told (Err IndexEntryOverflow) = IsEmpty told × (overflows tiles ≡ true)
-ConvertCauses tiles told (Err MediumFault) = Unit {0}
-ConvertCauses tiles told (Err OutOfMemory) = Unit {0}
+abbrev pub ConvertCauses : Options → TileSet → Option (List ℕ) → Result ConvertReport ConvertError → Type 0
+ConvertCauses o tiles told (Ok r) = IsEmpty told × (o.internal_compression ≡ compression.None) × (overflows tiles ≡ false)
+ConvertCauses o tiles told (Err (MediumNotEmpty n)) = (0 < n) × IfSome told (λ bytes. n ≡ length bytes)
+ConvertCauses o tiles told (Err (UnsupportedCompression label)) = IsEmpty told × (label ≡ o.internal_compression) × (o.internal_compression ≢ compression.None)
+ConvertCauses o tiles told (Err IndexEntryOverflow) = IsEmpty told × (o.internal_compression ≡ compression.None) × (overflows tiles ≡ true)
+ConvertCauses o tiles told (Err MediumFault) = Unit {0}
+ConvertCauses o tiles told (Err OutOfMemory) = Unit {0}
+
+-- no part of an archive is shown: the label of directories isn't written, or the whole archive stands
+abbrev pub ShowsNoPart : Options → TileSet → List ℕ → Type 0
+ShowsNoPart o tiles b = IsHidden b ⊎ IsArchiveOf b o tiles
+
+-- bytes of a medium that wasn't empty stay, and an empty one shows no part
+abbrev pub LeavesPart : Options → TileSet → List ℕ → List ℕ → Type 0
+LeavesPart o tiles [] new = ShowsNoPart o tiles new
+LeavesPart o tiles (byte ∷ bytes) new = new ≡ byte ∷ bytes
 
 -- What the medium holds afterwards.
-abbrev pub LeavesBytes : TileSet → List Coord → Result ConvertReport ConvertError → List ℕ → List ℕ → Type 0
-LeavesBytes tiles coords (Ok r) old new = IsConverted new tiles coords r
-LeavesBytes tiles coords (Err (MediumNotEmpty n)) old new = new ≡ old
-LeavesBytes tiles coords (Err IndexEntryOverflow) old new = new ≡ old
-LeavesBytes tiles coords (Err MediumFault) old new = Unit {0}
-LeavesBytes tiles coords (Err OutOfMemory) old new = new ≡ old
+abbrev pub LeavesBytes : Options → TileSet → List Coord → Result ConvertReport ConvertError → List ℕ → List ℕ → Type 0
+LeavesBytes o tiles coords (Ok r) old new = IsConverted new o tiles coords r
+LeavesBytes o tiles coords (Err (MediumNotEmpty n)) old new = new ≡ old
+LeavesBytes o tiles coords (Err (UnsupportedCompression label)) old new = new ≡ old
+LeavesBytes o tiles coords (Err IndexEntryOverflow) old new = new ≡ old
+LeavesBytes o tiles coords (Err MediumFault) old new = LeavesPart o tiles old new
+LeavesBytes o tiles coords (Err OutOfMemory) old new = LeavesPart o tiles old new
 
 -- a fact on the bytes before and after, where they are told; whether they are doesn't change
 abbrev pub BothTold : Option (List ℕ) → Option (List ℕ) → (List ℕ → List ℕ → Type 0) → Type 0
@@ -71,9 +87,5 @@ BothTold None (Some new) P = ⊥
 BothTold (Some old) None P = ⊥
 BothTold (Some old) (Some new) P = P old new
 
-abbrev pub ConvertLeaves : TileSet → List Coord → Result ConvertReport ConvertError → Option (List ℕ) → Option (List ℕ) → Type 0
-ConvertLeaves tiles coords result old new = BothTold old new (LeavesBytes tiles coords result)
-
-abbrev pub of_write_fault : WriteFault → ConvertError
-of_write_fault writes.Fault = MediumFault
-of_write_fault writes.OutOfMemory = OutOfMemory
+abbrev pub ConvertLeaves : Options → TileSet → List Coord → Result ConvertReport ConvertError → Option (List ℕ) → Option (List ℕ) → Type 0
+ConvertLeaves o tiles coords result old new = BothTold old new (LeavesBytes o tiles coords result)

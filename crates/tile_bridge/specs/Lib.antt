@@ -2,5 +2,4 @@ pub mod Aggregate
 pub mod Convert
 pub mod FlatAdds
 pub mod FlatRows
-pub mod OneTile
-pub mod SmallArchive
+pub mod Writing

@@ -1,7 +1,7 @@
 // Why a conversion ends without an archive.
 ghost use Rattle.std.specs.Prelude.{◌≡◌};
 
-use pm_format::{MediumFault, WriteFault};
+use pm_format::{Compression, MediumFault};
 use std::alloc::AllocError;
 use thiserror::Error;
 use tile_ids::OutOfMemory;
@@ -12,6 +12,9 @@ pub enum ConvertError {
     /// The medium wasn't empty: its length.
     #[error("medium not empty {length}")]
     MediumNotEmpty { length: u64 },
+    /// Directories aren't labelled `None`: their label.
+    #[error("unsupported compression")]
+    UnsupportedCompression(Compression),
     /// A tile has 2^32 bytes or more, there are 2^32 tiles or more, or their bytes are 2^60 or more.
     #[error("index entry overflow")]
     IndexEntryOverflow,
@@ -53,19 +56,5 @@ impl From<MediumFault> for ConvertError {
 
     fn from(_: MediumFault) -> Self {
         ConvertError::MediumFault
-    }
-}
-
-impl From<WriteFault> for ConvertError {
-    ghost use Rattle.std.specs.Prelude.{◌≡◌};
-    ghost use Rattle.tile_bridge.specs.Convert.{of_write_fault};
-
-    ghost from_gives = { λ w e. e ≡ of_write_fault w };
-
-    fn from(fault: WriteFault) -> Self {
-        match fault {
-            WriteFault::Fault => ConvertError::MediumFault,
-            WriteFault::OutOfMemory => ConvertError::OutOfMemory,
-        }
     }
 }

@@ -1,7 +1,10 @@
 // The adds of a flat table: the tiles of at least one byte by their ids.
-ghost use Rattle.std.specs.Prelude.{◌≡◌, IfOk};
+ghost use Rattle.std.specs.Prelude.{◌≡◌, ◌<◌, ◌^◌, false, length, IfOk};
 ghost use Rattle.std.specs.FinMap.{entries};
+ghost use Rattle.pm_format.specs.Options.{Options};
+ghost use Rattle.pm_writer.specs.Few.{AreFew};
 ghost use Rattle.tile_bridge.specs.Aggregate as contents;
+ghost use Rattle.tile_bridge.specs.Convert.{overflows};
 ghost use Rattle.tile_bridge.specs.FlatAdds.{AreAddsOf, adds_in, id_tiles, seen};
 ghost use Rattle.tile_bridge.specs.FlatRows.{contents_in, flat_set, tiles_in};
 
@@ -64,7 +67,8 @@ fn filled_rows<'a>(
 
 /// The tiles of a flat table that have at least one byte, by rising id. Where rows have one place, the first of them is its tile.
 pub(crate) fn adds_of<'a>(alloc: Global, rows: &'a [Row]) -> Result<Vec<Add<'a>>, OutOfMemory>
-    ensures { IfOk result (λ adds. AreAddsOf (seen adds.items) (flat_set rows.now)) }
+    ensures are { IfOk result (λ adds. AreAddsOf (seen adds.items) (flat_set rows.now)) }
+    ensures few { IfOk result (λ adds. (o : Options) → length o.metadata < 2 ^ 63 → overflows (flat_set rows.now) ≡ false → AreFew o (seen adds.items)) }
 {
     let tree = rows_by_id(alloc, rows)?;
     filled_rows(alloc, rows, &tree)

@@ -2,8 +2,7 @@
 ghost use Rattle.std.specs.Prelude.{◌≡◌, is_some, unwrap_or};
 ghost use Rattle.std.specs.Option.{option_copied, option_map};
 ghost use Rattle.mb_store.specs.Tiles.{cell_at, contents_of};
-ghost use Rattle.tile_bridge.specs.FlatRows.{coord_at, flat_place, number_in};
-ghost use Rattle.tile_bridge.specs.OneTile.{cell_bytes};
+ghost use Rattle.tile_bridge.specs.FlatRows.{cell_bytes, coord_at, flat_place, number_in};
 
 use mb_store::{Cell, Row};
 use tile_ids::{TileCoord, parse_tile_index};

@@ -7,12 +7,10 @@ mod flat_adds;
 mod flat_aggregate;
 mod flat_answers;
 mod flat_rows;
-mod one_tile;
 mod report;
-mod small_archive;
-pub mod small_laws;
 #[cfg(test)]
 mod tests;
+mod writing;
 
 pub use conversion::convert_flat;
 pub use error::ConvertError;

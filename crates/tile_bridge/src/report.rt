@@ -1,6 +1,7 @@
 // What a conversion reports.
 ghost use Rattle.std.specs.Prelude.{◌≡◌};
 
+use pm_writer::ArchivePlaces;
 use std::marker::Model;
 use tile_ids::{BlobVal, TextVal};
 
@@ -42,12 +43,6 @@ pub struct ConvertReport {
     pub answers: Answers,
     /// The aggregate hash of the tile set.
     pub aggregate: TextVal,
-    /// How many ids have a tile.
-    pub addressed: u64,
-    /// How many tile entries the archive has.
-    pub entries: u64,
-    /// How many different contents the archive has.
-    pub contents: u64,
-    /// How many bytes the archive has.
-    pub length: u64,
+    /// Where the parts of the archive lie, and what it counts.
+    pub places: ArchivePlaces,
 }

@@ -65,6 +65,14 @@ one_line old new whole place n rest front back h e f g w i =
     let step = hex_dump-step place n rest front back h e f g in
     ap (λ l. l ++ hex_dump (place + 32) back) w ∙ append_assoc old (shown_line place front) (hex_dump (place + 32) back) ∙ ap (λ r. old ++ r) (sym step) ∙ i
 
+-- the same with the place of the next line, which counts only where there is one
+pub one_line_on : (old new whole : List ℕ) (place next n : ℕ) (rest front back : List ℕ) → 0 < length rest → n ≡ min (length rest) 32 → front ≡ take n rest → back ≡ drop n rest → new ≡ old ++ shown_line place front → (0 < length back → next ≡ place + 32) → old ++ hex_dump place rest ≡ whole → new ++ hex_dump next back ≡ whole
+one_line_on old new whole place next n rest front back h e f g w on i = ap (λ d. new ++ d) (same back on) ∙ one_line old new whole place n rest front back h e f g w i
+  where
+    same : (back : List ℕ) → (0 < length back → next ≡ place + 32) → hex_dump next back ≡ hex_dump (place + 32) back
+    same [] on = hex_dump-none next [] (omega arith) ∙ sym (hex_dump-none (place + 32) [] (omega arith))
+    same (b ∷ bs) on = ap (λ p. hex_dump p (b ∷ bs)) (on (omega arith))
+
 -- nothing is left
 pub no_line : (old whole rest : List ℕ) (place : ℕ) → length rest ≤ 0 → old ++ hex_dump place rest ≡ whole → old ≡ whole
 no_line old whole rest place h i = sym (append-nil old) ∙ ap (λ r. old ++ r) (sym (hex_dump-none place rest h)) ∙ i

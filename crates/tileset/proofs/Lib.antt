@@ -1,7 +1,12 @@
+pub mod BulkLemmas
 pub mod DumpLemmas
+pub mod FlatLineLemmas
 pub mod HexDumpLemmas
-pub mod LinesLemmas
+pub mod NumberLemmas
+pub mod PartingLemmas
 pub mod ReportLemmas
+pub mod RowTreeLemmas
 pub mod RunLemmas
 pub mod ScriptLemmas
 pub mod StreamsLemmas
+pub mod TextLemmas

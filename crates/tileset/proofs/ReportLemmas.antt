@@ -1,16 +1,20 @@
 -- The report, from what a conversion answers.
-use Rattle.std.proofs.Common.{◌≡◌, ℕ, zero, suc, ◌≤◌, min, List, [], ◌∷◌, ◌++◌, length, drop, map, flat_map, Option, Some, None, Result, Ok, Err, IfOk, IfSome, IsOk, subst, refl, sym, ◌∙◌, ap, arith, append_assoc, append-nil}
+use Rattle.std.proofs.Common.{◌≡◌, ℕ, zero, suc, ◌≤◌, min, List, [], ◌∷◌, ◌++◌, length, drop, map, flat_map, Option, Some, None, Result, Ok, Err, IfErr, IfSome, IsErrOf, subst, refl, sym, ◌∙◌, ap, arith, append_assoc, append-nil}
 use Rattle.std.proofs.lemmas.List.{drop_all}
 use Rattle.tile_ids.specs.Coord.{Coord}
 use Rattle.tile_ids.specs.Hilbert.{id_of}
 use Rattle.pm_format.specs.declared.error.PmtError.{PmtError}
 use Rattle.pm_format.specs.LookUp.{archive_map}
 use Rattle.pm_format.specs.Opened.{Opened, opened}
+use Rattle.pm_writer.specs.Places.{places_opened, places_read}
+use Rattle.pm_writer.specs.declared.places.ArchivePlaces.{ArchivePlaces}
 use Rattle.tile_bridge.specs.declared.report.ConvertReport.{ConvertReport}
 use Rattle.tileset.specs.Dump.{HasLength}
 use Rattle.tileset.specs.HexDump.{hex_dump}
 use Rattle.tileset.specs.Report.{number_lines, query_lines, query_line, report_text, summary_lines}
-use Rattle.tileset.specs.Run.{IsReported}
+use Rattle.tileset.specs.Run.{IsReported, PlacesCauses, ReportCauses}
+use Rattle.tileset.specs.declared.outcome.Outcome.{Outcome}
+use Rattle.tileset.specs.declared.outcome.Outcome.TheVariants as outcomes
 use Rattle.tileset.specs.Streams.{Gains, GainsFront}
 use Rattle.tileset.specs.Summary.{answer_lines, summary}
 use Rattle.tileset.proofs.DumpLemmas.{front_longer, front_more}
@@ -35,23 +39,14 @@ answers_map : (f : Coord → Option (List ℕ)) (cs : List Coord) → answer_lin
 answers_map f [] = refl
 answers_map f (c ∷ cs) = ap (λ r. query_line c (f c) ++ r) (answers_map f cs)
 
-numbers_is : (r : ConvertReport) (b : List ℕ) (o : Result Opened PmtError) → IsOk o → r.length ≡ length b → IfOk o (λ o. (r.addressed ≡ o.0.n_addressed_tiles) × (r.entries ≡ o.0.n_tile_entries) × (r.contents ≡ o.0.n_tile_contents))
-    → number_lines r.aggregate r.addressed r.entries r.contents r.length ≡ summary_lines r.aggregate b o
-numbers_is r b (Err e) h l n = absurd (cc)
-numbers_is r b (Ok o) h l n = same_numbers r.aggregate r.addressed o.0.n_addressed_tiles r.entries o.0.n_tile_entries r.contents o.0.n_tile_contents r.length (length b) n.0 n.1 n.2 l
-  where
-    same_numbers : (h : List ℕ) (a a' e e' c c' l l' : ℕ) → a ≡ a' → e ≡ e' → c ≡ c' → l ≡ l' → number_lines h a e c l ≡ number_lines h a' e' c' l'
-    same_numbers h a a' e e' c c' l l' p q r s = ap (λ x. number_lines h x e c l) p ∙ (ap (λ x. number_lines h a' x c l) q ∙ (ap (λ x. number_lines h a' e' x l) r ∙ ap (λ x. number_lines h a' e' c' x) s))
-
 -- the report is the lines of the answers and numbers, and the dump
 report_is : (queries : List Coord) (r : ConvertReport) (b : List ℕ) → IsReported queries r b → report_text queries r.aggregate b ≡ summary queries r ++ hex_dump 0 b
 unfolding report_text
 report_is queries r b is =
     let answers : answer_lines queries r.answers ≡ query_lines b queries = ap (answer_lines queries) is.answers ∙ answers_map (λ c. archive_map b (id_of c)) queries in
-    let numbers = numbers_is r b (opened b) is.opens is.numbers.0 is.numbers.1 in
-    let n = number_lines r.aggregate r.addressed r.entries r.contents r.length in
-    sym (append_assoc (query_lines b queries) (summary_lines r.aggregate b (opened b)) (hex_dump 0 b))
-    ∙ (ap (λ x. (x ++ summary_lines r.aggregate b (opened b)) ++ hex_dump 0 b) (sym answers) ∙ ap (λ x. (answer_lines queries r.answers ++ x) ++ hex_dump 0 b) (sym numbers))
+    let numbers : summary_lines r.aggregate (places_read b) ≡ number_lines r.aggregate r.places.addressed r.places.entries r.places.contents r.places.length = ap (summary_lines r.aggregate) is.places in
+    sym (append_assoc (query_lines b queries) (summary_lines r.aggregate (places_read b)) (hex_dump 0 b))
+    ∙ (ap (λ x. (x ++ summary_lines r.aggregate (places_read b)) ++ hex_dump 0 b) (sym answers) ∙ ap (λ x. (answer_lines queries r.answers ++ x) ++ hex_dump 0 b) numbers)
 
 pub report_all : (old mid new told : Option (List ℕ)) (queries : List Coord) (r : ConvertReport) (text : List ℕ) → IfSome told (IsReported queries r) → text ≡ summary queries r
     → Gains old mid text → IfSome told (λ b. Gains mid new (hex_dump 0 b)) → IfSome told (λ b. Gains old new (report_text queries r.aggregate b))
@@ -71,7 +66,21 @@ report_further old mid new None queries r text is e p q = tt
 report_further old mid new (Some b) queries r text is e p q =
     subst (GainsFront old new) (sym (report_is queries r b is)) (front_more old mid new (summary queries r) (hex_dump 0 b) (subst (Gains old mid) e p) q)
 
--- bytes of a length
-pub reported_length : (told : Option (List ℕ)) (queries : List Coord) (r : ConvertReport) → IfSome told (IsReported queries r) → IfSome told (HasLength r.length)
+-- places that are read have the length of the bytes
+length_read : (n : ℕ) (o : Result Opened PmtError) (p : ArchivePlaces) → places_opened n o ≡ Some p → p.length ≡ n
+length_read n (Err e) p is = absurd (cc)
+length_read n (Ok o) p is = cc
+
+pub reported_length : (told : Option (List ℕ)) (queries : List Coord) (r : ConvertReport) → IfSome told (IsReported queries r) → IfSome told (HasLength r.places.length)
 reported_length None queries r is = tt
-reported_length (Some b) queries r is = is.numbers.0
+reported_length (Some b) queries r is = length_read (length b) (opened b) r.places is.places
+
+-- writing the places ends as a report may
+pub places_end : (told : Option (List ℕ)) (r : Result Unit Outcome) → IfErr r PlacesCauses → IfErr r (ReportCauses told)
+places_end told (Ok x) h = tt
+places_end told (Err outcomes.OutputFault) h = tt
+places_end told (Err outcomes.OutOfMemory) h = tt
+places_end told (Err _) h = absurd h
+
+pub no_medium_fault : (r : Result Unit Outcome) → IfErr r PlacesCauses → IsErrOf r outcomes.MediumFault → ⊥
+no_medium_fault r h is = subst (λ x. IfErr x PlacesCauses) is h

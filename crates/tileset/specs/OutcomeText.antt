@@ -1,6 +1,8 @@
 -- The status and the line of each outcome.
 use Rattle.std.specs.Prelude.{◌≡◌, ℕ, ◌++◌, List, [], codes, refl}
 use Rattle.std.specs.Fmt.{decimal}
+use Rattle.pm_format.specs.declared.compression.Compression.{Compression}
+use Rattle.pm_format.specs.declared.compression.Compression.TheVariants as compression
 use Rattle.pm_format.specs.declared.error.PmtError.{PmtError}
 use Rattle.pm_format.specs.declared.error.PmtError.TheVariants as errors
 use Rattle.tile_bridge.specs.declared.error.ConvertError.{ConvertError}
@@ -36,10 +38,23 @@ error_name (errors.Reading cause) = codes "Reading"
 error_name errors.Failed = codes "Failed"
 error_name (errors.OverlappingEntries id) = codes "OverlappingEntries"
 error_name (errors.UnexpectedNumberOfBytesReturned asked got) = codes "UnexpectedNumberOfBytesReturned"
+error_name (errors.SourceModified opened read) = codes "SourceModified"
+error_name errors.InvalidMetadata = codes "InvalidMetadata"
+error_name errors.InvalidMetadataUtf8Encoding = codes "InvalidMetadataUtf8Encoding"
+error_name errors.BudgetSpent = codes "BudgetSpent"
 error_name errors.OutOfMemory = codes "OutOfMemory"
+
+-- a label as a script says it
+abbrev pub label_name : Compression → List ℕ
+label_name compression.Unknown = codes "unknown"
+label_name compression.None = codes "none"
+label_name compression.Gzip = codes "gzip"
+label_name compression.Brotli = codes "brotli"
+label_name compression.Zstd = codes "zstd"
 
 abbrev pub refusal : ConvertError → List ℕ
 refusal (convert.MediumNotEmpty n) = codes "medium not empty " ++ decimal n
+refusal (convert.UnsupportedCompression label) = codes "unsupported compression " ++ label_name label
 refusal convert.IndexEntryOverflow = codes "IndexEntryOverflow"
 refusal convert.MediumFault = codes "MediumFault"
 refusal convert.OutOfMemory = codes "OutOfMemory"
@@ -61,3 +76,6 @@ overflowing_set = refl
 
 pub short_medium : line (ReadBack (errors.UnexpectedNumberOfBytesReturned 32 31)) ≡ codes "read back: UnexpectedNumberOfBytesReturned\n"
 short_medium = refl
+
+pub packed_directories : line (Refused (convert.UnsupportedCompression compression.Gzip)) ≡ codes "refused: unsupported compression gzip\n"
+packed_directories = refl

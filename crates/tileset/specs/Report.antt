@@ -1,13 +1,14 @@
 -- The text that is written on the way to Done.
-use Rattle.std.specs.Prelude.{ℕ, ◌++◌, List, [], length, flat_map, Option, Some, None, Result, Ok, Err, codes}
+use Rattle.std.specs.Prelude.{ℕ, ◌++◌, List, [], flat_map, Option, Some, None, codes}
 use Rattle.std.specs.Fmt.{decimal}
 use Rattle.hex.specs.Hex.{encode_lower}
 use Rattle.tile_ids.specs.Coord.{Coord}
 use Rattle.tile_ids.specs.Hilbert.{id_of}
-use Rattle.pm_format.specs.declared.error.PmtError.{PmtError}
 use Rattle.pm_format.specs.LookUp.{archive_map}
-use Rattle.pm_format.specs.Opened.{Opened, opened}
+use Rattle.pm_writer.specs.Places.{places_read}
+use Rattle.pm_writer.specs.declared.places.ArchivePlaces.{ArchivePlaces}
 use Rattle.tileset.specs.HexDump.{hex_dump}
+use Rattle.tileset.specs.Places.{places_text}
 
 -- a tile in hexadecimal, or none
 abbrev pub tile_text : Option (List ℕ) → List ℕ
@@ -27,11 +28,16 @@ abbrev pub number_lines : List ℕ → ℕ → ℕ → ℕ → ℕ → List ℕ
 number_lines aggregate addressed entries contents total =
     codes "aggregate " ++ (aggregate ++ (codes "\naddressed " ++ (decimal addressed ++ (codes "\nentries " ++ (decimal entries ++ (codes "\ncontents " ++ (decimal contents ++ (codes "\nlength " ++ (decimal total ++ codes "\n")))))))))
 
--- the numbers are those of the archive's header
-abbrev pub summary_lines : List ℕ → List ℕ → Result Opened PmtError → List ℕ
-summary_lines aggregate b (Err e) = []
-summary_lines aggregate b (Ok o) = number_lines aggregate o.0.n_addressed_tiles o.0.n_tile_entries o.0.n_tile_contents (length b)
+-- the numbers are those of the archive's header and length
+abbrev pub summary_lines : List ℕ → Option ArchivePlaces → List ℕ
+summary_lines aggregate None = []
+summary_lines aggregate (Some p) = number_lines aggregate p.addressed p.entries p.contents p.length
 
 -- the report on an archive whose set has this aggregate
 unfoldable pub report_text : List Coord → List ℕ → List ℕ → List ℕ
-report_text queries aggregate b = query_lines b queries ++ (summary_lines aggregate b (opened b) ++ hex_dump 0 b)
+report_text queries aggregate b = query_lines b queries ++ (summary_lines aggregate (places_read b) ++ hex_dump 0 b)
+
+-- the text of an archive that is made from two numbers
+abbrev pub bulk_text : Option ArchivePlaces → List ℕ
+bulk_text None = []
+bulk_text (Some p) = places_text p

@@ -1,27 +1,27 @@
 -- What a run answers, and what it leaves.
-use Rattle.std.specs.Prelude.{ℕ, ◌≡◌, ◌+◌, ◌-◌, ◌^◌, ◌≤◌, ◌<◌, ◌⊎◌, true, false, List, [], ◌∷◌, length, map, nat_lt, if◌then◌else◌, Option, Some, None, Result, Ok, Err, IfSome, IsOk}
+use Rattle.std.specs.Prelude.{ℕ, ◌≡◌, ◌≢◌, ◌+◌, ◌-◌, ◌^◌, ◌≤◌, ◌<◌, ◌⊎◌, true, false, List, [], ◌∷◌, length, map, nat_lt, if◌then◌else◌, Option, Some, None, Result, Ok, Err, IfSome}
 use Rattle.tile_ids.specs.Coord.{Coord}
 use Rattle.tile_ids.specs.Hilbert.{id_of}
-use Rattle.pm_format.specs.declared.tile_type.TileType.TheVariants.{Unknown}
+use Rattle.pm_format.specs.declared.compression.Compression.{Compression}
+use Rattle.pm_format.specs.declared.compression.Compression.TheVariants as compression
 use Rattle.pm_format.specs.LookUp.{archive_map}
-use Rattle.pm_format.specs.Opened.{opened}
-use Rattle.pm_format.specs.Options.{default_options}
-use Rattle.pm_format.specs.WellFormed.{WellFormed}
+use Rattle.pm_writer.specs.Places.{places_read}
 use Rattle.tile_bridge.specs.Aggregate.{aggregate}
-use Rattle.tile_bridge.specs.Convert.{BothTold, HasNumbers, HoldsExactly, IsEmpty, overflows}
+use Rattle.tile_bridge.specs.Convert.{BothTold, IsArchiveOf, IsEmpty, LeavesPart, overflows}
 use Rattle.tile_bridge.specs.declared.error.ConvertError.{ConvertError}
 use Rattle.tile_bridge.specs.declared.error.ConvertError.TheVariants as refusals
 use Rattle.tile_bridge.specs.declared.report.ConvertReport.{ConvertReport}
+use Rattle.tileset.specs.Bulk.{bulk_script}
 use Rattle.tileset.specs.Dump.{IsReadBack}
-use Rattle.tileset.specs.Report.{report_text}
+use Rattle.tileset.specs.Report.{bulk_text, report_text}
 use Rattle.tileset.specs.Script.{Script, script_of, script_tiles}
-use Rattle.tileset.specs.Streams.{Gains, GainsFront}
+use Rattle.tileset.specs.Streams.{Gains, GainsFront, IsAtEnd}
 use Rattle.tileset.specs.Words.{command}
 use Rattle.tileset.specs.declared.input.TheConstants.{MAX_INPUT}
 use Rattle.tileset.specs.declared.outcome.Outcome.{Outcome}
 use Rattle.tileset.specs.declared.outcome.Outcome.TheVariants.{Done, Refused, Usage, BadScript, InputFault, OutputFault, MediumFault, OutOfMemory, InputTooLong, ReadBack}
 use Rattle.tileset.specs.declared.words.Command.{Command}
-use Rattle.tileset.specs.declared.words.Command.TheVariants.{ConvertHex}
+use Rattle.tileset.specs.declared.words.Command.TheVariants.{ConvertHex, Bulk}
 
 -- what a run is given: its words, what is left of the input, and what the medium holds, where they tell
 pub record Given : Type 0 where
@@ -37,16 +37,25 @@ IsShort input = IfSome input (λ bytes. length bytes ≤ MAX_INPUT)
 abbrev pub Spells : Option (List ℕ) → Script → Type 0
 Spells input s = IfSome input (λ bytes. script_of bytes ≡ Ok s)
 
--- the words are a command, the input is within the limit, and this is the script that it spells
-pub record IsScript (given : Given) (s : Script) : Type 0 where
-  pub words : command given.words ≡ Some ConvertHex
-  pub short : IsShort given.input
-  pub spelled : Spells given.input s
+-- the script of a command: the one that the input spells, or that of two numbers
+abbrev pub IsScriptOf : Command → Option (List ℕ) → Script → Type 0
+IsScriptOf ConvertHex input s = IsShort input × Spells input s
+IsScriptOf (Bulk tiles repeat) input s = s ≡ bulk_script tiles repeat
 
--- The answer, in the order of the tests: words, input, script, medium, set. None where what decides it isn't told.
+-- the words are a command, and this is its script
+pub record IsScript (given : Given) (s : Script) : Type 0 where
+  pub asked : Command
+  pub words : command given.words ≡ Some asked
+  pub script : IsScriptOf asked given.input s
+
+-- The answer, in the order of the tests: words, input, script, medium, label of directories, set. None where what decides it isn't told.
+abbrev pub answer_label : Script → Compression → Outcome
+answer_label s compression.None = if overflows (script_tiles s) then Refused refusals.IndexEntryOverflow else Done
+answer_label s label = Refused (refusals.UnsupportedCompression label)
+
 abbrev pub answer_medium : Script → List ℕ → Outcome
 answer_medium s (byte ∷ bytes) = Refused (refusals.MediumNotEmpty (length (byte ∷ bytes)))
-answer_medium s [] = if overflows (script_tiles s) then Refused refusals.IndexEntryOverflow else Done
+answer_medium s [] = answer_label s s.options.internal_compression
 
 abbrev pub answer_script : Result Script ℕ → Option (List ℕ) → Option Outcome
 answer_script (Err line) medium = Some (BadScript line)
@@ -60,6 +69,7 @@ answer_input (Some bytes) medium = if nat_lt MAX_INPUT (length bytes) then Some 
 abbrev pub answer_command : Option Command → Option (List ℕ) → Option (List ℕ) → Option Outcome
 answer_command None input medium = Some Usage
 answer_command (Some ConvertHex) input medium = answer_input input medium
+answer_command (Some (Bulk tiles repeat)) input medium = answer_script (Ok (bulk_script tiles repeat)) medium
 
 abbrev pub answer : Given → Option Outcome
 answer given = answer_command (command given.words) given.input given.medium
@@ -76,76 +86,105 @@ Yields _ = ⊥
 abbrev pub Gives : Option Outcome → Outcome → Type 0
 Gives wanted given = IfSome wanted (λ w. (given ≡ w) ⊎ Yields given)
 
--- the words are a command, the input is within the limit and spells a script whose set can be converted, and the medium is empty
+-- the script of a command is told
+abbrev pub IsTold : Command → Option (List ℕ) → Script → Type 0
+IsTold ConvertHex None s = ⊥
+IsTold ConvertHex (Some bytes) s = (length bytes ≤ MAX_INPUT) × (script_of bytes ≡ Ok s)
+IsTold (Bulk tiles repeat) input s = s ≡ bulk_script tiles repeat
+
+-- the words are a command whose script is told, its directories are plain, its set can be converted, and the medium is empty
 pub record IsValid (given : Given) (s : Script) : Type 0 where
-  pub words : command given.words ≡ Some ConvertHex
-  pub bytes : List ℕ
-  pub told : given.input ≡ Some bytes
-  pub short : length bytes ≤ MAX_INPUT
-  pub spelled : script_of bytes ≡ Ok s
+  pub asked : Command
+  pub words : command given.words ≡ Some asked
+  pub script : IsTold asked given.input s
+  pub plain : s.options.internal_compression ≡ compression.None
   pub fits : overflows (script_tiles s) ≡ false
   pub empty : given.medium ≡ Some []
 
--- When each refusal of the conversion comes; never another of its errors.
-abbrev pub RefusalCauses : Given → ConvertError → Type 0
-RefusalCauses given (refusals.MediumNotEmpty n) = (0 < n) × IfSome given.medium (λ bytes. n ≡ length bytes) × ((s : Script) × IsScript given s)
-RefusalCauses given refusals.IndexEntryOverflow = IsEmpty given.medium × ((s : Script) × IsScript given s × (overflows (script_tiles s) ≡ true))
-RefusalCauses given refusals.MediumFault = ⊥
-RefusalCauses given refusals.OutOfMemory = ⊥
+-- a script of the command with this property
+abbrev pub SomeScript : Given → (Script → Type 0) → Type 0
+SomeScript given P = (s : Script) × IsScript given s × P s
+
+-- When each refusal of a script's conversion comes; never another of its errors.
+abbrev pub RefusedBy : Script → Option (List ℕ) → ConvertError → Type 0
+RefusedBy s medium (refusals.MediumNotEmpty n) = (0 < n) × IfSome medium (λ bytes. n ≡ length bytes)
+RefusedBy s medium (refusals.UnsupportedCompression label) = IsEmpty medium × (label ≡ s.options.internal_compression) × (s.options.internal_compression ≢ compression.None)
+RefusedBy s medium refusals.IndexEntryOverflow = IsEmpty medium × (s.options.internal_compression ≡ compression.None) × (overflows (script_tiles s) ≡ true)
+RefusedBy s medium refusals.MediumFault = ⊥
+RefusedBy s medium refusals.OutOfMemory = ⊥
+
+-- When each answer on a script comes.
+abbrev pub AnsweredBy : Script → Option (List ℕ) → Outcome → Type 0
+AnsweredBy s medium Done = IsEmpty medium × (s.options.internal_compression ≡ compression.None) × (overflows (script_tiles s) ≡ false)
+AnsweredBy s medium (Refused e) = RefusedBy s medium e
+AnsweredBy s medium OutputFault = Unit {0}
+AnsweredBy s medium MediumFault = Unit {0}
+AnsweredBy s medium OutOfMemory = Unit {0}
+AnsweredBy s medium (ReadBack e) = (medium ≡ None) × IsReadBack e
+AnsweredBy s medium _ = ⊥
 
 -- When each answer comes. The faults have their causes by the counts, and want of memory is free.
 abbrev pub Causes : Given → Outcome → Type 0
-Causes given Done = IsEmpty given.medium × ((s : Script) × IsScript given s × (overflows (script_tiles s) ≡ false))
-Causes given (Refused e) = RefusalCauses given e
 Causes given Usage = command given.words ≡ None
 Causes given (BadScript line) = (command given.words ≡ Some ConvertHex) × IsShort given.input × IfSome given.input (λ bytes. script_of bytes ≡ Err line)
 Causes given InputTooLong = (command given.words ≡ Some ConvertHex) × IfSome given.input (λ bytes. MAX_INPUT < length bytes)
 Causes given InputFault = command given.words ≡ Some ConvertHex
-Causes given OutputFault = (s : Script) × IsScript given s
-Causes given MediumFault = (s : Script) × IsScript given s
 Causes given OutOfMemory = Unit {0}
-Causes given (ReadBack e) = (given.medium ≡ None) × IsReadBack e × ((s : Script) × IsScript given s)
+Causes given Done = SomeScript given (λ s. AnsweredBy s given.medium Done)
+Causes given (Refused e) = SomeScript given (λ s. AnsweredBy s given.medium (Refused e))
+Causes given OutputFault = SomeScript given (λ s. AnsweredBy s given.medium OutputFault)
+Causes given MediumFault = SomeScript given (λ s. AnsweredBy s given.medium MediumFault)
+Causes given (ReadBack e) = SomeScript given (λ s. AnsweredBy s given.medium (ReadBack e))
 
 -- How many bytes of the input were taken: more than the limit exactly where the answer is InputTooLong.
 abbrev pub Taken : ℕ → ℕ → Outcome → Type 0
 Taken before now InputTooLong = now < 2 ^ 64 - 1 → before + MAX_INPUT < now
 Taken before now _ = now ≤ before + MAX_INPUT
 
--- The bytes are a well-formed archive with the default options, whose tiles are exactly those of the script's base of at least one byte,
--- each under its id.
-pub record IsArchiveOf (b : List ℕ) (s : Script) : Type 0 where
-  pub formed : WellFormed b (default_options Unknown) true
-  pub holds : HoldsExactly b (script_tiles s)
-
-abbrev pub HoldsArchive : Given → Option (List ℕ) → Type 0
-HoldsArchive given new = (s : Script) × IsScript given s × BothTold given.medium new (λ old b. IsArchiveOf b s)
+-- What the medium holds in the end, where there is a script. After Done and after a fault of the sink it is the archive of the script: well formed,
+-- with the script's options, and with exactly the tiles of the script's base of at least one byte, each under its id. After a fault of the medium and
+-- want of memory a medium that was empty shows no part: no reader opens its bytes, or the whole archive stands.
+abbrev pub LeftBy : Script → Option (List ℕ) → Option (List ℕ) → Outcome → Type 0
+LeftBy s old new Done = BothTold old new (λ before b. IsArchiveOf b s.options (script_tiles s))
+LeftBy s old new OutputFault = BothTold old new (λ before b. IsArchiveOf b s.options (script_tiles s))
+LeftBy s old new OutOfMemory = BothTold old new (LeavesPart s.options (script_tiles s))
+LeftBy s old new MediumFault = BothTold old new (LeavesPart s.options (script_tiles s))
+LeftBy s old new (ReadBack e) = Unit {0}
+LeftBy s old new _ = new ≡ old
 
 -- What the medium holds in the end.
 abbrev pub LeavesMedium : Given → Option (List ℕ) → Outcome → Type 0
-LeavesMedium given new Done = HoldsArchive given new
-LeavesMedium given new OutputFault = HoldsArchive given new
-LeavesMedium given new OutOfMemory = (new ≡ given.medium) ⊎ HoldsArchive given new
-LeavesMedium given new MediumFault = Unit {0}
+LeavesMedium given new Done = SomeScript given (λ s. LeftBy s given.medium new Done)
+LeavesMedium given new OutputFault = SomeScript given (λ s. LeftBy s given.medium new OutputFault)
+LeavesMedium given new MediumFault = SomeScript given (λ s. LeftBy s given.medium new MediumFault)
+LeavesMedium given new OutOfMemory = (new ≡ given.medium) ⊎ SomeScript given (λ s. LeftBy s given.medium new OutOfMemory)
 LeavesMedium given new (ReadBack e) = Unit {0}
 LeavesMedium given new _ = new ≡ given.medium
 
--- the report of a script, on bytes
-abbrev pub script_report : Script → List ℕ → List ℕ
-script_report s b = report_text s.queries (aggregate (script_tiles s)) b
+-- the text that a command writes on the way to Done, on queries, the aggregate hash of the set, and the bytes of the archive
+abbrev pub command_text : Command → List Coord → List ℕ → List ℕ → List ℕ
+command_text ConvertHex queries hash b = report_text queries hash b
+command_text (Bulk tiles repeat) queries hash b = bulk_text (places_read b)
 
-abbrev pub WritesAll : Given → Option (List ℕ) → Option (List ℕ) → Option (List ℕ) → Type 0
-WritesAll given medium old new = (s : Script) × IsScript given s × IfSome medium (λ b. Gains old new (script_report s b))
+abbrev pub text_of : Command → Script → List ℕ → List ℕ
+text_of asked s b = command_text asked s.queries (aggregate (script_tiles s)) b
 
-abbrev pub WritesFront : Given → Option (List ℕ) → Option (List ℕ) → Option (List ℕ) → Type 0
-WritesFront given medium old new = (s : Script) × IsScript given s × IfSome medium (λ b. GainsFront old new (script_report s b))
+-- What the sink gained in the end, where there is a script: the text on the bytes that the medium holds then, a front of it, or nothing.
+abbrev pub WrittenBy : Command → Script → Option (List ℕ) → Option (List ℕ) → Option (List ℕ) → Outcome → Type 0
+WrittenBy asked s medium old new Done = IfSome medium (λ b. Gains old new (text_of asked s b))
+WrittenBy asked s medium old new OutputFault = IfSome medium (λ b. GainsFront old new (text_of asked s b))
+WrittenBy asked s medium old new MediumFault = (new ≡ old) ⊎ IfSome medium (λ b. GainsFront old new (text_of asked s b))
+WrittenBy asked s medium old new OutOfMemory = (new ≡ old) ⊎ IfSome medium (λ b. GainsFront old new (text_of asked s b))
+WrittenBy asked s medium old new (ReadBack e) = IfSome medium (λ b. GainsFront old new (text_of asked s b))
+WrittenBy asked s medium old new _ = new ≡ old
 
--- What the sink gained: the report of the bytes that the medium holds in the end, a front of it, or nothing.
+-- What the sink gained in the end.
 abbrev pub LeavesOutput : Given → Option (List ℕ) → Option (List ℕ) → Option (List ℕ) → Outcome → Type 0
-LeavesOutput given medium old new Done = WritesAll given medium old new
-LeavesOutput given medium old new OutputFault = WritesFront given medium old new
-LeavesOutput given medium old new MediumFault = (new ≡ old) ⊎ WritesFront given medium old new
-LeavesOutput given medium old new OutOfMemory = (new ≡ old) ⊎ WritesFront given medium old new
-LeavesOutput given medium old new (ReadBack e) = WritesFront given medium old new
+LeavesOutput given medium old new Done = (s : Script) × (is : IsScript given s) × WrittenBy is.asked s medium old new Done
+LeavesOutput given medium old new OutputFault = (s : Script) × (is : IsScript given s) × WrittenBy is.asked s medium old new OutputFault
+LeavesOutput given medium old new MediumFault = (s : Script) × (is : IsScript given s) × WrittenBy is.asked s medium old new MediumFault
+LeavesOutput given medium old new (ReadBack e) = (s : Script) × (is : IsScript given s) × WrittenBy is.asked s medium old new (ReadBack e)
+LeavesOutput given medium old new OutOfMemory = (new ≡ old) ⊎ ((s : Script) × (is : IsScript given s) × WrittenBy is.asked s medium old new OutOfMemory)
 LeavesOutput given medium old new _ = new ≡ old
 
 -- the outcome of an attempt
@@ -153,11 +192,10 @@ abbrev pub outcome_of : {T : Type 0} → Result T Outcome → Outcome
 outcome_of (Ok _) = Done
 outcome_of (Err e) = e
 
--- the answers and numbers of a report are those of the bytes, which open
+-- the answers and places of a report are those of the bytes
 pub record IsReported (queries : List Coord) (r : ConvertReport) (b : List ℕ) : Type 0 where
-  pub opens : IsOk (opened b)
   pub answers : r.answers ≡ map (λ c. archive_map b (id_of c)) queries
-  pub numbers : HasNumbers b r
+  pub places : places_read b ≡ Some r.places
 
 -- The answers before there is a script.
 abbrev pub LoadCauses : Option (List ℕ) → Outcome → Type 0
@@ -166,6 +204,22 @@ LoadCauses input InputTooLong = IfSome input (λ bytes. MAX_INPUT < length bytes
 LoadCauses input InputFault = Unit {0}
 LoadCauses input OutOfMemory = Unit {0}
 LoadCauses input _ = ⊥
+
+abbrev pub ScriptCauses : Command → Option (List ℕ) → Outcome → Type 0
+ScriptCauses ConvertHex input e = LoadCauses input e
+ScriptCauses (Bulk tiles repeat) input e = e ≡ OutOfMemory
+
+-- the input is read to its end where it has the script
+abbrev pub IsReadFor : Option Command → Option (List ℕ) → Type 0
+IsReadFor (Some ConvertHex) left = IsAtEnd left
+IsReadFor (Some (Bulk tiles repeat)) left = Unit {0}
+IsReadFor None left = ⊥
+
+-- nothing is taken of the input where it has no script: what is left of it and how much was taken, before and now
+abbrev pub IsUntaken : Option Command → Option (List ℕ) → Option (List ℕ) → ℕ → ℕ → Type 0
+IsUntaken (Some ConvertHex) old new before now = Unit {0}
+IsUntaken (Some (Bulk tiles repeat)) old new before now = (new ≡ old) × (now ≡ before)
+IsUntaken None old new before now = (new ≡ old) × (now ≡ before)
 
 abbrev pub LoadTakes : {T : Type 0} → ℕ → ℕ → Result T Outcome → Type 0
 LoadTakes before now (Ok _) = now ≤ before + MAX_INPUT
@@ -178,3 +232,9 @@ ReportCauses told MediumFault = Unit {0}
 ReportCauses told OutOfMemory = Unit {0}
 ReportCauses told (ReadBack e) = (told ≡ None) × IsReadBack e
 ReportCauses told _ = ⊥
+
+-- The answers while the places of the archive are written.
+abbrev pub PlacesCauses : Outcome → Type 0
+PlacesCauses OutputFault = Unit {0}
+PlacesCauses OutOfMemory = Unit {0}
+PlacesCauses _ = ⊥

@@ -1,23 +1,29 @@
 -- Scripts: what they say, or the number of their first bad line.
-use Rattle.std.specs.Prelude.{◌≡◌, ℕ, ◌+◌, true, false, Bool, List, [], ◌∷◌, ◌++◌, length, drop, take, if◌then◌else◌, Option, Some, None, Result, Ok, Err, codes, pos, refl}
+use Rattle.std.specs.Prelude.{ℕ, ◌+◌, Bool, true, false, is_some, not, ◌&&◌, List, [], ◌∷◌, ◌++◌, ◌-◌, ◌^◌, nat_eq, if◌then◌else◌, Option, Some, None, Result, Ok, Err, codes}
 use Rattle.std.specs.List.{list_any}
+use Rattle.std.specs.Option.{option_and_then, option_map}
 use Rattle.std.specs.Str.{bytes_eq}
 use Rattle.std.specs.FinMap.{from_entries}
-use Rattle.hex.specs.Hex.{decode_pairs}
+use Rattle.pm_format.specs.Options.{Options}
 use Rattle.tile_ids.specs.Coord.{Coord}
-use Rattle.mb_store.specs.Store.{clash}
-use Rattle.mb_store.specs.Tiles.{TileSet, pairs_at}
+use Rattle.mb_store.specs.Store.{clash, placed}
+use Rattle.mb_store.specs.Tiles.{TileSet, cell_at, pairs_at, tile_of}
 use Rattle.mb_store.specs.declared.cell.Cell.{Cell}
-use Rattle.mb_store.specs.declared.cell.Cell.TheVariants.{Int, Blob}
 use Rattle.mb_store.specs.declared.table.TableName.TheVariants.{Tiles}
-use Rattle.tile_bridge.specs.OneTile.{origin}
 use Rattle.tileset.specs.Cell.{cell_of}
 use Rattle.tileset.specs.Lines.{lines_of}
+use Rattle.tileset.specs.Number.{number_to}
+use Rattle.tileset.specs.Parting.{words_of}
+use Rattle.tileset.specs.Setting.{options_of, setting_of}
+use Rattle.tileset.specs.declared.script.draft.Section.{Section}
+use Rattle.tileset.specs.declared.script.draft.Section.TheVariants as sections
 use Rattle.tileset.specs.declared.script.line.Line.{Line}
-use Rattle.tileset.specs.declared.script.line.Line.TheVariants.{Base, Row, Query}
+use Rattle.tileset.specs.declared.script.line.Line.TheVariants.{Nothing, Given, Base, Row, Query}
+use Rattle.tileset.specs.declared.script.setting.Setting.{Setting}
 
--- what a script says: the rows of the base's table of tiles, and the coordinates that are asked for
+-- what a script says: the options, the rows of the base's table of tiles in the order of their keys, and the coordinates that are asked for
 pub record Script : Type 0 where
+  pub options : Options
   pub rows : List (List Cell)
   pub queries : List Coord
 
@@ -25,91 +31,92 @@ pub record Script : Type 0 where
 abbrev pub script_tiles : Script → TileSet
 script_tiles s = from_entries (pairs_at 3 s.rows)
 
--- what follows a front
-abbrev pub after_front : List ℕ → List ℕ → Option (List ℕ)
-after_front front line = if bytes_eq (take (length front) line) front then Some (drop (length front) line) else None
+-- a row of four cells that is a tile: a place of zoom 0 to 30 in range, and bytes or null
+abbrev pub tile_row : List Cell → Option Line
+tile_row row = if is_some (tile_of row (cell_at 3 row)) then Some (Row row) else None
 
-abbrev pub row_line : Option Cell → Option Line
-row_line None = None
-row_line (Some cell) = Some (Row (Int (pos 0) ∷ Int (pos 0) ∷ Int (pos 0) ∷ cell ∷ []))
+abbrev pub row_line : Option Cell → Option Cell → Option Cell → Option Cell → Option Line
+row_line zoom column row contents =
+    option_and_then (λ z. option_and_then (λ c. option_and_then (λ r. option_and_then (λ t. tile_row (z ∷ c ∷ r ∷ t ∷ [])) contents) row) column) zoom
 
-abbrev pub cell_line : Option (List ℕ) → Option Line
-cell_line None = None
-cell_line (Some word) = row_line (cell_of word)
+-- a coordinate of zoom 0 to 31
+abbrev pub query_line : List ℕ → List ℕ → List ℕ → Option Line
+query_line zoom column row =
+    option_and_then (λ z. option_and_then (λ x. option_map (λ y. Query (record { z = z; x = x; y = y })) (number_to (2 ^ z - 1) row)) (number_to (2 ^ z - 1) column)) (number_to 31 zoom)
 
--- what a line says
+-- what the words behind a line's first word say
+abbrev pub base_words : List (List ℕ) → Option Line
+base_words (layout ∷ []) = if bytes_eq layout (codes "flat") then Some Base else None
+base_words _ = None
+
+abbrev pub row_words : List (List ℕ) → Option Line
+row_words (table ∷ a ∷ b ∷ c ∷ d ∷ []) = if bytes_eq table (codes "tiles") then row_line (cell_of a) (cell_of b) (cell_of c) (cell_of d) else None
+row_words _ = None
+
+abbrev pub query_words : List (List ℕ) → Option Line
+query_words (z ∷ x ∷ y ∷ []) = query_line z x y
+query_words _ = None
+
+abbrev pub option_words : List (List ℕ) → Option Line
+option_words [] = None
+option_words (name ∷ values) = option_map Given (setting_of name values)
+
+abbrev pub line_by : List ℕ → List (List ℕ) → Option Line
+line_by word words =
+    if bytes_eq word (codes "row") then row_words words else
+    (if bytes_eq word (codes "query") then query_words words else
+    (if bytes_eq word (codes "option") then option_words words else
+    (if bytes_eq word (codes "base") then base_words words else None)))
+
+abbrev pub words_line : List (List ℕ) → Option Line
+words_line [] = None
+words_line (word ∷ words) = line_by word words
+
+-- what a line says; nothing where it is empty or begins with `#`
 unfoldable pub line_of : List ℕ → Option Line
-line_of line =
-    if bytes_eq line (codes "base flat") then Some Base else
-    (if bytes_eq line (codes "query 0 0 0") then Some (Query origin) else
-    cell_line (after_front (codes "row tiles i0 i0 i0 ") line))
+line_of [] = Some Nothing
+line_of (b ∷ line) = if nat_eq b 35 then Some Nothing else words_line (words_of (b ∷ line))
 
--- the row, or the coordinate, that a line gives
-abbrev pub row_in : Option Line → Option (List Cell)
-row_in None = None
-row_in (Some Base) = None
-row_in (Some (Row row)) = Some row
-row_in (Some (Query c)) = None
+-- what lines said so far, and the section in which they ended
+pub record Draft : Type 0 where
+  pub section : Section
+  pub settings : List Setting
+  pub rows : List (List Cell)
+  pub queries : List Coord
 
-abbrev pub query_in : Option Line → Option Coord
-query_in None = None
-query_in (Some Base) = None
-query_in (Some (Row row)) = None
-query_in (Some (Query c)) = Some c
+abbrev pub in_options : Section → Bool
+in_options sections.Options = true
+in_options sections.Rows = false
+in_options sections.Queries = false
 
--- one more query
-abbrev pub with_query : Coord → Result (List Coord) ℕ → Result (List Coord) ℕ
-with_query c (Err n) = Err n
-with_query c (Ok cs) = Ok (c ∷ cs)
+abbrev pub in_rows : Section → Bool
+in_rows sections.Options = false
+in_rows sections.Rows = true
+in_rows sections.Queries = false
 
--- the queries that all lines are, the first of them having this number
-abbrev pub queries_of : ℕ → List (List ℕ) → Result (List Coord) ℕ
-queries_of n [] = Ok []
-queries_of n (line ∷ lines) = elim (query_in (line_of line)) [ None ↦ Err n | Some c ↦ with_query c (queries_of (n + 1) lines) ]
+-- with one line more, None where the line doesn't stand in its section or repeats a key
+abbrev pub with_line : Draft → Line → Option Draft
+with_line d Nothing = Some d
+with_line d (Given setting) = if in_options d.section then Some (record d { settings = d.settings ++ setting ∷ [] }) else None
+with_line d Base = if in_options d.section then Some (record d { section = sections.Rows }) else None
+with_line d (Row row) = if in_rows d.section && not (list_any (clash Tiles row) d.rows) then Some (record d { rows = placed Tiles row d.rows }) else None
+with_line d (Query c) = if in_options d.section then None else Some (record d { section = sections.Queries; queries = d.queries ++ c ∷ [] })
 
-abbrev pub with_rows : List (List Cell) → Result (List Coord) ℕ → Result Script ℕ
-with_rows rows (Err n) = Err n
-with_rows rows (Ok cs) = Ok (record { rows = rows; queries = cs })
+abbrev pub script_in : Draft → Script
+script_in d = record { options = options_of d.settings; rows = d.rows; queries = d.queries }
 
--- rows as long as lines are rows, each of another key than those before it, and then queries
-abbrev pub rows_of : ℕ → List (List Cell) → List (List ℕ) → Result Script ℕ
-rows_of n rows [] = with_rows rows (queries_of n [])
-rows_of n rows (line ∷ lines) = elim (row_in (line_of line)) [
-  | None ↦ with_rows rows (queries_of n (line ∷ lines))
-  | Some row ↦ if list_any (clash Tiles row) rows then Err n else rows_of (n + 1) (rows ++ row ∷ []) lines
-]
+-- a script has a base line
+abbrev pub at_end : ℕ → Draft → Result Script ℕ
+at_end n d = if in_options d.section then Err n else Ok (script_in d)
 
-abbrev pub is_base : Option Line → Bool
-is_base None = false
-is_base (Some Base) = true
-is_base (Some (Row row)) = false
-is_base (Some (Query c)) = false
+-- the lines from this one on, behind a draft
+abbrev pub script_from : ℕ → Draft → List (List ℕ) → Result Script ℕ
+script_from n d [] = at_end n d
+script_from n d (line ∷ lines) = elim (option_and_then (with_line d) (line_of line)) [ None ↦ Err n | Some e ↦ script_from (n + 1) e lines ]
 
--- the first line is the base line
-abbrev pub script_lines : List (List ℕ) → Result Script ℕ
-script_lines [] = Err 1
-script_lines (line ∷ lines) = if is_base (line_of line) then rows_of 2 [] lines else Err 1
+-- before the first line
+abbrev pub no_lines : Draft
+no_lines = record { section = sections.Options; settings = []; rows = []; queries = [] }
 
 unfoldable pub script_of : List ℕ → Result Script ℕ
-script_of input = script_lines (lines_of input)
-
--- scripts, and bad lines
-pub no_line : script_of [] ≡ Err 1
-unfolding script_of lines_of
-no_line = refl
-
-pub one_tile : script_of (codes "base flat\nrow tiles i0 i0 i0 x30\nquery 0 0 0\n") ≡ Ok (record { rows = (Int (pos 0) ∷ Int (pos 0) ∷ Int (pos 0) ∷ Blob (48 ∷ []) ∷ []) ∷ []; queries = origin ∷ [] })
-unfolding script_of lines_of line_of decode_pairs
-one_tile = refl
-
-pub cell_missing : script_of (codes "base flat\nrow tiles i0 i0 i0") ≡ Err 2
-unfolding script_of lines_of line_of
-cell_missing = refl
-
-pub row_twice : script_of (codes "base flat\nrow tiles i0 i0 i0 x30\nrow tiles i0 i0 i0 x30\n") ≡ Err 3
-unfolding script_of lines_of line_of decode_pairs
-row_twice = refl
-
-pub row_after_query : script_of (codes "base flat\nquery 0 0 0\nrow tiles i0 i0 i0 n\n") ≡ Err 3
-unfolding script_of lines_of line_of
-row_after_query = refl
+script_of input = script_from 1 no_lines (lines_of input)

@@ -10,4 +10,4 @@ answer_lines (c ∷ cs) [] = []
 answer_lines (c ∷ cs) (tile ∷ tiles) = query_line c tile ++ answer_lines cs tiles
 
 abbrev pub summary : List Coord → ConvertReport → List ℕ
-summary queries r = answer_lines queries r.answers ++ number_lines r.aggregate r.addressed r.entries r.contents r.length
+summary queries r = answer_lines queries r.answers ++ number_lines r.aggregate r.places.addressed r.places.entries r.places.contents r.places.length

@@ -21,7 +21,7 @@ fn write_piece<O: Sink, M: Medium>(
     output: &mut O,
     medium: &mut M,
 ) -> Result<(), Outcome>
-    requires small { at + size < 2 ^ 63 }
+    requires small { at + size < 2 ^ 64 }
     requires within { IfSome (M.told medium.old) (λ b. at + size ≤ length b) }
     ensures all { OnOk result (IfSome (M.told medium.old) (λ b. Gains (O.held output.old) (O.held output.new) (hex_dump at (take size (drop at b))))) }
     ensures front { IfSome (M.told medium.old) (λ b. GainsFront (O.held output.old) (O.held output.new) (hex_dump at (take size (drop at b)))) }
@@ -48,7 +48,6 @@ pub(crate) fn write_dump<O: Sink, M: Medium>(
     output: &mut O,
     medium: &mut M,
 ) -> Result<(), Outcome>
-    requires small { length < 2 ^ 63 }
     requires whole { IfSome (M.told medium.old) (HasLength length) }
     ensures all { OnOk result (IfSome (M.told medium.old) (λ b. Gains (O.held output.old) (O.held output.new) (hex_dump 0 b))) }
     ensures front { IfSome (M.told medium.old) (λ b. GainsFront (O.held output.old) (O.held output.new) (hex_dump 0 b)) }

@@ -69,7 +69,7 @@ fn push_shown(text: &mut Vec<u8>, at: u64, bytes: &[u8]) -> Result<(), AllocErro
 
 /// Appends the lines of these bytes, the first of them at a place.
 pub(crate) fn push_hex_dump(text: &mut Vec<u8>, at: u64, bytes: &[u8]) -> Result<(), AllocError>
-    requires { at + length bytes.now < 2 ^ 63 }
+    requires { at + length bytes.now < 2 ^ 64 }
     ensures { OnOk result (text.new.items ≡ text.old.items ++ hex_dump at bytes.now) }
 {
     let mut place = at;
@@ -77,7 +77,7 @@ pub(crate) fn push_hex_dump(text: &mut Vec<u8>, at: u64, bytes: &[u8]) -> Result
     while !rest.is_empty() {
         let (line, tail) = rest.split_at(rest.len().min(LINE));
         push_shown(text, place, line)?;
-        place += LINE as u64;
+        place = place.saturating_add(LINE as u64);
         rest = tail;
     }
     Ok(())

@@ -1,16 +1,20 @@
 //! The whole converter as one call over streams and a medium, with its script, report and outcomes.
 #![tactic(auto)]
 
+mod bulk;
 mod dump;
 mod hex_dump;
 mod input;
 mod load;
 mod mem_sink;
 mod mem_source;
+mod number;
 mod outcome;
 mod outcome_text;
 mod output;
+mod places;
 mod report;
+mod row_tree;
 mod script;
 mod sink;
 mod source;
@@ -29,7 +33,7 @@ pub use sink::{Sink, SinkFault};
 pub use source::{Source, SourceFault};
 pub use std_streams::{StdSink, StdSource};
 pub use top_call::run;
-pub use words::Command;
+pub use words::{Command, MAX_BULK_REPEAT, MAX_BULK_TILES};
 
 #[cfg(test)]
 mod tests;

@@ -1,20 +1,27 @@
 // The script that the input spells.
-ghost use Rattle.std.specs.Prelude.{◌≡◌, ◌≤◌, All, Ok, IfOk, IfErr, OnOk, IsErrOf};
-ghost use Rattle.tile_bridge.specs.OneTile.{IsOneTile, origin};
+ghost use Rattle.std.specs.Prelude.{◌≡◌, ◌≤◌, Some, IfOk, IfErr, OnOk, IsErrOf};
+ghost use Rattle.tile_bridge.specs.FlatRows.{AreFlatRows};
 ghost use Rattle.tile_ids.specs.Counts.{Rose};
-ghost use Rattle.tileset.specs.Reading.{base_rows, script_text};
-ghost use Rattle.tileset.specs.Run.{IsShort, LoadCauses, LoadTakes, Spells};
+ghost use Rattle.tileset.specs.Bulk.{bulk_script};
+ghost use Rattle.tileset.specs.Reading.{script_text};
+ghost use Rattle.tileset.specs.RowTree.{base_rows};
+ghost use Rattle.tileset.specs.Run.{IsReadFor, IsScriptOf, IsUntaken, IsShort, LoadCauses, LoadTakes, ScriptCauses, Spells};
 ghost use Rattle.tileset.specs.Streams.{IsAtEnd};
+ghost use Rattle.tileset.specs.Words.{IsCommand};
+ghost use Rattle.tileset.specs.declared.words.Command.TheVariants as commands;
 
+use crate::bulk::bulk_base;
 use crate::script::{ParsedScript, parse_script};
-use crate::{Outcome, Source, read_input};
+use crate::{Command, Outcome, Source, read_input};
+use pm_format::TileType;
+use pm_writer::PmTilesWriter;
 use std::alloc::Global;
+use tile_ids::OutOfMemory;
 
-/// The script that the input spells, which is read to its end.
-pub(crate) fn load<I: Source>(alloc: Global, input: &mut I) -> Result<ParsedScript, Outcome>
+// The script that the input spells, which is read to its end.
+fn load<I: Source>(alloc: Global, input: &mut I) -> Result<ParsedScript, Outcome>
     ensures script { IfOk result (λ s. Spells (I.left input.old) (script_text s)) }
-    ensures base { IfOk result (λ s. IsOneTile (base_rows s.base)) }
-    ensures queries { IfOk result (λ s. All (λ c. c ≡ origin) s.queries.items) }
+    ensures base { IfOk result (λ s. AreFlatRows (base_rows s.base)) }
     ensures short { OnOk result (IsShort (I.left input.old)) }
     ensures read { OnOk result (IsAtEnd (I.left input.new)) }
     ensures taken { LoadTakes (I.taken input.old) (I.taken input.new) result }
@@ -25,4 +32,40 @@ pub(crate) fn load<I: Source>(alloc: Global, input: &mut I) -> Result<ParsedScri
 {
     let bytes = read_input(alloc, input)?;
     Ok(parse_script(alloc, bytes.as_slice())?)
+}
+
+// The script of two numbers: a set that is made from them, and neither options nor queries.
+fn bulk(alloc: Global, tiles: u64, repeat: u64) -> Result<ParsedScript, OutOfMemory>
+    requires within { IsCommand (commands.Bulk tiles repeat) }
+    ensures script { IfOk result (λ s. script_text s ≡ bulk_script tiles repeat) }
+    ensures base { IfOk result (λ s. AreFlatRows (base_rows s.base)) }
+{
+    Ok(ParsedScript {
+        options: PmTilesWriter::new(TileType::Unknown),
+        base: bulk_base(alloc, tiles, repeat)?,
+        queries: Vec::new(alloc),
+    })
+}
+
+/// The script of a command: the one that the input spells, which is read to its end, or that of two numbers.
+pub(crate) fn script_for<I: Source>(
+    alloc: Global,
+    command: Command,
+    input: &mut I,
+) -> Result<ParsedScript, Outcome>
+    requires within { IsCommand command }
+    ensures script { IfOk result (λ s. IsScriptOf command (I.left input.old) (script_text s)) }
+    ensures base { IfOk result (λ s. AreFlatRows (base_rows s.base)) }
+    ensures read { OnOk result (IsReadFor (Some command) (I.left input.new)) }
+    ensures untaken { IsUntaken (Some command) (I.left input.old) (I.left input.new) (I.taken input.old) (I.taken input.new) }
+    ensures taken { LoadTakes (I.taken input.old) (I.taken input.new) result }
+    ensures causes { IfErr result (ScriptCauses command (I.left input.old)) }
+    ensures fault { IsErrOf result Outcome.InputFault → Rose (I.faults input.old) (I.faults input.new) }
+    ensures faults { I.faults input.old ≤ I.faults input.new }
+    ensures calm { I.steady input.old → I.steady input.new × (I.faults input.new ≡ I.faults input.old) }
+{
+    match command {
+        Command::ConvertHex => load(alloc, input),
+        Command::Bulk { tiles, repeat } => Ok(bulk(alloc, tiles, repeat)?),
+    }
 }

@@ -9,7 +9,7 @@ use tile_bridge::ConvertError;
 use tile_ids::OutOfMemory;
 
 /// How a run ends.
-#[derive(Clone, Copy, Debug, PartialEq, Eq)]
+#[derive(Debug, Drop, PartialEq, Eq)]
 pub enum Outcome {
     /// The archive and the report are written, and the input was read to its end.
     Done,

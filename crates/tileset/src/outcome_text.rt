@@ -1,9 +1,9 @@
 // How outcomes are shown: a status and a line.
 ghost use Rattle.std.specs.Prelude.{◌≡◌, IfOk, string_bytes};
-ghost use Rattle.tileset.specs.OutcomeText.{error_name, line, refusal, status};
+ghost use Rattle.tileset.specs.OutcomeText.{error_name, label_name, line, refusal, status};
 
 use crate::Outcome;
-use pm_format::PmtError;
+use pm_format::{Compression, PmtError};
 use std::alloc::Global;
 use tile_bridge::ConvertError;
 use tile_ids::{OutOfMemory, TextVal};
@@ -59,10 +59,26 @@ fn refusal_of(alloc: Global, error: &ConvertError) -> Result<String, OutOfMemory
         ConvertError::MediumNotEmpty { length } => {
             format!(in alloc; "medium not empty {length}")?
         }
+        ConvertError::UnsupportedCompression(label) => {
+            let name = label_of(*label);
+            format!(in alloc; "unsupported compression {name}")?
+        }
         ConvertError::IndexEntryOverflow => String::from_str(alloc, "IndexEntryOverflow")?,
         ConvertError::MediumFault => String::from_str(alloc, "MediumFault")?,
         ConvertError::OutOfMemory => String::from_str(alloc, "OutOfMemory")?,
     })
+}
+
+fn label_of(label: Compression) -> &'static str
+    ensures { result.now ≡ label_name label }
+{
+    match label {
+        Compression::Unknown => "unknown",
+        Compression::None => "none",
+        Compression::Gzip => "gzip",
+        Compression::Brotli => "brotli",
+        Compression::Zstd => "zstd",
+    }
 }
 
 fn name_of(error: &PmtError) -> &'static str
@@ -83,6 +99,10 @@ fn name_of(error: &PmtError) -> &'static str
         PmtError::Failed => "Failed",
         PmtError::OverlappingEntries(_) => "OverlappingEntries",
         PmtError::UnexpectedNumberOfBytesReturned(_, _) => "UnexpectedNumberOfBytesReturned",
+        PmtError::SourceModified { .. } => "SourceModified",
+        PmtError::InvalidMetadata => "InvalidMetadata",
+        PmtError::InvalidMetadataUtf8Encoding => "InvalidMetadataUtf8Encoding",
+        PmtError::BudgetSpent => "BudgetSpent",
         PmtError::OutOfMemory => "OutOfMemory",
     }
 }

@@ -1,27 +1,29 @@
 // The report on a written archive.
-ghost use Rattle.std.specs.Prelude.{◌≡◌, ◌≤◌, ◌<◌, ◌^◌, IfSome, IfErr, OnOk, IsErrOf};
+ghost use Rattle.std.specs.Prelude.{◌≡◌, ◌≤◌, IfSome, IfErr, OnOk, IsErrOf};
 ghost use Rattle.tile_ids.specs.Counts.{Rose};
+ghost use Rattle.tileset.specs.Places.{places_text};
 ghost use Rattle.tileset.specs.Report.{report_text};
-ghost use Rattle.tileset.specs.Run.{IsReported, ReportCauses};
+ghost use Rattle.tileset.specs.Run.{IsReported, PlacesCauses, ReportCauses, command_text};
 ghost use Rattle.tileset.specs.Streams.{Gains, GainsFront};
 
 use crate::dump::write_dump;
+use crate::places::places_text;
 use crate::summary::summary_of;
-use crate::{Outcome, Sink, write_all};
+use crate::{Command, Outcome, Sink, write_all};
 use pm_format::Medium;
+use pm_writer::ArchivePlaces;
 use std::alloc::Global;
 use tile_bridge::ConvertReport;
 use tile_ids::TileCoord;
 
-/// Writes the report on the archive that a medium holds, whose bytes are read back for the dump.
-pub(crate) fn write_report<O: Sink, M: Medium>(
+// Writes the report on the archive that a medium holds, whose bytes are read back for the dump.
+fn write_hex_report<O: Sink, M: Medium>(
     alloc: Global,
     queries: &[TileCoord],
     report: &ConvertReport,
     output: &mut O,
     medium: &mut M,
 ) -> Result<(), Outcome>
-    requires small { report.now.length < 2 ^ 63 }
     requires reported { IfSome (M.told medium.old) (IsReported queries.now report.now) }
     ensures all { OnOk result (IfSome (M.told medium.old) (λ b. Gains (O.held output.old) (O.held output.new) (report_text queries.now report.now.aggregate b))) }
     ensures front { IfSome (M.told medium.old) (λ b. GainsFront (O.held output.old) (O.held output.new) (report_text queries.now report.now.aggregate b)) }
@@ -36,6 +38,51 @@ pub(crate) fn write_report<O: Sink, M: Medium>(
 {
     let text = summary_of(alloc, queries, report)?;
     write_all(output, text.as_slice())?;
-    write_dump(alloc, report.length, output, medium)?;
+    write_dump(alloc, report.places.length, output, medium)?;
     Ok(())
+}
+
+// Writes the lines of the places of an archive.
+fn write_places<O: Sink>(
+    alloc: Global,
+    places: &ArchivePlaces,
+    output: &mut O,
+) -> Result<(), Outcome>
+    ensures all { OnOk result (Gains (O.held output.old) (O.held output.new) (places_text places.now)) }
+    ensures front { GainsFront (O.held output.old) (O.held output.new) (places_text places.now) }
+    ensures causes { IfErr result PlacesCauses }
+    ensures output_fault { IsErrOf result Outcome.OutputFault → Rose (O.faults output.old) (O.faults output.new) }
+    ensures output_faults { O.faults output.old ≤ O.faults output.new }
+    ensures output_calm { O.steady output.old → O.steady output.new × (O.faults output.new ≡ O.faults output.old) }
+{
+    let text = places_text(alloc, places)?;
+    write_all(output, text.as_bytes())?;
+    Ok(())
+}
+
+/// Writes the text of a command on the archive that a medium holds.
+pub(crate) fn write_report<O: Sink, M: Medium>(
+    alloc: Global,
+    command: Command,
+    queries: &[TileCoord],
+    report: &ConvertReport,
+    output: &mut O,
+    medium: &mut M,
+) -> Result<(), Outcome>
+    requires reported { IfSome (M.told medium.old) (IsReported queries.now report.now) }
+    ensures all { OnOk result (IfSome (M.told medium.old) (λ b. Gains (O.held output.old) (O.held output.new) (command_text command queries.now report.now.aggregate b))) }
+    ensures front { IfSome (M.told medium.old) (λ b. GainsFront (O.held output.old) (O.held output.new) (command_text command queries.now report.now.aggregate b)) }
+    ensures told { M.told medium.new ≡ M.told medium.old }
+    ensures causes { IfErr result (ReportCauses (M.told medium.old)) }
+    ensures output_fault { IsErrOf result Outcome.OutputFault → Rose (O.faults output.old) (O.faults output.new) }
+    ensures medium_fault { IsErrOf result Outcome.MediumFault → Rose (M.faults medium.old) (M.faults medium.new) }
+    ensures output_faults { O.faults output.old ≤ O.faults output.new }
+    ensures medium_faults { M.faults medium.old ≤ M.faults medium.new }
+    ensures output_calm { O.steady output.old → O.steady output.new × (O.faults output.new ≡ O.faults output.old) }
+    ensures medium_calm { M.steady medium.old → M.steady medium.new × (M.faults medium.new ≡ M.faults medium.old) }
+{
+    match command {
+        Command::ConvertHex => write_hex_report(alloc, queries, report, output, medium),
+        Command::Bulk { .. } => write_places(alloc, &report.places, output),
+    }
 }

@@ -1,19 +1,27 @@
-// Scripts: a base and the coordinates that are asked for.
+// Scripts: options, a base, and the coordinates that are asked for.
 mod cell;
+mod draft;
 mod error;
 mod line;
 mod lines;
-mod sections;
+mod parting;
+mod reading;
+mod setting;
+mod text;
 
 pub use error::ScriptError;
 pub use line::Line;
 use mb_store::MemStore;
-pub(crate) use sections::parse_script;
+use pm_writer::PmTilesWriter;
+pub(crate) use reading::parse_script;
+pub use setting::Setting;
 use tile_ids::TileCoord;
 
 /// A script that was read.
-#[derive(Debug, Drop)]
+#[derive(Drop)]
 pub struct ParsedScript {
+    /// What is said of the archive beside its tiles.
+    pub options: PmTilesWriter,
     /// The base.
     pub base: MemStore,
     /// The coordinates that are asked for, in their order.

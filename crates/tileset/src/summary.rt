@@ -3,6 +3,7 @@ ghost use Rattle.std.specs.Prelude.{◌≡◌, ◌++◌, ◌<◌, length, slice_
 ghost use Rattle.tileset.specs.Report.{number_lines, query_line, tile_text};
 ghost use Rattle.tileset.specs.Summary.{answer_lines, summary};
 
+use pm_writer::ArchivePlaces;
 use std::alloc::Global;
 use tile_bridge::ConvertReport;
 use tile_ids::{BlobVal, OutOfMemory, TileCoord};
@@ -54,15 +55,16 @@ fn push_numbers(
     text: &mut Vec<u8>,
     report: &ConvertReport,
 ) -> Result<(), OutOfMemory>
-    ensures { OnOk result (text.new.items ≡ text.old.items ++ number_lines report.now.aggregate report.now.addressed report.now.entries report.now.contents report.now.length) }
+    ensures { OnOk result (text.new.items ≡ text.old.items ++ number_lines report.now.aggregate report.now.places.addressed report.now.places.entries report.now.places.contents report.now.places.length) }
 {
     let hash = report.aggregate.as_str();
-    let (addressed, entries, contents, length) = (
-        report.addressed,
-        report.entries,
-        report.contents,
-        report.length,
-    );
+    let ArchivePlaces {
+        addressed,
+        entries,
+        contents,
+        length,
+        ..
+    } = report.places;
     let lines = format!(in alloc;
         "aggregate {hash}\naddressed {addressed}\nentries {entries}\ncontents {contents}\nlength {length}\n"
     )?;

@@ -9,6 +9,9 @@ use std::io::Cursor;
 use std::test::Fail;
 use tile_ids::TextVal;
 
+mod commands;
+mod flat_rows;
+mod scripts;
 mod short_medium;
 mod single_bytes;
 
@@ -128,7 +131,6 @@ fn refused_words_and_scripts(rt: HostRuntime) -> Result<(), Fail> {
             3,
         ),
         (b"base  flat\n", 1),
-        (b"base flat\n\n", 2),
         (b"base flat\r\n", 1),
         (b"base flat\nquery 0 0 0\nrow tiles i0 i0 i0 n\n", 3),
         (b"base flat\nrow tiles i0 i0 i0 x3\n", 2),

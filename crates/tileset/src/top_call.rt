@@ -1,21 +1,25 @@
 // The whole converter as one call.
-ghost use Rattle.std.specs.Prelude.{◌≡◌, ◌⊎◌, ◌≤◌};
+ghost use Rattle.std.specs.Prelude.{◌≡◌, ◌⊎◌, ◌≤◌, Ok, IsErrOf};
 ghost use Rattle.tile_ids.specs.Counts.{Rose};
-ghost use Rattle.tileset.specs.Run.{Causes, Gives, Given, IsValid, LeavesMedium, LeavesOutput, Taken, answer, outcome_of};
+ghost use Rattle.tile_bridge.specs.FlatRows.{AreFlatRows};
+ghost use Rattle.tileset.specs.Reading.{script_text};
+ghost use Rattle.tileset.specs.RowTree.{base_rows};
+ghost use Rattle.tileset.specs.Run.{AnsweredBy, Causes, Gives, Given, IsReadFor, IsUntaken, IsValid, LeavesMedium, LeavesOutput, LeftBy, Taken, WrittenBy, answer, answer_script, outcome_of};
 ghost use Rattle.tileset.specs.Script.{Script};
-ghost use Rattle.tileset.specs.Streams.{IsAtEnd};
+ghost use Rattle.tileset.specs.Words.{command};
 
-use crate::load::load;
+use crate::load::script_for;
 use crate::report::write_report;
+use crate::script::ParsedScript;
 use crate::words::command_of;
-use crate::{Outcome, Sink, Source};
+use crate::{Command, Outcome, Sink, Source};
 use pm_format::Medium;
 use std::alloc::Global;
 use tile_bridge::convert_flat;
 use tile_ids::TextVal;
 
 /// Runs the command that the words are: reads a script from the input, writes the archive of its base to the medium, and the report to the
-/// output. It tests the words, the input, the script, the medium and the set, in this order, and writes to the output only on the way to Done.
+/// output. It tests the words, the input, the script, the medium, the label of directories and the set, in this order, and writes to the output only on the way to Done.
 pub fn run<I: Source, O: Sink, M: Medium>(
     alloc: Global,
     words: &[TextVal],
@@ -34,7 +38,8 @@ pub fn run<I: Source, O: Sink, M: Medium>(
     // After Done the medium holds the archive of the script's set, and the output its report.
     ensures medium { LeavesMedium (record { words = words.now; input = I.left input.old; medium = M.told medium.old }) (M.told medium.new) result }
     ensures output { LeavesOutput (record { words = words.now; input = I.left input.old; medium = M.told medium.old }) (M.told medium.new) (O.held output.old) (O.held output.new) result }
-    ensures read { result ≡ Outcome.Done → IsAtEnd (I.left input.new) }
+    ensures read { result ≡ Outcome.Done → IsReadFor (command words.now) (I.left input.new) }
+    ensures untaken { IsUntaken (command words.now) (I.left input.old) (I.left input.new) (I.taken input.old) (I.taken input.new) }
     ensures taken { Taken (I.taken input.old) (I.taken input.new) result }
     ensures input_fault { result ≡ Outcome.InputFault → Rose (I.faults input.old) (I.faults input.new) }
     ensures output_fault { result ≡ Outcome.OutputFault → Rose (O.faults output.old) (O.faults output.new) }
@@ -49,6 +54,34 @@ pub fn run<I: Source, O: Sink, M: Medium>(
     }
 }
 
+// Converts the script of a command, and writes the command's text on the archive.
+fn convert<O: Sink, M: Medium>(
+    alloc: Global,
+    command: Command,
+    script: &mut ParsedScript,
+    output: &mut O,
+    medium: &mut M,
+) -> Result<(), Outcome>
+    requires base { AreFlatRows (base_rows script.old.base) }
+    ensures exact { Gives (answer_script (Ok (script_text script.old)) (M.told medium.old)) (outcome_of result) }
+    ensures causes { AnsweredBy (script_text script.old) (M.told medium.old) (outcome_of result) }
+    ensures medium { LeftBy (script_text script.old) (M.told medium.old) (M.told medium.new) (outcome_of result) }
+    ensures output { WrittenBy command (script_text script.old) (M.told medium.new) (O.held output.old) (O.held output.new) (outcome_of result) }
+    ensures output_fault { IsErrOf result Outcome.OutputFault → Rose (O.faults output.old) (O.faults output.new) }
+    ensures medium_fault { IsErrOf result Outcome.MediumFault → Rose (M.faults medium.old) (M.faults medium.new) }
+    ensures output_faults { O.faults output.old ≤ O.faults output.new }
+    ensures medium_faults { M.faults medium.old ≤ M.faults medium.new }
+{
+    let ParsedScript {
+        options,
+        base,
+        queries,
+    } = script;
+    let report = convert_flat(alloc, base, queries.as_slice(), options, medium)?;
+    write_report(alloc, command, queries.as_slice(), &report, output, medium)?;
+    Ok(())
+}
+
 fn attempt<I: Source, O: Sink, M: Medium>(
     alloc: Global,
     words: &[TextVal],
@@ -60,7 +93,8 @@ fn attempt<I: Source, O: Sink, M: Medium>(
     ensures causes { Causes (record { words = words.now; input = I.left input.old; medium = M.told medium.old }) (outcome_of result) }
     ensures medium { LeavesMedium (record { words = words.now; input = I.left input.old; medium = M.told medium.old }) (M.told medium.new) (outcome_of result) }
     ensures output { LeavesOutput (record { words = words.now; input = I.left input.old; medium = M.told medium.old }) (M.told medium.new) (O.held output.old) (O.held output.new) (outcome_of result) }
-    ensures read { outcome_of result ≡ Outcome.Done → IsAtEnd (I.left input.new) }
+    ensures read { outcome_of result ≡ Outcome.Done → IsReadFor (command words.now) (I.left input.new) }
+    ensures untaken { IsUntaken (command words.now) (I.left input.old) (I.left input.new) (I.taken input.old) (I.taken input.new) }
     ensures taken { Taken (I.taken input.old) (I.taken input.new) (outcome_of result) }
     ensures input_fault { outcome_of result ≡ Outcome.InputFault → Rose (I.faults input.old) (I.faults input.new) }
     ensures output_fault { outcome_of result ≡ Outcome.OutputFault → Rose (O.faults output.old) (O.faults output.new) }
@@ -69,11 +103,9 @@ fn attempt<I: Source, O: Sink, M: Medium>(
     ensures output_faults { O.faults output.old ≤ O.faults output.new }
     ensures medium_faults { M.faults medium.old ≤ M.faults medium.new }
 {
-    let Some(_) = command_of(words) else {
+    let Some(command) = command_of(words) else {
         return Err(Outcome::Usage);
     };
-    let script = load(alloc, input)?;
-    let report = convert_flat(alloc, &script.base, script.queries.as_slice(), medium)?;
-    write_report(alloc, script.queries.as_slice(), &report, output, medium)?;
-    Ok(())
+    let mut script = script_for(alloc, command, input)?;
+    convert(alloc, command, &mut script, output, medium)
 }

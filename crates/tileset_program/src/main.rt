@@ -11,10 +11,13 @@ use tileset::{Outcome, StdSink, StdSource, outcome_line, outcome_status, run};
 
 const HELP: &str = "Converts sets of map tiles to archives of the PMTiles format.
 
-usage: tileset convert hex
+usage: tileset convert hex | bulk N K
 
 convert hex    reads a script from standard input, and prints the answers to
                its queries, the archive's numbers and its bytes in hexadecimal
+bulk N K       converts the tiles of the ids 0 to N - 1, whose contents are
+               the id by K in decimal, and prints where the archive's parts lie;
+               N is 0 to 100000, K is 1 to 1000000
 --help         prints this text
 --version      prints the version
 

@@ -20,6 +20,7 @@ fn mem_store_keys(rt: HostRuntime) -> Result<(), Fail> {
     assert!(rt; first.is_ok());
     let second = store.push_row(TableName::Tiles, tile(rt.alloc(), 1, 0, 1, 8)?);
     assert!(rt; matches!(second, Err(MbtError::DuplicateRow(TableName::Tiles))));
+    store.settle()?;
     assert_eq!(rt; store.table_rows(TableName::Tiles).len(), 1);
     assert_eq!(rt; store.describe(rt.alloc())?.len(), 2);
     assert!(rt; !is_empty_database(rt.alloc(), &mut store)?);

@@ -1,6 +1,21 @@
 use super::*;
 use std::test::Fail;
 
+// A read of either kind, through the trait.
+pub fn read_by<B: Backend>(
+    alloc: Global,
+    backend: &mut B,
+    offset: u64,
+    length: u64,
+    exact: bool,
+) -> Result<BackendResponse, ReadFault> {
+    if exact {
+        backend.read_exact(alloc, offset, length)
+    } else {
+        backend.read(alloc, offset, length)
+    }
+}
+
 #[test]
 fn responses_with_and_without_version(rt: HostRuntime) -> Result<(), Fail> {
     let alloc = rt.alloc();

@@ -1,7 +1,11 @@
 use super::*;
+use std::test::Fail;
+use tile_ids::TextVal;
+use tile_json::{TileBounds, TileCenter};
 
 // The header of an archive of one tile at zoom 0, as the usual tools write it.
-const ONE_TILE: &[u8; 127] = b"PMTiles\x03\x7f\0\0\0\0\0\0\0\x05\0\0\0\0\0\0\0\0\x40\0\0\0\0\0\0\
+pub const ONE_TILE: &[u8; 127] =
+    b"PMTiles\x03\x7f\0\0\0\0\0\0\0\x05\0\0\0\0\0\0\0\0\x40\0\0\0\0\0\0\
 \x02\0\0\0\0\0\0\0\0\0\0\0\0\0\0\0\0\0\0\0\0\0\0\0\x02\x40\0\0\0\0\0\0\
 \x01\0\0\0\0\0\0\0\x01\0\0\0\0\0\0\0\x01\0\0\0\0\0\0\0\x01\0\0\0\0\0\0\0\
 \x01\x01\x01\0\0\x16\0\x2e\xb6\x94\x46\x3a\x4e\xcd\0\xd2\x49\x6b\xba\xc5\xb1\x32\0\0\0\0\0\0\0\0\0";
@@ -116,5 +120,39 @@ fn types_by_their_bytes(rt: HostRuntime) -> Result<(), PmtError> {
         assert_eq!(rt; tile_type.content_type(), want, "of {byte}");
     }
     assert_eq!(rt; TileType::from_byte(7), Err(PmtError::InvalidTileType));
+    Ok(())
+}
+
+#[test]
+fn document_of_one_source(rt: HostRuntime) -> Result<(), Fail> {
+    let alloc = rt.alloc();
+    let header = Header::try_from_bytes(ONE_TILE)?;
+    let mut sources = Vec::new(alloc);
+    sources.push(TextVal::new(String::from_str(alloc, "u")?))?;
+    let document = header.get_tilejson(alloc, sources);
+    assert_eq!(rt; document.tiles.as_slice().len(), 1);
+    for source in document.tiles.as_slice() {
+        assert_eq!(rt; source.as_str(), "u");
+    }
+    assert_eq!(rt; document.minzoom, Some(0));
+    assert_eq!(rt; document.maxzoom, Some(22));
+    let world = TileBounds::Whole {
+        min_lon: -1_800_000_000,
+        min_lat: -850_511_290,
+        max_lon: 1_800_000_000,
+        max_lat: 850_511_290,
+    };
+    assert_eq!(rt; header.get_bounds(), world);
+    assert_eq!(rt; document.bounds, Some(world));
+    let middle = TileCenter::Whole {
+        lon: 0,
+        lat: 0,
+        zoom: 0,
+    };
+    assert_eq!(rt; header.get_center(), middle);
+    assert_eq!(rt; document.center, Some(middle));
+    assert!(rt; document.name.is_none());
+    assert!(rt; document.vector_layers.is_none());
+    assert_eq!(rt; document.other.len(), 0);
     Ok(())
 }

@@ -1,20 +1,6 @@
 use super::*;
+use crate::backend::tests::read_by;
 use std::test::Fail;
-
-// A read of either kind, through the trait.
-fn read_by<B: Backend>(
-    alloc: Global,
-    backend: &mut B,
-    offset: u64,
-    length: u64,
-    exact: bool,
-) -> Result<BackendResponse, ReadFault> {
-    if exact {
-        backend.read_exact(alloc, offset, length)
-    } else {
-        backend.read(alloc, offset, length)
-    }
-}
 
 // The length, through the trait.
 fn len_by<M: Medium>(medium: &mut M) -> Result<u64, MediumFault> {

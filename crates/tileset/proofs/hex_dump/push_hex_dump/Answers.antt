@@ -1,14 +1,13 @@
 use Rattle.std.proofs.Common.{◌<◌, ◌≤◌, length, rules}
-use Rattle.tileset.proofs.HexDumpLemmas.{one_line, no_line}
+use Rattle.tileset.proofs.HexDumpLemmas.{one_line_on, no_line}
 use Rattle.tileset.proofs.hex_dump.push_hex_dump.Goals as goal
 
 pub loop-rest-preserved : goal.loop-rest-preserved
 loop-rest-preserved c =
     let some : 0 < length c.loop-rest.rest.now = search rules in
     record {
-      whole = one_line _ _ _ _ _ _ _ _ some c.min.ensures c.split_at.ensures.front c.split_at.ensures.back c.in_ok-push_shown.ensures c.loop-rest.invariant.whole;
+      whole = one_line_on _ _ _ _ _ _ _ _ _ some c.min.ensures c.split_at.ensures.front c.split_at.ensures.back c.in_ok-push_shown.ensures (search rules) c.loop-rest.invariant.whole;
       fits = search rules;
-      near = search rules;
     }
 
 pub returns : goal.returns

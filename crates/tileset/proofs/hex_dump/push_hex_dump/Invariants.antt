@@ -7,7 +7,6 @@ abbrev pub invariant-loop-rest : goal.invariant-loop-rest
 invariant-loop-rest l = record {
   whole : l.text.items ++ hex_dump l.place l.rest ≡ l.initial.text.items ++ hex_dump l.at l.bytes;
   fits : 0 < length l.rest → l.place + length l.rest ≤ l.at + length l.bytes;
-  near : l.place ≤ l.at + length l.bytes + 32;
 }
 
 abbrev pub decreases-loop-rest : goal.decreases-loop-rest

@@ -1,15 +1,8 @@
-use Rattle.std.proofs.Common.{◌∙◌}
-use Rattle.tileset.proofs.ReportLemmas.{report_all, report_front, report_further}
+use Rattle.tileset.proofs.ReportLemmas.{no_medium_fault, places_end}
 use Rattle.tileset.proofs.report.write_report.Goals as goal
 
-pub returns-in_err-write_all-clause-front : goal.returns-in_err-write_all-clause-front
-returns-in_err-write_all-clause-front g c = report_front _ _ _ c.args.queries.now c.args.report.now c.as_slice.result.now c.requires.reported (c.as_slice.ensures.value ∙ c.in_ok-text.ensures) c.in_err-write_all.ensures.front
+pub returns-in-Bulk-clause-causes : goal.returns-in-Bulk-clause-causes
+returns-in-Bulk-clause-causes g c = places_end _ _ c.write_places.ensures.causes
 
-pub returns-clause-all : goal.returns-clause-all
-returns-clause-all g c = report_all _ _ _ _ c.args.queries.now c.args.report.now c.as_slice.result.now c.requires.reported (c.as_slice.ensures.value ∙ c.in_ok-text.ensures) c.in_ok-write_all.ensures.all c.in_ok-write_dump.ensures.all
-
-pub returns-in_err-write_dump-clause-front : goal.returns-in_err-write_dump-clause-front
-returns-in_err-write_dump-clause-front g c = report_further _ _ _ _ c.args.queries.now c.args.report.now c.as_slice.result.now c.requires.reported (c.as_slice.ensures.value ∙ c.in_ok-text.ensures) c.in_ok-write_all.ensures.all c.in_err-write_dump.ensures.front
-
-pub returns-clause-front : goal.returns-clause-front
-returns-clause-front g c = report_further _ _ _ _ c.args.queries.now c.args.report.now c.as_slice.result.now c.requires.reported (c.as_slice.ensures.value ∙ c.in_ok-text.ensures) c.in_ok-write_all.ensures.all c.in_ok-write_dump.ensures.front
+pub returns-in-Bulk-clause-medium_fault : goal.returns-in-Bulk-clause-medium_fault
+returns-in-Bulk-clause-medium_fault g c = λ is. absurd (no_medium_fault _ c.write_places.ensures.causes is)

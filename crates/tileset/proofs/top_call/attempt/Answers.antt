@@ -1,17 +1,33 @@
-use Rattle.std.proofs.Common.{◌≡◌, rules, ◌∙◌, ap, Some}
+use Rattle.std.proofs.Common.{rules}
 use Rattle.tileset.specs.Reading.{script_text}
-use Rattle.tileset.specs.Run.{IsScript}
-use Rattle.tileset.specs.Words.{command}
-use Rattle.tileset.proofs.RunLemmas.{is_convert_hex, refused_exact, reported_medium}
+use Rattle.tileset.specs.Run.{Given, IsScript}
+use Rattle.tileset.proofs.RunLemmas.{causes_by, exact_by, medium_by, output_by}
 use Rattle.tileset.proofs.top_call.attempt.Goals as goal
 
-pub returns-in_err-report-clause-exact : goal.returns-in_err-report-clause-exact
-returns-in_err-report-clause-exact g c =
-    let words : command c.args.words.now ≡ Some c.in-Some.field-0 = search rules in
-    refused_exact (record { words = c.args.words.now; input = g.I.Source.left c.args.input.now; medium = g.M.Backend.told c.args.medium.now }) (script_text c.in_ok-script.script) c.in_err-report.field-0.0 c.from_residual-in_err-report.result (words ∙ ap Some (is_convert_hex c.in-Some.field-0)) c.in_ok-script.ensures.short c.in_ok-script.ensures.script c.in_err-report.ensures.causes c.from_residual-in_err-report.ensures.1
+pub returns-clause-exact : goal.returns-clause-exact
+returns-clause-exact g c =
+    let given : Given = record { words = c.args.words.now; input = g.I.Source.left c.args.input.now; medium = g.M.Backend.told c.args.medium.now } in
+    let s = script_text c.in_ok-script.script in
+    let is : IsScript given s = record { asked = c.in-Some.command; words = search rules; script = c.in_ok-script.ensures.script } in
+    exact_by given s _ is c.convert.ensures.exact
 
-pub returns-in_err-write_report-clause-medium : goal.returns-in_err-write_report-clause-medium
-returns-in_err-write_report-clause-medium g c =
-    let words : command c.args.words.now ≡ Some c.in-Some.field-0 = search rules in
-    let is : IsScript (record { words = c.args.words.now; input = g.I.Source.left c.args.input.now; medium = g.M.Backend.told c.args.medium.now }) (script_text c.in_ok-script.script) = record { words = words ∙ ap Some (is_convert_hex c.in-Some.field-0); short = c.in_ok-script.ensures.short; spelled = c.in_ok-script.ensures.script } in
-    reported_medium (record { words = c.args.words.now; input = g.I.Source.left c.args.input.now; medium = g.M.Backend.told c.args.medium.now }) (script_text c.in_ok-script.script) _ c.in_ok-report.report (g.M.Backend.told c.convert_flat.new.medium) (g.M.Backend.told c.write_report.new.medium) c.in_err-write_report.field-0.0 c.from_residual-in_err-write_report.result is c.in_ok-report.ensures.leaves c.in_err-write_report.ensures.told c.in_err-write_report.ensures.causes c.from_residual-in_err-write_report.ensures.1
+pub returns-clause-causes : goal.returns-clause-causes
+returns-clause-causes g c =
+    let given : Given = record { words = c.args.words.now; input = g.I.Source.left c.args.input.now; medium = g.M.Backend.told c.args.medium.now } in
+    let s = script_text c.in_ok-script.script in
+    let is : IsScript given s = record { asked = c.in-Some.command; words = search rules; script = c.in_ok-script.ensures.script } in
+    causes_by given s _ is c.convert.ensures.causes
+
+pub returns-clause-medium : goal.returns-clause-medium
+returns-clause-medium g c =
+    let given : Given = record { words = c.args.words.now; input = g.I.Source.left c.args.input.now; medium = g.M.Backend.told c.args.medium.now } in
+    let s = script_text c.in_ok-script.script in
+    let is : IsScript given s = record { asked = c.in-Some.command; words = search rules; script = c.in_ok-script.ensures.script } in
+    medium_by given s _ _ is c.convert.ensures.medium
+
+pub returns-clause-output : goal.returns-clause-output
+returns-clause-output g c =
+    let given : Given = record { words = c.args.words.now; input = g.I.Source.left c.args.input.now; medium = g.M.Backend.told c.args.medium.now } in
+    let s = script_text c.in_ok-script.script in
+    let is : IsScript given s = record { asked = c.in-Some.command; words = search rules; script = c.in_ok-script.ensures.script } in
+    output_by given s _ _ _ _ is c.convert.ensures.output

@@ -1,0 +1,36 @@
+-- What fits is refused by faults and want of memory alone.
+use Rattle.std.proofs.Common.{◌≡◌, ℕ, false, List, Err, arith}
+use Rattle.pm_format.specs.Options.{Options}
+use Rattle.pm_format.specs.declared.compression.Compression.{Compression}
+use Rattle.pm_format.specs.declared.compression.Compression.TheVariants as compression
+use Rattle.pm_format.specs.declared.error.PmtError.{PmtError}
+use Rattle.pm_format.specs.declared.error.PmtError.TheVariants as errors
+use Rattle.pm_format.specs.declared.error.ReadCause.TheVariants as causes
+use Rattle.pm_writer.specs.Causes.{AddCauses, ArchiveFits, CreateCauses, FinishCauses}
+use Rattle.pm_writer.specs.Pieces.{PutCauses}
+use Rattle.pm_writer.specs.Twice.{Distinct}
+
+-- the beginning of a writer whose directories are labelled plain
+pub start_refused : (A : Type 0) (label : Compression) (before now : ℕ) (e : PmtError) → label ≡ compression.None → CreateCauses {A = A} label before now (Err e) → PutCauses before now (Err e)
+start_refused A label before now (errors.UnsupportedCompression refused) plain c = c.1 plain
+start_refused A label before now (errors.Reading causes.Fault) plain c = c.1
+start_refused A label before now errors.OutOfMemory plain c = tt
+start_refused A label before now _ plain c = absurd c
+
+-- an add that fits, to a writer whose medium didn't fail
+pub add_refused : (label : Compression) (fits : Type 0) (before now : ℕ) (e : PmtError) → label ≡ compression.None → fits → AddCauses label false fits before now (Err e) → PutCauses before now (Err e)
+add_refused label fits before now errors.Failed plain f c = absurd (cc)
+add_refused label fits before now (errors.UnsupportedCompression refused) plain f c = c.2 plain
+add_refused label fits before now errors.IndexEntryOverflow plain f c = c.2 f
+add_refused label fits before now (errors.Reading causes.Fault) plain f c = c.3
+add_refused label fits before now errors.OutOfMemory plain f c = tt
+add_refused label fits before now _ plain f c = absurd c
+
+-- the end of an archive of adds with distinct ids that fit
+pub finish_refused : (A : Type 0) (o : Options) (adds : List (ℕ × List ℕ)) (before now : ℕ) (e : PmtError) → Distinct adds → ArchiveFits o adds → FinishCauses {A = A} o adds false before now (Err e) → PutCauses before now (Err e)
+finish_refused A o adds before now errors.Failed d f c = absurd (cc)
+finish_refused A o adds before now (errors.OverlappingEntries id) d f c = omega (arith, c.1.twice, d id)
+finish_refused A o adds before now errors.IndexEntryOverflow d f c = c.2 f
+finish_refused A o adds before now (errors.Reading causes.Fault) d f c = c.2
+finish_refused A o adds before now errors.OutOfMemory d f c = tt
+finish_refused A o adds before now _ d f c = absurd c

@@ -1,0 +1,106 @@
+-- What a conversion owes: the archive of the adds is that of the set.
+use Rattle.std.proofs.Common.{◌≡◌, inl, inr, ℕ, Bool, List, [], ◌∷◌, length, map, Option, Some, None, is_some, IfSome, Result, Ok, Err, IsErrAnd, refl, sym, subst, ◌∙◌, ap, arith}
+use Rattle.std.specs.Cmp.{nat_cmp_total}
+use Rattle.std.specs.Ordering.{nat_cmp}
+use Rattle.std.specs.FinMap.{find, from_entries, get, get-from_entries}
+use Rattle.tile_ids.specs.Coord.{Coord}
+use Rattle.tile_ids.specs.Hilbert.{id_of}
+use Rattle.mb_store.specs.Tiles.{TileSet}
+use Rattle.pm_format.specs.LookUp.{archive_map}
+use Rattle.pm_format.specs.Options.{Options}
+use Rattle.pm_writer.proofs.Canonical.{canon_is}
+use Rattle.pm_writer.proofs.PlacesRead.{places_are}
+use Rattle.pm_writer.proofs.Sorted.{sorted_archivable, sorted_formed, sorted_map}
+use Rattle.pm_writer.specs.Archivable.{IsArchivable}
+use Rattle.pm_writer.specs.Archive.{archive}
+use Rattle.pm_writer.specs.Pieces.{IsHiddenOr}
+use Rattle.pm_writer.specs.Places.{places_of}
+use Rattle.pm_format.specs.declared.compression.Compression.TheVariants as compression
+use Rattle.tile_bridge.specs.Convert.{BothTold, ConvertCauses, ConvertLeaves, IsArchiveOf, overflows, IsConverted, LeavesPart, ShowsNoPart}
+use Rattle.tile_bridge.specs.FlatAdds.{AreAddsOf, content_at}
+use Rattle.tile_bridge.specs.Writing.{CanBeWritten, SetCauses, of_write_error}
+use Rattle.pm_format.specs.declared.error.PmtError.{PmtError}
+use Rattle.pm_format.specs.declared.error.PmtError.TheVariants as errors
+use Rattle.tile_bridge.specs.declared.error.ConvertError.{ConvertError}
+use Rattle.tile_bridge.specs.declared.error.ConvertError.TheVariants as refusals
+use Rattle.tile_bridge.specs.declared.report.ConvertReport.{ConvertReport}
+use Rattle.tile_bridge.proofs.FlatAddLemmas.{holds_adds}
+
+-- a length of 0 is that of an empty medium
+pub none_told : (told : Option (List ℕ)) (n : ℕ) → IfSome told (λ b. n ≡ length b) → n ≡ 0 → IfSome told (λ b. b ≡ [])
+none_told None n h e = tt
+none_told (Some []) n h e = refl
+none_told (Some (byte ∷ bytes)) n h e = absurd (omega (arith, h, e))
+
+module _ (o : Options) (adds : List (ℕ × List ℕ)) (can : CanBeWritten o adds) where
+  archivable : IsArchivable o adds
+  archivable = sorted_archivable o adds can.options can.few can.rising can.low can.filled
+
+  archive_is : (tiles : TileSet) → AreAddsOf adds tiles → IsArchiveOf (archive o adds) o tiles
+  archive_is tiles are =
+      let has : (id : ℕ) → get (from_entries {R = nat_cmp} adds) id ≡ find nat_cmp id adds = λ id. get-from_entries nat_cmp_total adds id in
+      record {
+        formed = sorted_formed o adds archivable can.rising;
+        holds = holds_adds (archive o adds) adds tiles are (λ id. sorted_map o adds id archivable);
+        by_id = from_entries adds;
+        has = λ id. has id ∙ sym (sorted_map o adds id archivable);
+        one = canon_is o adds (from_entries adds) can.rising has;
+      }
+
+  answers_same : (coords : List Coord) → map (λ c. content_at adds (id_of c)) coords ≡ map (λ c. archive_map (archive o adds) (id_of c)) coords
+  answers_same [] = refl
+  answers_same (c ∷ cs) = ap (λ x. x ∷ map (λ c. content_at adds (id_of c)) cs) (sym (sorted_map o adds (id_of c) archivable)) ∙ ap (λ xs. archive_map (archive o adds) (id_of c) ∷ xs) (answers_same cs)
+
+  converted : (tiles : TileSet) (coords : List Coord) (r : ConvertReport) (b : List ℕ) → AreAddsOf adds tiles → r.answers ≡ map (λ c. content_at adds (id_of c)) coords → r.places ≡ places_of o adds → b ≡ archive o adds → IsConverted b o tiles coords r
+  converted tiles coords r b are answers places is = subst (λ b. IsConverted b o tiles coords r) (sym is) (record {
+    archive = archive_is tiles are;
+    answers = answers ∙ answers_same coords;
+    places = places_are o adds archivable ∙ ap Some (sym places);
+  })
+
+  -- after success
+  pub leaves_all : (tiles : TileSet) (coords : List Coord) (r : ConvertReport) (old new : Option (List ℕ)) → AreAddsOf adds tiles → r.answers ≡ map (λ c. content_at adds (id_of c)) coords → r.places ≡ places_of o adds
+      → is_some new ≡ is_some old → IfSome new (λ b. b ≡ archive o adds) → BothTold old new (λ a b. IsConverted b o tiles coords r)
+  leaves_all tiles coords r None None are answers places same is = tt
+  leaves_all tiles coords r None (Some b) are answers places same is = absurd (cc)
+  leaves_all tiles coords r (Some a) None are answers places same is = absurd (cc)
+  leaves_all tiles coords r (Some a) (Some b) are answers places same is = converted tiles coords r b are answers places is
+
+  -- after a refusal of the writer
+  no_part : (tiles : TileSet) (b : List ℕ) → AreAddsOf adds tiles → IsHiddenOr (archive o adds) b → ShowsNoPart o tiles b
+  no_part tiles b are (inl hidden) = inl hidden
+  no_part tiles b are (inr whole) = inr (subst (λ b. IsArchiveOf b o tiles) (sym whole) (archive_is tiles are))
+
+  pub leaves_part : (tiles : TileSet) (old new : Option (List ℕ)) → AreAddsOf adds tiles → IfSome old (λ b. b ≡ []) → is_some new ≡ is_some old → IfSome new (IsHiddenOr (archive o adds)) → BothTold old new (LeavesPart o tiles)
+  leaves_part tiles None None are empty same h = tt
+  leaves_part tiles None (Some b) are empty same h = absurd (cc)
+  leaves_part tiles (Some a) None are empty same h = absurd (cc)
+  leaves_part tiles (Some []) (Some b) are empty same h = no_part tiles b are h
+  leaves_part tiles (Some (byte ∷ bytes)) (Some b) are empty same h = absurd (cc)
+
+-- before the writer began
+pub leaves_same : (o : Options) (tiles : TileSet) (old new : Option (List ℕ)) → new ≡ old → BothTold old new (LeavesPart o tiles)
+leaves_same o tiles old new e = subst (λ n. BothTold old n (LeavesPart o tiles)) (sym e) (itself old)
+  where
+    itself : (told : Option (List ℕ)) → BothTold told told (LeavesPart o tiles)
+    itself None = tt
+    itself (Some []) = inl refl
+    itself (Some (byte ∷ bytes)) = refl
+
+-- a set that can't be read
+pub set_refused : (A : Type 0) (o : Options) (tiles : TileSet) (long : Bool) (told : Option (List ℕ)) (e : ConvertError) (r : Result ConvertReport ConvertError) → IfSome told (λ b. b ≡ []) → o.internal_compression ≡ compression.None → long ≡ overflows tiles
+    → SetCauses {A = A} long (Err e) → IsErrAnd r (λ x. x ≡ e) → ConvertCauses o tiles told r
+set_refused A o tiles long told e (Ok x) empty plain size cause is = absurd is
+set_refused A o tiles long told e (Err x) empty plain size cause is = subst (λ x. ConvertCauses o tiles told (Err x)) (sym is) (by_case e cause)
+  where
+    by_case : (e : ConvertError) → SetCauses {A = A} long (Err e) → ConvertCauses o tiles told (Err e)
+    by_case refusals.IndexEntryOverflow c = (empty, plain, sym size ∙ c)
+    by_case refusals.OutOfMemory c = tt
+    by_case _ c = absurd c
+
+pub refused_leaves : (o : Options) (tiles : TileSet) (coords : List Coord) (e : PmtError) (x : ConvertError) (old new : Option (List ℕ)) → x ≡ of_write_error e → BothTold old new (LeavesPart o tiles) → ConvertLeaves o tiles coords (Err x) old new
+refused_leaves o tiles coords e x old new is h = subst (λ x. ConvertLeaves o tiles coords (Err x) old new) (sym is) (by_case e)
+  where
+    by_case : (e : PmtError) → ConvertLeaves o tiles coords (Err (of_write_error e)) old new
+    by_case errors.OutOfMemory = h
+    by_case _ = h

@@ -1,0 +1,66 @@
+-- Adds written one after another.
+use Rattle.std.proofs.Common.{◌≡◌, ℕ, ◌+◌, ◌<◌, ◌≤◌, Bool, false, All, ◌≢◌, List, [], length, get_or, take, Result, Ok, Err, IsErrAnd, refl, sym, subst, ◌∙◌, ap, arith}
+use Rattle.std.proofs.lemmas.List.{get_or-map, length-map}
+use Rattle.tile_ids.specs.declared.id.TheConstants.{MAX_TILE_ID}
+use Rattle.pm_format.specs.Options.{Options}
+use Rattle.pm_format.specs.declared.compression.Compression.TheVariants as compression
+use Rattle.pm_format.specs.declared.error.PmtError.{PmtError}
+use Rattle.pm_format.specs.declared.error.PmtError.TheVariants as errors
+use Rattle.pm_format.specs.declared.error.ReadCause.TheVariants as causes
+use Rattle.pm_writer.proofs.InTurn.{add_fits_at, added_at}
+use Rattle.pm_writer.proofs.Few.{archive_fits}
+use Rattle.pm_writer.proofs.Sorted.{adds_distinct}
+use Rattle.pm_writer.specs.Causes.{AddCauses, FinishCauses}
+use Rattle.pm_writer.specs.Writing.{AddFits, add_to}
+use Rattle.tile_bridge.specs.FlatAdds.{seen}
+use Rattle.tile_bridge.specs.Writing.{CanBeWritten, WriteCauses}
+use Rattle.tile_bridge.specs.declared.flat_adds.Add.{Add}
+
+-- the add of a number, as it is seen
+seen_at : (adds : List Add) (i : ℕ) (d : Add) → i < length adds → get_or (seen adds) i (d.id, d.bytes.now) ≡ ((get_or adds i d).id, (get_or adds i d).bytes.now)
+seen_at adds i d far = get_or-map (λ (a : Add). (a.id, a.bytes.now)) adds i d (d.id, d.bytes.now) far
+
+far_seen : (adds : List Add) (i : ℕ) → i < length adds → i < length (seen adds)
+far_seen adds i far = omega (arith, far, length-map {B = ℕ × List ℕ} adds (λ (a : Add). (a.id, a.bytes.now)))
+
+pub low_at : (o : Options) (adds : List Add) (i : ℕ) (d : Add) → i < length adds → CanBeWritten o (seen adds) → (get_or adds i d).id ≤ MAX_TILE_ID
+low_at o adds i d far can = subst (λ a. a.0 ≤ MAX_TILE_ID) (seen_at adds i d far) (can.low i (d.id, d.bytes.now) (far_seen adds i far))
+
+-- it fits behind those before it
+pub fits_at : (o : Options) (adds : List Add) (i : ℕ) (d : Add) (id : ℕ) → i < length adds → CanBeWritten o (seen adds) → id ≡ (get_or adds i d).id → AddFits o (take i (seen adds)) id (get_or adds i d).bytes.now
+fits_at o adds i d id far can is =
+    subst (λ n. AddFits o (take i (seen adds)) n (get_or adds i d).bytes.now) (sym is)
+    (subst (λ a. AddFits o (take i (seen adds)) a.0 a.1) (seen_at adds i d far) (add_fits_at o (seen adds) i (d.id, d.bytes.now) (far_seen adds i far) can.few))
+
+-- and with it one more add is there
+pub added_to : (adds : List Add) (i : ℕ) (d : Add) (id : ℕ) → i < length adds → All (λ a. a.1 ≢ []) (seen adds) → id ≡ (get_or adds i d).id → add_to (take i (seen adds)) id (get_or adds i d).bytes.now ≡ take (i + 1) (seen adds)
+added_to adds i d id far filled is =
+    ap (λ n. add_to (take i (seen adds)) n (get_or adds i d).bytes.now) is
+    ∙ ap (λ a. add_to (take i (seen adds)) a.0 a.1) (sym (seen_at adds i d far))
+    ∙ added_at (seen adds) i (d.id, d.bytes.now) (far_seen adds i far) (filled i (d.id, d.bytes.now) (far_seen adds i far))
+
+-- a refused add, whose data fits, is a fault or want of memory
+pub add_refused : {A : Type 0} (fits : Type 0) (start before now : ℕ) (failed : Bool) (e : PmtError) (r : Result A PmtError) → failed ≡ false → fits → start ≤ before → AddCauses compression.None failed fits before now (Err e) → IsErrAnd r (λ x. x ≡ e) → WriteCauses {A = A} start now r
+add_refused fits start before now failed e (Ok x) alive fit order cause is = tt
+add_refused fits start before now failed e (Err x) alive fit order cause is = subst IsWriteError (sym is) (by_case e cause)
+  where
+    IsWriteError : PmtError → Type 0
+    IsWriteError e = WriteCauses {A = Unit {0}} start now (Err e)
+
+    by_case : (e : PmtError) → AddCauses compression.None failed fits before now (Err e) → IsWriteError e
+    by_case errors.Failed c = absurd (cc)
+    by_case (errors.UnsupportedCompression refused) c = absurd (c.2 refl)
+    by_case errors.IndexEntryOverflow c = absurd (c.2 fit)
+    by_case (errors.Reading causes.Fault) c = omega (arith, order, c.3)
+    by_case errors.OutOfMemory c = tt
+    by_case _ c = absurd c
+
+-- a finished archive of few adds: a fault, or want of memory
+pub finish_refused : {A : Type 0} (o : Options) (adds : List (ℕ × List ℕ)) (start before now : ℕ) (failed : Bool) (r : Result A PmtError) → failed ≡ false → CanBeWritten o adds → start ≤ before → FinishCauses o adds failed before now r → WriteCauses start now r
+finish_refused o adds start before now failed (Ok x) alive can order c = tt
+finish_refused o adds start before now failed (Err errors.Failed) alive can order c = absurd (cc)
+finish_refused o adds start before now failed (Err (errors.OverlappingEntries id)) alive can order c = absurd (omega (arith, c.1.twice, adds_distinct adds can.rising id))
+finish_refused o adds start before now failed (Err errors.IndexEntryOverflow) alive can order c = absurd (c.2 (archive_fits o adds can.few))
+finish_refused o adds start before now failed (Err (errors.Reading causes.Fault)) alive can order c = omega (arith, order, c.2)
+finish_refused o adds start before now failed (Err errors.OutOfMemory) alive can order c = tt
+finish_refused o adds start before now failed (Err _) alive can order c = absurd c

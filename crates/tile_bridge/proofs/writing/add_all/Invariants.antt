@@ -1,0 +1,15 @@
+-- the archive of the adds so far is begun
+use Rattle.std.proofs.Common.{◌≡◌, ◌≤◌, false, [], take, is_some}
+use Rattle.pm_format.specs.Options.{Options}
+use Rattle.pm_writer.specs.Writing.{Writes, has_failed}
+use Rattle.tile_bridge.specs.FlatAdds.{seen}
+use Rattle.tile_bridge.proofs.writing.add_all.Given as goal
+
+abbrev pub invariant-loop-add : goal.invariant-loop-add
+invariant-loop-add g l =
+    ((o : Options) → Writes o (g.M.Backend.told l.fn.medium) l.fn.state [] → Writes o (g.M.Backend.told l.medium) l.state (take l.add-index (seen l.adds)))
+    × (has_failed l.state ≡ false)
+    × (is_some (g.M.Backend.told l.medium) ≡ is_some (g.M.Backend.told l.fn.medium))
+    × (g.M.Backend.faults l.fn.medium ≤ g.M.Backend.faults l.medium)
+    × (g.M.Backend.reads l.medium ≡ g.M.Backend.reads l.fn.medium)
+    × (g.M.Backend.steady l.fn.medium → g.M.Backend.steady l.medium × (g.M.Backend.faults l.medium ≡ g.M.Backend.faults l.fn.medium))

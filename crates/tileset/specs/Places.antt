@@ -1,0 +1,31 @@
+-- The lines of the command bulk.
+use Rattle.std.specs.Prelude.{ℕ, ◌++◌, List, [], codes}
+use Rattle.std.specs.Fmt.{decimal}
+use Rattle.pm_writer.specs.declared.places.ArchivePlaces.{ArchivePlaces}
+
+-- the line of a name and its number, before further lines
+abbrev pub number_line : List ℕ → ℕ → List ℕ → List ℕ
+number_line name number lines = name ++ (codes " " ++ (decimal number ++ (codes "\n" ++ lines)))
+
+-- what an archive counts, and how long it is
+abbrev pub count_lines : ArchivePlaces → List ℕ
+count_lines p =
+    number_line (codes "addressed") p.addressed
+    (number_line (codes "entries") p.entries
+    (number_line (codes "contents") p.contents
+    (number_line (codes "length") p.length [])))
+
+-- its directories
+abbrev pub directory_lines : ArchivePlaces → List ℕ
+directory_lines p =
+    number_line (codes "root") p.root_length
+    (number_line (codes "leaves") p.leaves
+    (number_line (codes "leaf-offset") p.leaf_offset
+    (number_line (codes "leaf-length") p.leaf_length [])))
+
+-- the contents of its tiles
+abbrev pub data_lines : ArchivePlaces → List ℕ
+data_lines p = number_line (codes "data-offset") p.data_offset (number_line (codes "data-length") p.data_length [])
+
+abbrev pub places_text : ArchivePlaces → List ℕ
+places_text p = count_lines p ++ directory_lines p ++ data_lines p
