@@ -1,0 +1,11 @@
+-- The queue of a walk, as its front is taken.
+use Rattle.std.proofs.Common.{◌≡◌}
+use Rattle.pm_reader.specs.WalkSteps.{queue_of}
+use Rattle.pm_reader.specs.declared.walk.WalkState.{WalkState}
+
+-- the same entries are in the queue, and all else is as it was
+pub record SameQueue (s t : WalkState) : Type 0 where
+  pub queue : queue_of t ≡ queue_of s
+  pub header : t.header ≡ s.header
+  pub budget : t.budget ≡ s.budget
+  pub ended : t.ended ≡ s.ended

@@ -1,0 +1,66 @@
+-- Look-ups in sound archives end well.
+use Rattle.std.proofs.Common.{◌≡◌, ◌≢◌, inl, inr, ℕ, zero, suc, ◌+◌, Bool, true, false, List, [], ◌∷◌, nat_eq, Option, None, Some, Result, Ok, Err, refl, sym, ap, subst, arith}
+use Rattle.std.specs.Prelude.{Contains, IsOk, IsSome}
+use Rattle.std.proofs.lemmas.Bool.Decides.{nat_tests}
+use Rattle.std.proofs.lemmas.List.Elements.{Contains-append_cases}
+use Rattle.tile_ids.specs.declared.id.TheConstants.{MAX_TILE_ID}
+use Rattle.pm_format.specs.Directory.{Entry}
+use Rattle.pm_format.specs.LookUp.{archive_tile, data_of, leaf_of, led, range_of, tile_by, tile_opened}
+use Rattle.pm_format.specs.Scan.{scan}
+use Rattle.pm_format.specs.Sound.{EachEntry, HasData, Sound, SoundDirectory}
+use Rattle.pm_format.specs.declared.error.PmtError.{PmtError}
+use Rattle.pm_format.specs.declared.error.PmtError.TheVariants as errors
+use Rattle.pm_format.specs.declared.error.ReadCause.TheVariants as causes
+use Rattle.pm_format.specs.declared.header.Header.{Header}
+use Rattle.pm_reader.proofs.LevelLemmas.{scan_is_in, single_is}
+use Rattle.pm_reader.proofs.QueuedLevels.{is_some}
+
+-- what holds of each entry holds of one of them
+each_of : (P : Entry → ℕ → Type 0) (low limit : ℕ) (es : List Entry) (e : Entry) → EachEntry P low limit es → Contains es e → (end : ℕ) × P e end
+each_of P low limit [] e all c = absurd (omega (arith, c.1))
+each_of P low limit (f ∷ []) e all c = let same = single_is f e c in (limit, subst (λ x. P x limit) same all.3)
+each_of P low limit (f ∷ g ∷ es) e all c =
+    elim (Contains-append_cases (f ∷ []) (g ∷ es) e c) [
+      | inl here ↦ let same = single_is f e here in (g.tile_id, subst (λ x. P x g.tile_id) same all.3)
+      | inr there ↦ each_of P g.tile_id limit (g ∷ es) e all.4 there
+    ]
+
+data_ok : (o : Option (List ℕ)) → IsSome o → IsOk (elim o as (λ _. Result (Option (List ℕ)) PmtError) [ None ↦ Err (errors.Reading causes.PastEnd) | Some bytes ↦ Ok (Some bytes) ])
+data_ok None s = absurd (cc)
+data_ok (Some bytes) s = refl
+
+by_test : {A : Type 0} (x y : Result A PmtError) (test : Bool) → (test ≡ true → IsOk x) → (test ≡ false → IsOk y) → IsOk (elim test as (λ _. Result A PmtError) [ true ↦ x | false ↦ y ])
+by_test x y true p q = p refl
+by_test x y false p q = q refl
+
+led_ok : {A : Type 0} (leaf tile : Entry → Result A PmtError) (none : Result A PmtError) (found : Option Entry) → ((e : Entry) → found ≡ Some e → nat_eq e.run_length 0 ≡ true → IsOk (leaf e))
+    → ((e : Entry) → found ≡ Some e → nat_eq e.run_length 0 ≡ false → IsOk (tile e)) → IsOk none → IsOk (led leaf tile none found)
+led_ok leaf tile none None l t n = n
+led_ok leaf tile none (Some e) l t n = by_test (leaf e) (tile e) (nat_eq e.run_length 0) (l e refl) (t e refl)
+
+is_zero : (run : ℕ) → nat_eq run 0 ≡ true → run ≡ 0
+is_zero run e = grind (arith, nat_tests)
+
+found_is : (es : List Entry) (t : ℕ) (P : Entry → ℕ → Type 0) (low limit : ℕ) → EachEntry P low limit es → (e : Entry) → scan es t ≡ Some e → (end : ℕ) × P e end
+found_is es t P low limit all e q = each_of P low limit es e all (scan_is_in es t e q)
+
+tile_sound : (n : ℕ) (h : Header) (b : List ℕ) (low limit : ℕ) (es : List Entry) (t : ℕ) → SoundDirectory n h b low limit es → IsOk (tile_by n h b es t)
+unfolding tile_by
+tile_sound zero h b low limit es t all =
+    led_ok (λ e. Ok None) (data_of h b) (Ok None) (scan es t) (λ e q z. refl)
+    (λ e q z. data_ok (range_of b (h.data_offset + e.offset) e.length) (found_is es t (λ x end. (x.run_length ≢ 0) × HasData h b x) low limit all e q).1.1) refl
+tile_sound (suc n) h b low limit es t all =
+    let P : Entry → ℕ → Type 0 = λ e end. (e.run_length ≢ 0 → HasData h b e) × (e.run_length ≡ 0 → (leaf : List Entry) × (leaf_of h b e ≡ Ok leaf) × SoundDirectory n h b e.tile_id end leaf) in
+    let onward : Result (List Entry) PmtError → Result (Option (List ℕ)) PmtError = λ l. elim l [ Err r ↦ Err r | Ok leaf ↦ tile_by n h b leaf t ] in
+    led_ok (λ e. onward (leaf_of h b e)) (data_of h b) (Ok None) (scan es t)
+    (λ e q z.
+    let w = found_is es t P low limit all e q in
+    let leaf = w.1.1 (is_zero e.run_length z) in
+    let Q : Result (Option (List ℕ)) PmtError → Type 0 = λ r. IsOk r in
+    subst Q (sym (ap onward leaf.1)) (tile_sound n h b e.tile_id w.0 leaf.0 t leaf.2))
+    (λ e q z. data_ok (range_of b (h.data_offset + e.offset) e.length) ((found_is es t P low limit all e q).1.0 (is_some e.run_length z))) refl
+
+pub sound_tile : (b : List ℕ) (t : ℕ) → Sound b → IsOk (archive_tile b t)
+sound_tile b t s =
+    let P : Result (Option (List ℕ)) PmtError → Type 0 = λ r. IsOk r in
+    subst P (sym (ap (tile_opened b t) s.opens)) (tile_sound 6 s.found.0 b 0 (MAX_TILE_ID + 1) s.found.1 t s.root)

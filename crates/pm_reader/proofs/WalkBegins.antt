@@ -1,0 +1,29 @@
+-- A walk begins with the whole archive left.
+use Rattle.std.proofs.Common.{◌≡◌, ◌∙◌, ℕ, false, cond, List, [], ◌++◌, drop, flat_map, append-nil, Option, Some, None, IfSome, sym, ap}
+use Rattle.pm_format.specs.Directory.{Entry}
+use Rattle.pm_reader.specs.Caches.{Held}
+use Rattle.pm_reader.specs.Opening.{OpensAs}
+use Rattle.pm_reader.specs.Queue.{queued}
+use Rattle.pm_reader.specs.ReadsFrom.{ReadsFrom}
+use Rattle.pm_reader.specs.Walk.{walk, walk_opened}
+use Rattle.pm_reader.specs.WalkSteps.{left_of, queue_of}
+use Rattle.pm_reader.specs.declared.state.ReaderState.{ReaderState}
+use Rattle.pm_reader.specs.declared.walk.WalkState.{WalkState}
+use Rattle.pm_reader.proofs.QueuedLevels.{queue_is_walk}
+
+pub begins : (b : List ℕ) (s : ReaderState) (w : WalkState) (budget : ℕ) → OpensAs b s → queue_of w ≡ s.root → w.header ≡ s.header → w.budget ≡ budget → w.ended ≡ false → left_of b w ≡ walk b budget
+begins b s w budget opens root header units goes =
+    ap (λ x. cond x [] (queued w.budget w.header b (queue_of w))) goes
+    ∙ (ap (queued w.budget w.header b) root
+    ∙ (ap (λ h. queued w.budget h b s.root) header
+    ∙ (ap (λ n. queued n s.header b s.root) units
+    ∙ (queue_is_walk s.header b budget s.root
+    ∙ sym (ap (walk_opened b budget) opens)))))
+
+pub told_begins : (told : Option (List ℕ)) (s : ReaderState) (w : WalkState) (budget : ℕ) (held : Held) (idle : Type 0) → ((b : List ℕ) → OpensAs b s → left_of b w ≡ walk b budget) → IfSome told (λ b. ReadsFrom b s held idle)
+    → IfSome told (λ b. left_of b w ≡ walk b budget)
+told_begins None s w budget held idle items reads = tt
+told_begins (Some b) s w budget held idle items reads = items b reads.opens
+
+pub queue_begins : (root : List Entry) (leaves : List (List Entry)) → leaves ≡ [] → drop 0 root ++ flat_map (λ d. d) leaves ≡ root
+queue_begins root leaves none = ap (λ l. drop 0 root ++ flat_map (λ d. d) l) none ∙ append-nil root

@@ -1,0 +1,5 @@
+use Rattle.pm_reader.proofs.SoundTiles.{sound_tile}
+use Rattle.pm_reader.proofs.laws.sound_answers.Goals as goal
+
+pub returns : goal.returns
+returns c = sound_tile

@@ -1,0 +1,17 @@
+pub mod Answers
+pub mod Archives
+pub mod Caches
+pub mod EntriesSteps
+pub mod Levels
+pub mod MapCaches
+pub mod Metadata
+pub mod Opening
+pub mod Path
+pub mod Queue
+pub mod Reads
+pub mod ReadsFrom
+pub mod Tied
+pub mod Versions
+pub mod Walk
+pub mod WalkSteps
+pub mod Way

@@ -1,0 +1,97 @@
+// The cache that gives up the directories that were used longest ago.
+ghost use Rattle.std.specs.Prelude.{◌≡◌, ◌≤◌, ℕ, [], Ok, None, Some, true, nat_eq, IfOk, OnOk, OnErr};
+ghost use Rattle.lru.specs.LruCache.{lru_cache, promoted};
+ghost use Rattle.pm_reader.specs.Caches.{AddsOnly, AnswersFetched, AnswersHeld, answer_of};
+ghost use Rattle.pm_reader.specs.MapCaches.{FetchLeaves, HoldsSame, PutsRecent, held_by_use, uses_of};
+
+use crate::{DirCacheResult, DirectoryCache};
+use lru::LruCache;
+use pm_format::{DirEntry, Directory, PmtResult};
+use std::alloc::Global;
+use std::num::NonZeroUsize;
+use tile_ids::{OutOfMemory, TileId};
+
+/// Keeps the directories that were used last, as many as its capacity.
+#[derive(Drop)]
+pub struct LruDirCache {
+    directories: LruCache<u64, Directory>,
+}
+
+impl LruDirCache {
+    /// A cache that holds nothing yet, and will hold at most so many directories. The capacity is to be at least 1.
+    pub fn new(alloc: Global, capacity: usize) -> Result<LruDirCache, OutOfMemory>
+        requires { 1 ≤ capacity }
+        ensures { IfOk result (λ c. uses_of c ≡ lru_cache [] capacity) }
+    {
+        let capacity = NonZeroUsize::new(capacity).unwrap();
+        Ok(LruDirCache {
+            directories: LruCache::new(alloc, capacity)?,
+        })
+    }
+
+    // What is known of an id. A directory that is held becomes the most recently used.
+    fn find(&mut self, offset: u64, tile_id: TileId) -> DirCacheResult
+        ensures answer { result ≡ answer_of (held_by_use self.old offset) tile_id }
+        ensures uses { uses_of self.new ≡ lru_cache (promoted (nat_eq offset) (uses_of self.old).entries) (uses_of self.old).cap }
+    {
+        match self.directories.get(&offset) {
+            Some(directory) => DirCacheResult::from(directory.find_tile_id(tile_id)),
+            None => DirCacheResult::NotCached,
+        }
+    }
+}
+
+impl DirectoryCache for LruDirCache {
+    ghost use Rattle.pm_reader.specs.MapCaches.{held_by_use};
+
+    ghost held = { held_by_use };
+
+    ghost idle = { λ _. ⊥ };
+
+    ghost idle_is_empty = { λ s o i. absurd i };
+
+    fn get_dir_entry(&mut self, offset: u64, tile_id: TileId) -> DirCacheResult
+        ensures answer { result ≡ answer_of (held_by_use self.old offset) tile_id }
+        ensures uses { uses_of self.new ≡ lru_cache (promoted (nat_eq offset) (uses_of self.old).entries) (uses_of self.old).cap }
+        ensures same { HoldsSame (held_by_use self.old) (held_by_use self.new) }
+    {
+        self.find(offset, tile_id)
+    }
+
+    fn insert_dir(&mut self, offset: u64, directory: Directory) -> Result<bool, OutOfMemory>
+        ensures kept { IfOk result (λ kept. kept ≡ true) }
+        ensures put { OnOk result (PutsRecent (uses_of self.old) (uses_of self.new) offset directory) }
+        ensures held { OnOk result (held_by_use self.new offset ≡ Some directory) }
+        ensures adds { AddsOnly (held_by_use self.old) (held_by_use self.new) offset (λ d. d ≡ directory) }
+        ensures err { OnErr result (uses_of self.new ≡ uses_of self.old) }
+    {
+        match self.directories.put(offset, directory) {
+            Ok(_) => Ok(true),
+            Err(_) => Err(OutOfMemory),
+        }
+    }
+
+    fn get_dir_entry_or_insert<F: FnOnce() -> PmtResult<Directory>>(
+        &mut self,
+        offset: u64,
+        tile_id: TileId,
+        fetcher: F,
+    ) -> PmtResult<Option<DirEntry>>
+        requires callable { held_by_use self.old offset ≡ None → F.pre fetcher }
+        ensures held { AnswersHeld (held_by_use self.old offset) tile_id result }
+        ensures fetched { AnswersFetched (held_by_use self.old offset) (F.post fetcher) tile_id result }
+        ensures adds { AddsOnly (held_by_use self.old) (held_by_use self.new) offset (λ d. F.post fetcher (Ok d)) }
+        ensures leaves { FetchLeaves (held_by_use self.old offset) (F.post fetcher) tile_id (HoldsSame (held_by_use self.old) (held_by_use self.new)) (PutsRecent (uses_of self.old) (uses_of self.new) offset) result }
+    {
+        match self.get_dir_entry(offset, tile_id) {
+            DirCacheResult::Found(entry) => Ok(Some(entry)),
+            DirCacheResult::NotFound => Ok(None),
+            DirCacheResult::NotCached => {
+                let directory = fetcher()?;
+                let found = directory.find_tile_id(tile_id).copied();
+                let _ = self.insert_dir(offset, directory);
+                Ok(found)
+            }
+        }
+    }
+}

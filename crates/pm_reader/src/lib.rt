@@ -1,0 +1,24 @@
+//! Archives that are read: opened, looked up through leaves, with and without caches of directories.
+#![tactic(auto)]
+
+mod cache;
+mod entries;
+mod front;
+pub mod laws;
+mod leaves;
+mod look_up;
+mod metadata;
+mod ranges;
+mod reader;
+mod state;
+#[cfg(test)]
+mod tests;
+mod tiles;
+mod versions;
+mod walk;
+
+pub use cache::{DirCacheResult, DirectoryCache, HashMapCache, LruDirCache, NoCache};
+pub use entries::Entries;
+pub use reader::PmTilesReader;
+pub use state::ReaderState;
+pub use walk::WalkState;

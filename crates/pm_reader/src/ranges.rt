@@ -1,0 +1,49 @@
+// Ranges of a backend's bytes.
+ghost use Rattle.std.specs.Prelude.{◌≡◌, ◌≤◌, ◌<◌, ◌+◌, ◌^◌, IfSome, IfOk, IsErrOf};
+ghost use Rattle.std.specs.Option.{SomeIff};
+ghost use Rattle.pm_reader.specs.Answers.{Gives, HasTextAt, LookUpCauses, bytes_of, range_read};
+ghost use Rattle.pm_reader.specs.Reads.{GrewBetween, reads_done};
+
+use pm_format::{Backend, BackendResponse, PmtError, PmtResult, ReadCause, ReadFault};
+use std::alloc::Global;
+
+/// Exactly the bytes of a range, whose place is counted from a base. `Reading(PastEnd)` comes where it passes the end of the bytes or u64.
+pub(crate) fn read_range<B: Backend>(
+    alloc: Global,
+    backend: &mut B,
+    base: u64,
+    offset: u64,
+    length: u64,
+) -> PmtResult<BackendResponse>
+    ensures answer { IfSome (B.told backend.old) (λ b. Gives (range_read b (base + offset) length) (bytes_of result)) }
+    ensures causes { LookUpCauses (B.faults backend.old) (B.faults backend.new) result }
+    ensures plain { IsErrOf result PmtError.InvalidEntry → ⊥ }
+    ensures version { IfOk result (HasTextAt (B.versions backend.old) (B.reads backend.new)) }
+    ensures told { B.told backend.new ≡ B.told backend.old }
+    ensures versions { B.versions backend.new ≡ B.versions backend.old }
+    ensures faults { B.faults backend.old ≤ B.faults backend.new }
+    ensures reads { GrewBetween (B.reads backend.old) (B.reads backend.new) (reads_done result) 1 }
+    ensures calm { B.steady backend.old → B.steady backend.new × (B.faults backend.new ≡ B.faults backend.old) }
+{
+    let Some(at) = place_of(base, offset, length) else {
+        return Err(PmtError::Reading(ReadCause::PastEnd));
+    };
+    match backend.read_exact(alloc, at, length) {
+        Ok(response) => Ok(response),
+        Err(ReadFault::Fault) => Err(PmtError::Reading(ReadCause::Fault)),
+        Err(ReadFault::PastEnd) => Err(PmtError::Reading(ReadCause::PastEnd)),
+        Err(ReadFault::Short { asked, got }) => {
+            Err(PmtError::UnexpectedNumberOfBytesReturned(asked, got))
+        }
+        Err(ReadFault::OutOfMemory) => Err(PmtError::OutOfMemory),
+    }
+}
+
+// The place of a range, where its end is within u64.
+fn place_of(base: u64, offset: u64, length: u64) -> Option<u64>
+    ensures { SomeIff result (base + offset + length < 2 ^ 64) (base + offset) }
+{
+    let at = base.checked_add(offset)?;
+    at.checked_add(length)?;
+    Some(at)
+}

@@ -1,0 +1,197 @@
+// A reader that borrows its backend, and holds a cache of directories.
+ghost use Rattle.std.specs.Prelude.{◌≡◌, ◌≤◌, ℕ, None, false, IfSome, IfOk};
+ghost use Rattle.tile_ids.specs.Counts.{Grew};
+ghost use Rattle.pm_format.specs.LookUp.{archive_tile};
+ghost use Rattle.pm_reader.specs.Answers.{Gives, LookUpCauses};
+ghost use Rattle.pm_reader.specs.Archives.{IsCacheable, ReadsByHops};
+ghost use Rattle.pm_reader.specs.Opening.{HasVersionOf, IsOpen, header_of, version_of};
+ghost use Rattle.pm_reader.specs.Reads.{GrewBetween, reads_for};
+ghost use Rattle.pm_reader.specs.Tied.{IsTied};
+ghost use Rattle.pm_reader.specs.Walk.{walk};
+ghost use Rattle.pm_reader.specs.WalkSteps.{budget_of, has_ended, left_of};
+ghost use Rattle.pm_reader.specs.Versions.{ComparesTexts, GivesUnmodified, PlainCauses, UnmodifiedCauses, plain};
+
+use crate::tiles::require_plain;
+use crate::{DirectoryCache, Entries, NoCache, ReaderState};
+use bytes::Bytes;
+use pm_format::{Backend, Header, PmtResult};
+use std::alloc::Global;
+use tile_ids::TileId;
+
+/// An archive that is being read, with a cache of its directories.
+pub struct PmTilesReader<'a, B: Backend, C: DirectoryCache, S = ReaderState> {
+    pub(crate) backend: &'a mut B,
+    pub(crate) cache: C,
+    pub(crate) state: S,
+}
+
+// What is let go leaves the backend as it is.
+impl<B: Backend, C: DirectoryCache + Drop, S: Drop> Drop for PmTilesReader<'_, B, C, S> {
+    fn drop(self)
+        ensures same { self.exit.0.now ≡ self.entry.backend.now }
+    {
+        let PmTilesReader {
+            backend: _,
+            cache: _,
+            state: _,
+        } = self;
+    }
+}
+
+impl<'a, B: Backend> PmTilesReader<'a, B, NoCache> {
+    /// Opens the archive of a backend, to be read without a cache: `ReaderState::open`, and then `PmTilesReader::over`. Why a refusal comes is promised by `open`.
+    pub fn try_from_source(alloc: Global, backend: &'a mut B) -> PmtResult<Self>
+        ensures same_reference { IfOk result (λ r. r.backend.ghost_name ≡ backend.entry.ghost_name) }
+        ensures tied { IfOk result (λ r. IsTied B.told ⟦<NoCache as DirectoryCache>⟧.held ⟦<NoCache as DirectoryCache>⟧.idle r) }
+        ensures open { IfOk result (λ r. IsOpen (B.told backend.old) r.state) }
+        ensures version { IfOk result (λ r. HasVersionOf (B.versions r.backend.now) (B.reads r.backend.now) r.state) }
+        ensures told { IfOk result (λ r. B.told r.backend.now ≡ B.told backend.old) }
+        ensures versions { IfOk result (λ r. B.versions r.backend.now ≡ B.versions backend.old) }
+        ensures faults { IfOk result (λ r. B.faults backend.old ≤ B.faults r.backend.now) }
+        ensures reads { IfOk result (λ r. Grew (B.reads backend.old) (B.reads r.backend.now) 1) }
+        ensures calm { IfOk result (λ r. B.steady backend.old → B.steady r.backend.now × (B.faults r.backend.now ≡ B.faults backend.old)) }
+    {
+        let state = ReaderState::open(alloc, backend)?;
+        Ok(PmTilesReader {
+            backend,
+            cache: NoCache,
+            state,
+        })
+    }
+}
+
+impl<'a, B: Backend, C: DirectoryCache> PmTilesReader<'a, B, C> {
+    /// The reader with this state over this backend, which was opened by it. The cache is to hold nothing.
+    pub fn over(backend: &'a mut B, cache: C, state: ReaderState) -> PmTilesReader<'a, B, C>
+        requires open { IsOpen (B.told backend.old) state }
+        requires empty { (o : ℕ) → C.held cache o ≡ None }
+        ensures same_reference { result.backend.ghost_name ≡ backend.entry.ghost_name }
+        ensures tied { IsTied B.told C.held C.idle result }
+        ensures same { result.backend.now ≡ backend.old }
+        ensures cache { result.cache ≡ cache }
+        ensures state { result.state ≡ state }
+    {
+        PmTilesReader {
+            backend,
+            cache,
+            state,
+        }
+    }
+
+    /// Opens the archive of a backend, to be read with this cache, which is to hold nothing: `ReaderState::open`, and then `over`. Why a refusal comes is promised by
+    /// `open`.
+    pub fn try_from_cached_source(alloc: Global, backend: &'a mut B, cache: C) -> PmtResult<Self>
+    where
+        C: Drop,
+        requires empty { (o : ℕ) → C.held cache o ≡ None }
+        ensures same_reference { IfOk result (λ r. r.backend.ghost_name ≡ backend.entry.ghost_name) }
+        ensures tied { IfOk result (λ r. IsTied B.told C.held C.idle r) }
+        ensures open { IfOk result (λ r. IsOpen (B.told backend.old) r.state) }
+        ensures cache { IfOk result (λ r. r.cache ≡ cache) }
+        ensures version { IfOk result (λ r. HasVersionOf (B.versions r.backend.now) (B.reads r.backend.now) r.state) }
+        ensures told { IfOk result (λ r. B.told r.backend.now ≡ B.told backend.old) }
+        ensures versions { IfOk result (λ r. B.versions r.backend.now ≡ B.versions backend.old) }
+        ensures faults { IfOk result (λ r. B.faults backend.old ≤ B.faults r.backend.now) }
+        ensures reads { IfOk result (λ r. Grew (B.reads backend.old) (B.reads r.backend.now) 1) }
+        ensures calm { IfOk result (λ r. B.steady backend.old → B.steady r.backend.now × (B.faults r.backend.now ≡ B.faults backend.old)) }
+    {
+        let state = ReaderState::open(alloc, backend)?;
+        Ok(PmTilesReader {
+            backend,
+            cache,
+            state,
+        })
+    }
+
+    /// The header of the archive.
+    pub fn get_header(&self) -> &Header
+        ensures { result.now ≡ header_of self.now.state }
+    {
+        self.state.get_header()
+    }
+
+    /// The contents of a tile; none where there is none. Refusals are those of `ReaderState::get_tile_unversioned`. Version texts aren't compared.
+    pub fn get_tile_unversioned(&mut self, tile_id: TileId) -> PmtResult<Option<Bytes>>
+        requires tied { IsTied B.told C.held C.idle self.old }
+        ensures tied { IsTied B.told C.held C.idle self.new }
+        ensures same_reference { self.new.backend.ghost_name ≡ self.old.backend.ghost_name }
+        ensures state { self.new.state ≡ self.old.state }
+        ensures answer { IfSome (B.told self.old.backend.now) (λ b. IsCacheable b (C.idle self.old.cache) → Gives (archive_tile b tile_id) result) }
+        ensures hops { IfSome (B.told self.old.backend.now) (λ b. IsCacheable b (C.idle self.old.cache) → ReadsByHops b tile_id (B.reads self.old.backend.now) (B.reads self.new.backend.now)) }
+        ensures idle { C.idle self.old.cache → C.idle self.new.cache }
+        ensures causes { LookUpCauses (B.faults self.old.backend.now) (B.faults self.new.backend.now) result }
+        ensures told { B.told self.new.backend.now ≡ B.told self.old.backend.now }
+        ensures versions { B.versions self.new.backend.now ≡ B.versions self.old.backend.now }
+        ensures faults { B.faults self.old.backend.now ≤ B.faults self.new.backend.now }
+        ensures reads { GrewBetween (B.reads self.old.backend.now) (B.reads self.new.backend.now) (reads_for result) 7 }
+        ensures calm { B.steady self.old.backend.now → B.steady self.new.backend.now × (B.faults self.new.backend.now ≡ B.faults self.old.backend.now) }
+    {
+        self.state
+            .get_cached_tile(self.backend, &mut self.cache, tile_id)
+    }
+
+    /// The contents of a tile, as `get_tile_unversioned` gives them, and `SourceModified` exactly where a tile was found, the opening and this read both gave version
+    /// texts, and they differ.
+    pub fn get_tile(&mut self, tile_id: TileId) -> PmtResult<Option<Bytes>>
+        requires tied { IsTied B.told C.held C.idle self.old }
+        ensures tied { IsTied B.told C.held C.idle self.new }
+        ensures same_reference { self.new.backend.ghost_name ≡ self.old.backend.ghost_name }
+        ensures state { self.new.state ≡ self.old.state }
+        ensures answer { IfSome (B.told self.old.backend.now) (λ b. IsCacheable b (C.idle self.old.cache) → GivesUnmodified (archive_tile b tile_id) (archive_tile b tile_id) result) }
+        ensures text { ComparesTexts (version_of self.new.state) (B.versions self.new.backend.now) (B.reads self.new.backend.now) result }
+        ensures causes { UnmodifiedCauses (B.faults self.old.backend.now) (B.faults self.new.backend.now) result }
+        ensures hops { IfSome (B.told self.old.backend.now) (λ b. IsCacheable b (C.idle self.old.cache) → ReadsByHops b tile_id (B.reads self.old.backend.now) (B.reads self.new.backend.now)) }
+        ensures idle { C.idle self.old.cache → C.idle self.new.cache }
+        ensures told { B.told self.new.backend.now ≡ B.told self.old.backend.now }
+        ensures versions { B.versions self.new.backend.now ≡ B.versions self.old.backend.now }
+        ensures faults { B.faults self.old.backend.now ≤ B.faults self.new.backend.now }
+        ensures reads { GrewBetween (B.reads self.old.backend.now) (B.reads self.new.backend.now) (reads_for result) 7 }
+        ensures calm { B.steady self.old.backend.now → B.steady self.new.backend.now × (B.faults self.new.backend.now ≡ B.faults self.old.backend.now) }
+    {
+        self.state
+            .find_unmodified(self.backend, &mut self.cache, tile_id)
+    }
+
+    /// The same, and `UnsupportedCompression` for a found tile exactly where tiles aren't labelled `None`.
+    pub fn get_tile_decompressed(&mut self, tile_id: TileId) -> PmtResult<Option<Bytes>>
+        requires tied { IsTied B.told C.held C.idle self.old }
+        ensures tied { IsTied B.told C.held C.idle self.new }
+        ensures same_reference { self.new.backend.ghost_name ≡ self.old.backend.ghost_name }
+        ensures state { self.new.state ≡ self.old.state }
+        ensures answer { IfSome (B.told self.old.backend.now) (λ b. IsCacheable b (C.idle self.old.cache)
+            → GivesUnmodified (archive_tile b tile_id) (plain (header_of self.new.state).tile_compression (archive_tile b tile_id)) result) }
+        ensures text { ComparesTexts (version_of self.new.state) (B.versions self.new.backend.now) (B.reads self.new.backend.now) result }
+        ensures causes { PlainCauses (header_of self.new.state).tile_compression (B.faults self.old.backend.now) (B.faults self.new.backend.now) result }
+        ensures hops { IfSome (B.told self.old.backend.now) (λ b. IsCacheable b (C.idle self.old.cache) → ReadsByHops b tile_id (B.reads self.old.backend.now) (B.reads self.new.backend.now)) }
+        ensures idle { C.idle self.old.cache → C.idle self.new.cache }
+        ensures told { B.told self.new.backend.now ≡ B.told self.old.backend.now }
+        ensures versions { B.versions self.new.backend.now ≡ B.versions self.old.backend.now }
+        ensures faults { B.faults self.old.backend.now ≤ B.faults self.new.backend.now }
+        ensures reads { GrewBetween (B.reads self.old.backend.now) (B.reads self.new.backend.now) (reads_for result) 7 }
+        ensures calm { B.steady self.old.backend.now → B.steady self.new.backend.now × (B.faults self.new.backend.now ≡ B.faults self.old.backend.now) }
+    {
+        let found = self.get_tile(tile_id);
+        require_plain(self.state.header.tile_compression, found)
+    }
+
+    /// The entries of tiles, with a budget of so many leaves.
+    pub fn entries(self, budget: u64) -> Entries<'a, B, C>
+        requires tied { IsTied B.told C.held C.idle self }
+        ensures same_reference { result.backend.ghost_name ≡ self.entry.backend.ghost_name }
+        ensures same { result.backend.now ≡ self.entry.backend.now }
+        ensures items { IfSome (B.told self.entry.backend.now) (λ b. left_of b result.state ≡ walk b budget) }
+        ensures budget { budget_of result.state ≡ budget }
+        ensures goes { has_ended result.state ≡ false }
+    {
+        let PmTilesReader {
+            backend,
+            cache,
+            state,
+        } = self;
+        Entries {
+            backend,
+            cache,
+            state: state.entries(budget),
+        }
+    }
+}

@@ -1,0 +1,74 @@
+// Tiles by the state of a reader, over a backend that isn't borrowed any longer than the call.
+ghost use Rattle.std.specs.Prelude.{◌≡◌, ◌≤◌, IfSome};
+ghost use Rattle.pm_format.specs.LookUp.{archive_tile};
+ghost use Rattle.pm_reader.specs.Archives.{ReadsByHops};
+ghost use Rattle.pm_reader.specs.Opening.{IsOpen, header_of, version_of};
+ghost use Rattle.pm_reader.specs.Reads.{GrewBetween, reads_for};
+ghost use Rattle.pm_reader.specs.Versions.{ComparesTexts, GivesUnmodified, PlainCauses, UnmodifiedCauses, plain};
+
+use crate::{NoCache, ReaderState};
+use bytes::Bytes;
+use pm_format::{Backend, Compression, PmtError, PmtResult};
+use tile_ids::TileId;
+
+impl ReaderState {
+    /// The contents of a tile, as `get_tile_unversioned` gives them, and `SourceModified` exactly where a tile was found, the opening and this read both gave version
+    /// texts, and they differ.
+    pub fn get_tile<B: Backend>(&self, backend: &mut B, tile_id: TileId) -> PmtResult<Option<Bytes>>
+        requires open { IsOpen (B.told backend.old) self.now }
+        ensures open { IsOpen (B.told backend.new) self.now }
+        ensures answer { IfSome (B.told backend.old) (λ b. GivesUnmodified (archive_tile b tile_id) (archive_tile b tile_id) result) }
+        ensures text { ComparesTexts (version_of self.now) (B.versions backend.new) (B.reads backend.new) result }
+        ensures causes { UnmodifiedCauses (B.faults backend.old) (B.faults backend.new) result }
+        ensures hops { IfSome (B.told backend.old) (λ b. ReadsByHops b tile_id (B.reads backend.old) (B.reads backend.new)) }
+        ensures reads { GrewBetween (B.reads backend.old) (B.reads backend.new) (reads_for result) 7 }
+        ensures told { B.told backend.new ≡ B.told backend.old }
+        ensures versions { B.versions backend.new ≡ B.versions backend.old }
+        ensures faults { B.faults backend.old ≤ B.faults backend.new }
+        ensures calm { B.steady backend.old → B.steady backend.new × (B.faults backend.new ≡ B.faults backend.old) }
+    {
+        let mut cache = NoCache;
+        self.find_unmodified(backend, &mut cache, tile_id)
+    }
+
+    /// The same, and `UnsupportedCompression` for a found tile exactly where tiles aren't labelled `None`.
+    pub fn get_tile_decompressed<B: Backend>(
+        &self,
+        backend: &mut B,
+        tile_id: TileId,
+    ) -> PmtResult<Option<Bytes>>
+        requires open { IsOpen (B.told backend.old) self.now }
+        ensures open { IsOpen (B.told backend.new) self.now }
+        ensures answer { IfSome (B.told backend.old) (λ b. GivesUnmodified (archive_tile b tile_id) (plain (header_of self.now).tile_compression (archive_tile b tile_id)) result) }
+        ensures text { ComparesTexts (version_of self.now) (B.versions backend.new) (B.reads backend.new) result }
+        ensures causes { PlainCauses (header_of self.now).tile_compression (B.faults backend.old) (B.faults backend.new) result }
+        ensures hops { IfSome (B.told backend.old) (λ b. ReadsByHops b tile_id (B.reads backend.old) (B.reads backend.new)) }
+        ensures reads { GrewBetween (B.reads backend.old) (B.reads backend.new) (reads_for result) 7 }
+        ensures told { B.told backend.new ≡ B.told backend.old }
+        ensures versions { B.versions backend.new ≡ B.versions backend.old }
+        ensures faults { B.faults backend.old ≤ B.faults backend.new }
+        ensures calm { B.steady backend.old → B.steady backend.new × (B.faults backend.new ≡ B.faults backend.old) }
+    {
+        let found = self.get_tile(backend, tile_id);
+        require_plain(self.header.tile_compression, found)
+    }
+}
+
+/// What was found, where it is to be plain.
+pub(crate) fn require_plain(
+    label: Compression,
+    found: PmtResult<Option<Bytes>>,
+) -> PmtResult<Option<Bytes>>
+    ensures { result ≡ plain label found }
+{
+    match found {
+        Ok(Some(bytes)) => {
+            if label != Compression::None {
+                return Err(PmtError::UnsupportedCompression(label));
+            }
+            Ok(Some(bytes))
+        }
+        Ok(None) => Ok(None),
+        Err(error) => Err(error),
+    }
+}
