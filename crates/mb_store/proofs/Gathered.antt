@@ -36,7 +36,7 @@ module _ {X : Type 0} (R : X → X → Ordering) where
       grouped true b c = refl
       grouped false b c = refl
 
-  sum_by-all_put : (f : X → ℕ) (xs ys : List X) → sum_by f (all_put R xs ys) ≡ sum_by f xs + sum_by f ys
+  pub sum_by-all_put : (f : X → ℕ) (xs ys : List X) → sum_by f (all_put R xs ys) ≡ sum_by f xs + sum_by f ys
   sum_by-all_put f xs [] = omega arith
   sum_by-all_put f xs (y ∷ ys) = omega (arith, sum_by-all_put f (put R y xs) ys, sum_by-insert f xs (position_or_len (λ z. is_gt (R z y)) xs) y, sum_by-cons f y ys)
 

@@ -1,5 +1,5 @@
 -- Lists in a total order: where an element goes, and whether it has an equal.
-use Rattle.std.proofs.Common.{◌≡◌, ℕ, ◌+◌, ◌-◌, ◌<◌, ◌≤◌, Bool, true, false, not, ◌&&◌, List, [], ◌∷◌, length, length-take, take, get_or, ◌||◌, refl, sym, ◌∙◌, ap, subst, arith, inl, inr}
+use Rattle.std.proofs.Common.{◌≡◌, ℕ, ◌+◌, ◌-◌, ◌<◌, ◌≤◌, Bool, true, false, not, ◌&&◌, List, [], ◌∷◌, length, length-take, take, get_or, ◌||◌, ◌++◌, drop, refl, sym, ◌∙◌, ap, subst, arith, inl, inr}
 use Rattle.std.specs.declared.cmp.Ordering.{Ordering}
 use Rattle.std.specs.declared.cmp.Ordering.TheVariants.{Less, Equal, Greater}
 use Rattle.std.specs.Ordering.{is_gt, is_eq, ordering_reverse}
@@ -7,7 +7,7 @@ use Rattle.std.specs.Cmp.{IsTotalOrder, Equal-is, upto, tied_itself, tied_back}
 use Rattle.std.specs.List.{All, AllPairs, insert, list_any, position_or_len}
 use Rattle.std.specs.List.Sorted.{IsPartitionedBy, IsPartitionPoint}
 use Rattle.std.proofs.lemmas.Bool.{false≢true, cases_lt, cases_eq, not-true, not-false}
-use Rattle.std.proofs.lemmas.List.{get_or_default, get_or-take}
+use Rattle.std.proofs.lemmas.List.{get_or_default, get_or-take, take_all, drop_all}
 use Rattle.std.proofs.lemmas.List.Sums.{position_or_len_is, fails_before_first, passes_at_first, prefix_len-le-length}
 use Rattle.std.proofs.lemmas.List.Edits.{length-insert, get_or-insert_below, get_or-insert_at, get_or-insert_above}
 use Rattle.std.proofs.lemmas.List.Folds.{list_any_none, list_any_at}
@@ -51,6 +51,9 @@ module _ {X : Type 0} (xs : List X) (i : ℕ) (x : X) (within : i ≤ length xs)
           | inr other ↦ subst P (sym (past_place k d (omega arith))) (all (k - 1) d (omega (arith, length-insert xs i x within)))
         ]
       ]
+
+at_end : {X : Type 0} (xs : List X) (x : X) → insert xs (length xs) x ≡ xs ++ x ∷ []
+at_end xs x = ap (λ ys. ys ++ x ∷ drop (length xs) xs) (take_all (length xs) xs (omega arith)) ∙ ap (λ ys. xs ++ x ∷ ys) (drop_all (length xs) xs (omega arith))
 
 module _ {X : Type 0} {R : X → X → Ordering} (o : IsTotalOrder R) where
   turned : (r : Ordering) → is_gt r ≡ true → is_gt (ordering_reverse r) ≡ false
@@ -147,6 +150,19 @@ module _ {X : Type 0} {R : X → X → Ordering} (o : IsTotalOrder R) where
         not_so : (b : Bool) → (b ≡ true → ⊥) → b ≡ false
         not_so true h = absurd (h refl)
         not_so false h = refl
+
+    -- where x is above the last, it goes behind all
+    pub put_behind : (d : X) → 0 < length xs → is_gt (R x (get_or xs (length xs - 1) d)) ≡ true → insert xs (position_or_len (λ y. is_gt (R y x)) xs) x ≡ xs ++ x ∷ []
+    put_behind d some above =
+        let place : length xs ≡ position_or_len (λ y. is_gt (R y x)) xs = place_at_end d some (below_greater (get_or xs (length xs - 1) d) x above) in
+        ap (λ n. insert xs n x) (sym place) ∙ at_end xs x
+
+    -- and no element is its equal
+    pub none_above : (d : X) → 0 < length xs → is_gt (R x (get_or xs (length xs - 1) d)) ≡ true → list_any (λ y. is_eq (R x y)) xs ≡ false
+    none_above d some above =
+        let last : X = get_or xs (length xs - 1) d in
+        let place : length xs ≡ position_or_len (λ y. is_gt (R y x)) xs = place_at_end d some (below_greater last x above) in
+        sym (tied_before d false (omega arith) (ap (λ n. is_eq (R (get_or xs (n - 1) d) x)) (sym place) ∙ greater_not_tied last x above))
 
     pub none_tied : position_or_len (λ y. is_gt (R y x)) xs ≡ 0 → false ≡ list_any (λ y. is_eq (R x y)) xs
     none_tied first = sym (list_any_none (λ y. is_eq (R x y)) xs (λ k d far. greater_not_tied x (get_or xs k d) (is_above k d (omega arith) far)))

@@ -94,10 +94,10 @@ module _ {X : Type 0} (R : X → X → Ordering) where
         ap (λ ws. all_put ws ds) (put_comm r d zs (All-head (λ d. is_gt (R d r) ≡ true) d ds all))
         ∙ all_above r ds (put d zs) (All-tail (λ d. is_gt (R d r) ≡ true) d ds all)
 
-    Up-tail : (y : X) (ys : List X) → Up (y ∷ ys) → Up ys
+    pub Up-tail : (y : X) (ys : List X) → Up (y ∷ ys) → Up ys
     Up-tail y ys up i j d less far = up (suc i) (suc j) d (omega arith) (omega arith)
 
-    Up-head : (y : X) (ys : List X) → Up (y ∷ ys) → All (λ z. is_gt (R y z) ≡ false) ys
+    pub Up-head : (y : X) (ys : List X) → Up (y ∷ ys) → All (λ z. is_gt (R y z) ≡ false) ys
     Up-head y ys up k d far = up 0 (suc k) d (omega arith) (omega arith)
 
     above_first : (r y : X) (ys : List X) → is_gt (R y r) ≡ true → Up (y ∷ ys) → All (λ d. is_gt (R d r) ≡ true) (y ∷ ys)

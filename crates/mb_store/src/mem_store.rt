@@ -75,8 +75,7 @@ impl MemStore {
         ensures faults { faults_of self.new ≡ faults_of self.old }
         ensures steady { IsSteady self.new ↔ IsSteady self.old }
     {
-        let keyed = described::is_keyed(self.descriptions.as_slice(), table);
-        mem_tables::push(&mut self.tables, table, keyed, row)
+        mem_tables::push(&mut self.tables, table, self.descriptions.as_slice(), row)
     }
 
     /// Brings the rows that were pushed into one list a table, so that `table_rows` can give them. What the store tells stays, also where

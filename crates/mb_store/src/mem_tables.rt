@@ -3,14 +3,14 @@ ghost use Rattle.std.specs.Prelude.{◌≡◌, ◌-◌, ◌^◌, ◌<◌, length
 ghost use Rattle.std.specs.List.{list_any};
 ghost use Rattle.mb_store.specs.declared.table.TableName.{TableName};
 ghost use Rattle.mb_store.specs.ByTable.{at};
-ghost use Rattle.mb_store.specs.Store.{clash, placed, with_rows};
+ghost use Rattle.mb_store.specs.Store.{clash, is_keyed, placed, with_rows};
 ghost use Rattle.mb_store.specs.MemTables.{AreOneList, rows_at};
 ghost use Rattle.mb_store.specs.TableRows.{AreOrdered};
 ghost use Rattle.mb_store.specs.Sizes.{all_tables, row_size};
 
 use crate::by_table::ByTable;
 use crate::table_rows::TableRows;
-use crate::{MbtError, MbtResult, Row, TableName, table_rows};
+use crate::{MbtError, MbtResult, Row, TableDesc, TableName, table_rows};
 use std::alloc::Global;
 use tile_ids::OutOfMemory;
 
@@ -34,21 +34,41 @@ pub(crate) fn no_rows(alloc: Global) -> MemTables
     }
 }
 
-// Adds a row at its place, or refuses it where the table is keyed and has its key. Refused, it leaves the rows.
-pub(crate) fn push(tables: &mut MemTables, table: TableName, keyed: bool, row: Row) -> MbtResult<()>
+// Adds a row at its place, or refuses it where the table is described as keyed and has its key. Refused, it leaves the rows.
+pub(crate) fn push(
+    tables: &mut MemTables,
+    table: TableName,
+    descriptions: &[TableDesc],
+    row: Row,
+) -> MbtResult<()>
     requires { AreOrdered table (at tables.old table) }
-    ensures duplicate { IsErrOf result (MbtError.DuplicateRow table) ↔ ((keyed && list_any (clash table row) (rows_at tables.old table)) ≡ true) }
+    ensures duplicate { IsErrOf result (MbtError.DuplicateRow table) ↔ ((is_keyed descriptions.now table && list_any (clash table row) (rows_at tables.old table)) ≡ true) }
     ensures errors { IfErr result (λ e. (e ≡ MbtError.DuplicateRow table) ⊎ (e ≡ MbtError.OutOfMemory)) }
     ensures ok { OnOk result ((other : TableName) → rows_at tables.new other ≡ with_rows (rows_at tables.old) table (placed table row (rows_at tables.old table)) other) }
     ensures err { OnErr result ((other : TableName) → rows_at tables.new other ≡ rows_at tables.old other) }
     ensures order { ((other : TableName) → AreOrdered other (at tables.old other)) → (other : TableName) → AreOrdered other (at tables.new other) }
     ensures count { OnOk result (length (rows_at tables.new table) < 2 ^ 64) }
 {
-    let nothing = TableRows::none(*tables.tiles.base.allocator());
-    let mut rows = tables.replace(table, nothing);
-    let answer = table_rows::push(table, keyed, row, &mut rows);
-    tables.replace(table, rows);
-    answer
+    match table {
+        TableName::Tiles => table_rows::push(table, descriptions, row, &mut tables.tiles),
+        TableName::TilesWithHash => table_rows::push(
+            table,
+            descriptions,
+            row,
+            &mut tables.tiles_with_hash,
+        ),
+        TableName::Map => table_rows::push(table, descriptions, row, &mut tables.map),
+        TableName::Images => table_rows::push(table, descriptions, row, &mut tables.images),
+        TableName::TilesShallow => table_rows::push(
+            table,
+            descriptions,
+            row,
+            &mut tables.tiles_shallow,
+        ),
+        TableName::TilesData => table_rows::push(table, descriptions, row, &mut tables.tiles_data),
+        TableName::TileCache => table_rows::push(table, descriptions, row, &mut tables.tile_cache),
+        TableName::Metadata => table_rows::push(table, descriptions, row, &mut tables.metadata),
+    }
 }
 
 // Brings the rows of each table into one list. Where memory is wanting, they may stay in several.

@@ -1,5 +1,5 @@
 // Where rows stand in the order of their keys.
-ghost use Rattle.std.specs.Prelude.{◌≡◌, OnOk, OnErr};
+ghost use Rattle.std.specs.Prelude.{◌≡◌, ◌++◌, ◌∷◌, [], false, IsTrue, OnOk, OnErr};
 ghost use Rattle.std.specs.List.{list_any};
 ghost use Rattle.std.specs.Ordering.{is_eq, is_gt};
 ghost use Rattle.mb_store.specs.Cells.{is_null};
@@ -29,6 +29,18 @@ pub(crate) fn is_above(table: TableName, row: &[Cell], other: &[Cell]) -> bool
     ensures { result ≡ is_gt (row_cmp table row.now other.now) }
 {
     compare(table, row, other).is_gt()
+}
+
+// Whether a row has a greater key than each of these.
+pub(crate) fn is_above_all(table: TableName, row: &[Cell], rows: &[Row]) -> bool
+    requires { IsInOrder table rows.now }
+    ensures behind { IsTrue result → placed table row.now rows.now ≡ rows.now ++ row.now ∷ [] }
+    ensures new { IsTrue result → list_any (clash table row.now) rows.now ≡ false }
+{
+    match rows {
+        [.., last] => is_above(table, row, last.cells()),
+        [] => true,
+    }
 }
 
 // Where a row goes: before the first row of a greater key. A row that isn't below the last takes one comparison.

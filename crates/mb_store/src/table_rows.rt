@@ -4,16 +4,17 @@
 // is merged into the one before it, as long as that has at most eight times as many rows. So the lists get at least eight times shorter from
 // each to the next, but for the last; a row is moved to a longer list at most as often as the number of rows can be divided by eight; and
 // such a move takes at most nine other moves with it. In whatever order n rows come, they take n log n moves, and each log n searches.
-ghost use Rattle.std.specs.Prelude.{◌≡◌, ◌+◌, ◌-◌, ◌^◌, ◌<◌, ◌≤◌, ◌↔◌, ◌⊎◌, ◌&&◌, [], true, All, min, sum_by, length, vec_len, vec_capacity, IfErr, IsErrOf, IsTrue, OnErr, OnOk};
+ghost use Rattle.std.specs.Prelude.{◌≡◌, ◌+◌, ◌-◌, ◌^◌, ◌<◌, ◌≤◌, ◌↔◌, ◌⊎◌, ◌&&◌, ◌++◌, ◌∷◌, [], true, false, All, min, sum_by, length, vec_len, vec_capacity, IfErr, IsErrOf, IsTrue, OnErr, OnOk};
 ghost use Rattle.std.specs.List.{list_any};
 ghost use Rattle.mb_store.specs.Sizes.{row_size};
-ghost use Rattle.mb_store.specs.Store.{IsInOrder, clash, placed};
+ghost use Rattle.mb_store.specs.Store.{IsInOrder, clash, is_keyed, placed};
 ghost use Rattle.mb_store.specs.TableRows.{AreOrdered, IsOneList, all_placed, rows_in};
 ghost use Rattle.mb_store.specs.declared.table.TableName.{TableName};
 
+use crate::described::is_keyed;
 use crate::merging::merge;
-use crate::placing::{has_clash, insert, is_above};
-use crate::{Cell, MbtError, MbtResult, Row, TableName, reading};
+use crate::placing::{has_clash, insert, is_above, is_above_all};
+use crate::{Cell, MbtError, MbtResult, Row, TableDesc, TableName, reading};
 use std::alloc::Global;
 use tile_ids::OutOfMemory;
 
@@ -227,7 +228,7 @@ fn add(table: TableName, row: Row, rows: &mut TableRows) -> Result<(), OutOfMemo
 }
 
 // Adds a row at its place, or refuses it where the table is keyed and has its key. Refused, it leaves the rows.
-pub(crate) fn push(table: TableName, keyed: bool, row: Row, rows: &mut TableRows) -> MbtResult<()>
+fn push_among(table: TableName, keyed: bool, row: Row, rows: &mut TableRows) -> MbtResult<()>
     requires { AreOrdered table rows.old }
     ensures duplicate { IsErrOf result (MbtError.DuplicateRow table) ↔ ((keyed && list_any (clash table row) (rows_in table rows.old)) ≡ true) }
     ensures errors { IfErr result (λ e. (e ≡ MbtError.DuplicateRow table) ⊎ (e ≡ MbtError.OutOfMemory)) }
@@ -244,4 +245,37 @@ pub(crate) fn push(table: TableName, keyed: bool, row: Row, rows: &mut TableRows
     }
     add(table, row, rows)?;
     Ok(())
+}
+
+// Whether rows are in one list, and this row has a greater key than each of them.
+fn is_last(table: TableName, row: &[Cell], rows: &TableRows) -> bool
+    requires { AreOrdered table rows.now }
+    ensures one { IsTrue result → IsOneList rows.now }
+    ensures behind { IsTrue result → placed table row.now rows.now.base.items ≡ rows.now.base.items ++ row.now ∷ [] }
+    ensures new { IsTrue result → list_any (clash table row.now) rows.now.base.items ≡ false }
+{
+    rows.newer.is_empty() && is_above_all(table, row, rows.base.as_slice())
+}
+
+// Adds a row at its place, or refuses it where the table is described as keyed and has its key. Refused, it leaves the rows. A row with a
+// greater key than all others takes one comparison where they are in one list.
+pub(crate) fn push(
+    table: TableName,
+    descriptions: &[TableDesc],
+    row: Row,
+    rows: &mut TableRows,
+) -> MbtResult<()>
+    requires { AreOrdered table rows.old }
+    ensures duplicate { IsErrOf result (MbtError.DuplicateRow table) ↔ ((is_keyed descriptions.now table && list_any (clash table row) (rows_in table rows.old)) ≡ true) }
+    ensures errors { IfErr result (λ e. (e ≡ MbtError.DuplicateRow table) ⊎ (e ≡ MbtError.OutOfMemory)) }
+    ensures ok { OnOk result (rows_in table rows.new ≡ placed table row (rows_in table rows.old)) }
+    ensures err { OnErr result (rows_in table rows.new ≡ rows_in table rows.old) }
+    ensures order { AreOrdered table rows.new }
+    ensures count { OnOk result (length (rows_in table rows.new) < 2 ^ 64) }
+{
+    if is_last(table, row.cells(), rows) {
+        rows.base.push(row)?;
+        return Ok(());
+    }
+    push_among(table, is_keyed(descriptions, table), row, rows)
 }

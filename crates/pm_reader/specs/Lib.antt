@@ -11,6 +11,7 @@ pub mod Queue
 pub mod Reads
 pub mod ReadsFrom
 pub mod Tied
+pub mod TileJson
 pub mod Versions
 pub mod Walk
 pub mod WalkSteps

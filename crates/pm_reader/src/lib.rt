@@ -13,6 +13,7 @@ mod reader;
 mod state;
 #[cfg(test)]
 mod tests;
+mod tilejson;
 mod tiles;
 mod versions;
 mod walk;

@@ -5,6 +5,7 @@ mod caches;
 mod callers;
 mod counted;
 mod cycle;
+mod documents;
 mod large;
 
 use super::*;
@@ -13,6 +14,7 @@ use pm_format::{Compression, MemMedium, PmtError, PmtResult, ReadCause};
 use std::alloc::{AllocError, Global};
 use std::test::Fail;
 use tile_ids::{TextVal, TileId};
+use tile_json::TileJson;
 
 // The first 132 bytes of an archive that has the byte 30 for the tile 0/0/0 alone: a header of 127 bytes, and the root.
 const ONE_TILE: [u8; 132] = [
@@ -110,6 +112,35 @@ fn is_one_tile(given: &Given) -> bool {
         && given.errors == 0
 }
 
+// What the archive of a medium says of itself, over one source and with this cache.
+fn document_with<C: DirectoryCache + Drop>(
+    alloc: Global,
+    medium: &mut MemMedium,
+    cache: C,
+) -> PmtResult<TileJson>
+    requires { (o : ℕ) → C.held cache o ≡ None }
+{
+    let mut reader = PmTilesReader::try_from_cached_source(alloc, medium, cache)?;
+    reader.parse_tilejson(one_source(alloc)?)
+}
+
+// One source of tiles.
+fn one_source(alloc: Global) -> Result<Vec<TextVal>, AllocError> {
+    let mut sources = Vec::new(alloc);
+    sources.push(TextVal::new(String::from_str(alloc, "u")?))?;
+    Ok(sources)
+}
+
+// Whether this is what the archive of one tile says of itself.
+fn is_of_one_tile(document: &TileJson) -> bool {
+    match document.tiles.as_slice() {
+        [source] => {
+            source.as_str() == "u" && document.minzoom == Some(0) && document.maxzoom == Some(22)
+        }
+        _ => false,
+    }
+}
+
 #[test]
 fn reader_on_one_tile(rt: HostRuntime) -> Result<(), Fail> {
     let alloc = rt.alloc();
@@ -120,6 +151,12 @@ fn reader_on_one_tile(rt: HostRuntime) -> Result<(), Fail> {
     assert!(rt; is_one_tile(&mapped), "with a map");
     let recent = all_answers(alloc, &mut medium, LruDirCache::new(alloc, 1)?, 1)?;
     assert!(rt; is_one_tile(&recent), "with the directories used last");
+    let plain = document_with(alloc, &mut medium, NoCache)?;
+    assert!(rt; is_of_one_tile(&plain), "without a cache");
+    let mapped = document_with(alloc, &mut medium, HashMapCache::new(alloc))?;
+    assert!(rt; is_of_one_tile(&mapped), "with a map");
+    let recent = document_with(alloc, &mut medium, LruDirCache::new(alloc, 1)?)?;
+    assert!(rt; is_of_one_tile(&recent), "with the directories used last");
     Ok(())
 }
 

@@ -1,5 +1,6 @@
 -- A medium with one more content behind the others.
-use Rattle.std.proofs.Common.{◌≡◌, ℕ, ◌+◌, ◌<◌, ◌^◌, Bool, Result, Ok, Err, true, false, List, [], ◌∷◌, ◌++◌, length, take, flat_map, Option, Some, IfSome, refl, sym, ◌∙◌, ap, arith, subst, append_assoc, append-nil, length-append}
+use Rattle.std.proofs.Common.{◌≡◌, ℕ, ◌+◌, ◌<◌, ◌≤◌, ◌^◌, Bool, Result, Ok, Err, true, false, List, [], ◌∷◌, ◌++◌, length, take, flat_map, Option, Some, None, IfSome, is_some, refl, sym, ◌∙◌, ap, arith, subst, append_assoc, append-nil, length-append}
+use Rattle.std.specs.Bool.{Decides}
 use Rattle.pm_format.specs.Media.{IsWithin, written}
 use Rattle.pm_format.specs.Options.{Options}
 use Rattle.pm_format.specs.declared.compression.Compression.{Compression}
@@ -11,7 +12,7 @@ use Rattle.pm_writer.specs.Adds.{contents_from}
 use Rattle.pm_writer.specs.Contents.{IsNew, found_in}
 use Rattle.pm_writer.specs.Means.{Means}
 use Rattle.pm_writer.specs.Pieces.{BothTold, IsHidden, WroteFront}
-use Rattle.pm_writer.specs.Writing.{EndFits, FilledFits, Writes, begun, data_end, data_of, has_failed, zeros}
+use Rattle.pm_writer.specs.Writing.{EndFits, FilledFits, IsStateOf, Writes, begun, data_end, data_of, has_failed, zeros}
 use Rattle.pm_writer.specs.declared.adds.Adds.{Adds}
 use Rattle.pm_writer.specs.declared.state.WriterState.{WriterState}
 use Rattle.pm_writer.proofs.Beginning.{begun_is_hidden, if_some_map, zeros_length}
@@ -116,3 +117,32 @@ causes_by label failed p q before now (Err errors.IndexEntryOverflow) f g h = (h
 causes_by label failed p q before now (Err (errors.Reading causes.Fault)) f g h = (h.0, h.1, f h.2, h.3)
 causes_by label failed p q before now (Err errors.OutOfMemory) f g h = (h.0, h.1, f h.2)
 causes_by label failed p q before now (Err _) f g h = absurd h
+
+-- the data ends at most where new bytes would end
+pub ends_by : (o : Options) (adds : List (ℕ × List ℕ)) (id : ℕ) (bytes : List ℕ) → data_end o (adds ++ (id, bytes) ∷ []) ≤ data_end o adds + length bytes
+ends_by o adds id bytes = go (found_in (contents_from [] adds) bytes) refl
+  where
+    go : (p : Option ℕ) → found_in (contents_from [] adds) bytes ≡ p → data_end o (adds ++ (id, bytes) ∷ []) ≤ data_end o adds + length bytes
+    go None e = omega (arith, ap length (data_new adds id bytes e), length-append (data_of adds) bytes)
+    go (Some p) e = omega (arith, ap length (data_known adds id p bytes e))
+
+-- the code's end of the contents
+pub end_is : (o : Options) (s : WriterState) (adds : List (ℕ × List ℕ)) → IsStateOf o s adds → s.data_offset + s.adds.contents.total ≡ data_end o adds
+end_is o s adds i = omega (arith, i.of.place, i.means.contents.total)
+
+-- bytes fit where new ones would end within u64
+pub fits_by_end : (o : Options) (s : WriterState) (adds : List (ℕ × List ℕ)) (id : ℕ) (bytes : List ℕ) → IsStateOf o s adds → length bytes < 2 ^ 32 → s.data_offset + s.adds.contents.total + length bytes < 2 ^ 64
+    → FilledFits o adds id bytes
+fits_by_end o s adds id bytes i z e = (z, let at = end_is o s adds i in let by = ends_by o adds id bytes in omega (arith, at, by, e))
+
+-- and else exactly where they are known
+pub fits_by_known : (o : Options) (s : WriterState) (adds : List (ℕ × List ℕ)) (id : ℕ) (bytes : List ℕ) (known : Bool) → IsStateOf o s adds → length bytes < 2 ^ 32 → 2 ^ 64 ≤ s.data_offset + s.adds.contents.total + length bytes
+    → known ≡ is_some (found_in (contents_from [] adds) bytes) → Decides known (FilledFits o adds id bytes)
+fits_by_known o s adds id bytes known i z e k = go (found_in (contents_from [] adds) bytes) refl
+  where
+    at : s.data_offset + s.adds.contents.total ≡ data_end o adds
+    at = end_is o s adds i
+
+    go : (p : Option ℕ) → found_in (contents_from [] adds) bytes ≡ p → Decides known (FilledFits o adds id bytes)
+    go None f = (λ t. absurd (let n : known ≡ false = k ∙ ap is_some f in cc), λ q. absurd (let n = new_ends o adds id bytes f q in omega (arith, n, at, e)))
+    go (Some p) f = (λ t. (z, let same = ap length (data_known adds id p bytes f) in let ends = i.ends in omega (arith, same, ends)), λ q. k ∙ ap is_some f)

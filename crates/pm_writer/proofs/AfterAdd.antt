@@ -1,16 +1,17 @@
 -- The state after an add.
-use Rattle.std.proofs.Common.{◌≡◌, ℕ, ◌+◌, ◌<◌, ◌≤◌, ◌^◌, ◌&&◌, Bool, true, false, List, [], ◌∷◌, ◌++◌, length, flat_map, nat_lt, Some, refl, sym, ◌∙◌, ap, arith, Vec, Global}
+use Rattle.std.proofs.Common.{◌≡◌, ℕ, ◌<◌, ◌≤◌, ◌^◌, ◌&&◌, Bool, true, false, List, [], ◌∷◌, ◌++◌, length, flat_map, nat_lt, Some, refl, sym, ◌∙◌, ap, arith, Vec, Global}
 use Rattle.tile_ids.specs.declared.id.TheConstants.{MAX_TILE_ID}
 use Rattle.pm_format.specs.Directory.{Entry}
 use Rattle.pm_writer.specs.Adds.{contents_from, place_in, unsorted, longest_run}
 use Rattle.pm_writer.specs.Archive.{ids_of, rising}
 use Rattle.pm_writer.specs.Bounds.{AddsFilled, AllLow, AllSized}
-use Rattle.pm_writer.specs.Contents.{found_in}
+use Rattle.pm_writer.specs.Contents.{Holds, IsNew, found_in}
 use Rattle.pm_writer.specs.Growing.{put}
-use Rattle.pm_writer.specs.Means.{HasEntries, IsReady, Means, is_above, last_of}
+use Rattle.pm_writer.specs.Means.{HasEntries, Means, is_above, last_of}
 use Rattle.pm_writer.specs.declared.adds.Adds.{Adds}
+use Rattle.pm_writer.specs.declared.contents.Contents.{Contents}
 use Rattle.pm_writer.proofs.ContentLemmas.{add_known, add_new}
-use Rattle.pm_writer.proofs.ContentPlaces.{found_is, new_is, total_push}
+use Rattle.pm_writer.proofs.ContentPlaces.{found_is, new_is}
 
 filled_more : (adds : List (ℕ × List ℕ)) (a : ℕ × List ℕ) → AddsFilled adds → 0 < length a.1 → AddsFilled (adds ++ a ∷ [])
 filled_more [] a f h = (h, tt)
@@ -64,13 +65,14 @@ known_after adds s es rises id place size bytes m f some z fits low e r =
       rest = rest_after adds s (record s { entries = es; last = Some id; rises = rises }) id bytes m.rest (e ∙ (rw (at.1, z, m.rest.entries) (sym k.1))) refl r some low (omega (arith, z, fits));
     }
 
-pub new_after : (adds : List (ℕ × List ℕ)) (s : Adds) (es : Vec Entry Global) (rises : Bool) (id place size : ℕ) (bytes : List ℕ) → IsReady s adds bytes → place + size ≡ s.contents.total
+pub new_after : (adds : List (ℕ × List ℕ)) (s : Adds) (more : Contents) (es : Vec Entry Global) (rises : Bool) (id place size : ℕ) (bytes : List ℕ) → Means s adds → IsNew (contents_from [] adds) bytes
+    → Holds more (contents_from [] adds ++ bytes ∷ []) → place ≡ s.contents.total
     → 0 < length bytes → size ≡ length bytes → size < 2 ^ 32 → id ≤ MAX_TILE_ID → es.items ≡ put longest_run id place size s.entries.items → rises ≡ (s.rises && is_above s.last id)
-    → Means (record s { entries = es; last = Some id; rises = rises }) (adds ++ (id, bytes) ∷ [])
-new_after adds s es rises id place size bytes m p some z fits low e r =
-    let k = add_new adds (id, bytes) m.rest.filled some (new_is bytes (contents_from [] adds) m.new) in
-    let at : place ≡ length (flat_map (λ c. c) (contents_from [] adds)) = omega (arith, p, z, m.contents.total, total_push (contents_from [] adds) bytes) in
+    → Means (record { contents = more; entries = es; last = Some id; rises = rises }) (adds ++ (id, bytes) ∷ [])
+new_after adds s more es rises id place size bytes m new h p some z fits low e r =
+    let k = add_new adds (id, bytes) m.rest.filled some (new_is bytes (contents_from [] adds) new) in
+    let at : place ≡ length (flat_map (λ c. c) (contents_from [] adds)) = p ∙ m.contents.total in
     record {
-      contents = rw (k.0) m.contents;
-      rest = rest_after adds s (record s { entries = es; last = Some id; rises = rises }) id bytes m.rest (e ∙ (rw (at, z, m.rest.entries) (sym k.1))) refl r some low (omega (arith, z, fits));
+      contents = rw (k.0) h;
+      rest = rest_after adds s (record { contents = more; entries = es; last = Some id; rises = rises }) id bytes m.rest (e ∙ (rw (at, z, m.rest.entries) (sym k.1))) refl r some low (omega (arith, z, fits));
     }

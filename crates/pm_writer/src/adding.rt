@@ -1,5 +1,6 @@
 // Adds to an archive that is begun.
 ghost use Rattle.std.specs.Prelude.{◌≡◌, ◌≤◌, ◌<◌, ◌+◌, ◌^◌, ℕ, List, [], ◌∷◌, ◌++◌, false, length, OnOk, OnErr, is_some};
+ghost use Rattle.std.specs.Bool.{Decides};
 ghost use Rattle.tile_ids.specs.declared.id.TheConstants.{MAX_TILE_ID};
 ghost use Rattle.tile_ids.specs.Hilbert.{id_of};
 ghost use Rattle.pm_format.specs.Options.{Options};
@@ -7,32 +8,46 @@ ghost use Rattle.pm_format.specs.declared.compression.Compression.TheVariants as
 ghost use Rattle.pm_writer.specs.Adds.{contents_from};
 ghost use Rattle.pm_writer.specs.Causes.{AddCauses, failed_after};
 ghost use Rattle.pm_writer.specs.Contents.{IsNew};
-ghost use Rattle.pm_writer.specs.Writing.{AddFits, EndFits, FilledFits, Writes, add_to, has_failed};
+ghost use Rattle.pm_writer.specs.Writing.{AddFits, EndFits, FilledFits, IsStateOf, Writes, add_to, has_failed};
 
 use crate::WriterState;
+use crate::content::Content;
 use pm_format::{Compression, Medium, PmtError, PmtResult, ReadCause, WriteFault};
 use tile_ids::{OutOfMemory, TileCoord, TileId};
 
 impl WriterState {
-    // Adds bytes that the contents don't have. Memory is taken first, so that after `OutOfMemory` the writer means what it did.
+    // Whether bytes can be added: new ones don't end past u64. It takes no memory, and goes through the contents only where new bytes would end past u64.
+    fn fits(&self, bytes: &[u8], size: u32) -> bool
+        requires ends { self.now.data_offset + self.now.adds.contents.total < 2 ^ 64 }
+        requires size { size ≡ length bytes.now }
+        ensures { (o : Options) (adds : List (ℕ × List ℕ)) (id : ℕ) → IsStateOf o self.now adds → Decides result (FilledFits o adds id bytes.now) }
+    {
+        let end = self.data_offset + self.adds.total();
+        if u64::from(size) <= u64::MAX - end {
+            return true;
+        }
+        self.adds.has(bytes)
+    }
+
+    // Adds a content that is new and fits. Memory is taken first, so that after `OutOfMemory` the writer means what it did.
     fn add_new<M: Medium>(
         &mut self,
         medium: &mut M,
         id: u64,
-        bytes: &[u8],
+        content: Content,
         size: u32,
     ) -> PmtResult<()>
         requires alive { has_failed self.old ≡ false }
         requires id { id ≤ MAX_TILE_ID }
-        requires some { 0 < length bytes.now }
-        requires size { size ≡ length bytes.now }
+        requires some { 0 < length content }
+        requires size { size ≡ length content }
         requires writes { (o : Options) × (adds : List (ℕ × List ℕ)) × Writes o (M.told medium.old) self.old adds }
-        ensures added { (o : Options) (adds : List (ℕ × List ℕ)) → Writes o (M.told medium.old) self.old adds → IsNew (contents_from [] adds) bytes.now
-            → OnOk result (Writes o (M.told medium.new) self.new (adds ++ (id, bytes.now) ∷ [])) }
-        ensures kept { (o : Options) (adds : List (ℕ × List ℕ)) → Writes o (M.told medium.old) self.old adds → IsNew (contents_from [] adds) bytes.now
-            → OnErr result (Writes o (M.told medium.new) self.new adds) }
+        requires ends { self.old.data_offset + self.old.adds.contents.total + length content < 2 ^ 64 }
+        ensures added { (o : Options) (adds : List (ℕ × List ℕ)) → Writes o (M.told medium.old) self.old adds → IsNew (contents_from [] adds) content
+            → OnOk result (Writes o (M.told medium.new) self.new (adds ++ (id, content) ∷ [])) }
+        ensures kept { (o : Options) (adds : List (ℕ × List ℕ)) → Writes o (M.told medium.old) self.old adds → OnErr result (Writes o (M.told medium.new) self.new adds) }
         ensures causes { (o : Options) (adds : List (ℕ × List ℕ)) → Writes o (M.told medium.old) self.old adds
-            → AddCauses compression.None false (EndFits o adds bytes.now) (M.faults medium.old) (M.faults medium.new) result }
+            → AddCauses compression.None false (EndFits o adds content) (M.faults medium.old) (M.faults medium.new) result }
         ensures failed { has_failed self.new ≡ failed_after false result }
         ensures tells { is_some (M.told medium.new) ≡ is_some (M.told medium.old) }
         ensures versions { is_some (M.versions medium.new) ≡ is_some (M.versions medium.old) }
@@ -40,23 +55,19 @@ impl WriterState {
         ensures reads { M.reads medium.new ≡ M.reads medium.old }
         ensures calm { M.steady medium.old → M.steady medium.new × (M.faults medium.new ≡ M.faults medium.old) }
     {
-        let place = self.adds.total();
-        let at = self.data_offset + place;
-        if u64::MAX - at < u64::from(size) {
-            return Err(PmtError::IndexEntryOverflow);
-        }
-        let alloc = self.alloc;
-        self.adds.get_ready(alloc, bytes)?;
-        match medium.write_at(at, bytes) {
+        self.adds.get_ready()?;
+        let at = self.data_offset + self.adds.total();
+        match medium.write_at(at, content.as_bytes()) {
             Ok(()) => {
-                self.adds.add_ready(id, place, size);
+                self.adds.add_ready(id, content, size);
                 Ok(())
             }
             Err(WriteFault::OutOfMemory) => {
-                self.adds.give_up(bytes);
+                drop(content);
                 Err(PmtError::OutOfMemory)
             }
             Err(WriteFault::Fault) => {
+                drop(content);
                 self.failed = true;
                 Err(PmtError::Reading(ReadCause::Fault))
             }
@@ -83,12 +94,19 @@ impl WriterState {
         let Ok(size) = u32::try_from(bytes.len()) else {
             return Err(PmtError::IndexEntryOverflow);
         };
-        match self.adds.find(bytes) {
-            Some(place) => match self.adds.add_known(id, place, size) {
-                Ok(()) => Ok(()),
-                Err(OutOfMemory) => Err(PmtError::OutOfMemory),
-            },
-            None => self.add_new(medium, id, bytes, size),
+        if !self.fits(bytes, size) {
+            return Err(PmtError::IndexEntryOverflow);
+        }
+        let content = Content::new(self.alloc, bytes)?;
+        match self.adds.find(&content) {
+            Some(place) => {
+                drop(content);
+                match self.adds.add_known(id, place, size) {
+                    Ok(()) => Ok(()),
+                    Err(OutOfMemory) => Err(PmtError::OutOfMemory),
+                }
+            }
+            None => self.add_new(medium, id, content, size),
         }
     }
 

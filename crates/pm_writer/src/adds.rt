@@ -1,5 +1,5 @@
 // The adds so far: their contents once each, and their entries.
-ghost use Rattle.std.specs.Prelude.{◌≡◌, ◌<◌, ◌≤◌, ◌&&◌, ◌+◌, ◌^◌, ℕ, List, [], ◌∷◌, ◌++◌, length, Some, OnOk, OnErr, vec_len};
+ghost use Rattle.std.specs.Prelude.{◌≡◌, ◌<◌, ◌≤◌, ◌&&◌, ◌+◌, ◌^◌, ℕ, List, [], ◌∷◌, ◌++◌, length, Some, OnOk, OnErr, is_some, vec_len};
 ghost use Rattle.std.specs.Vec.{vec_capacity};
 ghost use Rattle.tile_ids.specs.declared.id.TheConstants.{MAX_TILE_ID};
 ghost use Rattle.pm_format.specs.Directory.{entry};
@@ -9,6 +9,7 @@ ghost use Rattle.pm_writer.specs.Contents.{IsNew, found_in};
 ghost use Rattle.pm_writer.specs.Growing.{grows, put};
 ghost use Rattle.pm_writer.specs.Means.{IsReady, Means, is_above};
 
+use crate::content::Content;
 use crate::contents::Contents;
 use pm_format::DirEntry;
 use std::alloc::{AllocError, Global};
@@ -77,11 +78,18 @@ impl Adds {
         }
     }
 
-    /// Where the contents have these bytes, where they do.
-    pub(crate) fn find(&self, bytes: &[u8]) -> Option<u64>
-        ensures { (adds : List (ℕ × List ℕ)) → Means self.now adds → result ≡ found_in (contents_from [] adds) bytes.now }
+    /// Where the contents have this one, where they do.
+    pub(crate) fn find(&self, content: &Content) -> Option<u64>
+        ensures { (adds : List (ℕ × List ℕ)) → Means self.now adds → result ≡ found_in (contents_from [] adds) content.now }
     {
-        self.contents.find(bytes)
+        self.contents.find(content)
+    }
+
+    /// Whether the contents have these bytes. It goes through all of them, and takes no memory.
+    pub(crate) fn has(&self, bytes: &[u8]) -> bool
+        ensures { (adds : List (ℕ × List ℕ)) → Means self.now adds → result ≡ is_some (found_in (contents_from [] adds) bytes.now) }
+    {
+        self.contents.has(bytes)
     }
 
     /// How many bytes the contents have together.
@@ -118,36 +126,29 @@ impl Adds {
         Ok(())
     }
 
-    /// Makes ready for new bytes: they are among the contents, and there is room for their entry. After `OutOfMemory` the adds are as before.
-    pub(crate) fn get_ready(&mut self, alloc: Global, bytes: &[u8]) -> Result<(), OutOfMemory>
-        requires { self.old.contents.total + length bytes.now < 2 ^ 64 }
-        ensures ready { (adds : List (ℕ × List ℕ)) → Means self.old adds → IsNew (contents_from [] adds) bytes.now → OnOk result (IsReady self.new adds bytes.now) }
-        ensures room { OnOk result (vec_len self.new.entries < vec_capacity self.new.entries) }
-        ensures total { OnOk result (self.new.contents.total ≡ self.old.contents.total + length bytes.now) }
-        ensures kept { (adds : List (ℕ × List ℕ)) → Means self.old adds → OnErr result (Means self.new adds) }
+    /// Makes room for one more content and its entry. After each answer the adds are as before.
+    pub(crate) fn get_ready(&mut self) -> Result<(), OutOfMemory>
+        ensures room { OnOk result (IsReady self.new) }
+        ensures total { self.new.contents.total ≡ self.old.contents.total }
+        ensures kept { (adds : List (ℕ × List ℕ)) → Means self.old adds → Means self.new adds }
     {
         self.entries.reserve(1)?;
-        self.contents.push(alloc, bytes)
+        self.contents.reserve()
     }
 
-    /// Takes the bytes away again that the adds were made ready for.
-    pub(crate) fn give_up(&mut self, bytes: &[u8])
-        requires { length bytes.now ≤ self.old.contents.total }
-        ensures { (adds : List (ℕ × List ℕ)) → IsReady self.old adds bytes.now → Means self.new adds }
-    {
-        self.contents.pop(bytes);
-    }
-
-    /// Adds the bytes that the adds were made ready for.
-    pub(crate) fn add_ready(&mut self, id: u64, place: u64, size: u32)
+    /// Adds a new content, for which there is room.
+    pub(crate) fn add_ready(&mut self, id: u64, content: Content, size: u32)
         requires id { id ≤ MAX_TILE_ID }
-        requires room { vec_len self.old.entries < vec_capacity self.old.entries }
-        ensures { (adds : List (ℕ × List ℕ)) (bytes : List ℕ) → IsReady self.old adds bytes → place + size ≡ self.old.contents.total → 0 < length bytes → size ≡ length bytes
-            → Means self.new (adds ++ (id, bytes) ∷ []) }
+        requires room { IsReady self.old }
+        requires fits { self.old.contents.total + length content < 2 ^ 64 }
+        ensures { (adds : List (ℕ × List ℕ)) → Means self.old adds → IsNew (contents_from [] adds) content → 0 < length content → size ≡ length content
+            → Means self.new (adds ++ (id, content) ∷ []) }
     {
+        let place = self.contents.total();
         let Ok(()) = put_entry(&mut self.entries, id, place, size) else {
             unreachable!()
         };
+        self.contents.push(content);
         self.rises = still_rises(self.rises, self.last, id);
         self.last = Some(id);
     }

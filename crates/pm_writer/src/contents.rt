@@ -1,15 +1,16 @@
 // The different contents so far, found by their bytes.
-ghost use Rattle.std.specs.Prelude.{◌≡◌, ◌<◌, ◌≤◌, ◌+◌, ◌^◌, ℕ, List, [], ◌∷◌, ◌++◌, length, OnOk, OnErr};
-ghost use Rattle.pm_writer.specs.Contents.{Holds, IsNew, found_in};
+ghost use Rattle.std.specs.Prelude.{◌≡◌, ◌<◌, ◌+◌, ◌^◌, ℕ, List, [], ◌∷◌, ◌++◌, length, OnOk, is_some};
+ghost use Rattle.pm_writer.specs.Contents.{HasRoom, Holds, IsNew, found_in};
 
+use crate::content::Content;
 use std::alloc::Global;
-use std::collections::BTreeMap;
+use std::collections::HashMap;
 use tile_ids::OutOfMemory;
 
 /// Where each different content begins, the contents lying one behind another in order of first add.
 #[derive(Drop)]
 pub(crate) struct Contents {
-    places: BTreeMap<Vec<u8>, u64>,
+    places: HashMap<Content, u64>,
     total: u64,
 }
 
@@ -19,16 +20,25 @@ impl Contents {
         ensures { Holds result [] }
     {
         Contents {
-            places: BTreeMap::new(alloc),
+            places: HashMap::new(alloc),
             total: 0,
         }
     }
 
-    /// Where these bytes begin, where they are among the contents.
-    pub(crate) fn find(&self, bytes: &[u8]) -> Option<u64>
-        ensures { (cs : List (List ℕ)) → Holds self.now cs → result ≡ found_in cs bytes.now }
+    /// Where this content begins, where it is among the contents.
+    pub(crate) fn find(&self, content: &Content) -> Option<u64>
+        ensures { (cs : List (List ℕ)) → Holds self.now cs → result ≡ found_in cs content.now }
     {
-        self.places.get(bytes).copied()
+        self.places.get(content).copied()
+    }
+
+    /// Whether these bytes are among the contents. It goes through all of them, and takes no memory.
+    pub(crate) fn has(&self, bytes: &[u8]) -> bool
+        ensures { (cs : List (List ℕ)) → Holds self.now cs → result ≡ is_some (found_in cs bytes.now) }
+    {
+        self.places
+            .keys()
+            .any(|content| bytes == content.as_bytes())
     }
 
     /// How many bytes they have together.
@@ -45,25 +55,27 @@ impl Contents {
         self.places.len() as u64
     }
 
-    /// Puts bytes that are none of the contents behind them. After `OutOfMemory` the contents are as before.
-    pub(crate) fn push(&mut self, alloc: Global, bytes: &[u8]) -> Result<(), OutOfMemory>
-        requires { self.old.total + length bytes.now < 2 ^ 64 }
-        ensures total { OnOk result (self.new.total ≡ self.old.total + length bytes.now) }
-        ensures ok { (cs : List (List ℕ)) → Holds self.old cs → IsNew cs bytes.now → OnOk result (Holds self.new (cs ++ bytes.now ∷ [])) }
-        ensures err { (cs : List (List ℕ)) → Holds self.old cs → OnErr result (Holds self.new cs) }
+    /// Makes room for one more content. After each answer the contents are as before.
+    pub(crate) fn reserve(&mut self) -> Result<(), OutOfMemory>
+        ensures kept { (cs : List (List ℕ)) → Holds self.old cs → Holds self.new cs }
+        ensures total { self.new.total ≡ self.old.total }
+        ensures room { OnOk result (HasRoom self.new) }
     {
-        let key = Vec::from_slice(alloc, bytes)?;
-        self.places.insert(key, self.total)?;
-        self.total += bytes.len() as u64;
+        self.places.reserve(1)?;
         Ok(())
     }
 
-    /// Takes the last bytes away again.
-    pub(crate) fn pop(&mut self, bytes: &[u8])
-        requires { length bytes.now ≤ self.old.total }
-        ensures { (cs : List (List ℕ)) → Holds self.old (cs ++ bytes.now ∷ []) → IsNew cs bytes.now → Holds self.new cs }
+    /// Puts bytes that are none of the contents behind them, where there is room.
+    pub(crate) fn push(&mut self, content: Content)
+        requires room { HasRoom self.old }
+        requires fits { self.old.total + length content < 2 ^ 64 }
+        ensures { (cs : List (List ℕ)) → Holds self.old cs → IsNew cs content → Holds self.new (cs ++ content ∷ []) }
     {
-        let _ = self.places.remove(bytes);
-        self.total -= bytes.len() as u64;
+        let bytes = content.as_bytes();
+        let end = self.total + bytes.len() as u64;
+        let Ok(_) = self.places.insert(content, self.total) else {
+            unreachable!()
+        };
+        self.total = end;
     }
 }

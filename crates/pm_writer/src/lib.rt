@@ -7,6 +7,7 @@ mod assembling;
 mod builder;
 #[cfg(test)]
 mod bulk_tests;
+mod content;
 mod contents;
 mod directories;
 #[cfg(test)]

@@ -3,12 +3,18 @@ ghost use Rattle.pm_format.specs.Options.{Options};
 ghost use Rattle.pm_writer.specs.Stream.{IsTied};
 
 use super::*;
+use crate::content::Content;
+use crate::contents::Contents;
 use pm_format::{Backend, Compression, Header, MemMedium, PmtError, PmtResult, TileType};
 use std::alloc::Global;
 use std::test::Fail;
 use tile_ids::{TextVal, TileCoord, TileId};
 
 type Tiles = &'static [(u64, &'static [u8])];
+
+const LONG: &[u8] = b"0123456789abcdefghij0123456789abcdefghij";
+
+const OTHER: &[u8] = b"0123456789abcdefghij_123456789abcdefghij";
 
 // Adds tiles by their ids, in this order.
 fn add_all(writer: &mut PmTilesStreamWriter<'_, MemMedium>, tiles: Tiles) -> PmtResult<()>
@@ -47,7 +53,7 @@ pub(crate) fn part(bytes: &[u8], at: usize, len: usize) -> &[u8] {
 fn archives_of_few_tiles(rt: HostRuntime) -> Result<(), Fail> {
     let alloc = rt.alloc();
     let options = PmTilesWriter::new(TileType::Unknown);
-    let rows: [(Tiles, &[u8], [u64; 4]); 6] = [
+    let rows: [(Tiles, &[u8], [u64; 4]); 7] = [
         // no tile
         (&[], &[0], [0, 0, 0, 16_386]),
         // one tile
@@ -63,6 +69,12 @@ fn archives_of_few_tiles(rt: HostRuntime) -> Result<(), Fail> {
             &[(1, b"0"), (0, b"0")],
             &[2, 0, 1, 1, 1, 1, 1, 1, 1],
             [2, 2, 1, 16_387],
+        ),
+        // contents of 40 bytes that differ in one, and the first of them again
+        (
+            &[(0, LONG), (1, OTHER), (2, LONG)],
+            &[3, 0, 1, 1, 1, 1, 1, 40, 40, 40, 1, 0, 1],
+            [3, 3, 2, 16_466],
         ),
     ];
     for (tiles, root, counts) in rows {
@@ -81,6 +93,18 @@ fn archives_of_few_tiles(rt: HostRuntime) -> Result<(), Fail> {
         assert_eq!(rt; bytes.len() as u64, places.length);
         assert_eq!(rt; root.len() as u64, places.root_length);
     }
+    Ok(())
+}
+
+#[test]
+fn contents_are_found(rt: HostRuntime) -> Result<(), Fail> {
+    let alloc = rt.alloc();
+    let mut contents = Contents::new(alloc);
+    contents.reserve()?;
+    contents.push(Content::new(alloc, LONG)?);
+    assert_eq!(rt; contents.find(&Content::new(alloc, LONG)?), Some(0));
+    assert_eq!(rt; contents.find(&Content::new(alloc, OTHER)?), None);
+    assert_eq!(rt; [contents.has(LONG), contents.has(OTHER)], [true, false]);
     Ok(())
 }
 

@@ -1,176 +1,100 @@
 -- The adds of a set that doesn't overflow are few and short.
-use Rattle.std.proofs.Common.{◌≡◌, ℕ, suc, ◌+◌, ◌<◌, ◌≤◌, ◌^◌, Bool, true, false, cond, ◌&&◌, ◌||◌, List, [], ◌∷◌, length, sum_by, nat_le, Option, Some, None, refl, sym, subst, ◌∙◌, ap, arith}
-use Rattle.std.proofs.lemmas.Bool.{and_parts}
+use Rattle.std.proofs.Common.{◌≡◌, ℕ, suc, ◌+◌, ◌<◌, ◌≤◌, ◌^◌, Bool, true, false, ◌||◌, List, [], ◌∷◌, length, map, sum_by, All, nat_le, refl, sym, ◌∙◌, ap, arith}
 use Rattle.std.proofs.lemmas.Bool.Decides.{nat_tests}
+use Rattle.std.proofs.lemmas.List.Elements.{All-cons, All-head, All-nil, All-tail}
+use Rattle.std.proofs.lemmas.List.Sorted.{All-permutation, length_permutation, sum_by-IsPermutation}
 use Rattle.std.proofs.lemmas.List.Sums.{sum_by-cons}
-use Rattle.std.specs.declared.cmp.Ordering.{Ordering}
-use Rattle.std.specs.declared.cmp.Ordering.TheVariants.{Less, Equal, Greater}
-use Rattle.std.specs.Ordering.{nat_cmp, is_lt, is_eq}
-use Rattle.std.specs.Cmp.{IsTotalOrder, nat_cmp_total}
 use Rattle.std.specs.List.{cons_option, list_any}
-use Rattle.std.specs.FinMap.{FinMap, put, entries-insert, entries, from_entries, find, is_sorted, get-entries, get-from_entries, entries_sorted, len-empty, len-entries}
-use Rattle.std.specs.FinMap.Entries.{by_order}
-use Rattle.mb_store.proofs.TileLemmas.{places_total}
+use Rattle.std.specs.List.Sorted.{IsPermutation}
+use Rattle.std.specs.FinMap.{entries}
+use Rattle.tile_ids.specs.Coord.{Coord}
+use Rattle.tile_ids.specs.Hilbert.{id_of}
 use Rattle.mb_store.specs.declared.cell.Cell.{Cell}
-use Rattle.mb_store.specs.Tiles.{pairs_at, place_cmp}
 use Rattle.pm_format.specs.Options.{Options}
 use Rattle.pm_writer.specs.Bounds.{AllSized}
 use Rattle.pm_writer.specs.Few.{AreFew}
 use Rattle.tile_bridge.specs.Aggregate.{bytes_of}
-use Rattle.tile_bridge.specs.Convert.{address, overflows}
-use Rattle.tile_bridge.specs.FlatAdds.{add_of, adds_in, id_tiles}
+use Rattle.tile_bridge.specs.Convert.{overflows}
+use Rattle.tile_bridge.specs.FlatAdds.{add_of, adds_in, seen}
 use Rattle.tile_bridge.specs.FlatRows.{flat_set}
-use Rattle.tile_bridge.proofs.FlatAddLemmas.{Pairs, Ranged, find_same, ids, nil_of_length, ranged_rows, sorted_true}
+use Rattle.tile_bridge.specs.FlatTiles.{AreTilesOf, are_long, shown, tile_at}
+use Rattle.tile_bridge.specs.declared.flat_adds.Add.{Add}
+use Rattle.tile_bridge.specs.declared.flat_tiles.FlatTile.{FlatTile}
+use Rattle.tile_bridge.proofs.FlatRanges.{Pairs}
+use Rattle.tile_bridge.proofs.FlatAddLemmas.{permuted}
 
 or_parts : (a b : Bool) → a || b ≡ false → (a ≡ false) × (b ≡ false)
 or_parts true b h = absurd (cc)
 or_parts false b h = (refl, h)
 
--- what the values of entries weigh together
-abbrev weight : {K X : Type 0} → (X → ℕ) → List (K × X) → ℕ
-weight f es = sum_by (λ e. f e.1) es
+-- a set overflows where its tiles are too long or too many
+long_any : (es : Pairs) → list_any (λ t. nat_le (2 ^ 32) (length t.1)) (map tile_at es) ≡ list_any (λ e. nat_le (2 ^ 32) (length (bytes_of e.1))) es
+long_any [] = refl
+long_any (e ∷ es) = ap (λ b. nat_le (2 ^ 32) (length (bytes_of e.1)) || b) (long_any es)
 
-abbrev held : {X : Type 0} → (X → ℕ) → Option X → ℕ
-held f None = 0
-held f (Some x) = f x
+long_count : (es : Pairs) → length (map tile_at es) ≡ length es
+long_count [] = refl
+long_count (e ∷ es) = ap suc (long_count es)
 
-lt_not_eq : (o : Ordering) → is_lt o ≡ true → is_eq o ≡ false
-lt_not_eq Less h = refl
-lt_not_eq Equal h = absurd (cc)
-lt_not_eq Greater h = absurd (cc)
+long_total : (es : Pairs) → sum_by (λ t. length t.1) (map tile_at es) ≡ sum_by (λ e. length (bytes_of e.1)) es
+long_total [] = refl
+long_total (e ∷ es) = sum_by-cons (λ t. length t.1) (tile_at e) (map tile_at es) ∙ ap (λ n. length (bytes_of e.1) + n) (long_total es) ∙ sym (sum_by-cons (λ e. length (bytes_of e.1)) e es)
 
-is_Less : (o : Ordering) → is_lt o ≡ true → o ≡ Less
-is_Less Less h = refl
-is_Less Equal h = absurd (cc)
-is_Less Greater h = absurd (cc)
+pub long_set : (tiles : List FlatTile) (rows : List (List Cell)) → AreTilesOf tiles rows → are_long (shown tiles) ≡ overflows (flat_set rows)
+long_set tiles rows are =
+    let es = entries (flat_set rows) in
+    ap are_long are ∙ (λ i. long_any es i || (nat_le (2 ^ 32) (long_count es i) || nat_le (2 ^ 60) (long_total es i)))
 
-module _ {K : Type 0} (R : K → K → Ordering) (total : IsTotalOrder R) where
-  abbrev below : {X : Type 0} → K → List (K × X) → Bool
-  below k [] = true
-  below k (e ∷ es) = is_lt (R k e.0) && below k es
-
-  below_chain : {X : Type 0} (k x : K) (es : List (K × X)) → R k x ≡ Less → below x es ≡ true → below k es ≡ true
-  below_chain k x [] less h = refl
-  below_chain k x (e ∷ es) less h =
-      let parts = and_parts (is_lt (R x e.0)) (below x es) h in
-      ap (λ o. is_lt o && below k es) (total.trans k x e.0 less (is_Less (R x e.0) parts.0)) ∙ below_chain k x es less parts.1
-
-  below_none : {X : Type 0} (k : K) (es : List (K × X)) → below k es ≡ true → find R k es ≡ None
-  below_none k [] h = refl
-  below_none k (e ∷ es) h =
-      let parts = and_parts (is_lt (R k e.0)) (below k es) h in
-      ap (λ b. cond b (Some e.1) (find R k es)) (lt_not_eq (R k e.0) parts.0) ∙ below_none k es parts.1
-
-  -- one more entry weighs its value more, and what it takes the place of less
-  put_weight : {X : Type 0} (f : X → ℕ) (k : K) (v : X) (es : List (K × X)) → is_sorted R es ≡ true → weight f (put R k v es) + held f (find R k es) ≡ weight f es + f v
-  put_weight f k v [] h = let added : weight f ((k, v) ∷ []) ≡ f v + 0 = sum_by-cons (λ (e : K × _). f e.1) (k, v) [] in omega (arith, added)
-  put_weight f k v (e ∷ es) h =
-      let parts = and_parts (below e.0 es) (is_sorted R es) h in
-      let whole : weight f (e ∷ es) ≡ f e.1 + weight f es = sum_by-cons (λ e. f e.1) e es in
-      elim (R k e.0) as (λ o. R k e.0 ≡ o → weight f (by_order o ((k, v) ∷ e ∷ es) ((e.0, v) ∷ es) (e ∷ put R k v es)) + held f (cond (is_eq o) (Some e.1) (find R k es)) ≡ weight f (e ∷ es) + f v) [
-        | Less ↦ λ o.
-            let none : held f (find R k es) ≡ 0 = ap (held f) (below_none k es (below_chain k e.0 es o parts.0)) in
-            let added : weight f ((k, v) ∷ e ∷ es) ≡ f v + weight f (e ∷ es) = sum_by-cons (λ e. f e.1) (k, v) (e ∷ es) in
-            omega (arith, none, added)
-        | Equal ↦ λ o.
-            let set : weight f ((e.0, v) ∷ es) ≡ f v + weight f es = sum_by-cons (λ e. f e.1) (e.0, v) es in
-            omega (arith, set, whole)
-        | Greater ↦ λ o.
-            let kept : weight f (e ∷ put R k v es) ≡ f e.1 + weight f (put R k v es) = sum_by-cons (λ e. f e.1) e (put R k v es) in
-            omega (arith, kept, whole, put_weight f k v es parts.1)
-      ] refl
-
-  none_made : (X : Type 0) → entries {X = X} (from_entries {R = R} []) ≡ []
-  none_made X = let m : FinMap R X = from_entries [] in nil_of_length (entries m) (sym (len-entries m) ∙ len-empty R X)
-
-  made_weight : {X : Type 0} (f : X → ℕ) (k : K) (v : X) (es : List (K × X))
-      → weight f (entries (from_entries {R = R} ((k, v) ∷ es))) + held f (find R k es) ≡ weight f (entries (from_entries {R = R} es)) + f v
-  made_weight f k v es =
-      let m = from_entries {R = R} es in
-      let there : find R k (entries m) ≡ find R k es = sym (get-entries m k) ∙ get-from_entries total es k in
-      ap (λ xs. weight f xs + held f (find R k es)) (entries-insert total m k v)
-      ∙ ap (λ o. weight f (put R k v (entries m)) + held f o) (sym there)
-      ∙ put_weight f k v (entries m) (sorted_true _ (entries_sorted m))
-
--- by id and by place, a set weighs the same
-same_weight : (f : Option (List ℕ) → ℕ) (es : Pairs) → Ranged es → weight f (entries (from_entries {R = nat_cmp} (ids es))) ≡ weight f (entries (from_entries {R = place_cmp} es))
-same_weight f [] h = ap (weight f) (none_made nat_cmp nat_cmp_total (Option (List ℕ))) ∙ sym (ap (weight f) (none_made place_cmp places_total (Option (List ℕ))))
-same_weight f (e ∷ es) h =
-    let by_id = made_weight nat_cmp nat_cmp_total f (address e.0) e.1 (ids es) in
-    let by_place = made_weight place_cmp places_total f e.0 e.1 es in
-    let so_far = same_weight f es h.1 in
-    let found : held f (find nat_cmp (address e.0) (ids es)) ≡ held f (find place_cmp e.0 es) = ap (held f) (find_same es h.1 e.0 h.0) in
-    omega (arith, by_id, by_place, so_far, found)
-
--- whether a length is 2^32 or more, as a number
-abbrev long_number : ℕ → ℕ
-long_number n = cond (nat_le (2 ^ 32) n) 1 0
-
--- whether contents have 2^32 bytes
-abbrev long : Option (List ℕ) → ℕ
-long c = long_number (length (bytes_of c))
-
-none_long : (es : Pairs) → list_any (λ e. nat_le (2 ^ 32) (length (bytes_of e.1))) es ≡ false → weight long es ≡ 0
-none_long [] h = refl
-none_long (e ∷ es) h =
-    let parts = or_parts (nat_le (2 ^ 32) (length (bytes_of e.1))) (list_any (λ e. nat_le (2 ^ 32) (length (bytes_of e.1))) es) h in
-    let short : long e.1 ≡ 0 = ap (λ b. cond b 1 0) parts.0 in
-    omega (arith, sum_by-cons (λ e. long e.1) e es, short, none_long es parts.1)
-
--- the adds weigh no more
-adds_count : (es : List (ℕ × Option (List ℕ))) → length (adds_in es) ≤ length es
+-- the adds of tiles are no more and no longer
+adds_count : (ts : List (Coord × List ℕ)) → length (adds_in ts) ≤ length ts
 adds_count [] = omega arith
-adds_count (e ∷ es) = one e.0 e.1 (adds_in es) (adds_count es)
+adds_count (t ∷ ts) = one t.1 (adds_count ts)
   where
-    one : (id : ℕ) (c : Option (List ℕ)) (rest : List (ℕ × List ℕ)) → length rest ≤ length es → length (cons_option (add_of (id, c)) rest) ≤ suc (length es)
-    one id None rest h = omega arith
-    one id (Some []) rest h = omega arith
-    one id (Some (byte ∷ bytes)) rest h = omega arith
+    one : (bytes : List ℕ) → length (adds_in ts) ≤ length ts → length (cons_option (add_of (t.0, bytes)) (adds_in ts)) ≤ suc (length ts)
+    one [] h = omega (arith, h)
+    one (byte ∷ bytes) h = omega (arith, h)
 
-adds_total : (es : List (ℕ × Option (List ℕ))) → sum_by (λ a. length a.1) (adds_in es) ≡ weight (λ c. length (bytes_of c)) es
+adds_total : (ts : List (Coord × List ℕ)) → sum_by (λ a. length a.1) (adds_in ts) ≡ sum_by (λ t. length t.1) ts
 adds_total [] = refl
-adds_total (e ∷ es) = one e.0 e.1 (adds_in es) ∙ ap (λ n. length (bytes_of e.1) + n) (adds_total es) ∙ sym (sum_by-cons (λ e. length (bytes_of e.1)) e es)
+adds_total (t ∷ ts) = one t.1 ∙ ap (λ n. length t.1 + n) (adds_total ts) ∙ sym (sum_by-cons (λ t. length t.1) t ts)
   where
-    one : (id : ℕ) (c : Option (List ℕ)) (rest : List (ℕ × List ℕ)) → sum_by (λ a. length a.1) (cons_option (add_of (id, c)) rest) ≡ length (bytes_of c) + sum_by (λ a. length a.1) rest
-    one id None rest = omega arith
-    one id (Some []) rest = omega arith
-    one id (Some (byte ∷ bytes)) rest = sum_by-cons (λ a. length a.1) (id, byte ∷ bytes) rest
+    one : (bytes : List ℕ) → sum_by (λ a. length a.1) (cons_option (add_of (t.0, bytes)) (adds_in ts)) ≡ length bytes + sum_by (λ a. length a.1) (adds_in ts)
+    one [] = omega arith
+    one (byte ∷ bytes) = sum_by-cons (λ (a : ℕ × List ℕ). length a.1) (id_of t.0, byte ∷ bytes) (adds_in ts)
 
-adds_sized : (es : List (ℕ × Option (List ℕ))) → weight long es ≡ 0 → AllSized (adds_in es)
-adds_sized [] h = tt
-adds_sized (e ∷ es) h =
-    let whole : weight long (e ∷ es) ≡ long e.1 + weight long es = sum_by-cons (λ e. long e.1) e es in
-    one e.0 e.1 (adds_in es) (adds_sized es (omega (arith, h, whole))) (omega (arith, h, whole))
+short : (n : ℕ) → nat_le (2 ^ 32) n ≡ false → n < 2 ^ 32
+short n h = grind (arith, nat_tests)
+
+abbrev IsShort : ℕ × List ℕ → Type 0
+IsShort a = length a.1 < 2 ^ 32
+
+adds_short : (ts : List (Coord × List ℕ)) → list_any (λ t. nat_le (2 ^ 32) (length t.1)) ts ≡ false → All IsShort (adds_in ts)
+adds_short [] h = All-nil IsShort
+adds_short (t ∷ ts) h =
+    let parts = or_parts (nat_le (2 ^ 32) (length t.1)) (list_any (λ t. nat_le (2 ^ 32) (length t.1)) ts) h in
+    one t.1 (short (length t.1) parts.0) (adds_short ts parts.1)
   where
-    short : (n : ℕ) → long_number n ≡ 0 → n < 2 ^ 32
-    short n h = grind (arith, nat_tests)
+    one : (bytes : List ℕ) → length bytes < 2 ^ 32 → All IsShort (adds_in ts) → All IsShort (cons_option (add_of (t.0, bytes)) (adds_in ts))
+    one [] low all = all
+    one (byte ∷ bytes) low all = All-cons IsShort (id_of t.0, byte ∷ bytes) (adds_in ts) low all
 
-    one : (id : ℕ) (c : Option (List ℕ)) (rest : List (ℕ × List ℕ)) → AllSized rest → long c ≡ 0 → AllSized (cons_option (add_of (id, c)) rest)
-    one id None rest all none = all
-    one id (Some []) rest all none = all
-    one id (Some (byte ∷ bytes)) rest all none = (short (length (byte ∷ bytes)) none, all)
-
-ones : {A : Type 0} (xs : List A) → sum_by (λ x. 1) xs ≡ length xs
-ones [] = refl
-ones (x ∷ xs) = omega (arith, sum_by-cons (λ y. 1) x xs, ones xs)
+all_sized : (adds : List (ℕ × List ℕ)) → All IsShort adds → AllSized adds
+all_sized [] h = tt
+all_sized (a ∷ adds) h = (All-head IsShort a adds h, all_sized adds (All-tail IsShort a adds h))
 
 below_limit : (limit n : ℕ) → nat_le limit n ≡ false → n < limit
 below_limit limit n h = grind (arith, nat_tests)
 
-pub adds_few : (o : Options) (rows : List (List Cell)) (adds : List (ℕ × List ℕ)) → length o.metadata < 2 ^ 63 → adds ≡ adds_in (entries (id_tiles rows)) → overflows (flat_set rows) ≡ false → AreFew o adds
-adds_few o rows adds metadata e none =
-    let es = entries (id_tiles rows) in
-    let set = entries (flat_set rows) in
-    let first = or_parts _ _ none in
+pub adds_few : (tiles : List FlatTile) (rows : List (List Cell)) (before after : List Add) → AreTilesOf tiles rows → seen before ≡ adds_in (shown tiles) → IsPermutation before after → (o : Options) → length o.metadata < 2 ^ 63 → overflows (flat_set rows) ≡ false → AreFew o (seen after)
+adds_few tiles rows before after are is same o metadata none =
+    let ts = map tile_at (entries (flat_set rows)) in
+    let moved = permuted tiles rows before after are is same in
+    let fits : are_long ts ≡ false = sym (ap are_long are) ∙ long_set tiles rows are ∙ none in
+    let first = or_parts _ _ fits in
     let parts = or_parts _ _ first.1 in
-    let same = λ (f : Option (List ℕ) → ℕ). same_weight f (pairs_at 3 rows) (ranged_rows rows) in
-    let count : length es ≡ length set = sym (ones es) ∙ same (λ c. 1) ∙ ones set in
-    let bytes : sum_by (λ a. length a.1) (adds_in es) ≡ sum_by (λ e. length (bytes_of e.1)) set = adds_total es ∙ same (λ c. length (bytes_of c)) in
-    let tiles : length set < 2 ^ 32 = below_limit (2 ^ 32) (length set) parts.0 in
-    let total : sum_by (λ e. length (bytes_of e.1)) set < 2 ^ 60 = below_limit (2 ^ 60) (sum_by (λ e. length (bytes_of e.1)) set) parts.1 in
-    subst (λ x. AreFew o x) (sym e) (record {
+    record {
       metadata = metadata;
-      count = omega (arith, adds_count es, count, tiles);
-      sized = adds_sized es (same long ∙ none_long set first.0);
-      total = omega (arith, bytes, total);
-    })
+      sized = all_sized (seen after) (All-permutation IsShort (adds_in ts) (seen after) moved (adds_short ts first.0));
+      count = omega (arith, adds_count ts, length_permutation (adds_in ts) (seen after) moved, below_limit (2 ^ 32) (length ts) parts.0);
+      total = omega (arith, adds_total ts, sum_by-IsPermutation (λ a. length a.1) (adds_in ts) (seen after) moved, below_limit (2 ^ 60) (sum_by (λ t. length t.1) ts) parts.1);
+    }

@@ -1,10 +1,14 @@
 pub mod ConvertLemmas
 pub mod FewAddLemmas
+pub mod FilledTiles
 pub mod FlatAddLemmas
 pub mod FlatAggregateLemmas
-pub mod FlatAnswerLemmas
+pub mod FlatRanges
 pub mod FlatRowLemmas
 pub mod FlatSizeLemmas
+pub mod FlatTileLemmas
+pub mod Members
 pub mod PlaceLemmas
-pub mod RowTreeLemmas
+pub mod ReadingBackLemmas
+pub mod RowOrderLemmas
 pub mod WritingLemmas

@@ -2,9 +2,9 @@
 use Rattle.std.specs.Prelude.{ℕ, ◌++◌, List, [], Option, Some, None, flat_map}
 use Rattle.std.specs.FinMap.{entries}
 use Rattle.std.specs.Fmt.{decimal}
-use Rattle.hex.specs.Hex.{encode_upper}
-use Rattle.md5.specs.Md5.{md5}
 use Rattle.mb_store.specs.Tiles.{Place, TileSet}
+use Rattle.tile_hash.specs.Digest.{digest}
+use Rattle.tile_hash.specs.declared.algorithm.HashAlgorithm.TheVariants as algorithm
 
 -- null adds no bytes
 abbrev pub bytes_of : Option (List ℕ) → List ℕ
@@ -21,4 +21,4 @@ joined_text tiles = flat_map tile_text (entries tiles)
 
 -- their MD5 digest in upper-case hexadecimal (RFC 1321)
 unfoldable pub aggregate : TileSet → List ℕ
-aggregate tiles = encode_upper (md5 (joined_text tiles))
+aggregate tiles = digest algorithm.Md5 (joined_text tiles)

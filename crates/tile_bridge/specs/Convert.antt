@@ -14,8 +14,9 @@ use Rattle.pm_writer.specs.Archive.{canon}
 use Rattle.pm_writer.specs.Pieces.{IsHidden}
 use Rattle.pm_writer.specs.Places.{places_read}
 use Rattle.tile_bridge.specs.Aggregate.{bytes_of}
+use Rattle.tile_bridge.specs.ReadingBack.{IsReadBack}
 use Rattle.tile_bridge.specs.declared.error.ConvertError.{ConvertError}
-use Rattle.tile_bridge.specs.declared.error.ConvertError.TheVariants.{MediumNotEmpty, UnsupportedCompression, IndexEntryOverflow, MediumFault, OutOfMemory}
+use Rattle.tile_bridge.specs.declared.error.ConvertError.TheVariants.{MediumNotEmpty, UnsupportedCompression, IndexEntryOverflow, MediumFault, ReadBack, OutOfMemory}
 use Rattle.tile_bridge.specs.declared.report.ConvertReport.{ConvertReport}
 
 -- the id of a place, whose row is counted from the bottom
@@ -60,6 +61,7 @@ ConvertCauses o tiles told (Err (MediumNotEmpty n)) = (0 < n) × IfSome told (λ
 ConvertCauses o tiles told (Err (UnsupportedCompression label)) = IsEmpty told × (label ≡ o.internal_compression) × (o.internal_compression ≢ compression.None)
 ConvertCauses o tiles told (Err IndexEntryOverflow) = IsEmpty told × (o.internal_compression ≡ compression.None) × (overflows tiles ≡ true)
 ConvertCauses o tiles told (Err MediumFault) = Unit {0}
+ConvertCauses o tiles told (Err (ReadBack e)) = (told ≡ None) × IsReadBack e
 ConvertCauses o tiles told (Err OutOfMemory) = Unit {0}
 
 -- no part of an archive is shown: the label of directories isn't written, or the whole archive stands
@@ -78,6 +80,7 @@ LeavesBytes o tiles coords (Err (MediumNotEmpty n)) old new = new ≡ old
 LeavesBytes o tiles coords (Err (UnsupportedCompression label)) old new = new ≡ old
 LeavesBytes o tiles coords (Err IndexEntryOverflow) old new = new ≡ old
 LeavesBytes o tiles coords (Err MediumFault) old new = LeavesPart o tiles old new
+LeavesBytes o tiles coords (Err (ReadBack e)) old new = LeavesPart o tiles old new
 LeavesBytes o tiles coords (Err OutOfMemory) old new = LeavesPart o tiles old new
 
 -- a fact on the bytes before and after, where they are told; whether they are doesn't change

@@ -1,10 +1,11 @@
 -- The adds of a tile set: the ids and bytes of its tiles of at least one byte.
 use Rattle.std.specs.Prelude.{◌≡◌, ◌≢◌, ◌≤◌, ℕ, true, List, [], ◌∷◌, Option, Some, None, All, map, filter_map}
-use Rattle.std.specs.FinMap.{FinMap, find, from_entries, get, is_sorted}
+use Rattle.std.specs.FinMap.{find, get, is_sorted}
 use Rattle.std.specs.Ordering.{nat_cmp}
+use Rattle.tile_ids.specs.Coord.{Coord}
+use Rattle.tile_ids.specs.Hilbert.{id_of}
 use Rattle.tile_ids.specs.declared.id.TheConstants.{MAX_TILE_ID}
-use Rattle.mb_store.specs.Tiles.{Place, TileSet, pairs_at, solid}
-use Rattle.mb_store.specs.declared.cell.Cell.{Cell}
+use Rattle.mb_store.specs.Tiles.{Place, TileSet, solid}
 use Rattle.tile_bridge.specs.Convert.{address}
 use Rattle.tile_bridge.specs.declared.flat_adds.Add.{Add}
 
@@ -20,21 +21,18 @@ pub record AreAddsOf (adds : List (ℕ × List ℕ)) (tiles : TileSet) : Type 0 
   pub each : (p : Place) (bytes : List ℕ) → get (solid tiles) p ≡ Some (Some bytes) → content_at adds (address p) ≡ Some bytes
   pub only : (id : ℕ) (bytes : List ℕ) → content_at adds id ≡ Some bytes → (p : Place) × (get (solid tiles) p ≡ Some (Some bytes)) × (address p ≡ id)
 
--- the tiles of rows by their ids, at each id the first of them, in order
-abbrev pub id_pairs : List (List Cell) → List (ℕ × Option (List ℕ))
-id_pairs rows = map (λ e. (address e.0, e.1)) (pairs_at 3 rows)
-
-abbrev pub id_tiles : List (List Cell) → FinMap nat_cmp (Option (List ℕ))
-id_tiles rows = from_entries (id_pairs rows)
-
 -- the adds as their ids and bytes
 abbrev pub seen : List Add → List (ℕ × List ℕ)
 seen adds = map (λ a. (a.id, a.bytes.now)) adds
 
--- the add of a tile of at least one byte
-abbrev pub add_of : ℕ × Option (List ℕ) → Option (ℕ × List ℕ)
-add_of (id, Some (byte ∷ bytes)) = Some (id, byte ∷ bytes)
-add_of _ = None
+-- each add stands under the id of its coordinate
+abbrev pub AreUnderIds : List Add → Type 0
+AreUnderIds adds = All (λ a. id_of a.coord ≡ a.id) adds
 
-abbrev pub adds_in : List (ℕ × Option (List ℕ)) → List (ℕ × List ℕ)
+-- the add of a tile of at least one byte
+abbrev pub add_of : Coord × List ℕ → Option (ℕ × List ℕ)
+add_of (c, []) = None
+add_of (c, byte ∷ bytes) = Some (id_of c, byte ∷ bytes)
+
+abbrev pub adds_in : List (Coord × List ℕ) → List (ℕ × List ℕ)
 adds_in tiles = filter_map add_of tiles

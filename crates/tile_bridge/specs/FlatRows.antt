@@ -1,7 +1,7 @@
 -- The rows of a flat table as tiles.
-use Rattle.std.specs.Prelude.{◌≡◌, ℕ, ◌-◌, ◌^◌, ℤ, List, [], Option, Some, None, IsSome, All, map, slice_index_or, unwrap_or}
+use Rattle.std.specs.Prelude.{ℕ, ◌-◌, ◌^◌, ℤ, List, [], Option, Some, None, IsSome, All}
 use Rattle.std.specs.Option.{option_map}
-use Rattle.std.specs.FinMap.{entries, from_entries}
+use Rattle.std.specs.FinMap.{from_entries}
 use Rattle.tile_ids.specs.Coord.{Coord}
 use Rattle.mb_store.specs.Tiles.{Place, TileSet, cell_at, contents_of, pairs_at, place_of, tile_of}
 use Rattle.mb_store.specs.declared.cell.Cell.{Cell}
@@ -39,23 +39,3 @@ cell_bytes Other = []
 abbrev pub number_in : Cell → Option ℤ
 number_in (Int n) = Some n
 number_in _ = None
-
--- what the row of a number holds, null where there is none
-abbrev pub contents_in : List (List Cell) → ℕ → Option (List ℕ)
-contents_in rows n = unwrap_or (contents_of (cell_at 3 (slice_index_or rows n []))) None
-
--- the tiles of the rows whose numbers stand under keys
-abbrev pub tiles_in : {K : Type 0} → List (List Cell) → List (K × ℕ) → List (K × Option (List ℕ))
-tiles_in rows numbers = map (λ e. (e.0, contents_in rows e.1)) numbers
-
--- the place of a zoom, a column and a row counted from the bottom
-abbrev pub place_at : ℕ × ℕ × ℕ → Place
-place_at k = record { zoom = k.0; column = k.1; row = k.2 }
-
--- the tiles of the rows whose numbers stand under places
-abbrev pub places_in : List (List Cell) → List ((ℕ × ℕ × ℕ) × ℕ) → List (Place × Option (List ℕ))
-places_in rows numbers = map (λ e. (place_at e.0, contents_in rows e.1)) numbers
-
--- a tree of the numbers of rows under places stands for the rows' tiles
-abbrev pub IsPlaceTree : List (List Cell) → List ((ℕ × ℕ × ℕ) × ℕ) → Type 0
-IsPlaceTree rows numbers = places_in rows numbers ≡ entries (flat_set rows)

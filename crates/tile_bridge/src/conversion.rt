@@ -1,36 +1,49 @@
 // The conversion of a flat set.
-ghost use Rattle.std.specs.Prelude.{◌≡◌, ◌≤◌, false, IfOk, IfErr, IsErrOf};
+ghost use Rattle.std.specs.Prelude.{◌≡◌, ◌<◌, ◌≤◌, ◌+◌, ◌^◌, false, length, IfOk, IsErrOf};
 ghost use Rattle.tile_ids.specs.Counts.{Rose};
 ghost use Rattle.mb_store.specs.MemStore.{told_of};
+ghost use Rattle.mb_store.specs.Store.{IsInOrder};
 ghost use Rattle.mb_store.specs.Tiles.{tiles_of};
 ghost use Rattle.mb_store.specs.declared.kind.MbtType.TheVariants.{Flat};
 ghost use Rattle.mb_store.specs.declared.table.TableName.TheVariants.{Tiles};
+ghost use Rattle.pm_format.specs.Options.{Options};
+ghost use Rattle.pm_writer.specs.Few.{AreFew};
 ghost use Rattle.tile_bridge.specs.Aggregate.{aggregate};
 ghost use Rattle.tile_bridge.specs.Convert.{ConvertCauses, ConvertLeaves, overflows};
+ghost use Rattle.tile_bridge.specs.FlatAdds.{AreAddsOf, AreUnderIds, seen};
 ghost use Rattle.tile_bridge.specs.FlatRows.{AreFlatRows, flat_set};
+ghost use Rattle.tile_bridge.specs.ReadingBack.{GrewFrom, answered, of_read_error};
 ghost use Rattle.tile_bridge.specs.Writing.{SetCauses, of_write_error};
 
-use crate::flat_adds::adds_of;
-use crate::flat_aggregate::{aggregate_of, is_overflow, rows_by_place};
-use crate::flat_answers::answers_at;
+use crate::flat_adds::{Add, adds_of};
+use crate::flat_aggregate::{aggregate_of, is_overflow};
+use crate::flat_tiles::tiles_of_rows;
+use crate::reading_back::read_answers;
 use crate::writing::write_archive;
 use crate::{ConvertError, ConvertReport};
 use mb_store::{MemStore, Row, TableName};
-use pm_format::{Compression, Medium, PmtError};
+use pm_format::{Compression, Medium, PmtError, ReadCause};
 use pm_writer::PmTilesWriter;
 use std::alloc::Global;
 use tile_ids::{TextVal, TileCoord};
 
-// The aggregate hash of a flat table whose tiles are few and short enough.
-fn tested_aggregate(alloc: Global, rows: &[Row]) -> Result<TextVal, ConvertError>
-    ensures aggregate { IfOk result (λ text. text ≡ aggregate (flat_set rows.now)) }
+// The aggregate hash and the adds of a flat table whose tiles are few and short enough.
+fn set_of_rows<'a>(alloc: Global, rows: &'a [Row]) -> Result<(TextVal, Vec<Add<'a>>), ConvertError>
+    requires flat { AreFlatRows rows.now }
+    requires order { IsInOrder Tiles rows.now }
+    ensures aggregate { IfOk result (λ set. set.0 ≡ aggregate (flat_set rows.now)) }
+    ensures are { IfOk result (λ set. AreAddsOf (seen set.1.items) (flat_set rows.now)) }
+    ensures few { IfOk result (λ set. (o : Options) → length o.metadata < 2 ^ 63 → overflows (flat_set rows.now) ≡ false → AreFew o (seen set.1.items)) }
+    ensures ids { IfOk result (λ set. AreUnderIds set.1.items) }
     ensures causes { SetCauses (overflows (flat_set rows.now)) result }
 {
-    let tree = rows_by_place(alloc, rows)?;
-    if is_overflow(rows, &tree) {
+    let tiles = tiles_of_rows(alloc, rows)?;
+    if is_overflow(&tiles) {
         return Err(ConvertError::IndexEntryOverflow);
     }
-    Ok(aggregate_of(alloc, rows, &tree)?)
+    let aggregate = aggregate_of(alloc, &tiles)?;
+    let adds = adds_of(alloc, &tiles)?;
+    Ok((aggregate, adds))
 }
 
 // The conversion's word for the error of a writer that can only fail or find no memory.
@@ -43,12 +56,24 @@ fn of_writer(error: PmtError) -> ConvertError
     }
 }
 
-/// Writes the archive of a flat set to an empty medium, leaves what the set tells, and answers the tiles at the coordinates, the aggregate hash and the places of the archive's
-/// parts. Each row has a zoom of 0 to 30, a column and a row in range, and bytes or null.
+// The conversion's word for the error of a reader.
+fn of_reader(error: PmtError) -> ConvertError
+    ensures { result ≡ of_read_error error }
+{
+    match error {
+        PmtError::OutOfMemory => ConvertError::OutOfMemory,
+        PmtError::Reading(ReadCause::Fault) => ConvertError::MediumFault,
+        error => ConvertError::ReadBack(error),
+    }
+}
+
+/// Writes the archive of a flat set to an empty medium, leaves what the set tells, opens the archive again, and answers the tiles that it has at the coordinates, the
+/// aggregate hash of the set and the places of the archive's parts. Each row has a zoom of 0 to 30, a column and a row in range, and bytes or null.
 ///
 /// In this order: `MediumNotEmpty` comes exactly where the medium's length isn't 0, `UnsupportedCompression` exactly where directories aren't labelled
 /// `None`, and `IndexEntryOverflow` exactly where the tiles are too many or too long; then the medium is unchanged. `MediumFault` comes only where the medium's
-/// count of faults rose. After it and after `OutOfMemory` an empty medium shows no part: no reader opens its bytes, or the whole archive stands.
+/// count of faults rose, and `ReadBack` only over a medium that tells no bytes. After `MediumFault` and `OutOfMemory` an empty medium shows no part: no reader
+/// opens its bytes, or the whole archive stands.
 pub fn convert_flat<M: Medium>(
     alloc: Global,
     base: &mut MemStore,
@@ -60,6 +85,7 @@ pub fn convert_flat<M: Medium>(
     ensures causes { ConvertCauses options.now (tiles_of Flat (told_of base.old)) (M.told medium.old) result }
     ensures leaves { ConvertLeaves options.now (tiles_of Flat (told_of base.old)) coords.now result (M.told medium.old) (M.told medium.new) }
     ensures aggregate { IfOk result (λ report. report.aggregate ≡ aggregate (tiles_of Flat (told_of base.old))) }
+    ensures reads { IfOk result (λ report. GrewFrom (M.reads medium.old) (M.reads medium.new) (answered report.answers + 1)) }
     ensures fault { IsErrOf result ConvertError.MediumFault → Rose (M.faults medium.old) (M.faults medium.new) }
     ensures faults { M.faults medium.old ≤ M.faults medium.new }
     ensures base { told_of base.new ≡ told_of base.old }
@@ -75,16 +101,18 @@ pub fn convert_flat<M: Medium>(
     }
     base.settle()?;
     let rows = base.table_rows(TableName::Tiles);
-    let aggregate = tested_aggregate(alloc, rows)?;
-    let adds = adds_of(alloc, rows)?;
-    let answers = answers_at(alloc, &adds, coords)?;
+    let (aggregate, adds) = set_of_rows(alloc, rows)?;
     options.fits();
-    match write_archive(alloc, options, &adds, medium) {
-        Ok(places) => Ok(ConvertReport {
+    let places = match write_archive(alloc, options, &adds, medium) {
+        Ok(places) => places,
+        Err(error) => return Err(of_writer(error)),
+    };
+    match read_answers(alloc, medium, coords) {
+        Ok(answers) => Ok(ConvertReport {
             answers,
             aggregate,
             places,
         }),
-        Err(error) => Err(of_writer(error)),
+        Err(error) => Err(of_reader(error)),
     }
 }

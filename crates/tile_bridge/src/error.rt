@@ -1,13 +1,13 @@
 // Why a conversion ends without an archive.
 ghost use Rattle.std.specs.Prelude.{◌≡◌};
 
-use pm_format::{Compression, MediumFault};
+use pm_format::{Compression, MediumFault, PmtError};
 use std::alloc::AllocError;
 use thiserror::Error;
 use tile_ids::OutOfMemory;
 
 /// Why a conversion ends without an archive.
-#[derive(Clone, Copy, Debug, PartialEq, Eq, Error)]
+#[derive(Debug, Drop, PartialEq, Eq, Error)]
 pub enum ConvertError {
     /// The medium wasn't empty: its length.
     #[error("medium not empty {length}")]
@@ -21,6 +21,9 @@ pub enum ConvertError {
     /// The medium failed, and its count of faults rose.
     #[error("medium fault")]
     MediumFault,
+    /// A medium that tells no bytes gave something else back than what was written to it: why the archive can't be opened, or not read.
+    #[error("read back")]
+    ReadBack(PmtError),
     /// Memory ran out.
     #[error("out of memory")]
     OutOfMemory,

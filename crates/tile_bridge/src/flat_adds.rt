@@ -1,75 +1,63 @@
-// The adds of a flat table: the tiles of at least one byte by their ids.
-ghost use Rattle.std.specs.Prelude.{◌≡◌, ◌<◌, ◌^◌, false, length, IfOk};
-ghost use Rattle.std.specs.FinMap.{entries};
+// The adds of a flat table: its tiles of at least one byte by their ids.
+ghost use Rattle.std.specs.Prelude.{◌≡◌, ◌<◌, ◌^◌, List, false, length, IfOk};
+ghost use Rattle.std.specs.List.Sorted.{IsNonDecreasingBy, IsPermutation};
+ghost use Rattle.mb_store.specs.declared.cell.Cell.{Cell};
 ghost use Rattle.pm_format.specs.Options.{Options};
 ghost use Rattle.pm_writer.specs.Few.{AreFew};
-ghost use Rattle.tile_bridge.specs.Aggregate as contents;
 ghost use Rattle.tile_bridge.specs.Convert.{overflows};
-ghost use Rattle.tile_bridge.specs.FlatAdds.{AreAddsOf, adds_in, id_tiles, seen};
-ghost use Rattle.tile_bridge.specs.FlatRows.{contents_in, flat_set, tiles_in};
+ghost use Rattle.tile_bridge.specs.FlatAdds.{AreAddsOf, AreUnderIds, adds_in, seen};
+ghost use Rattle.tile_bridge.specs.FlatRows.{flat_set};
+ghost use Rattle.tile_bridge.specs.FlatTiles.{AreTilesOf, shown};
 
-use crate::flat_rows::{bytes_of, coord_of};
-use mb_store::Row;
+use crate::flat_tiles::FlatTile;
 use std::alloc::Global;
-use std::collections::BTreeMap;
-use tile_ids::{OutOfMemory, TileId};
+use tile_ids::{OutOfMemory, TileCoord, TileId};
 
-/// A tile of at least one byte, under its id.
+/// A tile of at least one byte, and its id.
 #[derive(Clone, Copy, Debug)]
 pub(crate) struct Add<'a> {
     pub(crate) id: u64,
+    pub(crate) coord: TileCoord,
     pub(crate) bytes: &'a [u8],
 }
 
-// The number of the first row of each id that has a tile.
-fn rows_by_id(alloc: Global, rows: &[Row]) -> Result<BTreeMap<u64, usize>, OutOfMemory>
-    ensures { IfOk result (λ tree. tiles_in rows.now tree.entries ≡ entries (id_tiles rows.now)) }
+// The adds of tiles, in the order of the tiles.
+fn filled_tiles<'a>(alloc: Global, tiles: &[FlatTile<'a>]) -> Result<Vec<Add<'a>>, OutOfMemory>
+    ensures are { IfOk result (λ adds. seen adds.items ≡ adds_in (shown tiles.now)) }
+    ensures ids { IfOk result (λ adds. AreUnderIds adds.items) }
 {
-    let mut tree = BTreeMap::new(alloc);
-    let mut left = rows.len();
-    while left > 0 {
-        left -= 1;
-        if let Some(coord) = coord_of(&rows[left]) {
-            tree.insert(TileId::from(coord).value(), left)?;
+    let mut adds = Vec::with_capacity(alloc, tiles.len())?;
+    for tile in tiles {
+        if tile.bytes.is_empty() {
+            continue;
         }
-    }
-    Ok(tree)
-}
-
-/// The bytes of the row of a number, none where there is none.
-pub(crate) fn row_bytes(rows: &[Row], index: usize) -> &[u8]
-    ensures { result.now ≡ contents.bytes_of (contents_in rows.now index) }
-{
-    if index < rows.len() {
-        bytes_of(&rows[index])
-    } else {
-        &[]
-    }
-}
-
-// The adds of the tiles of at least one byte among rows under their ids.
-fn filled_rows<'a>(
-    alloc: Global,
-    rows: &'a [Row],
-    tree: &BTreeMap<u64, usize>,
-) -> Result<Vec<Add<'a>>, OutOfMemory>
-    ensures { IfOk result (λ adds. seen adds.items ≡ adds_in (tiles_in rows.now tree.now.entries)) }
-{
-    let mut adds = Vec::new(alloc);
-    for (id, index) in tree {
-        let bytes = row_bytes(rows, *index);
-        if !bytes.is_empty() {
-            adds.push(Add { id: *id, bytes })?;
-        }
+        let id = TileId::from(tile.coord).value();
+        adds.push_reserved(Add {
+            id,
+            coord: tile.coord,
+            bytes: tile.bytes,
+        });
     }
     Ok(adds)
 }
 
-/// The tiles of a flat table that have at least one byte, by rising id. Where rows have one place, the first of them is its tile.
-pub(crate) fn adds_of<'a>(alloc: Global, rows: &'a [Row]) -> Result<Vec<Add<'a>>, OutOfMemory>
-    ensures are { IfOk result (λ adds. AreAddsOf (seen adds.items) (flat_set rows.now)) }
-    ensures few { IfOk result (λ adds. (o : Options) → length o.metadata < 2 ^ 63 → overflows (flat_set rows.now) ≡ false → AreFew o (seen adds.items)) }
+fn sort_by_id(adds: &mut Vec<Add>)
+    ensures same { IsPermutation adds.old.items adds.new.items }
+    ensures rising { IsNonDecreasingBy (λ a. a.id) adds.new.items }
 {
-    let tree = rows_by_id(alloc, rows)?;
-    filled_rows(alloc, rows, &tree)
+    adds.sort_unstable_by_key(|add| add.id);
+}
+
+/// The tiles of a flat table that have at least one byte, by rising id.
+pub(crate) fn adds_of<'a>(
+    alloc: Global,
+    tiles: &[FlatTile<'a>],
+) -> Result<Vec<Add<'a>>, OutOfMemory>
+    ensures are { IfOk result (λ adds. (rows : List (List Cell)) → AreTilesOf tiles.now rows → AreAddsOf (seen adds.items) (flat_set rows)) }
+    ensures few { IfOk result (λ adds. (rows : List (List Cell)) → AreTilesOf tiles.now rows → (o : Options) → length o.metadata < 2 ^ 63 → overflows (flat_set rows) ≡ false → AreFew o (seen adds.items)) }
+    ensures ids { IfOk result (λ adds. AreUnderIds adds.items) }
+{
+    let mut adds = filled_tiles(alloc, tiles)?;
+    sort_by_id(&mut adds);
+    Ok(adds)
 }

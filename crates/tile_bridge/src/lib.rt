@@ -5,8 +5,9 @@ mod conversion;
 mod error;
 mod flat_adds;
 mod flat_aggregate;
-mod flat_answers;
 mod flat_rows;
+mod flat_tiles;
+mod reading_back;
 mod report;
 #[cfg(test)]
 mod tests;

@@ -6,18 +6,18 @@ ghost use Rattle.pm_writer.specs.Archive.{archive};
 ghost use Rattle.pm_writer.specs.Pieces.{IsHidden, IsHiddenOr};
 ghost use Rattle.pm_writer.specs.Places.{places_of};
 ghost use Rattle.pm_writer.specs.Writing.{Writes, has_failed};
-ghost use Rattle.tile_bridge.specs.FlatAdds.{seen};
+ghost use Rattle.tile_bridge.specs.FlatAdds.{AreUnderIds, seen};
 ghost use Rattle.tile_bridge.specs.Writing.{CanBeWritten, WriteCauses};
 
 use crate::flat_adds::Add;
 use pm_format::{Medium, PmtResult};
 use pm_writer::{ArchivePlaces, PmTilesWriter, WriterState};
 use std::alloc::Global;
-use tile_ids::{TileCoord, TileId};
 
 // Adds tiles to an archive that is begun.
 fn add_all<M: Medium>(state: &mut WriterState, medium: &mut M, adds: &[Add]) -> PmtResult<()>
     requires begun { (o : Options) × Writes o (M.told medium.old) state.old [] × CanBeWritten o (seen adds.now) }
+    requires ids { AreUnderIds adds.now }
     requires alive { has_failed state.old ≡ false }
     ensures tells { is_some (M.told medium.new) ≡ is_some (M.told medium.old) }
     ensures added { (o : Options) → Writes o (M.told medium.old) state.old [] → OnOk result (Writes o (M.told medium.new) state.new (seen adds.now)) }
@@ -29,8 +29,7 @@ fn add_all<M: Medium>(state: &mut WriterState, medium: &mut M, adds: &[Add]) -> 
     ensures calm { M.steady medium.old → M.steady medium.new × (M.faults medium.new ≡ M.faults medium.old) }
 {
     for add in adds {
-        let coord = TileCoord::from(TileId::new(add.id)?);
-        state.add_raw_tile(medium, coord, add.bytes)?;
+        state.add_raw_tile(medium, add.coord, add.bytes)?;
     }
     Ok(())
 }
@@ -48,6 +47,7 @@ pub(crate) fn write_archive<M: Medium>(
     requires empty { IfSome (M.told medium.old) (λ b. b ≡ []) }
     requires plain { options.now.internal_compression ≡ compression.None }
     requires fit { CanBeWritten options.now (seen adds.now) }
+    requires ids { AreUnderIds adds.now }
     ensures tells { is_some (M.told medium.new) ≡ is_some (M.told medium.old) }
     ensures bytes { OnOk result (IfSome (M.told medium.new) (λ b. b ≡ archive options.now (seen adds.now))) }
     ensures places { IfOk result (λ p. p ≡ places_of options.now (seen adds.now)) }

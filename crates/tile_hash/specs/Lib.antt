@@ -1,5 +1,6 @@
 pub mod Digest
 pub mod Fnv
+pub mod Md5Stream
 pub mod Secret
 pub mod Vectors
 pub mod Words

@@ -2,7 +2,7 @@
 mod plain;
 mod values;
 
-use crate::{HashAlgorithm, fnv1a, laws, md5_text, xxh3_64, xxh64};
+use crate::{HashAlgorithm, Md5Stream, fnv1a, laws, md5_text, xxh3_64, xxh64};
 use plain::plain_xxh3;
 use std::test::Fail;
 use values::{MD5SUM, XXHSUM};
@@ -41,6 +41,18 @@ fn digests_of_no_bytes(rt: HostRuntime) {
     assert_eq!(rt; fnv1a(b""), 0xCBF2_9CE4_8422_2325);
     assert_eq!(rt; xxh64(b""), 0xEF46_DB37_51D8_E999);
     assert_eq!(rt; xxh3_64(b""), 0x2D06_8005_38D3_94C2);
+}
+
+// The last value of RFC 1321's test suite: the ten digits, eight times over.
+#[test]
+fn published_md5_in_pieces(rt: HostRuntime) -> Result<(), Fail> {
+    let mut stream = Md5Stream::new();
+    for _ in 0..8u8 {
+        stream.update(b"1234567890");
+    }
+    let text = stream.finish(rt.alloc())?;
+    assert_eq!(rt; text.as_str(), "57EDF4A22BE3C955AC49DA2E2107B67A");
+    Ok(())
 }
 
 // Test vectors of draft-eastlake-fnv, FNV-1a with 64 bits.

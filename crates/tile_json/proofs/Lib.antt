@@ -1,2 +1,4 @@
+mod LayerParts
 mod Maps
 mod Places
+mod TakenOut

@@ -1,1 +1,6 @@
+pub mod Errors
+pub mod JsonCode
+pub mod LayerReading
+pub mod Members
 pub mod Places
+pub mod Reading

@@ -2,13 +2,21 @@
 #![tactic(auto)]
 
 mod document;
+mod error;
 mod extent;
+mod floats;
+mod json_value;
 mod layer;
+mod layer_reading;
+mod members;
+mod reading;
 #[cfg(test)]
 mod tests;
 mod text_map;
 
 pub use document::TileJson;
+pub use error::DocumentError;
 pub use extent::{TileBounds, TileCenter};
+pub use json_value::JsonVal;
 pub use layer::{LayerList, VectorLayer};
 pub use text_map::{JsonFields, TextFields, TextMap};

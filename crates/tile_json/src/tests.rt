@@ -1,3 +1,5 @@
+mod reading;
+
 use super::*;
 use serde_json::Value;
 use std::alloc::{AllocError, Global};
@@ -45,15 +47,16 @@ fn names_in_order_of_their_bytes(rt: HostRuntime) -> Result<(), Fail> {
 fn one_name_with_a_value_of_json(rt: HostRuntime) -> Result<(), Fail> {
     let alloc = rt.alloc();
     let mut fields = JsonFields::new(alloc);
-    fields.insert(text(alloc, "minzoom")?, Value::Bool(false))?;
+    fields.insert(text(alloc, "minzoom")?, JsonVal::new(Value::Bool(false)))?;
     assert_eq!(rt; fields.len(), 1);
-    fields.insert(text(alloc, "minzoom")?, Value::Bool(true))?;
+    fields.insert(text(alloc, "minzoom")?, JsonVal::new(Value::Bool(true)))?;
     assert_eq!(rt; fields.len(), 1);
-    assert!(rt; matches!(fields.get("minzoom"), Some(Value::Bool(true))));
+    let held = fields.get("minzoom").map(JsonVal::as_value);
+    assert!(rt; matches!(held, Some(Value::Bool(true))));
     if 0 < fields.len() {
         let field = fields.at(0);
         assert_eq!(rt; field.0, "minzoom");
-        assert!(rt; matches!(field.1, Value::Bool(true)));
+        assert!(rt; matches!(field.1.as_value(), Value::Bool(true)));
     }
     Ok(())
 }

@@ -5,7 +5,7 @@ ghost use Rattle.std.specs.Cmp.Lexicographic.{slice_cmp};
 ghost use Rattle.std.specs.FinMap as map;
 ghost use Rattle.tile_json.specs.Places.{IsAt, IsGap};
 
-use serde_json::Value;
+use crate::JsonVal;
 use std::alloc::Global;
 use std::marker::Model;
 use tile_ids::{OutOfMemory, TextVal};
@@ -14,7 +14,7 @@ use tile_ids::{OutOfMemory, TextVal};
 pub type TextFields = TextMap<TextVal>;
 
 /// A map from texts to values of JSON.
-pub type JsonFields = TextMap<Value>;
+pub type JsonFields = TextMap<JsonVal>;
 
 /// A map from texts to values, in the order of the texts' bytes.
 #[derive(Debug, Drop)]

@@ -1,25 +1,33 @@
 -- Ids and their coordinates, and the rows of the first ids.
-use Rattle.std.proofs.Common.{◌≡◌, ℕ, zero, suc, ◌+◌, ◌-◌, ◌/◌, ◌^◌, ◌≤◌, ◌<◌, Bool, true, false, not, ◌||◌, ◌⊎◌, inl, inr, if◌then◌else◌, nat_le, nat_lt, List, [], ◌∷◌, pos, refl, sym, ◌∙◌, ap, subst, arith}
+use Rattle.std.proofs.Common.{◌≡◌, ℕ, zero, suc, ◌+◌, ◌-◌, ◌/◌, ◌^◌, ◌≤◌, ◌<◌, Bool, true, false, ◌⊎◌, inl, inr, if◌then◌else◌, nat_le, nat_lt, List, [], ◌∷◌, ◌++◌, All, length, get_or, take, map, pos, refl, sym, ◌∙◌, ap, subst, arith}
 use Rattle.std.proofs.lemmas.Bool.Decides.{nat_tests}
-use Rattle.std.proofs.lemmas.List.Elements.{All-nil}
+use Rattle.std.proofs.lemmas.Cmp.{on_total}
+use Rattle.std.proofs.lemmas.List.{map-append, take_more}
+use Rattle.std.proofs.lemmas.List.Elements.{All-append, All-cons, All-nil}
+use Rattle.std.proofs.lemmas.List.Sums.{fold_push}
 use Rattle.tile_ids.proofs.Bijection.{one_id, place}
 use Rattle.tile_ids.proofs.Bijection as bijection
 use Rattle.tile_ids.proofs.Curve.{pyramid_next}
 use Rattle.tile_ids.specs.Coord.{Coord, IsCoord, inverted_y}
 use Rattle.tile_ids.specs.Hilbert.{id_of, pyramid, tile_id}
 use Rattle.tile_ids.specs.declared.id.TheConstants.{MAX_TILE_ID}
-use Rattle.std.specs.List.{list_any}
-use Rattle.std.specs.Ordering.{is_eq, is_gt}
+use Rattle.std.specs.Cmp.{IsTotalOrder}
+use Rattle.std.specs.List.Sorted.{IsPermutation}
 use Rattle.std.specs.declared.cmp.Ordering.{Ordering}
-use Rattle.std.specs.declared.cmp.Ordering.TheVariants.{Less, Equal, Greater}
-use Rattle.mb_store.specs.Store.{clash, placed, row_cmp}
+use Rattle.std.specs.declared.cmp.Ordering.TheVariants.{Equal}
+use Rattle.mb_store.specs.Store.{placed, row_cmp, with_row}
+use Rattle.mb_store.specs.TableRows.{all_placed}
+use Rattle.mb_store.specs.Tables.{Tables}
 use Rattle.mb_store.specs.declared.cell.Cell.{Cell}
 use Rattle.mb_store.specs.declared.table.TableName.TheVariants.{Tiles}
 use Rattle.tile_bridge.specs.FlatRows.{AreFlatRows, IsFlatRow}
+use Rattle.tileset.proofs.AnyOrder.{all_put-map, any_order}
 use Rattle.tileset.proofs.ScriptLemmas.{flat_placed}
-use Rattle.tileset.proofs.RowTreeLemmas.{clash_by, numbers_cmp, numbers_same, placed_before, placed_behind}
-use Rattle.tileset.specs.RowTree.{HasNumbers, Numbers}
+use Rattle.tileset.proofs.RowTreeLemmas.{numbers_cmp, numbers_same, numbers_total, row_order}
+use Rattle.tileset.specs.RowTree.{Numbers}
 use Rattle.tileset.specs.Bulk.{bulk_rows, coord_of, numbered_row, zoom_up_to}
+use Rattle.tileset.specs.BulkPlaces.{first_places, place_of, place_row}
+use Rattle.tileset.specs.declared.bulk.BulkPlace.{BulkPlace}
 
 -- an id lies in its zoom
 pub record InZoom (z id : ℕ) : Type 0 where
@@ -70,9 +78,6 @@ unfolding coord_of
 low_zoom id h = let r = in_zoom 31 id (omega arith) in low_from (zoom_up_to 31 id) id (zoom_within 31 id) r.from h
 
 -- the row of a coordinate of such a zoom is a tile
-pub numbers_there : (row : List Cell) (c : Coord) (number : ℕ) → row ≡ numbered_row c number → HasNumbers row
-numbers_there row c number e = subst HasNumbers (sym e) ((pos c.z, pos c.x, pos (inverted_y c.z c.y)), (refl, refl))
-
 flat_row : (c : Coord) (number : ℕ) → IsCoord c → c.z ≤ 30 → IsFlatRow (numbered_row c number)
 flat_row c number h low =
     let zoom : nat_lt c.z 31 ≡ true = grind (arith, nat_tests) in
@@ -80,23 +85,14 @@ flat_row c number h low =
     let line : nat_lt (inverted_y c.z c.y) (2 ^ c.z) ≡ true = grind (arith, nat_tests, h.row) in
     record { place = simp (zoom, column, line); contents = refl }
 
--- one more id
-pub bulk_more : (id repeat : ℕ) (row : List Cell) (rows new : List (List Cell)) → row ≡ numbered_row (coord_of id) (id / repeat) → rows ≡ bulk_rows id repeat → new ≡ placed Tiles row rows → new ≡ bulk_rows (id + 1) repeat
+pub flat_rows : (n repeat : ℕ) → n ≤ 100000 → AreFlatRows (bulk_rows n repeat)
 unfolding bulk_rows
-bulk_more id repeat row rows new e f g =
-    let next : suc id ≡ id + 1 = omega arith in
-    g ∙ (ap (λ r. placed Tiles r rows) e ∙ (ap (placed Tiles (numbered_row (coord_of id) (id / repeat))) f ∙ ap (λ n. bulk_rows n repeat) next))
+flat_rows zero repeat h = All-nil IsFlatRow
+flat_rows (suc id) repeat h =
+    let own = has_id id (omega (arith, h)) in
+    flat_placed Tiles (numbered_row (coord_of id) (id / repeat)) (bulk_rows id repeat) (flat_rows id repeat (omega arith)) (flat_row (coord_of id) (id / repeat) own.0 (low_zoom id (omega arith)))
 
-pub flat_more : (id number : ℕ) (row : List Cell) (rows new : List (List Cell)) → id < 100000 → row ≡ numbered_row (coord_of id) number → AreFlatRows rows → new ≡ placed Tiles row rows → AreFlatRows new
-flat_more id number row rows new l e h g =
-    let own = has_id id (omega arith) in
-    subst AreFlatRows (sym g) (flat_placed Tiles row rows h (subst IsFlatRow (sym e) (flat_row (coord_of id) number own.0 (low_zoom id l))))
-
-pub no_rows_yet : (repeat : ℕ) (rows : List (List Cell)) → rows ≡ [] → (rows ≡ bulk_rows 0 repeat) × AreFlatRows rows
-unfolding bulk_rows
-no_rows_yet repeat rows e = (e, subst AreFlatRows (sym e) (All-nil IsFlatRow))
-
--- two ids have different keys
+-- two ids have different numbers
 numbers : Coord → Numbers
 numbers c = (pos c.z, pos c.x, pos (inverted_y c.z c.y))
 
@@ -115,40 +111,78 @@ from_numbers c d p q e =
     let row : c.y ≡ d.y = same_side c.y d.y (2 ^ c.z) (2 ^ d.z) (ap (λ z. 2 ^ z) zoom) p.row q.row line in
     λ i. record { z = zoom i; x = column i; y = row i }
 
-other_key : (id m p q : ℕ) → m < id → id ≤ MAX_TILE_ID → clash Tiles (numbered_row (coord_of id) p) (numbered_row (coord_of m) q) ≡ false
-unfolding numbers
-other_key id m p q l h =
-    let own = has_id id h in
-    let other = has_id m (omega arith) in
-    clash_by (numbers (coord_of id)) (numbers (coord_of m)) (numbered_row (coord_of id) p) (numbered_row (coord_of m) q) (refl, refl) (refl, refl)
-    ∙ apart (numbers_cmp (numbers (coord_of id)) (numbers (coord_of m))) (λ e. (
-    let same : coord_of id ≡ coord_of m = from_numbers (coord_of id) (coord_of m) own.0 other.0 (numbers_same (numbers (coord_of id)) (numbers (coord_of m)) e) in
-    let ids : id ≡ m = sym own.1 ∙ (ap id_of same ∙ other.1) in
-    omega arith
-    ))
-  where
-    apart : (o : Ordering) → (o ≡ Equal → ⊥) → is_eq o ≡ false
-    apart Less g = refl
-    apart Equal g = absurd (g refl)
-    apart Greater g = refl
+-- places by their numbers
+abbrev numbers_at : BulkPlace → Numbers
+numbers_at p = (pos p.zoom, pos p.column, pos p.line)
 
-none_placed : (p : List Cell → Bool) (row : List Cell) (rows : List (List Cell)) → p row ≡ false → list_any p rows ≡ false → list_any p (placed Tiles row rows) ≡ false
-none_placed p row [] e f = rw e refl
-none_placed p row (r ∷ rows) e f = cased (is_gt (row_cmp Tiles r row)) (p r) refl refl f (none_placed p row rows e)
-  where
-    cased : (t u : Bool) → is_gt (row_cmp Tiles r row) ≡ t → p r ≡ u → (u || list_any p rows) ≡ false → (list_any p rows ≡ false → list_any p (placed Tiles row rows) ≡ false) → list_any p (placed Tiles row (r ∷ rows)) ≡ false
-    cased t true g h k rest = absurd (let x : true ≡ false = k in cc)
-    cased true false g h k rest = ap (list_any p) (placed_before Tiles row r rows g) ∙ rw (e, h) k
-    cased false false g h k rest = ap (list_any p) (placed_behind Tiles row r rows g) ∙ rw h (rest k)
+abbrev place_order : BulkPlace → BulkPlace → Ordering
+place_order a b = numbers_cmp (numbers_at a) (numbers_at b)
 
-pub fresh : (n id p repeat : ℕ) → n ≤ id → id ≤ MAX_TILE_ID → list_any (clash Tiles (numbered_row (coord_of id) p)) (bulk_rows n repeat) ≡ false
-unfolding bulk_rows
-fresh zero id p repeat l h = refl
-fresh (suc n) id p repeat l h =
-    none_placed (clash Tiles (numbered_row (coord_of id) p)) (numbered_row (coord_of n) (n / repeat)) (bulk_rows n repeat) (other_key id n p (n / repeat) (omega arith) h) (fresh n id p repeat (omega arith) h)
+places_total : IsTotalOrder place_order
+places_total = on_total numbers_at numbers_total
 
--- a row of a further id is new
-pub row_is_new : (id number repeat : ℕ) (row : List Cell) (rows : List (List Cell)) (new : Bool) → id < 100000 → row ≡ numbered_row (coord_of id) number → rows ≡ bulk_rows id repeat → new ≡ not (list_any (clash Tiles row) rows) → new ≡ true
-row_is_new id number repeat row rows new l e f g =
-    let h : id ≤ MAX_TILE_ID = omega arith in
-    g ∙ ap not (ap (λ r. list_any (clash Tiles r) rows) e ∙ (ap (list_any (clash Tiles (numbered_row (coord_of id) number))) f ∙ fresh id id number repeat (omega arith) h))
+abbrev IsPlace : BulkPlace → Type 0
+IsPlace p = (id : ℕ) × (id ≤ MAX_TILE_ID) × (p ≡ place_of id)
+
+one_place : (a b : BulkPlace) → IsPlace a → IsPlace b → place_order a b ≡ Equal → a ≡ b
+unfolding numbers place_of
+one_place a b (i, l, e) (j, m, f) h =
+    let tie : numbers_cmp (numbers (coord_of i)) (numbers (coord_of j)) ≡ Equal = ap (λ p. place_order p (place_of j)) (sym e) ∙ (ap (place_order a) (sym f) ∙ h) in
+    let own = has_id i l in
+    let other = has_id j m in
+    let same : coord_of i ≡ coord_of j = from_numbers (coord_of i) (coord_of j) own.0 other.0 (numbers_same (numbers (coord_of i)) (numbers (coord_of j)) tie) in
+    let ids : i ≡ j = sym own.1 ∙ (ap id_of same ∙ other.1) in
+    e ∙ (ap place_of ids ∙ sym f)
+
+all_places : (n : ℕ) → n ≤ 100000 → All IsPlace (first_places n)
+unfolding first_places
+all_places zero h = All-nil IsPlace
+all_places (suc n) h = All-append IsPlace (first_places n) (place_of n ∷ []) (all_places n (omega arith)) (All-cons IsPlace (place_of n) [] (n, omega (arith, h), refl) (All-nil IsPlace))
+
+rows_by_id : (n repeat : ℕ) → all_placed Tiles [] (map (place_row repeat) (first_places n)) ≡ bulk_rows n repeat
+unfolding first_places bulk_rows place_of
+rows_by_id zero repeat = refl
+rows_by_id (suc n) repeat =
+    ap (all_placed Tiles []) (map-append (place_row repeat) (first_places n) (place_of n ∷ []))
+    ∙ (fold_push (λ (rows : List (List Cell)) row. placed Tiles row rows) [] (map (place_row repeat) (first_places n)) (place_row repeat (place_of n))
+    ∙ ap (placed Tiles (numbered_row (coord_of n) (n / repeat))) (rows_by_id n repeat))
+
+-- the rows of the first ids, in whatever order they come
+pub bulk_whole : (n repeat : ℕ) (places : List BulkPlace) (rows : List (List Cell)) → n ≤ 100000 → IsPermutation (first_places n) places → rows ≡ all_placed Tiles [] (map (place_row repeat) places) → rows ≡ bulk_rows n repeat
+bulk_whole n repeat places rows l moved e =
+    let row : BulkPlace → List Cell = place_row repeat in
+    let same : (a b : BulkPlace) → row_cmp Tiles (row a) (row b) ≡ place_order a b = λ a b. row_order (numbers_at a) (numbers_at b) (row a) (row b) (refl, refl) (refl, refl) in
+    e ∙ (all_put-map place_order (row_cmp Tiles) row same [] places
+    ∙ (ap (map row) (any_order place_order places_total IsPlace one_place (first_places n) places (all_places n l) moved)
+    ∙ (sym (all_put-map place_order (row_cmp Tiles) row same [] (first_places n)) ∙ rows_by_id n repeat)))
+
+-- one more id
+pub places_more : (id : ℕ) (places new : List BulkPlace) (place : BulkPlace) → places ≡ first_places id → place ≡ place_of id → new ≡ places ++ place ∷ [] → new ≡ first_places (id + 1)
+unfolding first_places
+places_more id places new place e f g =
+    let next : suc id ≡ id + 1 = omega arith in
+    g ∙ (ap (λ ps. ps ++ place ∷ []) e ∙ (ap (λ p. first_places id ++ p ∷ []) f ∙ ap first_places next))
+
+pub no_places : [] ≡ first_places 0
+unfolding first_places
+no_places = refl
+
+-- one more row
+pub rows_more : (t u : Tables) (rows : List (List Cell)) (repeat i : ℕ) (places : List BulkPlace) (d : BulkPlace) (row : List Cell) → i < length places → row ≡ place_row repeat (get_or places i d) → t.rows Tiles ≡ all_placed Tiles rows (map (place_row repeat) (take i places)) → u ≡ with_row t Tiles row
+    → u.rows Tiles ≡ all_placed Tiles rows (map (place_row repeat) (take (i + 1) places))
+rows_more t u rows repeat i places d row l e told new =
+    let f : BulkPlace → List Cell = place_row repeat in
+    let place : BulkPlace = get_or places i d in
+    ap (λ x. x.rows Tiles) new ∙ (ap (placed Tiles row) told
+    ∙ (ap (λ r. placed Tiles r (all_placed Tiles rows (map f (take i places)))) e
+    ∙ (sym (fold_push (λ (rows : List (List Cell)) row. placed Tiles row rows) rows (map f (take i places)) (f place))
+    ∙ (ap (all_placed Tiles rows) (sym (map-append f (take i places) (place ∷ []))) ∙ ap (λ ps. all_placed Tiles rows (map f ps)) (sym (take_more places i d l))))))
+
+-- a place that is made of its coordinate
+pub made_place : (id zoom column line : ℕ) (coord : Coord) → zoom ≡ coord.z → column ≡ coord.x → line ≡ inverted_y coord.z coord.y → coord ≡ coord_of id → record { zoom = zoom; column = column; line = line; id = id } ≡ place_of id
+unfolding place_of
+made_place id zoom column line coord z x l e =
+    let zooms : zoom ≡ (coord_of id).z = z ∙ ap (λ c. c.z) e in
+    let columns : column ≡ (coord_of id).x = x ∙ ap (λ c. c.x) e in
+    let lines : line ≡ inverted_y (coord_of id).z (coord_of id).y = l ∙ ap (λ c. inverted_y c.z c.y) e in
+    λ i. record { zoom = zooms i; column = columns i; line = lines i; id = id }

@@ -1,3 +1,4 @@
+pub mod AnyOrder
 pub mod BulkLemmas
 pub mod DumpLemmas
 pub mod FlatLineLemmas

@@ -4,7 +4,8 @@ use Rattle.std.specs.declared.cmp.Ordering.{Ordering}
 use Rattle.std.specs.declared.cmp.Ordering.TheVariants.{Less, Equal, Greater}
 use Rattle.std.specs.Ordering.{int_cmp, is_eq, is_gt, match_ordering, ordering_reverse, ordering_then}
 use Rattle.std.specs.BTreeMap.{insert_entry, is_at}
-use Rattle.std.specs.Cmp.{int_cmp_total}
+use Rattle.std.specs.Cmp.{IsTotalOrder, int_cmp_total}
+use Rattle.std.proofs.lemmas.Cmp.{on_total, then_total}
 use Rattle.std.specs.FinMap.{int_cmp-IsAntisymmetric}
 use Rattle.std.specs.List.{list_any}
 use Rattle.std.specs.List.Sorted.{IsStrictlySortedBy}
@@ -27,6 +28,10 @@ numbers_cmp a b = ordering_then (ordering_then (int_cmp a.0 b.0) (int_cmp a.1 b.
 
 abbrev key_at : Numbers → List Cell
 key_at n = Int n.0 ∷ Int n.1 ∷ Int n.2 ∷ []
+
+-- the order of numbers is total
+pub numbers_total : IsTotalOrder numbers_cmp
+numbers_total = then_total (then_total (on_total (λ (n : Numbers). n.0) int_cmp_total) (on_total (λ (n : Numbers). n.1) int_cmp_total)) (on_total (λ (n : Numbers). n.2) int_cmp_total)
 
 regrouped : (a b c : Ordering) → ordering_then a (ordering_then b (ordering_then c Equal)) ≡ ordering_then (ordering_then a b) c
 regrouped Less b c = refl
@@ -51,7 +56,7 @@ numbers_reversed a b =
     parts ∙ reversed (int_cmp b.0 a.0) (int_cmp b.1 a.1) (int_cmp b.2 a.2)
 
 -- rows by their keys
-row_order : (m n : Numbers) (r s : List Cell) → IsRowAt m r → IsRowAt n s → row_cmp Tiles r s ≡ numbers_cmp m n
+pub row_order : (m n : Numbers) (r s : List Cell) → IsRowAt m r → IsRowAt n s → row_cmp Tiles r s ≡ numbers_cmp m n
 row_order m n r s g h = ap (λ x. cells_cmp x (key_of Tiles s)) g.0 ∙ ap (cells_cmp (key_at m)) h.0 ∙ regrouped (int_cmp m.0 n.0) (int_cmp m.1 n.1) (int_cmp m.2 n.2)
 
 and_true : (b : Bool) → b && true ≡ b

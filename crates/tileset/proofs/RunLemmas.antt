@@ -1,5 +1,5 @@
 -- What a run answers and leaves once there is a script.
-use Rattle.std.proofs.Common.{◌≡◌, ◌≢◌, ◌≤◌, ℕ, inl, inr, false, List, [], ◌∷◌, length, nat_lt, if◌then◌else◌, Option, Some, None, IfSome, Result, Ok, Err, refl, sym, subst, ◌∙◌, ap, arith}
+use Rattle.std.proofs.Common.{append-nil, ◌≡◌, ◌≢◌, ◌≤◌, ℕ, inl, inr, false, List, [], ◌∷◌, length, nat_lt, if◌then◌else◌, Option, Some, None, IfSome, Result, Ok, Err, refl, sym, subst, ◌∙◌, ap, arith}
 use Rattle.std.specs.Result.{IsErrAnd}
 use Rattle.std.proofs.lemmas.Bool.Decides.{nat_tests}
 use Rattle.tile_ids.specs.Coord.{Coord}
@@ -7,7 +7,7 @@ use Rattle.pm_format.specs.declared.compression.Compression.{Compression}
 use Rattle.pm_format.specs.declared.compression.Compression.TheVariants as compression
 use Rattle.tile_bridge.specs.Convert.{BothTold, ConvertCauses, ConvertLeaves, IsArchiveOf, IsEmpty, LeavesPart}
 use Rattle.tile_bridge.specs.declared.error.ConvertError.{ConvertError}
-use Rattle.tile_bridge.specs.declared.error.ConvertError.TheVariants.{MediumNotEmpty, UnsupportedCompression, IndexEntryOverflow, MediumFault, OutOfMemory}
+use Rattle.tile_bridge.specs.declared.error.ConvertError.TheVariants.{MediumNotEmpty, UnsupportedCompression, IndexEntryOverflow, MediumFault, ReadBack, OutOfMemory}
 use Rattle.tile_bridge.specs.declared.report.ConvertReport.{ConvertReport}
 use Rattle.tileset.specs.Outcomes.{of_convert}
 use Rattle.tileset.specs.Run.{AnsweredBy, Causes, Given, Gives, IsScript, IsScriptOf, LeavesMedium, LeavesOutput, LeftBy, ReportCauses, WrittenBy, answer, answer_command, answer_input, answer_label, answer_medium, answer_script, command_text, outcome_of, text_of}
@@ -40,6 +40,7 @@ refused_medium s (x ∷ xs) (MediumNotEmpty n) h = inl (ap (λ m. outcomes.Refus
 refused_medium s (x ∷ xs) (UnsupportedCompression label) h = absurd (cc)
 refused_medium s (x ∷ xs) IndexEntryOverflow h = absurd (cc)
 refused_medium s bytes MediumFault h = inr tt
+refused_medium s bytes (ReadBack e) h = absurd (cc)
 refused_medium s bytes OutOfMemory h = inr tt
 
 refused_script : (s : Script) (medium : Option (List ℕ)) (e : ConvertError) → ConvertCauses s.options (script_tiles s) medium (Err e) → Gives (answer_script (Ok s) medium) (of_convert e)
@@ -54,6 +55,7 @@ refused_answer s medium (MediumNotEmpty n) h = h
 refused_answer s medium (UnsupportedCompression label) h = h
 refused_answer s medium IndexEntryOverflow h = h
 refused_answer s medium MediumFault h = tt
+refused_answer s medium (ReadBack e) h = h
 refused_answer s medium OutOfMemory h = tt
 
 pub refused_causes : (s : Script) (medium : Option (List ℕ)) (e : ConvertError) (r : Result Unit Outcome) → ConvertCauses s.options (script_tiles s) medium (Err e) → IsErrAnd r (λ x. x ≡ of_convert e) → AnsweredBy s medium (outcome_of r)
@@ -72,10 +74,20 @@ refused_by s coords old new (MediumNotEmpty n) h = stays old new h
 refused_by s coords old new (UnsupportedCompression label) h = stays old new h
 refused_by s coords old new IndexEntryOverflow h = stays old new h
 refused_by s coords old new MediumFault h = h
+refused_by s coords old new (ReadBack e) h = tt
 refused_by s coords old new OutOfMemory h = h
 
 pub refused_medium_left : (s : Script) (coords : List Coord) (old new : Option (List ℕ)) (e : ConvertError) (r : Result Unit Outcome) → ConvertLeaves s.options (script_tiles s) coords (Err e) old new → IsErrAnd r (λ x. x ≡ of_convert e) → LeftBy s old new (outcome_of r)
 refused_medium_left s coords old new e r h ended = subst (LeftBy s old new) (sym (err_outcome r (of_convert e) ended)) (refused_by s coords old new e h)
+
+-- to gain nothing is to gain a front
+gains_nothing : (held : Option (List ℕ)) (bytes : List ℕ) → GainsFront held held bytes
+gains_nothing None bytes = (0, omega arith, tt)
+gains_nothing (Some old) bytes = (0, omega arith, sym (append-nil old))
+
+nothing_told : (asked : Command) (s : Script) (medium old : Option (List ℕ)) → IfSome medium (λ b. GainsFront old old (text_of asked s b))
+nothing_told asked s None old = tt
+nothing_told asked s (Some b) old = gains_nothing old (text_of asked s b)
 
 -- nothing is written where the conversion is refused
 unwritten : (asked : Command) (s : Script) (medium old : Option (List ℕ)) (e : ConvertError) → WrittenBy asked s medium old old (of_convert e)
@@ -83,6 +95,7 @@ unwritten asked s medium old (MediumNotEmpty n) = refl
 unwritten asked s medium old (UnsupportedCompression label) = refl
 unwritten asked s medium old IndexEntryOverflow = refl
 unwritten asked s medium old MediumFault = inl refl
+unwritten asked s medium old (ReadBack e) = nothing_told asked s medium old
 unwritten asked s medium old OutOfMemory = inl refl
 
 pub refused_output : (asked : Command) (s : Script) (medium old : Option (List ℕ)) (e : ConvertError) (r : Result Unit Outcome) → IsErrAnd r (λ x. x ≡ of_convert e) → WrittenBy asked s medium old old (outcome_of r)

@@ -7,10 +7,10 @@ use Rattle.tileset.specs.declared.outcome.Outcome.{Outcome}
 use Rattle.tileset.specs.declared.outcome.Outcome.TheVariants.{OutputFault, MediumFault, OutOfMemory, ReadBack}
 
 -- a range past the end, or another number of bytes than was asked for
-abbrev pub IsReadBack : PmtError → Type 0
-IsReadBack (Reading causes.PastEnd) = Unit {0}
-IsReadBack (UnexpectedNumberOfBytesReturned asked got) = asked ≢ got
-IsReadBack _ = ⊥
+abbrev pub IsOtherRange : PmtError → Type 0
+IsOtherRange (Reading causes.PastEnd) = Unit {0}
+IsOtherRange (UnexpectedNumberOfBytesReturned asked got) = asked ≢ got
+IsOtherRange _ = ⊥
 
 -- the bytes are so many
 abbrev pub HasLength : ℕ → List ℕ → Type 0
@@ -21,5 +21,5 @@ DumpCauses told (Ok _) = Unit {0}
 DumpCauses told (Err OutputFault) = Unit {0}
 DumpCauses told (Err MediumFault) = Unit {0}
 DumpCauses told (Err OutOfMemory) = Unit {0}
-DumpCauses told (Err (ReadBack e)) = (told ≡ None) × IsReadBack e
+DumpCauses told (Err (ReadBack e)) = (told ≡ None) × IsOtherRange e
 DumpCauses told (Err _) = ⊥

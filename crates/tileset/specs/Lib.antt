@@ -1,4 +1,5 @@
 pub mod Bulk
+pub mod BulkPlaces
 pub mod Cell
 pub mod Dump
 pub mod HexDump

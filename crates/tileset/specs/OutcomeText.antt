@@ -57,6 +57,7 @@ refusal (convert.MediumNotEmpty n) = codes "medium not empty " ++ decimal n
 refusal (convert.UnsupportedCompression label) = codes "unsupported compression " ++ label_name label
 refusal convert.IndexEntryOverflow = codes "IndexEntryOverflow"
 refusal convert.MediumFault = codes "MediumFault"
+refusal (convert.ReadBack e) = codes "ReadBack"
 refusal convert.OutOfMemory = codes "OutOfMemory"
 
 abbrev pub line : Outcome → List ℕ

@@ -19,6 +19,7 @@ of_convert (convert.MediumNotEmpty length) = Refused (convert.MediumNotEmpty len
 of_convert (convert.UnsupportedCompression label) = Refused (convert.UnsupportedCompression label)
 of_convert convert.IndexEntryOverflow = Refused convert.IndexEntryOverflow
 of_convert convert.MediumFault = MediumFault
+of_convert (convert.ReadBack e) = ReadBack e
 of_convert convert.OutOfMemory = OutOfMemory
 
 abbrev pub of_sink : SinkFault → Outcome

@@ -8,11 +8,12 @@ use Rattle.pm_format.specs.LookUp.{archive_map}
 use Rattle.pm_writer.specs.Places.{places_read}
 use Rattle.tile_bridge.specs.Aggregate.{aggregate}
 use Rattle.tile_bridge.specs.Convert.{BothTold, IsArchiveOf, IsEmpty, LeavesPart, overflows}
+use Rattle.tile_bridge.specs.ReadingBack.{IsReadBack}
 use Rattle.tile_bridge.specs.declared.error.ConvertError.{ConvertError}
 use Rattle.tile_bridge.specs.declared.error.ConvertError.TheVariants as refusals
 use Rattle.tile_bridge.specs.declared.report.ConvertReport.{ConvertReport}
 use Rattle.tileset.specs.Bulk.{bulk_script}
-use Rattle.tileset.specs.Dump.{IsReadBack}
+use Rattle.tileset.specs.Dump.{IsOtherRange}
 use Rattle.tileset.specs.Report.{bulk_text, report_text}
 use Rattle.tileset.specs.Script.{Script, script_of, script_tiles}
 use Rattle.tileset.specs.Streams.{Gains, GainsFront, IsAtEnd}
@@ -111,6 +112,7 @@ RefusedBy s medium (refusals.MediumNotEmpty n) = (0 < n) × IfSome medium (λ by
 RefusedBy s medium (refusals.UnsupportedCompression label) = IsEmpty medium × (label ≡ s.options.internal_compression) × (s.options.internal_compression ≢ compression.None)
 RefusedBy s medium refusals.IndexEntryOverflow = IsEmpty medium × (s.options.internal_compression ≡ compression.None) × (overflows (script_tiles s) ≡ true)
 RefusedBy s medium refusals.MediumFault = ⊥
+RefusedBy s medium (refusals.ReadBack e) = ⊥
 RefusedBy s medium refusals.OutOfMemory = ⊥
 
 -- When each answer on a script comes.
@@ -230,7 +232,7 @@ abbrev pub ReportCauses : Option (List ℕ) → Outcome → Type 0
 ReportCauses told OutputFault = Unit {0}
 ReportCauses told MediumFault = Unit {0}
 ReportCauses told OutOfMemory = Unit {0}
-ReportCauses told (ReadBack e) = (told ≡ None) × IsReadBack e
+ReportCauses told (ReadBack e) = (told ≡ None) × IsOtherRange e
 ReportCauses told _ = ⊥
 
 -- The answers while the places of the archive are written.

@@ -32,7 +32,7 @@ pub enum Outcome {
     OutOfMemory,
     /// The input has more than 268,435,456 bytes.
     InputTooLong,
-    /// A medium that tells no bytes gave other bytes back than were asked for.
+    /// A medium that tells no bytes gave something else back than what was written to it: why the archive can't be opened, or not read.
     ReadBack(PmtError),
 }
 
@@ -45,6 +45,7 @@ impl From<ConvertError> for Outcome {
     fn from(error: ConvertError) -> Outcome {
         match error {
             ConvertError::MediumFault => Outcome::MediumFault,
+            ConvertError::ReadBack(error) => Outcome::ReadBack(error),
             ConvertError::OutOfMemory => Outcome::OutOfMemory,
             refusal => Outcome::Refused(refusal),
         }

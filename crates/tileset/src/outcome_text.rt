@@ -65,6 +65,7 @@ fn refusal_of(alloc: Global, error: &ConvertError) -> Result<String, OutOfMemory
         }
         ConvertError::IndexEntryOverflow => String::from_str(alloc, "IndexEntryOverflow")?,
         ConvertError::MediumFault => String::from_str(alloc, "MediumFault")?,
+        ConvertError::ReadBack(_) => String::from_str(alloc, "ReadBack")?,
         ConvertError::OutOfMemory => String::from_str(alloc, "OutOfMemory")?,
     })
 }

@@ -1,8 +1,9 @@
-// Worked rows over memory, faults at each call in turn, and objects that give or take one byte at a time.
+// Worked rows over memory, and media and streams that answer in odd ways.
 use crate::{
     MemSink, MemSource, Outcome, Sink, SinkFault, Source, SourceFault, StdSink, StdSource,
     outcome_line, outcome_status, run,
 };
+use bytes::Bytes;
 use pm_format::MemMedium;
 use std::alloc::{AllocError, Global};
 use std::io::Cursor;
@@ -10,6 +11,7 @@ use std::test::Fail;
 use tile_ids::TextVal;
 
 mod commands;
+mod faults;
 mod flat_rows;
 mod scripts;
 mod short_medium;
@@ -167,84 +169,54 @@ fn medium_not_empty(rt: HostRuntime) -> Result<(), Fail> {
     Ok(())
 }
 
-// What a run leaves.
-#[derive(Drop)]
-struct Ended {
-    outcome: Outcome,
-    output: MemSink,
-    medium: MemMedium,
-}
-
-#[derive(Clone, Copy, Debug)]
-enum Place {
-    Input,
-    Output,
-    Medium,
-}
-
-// A run on one_tile in which the call of this number fails at one of the three objects.
-fn run_failing(alloc: Global, place: Place, number: u64) -> Result<Ended, AllocError> {
+// Up to the first 16,384 bytes of the archive of one_tile.
+fn front_of(alloc: Global, size: usize) -> Result<Bytes, AllocError> {
     let mut input = source_of(alloc, ONE_TILE.as_bytes())?;
-    let mut output = MemSink::new(alloc);
     let mut medium = MemMedium::new(alloc);
-    let calls = vec![in alloc; number]?;
-    match place {
-        Place::Input => input.fail_at(calls),
-        Place::Output => output.fail_at(calls),
-        Place::Medium => medium.fail_at(calls),
-    }
-    let outcome = convert(alloc, &mut input, &mut output, &mut medium)?;
-    Ok(Ended {
-        outcome,
-        output,
-        medium,
-    })
-}
-
-#[test]
-fn faults_at_each_call(rt: HostRuntime) -> Result<(), Fail> {
-    let whole = ONE_TILE_REPORT.as_bytes();
-    for (place, wanted) in [
-        (Place::Input, Outcome::InputFault),
-        (Place::Output, Outcome::OutputFault),
-        (Place::Medium, Outcome::MediumFault),
-    ] {
-        let mut ended_at = 0;
-        for number in 1..1000u64 {
-            let ended = run_failing(rt.alloc(), place, number)?;
-            let written = ended.output.as_bytes();
-            assert!(rt; whole.starts_with(written), "{place:?} {number}");
-            if ended.outcome == Outcome::Done {
-                assert_eq!(rt; written, whole, "{place:?} {number}");
-                ended_at = number;
-                break;
-            }
-            assert_eq!(rt; ended.outcome, wanted, "{place:?} {number}");
-            assert!(rt; written.len() < whole.len(), "{place:?} {number}");
-            if ended.outcome == Outcome::OutputFault {
-                assert_eq!(rt; ended.medium.as_bytes().len(), 16_387);
-                assert!(rt; ended.medium.as_bytes().ends_with(b"{}0"));
-            }
-        }
-        assert!(rt; ended_at > 2, "{place:?}");
-    }
-    Ok(())
+    convert(alloc, &mut input, &mut MemSink::new(alloc), &mut medium)?;
+    let bytes = medium.as_bytes();
+    Bytes::copy_from_slice(alloc, &bytes[..size.min(bytes.len())])
 }
 
 #[test]
 fn a_medium_that_answers_short(rt: HostRuntime) -> Result<(), Fail> {
     let alloc = rt.alloc();
     let words = words_of(alloc, &["convert", "hex"])?;
+    let dumped = "base flat\nrow tiles i0 i0 i0 x30\n";
+    for (size, script, wanted) in [
+        (0, ONE_TILE, "read back: InvalidHeader\n"),
+        (130, ONE_TILE, "read back: InvalidHeader\n"),
+        (
+            16_384,
+            ONE_TILE,
+            "read back: UnexpectedNumberOfBytesReturned\n",
+        ),
+        (
+            16_384,
+            dumped,
+            "read back: UnexpectedNumberOfBytesReturned\n",
+        ),
+    ] {
+        let mut input = source_of(alloc, script.as_bytes())?;
+        let mut output = MemSink::new(alloc);
+        let mut medium = ShortMedium::new(front_of(alloc, size)?);
+        let outcome = run(alloc, &words, &mut input, &mut output, &mut medium);
+        assert_eq!(rt; outcome_line(alloc, &outcome)?.as_str(), wanted, "{size}");
+        assert_eq!(rt; outcome_status(&outcome), 9);
+    }
+    Ok(())
+}
+
+#[test]
+fn version_texts_that_change(rt: HostRuntime) -> Result<(), Fail> {
+    let alloc = rt.alloc();
     let mut input = source_of(alloc, ONE_TILE.as_bytes())?;
     let mut output = MemSink::new(alloc);
-    let mut medium = ShortMedium::new();
-    let outcome = run(alloc, &words, &mut input, &mut output, &mut medium);
-    let line = outcome_line(alloc, &outcome)?;
-    assert_eq!(rt;
-        line.as_str(),
-        "read back: UnexpectedNumberOfBytesReturned\n"
-    );
-    assert_eq!(rt; outcome_status(&outcome), 9);
+    let mut medium = MemMedium::new(alloc);
+    medium.set_versions(words_of(alloc, &["a", "b"])?);
+    let outcome = convert(alloc, &mut input, &mut output, &mut medium)?;
+    assert_eq!(rt; outcome, Outcome::Done);
+    assert_eq!(rt; output.as_bytes(), ONE_TILE_REPORT.as_bytes());
     Ok(())
 }
 

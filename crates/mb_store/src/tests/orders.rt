@@ -134,3 +134,48 @@ fn equal_keys_in_mixed_order(rt: HostRuntime) -> Result<(), Fail> {
     assert!(rt; are_in_order(rows));
     Ok(())
 }
+
+// Whether a tile of a column is refused because its place is taken.
+fn is_refused(alloc: Global, store: &mut MemStore, column: u32) -> MbtResult<bool>
+    requires { is_table (told_of store.old).descriptions TableName.Tiles ≡ true }
+    ensures { is_table (told_of store.new).descriptions TableName.Tiles ≡ true }
+{
+    match push(store, tile(alloc, 9, column, 0, 7)?) {
+        Ok(()) => Ok(false),
+        Err(MbtError::DuplicateRow(TableName::Tiles)) => Ok(true),
+        Err(other) => Err(other),
+    }
+}
+
+// Rows above the last, equal to it, below it, and above it again once there is a second list.
+#[test]
+fn rows_around_the_last(rt: HostRuntime) -> Result<(), Fail> {
+    let mut store = MemStore::with_layout(rt.alloc(), MbtType::Flat)?;
+    for column in 100..200 {
+        assert!(rt; !is_refused(rt.alloc(), &mut store, column)?);
+    }
+    for (column, refused) in [
+        (199, true),
+        (100, true),
+        (201, false),
+        (200, false),
+        (200, true),
+        (201, true),
+        (50, false),
+        (201, true),
+        (202, false),
+        (50, true),
+        (202, true),
+    ] {
+        assert_eq!(rt;
+            is_refused(rt.alloc(), &mut store, column)?,
+            refused,
+            "{column}"
+        );
+    }
+    store.settle()?;
+    let rows = store.table_rows(TableName::Tiles);
+    assert_eq!(rt; rows.len(), 104);
+    assert!(rt; are_in_order(rows));
+    Ok(())
+}

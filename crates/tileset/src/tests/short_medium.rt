@@ -1,4 +1,4 @@
-// A medium that keeps nothing, and reads one byte less than is asked. It tells nothing.
+// A medium that keeps nothing of what is written, and tells nothing. It opens as the front of another one, and ranges are read one byte short.
 ghost use Rattle.std.specs.Prelude.{◌≤◌, ◌≡◌, ℕ, None};
 
 use super::*;
@@ -7,12 +7,13 @@ use pm_format::{Backend, BackendResponse, Medium, MediumFault, ReadFault, WriteF
 
 #[derive(Drop)]
 pub(crate) struct ShortMedium {
+    front: Bytes,
     reads: u64,
 }
 
 impl ShortMedium {
-    pub(crate) fn new() -> ShortMedium {
-        ShortMedium { reads: 0 }
+    pub(crate) fn new(front: Bytes) -> ShortMedium {
+        ShortMedium { front, reads: 0 }
     }
 }
 
@@ -29,12 +30,15 @@ impl Backend for ShortMedium {
 
     fn read(
         &mut self,
-        alloc: Global,
+        _alloc: Global,
         _offset: u64,
-        _length: u64,
+        length: u64,
     ) -> Result<BackendResponse, ReadFault> {
         self.reads = self.reads.saturating_add(1);
-        Ok(BackendResponse::new(Bytes::copy_from_slice(alloc, b"")?))
+        if self.front.len() as u64 > length {
+            return Ok(BackendResponse::new(Bytes::new()));
+        }
+        Ok(BackendResponse::new(self.front.clone()?))
     }
 
     fn read_exact(

@@ -1,0 +1,49 @@
+-- The tiles of a flat table, as they are read from its rows.
+use Rattle.std.specs.Prelude.{◌≡◌, ℕ, ◌-◌, ◌^◌, Bool, cond, false, ◌&&◌, ◌||◌, List, length, map, sum_by, nat_eq, nat_le, Option, Some, None}
+use Rattle.std.specs.List.{list_any, slice_get}
+use Rattle.std.specs.Option.{option_map}
+use Rattle.std.specs.FinMap.{entries}
+use Rattle.tile_ids.specs.Coord.{Coord, inverted_y}
+use Rattle.mb_store.specs.Tiles.{Place, cell_at}
+use Rattle.mb_store.specs.declared.cell.Cell.{Cell}
+use Rattle.tile_bridge.specs.Aggregate.{bytes_of, tile_text}
+use Rattle.tile_bridge.specs.FlatRows.{cell_bytes, coord_at, flat_place, flat_set}
+use Rattle.tile_bridge.specs.declared.flat_tiles.FlatTile.{FlatTile}
+
+-- tiles as their coordinates and bytes
+abbrev pub shown : List FlatTile → List (Coord × List ℕ)
+shown tiles = map (λ t. (t.coord, t.bytes.now)) tiles
+
+-- a tile of a set under its coordinate, with no bytes where its contents are null
+abbrev pub tile_at : Place × Option (List ℕ) → Coord × List ℕ
+tile_at e = (coord_at e.0, bytes_of e.1)
+
+-- exactly the tiles of the rows, by zoom, column and row counted from the bottom
+abbrev pub AreTilesOf : List FlatTile → List (List Cell) → Type 0
+AreTilesOf tiles rows = shown tiles ≡ map tile_at (entries (flat_set rows))
+
+-- the tile of a row, if it is one
+abbrev pub row_tile : List Cell → Option (Coord × List ℕ)
+row_tile row = option_map (λ p. (coord_at p, cell_bytes (cell_at 3 row))) (flat_place row)
+
+-- the coordinate of the last tile
+abbrev pub last_coord : List FlatTile → Option Coord
+last_coord tiles = option_map (λ t. t.coord) (slice_get tiles (length tiles - 1))
+
+-- whether a coordinate is the one before it, if there is one
+abbrev pub is_at : Option Coord → Coord → Bool
+is_at None c = false
+is_at (Some d) c = nat_eq d.z c.z && (nat_eq d.x c.x && nat_eq d.y c.y)
+
+-- a tile that isn't at the coordinate before it
+abbrev pub next_of : Option Coord → Option (Coord × List ℕ) → Option (Coord × List ℕ)
+next_of before None = None
+next_of before (Some t) = cond (is_at before t.0) None (Some t)
+
+-- the text of a tile under its coordinate
+abbrev pub text_at : Coord × List ℕ → List ℕ
+text_at t = tile_text (record { zoom = t.0.z; column = t.0.x; row = inverted_y t.0.z t.0.y }, Some t.1)
+
+-- a tile of 2^32 bytes, 2^32 tiles, or 2^60 bytes in all
+abbrev pub are_long : List (Coord × List ℕ) → Bool
+are_long tiles = list_any (λ t. nat_le (2 ^ 32) (length t.1)) tiles || (nat_le (2 ^ 32) (length tiles) || nat_le (2 ^ 60) (sum_by (λ t. length t.1) tiles))
