@@ -1,23 +1,20 @@
--- A medium with one more content behind the others.
-use Rattle.std.proofs.Common.{◌≡◌, ℕ, ◌+◌, ◌<◌, ◌≤◌, ◌^◌, Bool, Result, Ok, Err, true, false, List, [], ◌∷◌, ◌++◌, length, take, flat_map, Option, Some, None, IfSome, is_some, refl, sym, ◌∙◌, ap, arith, subst, append_assoc, append-nil, length-append}
+-- Bytes that are added to a medium, behind the contents that it has.
+use Rattle.std.proofs.Common.{◌≡◌, ℕ, ◌+◌, ◌<◌, ◌≤◌, ◌^◌, Bool, true, false, List, [], ◌∷◌, ◌++◌, length, take, flat_map, Option, Some, None, IfSome, is_some, refl, sym, ◌∙◌, ap, arith, subst, append_assoc, append-nil, length-append}
 use Rattle.std.specs.Bool.{Decides}
+use Rattle.std.specs.List.{list_any}
+use Rattle.std.specs.Str.{bytes_eq}
 use Rattle.pm_format.specs.Media.{IsWithin, written}
 use Rattle.pm_format.specs.Options.{Options}
-use Rattle.pm_format.specs.declared.compression.Compression.{Compression}
-use Rattle.pm_format.specs.declared.error.PmtError.{PmtError}
-use Rattle.pm_format.specs.declared.error.PmtError.TheVariants as errors
-use Rattle.pm_format.specs.declared.error.ReadCause.TheVariants as causes
-use Rattle.pm_writer.specs.Causes.{AddCauses}
-use Rattle.pm_writer.specs.Adds.{contents_from}
-use Rattle.pm_writer.specs.Contents.{IsNew, found_in}
+use Rattle.pm_writer.specs.Adds.{contents_from, put_new}
+use Rattle.pm_writer.specs.Contents.{HasRoom, found_in, fresh}
 use Rattle.pm_writer.specs.Means.{Means}
 use Rattle.pm_writer.specs.Pieces.{BothTold, IsHidden, WroteFront}
-use Rattle.pm_writer.specs.Writing.{EndFits, FilledFits, IsStateOf, Writes, begun, data_end, data_of, has_failed, zeros}
+use Rattle.pm_writer.specs.Writing.{FilledFits, IsStateOf, Writes, begun, data_end, data_of, has_failed, zeros}
 use Rattle.pm_writer.specs.declared.adds.Adds.{Adds}
 use Rattle.pm_writer.specs.declared.state.WriterState.{WriterState}
 use Rattle.pm_writer.proofs.Beginning.{begun_is_hidden, if_some_map, zeros_length}
 use Rattle.pm_writer.proofs.ContentLemmas.{contents_push}
-use Rattle.pm_writer.proofs.ContentPlaces.{found_is, new_is}
+use Rattle.pm_writer.proofs.ContentPlaces.{fresh_known, fresh_new}
 use Rattle.pm_writer.proofs.MediumPieces.{both_now, hidden_behind, written_behind}
 
 pub begun_length : (o : Options) (adds : List (ℕ × List ℕ)) → length (begun o adds) ≡ data_end o adds
@@ -30,29 +27,38 @@ ends_at o told s adds place w alive p = let h = w.held alive in omega (arith, w.
 pub within_end : (o : Options) (told : Option (List ℕ)) (s : WriterState) (adds : List (ℕ × List ℕ)) (at : ℕ) → Writes o told s adds → has_failed s ≡ false → at ≡ data_end o adds → IfSome told (IsWithin at)
 within_end o told s adds at w alive e = if_some_map (λ b. b ≡ begun o adds) (IsWithin at) told (λ b q. omega (arith, e, ap length q, begun_length o adds)) ((w.held alive).bytes)
 
-pub contents_new : (adds : List (ℕ × List ℕ)) (id : ℕ) (bytes : List ℕ) → IsNew (contents_from [] adds) bytes → contents_from [] (adds ++ (id, bytes) ∷ []) ≡ contents_from [] adds ++ bytes ∷ []
-contents_new adds id bytes n = let h = new_is bytes (contents_from [] adds) n in contents_push [] adds (id, bytes) ∙ rw h refl
-
 pub flat_push : (cs : List (List ℕ)) (x : List ℕ) → flat_map (λ c. c) (cs ++ x ∷ []) ≡ flat_map (λ c. c) cs ++ x
 flat_push [] x = append-nil x
 flat_push (c ∷ cs) x = ap (λ z. c ++ z) (flat_push cs x) ∙ sym (append_assoc c (flat_map (λ c. c) cs) x)
 
-pub data_new : (adds : List (ℕ × List ℕ)) (id : ℕ) (bytes : List ℕ) → IsNew (contents_from [] adds) bytes → data_of (adds ++ (id, bytes) ∷ []) ≡ data_of adds ++ bytes
-data_new adds id bytes n = ap (λ z. flat_map (λ c. c) z) (contents_new adds id bytes n) ∙ flat_push (contents_from [] adds) bytes
+-- one more add puts what is new of its bytes behind the others
+pub data_more : (adds : List (ℕ × List ℕ)) (id : ℕ) (bytes : List ℕ) → data_of (adds ++ (id, bytes) ∷ []) ≡ data_of adds ++ fresh (contents_from [] adds) bytes
+data_more adds id bytes = ap (flat_map (λ c. c)) (contents_push [] adds (id, bytes)) ∙ go (list_any (bytes_eq bytes) cs) refl
+  where
+    cs : List (List ℕ)
+    cs = contents_from [] adds
 
--- the writer with new bytes behind the others
-pub new_writes : (o : Options) (adds : List (ℕ × List ℕ)) (t0 t1 : Option (List ℕ)) (s : WriterState) (after : Adds) (id at : ℕ) (bytes : List ℕ) → Writes o t0 s adds → has_failed s ≡ false → IsNew (contents_from [] adds) bytes
-    → at ≡ data_end o adds → at + length bytes < 2 ^ 64 → Means after (adds ++ (id, bytes) ∷ []) → BothTold (λ b c. c ≡ written b at bytes) t0 t1 → Writes o t1 (record s { adds = after }) (adds ++ (id, bytes) ∷ [])
-new_writes o adds t0 t1 s after id at bytes w alive new e fits m h =
-    let old = w.held alive in
-    let more = data_new adds id bytes new in
+    go : (b : Bool) → list_any (bytes_eq bytes) cs ≡ b → flat_map (λ c. c) (put_new cs bytes) ≡ flat_map (λ c. c) cs ++ fresh cs bytes
+    go true e = rw e (sym (append-nil (flat_map (λ c. c) cs)))
+    go false e = rw e (flat_push cs bytes)
+
+-- and ends as much later
+pub end_more : (o : Options) (adds : List (ℕ × List ℕ)) (id : ℕ) (bytes : List ℕ) → data_end o (adds ++ (id, bytes) ∷ []) ≡ data_end o adds + length (fresh (contents_from [] adds) bytes)
+end_more o adds id bytes = omega (arith, ap length (data_more adds id bytes), length-append (data_of adds) (fresh (contents_from [] adds) bytes))
+
+-- the writer with one more add
+pub added_writes : (o : Options) (adds : List (ℕ × List ℕ)) (t0 t1 : Option (List ℕ)) (s : WriterState) (after : Adds) (id at : ℕ) (bytes : List ℕ) → Writes o t0 s adds → has_failed s ≡ false → at ≡ data_end o adds
+    → FilledFits o adds id bytes → Means after (adds ++ (id, bytes) ∷ []) → BothTold (λ b c. c ≡ written b at (fresh (contents_from [] adds) bytes)) t0 t1 → Writes o t1 (record s { adds = after }) (adds ++ (id, bytes) ∷ [])
+added_writes o adds t0 t1 s after id at bytes w alive e fits m h =
+    let more = data_more adds id bytes in
+    let piece = fresh (contents_from [] adds) bytes in
     let laid : IfSome t1 (λ b. b ≡ begun o (adds ++ (id, bytes) ∷ [])) =
-    both_now (λ b. b ≡ begun o adds) (λ b. b ≡ begun o (adds ++ (id, bytes) ∷ [])) (λ b c. c ≡ written b at bytes) t0 t1
-    (λ b c p q. q ∙ (written_behind b bytes at (omega (arith, e, ap length p, begun_length o adds)) ∙ (ap (λ z. z ++ bytes) p ∙ (joined (zeros 16384) o.metadata (data_of adds) bytes ∙ ap (λ z. zeros 16384 ++ (o.metadata ++ z)) (sym more))))) old.bytes h in
+    both_now (λ b. b ≡ begun o adds) (λ b. b ≡ begun o (adds ++ (id, bytes) ∷ [])) (λ b c. c ≡ written b at piece) t0 t1
+    (λ b c p q. q ∙ (written_behind b piece at (omega (arith, e, ap length p, begun_length o adds)) ∙ (ap (λ z. z ++ piece) p ∙ (joined (zeros 16384) o.metadata (data_of adds) piece ∙ ap (λ z. zeros 16384 ++ (o.metadata ++ z)) (sym more))))) ((w.held alive).bytes) h in
     record {
       of = record { settings = w.of.settings; plain = w.of.plain; place = w.of.place };
       hidden = begun_is_hidden o (adds ++ (id, bytes) ∷ []) t1 laid;
-      held = λ q. record { means = m; ends = omega (arith, e, fits, ap length more, length-append (data_of adds) bytes); bytes = laid };
+      held = λ q. record { means = m; ends = fits.1; bytes = laid };
     }
   where
     joined : (a b c d : List ℕ) → (a ++ (b ++ c)) ++ d ≡ a ++ (b ++ (c ++ d))
@@ -79,70 +85,39 @@ same_writes o adds t0 t1 s after w alive m h = record {
   held = λ q. record { means = m; ends = (w.held alive).ends; bytes = both_now (λ b. b ≡ begun o adds) (λ b. b ≡ begun o adds) (λ b c. c ≡ b) t0 t1 (λ b c p q. q ∙ p) ((w.held alive).bytes) h };
 }
 
--- known bytes: the contents stay
-pub contents_known : (adds : List (ℕ × List ℕ)) (id place : ℕ) (bytes : List ℕ) → found_in (contents_from [] adds) bytes ≡ Some place → contents_from [] (adds ++ (id, bytes) ∷ []) ≡ contents_from [] adds
-contents_known adds id place bytes f = let h = (found_is bytes (contents_from [] adds) place f).0 in contents_push [] adds (id, bytes) ∙ rw h refl
-
-pub data_known : (adds : List (ℕ × List ℕ)) (id place : ℕ) (bytes : List ℕ) → found_in (contents_from [] adds) bytes ≡ Some place → data_of (adds ++ (id, bytes) ∷ []) ≡ data_of adds
-data_known adds id place bytes f = ap (λ z. flat_map (λ c. c) z) (contents_known adds id place bytes f)
-
-pub known_fits : (o : Options) (told : Option (List ℕ)) (s : WriterState) (adds : List (ℕ × List ℕ)) (id place : ℕ) (bytes : List ℕ) → Writes o told s adds → has_failed s ≡ false → found_in (contents_from [] adds) bytes ≡ Some place → length bytes < 2 ^ 32 → FilledFits o adds id bytes
-known_fits o told s adds id place bytes w alive f z = (z, (let e = (w.held alive).ends in omega (arith, e, ap length (data_known adds id place bytes f))))
-
--- the writer with known bytes once more
-pub known_writes : (o : Options) (adds : List (ℕ × List ℕ)) (t0 : Option (List ℕ)) (s : WriterState) (after : Adds) (id place : ℕ) (bytes : List ℕ) → Writes o t0 s adds → has_failed s ≡ false → found_in (contents_from [] adds) bytes ≡ Some place
-    → Means after (adds ++ (id, bytes) ∷ []) → Writes o t0 (record s { adds = after }) (adds ++ (id, bytes) ∷ [])
-known_writes o adds t0 s after id place bytes w alive f m =
-    let old = w.held alive in
-    let same = data_known adds id place bytes f in
-    record {
-      of = record { settings = w.of.settings; plain = w.of.plain; place = w.of.place };
-      hidden = w.hidden;
-      held = λ q. record { means = m; ends = omega (arith, old.ends, ap length same); bytes = if_some_map (λ b. b ≡ begun o adds) (λ b. b ≡ begun o (adds ++ (id, bytes) ∷ [])) t0 (λ b e. e ∙ ap (λ z. zeros 16384 ++ (o.metadata ++ z)) (sym same)) old.bytes };
-    }
-
--- new bytes fit exactly where they end within u64
-pub new_fits : (o : Options) (adds : List (ℕ × List ℕ)) (id : ℕ) (bytes : List ℕ) → IsNew (contents_from [] adds) bytes → length bytes < 2 ^ 32 → EndFits o adds bytes → FilledFits o adds id bytes
-new_fits o adds id bytes n z e = (z, omega (arith, e, ap length (data_new adds id bytes n), length-append (data_of adds) bytes))
-
-pub new_ends : (o : Options) (adds : List (ℕ × List ℕ)) (id : ℕ) (bytes : List ℕ) → IsNew (contents_from [] adds) bytes → FilledFits o adds id bytes → EndFits o adds bytes
-new_ends o adds id bytes n f = omega (arith, f.1, ap length (data_new adds id bytes n), length-append (data_of adds) bytes)
-
--- causes speak of a fact and not of its wording
-pub causes_by : (label : Compression) (failed : Bool) (p q : Type 0) (before now : ℕ) (r : Result (Unit {0}) PmtError) → (p → q) → (q → p) → AddCauses label failed p before now r → AddCauses label failed q before now r
-causes_by label failed p q before now (Ok u) f g h = (h.0, h.1, f h.2)
-causes_by label failed p q before now (Err errors.Failed) f g h = h
-causes_by label failed p q before now (Err (errors.UnsupportedCompression refused)) f g h = h
-causes_by label failed p q before now (Err errors.IndexEntryOverflow) f g h = (h.0, h.1, λ k. h.2 (g k))
-causes_by label failed p q before now (Err (errors.Reading causes.Fault)) f g h = (h.0, h.1, f h.2, h.3)
-causes_by label failed p q before now (Err errors.OutOfMemory) f g h = (h.0, h.1, f h.2)
-causes_by label failed p q before now (Err _) f g h = absurd h
-
--- the data ends at most where new bytes would end
-pub ends_by : (o : Options) (adds : List (ℕ × List ℕ)) (id : ℕ) (bytes : List ℕ) → data_end o (adds ++ (id, bytes) ∷ []) ≤ data_end o adds + length bytes
-ends_by o adds id bytes = go (found_in (contents_from [] adds) bytes) refl
-  where
-    go : (p : Option ℕ) → found_in (contents_from [] adds) bytes ≡ p → data_end o (adds ++ (id, bytes) ∷ []) ≤ data_end o adds + length bytes
-    go None e = omega (arith, ap length (data_new adds id bytes e), length-append (data_of adds) bytes)
-    go (Some p) e = omega (arith, ap length (data_known adds id p bytes e))
-
--- the code's end of the contents
+-- where the data ends, by the state
 pub end_is : (o : Options) (s : WriterState) (adds : List (ℕ × List ℕ)) → IsStateOf o s adds → s.data_offset + s.adds.contents.total ≡ data_end o adds
 end_is o s adds i = omega (arith, i.of.place, i.means.contents.total)
+
+-- bytes that fit have room behind the others
+pub room_for : (o : Options) (adds : List (ℕ × List ℕ)) (id at : ℕ) (bytes : List ℕ) → FilledFits o adds id bytes → at ≡ data_end o adds → HasRoom at (contents_from [] adds) bytes
+room_for o adds id at bytes f e = omega (arith, f.1, e, end_more o adds id bytes)
+
+fresh_short : (cs : List (List ℕ)) (x : List ℕ) → length (fresh cs x) ≤ length x
+fresh_short cs x = go (list_any (bytes_eq x) cs) refl
+  where
+    go : (b : Bool) → list_any (bytes_eq x) cs ≡ b → length (fresh cs x) ≤ length x
+    go true e = rw e (omega arith)
+    go false e = rw e (omega arith)
 
 -- bytes fit where new ones would end within u64
 pub fits_by_end : (o : Options) (s : WriterState) (adds : List (ℕ × List ℕ)) (id : ℕ) (bytes : List ℕ) → IsStateOf o s adds → length bytes < 2 ^ 32 → s.data_offset + s.adds.contents.total + length bytes < 2 ^ 64
     → FilledFits o adds id bytes
-fits_by_end o s adds id bytes i z e = (z, let at = end_is o s adds i in let by = ends_by o adds id bytes in omega (arith, at, by, e))
+fits_by_end o s adds id bytes i z e = (z, omega (arith, end_is o s adds i, end_more o adds id bytes, fresh_short (contents_from [] adds) bytes, e))
 
 -- and else exactly where they are known
 pub fits_by_known : (o : Options) (s : WriterState) (adds : List (ℕ × List ℕ)) (id : ℕ) (bytes : List ℕ) (known : Bool) → IsStateOf o s adds → length bytes < 2 ^ 32 → 2 ^ 64 ≤ s.data_offset + s.adds.contents.total + length bytes
     → known ≡ is_some (found_in (contents_from [] adds) bytes) → Decides known (FilledFits o adds id bytes)
-fits_by_known o s adds id bytes known i z e k = go (found_in (contents_from [] adds) bytes) refl
+fits_by_known o s adds id bytes known i z e k = go (found_in cs bytes) refl
   where
-    at : s.data_offset + s.adds.contents.total ≡ data_end o adds
-    at = end_is o s adds i
+    cs : List (List ℕ)
+    cs = contents_from [] adds
 
-    go : (p : Option ℕ) → found_in (contents_from [] adds) bytes ≡ p → Decides known (FilledFits o adds id bytes)
-    go None f = (λ t. absurd (let n : known ≡ false = k ∙ ap is_some f in cc), λ q. absurd (let n = new_ends o adds id bytes f q in omega (arith, n, at, e)))
-    go (Some p) f = (λ t. (z, let same = ap length (data_known adds id p bytes f) in let ends = i.ends in omega (arith, same, ends)), λ q. k ∙ ap is_some f)
+    more : data_end o (adds ++ (id, bytes) ∷ []) ≡ data_end o adds + length (fresh cs bytes)
+    more = end_more o adds id bytes
+
+    go : (p : Option ℕ) → found_in cs bytes ≡ p → Decides known (FilledFits o adds id bytes)
+    go None f =
+        let n : known ≡ false = k ∙ ap is_some f in
+        (λ t. absurd (cc), λ q. absurd (omega (arith, q.1, more, ap length (fresh_new cs bytes f), end_is o s adds i, e)))
+    go (Some p) f = (λ t. (z, omega (arith, i.ends, more, ap length (fresh_known cs bytes p f))), λ q. k ∙ ap is_some f)

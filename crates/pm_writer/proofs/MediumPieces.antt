@@ -68,6 +68,14 @@ written_behind b piece at e =
     let none : drop (at + length piece) b ≡ [] = drop_all (at + length piece) b (omega (arith, e)) in
     rw (front, none) (ap (λ z. b ++ z) (append-nil piece))
 
+-- a piece of no bytes changes nothing
+pub written_nothing : (b : List ℕ) (at : ℕ) → written b at [] ≡ b
+written_nothing b at = let e : at + 0 ≡ at = omega arith in rw e (take-append-drop at b)
+
+pub left_nothing : (at : ℕ) (t : Option (List ℕ)) → BothTold (λ b c. c ≡ written b at []) t t
+left_nothing at None = tt
+left_nothing at (Some b) = sym (written_nothing b at)
+
 -- a byte before a piece stays
 pub byte_before : (b piece : List ℕ) (at k : ℕ) → k < at → at ≤ length b → get_or (written b at piece) k 0 ≡ get_or b k 0
 byte_before b piece at k h w =

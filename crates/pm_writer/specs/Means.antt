@@ -1,10 +1,9 @@
 -- What the state of adds means.
-use Rattle.std.specs.Prelude.{◌≡◌, ◌<◌, ℕ, Bool, true, List, [], ◌∷◌, nat_lt, Option, Some, None, vec_len}
-use Rattle.std.specs.Vec.{vec_capacity}
+use Rattle.std.specs.Prelude.{◌≡◌, ℕ, Bool, true, List, [], ◌∷◌, nat_lt, Option, Some, None}
 use Rattle.pm_writer.specs.Adds.{contents_from, place_in, unsorted}
 use Rattle.pm_writer.specs.Archive.{ids_of, rising}
 use Rattle.pm_writer.specs.Bounds.{AddsFilled, AllLow, AllSized}
-use Rattle.pm_writer.specs.Contents.{HasRoom, Holds}
+use Rattle.pm_writer.specs.Contents.{Holds}
 use Rattle.pm_writer.specs.declared.adds.Adds.{Adds}
 
 -- the id of the last add, where there is one
@@ -31,8 +30,3 @@ pub record HasEntries (s : Adds) (adds : List (ℕ × List ℕ)) : Type 0 where
 pub record Means (s : Adds) (adds : List (ℕ × List ℕ)) : Type 0 where
   pub contents : Holds s.contents (contents_from [] adds)
   pub rest : HasEntries s adds
-
--- there is room for one more content and its entry
-pub record IsReady (s : Adds) : Type 0 where
-  pub contents : HasRoom s.contents
-  pub entry : vec_len s.entries < vec_capacity s.entries

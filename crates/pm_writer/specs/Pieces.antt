@@ -2,6 +2,8 @@
 use Rattle.std.specs.Prelude.{◌≡◌, ◌⊎◌, ℕ, ◌+◌, ◌≤◌, List, ◌++◌, length, take, drop, slice_index, Option, Some, None, Result, Ok, Err}
 use Rattle.tile_ids.specs.Counts.{Rose}
 use Rattle.pm_format.specs.Media.{written}
+use Rattle.pm_format.specs.declared.medium.WriteFault.{WriteFault}
+use Rattle.pm_format.specs.declared.medium.WriteFault.TheVariants as writes
 use Rattle.pm_format.specs.declared.error.PmtError.{PmtError}
 use Rattle.pm_format.specs.declared.error.PmtError.TheVariants as errors
 use Rattle.pm_format.specs.declared.error.ReadCause.TheVariants as causes
@@ -16,6 +18,12 @@ BothTold R (Some b) (Some c) = R b c
 -- a front of the piece was written, which may be none or all of it
 abbrev pub WroteFront : ℕ → List ℕ → List ℕ → List ℕ → Type 0
 WroteFront at piece b c = (n : ℕ) × (n ≤ length piece) × (c ≡ written b at (take n piece))
+
+-- what is left by a piece at a place: all of it after Ok, a front of it after a fault, and none of it for want of memory
+abbrev pub LeavesPiece : {A : Type 0} → ℕ → List ℕ → Result A WriteFault → Option (List ℕ) → Option (List ℕ) → Type 0
+LeavesPiece at piece (Ok _) old new = BothTold (λ b c. c ≡ written b at piece) old new
+LeavesPiece at piece (Err writes.Fault) old new = BothTold (WroteFront at piece) old new
+LeavesPiece at piece (Err writes.OutOfMemory) old new = BothTold (λ b c. c ≡ b) old new
 
 -- a refusal is a fault, which comes only where the count of faults rose, or want of memory
 abbrev pub PutCauses : ℕ → ℕ → Result Unit PmtError → Type 0

@@ -5,15 +5,13 @@ ghost use Rattle.tile_ids.specs.declared.id.TheConstants.{MAX_TILE_ID};
 ghost use Rattle.tile_ids.specs.Hilbert.{id_of};
 ghost use Rattle.pm_format.specs.Options.{Options};
 ghost use Rattle.pm_format.specs.declared.compression.Compression.TheVariants as compression;
-ghost use Rattle.pm_writer.specs.Adds.{contents_from};
 ghost use Rattle.pm_writer.specs.Causes.{AddCauses, failed_after};
-ghost use Rattle.pm_writer.specs.Contents.{IsNew};
-ghost use Rattle.pm_writer.specs.Writing.{AddFits, EndFits, FilledFits, IsStateOf, Writes, add_to, has_failed};
+ghost use Rattle.pm_writer.specs.Writing.{AddFits, FilledFits, IsStateOf, Writes, add_to, has_failed};
 
 use crate::WriterState;
 use crate::content::Content;
 use pm_format::{Compression, Medium, PmtError, PmtResult, ReadCause, WriteFault};
-use tile_ids::{OutOfMemory, TileCoord, TileId};
+use tile_ids::{TileCoord, TileId};
 
 impl WriterState {
     // Whether bytes can be added: new ones don't end past u64. It takes no memory, and goes through the contents only where new bytes would end past u64.
@@ -27,51 +25,6 @@ impl WriterState {
             return true;
         }
         self.adds.has(bytes)
-    }
-
-    // Adds a content that is new and fits. Memory is taken first, so that after `OutOfMemory` the writer means what it did.
-    fn add_new<M: Medium>(
-        &mut self,
-        medium: &mut M,
-        id: u64,
-        content: Content,
-        size: u32,
-    ) -> PmtResult<()>
-        requires alive { has_failed self.old ≡ false }
-        requires id { id ≤ MAX_TILE_ID }
-        requires some { 0 < length content }
-        requires size { size ≡ length content }
-        requires writes { (o : Options) × (adds : List (ℕ × List ℕ)) × Writes o (M.told medium.old) self.old adds }
-        requires ends { self.old.data_offset + self.old.adds.contents.total + length content < 2 ^ 64 }
-        ensures added { (o : Options) (adds : List (ℕ × List ℕ)) → Writes o (M.told medium.old) self.old adds → IsNew (contents_from [] adds) content
-            → OnOk result (Writes o (M.told medium.new) self.new (adds ++ (id, content) ∷ [])) }
-        ensures kept { (o : Options) (adds : List (ℕ × List ℕ)) → Writes o (M.told medium.old) self.old adds → OnErr result (Writes o (M.told medium.new) self.new adds) }
-        ensures causes { (o : Options) (adds : List (ℕ × List ℕ)) → Writes o (M.told medium.old) self.old adds
-            → AddCauses compression.None false (EndFits o adds content) (M.faults medium.old) (M.faults medium.new) result }
-        ensures failed { has_failed self.new ≡ failed_after false result }
-        ensures tells { is_some (M.told medium.new) ≡ is_some (M.told medium.old) }
-        ensures versions { is_some (M.versions medium.new) ≡ is_some (M.versions medium.old) }
-        ensures faults { M.faults medium.old ≤ M.faults medium.new }
-        ensures reads { M.reads medium.new ≡ M.reads medium.old }
-        ensures calm { M.steady medium.old → M.steady medium.new × (M.faults medium.new ≡ M.faults medium.old) }
-    {
-        self.adds.get_ready()?;
-        let at = self.data_offset + self.adds.total();
-        match medium.write_at(at, content.as_bytes()) {
-            Ok(()) => {
-                self.adds.add_ready(id, content, size);
-                Ok(())
-            }
-            Err(WriteFault::OutOfMemory) => {
-                drop(content);
-                Err(PmtError::OutOfMemory)
-            }
-            Err(WriteFault::Fault) => {
-                drop(content);
-                self.failed = true;
-                Err(PmtError::Reading(ReadCause::Fault))
-            }
-        }
     }
 
     // Adds bytes of which there is at least one.
@@ -98,23 +51,50 @@ impl WriterState {
             return Err(PmtError::IndexEntryOverflow);
         }
         let content = Content::new(self.alloc, bytes)?;
-        match self.adds.find(&content) {
-            Some(place) => {
-                drop(content);
-                match self.adds.add_known(id, place, size) {
-                    Ok(()) => Ok(()),
-                    Err(OutOfMemory) => Err(PmtError::OutOfMemory),
-                }
+        match self.adds.add(medium, self.data_offset, id, content, size) {
+            Ok(()) => Ok(()),
+            Err(WriteFault::OutOfMemory) => Err(PmtError::OutOfMemory),
+            Err(WriteFault::Fault) => {
+                self.failed = true;
+                Err(PmtError::Reading(ReadCause::Fault))
             }
-            None => self.add_new(medium, id, content, size),
         }
     }
 
-    /// Adds the bytes of a tile as they are; empty data is no tile and changes nothing.
+    /// Adds the bytes of the tile with this id as they are; empty data is no tile and changes nothing.
     ///
     /// The first of these that holds is answered: `Failed` exactly after an earlier fault of the medium in this writer; `IndexEntryOverflow` exactly where
     /// the data has 2^32 bytes or more, or its end would pass u64; `Reading(Fault)` only where the medium's count of faults rose; `OutOfMemory`.
     /// After each of them the writer and its medium mean what they did, and no part of an archive is shown.
+    pub fn add_raw_tile_by_id<M: Medium>(
+        &mut self,
+        medium: &mut M,
+        id: TileId,
+        bytes: &[u8],
+    ) -> PmtResult<()>
+        requires writes { (o : Options) × (adds : List (ℕ × List ℕ)) × Writes o (M.told medium.old) self.old adds }
+        ensures writes { (o : Options) × (adds : List (ℕ × List ℕ)) × Writes o (M.told medium.new) self.new adds }
+        ensures added { (o : Options) (adds : List (ℕ × List ℕ)) → Writes o (M.told medium.old) self.old adds → OnOk result (Writes o (M.told medium.new) self.new (add_to adds id bytes.now)) }
+        ensures kept { (o : Options) (adds : List (ℕ × List ℕ)) → Writes o (M.told medium.old) self.old adds → OnErr result (Writes o (M.told medium.new) self.new adds) }
+        ensures causes { (o : Options) (adds : List (ℕ × List ℕ)) → Writes o (M.told medium.old) self.old adds
+            → AddCauses compression.None (has_failed self.old) (AddFits o adds id bytes.now) (M.faults medium.old) (M.faults medium.new) result }
+        ensures failed { has_failed self.new ≡ failed_after (has_failed self.old) result }
+        ensures tells { is_some (M.told medium.new) ≡ is_some (M.told medium.old) }
+        ensures versions { is_some (M.versions medium.new) ≡ is_some (M.versions medium.old) }
+        ensures faults { M.faults medium.old ≤ M.faults medium.new }
+        ensures reads { M.reads medium.new ≡ M.reads medium.old }
+        ensures calm { M.steady medium.old → M.steady medium.new × (M.faults medium.new ≡ M.faults medium.old) }
+    {
+        if self.failed {
+            return Err(PmtError::Failed);
+        }
+        if bytes.is_empty() {
+            return Ok(());
+        }
+        self.add_filled(medium, id.value(), bytes)
+    }
+
+    /// Adds the bytes of a tile as they are: `add_raw_tile_by_id` of the coordinate's id.
     pub fn add_raw_tile<M: Medium>(
         &mut self,
         medium: &mut M,
@@ -134,14 +114,7 @@ impl WriterState {
         ensures reads { M.reads medium.new ≡ M.reads medium.old }
         ensures calm { M.steady medium.old → M.steady medium.new × (M.faults medium.new ≡ M.faults medium.old) }
     {
-        if self.failed {
-            return Err(PmtError::Failed);
-        }
-        if bytes.is_empty() {
-            return Ok(());
-        }
-        let id = TileId::from(coord).value();
-        self.add_filled(medium, id, bytes)
+        self.add_raw_tile_by_id(medium, TileId::from(coord), bytes)
     }
 
     /// Adds a plain tile: as `add_raw_tile`, but `UnsupportedCompression` is answered, behind `Failed`, exactly where tiles aren't labelled `None`.

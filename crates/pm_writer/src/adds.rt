@@ -1,17 +1,20 @@
 // The adds so far: their contents once each, and their entries.
-ghost use Rattle.std.specs.Prelude.{◌≡◌, ◌<◌, ◌≤◌, ◌&&◌, ◌+◌, ◌^◌, ℕ, List, [], ◌∷◌, ◌++◌, length, Some, OnOk, OnErr, is_some, vec_len};
+ghost use Rattle.std.specs.Prelude.{◌≡◌, ◌<◌, ◌≤◌, ◌&&◌, ◌+◌, ℕ, List, [], ◌∷◌, ◌++◌, length, IfSome, OnOk, OnErr, IsErrOf, is_some, vec_len};
 ghost use Rattle.std.specs.Vec.{vec_capacity};
+ghost use Rattle.tile_ids.specs.Counts.{Rose};
 ghost use Rattle.tile_ids.specs.declared.id.TheConstants.{MAX_TILE_ID};
+ghost use Rattle.pm_format.specs.Media.{IsWithin};
 ghost use Rattle.pm_format.specs.Directory.{entry};
 ghost use Rattle.pm_writer.specs.Adds.{contents_from, longest_run};
 ghost use Rattle.pm_writer.specs.Archive.{ids_of, rising};
-ghost use Rattle.pm_writer.specs.Contents.{IsNew, found_in};
+ghost use Rattle.pm_writer.specs.Contents.{HasRoom, found_in, fresh};
 ghost use Rattle.pm_writer.specs.Growing.{grows, put};
-ghost use Rattle.pm_writer.specs.Means.{IsReady, Means, is_above};
+ghost use Rattle.pm_writer.specs.Means.{Means, is_above};
+ghost use Rattle.pm_writer.specs.Pieces.{LeavesPiece};
 
 use crate::content::Content;
 use crate::contents::Contents;
-use pm_format::DirEntry;
+use pm_format::{DirEntry, Medium, WriteFault};
 use std::alloc::{AllocError, Global};
 use tile_ids::OutOfMemory;
 
@@ -78,13 +81,6 @@ impl Adds {
         }
     }
 
-    /// Where the contents have this one, where they do.
-    pub(crate) fn find(&self, content: &Content) -> Option<u64>
-        ensures { (adds : List (ℕ × List ℕ)) → Means self.now adds → result ≡ found_in (contents_from [] adds) content.now }
-    {
-        self.contents.find(content)
-    }
-
     /// Whether the contents have these bytes. It goes through all of them, and takes no memory.
     pub(crate) fn has(&self, bytes: &[u8]) -> bool
         ensures { (adds : List (ℕ × List ℕ)) → Means self.now adds → result ≡ is_some (found_in (contents_from [] adds) bytes.now) }
@@ -113,44 +109,49 @@ impl Adds {
         self.rises
     }
 
-    /// Adds bytes that the contents have at a place. After `OutOfMemory` the adds are as before.
-    pub(crate) fn add_known(&mut self, id: u64, place: u64, size: u32) -> Result<(), OutOfMemory>
-        requires { id ≤ MAX_TILE_ID }
-        ensures added { (adds : List (ℕ × List ℕ)) (bytes : List ℕ) → Means self.old adds → found_in (contents_from [] adds) bytes ≡ Some place → 0 < length bytes → size ≡ length bytes
-            → OnOk result (Means self.new (adds ++ (id, bytes) ∷ [])) }
-        ensures kept { (adds : List (ℕ × List ℕ)) → Means self.old adds → OnErr result (Means self.new adds) }
+    /// Makes room for the entries of so many more adds. After each answer the adds are as before.
+    pub(crate) fn reserve(&mut self, additional: usize) -> Result<(), OutOfMemory>
+        ensures same { (adds : List (ℕ × List ℕ)) → Means self.old adds → Means self.new adds }
+        ensures total { self.new.contents.total ≡ self.old.contents.total }
     {
-        put_entry(&mut self.entries, id, place, size)?;
-        self.rises = still_rises(self.rises, self.last, id);
-        self.last = Some(id);
+        self.entries.reserve(additional)?;
         Ok(())
     }
 
-    /// Makes room for one more content and its entry. After each answer the adds are as before.
-    pub(crate) fn get_ready(&mut self) -> Result<(), OutOfMemory>
-        ensures room { OnOk result (IsReady self.new) }
-        ensures total { self.new.contents.total ≡ self.old.contents.total }
-        ensures kept { (adds : List (ℕ × List ℕ)) → Means self.old adds → Means self.new adds }
+    /// Adds a content. Where it is new it is written behind the others on a medium, on which they lie from a place on. Memory is taken before anything is
+    /// written. Refused, the adds are as before.
+    pub(crate) fn add<M: Medium>(
+        &mut self,
+        medium: &mut M,
+        from: u64,
+        id: u64,
+        content: Content,
+        size: u32,
+    ) -> Result<(), WriteFault>
+        requires id { id ≤ MAX_TILE_ID }
+        requires some { 0 < length content }
+        requires size { size ≡ length content }
+        requires within { IfSome (M.told medium.old) (IsWithin (from + self.old.contents.total)) }
+        requires room { (adds : List (ℕ × List ℕ)) × Means self.old adds × HasRoom (from + self.old.contents.total) (contents_from [] adds) content }
+        ensures added { (adds : List (ℕ × List ℕ)) → Means self.old adds → OnOk result (Means self.new (adds ++ (id, content) ∷ [])) }
+        ensures kept { (adds : List (ℕ × List ℕ)) → Means self.old adds → OnErr result (Means self.new adds) }
+        ensures leaves { (adds : List (ℕ × List ℕ)) → Means self.old adds
+            → LeavesPiece (from + self.old.contents.total) (fresh (contents_from [] adds) content) result (M.told medium.old) (M.told medium.new) }
+        ensures cause { IsErrOf result WriteFault.Fault → Rose (M.faults medium.old) (M.faults medium.new) }
+        ensures tells { is_some (M.told medium.new) ≡ is_some (M.told medium.old) }
+        ensures versions { is_some (M.versions medium.new) ≡ is_some (M.versions medium.old) }
+        ensures faults { M.faults medium.old ≤ M.faults medium.new }
+        ensures reads { M.reads medium.new ≡ M.reads medium.old }
+        ensures calm { M.steady medium.old → M.steady medium.new × (M.faults medium.new ≡ M.faults medium.old) }
     {
         self.entries.reserve(1)?;
-        self.contents.reserve()
-    }
-
-    /// Adds a new content, for which there is room.
-    pub(crate) fn add_ready(&mut self, id: u64, content: Content, size: u32)
-        requires id { id ≤ MAX_TILE_ID }
-        requires room { IsReady self.old }
-        requires fits { self.old.contents.total + length content < 2 ^ 64 }
-        ensures { (adds : List (ℕ × List ℕ)) → Means self.old adds → IsNew (contents_from [] adds) content → 0 < length content → size ≡ length content
-            → Means self.new (adds ++ (id, content) ∷ []) }
-    {
-        let place = self.contents.total();
+        let place = self.contents.put(medium, from, content)?;
         let Ok(()) = put_entry(&mut self.entries, id, place, size) else {
             unreachable!()
         };
-        self.contents.push(content);
         self.rises = still_rises(self.rises, self.last, id);
         self.last = Some(id);
+        Ok(())
     }
 
     /// The entries in order of the adds.

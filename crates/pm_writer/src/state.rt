@@ -1,5 +1,5 @@
 // The state of a writer: all that it owns, beside the medium that it borrows.
-ghost use Rattle.std.specs.Prelude.{◌≡◌, ◌≢◌, ◌≤◌, ◌<◌, ◌+◌, ◌^◌, ℕ, List, [], ◌∷◌, ◌++◌, false, length, IfSome, IfOk, OnOk, OnErr, is_some};
+ghost use Rattle.std.specs.Prelude.{◌≡◌, ◌≢◌, ◌≤◌, ◌<◌, ◌+◌, ◌^◌, ℕ, List, [], ◌∷◌, ◌++◌, Option, false, length, IfSome, IfOk, OnOk, OnErr, is_some};
 ghost use Rattle.pm_format.specs.declared.compression.Compression.TheVariants as compression;
 ghost use Rattle.pm_format.specs.Options.{Options};
 ghost use Rattle.pm_writer.specs.Causes.{CreateCauses};
@@ -12,6 +12,7 @@ use crate::pieces::put;
 use crate::settings::Settings;
 use pm_format::{Compression, Medium, PmtError, PmtResult};
 use std::alloc::{AllocError, Global};
+use tile_ids::OutOfMemory;
 
 /// Where the root ends at the latest, and the metadata begins.
 pub(crate) const ROOT_END: u64 = 16_384;
@@ -24,6 +25,16 @@ pub struct WriterState {
     pub(crate) data_offset: u64,
     pub(crate) adds: Adds,
     pub(crate) failed: bool,
+}
+
+impl WriterState {
+    /// Makes room for the entries of so many more adds, so that entries aren't moved as they come. What the writer means stays, also after `OutOfMemory`.
+    pub fn reserve(&mut self, additional: usize) -> Result<(), OutOfMemory>
+        ensures same { (o : Options) (told : Option (List ℕ)) (adds : List (ℕ × List ℕ)) → Writes o told self.old adds → Writes o told self.new adds }
+        ensures failed { has_failed self.new ≡ has_failed self.old }
+    {
+        self.adds.reserve(additional)
+    }
 }
 
 // So many zeros.

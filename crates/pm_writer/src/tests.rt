@@ -4,9 +4,9 @@ ghost use Rattle.pm_writer.specs.Stream.{IsTied};
 
 use super::*;
 use crate::content::Content;
-use crate::contents::Contents;
 use pm_format::{Backend, Compression, Header, MemMedium, PmtError, PmtResult, TileType};
 use std::alloc::Global;
+use std::cmp::Ordering;
 use std::test::Fail;
 use tile_ids::{TextVal, TileCoord, TileId};
 
@@ -96,15 +96,37 @@ fn archives_of_few_tiles(rt: HostRuntime) -> Result<(), Fail> {
     Ok(())
 }
 
+// The greater number of eight bytes comes first, then the shorter content, then the lesser bytes.
 #[test]
-fn contents_are_found(rt: HostRuntime) -> Result<(), Fail> {
+fn contents_in_order(rt: HostRuntime) -> Result<(), Fail> {
     let alloc = rt.alloc();
-    let mut contents = Contents::new(alloc);
-    contents.reserve()?;
-    contents.push(Content::new(alloc, LONG)?);
-    assert_eq!(rt; contents.find(&Content::new(alloc, LONG)?), Some(0));
-    assert_eq!(rt; contents.find(&Content::new(alloc, OTHER)?), None);
-    assert_eq!(rt; [contents.has(LONG), contents.has(OTHER)], [true, false]);
+    let rows: [(&[u8], &[u8], Ordering); 6] = [
+        (b"b", b"a", Ordering::Less),
+        (b"9", b"10", Ordering::Greater),
+        (b"12345678", b"12345678a", Ordering::Less),
+        (b"12345678b", b"12345678a", Ordering::Greater),
+        (b"12345678a", b"12345678a", Ordering::Equal),
+        (LONG, LONG, Ordering::Equal),
+    ];
+    for (one, other, order) in rows {
+        let found = Content::new(alloc, one)?.cmp(&Content::new(alloc, other)?);
+        assert_eq!(rt; found, order);
+    }
+    Ok(())
+}
+
+#[test]
+fn tile_by_its_id(rt: HostRuntime) -> Result<(), Fail> {
+    let alloc = rt.alloc();
+    let options = PmTilesWriter::new(TileType::Unknown);
+    let mut medium = MemMedium::new(alloc);
+    let mut state = options.start(alloc, &mut medium)?;
+    state.reserve(1)?;
+    state.add_raw_tile_by_id(&mut medium, TileId::new(0)?, b"0")?;
+    let places = state.finalize(&mut medium)?;
+    assert_eq!(rt; part(medium.as_bytes(), 127, 5), [1, 0, 1, 1, 1].as_slice());
+    assert_eq!(rt; part(medium.as_bytes(), 16_386, 1), b"0".as_slice());
+    assert_eq!(rt; places.length, 16_387);
     Ok(())
 }
 

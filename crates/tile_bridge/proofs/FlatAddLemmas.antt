@@ -1,5 +1,5 @@
 -- The adds of a flat table's tiles.
-use Rattle.std.proofs.Common.{◌≡◌, ℕ, suc, ◌<◌, ◌≤◌, ◌≢◌, inl, inr, Bool, true, false, cond, ◌&&◌, List, [], ◌∷◌, length, get_or, map, All, Option, Some, None, refl, sym, subst, ◌∙◌, ap, arith}
+use Rattle.std.proofs.Common.{◌≡◌, ℕ, suc, ◌<◌, ◌≤◌, ◌≢◌, inl, inr, Bool, true, false, cond, ◌&&◌, filter, filter_map, nat_eq, not, List, [], ◌∷◌, length, get_or, map, All, Option, Some, None, refl, sym, subst, ◌∙◌, ap, arith}
 use Rattle.std.proofs.lemmas.Bool.{and_parts, and_from}
 use Rattle.std.proofs.lemmas.Bool.Decides.{nat_tests}
 use Rattle.std.proofs.lemmas.List.Elements.{All-cons, All-nil}
@@ -21,14 +21,22 @@ use Rattle.mb_store.specs.Tiles.{Place, TileSet, is_solid, place_cmp, solid}
 use Rattle.pm_format.specs.LookUp.{archive_map}
 use Rattle.tile_bridge.specs.Aggregate.{bytes_of}
 use Rattle.tile_bridge.specs.Convert.{HoldsExactly, address}
-use Rattle.tile_bridge.specs.FlatAdds.{AreAddsOf, add_of, adds_in, content_at, seen}
+use Rattle.tile_bridge.specs.FlatAdds.{AreAddsOf, content_at}
 use Rattle.tile_bridge.specs.FlatRows.{coord_at, flat_set}
-use Rattle.tile_bridge.specs.FlatTiles.{AreTilesOf, shown, tile_at}
-use Rattle.tile_bridge.specs.declared.flat_adds.Add.{Add}
+use Rattle.tile_bridge.specs.FlatTiles.{AreTilesOf, is_filled, shown, tile_at, tiles_in, under_id}
 use Rattle.tile_bridge.specs.declared.flat_tiles.FlatTile.{FlatTile}
 use Rattle.tile_bridge.proofs.FlatRanges.{Pairs, Ranged, ranged_set}
 use Rattle.tile_bridge.proofs.Members.{Has, find_has, has_back, has_find, has_permuted, sorted_true}
 use Rattle.tile_bridge.proofs.PlaceLemmas.{InRange, coord_in_range, one_tie, tied_place}
+
+-- the add of a tile of at least one byte
+abbrev pub add_of : Coord × List ℕ → Option (ℕ × List ℕ)
+add_of (c, []) = None
+add_of (c, byte ∷ bytes) = Some (id_of c, byte ∷ bytes)
+
+-- the adds of tiles, in the order of the tiles
+abbrev pub adds_in : List (Coord × List ℕ) → List (ℕ × List ℕ)
+adds_in tiles = filter_map add_of tiles
 
 -- the adds of the tiles of entries
 abbrev pub added : Pairs → List (ℕ × List ℕ)
@@ -96,16 +104,16 @@ below_ids x (a ∷ adds) = is_lt (nat_cmp x a.0) && below_ids x adds
 rises : (x y : ℕ) → x ≤ y → eq_by_cmp nat_cmp x y ≡ false → is_lt (nat_cmp x y) ≡ true
 rises x y h n = grind (arith, nat_tests)
 
-all_above : (x : ℕ) (adds : List Add) → ((j : ℕ) (d : Add) → j < length adds → x ≤ (get_or adds j d).id) → AllByRecursion (λ y. eq_by_cmp nat_cmp x y ≡ false) (ids (seen adds)) → below_ids x (seen adds) ≡ true
+all_above : (x : ℕ) (adds : List FlatTile) → ((j : ℕ) (d : FlatTile) → j < length adds → x ≤ (get_or adds j d).id) → AllByRecursion (λ y. eq_by_cmp nat_cmp x y ≡ false) (ids (shown adds)) → below_ids x (shown adds) ≡ true
 all_above x [] h n = refl
 all_above x (a ∷ adds) h n = and_from _ _ (rises x a.id (h 0 a (omega arith)) n.0) (all_above x adds (λ j d far. h (suc j) d (omega (arith, far))) n.1)
 
-adds_rise : (adds : List Add) → IsNonDecreasingBy (λ a. a.id) adds → IsDistinct (eq_by_cmp nat_cmp) (ids (seen adds)) → is_sorted nat_cmp (seen adds) ≡ true
+adds_rise : (adds : List FlatTile) → IsNonDecreasingBy (λ a. a.id) adds → IsDistinct (eq_by_cmp nat_cmp) (ids (shown adds)) → is_sorted nat_cmp (shown adds) ≡ true
 adds_rise [] h n = refl
 adds_rise (a ∷ adds) h n =
     and_from _ _
-    (all_above a.id adds (λ j d far. h 0 (suc j) d (omega arith) (omega (arith, far))) (IsDistinct-head (eq_by_cmp nat_cmp) a.id (ids (seen adds)) n))
-    (adds_rise adds (λ i j d order far. h (suc i) (suc j) d (omega (arith, order)) (omega (arith, far))) (IsDistinct-tail (eq_by_cmp nat_cmp) a.id (ids (seen adds)) n))
+    (all_above a.id adds (λ j d far. h 0 (suc j) d (omega arith) (omega (arith, far))) (IsDistinct-head (eq_by_cmp nat_cmp) a.id (ids (shown adds)) n))
+    (adds_rise adds (λ i j d order far. h (suc i) (suc j) d (omega (arith, order)) (omega (arith, far))) (IsDistinct-tail (eq_by_cmp nat_cmp) a.id (ids (shown adds)) n))
 
 -- tiles of at least one byte are the adds
 has_added : (p : Place) (bytes : List ℕ) → bytes ≢ [] → (es : Pairs) → Has (p, Some bytes) es → Has (address p, bytes) (added es)
@@ -145,44 +153,63 @@ from_solid g [] h some = absurd (some refl)
 from_solid g (b ∷ bs) h some = ap (λ o. cond (is_solid o) o None) h
 
 -- the adds of a set, in the order of ids
-module _ (set : TileSet) (ranged : Ranged (entries set)) (adds : List Add) (same : IsPermutation (added (entries set)) (seen adds)) (order : IsNonDecreasingBy (λ a. a.id) adds) where
+module _ (set : TileSet) (ranged : Ranged (entries set)) (adds : List FlatTile) (same : IsPermutation (added (entries set)) (shown adds)) (order : IsNonDecreasingBy (λ a. a.id) adds) where
   set_rises : is_sorted place_cmp (entries set) ≡ true
   set_rises = sorted_true _ (entries_sorted set)
 
   solid_is : (p : Place) → get (solid set) p ≡ (let g = get set p in cond (is_solid g) g None)
   solid_is p = get-solid set p
 
-  adds_sorted : is_sorted nat_cmp (seen adds) ≡ true
+  adds_sorted : is_sorted nat_cmp (shown adds) ≡ true
   adds_sorted = adds_rise adds order
-      (IsDistinct-IsPermutation (eq_by_cmp nat_cmp) (eq_by_cmp_equiv nat_cmp_total).symm (ids (added (entries set))) (ids (seen adds)) (IsPermutation-map (λ (a : ℕ × List ℕ). a.0) (added (entries set)) (seen adds) same) (distinct_ids (entries set) ranged set_rises))
+      (IsDistinct-IsPermutation (eq_by_cmp nat_cmp) (eq_by_cmp_equiv nat_cmp_total).symm (ids (added (entries set))) (ids (shown adds)) (IsPermutation-map (λ (a : ℕ × List ℕ). a.0) (added (entries set)) (shown adds) same) (distinct_ids (entries set) ranged set_rises))
 
-  each_add : (p : Place) (bytes : List ℕ) → get (solid set) p ≡ Some (Some bytes) → content_at (seen adds) (address p) ≡ Some bytes
+  each_add : (p : Place) (bytes : List ℕ) → get (solid set) p ≡ Some (Some bytes) → content_at (shown adds) (address p) ≡ Some bytes
   each_add p bytes h =
       let there = to_solid (get set p) bytes (sym (solid_is p) ∙ h) in
       let place : Has (p, Some bytes) (entries set) = find_has place_cmp (λ a b e. tied_place a b (ap is_eq e)) (entries set) p (Some bytes) (sym (get-entries set p) ∙ there.0) in
-      has_find nat_cmp nat_cmp_total (seen adds) (address p) bytes adds_sorted (has_permuted (address p, bytes) (added (entries set)) (seen adds) same (has_added p bytes there.1 (entries set) place))
+      has_find nat_cmp nat_cmp_total (shown adds) (address p) bytes adds_sorted (has_permuted (address p, bytes) (added (entries set)) (shown adds) same (has_added p bytes there.1 (entries set) place))
 
-  only_adds : (id : ℕ) (bytes : List ℕ) → content_at (seen adds) id ≡ Some bytes → (p : Place) × (get (solid set) p ≡ Some (Some bytes)) × (address p ≡ id)
+  only_adds : (id : ℕ) (bytes : List ℕ) → content_at (shown adds) id ≡ Some bytes → (p : Place) × (get (solid set) p ≡ Some (Some bytes)) × (address p ≡ id)
   only_adds id bytes h =
-      let there : Has (id, bytes) (seen adds) = find_has nat_cmp nat_cmp-IsAntisymmetric (seen adds) id bytes h in
-      let found = added_has id bytes (entries set) (has_back (id, bytes) (added (entries set)) (seen adds) same there) in
+      let there : Has (id, bytes) (shown adds) = find_has nat_cmp nat_cmp-IsAntisymmetric (shown adds) id bytes h in
+      let found = added_has id bytes (entries set) (has_back (id, bytes) (added (entries set)) (shown adds) same there) in
       (found.0, solid_is found.0 ∙ from_solid (get set found.0) bytes (get-entries set found.0 ∙ has_find place_cmp places_total (entries set) found.0 (Some bytes) set_rises found.1) found.2, found.3)
 
-  pub adds_are : AreAddsOf (seen adds) set
+  pub adds_are : AreAddsOf (shown adds) set
   adds_are = record {
     rising = adds_sorted;
-    low = All-permutation (λ (a : ℕ × List ℕ). a.0 ≤ MAX_TILE_ID) (added (entries set)) (seen adds) same (adds_low (entries set) ranged);
-    filled = All-permutation (λ (a : ℕ × List ℕ). a.1 ≢ []) (added (entries set)) (seen adds) same (adds_filled (map tile_at (entries set)));
+    low = All-permutation (λ (a : ℕ × List ℕ). a.0 ≤ MAX_TILE_ID) (added (entries set)) (shown adds) same (adds_low (entries set) ranged);
+    filled = All-permutation (λ (a : ℕ × List ℕ). a.1 ≢ []) (added (entries set)) (shown adds) same (adds_filled (map tile_at (entries set)));
     each = each_add;
     only = only_adds;
   }
 
--- sorted adds have the bytes of the set's tiles
-pub permuted : (tiles : List FlatTile) (rows : List (List Cell)) (before after : List Add) → AreTilesOf tiles rows → seen before ≡ adds_in (shown tiles) → IsPermutation before after → IsPermutation (added (entries (flat_set rows))) (seen after)
-permuted tiles rows before after are is same = subst (λ xs. IsPermutation xs (seen after)) (is ∙ ap adds_in are) (IsPermutation-map (λ (a : Add). (a.id, a.bytes.now)) before after same)
+-- whether a tile has a byte, by the number of its bytes
+pub filled_is : (id : ℕ) (bytes : List ℕ) (b : Bool) → b ≡ not (nat_eq (length bytes) 0) → b ≡ is_filled (id, bytes)
+filled_is id [] b h = h
+filled_is id (byte ∷ bytes) b h = h ∙ grind (arith, nat_tests)
 
-pub sorted_adds : (tiles : List FlatTile) (rows : List (List Cell)) (before after : List Add) → AreTilesOf tiles rows → seen before ≡ adds_in (shown tiles) → IsPermutation before after → IsNonDecreasingBy (λ a. a.id) after → AreAddsOf (seen after) (flat_set rows)
-sorted_adds tiles rows before after are is same order = adds_are (flat_set rows) (ranged_set rows) after (permuted tiles rows before after are is same) order
+-- tiles of at least one byte under their ids are the adds
+filled_adds : (ts : List (Coord × List ℕ)) → filter is_filled (map under_id ts) ≡ adds_in ts
+filled_adds [] = refl
+filled_adds ((c, []) ∷ ts) = filled_adds ts
+filled_adds ((c, byte ∷ bytes) ∷ ts) = ap (λ adds. (id_of c, byte ∷ bytes) ∷ adds) (filled_adds ts)
+
+shown_filled : (tiles : List FlatTile) → shown (filter (λ t. is_filled (t.id, t.bytes.now)) tiles) ≡ filter is_filled (shown tiles)
+shown_filled [] = refl
+shown_filled (t ∷ tiles) = elim (is_filled (t.id, t.bytes.now)) as (λ b. shown (cond b (t ∷ filter (λ t. is_filled (t.id, t.bytes.now)) tiles) (filter (λ t. is_filled (t.id, t.bytes.now)) tiles)) ≡ cond b ((t.id, t.bytes.now) ∷ filter is_filled (shown tiles)) (filter is_filled (shown tiles))) [
+  | true ↦ ap (λ xs. (t.id, t.bytes.now) ∷ xs) (shown_filled tiles)
+  | false ↦ shown_filled tiles
+]
+
+-- sorted adds have the bytes of the set's tiles
+pub permuted : (tiles before after : List FlatTile) (rows : List (List Cell)) → AreTilesOf tiles rows → before ≡ filter (λ t. is_filled (t.id, t.bytes.now)) tiles → IsPermutation before after → IsPermutation (added (entries (flat_set rows))) (shown after)
+permuted tiles before after rows are is same =
+    subst (λ xs. IsPermutation xs (shown after)) (ap shown is ∙ shown_filled tiles ∙ ap (filter is_filled) are ∙ filled_adds (tiles_in rows)) (IsPermutation-map (λ (a : FlatTile). (a.id, a.bytes.now)) before after same)
+
+pub sorted_adds : (tiles before after : List FlatTile) (rows : List (List Cell)) → AreTilesOf tiles rows → before ≡ filter (λ t. is_filled (t.id, t.bytes.now)) tiles → IsPermutation before after → IsNonDecreasingBy (λ a. a.id) after → AreAddsOf (shown after) (flat_set rows)
+sorted_adds tiles before after rows are is same order = adds_are (flat_set rows) (ranged_set rows) after (permuted tiles before after rows are is same) order
 
 -- an archive with the bytes of the adds, and no others, holds exactly the set's tiles
 pub holds_adds : (b : List ℕ) (adds : List (ℕ × List ℕ)) (tiles : TileSet) → AreAddsOf adds tiles → ((id : ℕ) → archive_map b id ≡ content_at adds id) → HoldsExactly b tiles

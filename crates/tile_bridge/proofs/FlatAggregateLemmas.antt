@@ -5,8 +5,7 @@ use Rattle.tile_ids.proofs.Indexes.{inverted_twice}
 use Rattle.mb_store.specs.declared.cell.Cell.{Cell}
 use Rattle.tile_bridge.specs.Aggregate.{aggregate, bytes_of, tile_text}
 use Rattle.tile_bridge.specs.FlatRows.{flat_set}
-use Rattle.tile_bridge.specs.FlatTiles.{AreTilesOf, shown, text_at, tile_at}
-use Rattle.tile_bridge.specs.declared.flat_tiles.FlatTile.{FlatTile}
+use Rattle.tile_bridge.specs.FlatTiles.{text_at, texts, tile_at, tiles_in}
 use Rattle.tile_bridge.proofs.FlatRanges.{Pairs, Ranged, ranged_set}
 use Rattle.tile_hash.specs.Digest.{digest}
 use Rattle.tile_hash.specs.declared.algorithm.HashAlgorithm.TheVariants as algorithm
@@ -26,6 +25,6 @@ texts_at (e ∷ es) h =
     ∙ ap (λ rest. tile_text e ++ rest) (texts_at es h.1)
 
 -- the text of the tiles of rows is that of their set
-pub joined : (tiles : List FlatTile) (rows : List (List Cell)) → AreTilesOf tiles rows → digest algorithm.Md5 (flat_map text_at (shown tiles)) ≡ aggregate (flat_set rows)
+pub joined : (rows : List (List Cell)) → digest algorithm.Md5 (texts (tiles_in rows)) ≡ aggregate (flat_set rows)
 unfolding aggregate
-joined tiles rows are = ap (λ ts. digest algorithm.Md5 (flat_map text_at ts)) are ∙ ap (digest algorithm.Md5) (texts_at (entries (flat_set rows)) (ranged_set rows))
+joined rows = ap (digest algorithm.Md5) (texts_at (entries (flat_set rows)) (ranged_set rows))

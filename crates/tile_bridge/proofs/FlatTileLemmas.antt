@@ -1,11 +1,11 @@
 -- The tiles of a flat table are the first rows of each place.
-use Rattle.std.proofs.Common.{◌≡◌, ℕ, ◌+◌, ◌-◌, ◌<◌, ◌≤◌, Bool, true, false, cond, ◌&&◌, List, [], ◌∷◌, ◌++◌, length, get_or, map, drop, filter_map, Option, Some, None, append_assoc, append-nil, length-append, nat_eq, refl, sym, ◌∙◌, ap, arith}
+use Rattle.std.proofs.Common.{◌≡◌, ℕ, ◌+◌, ◌<◌, ◌≤◌, Bool, true, false, cond, ◌&&◌, List, [], ◌∷◌, ◌++◌, length, get_or, map, drop, filter_map, Option, Some, None, append-nil, nat_eq, refl, sym, subst, ◌∙◌, ap, arith}
 use Rattle.std.proofs.lemmas.Bool.{and_parts}
 use Rattle.std.proofs.lemmas.Bool.Decides.{nat_tests}
 use Rattle.std.specs.declared.cmp.Ordering.TheVariants.{Less, Equal, Greater}
 use Rattle.std.specs.Ordering.{eq_by_cmp, is_eq, is_gt}
 use Rattle.std.specs.Cmp.{tied_itself}
-use Rattle.std.specs.List.{cons_option, slice_get}
+use Rattle.std.specs.List.{cons_option}
 use Rattle.std.proofs.lemmas.List.{drop_all, drop_more}
 use Rattle.std.specs.Option.{option_map}
 use Rattle.std.specs.FinMap.{entries, entries-insert, from_entries, put}
@@ -17,7 +17,9 @@ use Rattle.mb_store.specs.declared.cell.Cell.TheVariants.{Null, Int, Text, Blob,
 use Rattle.mb_store.specs.Tiles.{Place, cell_at, contents_of, pairs_at, place_cmp, place_of, tile_of}
 use Rattle.tile_bridge.specs.Aggregate.{bytes_of}
 use Rattle.tile_bridge.specs.FlatRows.{cell_bytes, coord_at, flat_set}
-use Rattle.tile_bridge.specs.FlatTiles.{AreTilesOf, is_at, last_coord, next_of, row_tile, shown, tile_at}
+use Rattle.tile_hash.specs.Md5Stream.{HasTaken}
+use Rattle.tile_hash.specs.declared.md5_stream.Md5Stream.{Md5Stream}
+use Rattle.tile_bridge.specs.FlatTiles.{AreTilesOf, after, is_at, next_of, row_tile, shown, texts, tile_at, tiles_in, under_id}
 use Rattle.tile_bridge.specs.declared.flat_tiles.FlatTile.{FlatTile}
 use Rattle.tile_bridge.proofs.FlatRanges.{Pairs, Ranged, no_entries}
 use Rattle.tile_bridge.proofs.PlaceLemmas.{InRange, coord_in_place, tied_place}
@@ -127,52 +129,58 @@ fresh_rows rows h c = ap (fresh None) (row_tiles rows) ∙ fresh_firsts None (pa
 one_row : (rows : List (List Cell)) (i : ℕ) (row : List Cell) → i < length rows → row ≡ get_or rows i row → filter_map row_tile (drop i rows) ≡ cons_option (row_tile row) (filter_map row_tile (drop (i + 1) rows))
 one_row rows i row far is = ap (filter_map row_tile) (drop_more rows i row far) ∙ sym (ap (λ r. cons_option (row_tile r) (filter_map row_tile (drop (i + 1) rows))) is)
 
-none_fresh : (before : Option Coord) (o : Option (Coord × List ℕ)) (rest : List (Coord × List ℕ)) → next_of before o ≡ None → fresh before (cons_option o rest) ≡ fresh before rest
-none_fresh before None rest h = refl
-none_fresh before (Some t) rest h = elim (is_at before t.0) as (λ b. cond b None (Some t) ≡ None → cond b (fresh before rest) (t ∷ fresh (Some t.0) rest) ≡ fresh before rest) [ true ↦ λ e. refl | false ↦ λ e. absurd (cc) ] h
+-- the tile that is taken of a row, and those that follow it
+step_fresh : (before : Option Coord) (o : Option (Coord × List ℕ)) (rest : List (Coord × List ℕ)) → fresh before (cons_option o rest) ≡ cons_option (next_of before o) (fresh (after before (next_of before o)) rest)
+step_fresh before None rest = refl
+step_fresh before (Some t) rest = elim (is_at before t.0) as (λ b. cond b (fresh before rest) (t ∷ fresh (Some t.0) rest) ≡ cons_option (cond b None (Some t)) (fresh (after before (cond b None (Some t))) rest)) [ true ↦ refl | false ↦ refl ]
 
-one_fresh : (before : Option Coord) (o : Option (Coord × List ℕ)) (t : Coord × List ℕ) (rest : List (Coord × List ℕ)) → next_of before o ≡ Some t → fresh before (cons_option o rest) ≡ t ∷ fresh (Some t.0) rest
-one_fresh before None t rest h = absurd (cc)
-one_fresh before (Some u) t rest h = elim (is_at before u.0) as (λ b. cond b None (Some u) ≡ Some t → cond b (fresh before rest) (u ∷ fresh (Some u.0) rest) ≡ t ∷ fresh (Some t.0) rest) [
-  | true ↦ λ e. absurd (cc)
-  | false ↦ λ e. let same : u ≡ t = cc in ap (λ x. x ∷ fresh (Some x.0) rest) same
-] h
+-- what the rows from a number on give, behind the coordinate before them
+abbrev pub left : Option Coord → List (List Cell) → ℕ → List (Coord × List ℕ)
+left before rows i = fresh before (filter_map row_tile (drop i rows))
+
+pub one_left : (before : Option Coord) (rows : List (List Cell)) (i : ℕ) (row : List Cell) → i < length rows → row ≡ get_or rows i row
+    → left before rows i ≡ cons_option (next_of before (row_tile row)) (left (after before (next_of before (row_tile row))) rows (i + 1))
+one_left before rows i row far is = ap (fresh before) (one_row rows i row far is) ∙ step_fresh before (row_tile row) (filter_map row_tile (drop (i + 1) rows))
+
+pub none_left : (before : Option Coord) (rows : List (List Cell)) (i : ℕ) → length rows ≤ i → left before rows i ≡ []
+none_left before rows i far = ap (λ rs. fresh before (filter_map row_tile rs)) (drop_all i rows far)
 
 -- the tiles so far, and those of the rows that are left
-abbrev pub AreRead : List FlatTile → List (List Cell) → ℕ → Type 0
-AreRead tiles rows i = shown tiles ++ fresh (last_coord tiles) (filter_map row_tile (drop i rows)) ≡ fresh None (filter_map row_tile rows)
+abbrev pub AreRead : List FlatTile → Option Coord → List (List Cell) → ℕ → Type 0
+AreRead tiles before rows i = shown tiles ++ map under_id (left before rows i) ≡ map under_id (left None rows 0)
 
-pub row_passed : (tiles : List FlatTile) (rows : List (List Cell)) (i : ℕ) (row : List Cell) → i < length rows → row ≡ get_or rows i row → next_of (last_coord tiles) (row_tile row) ≡ None → AreRead tiles rows i → AreRead tiles rows (i + 1)
-row_passed tiles rows i row far is none so_far =
-    let rest = filter_map row_tile (drop (i + 1) rows) in
-    sym (ap (λ ts. shown tiles ++ ts) (ap (fresh (last_coord tiles)) (one_row rows i row far is) ∙ none_fresh (last_coord tiles) (row_tile row) rest none)) ∙ so_far
-
-shown_push : (tiles : List FlatTile) (t : FlatTile) → shown (tiles ++ t ∷ []) ≡ shown tiles ++ (t.coord, t.bytes.now) ∷ []
-shown_push [] t = refl
-shown_push (u ∷ tiles) t = ap (λ ts. (u.coord, u.bytes.now) ∷ ts) (shown_push tiles t)
-
-last_push : (tiles : List FlatTile) (t : FlatTile) → slice_get (tiles ++ t ∷ []) (length tiles) ≡ Some t
-last_push [] t = refl
-last_push (u ∷ tiles) t = last_push tiles t
-
-length_push : (tiles : List FlatTile) (t : FlatTile) → length (tiles ++ t ∷ []) - 1 ≡ length tiles
-length_push tiles t = omega (arith, length-append tiles (t ∷ []))
-
-last_is : (tiles : List FlatTile) (t : FlatTile) → last_coord (tiles ++ t ∷ []) ≡ Some t.coord
-last_is tiles t = ap (option_map (λ u. u.coord)) (ap (slice_get (tiles ++ t ∷ [])) (length_push tiles t) ∙ last_push tiles t)
-
-pub row_taken : (tiles new : List FlatTile) (rows : List (List Cell)) (i : ℕ) (row : List Cell) (t : FlatTile) → i < length rows → row ≡ get_or rows i row → Some (t.coord, t.bytes.now) ≡ next_of (last_coord tiles) (row_tile row) → new ≡ tiles ++ t ∷ [] → AreRead tiles rows i → AreRead new rows (i + 1)
-row_taken tiles new rows i row t far is taken pushed so_far =
-    let rest = filter_map row_tile (drop (i + 1) rows) in
-    ap (λ ts. shown ts ++ fresh (last_coord ts) rest) pushed
-    ∙ (λ k. shown_push tiles t k ++ fresh (last_is tiles t k) rest)
-    ∙ append_assoc (shown tiles) ((t.coord, t.bytes.now) ∷ []) (fresh (Some t.coord) rest)
-    ∙ sym (ap (λ ts. shown tiles ++ ts) (ap (fresh (last_coord tiles)) (one_row rows i row far is) ∙ one_fresh (last_coord tiles) (row_tile row) (t.coord, t.bytes.now) rest (sym taken)))
-    ∙ so_far
-
-pub rows_read : (tiles : List FlatTile) (rows : List (List Cell)) (i : ℕ) → length rows ≤ i → Ranged (pairs_at 3 rows) → Climbs (pairs_at 3 rows) → AreRead tiles rows i → AreTilesOf tiles rows
-rows_read tiles rows i far h c so_far =
+pub rows_read : (tiles : List FlatTile) (before : Option Coord) (rows : List (List Cell)) (i : ℕ) → length rows ≤ i → Ranged (pairs_at 3 rows) → Climbs (pairs_at 3 rows) → AreRead tiles before rows i → AreTilesOf tiles rows
+rows_read tiles before rows i far h c so_far =
     sym (append-nil (shown tiles))
-    ∙ sym (ap (λ rs. shown tiles ++ fresh (last_coord tiles) (filter_map row_tile rs)) (drop_all i rows far))
+    ∙ sym (ap (λ ts. shown tiles ++ map under_id ts) (none_left before rows i far))
     ∙ so_far
-    ∙ fresh_rows rows h c
+    ∙ ap (map under_id) (fresh_rows rows h c)
+
+-- and their texts
+abbrev pub AreHashed : Md5Stream → Md5Stream → Option Coord → List (List Cell) → ℕ → Type 0
+AreHashed start stream before rows i = (m : List ℕ) → HasTaken start m → (text : List ℕ) × HasTaken stream text × (text ++ texts (left before rows i) ≡ m ++ texts (left None rows 0))
+
+pub rows_hashed : (start stream : Md5Stream) (before : Option Coord) (rows : List (List Cell)) (i : ℕ) → length rows ≤ i → Ranged (pairs_at 3 rows) → Climbs (pairs_at 3 rows) → AreHashed start stream before rows i
+    → (m : List ℕ) → HasTaken start m → HasTaken stream (m ++ texts (tiles_in rows))
+rows_hashed start stream before rows i far h c so_far m taken =
+    let t = so_far m taken in
+    let end : t.0 ≡ m ++ texts (tiles_in rows) = sym (append-nil t.0) ∙ sym (ap (λ ts. t.0 ++ texts ts) (none_left before rows i far)) ∙ t.2 ∙ ap (λ ts. m ++ texts ts) (fresh_rows rows h c) in
+    subst (HasTaken stream) end t.1
+
+-- one more row
+last_left : (before last : Option Coord) (rows : List (List Cell)) (i : ℕ) (row : List Cell) → i < length rows → row ≡ get_or rows i row → last ≡ after before (next_of before (row_tile row))
+    → left before rows i ≡ cons_option (next_of before (row_tile row)) (left last rows (i + 1))
+last_left before last rows i row far is at = one_left before rows i row far is ∙ sym (ap (λ l. cons_option (next_of before (row_tile row)) (left l rows (i + 1))) at)
+
+pub row_read : (tiles new : List FlatTile) (before last : Option Coord) (rows : List (List Cell)) (i : ℕ) (row : List Cell) → i < length rows → row ≡ get_or rows i row → last ≡ after before (next_of before (row_tile row))
+    → ((rest : List (Coord × List ℕ)) → shown new ++ map under_id rest ≡ shown tiles ++ map under_id (cons_option (next_of before (row_tile row)) rest)) → AreRead tiles before rows i → AreRead new last rows (i + 1)
+row_read tiles new before last rows i row far is at taken so_far =
+    taken (left last rows (i + 1)) ∙ sym (ap (λ ts. shown tiles ++ map under_id ts) (last_left before last rows i row far is at)) ∙ so_far
+
+pub row_hashed : (start old new : Md5Stream) (before last : Option Coord) (rows : List (List Cell)) (i : ℕ) (row : List Cell) → i < length rows → row ≡ get_or rows i row → last ≡ after before (next_of before (row_tile row))
+    → ((m : List ℕ) (rest : List (Coord × List ℕ)) → HasTaken old m → (text : List ℕ) × HasTaken new text × (text ++ texts rest ≡ m ++ texts (cons_option (next_of before (row_tile row)) rest)))
+    → AreHashed start old before rows i → AreHashed start new last rows (i + 1)
+row_hashed start old new before last rows i row far is at taken so_far = λ m begun.
+    let a = so_far m begun in
+    let b = taken a.0 (left last rows (i + 1)) a.1 in
+    (b.0, b.1, b.2 ∙ sym (ap (λ ts. a.0 ++ texts ts) (last_left before last rows i row far is at)) ∙ a.2)

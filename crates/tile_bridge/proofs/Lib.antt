@@ -1,6 +1,5 @@
 pub mod ConvertLemmas
 pub mod FewAddLemmas
-pub mod FilledTiles
 pub mod FlatAddLemmas
 pub mod FlatAggregateLemmas
 pub mod FlatRanges

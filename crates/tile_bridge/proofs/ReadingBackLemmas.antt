@@ -1,5 +1,5 @@
 -- Reading the archive back that was written.
-use Rattle.std.proofs.Common.{◌≡◌, ℕ, ◌+◌, ◌<◌, ◌≤◌, Bool, true, cond, List, [], ◌∷◌, ◌++◌, length, get_or, map, take, nat_le, Option, None, Some, IfSome, Result, Ok, Err, IsErrAnd, refl, sym, subst, ◌∙◌, ap, arith}
+use Rattle.std.proofs.Common.{◌≡◌, ℕ, ◌+◌, ◌<◌, ◌≤◌, Bool, true, cond, List, [], ◌∷◌, ◌++◌, length, get_or, map, take, nat_le, Option, None, Some, IfSome, Result, Ok, Err, IsErrAnd, sym, subst, ◌∙◌, ap, arith}
 use Rattle.std.specs.Prelude.{IsOk}
 use Rattle.std.proofs.lemmas.Bool.Decides.{nat_tests}
 use Rattle.std.proofs.lemmas.List.{map-append, take_all, take_more}
@@ -21,7 +21,7 @@ use Rattle.pm_reader.specs.Caches.{Held}
 use Rattle.pm_reader.specs.Opening.{OpenAnswers, OpenCauses}
 use Rattle.pm_reader.specs.ReadsFrom.{ReadsFrom}
 use Rattle.pm_reader.specs.declared.state.ReaderState.{ReaderState}
-use Rattle.tile_bridge.specs.ReadingBack.{GivesTile, GrewFrom, IsHindered, ReadBackCauses, ReadsAnswers, answered, answered_by, at_least_one}
+use Rattle.tile_bridge.specs.ReadingBack.{GivesTile, GrewFrom, IsHindered, ReadBackCauses, ReadsAnswers, answered, answered_by}
 
 -- a well-formed archive is sound
 pub is_sound : (b : List ℕ) (o : Options) (clustered : Bool) → WellFormed b o clustered → Sound b
@@ -70,15 +70,10 @@ tile_hindered b t (errors.Reading causes.Fault) s h = tt
 tile_hindered b t e s h = absurd (let no : IsOk {T = Option (List ℕ)} {E = PmtError} (Err e) = subst IsOk h (sound_tile b t s) in cc)
 
 -- the tile that a look-up found
-filled_is : (found : Option (List ℕ)) → filled (Ok found) ≡ at_least_one found
-filled_is None = refl
-filled_is (Some []) = refl
-filled_is (Some (byte ∷ bytes)) = refl
-
-pub tile_given : (b : List ℕ) (t : ℕ) (found tile : Option (List ℕ)) → t ≤ MAX_TILE_ID → archive_tile b t ≡ Ok found → tile ≡ at_least_one found → tile ≡ archive_map b t
+pub tile_given : (b : List ℕ) (t : ℕ) (found tile : Option (List ℕ)) → t ≤ MAX_TILE_ID → archive_tile b t ≡ Ok found → tile ≡ filled (Ok found) → tile ≡ archive_map b t
 tile_given b t found tile low is same =
     let within : nat_le t MAX_TILE_ID ≡ true = grind (arith, nat_tests) in
-    same ∙ sym (filled_is found) ∙ sym (ap filled is) ∙ sym (ap (λ test. cond test (filled (archive_tile b t)) None) within)
+    same ∙ sym (ap filled is) ∙ sym (ap (λ test. cond test (filled (archive_tile b t)) None) within)
 
 -- after so many coordinates
 pub record SoFar {B : Type 0} (told : B → Option (List ℕ)) (count failed : B → ℕ) (steady : B → Type 0) (s : ReaderState) (x y : B) (held : Held) (coords : List Coord) (n : ℕ) (tiles : List (Option (List ℕ))) : Type 0 where

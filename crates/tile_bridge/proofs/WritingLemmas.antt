@@ -1,7 +1,6 @@
 -- Adds written one after another.
 use Rattle.std.proofs.Common.{◌≡◌, ℕ, ◌+◌, ◌<◌, ◌≤◌, Bool, false, All, ◌≢◌, List, [], length, get_or, take, Result, Ok, Err, IsErrAnd, refl, sym, subst, ◌∙◌, ap, arith}
 use Rattle.std.proofs.lemmas.List.{get_or-map, length-map}
-use Rattle.tile_ids.specs.Hilbert.{id_of}
 use Rattle.pm_format.specs.Options.{Options}
 use Rattle.pm_format.specs.declared.compression.Compression.TheVariants as compression
 use Rattle.pm_format.specs.declared.error.PmtError.{PmtError}
@@ -12,33 +11,26 @@ use Rattle.pm_writer.proofs.Few.{archive_fits}
 use Rattle.pm_writer.proofs.Sorted.{adds_distinct}
 use Rattle.pm_writer.specs.Causes.{AddCauses, FinishCauses}
 use Rattle.pm_writer.specs.Writing.{AddFits, add_to}
-use Rattle.tile_bridge.specs.FlatAdds.{AreUnderIds, seen}
+use Rattle.tile_bridge.specs.FlatTiles.{shown}
 use Rattle.tile_bridge.specs.Writing.{CanBeWritten, WriteCauses}
-use Rattle.tile_bridge.specs.declared.flat_adds.Add.{Add}
+use Rattle.tile_bridge.specs.declared.flat_tiles.FlatTile.{FlatTile}
 
 -- the add of a number, as it is seen
-seen_at : (adds : List Add) (i : ℕ) (a : Add) → i < length adds → a ≡ get_or adds i a → get_or (seen adds) i (a.id, a.bytes.now) ≡ (a.id, a.bytes.now)
-seen_at adds i a far is = get_or-map (λ (a : Add). (a.id, a.bytes.now)) adds i a (a.id, a.bytes.now) far ∙ sym (ap (λ x. (x.id, x.bytes.now)) is)
+shown_at : (adds : List FlatTile) (i : ℕ) (a : FlatTile) → i < length adds → a ≡ get_or adds i a → get_or (shown adds) i (a.id, a.bytes.now) ≡ (a.id, a.bytes.now)
+shown_at adds i a far is = get_or-map (λ (a : FlatTile). (a.id, a.bytes.now)) adds i a (a.id, a.bytes.now) far ∙ sym (ap (λ x. (x.id, x.bytes.now)) is)
 
-far_seen : (adds : List Add) (i : ℕ) → i < length adds → i < length (seen adds)
-far_seen adds i far = omega (arith, far, length-map {B = ℕ × List ℕ} adds (λ (a : Add). (a.id, a.bytes.now)))
-
--- its coordinate has its id
-pub id_at : (adds : List Add) (i : ℕ) (a : Add) → i < length adds → a ≡ get_or adds i a → AreUnderIds adds → id_of a.coord ≡ a.id
-id_at adds i a far is under = subst (λ x. id_of x.coord ≡ x.id) (sym is) (under i a far)
+far_shown : (adds : List FlatTile) (i : ℕ) → i < length adds → i < length (shown adds)
+far_shown adds i far = omega (arith, far, length-map {B = ℕ × List ℕ} adds (λ (a : FlatTile). (a.id, a.bytes.now)))
 
 -- it fits behind those before it
-pub fits_at : (o : Options) (adds : List Add) (i : ℕ) (a : Add) (id : ℕ) → i < length adds → a ≡ get_or adds i a → CanBeWritten o (seen adds) → id ≡ a.id → AddFits o (take i (seen adds)) id a.bytes.now
-fits_at o adds i a id far at can is =
-    subst (λ n. AddFits o (take i (seen adds)) n a.bytes.now) (sym is)
-    (subst (λ x. AddFits o (take i (seen adds)) x.0 x.1) (seen_at adds i a far at) (add_fits_at o (seen adds) i (a.id, a.bytes.now) (far_seen adds i far) can.few))
+pub fits_at : (o : Options) (adds : List FlatTile) (i : ℕ) (a : FlatTile) → i < length adds → a ≡ get_or adds i a → CanBeWritten o (shown adds) → AddFits o (take i (shown adds)) a.id a.bytes.now
+fits_at o adds i a far at can = subst (λ x. AddFits o (take i (shown adds)) x.0 x.1) (shown_at adds i a far at) (add_fits_at o (shown adds) i (a.id, a.bytes.now) (far_shown adds i far) can.few)
 
 -- and with it one more add is there
-pub added_to : (adds : List Add) (i : ℕ) (a : Add) (id : ℕ) → i < length adds → a ≡ get_or adds i a → All (λ a. a.1 ≢ []) (seen adds) → id ≡ a.id → add_to (take i (seen adds)) id a.bytes.now ≡ take (i + 1) (seen adds)
-added_to adds i a id far at filled is =
-    ap (λ n. add_to (take i (seen adds)) n a.bytes.now) is
-    ∙ ap (λ x. add_to (take i (seen adds)) x.0 x.1) (sym (seen_at adds i a far at))
-    ∙ added_at (seen adds) i (a.id, a.bytes.now) (far_seen adds i far) (filled i (a.id, a.bytes.now) (far_seen adds i far))
+pub added_to : (adds : List FlatTile) (i : ℕ) (a : FlatTile) → i < length adds → a ≡ get_or adds i a → All (λ a. a.1 ≢ []) (shown adds) → add_to (take i (shown adds)) a.id a.bytes.now ≡ take (i + 1) (shown adds)
+added_to adds i a far at filled =
+    ap (λ x. add_to (take i (shown adds)) x.0 x.1) (sym (shown_at adds i a far at))
+    ∙ added_at (shown adds) i (a.id, a.bytes.now) (far_shown adds i far) (filled i (a.id, a.bytes.now) (far_shown adds i far))
 
 -- a refused add, whose data fits, is a fault or want of memory
 pub add_refused : {A : Type 0} (fits : Type 0) (start before now : ℕ) (failed : Bool) (e : PmtError) (r : Result A PmtError) → failed ≡ false → fits → start ≤ before → AddCauses compression.None failed fits before now (Err e) → IsErrAnd r (λ x. x ≡ e) → WriteCauses {A = A} start now r

@@ -10,12 +10,6 @@ use Rattle.pm_format.specs.declared.error.ReadCause.TheVariants as causes
 use Rattle.tile_bridge.specs.declared.error.ConvertError.{ConvertError}
 use Rattle.tile_bridge.specs.declared.error.ConvertError.TheVariants as refusals
 
--- at least one byte, or nothing
-abbrev pub at_least_one : Option (List ℕ) → Option (List ℕ)
-at_least_one None = None
-at_least_one (Some []) = None
-at_least_one (Some (byte ∷ bytes)) = Some (byte ∷ bytes)
-
 -- how many of the answers have at least one byte
 abbrev pub answered_by : Option (List ℕ) → ℕ
 answered_by None = 0

@@ -10,14 +10,15 @@ ghost use Rattle.pm_format.specs.Options.{Options};
 ghost use Rattle.pm_writer.specs.Few.{AreFew};
 ghost use Rattle.tile_bridge.specs.Aggregate.{aggregate};
 ghost use Rattle.tile_bridge.specs.Convert.{ConvertCauses, ConvertLeaves, overflows};
-ghost use Rattle.tile_bridge.specs.FlatAdds.{AreAddsOf, AreUnderIds, seen};
+ghost use Rattle.tile_bridge.specs.FlatAdds.{AreAddsOf};
 ghost use Rattle.tile_bridge.specs.FlatRows.{AreFlatRows, flat_set};
+ghost use Rattle.tile_bridge.specs.FlatTiles.{shown};
 ghost use Rattle.tile_bridge.specs.ReadingBack.{GrewFrom, answered, of_read_error};
 ghost use Rattle.tile_bridge.specs.Writing.{SetCauses, of_write_error};
 
-use crate::flat_adds::{Add, adds_of};
-use crate::flat_aggregate::{aggregate_of, is_overflow};
-use crate::flat_tiles::tiles_of_rows;
+use crate::flat_adds::make_adds;
+use crate::flat_aggregate::is_overflow;
+use crate::flat_tiles::{FlatTile, tiles_of_rows};
 use crate::reading_back::read_answers;
 use crate::writing::write_archive;
 use crate::{ConvertError, ConvertReport};
@@ -25,25 +26,29 @@ use mb_store::{MemStore, Row, TableName};
 use pm_format::{Compression, Medium, PmtError, ReadCause};
 use pm_writer::PmTilesWriter;
 use std::alloc::Global;
+use tile_hash::Md5Stream;
 use tile_ids::{TextVal, TileCoord};
 
 // The aggregate hash and the adds of a flat table whose tiles are few and short enough.
-fn set_of_rows<'a>(alloc: Global, rows: &'a [Row]) -> Result<(TextVal, Vec<Add<'a>>), ConvertError>
+fn set_of_rows<'a>(
+    alloc: Global,
+    rows: &'a [Row],
+) -> Result<(TextVal, Vec<FlatTile<'a>>), ConvertError>
     requires flat { AreFlatRows rows.now }
     requires order { IsInOrder Tiles rows.now }
     ensures aggregate { IfOk result (λ set. set.0 ≡ aggregate (flat_set rows.now)) }
-    ensures are { IfOk result (λ set. AreAddsOf (seen set.1.items) (flat_set rows.now)) }
-    ensures few { IfOk result (λ set. (o : Options) → length o.metadata < 2 ^ 63 → overflows (flat_set rows.now) ≡ false → AreFew o (seen set.1.items)) }
-    ensures ids { IfOk result (λ set. AreUnderIds set.1.items) }
+    ensures are { IfOk result (λ set. AreAddsOf (shown set.1.items) (flat_set rows.now)) }
+    ensures few { IfOk result (λ set. (o : Options) → length o.metadata < 2 ^ 63 → overflows (flat_set rows.now) ≡ false → AreFew o (shown set.1.items)) }
     ensures causes { SetCauses (overflows (flat_set rows.now)) result }
 {
-    let tiles = tiles_of_rows(alloc, rows)?;
+    let mut stream = Md5Stream::new();
+    let mut tiles = tiles_of_rows(alloc, rows, &mut stream)?;
     if is_overflow(&tiles) {
         return Err(ConvertError::IndexEntryOverflow);
     }
-    let aggregate = aggregate_of(alloc, &tiles)?;
-    let adds = adds_of(alloc, &tiles)?;
-    Ok((aggregate, adds))
+    let aggregate = stream.finish(alloc)?;
+    make_adds(&mut tiles);
+    Ok((aggregate, tiles))
 }
 
 // The conversion's word for the error of a writer that can only fail or find no memory.

@@ -1,63 +1,35 @@
 // The adds of a flat table: its tiles of at least one byte by their ids.
-ghost use Rattle.std.specs.Prelude.{◌≡◌, ◌<◌, ◌^◌, List, false, length, IfOk};
+ghost use Rattle.std.specs.Prelude.{◌≡◌, ◌<◌, ◌^◌, List, false, filter, length};
 ghost use Rattle.std.specs.List.Sorted.{IsNonDecreasingBy, IsPermutation};
 ghost use Rattle.mb_store.specs.declared.cell.Cell.{Cell};
 ghost use Rattle.pm_format.specs.Options.{Options};
 ghost use Rattle.pm_writer.specs.Few.{AreFew};
 ghost use Rattle.tile_bridge.specs.Convert.{overflows};
-ghost use Rattle.tile_bridge.specs.FlatAdds.{AreAddsOf, AreUnderIds, adds_in, seen};
+ghost use Rattle.tile_bridge.specs.FlatAdds.{AreAddsOf};
 ghost use Rattle.tile_bridge.specs.FlatRows.{flat_set};
-ghost use Rattle.tile_bridge.specs.FlatTiles.{AreTilesOf, shown};
+ghost use Rattle.tile_bridge.specs.FlatTiles.{AreTilesOf, is_filled, shown};
 
 use crate::flat_tiles::FlatTile;
-use std::alloc::Global;
-use tile_ids::{OutOfMemory, TileCoord, TileId};
 
-/// A tile of at least one byte, and its id.
-#[derive(Clone, Copy, Debug)]
-pub(crate) struct Add<'a> {
-    pub(crate) id: u64,
-    pub(crate) coord: TileCoord,
-    pub(crate) bytes: &'a [u8],
+// Leaves the tiles that have a byte.
+fn keep_filled(tiles: &mut Vec<FlatTile>)
+    ensures { tiles.new.items ≡ filter (λ t. is_filled (t.id, t.bytes.now)) tiles.old.items }
+{
+    tiles.retain(|tile| !tile.bytes.is_empty());
 }
 
-// The adds of tiles, in the order of the tiles.
-fn filled_tiles<'a>(alloc: Global, tiles: &[FlatTile<'a>]) -> Result<Vec<Add<'a>>, OutOfMemory>
-    ensures are { IfOk result (λ adds. seen adds.items ≡ adds_in (shown tiles.now)) }
-    ensures ids { IfOk result (λ adds. AreUnderIds adds.items) }
+fn sort_by_id(tiles: &mut Vec<FlatTile>)
+    ensures same { IsPermutation tiles.old.items tiles.new.items }
+    ensures rising { IsNonDecreasingBy (λ t. t.id) tiles.new.items }
 {
-    let mut adds = Vec::with_capacity(alloc, tiles.len())?;
-    for tile in tiles {
-        if tile.bytes.is_empty() {
-            continue;
-        }
-        let id = TileId::from(tile.coord).value();
-        adds.push_reserved(Add {
-            id,
-            coord: tile.coord,
-            bytes: tile.bytes,
-        });
-    }
-    Ok(adds)
+    tiles.sort_unstable_by_key(|tile| tile.id);
 }
 
-fn sort_by_id(adds: &mut Vec<Add>)
-    ensures same { IsPermutation adds.old.items adds.new.items }
-    ensures rising { IsNonDecreasingBy (λ a. a.id) adds.new.items }
+/// Makes adds of the tiles of a flat table: those of at least one byte, by rising id.
+pub(crate) fn make_adds(tiles: &mut Vec<FlatTile>)
+    ensures are { (rows : List (List Cell)) → AreTilesOf tiles.old.items rows → AreAddsOf (shown tiles.new.items) (flat_set rows) }
+    ensures few { (rows : List (List Cell)) → AreTilesOf tiles.old.items rows → (o : Options) → length o.metadata < 2 ^ 63 → overflows (flat_set rows) ≡ false → AreFew o (shown tiles.new.items) }
 {
-    adds.sort_unstable_by_key(|add| add.id);
-}
-
-/// The tiles of a flat table that have at least one byte, by rising id.
-pub(crate) fn adds_of<'a>(
-    alloc: Global,
-    tiles: &[FlatTile<'a>],
-) -> Result<Vec<Add<'a>>, OutOfMemory>
-    ensures are { IfOk result (λ adds. (rows : List (List Cell)) → AreTilesOf tiles.now rows → AreAddsOf (seen adds.items) (flat_set rows)) }
-    ensures few { IfOk result (λ adds. (rows : List (List Cell)) → AreTilesOf tiles.now rows → (o : Options) → length o.metadata < 2 ^ 63 → overflows (flat_set rows) ≡ false → AreFew o (seen adds.items)) }
-    ensures ids { IfOk result (λ adds. AreUnderIds adds.items) }
-{
-    let mut adds = filled_tiles(alloc, tiles)?;
-    sort_by_id(&mut adds);
-    Ok(adds)
+    keep_filled(tiles);
+    sort_by_id(tiles);
 }

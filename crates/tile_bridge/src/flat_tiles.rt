@@ -1,64 +1,93 @@
-// The tiles of a flat table, in one pass over its rows.
-ghost use Rattle.std.specs.Prelude.{◌≡◌, IfOk};
+// The tiles of a flat table.
+ghost use Rattle.std.specs.Prelude.{◌≡◌, ◌<◌, ◌≤◌, ◌+◌, ◌++◌, ℕ, List, IfOk, OnOk, map, vec_len};
+ghost use Rattle.std.specs.Vec.{vec_capacity};
+ghost use Rattle.std.specs.List.{cons_option};
 ghost use Rattle.std.specs.Option.{option_map};
 ghost use Rattle.mb_store.specs.Store.{IsInOrder};
 ghost use Rattle.mb_store.specs.declared.table.TableName.TheVariants.{Tiles};
+ghost use Rattle.tile_hash.specs.Md5Stream.{HasTaken};
+ghost use Rattle.tile_ids.specs.Coord.{Coord};
 ghost use Rattle.tile_bridge.specs.FlatRows.{AreFlatRows};
-ghost use Rattle.tile_bridge.specs.FlatTiles.{AreTilesOf, is_at, last_coord, next_of, row_tile};
+ghost use Rattle.tile_bridge.specs.FlatTiles.{AreTilesOf, after, is_at, next_of, row_tile, shown, texts, tiles_in, under_id};
 
+use crate::flat_aggregate::hash_tile;
 use crate::flat_rows::{bytes_of, coord_of};
 use mb_store::Row;
 use std::alloc::Global;
-use tile_ids::{OutOfMemory, TileCoord};
+use tile_hash::Md5Stream;
+use tile_ids::{OutOfMemory, TileCoord, TileId};
 
-/// A tile: its coordinate and its bytes, none where its contents are null.
+/// A tile: its id and its bytes, none where its contents are null.
 #[derive(Clone, Copy, Debug)]
 pub(crate) struct FlatTile<'a> {
-    pub(crate) coord: TileCoord,
+    pub(crate) id: TileId,
     pub(crate) bytes: &'a [u8],
 }
 
-// Whether a coordinate is that of the last tile.
-fn is_repeated(tiles: &[FlatTile], coord: TileCoord) -> bool
-    ensures { result ≡ is_at (last_coord tiles.now) coord }
+// Whether a coordinate is the one before it, if there is one.
+fn is_repeated(before: &Option<TileCoord>, coord: TileCoord) -> bool
+    ensures { result ≡ is_at before.now coord }
 {
-    match tiles.last() {
-        Some(last) => last.coord.z() == coord.z()
-            && last.coord.x() == coord.x()
-            && last.coord.y() == coord.y(),
+    match before {
+        Some(last) => last.z() == coord.z() && last.x() == coord.x() && last.y() == coord.y(),
         None => false,
     }
 }
 
-/// The tile of a row, or None where its place is that of the last tile.
-pub(crate) fn next_tile<'a>(tiles: &[FlatTile], row: &'a Row) -> Option<FlatTile<'a>>
-    ensures { option_map (λ t. (t.coord, t.bytes.now)) result ≡ next_of (last_coord tiles.now) (row_tile row.now) }
+/// The coordinate and the bytes of a row's tile, or None where its coordinate is the one before.
+pub(crate) fn next_tile<'a>(
+    before: &Option<TileCoord>,
+    row: &'a Row,
+) -> Option<(TileCoord, &'a [u8])>
+    ensures { option_map (λ t. (t.0, t.1.now)) result ≡ next_of before.now (row_tile row.now) }
 {
     let coord = coord_of(row)?;
-    if is_repeated(tiles, coord) {
+    if is_repeated(before, coord) {
         return None;
     }
-    Some(FlatTile {
-        coord,
-        bytes: bytes_of(row),
-    })
+    Some((coord, bytes_of(row)))
 }
 
-/// The tiles of a flat table whose rows stand in the order of their keys. Where rows have one place, the first of them is its tile.
+// Takes the tile of a row, if it isn't at the coordinate before: it is hashed, and stands behind the others. Gives the coordinate of the last tile.
+fn take_row<'a>(
+    tiles: &mut Vec<FlatTile<'a>>,
+    stream: &mut Md5Stream,
+    before: Option<TileCoord>,
+    row: &'a Row,
+) -> Option<TileCoord>
+    requires { vec_len tiles.old < vec_capacity tiles.old }
+    ensures last { result ≡ after before (next_of before (row_tile row.now)) }
+    ensures tiles { (rest : List (Coord × List ℕ)) → shown tiles.new.items ++ map under_id rest ≡ shown tiles.old.items ++ map under_id (cons_option (next_of before (row_tile row.now)) rest) }
+    ensures texts { (m : List ℕ) (rest : List (Coord × List ℕ)) → HasTaken stream.old m → (text : List ℕ) × HasTaken stream.new text × (text ++ texts rest ≡ m ++ texts (cons_option (next_of before (row_tile row.now)) rest)) }
+    ensures len { vec_len tiles.new ≤ vec_len tiles.old + 1 }
+    ensures capacity { vec_capacity tiles.new ≡ vec_capacity tiles.old }
+{
+    let Some((coord, bytes)) = next_tile(&before, row) else {
+        return before;
+    };
+    hash_tile(stream, coord, bytes);
+    tiles.push_reserved(FlatTile {
+        id: TileId::from(coord),
+        bytes,
+    });
+    Some(coord)
+}
+
+/// The tiles of a flat table whose rows stand in the order of their keys, and in one pass their hash. Where rows have one place, the first of them is its tile.
 pub(crate) fn tiles_of_rows<'a>(
     alloc: Global,
     rows: &'a [Row],
+    stream: &mut Md5Stream,
 ) -> Result<Vec<FlatTile<'a>>, OutOfMemory>
     requires flat { AreFlatRows rows.now }
     requires order { IsInOrder Tiles rows.now }
-    ensures { IfOk result (λ tiles. AreTilesOf tiles.items rows.now) }
+    ensures tiles { IfOk result (λ tiles. AreTilesOf tiles.items rows.now) }
+    ensures texts { (m : List ℕ) → HasTaken stream.old m → OnOk result (HasTaken stream.new (m ++ texts (tiles_in rows.now))) }
 {
     let mut tiles = Vec::with_capacity(alloc, rows.len())?;
+    let mut before = None;
     for row in rows {
-        let Some(tile) = next_tile(tiles.as_slice(), row) else {
-            continue;
-        };
-        tiles.push_reserved(tile);
+        before = take_row(&mut tiles, stream, before, row);
     }
     Ok(tiles)
 }

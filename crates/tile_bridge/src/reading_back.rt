@@ -1,13 +1,14 @@
 // The tiles at coordinates, read from the archive that was written.
 ghost use Rattle.std.specs.Prelude.{◌≡◌, ◌≤◌, ◌+◌, true, IfSome, IfOk};
 ghost use Rattle.tile_ids.specs.Hilbert.{id_of};
+ghost use Rattle.pm_format.specs.LookUp.{filled};
 ghost use Rattle.pm_format.specs.Options.{Options};
 ghost use Rattle.pm_format.specs.WellFormed.{WellFormed};
 ghost use Rattle.pm_reader.specs.Answers.{LookUpCauses};
 ghost use Rattle.pm_reader.specs.Archives.{UsesOneLength};
 ghost use Rattle.pm_reader.specs.MapCaches.{held_in_map};
 ghost use Rattle.pm_reader.specs.ReadsFrom.{ReadsFrom};
-ghost use Rattle.tile_bridge.specs.ReadingBack.{GivesTile, GrewFrom, ReadBackCauses, ReadsAnswers, answered, answered_by, at_least_one};
+ghost use Rattle.tile_bridge.specs.ReadingBack.{GivesTile, GrewFrom, ReadBackCauses, ReadsAnswers, answered, answered_by};
 
 use crate::Answers;
 use bytes::Bytes;
@@ -21,7 +22,7 @@ mod tests;
 
 // The bytes that were found, or None where there is none.
 fn filled_tile(alloc: Global, found: Option<Bytes>) -> Result<Option<BlobVal>, OutOfMemory>
-    ensures { IfOk result (λ tile. tile ≡ at_least_one found) }
+    ensures { IfOk result (λ tile. tile ≡ filled (Ok found)) }
 {
     match found {
         Some(bytes) => {

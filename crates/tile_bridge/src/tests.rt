@@ -1,13 +1,14 @@
 // A flat table of rows that were pushed in any order.
 ghost use Rattle.std.specs.Prelude.{◌≡◌, IfOk, length};
 
-use crate::flat_adds::adds_of;
-use crate::flat_aggregate::{aggregate_of, is_overflow};
+use crate::flat_adds::make_adds;
+use crate::flat_aggregate::{hash_tile, is_overflow};
 use crate::flat_tiles::{FlatTile, next_tile};
 use mb_store::{Cell, MbtResult, MbtType, MemStore, Row, TableName};
 use std::alloc::{AllocError, Global};
 use std::test::Fail;
-use tile_ids::{BlobVal, TileCoord, TileError};
+use tile_hash::Md5Stream;
+use tile_ids::{BlobVal, TileCoord, TileError, TileId};
 
 fn row_of(
     alloc: Global,
@@ -61,28 +62,34 @@ fn five_coords() -> Result<[TileCoord; 5], TileError> {
     ])
 }
 
-// The same five, where the text is `a0b`.
+// The bytes of the same five, where the text is `a0b`.
+fn texts_of(text: &[u8; 3]) -> [&[u8]; 5] {
+    [&text[..1], &text[..0], &text[..0], &text[1..2], &text[2..]]
+}
+
+// The same five in the order of their places.
 fn in_order<'a>(coords: &[TileCoord; 5], text: &'a [u8; 3]) -> [FlatTile<'a>; 5] {
+    let texts = texts_of(text);
     [
         FlatTile {
-            coord: coords[0],
-            bytes: &text[..1],
+            id: TileId::from(coords[0]),
+            bytes: texts[0],
         },
         FlatTile {
-            coord: coords[1],
-            bytes: &text[..0],
+            id: TileId::from(coords[1]),
+            bytes: texts[1],
         },
         FlatTile {
-            coord: coords[2],
-            bytes: &text[..0],
+            id: TileId::from(coords[2]),
+            bytes: texts[2],
         },
         FlatTile {
-            coord: coords[3],
-            bytes: &text[1..2],
+            id: TileId::from(coords[3]),
+            bytes: texts[3],
         },
         FlatTile {
-            coord: coords[4],
-            bytes: &text[2..],
+            id: TileId::from(coords[4]),
+            bytes: texts[4],
         },
     ]
 }
@@ -92,14 +99,14 @@ fn tiles_pushed_in_any_order(rt: HostRuntime) -> Result<(), Fail> {
     let mut store = five_tiles(rt.alloc())?;
     store.settle()?;
     let rows = store.table_rows(TableName::Tiles);
+    let coords = five_coords()?;
     let text = *b"a0b";
-    let tiles = in_order(&five_coords()?, &text);
+    let texts = texts_of(&text);
     assert_eq!(rt; rows.len(), 5);
     for index in 0..5usize {
-        let found = next_tile(&tiles[..index], &rows[index]);
-        assert!(rt;
-            matches!(found, Some(tile) if tile.coord == tiles[index].coord && tile.bytes == tiles[index].bytes)
-        );
+        let (place, text) = (coords[index], texts[index]);
+        let found = next_tile(&None, &rows[index]);
+        assert!(rt; matches!(found, Some((coord, bytes)) if coord == place && bytes == text));
     }
     Ok(())
 }
@@ -107,27 +114,37 @@ fn tiles_pushed_in_any_order(rt: HostRuntime) -> Result<(), Fail> {
 #[test]
 fn first_row_of_a_place_counts(rt: HostRuntime) -> Result<(), Fail> {
     let alloc = rt.alloc();
-    let text = *b"a0b";
-    let tiles = in_order(&five_coords()?, &text);
+    let coords = five_coords()?;
     let again = row_of(alloc, 4, 11, 2, blob(alloc, b"second")?)?;
-    assert!(rt; next_tile(&tiles, &again).is_none());
-    assert!(rt; next_tile(&tiles[..4], &again).is_some());
+    assert!(rt; next_tile(&Some(coords[4]), &again).is_none());
+    assert!(rt; next_tile(&Some(coords[3]), &again).is_some());
     Ok(())
 }
 
 #[test]
-fn aggregate_and_adds(rt: HostRuntime) -> Result<(), Fail> {
-    let alloc = rt.alloc();
+fn aggregate_of_five(rt: HostRuntime) -> Result<(), Fail> {
+    let coords = five_coords()?;
     let text = *b"a0b";
-    let tiles = in_order(&five_coords()?, &text);
-    assert!(rt; !is_overflow(&tiles));
-    let hash = aggregate_of(alloc, &tiles)?;
+    let texts = texts_of(&text);
+    let mut stream = Md5Stream::new();
+    for index in 0..5usize {
+        hash_tile(&mut stream, coords[index], texts[index]);
+    }
+    let hash = stream.finish(rt.alloc())?;
     assert_eq!(rt; hash.as_str(), "A636A2FAFA1110AC93196DDFD8D2963A");
-    let adds = adds_of(alloc, &tiles)?;
-    assert_eq!(rt; adds.len(), 3);
+    Ok(())
+}
+
+#[test]
+fn adds_of_five(rt: HostRuntime) -> Result<(), Fail> {
+    let text = *b"a0b";
+    let mut tiles = Vec::from_slice(rt.alloc(), &in_order(&five_coords()?, &text))?;
+    assert!(rt; !is_overflow(&tiles));
+    make_adds(&mut tiles);
+    assert_eq!(rt; tiles.len(), 3);
     for (index, (id, bytes)) in [(0u64, b"a"), (91, b"0"), (241, b"b")].iter().enumerate() {
-        assert_eq!(rt; adds[index].id, *id);
-        assert_eq!(rt; adds[index].bytes, bytes.as_slice());
+        assert_eq!(rt; tiles[index].id.value(), *id);
+        assert_eq!(rt; tiles[index].bytes, bytes.as_slice());
     }
     Ok(())
 }

@@ -1,26 +1,59 @@
 // The archive of adds, written to a medium.
-ghost use Rattle.std.specs.Prelude.{◌≡◌, ◌≤◌, [], false, IfSome, IfOk, OnOk, OnErr, is_some};
+ghost use Rattle.std.specs.Prelude.{◌≡◌, ◌<◌, ◌≤◌, ℕ, List, [], Option, false, length, IfSome, IfOk, OnOk, OnErr, is_some};
 ghost use Rattle.pm_format.specs.Options.{Options};
 ghost use Rattle.pm_format.specs.declared.compression.Compression.TheVariants as compression;
 ghost use Rattle.pm_writer.specs.Archive.{archive};
 ghost use Rattle.pm_writer.specs.Pieces.{IsHidden, IsHiddenOr};
 ghost use Rattle.pm_writer.specs.Places.{places_of};
 ghost use Rattle.pm_writer.specs.Writing.{Writes, has_failed};
-ghost use Rattle.tile_bridge.specs.FlatAdds.{AreUnderIds, seen};
+ghost use Rattle.tile_bridge.specs.FlatTiles.{shown};
 ghost use Rattle.tile_bridge.specs.Writing.{CanBeWritten, WriteCauses};
 
-use crate::flat_adds::Add;
+use crate::flat_tiles::FlatTile;
 use pm_format::{Medium, PmtResult};
 use pm_writer::{ArchivePlaces, PmTilesWriter, WriterState};
 use std::alloc::Global;
+use tile_ids::OutOfMemory;
+
+// How many adds are looked at together.
+const BLOCK: usize = 64;
+
+// Whether an add goes on the run of the one before it.
+fn goes_on(before: &FlatTile, add: &FlatTile) -> bool {
+    add.id.value() == before.id.value() + 1 && add.bytes == before.bytes
+}
+
+// How many entries adds need: one for each that doesn't go on a run.
+fn count_entries(adds: &[FlatTile]) -> usize {
+    let mut count = 0;
+    for index in 0..adds.len() {
+        if index == 0 || !goes_on(&adds[index - 1], &adds[index]) {
+            count += 1;
+        }
+    }
+    count
+}
+
+// Makes room for the entries of each block of adds before it. It reads the contents of the block on the way, so that they come from memory side by side and
+// not one after another.
+fn make_room(state: &mut WriterState, adds: &[FlatTile], index: usize) -> Result<(), OutOfMemory>
+    requires { index < length adds.now }
+    ensures same { (o : Options) (told : Option (List ℕ)) (done : List (ℕ × List ℕ)) → Writes o told state.old done → Writes o told state.new done }
+    ensures alive { has_failed state.new ≡ has_failed state.old }
+{
+    if index % BLOCK != 0 {
+        return Ok(());
+    }
+    let rest = &adds[index..];
+    state.reserve(count_entries(&rest[..rest.len().min(BLOCK)]))
+}
 
 // Adds tiles to an archive that is begun.
-fn add_all<M: Medium>(state: &mut WriterState, medium: &mut M, adds: &[Add]) -> PmtResult<()>
-    requires begun { (o : Options) × Writes o (M.told medium.old) state.old [] × CanBeWritten o (seen adds.now) }
-    requires ids { AreUnderIds adds.now }
+fn add_all<M: Medium>(state: &mut WriterState, medium: &mut M, adds: &[FlatTile]) -> PmtResult<()>
+    requires begun { (o : Options) × Writes o (M.told medium.old) state.old [] × CanBeWritten o (shown adds.now) }
     requires alive { has_failed state.old ≡ false }
     ensures tells { is_some (M.told medium.new) ≡ is_some (M.told medium.old) }
-    ensures added { (o : Options) → Writes o (M.told medium.old) state.old [] → OnOk result (Writes o (M.told medium.new) state.new (seen adds.now)) }
+    ensures added { (o : Options) → Writes o (M.told medium.old) state.old [] → OnOk result (Writes o (M.told medium.new) state.new (shown adds.now)) }
     ensures hidden { OnErr result (IfSome (M.told medium.new) IsHidden) }
     ensures alive { OnOk result (has_failed state.new ≡ false) }
     ensures causes { WriteCauses (M.faults medium.old) (M.faults medium.new) result }
@@ -28,8 +61,9 @@ fn add_all<M: Medium>(state: &mut WriterState, medium: &mut M, adds: &[Add]) -> 
     ensures reads { M.reads medium.new ≡ M.reads medium.old }
     ensures calm { M.steady medium.old → M.steady medium.new × (M.faults medium.new ≡ M.faults medium.old) }
 {
-    for add in adds {
-        state.add_raw_tile(medium, add.coord, add.bytes)?;
+    for (index, add) in adds.iter().enumerate() {
+        make_room(state, adds, index)?;
+        state.add_raw_tile_by_id(medium, add.id, add.bytes)?;
     }
     Ok(())
 }
@@ -41,17 +75,16 @@ fn add_all<M: Medium>(state: &mut WriterState, medium: &mut M, adds: &[Add]) -> 
 pub(crate) fn write_archive<M: Medium>(
     alloc: Global,
     options: &PmTilesWriter,
-    adds: &[Add],
+    adds: &[FlatTile],
     medium: &mut M,
 ) -> PmtResult<ArchivePlaces>
     requires empty { IfSome (M.told medium.old) (λ b. b ≡ []) }
     requires plain { options.now.internal_compression ≡ compression.None }
-    requires fit { CanBeWritten options.now (seen adds.now) }
-    requires ids { AreUnderIds adds.now }
+    requires fit { CanBeWritten options.now (shown adds.now) }
     ensures tells { is_some (M.told medium.new) ≡ is_some (M.told medium.old) }
-    ensures bytes { OnOk result (IfSome (M.told medium.new) (λ b. b ≡ archive options.now (seen adds.now))) }
-    ensures places { IfOk result (λ p. p ≡ places_of options.now (seen adds.now)) }
-    ensures shown { IfSome (M.told medium.new) (IsHiddenOr (archive options.now (seen adds.now))) }
+    ensures bytes { OnOk result (IfSome (M.told medium.new) (λ b. b ≡ archive options.now (shown adds.now))) }
+    ensures places { IfOk result (λ p. p ≡ places_of options.now (shown adds.now)) }
+    ensures shown { IfSome (M.told medium.new) (IsHiddenOr (archive options.now (shown adds.now))) }
     ensures causes { WriteCauses (M.faults medium.old) (M.faults medium.new) result }
     ensures faults { M.faults medium.old ≤ M.faults medium.new }
     ensures reads { M.reads medium.new ≡ M.reads medium.old }

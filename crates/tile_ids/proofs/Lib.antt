@@ -3,7 +3,10 @@ pub mod Children
 pub mod Curve
 pub mod Halving
 pub mod Indexes
+pub mod Levels
 pub mod Neighbours
-pub mod Places
 pub mod Pyramid
+pub mod Sixteenths
 pub mod Subtree
+pub mod Walks
+pub mod Zooms

@@ -2,3 +2,4 @@ pub mod Counts
 pub mod Coord
 pub mod Hilbert
 pub mod Interval
+pub mod Orientation

@@ -9,6 +9,7 @@ mod id;
 mod interval;
 pub mod laws;
 mod memory;
+mod orientation;
 #[cfg(test)]
 mod tests;
 mod text;

@@ -1,13 +1,14 @@
 -- Ids and their coordinates, and the rows of the first ids.
-use Rattle.std.proofs.Common.{◌≡◌, ℕ, zero, suc, ◌+◌, ◌-◌, ◌/◌, ◌^◌, ◌≤◌, ◌<◌, Bool, true, false, ◌⊎◌, inl, inr, if◌then◌else◌, nat_le, nat_lt, List, [], ◌∷◌, ◌++◌, All, length, get_or, take, map, pos, refl, sym, ◌∙◌, ap, subst, arith}
+use Rattle.std.proofs.Common.{◌≡◌, ℕ, zero, suc, ◌+◌, ◌-◌, ◌*◌, ◌/◌, ◌^◌, ◌≤◌, ◌<◌, Bool, true, false, ◌⊎◌, inl, inr, if◌then◌else◌, nat_le, nat_lt, List, [], ◌∷◌, All, map, pos, refl, sym, ◌∙◌, ap, subst, lit<, arith}
+use Rattle.std.proofs.Math.Nat.{pow-le-pow_right}
 use Rattle.std.proofs.lemmas.Bool.Decides.{nat_tests}
 use Rattle.std.proofs.lemmas.Cmp.{on_total}
-use Rattle.std.proofs.lemmas.List.{map-append, take_more}
+use Rattle.std.proofs.lemmas.List.{map-append}
 use Rattle.std.proofs.lemmas.List.Elements.{All-append, All-cons, All-nil}
-use Rattle.std.proofs.lemmas.List.Sums.{fold_push}
+use Rattle.std.proofs.lemmas.List.Sums.{fold-append, fold_push}
 use Rattle.tile_ids.proofs.Bijection.{one_id, place}
 use Rattle.tile_ids.proofs.Bijection as bijection
-use Rattle.tile_ids.proofs.Curve.{pyramid_next}
+use Rattle.tile_ids.proofs.Curve.{pyramid_exact, pyramid_next}
 use Rattle.tile_ids.specs.Coord.{Coord, IsCoord, inverted_y}
 use Rattle.tile_ids.specs.Hilbert.{id_of, pyramid, tile_id}
 use Rattle.tile_ids.specs.declared.id.TheConstants.{MAX_TILE_ID}
@@ -26,7 +27,7 @@ use Rattle.tileset.proofs.ScriptLemmas.{flat_placed}
 use Rattle.tileset.proofs.RowTreeLemmas.{numbers_cmp, numbers_same, numbers_total, row_order}
 use Rattle.tileset.specs.RowTree.{Numbers}
 use Rattle.tileset.specs.Bulk.{bulk_rows, coord_of, numbered_row, zoom_up_to}
-use Rattle.tileset.specs.BulkPlaces.{first_places, place_of, place_row}
+use Rattle.tileset.specs.BulkPlaces.{first_places, if_below, joined, place_of, place_row, side_in}
 use Rattle.tileset.specs.declared.bulk.BulkPlace.{BulkPlace}
 
 -- an id lies in its zoom
@@ -34,7 +35,7 @@ pub record InZoom (z id : ℕ) : Type 0 where
   pub from : pyramid z ≤ id
   pub below : id < pyramid z + 4 ^ z
 
-in_zoom : (k id : ℕ) → id < pyramid (suc k) → InZoom (zoom_up_to k id) id
+pub in_zoom : (k id : ℕ) → id < pyramid (suc k) → InZoom (zoom_up_to k id) id
 in_zoom zero id h = record { from = omega arith; below = subst (λ m. id < m) (pyramid_next 0) h }
 in_zoom (suc k) id h = cased (nat_le (pyramid (suc k)) id) refl (λ l. in_zoom k id l)
   where
@@ -156,33 +157,66 @@ bulk_whole n repeat places rows l moved e =
     ∙ (ap (map row) (any_order place_order places_total IsPlace one_place (first_places n) places (all_places n l) moved)
     ∙ (sym (all_put-map place_order (row_cmp Tiles) row same [] (first_places n)) ∙ rows_by_id n repeat)))
 
--- one more id
-pub places_more : (id : ℕ) (places new : List BulkPlace) (place : BulkPlace) → places ≡ first_places id → place ≡ place_of id → new ≡ places ++ place ∷ [] → new ≡ first_places (id + 1)
-unfolding first_places
-places_more id places new place e f g =
-    let next : suc id ≡ id + 1 = omega arith in
-    g ∙ (ap (λ ps. ps ++ place ∷ []) e ∙ (ap (λ p. first_places id ++ p ∷ []) f ∙ ap first_places next))
+-- no row for a place whose id isn't below the number
+pub none_pushed : (n repeat : ℕ) (p : BulkPlace) (rows : List (List Cell)) → n ≤ p.id → rows ≡ all_placed Tiles rows (map (place_row repeat) (if_below n p))
+unfolding if_below
+none_pushed n repeat p rows h = let e : nat_lt p.id n ≡ false = grind (arith, nat_tests) in rw e refl
 
-pub no_places : [] ≡ first_places 0
-unfolding first_places
-no_places = refl
+-- one row for another place
+pub one_pushed : (n repeat : ℕ) (t u : Tables) (p : BulkPlace) (row : List Cell) → p.id < n → row ≡ place_row repeat p → u ≡ with_row t Tiles row → u.rows Tiles ≡ all_placed Tiles (t.rows Tiles) (map (place_row repeat) (if_below n p))
+unfolding if_below
+one_pushed n repeat t u p row h e new =
+    let below : nat_lt p.id n ≡ true = grind (arith, nat_tests) in
+    rw below (ap (λ x. x.rows Tiles) new ∙ ap (λ r. placed Tiles r (t.rows Tiles)) e)
 
--- one more row
-pub rows_more : (t u : Tables) (rows : List (List Cell)) (repeat i : ℕ) (places : List BulkPlace) (d : BulkPlace) (row : List Cell) → i < length places → row ≡ place_row repeat (get_or places i d) → t.rows Tiles ≡ all_placed Tiles rows (map (place_row repeat) (take i places)) → u ≡ with_row t Tiles row
-    → u.rows Tiles ≡ all_placed Tiles rows (map (place_row repeat) (take (i + 1) places))
-rows_more t u rows repeat i places d row l e told new =
-    let f : BulkPlace → List Cell = place_row repeat in
-    let place : BulkPlace = get_or places i d in
-    ap (λ x. x.rows Tiles) new ∙ (ap (placed Tiles row) told
-    ∙ (ap (λ r. placed Tiles r (all_placed Tiles rows (map f (take i places)))) e
-    ∙ (sym (fold_push (λ (rows : List (List Cell)) row. placed Tiles row rows) rows (map f (take i places)) (f place))
-    ∙ (ap (all_placed Tiles rows) (sym (map-append f (take i places) (place ∷ []))) ∙ ap (λ ps. all_placed Tiles rows (map f ps)) (sym (take_more places i d l))))))
+pub none_joined : (repeat : ℕ) (f : ℕ → List BulkPlace) (rows : List (List Cell)) → rows ≡ all_placed Tiles rows (map (place_row repeat) (joined f 0))
+unfolding joined
+none_joined repeat f rows = refl
 
--- a place that is made of its coordinate
-pub made_place : (id zoom column line : ℕ) (coord : Coord) → zoom ≡ coord.z → column ≡ coord.x → line ≡ inverted_y coord.z coord.y → coord ≡ coord_of id → record { zoom = zoom; column = column; line = line; id = id } ≡ place_of id
-unfolding place_of
-made_place id zoom column line coord z x l e =
-    let zooms : zoom ≡ (coord_of id).z = z ∙ ap (λ c. c.z) e in
-    let columns : column ≡ (coord_of id).x = x ∙ ap (λ c. c.x) e in
-    let lines : line ≡ inverted_y (coord_of id).z (coord_of id).y = l ∙ ap (λ c. inverted_y c.z c.y) e in
-    λ i. record { zoom = zooms i; column = columns i; line = lines i; id = id }
+-- the rows of one more list
+pub more_joined : (repeat i : ℕ) (f : ℕ → List BulkPlace) (first rows new : List (List Cell)) → rows ≡ all_placed Tiles first (map (place_row repeat) (joined f i)) → new ≡ all_placed Tiles rows (map (place_row repeat) (f i))
+    → new ≡ all_placed Tiles first (map (place_row repeat) (joined f (i + 1)))
+unfolding joined
+more_joined repeat i f first rows new told e =
+    let row : BulkPlace → List Cell = place_row repeat in
+    let next : suc i ≡ i + 1 = omega arith in
+    e ∙ (ap (λ rs. all_placed Tiles rs (map row (f i))) told
+    ∙ (sym (fold-append (λ (rows : List (List Cell)) r. placed Tiles r rows) first (map row (joined f i)) (map row (f i)))
+    ∙ (ap (all_placed Tiles first) (sym (map-append row (joined f i) (f i))) ∙ ap (λ k. all_placed Tiles first (map row (joined f k))) next)))
+
+-- the square's side as it is doubled
+pub one_side : (first n : ℕ) → 1 ≡ side_in first n 0
+unfolding side_in
+one_side first n = refl
+
+pub side_doubled : (first n level side : ℕ) → side ≡ side_in first n level → first + side * side < n → side * 2 ≡ side_in first n (level + 1)
+unfolding side_in
+side_doubled first n level side e h =
+    let next : suc level ≡ level + 1 = omega arith in
+    let t : nat_lt (first + side_in first n level * side_in first n level) n ≡ true = subst (λ s. nat_lt (first + s * s) n ≡ true) e (grind (arith, nat_tests)) in
+    let now : side_in first n (suc level) ≡ 2 * side_in first n level = rw t refl in
+    let twice : side * 2 ≡ 2 * side = omega arith in
+    twice ∙ (ap (λ s. 2 * s) e ∙ (sym now ∙ ap (side_in first n) next))
+
+pub side_kept : (first n level side : ℕ) → side ≡ side_in first n level → n ≤ first + side * side → side ≡ side_in first n (level + 1)
+unfolding side_in
+side_kept first n level side e h =
+    let next : suc level ≡ level + 1 = omega arith in
+    let t : nat_lt (first + side_in first n level * side_in first n level) n ≡ false = subst (λ s. nat_lt (first + s * s) n ≡ false) e (grind (arith, nat_tests)) in
+    let now : side_in first n (suc level) ≡ side_in first n level = rw t refl in
+    e ∙ (sym now ∙ ap (side_in first n) next)
+
+-- the first id of a zoom
+pub first_id : 0 ≡ pyramid 0
+first_id = refl
+
+pub next_first : (first z : ℕ) → first ≡ pyramid z → 4 * first + 1 ≡ pyramid (z + 1)
+next_first first z e =
+    let next : suc z ≡ z + 1 = omega arith in
+    let n : pyramid (suc z) ≡ pyramid z + 4 ^ z = pyramid_next z in
+    let exact : 3 * pyramid z + 1 ≡ 4 ^ z = pyramid_exact z in
+    let now : 4 * first + 1 ≡ pyramid (suc z) = omega (arith, n, exact, e) in
+    now ∙ ap pyramid next
+
+pub first_within : (first z : ℕ) → first ≡ pyramid z → z ≤ 9 → first ≤ 87381
+first_within first z e h = let p = pow-le-pow_right {n = 4} (lit< tt) {i = z} {j = 9} h in omega (arith, p, e)

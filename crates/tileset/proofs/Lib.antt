@@ -1,5 +1,6 @@
 pub mod AnyOrder
 pub mod BulkLemmas
+pub mod BulkOrder
 pub mod DumpLemmas
 pub mod FlatLineLemmas
 pub mod HexDumpLemmas

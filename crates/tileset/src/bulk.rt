@@ -1,20 +1,22 @@
 // Sets that are made from two numbers.
-ghost use Rattle.std.specs.Prelude.{◌≡◌, ◌≤◌, ◌<◌, IfOk, OnOk, Some, map};
-ghost use Rattle.std.specs.List.Sorted.{IsPermutation, IsSorted};
+ghost use Rattle.std.specs.Prelude.{◌≡◌, ◌≤◌, ◌<◌, ◌^◌, IfOk, OnOk, Some, map};
 ghost use Rattle.mb_store.specs.MemStore.{told_of};
 ghost use Rattle.mb_store.specs.Schema.{set_tables};
 ghost use Rattle.mb_store.specs.TableRows.{all_placed};
 ghost use Rattle.mb_store.specs.declared.kind.MbtType.TheVariants.{Flat};
 ghost use Rattle.mb_store.specs.declared.table.TableName.TheVariants.{Tiles};
 ghost use Rattle.tile_bridge.specs.FlatRows.{AreFlatRows};
-ghost use Rattle.tileset.specs.Bulk.{bulk_rows, coord_of};
-ghost use Rattle.tileset.specs.BulkPlaces.{first_places, place_cmp, place_of, place_row};
+ghost use Rattle.tileset.specs.Bulk.{bulk_rows};
+ghost use Rattle.tileset.specs.BulkPlaces.{column_places, if_below, ordered_places, place_at, place_row, side_in, zoom_places};
 ghost use Rattle.tileset.specs.RowTree.{base_rows};
 
 use itoa::Buffer;
 use mb_store::{Cell, MbtType, MemStore, Row, TableName};
 use std::alloc::Global;
-use tile_ids::{BlobVal, MAX_TILE_ID, OutOfMemory, TileCoord, TileId, invert_y_value};
+use tile_ids::{BlobVal, OutOfMemory, TileCoord, TileId, invert_y_value};
+
+// The ids of `bulk` lie in zooms below this one.
+const ZOOMS: u8 = 10;
 
 // A zoom, a column and a row from the bottom, and the id whose tile lies there.
 #[derive(Clone, Copy)]
@@ -22,56 +24,26 @@ struct BulkPlace {
     zoom: u8,
     column: u32,
     line: u32,
-    id: u32,
+    id: u64,
 }
 
-// The coordinate of an id.
-fn coord_of(id: u64) -> Option<TileCoord>
-    requires { id ≤ MAX_TILE_ID }
-    ensures { result ≡ Some (coord_of id) }
+// The place of a zoom, a column and a row from the top.
+fn place_at(zoom: u8, column: u32, y: u32) -> Option<BulkPlace>
+    requires zoom { zoom ≤ 9 }
+    requires column { column < 2 ^ zoom }
+    requires row { y < 2 ^ zoom }
+    ensures { result ≡ Some (place_at zoom column y) }
 {
-    match TileId::new(id) {
-        Ok(id) => Some(TileCoord::from(id)),
-        Err(_) => None,
-    }
-}
-
-// The place of an id.
-fn place_of(id: u32) -> Option<BulkPlace>
-    requires { id < 100000 }
-    ensures { result ≡ Some (place_of id) }
-{
-    let coord = coord_of(u64::from(id))?;
-    let zoom = coord.z();
+    let Ok(coord) = TileCoord::new(zoom, column, y) else {
+        return None;
+    };
+    let id = TileId::from(coord);
     Some(BulkPlace {
         zoom,
-        column: coord.x(),
-        line: invert_y_value(zoom, coord.y()),
-        id,
+        column,
+        line: invert_y_value(zoom, y),
+        id: id.value(),
     })
-}
-
-// The places of the ids below a number.
-fn first_places(alloc: Global, count: u32) -> Result<Vec<BulkPlace>, OutOfMemory>
-    requires { count ≤ 100000 }
-    ensures { IfOk result (λ places. places.items ≡ first_places count) }
-{
-    let mut places = Vec::with_capacity(alloc, count as usize)?;
-    for id in 0..count {
-        let Some(place) = place_of(id) else {
-            return Err(OutOfMemory);
-        };
-        places.push(place)?;
-    }
-    Ok(places)
-}
-
-// Sorts places by zoom, column and row.
-fn sort_places(places: &mut Vec<BulkPlace>)
-    ensures same { IsPermutation places.old.items places.new.items }
-    ensures rising { IsSorted place_cmp places.new.items }
-{
-    places.sort_unstable_by_key(|place| (place.zoom, place.column, place.line));
 }
 
 // The row of a place, whose contents are its id by `repeat`, rounded down, in decimal.
@@ -79,7 +51,7 @@ fn row_at(alloc: Global, place: &BulkPlace, repeat: u64) -> Result<Row, OutOfMem
     requires { 0 < repeat }
     ensures { IfOk result (λ row. row ≡ place_row repeat place.now) }
 {
-    let number = u64::from(place.id) / repeat;
+    let number = place.id / repeat;
     let contents = Vec::from_slice(alloc, Buffer::new().format(number).as_bytes())?;
     let cells = vec![in alloc;
         Cell::Int(i64::from(place.zoom)),
@@ -90,30 +62,120 @@ fn row_at(alloc: Global, place: &BulkPlace, repeat: u64) -> Result<Row, OutOfMem
     Ok(Row::new(cells))
 }
 
-// Adds the rows of places to a flat set.
-fn push_rows(
+// Adds the row of a place to a flat set, if its id is below `tiles`.
+fn push_place(
     alloc: Global,
     base: &mut MemStore,
-    places: &[BulkPlace],
+    place: &BulkPlace,
+    tiles: u64,
     repeat: u64,
 ) -> Result<(), OutOfMemory>
     requires repeat { 0 < repeat }
     requires described { (told_of base.old).descriptions ≡ set_tables Flat }
-    ensures rows { OnOk result (base_rows base.new ≡ all_placed Tiles (base_rows base.old) (map (place_row repeat) places.now)) }
+    ensures rows { OnOk result (base_rows base.new ≡ all_placed Tiles (base_rows base.old) (map (place_row repeat) (if_below tiles place.now))) }
     ensures described { (told_of base.new).descriptions ≡ set_tables Flat }
 {
-    for place in places {
-        let row = row_at(alloc, place, repeat)?;
-        // The keys of `bulk` are different, so that no row is refused but for memory.
-        let Ok(()) = base.push_row(TableName::Tiles, row) else {
+    if place.id >= tiles {
+        return Ok(());
+    }
+    let row = row_at(alloc, place, repeat)?;
+    // The keys of `bulk` are different, so that no row is refused but for memory.
+    let Ok(()) = base.push_row(TableName::Tiles, row) else {
+        return Err(OutOfMemory);
+    };
+    Ok(())
+}
+
+// Adds the rows of a column of a square at the top left of a zoom, the lowest first.
+fn push_column(
+    alloc: Global,
+    base: &mut MemStore,
+    tiles: u64,
+    repeat: u64,
+    zoom: u8,
+    column: u32,
+    side: u32,
+) -> Result<(), OutOfMemory>
+    requires repeat { 0 < repeat }
+    requires zoom { zoom ≤ 9 }
+    requires column { column < side }
+    requires side { side ≤ 2 ^ zoom }
+    requires described { (told_of base.old).descriptions ≡ set_tables Flat }
+    ensures rows { OnOk result (base_rows base.new ≡ all_placed Tiles (base_rows base.old) (map (place_row repeat) (column_places tiles zoom side column))) }
+    ensures described { (told_of base.new).descriptions ≡ set_tables Flat }
+{
+    for step in 0..side {
+        let Some(place) = place_at(zoom, column, side - 1 - step) else {
             return Err(OutOfMemory);
         };
+        push_place(alloc, base, &place, tiles, repeat)?;
+    }
+    Ok(())
+}
+
+// Adds the rows of such a square, column by column.
+fn push_zoom(
+    alloc: Global,
+    base: &mut MemStore,
+    tiles: u64,
+    repeat: u64,
+    zoom: u8,
+    side: u32,
+) -> Result<(), OutOfMemory>
+    requires repeat { 0 < repeat }
+    requires zoom { zoom ≤ 9 }
+    requires side { side ≤ 2 ^ zoom }
+    requires described { (told_of base.old).descriptions ≡ set_tables Flat }
+    ensures rows { OnOk result (base_rows base.new ≡ all_placed Tiles (base_rows base.old) (map (place_row repeat) (zoom_places tiles zoom side))) }
+    ensures described { (told_of base.new).descriptions ≡ set_tables Flat }
+{
+    for column in 0..side {
+        push_column(alloc, base, tiles, repeat, zoom, column, side)?;
+    }
+    Ok(())
+}
+
+// The side of the least square at the top left of a zoom that has each id of the zoom below `tiles`, where the ids of the zoom begin with `first`:
+// a square there whose side is a power of two has the first ids of its zoom.
+fn side_in(first: u64, tiles: u64, zoom: u8) -> u32
+    requires first { first ≤ 87381 }
+    requires zoom { zoom ≤ 9 }
+    ensures value { result ≡ side_in first tiles zoom }
+    ensures within { result ≤ 2 ^ zoom }
+{
+    let mut side = 1u32;
+    for level in 0..zoom {
+        if first + u64::from(side * side) < tiles {
+            side *= 2;
+        }
+    }
+    side
+}
+
+// Adds the rows of all zooms, in the order of their keys.
+fn push_zooms(
+    alloc: Global,
+    base: &mut MemStore,
+    tiles: u64,
+    repeat: u64,
+) -> Result<(), OutOfMemory>
+    requires repeat { 0 < repeat }
+    requires described { (told_of base.old).descriptions ≡ set_tables Flat }
+    ensures rows { OnOk result (base_rows base.new ≡ all_placed Tiles (base_rows base.old) (map (place_row repeat) (ordered_places tiles))) }
+    ensures described { (told_of base.new).descriptions ≡ set_tables Flat }
+{
+    let mut first = 0u64;
+    for zoom in 0..ZOOMS {
+        let side = side_in(first, tiles, zoom);
+        push_zoom(alloc, base, tiles, repeat, zoom, side)?;
+        first = 4 * first + 1;
     }
     Ok(())
 }
 
 /// The base of `bulk`: a flat set with a tile for each id below a number, whose contents are the decimal text of its id by `repeat`, rounded
-/// down. It takes the time of sorting the places; each row then goes behind the others.
+/// down. The rows come in the order of their keys, so that each goes behind the others; at most four places are looked at for each id, and one
+/// for each zoom.
 pub(crate) fn bulk_base(alloc: Global, tiles: u64, repeat: u64) -> Result<MemStore, OutOfMemory>
     requires tiles { tiles ≤ 100000 }
     requires repeat { 0 < repeat }
@@ -124,8 +186,6 @@ pub(crate) fn bulk_base(alloc: Global, tiles: u64, repeat: u64) -> Result<MemSto
     let Ok(mut base) = MemStore::with_layout(alloc, MbtType::Flat) else {
         return Err(OutOfMemory);
     };
-    let mut places = first_places(alloc, tiles as u32)?;
-    sort_places(&mut places);
-    push_rows(alloc, &mut base, places.as_slice(), repeat)?;
+    push_zooms(alloc, &mut base, tiles, repeat)?;
     Ok(base)
 }

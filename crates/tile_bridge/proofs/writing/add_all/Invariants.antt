@@ -2,12 +2,12 @@
 use Rattle.std.proofs.Common.{◌≡◌, ◌≤◌, false, [], take, is_some}
 use Rattle.pm_format.specs.Options.{Options}
 use Rattle.pm_writer.specs.Writing.{Writes, has_failed}
-use Rattle.tile_bridge.specs.FlatAdds.{seen}
+use Rattle.tile_bridge.specs.FlatTiles.{shown}
 use Rattle.tile_bridge.proofs.writing.add_all.Given as goal
 
-abbrev pub invariant-loop-add : goal.invariant-loop-add
-invariant-loop-add g l =
-    ((o : Options) → Writes o (g.M.Backend.told l.fn.medium) l.fn.state [] → Writes o (g.M.Backend.told l.medium) l.state (take l.add-index (seen l.adds)))
+abbrev pub invariant-loop-index : goal.invariant-loop-index
+invariant-loop-index g l =
+    ((o : Options) → Writes o (g.M.Backend.told l.fn.medium) l.fn.state [] → Writes o (g.M.Backend.told l.medium) l.state (take l.index (shown l.adds)))
     × (has_failed l.state ≡ false)
     × (is_some (g.M.Backend.told l.medium) ≡ is_some (g.M.Backend.told l.fn.medium))
     × (g.M.Backend.faults l.fn.medium ≤ g.M.Backend.faults l.medium)

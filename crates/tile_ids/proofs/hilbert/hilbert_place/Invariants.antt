@@ -1,5 +1,9 @@
-use Rattle.tile_ids.proofs.Places.{Returning}
+use Rattle.std.proofs.Common.{◌/◌}
+use Rattle.tile_ids.proofs.Walks.{Returning}
 use Rattle.tile_ids.proofs.hilbert.hilbert_place.Given as goal
 
-abbrev pub invariant-loop-level : goal.invariant-loop-level
-invariant-loop-level l = Returning l.number l.rest l.level l.column l.row
+abbrev pub invariant-loop-left : goal.invariant-loop-left
+invariant-loop-left l = Returning l.zoom l.number l.column l.row (l.entry / 16) l.left
+
+abbrev pub decreases-loop-left : goal.decreases-loop-left
+decreases-loop-left l = l.left

@@ -1,45 +1,48 @@
-use Rattle.std.proofs.Common.{◌≡◌, ◌<◌, ◌^◌, [], length, refl, sym, ap, ◌∙◌, subst, arith, false}
-use Rattle.pm_format.specs.declared.compression.Compression.TheVariants as compression
+use Rattle.std.proofs.Common.{◌≡◌, ◌+◌, [], ◌∷◌, ◌++◌, refl, sym, subst}
+use Rattle.pm_format.specs.Media.{written}
 use Rattle.pm_writer.specs.Adds.{contents_from}
-use Rattle.pm_writer.specs.Contents.{found_in}
-use Rattle.pm_writer.specs.Writing.{EndFits, FilledFits, IsStateOf}
-use Rattle.pm_writer.proofs.AddedBytes.{causes_by, end_is, known_fits, known_writes, new_ends, new_fits}
+use Rattle.pm_writer.specs.Contents.{HasRoom, fresh}
+use Rattle.pm_writer.specs.Means.{Means}
+use Rattle.pm_writer.specs.Pieces.{BothTold, WroteFront}
+use Rattle.pm_writer.specs.Writing.{IsStateOf}
+use Rattle.pm_writer.proofs.AddedBytes.{added_writes, end_is, ends_at, failed_writes, room_for, within_end}
 use Rattle.pm_writer.proofs.state.WriterState.add_filled.Goals as goal
 
-pub returns-in-Ok-add_known-clause-added : goal.returns-in-Ok-add_known-clause-added
-returns-in-Ok-add_known-clause-added g c = λ o adds w.
-    let means = (w.held c.requires.alive).means in
-    let found = ap (found_in (contents_from [] adds)) (sym c.in_ok-content.ensures) ∙ sym (c.in-Some.ensures adds means) in
-    let size : c.in-Ok.size ≡ length c.args.bytes.now = omega (arith, c.in-Ok.ensures) in
-    known_writes o adds _ c.args.self.now c.add_known.new.self c.args.id c.in-Some.place c.args.bytes.now w c.requires.alive found (c.in-Ok-add_known.ensures.added adds c.args.bytes.now means found c.requires.some size)
+pub add-requires-clause-within : goal.add-requires-clause-within
+add-requires-clause-within g c =
+    let w = c.requires.writes in
+    within_end w.0 _ c.args.self.now w.1 _ w.2 c.requires.alive (ends_at w.0 _ c.args.self.now w.1 c.args.self.now.adds.contents.total w.2 c.requires.alive refl)
 
-pub returns-in-Ok-add_known-clause-causes : goal.returns-in-Ok-add_known-clause-causes
-returns-in-Ok-add_known-clause-causes g c = λ o adds w.
-    let found = ap (found_in (contents_from [] adds)) (sym c.in_ok-content.ensures) ∙ sym (c.in-Some.ensures adds (w.held c.requires.alive).means) in
-    let low : length c.args.bytes.now < 2 ^ 32 = omega (arith, c.in-Ok.ensures) in
-    (refl, refl, known_fits o _ c.args.self.now adds c.args.id c.in-Some.place c.args.bytes.now w c.requires.alive found low)
-
-pub returns-in-Err-clause-causes : goal.returns-in-Err-clause-causes
-returns-in-Err-clause-causes g c = λ o adds w.
-    let found = ap (found_in (contents_from [] adds)) (sym c.in_ok-content.ensures) ∙ sym (c.in-Some.ensures adds (w.held c.requires.alive).means) in
-    let low : length c.args.bytes.now < 2 ^ 32 = omega (arith, c.in-Ok.ensures) in
-    (refl, refl, known_fits o _ c.args.self.now adds c.args.id c.in-Some.place c.args.bytes.now w c.requires.alive found low)
-
-pub returns-in-None-clause-causes : goal.returns-in-None-clause-causes
-returns-in-None-clause-causes g c = λ o adds w.
-    let new = ap (found_in (contents_from [] adds)) (sym c.in_ok-content.ensures) ∙ sym (c.in-None.ensures adds (w.held c.requires.alive).means) in
-    let low : length c.args.bytes.now < 2 ^ 32 = omega (arith, c.in-Ok.ensures) in
-    causes_by compression.None false (EndFits o adds c.in_ok-content.content) (FilledFits o adds c.args.id c.args.bytes.now) _ _ _
-    (λ e. new_fits o adds c.args.id c.args.bytes.now new low (subst (EndFits o adds) c.in_ok-content.ensures e)) (λ f. subst (EndFits o adds) (sym c.in_ok-content.ensures) (new_ends o adds c.args.id c.args.bytes.now new f)) (c.add_new.ensures.causes o adds w)
-
-pub add_new-requires-clause-ends : goal.add_new-requires-clause-ends
-add_new-requires-clause-ends g c =
+pub add-requires-clause-room : goal.add-requires-clause-room
+add-requires-clause-room g c =
     let o = c.requires.writes.0 in
     let adds = c.requires.writes.1 in
     let h = c.requires.writes.2.held c.requires.alive in
     let state : IsStateOf o c.args.self.now adds = record { of = c.requires.writes.2.of; means = h.means; ends = h.ends } in
-    let new = ap (found_in (contents_from [] adds)) (sym c.in_ok-content.ensures) ∙ sym (c.in-None.ensures adds h.means) in
-    let ends = new_ends o adds c.args.id c.args.bytes.now new ((c.fits.ensures o adds c.args.id state).0 c.if-not-fits.false) in
-    let end = end_is o c.args.self.now adds state in
-    let same = ap length c.in_ok-content.ensures in
-    omega (arith, ends, end, same)
+    let end = c.args.self.now.data_offset + c.args.self.now.adds.contents.total in
+    let fits = (c.fits.ensures o adds c.args.id state).0 c.if-not-fits.false in
+    let room = room_for o adds c.args.id end c.args.bytes.now fits (end_is o c.args.self.now adds state) in
+    (adds, h.means, subst (HasRoom end (contents_from [] adds)) (sym c.in_ok-content.ensures) room)
+
+pub returns-in-Ok-add-clause-added : goal.returns-in-Ok-add-clause-added
+returns-in-Ok-add-clause-added g c = λ o adds w.
+    let h = w.held c.requires.alive in
+    let state : IsStateOf o c.args.self.now adds = record { of = w.of; means = h.means; ends = h.ends } in
+    let at = c.args.self.now.data_offset + c.args.self.now.adds.contents.total in
+    let fits = (c.fits.ensures o adds c.args.id state).0 c.if-not-fits.false in
+    let same = c.in_ok-content.ensures in
+    let means = subst (λ z. Means c.add.new.self (adds ++ (c.args.id, z) ∷ [])) same (c.in-Ok-add.ensures.added adds h.means) in
+    let t0 = g.M.Backend.told c.args.medium.now in
+    let t1 = g.M.Backend.told c.add.new.medium in
+    let wrote = subst (λ z. BothTold (λ b d. d ≡ written b at (fresh (contents_from [] adds) z)) t0 t1) same (c.in-Ok-add.ensures.leaves adds h.means) in
+    added_writes o adds t0 t1 c.args.self.now c.add.new.self c.args.id at c.args.bytes.now w c.requires.alive (end_is o c.args.self.now adds state) fits means wrote
+
+pub returns-in-Err-Fault-clause-kept : goal.returns-in-Err-Fault-clause-kept
+returns-in-Err-Fault-clause-kept g c = λ o adds w.
+    let h = w.held c.requires.alive in
+    let at = c.args.self.now.data_offset + c.args.self.now.adds.contents.total in
+    let t0 = g.M.Backend.told c.args.medium.now in
+    let t1 = g.M.Backend.told c.add.new.medium in
+    let piece = fresh (contents_from [] adds) c.in_ok-content.content in
+    let wrote : BothTold (WroteFront at piece) t0 t1 = rw c.in-Err-Fault.field-0-is at (c.in-Err-Fault.ensures.leaves adds h.means) in
+    failed_writes o adds t0 t1 c.args.self.now c.add.new.self at piece w c.requires.alive (ends_at o t0 c.args.self.now adds c.args.self.now.adds.contents.total w c.requires.alive refl) wrote
