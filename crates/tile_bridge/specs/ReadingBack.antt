@@ -7,6 +7,7 @@ use Rattle.pm_format.specs.LookUp.{archive_map, archive_tile}
 use Rattle.pm_format.specs.declared.error.PmtError.{PmtError}
 use Rattle.pm_format.specs.declared.error.PmtError.TheVariants as errors
 use Rattle.pm_format.specs.declared.error.ReadCause.TheVariants as causes
+use Rattle.pm_reader.specs.Opening.{IsOpenRefusal}
 use Rattle.tile_bridge.specs.declared.error.ConvertError.{ConvertError}
 use Rattle.tile_bridge.specs.declared.error.ConvertError.TheVariants as refusals
 
@@ -24,18 +25,12 @@ answered (a ∷ answers) = answered_by a + answered answers
 abbrev pub GrewFrom : ℕ → ℕ → ℕ → Type 0
 GrewFrom before now n = min (before + n) (2 ^ 64 - 1) ≤ now
 
--- What is wrong with an archive that is read back, or with what is read of it. No version texts are compared.
+-- What is wrong with an archive that is read back, or with what is read of it: its end, another number of bytes than was asked for, or what bytes may be refused
+-- for where they are opened. No version texts are compared.
 abbrev pub IsReadBack : PmtError → Type 0
-IsReadBack errors.InvalidEntry = Unit {0}
-IsReadBack errors.InvalidHeader = Unit {0}
-IsReadBack errors.InvalidMagicNumber = Unit {0}
-IsReadBack errors.UnsupportedPmTilesVersion = Unit {0}
-IsReadBack errors.InvalidCompression = Unit {0}
-IsReadBack errors.InvalidTileType = Unit {0}
-IsReadBack (errors.UnsupportedCompression label) = Unit {0}
 IsReadBack (errors.Reading causes.PastEnd) = Unit {0}
 IsReadBack (errors.UnexpectedNumberOfBytesReturned asked got) = asked ≢ got
-IsReadBack _ = ⊥
+IsReadBack e = IsOpenRefusal e
 
 -- Told or not: a refusal is one of these, want of memory, or a fault, which comes only where the count of faults rose.
 abbrev pub ReadBackCauses : {A : Type 0} → ℕ → ℕ → Result A PmtError → Type 0

@@ -1,5 +1,5 @@
 // Sets that are made from two numbers.
-ghost use Rattle.std.specs.Prelude.{◌≡◌, ◌≤◌, ◌<◌, ◌^◌, IfOk, OnOk, Some, map};
+ghost use Rattle.std.specs.Prelude.{◌≡◌, ◌≤◌, ◌<◌, ◌^◌, IfOk, OnOk, map};
 ghost use Rattle.mb_store.specs.MemStore.{told_of};
 ghost use Rattle.mb_store.specs.Schema.{set_tables};
 ghost use Rattle.mb_store.specs.TableRows.{all_placed};
@@ -28,22 +28,22 @@ struct BulkPlace {
 }
 
 // The place of a zoom, a column and a row from the top.
-fn place_at(zoom: u8, column: u32, y: u32) -> Option<BulkPlace>
+fn place_at(zoom: u8, column: u32, y: u32) -> BulkPlace
     requires zoom { zoom ≤ 9 }
     requires column { column < 2 ^ zoom }
     requires row { y < 2 ^ zoom }
-    ensures { result ≡ Some (place_at zoom column y) }
+    ensures { result ≡ place_at zoom column y }
 {
     let Ok(coord) = TileCoord::new(zoom, column, y) else {
-        return None;
+        unreachable!()
     };
     let id = TileId::from(coord);
-    Some(BulkPlace {
+    BulkPlace {
         zoom,
         column,
         line: invert_y_value(zoom, y),
         id: id.value(),
-    })
+    }
 }
 
 // The row of a place, whose contents are its id by `repeat`, rounded down, in decimal.
@@ -105,9 +105,7 @@ fn push_column(
     ensures described { (told_of base.new).descriptions ≡ set_tables Flat }
 {
     for step in 0..side {
-        let Some(place) = place_at(zoom, column, side - 1 - step) else {
-            return Err(OutOfMemory);
-        };
+        let place = place_at(zoom, column, side - 1 - step);
         push_place(alloc, base, &place, tiles, repeat)?;
     }
     Ok(())

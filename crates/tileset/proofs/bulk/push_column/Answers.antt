@@ -15,7 +15,7 @@ loop-step-init c = record {
 
 pub loop-step-preserved : goal.loop-step-preserved
 loop-step-preserved c =
-    let place : c.in-Some.place ≡ place_at c.args.zoom c.args.column (c.args.side - 1 - c.loop-step.step) = cc c.in-Some.ensures in
+    let place : c.place_at-place.result ≡ place_at c.args.zoom c.args.column (c.args.side - 1 - c.loop-step.step) = c.place_at-place.ensures in
     record {
       rows = more_joined c.args.repeat c.loop-step.step (step_place c.args.tiles c.args.zoom c.args.side c.args.column) (base_rows c.args.base.now) (base_rows c.loop-step.base) (base_rows c.push_place.new.base) c.loop-step.invariant.rows
           (c.in_ok-push_place.ensures.rows ∙ ap (λ (p : BulkPlace). all_placed Tiles (base_rows c.loop-step.base) (map (place_row c.args.repeat) (if_below c.args.tiles p))) place);
