@@ -1,19 +1,13 @@
 -- Each number of a zoom has one place, and each id one coordinate.
-use Rattle.std.proofs.Common.{◌≡◌, ℕ, zero, suc, ◌+◌, ◌-◌, ◌*◌, ◌/◌, ◌%◌, ◌^◌, ◌<◌, ◌≤◌, ◌⊎◌, inl, inr, Bool, true, false, nat_lt, refl, sym, ◌∙◌, ap, arith, subst, lit<}
+use Rattle.std.proofs.Common.{◌≡◌, ℕ, zero, suc, ◌+◌, ◌-◌, ◌*◌, ◌/◌, ◌%◌, ◌^◌, ◌<◌, ◌≤◌, ◌⊎◌, inl, inr, Bool, true, false, nat_lt, nat_le, if◌then◌else◌, refl, sym, ◌∙◌, ap, arith, subst, lit<}
 use Rattle.std.proofs.Math.Nat.{pow-succ', pow-le-pow_right}
 use Rattle.std.proofs.lemmas.Nat.{div-mul-add, mod-mul-add, div_below}
 use Rattle.std.proofs.lemmas.Bool.Decides.{nat_tests}
 use Rattle.tile_ids.specs.declared.id.TheConstants.{MAX_TILE_ID}
 use Rattle.tile_ids.specs.Coord.{Coord, IsCoord}
-use Rattle.tile_ids.specs.Hilbert.{hilbert, quarter, turned, pyramid, tile_id, id_of}
+pub use Rattle.tile_ids.specs.Hilbert.{place, unturned}
+use Rattle.tile_ids.specs.Hilbert.{hilbert, quarter, turned, pyramid, tile_id, id_of, zoom_up_to, coord_of}
 use Rattle.tile_ids.proofs.Curve.{hilbert_below, four_pos, pyramid_next, within_pyramid}
-
--- the place in a square of side 2 s of a place in its quarter q
-abbrev pub unturned : ℕ → ℕ → ℕ × ℕ → ℕ × ℕ
-unturned s zero p = (p.1, p.0)
-unturned s (suc zero) p = (p.0, p.1 + s)
-unturned s (suc (suc zero)) p = (p.0 + s, p.1 + s)
-unturned s (suc (suc (suc q))) p = (2 * s - 1 - p.1, s - 1 - p.0)
 
 -- r is the place whose quarter is q and whose place in the quarter is p
 pub record Undone (s q : ℕ) (p r : ℕ × ℕ) : Type 0 where
@@ -60,11 +54,7 @@ undo s (suc (suc zero)) p l h g = undo_2 s p.0 p.1 h g
 undo s (suc (suc (suc zero))) p l h g = undo_3 s p.0 p.1 h g
 undo s (suc (suc (suc (suc q)))) p l h g = absurd (omega (arith, l))
 
--- the place of a number within its zoom
-abbrev pub place : ℕ → ℕ → ℕ × ℕ
-place zero n = (0, 0)
-place (suc k) n = unturned (2 ^ k) (n / 4 ^ k) (place k (n % 4 ^ k))
-
+-- the place of a number has it
 pub record Placed (k n : ℕ) (p : ℕ × ℕ) : Type 0 where
   pub number : hilbert k p ≡ n
   pub wide : p.0 < 2 ^ k
@@ -147,22 +137,35 @@ same_place k p r a b c d e = sym (place-hilbert k p a b) ∙ (ap (place k) e ∙
 lt_or : (m n : ℕ) → (m < n) ⊎ (n ≤ m)
 lt_or m n = grind arith
 
--- the zoom of an id
-zoom_of : (k n : ℕ) → n < pyramid (suc k) → (z : ℕ) × (z ≤ k) × (pyramid z ≤ n) × (n < pyramid z + 4 ^ z)
-zoom_of zero n h = (0, omega arith, omega arith, subst (λ m. n < m) (pyramid_next 0) h)
-zoom_of (suc k) n h =
-    elim (lt_or n (pyramid (suc k))) [
-      | inl low ↦ let r = zoom_of k n low in (r.0, omega (arith, r.1), r.2, r.3)
-      | inr high ↦ (suc k, omega arith, high, subst (λ m. n < m) (pyramid_next (suc k)) h)
-    ]
+-- an id lies in its zoom
+pub record InZoom (z id : ℕ) : Type 0 where
+  pub from : pyramid z ≤ id
+  pub below : id < pyramid z + 4 ^ z
 
-pub each_has_a_coordinate : (id : ℕ) → id ≤ MAX_TILE_ID → (c : Coord) × IsCoord c × (id_of c ≡ id)
-unfolding tile_id
-each_has_a_coordinate id h =
-    let r = zoom_of 31 id (omega (arith, h)) in
-    let p = placed r.0 (id - pyramid r.0) (omega (arith, r.2, r.3)) in
-    let xy = place r.0 (id - pyramid r.0) in
-    (record { z = r.0; x = xy.0; y = xy.1 }, record { zoom = r.1; column = p.wide; row = p.high }, rw p.number (omega (arith, r.2)))
+pub in_zoom : (k id : ℕ) → id < pyramid (suc k) → InZoom (zoom_up_to k id) id
+in_zoom zero id h = record { from = omega arith; below = subst (λ m. id < m) (pyramid_next 0) h }
+in_zoom (suc k) id h = cased (nat_le (pyramid (suc k)) id) refl (λ l. in_zoom k id l)
+  where
+    cased : (t : Bool) → nat_le (pyramid (suc k)) id ≡ t → (id < pyramid (suc k) → InZoom (zoom_up_to k id) id) → InZoom (if t then suc k else zoom_up_to k id) id
+    cased true e rest = record { from = grind (arith, nat_tests); below = subst (λ m. id < m) (pyramid_next (suc k)) h }
+    cased false e rest = rest (grind (arith, nat_tests))
+
+pub zoom_within : (k id : ℕ) → zoom_up_to k id ≤ k
+zoom_within zero id = omega arith
+zoom_within (suc k) id = cased (nat_le (pyramid (suc k)) id) (zoom_within k id)
+  where
+    cased : (t : Bool) → zoom_up_to k id ≤ k → (if t then suc k else zoom_up_to k id) ≤ suc k
+    cased true l = omega arith
+    cased false l = omega arith
+
+-- the coordinate of an id has it
+pub has_id : (id : ℕ) → id ≤ MAX_TILE_ID → IsCoord (coord_of id) × (id_of (coord_of id) ≡ id)
+unfolding tile_id coord_of
+has_id id h =
+    let z : ℕ = zoom_up_to 31 id in
+    let r = in_zoom 31 id (omega (arith, h)) in
+    let p = placed z (id - pyramid z) (omega (arith, r.from, r.below)) in
+    (record { zoom = zoom_within 31 id; column = p.wide; row = p.high }, rw p.number (omega (arith, r.from)))
 
 -- each id of a zoom is below those of the zooms after it
 pub pyramid_grows : (y z a : ℕ) → a < 4 ^ y → y < z → pyramid y + a < pyramid z
@@ -194,6 +197,10 @@ one_id c d p q e =
     let b = place-hilbert d.z (d.x, d.y) q.column q.row in
     let same : (c.x, c.y) ≡ (d.x, d.y) = sym a ∙ (ap (λ k. place k (hilbert c.z (c.x, c.y))) z ∙ (ap (place d.z) n ∙ b)) in
     ap (λ k. at_zoom k (c.x, c.y)) z ∙ ap (at_zoom d.z) same
+
+-- no other coordinate has an id than its own
+pub is_coord_of : (id : ℕ) (c : Coord) → id ≤ MAX_TILE_ID → IsCoord c → id_of c ≡ id → c ≡ coord_of id
+is_coord_of id c h i e = let own = has_id id h in one_id c (coord_of id) i own.0 (e ∙ sym own.1)
 
 -- no coordinate's id is above the maximum
 pub id_within : (c : Coord) → IsCoord c → id_of c ≤ MAX_TILE_ID

@@ -1,7 +1,7 @@
 //! Laws of ids and of the curve, over the definitions that the conversions are proved by. None of these functions does anything.
 ghost use Rattle.std.specs.Prelude.{◌≡◌, ◌+◌, ◌-◌, ◌*◌, ◌^◌, ◌<◌, ◌≤◌, ◌↔◌, ℕ, ℤ, Option, slice_index};
 ghost use Rattle.tile_ids.specs.Coord.{Coord, IsCoord, IsChild, IsIndexOf, ShareSide, inverted_y, tile_index};
-ghost use Rattle.tile_ids.specs.Hilbert.{number_of, id_of, pyramid};
+ghost use Rattle.tile_ids.specs.Hilbert.{number_of, id_of, coord_of, pyramid};
 ghost use Rattle.tile_ids.specs.Interval.{IsInterval, HoldsDescendants};
 
 use crate::{MAX_TILE_ID, PYRAMID_SIZE_BY_ZOOM};
@@ -32,9 +32,9 @@ pub fn ids_are_distinct()
     ensures { (c d : Coord) → IsCoord c → IsCoord d → id_of c ≡ id_of d → c ≡ d }
 {}
 
-/// Each id up to `MAX_TILE_ID` has a coordinate.
+/// Each id up to `MAX_TILE_ID` is that of the coordinate with this id.
 pub fn each_id_has_a_coordinate()
-    ensures { (id : ℕ) → id ≤ MAX_TILE_ID → (c : Coord) × IsCoord c × (id_of c ≡ id) }
+    ensures { (id : ℕ) → id ≤ MAX_TILE_ID → IsCoord (coord_of id) × (id_of (coord_of id) ≡ id) }
 {}
 
 /// An id of a zoom lies between the first and the last id of a tile's descendants there exactly where its tile is a descendant.

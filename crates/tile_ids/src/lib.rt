@@ -4,6 +4,7 @@
 mod blob;
 mod coord;
 mod error;
+mod failing_calls;
 mod hilbert;
 mod id;
 mod interval;
@@ -19,6 +20,7 @@ mod text_order;
 pub use blob::BlobVal;
 pub use coord::{MAX_ZOOM, TileCoord, invert_y_value, parse_tile_index};
 pub use error::TileError;
+pub use failing_calls::FailingCalls;
 pub use id::{MAX_TILE_ID, PYRAMID_SIZE_BY_ZOOM, TileId};
 pub use interval::subtree_interval;
 pub use memory::OutOfMemory;
