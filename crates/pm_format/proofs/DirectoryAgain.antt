@@ -3,7 +3,7 @@ use Rattle.std.proofs.Common.{◌≡◌, ℕ, suc, ◌+◌, ◌-◌, ◌^◌, �
 use Rattle.std.proofs.lemmas.Bool.Decides.{nat_tests}
 use Rattle.pm_format.specs.Varint.{varint}
 use Rattle.pm_format.specs.Directory.{Entry, column, ids_from, offset_of, offsets_from, entries_of, dir_of, dir_bytes, steps_from, starts_from, spell_all, DirFits}
-use Rattle.pm_format.proofs.VarintAgain.{AllBelow, column_again, u64_again}
+use Rattle.pm_format.proofs.VarintWritingLemmas.{AllBelow, column_again, u64_again}
 
 ids_again : (last : ℕ) (es : List Entry) → DirFits last es → ids_from last (steps_from last es) ≡ Some (map (λ e. e.tile_id) es)
 ids_again last [] h = refl

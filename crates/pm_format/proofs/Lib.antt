@@ -1,16 +1,17 @@
-pub mod ColumnReads
-pub mod DecodeStages
+pub mod ColumnLemmas
+pub mod DecodingLemmas
 pub mod DirectoryAgain
 pub mod DirectoryPieces
-pub mod HeaderAgain
+pub mod HeaderLemmas
 pub mod Ranges
 pub mod ArchiveOpens
-pub mod EntryReads
-pub mod Halves
-pub mod Options
-pub mod Spellings
-pub mod VarintAgain
-pub mod VarintReads
-pub mod VarintSteps
-mod HeaderTests
-mod Looked
+pub mod EntryLemmas
+pub mod SearchLemmas
+pub mod OptionLemmas
+pub mod SpellingLemmas
+pub mod VarintWritingLemmas
+pub mod VarintReadingLemmas
+pub mod VarintLemmas
+pub mod WriteLemmas
+mod HeaderRefusalLemmas
+mod LabelLemmas

@@ -9,6 +9,7 @@ use Rattle.pm_format.specs.declared.tile_type.TileType.TheVariants as tile_type
 use Rattle.pm_format.specs.declared.error.PmtError.{PmtError}
 use Rattle.pm_format.specs.declared.error.PmtError.TheVariants as errors
 use Rattle.pm_format.specs.declared.header.Header.{Header}
+use Rattle.pm_format.specs.declared.header.TheConstants.{HEADER_SIZE}
 
 abbrev pub magic : List ℕ
 magic = codes "PMTiles"
@@ -89,7 +90,7 @@ unfoldable pub head : List ℕ → Result Header PmtError
 head b =
     if nat_lt (length b) 7 then Err errors.InvalidHeader else
     (if bytes_eq (take 7 b) magic then
-    (if nat_lt (length b) 127 then Err errors.InvalidHeader else
+    (if nat_lt (length b) HEADER_SIZE then Err errors.InvalidHeader else
     labelled b (slice_get compressions (byte_at 97 b)) (slice_get compressions (byte_at 98 b)) (slice_get tile_types (byte_at 99 b)))
     else (if bytes_eq (take 2 b) (codes "PM") then Err errors.UnsupportedPmTilesVersion else Err errors.InvalidMagicNumber))
 

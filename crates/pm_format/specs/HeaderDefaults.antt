@@ -1,6 +1,7 @@
 -- The header that a writer begins with.
 use Rattle.std.specs.Prelude.{◌≡◌, ℕ, List, [], ◌∷◌, take, slice_set, true, pos, negsuc, Ok, Err, codes, refl}
 use Rattle.pm_format.specs.declared.header.Header.{Header}
+use Rattle.pm_format.specs.declared.header.TheConstants.{HEADER_SIZE, ROOT_END}
 use Rattle.pm_format.specs.declared.compression.Compression.{Compression}
 use Rattle.pm_format.specs.declared.compression.Compression.TheVariants as compression
 use Rattle.pm_format.specs.declared.tile_type.TileType.{TileType}
@@ -11,9 +12,9 @@ use Rattle.pm_format.specs.Header.{head, header_bytes}
 abbrev pub default_header : Compression → TileType → Header
 default_header tile_compression tile_type = record {
   version = 3;
-  root_offset = 127;
+  root_offset = HEADER_SIZE;
   root_length = 0;
-  metadata_offset = 16384;
+  metadata_offset = ROOT_END;
   metadata_length = 0;
   leaf_offset = 0;
   leaf_length = 0;

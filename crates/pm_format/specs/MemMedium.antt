@@ -1,8 +1,8 @@
 -- a medium in memory
-use Rattle.std.specs.Prelude.{ℕ, ◌==◌, ◌-◌, Bool, List, length, slice_get, min, if◌then◌else◌}
-use Rattle.std.specs.List.{list_any}
+use Rattle.std.specs.Prelude.{ℕ, ◌-◌, Bool, List, length, slice_get, min}
 use Rattle.std.specs.declared.option.Option.{Option}
 use Rattle.tile_ids.specs.Counts.{one_more}
+use Rattle.tile_ids.specs.FailingCalls as failing
 use Rattle.pm_format.specs.declared.mem_medium.MemMedium.{MemMedium}
 
 -- the text of the read with this number: the n-th, or the last one beyond
@@ -19,25 +19,25 @@ version_texts m = m.versions.items
 
 -- how many calls were made, how many of them failed, and how many were reads
 abbrev pub call_count : MemMedium → ℕ
-call_count m = m.calls
+call_count m = m.failing.calls
 
 abbrev pub fault_count : MemMedium → ℕ
-fault_count m = m.faults
+fault_count m = m.failing.faults
 
 abbrev pub read_count : MemMedium → ℕ
 read_count m = m.reads
 
 -- the numbers of the calls that fail, counted from 1
 abbrev pub failing_calls : MemMedium → List ℕ
-failing_calls m = m.failing.items
+failing_calls m = m.failing.listed.items
 
 -- whether the next call is one of them
 abbrev pub next_fails : MemMedium → Bool
-next_fails m = list_any (λ call. call == one_more (call_count m)) (failing_calls m)
+next_fails m = failing.next_fails m.failing
 
 -- after a call: it is counted, and a fault where it fails
 abbrev pub called : MemMedium → MemMedium
-called m = record m { calls = one_more m.calls; faults = if next_fails m then one_more m.faults else m.faults }
+called m = record m { failing = failing.called m.failing }
 
 -- after a read: that is counted too
 abbrev pub read_called : MemMedium → MemMedium

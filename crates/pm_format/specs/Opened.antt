@@ -5,6 +5,7 @@ use Rattle.pm_format.specs.declared.compression.Compression.TheVariants as compr
 use Rattle.pm_format.specs.declared.error.PmtError.{PmtError}
 use Rattle.pm_format.specs.declared.error.PmtError.TheVariants as errors
 use Rattle.pm_format.specs.declared.header.Header.{Header}
+use Rattle.pm_format.specs.declared.header.TheConstants.{HEADER_SIZE, ROOT_END}
 use Rattle.pm_format.specs.Header.{head}
 use Rattle.pm_format.specs.Directory.{Entry, dir_of}
 
@@ -25,13 +26,13 @@ root_labelled front h label = Err (errors.UnsupportedCompression label)
 abbrev pub root_placed : List ℕ → Result Header PmtError → Result Opened PmtError
 root_placed front (Err e) = Err e
 root_placed front (Ok h) =
-    if nat_lt h.root_offset 127 then Err errors.InvalidHeader else
+    if nat_lt h.root_offset HEADER_SIZE then Err errors.InvalidHeader else
     (if nat_lt (length front) (h.root_offset + h.root_length) then Err errors.InvalidHeader else
     root_labelled front h h.internal_compression)
 
 abbrev pub opened_front : List ℕ → Result Opened PmtError
-opened_front front = if nat_lt (length front) 127 then Err errors.InvalidHeader else root_placed front (head front)
+opened_front front = if nat_lt (length front) HEADER_SIZE then Err errors.InvalidHeader else root_placed front (head front)
 
--- only the first 16,384 bytes are read
+-- only the front is read
 unfoldable pub opened : List ℕ → Result Opened PmtError
-opened b = opened_front (take 16384 b)
+opened b = opened_front (take ROOT_END b)

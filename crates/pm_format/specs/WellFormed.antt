@@ -3,6 +3,7 @@ use Rattle.std.specs.Prelude.{◌≡◌, ◌≢◌, ◌⊎◌, ℕ, ◌+◌, ◌
 use Rattle.tile_ids.specs.declared.id.TheConstants.{MAX_TILE_ID}
 use Rattle.pm_format.specs.declared.compression.Compression.TheVariants as compression
 use Rattle.pm_format.specs.declared.header.Header.{Header}
+use Rattle.pm_format.specs.declared.header.TheConstants.{HEADER_SIZE, ROOT_END, MAX_ROOT}
 use Rattle.pm_format.specs.Directory.{Entry, entry, dir_of, dir_bytes}
 use Rattle.pm_format.specs.Header.{header_bytes}
 use Rattle.pm_format.specs.Opened.{opened}
@@ -25,17 +26,17 @@ data_part p = flat_map (λ c. c) p.contents
 abbrev pub leaf_part : Parts → List ℕ
 leaf_part p = flat_map dir_bytes p.leaves
 
--- the header of the parts, with the options: the root at 127, the metadata at 16,384, the data behind it, then the leaves
+-- the header of the parts, with the options: the root behind it, the metadata at the end of the front, the data behind them, then the leaves
 abbrev pub header_of : Options → Bool → Parts → Header
 header_of o clustered p = record {
   version = 3;
-  root_offset = 127;
+  root_offset = HEADER_SIZE;
   root_length = length (dir_bytes p.root);
-  metadata_offset = 16384;
+  metadata_offset = ROOT_END;
   metadata_length = length o.metadata;
-  leaf_offset = if nat_eq (length p.leaves) 0 then 0 else (16384 + length o.metadata + length (data_part p));
+  leaf_offset = if nat_eq (length p.leaves) 0 then 0 else (ROOT_END + length o.metadata + length (data_part p));
   leaf_length = length (leaf_part p);
-  data_offset = 16384 + length o.metadata;
+  data_offset = ROOT_END + length o.metadata;
   data_length = length (data_part p);
   n_addressed_tiles = sum_by (λ e. e.run_length) (tile_entries p);
   n_tile_entries = length (tile_entries p);
@@ -95,9 +96,9 @@ abbrev pub AllRead : List (List Entry) → Type 0
 AllRead [] = Unit {0}
 AllRead (l ∷ ls) = (dir_of (dir_bytes l) ≡ Some l) × AllRead ls
 
--- the header, the root at 127, and zeros up to 16,384
+-- the header, the root, and zeros up to the end of the front
 abbrev pub front_bytes : Options → Bool → Parts → List ℕ
-front_bytes o clustered p = header_bytes (header_of o clustered p) ++ (dir_bytes p.root ++ replicate (16257 - length (dir_bytes p.root)) 0)
+front_bytes o clustered p = header_bytes (header_of o clustered p) ++ (dir_bytes p.root ++ replicate (MAX_ROOT - length (dir_bytes p.root)) 0)
 
 -- then the metadata, the contents and the leaves
 unfoldable pub archive_bytes : Options → Bool → Parts → List ℕ
@@ -106,7 +107,7 @@ archive_bytes o clustered p = front_bytes o clustered p ++ (o.metadata ++ (data_
 -- the bytes consist of these parts
 pub record ConsistsOf (b : List ℕ) (o : Options) (clustered : Bool) (p : Parts) : Type 0 where
   pub bytes : b ≡ archive_bytes o clustered p
-  pub small : length (dir_bytes p.root) ≤ 16257
+  pub small : length (dir_bytes p.root) ≤ MAX_ROOT
   pub opens : opened b ≡ Ok (header_of o clustered p, p.root)
   pub sound : SoundDirectory 6 (header_of o clustered p) b 0 (MAX_TILE_ID + 1) p.root
   pub kinds : (AllTiles p.root × (p.leaves ≡ [])) ⊎ ((p.root ≡ root_of 0 p.leaves) × AllLeaves p.leaves)

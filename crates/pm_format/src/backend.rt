@@ -9,9 +9,6 @@ use std::alloc::{AllocError, AllocFailed, Global};
 use thiserror::Error;
 use tile_ids::{OutOfMemory, TextVal};
 
-#[cfg(test)]
-pub mod tests;
-
 /// What a read gives: its bytes, and the version text of the data where the backend has one.
 #[derive(Drop)]
 pub struct BackendResponse {

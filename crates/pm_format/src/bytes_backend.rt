@@ -5,9 +5,6 @@ use crate::{Backend, BackendResponse, ReadFault};
 use bytes::Bytes;
 use std::alloc::Global;
 
-#[cfg(test)]
-mod tests;
-
 /// A backend over bytes in memory. It tells them, answers parts of them without copying, never fails and has no version texts.
 #[derive(Drop)]
 pub struct BytesBackend {

@@ -5,8 +5,6 @@ ghost use Rattle.pm_format.specs.Directory.{IdsDontFall};
 mod decode;
 mod encode;
 mod search;
-#[cfg(test)]
-mod tests;
 
 use crate::DirEntry;
 pub use encode::encode_entries;

@@ -1,13 +1,10 @@
 // What can be wrong with an archive, and how its bytes are reached.
 ghost use Rattle.std.specs.Prelude.{◌≡◌};
 
-use crate::Compression;
+use crate::{Compression, ReadFault, WriteFault};
 use std::alloc::{AllocError, AllocFailed};
 use thiserror::Error;
 use tile_ids::{OutOfMemory, TextVal, TileError};
-
-#[cfg(test)]
-mod tests;
 
 /// The result of a call on archives.
 pub type PmtResult<T> = Result<T, PmtError>;
@@ -128,6 +125,38 @@ impl From<TileError> for PmtError {
         match error {
             TileError::InvalidCoordinate(z, x, y) => PmtError::InvalidCoordinate(z, x, y),
             TileError::InvalidTileId(id) => PmtError::InvalidTileId(id),
+        }
+    }
+}
+
+impl From<ReadFault> for PmtError {
+    ghost use Rattle.std.specs.Prelude.{◌≡◌};
+    ghost use Rattle.pm_format.specs.Errors.{of_read_fault};
+
+    ghost from_gives = { λ f e. e ≡ of_read_fault f };
+
+    fn from(fault: ReadFault) -> Self {
+        match fault {
+            ReadFault::Fault => PmtError::Reading(ReadCause::Fault),
+            ReadFault::PastEnd => PmtError::Reading(ReadCause::PastEnd),
+            ReadFault::Short { asked, got } => {
+                PmtError::UnexpectedNumberOfBytesReturned(asked, got)
+            }
+            ReadFault::OutOfMemory => PmtError::OutOfMemory,
+        }
+    }
+}
+
+impl From<WriteFault> for PmtError {
+    ghost use Rattle.std.specs.Prelude.{◌≡◌};
+    ghost use Rattle.pm_format.specs.Errors.{of_write_fault};
+
+    ghost from_gives = { λ f e. e ≡ of_write_fault f };
+
+    fn from(fault: WriteFault) -> Self {
+        match fault {
+            WriteFault::Fault => PmtError::Reading(ReadCause::Fault),
+            WriteFault::OutOfMemory => PmtError::OutOfMemory,
         }
     }
 }

@@ -9,15 +9,12 @@ use std::alloc::Global;
 use std::fs::File;
 use std::io::{ErrorKind, Read, Seek, SeekFrom};
 
-#[cfg(test)]
-mod tests;
-
 /// A backend over a file. It tells nothing, and counts its faults. Reads that are interrupted go on.
 #[derive(Drop)]
 pub struct FileBackend {
-    file: File,
-    faults: u64,
-    reads: u64,
+    pub(crate) file: File,
+    pub(crate) faults: u64,
+    pub(crate) reads: u64,
 }
 
 impl FileBackend {
@@ -27,12 +24,20 @@ impl FileBackend {
         ensures reads { IfOk result (λ file. ⟦<FileBackend as Backend>⟧.reads file ≡ 0) }
     {
         match File::open(rt, path) {
-            Ok(file) => Ok(FileBackend {
-                file,
-                faults: 0,
-                reads: 0,
-            }),
+            Ok(file) => Ok(FileBackend::new(file)),
             Err(_) => Err(MediumFault),
+        }
+    }
+
+    // A backend over an open file.
+    pub(crate) fn new(file: File) -> FileBackend
+        ensures faults { result.faults ≡ 0 }
+        ensures reads { result.reads ≡ 0 }
+    {
+        FileBackend {
+            file,
+            faults: 0,
+            reads: 0,
         }
     }
 

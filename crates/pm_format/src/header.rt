@@ -5,8 +5,6 @@ ghost use Rattle.pm_format.specs.Header.{head, header_bytes};
 ghost use Rattle.pm_format.specs.HeaderDefaults.{default_header};
 
 mod reading;
-#[cfg(test)]
-pub mod tests;
 mod tilejson;
 mod writing;
 
@@ -14,7 +12,16 @@ use crate::{Compression, PmtError, TileType};
 use reading::{check_front, read_fields};
 use writing::put_header;
 
-/// The header, 127 bytes at the front of an archive (PMTiles specification version 3, header).
+/// How many bytes a header has.
+pub const HEADER_SIZE: usize = 127;
+
+/// Where the front of an archive, its header and its root, ends at the latest. What is written here has its metadata there.
+pub const ROOT_END: u64 = 16_384;
+
+/// How many bytes a root behind the header has at most.
+pub const MAX_ROOT: usize = 16_257;
+
+/// The header at the front of an archive (PMTiles specification version 3, header).
 /// Offsets and lengths are in bytes, degrees in ten millionths.
 #[derive(Clone, Copy)]
 pub struct Header {
@@ -78,9 +85,9 @@ impl Header {
     {
         Header {
             version: 3,
-            root_offset: 127,
+            root_offset: HEADER_SIZE as u64,
             root_length: 0,
-            metadata_offset: 16_384,
+            metadata_offset: ROOT_END,
             metadata_length: 0,
             leaf_offset: 0,
             leaf_length: 0,
@@ -105,11 +112,11 @@ impl Header {
         }
     }
 
-    /// The header that the first 127 bytes spell, little endian; further bytes are ignored, and the version isn't tested.
+    /// The header that the first `HEADER_SIZE` bytes spell, little endian; further bytes are ignored, and the version isn't tested.
     ///
     /// The first of these that holds is answered: `InvalidHeader` for fewer than 7 bytes, `UnsupportedPmTilesVersion` where the
     /// first seven aren't `PMTiles` but begin with `PM`, `InvalidMagicNumber` where they begin otherwise, `InvalidHeader` for fewer
-    /// than 127 bytes, `InvalidCompression` for a label of directories and then of tiles above 4, `InvalidTileType` for a type above 6.
+    /// than `HEADER_SIZE` bytes, `InvalidCompression` for a label of directories and then of tiles above 4, `InvalidTileType` for a type above 6.
     pub fn try_from_bytes(bytes: &[u8]) -> Result<Header, PmtError>
         ensures { result ≡ head bytes.now }
     {
@@ -120,13 +127,13 @@ impl Header {
         Ok(read_fields(bytes, internal_compression, tile_compression, tile_type))
     }
 
-    /// The 127 bytes of the header, little endian. Read again they give this header, whatever follows them.
-    pub fn write_bytes(&self) -> [u8; 127]
+    /// The bytes of the header, little endian. Read again they give this header, whatever follows them.
+    pub fn write_bytes(&self) -> [u8; HEADER_SIZE]
         ensures bytes { result ≡ header_bytes self.now }
-        ensures size { length result ≡ 127 }
+        ensures size { length result ≡ HEADER_SIZE }
         ensures again { (rest : List ℕ) → head (result ++ rest) ≡ Ok self.now }
     {
-        let mut bytes = [0; 127];
+        let mut bytes = [0; HEADER_SIZE];
         put_header(&mut bytes, *self);
         bytes
     }

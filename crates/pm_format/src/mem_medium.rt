@@ -7,19 +7,14 @@ ghost use Rattle.pm_format.specs.MemMedium.{version_at, held, version_texts, cal
 use crate::{Backend, BackendResponse, Medium, MediumFault, ReadFault, WriteFault};
 use bytes::Bytes;
 use std::alloc::{AllocError, Global};
-use tile_ids::{OutOfMemory, TextVal};
-
-#[cfg(test)]
-mod tests;
+use tile_ids::{FailingCalls, OutOfMemory, TextVal};
 
 /// A medium whose bytes lie in memory. It tells them, fails only where it is made to, and gives version texts where it has some.
 #[derive(Drop)]
 pub struct MemMedium {
     bytes: Vec<u8>,
     versions: Vec<TextVal>,
-    failing: Vec<u64>,
-    calls: u64,
-    faults: u64,
+    failing: FailingCalls,
     reads: u64,
 }
 
@@ -51,9 +46,7 @@ impl MemMedium {
         MemMedium {
             bytes,
             versions: Vec::new(alloc),
-            failing: Vec::new(alloc),
-            calls: 0,
-            faults: 0,
+            failing: FailingCalls::none(alloc),
             reads: 0,
         }
     }
@@ -74,7 +67,7 @@ impl MemMedium {
         ensures calls { call_count self.new ≡ call_count self.old }
         ensures failing { failing_calls self.new ≡ calls.items }
     {
-        self.failing = calls;
+        self.failing.fail_at(calls);
     }
 
     /// Gives read number n, counted from 1 over all reads of this medium, the n-th of these version texts, or the last one beyond
@@ -88,20 +81,6 @@ impl MemMedium {
         ensures failing { failing_calls self.new ≡ failing_calls self.old }
     {
         self.versions = versions;
-    }
-
-    // Counts a call, and says whether it fails.
-    fn begin(&mut self) -> bool
-        ensures fails { result ≡ next_fails self.old }
-        ensures after { self.new ≡ called self.old }
-        ensures faults { fault_count self.old ≤ fault_count self.new }
-    {
-        self.calls = self.calls.saturating_add(1);
-        let fails = self.failing.contains(&self.calls);
-        if fails {
-            self.faults = self.faults.saturating_add(1);
-        }
-        fails
     }
 }
 
@@ -148,11 +127,11 @@ impl Backend for MemMedium {
 
     ghost versions = { λ m. Some (version_at m.versions.items) };
 
-    ghost faults = { λ m. m.faults };
+    ghost faults = { λ m. m.failing.faults };
 
     ghost reads = { λ m. m.reads };
 
-    ghost steady = { λ m. m.failing.items ≡ [] };
+    ghost steady = { λ m. m.failing.listed.items ≡ [] };
 
     fn read(
         &mut self,
@@ -168,7 +147,7 @@ impl Backend for MemMedium {
         ensures reads { Grew (read_count self.old) (read_count self.new) 1 }
     {
         self.reads = self.reads.saturating_add(1);
-        if self.begin() {
+        if self.failing.fails() {
             return Err(ReadFault::Fault);
         }
         let at = offset as usize;
@@ -195,7 +174,7 @@ impl Backend for MemMedium {
         ensures reads { Grew (read_count self.old) (read_count self.new) 1 }
     {
         self.reads = self.reads.saturating_add(1);
-        if self.begin() {
+        if self.failing.fails() {
             return Err(ReadFault::Fault);
         }
         let at = offset as usize;
@@ -219,7 +198,7 @@ impl Medium for MemMedium {
         ensures after { self.new ≡ called self.old }
         ensures faults { fault_count self.old ≤ fault_count self.new }
     {
-        if self.begin() {
+        if self.failing.fails() {
             return Err(MediumFault);
         }
         Ok(self.bytes.len() as u64)
@@ -233,7 +212,7 @@ impl Medium for MemMedium {
         ensures after { self.new ≡ record (called self.old) { bytes = self.new.bytes } }
         ensures faults { fault_count self.old ≤ fault_count self.new }
     {
-        if self.begin() {
+        if self.failing.fails() {
             return Err(WriteFault::Fault);
         }
         Ok(overwrite(&mut self.bytes, offset as usize, piece)?)

@@ -7,8 +7,6 @@ mod hash_text;
 pub mod laws;
 mod md5_hex;
 mod md5_stream;
-#[cfg(test)]
-mod tests;
 mod words;
 mod xxh3;
 mod xxh_64;

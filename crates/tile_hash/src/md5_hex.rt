@@ -6,7 +6,7 @@ ghost use Rattle.md5.specs.Md5.{md5};
 use md5::{Digest, Md5};
 
 /// Writes each byte as two upper-case digits, the high four bits first.
-#[tactic(auto, using(crate::proofs::Upper::encode_raised))]
+#[tactic(auto, using(crate::proofs::UpperCaseLemmas::encode_raised))]
 pub(crate) fn write_upper_hex(bytes: &[u8], out: &mut [u8])
     requires { length out.old ≡ 2 * length bytes.now }
     ensures { out.new ≡ encode_upper bytes.now }

@@ -37,7 +37,7 @@ fn striped(v: [u64; 4], bytes: &[u8], at: usize) -> [u64; 4]
 }
 
 // The lanes after all whole stripes.
-#[tactic(auto, using(crate::proofs::Steps::lanes_more), unfolding(crate::specs::Xxh64::lanes_after))]
+#[tactic(auto, using(crate::proofs::StepLemmas::lanes_more), unfolding(crate::specs::Xxh64::lanes_after))]
 fn lanes(bytes: &[u8]) -> [u64; 4]
     ensures { result ≡ lanes_after bytes.now (length bytes.now / 32) }
 {
@@ -112,7 +112,7 @@ fn byte_taken(hash: u64, byte: u64) -> u64
 }
 
 // The hash after the whole words of 8 bytes behind the stripes.
-#[tactic(auto, using(crate::proofs::Steps::words_more), unfolding(crate::specs::Xxh64::after_whole_words, crate::specs::Xxh64::after_words))]
+#[tactic(auto, using(crate::proofs::StepLemmas::words_more), unfolding(crate::specs::Xxh64::after_whole_words, crate::specs::Xxh64::after_words))]
 fn after_whole_words(bytes: &[u8]) -> u64
     ensures { result ≡ after_whole_words bytes.now }
 {
@@ -137,7 +137,7 @@ fn after_half(bytes: &[u8]) -> u64
 }
 
 // The hash after the bytes that are left.
-#[tactic(auto, using(crate::proofs::Steps::bytes_more), unfolding(crate::specs::Xxh64::after_all, crate::specs::Xxh64::after_bytes))]
+#[tactic(auto, using(crate::proofs::StepLemmas::bytes_more), unfolding(crate::specs::Xxh64::after_all, crate::specs::Xxh64::after_bytes))]
 fn after_all(bytes: &[u8]) -> u64
     ensures { result ≡ after_all bytes.now }
 {

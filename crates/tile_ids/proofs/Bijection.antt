@@ -134,7 +134,7 @@ place-hilbert (suc k) p h g =
 pub same_place : (k : ℕ) (p r : ℕ × ℕ) → p.0 < 2 ^ k → p.1 < 2 ^ k → r.0 < 2 ^ k → r.1 < 2 ^ k → hilbert k p ≡ hilbert k r → p ≡ r
 same_place k p r a b c d e = sym (place-hilbert k p a b) ∙ (ap (place k) e ∙ place-hilbert k r c d)
 
-lt_or : (m n : ℕ) → (m < n) ⊎ (n ≤ m)
+pub lt_or : (m n : ℕ) → (m < n) ⊎ (n ≤ m)
 lt_or m n = grind arith
 
 -- an id lies in its zoom

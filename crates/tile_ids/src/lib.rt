@@ -11,8 +11,6 @@ mod interval;
 pub mod laws;
 mod memory;
 mod orientation;
-#[cfg(test)]
-mod tests;
 mod text;
 mod text_list;
 mod text_order;

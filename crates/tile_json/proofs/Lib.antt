@@ -1,4 +1,4 @@
-mod LayerParts
-mod Maps
-mod Places
-mod TakenOut
+mod LayerLemmas
+mod MapLemmas
+mod PlaceLemmas
+mod MemberLemmas

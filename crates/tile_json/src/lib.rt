@@ -10,8 +10,6 @@ mod layer;
 mod layer_reading;
 mod members;
 mod reading;
-#[cfg(test)]
-mod tests;
 mod text_map;
 
 pub use document::TileJson;

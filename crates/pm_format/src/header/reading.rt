@@ -3,7 +3,7 @@ ghost use Rattle.std.specs.Prelude.{◌≡◌, ◌+◌, ◌≤◌, length, slice
 ghost use Rattle.std.specs.Int.{w64};
 ghost use Rattle.pm_format.specs.Header.{word_at, degrees_at, byte_at, fields, labelled, head, compressions, tile_types};
 
-use crate::{Compression, Header, PmtError, TileType};
+use crate::{Compression, HEADER_SIZE, Header, PmtError, TileType};
 
 // Eight bytes, the low one first.
 fn read_word(bytes: &[u8], at: usize) -> u64
@@ -27,7 +27,7 @@ fn read_degrees(bytes: &[u8], at: usize) -> i32
 
 // Tests the lengths and the first seven bytes. Where they pass, the labels and the type decide.
 pub fn check_front(bytes: &[u8]) -> Result<(), PmtError>
-    ensures long { OnOk result (127 ≤ length bytes.now) }
+    ensures long { OnOk result (HEADER_SIZE ≤ length bytes.now) }
     ensures ok { OnOk result (head bytes.now ≡ labelled bytes.now (slice_get compressions (byte_at 97 bytes.now))
         (slice_get compressions (byte_at 98 bytes.now)) (slice_get tile_types (byte_at 99 bytes.now))) }
     ensures err { IfErr result (λ refusal. head bytes.now ≡ Err refusal) }
@@ -36,7 +36,7 @@ pub fn check_front(bytes: &[u8]) -> Result<(), PmtError>
         return Err(PmtError::InvalidHeader);
     }
     if &bytes[..7] == b"PMTiles".as_slice() {
-        if bytes.len() < 127 {
+        if bytes.len() < HEADER_SIZE {
             return Err(PmtError::InvalidHeader);
         }
         return Ok(());
@@ -54,7 +54,7 @@ pub fn read_fields(
     tile_compression: Compression,
     tile_type: TileType,
 ) -> Header
-    requires { 127 ≤ length bytes.now }
+    requires { HEADER_SIZE ≤ length bytes.now }
     ensures { result ≡ fields bytes.now internal_compression tile_compression tile_type }
 {
     Header {

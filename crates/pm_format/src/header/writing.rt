@@ -3,7 +3,7 @@ ghost use Rattle.std.specs.Prelude.{◌≡◌, ◌++◌, ◌+◌, ◌≤◌, len
 ghost use Rattle.pm_format.specs.Header.{word_bytes, degree_bytes, header_bytes, HeaderFits};
 ghost use Rattle.pm_format.specs.HeaderParts.{place_bytes, count_bytes, label_bytes, bound_bytes, center_bytes};
 
-use crate::Header;
+use crate::{HEADER_SIZE, Header};
 
 // Writes a piece over the bytes from a place.
 fn put(bytes: &mut [u8], at: usize, piece: &[u8])
@@ -30,7 +30,7 @@ fn put_degrees(bytes: &mut [u8], at: usize, degrees: i32)
 }
 
 fn put_places(bytes: &mut [u8], header: &Header)
-    requires { length bytes.old ≡ 127 }
+    requires { length bytes.old ≡ HEADER_SIZE }
     ensures { take 72 bytes.new ≡ take 8 bytes.old ++ place_bytes header.now }
 {
     put_word(bytes, 8, header.root_offset);
@@ -44,7 +44,7 @@ fn put_places(bytes: &mut [u8], header: &Header)
 }
 
 fn put_counts(bytes: &mut [u8], header: &Header)
-    requires { length bytes.old ≡ 127 }
+    requires { length bytes.old ≡ HEADER_SIZE }
     ensures { take 96 bytes.new ≡ take 72 bytes.old ++ count_bytes header.now }
 {
     put_word(bytes, 72, header.n_addressed_tiles);
@@ -53,7 +53,7 @@ fn put_counts(bytes: &mut [u8], header: &Header)
 }
 
 fn put_labels(bytes: &mut [u8], header: &Header)
-    requires { length bytes.old ≡ 127 }
+    requires { length bytes.old ≡ HEADER_SIZE }
     ensures { take 102 bytes.new ≡ take 96 bytes.old ++ label_bytes header.now }
 {
     let labels = [
@@ -68,7 +68,7 @@ fn put_labels(bytes: &mut [u8], header: &Header)
 }
 
 fn put_bounds(bytes: &mut [u8], header: &Header)
-    requires { length bytes.old ≡ 127 }
+    requires { length bytes.old ≡ HEADER_SIZE }
     ensures { take 118 bytes.new ≡ take 102 bytes.old ++ bound_bytes header.now }
 {
     put_degrees(bytes, 102, header.min_longitude);
@@ -78,8 +78,8 @@ fn put_bounds(bytes: &mut [u8], header: &Header)
 }
 
 fn put_center(bytes: &mut [u8], header: &Header)
-    requires { length bytes.old ≡ 127 }
-    ensures { take 127 bytes.new ≡ take 118 bytes.old ++ center_bytes header.now }
+    requires { length bytes.old ≡ HEADER_SIZE }
+    ensures { take HEADER_SIZE bytes.new ≡ take 118 bytes.old ++ center_bytes header.now }
 {
     put(bytes, 118, &[header.center_zoom]);
     put_degrees(bytes, 119, header.center_longitude);
@@ -88,7 +88,7 @@ fn put_center(bytes: &mut [u8], header: &Header)
 
 // All of them, over bytes of the right number.
 pub fn put_header(bytes: &mut [u8], header: Header)
-    requires { length bytes.old ≡ 127 }
+    requires { length bytes.old ≡ HEADER_SIZE }
     ensures bytes { bytes.new ≡ header_bytes header }
     ensures fits { HeaderFits header }
 {

@@ -62,7 +62,7 @@ fn striped(v: [u64; 8], bytes: &[u8], at: usize, place: usize) -> [u64; 8]
 
 // The lanes after so many stripes of the block at this byte.
 #[inline(always)]
-#[tactic(auto, using(crate::proofs::Steps::stripes_more), unfolding(crate::specs::Xxh3::stripes))]
+#[tactic(auto, using(crate::proofs::StepLemmas::stripes_more), unfolding(crate::specs::Xxh3::stripes))]
 fn stripes(start: [u64; 8], bytes: &[u8], at: usize, count: usize) -> [u64; 8]
     requires few { count ≤ 16 }
     requires within { at + 64 * count ≤ length bytes.now }
@@ -104,7 +104,7 @@ fn scrambled(v: [u64; 8]) -> [u64; 8]
 }
 
 // The lanes after so many blocks.
-#[tactic(auto, using(crate::proofs::Steps::blocks_more), unfolding(crate::specs::Xxh3::blocks))]
+#[tactic(auto, using(crate::proofs::StepLemmas::blocks_more), unfolding(crate::specs::Xxh3::blocks))]
 fn blocks(bytes: &[u8], count: usize) -> [u64; 8]
     requires { 1024 * count ≤ length bytes.now }
     ensures { result ≡ blocks bytes.now count }

@@ -19,7 +19,7 @@ fn pair(bytes: &[u8], i: usize) -> u64
 }
 
 /// The hash of 17 to 128 bytes.
-#[tactic(auto, using(crate::proofs::Steps::pairs_more), unfolding(crate::specs::Xxh3::of_middle, crate::specs::Xxh3::pairs))]
+#[tactic(auto, using(crate::proofs::StepLemmas::pairs_more), unfolding(crate::specs::Xxh3::of_middle, crate::specs::Xxh3::pairs))]
 pub(crate) fn of_middle(bytes: &[u8]) -> u64
     requires more { 17 ≤ length bytes.now }
     requires few { length bytes.now ≤ 128 }
@@ -33,7 +33,7 @@ pub(crate) fn of_middle(bytes: &[u8]) -> u64
 }
 
 // The first eight times 16 bytes.
-#[tactic(auto, using(crate::proofs::Steps::first_more), unfolding(crate::specs::Xxh3::first_mixes))]
+#[tactic(auto, using(crate::proofs::StepLemmas::first_more), unfolding(crate::specs::Xxh3::first_mixes))]
 fn first_mixes(bytes: &[u8]) -> u64
     requires { 128 ≤ length bytes.now }
     ensures { result ≡ first_mixes bytes.now 8 }
@@ -46,7 +46,7 @@ fn first_mixes(bytes: &[u8]) -> u64
 }
 
 // The times 16 bytes behind them.
-#[tactic(auto, using(crate::proofs::Steps::mixes_more), unfolding(crate::specs::Xxh3::more_mixes))]
+#[tactic(auto, using(crate::proofs::StepLemmas::mixes_more), unfolding(crate::specs::Xxh3::more_mixes))]
 fn more_mixes(bytes: &[u8], count: usize) -> u64
     requires few { count ≤ 7 }
     requires within { 16 * (count + 8) ≤ length bytes.now }

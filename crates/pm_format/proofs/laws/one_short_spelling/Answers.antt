@@ -1,4 +1,4 @@
-use Rattle.pm_format.proofs.Spellings.{short_written, one_short}
+use Rattle.pm_format.proofs.SpellingLemmas.{short_written, one_short}
 use Rattle.pm_format.proofs.laws.one_short_spelling.Goals as goal
 
 pub returns-clause-written : goal.returns-clause-written

@@ -1,4 +1,4 @@
-use Rattle.pm_format.proofs.Spellings.{u64_spelling}
+use Rattle.pm_format.proofs.SpellingLemmas.{u64_spelling}
 use Rattle.pm_format.proofs.laws.reading_spelled.Goals as goal
 
 pub returns : goal.returns

@@ -1,4 +1,4 @@
-use Rattle.pm_format.proofs.Spellings.{u64_read}
+use Rattle.pm_format.proofs.SpellingLemmas.{u64_read}
 use Rattle.pm_format.proofs.laws.spelling_read.Goals as goal
 
 pub returns : goal.returns

@@ -1,5 +1,5 @@
 use Rattle.std.proofs.Common.{◌≡◌, ◌%◌, ◌<◌, ℕ, get_or, arith, subst}
-use Rattle.pm_format.proofs.VarintReads.{Reading, reading_end, reading_more, reading_last, reading_big, at_place, added, sum_fits, sum_low}
+use Rattle.pm_format.proofs.VarintReadingLemmas.{Reading, reading_end, reading_more, reading_last, reading_big, at_place, added, sum_fits, sum_low}
 use Rattle.pm_format.proofs.varint.read_number.Goals as goal
 
 pub returns-then-place-bytes-clause-none : goal.returns-then-place-bytes-clause-none

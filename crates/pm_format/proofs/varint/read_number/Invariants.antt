@@ -1,4 +1,4 @@
-use Rattle.pm_format.proofs.VarintReads.{Reading}
+use Rattle.pm_format.proofs.VarintReadingLemmas.{Reading}
 use Rattle.pm_format.proofs.varint.read_number.Given as goal
 
 abbrev pub invariant-loop-i : goal.invariant-loop-i

@@ -1,6 +1,6 @@
 use Rattle.std.proofs.Common.{rules, ◌≡◌, ◌+◌, ◌++◌, ◌%◌, [], ◌∷◌, length, arith}
 use Rattle.std.proofs.lemmas.Grind.{common_steps}
-use Rattle.pm_format.proofs.VarintSteps.{completes_more, completes_first, take_keeps}
+use Rattle.pm_format.proofs.VarintLemmas.{completes_more, completes_first, take_keeps}
 use Rattle.pm_format.proofs.varint.write_varint.Goals as goal
 
 pub loop-rest-init : goal.loop-rest-init

@@ -1,6 +1,6 @@
 use Rattle.std.proofs.Common.{◌≡◌, ◌++◌, ℕ, take}
 use Rattle.pm_format.specs.Varint.{varint}
-use Rattle.pm_format.proofs.VarintSteps.{Completes}
+use Rattle.pm_format.proofs.VarintLemmas.{Completes}
 use Rattle.pm_format.proofs.varint.write_varint.Given as goal
 
 abbrev pub invariant-loop-rest : goal.invariant-loop-rest

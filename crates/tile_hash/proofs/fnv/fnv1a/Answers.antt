@@ -1,6 +1,6 @@
 use Rattle.std.proofs.Common.{ℕ, ◌+◌, arith, sym, ◌∙◌, ap, drop}
 use Rattle.tile_hash.specs.Fnv.{byte_hashed, hashed_from}
-use Rattle.tile_hash.proofs.Steps.{hashed_step, hashed_done}
+use Rattle.tile_hash.proofs.StepLemmas.{hashed_step, hashed_done}
 use Rattle.tile_hash.proofs.fnv.fnv1a.Goals as goal
 
 pub loop-byte-preserved : goal.loop-byte-preserved

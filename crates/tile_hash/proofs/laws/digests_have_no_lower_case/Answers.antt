@@ -1,4 +1,4 @@
-use Rattle.tile_hash.proofs.Upper.{digest_stays}
+use Rattle.tile_hash.proofs.UpperCaseLemmas.{digest_stays}
 use Rattle.tile_hash.proofs.laws.digests_have_no_lower_case.Goals as goal
 
 pub returns : goal.returns

@@ -1,6 +1,6 @@
 use Rattle.std.proofs.Common.{arith}
 use Rattle.tile_ids.proofs.Curve.{hilbert_below}
-use Rattle.tile_ids.proofs.Walks.{first, walk_begin, walk_more, walk_below, walked}
+use Rattle.tile_ids.proofs.WalkLemmas.{first, walk_begin, walk_more, walk_below, walked}
 use Rattle.tile_ids.proofs.hilbert.hilbert_number.Goals as goal
 
 pub loop-left-init : goal.loop-left-init

@@ -1,5 +1,5 @@
 use Rattle.std.proofs.Common.{◌/◌}
-use Rattle.tile_ids.proofs.Walks.{Walking}
+use Rattle.tile_ids.proofs.WalkLemmas.{Walking}
 use Rattle.tile_ids.proofs.hilbert.hilbert_number.Given as goal
 
 abbrev pub invariant-loop-left : goal.invariant-loop-left

@@ -1,5 +1,5 @@
 use Rattle.std.proofs.Common.{◌/◌}
-use Rattle.tile_ids.proofs.Walks.{Returning}
+use Rattle.tile_ids.proofs.WalkLemmas.{Returning}
 use Rattle.tile_ids.proofs.hilbert.hilbert_place.Given as goal
 
 abbrev pub invariant-loop-left : goal.invariant-loop-left

@@ -1,4 +1,4 @@
-use Rattle.tile_ids.proofs.Zooms.{zoom_bounds}
+use Rattle.tile_ids.proofs.ZoomLemmas.{zoom_bounds}
 use Rattle.tile_ids.proofs.hilbert.zoom_of.Goals as goal
 
 pub returns-clause-from : goal.returns-clause-from

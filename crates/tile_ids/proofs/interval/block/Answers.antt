@@ -1,6 +1,6 @@
 use Rattle.std.proofs.Common.{◌≤◌, ◌-◌, ◌^◌, refl, ap, ◌∙◌, arith}
 use Rattle.tile_ids.proofs.Curve.{area_of, area_below}
-use Rattle.tile_ids.proofs.Subtree.{block_below}
+use Rattle.tile_ids.proofs.SubtreeLemmas.{block_below}
 use Rattle.tile_ids.proofs.interval.block.Goals as goal
 
 -- the count of descendants, in the code's words

@@ -1,4 +1,4 @@
-use Rattle.tile_ids.proofs.Children.{child_number, child_of_number, one_child}
+use Rattle.tile_ids.proofs.ChildLemmas.{child_number, child_of_number, one_child}
 use Rattle.tile_ids.proofs.laws.children_have_four_numbers.Goals as goal
 
 pub returns-clause-within : goal.returns-clause-within

@@ -1,4 +1,4 @@
-use Rattle.tile_ids.proofs.Subtree.{interval_law}
+use Rattle.tile_ids.proofs.SubtreeLemmas.{interval_law}
 use Rattle.tile_ids.proofs.laws.subtree_intervals_hold_descendants.Goals as goal
 
 pub returns : goal.returns

@@ -1,5 +1,5 @@
 use Rattle.std.proofs.Common.{refl}
-use Rattle.tile_ids.proofs.Sixteenths.{number_read}
+use Rattle.tile_ids.proofs.SixteenthLemmas.{number_read}
 use Rattle.tile_ids.proofs.orientation.number_entry.Goals as goal
 
 pub returns-clause-sixteenth : goal.returns-clause-sixteenth

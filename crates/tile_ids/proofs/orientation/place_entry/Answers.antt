@@ -1,5 +1,5 @@
 use Rattle.std.proofs.Common.{refl}
-use Rattle.tile_ids.proofs.Sixteenths.{place_read}
+use Rattle.tile_ids.proofs.SixteenthLemmas.{place_read}
 use Rattle.tile_ids.proofs.orientation.place_entry.Goals as goal
 
 pub returns-clause-sixteenth : goal.returns-clause-sixteenth

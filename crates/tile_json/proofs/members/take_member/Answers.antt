@@ -1,7 +1,7 @@
 use Rattle.std.proofs.Common.{option_map, ap, ◌∙◌}
 use Rattle.serde_json.proofs.Views.{view-lookup}
 use Rattle.serde_json.specs.View.{view, members_view}
-use Rattle.tile_json.proofs.TakenOut.{view_removed}
+use Rattle.tile_json.proofs.MemberLemmas.{view_removed}
 use Rattle.tile_json.proofs.members.take_member.Goals as goal
 
 pub returns-clause-value : goal.returns-clause-value

@@ -1,6 +1,6 @@
 use Rattle.std.proofs.Common.{Some, Err, ap, sym, ◌∙◌, arith, length-drop}
-use Rattle.pm_format.proofs.Options.{same_error}
-use Rattle.pm_format.proofs.DecodeStages.{counted, uncounted, too_many}
+use Rattle.pm_format.proofs.OptionLemmas.{same_error}
+use Rattle.pm_format.proofs.DecodingLemmas.{counted, uncounted, too_many}
 use Rattle.pm_format.proofs.directory.Directory.decode.Goals as goal
 
 pub returns-in_err-count-clause-none : goal.returns-in_err-count-clause-none

@@ -1,6 +1,6 @@
 use Rattle.std.proofs.Common.{◌≡◌, ◌-◌, suc, arith, subst, sym, ◌∙◌, ap}
 use Rattle.pm_format.specs.Scan.{Parts, scan}
-use Rattle.pm_format.proofs.Halves.{scan_none, scan_at}
+use Rattle.pm_format.proofs.SearchLemmas.{scan_none, scan_at}
 use Rattle.pm_format.proofs.directory.Directory.find_tile_id_counted.Goals as goal
 
 pub returns-then-begun-eq0-clause-found : goal.returns-then-begun-eq0-clause-found

@@ -1,5 +1,5 @@
 use Rattle.std.proofs.Common.{rules, ◌≡◌, ◌++◌, [], ◌∷◌, sym, ◌∙◌}
-use Rattle.pm_format.proofs.ColumnReads.{column_step, column_stop, u32_number}
+use Rattle.pm_format.proofs.ColumnLemmas.{column_step, column_stop, u32_number}
 use Rattle.pm_format.proofs.directory.decode.read_column.Goals as goal
 
 pub returns-in_err-number-clause-none : goal.returns-in_err-number-clause-none

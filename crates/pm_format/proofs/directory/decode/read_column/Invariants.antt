@@ -1,5 +1,5 @@
 use Rattle.std.proofs.Common.{◌^◌}
-use Rattle.pm_format.proofs.ColumnReads.{ColumnReading}
+use Rattle.pm_format.proofs.ColumnLemmas.{ColumnReading}
 use Rattle.pm_format.proofs.directory.decode.read_column.Given as goal
 
 abbrev pub invariant-loop-i : goal.invariant-loop-i

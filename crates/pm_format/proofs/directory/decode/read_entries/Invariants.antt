@@ -1,4 +1,4 @@
-use Rattle.pm_format.proofs.EntryReads.{EntriesReading}
+use Rattle.pm_format.proofs.EntryLemmas.{EntriesReading}
 use Rattle.pm_format.proofs.directory.decode.read_entries.Given as goal
 
 abbrev pub invariant-loop-i : goal.invariant-loop-i

@@ -1,5 +1,5 @@
 use Rattle.std.proofs.Common.{rules, ◌≡◌, ◌≤◌, ◌+◌, ◌^◌, ◌++◌, [], ◌∷◌, ℕ, sym, ◌∙◌, arith, subst}
-use Rattle.pm_format.proofs.ColumnReads.{IdsReading, ids_step, ids_stop, ids_pass, u64_number}
+use Rattle.pm_format.proofs.ColumnLemmas.{IdsReading, ids_step, ids_stop, ids_pass, u64_number}
 use Rattle.pm_format.proofs.directory.decode.read_ids.Goals as goal
 
 pub returns-in_err-step-clause-none : goal.returns-in_err-step-clause-none

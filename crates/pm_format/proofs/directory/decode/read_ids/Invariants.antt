@@ -1,4 +1,4 @@
-use Rattle.pm_format.proofs.ColumnReads.{IdsReading}
+use Rattle.pm_format.proofs.ColumnLemmas.{IdsReading}
 use Rattle.pm_format.proofs.directory.decode.read_ids.Given as goal
 
 abbrev pub invariant-loop-i : goal.invariant-loop-i

@@ -1,5 +1,5 @@
 use Rattle.std.proofs.Common.{refl}
-use Rattle.pm_format.proofs.Halves.{go_right, go_left, not_yet}
+use Rattle.pm_format.proofs.SearchLemmas.{go_right, go_left, not_yet}
 use Rattle.pm_format.proofs.directory.search.count_begun.Goals as goal
 
 pub loop-low-preserved-then-begins_by : goal.loop-low-preserved-then-begins_by

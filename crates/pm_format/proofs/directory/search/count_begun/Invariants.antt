@@ -1,5 +1,5 @@
 use Rattle.std.proofs.Common.{◌-◌}
-use Rattle.pm_format.proofs.Halves.{Searching}
+use Rattle.pm_format.proofs.SearchLemmas.{Searching}
 use Rattle.pm_format.proofs.directory.search.count_begun.Given as goal
 
 abbrev pub invariant-loop-low : goal.invariant-loop-low

@@ -2,7 +2,7 @@ use Rattle.std.proofs.Common.{◌≡◌, ◌∙◌, ap, refl, slice_get, Some, N
 use Rattle.std.proofs.lemmas.Result.{err_from_is_err_and}
 use Rattle.pm_format.specs.declared.error.PmtError.TheVariants as errors
 use Rattle.pm_format.specs.Header.{head, compressions, tile_types, byte_at}
-use Rattle.pm_format.proofs.Looked.{found_by_ok, none_by_err, cause_of_err}
+use Rattle.pm_format.proofs.LabelLemmas.{found_by_ok, none_by_err, cause_of_err}
 use Rattle.pm_format.proofs.header.Header.try_from_bytes.Goals as goal
 
 pub returns-in_err-tile_type : goal.returns-in_err-tile_type

@@ -1,4 +1,4 @@
-use Rattle.pm_format.proofs.HeaderAgain.{head_again}
+use Rattle.pm_format.proofs.HeaderLemmas.{head_again}
 use Rattle.pm_format.proofs.header.Header.write_bytes.Goals as goal
 
 pub returns-clause-again : goal.returns-clause-again

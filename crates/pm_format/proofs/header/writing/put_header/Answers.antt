@@ -1,11 +1,12 @@
 use Rattle.std.proofs.Common.{rules, ◌≤◌, ◌∙◌, arith, sym, append_assoc, length}
 use Rattle.std.proofs.lemmas.List.{take_all}
+use Rattle.pm_format.specs.declared.header.TheConstants.{HEADER_SIZE}
 use Rattle.pm_format.proofs.header.writing.put_header.Goals as goal
 
 pub returns-clause-bytes : goal.returns-clause-bytes
 returns-clause-bytes c =
-    let whole : length c.put_center.new.bytes ≤ 127 = omega arith in
-    sym (take_all 127 c.put_center.new.bytes whole)
+    let whole : length c.put_center.new.bytes ≤ HEADER_SIZE = omega arith in
+    sym (take_all HEADER_SIZE c.put_center.new.bytes whole)
     ∙ rw (c.put_center.ensures, c.put_bounds.ensures, c.put_labels.ensures, c.put_counts.ensures, c.put_places.ensures, c.put-2.ensures, c.put.ensures)
     (simp append_assoc)
 

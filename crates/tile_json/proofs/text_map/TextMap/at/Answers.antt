@@ -1,6 +1,6 @@
 use Rattle.std.proofs.Common.{◌<◌, Some, ap, sym, arith, ◌∙◌}
 use Rattle.std.proofs.lemmas.Option.{slice_get_read}
-use Rattle.tile_json.proofs.Maps.{entries_are, len_is}
+use Rattle.tile_json.proofs.MapLemmas.{entries_are, len_is}
 use Rattle.tile_json.proofs.text_map.TextMap.at.Goals as goal
 
 pub index-requires : goal.index-requires

@@ -1,6 +1,6 @@
 use Rattle.std.proofs.Common.{sym, arith}
 use Rattle.std.specs.Cmp.Lexicographic.{nat_list_cmp_total}
-use Rattle.tile_json.proofs.Maps.{found_below, get_found, get_missing}
+use Rattle.tile_json.proofs.MapLemmas.{found_below, get_found, get_missing}
 use Rattle.tile_json.proofs.text_map.TextMap.get.Goals as goal
 
 -- the name is at its place

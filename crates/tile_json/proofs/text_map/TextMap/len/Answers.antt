@@ -1,5 +1,5 @@
 use Rattle.std.proofs.Common.{sym, ◌∙◌}
-use Rattle.tile_json.proofs.Maps.{len_is}
+use Rattle.tile_json.proofs.MapLemmas.{len_is}
 use Rattle.tile_json.proofs.text_map.TextMap.len.Goals as goal
 
 pub returns : goal.returns

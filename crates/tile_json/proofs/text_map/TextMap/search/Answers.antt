@@ -2,8 +2,8 @@ use Rattle.std.proofs.Common.{◌≡◌, rules}
 use Rattle.std.proofs.lemmas.Fn.{always_returns_same}
 use Rattle.std.specs.Ordering.{nat_cmp}
 use Rattle.std.specs.Cmp.Lexicographic.{slice_cmp, nat_list_cmp_total}
-use Rattle.tile_json.proofs.Maps.{entries_are}
-use Rattle.tile_json.proofs.Places.{searched}
+use Rattle.tile_json.proofs.MapLemmas.{entries_are}
+use Rattle.tile_json.proofs.PlaceLemmas.{searched}
 use Rattle.tile_json.proofs.text_map.TextMap.search.Goals as goal
 
 -- the closure compares an entry's name with the name
