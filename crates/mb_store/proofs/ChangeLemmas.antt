@@ -12,9 +12,10 @@ use Rattle.std.proofs.lemmas.List.Sums.{fails_before_first}
 use Rattle.std.specs.List.{position_or_len}
 use Rattle.mb_store.specs.Changes.{AreChanges, is_own, same_key, with_change}
 use Rattle.mb_store.specs.ChangeIndex.{table_key_of}
-use Rattle.mb_store.specs.KeyOrder.{table_keys_total}
-use Rattle.mb_store.specs.Keys.{key_cmp, table_key_cmp}
-use Rattle.mb_store.specs.Tables.{table_number}
+use Rattle.mb_store.specs.TableKey.{table_keys_total}
+use Rattle.mb_tables.specs.Key.{key_cmp}
+use Rattle.mb_store.specs.TableKey.{table_key_cmp}
+use Rattle.mb_tables.specs.Table.{table_number}
 use Rattle.mb_store.specs.declared.change.Change.{Change}
 
 -- what holds of all pairs still does with an element replaced by one that stands as it did

@@ -5,15 +5,15 @@ use Rattle.std.specs.List.{Any}
 use Rattle.std.proofs.lemmas.Bool.{false≢true, cases_Bool}
 use Rattle.std.proofs.lemmas.List.Elements.{All-nil, All-cons, All-filter, All-weaker}
 use Rattle.std.proofs.lemmas.List.Folds.{list_any_none, Any-from_list_any}
-use Rattle.mb_store.specs.Cells.{cells_eq}
-use Rattle.mb_store.specs.Commits.{CommitsTable, is_changed}
-use Rattle.mb_store.specs.Keys.{has_key, key_cells}
-use Rattle.mb_store.specs.Tables.{key_of, table_eq}
-use Rattle.mb_store.specs.declared.cell.Cell.{Cell}
+use Rattle.mb_tables.specs.Cell.{cells_eq}
+use Rattle.mb_store.specs.Committing.{CommitsTable, is_changed}
+use Rattle.mb_tables.specs.Key.{has_key, key_cells}
+use Rattle.mb_tables.specs.Table.{key_of, table_eq}
+use Rattle.mb_tables.specs.declared.cell.Cell.{Cell}
 use Rattle.mb_store.specs.declared.change.Change.{Change}
-use Rattle.mb_store.specs.declared.key.RowKey.{RowKey}
-use Rattle.mb_store.specs.declared.table.TableName.{TableName}
-use Rattle.mb_store.proofs.CellLemmas.{cells_eq-Decides}
+use Rattle.mb_tables.specs.declared.key.RowKey.{RowKey}
+use Rattle.mb_tables.specs.declared.table.TableName.{TableName}
+use Rattle.mb_tables.proofs.CellLemmas.{cells_eq-Decides}
 use Rattle.mb_store.proofs.Edited.{of_passed}
 use Rattle.mb_store.proofs.Parts.{filter_within}
 

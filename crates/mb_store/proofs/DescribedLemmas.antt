@@ -7,10 +7,12 @@ use Rattle.std.proofs.lemmas.Bool.{false≢true, and_from, and_left, and_parts, 
 use Rattle.std.proofs.lemmas.List.Folds.{list_any-append}
 use Rattle.std.proofs.lemmas.Slice.Eq.{bytes_eq-Decides}
 use Rattle.mb_store.specs.MemTables.{IsKept, MemTables, rows_at}
-use Rattle.mb_store.specs.Store.{clash, is_key_index, is_keyed, is_table, is_table_kind, names_apart, with_tables}
-use Rattle.mb_store.specs.Tables.{table_text}
-use Rattle.mb_store.specs.declared.description.TableDesc.{TableDesc}
-use Rattle.mb_store.specs.declared.table.TableName.{TableName}
+use Rattle.mb_tables.specs.Key.{clash}
+use Rattle.mb_tables.specs.Described.{is_key_index, is_keyed, is_table, is_table_kind, names_apart}
+use Rattle.mb_store.specs.Store.{with_tables}
+use Rattle.mb_tables.specs.Table.{table_text}
+use Rattle.mb_tables.specs.declared.description.TableDesc.{TableDesc}
+use Rattle.mb_tables.specs.declared.table.TableName.{TableName}
 use Rattle.mb_store.proofs.Parts.{AllPairs-nil}
 
 module _ (all added : List TableDesc) (i : ℕ) (item : TableDesc) (W : List TableDesc) (lt : i < length added) (at : item ≡ get_or added i item) (so_far : with_tables all (drop i added) ≡ W) where

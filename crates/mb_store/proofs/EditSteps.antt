@@ -6,17 +6,17 @@ use Rattle.std.specs.declared.cmp.Ordering.TheVariants.{Less, Equal, Greater}
 use Rattle.std.specs.Ordering.{is_eq, is_gt, is_lt}
 use Rattle.std.proofs.lemmas.List.{reverse-append, reverse-reverse}
 use Rattle.std.proofs.lemmas.List.Kept.{AllPairs-filter}
-use Rattle.mb_store.specs.Store.{IsInOrder, row_cmp}
+use Rattle.mb_tables.specs.Key.{IsInOrder, row_cmp}
 use Rattle.std.proofs.lemmas.Bool.{false≢true, cases_Bool}
 use Rattle.std.proofs.lemmas.List.Elements.{All-nil, All-cons, All-append, All-weaker, filter-append, filter_passes}
 use Rattle.std.proofs.lemmas.List.Sorted.{All-permutation, IsPermutation-reverse}
 use Rattle.mb_store.specs.Editing.{Fits, against, edited, edited_all}
-use Rattle.mb_store.specs.Keys.{key_cells, key_cmp}
-use Rattle.mb_store.specs.Tables.{key_of, width}
-use Rattle.mb_store.specs.declared.cell.Cell.{Cell}
+use Rattle.mb_tables.specs.Key.{key_cells, key_cmp}
+use Rattle.mb_tables.specs.Table.{key_of, width}
+use Rattle.mb_tables.specs.declared.cell.Cell.{Cell}
 use Rattle.mb_store.specs.declared.change.Change.{Change}
-use Rattle.mb_store.specs.declared.table.TableName.{TableName}
-use Rattle.mb_store.proofs.CellLemmas.{lists_of_cells_total}
+use Rattle.mb_tables.specs.declared.table.TableName.{TableName}
+use Rattle.mb_tables.proofs.CellLemmas.{lists_of_cells_total}
 use Rattle.mb_store.proofs.Fronts.{All-front, All-last, AllPairs-front, AllPairs-last}
 use Rattle.mb_store.proofs.Parts.{below_lower, filter_every, filter_none}
 

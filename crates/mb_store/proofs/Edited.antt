@@ -9,19 +9,19 @@ use Rattle.std.proofs.lemmas.Bool.{false≢true, and_left, and_parts, eqb-true}
 use Rattle.std.proofs.lemmas.List.Elements.{All-nil, All-cons, All-head, All-tail, All-filter, filter_passes}
 use Rattle.std.proofs.lemmas.List.Folds.{list_any_at}
 use Rattle.std.proofs.lemmas.List.Sorted.{All-permutation, IsPermutation-sym, list_any-IsPermutation}
-use Rattle.mb_store.specs.Cells.{cells_cmp, cells_eq}
+use Rattle.mb_tables.specs.Cell.{cells_cmp, cells_eq}
 use Rattle.mb_store.specs.Changes.{AreChanges, is_own}
-use Rattle.mb_store.specs.Commits.{CommitsTable, is_changed}
+use Rattle.mb_store.specs.Committing.{CommitsTable, is_changed}
 use Rattle.mb_store.specs.Editing.{AreEdits, Fits, against, edited, edited_all}
-use Rattle.mb_store.specs.Keys.{has_key, key_cells, key_cmp}
-use Rattle.mb_store.specs.Store.{IsInOrder, clash}
-use Rattle.mb_store.specs.Tables.{key_of, table_eq, width}
-use Rattle.mb_store.specs.declared.cell.Cell.{Cell}
+use Rattle.mb_tables.specs.Key.{has_key, key_cells, key_cmp}
+use Rattle.mb_tables.specs.Key.{IsInOrder, clash}
+use Rattle.mb_tables.specs.Table.{key_of, table_eq, width}
+use Rattle.mb_tables.specs.declared.cell.Cell.{Cell}
 use Rattle.mb_store.specs.declared.change.Change.{Change}
-use Rattle.mb_store.specs.declared.table.TableName.{TableName}
-use Rattle.mb_store.proofs.CellLemmas.{cells_eq-Decides, lists_of_cells_total}
+use Rattle.mb_tables.specs.declared.table.TableName.{TableName}
+use Rattle.mb_tables.proofs.CellLemmas.{cells_eq-Decides, lists_of_cells_total}
 use Rattle.mb_store.proofs.Parts.{AllPairs-head, AllPairs-tail, AllPairs-replaced, All-replaced, others-replaced, tied-replaced}
-use Rattle.mb_store.proofs.TableLemmas.{same_table}
+use Rattle.mb_tables.proofs.TableLemmas.{same_table}
 
 module _ (table : TableName) where
   tied_row : (c : Change) → Fits table c → IfSome c.row (λ row. is_eq (against table c.key row) ≡ true)

@@ -11,10 +11,10 @@ use Rattle.std.proofs.lemmas.List.Sums.{position_or_len_is, prefix_len-le-length
 use Rattle.std.proofs.lemmas.List.Quantifiers.{position-Some}
 use Rattle.mb_store.specs.Changes.{same_key, with_change}
 use Rattle.mb_store.specs.ChangeIndex.{IsIndex, table_key_of}
-use Rattle.mb_store.specs.KeyOrder.{table_keys_total}
-use Rattle.mb_store.specs.Keys.{table_key_cmp}
+use Rattle.mb_store.specs.TableKey.{table_keys_total}
+use Rattle.mb_store.specs.TableKey.{table_key_cmp}
 use Rattle.mb_store.specs.declared.change.Change.{Change}
-use Rattle.mb_store.specs.declared.key.TableKey.{TableKey}
+use Rattle.mb_store.specs.declared.table_key.TableKey.{TableKey}
 use Rattle.mb_store.proofs.ChangeLemmas.{none_passes, same_key-cmp, same_keys}
 
 keys_equiv : IsEquivalence (eq_by_cmp table_key_cmp)

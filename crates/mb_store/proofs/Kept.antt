@@ -4,21 +4,23 @@ use Rattle.std.specs.Prelude.{All, AllPairs, insert, OnOk, OnErr, IsErrOf, ◌�
 use Rattle.std.specs.List.{list_any}
 use Rattle.std.proofs.lemmas.Bool.{false≢true, and_parts, and_from}
 use Rattle.std.proofs.lemmas.List.Folds.{list_any_at}
-use Rattle.mb_store.specs.declared.cell.Cell.{Cell}
-use Rattle.mb_store.specs.declared.description.TableDesc.{TableDesc}
-use Rattle.mb_store.specs.declared.table.TableName.{TableName}
-use Rattle.mb_store.specs.declared.error.MbtError.{MbtError}
-use Rattle.mb_store.specs.declared.error.MbtError.TheVariants.{DuplicateRow}
-use Rattle.mb_store.specs.Cells.{cells_eq, is_null}
-use Rattle.mb_store.specs.Tables.{key_of, width}
+use Rattle.mb_tables.specs.declared.cell.Cell.{Cell}
+use Rattle.mb_tables.specs.declared.description.TableDesc.{TableDesc}
+use Rattle.mb_tables.specs.declared.table.TableName.{TableName}
+use Rattle.mb_tables.specs.declared.error.MbtError.{MbtError}
+use Rattle.mb_tables.specs.declared.error.MbtError.TheVariants.{DuplicateRow}
+use Rattle.mb_tables.specs.Cell.{cells_eq, is_null}
+use Rattle.mb_tables.specs.Table.{key_of, width}
 use Rattle.mb_store.specs.ByTable.{at}
 use Rattle.mb_store.specs.TableRows.{AreOrdered}
-use Rattle.mb_store.specs.Store.{clash, is_keyed, is_table, place_for, placed, with_rows}
+use Rattle.mb_tables.specs.Key.{clash}
+use Rattle.mb_tables.specs.Described.{is_keyed, is_table}
+use Rattle.mb_store.specs.Store.{place_for, placed, with_rows}
 use Rattle.mb_store.specs.MemTables.{IsKept, MemTables, rows_at}
-use Rattle.mb_store.proofs.CellLemmas.{cells_eq-Decides}
+use Rattle.mb_tables.proofs.CellLemmas.{cells_eq-Decides}
 use Rattle.mb_store.proofs.Ordered.{All-insert, AllPairs-insert, place_within}
-use Rattle.mb_store.proofs.RowOrder.{rows_total}
-use Rattle.mb_store.proofs.TableLemmas.{with_rows-holds, with_rows-own}
+use Rattle.mb_tables.proofs.RowOrder.{rows_total}
+use Rattle.mb_store.proofs.WithRows.{with_rows-holds, with_rows-own}
 use Rattle.mb_store.proofs.TableLists.{all_ordered}
 
 -- two rows clash either way round

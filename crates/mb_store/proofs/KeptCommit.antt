@@ -5,19 +5,20 @@ use Rattle.std.proofs.lemmas.Bool.{false≢true}
 use Rattle.std.proofs.lemmas.List.Elements.{All-weaker}
 use Rattle.std.proofs.lemmas.List.Sorted.{length_permutation}
 use Rattle.mb_store.specs.Changes.{AreChanges}
-use Rattle.mb_store.specs.Commits.{AreOfTables}
+use Rattle.mb_store.specs.Committing.{AreOfTables}
 use Rattle.mb_store.specs.Editing.{AreEdits, Fits, edited_all}
 use Rattle.mb_store.specs.ByTable.{at}
 use Rattle.mb_store.specs.MemTables.{AreOneList, IsKept, MemTables, base_at, rows_at}
-use Rattle.mb_store.specs.Store.{IsInOrder, clash, is_table}
-use Rattle.mb_store.specs.Tables.{table_eq, width}
-use Rattle.mb_store.specs.declared.cell.Cell.{Cell}
+use Rattle.mb_tables.specs.Key.{IsInOrder, clash}
+use Rattle.mb_tables.specs.Described.{is_table}
+use Rattle.mb_tables.specs.Table.{table_eq, width}
+use Rattle.mb_tables.specs.declared.cell.Cell.{Cell}
 use Rattle.mb_store.specs.declared.change.Change.{Change}
-use Rattle.mb_store.specs.declared.description.TableDesc.{TableDesc}
-use Rattle.mb_store.specs.declared.table.TableName.{TableName}
+use Rattle.mb_tables.specs.declared.description.TableDesc.{TableDesc}
+use Rattle.mb_tables.specs.declared.table.TableName.{TableName}
 use Rattle.mb_store.proofs.Edited.{apart-edited_all, edits_fit, order-edited_all, wide-edited_all}
 use Rattle.mb_store.proofs.Parts.{filter_none}
-use Rattle.mb_store.proofs.TableLemmas.{by_tables, same_table}
+use Rattle.mb_tables.proofs.TableLemmas.{by_tables, same_table}
 use Rattle.mb_store.proofs.TableLists.{all_ordered, one_list, one_ordered}
 
 -- a list in memory has fewer rows than a count can hold

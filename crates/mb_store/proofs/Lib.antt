@@ -1,14 +1,11 @@
 pub mod Ordered
-pub mod RowOrder
-pub mod CellLemmas
-pub mod TableLemmas
+pub mod WithRows
 pub mod Fronts
 pub mod Placed
 pub mod Merged
 pub mod Gathered
 pub mod TableLists
 pub mod Kept
-pub mod TileLemmas
 pub mod ChangeLemmas
 pub mod IndexLemmas
 pub mod KeyedLists

@@ -14,16 +14,16 @@ use Rattle.std.proofs.lemmas.Bool.{false≢true}
 use Rattle.std.proofs.lemmas.List.Elements.{filter_passes}
 use Rattle.std.proofs.lemmas.List.Kept.{AllPairs-filter}
 use Rattle.std.proofs.lemmas.List.Sorted.{ranks_by, sorted_far}
-use Rattle.mb_store.specs.Cells.{cells_eq}
+use Rattle.mb_tables.specs.Cell.{cells_eq}
 use Rattle.mb_store.specs.Changes.{AreChanges, same_key}
-use Rattle.mb_store.specs.KeyOrder.{keys_total}
-use Rattle.mb_store.specs.Keys.{key_cells, key_cmp}
-use Rattle.mb_store.specs.Tables.{table_eq}
+use Rattle.mb_tables.specs.KeyOrder.{keys_total}
+use Rattle.mb_tables.specs.Key.{key_cells, key_cmp}
+use Rattle.mb_tables.specs.Table.{table_eq}
 use Rattle.mb_store.specs.declared.change.Change.{Change}
-use Rattle.mb_store.specs.declared.table.TableName.{TableName}
-use Rattle.mb_store.proofs.CellLemmas.{lists_of_cells_total}
+use Rattle.mb_tables.specs.declared.table.TableName.{TableName}
+use Rattle.mb_tables.proofs.CellLemmas.{lists_of_cells_total}
 use Rattle.mb_store.proofs.Parts.{AllPairs-permutation, AllPairs-weaker}
-use Rattle.mb_store.proofs.TableLemmas.{same_table, table_eq-refl}
+use Rattle.mb_tables.proofs.TableLemmas.{same_table, table_eq-refl}
 
 strict : (c d : Change) (r : Ordering) → key_cmp c.key d.key ≡ r → is_eq r ≡ false → is_lt (key_cmp d.key c.key) ≡ false → key_cmp c.key d.key ≡ Less
 strict c d Less e apart up = e

@@ -2,14 +2,14 @@
 use Rattle.std.proofs.Common.{◌≡◌, ◌++◌, List, [], ◌∷◌, sym, ap, subst, Result, Ok, Err, Vec, Global}
 use Rattle.std.specs.Prelude.{All, OnOk, OnErr}
 use Rattle.std.proofs.lemmas.List.Elements.{All-nil, All-push}
-use Rattle.mb_store.specs.Store.{IsInOrder, row_cmp}
+use Rattle.mb_tables.specs.Key.{IsInOrder, row_cmp}
 use Rattle.mb_store.specs.TableRows.{AreOrdered, IsOneList, gathered, rows_in}
-use Rattle.mb_store.specs.declared.row.Row.{Row}
-use Rattle.mb_store.specs.declared.table.TableName.{TableName}
+use Rattle.mb_tables.specs.declared.row.Row.{Row}
+use Rattle.mb_tables.specs.declared.table.TableName.{TableName}
 use Rattle.mb_store.specs.declared.table_rows.TableRows.{TableRows}
 use Rattle.mb_store.proofs.Fronts.{All-front, All-last}
 use Rattle.mb_store.proofs.Gathered.{up-gather}
-use Rattle.mb_store.proofs.RowOrder.{rows_total}
+use Rattle.mb_tables.proofs.RowOrder.{rows_total}
 
 -- what a refused step leaves has what it had, and what a step makes has it too
 pub either : {T E : Type 0} (r : Result T E) {X : Type 0} (P : X → Type 0) (old new made : X) → OnOk r (new ≡ made) → OnErr r (new ≡ old) → P made → P old → P new

@@ -1,9 +1,9 @@
 -- One thing for each table.
 use Rattle.std.specs.Prelude.{cond}
-use Rattle.mb_store.specs.Tables.{table_eq}
+use Rattle.mb_tables.specs.Table.{table_eq}
 use Rattle.mb_store.specs.declared.by_table.ByTable.{ByTable}
-use Rattle.mb_store.specs.declared.table.TableName.{TableName}
-use Rattle.mb_store.specs.declared.table.TableName.TheVariants.{Tiles, TilesWithHash, Map, Images, TilesShallow, TilesData, TileCache, Metadata}
+use Rattle.mb_tables.specs.declared.table.TableName.{TableName}
+use Rattle.mb_tables.specs.declared.table.TableName.TheVariants.{Tiles, TilesWithHash, Map, Images, TilesShallow, TilesData, TileCache, Metadata}
 
 -- that of a table
 abbrev pub at : {T : Type 0} → ByTable T → TableName → T

@@ -3,9 +3,9 @@ use Rattle.std.specs.Prelude.{ℕ, ◌≡◌, List, position}
 use Rattle.std.specs.BTreeMap.{BTreeMap, get}
 use Rattle.std.specs.Ordering.{is_eq}
 use Rattle.mb_store.specs.Changes.{AreChanges}
-use Rattle.mb_store.specs.Keys.{table_key_cmp}
+use Rattle.mb_store.specs.TableKey.{table_key_cmp}
 use Rattle.mb_store.specs.declared.change.Change.{Change}
-use Rattle.mb_store.specs.declared.key.TableKey.{TableKey}
+use Rattle.mb_store.specs.declared.table_key.TableKey.{TableKey}
 
 -- the key of a change in its table
 abbrev pub table_key_of : Change → TableKey

@@ -4,13 +4,13 @@ use Rattle.std.specs.List.Sorted.{IsPermutation}
 use Rattle.std.specs.declared.cmp.Ordering.{Ordering}
 use Rattle.std.specs.declared.cmp.Ordering.TheVariants.{Less}
 use Rattle.std.specs.Ordering.{is_gt, is_lt}
-use Rattle.mb_store.specs.Cells.{cells_cmp}
-use Rattle.mb_store.specs.Keys.{has_key, key_cells, key_cmp}
-use Rattle.mb_store.specs.Tables.{key_of, table_eq, width}
-use Rattle.mb_store.specs.declared.cell.Cell.{Cell}
+use Rattle.mb_tables.specs.Cell.{cells_cmp}
+use Rattle.mb_tables.specs.Key.{has_key, key_cells, key_cmp}
+use Rattle.mb_tables.specs.Table.{key_of, table_eq, width}
+use Rattle.mb_tables.specs.declared.cell.Cell.{Cell}
 use Rattle.mb_store.specs.declared.change.Change.{Change}
-use Rattle.mb_store.specs.declared.key.RowKey.{RowKey}
-use Rattle.mb_store.specs.declared.table.TableName.{TableName}
+use Rattle.mb_tables.specs.declared.key.RowKey.{RowKey}
+use Rattle.mb_tables.specs.declared.table.TableName.{TableName}
 
 -- the order of a row's key and a key
 abbrev pub against : TableName → RowKey → List Cell → Ordering

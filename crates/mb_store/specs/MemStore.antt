@@ -1,7 +1,7 @@
 -- What a store in memory tells.
 use Rattle.std.specs.Prelude.{ℕ, ◌≡◌, true, []}
 use Rattle.mb_store.specs.Store.{IsSound}
-use Rattle.mb_store.specs.Tables.{Tables}
+use Rattle.mb_tables.specs.Table.{Tables}
 use Rattle.mb_store.specs.MemTables.{AreOneList, tables_of}
 use Rattle.mb_store.specs.declared.mem_store.MemStore.{MemStore}
 

@@ -1,13 +1,13 @@
 -- What the tables in memory hold.
 use Rattle.std.specs.Prelude.{List}
 use Rattle.mb_store.specs.ByTable.{at}
-use Rattle.mb_store.specs.Tables.{Tables}
+use Rattle.mb_tables.specs.Table.{Tables}
 use Rattle.mb_store.specs.TableRows.{AreOrdered, IsOneList, rows_in}
 use Rattle.mb_store.specs.Store.{IsSound}
 use Rattle.mb_store.specs.declared.by_table.ByTable.{ByTable}
-use Rattle.mb_store.specs.declared.cell.Cell.{Cell}
-use Rattle.mb_store.specs.declared.description.TableDesc.{TableDesc}
-use Rattle.mb_store.specs.declared.table.TableName.{TableName}
+use Rattle.mb_tables.specs.declared.cell.Cell.{Cell}
+use Rattle.mb_tables.specs.declared.description.TableDesc.{TableDesc}
+use Rattle.mb_tables.specs.declared.table.TableName.{TableName}
 use Rattle.mb_store.specs.declared.table_rows.TableRows.{TableRows}
 
 -- the rows of each table

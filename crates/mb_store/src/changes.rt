@@ -2,11 +2,11 @@
 ghost use Rattle.std.specs.Prelude.{◌≡◌, ◌<◌, ◌↔◌, IsTrue, [], true, Some, None, OnOk, OnErr, length, slice_get, option_copied};
 ghost use Rattle.mb_store.specs.ChangeIndex.{IsIndex};
 ghost use Rattle.mb_store.specs.Changes.{AreChanges, with_change};
-ghost use Rattle.mb_store.specs.Keys.{has_key};
-ghost use Rattle.mb_store.specs.Tables.{width};
+ghost use Rattle.mb_tables.specs.Key.{has_key};
+ghost use Rattle.mb_tables.specs.Table.{width};
 
 use crate::change::Change;
-use crate::key::TableKey;
+use crate::table_key::TableKey;
 use crate::{Row, RowKey, TableName};
 use std::alloc::Global;
 use std::collections::BTreeMap;

@@ -2,15 +2,15 @@
 ghost use Rattle.std.specs.Prelude.{◌≡◌, ℕ, List, IfOk, OnErr, OnOk};
 ghost use Rattle.mb_store.specs.ByTable.{at};
 ghost use Rattle.mb_store.specs.Changes.{AreChanges};
-ghost use Rattle.mb_store.specs.Commits.{AreOfTables, CommitsTable};
+ghost use Rattle.mb_store.specs.Committing.{AreOfTables, CommitsTable};
 ghost use Rattle.mb_store.specs.Editing.{AreEdits, edited_all};
 ghost use Rattle.mb_store.specs.MemTables.{AreOneList, IsKept, base_at, rows_at};
 ghost use Rattle.mb_store.specs.TableRows.{AreOrdered};
-ghost use Rattle.mb_store.specs.Ready.{IsReady};
-ghost use Rattle.mb_store.specs.Store.{IsInOrder};
+ghost use Rattle.mb_store.specs.Preparing.{IsReady};
+ghost use Rattle.mb_tables.specs.Key.{IsInOrder};
 ghost use Rattle.mb_store.specs.declared.change.Change.{Change};
-ghost use Rattle.mb_store.specs.declared.description.TableDesc.{TableDesc};
-ghost use Rattle.mb_store.specs.declared.table.TableName.{TableName};
+ghost use Rattle.mb_tables.specs.declared.description.TableDesc.{TableDesc};
+ghost use Rattle.mb_tables.specs.declared.table.TableName.{TableName};
 
 use crate::by_table::ByTable;
 use crate::change::Change;

@@ -1,12 +1,12 @@
 // The tables and views that the project itself creates in a store.
 ghost use Rattle.std.specs.Prelude.{◌≡◌, ◌≤◌, ◌⊎◌, ◌↔◌, [], ◌∷◌, true, false, IfErr, IfOk, IsErrOf, IsTrue, OnErr, OnOk};
 ghost use Rattle.tile_ids.specs.Counts.{Rose};
-ghost use Rattle.mb_store.specs.Schema.{layout_tables, set_tables, started_as, table_of, view_of};
+ghost use Rattle.mb_tables.specs.Schema.{layout_tables, set_tables, started_as, table_of, view_of};
 ghost use Rattle.mb_store.specs.Store.{created};
-ghost use Rattle.mb_store.specs.declared.error.MbtError.{MbtError};
+ghost use Rattle.mb_tables.specs.declared.error.MbtError.{MbtError};
 
-use crate::schema::{layout_tables, set_tables, table_of, view_of};
 use crate::{MbtResult, MbtType, NormalizedSchema, TableName, TileStore};
+use mb_tables::{layout_tables, set_tables, table_of, view_of};
 use std::alloc::Global;
 
 /// Creates the table `tiles`, where that name isn't described yet. Refused, the store stands as it was.

@@ -4,8 +4,8 @@ ghost use Rattle.std.specs.Ordering.{is_gt, is_le, is_lt};
 ghost use Rattle.std.specs.declared.cmp.Ordering.TheVariants.{Less};
 ghost use Rattle.mb_store.specs.Changes.{AreChanges};
 ghost use Rattle.mb_store.specs.Editing.{AreEdits, Fits, against, edited_all};
-ghost use Rattle.mb_store.specs.Keys.{key_cmp};
-ghost use Rattle.mb_store.specs.Store.{IsInOrder};
+ghost use Rattle.mb_tables.specs.Key.{key_cmp};
+ghost use Rattle.mb_tables.specs.Key.{IsInOrder};
 
 use crate::change::Change;
 use crate::{Row, RowKey, TableName};

@@ -1,27 +1,16 @@
-//! Laws of the definitions that contracts of tile sets speak of.
-ghost use Rattle.std.specs.Prelude.{◌≡◌, if◌then◌else◌, None, false, true, All, List, filter};
-ghost use Rattle.std.specs.FinMap.{find, get};
+//! Laws of commits, and those of the tables' own definitions.
+ghost use Rattle.std.specs.Prelude.{◌≡◌, false, true, All, List, filter};
 ghost use Rattle.std.specs.List.{find as first};
-ghost use Rattle.mb_store.specs.Cells.{cells_eq};
-ghost use Rattle.mb_store.specs.Commits.{CommitsTable};
-ghost use Rattle.mb_store.specs.Keys.{has_key, key_cells};
-ghost use Rattle.mb_store.specs.declared.cell.Cell.{Cell};
+ghost use Rattle.mb_tables.specs.Cell.{cells_eq};
+ghost use Rattle.mb_tables.specs.Key.{has_key, key_cells};
+ghost use Rattle.mb_tables.specs.Table.{table_eq};
+ghost use Rattle.mb_tables.specs.declared.cell.Cell.{Cell};
+ghost use Rattle.mb_tables.specs.declared.key.RowKey.{RowKey};
+ghost use Rattle.mb_tables.specs.declared.table.TableName.{TableName};
+ghost use Rattle.mb_store.specs.Committing.{CommitsTable};
 ghost use Rattle.mb_store.specs.declared.change.Change.{Change};
-ghost use Rattle.mb_store.specs.declared.key.RowKey.{RowKey};
-ghost use Rattle.mb_store.specs.declared.kind.MbtType.{MbtType};
-ghost use Rattle.mb_store.specs.declared.table.TableName.{TableName};
-ghost use Rattle.mb_store.specs.Tables.{Tables, table_eq};
-ghost use Rattle.mb_store.specs.Tiles.{Place, TileSet, is_solid, pairs_of, place_cmp, solid, tiles_of};
 
-/// The set of tiles that tables hold has at each place the contents of the first row there.
-pub fn tiles_at_each_place()
-    ensures { (layout : MbtType) (t : Tables) (place : Place) → get (tiles_of layout t) place ≡ find place_cmp place (pairs_of layout t) }
-{}
-
-/// The solid part of a set has at each place what the set has there, where that is at least one byte.
-pub fn solid_at_each_place()
-    ensures { (t : TileSet) (place : Place) → get (solid t) place ≡ (if is_solid (get t place) then get t place else None) }
-{}
+pub use mb_tables::laws::{solid_at_each_place, tiles_at_each_place};
 
 /// After a commit the row of each change, or none, is found under its key.
 pub fn found_after_commit()

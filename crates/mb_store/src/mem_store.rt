@@ -1,15 +1,17 @@
 // A store of tables in memory.
 ghost use Rattle.std.specs.Prelude.{◌≡◌, ◌↔◌, ◌⊎◌, true, [], length, IfOk, IfErr, OnOk, OnErr, IsErrOf, IsOkUnless};
-ghost use Rattle.mb_store.specs.Tables.{width};
-ghost use Rattle.mb_store.specs.Schema.{set_tables};
-ghost use Rattle.mb_store.specs.Store.{IsInOrder, is_duplicate, is_table, names_apart, no_rows, with_row};
+ghost use Rattle.mb_tables.specs.Table.{width};
+ghost use Rattle.mb_tables.specs.Schema.{set_tables};
+ghost use Rattle.mb_tables.specs.Key.{IsInOrder};
+ghost use Rattle.mb_store.specs.Store.{is_duplicate, no_rows, with_row};
+ghost use Rattle.mb_tables.specs.Described.{is_table, names_apart};
 ghost use Rattle.mb_store.specs.MemTables.{IsKept};
 
 use crate::failing::Failing;
 use crate::mem_tables::MemTables;
 use crate::{
     Changes, MbtError, MbtResult, MbtType, Row, RowKey, StoreError, TableDesc, TableName,
-    TileStore, committing, described, mem_tables, reading, schema,
+    TileStore, committing, describing, mem_tables, reading,
 };
 use std::alloc::Global;
 use tile_ids::OutOfMemory;
@@ -45,7 +47,7 @@ impl MemStore {
         ensures steady { IfOk result IsSteady }
         ensures settled { IfOk result IsSettled }
     {
-        Ok(MemStore::of_tables(alloc, schema::set_tables(alloc, layout)?))
+        Ok(MemStore::of_tables(alloc, mb_tables::set_tables(alloc, layout)?))
     }
 
     // A store with these tables, whose names are different.
@@ -126,7 +128,7 @@ impl TileStore for MemStore {
         if self.failing.fails() {
             return Err(StoreError::Fault);
         }
-        Ok(described::clone_all(alloc, self.descriptions.as_slice())?)
+        Ok(describing::clone_all(alloc, self.descriptions.as_slice())?)
     }
 
     fn count_rows(&mut self, table: TableName) -> Result<u64, StoreError> {
@@ -167,7 +169,7 @@ impl TileStore for MemStore {
         if self.failing.fails() {
             return Err(StoreError::Fault);
         }
-        self.descriptions = described::with_tables(alloc, self.descriptions.as_slice(), tables)?;
+        self.descriptions = describing::with_tables(alloc, self.descriptions.as_slice(), tables)?;
         Ok(())
     }
 

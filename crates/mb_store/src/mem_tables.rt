@@ -1,9 +1,11 @@
 // The rows of the tables in memory.
 ghost use Rattle.std.specs.Prelude.{◌≡◌, ◌-◌, ◌^◌, ◌<◌, length, min, sum_by, ◌↔◌, ◌⊎◌, true, [], IfErr, OnOk, OnErr, IsErrOf, ◌&&◌};
 ghost use Rattle.std.specs.List.{list_any};
-ghost use Rattle.mb_store.specs.declared.table.TableName.{TableName};
+ghost use Rattle.mb_tables.specs.declared.table.TableName.{TableName};
 ghost use Rattle.mb_store.specs.ByTable.{at};
-ghost use Rattle.mb_store.specs.Store.{clash, is_keyed, placed, with_rows};
+ghost use Rattle.mb_tables.specs.Key.{clash};
+ghost use Rattle.mb_tables.specs.Described.{is_keyed};
+ghost use Rattle.mb_store.specs.Store.{placed, with_rows};
 ghost use Rattle.mb_store.specs.MemTables.{AreOneList, rows_at};
 ghost use Rattle.mb_store.specs.TableRows.{AreOrdered};
 ghost use Rattle.mb_store.specs.Sizes.{all_tables, row_size};

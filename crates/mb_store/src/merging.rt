@@ -1,6 +1,6 @@
 // Merging two lists of rows, which stand in the order of their keys.
 ghost use Rattle.std.specs.Prelude.{[], ◌≡◌, ◌+◌, ◌<◌, ◌≤◌, ◌++◌, OnErr, OnOk, reverse, vec_capacity, vec_len};
-ghost use Rattle.mb_store.specs.Store.{IsInOrder};
+ghost use Rattle.mb_tables.specs.Key.{IsInOrder};
 ghost use Rattle.mb_store.specs.TableRows.{all_placed};
 
 use crate::editing::move_tail;

@@ -2,20 +2,15 @@
 ghost use Rattle.std.specs.Prelude.{◌≡◌, ◌++◌, ◌∷◌, [], false, IsTrue, OnOk, OnErr};
 ghost use Rattle.std.specs.List.{list_any};
 ghost use Rattle.std.specs.Ordering.{is_eq, is_gt};
-ghost use Rattle.mb_store.specs.Cells.{is_null};
-ghost use Rattle.mb_store.specs.Tables.{key_of};
-ghost use Rattle.mb_store.specs.Store.{IsInOrder, clash, place_for, placed, row_cmp};
+ghost use Rattle.mb_tables.specs.Cell.{is_null};
+ghost use Rattle.mb_tables.specs.Table.{key_of};
+ghost use Rattle.mb_tables.specs.Key.{IsInOrder, clash, row_cmp};
+ghost use Rattle.mb_store.specs.Store.{place_for, placed};
 
 use crate::{Cell, Row, TableName};
+use mb_tables::key_of;
 use std::cmp::Ordering;
 use tile_ids::OutOfMemory;
-
-// The key of a row.
-pub(crate) fn key_of(table: TableName, row: &[Cell]) -> &[Cell]
-    ensures { result.now ≡ key_of table row.now }
-{
-    &row[..table.key_width().min(row.len())]
-}
 
 // The order of two rows by their keys.
 pub(crate) fn compare(table: TableName, row: &[Cell], other: &[Cell]) -> Ordering

@@ -2,13 +2,13 @@
 ghost use Rattle.std.specs.Prelude.{◌≡◌, AllPairs, IfOk, OnOk, false, filter};
 ghost use Rattle.std.specs.List.Sorted.{IsPermutation};
 ghost use Rattle.std.specs.declared.cmp.Ordering.TheVariants.{Less};
-ghost use Rattle.mb_store.specs.Cells.{cells_eq};
+ghost use Rattle.mb_tables.specs.Cell.{cells_eq};
 ghost use Rattle.mb_store.specs.Changes.{AreChanges};
 ghost use Rattle.mb_store.specs.Editing.{AreEdits};
-ghost use Rattle.mb_store.specs.Keys.{key_cells, key_cmp};
-ghost use Rattle.mb_store.specs.Ready.{IsReady};
-ghost use Rattle.mb_store.specs.Store.{IsInOrder};
-ghost use Rattle.mb_store.specs.Tables.{table_eq};
+ghost use Rattle.mb_tables.specs.Key.{key_cells, key_cmp};
+ghost use Rattle.mb_store.specs.Preparing.{IsReady};
+ghost use Rattle.mb_tables.specs.Key.{IsInOrder};
+ghost use Rattle.mb_tables.specs.Table.{table_eq};
 
 use crate::change::Change;
 use crate::{Row, TableName};

@@ -1,8 +1,8 @@
 // Reading rows in the order of their keys.
 ghost use Rattle.std.specs.Prelude.{◌≡◌, ◌+◌, ◌-◌, ◌^◌, IfOk, drop, find, length, min, position, sum_by, take};
-ghost use Rattle.mb_store.specs.Keys.{has_key};
+ghost use Rattle.mb_tables.specs.Key.{has_key};
 ghost use Rattle.mb_store.specs.Sizes.{cell_size, row_size};
-ghost use Rattle.mb_store.specs.Store.{IsInOrder};
+ghost use Rattle.mb_tables.specs.Key.{IsInOrder};
 
 use crate::{Cell, Row, RowKey, TableName};
 use std::alloc::Global;

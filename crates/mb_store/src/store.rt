@@ -1,13 +1,13 @@
 // Stores of tables.
 ghost use Rattle.std.specs.Prelude.{◌≡◌, ℕ, ◌≤◌, Bool, true, All, IfOk, IfSome, IsErrOf, OnErr, OnOk, drop, find, length, take};
 ghost use Rattle.tile_ids.specs.Counts.{Rose};
-ghost use Rattle.mb_store.specs.Commits.{AreOfTables, Commits};
-ghost use Rattle.mb_store.specs.Keys.{has_key};
+ghost use Rattle.mb_store.specs.Committing.{AreOfTables, Commits};
+ghost use Rattle.mb_tables.specs.Key.{has_key};
 ghost use Rattle.mb_store.specs.Sizes.{live_size_of};
 ghost use Rattle.mb_store.specs.Store.{IsSound, created};
-ghost use Rattle.mb_store.specs.Tables.{Tables, width};
+ghost use Rattle.mb_tables.specs.Table.{Tables, width};
 
-use crate::{Changes, Row, RowKey, TableDesc, TableName};
+use crate::{Changes, MbtError, Row, RowKey, TableDesc, TableName};
 use std::alloc::{AllocError, AllocFailed, Global};
 use thiserror::Error;
 use tile_ids::OutOfMemory;
@@ -50,6 +50,19 @@ impl<T: Drop> From<AllocFailed<T>> for StoreError {
 
     fn from(_: AllocFailed<T>) -> Self {
         StoreError::OutOfMemory
+    }
+}
+
+impl From<StoreError> for MbtError {
+    ghost use Rattle.mb_store.specs.Errors.{of_store};
+
+    ghost from_gives = { λ s e. e ≡ of_store s };
+
+    fn from(error: StoreError) -> Self {
+        match error {
+            StoreError::Fault => MbtError::StoreFault,
+            StoreError::OutOfMemory => MbtError::OutOfMemory,
+        }
     }
 }
 

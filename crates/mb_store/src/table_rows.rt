@@ -7,14 +7,16 @@
 ghost use Rattle.std.specs.Prelude.{◌≡◌, ◌+◌, ◌-◌, ◌^◌, ◌<◌, ◌≤◌, ◌↔◌, ◌⊎◌, ◌&&◌, ◌++◌, ◌∷◌, [], true, false, All, min, sum_by, length, vec_len, vec_capacity, IfErr, IsErrOf, IsTrue, OnErr, OnOk};
 ghost use Rattle.std.specs.List.{list_any};
 ghost use Rattle.mb_store.specs.Sizes.{row_size};
-ghost use Rattle.mb_store.specs.Store.{IsInOrder, clash, is_keyed, placed};
+ghost use Rattle.mb_tables.specs.Key.{IsInOrder, clash};
+ghost use Rattle.mb_tables.specs.Described.{is_keyed};
+ghost use Rattle.mb_store.specs.Store.{placed};
 ghost use Rattle.mb_store.specs.TableRows.{AreOrdered, IsOneList, all_placed, rows_in};
-ghost use Rattle.mb_store.specs.declared.table.TableName.{TableName};
+ghost use Rattle.mb_tables.specs.declared.table.TableName.{TableName};
 
-use crate::described::is_keyed;
 use crate::merging::merge;
 use crate::placing::{has_clash, insert, is_above, is_above_all};
 use crate::{Cell, MbtError, MbtResult, Row, TableDesc, TableName, reading};
+use mb_tables::is_keyed;
 use std::alloc::Global;
 use tile_ids::OutOfMemory;
 

@@ -1,7 +1,5 @@
-// Rows, commits, layouts and words, against their values.
+// Rows, commits and layouts, against their values.
 mod layouts;
-mod odd_tables;
 mod orders;
 mod rows;
 mod stores;
-mod words;

@@ -6,8 +6,8 @@ use Rattle.std.specs.FinMap.{find, from_entries, get, get-from_entries}
 use Rattle.tile_ids.specs.Coord.{Coord}
 use Rattle.tile_ids.specs.Counts.{Rose}
 use Rattle.tile_ids.specs.Hilbert.{id_of}
-use Rattle.mb_store.specs.Tiles.{TileSet}
-use Rattle.mb_store.specs.declared.cell.Cell.{Cell}
+use Rattle.mb_tables.specs.Tiles.{TileSet}
+use Rattle.mb_tables.specs.declared.cell.Cell.{Cell}
 use Rattle.pm_format.specs.LookUp.{archive_map}
 use Rattle.pm_format.specs.Options.{Options}
 use Rattle.pm_writer.proofs.Canonical.{canon_is}

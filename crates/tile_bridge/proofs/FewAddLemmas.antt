@@ -9,7 +9,7 @@ use Rattle.std.specs.List.Sorted.{IsPermutation}
 use Rattle.std.specs.FinMap.{entries}
 use Rattle.tile_ids.specs.Coord.{Coord}
 use Rattle.tile_ids.specs.Hilbert.{id_of}
-use Rattle.mb_store.specs.declared.cell.Cell.{Cell}
+use Rattle.mb_tables.specs.declared.cell.Cell.{Cell}
 use Rattle.pm_format.specs.Options.{Options}
 use Rattle.pm_writer.specs.Bounds.{AllSized}
 use Rattle.pm_writer.specs.Few.{AreFew}

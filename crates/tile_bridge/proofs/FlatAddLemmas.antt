@@ -15,9 +15,9 @@ use Rattle.tile_ids.specs.declared.id.TheConstants.{MAX_TILE_ID}
 use Rattle.tile_ids.specs.Coord.{Coord}
 use Rattle.tile_ids.specs.Hilbert.{id_of}
 use Rattle.tile_ids.proofs.Bijection.{id_within}
-use Rattle.mb_store.proofs.TileLemmas.{places_total, get-solid}
-use Rattle.mb_store.specs.declared.cell.Cell.{Cell}
-use Rattle.mb_store.specs.Tiles.{Place, TileSet, is_solid, place_cmp, solid}
+use Rattle.mb_tables.proofs.TileLemmas.{places_total, get-solid}
+use Rattle.mb_tables.specs.declared.cell.Cell.{Cell}
+use Rattle.mb_tables.specs.Tiles.{Place, TileSet, is_solid, place_cmp, solid}
 use Rattle.pm_format.specs.LookUp.{archive_map}
 use Rattle.tile_bridge.specs.Aggregate.{bytes_of}
 use Rattle.tile_bridge.specs.Convert.{HoldsExactly, address}

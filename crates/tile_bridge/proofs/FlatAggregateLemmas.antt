@@ -2,7 +2,7 @@
 use Rattle.std.proofs.Common.{◌≡◌, ℕ, List, [], ◌∷◌, ◌++◌, append_assoc, flat_map, map, Option, Some, None, refl, sym, ◌∙◌, ap}
 use Rattle.std.specs.FinMap.{entries}
 use Rattle.tile_ids.proofs.Indexes.{inverted_twice}
-use Rattle.mb_store.specs.declared.cell.Cell.{Cell}
+use Rattle.mb_tables.specs.declared.cell.Cell.{Cell}
 use Rattle.tile_bridge.specs.Aggregate.{aggregate, bytes_of, tile_text}
 use Rattle.tile_bridge.specs.FlatRows.{flat_set}
 use Rattle.tile_bridge.specs.FlatTiles.{text_at, texts, tile_at, tiles_in}

@@ -4,9 +4,9 @@ use Rattle.std.specs.declared.cmp.Ordering.TheVariants.{Less, Equal, Greater}
 use Rattle.std.specs.List.{cons_option}
 use Rattle.std.specs.FinMap.{entries, entries-insert, from_entries, len-empty, len-entries, put}
 use Rattle.std.specs.FinMap.Entries.{by_order}
-use Rattle.mb_store.proofs.TileLemmas.{places_total}
-use Rattle.mb_store.specs.declared.cell.Cell.{Cell}
-use Rattle.mb_store.specs.Tiles.{Place, cell_at, contents_of, pairs_at, place_cmp, place_of, tile_of}
+use Rattle.mb_tables.proofs.TileLemmas.{places_total}
+use Rattle.mb_tables.specs.declared.cell.Cell.{Cell}
+use Rattle.mb_tables.specs.Tiles.{Place, cell_at, contents_of, pairs_at, place_cmp, place_of, tile_of}
 use Rattle.tile_bridge.specs.FlatRows.{flat_set}
 use Rattle.tile_bridge.proofs.PlaceLemmas.{InRange, place_in_range}
 

@@ -3,9 +3,9 @@ use Rattle.std.proofs.Common.{◌≡◌, ℕ, zero, suc, ◌-◌, ◌<◌, ◌�
 use Rattle.std.proofs.lemmas.Bool.Decides.{nat_tests}
 use Rattle.std.specs.Option.{option_map}
 use Rattle.tile_ids.specs.Coord.{Coord, tile_index, index_of}
-use Rattle.mb_store.specs.declared.cell.Cell.{Cell}
-use Rattle.mb_store.specs.declared.cell.Cell.TheVariants.{Null, Int, Text, Blob, Other}
-use Rattle.mb_store.specs.Tiles.{Place, cell_at, contents_of, number_below, place_of, tile_of}
+use Rattle.mb_tables.specs.declared.cell.Cell.{Cell}
+use Rattle.mb_tables.specs.declared.cell.Cell.TheVariants.{Null, Int, Text, Blob, Other}
+use Rattle.mb_tables.specs.Tiles.{Place, cell_at, contents_of, number_below, place_of, tile_of}
 use Rattle.tile_bridge.specs.FlatRows.{coord_at, flat_place, number_in}
 
 pub cell_past : (row : List Cell) (n : ℕ) → length row ≤ n → cell_at n row ≡ Null

@@ -11,10 +11,10 @@ use Rattle.std.specs.Option.{option_map}
 use Rattle.std.specs.FinMap.{entries, entries-insert, from_entries, put}
 use Rattle.std.specs.FinMap.Entries.{by_order}
 use Rattle.tile_ids.specs.Coord.{Coord}
-use Rattle.mb_store.proofs.TileLemmas.{places_total}
-use Rattle.mb_store.specs.declared.cell.Cell.{Cell}
-use Rattle.mb_store.specs.declared.cell.Cell.TheVariants.{Null, Int, Text, Blob, Other}
-use Rattle.mb_store.specs.Tiles.{Place, cell_at, contents_of, pairs_at, place_cmp, place_of, tile_of}
+use Rattle.mb_tables.proofs.TileLemmas.{places_total}
+use Rattle.mb_tables.specs.declared.cell.Cell.{Cell}
+use Rattle.mb_tables.specs.declared.cell.Cell.TheVariants.{Null, Int, Text, Blob, Other}
+use Rattle.mb_tables.specs.Tiles.{Place, cell_at, contents_of, pairs_at, place_cmp, place_of, tile_of}
 use Rattle.tile_bridge.specs.Aggregate.{bytes_of}
 use Rattle.tile_bridge.specs.FlatRows.{cell_bytes, coord_at, flat_set}
 use Rattle.tile_hash.specs.Md5Stream.{HasTaken}

@@ -8,10 +8,10 @@ use Rattle.std.specs.Cmp.{nat_cmp_total, tied_itself}
 use Rattle.std.specs.FinMap.{nat_cmp-IsAntisymmetric}
 use Rattle.tile_ids.specs.Coord.{IsCoord}
 use Rattle.tile_ids.proofs.Bijection.{one_id}
-use Rattle.mb_store.proofs.TileLemmas.{places_total}
-use Rattle.mb_store.specs.declared.cell.Cell.{Cell}
-use Rattle.mb_store.specs.declared.cell.Cell.TheVariants.{Null, Int, Text, Blob, Other}
-use Rattle.mb_store.specs.Tiles.{Place, cell_at, number_below, place_cmp, place_of}
+use Rattle.mb_tables.proofs.TileLemmas.{places_total}
+use Rattle.mb_tables.specs.declared.cell.Cell.{Cell}
+use Rattle.mb_tables.specs.declared.cell.Cell.TheVariants.{Null, Int, Text, Blob, Other}
+use Rattle.mb_tables.specs.Tiles.{Place, cell_at, number_below, place_cmp, place_of}
 use Rattle.tile_bridge.specs.Convert.{address}
 use Rattle.tile_bridge.specs.FlatRows.{coord_at}
 

@@ -6,13 +6,13 @@ use Rattle.std.specs.declared.cmp.Ordering.{Ordering}
 use Rattle.std.specs.declared.cmp.Ordering.TheVariants.{Less, Equal, Greater}
 use Rattle.std.specs.Ordering.{int_cmp, is_gt, nat_cmp, ordering_then}
 use Rattle.std.specs.List.{cons_option}
-use Rattle.mb_store.specs.declared.cell.Cell.{Cell}
-use Rattle.mb_store.specs.declared.cell.Cell.TheVariants.{Int}
-use Rattle.mb_store.specs.declared.table.TableName.TheVariants.{Tiles}
-use Rattle.mb_store.specs.Cells.{cells_cmp}
-use Rattle.mb_store.specs.Store.{IsInOrder, row_cmp}
-use Rattle.mb_store.specs.Tables.{key_of}
-use Rattle.mb_store.specs.Tiles.{Place, cell_at, contents_of, pairs_at, place_cmp, place_of, tile_of}
+use Rattle.mb_tables.specs.declared.cell.Cell.{Cell}
+use Rattle.mb_tables.specs.declared.cell.Cell.TheVariants.{Int}
+use Rattle.mb_tables.specs.declared.table.TableName.TheVariants.{Tiles}
+use Rattle.mb_tables.specs.Cell.{cells_cmp}
+use Rattle.mb_tables.specs.Key.{IsInOrder, row_cmp}
+use Rattle.mb_tables.specs.Table.{key_of}
+use Rattle.mb_tables.specs.Tiles.{Place, cell_at, contents_of, pairs_at, place_cmp, place_of, tile_of}
 use Rattle.tile_bridge.specs.FlatRows.{AreFlatRows, IsFlatRow}
 use Rattle.tile_bridge.proofs.FlatRanges.{Pairs}
 use Rattle.tile_bridge.proofs.FlatTileLemmas.{Climbs}

@@ -2,7 +2,7 @@
 use Rattle.std.specs.Prelude.{ℕ, ◌++◌, List, [], Option, Some, None, flat_map}
 use Rattle.std.specs.FinMap.{entries}
 use Rattle.std.specs.Fmt.{decimal}
-use Rattle.mb_store.specs.Tiles.{Place, TileSet}
+use Rattle.mb_tables.specs.Tiles.{Place, TileSet}
 use Rattle.tile_hash.specs.Digest.{digest}
 use Rattle.tile_hash.specs.declared.algorithm.HashAlgorithm.TheVariants as algorithm
 

@@ -5,7 +5,7 @@ use Rattle.std.specs.FinMap.{FinMap, entries, get}
 use Rattle.std.specs.Ordering.{nat_cmp}
 use Rattle.tile_ids.specs.Coord.{Coord}
 use Rattle.tile_ids.specs.Hilbert.{id_of, tile_id}
-use Rattle.mb_store.specs.Tiles.{Place, TileSet, solid}
+use Rattle.mb_tables.specs.Tiles.{Place, TileSet, solid}
 use Rattle.pm_format.specs.declared.compression.Compression.TheVariants as compression
 use Rattle.pm_format.specs.LookUp.{archive_map}
 use Rattle.pm_format.specs.Options.{Options}

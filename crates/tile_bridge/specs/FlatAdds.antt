@@ -3,7 +3,7 @@ use Rattle.std.specs.Prelude.{◌≡◌, ◌≢◌, ◌≤◌, ℕ, true, List, 
 use Rattle.std.specs.FinMap.{find, get, is_sorted}
 use Rattle.std.specs.Ordering.{nat_cmp}
 use Rattle.tile_ids.specs.declared.id.TheConstants.{MAX_TILE_ID}
-use Rattle.mb_store.specs.Tiles.{Place, TileSet, solid}
+use Rattle.mb_tables.specs.Tiles.{Place, TileSet, solid}
 use Rattle.tile_bridge.specs.Convert.{address}
 
 -- the bytes under an id, if any

@@ -3,9 +3,9 @@ use Rattle.std.specs.Prelude.{ℕ, ◌-◌, ◌^◌, ℤ, List, [], Option, Some
 use Rattle.std.specs.Option.{option_map}
 use Rattle.std.specs.FinMap.{from_entries}
 use Rattle.tile_ids.specs.Coord.{Coord}
-use Rattle.mb_store.specs.Tiles.{Place, TileSet, cell_at, contents_of, pairs_at, place_of, tile_of}
-use Rattle.mb_store.specs.declared.cell.Cell.{Cell}
-use Rattle.mb_store.specs.declared.cell.Cell.TheVariants.{Null, Int, Text, Blob, Other}
+use Rattle.mb_tables.specs.Tiles.{Place, TileSet, cell_at, contents_of, pairs_at, place_of, tile_of}
+use Rattle.mb_tables.specs.declared.cell.Cell.{Cell}
+use Rattle.mb_tables.specs.declared.cell.Cell.TheVariants.{Null, Int, Text, Blob, Other}
 
 -- a place of zoom 0 to 30 in range, and bytes or null
 pub record IsFlatRow (row : List Cell) : Type 0 where

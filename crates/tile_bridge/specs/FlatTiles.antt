@@ -5,8 +5,8 @@ use Rattle.std.specs.Option.{option_map}
 use Rattle.std.specs.FinMap.{entries}
 use Rattle.tile_ids.specs.Coord.{Coord, inverted_y}
 use Rattle.tile_ids.specs.Hilbert.{id_of}
-use Rattle.mb_store.specs.Tiles.{Place, cell_at}
-use Rattle.mb_store.specs.declared.cell.Cell.{Cell}
+use Rattle.mb_tables.specs.Tiles.{Place, cell_at}
+use Rattle.mb_tables.specs.declared.cell.Cell.{Cell}
 use Rattle.tile_bridge.specs.Aggregate.{bytes_of, tile_text}
 use Rattle.tile_bridge.specs.FlatRows.{cell_bytes, coord_at, flat_place, flat_set}
 use Rattle.tile_bridge.specs.declared.flat_tiles.FlatTile.{FlatTile}

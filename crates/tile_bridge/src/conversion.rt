@@ -2,10 +2,10 @@
 ghost use Rattle.std.specs.Prelude.{◌≡◌, ◌<◌, ◌≤◌, ◌+◌, ◌^◌, false, length, IfOk, IsErrOf};
 ghost use Rattle.tile_ids.specs.Counts.{Rose};
 ghost use Rattle.mb_store.specs.MemStore.{told_of};
-ghost use Rattle.mb_store.specs.Store.{IsInOrder};
-ghost use Rattle.mb_store.specs.Tiles.{tiles_of};
-ghost use Rattle.mb_store.specs.declared.kind.MbtType.TheVariants.{Flat};
-ghost use Rattle.mb_store.specs.declared.table.TableName.TheVariants.{Tiles};
+ghost use Rattle.mb_tables.specs.Key.{IsInOrder};
+ghost use Rattle.mb_tables.specs.Tiles.{tiles_of};
+ghost use Rattle.mb_tables.specs.declared.kind.MbtType.TheVariants.{Flat};
+ghost use Rattle.mb_tables.specs.declared.table.TableName.TheVariants.{Tiles};
 ghost use Rattle.pm_format.specs.Options.{Options};
 ghost use Rattle.pm_writer.specs.Few.{AreFew};
 ghost use Rattle.tile_bridge.specs.Aggregate.{aggregate};

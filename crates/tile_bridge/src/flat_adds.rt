@@ -1,7 +1,7 @@
 // The adds of a flat table: its tiles of at least one byte by their ids.
 ghost use Rattle.std.specs.Prelude.{◌≡◌, ◌<◌, ◌^◌, List, false, filter, length};
 ghost use Rattle.std.specs.List.Sorted.{IsNonDecreasingBy, IsPermutation};
-ghost use Rattle.mb_store.specs.declared.cell.Cell.{Cell};
+ghost use Rattle.mb_tables.specs.declared.cell.Cell.{Cell};
 ghost use Rattle.pm_format.specs.Options.{Options};
 ghost use Rattle.pm_writer.specs.Few.{AreFew};
 ghost use Rattle.tile_bridge.specs.Convert.{overflows};

@@ -1,7 +1,7 @@
 // The rows of a flat table as tiles.
 ghost use Rattle.std.specs.Prelude.{◌≡◌, is_some, unwrap_or};
 ghost use Rattle.std.specs.Option.{option_copied, option_map};
-ghost use Rattle.mb_store.specs.Tiles.{cell_at, contents_of};
+ghost use Rattle.mb_tables.specs.Tiles.{cell_at, contents_of};
 ghost use Rattle.tile_bridge.specs.FlatRows.{cell_bytes, coord_at, flat_place, number_in};
 
 use mb_store::{Cell, Row};

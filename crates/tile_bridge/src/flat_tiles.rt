@@ -3,8 +3,8 @@ ghost use Rattle.std.specs.Prelude.{◌≡◌, ◌<◌, ◌≤◌, ◌+◌, ◌+
 ghost use Rattle.std.specs.Vec.{vec_capacity};
 ghost use Rattle.std.specs.List.{cons_option};
 ghost use Rattle.std.specs.Option.{option_map};
-ghost use Rattle.mb_store.specs.Store.{IsInOrder};
-ghost use Rattle.mb_store.specs.declared.table.TableName.TheVariants.{Tiles};
+ghost use Rattle.mb_tables.specs.Key.{IsInOrder};
+ghost use Rattle.mb_tables.specs.declared.table.TableName.TheVariants.{Tiles};
 ghost use Rattle.tile_hash.specs.Md5Stream.{HasTaken};
 ghost use Rattle.tile_ids.specs.Coord.{Coord};
 ghost use Rattle.tile_bridge.specs.FlatRows.{AreFlatRows};

@@ -16,11 +16,12 @@ use Rattle.std.specs.Cmp.{IsTotalOrder}
 use Rattle.std.specs.List.Sorted.{IsPermutation}
 use Rattle.std.specs.declared.cmp.Ordering.{Ordering}
 use Rattle.std.specs.declared.cmp.Ordering.TheVariants.{Equal}
-use Rattle.mb_store.specs.Store.{placed, row_cmp, with_row}
+use Rattle.mb_store.specs.Store.{placed, with_row}
+use Rattle.mb_tables.specs.Key.{row_cmp}
 use Rattle.mb_store.specs.TableRows.{all_placed}
-use Rattle.mb_store.specs.Tables.{Tables}
-use Rattle.mb_store.specs.declared.cell.Cell.{Cell}
-use Rattle.mb_store.specs.declared.table.TableName.TheVariants.{Tiles}
+use Rattle.mb_tables.specs.Table.{Tables}
+use Rattle.mb_tables.specs.declared.cell.Cell.{Cell}
+use Rattle.mb_tables.specs.declared.table.TableName.TheVariants.{Tiles}
 use Rattle.tile_bridge.specs.FlatRows.{AreFlatRows, IsFlatRow}
 use Rattle.tileset.proofs.AnyOrder.{all_put-map, any_order}
 use Rattle.tileset.proofs.ScriptLemmas.{flat_placed}

@@ -1,8 +1,8 @@
 -- Rows of lines that are tiles.
 use Rattle.std.proofs.Common.{◌≡◌, ℕ, ◌^◌, Bool, true, false, List, [], ◌∷◌, Option, Some, None, is_some, nat_lt, pos, negsuc, refl, sym, ◌∙◌, ap, subst}
-use Rattle.mb_store.specs.declared.cell.Cell.{Cell}
-use Rattle.mb_store.specs.declared.cell.Cell.TheVariants.{Null, Int, Text, Blob, Other}
-use Rattle.mb_store.specs.Tiles.{Place, contents_of, number_below, place_of, tile_of}
+use Rattle.mb_tables.specs.declared.cell.Cell.{Cell}
+use Rattle.mb_tables.specs.declared.cell.Cell.TheVariants.{Null, Int, Text, Blob, Other}
+use Rattle.mb_tables.specs.Tiles.{Place, contents_of, number_below, place_of, tile_of}
 use Rattle.tile_bridge.specs.FlatRows.{IsFlatRow}
 use Rattle.tileset.specs.RowTree.{HasNumbers}
 

@@ -13,13 +13,14 @@ use Rattle.std.specs.Map.{keys_of, lookup, values_of}
 use Rattle.std.proofs.lemmas.List.Elements.{All-cons, All-head, All-tail}
 use Rattle.std.proofs.lemmas.Map.Keys.{sorted_tail}
 use Rattle.std.proofs.lemmas.Map.Views.{All-after_first}
-use Rattle.mb_store.specs.Cells.{cells_cmp, is_null}
-use Rattle.mb_store.specs.Store.{clash, place_for, placed, row_cmp, with_row}
-use Rattle.mb_store.specs.Tables.{Tables, key_of}
-use Rattle.mb_store.specs.declared.cell.Cell.{Cell}
-use Rattle.mb_store.specs.declared.cell.Cell.TheVariants.{Int}
-use Rattle.mb_store.specs.declared.table.TableName.{TableName}
-use Rattle.mb_store.specs.declared.table.TableName.TheVariants.{Tiles}
+use Rattle.mb_tables.specs.Cell.{cells_cmp, is_null}
+use Rattle.mb_tables.specs.Key.{clash, row_cmp}
+use Rattle.mb_store.specs.Store.{place_for, placed, with_row}
+use Rattle.mb_tables.specs.Table.{Tables, key_of}
+use Rattle.mb_tables.specs.declared.cell.Cell.{Cell}
+use Rattle.mb_tables.specs.declared.cell.Cell.TheVariants.{Int}
+use Rattle.mb_tables.specs.declared.table.TableName.{TableName}
+use Rattle.mb_tables.specs.declared.table.TableName.TheVariants.{Tiles}
 use Rattle.tileset.specs.RowTree.{AreRowsAt, IsRowAt, Numbers}
 
 -- the order of keys of a tree

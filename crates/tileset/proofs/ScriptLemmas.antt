@@ -2,8 +2,8 @@
 use Rattle.std.proofs.Common.{◌≡◌, ℕ, true, false, if◌then◌else◌, List, [], ◌∷◌, take, drop, Result, Ok, Err, refl, sym, ◌∙◌, ap}
 use Rattle.std.proofs.lemmas.List.Elements.{All-append, All-cons, All-drop, All-take}
 use Rattle.mb_store.specs.Store.{place_for, placed}
-use Rattle.mb_store.specs.declared.cell.Cell.{Cell}
-use Rattle.mb_store.specs.declared.table.TableName.{TableName}
+use Rattle.mb_tables.specs.declared.cell.Cell.{Cell}
+use Rattle.mb_tables.specs.declared.table.TableName.{TableName}
 use Rattle.tile_bridge.specs.FlatRows.{AreFlatRows, IsFlatRow}
 use Rattle.tileset.specs.Lines.{lines_of}
 use Rattle.tileset.specs.Parting.{parted}

@@ -7,9 +7,9 @@ use Rattle.tile_ids.proofs.Bijection.{place}
 use Rattle.tile_ids.specs.Coord.{Coord, inverted_y}
 use Rattle.tile_ids.specs.Hilbert.{pyramid}
 use Rattle.mb_store.specs.Store.{placed}
-use Rattle.mb_store.specs.declared.cell.Cell.{Cell}
-use Rattle.mb_store.specs.declared.cell.Cell.TheVariants.{Int, Blob}
-use Rattle.mb_store.specs.declared.table.TableName.TheVariants.{Tiles}
+use Rattle.mb_tables.specs.declared.cell.Cell.{Cell}
+use Rattle.mb_tables.specs.declared.cell.Cell.TheVariants.{Int, Blob}
+use Rattle.mb_tables.specs.declared.table.TableName.TheVariants.{Tiles}
 use Rattle.tileset.specs.Script.{Script}
 
 -- the greatest zoom up to a limit whose first id isn't above this one

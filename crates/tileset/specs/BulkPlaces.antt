@@ -1,8 +1,8 @@
 -- The places of the first ids.
 use Rattle.std.specs.Prelude.{ℕ, zero, suc, pos, ◌+◌, ◌-◌, ◌*◌, ◌/◌, List, [], ◌∷◌, ◌++◌, nat_lt, if◌then◌else◌}
 use Rattle.std.specs.Fmt.{decimal}
-use Rattle.mb_store.specs.declared.cell.Cell.{Cell}
-use Rattle.mb_store.specs.declared.cell.Cell.TheVariants.{Int, Blob}
+use Rattle.mb_tables.specs.declared.cell.Cell.{Cell}
+use Rattle.mb_tables.specs.declared.cell.Cell.TheVariants.{Int, Blob}
 use Rattle.tile_ids.specs.Coord.{inverted_y}
 use Rattle.tile_ids.specs.Hilbert.{pyramid, tile_id}
 use Rattle.tileset.specs.Bulk.{coord_of}

@@ -1,11 +1,11 @@
 -- The rows of a table of tiles under the numbers of their places.
 use Rattle.std.specs.Prelude.{◌≡◌, ℤ, All, List, [], ◌∷◌, length}
 use Rattle.mb_store.specs.MemStore.{told_of}
-use Rattle.mb_store.specs.Tables.{key_of}
-use Rattle.mb_store.specs.declared.cell.Cell.{Cell}
-use Rattle.mb_store.specs.declared.cell.Cell.TheVariants.{Int}
+use Rattle.mb_tables.specs.Table.{key_of}
+use Rattle.mb_tables.specs.declared.cell.Cell.{Cell}
+use Rattle.mb_tables.specs.declared.cell.Cell.TheVariants.{Int}
 use Rattle.mb_store.specs.declared.mem_store.MemStore.{MemStore}
-use Rattle.mb_store.specs.declared.table.TableName.TheVariants.{Tiles}
+use Rattle.mb_tables.specs.declared.table.TableName.TheVariants.{Tiles}
 
 -- zoom, column and row as whole numbers
 abbrev pub Numbers : Type 0

@@ -6,10 +6,11 @@ use Rattle.std.specs.Str.{bytes_eq}
 use Rattle.std.specs.FinMap.{from_entries}
 use Rattle.pm_format.specs.Options.{Options}
 use Rattle.tile_ids.specs.Coord.{Coord}
-use Rattle.mb_store.specs.Store.{clash, placed}
-use Rattle.mb_store.specs.Tiles.{TileSet, cell_at, pairs_at, tile_of}
-use Rattle.mb_store.specs.declared.cell.Cell.{Cell}
-use Rattle.mb_store.specs.declared.table.TableName.TheVariants.{Tiles}
+use Rattle.mb_tables.specs.Key.{clash}
+use Rattle.mb_store.specs.Store.{placed}
+use Rattle.mb_tables.specs.Tiles.{TileSet, cell_at, pairs_at, tile_of}
+use Rattle.mb_tables.specs.declared.cell.Cell.{Cell}
+use Rattle.mb_tables.specs.declared.table.TableName.TheVariants.{Tiles}
 use Rattle.tileset.specs.Cell.{cell_of}
 use Rattle.tileset.specs.Lines.{lines_of}
 use Rattle.tileset.specs.Number.{number_to}

@@ -3,7 +3,7 @@ use Rattle.std.specs.Prelude.{◌≡◌, [], ◌∷◌, Ok, Err, codes, pos, ref
 use Rattle.hex.specs.Hex.{decode_pairs}
 use Rattle.pm_format.specs.Options.{default_options}
 use Rattle.pm_format.specs.declared.tile_type.TileType.TheVariants.{Unknown, Png}
-use Rattle.mb_store.specs.declared.cell.Cell.TheVariants.{Null, Int, Blob}
+use Rattle.mb_tables.specs.declared.cell.Cell.TheVariants.{Null, Int, Blob}
 use Rattle.tileset.specs.Lines.{lines_of}
 use Rattle.tileset.specs.Parting.{parted}
 use Rattle.tileset.specs.Script.{line_of, script_of}

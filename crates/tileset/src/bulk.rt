@@ -1,10 +1,10 @@
 // Sets that are made from two numbers.
 ghost use Rattle.std.specs.Prelude.{◌≡◌, ◌≤◌, ◌<◌, ◌^◌, IfOk, OnOk, map};
 ghost use Rattle.mb_store.specs.MemStore.{told_of};
-ghost use Rattle.mb_store.specs.Schema.{set_tables};
+ghost use Rattle.mb_tables.specs.Schema.{set_tables};
 ghost use Rattle.mb_store.specs.TableRows.{all_placed};
-ghost use Rattle.mb_store.specs.declared.kind.MbtType.TheVariants.{Flat};
-ghost use Rattle.mb_store.specs.declared.table.TableName.TheVariants.{Tiles};
+ghost use Rattle.mb_tables.specs.declared.kind.MbtType.TheVariants.{Flat};
+ghost use Rattle.mb_tables.specs.declared.table.TableName.TheVariants.{Tiles};
 ghost use Rattle.tile_bridge.specs.FlatRows.{AreFlatRows};
 ghost use Rattle.tileset.specs.Bulk.{bulk_rows};
 ghost use Rattle.tileset.specs.BulkPlaces.{column_places, if_below, ordered_places, place_at, place_row, side_in, zoom_places};

@@ -3,10 +3,11 @@ ghost use Rattle.std.specs.Prelude.{◌≡◌, [], true, not, IfOk};
 ghost use Rattle.std.specs.List.{list_any};
 ghost use Rattle.std.specs.Map.{values_of};
 ghost use Rattle.mb_store.specs.MemStore.{told_of};
-ghost use Rattle.mb_store.specs.Schema.{set_tables};
-ghost use Rattle.mb_store.specs.Store.{clash, placed};
-ghost use Rattle.mb_store.specs.declared.kind.MbtType.TheVariants.{Flat};
-ghost use Rattle.mb_store.specs.declared.table.TableName.TheVariants.{Tiles};
+ghost use Rattle.mb_tables.specs.Schema.{set_tables};
+ghost use Rattle.mb_tables.specs.Key.{clash};
+ghost use Rattle.mb_store.specs.Store.{placed};
+ghost use Rattle.mb_tables.specs.declared.kind.MbtType.TheVariants.{Flat};
+ghost use Rattle.mb_tables.specs.declared.table.TableName.TheVariants.{Tiles};
 ghost use Rattle.tileset.specs.RowTree.{AreRowsAt, HasNumbers, IsRowAt, base_rows};
 
 use mb_store::{Cell, MbtType, MemStore, Row, TableName};
@@ -25,7 +26,7 @@ pub struct RowTree {
 impl Model for RowTree {
     ghost use Rattle.std.specs.Prelude.{List};
     ghost use Rattle.std.specs.Map.{values_of};
-    ghost use Rattle.mb_store.specs.declared.cell.Cell.{Cell};
+    ghost use Rattle.mb_tables.specs.declared.cell.Cell.{Cell};
 
     ghost Value = { List (List Cell) };
 

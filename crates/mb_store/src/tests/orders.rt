@@ -1,7 +1,7 @@
 // Rows of `tiles`, pushed in orders other than that of their keys.
 ghost use Rattle.std.specs.Prelude.{◌≡◌, true, IfOk, length};
 ghost use Rattle.mb_store.specs.MemStore.{told_of};
-ghost use Rattle.mb_store.specs.Store.{is_table};
+ghost use Rattle.mb_tables.specs.Described.{is_table};
 
 use super::rows::{place, tile};
 use crate::{Cell, MbtError, MbtResult, MbtType, MemStore, Row, TableName, TileStore};

@@ -1,6 +1,6 @@
 // Rows that the tests begin with.
 ghost use Rattle.std.specs.Prelude.{◌≡◌, true, IfOk, length};
-ghost use Rattle.mb_store.specs.Keys.{has_key};
+ghost use Rattle.mb_tables.specs.Key.{has_key};
 
 use crate::{Cell, Row, RowKey, TableName};
 use std::alloc::{AllocError, Global};

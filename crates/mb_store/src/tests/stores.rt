@@ -1,8 +1,8 @@
 // Stores in memory: rows by their keys, commits, and faults.
 ghost use Rattle.std.specs.Prelude.{IfOk, true, ◌≡◌};
-ghost use Rattle.mb_store.specs.Commits.{AreOfTables};
+ghost use Rattle.mb_store.specs.Committing.{AreOfTables};
 ghost use Rattle.mb_store.specs.MemStore.{told_of};
-ghost use Rattle.mb_store.specs.Schema.{set_tables};
+ghost use Rattle.mb_tables.specs.Schema.{set_tables};
 
 use super::rows::{byte_of, place, tile};
 use crate::{

@@ -1,6 +1,6 @@
 // What one line of a script says.
 ghost use Rattle.std.specs.Prelude.{◌≡◌, [], ◌∷◌, IfOk, IfSome, is_some};
-ghost use Rattle.mb_store.specs.Tiles.{tile_of};
+ghost use Rattle.mb_tables.specs.Tiles.{tile_of};
 ghost use Rattle.tile_bridge.specs.FlatRows.{number_in};
 ghost use Rattle.tileset.specs.Cell.{cell_of};
 ghost use Rattle.tileset.specs.Parting.{words_of};

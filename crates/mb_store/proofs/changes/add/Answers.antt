@@ -4,9 +4,9 @@ use Rattle.std.specs.Ordering.{is_eq}
 use Rattle.mb_store.specs.declared.change.Change.{Change}
 use Rattle.std.specs.BTreeMap.{get}
 use Rattle.mb_store.specs.ChangeIndex.{IsIndex}
-use Rattle.mb_store.specs.Keys.{table_key_cmp}
-use Rattle.mb_store.specs.declared.key.RowKey.{RowKey}
-use Rattle.mb_store.specs.declared.key.TableKey.{TableKey}
+use Rattle.mb_store.specs.TableKey.{table_key_cmp}
+use Rattle.mb_tables.specs.declared.key.RowKey.{RowKey}
+use Rattle.mb_store.specs.declared.table_key.TableKey.{TableKey}
 use Rattle.mb_store.proofs.IndexLemmas.{set-with_change, push-with_change, IsIndex-set, IsIndex-push}
 use Rattle.mb_store.proofs.changes.add.Goals as goal
 

@@ -1,11 +1,11 @@
 use Rattle.std.proofs.Common.{◌≡◌, ◌∙◌, List, sym, subst, ap, Vec, Global}
 use Rattle.mb_store.specs.ByTable.{at}
-use Rattle.mb_store.specs.Commits.{CommitsTable}
+use Rattle.mb_store.specs.Committing.{CommitsTable}
 use Rattle.mb_store.specs.Editing.{edited_all}
 use Rattle.mb_store.specs.MemTables.{AreOneList, MemTables, base_at, rows_at}
 use Rattle.mb_store.specs.declared.change.Change.{Change}
-use Rattle.mb_store.specs.declared.row.Row.{Row}
-use Rattle.mb_store.specs.declared.table.TableName.{TableName}
+use Rattle.mb_tables.specs.declared.row.Row.{Row}
+use Rattle.mb_tables.specs.declared.table.TableName.{TableName}
 use Rattle.mb_store.proofs.Edited.{commits-edited_all}
 use Rattle.mb_store.proofs.Kept.{kept_same}
 use Rattle.mb_store.proofs.KeptCommit.{kept_committed}

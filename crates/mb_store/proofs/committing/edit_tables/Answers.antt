@@ -1,4 +1,4 @@
-use Rattle.mb_store.specs.declared.table.TableName.TheVariants.{Tiles, TilesWithHash, Map, Images, TilesShallow, TilesData, TileCache, Metadata}
+use Rattle.mb_tables.specs.declared.table.TableName.TheVariants.{Tiles, TilesWithHash, Map, Images, TilesShallow, TilesData, TileCache, Metadata}
 use Rattle.mb_store.proofs.committing.edit_tables.Goals as goal
 
 pub edit_table-requires : goal.edit_table-requires

@@ -1,4 +1,4 @@
-use Rattle.mb_store.specs.declared.table.TableName.TheVariants.{Tiles, TilesWithHash, Map, Images, TilesShallow, TilesData, TileCache, Metadata}
+use Rattle.mb_tables.specs.declared.table.TableName.TheVariants.{Tiles, TilesWithHash, Map, Images, TilesShallow, TilesData, TileCache, Metadata}
 use Rattle.mb_store.proofs.committing.prepare_all.Goals as goal
 
 pub prepare-requires-clause-order : goal.prepare-requires-clause-order

@@ -4,9 +4,9 @@ use Rattle.std.specs.declared.cmp.Ordering.{Ordering}
 use Rattle.std.specs.declared.cmp.Ordering.TheVariants.{Less, Equal, Greater}
 use Rattle.std.proofs.lemmas.Bool.{false≢true}
 use Rattle.mb_store.specs.Editing.{against}
-use Rattle.mb_store.specs.declared.cell.Cell.{Cell}
-use Rattle.mb_store.specs.declared.key.RowKey.{RowKey}
-use Rattle.mb_store.specs.declared.table.TableName.{TableName}
+use Rattle.mb_tables.specs.declared.cell.Cell.{Cell}
+use Rattle.mb_tables.specs.declared.key.RowKey.{RowKey}
+use Rattle.mb_tables.specs.declared.table.TableName.{TableName}
 use Rattle.mb_store.proofs.Parts.{filter_within}
 use Rattle.mb_store.proofs.editing.edit.Goals as goal
 

@@ -2,9 +2,9 @@ use Rattle.std.proofs.Common.{rules}
 use Rattle.std.specs.Ordering.{is_lt}
 use Rattle.std.proofs.lemmas.List.Sorted.{IsPartitionPoint-from_clause}
 use Rattle.mb_store.specs.Editing.{against}
-use Rattle.mb_store.specs.Keys.{key_cells}
-use Rattle.mb_store.specs.Tables.{key_of}
-use Rattle.mb_store.proofs.CellLemmas.{lists_of_cells_total}
+use Rattle.mb_tables.specs.Key.{key_cells}
+use Rattle.mb_tables.specs.Table.{key_of}
+use Rattle.mb_tables.proofs.CellLemmas.{lists_of_cells_total}
 use Rattle.mb_store.proofs.KeyedLists.{keys_parted}
 use Rattle.mb_store.proofs.Parts.{take-filter}
 use Rattle.mb_store.proofs.editing.place_not_below.Goals as goal

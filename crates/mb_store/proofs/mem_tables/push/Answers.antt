@@ -1,8 +1,8 @@
 use Rattle.std.proofs.Common.{subst}
 use Rattle.mb_store.specs.ByTable.{at}
 use Rattle.mb_store.specs.TableRows.{AreOrdered}
-use Rattle.mb_store.specs.declared.table.TableName.TheVariants.{Tiles, TilesWithHash, Map, Images, TilesShallow, TilesData, TileCache, Metadata}
-use Rattle.mb_store.proofs.TableLemmas.{by_tables}
+use Rattle.mb_tables.specs.declared.table.TableName.TheVariants.{Tiles, TilesWithHash, Map, Images, TilesShallow, TilesData, TileCache, Metadata}
+use Rattle.mb_tables.proofs.TableLemmas.{by_tables}
 use Rattle.mb_store.proofs.mem_tables.push.Goals as goal
 
 pub returns-in-Tiles-clause-order : goal.returns-in-Tiles-clause-order

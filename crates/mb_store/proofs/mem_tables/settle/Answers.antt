@@ -1,7 +1,7 @@
 use Rattle.mb_store.specs.ByTable.{at}
 use Rattle.mb_store.specs.TableRows.{AreOrdered}
-use Rattle.mb_store.specs.declared.table.TableName.TheVariants.{Tiles, TilesWithHash, Map, Images, TilesShallow, TilesData, TileCache, Metadata}
-use Rattle.mb_store.proofs.TableLemmas.{by_tables}
+use Rattle.mb_tables.specs.declared.table.TableName.TheVariants.{Tiles, TilesWithHash, Map, Images, TilesShallow, TilesData, TileCache, Metadata}
+use Rattle.mb_tables.proofs.TableLemmas.{by_tables}
 use Rattle.mb_store.proofs.mem_tables.settle.Goals as goal
 
 pub settle-requires : goal.settle-requires

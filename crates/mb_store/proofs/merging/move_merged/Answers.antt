@@ -1,13 +1,14 @@
 use Rattle.std.specs.Ordering.{is_gt}
 use Rattle.std.proofs.Common.{false, ◌≡◌, ◌≤◌, ◌++◌, ◌∷◌, [], ◌∙◌, ap, sym, subst, arith, length, List, ℕ, take, drop, reverse}
-use Rattle.mb_store.specs.Store.{IsInOrder, place_for, row_cmp}
+use Rattle.mb_tables.specs.Key.{IsInOrder, row_cmp}
+use Rattle.mb_store.specs.Store.{place_for}
 use Rattle.mb_store.specs.TableRows.{all_placed}
-use Rattle.mb_store.specs.declared.cell.Cell.{Cell}
-use Rattle.mb_store.specs.declared.table.TableName.{TableName}
+use Rattle.mb_tables.specs.declared.cell.Cell.{Cell}
+use Rattle.mb_tables.specs.declared.table.TableName.{TableName}
 use Rattle.mb_store.proofs.Fronts.{AllPairs-front, AllPairs-take}
 use Rattle.mb_store.proofs.Merged.{merged_on}
 use Rattle.mb_store.proofs.Ordered.{place_within}
-use Rattle.mb_store.proofs.RowOrder.{rows_total}
+use Rattle.mb_tables.proofs.RowOrder.{rows_total}
 use Rattle.mb_store.proofs.merging.move_merged.Goals as goal
 
 pub move_tail-requires-clause-place : goal.move_tail-requires-clause-place

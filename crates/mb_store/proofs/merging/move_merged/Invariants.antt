@@ -1,5 +1,5 @@
 use Rattle.std.proofs.Common.{◌≡◌, ◌+◌, ◌≤◌, ◌++◌, reverse, vec_len, vec_capacity}
-use Rattle.mb_store.specs.Store.{IsInOrder}
+use Rattle.mb_tables.specs.Key.{IsInOrder}
 use Rattle.mb_store.specs.TableRows.{all_placed}
 use Rattle.mb_store.proofs.merging.move_merged.Given as goal
 

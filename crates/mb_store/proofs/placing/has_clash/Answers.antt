@@ -1,9 +1,9 @@
 use Rattle.std.proofs.Common.{◌∙◌, sym, ap, not, ◌&&◌}
 use Rattle.std.specs.List.{list_any}
 use Rattle.std.specs.Ordering.{is_eq}
-use Rattle.mb_store.specs.Cells.{is_null}
-use Rattle.mb_store.specs.Tables.{key_of}
-use Rattle.mb_store.specs.Store.{row_cmp}
+use Rattle.mb_tables.specs.Cell.{is_null}
+use Rattle.mb_tables.specs.Table.{key_of}
+use Rattle.mb_tables.specs.Key.{row_cmp}
 use Rattle.mb_store.proofs.Ordered.{list_any-and}
 use Rattle.mb_store.proofs.placing.has_clash.Goals as goal
 

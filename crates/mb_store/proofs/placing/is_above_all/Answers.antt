@@ -1,11 +1,11 @@
 use Rattle.std.proofs.Common.{◌≡◌, ◌∙◌, sym, ap, arith, not, ◌&&◌, true, get_or, length, ◌-◌}
 use Rattle.std.specs.List.{list_any}
 use Rattle.std.specs.Ordering.{is_eq, is_gt}
-use Rattle.mb_store.specs.Cells.{is_null}
-use Rattle.mb_store.specs.Tables.{key_of}
-use Rattle.mb_store.specs.Store.{row_cmp}
+use Rattle.mb_tables.specs.Cell.{is_null}
+use Rattle.mb_tables.specs.Table.{key_of}
+use Rattle.mb_tables.specs.Key.{row_cmp}
 use Rattle.mb_store.proofs.Ordered.{list_any-and, none_above, put_behind}
-use Rattle.mb_store.proofs.RowOrder.{rows_total}
+use Rattle.mb_tables.proofs.RowOrder.{rows_total}
 use Rattle.mb_store.proofs.placing.is_above_all.Goals as goal
 
 pub returns-in-len1-up-clause-behind : goal.returns-in-len1-up-clause-behind

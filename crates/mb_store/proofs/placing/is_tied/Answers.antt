@@ -1,9 +1,9 @@
 use Rattle.std.proofs.Common.{◌≡◌, ◌-◌, ◌∙◌, sym, ap, arith, get_or, length-take, Bool, List}
-use Rattle.mb_store.specs.declared.cell.Cell.{Cell}
+use Rattle.mb_tables.specs.declared.cell.Cell.{Cell}
 use Rattle.std.specs.Ordering.{is_eq}
-use Rattle.mb_store.specs.Store.{row_cmp}
+use Rattle.mb_tables.specs.Key.{row_cmp}
 use Rattle.mb_store.proofs.Ordered.{none_tied, tied_before, place_within, last_taken}
-use Rattle.mb_store.proofs.RowOrder.{rows_total}
+use Rattle.mb_tables.proofs.RowOrder.{rows_total}
 use Rattle.mb_store.proofs.placing.is_tied.Goals as goal
 
 pub returns-in-empty : goal.returns-in-empty

@@ -1,10 +1,10 @@
 use Rattle.std.proofs.Common.{◌∙◌, sym, ap, rules, arith, not, Bool, List}
-use Rattle.mb_store.specs.declared.cell.Cell.{Cell}
+use Rattle.mb_tables.specs.declared.cell.Cell.{Cell}
 use Rattle.std.specs.Ordering.{is_gt}
 use Rattle.std.proofs.lemmas.List.Sorted.{IsPartitionPoint-from_clause}
-use Rattle.mb_store.specs.Store.{row_cmp}
+use Rattle.mb_tables.specs.Key.{row_cmp}
 use Rattle.mb_store.proofs.Ordered.{parted, place_at_point, place_at_end}
-use Rattle.mb_store.proofs.RowOrder.{rows_total}
+use Rattle.mb_tables.proofs.RowOrder.{rows_total}
 use Rattle.mb_store.proofs.placing.place_for.Goals as goal
 
 pub returns-then-not-is_gt : goal.returns-then-not-is_gt

@@ -2,11 +2,11 @@ use Rattle.std.proofs.Common.{◌≡◌, ◌-◌, ◌≤◌, ◌<◌, ◌∙◌,
 use Rattle.std.specs.Ordering.{is_gt}
 use Rattle.std.proofs.lemmas.Bool.{cases_eq}
 use Rattle.std.proofs.lemmas.List.{get_or_default}
-use Rattle.mb_store.specs.Store.{row_cmp}
-use Rattle.mb_store.specs.declared.cell.Cell.{Cell}
-use Rattle.mb_store.specs.declared.table.TableName.{TableName}
+use Rattle.mb_tables.specs.Key.{row_cmp}
+use Rattle.mb_tables.specs.declared.cell.Cell.{Cell}
+use Rattle.mb_tables.specs.declared.table.TableName.{TableName}
 use Rattle.mb_store.proofs.Ordered.{last_taken, place_below_others}
-use Rattle.mb_store.proofs.RowOrder.{rows_total}
+use Rattle.mb_tables.proofs.RowOrder.{rows_total}
 use Rattle.mb_store.proofs.placing.place_from_end.Goals as goal
 
 -- whether the row before a place is above another, whatever stands for rows past the end

@@ -1,7 +1,7 @@
 use Rattle.std.proofs.Common.{◌≡◌, ℕ, ◌≤◌, ◌<◌, true, length, get_or, List}
 use Rattle.std.specs.Ordering.{is_gt}
-use Rattle.mb_store.specs.Store.{row_cmp}
-use Rattle.mb_store.specs.declared.cell.Cell.{Cell}
+use Rattle.mb_tables.specs.Key.{row_cmp}
+use Rattle.mb_tables.specs.declared.cell.Cell.{Cell}
 use Rattle.mb_store.proofs.placing.place_from_end.Given as goal
 
 abbrev pub invariant-loop-place : goal.invariant-loop-place

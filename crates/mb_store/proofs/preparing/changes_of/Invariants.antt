@@ -1,5 +1,5 @@
 use Rattle.std.proofs.Common.{◌≡◌, filter, take}
-use Rattle.mb_store.specs.Tables.{table_eq}
+use Rattle.mb_tables.specs.Table.{table_eq}
 use Rattle.mb_store.proofs.preparing.changes_of.Given as goal
 
 abbrev pub invariant-loop-change : goal.invariant-loop-change

@@ -1,10 +1,10 @@
 use Rattle.std.proofs.Common.{◌≡◌, sym, subst, false, arith}
 use Rattle.std.specs.Prelude.{AllPairs}
 use Rattle.std.specs.List.Sorted.{IsPermutation}
-use Rattle.mb_store.specs.Cells.{cells_eq}
+use Rattle.mb_tables.specs.Cell.{cells_eq}
 use Rattle.mb_store.specs.Editing.{AreEdits}
-use Rattle.mb_store.specs.Keys.{key_cells}
-use Rattle.mb_store.specs.Store.{IsInOrder}
+use Rattle.mb_tables.specs.Key.{key_cells}
+use Rattle.mb_tables.specs.Key.{IsInOrder}
 use Rattle.mb_store.proofs.Edited.{edits_fit}
 use Rattle.mb_store.proofs.Sorting.{apart_in_table}
 use Rattle.mb_store.proofs.preparing.prepare.Goals as goal

@@ -1,5 +1,5 @@
 use Rattle.std.proofs.Common.{◌∙◌, sym, ap, Some}
-use Rattle.mb_store.specs.Keys.{has_key}
+use Rattle.mb_tables.specs.Key.{has_key}
 use Rattle.mb_store.proofs.KeyedLists.{find_at_position, find_no_position}
 use Rattle.mb_store.proofs.reading.find_in.Goals as goal
 

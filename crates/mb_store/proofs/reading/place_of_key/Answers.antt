@@ -1,11 +1,11 @@
 use Rattle.std.proofs.Common.{◌∙◌, sym, ap, rules, arith, Bool, List, []}
 use Rattle.std.specs.Ordering.{is_lt}
 use Rattle.std.proofs.lemmas.List.Sorted.{IsPartitionPoint-from_clause}
-use Rattle.mb_store.specs.declared.cell.Cell.{Cell}
-use Rattle.mb_store.specs.Cells.{cells_cmp}
-use Rattle.mb_store.specs.Keys.{has_key, key_cells}
-use Rattle.mb_store.specs.Tables.{key_of}
-use Rattle.mb_store.proofs.CellLemmas.{lists_of_cells_total}
+use Rattle.mb_tables.specs.declared.cell.Cell.{Cell}
+use Rattle.mb_tables.specs.Cell.{cells_cmp}
+use Rattle.mb_tables.specs.Key.{has_key, key_cells}
+use Rattle.mb_tables.specs.Table.{key_of}
+use Rattle.mb_tables.proofs.CellLemmas.{lists_of_cells_total}
 use Rattle.mb_store.proofs.KeyedLists.{first_of_key, keys_parted, none_of_key}
 use Rattle.mb_store.proofs.reading.place_of_key.Goals as goal
 use Rattle.mb_store.proofs.reading.place_of_key.Goals.{else-place-rows-via-then-place-rows+else-is_of, else-place-rows-via-else-place-rows}

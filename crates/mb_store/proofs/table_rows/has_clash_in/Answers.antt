@@ -1,10 +1,10 @@
 use Rattle.std.proofs.Common.{◌≡◌, ◌∙◌, ◌||◌, true, false, sym, ap, Vec, Global, Bool, List}
 use Rattle.std.specs.List.{list_any}
-use Rattle.mb_store.specs.Store.{clash, row_cmp}
+use Rattle.mb_tables.specs.Key.{clash, row_cmp}
 use Rattle.mb_store.specs.TableRows.{rows_in}
-use Rattle.mb_store.specs.declared.cell.Cell.{Cell}
-use Rattle.mb_store.specs.declared.row.Row.{Row}
-use Rattle.mb_store.specs.declared.table.TableName.{TableName}
+use Rattle.mb_tables.specs.declared.cell.Cell.{Cell}
+use Rattle.mb_tables.specs.declared.row.Row.{Row}
+use Rattle.mb_tables.specs.declared.table.TableName.{TableName}
 use Rattle.mb_store.specs.declared.table_rows.TableRows.{TableRows}
 use Rattle.mb_store.proofs.Gathered.{list_any-gather}
 use Rattle.mb_store.proofs.table_rows.has_clash_in.Goals as goal

@@ -1,10 +1,11 @@
 use Rattle.std.proofs.Common.{◌∙◌, sym, ap, rules, Vec, Global, List}
-use Rattle.mb_store.specs.Store.{IsInOrder, placed, row_cmp}
+use Rattle.mb_tables.specs.Key.{IsInOrder, row_cmp}
+use Rattle.mb_store.specs.Store.{placed}
 use Rattle.mb_store.specs.TableRows.{gathered}
-use Rattle.mb_store.specs.declared.row.Row.{Row}
+use Rattle.mb_tables.specs.declared.row.Row.{Row}
 use Rattle.mb_store.proofs.Gathered.{last_put}
 use Rattle.mb_store.proofs.Placed.{up-put}
-use Rattle.mb_store.proofs.RowOrder.{rows_total}
+use Rattle.mb_tables.proofs.RowOrder.{rows_total}
 use Rattle.mb_store.proofs.TableLists.{either, front_ordered, last_ordered, on_ok, push_ordered}
 use Rattle.mb_store.proofs.table_rows.insert_last.Goals as goal
 

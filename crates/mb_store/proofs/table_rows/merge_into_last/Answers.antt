@@ -1,10 +1,10 @@
 use Rattle.std.proofs.Common.{◌∙◌, sym, ap, Vec, Global, List, rules}
-use Rattle.mb_store.specs.Store.{IsInOrder, row_cmp}
+use Rattle.mb_tables.specs.Key.{IsInOrder, row_cmp}
 use Rattle.mb_store.specs.TableRows.{all_placed, gathered}
-use Rattle.mb_store.specs.declared.row.Row.{Row}
+use Rattle.mb_tables.specs.declared.row.Row.{Row}
 use Rattle.mb_store.proofs.Gathered.{last_grown}
 use Rattle.mb_store.proofs.Placed.{up-all_put}
-use Rattle.mb_store.proofs.RowOrder.{rows_total}
+use Rattle.mb_tables.proofs.RowOrder.{rows_total}
 use Rattle.mb_store.proofs.TableLists.{either, front_ordered, last_ordered, on_ok, push_ordered}
 use Rattle.mb_store.proofs.table_rows.merge_into_last.Goals as goal
 

@@ -1,8 +1,8 @@
 use Rattle.std.proofs.Common.{◌++◌, ◌∷◌, [], List, ap, sym, ◌∙◌, refl, subst}
-use Rattle.mb_store.specs.Store.{IsInOrder, row_cmp}
-use Rattle.mb_store.specs.declared.cell.Cell.{Cell}
+use Rattle.mb_tables.specs.Key.{IsInOrder, row_cmp}
+use Rattle.mb_tables.specs.declared.cell.Cell.{Cell}
 use Rattle.mb_store.proofs.Placed.{up-put}
-use Rattle.mb_store.proofs.RowOrder.{rows_total}
+use Rattle.mb_tables.proofs.RowOrder.{rows_total}
 use Rattle.mb_store.proofs.table_rows.push.Goals as goal
 
 pub returns-then-is_last-clause-order : goal.returns-then-is_last-clause-order

@@ -1,8 +1,8 @@
 use Rattle.std.proofs.Common.{◌≡◌, ap, arith, Vec, Global, take, sum_by}
 use Rattle.std.proofs.lemmas.List.{take_all}
 use Rattle.mb_store.specs.Sizes.{row_size}
-use Rattle.mb_store.specs.Store.{row_cmp}
-use Rattle.mb_store.specs.declared.row.Row.{Row}
+use Rattle.mb_tables.specs.Key.{row_cmp}
+use Rattle.mb_tables.specs.declared.row.Row.{Row}
 use Rattle.mb_store.proofs.Gathered.{sum_by-gather}
 use Rattle.mb_store.proofs.table_rows.with_rows.Goals as goal
 

@@ -1,6 +1,6 @@
 use Rattle.std.proofs.Common.{◌≡◌, ◌+◌, ◌-◌, ◌^◌, min, take, sum_by, Vec, Global}
 use Rattle.mb_store.specs.Sizes.{row_size}
-use Rattle.mb_store.specs.declared.row.Row.{Row}
+use Rattle.mb_tables.specs.declared.row.Row.{Row}
 use Rattle.mb_store.proofs.table_rows.with_rows.Given as goal
 
 abbrev pub invariant-loop-list : goal.invariant-loop-list

@@ -1,8 +1,8 @@
 use Rattle.std.proofs.Common.{rules, ◌≡◌, ℕ, List, is_some, IfSome, sym, subst, ◌∙◌, ap}
 use Rattle.mb_store.specs.MemStore.{told_of}
-use Rattle.mb_store.specs.Tiles.{tiles_of}
-use Rattle.mb_store.specs.declared.kind.MbtType.TheVariants.{Flat}
-use Rattle.mb_store.specs.declared.table.TableName.TheVariants.{Tiles}
+use Rattle.mb_tables.specs.Tiles.{tiles_of}
+use Rattle.mb_tables.specs.declared.kind.MbtType.TheVariants.{Flat}
+use Rattle.mb_tables.specs.declared.table.TableName.TheVariants.{Tiles}
 use Rattle.pm_writer.specs.Archive.{archive}
 use Rattle.pm_writer.specs.Pieces.{IsHiddenOr}
 use Rattle.pm_writer.specs.Places.{places_of}

@@ -1,7 +1,7 @@
 use Rattle.std.proofs.Common.{List, map, sym, ◌∙◌, ap, subst}
 use Rattle.mb_store.specs.TableRows.{all_placed}
-use Rattle.mb_store.specs.declared.cell.Cell.{Cell}
-use Rattle.mb_store.specs.declared.table.TableName.TheVariants.{Tiles}
+use Rattle.mb_tables.specs.declared.cell.Cell.{Cell}
+use Rattle.mb_tables.specs.declared.table.TableName.TheVariants.{Tiles}
 use Rattle.tile_bridge.specs.FlatRows.{AreFlatRows}
 use Rattle.tileset.specs.BulkPlaces.{ordered_places, place_row}
 use Rattle.tileset.proofs.BulkLemmas.{bulk_whole, flat_rows}

@@ -1,6 +1,6 @@
 use Rattle.std.proofs.Common.{map, arith, ap, ◌∙◌, ◌≡◌, ◌-◌}
 use Rattle.mb_store.specs.TableRows.{all_placed}
-use Rattle.mb_store.specs.declared.table.TableName.TheVariants.{Tiles}
+use Rattle.mb_tables.specs.declared.table.TableName.TheVariants.{Tiles}
 use Rattle.tileset.specs.BulkPlaces.{column_places, if_below, joined, place_at, place_row, step_place}
 use Rattle.tileset.specs.RowTree.{base_rows}
 use Rattle.tileset.specs.declared.bulk.BulkPlace.{BulkPlace}

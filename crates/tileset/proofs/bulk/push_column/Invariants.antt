@@ -1,10 +1,10 @@
 -- the rows of the places so far are in the base
 use Rattle.std.proofs.Common.{◌≡◌, map}
 use Rattle.mb_store.specs.MemStore.{told_of}
-use Rattle.mb_store.specs.Schema.{set_tables}
+use Rattle.mb_tables.specs.Schema.{set_tables}
 use Rattle.mb_store.specs.TableRows.{all_placed}
-use Rattle.mb_store.specs.declared.kind.MbtType.TheVariants.{Flat}
-use Rattle.mb_store.specs.declared.table.TableName.TheVariants.{Tiles}
+use Rattle.mb_tables.specs.declared.kind.MbtType.TheVariants.{Flat}
+use Rattle.mb_tables.specs.declared.table.TableName.TheVariants.{Tiles}
 use Rattle.tileset.specs.BulkPlaces.{joined, place_row, step_place}
 use Rattle.tileset.specs.RowTree.{base_rows}
 use Rattle.tileset.proofs.bulk.push_column.Given as goal

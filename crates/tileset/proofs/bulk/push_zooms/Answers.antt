@@ -1,6 +1,6 @@
 use Rattle.std.proofs.Common.{map, arith, ap, ◌∙◌, ◌≡◌}
 use Rattle.mb_store.specs.TableRows.{all_placed}
-use Rattle.mb_store.specs.declared.table.TableName.TheVariants.{Tiles}
+use Rattle.mb_tables.specs.declared.table.TableName.TheVariants.{Tiles}
 use Rattle.tile_ids.specs.Hilbert.{pyramid}
 use Rattle.tileset.specs.BulkPlaces.{joined, ordered_places, place_row, side_in, square_places, zoom_places}
 use Rattle.tileset.specs.RowTree.{base_rows}

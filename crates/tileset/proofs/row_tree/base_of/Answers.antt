@@ -2,7 +2,7 @@ use Rattle.std.proofs.Common.{◌≡◌, ◌++◌, List, [], ◌∷◌, sym, ◌
 use Rattle.std.specs.List.Sorted.{IsStrictlySortedBy}
 use Rattle.std.specs.Map.{keys_of}
 use Rattle.mb_store.specs.MemStore.{told_of}
-use Rattle.mb_store.specs.declared.cell.Cell.{Cell}
+use Rattle.mb_tables.specs.declared.cell.Cell.{Cell}
 use Rattle.tileset.specs.RowTree.{Numbers}
 use Rattle.tileset.proofs.RowTreeLemmas.{base_more, numbers_cmp, one_over}
 use Rattle.tileset.proofs.row_tree.base_of.Goals as goal

@@ -2,9 +2,9 @@
 use Rattle.std.proofs.Common.{◌≡◌, ◌++◌, List}
 use Rattle.std.specs.Map.{values_of}
 use Rattle.mb_store.specs.MemStore.{told_of}
-use Rattle.mb_store.specs.Schema.{set_tables}
-use Rattle.mb_store.specs.declared.cell.Cell.{Cell}
-use Rattle.mb_store.specs.declared.kind.MbtType.TheVariants.{Flat}
+use Rattle.mb_tables.specs.Schema.{set_tables}
+use Rattle.mb_tables.specs.declared.cell.Cell.{Cell}
+use Rattle.mb_tables.specs.declared.kind.MbtType.TheVariants.{Flat}
 use Rattle.tileset.specs.RowTree.{Numbers, base_rows}
 use Rattle.tileset.proofs.row_tree.base_of.Given as goal
 

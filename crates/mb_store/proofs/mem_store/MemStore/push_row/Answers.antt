@@ -1,5 +1,5 @@
 use Rattle.std.proofs.Common.{ap}
-use Rattle.mb_store.specs.Store.{is_keyed}
+use Rattle.mb_tables.specs.Described.{is_keyed}
 use Rattle.mb_store.specs.MemStore.{told_of}
 use Rattle.mb_store.proofs.Kept.{kept_pushed}
 use Rattle.mb_store.proofs.mem_store.MemStore.push_row.Goals as goal

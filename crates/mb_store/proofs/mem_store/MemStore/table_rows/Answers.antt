@@ -1,5 +1,5 @@
 use Rattle.std.proofs.Common.{◌∙◌, sym, subst, ap}
-use Rattle.mb_store.specs.Store.{IsInOrder}
+use Rattle.mb_tables.specs.Key.{IsInOrder}
 use Rattle.mb_store.specs.declared.table_rows.TableRows.{TableRows}
 use Rattle.mb_store.proofs.mem_store.MemStore.table_rows.Goals as goal
 

@@ -1,8 +1,8 @@
 use Rattle.std.proofs.Common.{◌≡◌, ◌∙◌, List, refl, subst}
-use Rattle.mb_store.specs.Commits.{Commits}
+use Rattle.mb_store.specs.Committing.{Commits}
 use Rattle.mb_store.specs.MemStore.{IsSettled, told_of}
 use Rattle.mb_store.specs.MemTables.{tables_of}
-use Rattle.mb_store.specs.Tables.{Tables}
+use Rattle.mb_tables.specs.Table.{Tables}
 use Rattle.mb_store.specs.declared.change.Change.{Change}
 use Rattle.mb_store.proofs.KeptCommit.{on_err}
 use Rattle.mb_store.proofs.mem_store.MemStoreTileStore.commit.Goals as goal

@@ -1,9 +1,9 @@
 use Rattle.std.proofs.Common.{◌≡◌, ◌∙◌, sym, subst, ap, length, List, Option}
 use Rattle.std.specs.Prelude.{IfSome, find}
-use Rattle.mb_store.specs.Keys.{has_key}
+use Rattle.mb_tables.specs.Key.{has_key}
 use Rattle.mb_store.specs.MemStore.{told_of}
-use Rattle.mb_store.specs.Tables.{Tables, width}
-use Rattle.mb_store.specs.declared.cell.Cell.{Cell}
+use Rattle.mb_tables.specs.Table.{Tables, width}
+use Rattle.mb_tables.specs.declared.cell.Cell.{Cell}
 use Rattle.mb_store.proofs.KeyedLists.{find-All}
 use Rattle.mb_store.proofs.mem_store.MemStoreTileStore.find.Goals as goal
 

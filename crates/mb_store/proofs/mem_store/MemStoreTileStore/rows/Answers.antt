@@ -1,7 +1,7 @@
 use Rattle.std.proofs.Common.{◌∙◌, ap, drop, take, List}
 use Rattle.mb_store.specs.MemStore.{told_of}
-use Rattle.mb_store.specs.Tables.{Tables}
-use Rattle.mb_store.specs.declared.cell.Cell.{Cell}
+use Rattle.mb_tables.specs.Table.{Tables}
+use Rattle.mb_tables.specs.declared.cell.Cell.{Cell}
 use Rattle.mb_store.proofs.mem_store.MemStoreTileStore.rows.Goals as goal
 
 pub returns-clause-answer : goal.returns-clause-answer

@@ -1,7 +1,7 @@
 use Rattle.std.proofs.Common.{◌≡◌, ap, arith, Vec, Global, length, take, sum_by}
 use Rattle.std.proofs.lemmas.List.{take_all}
-use Rattle.mb_store.specs.Store.{row_cmp}
-use Rattle.mb_store.specs.declared.row.Row.{Row}
+use Rattle.mb_tables.specs.Key.{row_cmp}
+use Rattle.mb_tables.specs.declared.row.Row.{Row}
 use Rattle.mb_store.proofs.Gathered.{length-gather}
 use Rattle.mb_store.proofs.table_rows.TableRows.len.Goals as goal
 

@@ -1,5 +1,5 @@
 use Rattle.std.proofs.Common.{◌≡◌, ◌+◌, ◌-◌, ◌^◌, length, min, take, sum_by, Vec, Global}
-use Rattle.mb_store.specs.declared.row.Row.{Row}
+use Rattle.mb_tables.specs.declared.row.Row.{Row}
 use Rattle.mb_store.proofs.table_rows.TableRows.len.Given as goal
 
 abbrev pub invariant-loop-list : goal.invariant-loop-list

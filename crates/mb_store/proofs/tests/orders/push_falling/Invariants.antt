@@ -1,7 +1,7 @@
 use Rattle.std.proofs.Common.{◌≡◌, true}
 use Rattle.mb_store.specs.MemStore.{told_of}
-use Rattle.mb_store.specs.Store.{is_table}
-use Rattle.mb_store.specs.declared.table.TableName.TheVariants.{Tiles}
+use Rattle.mb_tables.specs.Described.{is_table}
+use Rattle.mb_tables.specs.declared.table.TableName.TheVariants.{Tiles}
 use Rattle.mb_store.proofs.tests.orders.push_falling.Given as goal
 
 abbrev pub invariant-loop-left : goal.invariant-loop-left

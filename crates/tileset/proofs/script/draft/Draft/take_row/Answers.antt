@@ -1,5 +1,5 @@
 use Rattle.std.proofs.Common.{sym, subst}
-use Rattle.mb_store.specs.declared.table.TableName.TheVariants.{Tiles}
+use Rattle.mb_tables.specs.declared.table.TableName.TheVariants.{Tiles}
 use Rattle.tile_bridge.specs.FlatRows.{AreFlatRows}
 use Rattle.tileset.proofs.ScriptLemmas.{flat_placed}
 use Rattle.tileset.proofs.script.draft.Draft.take_row.Goals as goal

@@ -1,6 +1,0 @@
-use Rattle.std.proofs.Common.{◌≡◌, drop}
-use Rattle.mb_store.specs.Store.{with_tables}
-use Rattle.mb_store.proofs.described.with_tables.Given as goal
-
-abbrev pub invariant-loop-table : goal.invariant-loop-table
-invariant-loop-table l = with_tables l.all.items (drop l.table-index l.added) ≡ with_tables l.fn.tables l.added

@@ -1,5 +1,0 @@
-use Rattle.mb_store.proofs.TileLemmas.{get-tiles_of}
-use Rattle.mb_store.proofs.laws.tiles_at_each_place.Goals as goal
-
-pub returns : goal.returns
-returns c = get-tiles_of

@@ -1,0 +1,4 @@
+pub mod CellLemmas
+pub mod RowOrder
+pub mod TableLemmas
+pub mod TileLemmas

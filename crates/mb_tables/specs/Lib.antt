@@ -1,0 +1,14 @@
+pub mod Cell
+pub mod CellOrder
+pub mod Table
+pub mod Key
+pub mod KeyOrder
+pub mod Described
+pub mod Schema
+pub mod SchemaExamples
+pub mod Kind
+pub mod PatchType
+pub mod Detection
+pub mod DetectionExamples
+pub mod Tiles
+pub mod TileExamples

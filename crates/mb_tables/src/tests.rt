@@ -1,0 +1,3 @@
+// Descriptions, kinds and their words.
+mod odd_tables;
+mod words;
