@@ -7,6 +7,7 @@ pub mod Ranges
 pub mod ArchiveOpens
 pub mod EntryLemmas
 pub mod SearchLemmas
+pub mod LookUpLemmas
 pub mod OptionLemmas
 pub mod SpellingLemmas
 pub mod VarintWritingLemmas

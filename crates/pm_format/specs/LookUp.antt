@@ -13,12 +13,16 @@ use Rattle.pm_format.specs.Scan.{scan}
 abbrev pub range_of : List ℕ → ℕ → ℕ → Option (List ℕ)
 range_of b at len = if nat_le (at + len) (length b) && nat_lt (at + len) (2 ^ 64) then Some (take len (drop at b)) else None
 
--- the directory that a leaf entry leads to
-abbrev pub leaf_of : Header → List ℕ → Entry → Result (List Entry) PmtError
-leaf_of h b e = elim (range_of b (h.leaf_offset + e.offset) e.length) [
+-- the directory at a place of the leaf part
+abbrev pub directory_at : Header → List ℕ → ℕ → ℕ → Result (List Entry) PmtError
+directory_at h b offset len = elim (range_of b (h.leaf_offset + offset) len) [
   | None ↦ Err (errors.Reading causes.PastEnd)
   | Some bytes ↦ elim (dir_of bytes) [ None ↦ Err errors.InvalidEntry | Some es ↦ Ok es ]
 ]
+
+-- the directory that a leaf entry leads to
+abbrev pub leaf_of : Header → List ℕ → Entry → Result (List Entry) PmtError
+leaf_of h b e = directory_at h b e.offset e.length
 
 -- the contents that a tile entry leads to
 abbrev pub data_of : Header → List ℕ → Entry → Result (Option (List ℕ)) PmtError
@@ -29,15 +33,50 @@ abbrev pub led : {A : Type 0} → (Entry → A) → (Entry → A) → A → Opti
 led leaf tile none None = none
 led leaf tile none (Some e) = elim (nat_eq e.run_length 0) [ true ↦ leaf e | false ↦ tile e ]
 
--- the tile at an id, by at most so many leaves
-unfoldable pub tile_by : ℕ → Header → List ℕ → List Entry → ℕ → Result (Option (List ℕ)) PmtError
-tile_by zero h b es t = led (λ e. Ok None) (data_of h b) (Ok None) (scan es t)
-tile_by (suc n) h b es t = led (λ e. elim (leaf_of h b e) [ Err r ↦ Err r | Ok leaf ↦ tile_by n h b leaf t ]) (data_of h b) (Ok None) (scan es t)
+-- where a look-up ends: at a tile entry, at none, or at a refusal; and how many leaves it read
+pub record Reached : Type 0 where
+  pub entry : Result (Option Entry) PmtError
+  pub leaves : ℕ
 
--- how many leaves the look-up reads
+-- no leaf is read any more
+abbrev pub ends_at : Result (Option Entry) PmtError → Reached
+ends_at x = record { entry = x; leaves = 0 }
+
+-- a leaf was read before
+abbrev pub leaf_more : Reached → Reached
+leaf_more r = record { entry = r.entry; leaves = suc r.leaves }
+
+-- through a leaf: one that is there is read, whether it decodes or not
+abbrev pub through : (List Entry → Reached) → Result (List Entry) PmtError → Reached
+through next (Ok leaf) = leaf_more (next leaf)
+through next (Err errors.InvalidEntry) = leaf_more (ends_at (Err errors.InvalidEntry))
+through next (Err e) = ends_at (Err e)
+
+-- from what a directory has for an id to a tile entry, by at most so many leaves
+unfoldable pub reached : ℕ → Header → List ℕ → ℕ → Option Entry → Reached
+reached zero h b t found = led (λ e. ends_at (Ok None)) (λ e. ends_at (Ok (Some e))) (ends_at (Ok None)) found
+reached (suc n) h b t found = led (λ e. through (λ leaf. reached n h b t (scan leaf t)) (leaf_of h b e)) (λ e. ends_at (Ok (Some e))) (ends_at (Ok None)) found
+
+-- the entry that is reached, and the leaves that are read on the way
+abbrev pub entry_from : ℕ → Header → List ℕ → ℕ → Option Entry → Result (Option Entry) PmtError
+entry_from n h b t found = (reached n h b t found).entry
+
+abbrev pub hops_from : ℕ → Header → List ℕ → ℕ → Option Entry → ℕ
+hops_from n h b t found = (reached n h b t found).leaves
+
+-- the contents of the entry that was reached
+abbrev pub data_behind : Header → List ℕ → Result (Option Entry) PmtError → Result (Option (List ℕ)) PmtError
+data_behind h b (Ok None) = Ok None
+data_behind h b (Ok (Some e)) = data_of h b e
+data_behind h b (Err r) = Err r
+
+-- the tile at an id, from a directory and by at most so many leaves
+unfoldable pub tile_by : ℕ → Header → List ℕ → List Entry → ℕ → Result (Option (List ℕ)) PmtError
+tile_by n h b es t = data_behind h b (entry_from n h b t (scan es t))
+
+-- how many leaves that look-up reads
 unfoldable pub hops_by : ℕ → Header → List ℕ → List Entry → ℕ → ℕ
-hops_by zero h b es t = 0
-hops_by (suc n) h b es t = led (λ e. elim (leaf_of h b e) [ Err r ↦ 0 | Ok leaf ↦ suc (hops_by n h b leaf t) ]) (λ e. 0) 0 (scan es t)
+hops_by n h b es t = hops_from n h b t (scan es t)
 
 -- in bytes that open; others have no tile
 abbrev pub tile_opened : List ℕ → ℕ → Result Opened PmtError → Result (Option (List ℕ)) PmtError

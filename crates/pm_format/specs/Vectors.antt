@@ -3,7 +3,7 @@ use Rattle.std.specs.Prelude.{◌≡◌, ℕ, List, [], ◌∷◌, ◌++◌, rep
 use Rattle.pm_format.specs.declared.tile_type.TileType.TheVariants as tile_type
 use Rattle.pm_format.specs.Directory.{entry, dir_of, dir_bytes}
 use Rattle.pm_format.specs.Header.{header_bytes, head}
-use Rattle.pm_format.specs.LookUp.{archive_map, tile_by}
+use Rattle.pm_format.specs.LookUp.{archive_map, reached, tile_by}
 use Rattle.pm_format.specs.Opened.{opened}
 use Rattle.pm_format.specs.Options.{default_options}
 use Rattle.pm_format.specs.Scan.{scan}
@@ -67,9 +67,9 @@ unfolding opened head dir_of u64_at dir_bytes varint
 one_tile_opens = refl
 
 pub one_tile_at_0 : archive_map one_tile 0 ≡ Some (48 ∷ [])
-unfolding opened head dir_of u64_at scan tile_by
+unfolding opened head dir_of u64_at scan reached tile_by
 one_tile_at_0 = refl
 
 pub no_tile_at_1 : archive_map one_tile 1 ≡ None
-unfolding opened head dir_of u64_at scan tile_by
+unfolding opened head dir_of u64_at scan reached tile_by
 no_tile_at_1 = refl

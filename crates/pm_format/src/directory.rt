@@ -7,7 +7,9 @@ mod encode;
 mod search;
 
 use crate::DirEntry;
+pub use decode::offset_by;
 pub use encode::encode_entries;
+pub use search::covering;
 use std::fmt;
 use std::marker::Model;
 

@@ -23,7 +23,7 @@ mod varint;
 pub use backend::{Backend, BackendResponse, ReadFault};
 pub use bytes_backend::BytesBackend;
 pub use compression::Compression;
-pub use directory::{Directory, encode_entries};
+pub use directory::{Directory, covering, encode_entries, offset_by};
 pub use entry::DirEntry;
 pub use entry_coords::DirEntryCoordsIter;
 pub use error::{PmtError, PmtResult, ReadCause};

@@ -3,7 +3,8 @@ use Rattle.std.proofs.Common.{◌≡◌, ◌∙◌, ℕ, zero, suc, ◌-◌, ◌
 use Rattle.std.specs.Result.{IsErrAnd}
 use Rattle.std.proofs.lemmas.Bool.Decides.{nat_tests}
 use Rattle.pm_format.specs.Directory.{Entry}
-use Rattle.pm_format.specs.LookUp.{leaf_of, led}
+use Rattle.pm_format.specs.LookUp.{Reached, entry_from, hops_from, leaf_of, reached, through}
+use Rattle.pm_format.proofs.LookUpLemmas.{reached_leaf}
 use Rattle.pm_format.specs.Scan.{scan}
 use Rattle.pm_format.specs.declared.error.PmtError.{PmtError}
 use Rattle.pm_format.specs.declared.error.PmtError.TheVariants as errors
@@ -12,45 +13,10 @@ use Rattle.pm_format.specs.declared.header.Header.{Header}
 use Rattle.pm_reader.specs.Answers.{Gives}
 use Rattle.pm_reader.specs.Caches.{Held}
 use Rattle.pm_reader.specs.Levels.{IsAtLevel, IsLeafEntry, IsTrusted}
-use Rattle.pm_reader.specs.Path.{entry_from, entry_in_leaf, hops_from}
+use Rattle.pm_reader.specs.Path.{entry_in_leaf}
 use Rattle.pm_reader.specs.Reads.{GrewBetween}
 use Rattle.pm_reader.specs.Way.{Follows}
 use Rattle.pm_reader.proofs.LevelLemmas.{level_below}
-
--- the four cases of what was found
-led_leaf : {A : Type 0} (leaf tile : Entry → A) (none : A) (e : Entry) → nat_eq e.run_length 0 ≡ true → led leaf tile none (Some e) ≡ leaf e
-led_leaf leaf tile none e is = ap (λ test. elim test [ true ↦ leaf e | false ↦ tile e ]) is
-
-led_tile : {A : Type 0} (leaf tile : Entry → A) (none : A) (e : Entry) → nat_eq e.run_length 0 ≡ false → led leaf tile none (Some e) ≡ tile e
-led_tile leaf tile none e is = ap (λ test. elim test [ true ↦ leaf e | false ↦ tile e ]) is
-
-abbrev Onward : ℕ → Header → List ℕ → ℕ → Result (List Entry) PmtError → Result (Option Entry) PmtError
-Onward n h b t l = elim l [ Err r ↦ Err r | Ok leaf ↦ entry_from n h b t (scan leaf t) ]
-
-abbrev Hops : ℕ → Header → List ℕ → ℕ → Result (List Entry) PmtError → ℕ
-Hops n h b t l = elim l [ Err r ↦ 0 | Ok leaf ↦ suc (hops_from n h b t (scan leaf t)) ]
-
-pub from_none : (n : ℕ) (h : Header) (b : List ℕ) (t : ℕ) → entry_from n h b t None ≡ Ok None
-unfolding entry_from
-from_none zero h b t = refl
-from_none (suc n) h b t = refl
-
-pub from_tile : (n : ℕ) (h : Header) (b : List ℕ) (t : ℕ) (e : Entry) → nat_eq e.run_length 0 ≡ false → entry_from n h b t (Some e) ≡ Ok (Some e)
-unfolding entry_from
-from_tile zero h b t e tile = led_tile (λ f. Ok None) (λ f. Ok (Some f)) (Ok None) e tile
-from_tile (suc n) h b t e tile = led_tile (λ f. Onward n h b t (leaf_of h b f)) (λ f. Ok (Some f)) (Ok None) e tile
-
-pub from_last : (h : Header) (b : List ℕ) (t : ℕ) (e : Entry) → nat_eq e.run_length 0 ≡ true → entry_from 0 h b t (Some e) ≡ Ok None
-unfolding entry_from
-from_last h b t e leaf = led_leaf (λ f. Ok None) (λ f. Ok (Some f)) (Ok None) e leaf
-
-pub from_leaf : (n : ℕ) (h : Header) (b : List ℕ) (t : ℕ) (e : Entry) (l : Result (List Entry) PmtError) → nat_eq e.run_length 0 ≡ true → leaf_of h b e ≡ l → entry_from (suc n) h b t (Some e) ≡ Onward n h b t l
-unfolding entry_from
-from_leaf n h b t e l leaf is = led_leaf (λ f. Onward n h b t (leaf_of h b f)) (λ f. Ok (Some f)) (Ok None) e leaf ∙ ap (Onward n h b t) is
-
-pub hops_leaf : (n : ℕ) (h : Header) (b : List ℕ) (t : ℕ) (e : Entry) (l : Result (List Entry) PmtError) → nat_eq e.run_length 0 ≡ true → leaf_of h b e ≡ l → hops_from (suc n) h b t (Some e) ≡ Hops n h b t l
-unfolding hops_from
-hops_leaf n h b t e l leaf is = led_leaf (λ f. Hops n h b t (leaf_of h b f)) (λ f. 0) 0 e leaf ∙ ap (Hops n h b t) is
 
 -- what the leaf of an entry has for an id, where it is there, and why not
 abbrev Looked : ℕ → Result (List Entry) PmtError → Result (Option Entry) PmtError
@@ -69,6 +35,11 @@ refused_by t f (Err g) q = cc
 
 pub refused_in_leaf : (h : Header) (b : List ℕ) (t : ℕ) (e : Entry) (f : PmtError) → entry_in_leaf h b t e ≡ Err f → leaf_of h b e ≡ Err f
 refused_in_leaf h b t e f q = refused_by t f (leaf_of h b e) q
+
+-- a leaf that is refused ends the look-up
+refused_end : (next : List Entry → Reached) (f : PmtError) → (through next (Err f)).entry ≡ Err f
+refused_end next errors.InvalidEntry = refl
+refused_end next f = refl
 
 -- a refusal that is wanted of one is wanted of the other
 pub gives_refused : {A B : Type 0} (one : Result A PmtError) (other : Result B PmtError) (f : PmtError) → (one ≡ Err f → other ≡ Err f) → Gives one (Err f) → Gives other (Err f)
@@ -93,7 +64,7 @@ follows_refused h b root t n e before now held idle f (Ok x) leaf g is reads tru
 follows_refused h b root t n e before now held idle f (Err y) leaf g is reads trust =
     let P : PmtError → Type 0 = λ x. Gives (entry_from (suc n) h b t (Some e)) (Err x) in
     record {
-      answer = subst P (sym is) (gives_refused (entry_in_leaf h b t e) _ f (λ q. from_leaf n h b t e (Err f) leaf (refused_in_leaf h b t e f q)) g);
+      answer = subst P (sym is) (gives_refused (entry_in_leaf h b t e) _ f (λ q. ap (λ r. r.entry) (reached_leaf n h b t e (Err f) leaf (refused_in_leaf h b t e f q)) ∙ refused_end (λ leaf. reached n h b t (scan leaf t)) f) g);
       hops = omega (arith, reads.most);
       trusted = trust;
     }
@@ -109,8 +80,8 @@ follows_on h b root t n e next before between now held idle result few leaf at g
     let P : ℕ → Type 0 = λ k. IsAtLevel h b root k next in
     let under : IsAtLevel h b root (6 - n) next = subst P (sym deep) (level_below h b root (6 - suc n) t e d next leaf at w.1 w.2) in
     let f = rest under in
-    let same : entry_from (suc n) h b t (Some e) ≡ entry_from n h b t next = from_leaf n h b t e (Ok d) leaf w.1 ∙ ap (entry_from n h b t) (sym w.2) in
-    let hop : hops_from (suc n) h b t (Some e) ≡ suc (hops_from n h b t next) = hops_leaf n h b t e (Ok d) leaf w.1 ∙ ap (λ z. suc (hops_from n h b t z)) (sym w.2) in
+    let same : entry_from (suc n) h b t (Some e) ≡ entry_from n h b t next = ap (λ r. r.entry) (reached_leaf n h b t e (Ok d) leaf w.1) ∙ ap (entry_from n h b t) (sym w.2) in
+    let hop : hops_from (suc n) h b t (Some e) ≡ suc (hops_from n h b t next) = ap (λ r. r.leaves) (reached_leaf n h b t e (Ok d) leaf w.1) ∙ ap (λ z. suc (hops_from n h b t z)) (sym w.2) in
     record {
       answer = let Q : Result (Option Entry) PmtError → Type 0 = λ z. Gives z result in subst Q (sym same) f.answer;
       hops = omega (arith, hop, f.hops, reads.most);

@@ -3,12 +3,13 @@ use Rattle.std.proofs.Common.{◌≡◌, ◌↔◌, ℕ, zero, suc, ◌-◌, ◌
 use Rattle.std.specs.Result.{IsErrAnd}
 use Rattle.std.proofs.lemmas.Bool.Decides.{nat_tests}
 use Rattle.pm_format.specs.Directory.{Entry}
+use Rattle.pm_format.specs.LookUp.{entry_from}
 use Rattle.pm_format.specs.declared.error.PmtError.{PmtError}
 use Rattle.pm_format.specs.declared.header.Header.{Header}
 use Rattle.pm_reader.specs.Answers.{Gives}
 use Rattle.pm_reader.specs.Caches.{Held}
 use Rattle.pm_reader.specs.Levels.{IsAtLevel, IsLeafEntry, IsTrusted}
-use Rattle.pm_reader.specs.Path.{entry_from, entry_in_leaf}
+use Rattle.pm_reader.specs.Path.{entry_in_leaf}
 use Rattle.pm_reader.specs.Reads.{GrewBetween}
 use Rattle.pm_reader.specs.Way.{Follows}
 use Rattle.pm_reader.proofs.Following.{follows_none, follows_on, follows_refused, leaf_entry}

@@ -2,7 +2,7 @@
 use Rattle.std.proofs.Common.{◌≡◌, ◌∙◌, ℕ, ◌+◌, ◌-◌, ◌≤◌, List, Option, None, Some, IfSome, Result, Ok, Err, sym, ap, subst, arith}
 use Rattle.std.specs.Result.{IsErrAnd}
 use Rattle.pm_format.specs.Directory.{Entry}
-use Rattle.pm_format.specs.LookUp.{data_of, range_of, tile_by}
+use Rattle.pm_format.specs.LookUp.{data_behind, data_of, entry_from, hops_by, hops_from, range_of, tile_by}
 use Rattle.pm_format.specs.Scan.{scan}
 use Rattle.pm_format.specs.declared.backend.BackendResponse.{BackendResponse}
 use Rattle.pm_format.specs.declared.error.PmtError.{PmtError}
@@ -10,11 +10,9 @@ use Rattle.pm_format.specs.declared.header.Header.{Header}
 use Rattle.pm_reader.specs.Answers.{Gives, range_read, tile_of}
 use Rattle.pm_reader.specs.Caches.{Held}
 use Rattle.pm_reader.specs.Levels.{IsAtLevel, IsTrusted, level}
-use Rattle.pm_reader.specs.Path.{entry_from, hops_from}
 use Rattle.pm_reader.specs.Way.{Finds, Follows}
 use Rattle.pm_reader.proofs.Following.{gives_refused}
 use Rattle.pm_reader.proofs.LevelLemmas.{scan_is_in}
-use Rattle.pm_reader.proofs.WholeWay.{contents_at, hops_reached, tile_reached}
 
 -- the root is level 0
 at_root : (h : Header) (b : List ℕ) (root : List Entry) (t : ℕ) (found : Option Entry) → found ≡ scan root t → IsAtLevel h b root (6 - 6) found
@@ -23,8 +21,13 @@ at_root h b root t None e = tt
 at_root h b root t (Some f) e = scan_is_in root t f (sym e)
 
 -- from what the root has for an id
-tile_is : (h : Header) (b : List ℕ) (root : List Entry) (t : ℕ) (found : Option Entry) → found ≡ scan root t → contents_at h b (entry_from 6 h b t found) ≡ tile_by 6 h b root t
-tile_is h b root t found e = ap (λ o. contents_at h b (entry_from 6 h b t o)) e ∙ tile_reached 6 h b root t
+tile_is : (h : Header) (b : List ℕ) (root : List Entry) (t : ℕ) (found : Option Entry) → found ≡ scan root t → data_behind h b (entry_from 6 h b t found) ≡ tile_by 6 h b root t
+unfolding tile_by
+tile_is h b root t found e = ap (λ o. data_behind h b (entry_from 6 h b t o)) e
+
+hops_are : (h : Header) (b : List ℕ) (root : List Entry) (t : ℕ) (found : Option Entry) → found ≡ scan root t → hops_from 6 h b t found ≡ hops_by 6 h b root t
+unfolding hops_by
+hops_are h b root t found e = ap (hops_from 6 h b t) e
 
 abbrev Way : Header → List ℕ → List Entry → ℕ → Option Entry → ℕ → ℕ → Held → Held → Type 0 → Type 0 → Result (Option Entry) PmtError → Type 0
 Way h b root t found before now old held idle still r = IsTrusted h b root old idle → IsAtLevel h b root (6 - 6) found → Follows h b root t 6 found before now held still r
@@ -32,8 +35,8 @@ Way h b root t found before now old held idle still r = IsTrusted h b root old i
 finds_refused : (h : Header) (b : List ℕ) (root : List Entry) (t : ℕ) (found : Option Entry) (before now : ℕ) (held : Held) (still : Type 0) (f : PmtError) → found ≡ scan root t → Follows h b root t 6 found before now held still (Err f)
     → Finds h b root t before now held still (Err f)
 finds_refused h b root t found before now held still f e w = record {
-  answer = gives_refused (entry_from 6 h b t found) _ f (λ q. sym (tile_is h b root t found e) ∙ ap (contents_at h b) q) w.answer;
-  hops = omega (arith, w.hops, ap (hops_from 6 h b t) e, hops_reached 6 h b root t);
+  answer = gives_refused (entry_from 6 h b t found) _ f (λ q. sym (tile_is h b root t found e) ∙ ap (data_behind h b) q) w.answer;
+  hops = omega (arith, w.hops, hops_are h b root t found e);
   trusted = w.trusted;
 }
 
@@ -53,8 +56,8 @@ told_none None h root t found reached before now old held idle still e none way 
 told_none (Some b) h root t found reached before now old held idle still e none way = λ trust.
     let w = way trust (at_root h b root t found e) in
     record {
-      answer = sym (tile_is h b root t found e) ∙ ap (contents_at h b) (w.answer ∙ ap Ok none);
-      hops = omega (arith, w.hops, ap (hops_from 6 h b t) e, hops_reached 6 h b root t);
+      answer = sym (tile_is h b root t found e) ∙ ap (data_behind h b) (w.answer ∙ ap Ok none);
+      hops = omega (arith, w.hops, hops_are h b root t found e);
       trusted = w.trusted;
     }
 
@@ -78,11 +81,11 @@ told_past (Some b) again h root t found reached e off len before between now old
     let Q : Option (List ℕ) → Type 0 = λ o. IfSome o (λ c. Gives (range_read c (h.data_offset + off) len) (Err f)) in
     let R : ℕ → Type 0 = λ n. Gives (range_read b (h.data_offset + n) len) (Err f) in
     let S : ℕ → Type 0 = λ n. Gives (range_read b (h.data_offset + e.offset) n) (Err f) in
-    let tile : data_of h b e ≡ tile_by 6 h b root t = sym (ap (contents_at h b) (w.answer ∙ ap Ok some)) ∙ tile_is h b root t found is in
+    let tile : data_of h b e ≡ tile_by 6 h b root t = sym (ap (data_behind h b) (w.answer ∙ ap Ok some)) ∙ tile_is h b root t found is in
     let P : PmtError → Type 0 = λ x. Gives (tile_by 6 h b root t) (Err x) in
     record {
       answer = subst P (sym err) (gives_refused (range_read b (h.data_offset + e.offset) e.length) _ f (λ q. sym tile ∙ data_refused (range_of b (h.data_offset + e.offset) e.length) _ f q) (subst S size (subst R place (subst Q same g))));
-      hops = omega (arith, w.hops, ap (hops_from 6 h b t) is, hops_reached 6 h b root t, reads);
+      hops = omega (arith, w.hops, hops_are h b root t found is, reads);
       trusted = w.trusted;
     }
 
@@ -96,9 +99,9 @@ told_found (Some b) again h root t found reached e off len before between now ol
     let Q : Option (List ℕ) → Type 0 = λ o. IfSome o (λ c. range_read c (h.data_offset + off) len ≡ Ok x) in
     let R : ℕ → Type 0 = λ n. range_read b (h.data_offset + n) len ≡ Ok x in
     let S : ℕ → Type 0 = λ n. range_read b (h.data_offset + e.offset) n ≡ Ok x in
-    let tile : data_of h b e ≡ tile_by 6 h b root t = sym (ap (contents_at h b) (w.answer ∙ ap Ok some)) ∙ tile_is h b root t found is in
+    let tile : data_of h b e ≡ tile_by 6 h b root t = sym (ap (data_behind h b) (w.answer ∙ ap Ok some)) ∙ tile_is h b root t found is in
     record {
       answer = sym tile ∙ data_given (range_of b (h.data_offset + e.offset) e.length) _ x (subst S size (subst R place (subst Q same g)));
-      hops = omega (arith, w.hops, ap (hops_from 6 h b t) is, hops_reached 6 h b root t, reads);
+      hops = omega (arith, w.hops, hops_are h b root t found is, reads);
       trusted = w.trusted;
     }

@@ -16,4 +16,7 @@ pub mod SoundTiles
 pub mod Trust
 pub mod WalkBegins
 pub mod WalkItems
-pub mod WholeWay
+pub mod Followed
+pub mod RowColumns
+pub mod RowReads
+pub mod Views

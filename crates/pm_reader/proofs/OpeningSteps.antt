@@ -46,7 +46,7 @@ told_refused (Some b) front (Err g) f is t (inl e) = let P : PmtError → Type 0
 told_refused (Some b) front (Err g) f is t (inr e) = answers_refused b g (opened_by_front b front t ∙ (e ∙ ap Err (sym is)))
 
 -- a refusal, where there is one, is one that bytes may have
-abbrev Within : {A : Type 0} → Result A PmtError → Type 0
+abbrev pub Within : {A : Type 0} → Result A PmtError → Type 0
 Within (Ok h) = Unit {0}
 Within (Err e) = IsOpenRefusal e
 
@@ -78,7 +78,7 @@ placed_within : (front : List ℕ) (headed : Result Header PmtError) → Within 
 placed_within front (Err e) w = w
 placed_within front (Ok h) w = either_within (nat_lt h.root_offset 127) _ _ tt (either_within (nat_lt (length front) (h.root_offset + h.root_length)) _ _ tt (labelled_within front h h.internal_compression))
 
-front_within : (front : List ℕ) → Within (opened_front front)
+pub front_within : (front : List ℕ) → Within (opened_front front)
 front_within front = either_within (nat_lt (length front) 127) _ _ tt (placed_within front (head front) (head_within front))
 
 caused : (before now : ℕ) (f : PmtError) → IsOpenRefusal f → OpenCauses {A = ReaderState} before now (Err f)

@@ -10,7 +10,7 @@ use Rattle.pm_format.specs.Directory.{Entry}
 use Rattle.pm_format.specs.Scan.{scan}
 use Rattle.pm_format.specs.declared.error.PmtError.{PmtError}
 use Rattle.pm_reader.specs.Caches.{AddsOnly, answer_of, from_found}
-use Rattle.pm_reader.specs.MapCaches.{FetchLeaves, HoldsSame, PutsRecent}
+use Rattle.pm_reader.specs.MapCaches.{FetchLeaves, HoldsSame, IsUsed, PutsRecent}
 use Rattle.pm_reader.specs.declared.cache.DirCacheResult.TheVariants.{NotCached}
 
 abbrev Pairs : Type 0
@@ -41,7 +41,7 @@ promoted_by o k es (Some e) q = moved o k es e q
 pub lookup-promoted : (o k : ℕ) (es : Pairs) → lookup (nat_eq o) (promoted (nat_eq k) es) ≡ lookup (nat_eq o) es
 lookup-promoted o k es = promoted_by o k es (lookup_entry (nat_eq k) es) refl
 
-pub same_after_use : (old new : LruCache ℕ (List Entry)) (k : ℕ) → new ≡ lru_cache (promoted (nat_eq k) old.entries) old.cap → HoldsSame (λ o. lookup (nat_eq o) old.entries) (λ o. lookup (nat_eq o) new.entries)
+pub same_after_use : (old new : LruCache ℕ (List Entry)) (k : ℕ) → IsUsed old new k → HoldsSame (λ o. lookup (nat_eq o) old.entries) (λ o. lookup (nat_eq o) new.entries)
 same_after_use old new k e = λ o. ap (λ c. lookup (nat_eq o) c.entries) e ∙ lookup-promoted o k old.entries
 
 taken_by : (o : ℕ) (f : ℕ × List Entry) (rest more : Option (List Entry)) (d : List Entry) → (rest ≡ Some d → more ≡ Some d) → (test : Bool) → cond test (Some f.1) rest ≡ Some d → cond test (Some f.1) more ≡ Some d
@@ -100,16 +100,15 @@ not_held (Some d) t q = absurd (known (scan d t) q)
 
 -- what a call with a fetcher leaves, where it was called
 pub fetched_put : {E : Type 0} (old mid new : LruCache ℕ (List Entry)) (k t : ℕ) (gave : Result (List Entry) PmtError → Type 0) (d : List Entry) (found : Option Entry) (r : Result Bool E)
-    → NotCached ≡ answer_of (lookup (nat_eq k) old.entries) t → mid ≡ lru_cache (promoted (nat_eq k) old.entries) old.cap → gave (Ok d) → found ≡ scan d t → OnOk r (PutsRecent mid new k d) → OnErr r (new ≡ mid)
-    → FetchLeaves (lookup (nat_eq k) old.entries) gave t (HoldsSame (λ o. lookup (nat_eq o) old.entries) (λ o. lookup (nat_eq o) new.entries)) (PutsRecent old new k) (Ok found)
+    → NotCached ≡ answer_of (lookup (nat_eq k) old.entries) t → IsUsed old mid k → gave (Ok d) → found ≡ scan d t → OnOk r (PutsRecent mid new k d) → OnErr r (new ≡ mid)
+    → FetchLeaves (lookup (nat_eq k) old.entries) gave t (IsUsed old new k) (PutsRecent old new k) (Ok found)
 fetched_put {E = E} old mid new k t gave d found r answer used fetched is put err =
     let none = not_held (lookup (nat_eq k) old.entries) t answer in
-    let same : mid ≡ old = used ∙ unused old k none in
     let puts = PutsRecent old new k in
-    let stays = HoldsSame (λ o. lookup (nat_eq o) old.entries) (λ o. lookup (nat_eq o) new.entries) in
+    let stays = IsUsed old new k in
     let P : Option (List Entry) → Type 0 = λ held. FetchLeaves held gave t stays puts (Ok found) in
-    subst P (sym none) (d, fetched, is, by_result r put err same)
+    subst P (sym none) (d, fetched, is, by_result r put err)
   where
-    by_result : (x : Result Bool E) → OnOk x (PutsRecent mid new k d) → OnErr x (new ≡ mid) → mid ≡ old → PutsRecent old new k d ⊎ HoldsSame (λ o. lookup (nat_eq o) old.entries) (λ o. lookup (nat_eq o) new.entries)
-    by_result (Ok kept) p q s = let P : LruCache ℕ (List Entry) → Type 0 = λ c. PutsRecent c new k d in inl (subst P s p)
-    by_result (Err e) p q s = inr (λ o. ap (λ c. lookup (nat_eq o) c.entries) (q ∙ s))
+    by_result : (x : Result Bool E) → OnOk x (PutsRecent mid new k d) → OnErr x (new ≡ mid) → PutsRecent old new k d ⊎ IsUsed old new k
+    by_result (Ok kept) p q = let P : LruCache ℕ (List Entry) → Type 0 = λ c. PutsRecent c new k d in inl (subst P (used ∙ unused old k (not_held (lookup (nat_eq k) old.entries) t answer)) p)
+    by_result (Err e) p q = inr (q ∙ used)

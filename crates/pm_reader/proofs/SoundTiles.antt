@@ -5,7 +5,8 @@ use Rattle.std.proofs.lemmas.Bool.Decides.{nat_tests}
 use Rattle.std.proofs.lemmas.List.Elements.{Contains-append_cases}
 use Rattle.tile_ids.specs.declared.id.TheConstants.{MAX_TILE_ID}
 use Rattle.pm_format.specs.Directory.{Entry}
-use Rattle.pm_format.specs.LookUp.{archive_tile, data_of, leaf_of, led, range_of, tile_by, tile_opened}
+use Rattle.pm_format.specs.LookUp.{Reached, archive_tile, data_behind, entry_from, leaf_of, range_of, tile_by, tile_opened}
+use Rattle.pm_format.proofs.LookUpLemmas.{reached_last, reached_leaf, reached_none, reached_tile}
 use Rattle.pm_format.specs.Scan.{scan}
 use Rattle.pm_format.specs.Sound.{EachEntry, HasData, Sound, SoundDirectory}
 use Rattle.pm_format.specs.declared.error.PmtError.{PmtError}
@@ -29,14 +30,17 @@ data_ok : (o : Option (List ℕ)) → IsSome o → IsOk (elim o as (λ _. Result
 data_ok None s = absurd (cc)
 data_ok (Some bytes) s = refl
 
-by_test : {A : Type 0} (x y : Result A PmtError) (test : Bool) → (test ≡ true → IsOk x) → (test ≡ false → IsOk y) → IsOk (elim test as (λ _. Result A PmtError) [ true ↦ x | false ↦ y ])
-by_test x y true p q = p refl
-by_test x y false p q = q refl
-
-led_ok : {A : Type 0} (leaf tile : Entry → Result A PmtError) (none : Result A PmtError) (found : Option Entry) → ((e : Entry) → found ≡ Some e → nat_eq e.run_length 0 ≡ true → IsOk (leaf e))
-    → ((e : Entry) → found ≡ Some e → nat_eq e.run_length 0 ≡ false → IsOk (tile e)) → IsOk none → IsOk (led leaf tile none found)
-led_ok leaf tile none None l t n = n
-led_ok leaf tile none (Some e) l t n = by_test (leaf e) (tile e) (nat_eq e.run_length 0) (l e refl) (t e refl)
+-- a look-up ends well where the leaf, or the contents, of what was found do
+found_ok : (n : ℕ) (h : Header) (b : List ℕ) (t : ℕ) (found : Option Entry) → ((e : Entry) → found ≡ Some e → nat_eq e.run_length 0 ≡ true → IsOk (data_behind h b (entry_from n h b t (Some e))))
+    → ((e : Entry) → found ≡ Some e → nat_eq e.run_length 0 ≡ false → HasData h b e) → IsOk (data_behind h b (entry_from n h b t found))
+found_ok n h b t None leaf tile = let Q : Reached → Type 0 = λ r. IsOk (data_behind h b r.entry) in subst Q (sym (reached_none n h b t)) refl
+found_ok n h b t (Some e) leaf tile = by_test (nat_eq e.run_length 0) refl
+  where
+    by_test : (test : Bool) → nat_eq e.run_length 0 ≡ test → IsOk (data_behind h b (entry_from n h b t (Some e)))
+    by_test true q = leaf e refl q
+    by_test false q =
+        let Q : Reached → Type 0 = λ r. IsOk (data_behind h b r.entry) in
+        subst Q (sym (reached_tile n h b t e q)) (data_ok (range_of b (h.data_offset + e.offset) e.length) (tile e refl q))
 
 is_zero : (run : ℕ) → nat_eq run 0 ≡ true → run ≡ 0
 is_zero run e = grind (arith, nat_tests)
@@ -47,18 +51,17 @@ found_is es t P low limit all e q = each_of P low limit es e all (scan_is_in es 
 tile_sound : (n : ℕ) (h : Header) (b : List ℕ) (low limit : ℕ) (es : List Entry) (t : ℕ) → SoundDirectory n h b low limit es → IsOk (tile_by n h b es t)
 unfolding tile_by
 tile_sound zero h b low limit es t all =
-    led_ok (λ e. Ok None) (data_of h b) (Ok None) (scan es t) (λ e q z. refl)
-    (λ e q z. data_ok (range_of b (h.data_offset + e.offset) e.length) (found_is es t (λ x end. (x.run_length ≢ 0) × HasData h b x) low limit all e q).1.1) refl
+    let Q : Reached → Type 0 = λ r. IsOk (data_behind h b r.entry) in
+    found_ok 0 h b t (scan es t) (λ e q z. subst Q (sym (reached_last h b t e z)) refl) (λ e q z. (found_is es t (λ x end. (x.run_length ≢ 0) × HasData h b x) low limit all e q).1.1)
 tile_sound (suc n) h b low limit es t all =
     let P : Entry → ℕ → Type 0 = λ e end. (e.run_length ≢ 0 → HasData h b e) × (e.run_length ≡ 0 → (leaf : List Entry) × (leaf_of h b e ≡ Ok leaf) × SoundDirectory n h b e.tile_id end leaf) in
-    let onward : Result (List Entry) PmtError → Result (Option (List ℕ)) PmtError = λ l. elim l [ Err r ↦ Err r | Ok leaf ↦ tile_by n h b leaf t ] in
-    led_ok (λ e. onward (leaf_of h b e)) (data_of h b) (Ok None) (scan es t)
+    let Q : Reached → Type 0 = λ r. IsOk (data_behind h b r.entry) in
+    found_ok (suc n) h b t (scan es t)
     (λ e q z.
     let w = found_is es t P low limit all e q in
     let leaf = w.1.1 (is_zero e.run_length z) in
-    let Q : Result (Option (List ℕ)) PmtError → Type 0 = λ r. IsOk r in
-    subst Q (sym (ap onward leaf.1)) (tile_sound n h b e.tile_id w.0 leaf.0 t leaf.2))
-    (λ e q z. data_ok (range_of b (h.data_offset + e.offset) e.length) ((found_is es t P low limit all e q).1.0 (is_some e.run_length z))) refl
+    subst Q (sym (reached_leaf n h b t e (Ok leaf.0) z leaf.1)) (tile_sound n h b e.tile_id w.0 leaf.0 t leaf.2))
+    (λ e q z. (found_is es t P low limit all e q).1.0 (is_some e.run_length z))
 
 pub sound_tile : (b : List ℕ) (t : ℕ) → Sound b → IsOk (archive_tile b t)
 sound_tile b t s =

@@ -25,6 +25,11 @@ LookUpCauses before now (Err (errors.UnexpectedNumberOfBytesReturned asked got))
 LookUpCauses before now (Err errors.OutOfMemory) = Unit {0}
 LookUpCauses before now (Err _) = ⊥
 
+-- the same of bytes that aren't decoded
+abbrev pub RangeCauses : {A : Type 0} → ℕ → ℕ → Result A PmtError → Type 0
+RangeCauses before now (Err errors.InvalidEntry) = ⊥
+RangeCauses {A = A} before now result = LookUpCauses {A = A} before now result
+
 -- the range of the bytes, or their end
 abbrev pub range_read : List ℕ → ℕ → ℕ → Result (List ℕ) PmtError
 range_read b at len = elim (range_of b at len) [ None ↦ Err (errors.Reading causes.PastEnd) | Some bytes ↦ Ok bytes ]

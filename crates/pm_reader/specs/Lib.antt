@@ -9,10 +9,12 @@ pub mod Opening
 pub mod Path
 pub mod Queue
 pub mod Reads
+pub mod Rows
 pub mod ReadsFrom
 pub mod Tied
 pub mod TileJson
 pub mod Versions
+pub mod View
 pub mod Walk
 pub mod WalkSteps
 pub mod Way

@@ -56,6 +56,12 @@ IsOpenRefusal errors.InvalidTileType = Unit {0}
 IsOpenRefusal (errors.UnsupportedCompression label) = Unit {0}
 IsOpenRefusal _ = ⊥
 
+-- an error that opening may have over any backend: a refusal of the bytes, want of memory, or a fault
+abbrev pub IsOpenFailure : PmtError → Type 0
+IsOpenFailure errors.OutOfMemory = Unit {0}
+IsOpenFailure (errors.Reading causes.Fault) = Unit {0}
+IsOpenFailure e = IsOpenRefusal e
+
 -- Told or not: a refusal is one of the bytes, want of memory, or a fault, which comes only where the count of faults rose.
 abbrev pub OpenCauses : {A : Type 0} → ℕ → ℕ → Result A PmtError → Type 0
 OpenCauses before now (Ok _) = Unit {0}

@@ -1,13 +1,12 @@
 -- The way of a look-up through leaves.
 use Rattle.std.specs.Prelude.{ℕ, ◌+◌, ◌≤◌, List, Option, Result}
 use Rattle.pm_format.specs.Directory.{Entry}
-use Rattle.pm_format.specs.LookUp.{hops_by, tile_by}
+use Rattle.pm_format.specs.LookUp.{entry_from, hops_by, hops_from, tile_by}
 use Rattle.pm_format.specs.declared.error.PmtError.{PmtError}
 use Rattle.pm_format.specs.declared.header.Header.{Header}
 use Rattle.pm_reader.specs.Answers.{Gives}
 use Rattle.pm_reader.specs.Caches.{Held}
 use Rattle.pm_reader.specs.Levels.{IsTrusted}
-use Rattle.pm_reader.specs.Path.{entry_from, hops_from}
 use Rattle.pm_reader.specs.Reads.{reads_refused}
 use Rattle.pm_reader.specs.Versions.{GivesUnmodified}
 

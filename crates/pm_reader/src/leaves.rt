@@ -7,7 +7,7 @@ ghost use Rattle.pm_reader.specs.Path.{entry_in_leaf};
 ghost use Rattle.pm_reader.specs.Way.{Follows};
 ghost use Rattle.pm_reader.specs.Reads.{GrewBetween, reads_done};
 
-use crate::ranges::read_range;
+use crate::parts::read_directory_at;
 use crate::{DirCacheResult, DirectoryCache, ReaderState};
 use pm_format::{Backend, DirEntry, Directory, Header, PmtError, PmtResult, ReadCause};
 use std::alloc::Global;
@@ -28,9 +28,7 @@ pub(crate) fn read_leaf<B: Backend>(
     ensures reads { GrewBetween (B.reads backend.old) (B.reads backend.new) (reads_done result) 1 }
     ensures calm { B.steady backend.old → B.steady backend.new × (B.faults backend.new ≡ B.faults backend.old) }
 {
-    let length = u64::from(leaf.length());
-    let response = read_range(alloc, backend, header.leaf_offset, leaf.offset(), length)?;
-    Directory::decode(alloc, response.bytes.as_slice())
+    read_directory_at(alloc, backend, header, leaf.offset(), leaf.length())
 }
 
 impl ReaderState {

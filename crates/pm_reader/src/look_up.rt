@@ -16,7 +16,7 @@ use pm_format::{Backend, BackendResponse, PmtResult};
 use tile_ids::TileId;
 
 /// Through how many leaves a tile is looked for.
-const MAX_LEAVES: u32 = 6;
+pub(crate) const MAX_LEAVES: u32 = 6;
 
 impl ReaderState {
     /// The contents of a tile, with the version text of their read; none where there is no tile.

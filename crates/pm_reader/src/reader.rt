@@ -1,10 +1,12 @@
 // A reader that borrows its backend, and holds a cache of directories.
-ghost use Rattle.std.specs.Prelude.{◌≡◌, ◌≤◌, ℕ, None, false, IfSome, IfOk};
+ghost use Rattle.std.specs.Prelude.{◌≡◌, ◌≢◌, ◌<◌, ◌≤◌, ◌-◌, ◌^◌, ℕ, None, Err, false, IfSome, IfOk, IfErr};
 ghost use Rattle.tile_ids.specs.Counts.{Grew};
 ghost use Rattle.pm_format.specs.LookUp.{archive_tile};
+ghost use Rattle.pm_format.specs.declared.error.PmtError.TheVariants as errors;
+ghost use Rattle.pm_format.specs.declared.error.ReadCause.TheVariants as causes;
 ghost use Rattle.pm_reader.specs.Answers.{Gives, LookUpCauses};
 ghost use Rattle.pm_reader.specs.Archives.{IsCacheable, ReadsByHops};
-ghost use Rattle.pm_reader.specs.Opening.{HasVersionOf, IsOpen, header_of, version_of};
+ghost use Rattle.pm_reader.specs.Opening.{HasVersionOf, IsOpen, IsOpenFailure, OpenAnswers, header_of, root_of, version_of};
 ghost use Rattle.pm_reader.specs.Reads.{GrewBetween, reads_for};
 ghost use Rattle.pm_reader.specs.Tied.{IsTied};
 ghost use Rattle.pm_reader.specs.Walk.{walk};
@@ -14,7 +16,7 @@ ghost use Rattle.pm_reader.specs.Versions.{ComparesTexts, GivesUnmodified, Plain
 use crate::tiles::require_plain;
 use crate::{DirectoryCache, Entries, NoCache, ReaderState};
 use bytes::Bytes;
-use pm_format::{Backend, Header, PmtResult};
+use pm_format::{Backend, Directory, Header, PmtResult};
 use std::alloc::Global;
 use tile_ids::TileId;
 
@@ -39,8 +41,14 @@ impl<B: Backend, C: DirectoryCache + Drop, S: Drop> Drop for PmTilesReader<'_, B
 }
 
 impl<'a, B: Backend> PmTilesReader<'a, B, NoCache> {
-    /// Opens the archive of a backend, to be read without a cache: `ReaderState::open`, and then `PmTilesReader::over`. Why a refusal comes is promised by `open`.
+    /// Opens the archive of a backend, to be read without a cache: `ReaderState::open`, and then `PmTilesReader::over`.
+    ///
+    /// An error is one that `open` answers: over told bytes exactly their first refusal, want of memory, or `Reading(Fault)`, which doesn't come over a backend whose
+    /// calls don't fail. What stands of the backend after an error is promised by `open`, whose callers keep it.
     pub fn try_from_source(alloc: Global, backend: &'a mut B) -> PmtResult<Self>
+        ensures refused { IfErr result (λ e. IfSome (B.told backend.old) (λ b. OpenAnswers b (Err e))) }
+        ensures causes { IfErr result IsOpenFailure }
+        ensures unfailing { B.steady backend.old → B.faults backend.old < 2 ^ 64 - 1 → result ≢ Err (errors.Reading causes.Fault) }
         ensures same_reference { IfOk result (λ r. r.backend.ghost_name ≡ backend.entry.ghost_name) }
         ensures tied { IfOk result (λ r. IsTied B.told ⟦<NoCache as DirectoryCache>⟧.held ⟦<NoCache as DirectoryCache>⟧.idle r) }
         ensures open { IfOk result (λ r. IsOpen (B.told backend.old) r.state) }
@@ -78,12 +86,17 @@ impl<'a, B: Backend, C: DirectoryCache> PmTilesReader<'a, B, C> {
         }
     }
 
-    /// Opens the archive of a backend, to be read with this cache, which is to hold nothing: `ReaderState::open`, and then `over`. Why a refusal comes is promised by
-    /// `open`.
+    /// Opens the archive of a backend, to be read with this cache, which is to hold nothing: `ReaderState::open`, and then `over`.
+    ///
+    /// An error is one that `open` answers: over told bytes exactly their first refusal, want of memory, or `Reading(Fault)`, which doesn't come over a backend whose
+    /// calls don't fail. What stands of the backend after an error is promised by `open`, whose callers keep it.
     pub fn try_from_cached_source(alloc: Global, backend: &'a mut B, cache: C) -> PmtResult<Self>
     where
         C: Drop,
         requires empty { (o : ℕ) → C.held cache o ≡ None }
+        ensures refused { IfErr result (λ e. IfSome (B.told backend.old) (λ b. OpenAnswers b (Err e))) }
+        ensures causes { IfErr result IsOpenFailure }
+        ensures unfailing { B.steady backend.old → B.faults backend.old < 2 ^ 64 - 1 → result ≢ Err (errors.Reading causes.Fault) }
         ensures same_reference { IfOk result (λ r. r.backend.ghost_name ≡ backend.entry.ghost_name) }
         ensures tied { IfOk result (λ r. IsTied B.told C.held C.idle r) }
         ensures open { IfOk result (λ r. IsOpen (B.told backend.old) r.state) }
@@ -95,11 +108,11 @@ impl<'a, B: Backend, C: DirectoryCache> PmTilesReader<'a, B, C> {
         ensures reads { IfOk result (λ r. Grew (B.reads backend.old) (B.reads r.backend.now) 1) }
         ensures calm { IfOk result (λ r. B.steady backend.old → B.steady r.backend.now × (B.faults r.backend.now ≡ B.faults backend.old)) }
     {
-        let state = ReaderState::open(alloc, backend)?;
+        let opened = ReaderState::open(alloc, backend)?;
         Ok(PmTilesReader {
             backend,
             cache,
-            state,
+            state: opened,
         })
     }
 
@@ -108,6 +121,13 @@ impl<'a, B: Backend, C: DirectoryCache> PmTilesReader<'a, B, C> {
         ensures { result.now ≡ header_of self.now.state }
     {
         self.state.get_header()
+    }
+
+    /// The entries of the root, in order of ids.
+    pub fn root(&self) -> &Directory
+        ensures { result.now ≡ root_of self.now.state }
+    {
+        self.state.root()
     }
 
     /// The contents of a tile; none where there is none. Refusals are those of `ReaderState::get_tile_unversioned`. Version texts aren't compared.
@@ -130,8 +150,8 @@ impl<'a, B: Backend, C: DirectoryCache> PmTilesReader<'a, B, C> {
             .get_cached_tile(self.backend, &mut self.cache, tile_id)
     }
 
-    /// The contents of a tile, as `get_tile_unversioned` gives them, and `SourceModified` exactly where a tile was found, the opening and this read both gave version
-    /// texts, and they differ.
+    /// The contents of a tile, as `get_tile_unversioned` gives them, and `SourceModified` in place of a tile with the version text of the opening and that of this read.
+    /// Where the backend tells its texts, this refusal comes for a tile exactly where both were given and differ.
     pub fn get_tile(&mut self, tile_id: TileId) -> PmtResult<Option<Bytes>>
         requires tied { IsTied B.told C.held C.idle self.old }
         ensures tied { IsTied B.told C.held C.idle self.new }

@@ -1,7 +1,7 @@
 // The state of a reader: all that it owns, beside the backend that it borrows.
 ghost use Rattle.std.specs.Prelude.{◌≡◌, ◌≤◌, IfSome, IfOk, take};
 ghost use Rattle.tile_ids.specs.Counts.{Grew};
-ghost use Rattle.pm_reader.specs.Opening.{FrontCauses, HasVersionOf, IsOpen, OpenAnswers, OpenCauses, header_of};
+ghost use Rattle.pm_reader.specs.Opening.{FrontCauses, HasVersionOf, IsOpen, OpenAnswers, OpenCauses, header_of, root_of};
 
 use crate::front::open_front;
 use pm_format::{
@@ -11,7 +11,7 @@ use std::alloc::Global;
 use tile_ids::TextVal;
 
 /// How many bytes of an archive are read when it is opened: the header and the root lie in them.
-pub(crate) const FRONT: u64 = 16_384;
+pub(crate) const FRONT: usize = 16_384;
 
 /// What a reader owns beside the backend that it borrows: the header, the root, and the version text that the backend gave when they were read.
 #[derive(Drop)]
@@ -59,6 +59,13 @@ impl ReaderState {
     {
         &self.header
     }
+
+    /// The entries of the root, in order of ids.
+    pub fn root(&self) -> &Directory
+        ensures { result.now ≡ root_of self.now }
+    {
+        &self.root
+    }
 }
 
 // The first bytes of a backend.
@@ -72,7 +79,7 @@ fn read_front<B: Backend>(alloc: Global, backend: &mut B) -> PmtResult<BackendRe
     ensures reads { Grew (B.reads backend.old) (B.reads backend.new) 1 }
     ensures calm { B.steady backend.old → B.steady backend.new × (B.faults backend.new ≡ B.faults backend.old) }
 {
-    match backend.read(alloc, 0, FRONT) {
+    match backend.read(alloc, 0, FRONT as u64) {
         Ok(response) => Ok(response),
         Err(ReadFault::Fault) => Err(PmtError::Reading(ReadCause::Fault)),
         Err(_) => Err(PmtError::OutOfMemory),

@@ -12,8 +12,8 @@ use pm_format::{Backend, Compression, PmtError, PmtResult};
 use tile_ids::TileId;
 
 impl ReaderState {
-    /// The contents of a tile, as `get_tile_unversioned` gives them, and `SourceModified` exactly where a tile was found, the opening and this read both gave version
-    /// texts, and they differ.
+    /// The contents of a tile, as `get_tile_unversioned` gives them, and `SourceModified` in place of a tile with the version text of the opening and that of this read.
+    /// Where the backend tells its texts, this refusal comes for a tile exactly where both were given and differ.
     pub fn get_tile<B: Backend>(&self, backend: &mut B, tile_id: TileId) -> PmtResult<Option<Bytes>>
         requires open { IsOpen (B.told backend.old) self.now }
         ensures open { IsOpen (B.told backend.new) self.now }

@@ -106,8 +106,8 @@ impl WalkState {
         Ok(())
     }
 
-    /// The next item of the walk: an entry of a tile, or an error, after which the walk ends. `BudgetSpent` comes where a leaf entry is next, and each unit was spent on one read
-    /// of a leaf. Leaves are read once each, and not kept. The backend is to be the one that was opened.
+    /// The next item of the walk: an entry of a tile, or an error, after which the walk ends. A unit that is spent takes one read of a leaf, or at most one where that leaf
+    /// is refused. `BudgetSpent` comes only where no unit is left and a leaf entry is next. Leaves are read once each, and not kept. The backend is to be the one that was opened.
     pub fn next_item<B: Backend>(&mut self, backend: &mut B) -> Option<PmtResult<DirEntry>>
         ensures items { IfSome (B.told backend.old) (λ b. Yields (left_of b self.old) result (left_of b self.new)) }
         ensures causes { WalkCauses (B.faults backend.old) (B.faults backend.new) result }

@@ -13,8 +13,9 @@ use Rattle.pm_writer.proofs.Parts.{archive_laid, before_length, before_of, head_
 use Rattle.pm_format.specs.declared.error.PmtError.{PmtError}
 use Rattle.pm_format.specs.declared.error.PmtError.TheVariants as errors
 use Rattle.pm_format.specs.declared.error.ReadCause.TheVariants as causes
-use Rattle.pm_format.specs.LookUp.{range_of, leaf_of, data_of, led, tile_by, hops_by}
+use Rattle.pm_format.specs.LookUp.{data_behind, data_of, entry_from, hops_by, hops_from, leaf_of, range_of, tile_by}
 use Rattle.pm_format.proofs.DirectoryAgain.{directory_again}
+use Rattle.pm_format.proofs.LookUpLemmas.{reached_leaf, reached_none, reached_tile}
 use Rattle.pm_writer.specs.Twice.{Distinct}
 use Rattle.pm_writer.proofs.Ordered.{AllRun, Apart, run_blocks}
 use Rattle.pm_writer.specs.Through.{Rising, Names, Through}
@@ -25,35 +26,17 @@ use Rattle.pm_writer.proofs.Found.{Answer, flat_answer, entries_apart, scan_is, 
 use Rattle.pm_writer.proofs.Laying.{laid_flat, laid_leaves}
 use Rattle.pm_writer.proofs.ContentRanges.{content_range, leaf_range}
 
-led_leaf : {A : Type 0} (leaf tile : Entry → A) (none : A) (e : Entry) → nat_eq e.run_length 0 ≡ true → led leaf tile none (Some e) ≡ leaf e
-led_leaf leaf tile none e r = rw (r, led) refl
-
-led_tile : {A : Type 0} (leaf tile : Entry → A) (none : A) (e : Entry) → nat_eq e.run_length 0 ≡ false → led leaf tile none (Some e) ≡ tile e
-led_tile leaf tile none e r = rw (r, led) refl
-
--- where a leaf leads
-further : ℕ → Header → List ℕ → ℕ → Entry → Result (Option (List ℕ)) PmtError
-further n h b t e = elim (leaf_of h b e) [ Err r ↦ Err r | Ok leaf ↦ tile_by n h b leaf t ]
-
-further_is : (n : ℕ) (h : Header) (b : List ℕ) (t : ℕ) (e : Entry) (l : List Entry) → leaf_of h b e ≡ Ok l → further n h b t e ≡ tile_by n h b l t
-unfolding further
-further_is n h b t e l s = go (leaf_of h b e) s
-  where
-    go : (r : Result (List Entry) PmtError) → r ≡ Ok l → (elim r as (λ x. Result (Option (List ℕ)) PmtError) [ Err q ↦ Err q | Ok leaf ↦ tile_by n h b leaf t ]) ≡ tile_by n h b l t
-    go (Err q) s = absurd (cc)
-    go (Ok k) s = let same : k ≡ l = cc in ap (λ z. tile_by n h b z t) same
-
 tile_none : (n : ℕ) (h : Header) (b : List ℕ) (es : List Entry) (t : ℕ) → scan es t ≡ None → tile_by (suc n) h b es t ≡ Ok None
-unfolding tile_by further
-tile_none n h b es t q = ap (led (further n h b t) (data_of h b) (Ok None)) q
+unfolding tile_by
+tile_none n h b es t q = ap (λ o. data_behind h b (entry_from (suc n) h b t o)) q ∙ ap (λ r. data_behind h b r.entry) (reached_none (suc n) h b t)
 
 tile_here : (n : ℕ) (h : Header) (b : List ℕ) (es : List Entry) (t : ℕ) (e : Entry) → scan es t ≡ Some e → nat_eq e.run_length 0 ≡ false → tile_by (suc n) h b es t ≡ data_of h b e
-unfolding tile_by further
-tile_here n h b es t e q r = ap (led (further n h b t) (data_of h b) (Ok None)) q ∙ led_tile (further n h b t) (data_of h b) (Ok None) e r
+unfolding tile_by
+tile_here n h b es t e q r = ap (λ o. data_behind h b (entry_from (suc n) h b t o)) q ∙ ap (λ r. data_behind h b r.entry) (reached_tile (suc n) h b t e r)
 
 tile_leaf : (n : ℕ) (h : Header) (b : List ℕ) (es l : List Entry) (t : ℕ) (e : Entry) → scan es t ≡ Some e → nat_eq e.run_length 0 ≡ true → leaf_of h b e ≡ Ok l → tile_by (suc n) h b es t ≡ tile_by n h b l t
-unfolding tile_by further
-tile_leaf n h b es l t e q r s = ap (led (further n h b t) (data_of h b) (Ok None)) q ∙ (led_leaf (further n h b t) (data_of h b) (Ok None) e r ∙ further_is n h b t e l s)
+unfolding tile_by
+tile_leaf n h b es l t e q r s = ap (λ o. data_behind h b (entry_from (suc n) h b t o)) q ∙ ap (λ r. data_behind h b r.entry) (reached_leaf n h b t e (Ok l) r s)
 
 -- a directory of tile entries, whose answer's range is the tile
 pub data_found : (n : ℕ) (h : Header) (b : List ℕ) (es : List Entry) (t : ℕ) (tile : Option (List ℕ)) → MatchOption (scan es t) (tile ≡ None) (λ e. (1 ≤ e.run_length) × (data_of h b e ≡ Ok tile)) → tile_by (suc n) h b es t ≡ Ok tile
@@ -233,35 +216,24 @@ archive_read o adds t dist f many fits = go (nat_lt (length (entries_of_adds add
     go false q = read_leaves o adds t dist f many fits q
 
 -- at most one leaf is read
-hop_further : ℕ → Header → List ℕ → ℕ → Entry → ℕ
-hop_further n h b t e = elim (leaf_of h b e) [ Err r ↦ 0 | Ok leaf ↦ suc (hops_by n h b leaf t) ]
-
-hop_is : (n : ℕ) (h : Header) (b : List ℕ) (t : ℕ) (e : Entry) (l : List Entry) → leaf_of h b e ≡ Ok l → hop_further n h b t e ≡ suc (hops_by n h b l t)
-unfolding hop_further
-hop_is n h b t e l s = go (leaf_of h b e) s
-  where
-    go : (r : Result (List Entry) PmtError) → r ≡ Ok l → (elim r as (λ x. ℕ) [ Err q ↦ 0 | Ok leaf ↦ suc (hops_by n h b leaf t) ]) ≡ suc (hops_by n h b l t)
-    go (Err q) s = absurd (cc)
-    go (Ok k) s = let same : k ≡ l = cc in ap (λ z. suc (hops_by n h b z t)) same
-
 no_hop : (n : ℕ) (h : Header) (b : List ℕ) (es : List Entry) (t : ℕ) → MatchOption (scan es t) (Unit {0}) (λ e. 1 ≤ e.run_length) → hops_by (suc n) h b es t ≡ 0
-unfolding hops_by hop_further
+unfolding hops_by
 no_hop n h b es t m = go (scan es t) refl m
   where
     go : (o : Option Entry) → scan es t ≡ o → MatchOption o (Unit {0}) (λ e. 1 ≤ e.run_length) → hops_by (suc n) h b es t ≡ 0
-    go None q m = ap (led (hop_further n h b t) (λ e. 0) 0) q
-    go (Some e) q m = let some : nat_eq e.run_length 0 ≡ false = grind (arith, nat_tests) in ap (led (hop_further n h b t) (λ e. 0) 0) q ∙ led_tile (hop_further n h b t) (λ e. 0) 0 e some
+    go None q m = ap (hops_from (suc n) h b t) q ∙ ap (λ r. r.leaves) (reached_none (suc n) h b t)
+    go (Some e) q m = let some : nat_eq e.run_length 0 ≡ false = grind (arith, nat_tests) in ap (hops_from (suc n) h b t) q ∙ ap (λ r. r.leaves) (reached_tile (suc n) h b t e some)
 
 one_hop : (n : ℕ) (h : Header) (b : List ℕ) (root : List Entry) (ls : List (List Entry)) (es : List Entry) (t : ℕ) → Through root ls es t
     → ((e : Entry) (l : List Entry) → Names ls e l → leaf_of h b e ≡ Ok l) → MatchOption (scan es t) (Unit {0}) (λ e. 1 ≤ e.run_length) → hops_by (suc (suc n)) h b root t ≤ 1
-unfolding hops_by hop_further
+unfolding hops_by
 one_hop n h b root ls es t w leaf m = go (scan root t) refl w
   where
     go : (o : Option Entry) → scan root t ≡ o → MatchOption o (scan es t ≡ None) (λ e. (l : List Entry) × Names ls e l × (scan l t ≡ scan es t)) → hops_by (suc (suc n)) h b root t ≤ 1
-    go None q w = let z : hops_by (suc (suc n)) h b root t ≡ 0 = ap (led (hop_further (suc n) h b t) (λ e. 0) 0) q in omega (arith, z)
+    go None q w = let z : hops_by (suc (suc n)) h b root t ≡ 0 = ap (hops_from (suc (suc n)) h b t) q ∙ ap (λ r. r.leaves) (reached_none (suc (suc n)) h b t) in omega (arith, z)
     go (Some e) q w =
         let leads : nat_eq e.run_length 0 ≡ true = (let z : e.run_length ≡ 0 = ap (λ z. z.run_length) w.1.is in grind (arith, nat_tests)) in
-        let z : hops_by (suc (suc n)) h b root t ≡ suc (hops_by (suc n) h b w.0 t) = ap (led (hop_further (suc n) h b t) (λ e. 0) 0) q ∙ (led_leaf (hop_further (suc n) h b t) (λ e. 0) 0 e leads ∙ hop_is (suc n) h b t e w.0 (leaf e w.0 w.1)) in
+        let z : hops_by (suc (suc n)) h b root t ≡ suc (hops_by (suc n) h b w.0 t) = ap (hops_from (suc (suc n)) h b t) q ∙ ap (λ r. r.leaves) (reached_leaf (suc n) h b t e (Ok w.0) leads (leaf e w.0 w.1)) in
         omega (arith, z, no_hop n h b w.0 t (subst (λ o. MatchOption o (Unit {0}) (λ e. 1 ≤ e.run_length)) (sym w.2) m))
 
 hops_leaves : (o : Options) (adds : List (ℕ × List ℕ)) (t : ℕ) → Distinct adds → DirFits 0 (entries_of_adds adds) → length (entries_of_adds adds) < 2 ^ 64 → length (archive o adds) < 2 ^ 64

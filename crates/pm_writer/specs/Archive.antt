@@ -5,7 +5,7 @@ use Rattle.std.specs.Ordering.{nat_cmp}
 use Rattle.pm_format.specs.declared.tile_type.TileType.TheVariants as tile_type
 use Rattle.pm_format.specs.Directory.{dir_of, dir_bytes}
 use Rattle.pm_format.specs.Header.{head}
-use Rattle.pm_format.specs.LookUp.{archive_map, tile_by}
+use Rattle.pm_format.specs.LookUp.{archive_map, reached, tile_by}
 use Rattle.pm_format.specs.Opened.{opened}
 use Rattle.pm_format.specs.Options.{Options, default_options}
 use Rattle.pm_format.specs.Scan.{scan}
@@ -49,5 +49,5 @@ unfolding archive archive_bytes dir_bytes varint
 one_tile_archive = refl
 
 pub its_tile : archive_map (archive (default_options tile_type.Unknown) ((0, 48 ∷ []) ∷ [])) 0 ≡ Some (48 ∷ [])
-unfolding archive archive_bytes dir_bytes varint opened head dir_of u64_at scan tile_by
+unfolding archive archive_bytes dir_bytes varint opened head dir_of u64_at scan reached tile_by
 its_tile = refl

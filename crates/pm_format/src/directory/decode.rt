@@ -127,8 +127,8 @@ fn read_entries(
     Ok(entries)
 }
 
-// The offset that a number of the last column stands for, after an entry with this end.
-fn offset_by(end: Option<u64>, number: u64) -> Option<u64>
+/// The offset that a number of a directory's last column stands for, after an entry with this end; none for 0 where no entry is before it, or that one's end passes u64.
+pub fn offset_by(end: Option<u64>, number: u64) -> Option<u64>
     ensures { result ≡ offset_of end number }
 {
     if number == 0 {

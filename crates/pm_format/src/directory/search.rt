@@ -76,8 +76,8 @@ fn count_begun<L: Ledger>(entries: &[DirEntry], id: u64, steps: &mut Steps<L>) -
     low
 }
 
-// The entry, where it covers an id from its own on.
-fn covering(entry: &DirEntry, id: u64) -> Option<&DirEntry>
+/// The entry, where it covers an id from its own on: it leads to a leaf, or its run has the id.
+pub fn covering(entry: &DirEntry, id: u64) -> Option<&DirEntry>
     requires { entry.now.tile_id ≤ id }
     ensures { option_copied result ≡ covers id entry.now }
 {

@@ -1,8 +1,8 @@
 // The cache that gives up the directories that were used longest ago.
-ghost use Rattle.std.specs.Prelude.{◌≡◌, ◌≤◌, ℕ, [], Ok, None, Some, true, nat_eq, IfOk, OnOk, OnErr};
-ghost use Rattle.lru.specs.LruCache.{lru_cache, promoted};
+ghost use Rattle.std.specs.Prelude.{◌≡◌, ◌≤◌, ℕ, [], Ok, None, Some, true, IfOk, OnOk, OnErr};
+ghost use Rattle.lru.specs.LruCache.{lru_cache};
 ghost use Rattle.pm_reader.specs.Caches.{AddsOnly, AnswersFetched, AnswersHeld, answer_of};
-ghost use Rattle.pm_reader.specs.MapCaches.{FetchLeaves, HoldsSame, PutsRecent, held_by_use, uses_of};
+ghost use Rattle.pm_reader.specs.MapCaches.{FetchLeaves, HoldsSame, IsUsed, PutsRecent, held_by_use, uses_of};
 
 use crate::{DirCacheResult, DirectoryCache};
 use lru::LruCache;
@@ -11,28 +11,28 @@ use std::alloc::Global;
 use std::num::NonZeroUsize;
 use tile_ids::{OutOfMemory, TileId};
 
-/// Keeps the directories that were used last, as many as its capacity.
+/// Keeps the directories that were used last, as many as its capacity. Each call makes the directory that it was asked for the last used.
 #[derive(Drop)]
 pub struct LruDirCache {
     directories: LruCache<u64, Directory>,
 }
 
 impl LruDirCache {
-    /// A cache that holds nothing yet, and will hold at most so many directories. The capacity is to be at least 1.
+    /// A cache that holds nothing yet, and will hold at most so many directories. The capacity is to be at least 1. Room is made only as directories come.
     pub fn new(alloc: Global, capacity: usize) -> Result<LruDirCache, OutOfMemory>
         requires { 1 ≤ capacity }
         ensures { IfOk result (λ c. uses_of c ≡ lru_cache [] capacity) }
     {
         let capacity = NonZeroUsize::new(capacity).unwrap();
         Ok(LruDirCache {
-            directories: LruCache::new(alloc, capacity)?,
+            directories: LruCache::sparse(alloc, capacity)?,
         })
     }
 
     // What is known of an id. A directory that is held becomes the most recently used.
     fn find(&mut self, offset: u64, tile_id: TileId) -> DirCacheResult
         ensures answer { result ≡ answer_of (held_by_use self.old offset) tile_id }
-        ensures uses { uses_of self.new ≡ lru_cache (promoted (nat_eq offset) (uses_of self.old).entries) (uses_of self.old).cap }
+        ensures uses { IsUsed (uses_of self.old) (uses_of self.new) offset }
     {
         match self.directories.get(&offset) {
             Some(directory) => DirCacheResult::from(directory.find_tile_id(tile_id)),
@@ -52,7 +52,7 @@ impl DirectoryCache for LruDirCache {
 
     fn get_dir_entry(&mut self, offset: u64, tile_id: TileId) -> DirCacheResult
         ensures answer { result ≡ answer_of (held_by_use self.old offset) tile_id }
-        ensures uses { uses_of self.new ≡ lru_cache (promoted (nat_eq offset) (uses_of self.old).entries) (uses_of self.old).cap }
+        ensures uses { IsUsed (uses_of self.old) (uses_of self.new) offset }
         ensures same { HoldsSame (held_by_use self.old) (held_by_use self.new) }
     {
         self.find(offset, tile_id)
@@ -81,7 +81,7 @@ impl DirectoryCache for LruDirCache {
         ensures held { AnswersHeld (held_by_use self.old offset) tile_id result }
         ensures fetched { AnswersFetched (held_by_use self.old offset) (F.post fetcher) tile_id result }
         ensures adds { AddsOnly (held_by_use self.old) (held_by_use self.new) offset (λ d. F.post fetcher (Ok d)) }
-        ensures leaves { FetchLeaves (held_by_use self.old offset) (F.post fetcher) tile_id (HoldsSame (held_by_use self.old) (held_by_use self.new)) (PutsRecent (uses_of self.old) (uses_of self.new) offset) result }
+        ensures leaves { FetchLeaves (held_by_use self.old offset) (F.post fetcher) tile_id (IsUsed (uses_of self.old) (uses_of self.new) offset) (PutsRecent (uses_of self.old) (uses_of self.new) offset) result }
     {
         match self.get_dir_entry(offset, tile_id) {
             DirCacheResult::Found(entry) => Ok(Some(entry)),

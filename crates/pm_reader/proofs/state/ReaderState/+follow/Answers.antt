@@ -1,24 +1,24 @@
 use Rattle.std.proofs.Common.{◌∙◌, ap, arith}
-use Rattle.pm_reader.specs.Path.{entry_from}
-use Rattle.pm_reader.proofs.Following.{from_last, from_none, from_tile}
+use Rattle.pm_format.specs.LookUp.{entry_from}
+use Rattle.pm_format.proofs.LookUpLemmas.{reached_last, reached_none, reached_tile}
 use Rattle.pm_reader.proofs.FollowingTold.{is_leaf, is_tile, told_none, told_on, told_refused}
 use Rattle.pm_reader.proofs.state.ReaderState.+follow.Goals as goal
 
 pub returns-in_default-clause-way : goal.returns-in_default-clause-way
 returns-in_default-clause-way g t c =
     told_none (g.B.Backend.told c.args.backend.now) c.args.self.now.header c.args.self.now.root c.args.tile_id c.args.left c.args.found _ _ _ _
-    (λ b. ap (entry_from c.args.left c.args.self.now.header b c.args.tile_id) c.in_default.is ∙ from_none c.args.left c.args.self.now.header b c.args.tile_id)
+    (λ b. ap (entry_from c.args.left c.args.self.now.header b c.args.tile_id) c.in_default.is ∙ ap (λ r. r.entry) (reached_none c.args.left c.args.self.now.header b c.args.tile_id))
 
 pub returns-then-not-is_leaf-clause-way : goal.returns-then-not-is_leaf-clause-way
 returns-then-not-is_leaf-clause-way g t c =
     told_none (g.B.Backend.told c.args.backend.now) c.args.self.now.header c.args.self.now.root c.args.tile_id c.args.left c.args.found _ _ _ _
-    (λ b. ap (entry_from c.args.left c.args.self.now.header b c.args.tile_id) c.in-Some.is ∙ from_tile c.args.left c.args.self.now.header b c.args.tile_id c.in-Some.entry (is_tile _ _ c.is_leaf.ensures c.if-not-is_leaf.true))
+    (λ b. ap (entry_from c.args.left c.args.self.now.header b c.args.tile_id) c.in-Some.is ∙ ap (λ r. r.entry) (reached_tile c.args.left c.args.self.now.header b c.args.tile_id c.in-Some.entry (is_tile _ _ c.is_leaf.ensures c.if-not-is_leaf.true)))
 
 pub returns-then-left-eq0-clause-way : goal.returns-then-left-eq0-clause-way
 returns-then-left-eq0-clause-way g t c =
     told_none (g.B.Backend.told c.args.backend.now) c.args.self.now.header c.args.self.now.root c.args.tile_id c.args.left c.args.found _ _ _ _
     (λ b. ap (λ n. entry_from n c.args.self.now.header b c.args.tile_id c.args.found) c.if-left-eq0.true
-    ∙ (ap (entry_from 0 c.args.self.now.header b c.args.tile_id) c.in-Some.is ∙ from_last c.args.self.now.header b c.args.tile_id c.in-Some.entry (is_leaf _ _ c.is_leaf.ensures c.if-not-is_leaf.false)))
+    ∙ (ap (entry_from 0 c.args.self.now.header b c.args.tile_id) c.in-Some.is ∙ ap (λ r. r.entry) (reached_last c.args.self.now.header b c.args.tile_id c.in-Some.entry (is_leaf _ _ c.is_leaf.ensures c.if-not-is_leaf.false))))
 
 pub returns-in_err-next-clause-way : goal.returns-in_err-next-clause-way
 returns-in_err-next-clause-way g t c =
