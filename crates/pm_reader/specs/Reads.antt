@@ -1,5 +1,5 @@
 -- How often a backend was read.
-use Rattle.std.specs.Prelude.{ℕ, ◌+◌, ◌-◌, ◌^◌, ◌≤◌, List, [], ◌∷◌, min, Option, Some, None, Result, Ok, Err}
+use Rattle.std.specs.Prelude.{◌≡◌, ℕ, ◌+◌, ◌-◌, ◌^◌, ◌≤◌, List, [], ◌∷◌, min, Option, Some, None, Result, Ok, Err}
 
 -- a count grew by at least low, as far as the end of u64 allows, and by at most high
 pub record GrewBetween (before now low high : ℕ) : Type 0 where
@@ -23,3 +23,10 @@ reads_refused (Err e) = 1
 abbrev pub reads_done : {A E : Type 0} → Result A E → ℕ
 reads_done (Ok x) = 1
 reads_done (Err e) = 0
+
+-- a call that only reads: what the backend tells stays, and its count of faults doesn't fall, nor rises where its calls don't fail
+pub record ReadsOnly {B V : Type 0} (tells : B → Option (List ℕ)) (texts : B → V) (failed : B → ℕ) (steady : B → Type 0) (before now : B) : Type 0 where
+  pub told : tells now ≡ tells before
+  pub versions : texts now ≡ texts before
+  pub faults : failed before ≤ failed now
+  pub calm : steady before → steady now × (failed now ≡ failed before)

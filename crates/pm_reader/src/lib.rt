@@ -12,8 +12,6 @@ mod parts;
 mod ranges;
 mod reader;
 mod state;
-#[cfg(test)]
-mod tests;
 mod tilejson;
 mod tiles;
 mod versions;

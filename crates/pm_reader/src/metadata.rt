@@ -1,8 +1,8 @@
 // The metadata of an archive.
-ghost use Rattle.std.specs.Prelude.{◌≡◌, ◌≤◌, IfSome};
+ghost use Rattle.std.specs.Prelude.{◌≡◌, IfSome};
 ghost use Rattle.pm_reader.specs.Metadata.{IsTextOf, MetadataAnswers, MetadataCauses, metadata_read};
 ghost use Rattle.pm_reader.specs.Opening.{header_of};
-ghost use Rattle.pm_reader.specs.Reads.{GrewBetween};
+ghost use Rattle.pm_reader.specs.Reads.{GrewBetween, ReadsOnly};
 ghost use Rattle.pm_reader.specs.Tied.{IsTied};
 
 use crate::ranges::read_range;
@@ -18,11 +18,8 @@ impl ReaderState {
     pub fn get_metadata<B: Backend>(&self, backend: &mut B) -> PmtResult<TextVal>
         ensures answer { IfSome (B.told backend.old) (λ b. MetadataAnswers (metadata_read b (header_of self.now)) result) }
         ensures causes { MetadataCauses (B.faults backend.old) (B.faults backend.new) result }
-        ensures told { B.told backend.new ≡ B.told backend.old }
-        ensures versions { B.versions backend.new ≡ B.versions backend.old }
-        ensures faults { B.faults backend.old ≤ B.faults backend.new }
+        ensures kept { ReadsOnly B.told B.versions B.faults B.steady backend.old backend.new }
         ensures reads { GrewBetween (B.reads backend.old) (B.reads backend.new) 0 1 }
-        ensures calm { B.steady backend.old → B.steady backend.new × (B.faults backend.new ≡ B.faults backend.old) }
     {
         match read_range(
             self.alloc,
@@ -57,11 +54,8 @@ impl<'a, B: Backend, C: DirectoryCache> PmTilesReader<'a, B, C> {
         ensures cache { self.new.cache ≡ self.old.cache }
         ensures answer { IfSome (B.told self.old.backend.now) (λ b. MetadataAnswers (metadata_read b (header_of self.new.state)) result) }
         ensures causes { MetadataCauses (B.faults self.old.backend.now) (B.faults self.new.backend.now) result }
-        ensures told { B.told self.new.backend.now ≡ B.told self.old.backend.now }
-        ensures versions { B.versions self.new.backend.now ≡ B.versions self.old.backend.now }
-        ensures faults { B.faults self.old.backend.now ≤ B.faults self.new.backend.now }
+        ensures kept { ReadsOnly B.told B.versions B.faults B.steady self.old.backend.now self.new.backend.now }
         ensures reads { GrewBetween (B.reads self.old.backend.now) (B.reads self.new.backend.now) 0 1 }
-        ensures calm { B.steady self.old.backend.now → B.steady self.new.backend.now × (B.faults self.new.backend.now ≡ B.faults self.old.backend.now) }
     {
         self.state.get_metadata(self.backend)
     }

@@ -1,9 +1,9 @@
 // Parts of an archive at given places: directories of the leaf part, and contents of the data part.
-ghost use Rattle.std.specs.Prelude.{◌≡◌, ◌≤◌, ◌+◌, IfSome};
+ghost use Rattle.std.specs.Prelude.{◌≡◌, ◌+◌, IfSome};
 ghost use Rattle.pm_format.specs.LookUp.{directory_at};
 ghost use Rattle.pm_reader.specs.Answers.{Gives, LookUpCauses, RangeCauses, range_read};
 ghost use Rattle.pm_reader.specs.Opening.{header_of};
-ghost use Rattle.pm_reader.specs.Reads.{GrewBetween, reads_done};
+ghost use Rattle.pm_reader.specs.Reads.{GrewBetween, ReadsOnly, reads_done};
 ghost use Rattle.pm_reader.specs.Tied.{IsTied};
 
 use crate::ranges::read_range;
@@ -22,11 +22,8 @@ pub(crate) fn read_directory_at<B: Backend>(
 ) -> PmtResult<Directory>
     ensures answer { IfSome (B.told backend.old) (λ b. Gives (directory_at header.now b offset length) result) }
     ensures causes { LookUpCauses (B.faults backend.old) (B.faults backend.new) result }
-    ensures told { B.told backend.new ≡ B.told backend.old }
-    ensures versions { B.versions backend.new ≡ B.versions backend.old }
-    ensures faults { B.faults backend.old ≤ B.faults backend.new }
+    ensures kept { ReadsOnly B.told B.versions B.faults B.steady backend.old backend.new }
     ensures reads { GrewBetween (B.reads backend.old) (B.reads backend.new) (reads_done result) 1 }
-    ensures calm { B.steady backend.old → B.steady backend.new × (B.faults backend.new ≡ B.faults backend.old) }
 {
     let bytes = u64::from(length);
     let response = read_range(alloc, backend, header.leaf_offset, offset, bytes)?;
@@ -47,11 +44,8 @@ impl ReaderState {
     ) -> PmtResult<Directory>
         ensures answer { IfSome (B.told backend.old) (λ b. Gives (directory_at (header_of self.now) b offset length) result) }
         ensures causes { LookUpCauses (B.faults backend.old) (B.faults backend.new) result }
-        ensures told { B.told backend.new ≡ B.told backend.old }
-        ensures versions { B.versions backend.new ≡ B.versions backend.old }
-        ensures faults { B.faults backend.old ≤ B.faults backend.new }
+        ensures kept { ReadsOnly B.told B.versions B.faults B.steady backend.old backend.new }
         ensures reads { GrewBetween (B.reads backend.old) (B.reads backend.new) (reads_done result) 1 }
-        ensures calm { B.steady backend.old → B.steady backend.new × (B.faults backend.new ≡ B.faults backend.old) }
     {
         read_directory_at(self.alloc, backend, &self.header, offset, length)
     }
@@ -68,11 +62,8 @@ impl ReaderState {
     ) -> PmtResult<Bytes>
         ensures answer { IfSome (B.told backend.old) (λ b. Gives (range_read b ((header_of self.now).data_offset + offset) length) result) }
         ensures causes { RangeCauses (B.faults backend.old) (B.faults backend.new) result }
-        ensures told { B.told backend.new ≡ B.told backend.old }
-        ensures versions { B.versions backend.new ≡ B.versions backend.old }
-        ensures faults { B.faults backend.old ≤ B.faults backend.new }
+        ensures kept { ReadsOnly B.told B.versions B.faults B.steady backend.old backend.new }
         ensures reads { GrewBetween (B.reads backend.old) (B.reads backend.new) (reads_done result) 1 }
-        ensures calm { B.steady backend.old → B.steady backend.new × (B.faults backend.new ≡ B.faults backend.old) }
     {
         let bytes = u64::from(length);
         match read_range(self.alloc, backend, self.header.data_offset, offset, bytes) {
@@ -92,11 +83,8 @@ impl<'a, B: Backend, C: DirectoryCache> PmTilesReader<'a, B, C> {
         ensures cache { self.new.cache ≡ self.old.cache }
         ensures answer { IfSome (B.told self.old.backend.now) (λ b. Gives (directory_at (header_of self.new.state) b offset length) result) }
         ensures causes { LookUpCauses (B.faults self.old.backend.now) (B.faults self.new.backend.now) result }
-        ensures told { B.told self.new.backend.now ≡ B.told self.old.backend.now }
-        ensures versions { B.versions self.new.backend.now ≡ B.versions self.old.backend.now }
-        ensures faults { B.faults self.old.backend.now ≤ B.faults self.new.backend.now }
+        ensures kept { ReadsOnly B.told B.versions B.faults B.steady self.old.backend.now self.new.backend.now }
         ensures reads { GrewBetween (B.reads self.old.backend.now) (B.reads self.new.backend.now) (reads_done result) 1 }
-        ensures calm { B.steady self.old.backend.now → B.steady self.new.backend.now × (B.faults self.new.backend.now ≡ B.faults self.old.backend.now) }
     {
         self.state.read_directory(self.backend, offset, length)
     }
@@ -110,11 +98,8 @@ impl<'a, B: Backend, C: DirectoryCache> PmTilesReader<'a, B, C> {
         ensures cache { self.new.cache ≡ self.old.cache }
         ensures answer { IfSome (B.told self.old.backend.now) (λ b. Gives (range_read b ((header_of self.new.state).data_offset + offset) length) result) }
         ensures causes { RangeCauses (B.faults self.old.backend.now) (B.faults self.new.backend.now) result }
-        ensures told { B.told self.new.backend.now ≡ B.told self.old.backend.now }
-        ensures versions { B.versions self.new.backend.now ≡ B.versions self.old.backend.now }
-        ensures faults { B.faults self.old.backend.now ≤ B.faults self.new.backend.now }
+        ensures kept { ReadsOnly B.told B.versions B.faults B.steady self.old.backend.now self.new.backend.now }
         ensures reads { GrewBetween (B.reads self.old.backend.now) (B.reads self.new.backend.now) (reads_done result) 1 }
-        ensures calm { B.steady self.old.backend.now → B.steady self.new.backend.now × (B.faults self.new.backend.now ≡ B.faults self.old.backend.now) }
     {
         self.state.read_contents(self.backend, offset, length)
     }

@@ -1,10 +1,10 @@
 // The document that an archive says of itself.
-ghost use Rattle.std.specs.Prelude.{◌≡◌, ◌≤◌, IfSome};
+ghost use Rattle.std.specs.Prelude.{◌≡◌, IfSome};
 ghost use Rattle.pm_format.specs.TileJson.{tilejson_of};
 ghost use Rattle.tile_json.specs.Reading.{tilejson_in};
 ghost use Rattle.pm_reader.specs.Metadata.{metadata_read};
 ghost use Rattle.pm_reader.specs.Opening.{header_of};
-ghost use Rattle.pm_reader.specs.Reads.{GrewBetween};
+ghost use Rattle.pm_reader.specs.Reads.{GrewBetween, ReadsOnly};
 ghost use Rattle.pm_reader.specs.Tied.{IsTied};
 ghost use Rattle.pm_reader.specs.TileJson.{DocumentAnswers, DocumentCauses, IsDocumentOf};
 
@@ -23,11 +23,8 @@ impl ReaderState {
     ) -> PmtResult<TileJson>
         ensures answer { IfSome (B.told backend.old) (λ b. DocumentAnswers (metadata_read b (header_of self.now)) (tilejson_of (header_of self.now) sources.items) result) }
         ensures causes { DocumentCauses (B.faults backend.old) (B.faults backend.new) result }
-        ensures told { B.told backend.new ≡ B.told backend.old }
-        ensures versions { B.versions backend.new ≡ B.versions backend.old }
-        ensures faults { B.faults backend.old ≤ B.faults backend.new }
+        ensures kept { ReadsOnly B.told B.versions B.faults B.steady backend.old backend.new }
         ensures reads { GrewBetween (B.reads backend.old) (B.reads backend.new) 0 1 }
-        ensures calm { B.steady backend.old → B.steady backend.new × (B.faults backend.new ≡ B.faults backend.old) }
     {
         match self.get_metadata(backend) {
             Ok(metadata) => self.document_of(sources, metadata.as_str()),
@@ -58,11 +55,8 @@ impl<'a, B: Backend, C: DirectoryCache> PmTilesReader<'a, B, C> {
         ensures cache { self.new.cache ≡ self.old.cache }
         ensures answer { IfSome (B.told self.old.backend.now) (λ b. DocumentAnswers (metadata_read b (header_of self.new.state)) (tilejson_of (header_of self.new.state) sources.items) result) }
         ensures causes { DocumentCauses (B.faults self.old.backend.now) (B.faults self.new.backend.now) result }
-        ensures told { B.told self.new.backend.now ≡ B.told self.old.backend.now }
-        ensures versions { B.versions self.new.backend.now ≡ B.versions self.old.backend.now }
-        ensures faults { B.faults self.old.backend.now ≤ B.faults self.new.backend.now }
+        ensures kept { ReadsOnly B.told B.versions B.faults B.steady self.old.backend.now self.new.backend.now }
         ensures reads { GrewBetween (B.reads self.old.backend.now) (B.reads self.new.backend.now) 0 1 }
-        ensures calm { B.steady self.old.backend.now → B.steady self.new.backend.now × (B.faults self.new.backend.now ≡ B.faults self.old.backend.now) }
     {
         self.state.parse_tilejson(self.backend, sources)
     }

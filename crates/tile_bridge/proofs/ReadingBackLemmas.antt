@@ -13,8 +13,8 @@ use Rattle.pm_format.specs.WellFormed.{WellFormed, header_of}
 use Rattle.pm_format.specs.declared.error.PmtError.{PmtError}
 use Rattle.pm_format.specs.declared.error.PmtError.TheVariants as errors
 use Rattle.pm_format.specs.declared.error.ReadCause.TheVariants as causes
-use Rattle.pm_reader.proofs.SoundTiles.{sound_tile}
-use Rattle.pm_reader.proofs.OneLength.{cacheable}
+use Rattle.pm_reader.proofs.SoundTileLemmas.{sound_tile}
+use Rattle.pm_reader.proofs.OneLengthLemmas.{cacheable}
 use Rattle.pm_reader.specs.Answers.{LookUpCauses}
 use Rattle.pm_reader.specs.Archives.{UsesOneLength}
 use Rattle.pm_reader.specs.Caches.{Held}

@@ -1,4 +1,4 @@
-use Rattle.pm_reader.proofs.OneLength.{cacheable}
+use Rattle.pm_reader.proofs.OneLengthLemmas.{cacheable}
 use Rattle.pm_reader.proofs.laws.archives_are_cacheable.Goals as goal
 
 pub returns : goal.returns

@@ -1,4 +1,4 @@
-use Rattle.pm_reader.proofs.SoundTiles.{sound_tile}
+use Rattle.pm_reader.proofs.SoundTileLemmas.{sound_tile}
 use Rattle.pm_reader.proofs.laws.sound_answers.Goals as goal
 
 pub returns : goal.returns

@@ -1,4 +1,4 @@
-use Rattle.pm_reader.proofs.Views.{text_invalid, text_valid}
+use Rattle.pm_reader.proofs.ViewLemmas.{text_invalid, text_valid}
 use Rattle.pm_reader.proofs.view.text.Goals as goal
 
 pub returns-in-Ok-clause-answer : goal.returns-in-Ok-clause-answer

@@ -1,4 +1,4 @@
-use Rattle.pm_reader.proofs.WalkBegins.{told_begins}
+use Rattle.pm_reader.proofs.WalkBeginsLemmas.{told_begins}
 use Rattle.pm_reader.proofs.reader.PmTilesReader+B+C.entries.Goals as goal
 
 pub returns-clause-items : goal.returns-clause-items

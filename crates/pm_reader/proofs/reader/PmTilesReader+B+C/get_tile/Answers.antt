@@ -1,4 +1,4 @@
-use Rattle.pm_reader.proofs.Reading.{reads_on, unmodified_answer, unmodified_hops, unmodified_trusts}
+use Rattle.pm_reader.proofs.ReadsFromLemmas.{reads_on, unmodified_answer, unmodified_hops, unmodified_trusts}
 use Rattle.pm_reader.proofs.reader.PmTilesReader+B+C.get_tile.Goals as goal
 
 pub returns-clause-tied : goal.returns-clause-tied

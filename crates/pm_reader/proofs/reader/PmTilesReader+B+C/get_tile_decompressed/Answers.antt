@@ -1,5 +1,5 @@
 use Rattle.pm_reader.specs.Archives.{IsCacheable}
-use Rattle.pm_reader.proofs.Plain.{plain_answer_if, plain_causes}
+use Rattle.pm_reader.proofs.PlainLemmas.{plain_answer_if, plain_causes}
 use Rattle.pm_reader.proofs.reader.PmTilesReader+B+C.get_tile_decompressed.Goals as goal
 
 pub returns-clause-answer : goal.returns-clause-answer

@@ -1,5 +1,5 @@
 use Rattle.std.proofs.Common.{false, refl}
-use Rattle.pm_reader.proofs.WalkBegins.{begins, queue_begins}
+use Rattle.pm_reader.proofs.WalkBeginsLemmas.{begins, queue_begins}
 use Rattle.pm_reader.proofs.state.ReaderState.entries.Goals as goal
 
 pub returns-clause-items : goal.returns-clause-items

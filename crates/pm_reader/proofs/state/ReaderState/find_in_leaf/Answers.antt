@@ -1,5 +1,5 @@
 use Rattle.std.proofs.Common.{arith}
-use Rattle.pm_reader.proofs.Trust.{told_kept, told_more}
+use Rattle.pm_reader.proofs.TrustLemmas.{told_kept, told_more}
 use Rattle.pm_reader.proofs.state.ReaderState.find_in_leaf.Goals as goal
 
 pub returns-in_err-directory-in-NotCached-clause-trusted : goal.returns-in_err-directory-in-NotCached-clause-trusted

@@ -1,5 +1,5 @@
 use Rattle.std.proofs.Common.{◌∙◌}
-use Rattle.pm_reader.proofs.FoundTile.{told_found, told_none, told_past, told_refused}
+use Rattle.pm_reader.proofs.FoundTileLemmas.{told_found, told_none, told_past, told_refused}
 use Rattle.pm_reader.proofs.state.ReaderState.find_tile.Goals as goal
 
 pub returns-in_err-reached-clause-found : goal.returns-in_err-reached-clause-found

@@ -1,5 +1,5 @@
 use Rattle.std.proofs.Common.{ap, refl, Ok}
-use Rattle.pm_reader.proofs.Reading.{found_answer, found_hops, found_trusts, reads_on}
+use Rattle.pm_reader.proofs.ReadsFromLemmas.{found_answer, found_hops, found_trusts, reads_on}
 use Rattle.pm_reader.proofs.state.ReaderState.get_cached_tile.Goals as goal
 
 pub returns-in-Ok-clause-from : goal.returns-in-Ok-clause-from

@@ -1,4 +1,4 @@
-use Rattle.pm_reader.proofs.MetadataText.{told_text}
+use Rattle.pm_reader.proofs.MetadataLemmas.{told_text}
 use Rattle.pm_reader.proofs.state.ReaderState.get_metadata.Goals as goal
 
 pub returns-in-Ok-clause-answer : goal.returns-in-Ok-clause-answer

@@ -1,4 +1,4 @@
-use Rattle.pm_reader.proofs.Plain.{plain_answer, plain_causes}
+use Rattle.pm_reader.proofs.PlainLemmas.{plain_answer, plain_causes}
 use Rattle.pm_reader.proofs.state.ReaderState.get_tile_decompressed.Goals as goal
 
 pub returns-clause-answer : goal.returns-clause-answer

@@ -1,4 +1,4 @@
-use Rattle.pm_reader.proofs.OpeningSteps.{refused_within, still_opens, told_front, told_opens, told_refused}
+use Rattle.pm_reader.proofs.OpeningLemmas.{refused_within, still_opens, told_front, told_opens, told_refused}
 use Rattle.pm_reader.proofs.state.ReaderState.open.Goals as goal
 
 pub returns-in_err-header-clause-answer : goal.returns-in_err-header-clause-answer

@@ -1,5 +1,5 @@
 use Rattle.std.proofs.Common.{◌≡◌, true, false, Ok, refl, sym, ap, ◌∙◌, arith}
-use Rattle.pm_reader.proofs.Followed.{at_leaf_next, at_leaf_past, in_leaf_last, in_none, in_tile}
+use Rattle.pm_reader.proofs.ViewLookUpLemmas.{at_leaf_next, at_leaf_past, in_leaf_last, in_none, in_tile}
 use Rattle.pm_reader.proofs.view.follow.+follow.Goals as goal
 
 pub returns-in_default-clause-answer : goal.returns-in_default-clause-answer

@@ -1,8 +1,8 @@
 use Rattle.std.proofs.Common.{Err, ap, sym, ◌∙◌, arith, length-drop}
 use Rattle.pm_format.proofs.DecodingLemmas.{too_many, uncounted}
 use Rattle.pm_reader.specs.Rows.{found_in}
-use Rattle.pm_reader.proofs.RowReads.{refused_as}
-use Rattle.pm_reader.proofs.RowColumns.{dir_rows, no_ids, no_lengths, no_runs}
+use Rattle.pm_reader.proofs.RowReadLemmas.{refused_as}
+use Rattle.pm_reader.proofs.RowColumnLemmas.{dir_rows, no_ids, no_lengths, no_runs}
 use Rattle.pm_reader.proofs.view.scan.find_in.Goals as goal
 
 pub returns-in_err-count-clause-answer : goal.returns-in_err-count-clause-answer

@@ -1,5 +1,5 @@
 use Rattle.std.proofs.Common.{◌^◌}
-use Rattle.pm_reader.proofs.RowReads.{Skipping}
+use Rattle.pm_reader.proofs.RowReadLemmas.{Skipping}
 use Rattle.pm_reader.proofs.view.scan.skip_u32s.Given as goal
 
 abbrev pub invariant-loop-i : goal.invariant-loop-i

@@ -1,4 +1,4 @@
-use Rattle.pm_reader.proofs.RowReads.{Walking}
+use Rattle.pm_reader.proofs.RowReadLemmas.{Walking}
 use Rattle.pm_reader.proofs.view.scan.walk.Given as goal
 
 abbrev pub invariant-loop-i : goal.invariant-loop-i

@@ -1,4 +1,4 @@
-use Rattle.pm_reader.proofs.Going.{Going}
+use Rattle.pm_reader.proofs.GoingLemmas.{Going}
 use Rattle.pm_reader.proofs.walk.WalkState.next_item.Given as goal
 
 abbrev pub invariant-loop-entry : goal.invariant-loop-entry

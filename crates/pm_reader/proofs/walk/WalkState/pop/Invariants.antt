@@ -1,5 +1,5 @@
 use Rattle.std.proofs.Common.{length}
-use Rattle.pm_reader.proofs.Popping.{SameQueue}
+use Rattle.pm_reader.proofs.PoppingLemmas.{SameQueue}
 use Rattle.pm_reader.proofs.walk.WalkState.pop.Given as goal
 
 abbrev pub invariant-loop-self : goal.invariant-loop-self

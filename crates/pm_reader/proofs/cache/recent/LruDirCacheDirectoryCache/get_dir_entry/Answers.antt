@@ -1,4 +1,4 @@
-use Rattle.pm_reader.proofs.Recent.{same_after_use}
+use Rattle.pm_reader.proofs.RecentLemmas.{same_after_use}
 use Rattle.pm_reader.proofs.cache.recent.LruDirCacheDirectoryCache.get_dir_entry.Goals as goal
 
 pub returns-clause-same : goal.returns-clause-same

@@ -1,5 +1,5 @@
 use Rattle.std.proofs.Common.{◌∙◌}
-use Rattle.pm_reader.proofs.Recent.{fetched_put}
+use Rattle.pm_reader.proofs.RecentLemmas.{fetched_put}
 use Rattle.pm_reader.proofs.cache.recent.LruDirCacheDirectoryCache.get_dir_entry_or_insert.Goals as goal
 
 pub returns-in_ok-directory-in-NotCached-clause-leaves : goal.returns-in_ok-directory-in-NotCached-clause-leaves

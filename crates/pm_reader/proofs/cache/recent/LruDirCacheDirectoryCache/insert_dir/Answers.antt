@@ -1,4 +1,4 @@
-use Rattle.pm_reader.proofs.Recent.{adds_put, held_put}
+use Rattle.pm_reader.proofs.RecentLemmas.{adds_put, held_put}
 use Rattle.pm_reader.proofs.cache.recent.LruDirCacheDirectoryCache.insert_dir.Goals as goal
 
 pub returns-in-Ok-clause-held : goal.returns-in-Ok-clause-held

@@ -9,7 +9,7 @@ use Rattle.pm_reader.specs.Walk.{walk, walk_opened}
 use Rattle.pm_reader.specs.WalkSteps.{left_of, queue_of}
 use Rattle.pm_reader.specs.declared.state.ReaderState.{ReaderState}
 use Rattle.pm_reader.specs.declared.walk.WalkState.{WalkState}
-use Rattle.pm_reader.proofs.QueuedLevels.{queue_is_walk}
+use Rattle.pm_reader.proofs.QueueLemmas.{queue_is_walk}
 
 pub begins : (b : List ℕ) (s : ReaderState) (w : WalkState) (budget : ℕ) → OpensAs b s → queue_of w ≡ s.root → w.header ≡ s.header → w.budget ≡ budget → w.ended ≡ false → left_of b w ≡ walk b budget
 begins b s w budget opens root header units goes =

@@ -10,7 +10,7 @@ use Rattle.pm_reader.specs.Queue.{queued}
 use Rattle.pm_reader.specs.Walk.{Item}
 use Rattle.pm_reader.specs.WalkSteps.{Enters, IsRefused, Yields, left_of, queue_of}
 use Rattle.pm_reader.specs.declared.walk.WalkState.{WalkState}
-use Rattle.pm_reader.proofs.QueuedLevels.{queued_end, queued_leaf, queued_none, queued_tile}
+use Rattle.pm_reader.proofs.QueueLemmas.{queued_end, queued_leaf, queued_none, queued_tile}
 
 -- a state from which the first entry was taken
 pub record Took (s t : WalkState) (e : Entry) : Type 0 where

@@ -14,7 +14,7 @@ use Rattle.pm_format.specs.declared.error.PmtError.TheVariants as errors
 use Rattle.pm_format.specs.declared.error.ReadCause.TheVariants as causes
 use Rattle.pm_format.specs.declared.header.Header.{Header}
 use Rattle.pm_reader.proofs.LevelLemmas.{scan_is_in, single_is}
-use Rattle.pm_reader.proofs.QueuedLevels.{is_some}
+use Rattle.pm_reader.proofs.QueueLemmas.{is_some}
 
 -- what holds of each entry holds of one of them
 each_of : (P : Entry → ℕ → Type 0) (low limit : ℕ) (es : List Entry) (e : Entry) → EachEntry P low limit es → Contains es e → (end : ℕ) × P e end

@@ -17,7 +17,7 @@ use Rattle.pm_format.proofs.ArchiveOpens.{front_length}
 use Rattle.pm_reader.specs.Archives.{UsesOneLength}
 use Rattle.pm_reader.specs.Levels.{HasOneLength, IsLeafEntry, entries_below, level}
 use Rattle.pm_reader.proofs.LevelLemmas.{single_is}
-use Rattle.pm_reader.proofs.QueuedLevels.{no_level}
+use Rattle.pm_reader.proofs.QueueLemmas.{no_level}
 
 -- a leaf is read from the bytes of its range
 ranged : (test : Bool) (bytes x : List ℕ) → (if test then Some bytes else None) ≡ Some x → x ≡ bytes

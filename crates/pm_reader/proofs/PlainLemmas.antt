@@ -6,7 +6,7 @@ use Rattle.pm_format.specs.declared.compression.Compression.TheVariants as compr
 use Rattle.pm_format.specs.declared.error.PmtError.{PmtError}
 use Rattle.pm_format.specs.declared.error.PmtError.TheVariants as errors
 use Rattle.pm_reader.specs.Versions.{GivesUnmodified, PlainCauses, UnmodifiedCauses, plain}
-use Rattle.pm_reader.proofs.Following.{gives_refused}
+use Rattle.pm_reader.proofs.FollowingLemmas.{gives_refused}
 
 plain_gives : (label : Compression) (tile : Result (Option (List ℕ)) PmtError) (r : Result (Option (List ℕ)) PmtError) → GivesUnmodified tile tile r → GivesUnmodified tile (plain label tile) (plain label r)
 plain_gives compression.None tile r h = h

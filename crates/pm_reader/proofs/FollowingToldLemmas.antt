@@ -12,7 +12,7 @@ use Rattle.pm_reader.specs.Levels.{IsAtLevel, IsLeafEntry, IsTrusted}
 use Rattle.pm_reader.specs.Path.{entry_in_leaf}
 use Rattle.pm_reader.specs.Reads.{GrewBetween}
 use Rattle.pm_reader.specs.Way.{Follows}
-use Rattle.pm_reader.proofs.Following.{follows_none, follows_on, follows_refused, leaf_entry}
+use Rattle.pm_reader.proofs.FollowingLemmas.{follows_none, follows_on, follows_refused, leaf_entry}
 
 pub is_tile : (leaf : Bool) (run : ℕ) → (IsTrue leaf ↔ (run ≡ 0)) → leaf ≡ false → nat_eq run 0 ≡ false
 is_tile leaf run w n = grind (arith, nat_tests)

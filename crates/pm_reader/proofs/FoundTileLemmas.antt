@@ -11,7 +11,7 @@ use Rattle.pm_reader.specs.Answers.{Gives, range_read, tile_of}
 use Rattle.pm_reader.specs.Caches.{Held}
 use Rattle.pm_reader.specs.Levels.{IsAtLevel, IsTrusted, level}
 use Rattle.pm_reader.specs.Way.{Finds, Follows}
-use Rattle.pm_reader.proofs.Following.{gives_refused}
+use Rattle.pm_reader.proofs.FollowingLemmas.{gives_refused}
 use Rattle.pm_reader.proofs.LevelLemmas.{scan_is_in}
 
 -- the root is level 0
