@@ -1,5 +1,6 @@
 -- One call of the iterator of entries.
-use Rattle.std.specs.Prelude.{◌≡◌, ℕ, ◌≤◌, true, List, Option, IfSome, OnErr}
+use Rattle.std.specs.Prelude.{◌≡◌, ℕ, true, List, Option, IfSome, OnErr}
+use Rattle.pm_reader.specs.Reads.{ReadsOnly}
 use Rattle.pm_reader.specs.Walk.{Item}
 use Rattle.pm_reader.specs.WalkSteps.{Spends, WalkCauses, Yields, budget_of, has_ended, left_of}
 use Rattle.pm_reader.specs.declared.entries.Entries.{Entries}
@@ -12,7 +13,4 @@ pub record Walks {B C V : Type 0} (tells : B → Option (List ℕ)) (texts : B �
   pub causes : WalkCauses (failed s.backend.now) (failed t.backend.now) item
   pub spends : Spends (budget_of s.state) (budget_of t.state) (count s.backend.now) (count t.backend.now) item
   pub ends : IfSome item (λ x. OnErr x (has_ended t.state ≡ true))
-  pub told : tells t.backend.now ≡ tells s.backend.now
-  pub versions : texts t.backend.now ≡ texts s.backend.now
-  pub faults : failed s.backend.now ≤ failed t.backend.now
-  pub calm : steady s.backend.now → steady t.backend.now × (failed t.backend.now ≡ failed s.backend.now)
+  pub kept : ReadsOnly tells texts failed steady s.backend.now t.backend.now

@@ -5,7 +5,7 @@ ghost use Rattle.pm_reader.specs.Answers.{Gives, LookUpCauses};
 ghost use Rattle.pm_reader.specs.Levels.{IsAtLevel, IsLeafEntry, IsTrusted};
 ghost use Rattle.pm_reader.specs.Path.{entry_in_leaf};
 ghost use Rattle.pm_reader.specs.Way.{Follows};
-ghost use Rattle.pm_reader.specs.Reads.{GrewBetween, reads_done};
+ghost use Rattle.pm_reader.specs.Reads.{GrewBetween, ReadsOnly, reads_done};
 
 use crate::parts::read_directory_at;
 use crate::{DirCacheResult, DirectoryCache, ReaderState};
@@ -22,11 +22,8 @@ pub(crate) fn read_leaf<B: Backend>(
 ) -> PmtResult<Directory>
     ensures answer { IfSome (B.told backend.old) (λ b. Gives (leaf_of header.now b leaf) result) }
     ensures causes { LookUpCauses (B.faults backend.old) (B.faults backend.new) result }
-    ensures told { B.told backend.new ≡ B.told backend.old }
-    ensures versions { B.versions backend.new ≡ B.versions backend.old }
-    ensures faults { B.faults backend.old ≤ B.faults backend.new }
+    ensures kept { ReadsOnly B.told B.versions B.faults B.steady backend.old backend.new }
     ensures reads { GrewBetween (B.reads backend.old) (B.reads backend.new) (reads_done result) 1 }
-    ensures calm { B.steady backend.old → B.steady backend.new × (B.faults backend.new ≡ B.faults backend.old) }
 {
     read_directory_at(alloc, backend, header, leaf.offset(), leaf.length())
 }
@@ -46,11 +43,8 @@ impl ReaderState {
             → IsLeafEntry self.now.header b self.now.root leaf → IsTrusted self.now.header b self.now.root (C.held cache.new) (C.idle cache.new)) }
         ensures idle { C.idle cache.old → C.idle cache.new }
         ensures causes { LookUpCauses (B.faults backend.old) (B.faults backend.new) result }
-        ensures told { B.told backend.new ≡ B.told backend.old }
-        ensures versions { B.versions backend.new ≡ B.versions backend.old }
-        ensures faults { B.faults backend.old ≤ B.faults backend.new }
+        ensures kept { ReadsOnly B.told B.versions B.faults B.steady backend.old backend.new }
         ensures reads { GrewBetween (B.reads backend.old) (B.reads backend.new) 0 1 }
-        ensures calm { B.steady backend.old → B.steady backend.new × (B.faults backend.new ≡ B.faults backend.old) }
     {
         let Some(at) = self.header.leaf_offset.checked_add(leaf.offset()) else {
             return Err(PmtError::Reading(ReadCause::PastEnd));
@@ -82,11 +76,8 @@ impl ReaderState {
             → Follows self.now.header b self.now.root tile_id left found (B.reads backend.old) (B.reads backend.new) (C.held cache.new) (C.idle cache.new) result) }
         ensures idle { C.idle cache.old → C.idle cache.new }
         ensures causes { LookUpCauses (B.faults backend.old) (B.faults backend.new) result }
-        ensures told { B.told backend.new ≡ B.told backend.old }
-        ensures versions { B.versions backend.new ≡ B.versions backend.old }
-        ensures faults { B.faults backend.old ≤ B.faults backend.new }
+        ensures kept { ReadsOnly B.told B.versions B.faults B.steady backend.old backend.new }
         ensures reads { GrewBetween (B.reads backend.old) (B.reads backend.new) 0 left }
-        ensures calm { B.steady backend.old → B.steady backend.new × (B.faults backend.new ≡ B.faults backend.old) }
     {
         let Some(entry) = found else {
             return Ok(None);

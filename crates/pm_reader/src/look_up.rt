@@ -1,11 +1,11 @@
 // Look-ups of tiles.
-ghost use Rattle.std.specs.Prelude.{◌≡◌, ◌≤◌, IfSome};
+ghost use Rattle.std.specs.Prelude.{◌≡◌, IfSome};
 ghost use Rattle.pm_format.specs.LookUp.{archive_tile};
 ghost use Rattle.pm_reader.specs.Answers.{FoundTextAt, Gives, LookUpCauses, contents_of, tile_of};
 ghost use Rattle.pm_reader.specs.Archives.{IsCacheable, ReadsByHops};
 ghost use Rattle.pm_reader.specs.Levels.{IsTrusted};
 ghost use Rattle.pm_reader.specs.Opening.{IsOpen};
-ghost use Rattle.pm_reader.specs.Reads.{GrewBetween, reads_for};
+ghost use Rattle.pm_reader.specs.Reads.{GrewBetween, ReadsOnly, reads_for};
 ghost use Rattle.pm_reader.specs.ReadsFrom.{ReadsFrom};
 ghost use Rattle.pm_reader.specs.Way.{Finds};
 
@@ -31,11 +31,8 @@ impl ReaderState {
         ensures text { FoundTextAt (B.versions backend.new) (B.reads backend.new) result }
         ensures idle { C.idle cache.old → C.idle cache.new }
         ensures causes { LookUpCauses (B.faults backend.old) (B.faults backend.new) result }
-        ensures told { B.told backend.new ≡ B.told backend.old }
-        ensures versions { B.versions backend.new ≡ B.versions backend.old }
-        ensures faults { B.faults backend.old ≤ B.faults backend.new }
+        ensures kept { ReadsOnly B.told B.versions B.faults B.steady backend.old backend.new }
         ensures reads { GrewBetween (B.reads backend.old) (B.reads backend.new) (reads_for (tile_of result)) 7 }
-        ensures calm { B.steady backend.old → B.steady backend.new × (B.faults backend.new ≡ B.faults backend.old) }
     {
         let found = self.root.find_tile_id(tile_id).copied();
         let reached = self.follow(backend, cache, found, tile_id, MAX_LEAVES)?;
@@ -69,10 +66,7 @@ impl ReaderState {
         ensures causes { LookUpCauses (B.faults backend.old) (B.faults backend.new) result }
         ensures hops { IfSome (B.told backend.old) (λ b. ReadsByHops b tile_id (B.reads backend.old) (B.reads backend.new)) }
         ensures reads { GrewBetween (B.reads backend.old) (B.reads backend.new) (reads_for result) 7 }
-        ensures told { B.told backend.new ≡ B.told backend.old }
-        ensures versions { B.versions backend.new ≡ B.versions backend.old }
-        ensures faults { B.faults backend.old ≤ B.faults backend.new }
-        ensures calm { B.steady backend.old → B.steady backend.new × (B.faults backend.new ≡ B.faults backend.old) }
+        ensures kept { ReadsOnly B.told B.versions B.faults B.steady backend.old backend.new }
     {
         let mut cache = NoCache;
         match self.find_tile(backend, &mut cache, tile_id) {
@@ -95,10 +89,7 @@ impl ReaderState {
         ensures idle { C.idle cache.old → C.idle cache.new }
         ensures causes { LookUpCauses (B.faults backend.old) (B.faults backend.new) result }
         ensures reads { GrewBetween (B.reads backend.old) (B.reads backend.new) (reads_for result) 7 }
-        ensures told { B.told backend.new ≡ B.told backend.old }
-        ensures versions { B.versions backend.new ≡ B.versions backend.old }
-        ensures faults { B.faults backend.old ≤ B.faults backend.new }
-        ensures calm { B.steady backend.old → B.steady backend.new × (B.faults backend.new ≡ B.faults backend.old) }
+        ensures kept { ReadsOnly B.told B.versions B.faults B.steady backend.old backend.new }
     {
         match self.find_tile(backend, cache, tile_id) {
             Ok(found) => Ok(contents(found)),

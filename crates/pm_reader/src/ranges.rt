@@ -1,8 +1,8 @@
 // Ranges of a backend's bytes.
-ghost use Rattle.std.specs.Prelude.{◌≡◌, ◌≤◌, ◌<◌, ◌+◌, ◌^◌, IfSome, IfOk, IsErrOf};
+ghost use Rattle.std.specs.Prelude.{◌≡◌, ◌<◌, ◌+◌, ◌^◌, IfSome, IfOk, IsErrOf};
 ghost use Rattle.std.specs.Option.{SomeIff};
 ghost use Rattle.pm_reader.specs.Answers.{Gives, HasTextAt, LookUpCauses, bytes_of, range_read};
-ghost use Rattle.pm_reader.specs.Reads.{GrewBetween, reads_done};
+ghost use Rattle.pm_reader.specs.Reads.{GrewBetween, ReadsOnly, reads_done};
 
 use pm_format::{Backend, BackendResponse, PmtError, PmtResult, ReadCause, ReadFault};
 use std::alloc::Global;
@@ -19,11 +19,8 @@ pub(crate) fn read_range<B: Backend>(
     ensures causes { LookUpCauses (B.faults backend.old) (B.faults backend.new) result }
     ensures plain { IsErrOf result PmtError.InvalidEntry → ⊥ }
     ensures version { IfOk result (HasTextAt (B.versions backend.old) (B.reads backend.new)) }
-    ensures told { B.told backend.new ≡ B.told backend.old }
-    ensures versions { B.versions backend.new ≡ B.versions backend.old }
-    ensures faults { B.faults backend.old ≤ B.faults backend.new }
+    ensures kept { ReadsOnly B.told B.versions B.faults B.steady backend.old backend.new }
     ensures reads { GrewBetween (B.reads backend.old) (B.reads backend.new) (reads_done result) 1 }
-    ensures calm { B.steady backend.old → B.steady backend.new × (B.faults backend.new ≡ B.faults backend.old) }
 {
     let Some(at) = place_of(base, offset, length) else {
         return Err(PmtError::Reading(ReadCause::PastEnd));

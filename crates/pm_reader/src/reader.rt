@@ -1,5 +1,5 @@
 // A reader that borrows its backend, and holds a cache of directories.
-ghost use Rattle.std.specs.Prelude.{◌≡◌, ◌≢◌, ◌<◌, ◌≤◌, ◌-◌, ◌^◌, ℕ, None, Err, false, IfSome, IfOk, IfErr};
+ghost use Rattle.std.specs.Prelude.{◌≡◌, ◌≢◌, ◌<◌, ◌-◌, ◌^◌, ℕ, None, Err, false, IfSome, IfOk, IfErr};
 ghost use Rattle.tile_ids.specs.Counts.{Grew};
 ghost use Rattle.pm_format.specs.LookUp.{archive_tile};
 ghost use Rattle.pm_format.specs.declared.error.PmtError.TheVariants as errors;
@@ -7,7 +7,7 @@ ghost use Rattle.pm_format.specs.declared.error.ReadCause.TheVariants as causes;
 ghost use Rattle.pm_reader.specs.Answers.{Gives, LookUpCauses};
 ghost use Rattle.pm_reader.specs.Archives.{IsCacheable, ReadsByHops};
 ghost use Rattle.pm_reader.specs.Opening.{HasVersionOf, IsOpen, IsOpenFailure, OpenAnswers, header_of, root_of, version_of};
-ghost use Rattle.pm_reader.specs.Reads.{GrewBetween, reads_for};
+ghost use Rattle.pm_reader.specs.Reads.{GrewBetween, ReadsOnly, reads_for};
 ghost use Rattle.pm_reader.specs.Tied.{IsTied};
 ghost use Rattle.pm_reader.specs.Walk.{walk};
 ghost use Rattle.pm_reader.specs.WalkSteps.{budget_of, has_ended, left_of};
@@ -53,11 +53,8 @@ impl<'a, B: Backend> PmTilesReader<'a, B, NoCache> {
         ensures tied { IfOk result (λ r. IsTied B.told ⟦<NoCache as DirectoryCache>⟧.held ⟦<NoCache as DirectoryCache>⟧.idle r) }
         ensures open { IfOk result (λ r. IsOpen (B.told backend.old) r.state) }
         ensures version { IfOk result (λ r. HasVersionOf (B.versions r.backend.now) (B.reads r.backend.now) r.state) }
-        ensures told { IfOk result (λ r. B.told r.backend.now ≡ B.told backend.old) }
-        ensures versions { IfOk result (λ r. B.versions r.backend.now ≡ B.versions backend.old) }
-        ensures faults { IfOk result (λ r. B.faults backend.old ≤ B.faults r.backend.now) }
+        ensures kept { IfOk result (λ r. ReadsOnly B.told B.versions B.faults B.steady backend.old r.backend.now) }
         ensures reads { IfOk result (λ r. Grew (B.reads backend.old) (B.reads r.backend.now) 1) }
-        ensures calm { IfOk result (λ r. B.steady backend.old → B.steady r.backend.now × (B.faults r.backend.now ≡ B.faults backend.old)) }
     {
         let state = ReaderState::open(alloc, backend)?;
         Ok(PmTilesReader {
@@ -102,11 +99,8 @@ impl<'a, B: Backend, C: DirectoryCache> PmTilesReader<'a, B, C> {
         ensures open { IfOk result (λ r. IsOpen (B.told backend.old) r.state) }
         ensures cache { IfOk result (λ r. r.cache ≡ cache) }
         ensures version { IfOk result (λ r. HasVersionOf (B.versions r.backend.now) (B.reads r.backend.now) r.state) }
-        ensures told { IfOk result (λ r. B.told r.backend.now ≡ B.told backend.old) }
-        ensures versions { IfOk result (λ r. B.versions r.backend.now ≡ B.versions backend.old) }
-        ensures faults { IfOk result (λ r. B.faults backend.old ≤ B.faults r.backend.now) }
+        ensures kept { IfOk result (λ r. ReadsOnly B.told B.versions B.faults B.steady backend.old r.backend.now) }
         ensures reads { IfOk result (λ r. Grew (B.reads backend.old) (B.reads r.backend.now) 1) }
-        ensures calm { IfOk result (λ r. B.steady backend.old → B.steady r.backend.now × (B.faults r.backend.now ≡ B.faults backend.old)) }
     {
         let opened = ReaderState::open(alloc, backend)?;
         Ok(PmTilesReader {
@@ -140,11 +134,8 @@ impl<'a, B: Backend, C: DirectoryCache> PmTilesReader<'a, B, C> {
         ensures hops { IfSome (B.told self.old.backend.now) (λ b. IsCacheable b (C.idle self.old.cache) → ReadsByHops b tile_id (B.reads self.old.backend.now) (B.reads self.new.backend.now)) }
         ensures idle { C.idle self.old.cache → C.idle self.new.cache }
         ensures causes { LookUpCauses (B.faults self.old.backend.now) (B.faults self.new.backend.now) result }
-        ensures told { B.told self.new.backend.now ≡ B.told self.old.backend.now }
-        ensures versions { B.versions self.new.backend.now ≡ B.versions self.old.backend.now }
-        ensures faults { B.faults self.old.backend.now ≤ B.faults self.new.backend.now }
+        ensures kept { ReadsOnly B.told B.versions B.faults B.steady self.old.backend.now self.new.backend.now }
         ensures reads { GrewBetween (B.reads self.old.backend.now) (B.reads self.new.backend.now) (reads_for result) 7 }
-        ensures calm { B.steady self.old.backend.now → B.steady self.new.backend.now × (B.faults self.new.backend.now ≡ B.faults self.old.backend.now) }
     {
         self.state
             .get_cached_tile(self.backend, &mut self.cache, tile_id)
@@ -162,11 +153,8 @@ impl<'a, B: Backend, C: DirectoryCache> PmTilesReader<'a, B, C> {
         ensures causes { UnmodifiedCauses (B.faults self.old.backend.now) (B.faults self.new.backend.now) result }
         ensures hops { IfSome (B.told self.old.backend.now) (λ b. IsCacheable b (C.idle self.old.cache) → ReadsByHops b tile_id (B.reads self.old.backend.now) (B.reads self.new.backend.now)) }
         ensures idle { C.idle self.old.cache → C.idle self.new.cache }
-        ensures told { B.told self.new.backend.now ≡ B.told self.old.backend.now }
-        ensures versions { B.versions self.new.backend.now ≡ B.versions self.old.backend.now }
-        ensures faults { B.faults self.old.backend.now ≤ B.faults self.new.backend.now }
+        ensures kept { ReadsOnly B.told B.versions B.faults B.steady self.old.backend.now self.new.backend.now }
         ensures reads { GrewBetween (B.reads self.old.backend.now) (B.reads self.new.backend.now) (reads_for result) 7 }
-        ensures calm { B.steady self.old.backend.now → B.steady self.new.backend.now × (B.faults self.new.backend.now ≡ B.faults self.old.backend.now) }
     {
         self.state
             .find_unmodified(self.backend, &mut self.cache, tile_id)
@@ -184,11 +172,8 @@ impl<'a, B: Backend, C: DirectoryCache> PmTilesReader<'a, B, C> {
         ensures causes { PlainCauses (header_of self.new.state).tile_compression (B.faults self.old.backend.now) (B.faults self.new.backend.now) result }
         ensures hops { IfSome (B.told self.old.backend.now) (λ b. IsCacheable b (C.idle self.old.cache) → ReadsByHops b tile_id (B.reads self.old.backend.now) (B.reads self.new.backend.now)) }
         ensures idle { C.idle self.old.cache → C.idle self.new.cache }
-        ensures told { B.told self.new.backend.now ≡ B.told self.old.backend.now }
-        ensures versions { B.versions self.new.backend.now ≡ B.versions self.old.backend.now }
-        ensures faults { B.faults self.old.backend.now ≤ B.faults self.new.backend.now }
+        ensures kept { ReadsOnly B.told B.versions B.faults B.steady self.old.backend.now self.new.backend.now }
         ensures reads { GrewBetween (B.reads self.old.backend.now) (B.reads self.new.backend.now) (reads_for result) 7 }
-        ensures calm { B.steady self.old.backend.now → B.steady self.new.backend.now × (B.faults self.new.backend.now ≡ B.faults self.old.backend.now) }
     {
         let found = self.get_tile(tile_id);
         require_plain(self.state.header.tile_compression, found)

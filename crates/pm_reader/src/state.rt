@@ -1,6 +1,7 @@
 // The state of a reader: all that it owns, beside the backend that it borrows.
-ghost use Rattle.std.specs.Prelude.{◌≡◌, ◌≤◌, IfSome, IfOk, take};
+ghost use Rattle.std.specs.Prelude.{◌≡◌, IfSome, IfOk, take};
 ghost use Rattle.tile_ids.specs.Counts.{Grew};
+ghost use Rattle.pm_reader.specs.Reads.{ReadsOnly};
 ghost use Rattle.pm_reader.specs.Opening.{FrontCauses, HasVersionOf, IsOpen, OpenAnswers, OpenCauses, header_of, root_of};
 
 use crate::front::open_front;
@@ -33,11 +34,8 @@ impl ReaderState {
         ensures open { IfOk result (λ s. IsOpen (B.told backend.new) s) }
         ensures causes { OpenCauses (B.faults backend.old) (B.faults backend.new) result }
         ensures version { IfOk result (λ s. HasVersionOf (B.versions backend.new) (B.reads backend.new) s) }
-        ensures told { B.told backend.new ≡ B.told backend.old }
-        ensures versions { B.versions backend.new ≡ B.versions backend.old }
-        ensures faults { B.faults backend.old ≤ B.faults backend.new }
+        ensures kept { ReadsOnly B.told B.versions B.faults B.steady backend.old backend.new }
         ensures reads { Grew (B.reads backend.old) (B.reads backend.new) 1 }
-        ensures calm { B.steady backend.old → B.steady backend.new × (B.faults backend.new ≡ B.faults backend.old) }
     {
         let response = read_front(alloc, backend)?;
         let BackendResponse {
@@ -73,11 +71,8 @@ fn read_front<B: Backend>(alloc: Global, backend: &mut B) -> PmtResult<BackendRe
     ensures answer { IfSome (B.told backend.old) (λ b. IfOk result (λ r. r.bytes ≡ take 16384 b)) }
     ensures causes { FrontCauses (B.faults backend.old) (B.faults backend.new) result }
     ensures version { IfSome (B.versions backend.old) (λ text. IfOk result (λ r. r.data_version_string ≡ text (B.reads backend.new))) }
-    ensures told { B.told backend.new ≡ B.told backend.old }
-    ensures versions { B.versions backend.new ≡ B.versions backend.old }
-    ensures faults { B.faults backend.old ≤ B.faults backend.new }
+    ensures kept { ReadsOnly B.told B.versions B.faults B.steady backend.old backend.new }
     ensures reads { Grew (B.reads backend.old) (B.reads backend.new) 1 }
-    ensures calm { B.steady backend.old → B.steady backend.new × (B.faults backend.new ≡ B.faults backend.old) }
 {
     match backend.read(alloc, 0, FRONT as u64) {
         Ok(response) => Ok(response),

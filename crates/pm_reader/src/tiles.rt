@@ -1,9 +1,9 @@
 // Tiles by the state of a reader, over a backend that isn't borrowed any longer than the call.
-ghost use Rattle.std.specs.Prelude.{◌≡◌, ◌≤◌, IfSome};
+ghost use Rattle.std.specs.Prelude.{◌≡◌, IfSome};
 ghost use Rattle.pm_format.specs.LookUp.{archive_tile};
 ghost use Rattle.pm_reader.specs.Archives.{ReadsByHops};
 ghost use Rattle.pm_reader.specs.Opening.{IsOpen, header_of, version_of};
-ghost use Rattle.pm_reader.specs.Reads.{GrewBetween, reads_for};
+ghost use Rattle.pm_reader.specs.Reads.{GrewBetween, ReadsOnly, reads_for};
 ghost use Rattle.pm_reader.specs.Versions.{ComparesTexts, GivesUnmodified, PlainCauses, UnmodifiedCauses, plain};
 
 use crate::{NoCache, ReaderState};
@@ -22,10 +22,7 @@ impl ReaderState {
         ensures causes { UnmodifiedCauses (B.faults backend.old) (B.faults backend.new) result }
         ensures hops { IfSome (B.told backend.old) (λ b. ReadsByHops b tile_id (B.reads backend.old) (B.reads backend.new)) }
         ensures reads { GrewBetween (B.reads backend.old) (B.reads backend.new) (reads_for result) 7 }
-        ensures told { B.told backend.new ≡ B.told backend.old }
-        ensures versions { B.versions backend.new ≡ B.versions backend.old }
-        ensures faults { B.faults backend.old ≤ B.faults backend.new }
-        ensures calm { B.steady backend.old → B.steady backend.new × (B.faults backend.new ≡ B.faults backend.old) }
+        ensures kept { ReadsOnly B.told B.versions B.faults B.steady backend.old backend.new }
     {
         let mut cache = NoCache;
         self.find_unmodified(backend, &mut cache, tile_id)
@@ -44,10 +41,7 @@ impl ReaderState {
         ensures causes { PlainCauses (header_of self.now).tile_compression (B.faults backend.old) (B.faults backend.new) result }
         ensures hops { IfSome (B.told backend.old) (λ b. ReadsByHops b tile_id (B.reads backend.old) (B.reads backend.new)) }
         ensures reads { GrewBetween (B.reads backend.old) (B.reads backend.new) (reads_for result) 7 }
-        ensures told { B.told backend.new ≡ B.told backend.old }
-        ensures versions { B.versions backend.new ≡ B.versions backend.old }
-        ensures faults { B.faults backend.old ≤ B.faults backend.new }
-        ensures calm { B.steady backend.old → B.steady backend.new × (B.faults backend.new ≡ B.faults backend.old) }
+        ensures kept { ReadsOnly B.told B.versions B.faults B.steady backend.old backend.new }
     {
         let found = self.get_tile(backend, tile_id);
         require_plain(self.header.tile_compression, found)

@@ -1,8 +1,8 @@
 // Tiles whose version text is compared with that of the opening.
-ghost use Rattle.std.specs.Prelude.{◌≡◌, ◌≤◌, IfSome};
+ghost use Rattle.std.specs.Prelude.{◌≡◌, IfSome};
 ghost use Rattle.pm_reader.specs.Levels.{IsTrusted};
 ghost use Rattle.pm_reader.specs.Opening.{version_of};
-ghost use Rattle.pm_reader.specs.Reads.{GrewBetween, reads_for};
+ghost use Rattle.pm_reader.specs.Reads.{GrewBetween, ReadsOnly, reads_for};
 ghost use Rattle.pm_reader.specs.Versions.{ComparesTexts, IsCompared, UnmodifiedCauses};
 ghost use Rattle.pm_reader.specs.Way.{FindsUnmodified};
 
@@ -44,11 +44,8 @@ impl ReaderState {
         ensures text { ComparesTexts (version_of self.now) (B.versions backend.new) (B.reads backend.new) result }
         ensures idle { C.idle cache.old → C.idle cache.new }
         ensures causes { UnmodifiedCauses (B.faults backend.old) (B.faults backend.new) result }
-        ensures told { B.told backend.new ≡ B.told backend.old }
-        ensures versions { B.versions backend.new ≡ B.versions backend.old }
-        ensures faults { B.faults backend.old ≤ B.faults backend.new }
+        ensures kept { ReadsOnly B.told B.versions B.faults B.steady backend.old backend.new }
         ensures reads { GrewBetween (B.reads backend.old) (B.reads backend.new) (reads_for result) 7 }
-        ensures calm { B.steady backend.old → B.steady backend.new × (B.faults backend.new ≡ B.faults backend.old) }
     {
         match self.find_tile(backend, cache, tile_id) {
             Ok(None) => Ok(None),

@@ -4,7 +4,7 @@ ghost use Rattle.std.specs.Option.{option_to_list};
 ghost use Rattle.pm_format.specs.LookUp.{leaf_of};
 ghost use Rattle.pm_reader.specs.Answers.{Gives, LookUpCauses};
 ghost use Rattle.pm_reader.specs.Opening.{OpensAs};
-ghost use Rattle.pm_reader.specs.Reads.{GrewBetween, reads_done};
+ghost use Rattle.pm_reader.specs.Reads.{GrewBetween, ReadsOnly, reads_done};
 ghost use Rattle.pm_reader.specs.Walk.{walk};
 ghost use Rattle.pm_reader.specs.WalkSteps.{Enters, IsRefused, Spends, WalkCauses, Yields, budget_of, has_ended, left_at_most, left_of, queue_of};
 
@@ -79,11 +79,8 @@ impl WalkState {
         ensures budget { self.new.budget + 1 ≡ self.old.budget }
         ensures ended { self.new.ended ≡ self.old.ended }
         ensures causes { LookUpCauses (B.faults backend.old) (B.faults backend.new) result }
-        ensures told { B.told backend.new ≡ B.told backend.old }
-        ensures versions { B.versions backend.new ≡ B.versions backend.old }
-        ensures faults { B.faults backend.old ≤ B.faults backend.new }
+        ensures kept { ReadsOnly B.told B.versions B.faults B.steady backend.old backend.new }
         ensures reads { GrewBetween (B.reads backend.old) (B.reads backend.new) (reads_done result) 1 }
-        ensures calm { B.steady backend.old → B.steady backend.new × (B.faults backend.new ≡ B.faults backend.old) }
     {
         self.budget -= 1;
         let directory = read_leaf(self.alloc, backend, &self.header, leaf)?;
@@ -115,10 +112,7 @@ impl WalkState {
         ensures ends { IfSome result (λ item. OnErr item (has_ended self.new ≡ true)) }
         ensures most { left_at_most self.new ≤ left_at_most self.old }
         ensures fewer { IfSome result (λ _. left_at_most self.new < left_at_most self.old) }
-        ensures told { B.told backend.new ≡ B.told backend.old }
-        ensures versions { B.versions backend.new ≡ B.versions backend.old }
-        ensures faults { B.faults backend.old ≤ B.faults backend.new }
-        ensures calm { B.steady backend.old → B.steady backend.new × (B.faults backend.new ≡ B.faults backend.old) }
+        ensures kept { ReadsOnly B.told B.versions B.faults B.steady backend.old backend.new }
     {
         if self.ended {
             return None;

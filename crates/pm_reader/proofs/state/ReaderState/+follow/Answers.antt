@@ -28,4 +28,4 @@ returns-in_err-next-clause-way g t c =
 pub returns-clause-way : goal.returns-clause-way
 returns-clause-way g t c =
     told_on (g.B.Backend.told c.args.backend.now) _ c.args.self.now.header c.args.self.now.root c.args.tile_id c.args.left c.args.found c.in-Some.entry c.in_ok-next.next _ _ _ (g.C.DirectoryCache.held c.args.cache.now) (g.C.DirectoryCache.held c.find_in_leaf.new.cache) _ _ (g.C.DirectoryCache.idle c.find_in_leaf.new.cache) _ c.follow.result
-    c.in_ok-next.ensures.told (omega arith) c.requires.few c.in-Some.is (is_leaf _ _ c.is_leaf.ensures c.if-not-is_leaf.false) c.in_ok-next.ensures.answer c.in_ok-next.ensures.trusted c.in_ok-next.ensures.reads c.follow.ensures.way
+    c.in_ok-next.ensures.kept.told (omega arith) c.requires.few c.in-Some.is (is_leaf _ _ c.is_leaf.ensures c.if-not-is_leaf.false) c.in_ok-next.ensures.answer c.in_ok-next.ensures.trusted c.in_ok-next.ensures.reads c.follow.ensures.way

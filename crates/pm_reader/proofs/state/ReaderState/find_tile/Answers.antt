@@ -16,10 +16,10 @@ pub returns-in_err-response-clause-found : goal.returns-in_err-response-clause-f
 returns-in_err-response-clause-found g c =
     told_past (g.B.Backend.told c.args.backend.now) _ c.args.self.now.header c.args.self.now.root c.args.tile_id c.copied-found.result c.in_ok-reached.reached c.in-Some.entry c.offset.result c.from-length.result _ _ _
     (g.C.DirectoryCache.held c.args.cache.now) _ (g.C.DirectoryCache.idle c.args.cache.now) _ c.in_err-response.field-0.0 c.from_residual-in_err-response.result
-    c.in_ok-reached.ensures.told (c.copied-found.ensures ∙ c.find_tile_id.ensures) c.in-Some.is (cc) (cc) c.in_ok-reached.ensures.way c.in_err-response.ensures.answer c.in_err-response.ensures.reads.most c.from_residual-in_err-response.ensures.1
+    c.in_ok-reached.ensures.kept.told (c.copied-found.ensures ∙ c.find_tile_id.ensures) c.in-Some.is (cc) (cc) c.in_ok-reached.ensures.way c.in_err-response.ensures.answer c.in_err-response.ensures.reads.most c.from_residual-in_err-response.ensures.1
 
 pub returns-clause-found : goal.returns-clause-found
 returns-clause-found g c =
     told_found (g.B.Backend.told c.args.backend.now) _ c.args.self.now.header c.args.self.now.root c.args.tile_id c.copied-found.result c.in_ok-reached.reached c.in-Some.entry c.offset.result c.from-length.result _ _ _
     (g.C.DirectoryCache.held c.args.cache.now) _ (g.C.DirectoryCache.idle c.args.cache.now) _ c.in_ok-response.response.bytes
-    c.in_ok-reached.ensures.told (c.copied-found.ensures ∙ c.find_tile_id.ensures) c.in-Some.is (cc) (cc) c.in_ok-reached.ensures.way c.in_ok-response.ensures.answer c.in_ok-response.ensures.reads.most
+    c.in_ok-reached.ensures.kept.told (c.copied-found.ensures ∙ c.find_tile_id.ensures) c.in-Some.is (cc) (cc) c.in_ok-reached.ensures.way c.in_ok-response.ensures.answer c.in_ok-response.ensures.reads.most

@@ -4,7 +4,7 @@ use Rattle.pm_reader.proofs.state.ReaderState.get_cached_tile.Goals as goal
 
 pub returns-in-Ok-clause-from : goal.returns-in-Ok-clause-from
 returns-in-Ok-clause-from g c =
-    reads_on (g.B.Backend.told c.args.backend.now) _ c.args.self.now _ _ (g.C.DirectoryCache.idle c.args.cache.now) _ c.find_tile.ensures.told (λ i o. g.met.C.DirectoryCache.idle_is_empty _ o i) c.requires.from
+    reads_on (g.B.Backend.told c.args.backend.now) _ c.args.self.now _ _ (g.C.DirectoryCache.idle c.args.cache.now) _ c.find_tile.ensures.kept.told (λ i o. g.met.C.DirectoryCache.idle_is_empty _ o i) c.requires.from
     (found_trusts (g.B.Backend.told c.args.backend.now) c.args.self.now c.args.tile_id _ _ _ _ (g.C.DirectoryCache.idle c.args.cache.now) _ _ c.find_tile.ensures.found)
 
 pub returns-in-Ok-clause-answer : goal.returns-in-Ok-clause-answer
@@ -17,7 +17,7 @@ returns-in-Ok-clause-hops g c =
 
 pub returns-in-Err-clause-from : goal.returns-in-Err-clause-from
 returns-in-Err-clause-from g c =
-    reads_on (g.B.Backend.told c.args.backend.now) _ c.args.self.now _ _ (g.C.DirectoryCache.idle c.args.cache.now) _ c.find_tile.ensures.told (λ i o. g.met.C.DirectoryCache.idle_is_empty _ o i) c.requires.from
+    reads_on (g.B.Backend.told c.args.backend.now) _ c.args.self.now _ _ (g.C.DirectoryCache.idle c.args.cache.now) _ c.find_tile.ensures.kept.told (λ i o. g.met.C.DirectoryCache.idle_is_empty _ o i) c.requires.from
     (found_trusts (g.B.Backend.told c.args.backend.now) c.args.self.now c.args.tile_id _ _ _ _ (g.C.DirectoryCache.idle c.args.cache.now) _ _ c.find_tile.ensures.found)
 
 pub returns-in-Err-clause-answer : goal.returns-in-Err-clause-answer

@@ -18,4 +18,4 @@ returns-clause-answer g c =
 pub returns-clause-open : goal.returns-clause-open
 returns-clause-open g c =
     let front = told_front (g.B.Backend.told c.args.backend.now) c.as_slice.result.now _ c.as_slice.ensures c.in_ok-response.ensures.answer in
-    still_opens (g.B.Backend.told c.args.backend.now) _ c.in_ok-header.header c.in_ok-header.root c.read_front.ensures.told (told_opens (g.B.Backend.told c.args.backend.now) c.as_slice.result.now c.in_ok-header.header c.in_ok-header.root front c.in_ok-header.ensures.found)
+    still_opens (g.B.Backend.told c.args.backend.now) _ c.in_ok-header.header c.in_ok-header.root c.read_front.ensures.kept.told (told_opens (g.B.Backend.told c.args.backend.now) c.as_slice.result.now c.in_ok-header.header c.in_ok-header.root front c.in_ok-header.ensures.found)

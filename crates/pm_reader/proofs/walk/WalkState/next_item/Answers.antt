@@ -23,14 +23,14 @@ pub loop-entry-preserved : goal.loop-entry-preserved
 loop-entry-preserved g c =
     let took : Took c.loop-entry.self c.pop.new.self c.in-Some.entry = record { queue = c.in-Some.ensures.queue; header = c.pop.ensures.header; budget = c.pop.ensures.budget; ended = c.pop.ensures.ended; goes = c.loop-entry.invariant.goes } in
     record {
-      told = c.enter.ensures.told ∙ c.loop-entry.invariant.told;
+      told = c.enter.ensures.kept.told ∙ c.loop-entry.invariant.told;
       left = told_entered (g.B.Backend.told c.args.backend.now) _ c.args.self.now c.loop-entry.self c.pop.new.self c.enter.new.self c.in-Some.entry c.loop-entry.invariant.told c.loop-entry.invariant.left took (is_leaf _ _ c.is_leaf.ensures c.if-not-is_leaf.false)
           c.enter.ensures.header c.enter.ensures.budget c.enter.ensures.ended c.in_default-enter.ensures.ok;
       budget = omega arith;
       reads = record { least = omega (arith, c.in_default-enter.ensures.reads.least, c.loop-entry.invariant.reads.least); later = omega arith; most = omega (arith, c.loop-entry.invariant.reads.most, c.enter.ensures.reads.most) };
-      faults = omega arith;
-      versions = c.enter.ensures.versions ∙ c.loop-entry.invariant.versions;
-      calm = λ z. let a = c.loop-entry.invariant.calm z in let b = c.enter.ensures.calm a.0 in (b.0, b.1 ∙ a.1);
+      faults = omega (arith, c.enter.ensures.kept.faults, c.loop-entry.invariant.faults);
+      versions = c.enter.ensures.kept.versions ∙ c.loop-entry.invariant.versions;
+      calm = λ z. let a = c.loop-entry.invariant.calm z in let b = c.enter.ensures.kept.calm a.0 in (b.0, b.1 ∙ a.1);
       fewer = omega (arith, ap length took.queue, c.enter.ensures.small, c.loop-entry.invariant.fewer);
       began = c.loop-entry.invariant.began;
       goes = c.enter.ensures.ended ∙ (c.pop.ensures.ended ∙ c.loop-entry.invariant.goes);
