@@ -8,13 +8,13 @@ use Rattle.pm_writer.specs.Archivable.{IsArchivable}
 use Rattle.pm_writer.specs.Archive.{archive, ids_of, parts_of, rising}
 use Rattle.pm_writer.specs.Bounds.{AllShort, OptionsFit}
 use Rattle.pm_writer.specs.Causes.{ArchiveFits}
-use Rattle.pm_writer.specs.Directories.{AreDirectories}
+use Rattle.pm_writer.specs.Cutting.{AreDirectories}
 use Rattle.pm_writer.specs.Leaves.{laid}
 use Rattle.pm_writer.specs.Places.{header_with, places_of, places_with}
 use Rattle.pm_writer.specs.Settings.{options_with}
 use Rattle.pm_writer.specs.Twice.{Distinct}
 use Rattle.pm_writer.specs.Writing.{IsStateOf, data_end, data_of}
-use Rattle.pm_writer.specs.declared.directories.Directories.{Directories}
+use Rattle.pm_writer.specs.declared.cutting.Directories.{Directories}
 use Rattle.pm_writer.specs.declared.places.ArchivePlaces.{ArchivePlaces}
 use Rattle.pm_writer.specs.declared.settings.Settings.{Settings}
 use Rattle.pm_writer.specs.declared.state.WriterState.{WriterState}
@@ -38,7 +38,7 @@ archive_length o adds =
     omega (arith, ap length (archive_laid o adds), front, a, b)
 
 -- the leaves' bytes that were built are those of the archive
-pub leaves_built : (adds : List (ℕ × List ℕ)) (es : List Entry) (d : Directories) → es ≡ entries_of_adds adds → AreDirectories d es → d.leaves.items ≡ leaf_part (parts_of adds)
+pub leaves_built : (adds : List (ℕ × List ℕ)) (es : List Entry) (d : Directories) → es ≡ entries_of_adds adds → AreDirectories d (laid es) → d.leaves.items ≡ leaf_part (parts_of adds)
 leaves_built adds es d e a = a.leaves ∙ ap (λ z. flat_map dir_bytes (laid z).leaves) e
 
 -- where the archive ends
@@ -73,18 +73,18 @@ made_equal a b c d e f g h i j k l m n o p q r s t aa bb cc' dd ee ff gg hh ii j
     same = cc
 
 -- the places that were found are those of the archive
-pub places_are : (o : Options) (s : WriterState) (adds : List (ℕ × List ℕ)) (es : List Entry) (d : Directories) (total contents : ℕ) → IsStateOf o s adds → es ≡ entries_of_adds adds → AreDirectories d es
-    → total ≡ s.adds.contents.total → contents ≡ length (contents_from [] adds) → places_with d s.data_offset total contents ≡ places_of o adds
-places_are o s adds es d total contents i e a t n =
+pub places_are : (o : Options) (s : WriterState) (adds : List (ℕ × List ℕ)) (es : List Entry) (d : Directories) (total addressed entries contents : ℕ) → IsStateOf o s adds → es ≡ entries_of_adds adds → AreDirectories d (laid es)
+    → total ≡ s.adds.contents.total → addressed ≡ sum_by (λ e. e.run_length) es → entries ≡ length es → contents ≡ length (contents_from [] adds) → places_with d s.data_offset total addressed entries contents ≡ places_of o adds
+places_are o s adds es d total addressed entries contents i e a t m k n =
     let end = ends_by o s adds total i t in
     let leaves = leaves_built adds es d e a in
     let whole : s.data_offset + total + length d.leaves.items ≡ length (archive o adds) = omega (arith, archive_length o adds, end, ap length leaves) in
     let root : length d.root.items ≡ length (dir_bytes (parts_of adds).root) = ap length a.root ∙ ap (λ z. length (dir_bytes (laid z).root)) e in
     let contained : total ≡ length (data_of adds) = omega (arith, t, i.means.contents.total) in
-    let count : d.leaf_count ≡ length (parts_of adds).leaves = a.leaf_count ∙ ap (λ z. length (laid z).leaves) e in
-    let tiles : d.addressed ≡ sum_by (λ e. e.run_length) (tile_entries (parts_of adds)) = a.addressed ∙ ap (sum_by (λ e. e.run_length)) (e ∙ sym (entries_are adds)) in
-    let number : d.entries ≡ length (tile_entries (parts_of adds)) = a.entries ∙ ap length (e ∙ sym (entries_are adds)) in
-    places_equal (places_with d s.data_offset total contents) (places_of o adds) whole root (ap (λ z. if nat_eq z 0 then 0 else (s.data_offset + total)) count ∙ ap (λ z. if nat_eq (length (parts_of adds).leaves) 0 then 0 else z) end) (ap length leaves) count i.of.place contained tiles number n
+    let count : length d.ranges.items ≡ length (parts_of adds).leaves = a.count ∙ ap (λ z. length (laid z).leaves) e in
+    let tiles : addressed ≡ sum_by (λ e. e.run_length) (tile_entries (parts_of adds)) = m ∙ ap (sum_by (λ e. e.run_length)) (e ∙ sym (entries_are adds)) in
+    let number : entries ≡ length (tile_entries (parts_of adds)) = k ∙ ap length (e ∙ sym (entries_are adds)) in
+    places_equal (places_with d s.data_offset total addressed entries contents) (places_of o adds) whole root (ap (λ z. if nat_eq z 0 then 0 else (s.data_offset + total)) count ∙ ap (λ z. if nat_eq (length (parts_of adds).leaves) 0 then 0 else z) end) (ap length leaves) count i.of.place contained tiles number n
   where
     places_equal : (x y : ArchivePlaces) → x.length ≡ y.length → x.root_length ≡ y.root_length → x.leaf_offset ≡ y.leaf_offset → x.leaf_length ≡ y.leaf_length → x.leaves ≡ y.leaves → x.data_offset ≡ y.data_offset → x.data_length ≡ y.data_length
         → x.addressed ≡ y.addressed → x.entries ≡ y.entries → x.contents ≡ y.contents → x ≡ y

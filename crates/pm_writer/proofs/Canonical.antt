@@ -1,5 +1,5 @@
 -- A list of pairs by rising id is determined by its map.
-use Rattle.std.proofs.Common.{◌≡◌, ◌≢◌, ℕ, ◌<◌, ◌⊎◌, inl, inr, true, List, [], ◌∷◌, Some, None, T, refl, sym, ◌∙◌, ap, arith, subst}
+use Rattle.std.proofs.Common.{◌≡◌, ℕ, ◌<◌, ◌⊎◌, inl, inr, true, List, [], ◌∷◌, Some, None, T, refl, sym, ◌∙◌, ap, arith, subst}
 use Rattle.std.specs.Cmp.{nat_cmp_total}
 use Rattle.std.specs.FinMap.{FinMap, entries, entries-from_sorted, find, from_entries, from_sorted, get, get-entries, get-from_entries, get-from_sorted, is_sorted, nat_cmp-IsAntisymmetric, same_map}
 use Rattle.std.specs.Ordering.{nat_cmp}
@@ -10,12 +10,10 @@ use Rattle.pm_writer.specs.Archive.{archive, canon, tile_in}
 use Rattle.pm_writer.specs.Maps.{RisingAdds}
 use Rattle.pm_writer.proofs.Parted.{none_below, rest_rises, tile_here, tile_later}
 use Rattle.pm_writer.proofs.Sorted.{sorted_map}
+use Rattle.pm_writer.proofs.Runs.{eq_or}
 
 three : (m n : ℕ) → (m < n) ⊎ ((n < m) ⊎ (m ≡ n))
 three m n = grind arith
-
-eq_or : (m n : ℕ) → (m ≡ n) ⊎ (m ≢ n)
-eq_or m n = grind arith
 
 none_after : (a : ℕ × List ℕ) (adds : List (ℕ × List ℕ)) → RisingAdds (a ∷ adds) → tile_in adds a.0 ≡ None
 none_after a [] r = refl

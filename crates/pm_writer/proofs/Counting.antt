@@ -1,5 +1,5 @@
 -- As many entries at least.
-use Rattle.std.proofs.Common.{◌≡◌, ℕ, ◌+◌, ◌-◌, ◌<◌, ◌≤◌, ◌⊎◌, inl, inr, Bool, true, false, List, [], ◌∷◌, length, Option, Some, None, nat_le, nat_lt, nat_eq, refl, sym, ◌∙◌, ap, arith, subst}
+use Rattle.std.proofs.Common.{◌≡◌, ℕ, ◌+◌, ◌-◌, ◌<◌, ◌≤◌, inl, inr, Bool, true, false, List, [], ◌∷◌, length, Option, Some, None, nat_lt, nat_eq, refl, sym, ◌∙◌, ap, arith, subst}
 use Rattle.std.proofs.lemmas.Bool.Decides.{nat_tests}
 use Rattle.pm_format.specs.Directory.{Entry, ◌>>=◌}
 use Rattle.pm_format.specs.Scan.{last_below, covers, scan}
@@ -10,6 +10,7 @@ use Rattle.pm_writer.specs.Archive.{tile_in}
 use Rattle.pm_writer.proofs.Cuts.{Needed, needed_rest, needed_first}
 use Rattle.pm_writer.proofs.Parted.{tile_some}
 use Rattle.pm_writer.proofs.Giving.{archive_needed, archive_begins, one_each, tiles_rest}
+use Rattle.pm_writer.proofs.Found.{last_in}
 
 past : (f g : Entry) (fs : List Entry) → Tiles (f ∷ fs) → IsIn g fs → f.tile_id + f.run_length ≤ g.tile_id
 past f g [] w i = absurd i
@@ -38,21 +39,6 @@ count map (f ∷ fs) (e ∷ es) n w all one =
     left d j = let a = all d (inr j) in choose d a.0 j a.1 a.2
 
 -- what a look-up finds is an entry that covers the id
-last_in : (t : ℕ) (found : Option Entry) (es : List Entry) (f : Entry) → last_below t found es ≡ Some f → (found ≡ Some f) ⊎ (IsIn f es × (f.tile_id ≤ t))
-last_in t found [] f h = inl h
-last_in t found (e ∷ es) f h = go (nat_le e.tile_id t) refl (last_in t (Some e) es f) (last_in t found es f)
-  where
-    go : (b : Bool) → nat_le e.tile_id t ≡ b → (last_below t (Some e) es ≡ Some f → (Some e ≡ Some f) ⊎ (IsIn f es × (f.tile_id ≤ t))) → (last_below t found es ≡ Some f → (found ≡ Some f) ⊎ (IsIn f es × (f.tile_id ≤ t)))
-        → (found ≡ Some f) ⊎ (IsIn f (e ∷ es) × (f.tile_id ≤ t))
-    go true y here later = elim (here (let q : last_below t found (e ∷ es) ≡ last_below t (Some e) es = rw y refl in sym q ∙ h)) [
-      | inl s ↦ let same : e ≡ f = cc in inr (inl (sym same), let le : e.tile_id ≤ t = grind (arith, nat_tests) in omega (arith, le, ap (λ z. z.tile_id) same))
-      | inr r ↦ inr (inr r.0, r.1)
-    ]
-    go false y here later = elim (later (let q : last_below t found (e ∷ es) ≡ last_below t found es = rw y refl in sym q ∙ h)) [
-      | inl s ↦ inl s
-      | inr r ↦ inr (inr r.0, r.1)
-    ]
-
 tile_runs : (f : Entry) (fs : List Entry) → Tiles fs → IsIn f fs → 1 ≤ f.run_length
 tile_runs f [] w i = absurd i
 tile_runs f (e ∷ []) w (inl s) = subst (λ z. 1 ≤ z.run_length) (sym s) w.0

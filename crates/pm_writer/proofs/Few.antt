@@ -17,11 +17,11 @@ use Rattle.pm_writer.specs.Few.{AreFew}
 use Rattle.pm_writer.specs.Leaves.{Layout, cut, found_leaves, laid, leaves_by}
 use Rattle.pm_writer.specs.Writing.{AddFits, add_to, data_of}
 use Rattle.pm_writer.proofs.AddedBytes.{flat_push}
-use Rattle.pm_writer.proofs.Formed.{addressed, leaves_joined}
+use Rattle.pm_writer.proofs.Formed.{addressed}
 use Rattle.pm_writer.proofs.Laying.{laid_flat, laid_leaves, root_length}
 use Rattle.pm_writer.proofs.Ordered.{AllRun}
 use Rattle.pm_writer.proofs.Parts.{archive_laid, before_length, before_of, layout_of, tiles_of}
-use Rattle.pm_writer.proofs.Reading.{all_run, cut_by, root_small}
+use Rattle.pm_writer.proofs.Reading.{all_run, cut_by, leaves_joined, root_small}
 use Rattle.pm_writer.proofs.Runs.{le_or}
 use Rattle.pm_writer.proofs.Trying.{at_once, cut_nil, not_yet, short_length}
 use Rattle.pm_writer.proofs.Walking.{AllSome, cut_some, joined}

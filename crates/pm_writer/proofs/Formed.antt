@@ -23,15 +23,15 @@ use Rattle.pm_writer.proofs.Blocks.{single, longer, enough}
 use Rattle.pm_writer.proofs.ContentLemmas.{Has, same_or, has_front, has_equal, has_later, place_here, place_later, contents_filled, Filled, all_had}
 use Rattle.pm_writer.proofs.Ordered.{AllRun, Apart, same_sorted}
 use Rattle.pm_writer.specs.Through.{Names}
-use Rattle.pm_writer.proofs.Walking.{joined, AllSome, cut_joined, cut_some}
-use Rattle.pm_writer.proofs.Cutting.{fits_zero, root_dir_fits}
+use Rattle.pm_writer.proofs.Walking.{joined, AllSome, cut_some}
+use Rattle.pm_writer.proofs.CuttingLemmas.{fits_zero, root_dir_fits}
 use Rattle.pm_writer.proofs.SoundLeaves.{run_left, run_right, tiles_sound, root_sound, LeavesHold}
 use Rattle.pm_writer.specs.Maps.{IsIn}
 use Rattle.pm_writer.proofs.Found.{IsAdd, Given, given_of, had_add, run_in, add_covered, tile_of_add, entries_apart}
 use Rattle.pm_format.proofs.ArchiveOpens.{archive_opens}
 use Rattle.pm_writer.proofs.Laying.{laid_flat, laid_leaves}
 use Rattle.pm_writer.proofs.ContentRanges.{content_range}
-use Rattle.pm_writer.proofs.Reading.{all_run, root_small, cut_by, fits_left, fits_right, leaf_read, leaf_offset_is}
+use Rattle.pm_writer.proofs.Reading.{all_run, root_small, cut_by, fits_left, fits_right, leaf_named, leaves_joined}
 
 -- the runs count the adds
 runs_sum : (limit n offset len id count : ℕ) → count ≤ n * limit → sum_by (λ e. e.run_length) (runs limit n offset len id count) ≡ count
@@ -71,9 +71,6 @@ filter_all (e ∷ es) a = let q : nat_eq e.run_length 0 ≡ false = (let r = a.0
 filter_root : (place : ℕ) (ls : List (List Entry)) → filter (λ e. not (nat_eq e.run_length 0)) (root_of place ls) ≡ []
 filter_root place [] = refl
 filter_root place (l ∷ ls) = filter_root (place + length (dir_bytes l)) ls
-
-pub leaves_joined : (es : List Entry) → joined (found_leaves es) ≡ es
-leaves_joined es = let k = cut_by (length es) (max 4096 (length es / 3500)) es (omega arith) in ap joined k.2 ∙ cut_joined (length es) k.0 es k.1 (omega arith)
 
 pub entries_are : (adds : List (ℕ × List ℕ)) → tile_entries (parts_of adds) ≡ entries_of_adds adds
 entries_are adds = go (nat_lt (length (entries_of_adds adds)) 16384 && nat_le (length (dir_bytes (entries_of_adds adds))) 16257) refl
@@ -260,10 +257,6 @@ entry_range o adds e fits i =
     let place : 16384 + length o.metadata + e.offset ≡ length (before_of o adds) + place_in (contents_from [] adds) g.bytes = omega (arith, g.offset, before_length o adds (root_small (entries_of_adds adds))) in
     some_is (range_of b (16384 + length o.metadata + e.offset) e.length) g.bytes (ap (λ k. range_of b k e.length) place ∙ (ap (range_of b (length (before_of o adds) + place_in (contents_from [] adds) g.bytes)) g.size ∙ range))
 
-behind_some : (xs : List (List Entry)) (l : List Entry) (ys : List (List Entry)) → 0 < length (xs ++ l ∷ ys)
-behind_some [] l ys = omega arith
-behind_some (x ∷ xs) l ys = omega arith
-
 sound_are : (o : Options) (adds : List (ℕ × List ℕ)) → Distinct adds → AllLow adds → DirFits 0 (entries_of_adds adds) → length (entries_of_adds adds) < 2 ^ 64 → length (archive o adds) < 2 ^ 64
     → SoundDirectory 6 (head_of o adds) (archive o adds) 0 (MAX_TILE_ID + 1) (layout_of adds).root
 sound_are o adds dist low f many fits = go (nat_lt (length (entries_of_adds adds)) 16384 && nat_le (length (dir_bytes (entries_of_adds adds))) 16257) refl
@@ -282,7 +275,6 @@ sound_are o adds dist low f many fits = go (nat_lt (length (entries_of_adds adds
         let k = cut_by (length es) (max 4096 (length es / 3500)) es (omega arith) in
         let some : AllSome ls = subst AllSome (sym k.2) (cut_some (length es) k.0 es k.1) in
         let same : joined ls ≡ es = leaves_joined es in
-        let whole : archive o adds ≡ before_of o adds ++ (tiles_of adds ++ flat_map dir_bytes ls) = archive_laid o adds ∙ ap (λ z. before_of o adds ++ (tiles_of adds ++ flat_map dir_bytes z.leaves)) lay in
         let hold : LeavesHold 5 (head_of o adds) (archive o adds) (MAX_TILE_ID + 1) ls = record {
           apart = subst Apart (sym same) (entries_apart adds dist (all_run adds));
           runs = subst AllRun (sym same) (all_run adds);
@@ -294,9 +286,7 @@ sound_are o adds dist low f many fits = go (nat_lt (length (entries_of_adds adds
         λ (before : List (List Entry)) (l : List Entry) (after : List (List Entry)) (p : ls ≡ before ++ l ∷ after).
         let e = entry (first_id l) (length (flat_map dir_bytes before)) (length (dir_bytes l)) 0 in
         let n : Names ls e l = record { before = before; after = after; parts = p; is = refl } in
-        let any : 0 < length ls = subst (λ z. 0 < length z) (sym p) (behind_some before l after) in
-        let at = leaf_offset_is o adds (subst (λ z. 0 < length z.leaves) (sym lay) any) ∙ omega (arith, before_length o adds (root_small es)) in
-        let r = leaf_read (head_of o adds) (archive o adds) (before_of o adds) (tiles_of adds) ls e l n (subst (DirFits 0) (sym same) f) (subst (λ z. length z < 2 ^ 64) (sym same) many) fits whole at in
+        let r = leaf_named o adds f many fits q e l n in
         let z : length (flat_map dir_bytes before) ≡ 0 + length (flat_map dir_bytes before) = omega arith in
         subst (λ m. leaf_of (head_of o adds) (archive o adds) (entry (first_id l) m (length (dir_bytes l)) 0) ≡ Ok l) z r in
         subst (λ z. SoundDirectory 6 (head_of o adds) (archive o adds) 0 (MAX_TILE_ID + 1) z.root) (sym lay)

@@ -1,5 +1,5 @@
 -- What the flat list of entries gives.
-use Rattle.std.proofs.Common.{◌≡◌, ◌≢◌, ℕ, zero, suc, ◌+◌, ◌-◌, ◌/◌, ◌<◌, ◌≤◌, ◌⊎◌, inl, inr, Bool, true, false, List, [], ◌∷◌, length, flat_map, Option, Some, None, nat_le, nat_lt, nat_eq, if◌then◌else◌, refl, sym, ◌∙◌, ap, arith, subst, MatchOption, lit<}
+use Rattle.std.proofs.Common.{◌≡◌, ℕ, zero, suc, ◌+◌, ◌-◌, ◌/◌, ◌<◌, ◌≤◌, ◌⊎◌, inl, inr, Bool, true, false, List, [], ◌∷◌, length, flat_map, Option, Some, None, nat_le, nat_lt, nat_eq, if◌then◌else◌, refl, sym, ◌∙◌, ap, arith, subst, MatchOption, lit<}
 use Rattle.std.proofs.lemmas.List.Sums.{sum_by-cons}
 use Rattle.std.proofs.lemmas.Bool.Decides.{nat_tests}
 use Rattle.std.proofs.lemmas.Slice.Eq.{bytes_eq-Decides}
@@ -8,14 +8,14 @@ use Rattle.pm_format.specs.Directory.{Entry, entry, ◌>>=◌}
 use Rattle.pm_format.specs.Scan.{last_below, covers, scan}
 use Rattle.pm_writer.specs.Adds.{Block, onto, blocks, runs, entries_at, unsorted, longest_run, place_in, contents_from, entries_of_adds, sorted, sorted_in}
 use Rattle.pm_writer.specs.Twice.{adds_at, Distinct, covering, times}
-use Rattle.pm_writer.proofs.Runs.{le_or, runs_none, runs_short, runs_long}
+use Rattle.pm_writer.proofs.Runs.{eq_or, le_or, runs_none, runs_short, runs_long}
 use Rattle.pm_writer.proofs.Blocks.{AllBlocks, single, longer}
 use Rattle.pm_writer.proofs.ContentLemmas.{Has, AllHad, all_had}
 use Rattle.pm_writer.proofs.Times.{times_cons, times_adds, covering_yes, covering_low, covering_high}
 use Rattle.pm_writer.proofs.Ordered.{NotFalling, Apart, AllRun, falling_sorted, same_sorted}
 use Rattle.pm_writer.specs.Archive.{tile_in}
 use Rattle.pm_writer.specs.Maps.{Covers, IsIn}
-use Rattle.pm_writer.proofs.Giving.{last_no, last_yes}
+use Rattle.pm_writer.proofs.Walking.{last_no, last_yes}
 use Rattle.pm_writer.proofs.Parted.{in_append, tile_here, tile_later}
 
 -- an add at an id, with these bytes
@@ -128,9 +128,6 @@ some_add [] t x i = absurd i
 some_add (a ∷ adds) t x (inl s) = omega (arith, adds_here a adds t s.0)
 some_add (a ∷ adds) t x (inr i) = omega (arith, some_add adds t x i, adds_more a adds t)
 
-eq_or : (m n : ℕ) → (m ≡ n) ⊎ (m ≢ n)
-eq_or m n = grind arith
-
 pub tile_of_add : (adds : List (ℕ × List ℕ)) (t : ℕ) (x : List ℕ) → adds_at adds t ≤ 1 → IsAdd adds t x → tile_in adds t ≡ Some x
 tile_of_add [] t x d i = absurd i
 tile_of_add (a ∷ adds) t x d (inl s) = tile_here a adds t s.0 ∙ ap Some s.1
@@ -201,7 +198,7 @@ covered t f r c =
     let low : nat_lt (t - f.tile_id) f.run_length ≡ true = (let h = c.1 in let g = c.0 in grind (arith, nat_tests)) in
     rw (some, low) refl
 
-last_in : (t : ℕ) (found : Option Entry) (es : List Entry) (f : Entry) → last_below t found es ≡ Some f → (found ≡ Some f) ⊎ (IsIn f es × (f.tile_id ≤ t))
+pub last_in : (t : ℕ) (found : Option Entry) (es : List Entry) (f : Entry) → last_below t found es ≡ Some f → (found ≡ Some f) ⊎ (IsIn f es × (f.tile_id ≤ t))
 last_in t found [] f h = inl h
 last_in t found (e ∷ es) f h = elim (le_or e.tile_id t) [
   | inl g ↦ elim (last_in t (Some e) es f (sym (last_yes t found e es g) ∙ h)) [

@@ -1,5 +1,5 @@
 -- What a directory of tile entries gives at the ids of an entry.
-use Rattle.std.proofs.Common.{◌≡◌, ℕ, ◌-◌, ◌<◌, ◌≤◌, ◌⊎◌, inl, inr, true, false, List, [], ◌∷◌, Option, Some, None, nat_le, nat_lt, nat_eq, refl, sym, ◌∙◌, ap, arith, subst}
+use Rattle.std.proofs.Common.{◌≡◌, ℕ, ◌-◌, ◌<◌, ◌≤◌, ◌⊎◌, inl, inr, true, false, List, [], ◌∷◌, Option, Some, None, nat_lt, nat_eq, refl, sym, ◌∙◌, ap, arith, subst}
 use Rattle.std.proofs.lemmas.Bool.Decides.{nat_tests}
 use Rattle.pm_format.specs.Directory.{Entry, ◌>>=◌}
 use Rattle.pm_format.specs.Scan.{last_below, covers, scan}
@@ -9,12 +9,7 @@ use Rattle.pm_writer.specs.Maps.{Tiles, RisingAdds, given, Gives, Covers, IsIn}
 use Rattle.pm_writer.specs.Archive.{tile_in}
 use Rattle.pm_writer.proofs.Cuts.{Needed, SameFrom, one_beginning}
 use Rattle.pm_writer.proofs.Parted.{parted, needed_entries, begins, sorted_already, tile_some}
-
-pub last_yes : (t : ℕ) (found : Option Entry) (e : Entry) (es : List Entry) → e.tile_id ≤ t → last_below t found (e ∷ es) ≡ last_below t (Some e) es
-last_yes t found e es h = let y : nat_le e.tile_id t ≡ true = grind (arith, nat_tests) in rw y refl
-
-pub last_no : (t : ℕ) (found : Option Entry) (e : Entry) (es : List Entry) → t < e.tile_id → last_below t found (e ∷ es) ≡ last_below t found es
-last_no t found e es h = let y : nat_le e.tile_id t ≡ false = grind (arith, nat_tests) in rw y refl
+use Rattle.pm_writer.proofs.Walking.{last_no, last_yes}
 
 pub tiles_rest : (e : Entry) (es : List Entry) → Tiles (e ∷ es) → Tiles es
 tiles_rest e [] w = tt

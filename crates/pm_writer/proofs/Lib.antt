@@ -12,10 +12,9 @@ pub mod MediumPieces
 pub mod LastPieces
 pub mod Beginning
 pub mod AddedBytes
-pub mod Cutting
+pub mod CuttingLemmas
 pub mod Trying
 pub mod Laying
-pub mod Fitting
 pub mod Cuts
 pub mod Parted
 pub mod Giving
@@ -29,7 +28,7 @@ pub mod SoundLeaves
 pub mod Formed
 pub mod Bounds
 pub mod Whole
-pub mod RootFits
+pub mod EntriesRead
 pub mod AssembledParts
 pub mod FinishedArchive
 pub mod Few

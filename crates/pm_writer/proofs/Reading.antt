@@ -21,7 +21,7 @@ use Rattle.pm_writer.proofs.Ordered.{AllRun, Apart, run_blocks}
 use Rattle.pm_writer.specs.Through.{Rising, Names, Through}
 use Rattle.pm_writer.proofs.Walking.{joined, AllSome, through, cut_joined, cut_some}
 use Rattle.pm_writer.proofs.Trying.{leaves_fit, at_once, not_yet}
-use Rattle.pm_writer.proofs.Cutting.{fits_zero}
+use Rattle.pm_writer.proofs.CuttingLemmas.{fits_zero}
 use Rattle.pm_writer.proofs.Found.{Answer, flat_answer, entries_apart, scan_is, run_in}
 use Rattle.pm_writer.proofs.Laying.{laid_flat, laid_leaves}
 use Rattle.pm_writer.proofs.ContentRanges.{content_range, leaf_range}
@@ -175,6 +175,38 @@ read_flat o adds t dist fits q =
 pub leaf_offset_is : (o : Options) (adds : List (ℕ × List ℕ)) → 0 < length (layout_of adds).leaves → (head_of o adds).leaf_offset ≡ 16384 + length o.metadata + length (tiles_of adds)
 leaf_offset_is o adds h = let some : nat_eq (length (layout_of adds).leaves) 0 ≡ false = grind (arith, nat_tests) in rw some refl
 
+behind_some : (xs : List (List Entry)) (l : List Entry) (ys : List (List Entry)) → 0 < length (xs ++ l ∷ ys)
+behind_some [] l ys = omega arith
+behind_some (x ∷ xs) l ys = omega arith
+
+pub leaves_joined : (es : List Entry) → joined (found_leaves es) ≡ es
+leaves_joined es = let k = cut_by (length es) (max 4096 (length es / 3500)) es (omega arith) in ap joined k.2 ∙ cut_joined (length es) k.0 es k.1 (omega arith)
+
+-- each root entry leads to its leaf
+pub leaf_named : (o : Options) (adds : List (ℕ × List ℕ)) → DirFits 0 (entries_of_adds adds) → length (entries_of_adds adds) < 2 ^ 64 → length (archive o adds) < 2 ^ 64
+    → (nat_lt (length (entries_of_adds adds)) 16384 && nat_le (length (dir_bytes (entries_of_adds adds))) 16257) ≡ false
+    → (e : Entry) (l : List Entry) → Names (found_leaves (entries_of_adds adds)) e l → leaf_of (head_of o adds) (archive o adds) e ≡ Ok l
+leaf_named o adds f many fits q e l n =
+    let es = entries_of_adds adds in
+    let ls = found_leaves es in
+    let lay = laid_leaves es q in
+    let same = leaves_joined es in
+    let whole : archive o adds ≡ before_of o adds ++ (tiles_of adds ++ flat_map dir_bytes ls) = archive_laid o adds ∙ ap (λ z. before_of o adds ++ (tiles_of adds ++ flat_map dir_bytes z.leaves)) lay in
+    let any : 0 < length ls = subst (λ z. 0 < length z) (sym n.parts) (behind_some n.before l n.after) in
+    leaf_read (head_of o adds) (archive o adds) (before_of o adds) (tiles_of adds) ls e l n (subst (DirFits 0) (sym same) f) (subst (λ z. length z < 2 ^ 64) (sym same) many) fits whole
+    (leaf_offset_is o adds (subst (λ z. 0 < length z.leaves) (sym lay) any) ∙ omega (arith, before_length o adds (root_small es)))
+
+-- a look-up through them
+leaves_through : (adds : List (ℕ × List ℕ)) (t : ℕ) → Distinct adds → Through (root_of 0 (found_leaves (entries_of_adds adds))) (found_leaves (entries_of_adds adds)) (entries_of_adds adds) t
+leaves_through adds t dist =
+    let es = entries_of_adds adds in
+    let ls = found_leaves es in
+    let same = leaves_joined es in
+    let k = cut_by (length es) (max 4096 (length es / 3500)) es (omega arith) in
+    let some : AllSome ls = subst AllSome (sym k.2) (cut_some (length es) k.0 es k.1) in
+    let rises : Rising (joined ls) = subst Rising (sym same) (rising_apart es (entries_apart adds dist (all_run adds)) (all_run adds)) in
+    subst (λ z. Through (root_of 0 ls) ls z t) same (through ls t some rises)
+
 read_leaves : (o : Options) (adds : List (ℕ × List ℕ)) (t : ℕ) → Distinct adds → DirFits 0 (entries_of_adds adds) → length (entries_of_adds adds) < 2 ^ 64 → length (archive o adds) < 2 ^ 64
     → (nat_lt (length (entries_of_adds adds)) 16384 && nat_le (length (dir_bytes (entries_of_adds adds))) 16257) ≡ false
     → tile_by 6 (head_of o adds) (archive o adds) (layout_of adds).root t ≡ Ok (tile_in adds t)
@@ -182,23 +214,10 @@ read_leaves o adds t dist f many fits q =
     let es = entries_of_adds adds in
     let ls = found_leaves es in
     let lay = laid_leaves es q in
-    let k = cut_by (length es) (max 4096 (length es / 3500)) es (omega arith) in
-    let same : joined ls ≡ es = ap joined k.2 ∙ cut_joined (length es) k.0 es k.1 (omega arith) in
-    let some : AllSome ls = subst AllSome (sym k.2) (cut_some (length es) k.0 es k.1) in
-    let small = root_small es in
-    let rises : Rising (joined ls) = subst Rising (sym same) (rising_apart es (entries_apart adds dist (all_run adds)) (all_run adds)) in
-    let walk : Through (root_of 0 ls) ls es t = subst (λ z. Through (root_of 0 ls) ls z t) same (through ls t some rises) in
-    let whole : archive o adds ≡ before_of o adds ++ (tiles_of adds ++ flat_map dir_bytes ls) = archive_laid o adds ∙ ap (λ z. before_of o adds ++ (tiles_of adds ++ flat_map dir_bytes z.leaves)) lay in
-    let leaf : (e : Entry) (l : List Entry) → Names ls e l → leaf_of (head_of o adds) (archive o adds) e ≡ Ok l = λ (e : Entry) (l : List Entry) (n : Names ls e l).
-    let any : 0 < length ls = subst (λ z. 0 < length z) (sym n.parts) (behind_some n.before l n.after) in
-    leaf_read (head_of o adds) (archive o adds) (before_of o adds) (tiles_of adds) ls e l n (subst (DirFits 0) (sym same) f) (subst (λ z. length z < 2 ^ 64) (sym same) many) fits whole
-    (leaf_offset_is o adds (subst (λ z. 0 < length z.leaves) (sym lay) any) ∙ omega (arith, before_length o adds small)) in
+    let walk = leaves_through adds t dist in
+    let leaf = leaf_named o adds f many fits q in
     ap (λ z. tile_by 6 (head_of o adds) (archive o adds) z.root t) lay
-    ∙ leaf_found 4 (head_of o adds) (archive o adds) (root_of 0 ls) ls es t (tile_in adds t) walk leaf (data_for o adds t dist small fits)
-  where
-    behind_some : (xs : List (List Entry)) (l : List Entry) (ys : List (List Entry)) → 0 < length (xs ++ l ∷ ys)
-    behind_some [] l ys = omega arith
-    behind_some (x ∷ xs) l ys = omega arith
+    ∙ leaf_found 4 (head_of o adds) (archive o adds) (root_of 0 ls) ls es t (tile_in adds t) walk leaf (data_for o adds t dist (root_small es) fits)
 
 tile_runs : (es : List Entry) (t : ℕ) → AllRun es → MatchOption (scan es t) (Unit {0}) (λ e. 1 ≤ e.run_length)
 tile_runs es t a = go (scan es t) refl
@@ -243,23 +262,10 @@ hops_leaves o adds t dist f many fits q =
     let es = entries_of_adds adds in
     let ls = found_leaves es in
     let lay = laid_leaves es q in
-    let k = cut_by (length es) (max 4096 (length es / 3500)) es (omega arith) in
-    let same : joined ls ≡ es = ap joined k.2 ∙ cut_joined (length es) k.0 es k.1 (omega arith) in
-    let some : AllSome ls = subst AllSome (sym k.2) (cut_some (length es) k.0 es k.1) in
-    let small = root_small es in
-    let rises : Rising (joined ls) = subst Rising (sym same) (rising_apart es (entries_apart adds dist (all_run adds)) (all_run adds)) in
-    let walk : Through (root_of 0 ls) ls es t = subst (λ z. Through (root_of 0 ls) ls z t) same (through ls t some rises) in
-    let whole : archive o adds ≡ before_of o adds ++ (tiles_of adds ++ flat_map dir_bytes ls) = archive_laid o adds ∙ ap (λ z. before_of o adds ++ (tiles_of adds ++ flat_map dir_bytes z.leaves)) lay in
-    let leaf : (e : Entry) (l : List Entry) → Names ls e l → leaf_of (head_of o adds) (archive o adds) e ≡ Ok l = λ (e : Entry) (l : List Entry) (n : Names ls e l).
-    let any : 0 < length ls = subst (λ z. 0 < length z) (sym n.parts) (behind_some n.before l n.after) in
-    leaf_read (head_of o adds) (archive o adds) (before_of o adds) (tiles_of adds) ls e l n (subst (DirFits 0) (sym same) f) (subst (λ z. length z < 2 ^ 64) (sym same) many) fits whole
-    (leaf_offset_is o adds (subst (λ z. 0 < length z.leaves) (sym lay) any) ∙ omega (arith, before_length o adds small)) in
+    let walk = leaves_through adds t dist in
+    let leaf = leaf_named o adds f many fits q in
     subst (λ z. hops_by 6 (head_of o adds) (archive o adds) z.root t ≤ 1) (sym lay)
     (one_hop 4 (head_of o adds) (archive o adds) (root_of 0 ls) ls es t walk leaf (tile_runs es t (all_run adds)))
-  where
-    behind_some : (xs : List (List Entry)) (l : List Entry) (ys : List (List Entry)) → 0 < length (xs ++ l ∷ ys)
-    behind_some [] l ys = omega arith
-    behind_some (x ∷ xs) l ys = omega arith
 
 pub archive_hops : (o : Options) (adds : List (ℕ × List ℕ)) (t : ℕ) → Distinct adds → DirFits 0 (entries_of_adds adds) → length (entries_of_adds adds) < 2 ^ 64 → length (archive o adds) < 2 ^ 64
     → hops_by 6 (head_of o adds) (archive o adds) (layout_of adds).root t ≤ 1

@@ -8,6 +8,9 @@ use Rattle.pm_writer.specs.Growing.{grows, put}
 pub le_or : (m n : ℕ) → (m ≤ n) ⊎ (n < m)
 le_or m n = grind arith
 
+pub eq_or : (m n : ℕ) → (m ≡ n) ⊎ (m ≢ n)
+eq_or m n = grind arith
+
 -- the three cases of a block's runs
 pub runs_none : (limit n offset len id : ℕ) → runs limit n offset len id 0 ≡ []
 runs_none limit zero offset len id = refl

@@ -1,5 +1,5 @@
 -- Adds whose ids strictly rise.
-use Rattle.std.proofs.Common.{◌≡◌, ◌≢◌, ℕ, suc, ◌+◌, ◌<◌, ◌≤◌, ◌^◌, ◌⊎◌, inl, inr, true, false, cond, List, [], ◌∷◌, length, All, Some, nat_eq, nat_lt, refl, sym, ◌∙◌, ap, arith, subst}
+use Rattle.std.proofs.Common.{◌≡◌, ◌≢◌, ℕ, suc, ◌+◌, ◌<◌, ◌≤◌, ◌^◌, inl, inr, true, false, cond, List, [], ◌∷◌, length, All, Some, nat_eq, nat_lt, refl, sym, ◌∙◌, ap, arith, subst}
 use Rattle.std.proofs.lemmas.Bool.{and_parts}
 use Rattle.std.proofs.lemmas.Bool.Decides.{nat_tests}
 use Rattle.std.proofs.lemmas.List.Elements.{All-head, All-tail}
@@ -20,6 +20,7 @@ use Rattle.pm_writer.specs.Twice.{Distinct, adds_at}
 use Rattle.pm_writer.proofs.Few.{archive_fits}
 use Rattle.pm_writer.proofs.Parted.{tile_here, tile_later}
 use Rattle.pm_writer.proofs.Whole.{consists, map_is}
+use Rattle.pm_writer.proofs.Runs.{eq_or}
 
 is_below : (x y : ℕ) → is_lt (nat_cmp x y) ≡ true → x < y
 is_below x y h = grind (arith, nat_tests)
@@ -60,9 +61,6 @@ none_at x [] h = refl
 none_at x (a ∷ adds) h =
     let below = below_first a x adds h in
     at_other a adds x (omega (arith, below)) ∙ none_at x adds (below_rest a x adds h)
-
-eq_or : (m n : ℕ) → (m ≡ n) ⊎ (m ≢ n)
-eq_or m n = grind arith
 
 -- no id was added twice
 pub adds_distinct : (adds : List (ℕ × List ℕ)) → is_sorted nat_cmp adds ≡ true → Distinct adds

@@ -6,7 +6,7 @@ use Rattle.pm_format.specs.Varint.{varint, short_of}
 use Rattle.pm_format.specs.Directory.{Entry, dir_bytes, spell_all, steps_from, starts_from}
 use Rattle.pm_writer.specs.Leaves.{cut, leaves_by}
 use Rattle.pm_format.specs.WellFormed.{root_of}
-use Rattle.pm_writer.proofs.Walking.{le_or}
+use Rattle.pm_writer.proofs.Runs.{le_or}
 
 pub short_length : (k n : ℕ) → length (short_of k n) ≤ k
 short_length zero n = omega arith
@@ -81,6 +81,10 @@ trying_found es first i size h e t =
 
 pub trying_last : (es : List Entry) (first i size : ℕ) → length es ≤ i → Trying es first i size → cut (length es) size es ≡ leaves_by (length es) first es
 trying_last es first i size h t = (let e : length es - i ≡ 0 = omega (arith, h) in ap (λ k. leaves_by k size es) (sym e)) ∙ t.same
+
+-- a root that is too long doesn't pass the test
+pub too_large : (size : ℕ) (es : List Entry) → 16257 < length (dir_bytes (root_of 0 (cut (length es) size es))) → nat_le (length (dir_bytes (root_of 0 (cut (length es) size es)))) 16257 ≡ false
+too_large size es h = grind (arith, nat_tests)
 
 tested : (n : ℕ) → nat_le n 16257 ≡ true → n ≤ 16257
 tested n e = grind (arith, nat_tests)

@@ -1,5 +1,5 @@
 -- A walk through the root beside a walk through all entries.
-use Rattle.std.proofs.Common.{◌≡◌, ◌≢◌, ℕ, zero, suc, ◌+◌, ◌<◌, ◌≤◌, ◌⊎◌, inl, inr, true, false, List, [], ◌∷◌, ◌++◌, length, flat_map, take, drop, Option, Some, None, nat_le, if◌then◌else◌, refl, sym, ◌∙◌, ap, arith, subst, append_assoc, append-nil, length-append, length-drop, take-append-drop}
+use Rattle.std.proofs.Common.{◌≡◌, ◌≢◌, ℕ, zero, suc, ◌+◌, ◌<◌, ◌≤◌, inl, inr, true, false, List, [], ◌∷◌, ◌++◌, length, flat_map, take, drop, Option, Some, None, nat_le, if◌then◌else◌, refl, sym, ◌∙◌, ap, arith, subst, append_assoc, append-nil, length-append, length-drop, take-append-drop}
 use Rattle.std.proofs.lemmas.List.{nil_from_length}
 use Rattle.std.proofs.lemmas.Bool.Decides.{nat_tests}
 use Rattle.pm_format.specs.Directory.{Entry, entry, dir_bytes, ◌>>=◌}
@@ -7,9 +7,7 @@ use Rattle.pm_format.specs.Scan.{last_below, covers, scan}
 use Rattle.pm_writer.specs.Leaves.{cut}
 use Rattle.pm_format.specs.WellFormed.{root_of, first_id}
 use Rattle.pm_writer.specs.Through.{Rising, Names, Through}
-
-pub le_or : (m n : ℕ) → (m ≤ n) ⊎ (n < m)
-le_or m n = grind arith
+use Rattle.pm_writer.proofs.Runs.{le_or}
 
 abbrev pub joined : List (List Entry) → List Entry
 joined ls = flat_map (λ l. l) ls
@@ -19,10 +17,10 @@ abbrev pub AllSome : List (List Entry) → Type 0
 AllSome [] = Unit {0}
 AllSome (l ∷ ls) = (l ≢ []) × AllSome ls
 
-last_yes : (t : ℕ) (found : Option Entry) (e : Entry) (es : List Entry) → e.tile_id ≤ t → last_below t found (e ∷ es) ≡ last_below t (Some e) es
+pub last_yes : (t : ℕ) (found : Option Entry) (e : Entry) (es : List Entry) → e.tile_id ≤ t → last_below t found (e ∷ es) ≡ last_below t (Some e) es
 last_yes t found e es h = let y : nat_le e.tile_id t ≡ true = grind (arith, nat_tests) in rw y refl
 
-last_no : (t : ℕ) (found : Option Entry) (e : Entry) (es : List Entry) → t < e.tile_id → last_below t found (e ∷ es) ≡ last_below t found es
+pub last_no : (t : ℕ) (found : Option Entry) (e : Entry) (es : List Entry) → t < e.tile_id → last_below t found (e ∷ es) ≡ last_below t found es
 last_no t found e es h = let y : nat_le e.tile_id t ≡ false = grind (arith, nat_tests) in rw y refl
 
 pub last_append : (t : ℕ) (found : Option Entry) (es fs : List Entry) → last_below t found (es ++ fs) ≡ last_below t (last_below t found es) fs

@@ -1,5 +1,5 @@
 -- What is read from the archive of adds.
-use Rattle.std.proofs.Common.{◌≡◌, ◌≢◌, ℕ, ◌<◌, ◌≤◌, ◌⊎◌, inl, inr, true, false, List, [], ◌∷◌, length, Option, Some, None, Ok, MatchOption, nat_le, refl, sym, ◌∙◌, ap, arith, subst}
+use Rattle.std.proofs.Common.{◌≡◌, ℕ, ◌<◌, ◌≤◌, inl, inr, true, false, List, [], ◌∷◌, length, Option, Some, None, Ok, MatchOption, nat_le, refl, sym, ◌∙◌, ap, arith, subst}
 use Rattle.std.proofs.lemmas.Bool.Decides.{nat_tests}
 use Rattle.tile_ids.specs.declared.id.TheConstants.{MAX_TILE_ID}
 use Rattle.pm_format.specs.Directory.{DirFits, Entry}
@@ -16,7 +16,7 @@ use Rattle.pm_writer.proofs.Bounds.{entries_few, entries_fit, total_low, whole_f
 use Rattle.pm_writer.proofs.Parted.{tile_here, tile_later}
 use Rattle.pm_writer.proofs.Parts.{head_of, layout_of}
 use Rattle.pm_writer.proofs.Reading.{archive_hops, archive_read, data_for, root_small}
-use Rattle.pm_writer.proofs.Runs.{le_or}
+use Rattle.pm_writer.proofs.Runs.{eq_or, le_or}
 
 pub consists : (o : Options) (adds : List (ℕ × List ℕ)) → IsArchivable o adds → ConsistsOf (archive o adds) o (rising (ids_of adds)) (parts_of adds)
 consists o adds a = whole_formed o adds a.options a.filled a.distinct a.low a.sized a.short a.ends
@@ -32,9 +32,6 @@ tile_is o adds t a = ap (tile_opened (archive o adds) t) (opens o adds a) ∙ ar
 
 pub hops_few : (o : Options) (adds : List (ℕ × List ℕ)) (t : ℕ) → IsArchivable o adds → hops (archive o adds) t ≤ 1
 hops_few o adds t a = subst (λ z. z ≤ 1) (sym (ap (hops_opened (archive o adds) t) (opens o adds a))) (archive_hops o adds t a.distinct (dir_fits o adds a) (entries_few adds a.distinct a.low) a.ends)
-
-eq_or : (m n : ℕ) → (m ≡ n) ⊎ (m ≢ n)
-eq_or m n = grind arith
 
 -- a tile isn't empty, and its id is that of a tile
 tile_filled : (adds : List (ℕ × List ℕ)) (t : ℕ) → AddsFilled adds → filled (Ok (tile_in adds t)) ≡ tile_in adds t

@@ -20,6 +20,14 @@ CreateCauses label before now (Err (errors.Reading causes.Fault)) = (label ≡ c
 CreateCauses label before now (Err errors.OutOfMemory) = label ≡ compression.None
 CreateCauses label before now (Err _) = ⊥
 
+-- the same where the counts of faults aren't known
+abbrev pub CreateRefusals : {A : Type 0} → Compression → Result A PmtError → Type 0
+CreateRefusals label (Ok _) = label ≡ compression.None
+CreateRefusals label (Err (errors.UnsupportedCompression refused)) = (refused ≡ label) × (label ≢ compression.None)
+CreateRefusals label (Err (errors.Reading causes.Fault)) = label ≡ compression.None
+CreateRefusals label (Err errors.OutOfMemory) = label ≡ compression.None
+CreateRefusals label (Err _) = ⊥
+
 -- an add: by the label that its bytes would have to be plain under, by whether the writer failed before, and by whether the data fits
 abbrev pub AddCauses : Compression → Bool → Type 0 → ℕ → ℕ → Result Unit PmtError → Type 0
 AddCauses label failed fits before now (Ok _) = (failed ≡ false) × (label ≡ compression.None) × fits

@@ -1,5 +1,5 @@
 -- A root and leaves for a list of entries.
-use Rattle.std.specs.Prelude.{◌≡◌, ℕ, zero, suc, ◌+◌, ◌/◌, max, true, false, List, [], ◌∷◌, length, take, drop, nat_lt, nat_le, ◌&&◌, refl}
+use Rattle.std.specs.Prelude.{◌≡◌, ℕ, zero, suc, ◌+◌, ◌/◌, max, Bool, true, false, List, [], ◌∷◌, length, take, drop, nat_lt, nat_le, ◌&&◌, refl}
 use Rattle.pm_format.specs.Directory.{Entry, entry, dir_bytes}
 use Rattle.pm_format.specs.WellFormed.{root_of}
 
@@ -20,16 +20,24 @@ leaves_by (suc n) size es =
 abbrev pub found_leaves : List Entry → List (List Entry)
 found_leaves es = leaves_by (length es) (max 4096 (length es / 3500)) es
 
+-- the entries can stand in the root themselves
+abbrev pub stands_in_root : List Entry → Bool
+stands_in_root es = nat_lt (length es) 16384 && nat_le (length (dir_bytes es)) 16257
+
 pub record Layout : Type 0 where
   pub root : List Entry
   pub leaves : List (List Entry)
 
+-- leaves, and the root that names them
+abbrev pub named_leaves : List (List Entry) → Layout
+named_leaves ls = record { root = root_of 0 ls; leaves = ls }
+
 -- one flat root where there are fewer than 16,384 entries and it fits, else leaves
 abbrev pub laid : List Entry → Layout
 laid es =
-    elim (nat_lt (length es) 16384 && nat_le (length (dir_bytes es)) 16257) [
+    elim (stands_in_root es) [
       | true ↦ record { root = es; leaves = [] }
-      | false ↦ let ls = found_leaves es in record { root = root_of 0 ls; leaves = ls }
+      | false ↦ named_leaves (found_leaves es)
     ]
 
 abbrev pub five : List Entry

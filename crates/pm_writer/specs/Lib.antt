@@ -12,13 +12,13 @@ pub mod Twice
 pub mod Cutting
 pub mod Ranges
 pub mod Through
+pub mod TileEntries
 pub mod Maps
 pub mod Archivable
 pub mod Settings
 pub mod Pieces
 pub mod Causes
 pub mod Writing
-pub mod Directories
 pub mod Places
-pub mod Assembled
+pub mod Finishing
 pub mod Stream

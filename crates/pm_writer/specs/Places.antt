@@ -11,7 +11,7 @@ use Rattle.pm_format.specs.declared.compression.Compression.TheVariants as compr
 use Rattle.pm_format.specs.declared.error.PmtError.{PmtError}
 use Rattle.pm_format.specs.declared.header.Header.{Header}
 use Rattle.pm_writer.specs.Archive.{archive, ids_of, parts_of, rising}
-use Rattle.pm_writer.specs.declared.directories.Directories.{Directories}
+use Rattle.pm_writer.specs.declared.cutting.Directories.{Directories}
 use Rattle.pm_writer.specs.declared.places.ArchivePlaces.{ArchivePlaces}
 use Rattle.pm_writer.specs.declared.settings.Settings.{Settings}
 
@@ -52,18 +52,18 @@ places_opened n (Ok o) = Some (record {
 abbrev pub places_read : List ℕ → Option ArchivePlaces
 places_read b = places_opened (length b) (opened b)
 
--- those of directories behind data, as they are kept while an archive is finished
-abbrev pub places_with : Directories → ℕ → ℕ → ℕ → ArchivePlaces
-places_with d data_offset data_length contents = record {
+-- those of directories behind data, with the counts of tiles, entries and contents, as they are kept while an archive is finished
+abbrev pub places_with : Directories → ℕ → ℕ → ℕ → ℕ → ℕ → ArchivePlaces
+places_with d data_offset data_length addressed entries contents = record {
   length = data_offset + data_length + length d.leaves.items;
   root_length = length d.root.items;
-  leaf_offset = if nat_eq d.leaf_count 0 then 0 else (data_offset + data_length);
+  leaf_offset = if nat_eq (length d.ranges.items) 0 then 0 else (data_offset + data_length);
   leaf_length = length d.leaves.items;
-  leaves = d.leaf_count;
+  leaves = length d.ranges.items;
   data_offset = data_offset;
   data_length = data_length;
-  addressed = d.addressed;
-  entries = d.entries;
+  addressed = addressed;
+  entries = entries;
   contents = contents;
 }
 

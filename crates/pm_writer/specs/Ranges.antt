@@ -15,7 +15,6 @@ abbrev pub RangesFit : ℕ → List LeafRange → Type 0
 RangesFit last [] = Unit {0}
 RangesFit last (r ∷ rs) = (last ≤ r.tile_id) × (r.tile_id < 2 ^ 64) × (r.place + 1 < 2 ^ 64) × (r.place + r.size < 2 ^ 64) × RangesFit r.tile_id rs
 
--- sizes that fit an entry
-abbrev pub RangesShort : List LeafRange → Type 0
-RangesShort [] = Unit {0}
-RangesShort (r ∷ rs) = (r.size < 2 ^ 32) × RangesShort rs
+-- a size that fits an entry
+abbrev pub IsShort : LeafRange → Type 0
+IsShort r = r.size < 2 ^ 32

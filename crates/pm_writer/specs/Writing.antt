@@ -1,5 +1,6 @@
 -- What a writer has put onto its medium.
-use Rattle.std.specs.Prelude.{◌≡◌, ℕ, ◌+◌, ◌<◌, ◌^◌, Bool, false, List, [], ◌∷◌, ◌++◌, length, replicate, flat_map, Option, IfSome}
+use Rattle.std.specs.Prelude.{◌≡◌, ℕ, ◌+◌, ◌-◌, ◌<◌, ◌^◌, Bool, false, List, [], ◌∷◌, ◌++◌, length, replicate, flat_map, Option, IfSome, vec_len}
+use Rattle.std.specs.Vec.{vec_capacity}
 use Rattle.pm_format.specs.Options.{Options}
 use Rattle.pm_format.specs.declared.compression.Compression.TheVariants as compression
 use Rattle.pm_writer.specs.Adds.{contents_from}
@@ -47,6 +48,10 @@ pub record Held (o : Options) (told : Option (List ℕ)) (s : WriterState) (adds
 -- whether the medium failed in an earlier call
 abbrev pub has_failed : WriterState → Bool
 has_failed s = s.failed
+
+-- for how many more entries there is memory
+abbrev pub room : WriterState → ℕ
+room s = vec_capacity s.adds.entries - vec_len s.adds.entries
 
 -- the told bytes hold the contents of these adds at their places, unless the medium failed; and no part of an archive is shown
 pub record Writes (o : Options) (told : Option (List ℕ)) (s : WriterState) (adds : List (ℕ × List ℕ)) : Type 0 where

@@ -113,6 +113,7 @@ impl Adds {
     pub(crate) fn reserve(&mut self, additional: usize) -> Result<(), OutOfMemory>
         ensures same { (adds : List (ℕ × List ℕ)) → Means self.old adds → Means self.new adds }
         ensures total { self.new.contents.total ≡ self.old.contents.total }
+        ensures room { OnOk result (vec_len self.new.entries + additional ≤ vec_capacity self.new.entries) }
     {
         self.entries.reserve(additional)?;
         Ok(())

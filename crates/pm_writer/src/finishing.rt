@@ -1,17 +1,90 @@
 // The end of an archive: its directories and its header.
-ghost use Rattle.std.specs.Prelude.{◌≡◌, ◌≤◌, ℕ, List, IfSome, IfOk, OnOk, is_some};
+ghost use Rattle.std.specs.Prelude.{◌≡◌, ◌≤◌, ◌<◌, ◌^◌, ℕ, List, sum_by, IfSome, IfOk, OnOk, is_some};
 ghost use Rattle.pm_format.specs.Options.{Options};
 ghost use Rattle.pm_writer.specs.Archive.{archive};
-ghost use Rattle.pm_writer.specs.Causes.{FinishCauses};
+ghost use Rattle.pm_writer.specs.Causes.{AssembleCauses, FinishCauses};
+ghost use Rattle.pm_writer.specs.Finishing.{IsAssembled};
 ghost use Rattle.pm_writer.specs.Pieces.{IsHiddenOr};
 ghost use Rattle.pm_writer.specs.Places.{places_of};
-ghost use Rattle.pm_writer.specs.Writing.{Writes, has_failed};
+ghost use Rattle.pm_writer.specs.Writing.{IsStateOf, Writes, has_failed};
 
+use crate::cutting::Directories;
 use crate::pieces::write_parts;
+use crate::state::ROOT_END;
 use crate::{ArchivePlaces, WriterState};
-use pm_format::{Medium, PmtError, PmtResult};
+use pm_format::{DirEntry, Header, Medium, PmtError, PmtResult};
+
+/// What is written behind the contents and in front of them, the places of all parts, and where the contents end.
+#[derive(Drop)]
+pub(crate) struct Assembled {
+    pub(crate) directories: Directories,
+    pub(crate) header: Header,
+    pub(crate) places: ArchivePlaces,
+    pub(crate) end: u64,
+}
+
+// How many ids the runs have together.
+fn addressed_tiles(entries: &[DirEntry]) -> u64
+    requires { sum_by (λ e. e.run_length) entries.now < 2 ^ 64 }
+    ensures { result ≡ sum_by (λ e. e.run_length) entries.now }
+{
+    let mut count = 0;
+    for entry in entries {
+        count += u64::from(entry.run_length());
+    }
+    count
+}
 
 impl WriterState {
+    // The parts of the archive of the adds. The first of these that holds is answered: `OverlappingEntries` with the least id that has two adds, exactly where
+    // there is one; `IndexEntryOverflow` exactly where a leaf has 2^32 bytes or more, or the archive would end past u64; `OutOfMemory`.
+    fn assemble(self) -> PmtResult<Assembled>
+        requires { (o : Options) × (adds : List (ℕ × List ℕ)) × IsStateOf o self adds }
+        ensures is { (o : Options) (adds : List (ℕ × List ℕ)) → IsStateOf o self adds → IfOk result (λ a. IsAssembled o adds a) }
+        ensures causes { (o : Options) (adds : List (ℕ × List ℕ)) → IsStateOf o self adds → AssembleCauses o adds result }
+    {
+        let data_length = self.adds.total();
+        let contents = self.adds.count();
+        let clustered = self.adds.rises();
+        let WriterState {
+            alloc,
+            settings,
+            data_offset,
+            adds,
+            failed: _,
+        } = self;
+        settings.fit();
+        let entries = match adds.into_entries() {
+            Ok(entries) => entries,
+            Err(id) => return Err(PmtError::OverlappingEntries(id)),
+        };
+        let addressed = addressed_tiles(&entries);
+        let count = entries.len() as u64;
+        let directories = match Directories::build(alloc, entries) {
+            Ok(directories) => directories,
+            Err(error) => return Err(error),
+        };
+        let end = data_offset + data_length;
+        if u64::MAX - end < directories.leaves.len() as u64 {
+            return Err(PmtError::IndexEntryOverflow);
+        }
+        let places = ArchivePlaces::of(
+            &directories,
+            data_offset,
+            data_length,
+            addressed,
+            count,
+            contents,
+        );
+        let header = places.header(settings, data_offset - ROOT_END, clustered);
+        Ok(Assembled {
+            directories,
+            header,
+            places,
+            end,
+        })
+    }
+
     /// Finishes the archive: the leaves behind the contents, the root at 127, the header at 0 with its label of directories left out, and last this label.
     /// The medium then holds the one archive of the adds, and the places are its own.
     ///
@@ -39,7 +112,14 @@ impl WriterState {
             Err(error) => return Err(error),
         };
         let header = parts.header.write_bytes();
-        match write_parts(medium, parts.end, &parts.leaves, &parts.root, &header) {
+        let directories = &parts.directories;
+        match write_parts(
+            medium,
+            parts.end,
+            &directories.leaves,
+            &directories.root,
+            &header,
+        ) {
             Ok(()) => Ok(parts.places),
             Err(error) => Err(error),
         }

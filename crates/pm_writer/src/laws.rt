@@ -1,5 +1,5 @@
 // Laws of archives: facts about their definitions, as contracts of functions that do nothing.
-ghost use Rattle.std.specs.Prelude.{◌≡◌, ◌≢◌, ◌<◌, ◌≤◌, ◌+◌, ◌^◌, ℕ, true, List, [], ◌∷◌, ◌++◌, All, length, get_or, take, sum_by, slice_index, MatchOption, Ok, OnOk, Err, false, Some, None};
+ghost use Rattle.std.specs.Prelude.{◌≡◌, ◌≢◌, ◌<◌, ◌≤◌, ◌+◌, ◌^◌, ℕ, true, List, [], ◌∷◌, ◌++◌, All, length, get_or, take, sum_by, slice_index, MatchOption, Ok, OnOk, IfOk, Err, false, Some, None};
 ghost use Rattle.std.specs.FinMap.{FinMap, entries, find, from_entries, get, is_sorted};
 ghost use Rattle.std.specs.Ordering.{nat_cmp};
 ghost use Rattle.std.specs.declared.option.Option.{Option};
@@ -25,6 +25,7 @@ ghost use Rattle.pm_writer.specs.Maps.{Covers, Gives, IsIn, RisingAdds, Tiles};
 ghost use Rattle.pm_writer.specs.Pieces.{IsHidden, IsHiddenOr, PutCauses};
 ghost use Rattle.pm_writer.specs.Places.{places_of, places_read};
 ghost use Rattle.pm_writer.specs.Through.{Rising, Through};
+ghost use Rattle.pm_writer.specs.TileEntries.{entries_read};
 ghost use Rattle.pm_writer.specs.Twice.{Distinct, adds_at, times};
 ghost use Rattle.pm_writer.specs.Writing.{AddFits};
 
@@ -48,16 +49,22 @@ pub fn root_of_leaves_fits()
     ensures { (es : List Entry) → length (dir_bytes (root_of 0 (found_leaves es))) ≤ 16257 }
 {}
 
-/// No tile entry of any directory for the same tiles covers the first ids of two entries of the archive: a directory of tile entries whose ids
-/// strictly rise, whose runs are from 1 to 4,294,967,295 and don't overlap, and which gives these tiles and no others over some data.
-pub fn least_entries()
-    ensures { (adds : List (ℕ × List ℕ)) (fs : List Entry) (bytes : List ℕ) → RisingAdds adds → Tiles fs → Gives fs bytes (tile_in adds)
-        → (f d e : Entry) → IsIn f fs → IsIn d (entries_of_adds adds) → IsIn e (entries_of_adds adds) → Covers f d.tile_id → Covers f e.tile_id → d.tile_id ≡ e.tile_id }
+/// The tile entries that the bytes of an archive have, in its root and in the leaves that this leads to, are the entries of its adds, as many as its header says.
+pub fn entries_are_read()
+    ensures entries { (o : Options) (adds : List (ℕ × List ℕ)) → IsArchivable o adds → entries_read (archive o adds) ≡ entries_of_adds adds }
+    ensures count { (o : Options) (adds : List (ℕ × List ℕ)) → IsArchivable o adds → IfOk (opened (archive o adds)) (λ found. found.0.n_tile_entries ≡ length (entries_read (archive o adds))) }
 {}
 
-/// So any such directory has at least as many entries.
+/// No tile entry of any list for the same tiles covers the first ids of two tile entries of the archive's bytes: a list of tile entries whose ids strictly
+/// rise, whose runs are from 1 to 4,294,967,295 and don't overlap, and which gives these tiles and no others over some data, whatever the data is.
+pub fn least_entries()
+    ensures { (o : Options) (adds : List (ℕ × List ℕ)) (fs : List Entry) (bytes : List ℕ) → IsArchivable o adds → RisingAdds adds → Tiles fs → Gives fs bytes (tile_in adds)
+        → (f d e : Entry) → IsIn f fs → IsIn d (entries_read (archive o adds)) → IsIn e (entries_read (archive o adds)) → Covers f d.tile_id → Covers f e.tile_id → d.tile_id ≡ e.tile_id }
+{}
+
+/// So any such list has at least as many entries as the archive's bytes.
 pub fn no_fewer()
-    ensures { (adds : List (ℕ × List ℕ)) (fs : List Entry) (bytes : List ℕ) → RisingAdds adds → Tiles fs → Gives fs bytes (tile_in adds) → length (entries_of_adds adds) ≤ length fs }
+    ensures { (o : Options) (adds : List (ℕ × List ℕ)) (fs : List Entry) (bytes : List ℕ) → IsArchivable o adds → RisingAdds adds → Tiles fs → Gives fs bytes (tile_in adds) → length (entries_read (archive o adds)) ≤ length fs }
 {}
 
 /// Equal tiles and equal options give equal bytes.

@@ -1,9 +1,10 @@
 // The root that names leaves, as bytes. A leaf's size isn't bound by 2^32 here, so that a size of leaves can be tried.
-ghost use Rattle.std.specs.Prelude.{◌≡◌, ◌++◌, None, map, OnOk};
+ghost use Rattle.std.specs.Prelude.{◌≡◌, ◌++◌, None, map, IfOk, OnOk};
 ghost use Rattle.pm_format.specs.Directory.{dir_bytes, spell_all, starts_from, steps_from};
 ghost use Rattle.pm_writer.specs.Ranges.{RangesFit, named};
 
 use pm_format::write_varint;
+use std::alloc::Global;
 use tile_ids::OutOfMemory;
 
 /// A leaf's first id, and where its bytes lie in the leaf part.
@@ -58,15 +59,16 @@ fn write_places(out: &mut Vec<u8>, ranges: &[LeafRange]) -> Result<(), OutOfMemo
     Ok(())
 }
 
-/// Appends the bytes of the root that names these ranges.
-pub(crate) fn write_root(out: &mut Vec<u8>, ranges: &[LeafRange]) -> Result<(), OutOfMemory>
+/// The bytes of the root that names these ranges.
+pub(crate) fn root_bytes(alloc: Global, ranges: &[LeafRange]) -> Result<Vec<u8>, OutOfMemory>
     requires { RangesFit 0 ranges.now }
-    ensures { OnOk result (out.new.items ≡ out.old.items ++ dir_bytes (named ranges.now)) }
+    ensures { IfOk result (λ v. v.items ≡ dir_bytes (named ranges.now)) }
 {
-    write_varint(out, ranges.len() as u64)?;
-    write_first_ids(out, ranges)?;
-    write_zeros(out, ranges)?;
-    write_sizes(out, ranges)?;
-    write_places(out, ranges)?;
-    Ok(())
+    let mut out = Vec::new(alloc);
+    write_varint(&mut out, ranges.len() as u64)?;
+    write_first_ids(&mut out, ranges)?;
+    write_zeros(&mut out, ranges)?;
+    write_sizes(&mut out, ranges)?;
+    write_places(&mut out, ranges)?;
+    Ok(out)
 }

@@ -3,28 +3,19 @@
 
 mod adding;
 mod adds;
-mod assembling;
 mod builder;
-#[cfg(test)]
-mod bulk_tests;
 mod content;
 mod contents;
-mod directories;
-#[cfg(test)]
-mod fault_tests;
+mod cutting;
 mod finishing;
 pub mod laws;
-mod layout;
 mod leaf_root;
-mod leaves;
 mod order;
 mod pieces;
 mod places;
 mod settings;
 mod state;
 mod stream;
-#[cfg(test)]
-mod tests;
 
 pub use builder::PmTilesWriter;
 pub use places::ArchivePlaces;

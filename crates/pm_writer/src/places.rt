@@ -2,7 +2,7 @@
 ghost use Rattle.std.specs.Prelude.{◌≡◌, ◌<◌, ◌+◌, ◌^◌, length};
 ghost use Rattle.pm_writer.specs.Places.{header_with, places_with};
 
-use crate::directories::Directories;
+use crate::cutting::Directories;
 use crate::settings::Settings;
 use pm_format::Header;
 
@@ -32,28 +32,31 @@ pub struct ArchivePlaces {
 }
 
 impl ArchivePlaces {
-    /// Those of directories behind contents.
+    /// Those of directories behind contents, with the counts of tiles, entries and contents.
     pub(crate) fn of(
         directories: &Directories,
         data_offset: u64,
         data_length: u64,
+        addressed: u64,
+        entries: u64,
         contents: u64,
     ) -> ArchivePlaces
         requires { data_offset + data_length + length directories.now.leaves.items < 2 ^ 64 }
-        ensures { result ≡ places_with directories.now data_offset data_length contents }
+        ensures { result ≡ places_with directories.now data_offset data_length addressed entries contents }
     {
         let end = data_offset + data_length;
         let leaf_length = directories.leaves.len() as u64;
+        let leaves = directories.ranges.len() as u64;
         ArchivePlaces {
             length: end + leaf_length,
             root_length: directories.root.len() as u64,
-            leaf_offset: if directories.leaf_count == 0 { 0 } else { end },
+            leaf_offset: if leaves == 0 { 0 } else { end },
             leaf_length,
-            leaves: directories.leaf_count,
+            leaves,
             data_offset,
             data_length,
-            addressed: directories.addressed,
-            entries: directories.entries,
+            addressed,
+            entries,
             contents,
         }
     }

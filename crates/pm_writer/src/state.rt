@@ -4,7 +4,7 @@ ghost use Rattle.pm_format.specs.declared.compression.Compression.TheVariants as
 ghost use Rattle.pm_format.specs.Options.{Options};
 ghost use Rattle.pm_writer.specs.Causes.{CreateCauses};
 ghost use Rattle.pm_writer.specs.Pieces.{IsHidden};
-ghost use Rattle.pm_writer.specs.Writing.{Writes, has_failed, zeros};
+ghost use Rattle.pm_writer.specs.Writing.{Writes, has_failed, room, zeros};
 
 use crate::PmTilesWriter;
 use crate::adds::Adds;
@@ -28,10 +28,11 @@ pub struct WriterState {
 }
 
 impl WriterState {
-    /// Makes room for the entries of so many more adds, so that entries aren't moved as they come. What the writer means stays, also after `OutOfMemory`.
+    /// Makes room for the entries of so many more adds, so that entries aren't moved as they come. After Ok there is room for them; what the writer means stays, also after `OutOfMemory`.
     pub fn reserve(&mut self, additional: usize) -> Result<(), OutOfMemory>
         ensures same { (o : Options) (told : Option (List ℕ)) (adds : List (ℕ × List ℕ)) → Writes o told self.old adds → Writes o told self.new adds }
         ensures failed { has_failed self.new ≡ has_failed self.old }
+        ensures room { OnOk result (additional ≤ room self.new) }
     {
         self.adds.reserve(additional)
     }
