@@ -1,5 +1,5 @@
 -- The steps of a look-up.
-use Rattle.std.proofs.Common.{◌≡◌, ◌∙◌, ℕ, zero, suc, true, false, List, nat_eq, Option, None, Some, Result, Ok, Err, refl, ap}
+use Rattle.std.proofs.Common.{◌≡◌, ◌∙◌, ℕ, zero, suc, true, false, List, nat_eq, None, Some, Result, Ok, refl, ap}
 use Rattle.pm_format.specs.Directory.{Entry}
 use Rattle.pm_format.specs.LookUp.{Reached, ends_at, leaf_of, led, reached, through}
 use Rattle.pm_format.specs.Scan.{scan}

@@ -4,7 +4,7 @@ ghost use Rattle.std.specs.Option.{SomeIff};
 ghost use Rattle.pm_reader.specs.Answers.{Gives, HasTextAt, LookUpCauses, bytes_of, range_read};
 ghost use Rattle.pm_reader.specs.Reads.{GrewBetween, ReadsOnly, reads_done};
 
-use pm_format::{Backend, BackendResponse, PmtError, PmtResult, ReadCause, ReadFault};
+use pm_format::{Backend, BackendResponse, PmtError, PmtResult, ReadCause};
 use std::alloc::Global;
 
 /// Exactly the bytes of a range, whose place is counted from a base. `Reading(PastEnd)` comes where it passes the end of the bytes or u64.
@@ -27,12 +27,7 @@ pub(crate) fn read_range<B: Backend>(
     };
     match backend.read_exact(alloc, at, length) {
         Ok(response) => Ok(response),
-        Err(ReadFault::Fault) => Err(PmtError::Reading(ReadCause::Fault)),
-        Err(ReadFault::PastEnd) => Err(PmtError::Reading(ReadCause::PastEnd)),
-        Err(ReadFault::Short { asked, got }) => {
-            Err(PmtError::UnexpectedNumberOfBytesReturned(asked, got))
-        }
-        Err(ReadFault::OutOfMemory) => Err(PmtError::OutOfMemory),
+        Err(fault) => Err(PmtError::from(fault)),
     }
 }
 

@@ -5,9 +5,7 @@ ghost use Rattle.pm_reader.specs.Reads.{ReadsOnly};
 ghost use Rattle.pm_reader.specs.Opening.{FrontCauses, HasVersionOf, IsOpen, OpenAnswers, OpenCauses, header_of, root_of};
 
 use crate::front::open_front;
-use pm_format::{
-    Backend, BackendResponse, Directory, Header, PmtError, PmtResult, ReadCause, ReadFault,
-};
+use pm_format::{Backend, BackendResponse, Directory, Header, PmtError, PmtResult};
 use std::alloc::Global;
 use tile_ids::TextVal;
 
@@ -76,7 +74,6 @@ fn read_front<B: Backend>(alloc: Global, backend: &mut B) -> PmtResult<BackendRe
 {
     match backend.read(alloc, 0, FRONT as u64) {
         Ok(response) => Ok(response),
-        Err(ReadFault::Fault) => Err(PmtError::Reading(ReadCause::Fault)),
-        Err(_) => Err(PmtError::OutOfMemory),
+        Err(fault) => Err(PmtError::from(fault)),
     }
 }
