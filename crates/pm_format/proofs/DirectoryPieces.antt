@@ -37,3 +37,11 @@ dont_fall last (e ∷ es) h = go (dont_fall e.tile_id es h.1)
 fits_not_falling : (last : ℕ) (es : List Entry) → DirFits last es → NotFalling last es
 fits_not_falling last [] h = tt
 fits_not_falling last (e ∷ es) h = (h.0, fits_not_falling e.tile_id es h.6)
+
+pub fits_ordered : (last : ℕ) (es : List Entry) → DirFits last es → IdsDontFall es
+fits_ordered last es h = dont_fall last es (fits_not_falling last es h)
+
+pub fits_placed : (last : ℕ) (es : List Entry) → DirFits last es → All IsPlaced es
+fits_placed last [] h k d q = absurd (omega (arith, q))
+fits_placed last (e ∷ es) h zero d q = record { start = omega (arith, h.4); end = h.5 }
+fits_placed last (e ∷ es) h (suc k) d q = fits_placed e.tile_id es h.6 k d (omega (arith, q))
