@@ -1,5 +1,5 @@
 -- One turn of the loops over columns.
-use Rattle.std.proofs.Common.{◌≡◌, ℕ, suc, ◌+◌, ◌-◌, ◌^◌, ◌<◌, ◌≤◌, true, false, List, [], ◌∷◌, ◌++◌, length, Option, Some, None, nat_lt, if◌then◌else◌, option_map, refl, sym, ◌∙◌, ap, arith, append_assoc, append-nil, drop, length-append}
+use Rattle.std.proofs.Common.{◌≡◌, ℕ, suc, ◌+◌, ◌-◌, ◌^◌, ◌<◌, ◌≤◌, true, false, List, [], ◌∷◌, ◌++◌, length, Option, Some, None, nat_lt, if◌then◌else◌, option_map, refl, sym, ◌∙◌, ap, arith, append_assoc, drop, length-append}
 use Rattle.std.proofs.lemmas.Bool.Decides.{nat_tests}
 use Rattle.pm_format.specs.Varint.{number_at, u32_at, u64_at}
 use Rattle.pm_format.specs.Directory.{◌>>=◌, column, ids_from}

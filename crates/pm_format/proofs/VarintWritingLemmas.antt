@@ -1,6 +1,5 @@
 -- Numbers that are written are read again.
 use Rattle.std.proofs.Common.{◌≡◌, ℕ, zero, suc, ◌+◌, ◌*◌, ◌/◌, ◌%◌, ◌^◌, ◌<◌, ◌≤◌, inl, inr, List, [], ◌∷◌, ◌++◌, length, Some, option_map, refl, ◌∙◌, ap, arith, append_assoc}
-use Rattle.std.proofs.lemmas.Bool.Decides.{nat_tests}
 use Rattle.tile_ids.proofs.Bijection.{lt_or}
 use Rattle.pm_format.specs.Varint.{spelled, below, number_at, u64_at, short_of, varint}
 use Rattle.pm_format.specs.Directory.{◌>>=◌, column, spell_all}
