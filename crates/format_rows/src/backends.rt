@@ -1,0 +1,70 @@
+// Calls of backends over bytes and over a file.
+use crate::media::{Kept, exact, read, say_response};
+use crate::words::{Words, bytes, owned, say};
+use bytes::Bytes;
+use pm_format::{Backend, BackendResponse, BytesBackend, FileBackend};
+use std::alloc::Global;
+
+fn hold(alloc: Global, backend: &mut BytesBackend, words: &mut Words) -> Option<()> {
+    *backend = BytesBackend::new(Bytes::from_vec(bytes(alloc, words)?).ok()?);
+    Some(())
+}
+
+fn open(
+    rt: &HostRuntime,
+    out: &mut String,
+    file: &mut Option<FileBackend>,
+    words: &mut Words,
+) -> Option<()> {
+    match FileBackend::open(rt, words.next()?) {
+        Ok(opened) => {
+            *file = Some(opened);
+            Some(())
+        }
+        Err(fault) => say(out, &fault),
+    }
+}
+
+// The response of some bytes, and that with a version text too.
+fn response(alloc: Global, out: &mut String, words: &mut Words) -> Option<()> {
+    let plain = Bytes::from_vec(bytes(alloc, words)?).ok()?;
+    let versioned = Bytes::from_vec(bytes(alloc, words)?).ok()?;
+    let version = owned(alloc, words)?;
+    say_response(alloc, out, &BackendResponse::new(plain))?;
+    say_response(
+        alloc,
+        out,
+        &BackendResponse::new_with_version(versioned, version),
+    )
+}
+
+fn reads<B: Backend>(
+    alloc: Global,
+    out: &mut String,
+    backend: &mut B,
+    words: &mut Words,
+) -> Option<()> {
+    match words.next()? {
+        "read" => read(alloc, out, backend, words),
+        "exact" => exact(alloc, out, backend, words),
+        _ => None,
+    }
+}
+
+pub fn answer(
+    rt: &HostRuntime,
+    alloc: Global,
+    out: &mut String,
+    kept: &mut Kept,
+    line: &str,
+) -> Option<()> {
+    let mut words: Words = line.split_whitespace();
+    match words.next()? {
+        "response" => response(alloc, out, &mut words),
+        "hold" => hold(alloc, &mut kept.bytes, &mut words),
+        "bytes" => reads(alloc, out, &mut kept.bytes, &mut words),
+        "open" => open(rt, out, &mut kept.file, &mut words),
+        "file" => reads(alloc, out, kept.file.as_mut()?, &mut words),
+        _ => None,
+    }
+}

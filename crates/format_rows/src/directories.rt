@@ -1,0 +1,101 @@
+// Calls of the directories and entries of pm_format.
+ghost use Rattle.std.specs.Prelude.{◌↔◌, All, IsTrue};
+ghost use Rattle.pm_format.specs.Directory.{IsPlaced};
+
+use crate::words::{Words, bytes, number, say, say_bytes};
+use pm_format::{DirEntry, Directory, encode_entries};
+use std::alloc::Global;
+use tile_ids::{TileCoord, TileId};
+
+fn is_placed(entry: &DirEntry) -> bool
+    ensures { IsTrue result ↔ IsPlaced entry.now }
+{
+    entry.offset() < u64::MAX && entry.offset() <= u64::MAX - u64::from(entry.length())
+}
+
+fn all_placed(entries: &[DirEntry]) -> bool
+    ensures { IsTrue result ↔ All IsPlaced entries.now }
+{
+    entries.iter().all(|entry| is_placed(entry))
+}
+
+fn decode(alloc: Global, out: &mut String, words: &mut Words) -> Option<()> {
+    let input = bytes(alloc, words)?;
+    say(out, &Directory::decode(alloc, input.as_slice()))
+}
+
+fn given(alloc: Global, words: &mut Words) -> Option<Directory> {
+    let input = bytes(alloc, words)?;
+    Directory::decode(alloc, input.as_slice()).ok()
+}
+
+fn entries(alloc: Global, out: &mut String, words: &mut Words) -> Option<()> {
+    let directory = given(alloc, words)?;
+    say(out, &directory.get_approx_byte_size())?;
+    say(out, &directory.entries())
+}
+
+fn encode(alloc: Global, out: &mut String, words: &mut Words) -> Option<()> {
+    let directory = given(alloc, words)?;
+    if !all_placed(directory.entries()) {
+        return None;
+    }
+    let spelled = directory.encode(alloc).ok()?;
+    say_bytes(alloc, out, spelled.as_slice())
+}
+
+fn again(alloc: Global, out: &mut String, words: &mut Words) -> Option<()> {
+    let input = bytes(alloc, words)?;
+    let directory = Directory::decode(alloc, input.as_slice()).ok()?;
+    if !all_placed(directory.entries()) {
+        return None;
+    }
+    let spelled = encode_entries(alloc, directory.entries()).ok()?;
+    say(out, &(spelled.as_slice() == input.as_slice()))
+}
+
+fn find(alloc: Global, out: &mut String, words: &mut Words) -> Option<()> {
+    let directory = given(alloc, words)?;
+    let id = TileId::new(number(words)?).ok()?;
+    say(out, &directory.find_tile_id(id))
+}
+
+fn entry(out: &mut String, words: &mut Words) -> Option<()> {
+    let entry = DirEntry::new(
+        number(words)?,
+        number(words)?,
+        number(words)?,
+        number(words)?,
+    );
+    say(out, &entry.tile_id())?;
+    say(out, &entry.offset())?;
+    say(out, &entry.length())?;
+    say(out, &entry.run_length())?;
+    say(out, &entry.is_leaf())?;
+    say(out, &entry.run_in_range())?;
+    say(out, &(entry == DirEntry::default()))
+}
+
+fn run(out: &mut String, words: &mut Words) -> Option<()> {
+    let entry = DirEntry::new(number(words)?, 0, 1, number(words)?);
+    if !entry.run_in_range() {
+        return None;
+    }
+    for id in entry.iter_coords() {
+        say(out, &TileCoord::from(id))?;
+    }
+    Some(())
+}
+
+pub fn answer(alloc: Global, out: &mut String, words: &mut Words) -> Option<()> {
+    match words.next()? {
+        "decode" => decode(alloc, out, words),
+        "entries" => entries(alloc, out, words),
+        "encode" => encode(alloc, out, words),
+        "again" => again(alloc, out, words),
+        "find" => find(alloc, out, words),
+        "entry" => entry(out, words),
+        "run" => run(out, words),
+        _ => None,
+    }
+}
