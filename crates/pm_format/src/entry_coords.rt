@@ -58,24 +58,3 @@ impl<'a> Iterator for DirEntryCoordsIter<'a> {
         Some(id)
     }
 }
-
-#[cfg(test)]
-mod tests {
-    use super::*;
-    use std::test::Fail;
-    use tile_ids::TileCoord;
-
-    #[test]
-    fn run_coordinates(rt: HostRuntime) -> Result<(), Fail> {
-        let entry = DirEntry::new(58, 0, 1, 2);
-        assert!(rt; entry.run_in_range());
-        let mut tiles = Vec::new(rt.alloc());
-        for id in entry.iter_coords() {
-            let coord = TileCoord::from(id);
-            tiles.push((id.value(), coord.z(), coord.x(), coord.y()))?;
-        }
-        assert_eq!(rt; tiles.as_slice(), [(58, 3, 4, 7), (59, 3, 5, 7)].as_slice());
-        assert!(rt; DirEntry::default().is_leaf());
-        Ok(())
-    }
-}

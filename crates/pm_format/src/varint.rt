@@ -86,35 +86,3 @@ fn read_number(bytes: &[u8], at: usize, full: u32, top: u8) -> Result<(u64, usiz
     }
     Ok((value + (u64::from(last) << (7 * full)), place + 1))
 }
-
-#[cfg(test)]
-mod tests {
-    use super::*;
-    use std::test::Fail;
-
-    #[test]
-    fn varint_edges(rt: HostRuntime) -> Result<(), Fail> {
-        assert_eq!(rt; read_varint_u64(&[0x80, 0], 0), Ok((0, 2)));
-        assert_eq!(rt;
-            read_varint_u32(&[0xff, 0xff, 0xff, 0xff, 0x0f], 0),
-            Ok((4_294_967_295, 5))
-        );
-        let refused: [&[u8]; 3] = [
-            &[0xff, 0xff, 0xff, 0xff, 0x10],
-            &[0x80],
-            &[0x80, 0x80, 0x80, 0x80, 0x80, 0],
-        ];
-        for bytes in refused {
-            assert_eq!(rt; read_varint_u32(bytes, 0), Err(PmtError::InvalidEntry));
-        }
-        let mut greatest = [0xff; 10];
-        greatest[9] = 1;
-        assert_eq!(rt; read_varint_u64(&greatest, 0), Ok((u64::MAX, 10)));
-        greatest[9] = 2;
-        assert_eq!(rt; read_varint_u64(&greatest, 0), Err(PmtError::InvalidEntry));
-        let mut out = Vec::new(rt.alloc());
-        write_varint(&mut out, 16258)?;
-        assert_eq!(rt; out.as_slice(), [0x82, 0x7f].as_slice());
-        Ok(())
-    }
-}

@@ -10,8 +10,6 @@ mod short;
 
 use long::of_long;
 use middle::{of_middle, of_upper};
-#[cfg(test)]
-pub(crate) use secret::SECRET;
 use short::of_short;
 
 /// The XXH3 hash of these bytes with 64 bits and seed 0 (the xxHash specification).
