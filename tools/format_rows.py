@@ -406,8 +406,15 @@ def backends():
     refused('ids coord 0 0')
 
 
+# The answers follow from what was written before, and from what Linux says of a full device and of folders.
+def files():
+    for line in open(os.path.join(HERE, 'files.txt')):
+        call, answer = line.rstrip('\n').split(' = ')
+        ROWS.rows.append((call, answer))
+
+
 def main():
-    for rows in (ids, indexes, values, digests, varints, directories, hostile_directories, headers, documents, fields, labels, media, backends):
+    for rows in (ids, indexes, values, digests, varints, directories, hostile_directories, headers, documents, fields, labels, media, backends, files):
         rows()
     ROWS.write_data('one_tile.pmtiles', ONE)
     ROWS.write()

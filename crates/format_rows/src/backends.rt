@@ -1,4 +1,5 @@
 // Calls of backends over bytes and over a file.
+use crate::files;
 use crate::media::{Kept, exact, read, say_response};
 use crate::words::{Words, bytes, owned, say};
 use bytes::Bytes;
@@ -65,6 +66,7 @@ pub fn answer(
         "bytes" => reads(alloc, out, &mut kept.bytes, &mut words),
         "open" => open(rt, out, &mut kept.file, &mut words),
         "file" => reads(alloc, out, kept.file.as_mut()?, &mut words),
+        "disk" => files::answer(rt, alloc, out, &mut kept.disk, &mut words),
         _ => None,
     }
 }

@@ -5,6 +5,7 @@ mod backends;
 mod directories;
 mod documents;
 mod fields;
+mod files;
 mod hashes;
 mod headers;
 mod ids;

@@ -2,7 +2,7 @@
 use crate::words::{Words, bytes, number, say, say_bytes, texts};
 use bytes::Bytes;
 use pm_format::{
-    Backend, BackendResponse, BytesBackend, FileBackend, Medium, MemMedium, ReadFault,
+    Backend, BackendResponse, BytesBackend, FileBackend, FileMedium, Medium, MemMedium, ReadFault,
 };
 use std::alloc::Global;
 
@@ -12,6 +12,7 @@ pub struct Kept {
     pub medium: MemMedium,
     pub bytes: BytesBackend,
     pub file: Option<FileBackend>,
+    pub disk: Option<FileMedium>,
 }
 
 impl Kept {
@@ -21,6 +22,7 @@ impl Kept {
             medium: MemMedium::new(alloc),
             bytes: BytesBackend::new(Bytes::new()),
             file: None,
+            disk: None,
         }
     }
 }
@@ -97,7 +99,7 @@ pub fn exact<B: Backend>(
     )
 }
 
-fn len<M: Medium>(out: &mut String, medium: &mut M) -> Option<()> {
+pub fn len<M: Medium>(out: &mut String, medium: &mut M) -> Option<()> {
     say(out, &medium.len())
 }
 
