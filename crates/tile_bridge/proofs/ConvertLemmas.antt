@@ -100,26 +100,31 @@ module _ (o : Options) (adds : List (ℕ × List ℕ)) (can : CanBeWritten o add
   whole (Some b) is = inr is
 
   pub leaves_whole : (tiles : TileSet) (coords : List Coord) (e : PmtError) (x : ConvertError) (old new : Option (List ℕ)) → x ≡ of_read_error e → AreAddsOf adds tiles → IfSome old (λ b. b ≡ []) → is_some new ≡ is_some old → IfSome new (λ b. b ≡ archive o adds)
-      → ConvertLeaves o tiles coords (Err x) old new
-  leaves_whole tiles coords e x old new is are empty same whole_is = subst (λ x. ConvertLeaves o tiles coords (Err x) old new) (sym is) (by_case e)
+      → ConvertCauses o tiles old (Err x) → ConvertLeaves o tiles coords (Err x) old new
+  leaves_whole tiles coords e x old new is are empty same whole_is cause = subst (λ x. ConvertLeaves o tiles coords (Err x) old new) (sym is) (by_case e (subst (λ x. ConvertCauses o tiles old (Err x)) is cause))
     where
       part : BothTold old new (LeavesPart o tiles)
       part = leaves_part tiles old new are empty same (whole new whole_is)
 
-      by_case : (e : PmtError) → ConvertLeaves o tiles coords (Err (of_read_error e)) old new
-      by_case errors.OutOfMemory = part
-      by_case (errors.Reading causes.Fault) = part
-      by_case _ = part
+      untold : (P : List ℕ → List ℕ → Type 0) (old new : Option (List ℕ)) → is_some new ≡ is_some old → old ≡ None → BothTold old new P
+      untold P None None same none = tt
+      untold P None (Some b) same none = absurd (cc)
+      untold P (Some a) new same none = absurd (cc)
+
+      by_case : (e : PmtError) → ConvertCauses o tiles old (Err (of_read_error e)) → ConvertLeaves o tiles coords (Err (of_read_error e)) old new
+      by_case errors.OutOfMemory c = part
+      by_case (errors.Reading causes.Fault) c = part
+      by_case _ c = untold (λ a b. ⊥) old new same c.0
 
   -- why it couldn't be read back
-  pub read_refused : (tiles : TileSet) (before now : ℕ) (e : PmtError) (x : ConvertError) (old new : Option (List ℕ)) → x ≡ of_read_error e → is_some new ≡ is_some old → IfSome new (λ b. b ≡ archive o adds)
+  pub read_refused : (tiles : TileSet) (before now : ℕ) (e : PmtError) (x : ConvertError) (old new : Option (List ℕ)) → x ≡ of_read_error e → o.internal_compression ≡ compression.None → overflows tiles ≡ false → is_some new ≡ is_some old → IfSome new (λ b. b ≡ archive o adds)
       → IfSome new (λ b. (p : Options) → WellFormed b p true → IsHindered e) → ReadBackCauses {A = Unit {0}} before now (Err e) → ConvertCauses o tiles old (Err x)
-  read_refused tiles before now e x old new is same whole_is hindered cause = subst (λ x. ConvertCauses o tiles old (Err x)) (sym is) (by_told old new same whole_is hindered)
+  read_refused tiles before now e x old new is plain fits same whole_is hindered cause = subst (λ x. ConvertCauses o tiles old (Err x)) (sym is) (by_told old new same whole_is hindered)
     where
       untold : (e : PmtError) → ReadBackCauses {A = Unit {0}} before now (Err e) → ConvertCauses o tiles None (Err (of_read_error e))
       untold errors.OutOfMemory c = tt
       untold (errors.Reading causes.Fault) c = tt
-      untold e c = (refl, c)
+      untold e c = (refl, plain, fits, c)
 
       told : (e : PmtError) (b : List ℕ) → IsHindered e → ConvertCauses o tiles (Some b) (Err (of_read_error e))
       told errors.OutOfMemory b h = tt

@@ -82,6 +82,7 @@ pub record SoFar {B : Type 0} (told : B → Option (List ℕ)) (count failed : B
   pub answers : IfSome (told x) (λ b. (o : Options) → WellFormed b o true → tiles ≡ map (λ c. archive_map b (id_of c)) (take n coords))
   pub faults : failed x ≤ failed y
   pub reads : GrewFrom (count x) (count y) (answered tiles + 1)
+  pub counted : count x ≤ count y
   pub calm : steady x → steady y × (failed y ≡ failed x)
 
 answered_more : (tiles : List (Option (List ℕ))) (tile : Option (List ℕ)) → answered (tiles ++ tile ∷ []) ≡ answered tiles + answered_by tile

@@ -61,7 +61,7 @@ ConvertCauses o tiles told (Err (MediumNotEmpty n)) = (0 < n) × IfSome told (λ
 ConvertCauses o tiles told (Err (UnsupportedCompression label)) = IsEmpty told × (label ≡ o.internal_compression) × (o.internal_compression ≢ compression.None)
 ConvertCauses o tiles told (Err IndexEntryOverflow) = IsEmpty told × (o.internal_compression ≡ compression.None) × (overflows tiles ≡ true)
 ConvertCauses o tiles told (Err MediumFault) = Unit {0}
-ConvertCauses o tiles told (Err (ReadBack e)) = (told ≡ None) × IsReadBack e
+ConvertCauses o tiles told (Err (ReadBack e)) = (told ≡ None) × (o.internal_compression ≡ compression.None) × (overflows tiles ≡ false) × IsReadBack e
 ConvertCauses o tiles told (Err OutOfMemory) = Unit {0}
 
 -- no part of an archive is shown: the label of directories isn't written, or the whole archive stands
@@ -80,7 +80,7 @@ LeavesBytes o tiles coords (Err (MediumNotEmpty n)) old new = new ≡ old
 LeavesBytes o tiles coords (Err (UnsupportedCompression label)) old new = new ≡ old
 LeavesBytes o tiles coords (Err IndexEntryOverflow) old new = new ≡ old
 LeavesBytes o tiles coords (Err MediumFault) old new = LeavesPart o tiles old new
-LeavesBytes o tiles coords (Err (ReadBack e)) old new = LeavesPart o tiles old new
+LeavesBytes o tiles coords (Err (ReadBack e)) old new = ⊥
 LeavesBytes o tiles coords (Err OutOfMemory) old new = LeavesPart o tiles old new
 
 -- a fact on the bytes before and after, where they are told; whether they are doesn't change

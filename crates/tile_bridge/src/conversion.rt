@@ -77,7 +77,7 @@ fn of_reader(error: PmtError) -> ConvertError
 ///
 /// In this order: `MediumNotEmpty` comes exactly where the medium's length isn't 0, `UnsupportedCompression` exactly where directories aren't labelled
 /// `None`, and `IndexEntryOverflow` exactly where the tiles are too many or too long; then the medium is unchanged. `MediumFault` comes only where the medium's
-/// count of faults rose, and `ReadBack` only over a medium that tells no bytes. After `MediumFault` and `OutOfMemory` an empty medium shows no part: no reader
+/// count of faults rose, and `ReadBack` only where directories are labelled `None`, the tiles aren't too many or too long, and the medium tells no bytes. After `MediumFault` and `OutOfMemory` an empty medium shows no part: no reader
 /// opens its bytes, or the whole archive stands.
 pub fn convert_flat<M: Medium>(
     alloc: Global,
@@ -91,6 +91,7 @@ pub fn convert_flat<M: Medium>(
     ensures leaves { ConvertLeaves options.now (tiles_of Flat (told_of base.old)) coords.now result (M.told medium.old) (M.told medium.new) }
     ensures aggregate { IfOk result (λ report. report.aggregate ≡ aggregate (tiles_of Flat (told_of base.old))) }
     ensures reads { IfOk result (λ report. GrewFrom (M.reads medium.old) (M.reads medium.new) (answered report.answers + 1)) }
+    ensures counted { M.reads medium.old ≤ M.reads medium.new }
     ensures fault { IsErrOf result ConvertError.MediumFault → Rose (M.faults medium.old) (M.faults medium.new) }
     ensures faults { M.faults medium.old ≤ M.faults medium.new }
     ensures base { told_of base.new ≡ told_of base.old }

@@ -9,8 +9,6 @@ mod flat_rows;
 mod flat_tiles;
 mod reading_back;
 mod report;
-#[cfg(test)]
-mod tests;
 mod writing;
 
 pub use conversion::convert_flat;

@@ -17,9 +17,6 @@ use pm_reader::{HashMapCache, ReaderState};
 use std::alloc::Global;
 use tile_ids::{BlobVal, OutOfMemory, TileCoord, TileId};
 
-#[cfg(test)]
-mod tests;
-
 // The bytes that were found, or None where there is none.
 fn filled_tile(alloc: Global, found: Option<Bytes>) -> Result<Option<BlobVal>, OutOfMemory>
     ensures { IfOk result (λ tile. tile ≡ filled (Ok found)) }
@@ -48,6 +45,7 @@ fn read_answer<B: Backend>(
     ensures answer { IfSome (B.told backend.old) (λ b. UsesOneLength b → GivesTile b (id_of coord) result) }
     ensures causes { LookUpCauses (B.faults backend.old) (B.faults backend.new) result }
     ensures reads { IfOk result (λ tile. GrewFrom (B.reads backend.old) (B.reads backend.new) (answered_by tile)) }
+    ensures counted { B.reads backend.old ≤ B.reads backend.new }
     ensures told { B.told backend.new ≡ B.told backend.old }
     ensures faults { B.faults backend.old ≤ B.faults backend.new }
     ensures calm { B.steady backend.old → B.steady backend.new × (B.faults backend.new ≡ B.faults backend.old) }
@@ -68,6 +66,7 @@ pub(crate) fn read_answers<B: Backend>(
     ensures answers { IfSome (B.told backend.old) (λ b. (o : Options) → WellFormed b o true → ReadsAnswers b coords.now result) }
     ensures causes { ReadBackCauses (B.faults backend.old) (B.faults backend.new) result }
     ensures reads { IfOk result (λ answers. GrewFrom (B.reads backend.old) (B.reads backend.new) (answered answers + 1)) }
+    ensures counted { B.reads backend.old ≤ B.reads backend.new }
     ensures told { B.told backend.new ≡ B.told backend.old }
     ensures faults { B.faults backend.old ≤ B.faults backend.new }
     ensures calm { B.steady backend.old → B.steady backend.new × (B.faults backend.new ≡ B.faults backend.old) }

@@ -1,14 +1,5 @@
-pub mod AnyOrder
-pub mod BulkLemmas
-pub mod BulkOrder
 pub mod DumpLemmas
-pub mod FlatLineLemmas
 pub mod HexDumpLemmas
-pub mod NumberLemmas
-pub mod PartingLemmas
 pub mod ReportLemmas
-pub mod RowTreeLemmas
 pub mod RunLemmas
-pub mod ScriptLemmas
 pub mod StreamsLemmas
-pub mod TextLemmas

@@ -1,5 +1,5 @@
 -- What a run answers and leaves once there is a script.
-use Rattle.std.proofs.Common.{append-nil, ◌≡◌, ◌≢◌, ◌≤◌, ℕ, inl, inr, false, List, [], ◌∷◌, length, nat_lt, if◌then◌else◌, Option, Some, None, IfSome, Result, Ok, Err, refl, sym, subst, ◌∙◌, ap, arith}
+use Rattle.std.proofs.Common.{◌≡◌, ◌≢◌, ◌≤◌, ◌⊎◌, ℕ, inl, inr, false, List, [], ◌∷◌, length, nat_lt, if◌then◌else◌, Option, Some, None, IfSome, Result, Ok, Err, refl, sym, subst, ◌∙◌, ap, arith}
 use Rattle.std.specs.Result.{IsErrAnd}
 use Rattle.std.proofs.lemmas.Bool.Decides.{nat_tests}
 use Rattle.tile_ids.specs.Coord.{Coord}
@@ -9,15 +9,20 @@ use Rattle.tile_bridge.specs.Convert.{BothTold, ConvertCauses, ConvertLeaves, Is
 use Rattle.tile_bridge.specs.declared.error.ConvertError.{ConvertError}
 use Rattle.tile_bridge.specs.declared.error.ConvertError.TheVariants.{MediumNotEmpty, UnsupportedCompression, IndexEntryOverflow, MediumFault, ReadBack, OutOfMemory}
 use Rattle.tile_bridge.specs.declared.report.ConvertReport.{ConvertReport}
+use Rattle.tile_bridge.specs.ReadingBack.{IsReadBack}
+use Rattle.pm_format.specs.declared.error.PmtError.{PmtError}
+use Rattle.pm_format.specs.declared.error.PmtError.TheVariants as errors
+use Rattle.pm_format.specs.declared.error.ReadCause.TheVariants as causes
+use Rattle.tileset.specs.Dump.{IsOtherRange}
 use Rattle.tileset.specs.Outcomes.{of_convert}
-use Rattle.tileset.specs.Run.{AnsweredBy, Causes, Given, Gives, IsScript, IsScriptOf, LeavesMedium, LeavesOutput, LeftBy, ReportCauses, WrittenBy, answer, answer_command, answer_input, answer_label, answer_medium, answer_script, command_text, outcome_of, text_of}
+use Rattle.tileset.specs.Run.{AnsweredBy, Causes, Given, Gives, HasBegun, IsConvertible, IsScript, IsScriptOf, LeavesMedium, LeavesOutput, LeftBy, ReportCauses, SomeBegun, WrittenBy, answer, answer_command, answer_input, answer_label, answer_medium, answer_script, command_text, outcome_of, text_of}
 use Rattle.tileset.specs.Streams.{GainsFront}
-use Rattle.tileset.specs.Script.{Script, script_of, script_tiles}
+use Rattle.tileset_script.specs.Script.{Script, script_of, script_tiles}
 use Rattle.tileset.specs.declared.input.TheConstants.{MAX_INPUT}
 use Rattle.tileset.specs.declared.outcome.Outcome.{Outcome}
 use Rattle.tileset.specs.declared.outcome.Outcome.TheVariants as outcomes
-use Rattle.tileset.specs.declared.words.Command.{Command}
-use Rattle.tileset.specs.declared.words.Command.TheVariants.{ConvertHex, Bulk}
+use Rattle.tileset_script.specs.declared.words.Command.{Command}
+use Rattle.tileset_script.specs.declared.words.Command.TheVariants.{ConvertHex, Bulk}
 
 pub err_outcome : (r : Result Unit Outcome) (o : Outcome) → IsErrAnd r (λ x. x ≡ o) → outcome_of r ≡ o
 err_outcome (Ok x) o h = absurd h
@@ -50,12 +55,17 @@ refused_script s (Some bytes) e h = refused_medium s bytes e h
 pub refused_exact : (s : Script) (medium : Option (List ℕ)) (e : ConvertError) (r : Result Unit Outcome) → ConvertCauses s.options (script_tiles s) medium (Err e) → IsErrAnd r (λ x. x ≡ of_convert e) → Gives (answer_script (Ok s) medium) (outcome_of r)
 refused_exact s medium e r h ended = subst (Gives (answer_script (Ok s) medium)) (sym (err_outcome r (of_convert e) ended)) (refused_script s medium e h)
 
+-- a medium that tells nothing isn't told to hold a byte
+empty_untold : (medium : Option (List ℕ)) → medium ≡ None → IsEmpty medium
+empty_untold None is = tt
+empty_untold (Some bytes) is = absurd (cc)
+
 refused_answer : (s : Script) (medium : Option (List ℕ)) (e : ConvertError) → ConvertCauses s.options (script_tiles s) medium (Err e) → AnsweredBy s medium (of_convert e)
 refused_answer s medium (MediumNotEmpty n) h = h
 refused_answer s medium (UnsupportedCompression label) h = h
 refused_answer s medium IndexEntryOverflow h = h
 refused_answer s medium MediumFault h = tt
-refused_answer s medium (ReadBack e) h = h
+refused_answer s medium (ReadBack e) h = (h.0, (empty_untold medium h.0, h.1, h.2), h.3)
 refused_answer s medium OutOfMemory h = tt
 
 pub refused_causes : (s : Script) (medium : Option (List ℕ)) (e : ConvertError) (r : Result Unit Outcome) → ConvertCauses s.options (script_tiles s) medium (Err e) → IsErrAnd r (λ x. x ≡ of_convert e) → AnsweredBy s medium (outcome_of r)
@@ -68,38 +78,36 @@ stays None (Some b) h = absurd h
 stays (Some a) None h = absurd h
 stays (Some a) (Some b) h = ap Some h
 
+-- nor does it tell afterwards
+never : (old new : Option (List ℕ)) → BothTold old new (λ a b. ⊥) → new ≡ old
+never None None h = refl
+never None (Some b) h = absurd h
+never (Some a) None h = absurd h
+never (Some a) (Some b) h = absurd h
+
 -- a refused conversion
 refused_by : (s : Script) (coords : List Coord) (old new : Option (List ℕ)) (e : ConvertError) → ConvertLeaves s.options (script_tiles s) coords (Err e) old new → LeftBy s old new (of_convert e)
 refused_by s coords old new (MediumNotEmpty n) h = stays old new h
 refused_by s coords old new (UnsupportedCompression label) h = stays old new h
 refused_by s coords old new IndexEntryOverflow h = stays old new h
 refused_by s coords old new MediumFault h = h
-refused_by s coords old new (ReadBack e) h = tt
+refused_by s coords old new (ReadBack e) h = never old new h
 refused_by s coords old new OutOfMemory h = h
 
 pub refused_medium_left : (s : Script) (coords : List Coord) (old new : Option (List ℕ)) (e : ConvertError) (r : Result Unit Outcome) → ConvertLeaves s.options (script_tiles s) coords (Err e) old new → IsErrAnd r (λ x. x ≡ of_convert e) → LeftBy s old new (outcome_of r)
 refused_medium_left s coords old new e r h ended = subst (LeftBy s old new) (sym (err_outcome r (of_convert e) ended)) (refused_by s coords old new e h)
 
--- to gain nothing is to gain a front
-gains_nothing : (held : Option (List ℕ)) (bytes : List ℕ) → GainsFront held held bytes
-gains_nothing None bytes = (0, omega arith, tt)
-gains_nothing (Some old) bytes = (0, omega arith, sym (append-nil old))
-
-nothing_told : (asked : Command) (s : Script) (medium old : Option (List ℕ)) → IfSome medium (λ b. GainsFront old old (text_of asked s b))
-nothing_told asked s None old = tt
-nothing_told asked s (Some b) old = gains_nothing old (text_of asked s b)
-
 -- nothing is written where the conversion is refused
-unwritten : (asked : Command) (s : Script) (medium old : Option (List ℕ)) (e : ConvertError) → WrittenBy asked s medium old old (of_convert e)
-unwritten asked s medium old (MediumNotEmpty n) = refl
-unwritten asked s medium old (UnsupportedCompression label) = refl
-unwritten asked s medium old IndexEntryOverflow = refl
-unwritten asked s medium old MediumFault = inl refl
-unwritten asked s medium old (ReadBack e) = nothing_told asked s medium old
-unwritten asked s medium old OutOfMemory = inl refl
+unwritten : (asked : Command) (s : Script) (medium left old : Option (List ℕ)) (e : ConvertError) → WrittenBy asked s medium left old old (of_convert e)
+unwritten asked s medium left old (MediumNotEmpty n) = refl
+unwritten asked s medium left old (UnsupportedCompression label) = refl
+unwritten asked s medium left old IndexEntryOverflow = refl
+unwritten asked s medium left old MediumFault = inl refl
+unwritten asked s medium left old (ReadBack e) = inl refl
+unwritten asked s medium left old OutOfMemory = inl refl
 
-pub refused_output : (asked : Command) (s : Script) (medium old : Option (List ℕ)) (e : ConvertError) (r : Result Unit Outcome) → IsErrAnd r (λ x. x ≡ of_convert e) → WrittenBy asked s medium old old (outcome_of r)
-refused_output asked s medium old e r ended = subst (WrittenBy asked s medium old old) (sym (err_outcome r (of_convert e) ended)) (unwritten asked s medium old e)
+pub refused_output : (asked : Command) (s : Script) (medium left old : Option (List ℕ)) (e : ConvertError) (r : Result Unit Outcome) → IsErrAnd r (λ x. x ≡ of_convert e) → WrittenBy asked s medium left old old (outcome_of r)
+refused_output asked s medium left old e r ended = subst (WrittenBy asked s medium left old old) (sym (err_outcome r (of_convert e) ended)) (unwritten asked s medium left old e)
 
 -- over a medium whose archive is written
 both_archive : (s : Script) (coords : List Coord) (r : ConvertReport) (old new : Option (List ℕ)) → ConvertLeaves s.options (script_tiles s) coords (Ok r) old new → BothTold old new (λ before b. IsArchiveOf b s.options (script_tiles s))
@@ -119,37 +127,66 @@ no_part s (Some a) None empty h = absurd h
 no_part s (Some []) (Some b) empty h = inr h
 no_part s (Some (x ∷ xs)) (Some b) empty h = absurd (cc)
 
+-- a medium that tells nothing told nothing before
+untold_before : (old new : Option (List ℕ)) (P : List ℕ → List ℕ → Type 0) → BothTold old new P → new ≡ None → old ≡ None
+untold_before None new P h none = refl
+untold_before (Some a) None P h none = absurd h
+untold_before (Some a) (Some b) P h none = absurd (cc)
+
 -- the report is refused by a fault or want of memory, or over a medium that tells nothing
-reported_by : (asked : Command) (s : Script) (old told new : Option (List ℕ)) (e : Outcome) → IsEmpty old → BothTold old new (λ before b. IsArchiveOf b s.options (script_tiles s)) → ReportCauses told e → LeftBy s old new e
-reported_by asked s old told new outcomes.OutputFault empty h c = h
-reported_by asked s old told new outcomes.OutOfMemory empty h c = no_part s old new empty h
-reported_by asked s old told new outcomes.MediumFault empty h c = no_part s old new empty h
-reported_by asked s old told new (outcomes.ReadBack e) empty h c = tt
-reported_by asked s old told new outcomes.Done empty h c = absurd c
-reported_by asked s old told new (outcomes.Refused e) empty h c = absurd c
-reported_by asked s old told new outcomes.Usage empty h c = absurd c
-reported_by asked s old told new (outcomes.BadScript n) empty h c = absurd c
-reported_by asked s old told new outcomes.InputFault empty h c = absurd c
-reported_by asked s old told new outcomes.InputTooLong empty h c = absurd c
+reported_by : (asked : Command) (s : Script) (old told new : Option (List ℕ)) (e : Outcome) → IsEmpty old → BothTold old new (λ before b. IsArchiveOf b s.options (script_tiles s)) → new ≡ told → ReportCauses told e → LeftBy s old new e
+reported_by asked s old told new outcomes.OutputFault empty h same c = h
+reported_by asked s old told new outcomes.OutOfMemory empty h same c = no_part s old new empty h
+reported_by asked s old told new outcomes.MediumFault empty h same c = no_part s old new empty h
+reported_by asked s old told new (outcomes.ReadBack e) empty h same c = same ∙ c.0 ∙ sym (untold_before old new (λ before b. IsArchiveOf b s.options (script_tiles s)) h (same ∙ c.0))
+reported_by asked s old told new outcomes.Done empty h same c = absurd c
+reported_by asked s old told new (outcomes.Refused e) empty h same c = absurd c
+reported_by asked s old told new outcomes.Usage empty h same c = absurd c
+reported_by asked s old told new (outcomes.BadScript n) empty h same c = absurd c
+reported_by asked s old told new outcomes.InputFault empty h same c = absurd c
+reported_by asked s old told new outcomes.InputTooLong empty h same c = absurd c
 
 pub reported_medium : (asked : Command) (s : Script) (coords : List Coord) (report : ConvertReport) (old told new : Option (List ℕ)) (e : Outcome) (r : Result Unit Outcome) → IsEmpty old → ConvertLeaves s.options (script_tiles s) coords (Ok report) old told → new ≡ told → ReportCauses told e → IsErrAnd r (λ x. x ≡ e) → LeftBy s old new (outcome_of r)
 reported_medium asked s coords report old told new e r empty leaves same causes ended =
-    subst (LeftBy s old new) (sym (err_outcome r e ended)) (reported_by asked s old told new e empty (archive_left s coords report old told new leaves same) causes)
+    subst (LeftBy s old new) (sym (err_outcome r e ended)) (reported_by asked s old told new e empty (archive_left s coords report old told new leaves same) same causes)
 
-front_written : (asked : Command) (s : Script) (told medium old new : Option (List ℕ)) (e : Outcome) → ReportCauses told e → IfSome medium (λ b. GainsFront old new (text_of asked s b)) → WrittenBy asked s medium old new e
-front_written asked s told medium old new outcomes.OutputFault c h = h
-front_written asked s told medium old new outcomes.OutOfMemory c h = inr h
-front_written asked s told medium old new outcomes.MediumFault c h = inr h
-front_written asked s told medium old new (outcomes.ReadBack e) c h = h
-front_written asked s told medium old new outcomes.Done c h = absurd c
-front_written asked s told medium old new (outcomes.Refused e) c h = absurd c
-front_written asked s told medium old new outcomes.Usage c h = absurd c
-front_written asked s told medium old new (outcomes.BadScript n) c h = absurd c
-front_written asked s told medium old new outcomes.InputFault c h = absurd c
-front_written asked s told medium old new outcomes.InputTooLong c h = absurd c
+-- a range that isn't there is no archive that is read back
+other_range : (e : PmtError) → IsOtherRange e → IsReadBack e
+other_range (errors.Reading causes.PastEnd) h = tt
+other_range (errors.UnexpectedNumberOfBytesReturned asked got) h = h
+other_range _ h = absurd h
 
-pub reported_output : (asked : Command) (s : Script) (told medium old new : Option (List ℕ)) (e : Outcome) (r : Result Unit Outcome) → ReportCauses told e → IsErrAnd r (λ x. x ≡ e) → IfSome medium (λ b. GainsFront old new (text_of asked s b)) → WrittenBy asked s medium old new (outcome_of r)
-reported_output asked s told medium old new e r causes ended h = subst (WrittenBy asked s medium old new) (sym (err_outcome r e ended)) (front_written asked s told medium old new e causes h)
+reported_answer : (s : Script) (coords : List Coord) (report : ConvertReport) (old told : Option (List ℕ)) (e : Outcome) → IsConvertible s old → ConvertLeaves s.options (script_tiles s) coords (Ok report) old told → ReportCauses told e → AnsweredBy s old e
+reported_answer s coords report old told outcomes.OutputFault can h c = can
+reported_answer s coords report old told outcomes.OutOfMemory can h c = tt
+reported_answer s coords report old told outcomes.MediumFault can h c = tt
+reported_answer s coords report old told (outcomes.ReadBack e) can h c = (untold_before old told _ h c.0, can, other_range e c.1)
+reported_answer s coords report old told outcomes.Done can h c = absurd c
+reported_answer s coords report old told (outcomes.Refused e) can h c = absurd c
+reported_answer s coords report old told outcomes.Usage can h c = absurd c
+reported_answer s coords report old told (outcomes.BadScript n) can h c = absurd c
+reported_answer s coords report old told outcomes.InputFault can h c = absurd c
+reported_answer s coords report old told outcomes.InputTooLong can h c = absurd c
+
+pub reported_causes : (s : Script) (coords : List Coord) (report : ConvertReport) (old told : Option (List ℕ)) (e : Outcome) (r : Result Unit Outcome) → ConvertCauses s.options (script_tiles s) old (Ok report) → ConvertLeaves s.options (script_tiles s) coords (Ok report) old told → ReportCauses told e → IsErrAnd r (λ x. x ≡ e) → AnsweredBy s old (outcome_of r)
+reported_causes s coords report old told e r can leaves causes ended = subst (AnsweredBy s old) (sym (err_outcome r e ended)) (reported_answer s coords report old told e can leaves causes)
+
+begun_written : (asked : Command) (s : Script) (told medium left old new : Option (List ℕ)) (e : Outcome) → ReportCauses told e → HasBegun asked s medium left old new → WrittenBy asked s medium left old new e
+begun_written asked s told medium left old new outcomes.OutputFault c h = h
+begun_written asked s told medium left old new outcomes.OutOfMemory c h = inr h
+begun_written asked s told medium left old new outcomes.MediumFault c h = inr h
+begun_written asked s told medium left old new (outcomes.ReadBack e) c h = inr h
+begun_written asked s told medium left old new outcomes.Done c h = absurd c
+begun_written asked s told medium left old new (outcomes.Refused e) c h = absurd c
+begun_written asked s told medium left old new outcomes.Usage c h = absurd c
+begun_written asked s told medium left old new (outcomes.BadScript n) c h = absurd c
+begun_written asked s told medium left old new outcomes.InputFault c h = absurd c
+begun_written asked s told medium left old new outcomes.InputTooLong c h = absurd c
+
+pub reported_output : (asked : Command) (s : Script) (coords : List Coord) (report : ConvertReport) (medium told left old new : Option (List ℕ)) (e : Outcome) (r : Result Unit Outcome) → ConvertCauses s.options (script_tiles s) medium (Ok report) → ConvertLeaves s.options (script_tiles s) coords (Ok report) medium told → left ≡ told → ReportCauses told e → IsErrAnd r (λ x. x ≡ e)
+    → IfSome left (λ b. GainsFront old new (text_of asked s b)) → WrittenBy asked s medium left old new (outcome_of r)
+reported_output asked s coords report medium told left old new e r can leaves same causes ended h =
+    subst (WrittenBy asked s medium left old new) (sym (err_outcome r e ended)) (begun_written asked s told medium left old new e causes (record { convertible = can; archive = archive_left s coords report medium told left leaves same; front = h }))
 
 -- What is known of a run, from what is known of its script.
 pub exact_by : (given : Given) (s : Script) (o : Outcome) → IsScript given s → Gives (answer_script (Ok s) given.medium) o → Gives (answer given) o
@@ -185,24 +222,28 @@ medium_by given s new outcomes.Done is h = (s, is, h)
 medium_by given s new (outcomes.Refused e) is h = h
 medium_by given s new outcomes.OutputFault is h = (s, is, h)
 medium_by given s new outcomes.MediumFault is h = (s, is, h)
-medium_by given s new (outcomes.ReadBack e) is h = tt
+medium_by given s new (outcomes.ReadBack e) is h = h
 medium_by given s new outcomes.OutOfMemory is h = inr (s, is, h)
 medium_by given s new outcomes.Usage is h = h
 medium_by given s new (outcomes.BadScript n) is h = h
 medium_by given s new outcomes.InputFault is h = h
 medium_by given s new outcomes.InputTooLong is h = h
 
-pub output_by : (given : Given) (s : Script) (medium old new : Option (List ℕ)) (o : Outcome) → (is : IsScript given s) → WrittenBy is.asked s medium old new o → LeavesOutput given medium old new o
-output_by given s medium old new outcomes.Done is h = (s, is, h)
-output_by given s medium old new (outcomes.Refused e) is h = h
-output_by given s medium old new outcomes.OutputFault is h = (s, is, h)
-output_by given s medium old new outcomes.MediumFault is h = (s, is, h)
-output_by given s medium old new (outcomes.ReadBack e) is h = (s, is, h)
-output_by given s medium old new outcomes.OutOfMemory is h = inr (s, is, h)
-output_by given s medium old new outcomes.Usage is h = h
-output_by given s medium old new (outcomes.BadScript n) is h = h
-output_by given s medium old new outcomes.InputFault is h = h
-output_by given s medium old new outcomes.InputTooLong is h = h
+begun_by : (given : Given) (s : Script) (left old new : Option (List ℕ)) → (is : IsScript given s) → (new ≡ old) ⊎ HasBegun is.asked s given.medium left old new → (new ≡ old) ⊎ SomeBegun given left old new
+begun_by given s left old new is (inl same) = inl same
+begun_by given s left old new is (inr begun) = inr (s, is, begun)
+
+pub output_by : (given : Given) (s : Script) (left old new : Option (List ℕ)) (o : Outcome) → (is : IsScript given s) → WrittenBy is.asked s given.medium left old new o → LeavesOutput given left old new o
+output_by given s left old new outcomes.Done is h = (s, is, h)
+output_by given s left old new (outcomes.Refused e) is h = h
+output_by given s left old new outcomes.OutputFault is h = (s, is, h)
+output_by given s left old new outcomes.MediumFault is h = begun_by given s left old new is h
+output_by given s left old new (outcomes.ReadBack e) is h = begun_by given s left old new is h
+output_by given s left old new outcomes.OutOfMemory is h = begun_by given s left old new is h
+output_by given s left old new outcomes.Usage is h = h
+output_by given s left old new (outcomes.BadScript n) is h = h
+output_by given s left old new outcomes.InputFault is h = h
+output_by given s left old new outcomes.InputTooLong is h = h
 
 -- a front of a text on equal queries, an equal hash and equal bytes
 pub front_moved : (asked : Command) (old new told next : Option (List ℕ)) (qs queries : List Coord) (h hash : List ℕ) → qs ≡ queries → h ≡ hash → next ≡ told

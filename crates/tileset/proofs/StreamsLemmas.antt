@@ -1,5 +1,5 @@
 -- one read or write after another
-use Rattle.std.proofs.Common.{ℕ, ◌≡◌, ◌+◌, ◌-◌, ◌≤◌, List, [], ◌++◌, length, take, drop, Some, None, refl, sym, ap, ◌∙◌, append_assoc, append-nil, take-add, length-append, arith, IfSome, subst}
+use Rattle.std.proofs.Common.{ℕ, ◌≡◌, ◌+◌, ◌-◌, ◌≤◌, List, [], ◌++◌, length, take, drop, Some, None, refl, sym, ap, ◌∙◌, append_assoc, append-nil, take-add, length-append, arith, IfSome, is_some, subst}
 use Rattle.std.proofs.lemmas.Slice.{between_to_end}
 use Rattle.std.specs.declared.option.Option.{Option}
 use Rattle.tileset.specs.Streams.{Loses, Gains, IsAtEnd}
@@ -45,13 +45,29 @@ Gains-more (Some x) None c xs ys p q = absurd p
 Gains-more (Some x) (Some y) None xs ys p q = absurd q
 Gains-more (Some x) (Some y) (Some z) xs ys p q = q ∙ ap (λ l. l ++ ys) p ∙ append_assoc x xs ys
 
+-- what tells goes on to tell
+pub Loses-tells : (a b : Option (List ℕ)) (xs : List ℕ) → Loses a b xs → is_some b ≡ is_some a
+Loses-tells None None xs p = refl
+Loses-tells None (Some y) xs p = absurd p
+Loses-tells (Some x) None xs p = absurd p
+Loses-tells (Some x) (Some y) xs p = refl
+
+pub Loses-told : (a b c : Option (List ℕ)) (xs : List ℕ) → Loses b c xs → is_some b ≡ is_some a → is_some c ≡ is_some a
+Loses-told a b c xs p same = Loses-tells b c xs p ∙ same
+
+pub Gains-tells : (a b : Option (List ℕ)) (xs : List ℕ) → Gains a b xs → is_some b ≡ is_some a
+Gains-tells None None xs p = refl
+Gains-tells None (Some y) xs p = absurd p
+Gains-tells (Some x) None xs p = absurd p
+Gains-tells (Some x) (Some y) xs p = refl
+
 pub Grew-nil : (t : ℕ) → Grew t t 0
 Grew-nil t = record { later = omega arith; most = omega arith; exact = λ h. omega arith }
 
 pub Grew-more : (t u v m n : ℕ) → Grew t u m → Grew u v n → Grew t v (m + n)
 Grew-more t u v m n p q = record { later = omega arith; most = omega arith; exact = λ h. omega arith }
 
-pub ruleset reading = (Loses-nil, Loses-more, Loses-end, IsAtEnd-kept, Loses-length, Grew-nil, Grew-more)
+pub ruleset reading = (Loses-told, Loses-nil, Loses-more, Loses-end, IsAtEnd-kept, Loses-length, Grew-nil, Grew-more)
 
 pub ruleset writing = (Gains-nil, Gains-more)
 

@@ -12,17 +12,17 @@ use Rattle.tile_bridge.specs.ReadingBack.{IsReadBack}
 use Rattle.tile_bridge.specs.declared.error.ConvertError.{ConvertError}
 use Rattle.tile_bridge.specs.declared.error.ConvertError.TheVariants as refusals
 use Rattle.tile_bridge.specs.declared.report.ConvertReport.{ConvertReport}
-use Rattle.tileset.specs.Bulk.{bulk_script}
+use Rattle.tileset_script.specs.Bulk.{bulk_script}
 use Rattle.tileset.specs.Dump.{IsOtherRange}
 use Rattle.tileset.specs.Report.{bulk_text, report_text}
-use Rattle.tileset.specs.Script.{Script, script_of, script_tiles}
+use Rattle.tileset_script.specs.Script.{Script, script_of, script_tiles}
 use Rattle.tileset.specs.Streams.{Gains, GainsFront, IsAtEnd}
-use Rattle.tileset.specs.Words.{command}
+use Rattle.tileset_script.specs.Words.{command}
 use Rattle.tileset.specs.declared.input.TheConstants.{MAX_INPUT}
 use Rattle.tileset.specs.declared.outcome.Outcome.{Outcome}
 use Rattle.tileset.specs.declared.outcome.Outcome.TheVariants.{Done, Refused, Usage, BadScript, InputFault, OutputFault, MediumFault, OutOfMemory, InputTooLong, ReadBack}
-use Rattle.tileset.specs.declared.words.Command.{Command}
-use Rattle.tileset.specs.declared.words.Command.TheVariants.{ConvertHex, Bulk}
+use Rattle.tileset_script.specs.declared.words.Command.{Command}
+use Rattle.tileset_script.specs.declared.words.Command.TheVariants.{ConvertHex, Bulk}
 
 -- what a run is given: its words, what is left of the input, and what the medium holds, where they tell
 pub record Given : Type 0 where
@@ -115,14 +115,18 @@ RefusedBy s medium refusals.MediumFault = ⊥
 RefusedBy s medium (refusals.ReadBack e) = ⊥
 RefusedBy s medium refusals.OutOfMemory = ⊥
 
+-- the script can be converted: the medium is empty, where it tells, directories are plain, and the set fits
+abbrev pub IsConvertible : Script → Option (List ℕ) → Type 0
+IsConvertible s medium = IsEmpty medium × (s.options.internal_compression ≡ compression.None) × (overflows (script_tiles s) ≡ false)
+
 -- When each answer on a script comes.
 abbrev pub AnsweredBy : Script → Option (List ℕ) → Outcome → Type 0
-AnsweredBy s medium Done = IsEmpty medium × (s.options.internal_compression ≡ compression.None) × (overflows (script_tiles s) ≡ false)
+AnsweredBy s medium Done = IsConvertible s medium
 AnsweredBy s medium (Refused e) = RefusedBy s medium e
-AnsweredBy s medium OutputFault = Unit {0}
+AnsweredBy s medium OutputFault = IsConvertible s medium
 AnsweredBy s medium MediumFault = Unit {0}
 AnsweredBy s medium OutOfMemory = Unit {0}
-AnsweredBy s medium (ReadBack e) = (medium ≡ None) × IsReadBack e
+AnsweredBy s medium (ReadBack e) = (medium ≡ None) × IsConvertible s medium × IsReadBack e
 AnsweredBy s medium _ = ⊥
 
 -- When each answer comes. The faults have their causes by the counts, and want of memory is free.
@@ -151,7 +155,6 @@ LeftBy s old new Done = BothTold old new (λ before b. IsArchiveOf b s.options (
 LeftBy s old new OutputFault = BothTold old new (λ before b. IsArchiveOf b s.options (script_tiles s))
 LeftBy s old new OutOfMemory = BothTold old new (LeavesPart s.options (script_tiles s))
 LeftBy s old new MediumFault = BothTold old new (LeavesPart s.options (script_tiles s))
-LeftBy s old new (ReadBack e) = Unit {0}
 LeftBy s old new _ = new ≡ old
 
 -- What the medium holds in the end.
@@ -160,7 +163,6 @@ LeavesMedium given new Done = SomeScript given (λ s. LeftBy s given.medium new 
 LeavesMedium given new OutputFault = SomeScript given (λ s. LeftBy s given.medium new OutputFault)
 LeavesMedium given new MediumFault = SomeScript given (λ s. LeftBy s given.medium new MediumFault)
 LeavesMedium given new OutOfMemory = (new ≡ given.medium) ⊎ SomeScript given (λ s. LeftBy s given.medium new OutOfMemory)
-LeavesMedium given new (ReadBack e) = Unit {0}
 LeavesMedium given new _ = new ≡ given.medium
 
 -- the text that a command writes on the way to Done, on queries, the aggregate hash of the set, and the bytes of the archive
@@ -171,23 +173,33 @@ command_text (Bulk tiles repeat) queries hash b = bulk_text (places_read b)
 abbrev pub text_of : Command → Script → List ℕ → List ℕ
 text_of asked s b = command_text asked s.queries (aggregate (script_tiles s)) b
 
--- What the sink gained in the end, where there is a script: the text on the bytes that the medium holds then, a front of it, or nothing.
-abbrev pub WrittenBy : Command → Script → Option (List ℕ) → Option (List ℕ) → Option (List ℕ) → Outcome → Type 0
-WrittenBy asked s medium old new Done = IfSome medium (λ b. Gains old new (text_of asked s b))
-WrittenBy asked s medium old new OutputFault = IfSome medium (λ b. GainsFront old new (text_of asked s b))
-WrittenBy asked s medium old new MediumFault = (new ≡ old) ⊎ IfSome medium (λ b. GainsFront old new (text_of asked s b))
-WrittenBy asked s medium old new OutOfMemory = (new ≡ old) ⊎ IfSome medium (λ b. GainsFront old new (text_of asked s b))
-WrittenBy asked s medium old new (ReadBack e) = IfSome medium (λ b. GainsFront old new (text_of asked s b))
-WrittenBy asked s medium old new _ = new ≡ old
+-- The text was begun: the script can be converted, the medium holds its archive, and the sink gained a front of the text on the bytes that the medium holds.
+pub record HasBegun (asked : Command) (s : Script) (medium left old new : Option (List ℕ)) : Type 0 where
+  pub convertible : IsConvertible s medium
+  pub archive : BothTold medium left (λ before b. IsArchiveOf b s.options (script_tiles s))
+  pub front : IfSome left (λ b. GainsFront old new (text_of asked s b))
+
+-- What the sink gained in the end, where there is a script, what the medium held and what it holds then: the text, a front of it, or nothing.
+abbrev pub WrittenBy : Command → Script → Option (List ℕ) → Option (List ℕ) → Option (List ℕ) → Option (List ℕ) → Outcome → Type 0
+WrittenBy asked s medium left old new Done = IfSome left (λ b. Gains old new (text_of asked s b))
+WrittenBy asked s medium left old new OutputFault = HasBegun asked s medium left old new
+WrittenBy asked s medium left old new MediumFault = (new ≡ old) ⊎ HasBegun asked s medium left old new
+WrittenBy asked s medium left old new OutOfMemory = (new ≡ old) ⊎ HasBegun asked s medium left old new
+WrittenBy asked s medium left old new (ReadBack e) = (new ≡ old) ⊎ HasBegun asked s medium left old new
+WrittenBy asked s medium left old new _ = new ≡ old
+
+-- a script of the command whose text was begun
+abbrev pub SomeBegun : Given → Option (List ℕ) → Option (List ℕ) → Option (List ℕ) → Type 0
+SomeBegun given left old new = (s : Script) × (is : IsScript given s) × HasBegun is.asked s given.medium left old new
 
 -- What the sink gained in the end.
 abbrev pub LeavesOutput : Given → Option (List ℕ) → Option (List ℕ) → Option (List ℕ) → Outcome → Type 0
-LeavesOutput given medium old new Done = (s : Script) × (is : IsScript given s) × WrittenBy is.asked s medium old new Done
-LeavesOutput given medium old new OutputFault = (s : Script) × (is : IsScript given s) × WrittenBy is.asked s medium old new OutputFault
-LeavesOutput given medium old new MediumFault = (s : Script) × (is : IsScript given s) × WrittenBy is.asked s medium old new MediumFault
-LeavesOutput given medium old new (ReadBack e) = (s : Script) × (is : IsScript given s) × WrittenBy is.asked s medium old new (ReadBack e)
-LeavesOutput given medium old new OutOfMemory = (new ≡ old) ⊎ ((s : Script) × (is : IsScript given s) × WrittenBy is.asked s medium old new OutOfMemory)
-LeavesOutput given medium old new _ = new ≡ old
+LeavesOutput given left old new Done = (s : Script) × (is : IsScript given s) × WrittenBy is.asked s given.medium left old new Done
+LeavesOutput given left old new OutputFault = SomeBegun given left old new
+LeavesOutput given left old new MediumFault = (new ≡ old) ⊎ SomeBegun given left old new
+LeavesOutput given left old new OutOfMemory = (new ≡ old) ⊎ SomeBegun given left old new
+LeavesOutput given left old new (ReadBack e) = (new ≡ old) ⊎ SomeBegun given left old new
+LeavesOutput given left old new _ = new ≡ old
 
 -- the outcome of an attempt
 abbrev pub outcome_of : {T : Type 0} → Result T Outcome → Outcome

@@ -1,5 +1,5 @@
 // The dump of a medium's bytes, read back and written piece by piece.
-ghost use Rattle.std.specs.Prelude.{◌≡◌, ◌≤◌, ◌<◌, ◌+◌, ◌^◌, length, take, drop, IfSome, OnOk, IsErrOf};
+ghost use Rattle.std.specs.Prelude.{◌≡◌, ◌≤◌, ◌<◌, ◌+◌, ◌^◌, length, take, drop, IfSome, OnOk, IsErrOf, is_some};
 ghost use Rattle.tile_ids.specs.Counts.{Rose};
 ghost use Rattle.tileset.specs.Dump.{DumpCauses, HasLength};
 ghost use Rattle.tileset.specs.HexDump.{hex_dump};
@@ -29,7 +29,9 @@ fn write_piece<O: Sink, M: Medium>(
     ensures causes { DumpCauses (M.told medium.old) result }
     ensures output_fault { IsErrOf result Outcome.OutputFault → Rose (O.faults output.old) (O.faults output.new) }
     ensures medium_fault { IsErrOf result Outcome.MediumFault → Rose (M.faults medium.old) (M.faults medium.new) }
+    ensures output_tells { is_some (O.held output.new) ≡ is_some (O.held output.old) }
     ensures output_faults { O.faults output.old ≤ O.faults output.new }
+    ensures reads { M.reads medium.old ≤ M.reads medium.new }
     ensures medium_faults { M.faults medium.old ≤ M.faults medium.new }
     ensures output_calm { O.steady output.old → O.steady output.new × (O.faults output.new ≡ O.faults output.old) }
     ensures medium_calm { M.steady medium.old → M.steady medium.new × (M.faults medium.new ≡ M.faults medium.old) }
@@ -55,7 +57,9 @@ pub(crate) fn write_dump<O: Sink, M: Medium>(
     ensures causes { DumpCauses (M.told medium.old) result }
     ensures output_fault { IsErrOf result Outcome.OutputFault → Rose (O.faults output.old) (O.faults output.new) }
     ensures medium_fault { IsErrOf result Outcome.MediumFault → Rose (M.faults medium.old) (M.faults medium.new) }
+    ensures output_tells { is_some (O.held output.new) ≡ is_some (O.held output.old) }
     ensures output_faults { O.faults output.old ≤ O.faults output.new }
+    ensures reads { M.reads medium.old ≤ M.reads medium.new }
     ensures medium_faults { M.faults medium.old ≤ M.faults medium.new }
     ensures output_calm { O.steady output.old → O.steady output.new × (O.faults output.new ≡ O.faults output.old) }
     ensures medium_calm { M.steady medium.old → M.steady medium.new × (M.faults medium.new ≡ M.faults medium.old) }

@@ -1,5 +1,5 @@
 // Reading all of the input.
-ghost use Rattle.std.specs.Prelude.{◌≡◌, ℕ, ◌≤◌, ◌<◌, length, OnOk, IfOk, IfSome, IsErrOf};
+ghost use Rattle.std.specs.Prelude.{◌≡◌, ℕ, ◌≤◌, ◌<◌, length, OnOk, IfOk, IfSome, IsErrOf, is_some};
 ghost use Rattle.tile_ids.specs.Counts.{Rose};
 ghost use Rattle.tileset.specs.Input.{InputCounts};
 ghost use Rattle.tileset.specs.Streams.{Loses, IsAtEnd};
@@ -48,6 +48,8 @@ pub fn read_input<S: Source>(alloc: Global, source: &mut S) -> Result<Vec<u8>, I
     ensures counted { InputCounts (S.taken source.old) (S.taken source.new) result }
     ensures too_long_told { IsErrOf result InputError.TooLong → IfSome (S.left source.old) (λ left. MAX_INPUT < length left) }
     ensures fault { IsErrOf result InputError.Fault → Rose (S.faults source.old) (S.faults source.new) }
+    ensures tells { is_some (S.left source.new) ≡ is_some (S.left source.old) }
+    ensures grows { S.taken source.old ≤ S.taken source.new }
     ensures faults { S.faults source.old ≤ S.faults source.new }
     ensures calm { S.steady source.old → S.steady source.new × (S.faults source.new ≡ S.faults source.old) }
 {

@@ -1,22 +1,21 @@
 // The script that the input spells.
-ghost use Rattle.std.specs.Prelude.{◌≡◌, ◌≤◌, Some, IfOk, IfErr, OnOk, IsErrOf};
+ghost use Rattle.std.specs.Prelude.{◌≡◌, ◌≤◌, Some, IfOk, IfErr, OnOk, IsErrOf, is_some};
 ghost use Rattle.tile_bridge.specs.FlatRows.{AreFlatRows};
 ghost use Rattle.tile_ids.specs.Counts.{Rose};
-ghost use Rattle.tileset.specs.Bulk.{bulk_script};
-ghost use Rattle.tileset.specs.Reading.{script_text};
-ghost use Rattle.tileset.specs.RowTree.{base_rows};
+ghost use Rattle.tileset_script.specs.Bulk.{bulk_script};
+ghost use Rattle.tileset_script.specs.Reading.{script_text};
+ghost use Rattle.tileset_script.specs.RowTree.{base_rows};
 ghost use Rattle.tileset.specs.Run.{IsReadFor, IsScriptOf, IsUntaken, IsShort, LoadCauses, LoadTakes, ScriptCauses, Spells};
 ghost use Rattle.tileset.specs.Streams.{IsAtEnd};
-ghost use Rattle.tileset.specs.Words.{IsCommand};
-ghost use Rattle.tileset.specs.declared.words.Command.TheVariants as commands;
+ghost use Rattle.tileset_script.specs.Words.{IsCommand};
+ghost use Rattle.tileset_script.specs.declared.words.Command.TheVariants as commands;
 
-use crate::bulk::bulk_base;
-use crate::script::{ParsedScript, parse_script};
 use crate::{Command, Outcome, Source, read_input};
 use pm_format::TileType;
 use pm_writer::PmTilesWriter;
 use std::alloc::Global;
 use tile_ids::OutOfMemory;
+use tileset_script::{ParsedScript, bulk_base, parse_script};
 
 // The script that the input spells, which is read to its end.
 fn load<I: Source>(alloc: Global, input: &mut I) -> Result<ParsedScript, Outcome>
@@ -27,6 +26,8 @@ fn load<I: Source>(alloc: Global, input: &mut I) -> Result<ParsedScript, Outcome
     ensures taken { LoadTakes (I.taken input.old) (I.taken input.new) result }
     ensures causes { IfErr result (LoadCauses (I.left input.old)) }
     ensures fault { IsErrOf result Outcome.InputFault → Rose (I.faults input.old) (I.faults input.new) }
+    ensures tells { is_some (I.left input.new) ≡ is_some (I.left input.old) }
+    ensures counted { I.taken input.old ≤ I.taken input.new }
     ensures faults { I.faults input.old ≤ I.faults input.new }
     ensures calm { I.steady input.old → I.steady input.new × (I.faults input.new ≡ I.faults input.old) }
 {
@@ -61,6 +62,8 @@ pub(crate) fn script_for<I: Source>(
     ensures taken { LoadTakes (I.taken input.old) (I.taken input.new) result }
     ensures causes { IfErr result (ScriptCauses command (I.left input.old)) }
     ensures fault { IsErrOf result Outcome.InputFault → Rose (I.faults input.old) (I.faults input.new) }
+    ensures tells { is_some (I.left input.new) ≡ is_some (I.left input.old) }
+    ensures counted { I.taken input.old ≤ I.taken input.new }
     ensures faults { I.faults input.old ≤ I.faults input.new }
     ensures calm { I.steady input.old → I.steady input.new × (I.faults input.new ≡ I.faults input.old) }
 {

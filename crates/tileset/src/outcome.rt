@@ -1,12 +1,12 @@
 // How a run ends.
 ghost use Rattle.std.specs.Prelude.{◌≡◌};
 
-use crate::script::ScriptError;
 use crate::{InputError, SinkFault};
 use pm_format::{PmtError, ReadCause, ReadFault};
 use std::alloc::AllocError;
 use tile_bridge::ConvertError;
 use tile_ids::OutOfMemory;
+use tileset_script::ScriptError;
 
 /// How a run ends.
 #[derive(Debug, Drop, PartialEq, Eq)]

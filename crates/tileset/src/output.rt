@@ -1,5 +1,5 @@
 // Writing all of a text.
-ghost use Rattle.std.specs.Prelude.{◌≡◌, ◌≤◌, OnOk, IsErrOf};
+ghost use Rattle.std.specs.Prelude.{◌≡◌, ◌≤◌, OnOk, IsErrOf, is_some};
 ghost use Rattle.tile_ids.specs.Counts.{Rose};
 ghost use Rattle.tileset.specs.Streams.{Gains, GainsFront};
 
@@ -11,6 +11,7 @@ pub fn write_all<K: Sink>(sink: &mut K, text: &[u8]) -> Result<(), SinkFault>
     ensures all { OnOk result (Gains (K.held sink.old) (K.held sink.new) text.now) }
     ensures front { GainsFront (K.held sink.old) (K.held sink.new) text.now }
     ensures fault { IsErrOf result SinkFault.Fault → Rose (K.faults sink.old) (K.faults sink.new) }
+    ensures tells { is_some (K.held sink.new) ≡ is_some (K.held sink.old) }
     ensures faults { K.faults sink.old ≤ K.faults sink.new }
     ensures calm { K.steady sink.old → K.steady sink.new × (K.faults sink.new ≡ K.faults sink.old) }
 {

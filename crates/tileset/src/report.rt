@@ -1,5 +1,5 @@
 // The report on a written archive.
-ghost use Rattle.std.specs.Prelude.{◌≡◌, ◌≤◌, IfSome, IfErr, OnOk, IsErrOf};
+ghost use Rattle.std.specs.Prelude.{◌≡◌, ◌≤◌, IfSome, IfErr, OnOk, IsErrOf, is_some};
 ghost use Rattle.tile_ids.specs.Counts.{Rose};
 ghost use Rattle.tileset.specs.Places.{places_text};
 ghost use Rattle.tileset.specs.Report.{report_text};
@@ -31,7 +31,9 @@ fn write_hex_report<O: Sink, M: Medium>(
     ensures causes { IfErr result (ReportCauses (M.told medium.old)) }
     ensures output_fault { IsErrOf result Outcome.OutputFault → Rose (O.faults output.old) (O.faults output.new) }
     ensures medium_fault { IsErrOf result Outcome.MediumFault → Rose (M.faults medium.old) (M.faults medium.new) }
+    ensures output_tells { is_some (O.held output.new) ≡ is_some (O.held output.old) }
     ensures output_faults { O.faults output.old ≤ O.faults output.new }
+    ensures reads { M.reads medium.old ≤ M.reads medium.new }
     ensures medium_faults { M.faults medium.old ≤ M.faults medium.new }
     ensures output_calm { O.steady output.old → O.steady output.new × (O.faults output.new ≡ O.faults output.old) }
     ensures medium_calm { M.steady medium.old → M.steady medium.new × (M.faults medium.new ≡ M.faults medium.old) }
@@ -52,6 +54,7 @@ fn write_places<O: Sink>(
     ensures front { GainsFront (O.held output.old) (O.held output.new) (places_text places.now) }
     ensures causes { IfErr result PlacesCauses }
     ensures output_fault { IsErrOf result Outcome.OutputFault → Rose (O.faults output.old) (O.faults output.new) }
+    ensures output_tells { is_some (O.held output.new) ≡ is_some (O.held output.old) }
     ensures output_faults { O.faults output.old ≤ O.faults output.new }
     ensures output_calm { O.steady output.old → O.steady output.new × (O.faults output.new ≡ O.faults output.old) }
 {
@@ -76,7 +79,9 @@ pub(crate) fn write_report<O: Sink, M: Medium>(
     ensures causes { IfErr result (ReportCauses (M.told medium.old)) }
     ensures output_fault { IsErrOf result Outcome.OutputFault → Rose (O.faults output.old) (O.faults output.new) }
     ensures medium_fault { IsErrOf result Outcome.MediumFault → Rose (M.faults medium.old) (M.faults medium.new) }
+    ensures output_tells { is_some (O.held output.new) ≡ is_some (O.held output.old) }
     ensures output_faults { O.faults output.old ≤ O.faults output.new }
+    ensures reads { M.reads medium.old ≤ M.reads medium.new }
     ensures medium_faults { M.faults medium.old ≤ M.faults medium.new }
     ensures output_calm { O.steady output.old → O.steady output.new × (O.faults output.new ≡ O.faults output.old) }
     ensures medium_calm { M.steady medium.old → M.steady medium.new × (M.faults medium.new ≡ M.faults medium.old) }

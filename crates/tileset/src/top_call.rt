@@ -1,22 +1,21 @@
 // The whole converter as one call.
-ghost use Rattle.std.specs.Prelude.{◌≡◌, ◌⊎◌, ◌≤◌, Ok, IsErrOf};
+ghost use Rattle.std.specs.Prelude.{◌≡◌, ◌⊎◌, ◌≤◌, Ok, IsErrOf, is_some};
 ghost use Rattle.tile_ids.specs.Counts.{Rose};
 ghost use Rattle.tile_bridge.specs.FlatRows.{AreFlatRows};
-ghost use Rattle.tileset.specs.Reading.{script_text};
-ghost use Rattle.tileset.specs.RowTree.{base_rows};
+ghost use Rattle.tileset_script.specs.Reading.{script_text};
+ghost use Rattle.tileset_script.specs.RowTree.{base_rows};
 ghost use Rattle.tileset.specs.Run.{AnsweredBy, Causes, Gives, Given, IsReadFor, IsUntaken, IsValid, LeavesMedium, LeavesOutput, LeftBy, Taken, WrittenBy, answer, answer_script, outcome_of};
-ghost use Rattle.tileset.specs.Script.{Script};
-ghost use Rattle.tileset.specs.Words.{command};
+ghost use Rattle.tileset_script.specs.Script.{Script};
+ghost use Rattle.tileset_script.specs.Words.{command};
 
 use crate::load::script_for;
 use crate::report::write_report;
-use crate::script::ParsedScript;
-use crate::words::command_of;
 use crate::{Command, Outcome, Sink, Source};
 use pm_format::Medium;
 use std::alloc::Global;
 use tile_bridge::convert_flat;
 use tile_ids::TextVal;
+use tileset_script::{ParsedScript, command_of};
 
 /// Runs the command that the words are: reads a script from the input, writes the archive of its base to the medium, and the report to the
 /// output. It tests the words, the input, the script, the medium, the label of directories and the set, in this order, and writes to the output only on the way to Done.
@@ -44,9 +43,19 @@ pub fn run<I: Source, O: Sink, M: Medium>(
     ensures input_fault { result ≡ Outcome.InputFault → Rose (I.faults input.old) (I.faults input.new) }
     ensures output_fault { result ≡ Outcome.OutputFault → Rose (O.faults output.old) (O.faults output.new) }
     ensures medium_fault { result ≡ Outcome.MediumFault → Rose (M.faults medium.old) (M.faults medium.new) }
+    // Counts don't fall, and what tells goes on to tell.
+    ensures input_tells { is_some (I.left input.new) ≡ is_some (I.left input.old) }
+    ensures output_tells { is_some (O.held output.new) ≡ is_some (O.held output.old) }
+    ensures medium_tells { is_some (M.told medium.new) ≡ is_some (M.told medium.old) }
+    ensures counted { I.taken input.old ≤ I.taken input.new }
+    ensures reads { M.reads medium.old ≤ M.reads medium.new }
     ensures input_faults { I.faults input.old ≤ I.faults input.new }
     ensures output_faults { O.faults output.old ≤ O.faults output.new }
     ensures medium_faults { M.faults medium.old ≤ M.faults medium.new }
+    // An object whose calls don't fail has no fault.
+    ensures input_calm { I.steady input.old → I.steady input.new × (I.faults input.new ≡ I.faults input.old) }
+    ensures output_calm { O.steady output.old → O.steady output.new × (O.faults output.new ≡ O.faults output.old) }
+    ensures medium_calm { M.steady medium.old → M.steady medium.new × (M.faults medium.new ≡ M.faults medium.old) }
 {
     match attempt(alloc, words, input, output, medium) {
         Ok(()) => Outcome::Done,
@@ -66,11 +75,16 @@ fn convert<O: Sink, M: Medium>(
     ensures exact { Gives (answer_script (Ok (script_text script.old)) (M.told medium.old)) (outcome_of result) }
     ensures causes { AnsweredBy (script_text script.old) (M.told medium.old) (outcome_of result) }
     ensures medium { LeftBy (script_text script.old) (M.told medium.old) (M.told medium.new) (outcome_of result) }
-    ensures output { WrittenBy command (script_text script.old) (M.told medium.new) (O.held output.old) (O.held output.new) (outcome_of result) }
+    ensures output { WrittenBy command (script_text script.old) (M.told medium.old) (M.told medium.new) (O.held output.old) (O.held output.new) (outcome_of result) }
     ensures output_fault { IsErrOf result Outcome.OutputFault → Rose (O.faults output.old) (O.faults output.new) }
     ensures medium_fault { IsErrOf result Outcome.MediumFault → Rose (M.faults medium.old) (M.faults medium.new) }
+    ensures output_tells { is_some (O.held output.new) ≡ is_some (O.held output.old) }
+    ensures medium_tells { is_some (M.told medium.new) ≡ is_some (M.told medium.old) }
+    ensures reads { M.reads medium.old ≤ M.reads medium.new }
     ensures output_faults { O.faults output.old ≤ O.faults output.new }
     ensures medium_faults { M.faults medium.old ≤ M.faults medium.new }
+    ensures output_calm { O.steady output.old → O.steady output.new × (O.faults output.new ≡ O.faults output.old) }
+    ensures medium_calm { M.steady medium.old → M.steady medium.new × (M.faults medium.new ≡ M.faults medium.old) }
 {
     let ParsedScript {
         options,
@@ -99,9 +113,17 @@ fn attempt<I: Source, O: Sink, M: Medium>(
     ensures input_fault { outcome_of result ≡ Outcome.InputFault → Rose (I.faults input.old) (I.faults input.new) }
     ensures output_fault { outcome_of result ≡ Outcome.OutputFault → Rose (O.faults output.old) (O.faults output.new) }
     ensures medium_fault { outcome_of result ≡ Outcome.MediumFault → Rose (M.faults medium.old) (M.faults medium.new) }
+    ensures input_tells { is_some (I.left input.new) ≡ is_some (I.left input.old) }
+    ensures output_tells { is_some (O.held output.new) ≡ is_some (O.held output.old) }
+    ensures medium_tells { is_some (M.told medium.new) ≡ is_some (M.told medium.old) }
+    ensures counted { I.taken input.old ≤ I.taken input.new }
+    ensures reads { M.reads medium.old ≤ M.reads medium.new }
     ensures input_faults { I.faults input.old ≤ I.faults input.new }
     ensures output_faults { O.faults output.old ≤ O.faults output.new }
     ensures medium_faults { M.faults medium.old ≤ M.faults medium.new }
+    ensures input_calm { I.steady input.old → I.steady input.new × (I.faults input.new ≡ I.faults input.old) }
+    ensures output_calm { O.steady output.old → O.steady output.new × (O.faults output.new ≡ O.faults output.old) }
+    ensures medium_calm { M.steady medium.old → M.steady medium.new × (M.faults medium.new ≡ M.faults medium.old) }
 {
     let Some(command) = command_of(words) else {
         return Err(Outcome::Usage);

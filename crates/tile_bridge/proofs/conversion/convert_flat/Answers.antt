@@ -54,7 +54,7 @@ returns-in-Err-read_answers-clause-causes g c =
     let written : IfSome (g.M.Backend.told c.read_answers.new.backend) (λ b. b ≡ archive c.args.options.now adds) = told_same (λ b. b ≡ archive c.args.options.now adds) (g.M.Backend.told c.write_archive.new.medium) (g.M.Backend.told c.read_answers.new.backend) c.read_answers.ensures.told
     (subst (λ xs. IfSome (g.M.Backend.told c.write_archive.new.medium) (λ b. b ≡ archive c.args.options.now (shown xs))) c.deref.ensures.value c.in-Ok.ensures.bytes) in
     let tells : is_some (g.M.Backend.told c.read_answers.new.backend) ≡ is_some (g.M.Backend.told c.args.medium.now) = ap is_some c.read_answers.ensures.told ∙ c.write_archive.ensures.tells ∙ ap is_some c.len.ensures.told in
-    read_refused c.args.options.now adds w.0 tiles (g.M.Backend.faults c.write_archive.new.medium) (g.M.Backend.faults c.read_answers.new.backend) c.in-Err-read_answers.error c.of_reader.result (g.M.Backend.told c.args.medium.now) (g.M.Backend.told c.read_answers.new.backend) c.of_reader.ensures tells written
+    read_refused c.args.options.now adds w.0 tiles (g.M.Backend.faults c.write_archive.new.medium) (g.M.Backend.faults c.read_answers.new.backend) c.in-Err-read_answers.error c.of_reader.result (g.M.Backend.told c.args.medium.now) (g.M.Backend.told c.read_answers.new.backend) c.of_reader.ensures (search rules) (sym (ap (λ rows. overflows (flat_set rows)) rows) ∙ c.in_ok-aggregate.ensures.causes) tells written
     (told_same (λ b. _) (g.M.Backend.told c.write_archive.new.medium) (g.M.Backend.told c.read_answers.new.backend) c.read_answers.ensures.told c.in-Err-read_answers.ensures.answers) c.in-Err-read_answers.ensures.causes
 
 pub returns-in-Err-read_answers-clause-leaves : goal.returns-in-Err-read_answers-clause-leaves
@@ -67,3 +67,5 @@ returns-in-Err-read_answers-clause-leaves g c =
     (subst (λ xs. IfSome (g.M.Backend.told c.write_archive.new.medium) (λ b. b ≡ archive c.args.options.now (shown xs))) c.deref.ensures.value c.in-Ok.ensures.bytes) in
     let tells : is_some (g.M.Backend.told c.read_answers.new.backend) ≡ is_some (g.M.Backend.told c.args.medium.now) = ap is_some c.read_answers.ensures.told ∙ c.write_archive.ensures.tells ∙ ap is_some c.len.ensures.told in
     leaves_whole c.args.options.now adds w.0 tiles c.args.coords.now c.in-Err-read_answers.error c.of_reader.result (g.M.Backend.told c.args.medium.now) (g.M.Backend.told c.read_answers.new.backend) c.of_reader.ensures w.1 (none_told _ _ c.in_ok-length.ensures.answer c.if-length-ne0.false) tells written
+    (read_refused c.args.options.now adds w.0 tiles (g.M.Backend.faults c.write_archive.new.medium) (g.M.Backend.faults c.read_answers.new.backend) c.in-Err-read_answers.error c.of_reader.result (g.M.Backend.told c.args.medium.now) (g.M.Backend.told c.read_answers.new.backend) c.of_reader.ensures (search rules) (sym (ap (λ rows. overflows (flat_set rows)) rows) ∙ c.in_ok-aggregate.ensures.causes) tells written
+    (told_same (λ b. _) (g.M.Backend.told c.write_archive.new.medium) (g.M.Backend.told c.read_answers.new.backend) c.read_answers.ensures.told c.in-Err-read_answers.ensures.answers) c.in-Err-read_answers.ensures.causes)

@@ -14,12 +14,13 @@ pub loop-coord-preserved : goal.loop-coord-preserved
 loop-coord-preserved g c =
     record {
       from = c.in_ok-tile.ensures.from;
-      same = c.in_ok-tile.ensures.kept.told ∙ c.loop-coord.invariant.same;
+      same = c.in_ok-tile.ensures.told ∙ c.loop-coord.invariant.same;
       answers = answer_more (g.B.Backend.told c.args.backend.now) (g.B.Backend.told c.loop-coord.backend) c.args.coords.now c.loop-coord.coord-index c.coord-item.result c.loop-coord.tiles.items c.push.new.self.items c.in_ok-tile.tile c.loop-coord.invariant.same c.loop-coord-test.true
           c.coord-item.is c.in_ok-push.ensures.items c.loop-coord.invariant.answers c.in_ok-tile.ensures.answer;
-      faults = omega (arith, c.loop-coord.invariant.faults, c.in_ok-tile.ensures.kept.faults);
+      faults = omega (arith, c.loop-coord.invariant.faults, c.in_ok-tile.ensures.faults);
       reads = reads_more (g.B.Backend.reads c.args.backend.now) (g.B.Backend.reads c.loop-coord.backend) (g.B.Backend.reads c.read_answer.new.backend) c.loop-coord.tiles.items c.push.new.self.items c.in_ok-tile.tile c.in_ok-push.ensures.items c.loop-coord.invariant.reads c.in_ok-tile.ensures.reads;
-      calm = λ z. let a = c.loop-coord.invariant.calm z in let b = c.in_ok-tile.ensures.kept.calm a.0 in (b.0, b.1 ∙ a.1);
+      counted = omega (arith, c.loop-coord.invariant.counted, c.in_ok-tile.ensures.counted);
+      calm = λ z. let a = c.loop-coord.invariant.calm z in let b = c.in_ok-tile.ensures.calm a.0 in (b.0, b.1 ∙ a.1);
     }
 
 pub returns-clause-answers : goal.returns-clause-answers

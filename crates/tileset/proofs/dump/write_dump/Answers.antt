@@ -10,6 +10,8 @@ loop-at-init g c = record {
   within = search rules;
   output_faults = search rules;
   medium_faults = search rules;
+  output_tells = search rules;
+  reads = search rules;
   output_calm = search rules;
   medium_calm = search rules;
 }
@@ -25,6 +27,8 @@ loop-at-preserved g c = record {
   within = search rules;
   output_faults = search rules;
   medium_faults = search rules;
+  output_tells = search rules;
+  reads = search rules;
   output_calm = search rules;
   medium_calm = search rules;
 }

@@ -1,5 +1,5 @@
 -- the lines of what was written so far
-use Rattle.std.proofs.Common.{◌≡◌, ◌≤◌, ◌<◌, ◌-◌, ◌%◌, take, IfSome}
+use Rattle.std.proofs.Common.{◌≡◌, ◌≤◌, ◌<◌, ◌-◌, ◌%◌, take, IfSome, is_some}
 use Rattle.tileset.specs.HexDump.{hex_dump}
 use Rattle.tileset.specs.Streams.{Gains}
 use Rattle.tileset.proofs.dump.write_dump.Given as goal
@@ -15,6 +15,8 @@ invariant-loop-at g l =
       within : l.at ≤ l.length;
       output_faults : o.faults l.fn.output ≤ o.faults l.output;
       medium_faults : m.faults l.fn.medium ≤ m.faults l.medium;
+      output_tells : is_some (o.held l.output) ≡ is_some (o.held l.fn.output);
+      reads : m.reads l.fn.medium ≤ m.reads l.medium;
       output_calm : o.steady l.fn.output → o.steady l.output × (o.faults l.output ≡ o.faults l.fn.output);
       medium_calm : m.steady l.fn.medium → m.steady l.medium × (m.faults l.medium ≡ m.faults l.fn.medium);
     }

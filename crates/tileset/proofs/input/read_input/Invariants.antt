@@ -1,5 +1,5 @@
 -- what was read so far is what the source lost
-use Rattle.std.proofs.Common.{◌≡◌, ◌≤◌, ◌-◌, length, vec_len}
+use Rattle.std.proofs.Common.{◌≡◌, ◌≤◌, ◌-◌, length, vec_len, is_some}
 use Rattle.tileset.specs.Streams.{Loses}
 use Rattle.tile_ids.specs.Counts.{Grew}
 use Rattle.tileset.specs.declared.input.TheConstants.{MAX_INPUT}
@@ -12,6 +12,7 @@ invariant-loop-count g l =
       moved : Loses (s.left l.fn.source) (s.left l.source) l.bytes.items;
       few : vec_len l.bytes ≤ MAX_INPUT;
       counted : Grew (s.taken l.fn.source) (s.taken l.source) (length l.bytes.items);
+      tells : is_some (s.left l.source) ≡ is_some (s.left l.fn.source);
       faults : s.faults l.fn.source ≤ s.faults l.source;
       calm : s.steady l.fn.source → s.steady l.source × (s.faults l.source ≡ s.faults l.fn.source);
     }

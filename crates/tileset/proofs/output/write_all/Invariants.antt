@@ -1,5 +1,5 @@
 -- what the sink gained is the front that was written
-use Rattle.std.proofs.Common.{◌≡◌, ◌≤◌, ◌-◌, length, take}
+use Rattle.std.proofs.Common.{◌≡◌, ◌≤◌, ◌-◌, length, take, is_some}
 use Rattle.tileset.specs.Streams.{Gains}
 use Rattle.tileset.proofs.output.write_all.Given as goal
 
@@ -10,6 +10,7 @@ invariant-loop-done g l =
       moved : Gains (k.held l.fn.sink) (k.held l.sink) (take l.done l.text);
       within : l.done ≤ length l.text;
       faults : k.faults l.fn.sink ≤ k.faults l.sink;
+      tells : is_some (k.held l.sink) ≡ is_some (k.held l.fn.sink);
       calm : k.steady l.fn.sink → k.steady l.sink × (k.faults l.sink ≡ k.faults l.fn.sink);
     }
 

@@ -1,5 +1,5 @@
 use Rattle.std.proofs.Common.{rules}
-use Rattle.tileset.specs.Reading.{script_text}
+use Rattle.tileset_script.specs.Reading.{script_text}
 use Rattle.tileset.specs.Run.{Given, IsScript}
 use Rattle.tileset.proofs.RunLemmas.{causes_by, exact_by, medium_by, output_by}
 use Rattle.tileset.proofs.top_call.attempt.Goals as goal

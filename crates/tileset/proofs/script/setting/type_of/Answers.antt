@@ -1,7 +1,0 @@
-use Rattle.std.proofs.Common.{codes, sym, ap, arith, rules}
-use Rattle.std.proofs.lemmas.Slice.Eq.{text_from_reads}
-use Rattle.tileset.specs.Setting.{type_named}
-use Rattle.tileset.proofs.script.setting.type_of.Goals as goal
-
-pub returns-in-unknown : goal.returns-in-unknown
-returns-in-unknown c = ap type_named (sym (text_from_reads c.args.word.now (codes "unknown") (omega arith) (search rules)))

@@ -1,0 +1,7 @@
+pub mod BulkLemmas
+pub mod FlatLineLemmas
+pub mod NumberLemmas
+pub mod PartingLemmas
+pub mod RowTreeLemmas
+pub mod ScriptLemmas
+pub mod TextLemmas

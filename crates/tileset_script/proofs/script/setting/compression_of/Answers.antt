@@ -1,0 +1,10 @@
+use Rattle.std.proofs.Common.{codes, sym, ap, arith, rules}
+use Rattle.std.proofs.lemmas.Slice.Eq.{text_from_reads}
+use Rattle.tileset_script.specs.Setting.{compression_named}
+use Rattle.tileset_script.proofs.script.setting.compression_of.Goals as goal
+
+pub returns-in-brotli : goal.returns-in-brotli
+returns-in-brotli c = ap compression_named (sym (text_from_reads c.args.word.now (codes "brotli") (omega arith) (search rules)))
+
+pub returns-in-unknown : goal.returns-in-unknown
+returns-in-unknown c = ap compression_named (sym (text_from_reads c.args.word.now (codes "unknown") (omega arith) (search rules)))

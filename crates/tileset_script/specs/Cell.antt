@@ -1,0 +1,41 @@
+-- Cells as words of a script.
+use Rattle.std.specs.Prelude.{◌≡◌, ◌^◌, ℕ, negsuc, List, [], ◌∷◌, nat_eq, if◌then◌else◌, Option, Some, None, Result, Ok, Err, codes, refl}
+use Rattle.std.specs.Option.{option_map}
+use Rattle.hex.specs.declared.error.FromHexError.{FromHexError}
+use Rattle.hex.specs.Hex.{decode_of, decode_pairs}
+use Rattle.mb_tables.specs.declared.cell.Cell.{Cell}
+use Rattle.mb_tables.specs.declared.cell.Cell.TheVariants.{Null, Int, Blob}
+use Rattle.tileset_script.specs.Number.{integer_below}
+
+abbrev pub null_of : List ℕ → Option Cell
+null_of [] = Some Null
+null_of (b ∷ word) = None
+
+abbrev pub blob_of : Result (List ℕ) FromHexError → Option Cell
+blob_of (Ok bytes) = Some (Blob bytes)
+blob_of (Err e) = None
+
+-- `n`; `i` and a whole number of 64 bits; or `x` and an even number of hexadecimal digits
+abbrev pub cell_of : List ℕ → Option Cell
+cell_of [] = None
+cell_of (b ∷ word) =
+    if nat_eq b 110 then null_of word else
+    (if nat_eq b 105 then option_map Int (integer_below (2 ^ 63) word) else
+    (if nat_eq b 120 then blob_of (decode_of word) else None))
+
+pub two_bytes : cell_of (codes "x0fA0") ≡ Some (Blob (15 ∷ 160 ∷ []))
+unfolding decode_pairs
+two_bytes = refl
+
+pub no_bytes : cell_of (codes "x") ≡ Some (Blob [])
+unfolding decode_pairs
+no_bytes = refl
+
+pub odd_digits : cell_of (codes "x012") ≡ None
+odd_digits = refl
+
+pub least_number : cell_of (codes "i-9223372036854775808") ≡ Some (Int (negsuc 9223372036854775807))
+least_number = refl
+
+pub number_too_great : cell_of (codes "i9223372036854775808") ≡ None
+number_too_great = refl

@@ -1,0 +1,12 @@
+pub mod Bulk
+pub mod Cell
+pub mod Lines
+pub mod Number
+pub mod Parting
+pub mod Reading
+pub mod RowTree
+pub mod Script
+pub mod ScriptExamples
+pub mod Setting
+pub mod Text
+pub mod Words

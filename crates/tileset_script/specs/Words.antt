@@ -1,0 +1,38 @@
+-- The commands that words are.
+use Rattle.std.specs.Prelude.{◌≡◌, ℕ, ◌≤◌, ◌<◌, ◌&&◌, List, [], ◌∷◌, nat_eq, if◌then◌else◌, Option, Some, None, codes, refl}
+use Rattle.std.specs.Option.{option_and_then}
+use Rattle.std.specs.Str.{bytes_eq}
+use Rattle.tileset_script.specs.Number.{number_to}
+use Rattle.tileset_script.specs.declared.words.Command.{Command}
+use Rattle.tileset_script.specs.declared.words.Command.TheVariants.{ConvertHex, Bulk}
+
+-- 0 to 100,000 tiles, and 1 to 1,000,000 ids with the same contents
+abbrev pub bulk_command : List ℕ → List ℕ → Option Command
+bulk_command tiles repeat = option_and_then (λ n. option_and_then (λ k. if nat_eq k 0 then None else Some (Bulk n k)) (number_to 1000000 repeat)) (number_to 100000 tiles)
+
+abbrev pub command : List (List ℕ) → Option Command
+command [] = None
+command (word ∷ []) = None
+command (first ∷ second ∷ []) = if bytes_eq first (codes "convert") && bytes_eq second (codes "hex") then Some ConvertHex else None
+command (first ∷ second ∷ third ∷ []) = if bytes_eq first (codes "bulk") then bulk_command second third else None
+command (first ∷ second ∷ third ∷ fourth ∷ words) = None
+
+-- the numbers of a command are within their limits
+abbrev pub IsCommand : Command → Type 0
+IsCommand ConvertHex = Unit {0}
+IsCommand (Bulk n k) = (n ≤ 100000) × (0 < k) × (k ≤ 1000000)
+
+pub convert_hex : command (codes "convert" ∷ codes "hex" ∷ []) ≡ Some ConvertHex
+convert_hex = refl
+
+pub convert_alone : command (codes "convert" ∷ []) ≡ None
+convert_alone = refl
+
+pub bulk_of_numbers : command (codes "bulk" ∷ codes "4063" ∷ codes "1" ∷ []) ≡ Some (Bulk 4063 1)
+bulk_of_numbers = refl
+
+pub bulk_too_large : command (codes "bulk" ∷ codes "100001" ∷ codes "1" ∷ []) ≡ None
+bulk_too_large = refl
+
+pub bulk_repeats_nothing : command (codes "bulk" ∷ codes "1" ∷ codes "0" ∷ []) ≡ None
+bulk_repeats_nothing = refl

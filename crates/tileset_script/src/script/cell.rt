@@ -1,0 +1,26 @@
+// Cells as words of a script.
+ghost use Rattle.std.specs.Prelude.{◌≡◌, IfOk};
+ghost use Rattle.tileset_script.specs.Cell.{cell_of};
+
+use crate::number::parse_integer;
+use hex::FromHexError;
+use mb_store::Cell;
+use std::alloc::Global;
+use tile_ids::{BlobVal, OutOfMemory};
+
+/// The cell that a word spells, or None: `n` is Null, `i` and a whole number of 64 bits an Int, `x` and an even number of hexadecimal
+/// digits a Blob.
+pub(crate) fn parse_cell(alloc: Global, word: &[u8]) -> Result<Option<Cell>, OutOfMemory>
+    ensures { IfOk result (λ cell. cell ≡ cell_of word.now) }
+{
+    match word {
+        [b'n'] => Ok(Some(Cell::Null)),
+        [b'i', number @ ..] => Ok(parse_integer(number, 1 << 63).map(Cell::Int)),
+        [b'x', digits @ ..] => match hex::decode(alloc, digits) {
+            Ok(bytes) => Ok(Some(Cell::Blob(BlobVal::new(bytes)))),
+            Err(FromHexError::OutOfMemory) => Err(OutOfMemory),
+            Err(_) => Ok(None),
+        },
+        _ => Ok(None),
+    }
+}

@@ -1,0 +1,49 @@
+// Scripts, a line at a time.
+ghost use Rattle.std.specs.Prelude.{◌≡◌, true, ◌<◌, ◌^◌, length, IfOk};
+ghost use Rattle.std.specs.Option.{option_and_then};
+ghost use Rattle.tile_bridge.specs.FlatRows.{AreFlatRows};
+ghost use Rattle.tileset_script.specs.Reading.{Reads, Takes, drafted};
+ghost use Rattle.tileset_script.specs.RowTree.{base_rows};
+ghost use Rattle.tileset_script.specs.Script.{line_of, with_line};
+
+use super::draft::Draft;
+use super::line::parse_line;
+use super::lines::next_line;
+use super::{ParsedScript, ScriptError};
+use std::alloc::Global;
+use tile_ids::OutOfMemory;
+
+// Takes a line, and says whether it is a good one in its place.
+fn take_line(alloc: Global, draft: &mut Draft, line: &[u8]) -> Result<bool, OutOfMemory>
+    requires flat { AreFlatRows draft.old.rows }
+    ensures takes { IfOk result (λ taken. Takes (option_and_then (with_line (drafted draft.old)) (line_of line.now)) taken (drafted draft.new)) }
+    ensures flat { IfOk result (λ taken. taken ≡ true → AreFlatRows draft.new.rows) }
+{
+    match parse_line(alloc, line)? {
+        Some(line) => draft.take(line),
+        None => Ok(false),
+    }
+}
+
+/// The script that an input spells, or the number of its first bad line. Rows take the time of sorting them.
+pub fn parse_script(alloc: Global, input: &[u8]) -> Result<ParsedScript, ScriptError>
+    requires small { length input.now < 2 ^ 63 }
+    ensures reads { Reads input.now result }
+    ensures base { IfOk result (λ script. AreFlatRows (base_rows script.base)) }
+{
+    let mut draft = Draft::new(alloc);
+    let mut rest = input;
+    let mut number = 1;
+    while let Some((line, tail)) = next_line(rest) {
+        if !take_line(alloc, &mut draft, line)? {
+            return Err(ScriptError::BadLine(number));
+        }
+        number += 1;
+        rest = tail;
+    }
+    let finished = draft.finish(alloc)?;
+    match finished {
+        Some(script) => Ok(script),
+        None => Err(ScriptError::BadLine(number)),
+    }
+}

@@ -1,0 +1,53 @@
+// The words of a command line.
+ghost use Rattle.std.specs.Prelude.{◌≡◌, IfSome};
+ghost use Rattle.tileset_script.specs.Words.{IsCommand, bulk_command, command};
+
+use crate::number::parse_number;
+use tile_ids::TextVal;
+
+/// The greatest number of tiles of `bulk`.
+pub const MAX_BULK_TILES: u64 = 100_000;
+
+/// The greatest number of ids with the same contents of `bulk`.
+pub const MAX_BULK_REPEAT: u64 = 1_000_000;
+
+/// What the words ask for.
+#[derive(Clone, Copy, Debug, PartialEq, Eq)]
+pub enum Command {
+    /// `convert hex`: the script is the input, and the archive is printed in hexadecimal.
+    ConvertHex,
+    /// `bulk N K`: the set is made from two numbers, and where the parts of its archive lie is printed.
+    Bulk {
+        /// How many tiles there are, those of the first ids: 0 to 100,000.
+        tiles: u64,
+        /// How many ids that follow each other have the same contents: 1 to 1,000,000.
+        repeat: u64,
+    },
+}
+
+/// The command that words are, if they are one.
+pub fn command_of(words: &[TextVal]) -> Option<Command>
+    ensures value { result ≡ command words.now }
+    ensures within { IfSome result IsCommand }
+{
+    match words {
+        [first, second] if first.as_str() == "convert" && second.as_str() == "hex" => {
+            Some(Command::ConvertHex)
+        }
+        [first, tiles, repeat] if first.as_str() == "bulk" => bulk_command(tiles, repeat),
+        _ => None,
+    }
+}
+
+// The command of two numbers.
+fn bulk_command(tiles: &TextVal, repeat: &TextVal) -> Option<Command>
+    ensures value { result ≡ bulk_command tiles.now repeat.now }
+    ensures within { IfSome result IsCommand }
+{
+    let tiles = parse_number(tiles.as_str().as_bytes(), MAX_BULK_TILES)?;
+    let repeat = parse_number(repeat.as_str().as_bytes(), MAX_BULK_REPEAT)?;
+    if repeat == 0 {
+        return None;
+    }
+    Some(Command::Bulk { tiles, repeat })
+}

@@ -1,0 +1,517 @@
+#!/usr/bin/env python3
+"""Writes the cases of crates/tileset_rows, and what they must print, by the definitions of the formats alone.
+
+    tools/tileset_rows.py
+
+It writes crates/tileset_rows/stdin and stdout. No answer comes from the converter: ids are by Hilbert's curve as the PMTiles
+specification has it, archives by version 3 of that specification and the rules of docs/ARCHITECTURE.md, digests by hashlib.
+"""
+import hashlib
+import os
+import random
+import re
+import struct
+
+MAX_ROOT = 16384 - 127
+LABELS = ["unknown", "none", "gzip", "brotli", "zstd"]
+TYPES = ["unknown", "mvt", "png", "jpeg", "webp", "avif", "mlt"]
+USAGE = "usage: tileset convert hex | convert file PATH | bulk N K"
+
+
+# Ids.
+
+def within(z, x, y):
+    """The number of a tile within its zoom: a recursion on quadrants."""
+    if z == 0:
+        return 0
+    s, a = 1 << (z - 1), 1 << (2 * (z - 1))
+    if x < s and y < s:
+        return within(z - 1, y, x)
+    if x < s:
+        return a + within(z - 1, x, y - s)
+    if y >= s:
+        return 2 * a + within(z - 1, x - s, y - s)
+    return 3 * a + within(z - 1, s - 1 - y, 2 * s - 1 - x)
+
+
+def below(z):
+    return (4 ** z - 1) // 3
+
+
+def tile_id(z, x, y):
+    return below(z) + within(z, x, y)
+
+
+def coord(number):
+    """The tile of an id: the quadrants of the recursion, taken back one after another."""
+    z = 0
+    while below(z + 1) <= number:
+        z += 1
+
+    def place(z, n):
+        if z == 0:
+            return 0, 0
+        s, a = 1 << (z - 1), 1 << (2 * (z - 1))
+        q, (x, y) = n // a, place(z - 1, n % a)
+        return [(y, x), (x, y + s), (x + s, y + s), (2 * s - 1 - y, s - 1 - x)][q]
+
+    return (z, *place(z, number - below(z)))
+
+
+# Archives.
+
+def varint(n):
+    out = bytearray()
+    while n >= 128:
+        out.append(n % 128 + 128)
+        n //= 128
+    out.append(n)
+    return bytes(out)
+
+
+def spelled(entries):
+    """The bytes of a directory: its count and four columns."""
+    out = [varint(len(entries))]
+    last = 0
+    for number, _, _, _ in entries:
+        out.append(varint(number - last))
+        last = number
+    out += [varint(run) for _, _, _, run in entries]
+    out += [varint(length) for _, _, length, _ in entries]
+    end = None
+    for _, offset, length, _ in entries:
+        out.append(varint(0 if offset == end else offset + 1))
+        end = offset + length
+    return b"".join(out)
+
+
+def archive(options, adds):
+    """The bytes of an archive and its numbers, from pairs of an id and bytes by rising id."""
+    data, offsets, entries, last = bytearray(), {}, [], None
+    for number, content in adds:
+        if content not in offsets:
+            offsets[content] = len(data)
+            data += content
+        if last == (number - 1, content):
+            first, offset, length, run = entries[-1]
+            entries[-1] = first, offset, length, run + 1
+        else:
+            entries.append((number, offsets[content], len(content), 1))
+        last = number, content
+    root, leaves, cut = spelled(entries), [], []
+    if len(entries) >= 16384 or len(root) > MAX_ROOT:
+        size = max(4096, len(entries) // 3500)
+        while True:
+            leaves, cut, at = [], [], 0
+            for k in range(0, len(entries), size):
+                leaf = spelled(entries[k:k + size])
+                cut.append((entries[k][0], at, len(leaf), 0))
+                leaves.append(leaf)
+                at += len(leaf)
+            root = spelled(cut)
+            if len(root) <= MAX_ROOT:
+                break
+            size += size // 5
+    leaf, meta = b"".join(leaves), options["metadata"]
+    data_offset = 16384 + len(meta)
+    leaf_offset = data_offset + len(data) if leaf else 0
+    label = options["tile-compression"] or (2 if options["type"] == 1 else 1)
+    if options["tile-compression"] == 0:
+        label = 0
+    head = b"PMTiles" + struct.pack(
+        "<B11QBBBBBB4iB2i", 3, 127, len(root), 16384, len(meta), leaf_offset, len(leaf), data_offset, len(data),
+        len(adds), len(entries), len(offsets), 1, options["internal-compression"], label, options["type"],
+        options["min-zoom"], options["max-zoom"], *options["bounds"], options["center-zoom"], *options["center"])
+    assert len(head) == 127
+    whole = (head + root).ljust(16384, b"\0") + meta + data + leaf
+    numbers = [
+        ("addressed", len(adds)), ("entries", len(entries)), ("contents", len(offsets)), ("length", len(whole)),
+        ("root", len(root)), ("leaves", len(leaves)), ("leaf-offset", leaf_offset), ("leaf-length", len(leaf)),
+        ("data-offset", data_offset), ("data-length", len(data))]
+    return whole, numbers
+
+
+# Scripts.
+
+class Bad(Exception):
+    pass
+
+
+def number(word, least, most):
+    if not re.fullmatch(rb"0|-?[1-9][0-9]*", word) or not least <= int(word) <= most:
+        raise Bad
+    return int(word)
+
+
+def cell(word):
+    """A cell: None for Null, a number, bytes, a text, or the word for another kind."""
+    if word == b"n":
+        return None
+    if word == b"o":
+        return "other"
+    if word[:1] == b"i":
+        return number(word[1:], -2 ** 63, 2 ** 63 - 1)
+    if word[:1] == b"x" and re.fullmatch(rb"([0-9a-fA-F]{2})*", word[1:]):
+        return bytes.fromhex(word[1:].decode())
+    if word[:1] == b"t":
+        return ("text", text(word[1:]))
+    raise Bad
+
+
+def text(word):
+    if not re.fullmatch(rb"([!-$&-~]|%[0-9a-fA-F]{2})*", word):
+        raise Bad
+    out = re.sub(rb"%(..)", lambda found: bytes([int(found[1], 16)]), word)
+    try:
+        out.decode("utf-8")
+    except UnicodeDecodeError:
+        raise Bad from None
+    return out
+
+
+def defaults():
+    return {"type": 0, "tile-compression": None, "internal-compression": 1, "min-zoom": 0, "max-zoom": 22, "center-zoom": 0,
+            "bounds": [-1800000000, -850511290, 1800000000, 850511290], "center": [0, 0], "metadata": b"{}"}
+
+
+def take_option(options, words):
+    name = words[0].decode("latin-1") if words else ""
+    if name in ("type", "tile-compression", "internal-compression") and len(words) == 2:
+        names = [it.encode() for it in (TYPES if name == "type" else LABELS)]
+        if words[1] not in names:
+            raise Bad
+        options[name] = names.index(words[1])
+    elif name in ("min-zoom", "max-zoom", "center-zoom") and len(words) == 2:
+        options[name] = number(words[1], 0, 255)
+    elif name in ("bounds", "center") and len(words) == {"bounds": 5, "center": 3}[name]:
+        options[name] = [number(it, -2 ** 31, 2 ** 31 - 1) for it in words[1:]]
+    elif name == "metadata" and len(words) == 2 and words[1][:1] == b"t":
+        options[name] = text(words[1][1:])
+    else:
+        raise Bad
+
+
+def take_row(rows, words):
+    if len(words) != 5 or words[0] != b"tiles":
+        raise Bad
+    z, x, line, content = (cell(it) for it in words[1:])
+    if not all(isinstance(it, int) for it in (z, x, line)) or not (content is None or isinstance(content, bytes)):
+        raise Bad
+    if not 0 <= z <= 30 or not 0 <= x < 2 ** z or not 0 <= line < 2 ** z or (z, x, line) in rows:
+        raise Bad
+    rows[z, x, line] = content
+
+
+def parsed(script):
+    """Options, rows and queries, or the number of the first bad line."""
+    options, rows, queries, part = defaults(), {}, [], 0
+    lines = script.split(b"\n")
+    if lines[-1] == b"":
+        lines.pop()
+    for count, line in enumerate(lines, 1):
+        if line == b"" or line[:1] == b"#":
+            continue
+        words = line.split(b" ")
+        try:
+            if words[0] == b"option" and part == 0:
+                take_option(options, words[1:])
+            elif words == [b"base", b"flat"] and part == 0:
+                part = 1
+            elif words[0] == b"row" and part == 1:
+                take_row(rows, words[1:])
+            elif words[0] == b"query" and part > 0 and len(words) == 4:
+                z = number(words[1], 0, 31)
+                queries.append((z, number(words[2], 0, 2 ** z - 1), number(words[3], 0, 2 ** z - 1)))
+                part = 2
+            else:
+                raise Bad
+        except Bad:
+            return count
+    return (options, rows, queries) if part else len(lines) + 1
+
+
+# Reports.
+
+def aggregate(rows):
+    pieces = (b"%d%d%d%s" % (*place, rows[place] or b"") for place in sorted(rows))
+    return hashlib.md5(b"".join(pieces)).hexdigest().upper()
+
+
+def adds_of(rows):
+    return sorted((tile_id(z, x, 2 ** z - 1 - line), content) for (z, x, line), content in rows.items() if content)
+
+
+def dump(whole):
+    out = []
+    for at in range(0, len(whole), 32):
+        if any(whole[at:at + 32]):
+            out.append(f"{at:08x} {whole[at:at + 32].hex()}\n")
+    return "".join(out)
+
+
+def report(options, rows, queries):
+    adds = adds_of(rows)
+    found = dict(adds)
+    whole, numbers = archive(options, adds)
+    lines = [f"tile {z}/{x}/{y} {found[tile_id(z, x, y)].hex() if tile_id(z, x, y) in found else 'none'}\n" for z, x, y in queries]
+    lines.append(f"aggregate {aggregate(rows)}\n")
+    lines += [f"{name} {count}\n" for name, count in numbers[:4]]
+    return "".join(lines) + dump(whole), whole
+
+
+def bulk(tiles, repeat):
+    whole, numbers = archive(defaults(), [(k, b"%d" % (k // repeat)) for k in range(tiles)])
+    return "".join(f"{name} {count}\n" for name, count in numbers), whole
+
+
+# Cases.
+
+CASES = []
+
+
+def shown(data, most):
+    """Bytes as they are printed: a text with escapes, or their number and digest where they are many."""
+    if len(data) > most:
+        return f"{len(data)} bytes {hashlib.md5(data).hexdigest().upper()}"
+    return escaped(data)
+
+
+def escaped(data):
+    out = []
+    for byte in data:
+        if byte == 10:
+            out.append("\\n")
+        elif byte == 92:
+            out.append("\\\\")
+        elif byte == 124 or not 32 <= byte < 127:
+            out.append(f"\\x{byte:02x}")
+        else:
+            out.append(chr(byte))
+    return "".join(out)
+
+
+def case(fields, wanted):
+    line = "|".join(fields)
+    assert "\n" not in line and "\n" not in wanted
+    CASES.append((line, wanted))
+
+
+def ended(status, line, output=b"", medium=b""):
+    return f"{status}|{line}|{shown(output, 4000)}|{len(medium)}|{shown(medium, 64)}"
+
+
+def outcome(words, script, medium=b""):
+    """How a run ends whose objects don't fail."""
+    if words == ["convert", "hex"]:
+        found = parsed(script)
+        if isinstance(found, int):
+            return ended(3, f"bad script: line {found}", medium=medium)
+        given = found
+    elif len(words) == 3 and words[0] == "bulk" and all(re.fullmatch("0|[1-9][0-9]*", it) for it in words[1:]) \
+            and int(words[1]) <= 100000 and 1 <= int(words[2]) <= 1000000:
+        given = None
+    else:
+        return ended(2, USAGE, medium=medium)
+    if medium:
+        return ended(1, f"refused: medium not empty {len(medium)}", medium=medium)
+    if given is None:
+        output, whole = bulk(int(words[1]), int(words[2]))
+        return ended(0, "", output.encode(), whole)
+    options, rows, queries = given
+    if options["internal-compression"] != 1:
+        return ended(1, f"refused: unsupported compression {LABELS[options['internal-compression']]}")
+    output, whole = report(options, rows, queries)
+    return ended(0, "", output.encode(), whole)
+
+
+def run(script, words=("convert", "hex"), medium=b""):
+    script = script.encode() if isinstance(script, str) else script
+    case(["run", " ".join(words), escaped(script), "", medium.hex()], outcome(list(words), script, medium))
+
+
+def bad(script, line):
+    script = script.encode() if isinstance(script, str) else script
+    assert parsed(script) == line, (script, parsed(script), line)
+    run(script)
+
+
+ONE_TILE = "base flat\nrow tiles i0 i0 i0 x30\nquery 0 0 0\n"
+NO_TILE = "base flat\nquery 0 0 0\n"
+FIVE = ["row tiles i4 i11 i2 x62", "row tiles i0 i0 i0 x61", "row tiles i4 i1 i12 x30", "row tiles i1 i0 i0 n", "row tiles i1 i1 i0 x"]
+
+
+def good_scripts():
+    """Sets, options and queries whose archives are written."""
+    for script in [
+        NO_TILE, ONE_TILE,
+        "base flat\nrow tiles i1 i0 i1 xaa\nquery 1 0 0\nquery 1 0 1\n",
+        "base flat\nrow tiles i0 i0 i0 x30\nrow tiles i1 i0 i1 x30\n",
+        "# in reverse order\n\nbase flat\nrow tiles i1 i0 i1 x30\n\n#\nrow tiles i0 i0 i0 x30",
+        "base flat\nrow tiles i0 i0 i0 x\nrow tiles i1 i0 i0 n\nquery 0 0 0\nquery 1 0 1\n",
+        "base flat\nrow tiles i0 i0 i0 x", "base flat\nrow tiles i0 i0 i0 n\nquery 0 0 0",
+        "base flat\nrow tiles i4 i1 i12 x30\nquery 4 1 3\n", "base flat\nrow tiles i4 i11 i2 x30\nquery 4 11 13\n",
+        "option type png\noption type mvt\noption max-zoom 0\noption metadata t{%22name\":\"Cities\"}\nbase flat\nrow tiles i0 i0 i0 x30\n",
+        "option tile-compression zstd\noption type mvt\nbase flat\nrow tiles i0 i0 i0 x30\n",
+        "option type mvt\noption tile-compression unknown\nbase flat\nrow tiles i0 i0 i0 x30\n",
+        "base flat", "# a set\n\nbase flat\n#\n\nquery 0 0 0\n# end",
+        "base flat\nrow tiles i1 i0 i1 xaa\nquery 1 0 0\nquery 1 0 1\n",
+        "base flat\nrow tiles i0 i0 i0 x\nrow tiles i1 i0 i0 n\nquery 31 2147483647 2147483647\n",
+        "base flat\nrow tiles i30 i1073741823 i1073741823 x0fA0\nrow tiles i30 i0 i0 x\nquery 30 1073741823 0\n",
+        "option type mvt\noption tile-compression none\noption internal-compression brotli\noption min-zoom 0\n\noption max-zoom 255\noption center-zoom 3\n"
+        "option bounds -2147483648 -1 0 2147483647\noption center -5 6\noption metadata t{\"name\":\"%c3%A9\"}\noption metadata t\nbase flat\n",
+        "option internal-compression none\noption min-zoom 7\noption max-zoom 255\noption center-zoom 3\noption bounds -2147483648 -1 0 2147483647\n"
+        "option center -5 6\noption metadata t%f0%9f%97%BA\noption type mlt\nbase flat\nrow tiles i2 i3 i3 xffFF00\nquery 2 3 0\n",
+        "option internal-compression gzip\nbase flat\n", "option internal-compression unknown\nbase flat\nrow tiles i0 i0 i0 x30\n",
+        "option internal-compression gzip\noption internal-compression none\nbase flat\n",
+    ]:
+        run(script)
+    for rows in [FIVE, FIVE[::-1], sorted(FIVE)]:
+        run("\n".join(["base flat", *rows, "query 4 1 3", "query 1 1 1", "query 0 0 0", "query 31 0 0", ""]))
+
+
+BAD_LINES = [
+    # The base, its place, and the end.
+    ("", 1), ("# nothing\n\n", 3), ("option min-zoom 1", 2), ("base flat\nbase flat", 2), ("base  flat", 1), ("base  flat\n", 1), ("base flat ", 1),
+    ("base flat\r\n", 1), ("base none", 1), ("row tiles i0 i0 i0 n\nbase flat", 1), ("query 0 0 0\nbase flat", 1),
+    ("base flat\nquery 0 0 0\nrow tiles i0 i0 i0 n\n", 3), ("base flat\n #\n", 2), (b"base flat\n\xff\x00\n", 2), ("\n", 2), (" base flat\n", 1), ("base", 1), ("base \n", 1),
+    # Rows.
+    ("base flat\nrow tiles i0 i0 i0\n", 2), ("base flat\nrow tiles i0 i0 i0 n n\n", 2), ("base flat\nrow metadata ta tb\n", 2),
+    ("base flat\nrow tiles i0 i0 n n\n", 2), ("base flat\nrow tiles i0 i0 i0 i0\n", 2), ("base flat\nrow tiles i0 i0 i0 o\n", 2), ("base flat\nrow tiles i0 i0 i0 t\n", 2),
+    ("base flat\nrow tiles i0 i0 i00 n\n", 2), ("base flat\nrow tiles i0 i0 i-0 n\n", 2), ("base flat\nrow tiles i0 i0 i-1 n\n", 2),
+    ("base flat\nrow tiles i0 i0 i0 x3\n", 2), ("base flat\nrow tiles i0 i0 i0 xg0\n", 2), ("base flat\nrow tiles i1 i2 i0 n\n", 2),
+    ("base flat\nrow tiles i1 i0 i2 n\n", 2), ("base flat\nrow tiles i31 i0 i0 n\n", 2), ("base flat\nrow tiles i30 i1073741824 i0 n\n", 2),
+    ("base flat\nrow tiles i9223372036854775808 i0 i0 n\n", 2), ("base flat\nrow tiles i i0 i0 n\n", 2), ("base flat\nrow\n", 2), ("base flat\nrow tiles\n", 2),
+    ("base flat\nrow tiles i1 i0 i1 xaa\n\n# again\nrow tiles i1 i0 i1 n\n", 5),
+    ("base flat\nrow tiles i0 i0 i0 x30\nrow tiles i0 i0 i0 x30\n", 3),
+    ("base flat\nrow tiles i2 i3 i1 x30\nrow tiles i2 i1 i3 n\nrow tiles i1 i1 i1 n\nrow tiles i2 i3 i1 n\nrow tiles i9 i9 i9\n", 5),
+    # Queries.
+    ("base flat\nquery 0 0 1\n", 2), ("base flat\nquery 32 0 0\n", 2), ("base flat\nquery 31 2147483648 0\n", 2), ("base flat\nquery 0 0 0 \n", 2),
+    ("base flat\nquery 0 0\n", 2), ("base flat\nquery 0 0 +0\n", 2), ("base flat\nquery 0 0 -1\n", 2), ("base flat\nquery 0  0 0\n", 2),
+    # Options.
+    ("base flat\noption min-zoom 1\n", 2), ("option force\nbase flat", 1), ("option verify\nbase flat", 1), ("option type jpg\nbase flat", 1), ("option tile-compression deflate\nbase flat", 1),
+    ("option min-zoom 256\nbase flat", 1), ("option max-zoom -1\nbase flat", 1), ("option bounds 1 2 3\nbase flat", 1),
+    ("option bounds 1 2 3 2147483648\nbase flat", 1), ("option center 1\nbase flat", 1), ("option center -2147483649 0\nbase flat", 1),
+    ("option metadata {}\nbase flat", 1), ("option metadata t%2\nbase flat", 1), ("option metadata t%ff\nbase flat", 1),
+    ("option metadata t%c3\nbase flat", 1), ("option\nbase flat", 1), ("option type\nbase flat", 1), ("option type mvt mvt\nbase flat", 1),
+    ("option metadata t%ed%a0%80\nbase flat", 1), ("option min-zoom 01\nbase flat", 1),
+]
+
+
+def words_and_bulk():
+    """Words that are no command, and sets that are made from two numbers."""
+    for words in [["convert"], ["convert", "Hex"], ["hex", "convert"], ["convert", "hex", ""], [], ["bulk", "100001", "1"], ["bulk", "1", "0"],
+                  ["bulk", "1", "1000001"], ["bulk", "01", "1"], ["bulk", "-1", "1"], ["bulk", "1"], ["bulk", "1", "1", "1"], ["Bulk", "1", "1"]]:
+        run(ONE_TILE, words)
+    for tiles, repeat in [(0, 1), (1, 1), (5, 2), (5, 1000000), (86, 3), (4063, 1), (4064, 1), (40000, 1), (12288, 3), (100000, 1000000)]:
+        run("", ["bulk", str(tiles), str(repeat)])
+    run("base none", ["bulk", "3", "1"])
+
+
+def media():
+    """Media that aren't empty, and objects whose first call fails."""
+    for script, held in [(ONE_TILE, b"a"), ("option internal-compression gzip\nbase flat\n", b"ab"), ("base none\n", b"c")]:
+        run(script, medium=held)
+    run("", ["bulk", "5", "2"], b"d")
+    run("", ["bulk", "x", "2"], b"e")
+    _, whole = report(*parsed(ONE_TILE.encode()))
+    gzip = "option internal-compression gzip\nbase flat\nquery 0 0 0\n"
+    for script, calls, wanted in [
+        (ONE_TILE, "i1", ended(4, "input fault")), (gzip, "i1", ended(4, "input fault")), ("base none", "i1", ended(4, "input fault")),
+        (ONE_TILE, "o1", ended(5, "output fault", medium=whole)), (gzip, "o1", ended(1, "refused: unsupported compression gzip")),
+        (ONE_TILE, "m1", ended(6, "medium fault")), (gzip, "m1", ended(6, "medium fault")), ("base none", "m1", ended(3, "bad script: line 1")),
+        (ONE_TILE, "i1 m1 o1", ended(4, "input fault")), (ONE_TILE, "o1 m1", ended(6, "medium fault")), ("base none", "o1 m1", ended(3, "bad script: line 1")),
+    ]:
+        case(["run", "convert hex", escaped(script.encode()), calls, ""], wanted)
+    case(["run", "convert", escaped(ONE_TILE.encode()), "i1 o1 m1", ""], ended(2, USAGE))
+    case(["run", "convert hex", escaped(ONE_TILE.encode()), "i1 o1 m1", "61"], ended(4, "input fault", medium=b"a"))
+    case(["run", "convert hex", escaped(ONE_TILE.encode()), "m1", "61"], ended(6, "medium fault", medium=b"a"))
+    case(["run", "bulk 3 1", "", "i1", ""], outcome(["bulk", "3", "1"], b""))
+    case(["run", "bulk 3 1", "", "o1", ""], ended(5, "output fault", medium=bulk(3, 1)[1]))
+    case(["run", "bulk 3 1", "", "m1", ""], ended(6, "medium fault"))
+
+
+def other_objects():
+    """Each call failing in turn, reads for what is asked, and objects that answer in odd ways."""
+    five = "\n".join(["base flat", *FIVE, "query 4 1 3", "query 0 0 0", ""])
+    for words, script in [("convert hex", ONE_TILE), ("convert hex", NO_TILE), ("convert hex", five), ("bulk 5 2", ""), ("bulk 5000 1", "")]:
+        for place in ["input", "output", "medium"]:
+            wanted = "no call" if place == "input" and words != "convert hex" else "as wanted"
+            case(["each", place, words, escaped(script.encode())], wanted)
+    base = "base flat\nrow tiles i0 i0 i0 x30\nrow tiles i1 i0 i0 x\n"
+    for queries, reads in [("query 0 0 0\n", 1), ("query 1 0 1\n", 0), ("query 2 0 0\n", 0), ("query 0 0 0\nquery 1 0 1\nquery 0 0 0\n", 2)]:
+        case(["reads", escaped(base.encode()), escaped(queries.encode())], str(reads))
+    short = "read back: UnexpectedNumberOfBytesReturned"
+    for size, script, line in [(0, ONE_TILE, "read back: InvalidHeader"), (130, ONE_TILE, "read back: InvalidHeader"), (16384, ONE_TILE, short),
+                               (16384, "base flat\nrow tiles i0 i0 i0 x30\n", short)]:
+        case(["short", str(size), escaped(script.encode())], f"9|{line}")
+    gzip = "option internal-compression gzip\nbase flat\nquery 0 0 0\n"
+    case(["short", "0", escaped(gzip.encode())], "1|refused: unsupported compression gzip")
+    for script in [ONE_TILE, five]:
+        output = report(*parsed(script.encode()))[0]
+        for kind in ["versions", "single", "streams"]:
+            case([kind, escaped(script.encode())], f"0||{shown(output.encode(), 4000)}")
+    for name, status, line in [("OutOfMemory", 7, "out of memory"), ("InputTooLong", 8, "input too long"), ("IndexEntryOverflow", 1, "refused: IndexEntryOverflow")]:
+        case(["outcome", name], f"{status}|{line}")
+
+
+def random_scripts(seed):
+    """Scripts of a few rows, options and queries, and such scripts with one change."""
+    rng = random.Random(seed)
+    for _ in range(120):
+        lines, places = [], []
+        for _ in range(rng.randrange(3)):
+            lines.append(rng.choice([
+                f"option type {rng.choice(TYPES)}", f"option tile-compression {rng.choice(LABELS)}", f"option min-zoom {rng.randrange(256)}",
+                f"option center-zoom {rng.randrange(256)}", f"option center {rng.randrange(-2 ** 31, 2 ** 31)} {rng.randrange(-9, 9)}",
+                f"option metadata t{rng.choice(['', 'a%20b', '{%7d', '%E2%82%AC'])}", "# a line", ""]))
+        lines.append("base flat")
+        for _ in range(rng.choice([0, 1, 3, 12, 40])):
+            z = rng.choice([0, 1, 2, 2, 3, 3, 3, 5, 9, 30])
+            x, line = (rng.randrange(2 ** min(z, 4)) for _ in range(2))
+            if (z, x, line) in places:
+                continue
+            places.append((z, x, line))
+            content = rng.choice(["n", "x", "x00", "x01", "x01", "x0102", "xfFfE"])
+            lines.append(f"row tiles i{z} i{x} i{line} {content}")
+        for _ in range(rng.randrange(4)):
+            z, x, line = rng.choice(places) if places and rng.random() < 0.7 else (4, 3, 2)
+            lines.append(f"query {z} {x} {2 ** z - 1 - line}")
+        script = "\n".join(lines) + rng.choice(["", "\n", "\n\n"])
+        run(script)
+        at = rng.randrange(len(script))
+        change = rng.choice([script[:at] + script[at + 1:], script[:at] + rng.choice(" \n#x0-in%") + script[at:], script[:at] + rng.choice("z9 \n") + script[at + 1:]])
+        run(change)
+
+
+def many_rows():
+    """Sets at the edge of one flat directory, row by row in two orders."""
+    def line(k):
+        z, x, y = coord(k)
+        assert tile_id(z, x, y) == k
+        return f"row tiles i{z} i{x} i{2 ** z - 1 - y} x{str(k).encode().hex()}"
+
+    rows = [line(k) for k in range(4064)]
+    run("\n".join(["base flat", *rows[:4063], ""]))
+    run("\n".join(["base flat", *rows, "query 5 31 0", "query 9 0 0", ""]))
+    random.Random(4).shuffle(rows)
+    run("\n".join(["base flat", *rows, "query 5 31 0", "query 9 0 0", ""]))
+    run("\n".join(["base flat", *rows, rows[17], ""]))
+
+
+def main():
+    good_scripts()
+    for script, line in BAD_LINES:
+        bad(script, line)
+    words_and_bulk()
+    media()
+    other_objects()
+    random_scripts(20)
+    many_rows()
+    folder = os.path.join(os.path.dirname(os.path.abspath(__file__)), "..", "crates", "tileset_rows")
+    for name, index in [("stdin", 0), ("stdout", 1)]:
+        with open(os.path.join(folder, name), "w", encoding="ascii") as file:
+            file.writelines(f"{it[index]}\n" for it in CASES)
+
+
+if __name__ == "__main__":
+    main()
