@@ -36,6 +36,14 @@ impl Row {
         self.cells.as_slice()
     }
 
+    /// The cells themselves, in order.
+    pub fn into_cells(self) -> Vec<Cell>
+        ensures { result.items ≡ self }
+    {
+        let Row { cells } = self;
+        cells
+    }
+
     /// A second row of the same cells.
     pub fn try_clone(&self, alloc: Global) -> Result<Row, OutOfMemory>
         ensures { IfOk result (λ copy. copy ≡ self.now) }
