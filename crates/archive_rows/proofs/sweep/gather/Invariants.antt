@@ -1,0 +1,6 @@
+use Rattle.std.proofs.Common.{◌≡◌}
+use Rattle.pm_reader.specs.Tied.{IsTied}
+use Rattle.archive_rows.proofs.sweep.gather.Given as goal
+
+abbrev pub invariant-loop-id : goal.invariant-loop-id
+invariant-loop-id g l = (IsTied g.B.Backend.told g.C.DirectoryCache.held g.C.DirectoryCache.idle l.reader) × (l.reader.backend.ghost_name ≡ l.initial.reader.backend.ghost_name)
