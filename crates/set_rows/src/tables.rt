@@ -1,0 +1,81 @@
+// Descriptions that are kept: each a name, whether it is a table or a view, its columns with their types, and an index.
+use crate::described::{say_layout, say_tables};
+use crate::words::{Words, owned, say, spaced};
+use mb_tables::{ColumnDesc, ColumnList, IndexDesc, IndexList, TableDesc, TableKind};
+use std::alloc::Global;
+use tile_ids::TextList;
+
+// Columns that are parted by commas, each a name, a colon and a type.
+fn columns(alloc: Global, word: &str) -> Option<ColumnList> {
+    let mut columns = Vec::new(alloc);
+    for column in word.split(',') {
+        let (name, type_name) = column.split_once(':')?;
+        let name = owned(alloc, name)?;
+        let type_name = spaced(alloc, type_name)?;
+        columns.push(ColumnDesc { name, type_name }).ok()?;
+    }
+    Some(ColumnList::new(columns))
+}
+
+fn index(alloc: Global, unique: bool, word: &str) -> Option<IndexDesc> {
+    let mut columns = Vec::new(alloc);
+    for column in word.split(',') {
+        columns.push(owned(alloc, column)?).ok()?;
+    }
+    Some(IndexDesc {
+        unique,
+        columns: TextList::new(columns),
+    })
+}
+
+// An index, `unique:` or `plain:` and its columns, or `-` for none.
+fn indexes(alloc: Global, word: &str) -> Option<IndexList> {
+    let mut indexes = Vec::new(alloc);
+    if let Some(columns) = word.strip_prefix("unique:") {
+        indexes.push(index(alloc, true, columns)?).ok()?;
+    } else if let Some(columns) = word.strip_prefix("plain:") {
+        indexes.push(index(alloc, false, columns)?).ok()?;
+    }
+    Some(IndexList::new(indexes))
+}
+
+fn kind(word: &str) -> Option<TableKind> {
+    match word {
+        "table" => Some(TableKind::Table),
+        "view" => Some(TableKind::View),
+        _ => None,
+    }
+}
+
+fn add(alloc: Global, tables: &mut Vec<TableDesc>, words: &mut Words) -> Option<()> {
+    let name = owned(alloc, words.next()?)?;
+    let kind = kind(words.next()?)?;
+    let columns = columns(alloc, words.next()?)?;
+    let indexes = indexes(alloc, words.next()?)?;
+    let table = TableDesc {
+        name,
+        kind,
+        columns,
+        indexes,
+    };
+    tables.push(table.try_clone(alloc).ok()?).ok()
+}
+
+pub fn answer(
+    alloc: Global,
+    out: &mut String,
+    tables: &mut Vec<TableDesc>,
+    words: &mut Words,
+) -> Option<()> {
+    match words.next()? {
+        "none" => {
+            *tables = Vec::new(alloc);
+            Some(())
+        }
+        "add" => add(alloc, tables, words),
+        "layout" => say_layout(out, tables.as_slice()),
+        "tables" => say_tables(out, tables.as_slice()),
+        "all" => say(out, tables),
+        _ => None,
+    }
+}

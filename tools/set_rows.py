@@ -1,0 +1,456 @@
+#!/usr/bin/env python3
+# Writes the input and the wanted output of crates/set_rows. The wanted answers are worked out here from the tables of the layouts, the rules of detection, and the rules
+# of a store: rows in the order of their keys, equal keys in order of arrival. Run it at the top of the repository: python3 tools/set_rows.py
+import random
+
+import shown
+from rows import Rows, flag, option
+
+ROWS = Rows('set_rows')
+row, refused = ROWS.row, ROWS.refused
+
+PLACE = [('zoom_level', 'INTEGER'), ('tile_column', 'INTEGER'), ('tile_row', 'INTEGER')]
+DATA = ('tile_data', 'BLOB')
+TABLES = {
+    'tiles': PLACE + [DATA],
+    'tiles_with_hash': PLACE + [DATA, ('tile_hash', 'TEXT')],
+    'map': PLACE + [('tile_id', 'TEXT')],
+    'images': [('tile_id', 'TEXT'), DATA],
+    'tiles_shallow': PLACE + [('tile_data_id', 'INTEGER')],
+    'tiles_data': [('tile_data_id', 'INTEGER'), DATA],
+    'tile_cache': PLACE + [('fetched', 'INTEGER'), ('expires', 'INTEGER'), ('etag', 'TEXT'), DATA],
+    'metadata': [('name', 'TEXT'), ('value', 'TEXT')],
+}
+VARIANTS = dict(zip(TABLES, ['Tiles', 'TilesWithHash', 'Map', 'Images', 'TilesShallow', 'TilesData', 'TileCache', 'Metadata']))
+KEYS = {name: 1 if len(columns) == 2 else 3 for name, columns in TABLES.items()}
+NORMALIZED = 'Normalized {{ hash_view: {}, schema: {} }}'
+LAYOUTS = {'flat': 'Flat', 'flat-with-hash': 'FlatWithHash', 'normalized': NORMALIZED.format('false', 'Hash'), 'normalized-with-view': NORMALIZED.format('true', 'Hash'),
+           'dedup-id': NORMALIZED.format('false', 'DedupId'), 'dedup-id-with-view': NORMALIZED.format('true', 'DedupId'), 'cache': 'Cache'}
+
+# Descriptions: (name, whether it is a table, columns, indexes (unique, columns)).
+
+
+def table(name):
+    return name, True, TABLES[name], [(True, [c for c, _ in TABLES[name][:KEYS[name]]])]
+
+
+def view(name):
+    return name, False, TABLES[name], []
+
+
+def layout_tables(layout):
+    if layout == 'flat':
+        return [table('tiles')]
+    if layout == 'flat-with-hash':
+        return [table('tiles_with_hash'), view('tiles')]
+    if layout == 'cache':
+        return [table('tile_cache'), view('tiles')]
+    # contents that are kept by numbers have no digests, so that there is no view of them
+    pair = ('map', 'images') if layout.startswith('normalized') else ('tiles_shallow', 'tiles_data')
+    return [table(pair[0]), table(pair[1]), view('tiles')] + ([view('tiles_with_hash')] if layout == 'normalized-with-view' else [])
+
+
+def created(tables, more):
+    for t in more:
+        if t[0] not in [d[0] for d in tables]:
+            tables = tables + [t]
+    return tables
+
+
+def fits(columns, described):
+    """Exactly as many columns match as are wanted."""
+    def right(type_name, wanted):
+        return 'INT' in type_name.upper() if wanted == 'INTEGER' else type_name == wanted
+    return sum(1 for n, t in described for name, wanted in columns if n == name and right(t, wanted)) == len(columns)
+
+
+def has(tables, name, as_view=False):
+    return any(n == name and (is_table or as_view) and fits(TABLES[name], columns) for n, is_table, columns, _ in tables)
+
+
+def layout_of(tables):
+    if has(tables, 'map') and has(tables, 'images'):
+        return NORMALIZED.format(flag(has(tables, 'tiles_with_hash', True)), 'Hash'), 'map'
+    if has(tables, 'tiles_shallow') and has(tables, 'tiles_data'):
+        return NORMALIZED.format('false', 'DedupId'), 'tiles_shallow'
+    for name, text in (('tiles_with_hash', 'FlatWithHash'), ('tiles', 'Flat'), ('tile_cache', 'Cache')):
+        if has(tables, name):
+            return text, name
+    return None
+
+
+PATCH = PLACE + [('patch_data', 'BLOB'), ('tile_xxh3_64_hash', 'INTEGER')]
+
+
+def layout_answers(tables):
+    found = layout_of(tables)
+    patch = 'None'
+    for name, text in (('bsdiffrawgz', 'BinDiffGz'), ('bsdiffraw', 'BinDiffRaw')):
+        if any(n == name and fits(PATCH, columns) for n, _, columns, _ in tables):
+            patch = f'Some({text})'
+    if found is None:
+        return ['Err(InvalidDataFormat)', 'Err(InvalidDataFormat)', patch]
+    indexes = [i for n, _, _, indexes in tables if n == found[1] for i in indexes]
+    place = {c for c, _ in PLACE}
+    unique = any(u and set(columns) == place for u, columns in indexes)
+    covered = any(place <= set(columns) for _, columns in indexes)
+    return [f'Ok({found[0]})' if unique else 'Err(NoUniquenessConstraint)', 'Ok(None)' if covered else f'Ok(Some("{found[1]}"))', patch]
+
+
+def table_answers(tables):
+    return [flag(a) for a in (has(tables, 'tiles'), has(tables, 'tiles_with_hash'), has(tables, 'tiles_with_hash', True), has(tables, 'map') and has(tables, 'images'),
+                              has(tables, 'tiles_shallow') and has(tables, 'tiles_data'), has(tables, 'tile_cache'))]
+
+
+def texts(of):
+    return '[' + ', '.join(map(shown.text, of)) + ']'
+
+
+def debug(tables):
+    def one(t):
+        columns = ', '.join(f'ColumnDesc {{ name: {shown.text(n)}, type_name: {shown.text(k)} }}' for n, k in t[2])
+        indexes = ', '.join(f'IndexDesc {{ unique: {flag(u)}, columns: TextList {{ texts: {texts(c)} }} }}' for u, c in t[3])
+        return (f"TableDesc {{ name: {shown.text(t[0])}, kind: {'Table' if t[1] else 'View'}, columns: ColumnList {{ columns: [{columns}] }}, "
+                f'indexes: IndexList {{ indexes: [{indexes}] }} }}')
+    return '[' + ', '.join(map(one, tables)) + ']'
+
+
+def words_of(t):
+    index = ''.join(('unique:' if u else 'plain:') + ','.join(c) for u, c in t[3]) or '-'
+    columns = ','.join(f"{n}:{k.replace(' ', '~')}" for n, k in t[2])
+    return f"table add {t[0]} {'table' if t[1] else 'view'} {columns} {index}"
+
+
+def described(tables):
+    row('table none')
+    for t in tables:
+        row(words_of(t))
+    row('table layout', *layout_answers(tables))
+    row('table tables', *table_answers(tables))
+
+
+def odd_tables():
+    place = (True, ['zoom_level', 'tile_column', 'tile_row'])
+    tiles = TABLES['tiles']
+
+    def columns(text):
+        return [tuple((c + ' ').split(' ', 1)) if ' ' not in c else tuple(c.split(' ', 1)) for c in text.split(', ')]
+    for index in [place, None, (True, ['tile_row', 'zoom_level', 'tile_column']), (True, ['zoom_level', 'tile_column', 'tile_row', 'zoom_level']),
+                  (True, ['zoom_level', 'tile_column', 'tile_row', 'tile_data']), (False, place[1]), (True, place[1][:2]), (True, ['ZOOM_LEVEL', 'tile_column', 'tile_row'])]:
+        described([('tiles', True, tiles, [index] if index else [])])
+    for text in ['zoom_level integer, tile_column Int, tile_row iNt, tile_data BLOB', 'zoom_level UNSIGNED BIG INT, tile_column POINT, tile_row MINTY, tile_data BLOB',
+                 'zoom_level IN TEGER, tile_column INTEGER, tile_row INTEGER, tile_data BLOB', 'zoom_level , tile_column INTEGER, tile_row INTEGER, tile_data BLOB',
+                 'zoom_level INTEGER, tile_column INTEGER, tile_row INTEGER, tile_data blob', 'ZOOM_LEVEL INTEGER, tile_column INTEGER, tile_row INTEGER, tile_data BLOB',
+                 'tile_data BLOB, note TEXT, tile_row INT, tile_column INT, zoom_level INT', 'zoom_level INT, tile_column INT, tile_row INT',
+                 'zoom_level INT, zoom_level INT, tile_row INT, tile_data BLOB', 'zoom_level INT, tile_column INT, tile_row INT, tile_data BLOB, tile_row INT']:
+        described([('tiles', True, columns(text), [place])])
+    plain = columns('zoom_level INT, tile_column INT, tile_row INT, tile_data BLOB')
+    described([('tiles', False, plain, [place])])
+    described([('Tiles', True, plain, [place])])
+    patch = columns('zoom_level INT, tile_column INT, tile_row INT, patch_data BLOB, tile_xxh3_64_hash INT')
+    flat = ('tiles', True, tiles, [place])
+    for extra in [[], [('bsdiffrawgz', False, patch, [])], [('bsdiffrawgz', False, patch, []), ('bsdiffraw', True, patch, [])], [('bsdiffraw', True, patch[:4], [])]]:
+        described([flat] + extra)
+    described([])
+    row('table all', '[]')
+    chance = random.Random(11)
+    for _ in range(120):
+        tables = []
+        for name in chance.sample(list(TABLES), chance.randrange(1, 5)):
+            t = list(chance.choice([table, table, view])(name))
+            if chance.random() < 0.3:
+                t[2] = [c if chance.random() < 0.8 else chance.choice([(c[0].upper(), c[1]), (c[0], 'REAL'), (c[0], 'MINT'), c]) for c in t[2]]
+            if chance.random() < 0.3:
+                t[3] = [(chance.random() < 0.5, chance.sample([c for c, _ in t[2]], chance.randrange(1, len(t[2]) + 1)))]
+            tables.append(tuple(t))
+        described(tables)
+    row('table all', debug(tables))
+    for layout in LAYOUTS:
+        described(layout_tables(layout))
+
+
+def labels():
+    schemas = {'Hash': ('map', 'images', 'tile_id', 'false'), 'DedupId': ('tiles_shallow', 'tiles_data', 'tile_data_id', 'true')}
+    for layout, text in LAYOUTS.items():
+        schema = next((s for s in schemas if s in text and text.startswith('Normalized')), None)
+        words = 'normalized' if schema else layout
+        names = [] if not schema else [schema, *(f'"{n}"' for n in schemas[schema][:3]), schemas[schema][3]]
+        row('label layout ' + layout, words + '|', flag(schema), flag(schema and layout.endswith('with-view')), *names)
+    row('label command_line', 'flat|', 'flat-with-hash|', 'normalized|', 'cache|')
+    row('label patches', 'whole|', 'None', 'bin-diff-gz|', 'Some(BinDiffGz)', 'bin-diff-raw|', 'Some(BinDiffRaw)', 'bin-diff-gz|', 'bin-diff-raw|', '"bsdiffrawgz"', '"bsdiffraw"')
+    row('label names', '"agg_tiles_hash"', '"agg_tiles_hash_after_apply"', '"agg_tiles_hash_before_apply"', '"hash_algorithm"')
+    for number, name in enumerate(TABLES):
+        row('label table ' + name, name + '|', VARIANTS[name], f'"{name}"', len(TABLES[name]), KEYS[name], number)
+    row('label errors', 'invalid data format|', 'no uniqueness constraint|', 'duplicate row in tiles_data|', 'store fault|', 'out of memory|')
+    refused('label layout none')
+
+
+def creating():
+    calls = {'flat': layout_tables('flat'), 'flat-with-hash': layout_tables('flat-with-hash'), 'normalized': layout_tables('normalized'), 'cache': layout_tables('cache'),
+             'metadata': [table('metadata')], 'view': [view('tiles_with_hash')], 'cache-schema': [table('metadata')] + layout_tables('cache')}
+    for layout in LAYOUTS:
+        started = layout.replace('dedup-id', 'normalized')
+        calls['schema ' + layout] = [table('metadata')] + layout_tables(started)
+
+    def create(call, tables):
+        tables = created(tables, calls[call])
+        row('create ' + call, 'Ok(())', len(tables), *layout_answers(tables), *table_answers(tables))
+        return tables
+    for call in calls:
+        row('store new')
+        row('store empty', 'Ok(true)')
+        tables = create(call, [])
+        row('store describe', f'Ok({debug(tables)})')
+        row('store empty', 'Ok(false)')
+        create(call, tables)
+        row('store describe', f'Ok({debug(tables)})')
+    chance = random.Random(12)
+    for _ in range(30):
+        row('store new')
+        tables = []
+        for call in chance.sample(list(calls), 4):
+            tables = create(call, tables)
+        row('store describe', f'Ok({debug(tables)})')
+    for layout in LAYOUTS:
+        row('store new layout ' + layout)
+        row('store describe', f"Ok({debug([table('metadata')] + layout_tables(layout))})")
+
+# Stores.
+
+
+def show(cell):
+    kind, value = cell[0], cell[1:]
+    return {'n': 'Null', 'o': 'Other', 'i': f'Int({value})', 't': f'Text({shown.text(value)})',
+            'x': f"Blob(BlobVal {{ bytes: [{', '.join(map(str, bytes.fromhex(value) if kind == 'x' else b''))}] }})"}[kind]
+
+
+def show_row(cells):
+    return f"Row {{ cells: [{', '.join(map(show, cells))}] }}"
+
+
+def order(cell):
+    kind, value = cell[0], cell[1:]
+    return {'n': (0,), 'i': (1, int(value) if kind == 'i' else 0), 't': (2, value.encode()), 'x': (3, bytes.fromhex(value) if kind == 'x' else b''), 'o': (4,)}[kind]
+
+
+def size(cell):
+    return len(cell[1:].encode()) if cell[0] == 't' else len(cell[1:]) // 2 if cell[0] == 'x' else 8
+
+
+def key_cells(words):
+    kind, *values = words.split(' ')
+    return [('t' if kind == 'text' else 'i') + v for v in values]
+
+
+def some_key(chance, name):
+    """A key that fits the table, in words, and its cells."""
+    if KEYS[name] == 3:
+        words = 'place ' + ' '.join(str(chance.randrange(3)) for _ in range(3))
+    elif name == 'tiles_data':
+        words = f'number {chance.randrange(-1, 3)}'
+    else:
+        words = 'text ' + chance.choice(['a', 'b', 'ab', 'z'])
+    return words, key_cells(words)
+
+
+def some_cells(chance, name):
+    cells = []
+    for column, kind in TABLES[name]:
+        plain = {'INTEGER': f'i{chance.randrange(-1, 3)}', 'TEXT': 't' + chance.choice(['', 'a', 'b', 'ab']), 'BLOB': 'x' + chance.choice(['', '00', 'ff01'])}[kind]
+        cells.append(plain if chance.random() < 0.9 else chance.choice(['n', 'o', 'i5', 'tz', 'x7f']))
+    return cells
+
+
+class Store:
+    """Rows by their tables, in the order of keys."""
+
+    def __init__(self, layout):
+        self.tables = {t[0]: [] for t in [table('metadata')] + layout_tables(layout) if t[1]}
+        row('store new layout ' + layout)
+
+    def key(self, name, cells):
+        return [order(c) for c in cells[:KEYS[name]]]
+
+    def push(self, name, *cells):
+        call = f"store push {name} {' '.join(cells)}"
+        if name not in self.tables or len(cells) != len(TABLES[name]):
+            return refused(call)
+        rows, key = self.tables[name], self.key(name, cells)
+        if 'n' not in cells[:KEYS[name]] and any(self.key(name, r) == key for r in rows):
+            return row(call, f'Err(DuplicateRow({VARIANTS[name]}))')
+        row(call, 'Ok(())')
+        at = next((i for i, r in enumerate(rows) if self.key(name, r) > key), len(rows))
+        rows.insert(at, cells)
+
+    def rows(self, name, first, limit):
+        part = self.tables.get(name, [])[first:first + limit]
+        row(f'store rows {name} {first} {limit}', f"Ok([{', '.join(map(show_row, part))}])")
+
+    def find(self, name, words, *cells):
+        found = next((r for r in self.tables.get(name, []) if list(r[:KEYS[name]]) == list(cells)), None)
+        row(f'store find {name} {words}', f'Ok({option(found and show_row(found))})')
+
+    def count(self, name):
+        row('store count ' + name, f'Ok({len(self.tables.get(name, []))})')
+
+    def put(self, name, words, *cells):
+        """Puts a row in place of those of its key, given the key in words."""
+        call = f"store put {name} {words} {' '.join(cells)}"
+        if name not in self.tables or len(cells) != len(TABLES[name]) or key_cells(words) != list(cells[:KEYS[name]]):
+            return refused(call)
+        row(call, 'Ok(())')
+        self.remove(name, cells)
+        rows = self.tables[name]
+        rows.insert(next((i for i, r in enumerate(rows) if self.key(name, r) > self.key(name, cells)), len(rows)), cells)
+
+    def delete(self, name, words):
+        if name not in self.tables:
+            return refused(f'store delete {name} {words}')
+        row(f'store delete {name} {words}', 'Ok(())')
+        self.remove(name, key_cells(words))
+
+    def remove(self, name, cells):
+        key = [order(c) for c in cells[:KEYS[name]]]
+        self.tables[name] = [r for r in self.tables[name] if len(cells) < KEYS[name] or self.key(name, r) != key]
+
+    def live(self):
+        row('store live', f'Ok({sum(size(c) for rows in self.tables.values() for r in rows for c in r)})')
+
+
+def tile(z, c, r, b):
+    return f'i{z}', f'i{c}', f'i{r}', f'x{b:02x}'
+
+
+def stores():
+    s = Store('flat')
+    s.push('tiles', *tile(1, 0, 1, 7))
+    s.push('tiles', *tile(1, 0, 1, 8))
+    s.rows('tiles', 0, 9)
+    row('store empty', 'Ok(false)')
+    s = Store('flat')
+    for t in [(2, 3, 0, 3), (2, 1, 0, 2), (2, 0, 0, 1)]:
+        s.push('tiles', *tile(*t))
+    for first, limit in [(0, 9), (1, 1), (0, 0), (2, 5), (3, 1), (9, 9), (0, 2 ** 64 - 1), (2 ** 64 - 1, 2 ** 64 - 1)]:
+        s.rows('tiles', first, limit)
+    s.find('tiles', 'place 2 0 0', 'i2', 'i0', 'i0')
+    s.find('tiles', 'place 2 2 0', 'i2', 'i2', 'i0')
+    s.count('tiles')
+    s.live()
+    s = Store('flat')
+    for c in reversed(range(300)):
+        s.push('tiles', *tile(9, c, 0, 7))
+    s.count('tiles')
+    for c in range(300):
+        s.push('tiles', *tile(9, c, 0, 8))
+    s.find('tiles', 'place 9 123 0', 'i9', 'i123', 'i0')
+    s.rows('tiles', 0, 999)
+    s = Store('flat')
+    c = 0
+    for number in range(1000):
+        c = (c + 5) % 7
+        s.push('tiles', 'n', f'i{c}', 'i0', f'i{number}')
+    s.rows('tiles', 0, 2000)
+    s = Store('flat')
+    for c in list(range(100, 200)) + [199, 100, 201, 200, 200, 201, 50, 201, 202, 50, 202]:
+        s.push('tiles', *tile(9, c, 0, 7))
+    s.rows('tiles', 0, 2000)
+
+
+def random_stores():
+    chance = random.Random(13)
+    for layout in LAYOUTS:
+        for _ in range(4):
+            s = Store(layout)
+            for _ in range(40):
+                name = chance.choice(list(TABLES))
+                cells = some_cells(chance, name)
+                s.push(name, *(cells if chance.random() < 0.95 else cells[1:]))
+            for name in TABLES:
+                s.count(name)
+                s.rows(name, 0, 100)
+                s.rows(name, 1, 2)
+                for _ in range(3):
+                    words, cells = some_key(chance, name)
+                    s.find(name, words, *cells)
+            for _ in range(30):
+                name = chance.choice(list(TABLES))
+                words, cells = some_key(chance, name)
+                if chance.random() < 0.4:
+                    s.delete(name, words)
+                else:
+                    s.put(name, words, *(cells if chance.random() < 0.9 else some_key(chance, name)[1]), *some_cells(chance, name)[KEYS[name]:])
+            for name in TABLES:
+                s.rows(name, 0, 100)
+            s.live()
+
+
+def show_key(words):
+    kind, *values = words.split(' ')
+    if kind == 'place':
+        return f'Tile {{ zoom: {values[0]}, column: {values[1]}, row: {values[2]} }}'
+    return f'TextId({shown.text(values[0])})' if kind == 'text' else f'IntId({values[0]})'
+
+
+def changes(*calls):
+    """Changes by (table, key, cells or None): one for each table and key, at the place of the first."""
+    kept = {}
+    for name, words, cells in calls:
+        kept[name, words] = cells
+    spelled = ' '.join(f"{'put' if cells else 'delete'} {name} {words}{''.join(' ' + c for c in cells or [])}" for name, words, cells in calls)
+    row(f'changes {len(calls)} {spelled}'.rstrip(), len(kept), flag(not kept), *(f'({VARIANTS[n]}, {show_key(w)}, {option(c and show_row(c))})' for (n, w), c in kept.items()))
+
+
+def all_changes():
+    changes()
+    t = {b: list(tile(0, 0, 0, b)) for b in (1, 2)}
+    changes(('tiles', 'place 0 0 0', t[1]), ('map', 'place 0 0 0', None), ('tiles', 'place 0 0 0', None))
+    changes(('tiles', 'place 2 1 0', list(tile(2, 1, 0, 9))), ('tiles', 'place 2 0 0', None), ('tiles', 'place 2 2 0', list(tile(2, 2, 0, 8))), ('tiles', 'place 2 1 0', list(tile(2, 1, 0, 7))))
+    refused('changes 1 put tiles place 0 0 1 ' + ' '.join(t[1]))
+    refused('changes 1 put tiles number 0 ' + ' '.join(t[1]))
+    chance = random.Random(14)
+    for _ in range(60):
+        calls = []
+        for _ in range(chance.randrange(1, 7)):
+            name = chance.choice(list(TABLES))
+            words, cells = some_key(chance, name)
+            calls.append((name, words, None if chance.random() < 0.4 else cells + some_cells(chance, name)[KEYS[name]:]))
+        changes(*calls)
+
+
+def faults():
+    s = Store('flat')
+    row('store fail 2 4')
+    s.count('tiles')
+    row('store live', 'Err(Fault)')
+    s.live()
+    row('store rows tiles 0 9', 'Err(Fault)')
+    s.count('tiles')
+    for call, answer in [('count tiles', 'Err(Fault)'), ('live', 'Err(Fault)'), ('describe', 'Err(Fault)'), ('empty', 'Err(StoreFault)'), ('rows tiles 0 1', 'Err(Fault)'),
+                         ('find tiles place 0 0 0', 'Err(Fault)')]:
+        row('store new layout flat')
+        row('store fail 1')
+        row('store ' + call, answer)
+        row('store count tiles', 'Ok(0)')
+    s = Store('flat')
+    s.push('tiles', *tile(1, 0, 0, 5))
+    row('store fail 3 5')
+    row('store put tiles place 1 0 0 i1 i0 i0 x06', 'Err(Fault)')
+    s.rows('tiles', 0, 9)
+    refused('store delete tiles place 1 0 0')
+    s.rows('tiles', 0, 9)
+    s.delete('tiles', 'place 1 0 0')
+    s.rows('tiles', 0, 9)
+    row('store new')
+    row('store fail 1 3')
+    row('create flat', 'Err(StoreFault)', 0, *layout_answers([]), *table_answers([]))
+    row('store describe', 'Err(Fault)')
+    row('store describe', 'Ok([])')
+
+
+def main():
+    for rows in (labels, odd_tables, creating, stores, random_stores, all_changes, faults):
+        rows()
+    ROWS.write()
+
+
+main()
