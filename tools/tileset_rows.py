@@ -433,7 +433,7 @@ def media():
 def other_objects():
     """Each call failing in turn, reads for what is asked, and objects that answer in odd ways."""
     five = "\n".join(["base flat", *FIVE, "query 4 1 3", "query 0 0 0", ""])
-    for words, script in [("convert hex", ONE_TILE), ("convert hex", NO_TILE), ("convert hex", five), ("bulk 5 2", ""), ("bulk 5000 1", "")]:
+    for words, script in [("convert hex", ONE_TILE), ("convert hex", NO_TILE), ("convert hex", five), ("bulk 5 2", ""), ("bulk 300 1", "")]:
         for place in ["input", "output", "medium"]:
             wanted = "no call" if place == "input" and words != "convert hex" else "as wanted"
             case(["each", place, words, escaped(script.encode())], wanted)

@@ -38,13 +38,13 @@ impl Failing {
 
     // Adds a call that a word names: the first letter of its object, and its number.
     fn add(&mut self, word: &str) -> Option<()> {
-        let (calls, number) = match word.get(..1)? {
-            "i" => (&mut self.input, word.get(1..)?),
-            "o" => (&mut self.output, word.get(1..)?),
-            "m" => (&mut self.medium, word.get(1..)?),
-            _ => return None,
-        };
-        calls.push(number.parse::<u64>().ok()?).ok()
+        let number = word.get(1..)?.parse::<u64>().ok()?;
+        match word.get(..1)? {
+            "i" => self.input.push(number).ok(),
+            "o" => self.output.push(number).ok(),
+            "m" => self.medium.push(number).ok(),
+            _ => None,
+        }
     }
 }
 
