@@ -14,8 +14,8 @@ use Rattle.mb_store.specs.declared.change.Change.{Change}
 use Rattle.mb_tables.specs.declared.key.RowKey.{RowKey}
 use Rattle.mb_tables.specs.declared.table.TableName.{TableName}
 use Rattle.mb_tables.proofs.CellLemmas.{cells_eq-Decides}
-use Rattle.mb_store.proofs.Edited.{of_passed}
-use Rattle.mb_store.proofs.Parts.{filter_within}
+use Rattle.mb_store.proofs.EditLemmas.{of_passed}
+use Rattle.mb_store.proofs.ListLemmas.{filter_within}
 
 first_of : {X : Type 0} → List X → Option X
 first_of [] = None

@@ -4,6 +4,7 @@ use Rattle.std.specs.Prelude.{All, AllPairs, insert, OnOk, OnErr, IsErrOf, ◌�
 use Rattle.std.specs.List.{list_any}
 use Rattle.std.proofs.lemmas.Bool.{false≢true, and_parts, and_from}
 use Rattle.std.proofs.lemmas.List.Folds.{list_any_at}
+use Rattle.std.proofs.lemmas.List.Sums.{prefix_len-le-length}
 use Rattle.mb_tables.specs.declared.cell.Cell.{Cell}
 use Rattle.mb_tables.specs.declared.description.TableDesc.{TableDesc}
 use Rattle.mb_tables.specs.declared.table.TableName.{TableName}
@@ -11,17 +12,15 @@ use Rattle.mb_tables.specs.declared.error.MbtError.{MbtError}
 use Rattle.mb_tables.specs.declared.error.MbtError.TheVariants.{DuplicateRow}
 use Rattle.mb_tables.specs.Cell.{cells_eq, is_null}
 use Rattle.mb_tables.specs.Table.{key_of, width}
-use Rattle.mb_store.specs.ByTable.{at}
-use Rattle.mb_store.specs.TableRows.{AreOrdered}
 use Rattle.mb_tables.specs.Key.{clash}
 use Rattle.mb_tables.specs.Described.{is_keyed, is_table}
 use Rattle.mb_store.specs.Store.{place_for, placed, with_rows}
-use Rattle.mb_store.specs.MemTables.{IsKept, MemTables, rows_at}
+use Rattle.mb_store.specs.MemTables.{AreAllStored, IsKept, MemTables, rows_at}
 use Rattle.mb_tables.proofs.CellLemmas.{cells_eq-Decides}
-use Rattle.mb_store.proofs.Ordered.{All-insert, AllPairs-insert, place_within}
-use Rattle.mb_tables.proofs.RowOrder.{rows_total}
+use Rattle.mb_store.specs.ByTable.{at}
+use Rattle.mb_store.proofs.Ordered.{All-insert, AllPairs-insert}
+use Rattle.mb_store.proofs.StoredLemmas.{stored_count}
 use Rattle.mb_store.proofs.WithRows.{with_rows-holds, with_rows-own}
-use Rattle.mb_store.proofs.TableLists.{all_ordered}
 
 -- two rows clash either way round
 pub clash_symm : (table : TableName) (r s : List Cell) → clash table r s ≡ true → clash table s r ≡ true
@@ -43,8 +42,8 @@ apart-insert table rows i row within new apart =
     (λ k d from lt. not_so (clash table row (get_or rows k d)) (λ h. new (list_any_at (clash table row) rows k d lt h)))
 
 -- tables with the same rows
-pub kept_same : (ds : List TableDesc) (m n : MemTables) → ((u : TableName) → rows_at n u ≡ rows_at m u) → ((u : TableName) → AreOrdered u (at n u)) → IsKept ds m → IsKept ds n
-kept_same ds m n same ordered kept = record {
+pub kept_same : (ds : List TableDesc) (m n : MemTables) → ((u : TableName) → rows_at n u ≡ rows_at m u) → AreAllStored n → IsKept ds m → IsKept ds n
+kept_same ds m n same stored kept = record {
   sound = record {
     names = kept.sound.names;
     described = λ u none. same u ∙ kept.sound.described u none;
@@ -52,12 +51,12 @@ kept_same ds m n same ordered kept = record {
     widths = λ u. subst (All (λ row. length row ≡ width u)) (sym (same u)) (kept.sound.widths u);
     counts = λ u. subst (λ (rows : List (List Cell)). length rows < 2 ^ 64) (sym (same u)) (kept.sound.counts u);
   };
-  ordered = ordered;
+  stored = stored;
 }
 
 -- new rows of one table
-pub kept_with : (ds : List TableDesc) (m n : MemTables) (table : TableName) (new : List (List Cell)) → ((u : TableName) → rows_at n u ≡ with_rows (rows_at m) table new u) → is_table ds table ≡ true → (is_keyed ds table ≡ true → AllPairs (λ r s. clash table r s ≡ false) new) → All (λ row. length row ≡ width table) new → length new < 2 ^ 64 → ((u : TableName) → AreOrdered u (at n u)) → IsKept ds m → IsKept ds n
-kept_with ds m n table new same described keys widths count ordered kept = record {
+pub kept_with : (ds : List TableDesc) (m n : MemTables) (table : TableName) (new : List (List Cell)) → ((u : TableName) → rows_at n u ≡ with_rows (rows_at m) table new u) → is_table ds table ≡ true → (is_keyed ds table ≡ true → AllPairs (λ r s. clash table r s ≡ false) new) → All (λ row. length row ≡ width table) new → length new < 2 ^ 64 → AreAllStored n → IsKept ds m → IsKept ds n
+kept_with ds m n table new same described keys widths count stored kept = record {
   sound = record {
     names = kept.sound.names;
     described = λ u. there (λ t rows. is_table ds t ≡ false → rows ≡ []) (λ none. absurd (false≢true (sym none ∙ described))) kept.sound.described u;
@@ -65,23 +64,22 @@ kept_with ds m n table new same described keys widths count ordered kept = recor
     widths = λ u. there (λ t rows. All (λ row. length row ≡ width t) rows) widths kept.sound.widths u;
     counts = λ u. there (λ t rows. length rows < 2 ^ 64) count kept.sound.counts u;
   };
-  ordered = ordered;
+  stored = stored;
 }
   where
     there : (P : TableName → List (List Cell) → Type 0) → P table new → ((u : TableName) → P u (rows_at m u)) → (u : TableName) → P u (rows_at n u)
     there P here all u = subst (P u) (sym (same u)) (with_rows-holds P (rows_at m) table new here all u)
 
 -- what a push leaves
-pub kept_pushed : {T : Type 0} (r : Result T MbtError) (ds : List TableDesc) (m n : MemTables) (table : TableName) (keyed : Bool) (row : List Cell) → keyed ≡ is_keyed ds table → (IsErrOf r (DuplicateRow table) ↔ ((keyed && list_any (clash table row) (rows_at m table)) ≡ true)) → OnOk r ((u : TableName) → rows_at n u ≡ with_rows (rows_at m) table (placed table row (rows_at m table)) u) → OnErr r ((u : TableName) → rows_at n u ≡ rows_at m u) → OnOk r (length (rows_at n table) < 2 ^ 64) → ((u : TableName) → AreOrdered u (at n u)) → is_table ds table ≡ true → length row ≡ width table → IsKept ds m → IsKept ds n
-kept_pushed (Err e) ds m n table keyed row same duplicate ok err count ordered described wide kept = kept_same ds m n err ordered kept
-kept_pushed (Ok x) ds m n table keyed row same duplicate ok err count ordered described wide kept =
+pub kept_pushed : {T : Type 0} (r : Result T MbtError) (ds : List TableDesc) (m n : MemTables) (table : TableName) (keyed : Bool) (row : List Cell) → keyed ≡ is_keyed ds table → (IsErrOf r (DuplicateRow table) ↔ ((keyed && list_any (clash table row) (rows_at m table)) ≡ true)) → OnOk r ((u : TableName) → rows_at n u ≡ with_rows (rows_at m) table (placed table row (rows_at m table)) u) → OnErr r ((u : TableName) → rows_at n u ≡ rows_at m u) → AreAllStored n → is_table ds table ≡ true → length row ≡ width table → IsKept ds m → IsKept ds n
+kept_pushed (Err e) ds m n table keyed row same duplicate ok err stored described wide kept = kept_same ds m n err stored kept
+kept_pushed (Ok x) ds m n table keyed row same duplicate ok err stored described wide kept =
     let rows = rows_at m table in
-    let up = all_ordered table (at m table) (kept.ordered table) in
-    let within = place_within (rows_total table) rows up row in
+    let within : place_for table row rows ≤ length rows = prefix_len-le-length _ rows in
     kept_with ds m n table (placed table row rows) ok described
     (λ k. apart-insert table rows (place_for table row rows) row within (λ h. not_both (duplicate.1 (and_from keyed (list_any (clash table row) rows) (same ∙ k) h))) (kept.sound.keys table k))
     (All-insert rows (place_for table row rows) row within (λ r. length r ≡ width table) (kept.sound.widths table) wide)
-    (subst (λ (rows : List (List Cell)). length rows < 2 ^ 64) (ok table ∙ with_rows-own (rows_at m) table (placed table row rows)) count) ordered kept
+    (subst (λ (rows : List (List Cell)). length rows < 2 ^ 64) (ok table ∙ with_rows-own (rows_at m) table (placed table row rows)) (stored_count table (at n table) (stored table))) stored kept
   where
     not_both : Ok x ≡ Err (DuplicateRow table) → ⊥
     not_both h = cc

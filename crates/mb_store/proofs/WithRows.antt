@@ -1,10 +1,9 @@
 -- The rows of one table beside those of the others.
-use Rattle.std.proofs.Common.{◌≡◌, cond, List, Bool, true, false, refl, sym, ◌∙◌, ap, subst}
+use Rattle.std.proofs.Common.{◌≡◌, cond, List, Bool, true, false, refl, sym, ap, subst}
 use Rattle.mb_tables.specs.Table.{table_eq}
 use Rattle.mb_tables.specs.declared.cell.Cell.{Cell}
 use Rattle.mb_tables.specs.declared.table.TableName.{TableName}
 use Rattle.mb_tables.proofs.TableLemmas.{same_table, table_eq-refl}
-use Rattle.mb_store.specs.ByTable.{with_at}
 use Rattle.mb_store.specs.Store.{with_rows}
 
 -- what holds of one table's new rows, and of each table's rows, holds with the new rows in place
@@ -18,11 +17,3 @@ with_rows-holds P rows table new here all u = by (table_eq u table) refl
 -- the table's own rows are the new ones
 pub with_rows-own : (rows : TableName → List (List Cell)) (table : TableName) (new : List (List Cell)) → with_rows rows table new table ≡ new
 with_rows-own rows table new = ap (λ b. cond b new (rows table)) (table_eq-refl table)
-
--- what holds of each thing by name holds with one taken out and another put in its place
-pub replaced-holds : {T : Type 0} (P : TableName → T → Type 0) (old mid new : TableName → T) (table : TableName) (x y : T) → ((u : TableName) → mid u ≡ with_at old table x u) → ((u : TableName) → new u ≡ with_at mid table y u) → P table y → ((u : TableName) → P u (old u)) → (u : TableName) → P u (new u)
-replaced-holds {T} P old mid new table x y out put here all u = subst (P u) (sym (put u)) (by (table_eq u table) refl)
-  where
-    by : (b : Bool) → table_eq u table ≡ b → P u (cond b y (mid u))
-    by true e = subst (λ t. P t y) (sym (same_table u table e)) here
-    by false e = subst (P u) (sym (out u ∙ ap (λ b. cond b x (old u)) e)) (all u)

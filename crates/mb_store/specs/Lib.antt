@@ -4,10 +4,10 @@ pub mod ChangeIndex
 pub mod Store
 pub mod Errors
 pub mod Committing
-pub mod Editing
-pub mod Preparing
-pub mod Sizes
+pub mod StoredRow
 pub mod TableRows
+pub mod Editing
+pub mod Sizes
 pub mod ByTable
 pub mod MemTables
 pub mod MemStore

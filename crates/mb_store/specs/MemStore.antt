@@ -1,13 +1,18 @@
 -- What a store in memory tells.
 use Rattle.std.specs.Prelude.{ℕ, ◌≡◌, true, []}
-use Rattle.mb_store.specs.Store.{IsSound}
+use Rattle.tile_ids.specs.declared.failing_calls.FailingCalls.{FailingCalls}
 use Rattle.mb_tables.specs.Table.{Tables}
-use Rattle.mb_store.specs.MemTables.{AreOneList, tables_of}
+use Rattle.mb_store.specs.Store.{IsSound}
+use Rattle.mb_store.specs.MemTables.{tables_of}
 use Rattle.mb_store.specs.declared.mem_store.MemStore.{MemStore}
 
 -- its descriptions and rows
 unfoldable pub told_of : MemStore → Tables
 told_of s = tables_of s.descriptions.items s.tables
+
+-- which of its calls fail, and what is counted
+unfoldable pub failing_of : MemStore → FailingCalls
+failing_of s = s.failing
 
 -- how often it failed
 unfoldable pub faults_of : MemStore → ℕ
@@ -16,10 +21,6 @@ faults_of s = s.failing.faults
 -- no call is to fail
 unfoldable pub IsSteady : MemStore → Type 0
 IsSteady s = s.failing.listed.items ≡ []
-
--- the rows of each table are in one list
-unfoldable pub IsSettled : MemStore → Type 0
-IsSettled s = AreOneList s.tables
 
 -- what it tells is sound
 pub told_sound : (s : MemStore) → true ≡ true → IsSound (told_of s)

@@ -1,5 +1,5 @@
 -- What holds of the tables that a store tells, and how a row is added.
-use Rattle.std.specs.Prelude.{ℕ, ◌≡◌, ◌<◌, ◌^◌, Bool, true, false, cond, ◌&&◌, ◌++◌, List, [], ◌∷◌, length, All, AllPairs, insert}
+use Rattle.std.specs.Prelude.{ℕ, ◌≡◌, ◌<◌, ◌^◌, Bool, true, false, cond, ◌&&◌, ◌++◌, List, [], ◌∷◌, length, All, AllPairs, fold, insert}
 use Rattle.std.specs.List.{list_any, position_or_len}
 use Rattle.std.specs.Ordering.{is_gt}
 use Rattle.std.specs.Str.{bytes_eq}
@@ -28,6 +28,10 @@ place_for table row rows = position_or_len (λ r. is_gt (row_cmp table r row)) r
 
 abbrev pub placed : TableName → List Cell → List (List Cell) → List (List Cell)
 placed table row rows = insert rows (place_for table row rows) row
+
+-- more rows are added one after another
+abbrev pub all_placed : TableName → List (List Cell) → List (List Cell) → List (List Cell)
+all_placed table rows more = fold (λ rows row. placed table row rows) rows more
 
 -- one table's rows are these, and each other's as before
 abbrev pub with_rows : (TableName → List (List Cell)) → TableName → List (List Cell) → TableName → List (List Cell)

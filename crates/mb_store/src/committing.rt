@@ -1,137 +1,205 @@
 // Commits over all tables in memory: first all memory is taken, and then no step fails.
-ghost use Rattle.std.specs.Prelude.{◌≡◌, ℕ, List, IfOk, OnErr, OnOk};
+ghost use Rattle.std.specs.Prelude.{◌≡◌, IfOk, OnErr, OnOk};
+ghost use Rattle.mb_tables.specs.declared.table.TableName.{TableName};
 ghost use Rattle.mb_store.specs.ByTable.{at};
 ghost use Rattle.mb_store.specs.Changes.{AreChanges};
-ghost use Rattle.mb_store.specs.Committing.{AreOfTables, CommitsTable};
-ghost use Rattle.mb_store.specs.Editing.{AreEdits, edited_all};
-ghost use Rattle.mb_store.specs.MemTables.{AreOneList, IsKept, base_at, rows_at};
-ghost use Rattle.mb_store.specs.TableRows.{AreOrdered};
-ghost use Rattle.mb_store.specs.Preparing.{IsReady};
-ghost use Rattle.mb_tables.specs.Key.{IsInOrder};
-ghost use Rattle.mb_store.specs.declared.change.Change.{Change};
-ghost use Rattle.mb_tables.specs.declared.description.TableDesc.{TableDesc};
-ghost use Rattle.mb_tables.specs.declared.table.TableName.{TableName};
+ghost use Rattle.mb_store.specs.Committing.{CommitsTable};
+ghost use Rattle.mb_store.specs.Editing.{AreAdded, early_rows, keys_of, removed};
+ghost use Rattle.mb_store.specs.TableRows.{AreStored};
+ghost use Rattle.mb_store.specs.MemTables.{AreAllStored, rows_at};
 
+use crate::TableName;
 use crate::by_table::ByTable;
 use crate::change::Change;
-use crate::editing::edit_all;
+use crate::editing::{keys_of, put_all, remove_all, undo};
 use crate::mem_tables::MemTables;
-use crate::preparing::{Edits, prepare};
-use crate::{Row, TableName};
+use crate::stored_row::StoredRow;
+use crate::table_rows::TableRows;
 use std::alloc::Global;
 use tile_ids::OutOfMemory;
 
-// Takes the memory for the changes of each table's first list. The rows stay.
+// What is looked for under the keys of a table's changes, and the number of the first row that is put.
+#[derive(Debug, Drop)]
+pub(crate) struct Edits {
+    pub keys: Vec<StoredRow>,
+    pub start: u64,
+}
+
+// Takes the memory for the keys of a table's changes.
+fn prepare(
+    alloc: Global,
+    table: TableName,
+    changes: &[Change],
+    rows: &TableRows,
+) -> Result<Edits, OutOfMemory>
+    ensures keys { IfOk result (λ edits. edits.keys.items ≡ keys_of table changes.now) }
+    ensures start { IfOk result (λ edits. edits.start ≡ rows.now.next) }
+{
+    let keys = keys_of(alloc, table, changes)?;
+    Ok(Edits {
+        keys,
+        start: rows.next,
+    })
+}
+
+// Takes the memory for the keys of each table's changes.
 fn prepare_all(
     alloc: Global,
     changes: &[Change],
-    tables: &mut MemTables,
+    tables: &MemTables,
 ) -> Result<ByTable<Edits>, OutOfMemory>
-    requires sound { AreChanges changes.now }
-    requires order { (table : TableName) → IsInOrder table (base_at tables.old table) }
-    ensures rows { (table : TableName) → base_at tables.new table ≡ base_at tables.old table }
-    ensures newer { (table : TableName) → (at tables.new table).newer ≡ (at tables.old table).newer }
-    ensures ready { IfOk result (λ edits. (table : TableName) → IsReady table (at tables.new table).base (at edits table)) }
-    ensures chosen { IfOk result (λ edits. (table : TableName) → AreEdits table changes.now (at edits table).changes.items) }
+    ensures keys { IfOk result (λ edits. (table : TableName) → (at edits table).keys.items ≡ keys_of table changes.now) }
+    ensures start { IfOk result (λ edits. (table : TableName) → (at edits table).start ≡ (at tables.now table).next) }
 {
     Ok(ByTable {
-        tiles: prepare(alloc, TableName::Tiles, changes, &mut tables.tiles.base)?,
+        tiles: prepare(alloc, TableName::Tiles, changes, &tables.tiles)?,
         tiles_with_hash: prepare(
             alloc,
             TableName::TilesWithHash,
             changes,
-            &mut tables.tiles_with_hash.base,
+            &tables.tiles_with_hash,
         )?,
-        map: prepare(alloc, TableName::Map, changes, &mut tables.map.base)?,
-        images: prepare(alloc, TableName::Images, changes, &mut tables.images.base)?,
+        map: prepare(alloc, TableName::Map, changes, &tables.map)?,
+        images: prepare(alloc, TableName::Images, changes, &tables.images)?,
         tiles_shallow: prepare(
             alloc,
             TableName::TilesShallow,
             changes,
-            &mut tables.tiles_shallow.base,
+            &tables.tiles_shallow,
         )?,
-        tiles_data: prepare(
-            alloc,
-            TableName::TilesData,
-            changes,
-            &mut tables.tiles_data.base,
-        )?,
-        tile_cache: prepare(
-            alloc,
-            TableName::TileCache,
-            changes,
-            &mut tables.tile_cache.base,
-        )?,
-        metadata: prepare(
-            alloc,
-            TableName::Metadata,
-            changes,
-            &mut tables.metadata.base,
-        )?,
+        tiles_data: prepare(alloc, TableName::TilesData, changes, &tables.tiles_data)?,
+        tile_cache: prepare(alloc, TableName::TileCache, changes, &tables.tile_cache)?,
+        metadata: prepare(alloc, TableName::Metadata, changes, &tables.metadata)?,
     })
 }
 
-// Makes the changes of a table in its rows.
-fn edit_table(table: TableName, edits: Edits, rows: &mut Vec<Row>)
-    requires { IsReady table rows.old edits }
-    ensures { rows.new.items ≡ edited_all table edits.changes.items rows.old.items }
+// Adds the rows that changes put. Where memory is wanting, some of them may be there.
+fn put_tables(alloc: Global, changes: &[Change], tables: &mut MemTables) -> Result<(), OutOfMemory>
+    requires sound { AreChanges changes.now }
+    requires stored { AreAllStored tables.old }
+    ensures early { (table : TableName) → early_rows (at tables.old table).next (at tables.new table).stored.keys ≡ (at tables.old table).stored.keys }
+    ensures ok { OnOk result ((table : TableName) → AreAdded table changes.now (at tables.old table).next (at tables.old table).stored.keys (at tables.new table).stored.keys) }
+    ensures stored { AreAllStored tables.new }
 {
-    if !edits.changes.is_empty() {
-        edit_all(table, edits.changes, rows, edits.empty);
-    }
+    put_all(alloc, TableName::Tiles, changes, &mut tables.tiles)?;
+    put_all(
+        alloc,
+        TableName::TilesWithHash,
+        changes,
+        &mut tables.tiles_with_hash,
+    )?;
+    put_all(alloc, TableName::Map, changes, &mut tables.map)?;
+    put_all(alloc, TableName::Images, changes, &mut tables.images)?;
+    put_all(
+        alloc,
+        TableName::TilesShallow,
+        changes,
+        &mut tables.tiles_shallow,
+    )?;
+    put_all(alloc, TableName::TilesData, changes, &mut tables.tiles_data)?;
+    put_all(alloc, TableName::TileCache, changes, &mut tables.tile_cache)?;
+    put_all(alloc, TableName::Metadata, changes, &mut tables.metadata)?;
+    Ok(())
 }
 
-// Makes the changes of each table in its first list.
-fn edit_tables(edits: ByTable<Edits>, tables: &mut MemTables)
-    requires { (table : TableName) → IsReady table (at tables.old table).base (at edits table) }
-    ensures rows { (table : TableName) → base_at tables.new table ≡ edited_all table (at edits table).changes.items (base_at tables.old table) }
-    ensures newer { (table : TableName) → (at tables.new table).newer ≡ (at tables.old table).newer }
+// Removes all rows that were put.
+fn undo_tables(edits: &ByTable<Edits>, tables: &mut MemTables)
+    requires { AreAllStored tables.old }
+    ensures rows { (table : TableName) → (at tables.new table).stored.keys ≡ early_rows (at edits.now table).start (at tables.old table).stored.keys }
+    ensures stored { AreAllStored tables.new }
 {
-    edit_table(TableName::Tiles, edits.tiles, &mut tables.tiles.base);
-    edit_table(
+    undo(TableName::Tiles, edits.tiles.start, &mut tables.tiles);
+    undo(
+        TableName::TilesWithHash,
+        edits.tiles_with_hash.start,
+        &mut tables.tiles_with_hash,
+    );
+    undo(TableName::Map, edits.map.start, &mut tables.map);
+    undo(TableName::Images, edits.images.start, &mut tables.images);
+    undo(
+        TableName::TilesShallow,
+        edits.tiles_shallow.start,
+        &mut tables.tiles_shallow,
+    );
+    undo(
+        TableName::TilesData,
+        edits.tiles_data.start,
+        &mut tables.tiles_data,
+    );
+    undo(
+        TableName::TileCache,
+        edits.tile_cache.start,
+        &mut tables.tile_cache,
+    );
+    undo(
+        TableName::Metadata,
+        edits.metadata.start,
+        &mut tables.metadata,
+    );
+}
+
+// Removes the rows of changed keys that were there before.
+fn remove_table(table: TableName, edits: Edits, rows: &mut TableRows)
+    requires { AreStored table rows.old }
+    ensures rows { rows.new.stored.keys ≡ removed edits.keys.items edits.start rows.old.stored.keys }
+    ensures stored { AreStored table rows.new }
+{
+    remove_all(table, edits.keys, edits.start, rows);
+}
+
+// Removes the rows of changed keys that were there before, in each table.
+fn remove_tables(edits: ByTable<Edits>, tables: &mut MemTables)
+    requires { AreAllStored tables.old }
+    ensures rows { (table : TableName) → (at tables.new table).stored.keys ≡ removed (at edits table).keys.items (at edits table).start (at tables.old table).stored.keys }
+    ensures stored { AreAllStored tables.new }
+{
+    remove_table(TableName::Tiles, edits.tiles, &mut tables.tiles);
+    remove_table(
         TableName::TilesWithHash,
         edits.tiles_with_hash,
-        &mut tables.tiles_with_hash.base,
+        &mut tables.tiles_with_hash,
     );
-    edit_table(TableName::Map, edits.map, &mut tables.map.base);
-    edit_table(TableName::Images, edits.images, &mut tables.images.base);
-    edit_table(
+    remove_table(TableName::Map, edits.map, &mut tables.map);
+    remove_table(TableName::Images, edits.images, &mut tables.images);
+    remove_table(
         TableName::TilesShallow,
         edits.tiles_shallow,
-        &mut tables.tiles_shallow.base,
+        &mut tables.tiles_shallow,
     );
-    edit_table(
+    remove_table(
         TableName::TilesData,
         edits.tiles_data,
-        &mut tables.tiles_data.base,
+        &mut tables.tiles_data,
     );
-    edit_table(
+    remove_table(
         TableName::TileCache,
         edits.tile_cache,
-        &mut tables.tile_cache.base,
+        &mut tables.tile_cache,
     );
-    edit_table(
-        TableName::Metadata,
-        edits.metadata,
-        &mut tables.metadata.base,
-    );
+    remove_table(TableName::Metadata, edits.metadata, &mut tables.metadata);
 }
 
-// Makes all changes, or none where memory is wanting. The rows of each table are in one list.
+// Makes all changes, or none where memory is wanting.
 pub(crate) fn commit_all(
     alloc: Global,
     changes: &[Change],
     tables: &mut MemTables,
 ) -> Result<(), OutOfMemory>
     requires sound { AreChanges changes.now }
-    requires one { AreOneList tables.old }
-    requires order { (table : TableName) → AreOrdered table (at tables.old table) }
+    requires stored { AreAllStored tables.old }
     ensures ok { OnOk result ((table : TableName) → CommitsTable changes.now table (rows_at tables.old table) (rows_at tables.new table)) }
-    ensures kept { (ds : List TableDesc) → AreOfTables ds changes.now → IsKept ds tables.old → IsKept ds tables.new }
-    ensures one { AreOneList tables.new }
     ensures err { OnErr result ((table : TableName) → rows_at tables.new table ≡ rows_at tables.old table) }
+    ensures stored { AreAllStored tables.new }
 {
     let edits = prepare_all(alloc, changes, tables)?;
-    edit_tables(edits, tables);
-    Ok(())
+    match put_tables(alloc, changes, tables) {
+        Ok(()) => {
+            remove_tables(edits, tables);
+            Ok(())
+        }
+        Err(refused) => {
+            undo_tables(&edits, tables);
+            Err(refused)
+        }
+    }
 }

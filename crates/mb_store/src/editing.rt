@@ -1,85 +1,109 @@
-// Changes of the rows of one table, which stand in the order of their keys.
-ghost use Rattle.std.specs.Prelude.{All, AllPairs, [], ◌≡◌, ◌+◌, ◌-◌, ◌<◌, ◌≤◌, ◌++◌, drop, filter, length, option_to_list, reverse, take, vec_capacity, vec_len};
-ghost use Rattle.std.specs.Ordering.{is_gt, is_le, is_lt};
-ghost use Rattle.std.specs.declared.cmp.Ordering.TheVariants.{Less};
+// The steps of a commit for one table: rows are added, and then those that were there before are removed.
+ghost use Rattle.std.specs.Prelude.{◌≡◌, ◌≤◌, IfOk, IfSome, OnErr, OnOk, filter, length, not, true};
+ghost use Rattle.mb_tables.specs.Table.{table_eq, width};
 ghost use Rattle.mb_store.specs.Changes.{AreChanges};
-ghost use Rattle.mb_store.specs.Editing.{AreEdits, Fits, against, edited_all};
-ghost use Rattle.mb_tables.specs.Key.{key_cmp};
-ghost use Rattle.mb_tables.specs.Key.{IsInOrder};
+ghost use Rattle.mb_store.specs.Editing.{AreAdded, early_rows, keys_of, removed, with_put};
+ghost use Rattle.mb_store.specs.StoredRow.{is_early};
+ghost use Rattle.mb_store.specs.TableRows.{AreStored};
 
+use crate::TableName;
 use crate::change::Change;
-use crate::{Row, RowKey, TableName};
+use crate::stored_row::StoredRow;
+use crate::table_rows::{TableRows, add, first_early};
+use std::alloc::Global;
+use tile_ids::OutOfMemory;
 
-// The place of the first row above a key.
-fn place_above(table: TableName, key: &RowKey, rows: &[Row]) -> usize
-    requires { IsInOrder table rows.now }
-    ensures within { result ≤ length rows.now }
-    ensures front { take result rows.now ≡ filter (λ row. is_le (against table key.now row)) rows.now }
-    ensures rest { drop result rows.now ≡ filter (λ row. is_gt (against table key.now row)) rows.now }
+// What is looked for under the keys of a table's changes.
+pub(crate) fn keys_of(
+    alloc: Global,
+    table: TableName,
+    changes: &[Change],
+) -> Result<Vec<StoredRow>, OutOfMemory>
+    ensures { IfOk result (λ keys. keys.items ≡ keys_of table changes.now) }
 {
-    rows.partition_point(|row| key.compare_row(table, row.cells()).is_le())
-}
-
-// The place of the first row that isn't below a key.
-fn place_not_below(table: TableName, key: &RowKey, rows: &[Row]) -> usize
-    requires { IsInOrder table rows.now }
-    ensures within { result ≤ length rows.now }
-    ensures front { take result rows.now ≡ filter (λ row. is_lt (against table key.now row)) rows.now }
-{
-    rows.partition_point(|row| key.compare_row(table, row.cells()).is_lt())
-}
-
-// Moves the rows from a place on to another list, the last first.
-pub(crate) fn move_tail(rows: &mut Vec<Row>, place: usize, moved: &mut Vec<Row>)
-    requires place { place ≤ vec_len rows.old }
-    requires room { vec_len moved.old + (vec_len rows.old - place) ≤ vec_capacity moved.old }
-    ensures rows { rows.new.items ≡ take place rows.old.items }
-    ensures moved { moved.new.items ≡ moved.old.items ++ reverse (drop place rows.old.items) }
-    ensures count { vec_len rows.new + vec_len moved.new ≡ vec_len rows.old + vec_len moved.old }
-    ensures capacity { vec_capacity rows.new ≡ vec_capacity rows.old }
-    ensures moved_capacity { vec_capacity moved.old ≤ vec_capacity moved.new }
-{
-    while rows.len() > place {
-        if let Some(row) = rows.pop() {
-            moved.push(row).unwrap();
+    let mut keys = Vec::new(alloc);
+    for change in changes {
+        if change.table.number() == table.number() {
+            keys.push(StoredRow::of_key(alloc, &change.key)?)?;
         }
     }
+    Ok(keys)
 }
 
-// Removes the rows of a key and moves those above it to another list, the last first. There the row that is put is the last.
-fn edit(table: TableName, key: &RowKey, row: Option<Row>, rows: &mut Vec<Row>, moved: &mut Vec<Row>)
-    requires order { IsInOrder table rows.old.items }
-    requires room { vec_len moved.old + vec_len rows.old < vec_capacity moved.old }
-    ensures rows { rows.new.items ≡ filter (λ row. is_lt (against table key.now row)) rows.old.items }
-    ensures moved { moved.new.items ≡ moved.old.items ++ reverse (filter (λ row. is_gt (against table key.now row)) rows.old.items) ++ option_to_list row }
-    ensures count { vec_len rows.new + vec_len moved.new ≤ vec_len rows.old + vec_len moved.old + 1 }
-    ensures capacity { vec_capacity rows.new ≡ vec_capacity rows.old }
-    ensures moved_capacity { vec_capacity moved.old ≤ vec_capacity moved.new }
+// Adds the row that a change puts, if it is of the table. Where memory is wanting, the rows stay.
+fn put(
+    alloc: Global,
+    table: TableName,
+    change: &Change,
+    rows: &mut TableRows,
+) -> Result<(), OutOfMemory>
+    requires fits { table_eq change.now.table table ≡ true → IfSome change.now.row (λ row. length row ≡ width table) }
+    requires stored { AreStored table rows.old }
+    ensures ok { OnOk result (rows.new.stored.keys ≡ with_put table change.now rows.old.next rows.old.stored.keys) }
+    ensures err { OnErr result (rows.new.stored.keys ≡ rows.old.stored.keys) }
+    ensures later { rows.old.next ≤ rows.new.next }
+    ensures stored { AreStored table rows.new }
 {
-    let above = place_above(table, key, rows.as_slice());
-    move_tail(rows, above, moved);
-    let tied = place_not_below(table, key, rows.as_slice());
-    rows.truncate(tied);
-    if let Some(row) = row {
-        moved.push(row).unwrap();
+    if change.table.number() != table.number() {
+        return Ok(());
+    }
+    match &change.row {
+        Some(row) => add(table, StoredRow::new(row.try_clone(alloc)?, 0), rows),
+        None => Ok(()),
     }
 }
 
-// Makes changes of a table, which have rising keys, in its rows. There is room for all rows that are put, here and in the empty list.
-pub(crate) fn edit_all(table: TableName, edits: Vec<Change>, rows: &mut Vec<Row>, empty: Vec<Row>)
-    requires order { IsInOrder table rows.old.items }
-    requires rising { AllPairs (λ c d. key_cmp c.key d.key ≡ Less) edits.items }
-    requires fits { All (Fits table) edits.items }
-    requires empty { empty.items ≡ [] }
-    requires room { vec_len rows.old + vec_len edits ≤ vec_capacity rows.old }
-    requires empty_room { vec_len rows.old + vec_len edits ≤ vec_capacity empty }
-    ensures { rows.new.items ≡ edited_all table edits.items rows.old.items }
+// Adds the rows that the changes of a table put. Where memory is wanting, some of them may be there.
+pub(crate) fn put_all(
+    alloc: Global,
+    table: TableName,
+    changes: &[Change],
+    rows: &mut TableRows,
+) -> Result<(), OutOfMemory>
+    requires sound { AreChanges changes.now }
+    requires stored { AreStored table rows.old }
+    ensures early { early_rows rows.old.next rows.new.stored.keys ≡ rows.old.stored.keys }
+    ensures ok { OnOk result (AreAdded table changes.now rows.old.next rows.old.stored.keys rows.new.stored.keys) }
+    ensures stored { AreStored table rows.new }
 {
-    let mut edits = edits;
-    let mut moved = empty;
-    while let Some(change) = edits.pop() {
-        let Change { table: _, key, row } = change;
-        edit(table, &key, row, rows, &mut moved);
+    for change in changes {
+        put(alloc, table, change, rows)?;
     }
-    move_tail(&mut moved, 0, rows);
+    Ok(())
+}
+
+// Removes all rows with numbers from one on.
+pub(crate) fn undo(table: TableName, start: u64, rows: &mut TableRows)
+    requires { AreStored table rows.old }
+    ensures rows { rows.new.stored.keys ≡ early_rows start rows.old.stored.keys }
+    ensures stored { AreStored table rows.new }
+{
+    rows.stored.retain(|row| row.arrival() < start);
+}
+
+// Removes the rows of a key that came before a number.
+fn remove(table: TableName, key: StoredRow, start: u64, rows: &mut TableRows)
+    requires { AreStored table rows.old }
+    ensures rows { rows.new.stored.keys ≡ filter (λ s. not (is_early key.0 start s)) rows.old.stored.keys }
+    ensures stored { AreStored table rows.new }
+{
+    let mut key = key;
+    key.set_arrival(0);
+    while let Some(first) = first_early(&key, start, &rows.stored) {
+        let arrival = first.arrival();
+        key.set_arrival(arrival);
+        rows.stored.remove(&key);
+        key.set_arrival(0);
+    }
+}
+
+// Removes the rows of each key that came before a number.
+pub(crate) fn remove_all(table: TableName, keys: Vec<StoredRow>, start: u64, rows: &mut TableRows)
+    requires { AreStored table rows.old }
+    ensures rows { rows.new.stored.keys ≡ removed keys.items start rows.old.stored.keys }
+    ensures stored { AreStored table rows.new }
+{
+    for key in keys {
+        remove(table, key, start, rows);
+    }
 }

@@ -8,19 +8,15 @@ mod committing;
 mod creating;
 mod describing;
 mod editing;
-mod failing;
 pub mod laws;
 mod mem_store;
 mod mem_tables;
-mod merging;
-mod placing;
-mod preparing;
 mod reading;
+mod rows;
 mod store;
+mod stored_row;
 mod table_key;
 mod table_rows;
-#[cfg(test)]
-mod tests;
 
 pub use changes::Changes;
 pub use creating::{
@@ -37,4 +33,5 @@ pub use mb_tables::{
     is_normalized_tables_type, missing_tile_index,
 };
 pub use mem_store::MemStore;
+pub use rows::Rows;
 pub use store::{StoreError, TileStore};

@@ -1,40 +1,45 @@
 // A store of tables in memory.
-ghost use Rattle.std.specs.Prelude.{◌≡◌, ◌↔◌, ◌⊎◌, true, [], length, IfOk, IfErr, OnOk, OnErr, IsErrOf, IsOkUnless};
-ghost use Rattle.mb_tables.specs.Table.{width};
-ghost use Rattle.mb_tables.specs.Schema.{set_tables};
-ghost use Rattle.mb_tables.specs.Key.{IsInOrder};
-ghost use Rattle.mb_store.specs.Store.{is_duplicate, no_rows, with_row};
+ghost use Rattle.std.specs.Prelude.{◌≡◌, ◌↔◌, ◌⊎◌, ◌≤◌, true, [], All, drop, find, length, take, IfErr, IfOk, IfSome, IsErrOf, IsOkUnless, IsTrue, OnErr, OnOk};
+ghost use Rattle.tile_ids.specs.Counts.{Rose};
+ghost use Rattle.tile_ids.specs.FailingCalls.{called, next_fails};
 ghost use Rattle.mb_tables.specs.Described.{is_table, names_apart};
+ghost use Rattle.mb_tables.specs.Key.{IsInOrder, has_key};
+ghost use Rattle.mb_tables.specs.Schema.{set_tables};
+ghost use Rattle.mb_tables.specs.Table.{width};
+ghost use Rattle.mb_store.specs.Committing.{AreOfTables, Commits};
 ghost use Rattle.mb_store.specs.MemTables.{IsKept};
+ghost use Rattle.mb_store.specs.Sizes.{live_size_of};
+ghost use Rattle.mb_store.specs.Store.{created, is_duplicate, no_rows, with_row};
 
-use crate::failing::Failing;
 use crate::mem_tables::MemTables;
+use crate::rows::Rows;
 use crate::{
     Changes, MbtError, MbtResult, MbtType, Row, RowKey, StoreError, TableDesc, TableName,
-    TileStore, committing, describing, mem_tables, reading,
+    TileStore, committing, describing, mem_tables, reading, table_rows,
 };
 use std::alloc::Global;
-use tile_ids::OutOfMemory;
+use tile_ids::FailingCalls;
 
-/// A store of tables in memory. The rows of a table stand in the order of their keys, rows of equal keys in order of arrival.
+/// A store of tables in memory. The rows of a table stand in the order of their keys, rows of equal keys in order of arrival. A row
+/// goes to its place, and is found, by a number of comparisons that grows as the logarithm of the number of rows; so does each change of a commit.
 #[derive(Debug, Drop)]
 pub struct MemStore {
     descriptions: Vec<TableDesc>,
     tables: MemTables,
-    failing: Failing,
+    failing: FailingCalls,
     ghost kept: { IsKept descriptions.items tables },
 }
 
-#[tactic(auto, unfolding(crate::specs::MemStore::told_of, crate::specs::MemStore::faults_of, crate::specs::MemStore::IsSteady, crate::specs::MemStore::IsSettled))]
+#[tactic(auto, unfolding(crate::specs::MemStore::told_of, crate::specs::MemStore::failing_of, crate::specs::MemStore::faults_of, crate::specs::MemStore::IsSteady))]
 impl MemStore {
-    ghost use Rattle.mb_store.specs.MemStore.{told_of, faults_of, IsSettled, IsSteady};
+    ghost use Rattle.mb_store.specs.MemStore.{told_of, failing_of, faults_of, IsSteady};
 
     /// A store without tables. No call of it fails.
     pub fn new(alloc: Global) -> MemStore
         ensures told { told_of result ≡ no_rows [] }
         ensures faults { faults_of result ≡ 0 }
+        ensures calls { (failing_of result).calls ≡ 0 }
         ensures steady { IsSteady result }
-        ensures settled { IsSettled result }
     {
         MemStore::of_tables(alloc, Vec::new(alloc))
     }
@@ -44,8 +49,8 @@ impl MemStore {
         ensures memory { IsOkUnless result MbtError.OutOfMemory }
         ensures told { IfOk result (λ store. told_of store ≡ no_rows (set_tables layout)) }
         ensures faults { IfOk result (λ store. faults_of store ≡ 0) }
+        ensures calls { IfOk result (λ store. (failing_of store).calls ≡ 0) }
         ensures steady { IfOk result IsSteady }
-        ensures settled { IfOk result IsSettled }
     {
         Ok(MemStore::of_tables(alloc, mb_tables::set_tables(alloc, layout)?))
     }
@@ -55,13 +60,13 @@ impl MemStore {
         requires { names_apart descriptions.items ≡ true }
         ensures told { told_of result ≡ no_rows descriptions.items }
         ensures faults { faults_of result ≡ 0 }
+        ensures calls { (failing_of result).calls ≡ 0 }
         ensures steady { IsSteady result }
-        ensures settled { IsSettled result }
     {
         MemStore {
             descriptions,
             tables: mem_tables::no_rows(alloc),
-            failing: Failing::none(alloc),
+            failing: FailingCalls::none(alloc),
         }
     }
 
@@ -75,46 +80,42 @@ impl MemStore {
         ensures ok { OnOk result (told_of self.new ≡ with_row (told_of self.old) table row) }
         ensures err { OnErr result (told_of self.new ≡ told_of self.old) }
         ensures faults { faults_of self.new ≡ faults_of self.old }
+        ensures failing { failing_of self.new ≡ failing_of self.old }
         ensures steady { IsSteady self.new ↔ IsSteady self.old }
     {
         mem_tables::push(&mut self.tables, table, self.descriptions.as_slice(), row)
     }
 
-    /// Brings the rows that were pushed into one list a table, so that `table_rows` can give them. What the store tells stays, also where
-    /// memory is wanting.
-    pub fn settle(&mut self) -> Result<(), OutOfMemory>
-        ensures told { told_of self.new ≡ told_of self.old }
-        ensures settled { OnOk result (IsSettled self.new) }
-        ensures faults { faults_of self.new ≡ faults_of self.old }
-        ensures steady { IsSteady self.new ↔ IsSteady self.old }
+    /// Goes through the rows of a table, in the order of their keys.
+    pub fn table_rows(&self, table: TableName) -> Rows<'_>
+        ensures rows { result ≡ (told_of self.now).rows table }
+        ensures order { IsInOrder table result }
     {
-        mem_tables::settle(&mut self.tables)
+        self.tables.of(table).iter()
     }
 
-    /// The rows of a table, in the order of their keys. The store is settled: `settle` was the last call that pushed, read or changed rows.
-    pub fn table_rows(&self, table: TableName) -> &[Row]
-        requires settled { IsSettled self.now }
-        ensures rows { result.now ≡ (told_of self.now).rows table }
-        ensures order { IsInOrder table result.now }
+    /// The rows of a table stand in the order of their keys, whatever was pushed and committed.
+    pub fn rows_in_order(&self, table: TableName)
+        ensures { IsInOrder table ((told_of self.now).rows table) }
     {
-        self.tables.of(table).base.as_slice()
+        let _ = self.table_rows(table);
     }
 
     /// From here on the calls of a store with these numbers fail, counted from 1 over all calls that this store has been asked.
     pub fn fail_at(&mut self, calls: Vec<u64>)
         ensures told { told_of self.new ≡ told_of self.old }
         ensures faults { faults_of self.new ≡ faults_of self.old }
+        ensures failing { failing_of self.new ≡ record (failing_of self.old) { listed = calls } }
         ensures steady { IsSteady self.new ↔ (calls.items ≡ []) }
-        ensures settled { IsSettled self.new ↔ IsSettled self.old }
     {
-        self.failing.listed = calls;
+        self.failing.fail_at(calls);
     }
 }
 
-#[tactic(auto, unfolding(crate::specs::MemStore::told_of, crate::specs::MemStore::faults_of, crate::specs::MemStore::IsSteady))]
+#[tactic(auto, unfolding(crate::specs::MemStore::told_of, crate::specs::MemStore::failing_of, crate::specs::MemStore::faults_of, crate::specs::MemStore::IsSteady))]
 impl TileStore for MemStore {
     ghost use Rattle.std.specs.Prelude.{true};
-    ghost use Rattle.mb_store.specs.MemStore.{told_of, faults_of, IsSteady, told_sound};
+    ghost use Rattle.mb_store.specs.MemStore.{told_of, failing_of, faults_of, IsSteady, told_sound};
 
     ghost tells = { λ _. true };
 
@@ -124,14 +125,32 @@ impl TileStore for MemStore {
 
     ghost steady = { IsSteady };
 
-    fn describe(&mut self, alloc: Global) -> Result<Vec<TableDesc>, StoreError> {
+    fn describe(&mut self, alloc: Global) -> Result<Vec<TableDesc>, StoreError>
+        ensures answer { IfOk result (λ tables. tables.items ≡ (told_of self.old).descriptions) }
+        ensures told { told_of self.new ≡ told_of self.old }
+        ensures fails { IsErrOf result StoreError.Fault ↔ (next_fails (failing_of self.old) ≡ true) }
+        ensures after { failing_of self.new ≡ called (failing_of self.old) }
+        ensures faults { faults_of self.old ≤ faults_of self.new }
+        ensures fault { IsErrOf result StoreError.Fault → Rose (faults_of self.old) (faults_of self.new) }
+        ensures steady { IsSteady self.old → IsSteady self.new }
+        ensures calm { IsSteady self.old → faults_of self.new ≡ faults_of self.old }
+    {
         if self.failing.fails() {
             return Err(StoreError::Fault);
         }
         Ok(describing::clone_all(alloc, self.descriptions.as_slice())?)
     }
 
-    fn count_rows(&mut self, table: TableName) -> Result<u64, StoreError> {
+    fn count_rows(&mut self, table: TableName) -> Result<u64, StoreError>
+        ensures answer { IfOk result (λ count. count ≡ length ((told_of self.old).rows table)) }
+        ensures told { told_of self.new ≡ told_of self.old }
+        ensures fails { IsErrOf result StoreError.Fault ↔ (next_fails (failing_of self.old) ≡ true) }
+        ensures after { failing_of self.new ≡ called (failing_of self.old) }
+        ensures faults { faults_of self.old ≤ faults_of self.new }
+        ensures fault { IsErrOf result StoreError.Fault → Rose (faults_of self.old) (faults_of self.new) }
+        ensures steady { IsSteady self.old → IsSteady self.new }
+        ensures calm { IsSteady self.old → faults_of self.new ≡ faults_of self.old }
+    {
         if self.failing.fails() {
             return Err(StoreError::Fault);
         }
@@ -144,11 +163,21 @@ impl TileStore for MemStore {
         table: TableName,
         from: u64,
         limit: u64,
-    ) -> Result<Vec<Row>, StoreError> {
+    ) -> Result<Vec<Row>, StoreError>
+        ensures answer { IfOk result (λ rows. rows.items ≡ take limit (drop from ((told_of self.old).rows table))) }
+        ensures widths { IfOk result (λ rows. All (λ row. length row ≡ width table) rows.items) }
+        ensures limit { IfOk result (λ rows. length rows.items ≤ limit) }
+        ensures told { told_of self.new ≡ told_of self.old }
+        ensures fails { IsErrOf result StoreError.Fault ↔ (next_fails (failing_of self.old) ≡ true) }
+        ensures after { failing_of self.new ≡ called (failing_of self.old) }
+        ensures faults { faults_of self.old ≤ faults_of self.new }
+        ensures fault { IsErrOf result StoreError.Fault → Rose (faults_of self.old) (faults_of self.new) }
+        ensures steady { IsSteady self.old → IsSteady self.new }
+        ensures calm { IsSteady self.old → faults_of self.new ≡ faults_of self.old }
+    {
         if self.failing.fails() {
             return Err(StoreError::Fault);
         }
-        self.settle()?;
         Ok(reading::page_of(alloc, self.table_rows(table), from, limit)?)
     }
 
@@ -157,15 +186,33 @@ impl TileStore for MemStore {
         alloc: Global,
         table: TableName,
         key: &RowKey,
-    ) -> Result<Option<Row>, StoreError> {
+    ) -> Result<Option<Row>, StoreError>
+        ensures answer { IfOk result (λ row. row ≡ find (has_key table key.now) ((told_of self.old).rows table)) }
+        ensures widths { IfOk result (λ row. IfSome row (λ row. length row ≡ width table)) }
+        ensures told { told_of self.new ≡ told_of self.old }
+        ensures fails { IsErrOf result StoreError.Fault ↔ (next_fails (failing_of self.old) ≡ true) }
+        ensures after { failing_of self.new ≡ called (failing_of self.old) }
+        ensures faults { faults_of self.old ≤ faults_of self.new }
+        ensures fault { IsErrOf result StoreError.Fault → Rose (faults_of self.old) (faults_of self.new) }
+        ensures steady { IsSteady self.old → IsSteady self.new }
+        ensures calm { IsSteady self.old → faults_of self.new ≡ faults_of self.old }
+    {
         if self.failing.fails() {
             return Err(StoreError::Fault);
         }
-        self.settle()?;
-        Ok(reading::find_in(alloc, table, key, self.table_rows(table))?)
+        Ok(table_rows::find_in(alloc, table, key, self.tables.of(table))?)
     }
 
-    fn create(&mut self, alloc: Global, tables: &[TableDesc]) -> Result<(), StoreError> {
+    fn create(&mut self, alloc: Global, tables: &[TableDesc]) -> Result<(), StoreError>
+        ensures ok { OnOk result (told_of self.new ≡ created (told_of self.old) tables.now) }
+        ensures err { OnErr result (told_of self.new ≡ told_of self.old) }
+        ensures fails { IsErrOf result StoreError.Fault ↔ (next_fails (failing_of self.old) ≡ true) }
+        ensures after { failing_of self.new ≡ called (failing_of self.old) }
+        ensures faults { faults_of self.old ≤ faults_of self.new }
+        ensures fault { IsErrOf result StoreError.Fault → Rose (faults_of self.old) (faults_of self.new) }
+        ensures steady { IsSteady self.old → IsSteady self.new }
+        ensures calm { IsSteady self.old → faults_of self.new ≡ faults_of self.old }
+    {
         if self.failing.fails() {
             return Err(StoreError::Fault);
         }
@@ -173,16 +220,34 @@ impl TileStore for MemStore {
         Ok(())
     }
 
-    fn commit(&mut self, alloc: Global, changes: &Changes) -> Result<(), StoreError> {
+    fn commit(&mut self, alloc: Global, changes: &Changes) -> Result<(), StoreError>
+        requires { AreOfTables (told_of self.old).descriptions changes.now }
+        ensures ok { OnOk result (Commits changes.now (told_of self.old) (told_of self.new)) }
+        ensures err { OnErr result (told_of self.new ≡ told_of self.old) }
+        ensures fails { IsErrOf result StoreError.Fault ↔ (next_fails (failing_of self.old) ≡ true) }
+        ensures after { failing_of self.new ≡ called (failing_of self.old) }
+        ensures faults { faults_of self.old ≤ faults_of self.new }
+        ensures fault { IsErrOf result StoreError.Fault → Rose (faults_of self.old) (faults_of self.new) }
+        ensures steady { IsSteady self.old → IsSteady self.new }
+        ensures calm { IsSteady self.old → faults_of self.new ≡ faults_of self.old }
+    {
         if self.failing.fails() {
             return Err(StoreError::Fault);
         }
-        self.settle()?;
         committing::commit_all(alloc, changes.as_slice(), &mut self.tables)?;
         Ok(())
     }
 
-    fn live_size(&mut self) -> Result<u64, StoreError> {
+    fn live_size(&mut self) -> Result<u64, StoreError>
+        ensures answer { IfOk result (λ size. size ≡ live_size_of (told_of self.old)) }
+        ensures told { told_of self.new ≡ told_of self.old }
+        ensures fails { IsErrOf result StoreError.Fault ↔ (next_fails (failing_of self.old) ≡ true) }
+        ensures after { failing_of self.new ≡ called (failing_of self.old) }
+        ensures faults { faults_of self.old ≤ faults_of self.new }
+        ensures fault { IsErrOf result StoreError.Fault → Rose (faults_of self.old) (faults_of self.new) }
+        ensures steady { IsSteady self.old → IsSteady self.new }
+        ensures calm { IsSteady self.old → faults_of self.new ≡ faults_of self.old }
+    {
         if self.failing.fails() {
             return Err(StoreError::Fault);
         }

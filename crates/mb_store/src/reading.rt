@@ -1,62 +1,47 @@
 // Reading rows in the order of their keys.
-ghost use Rattle.std.specs.Prelude.{◌≡◌, ◌+◌, ◌-◌, ◌^◌, IfOk, drop, find, length, min, position, sum_by, take};
-ghost use Rattle.mb_tables.specs.Key.{has_key};
+ghost use Rattle.std.specs.Prelude.{◌≡◌, ◌+◌, ◌-◌, ◌^◌, IfOk, drop, min, sum_by, take};
 ghost use Rattle.mb_store.specs.Sizes.{cell_size, row_size};
-ghost use Rattle.mb_tables.specs.Key.{IsInOrder};
 
-use crate::{Cell, Row, RowKey, TableName};
+use crate::rows::Rows;
+use crate::{Cell, Row};
 use std::alloc::Global;
 use tile_ids::OutOfMemory;
+
+// The rows behind the first ones.
+fn past(rows: Rows<'_>, count: u64) -> Rows<'_>
+    ensures { result ≡ drop count rows.entry }
+{
+    let mut rest = rows;
+    let mut left = count;
+    while left > 0 {
+        if rest.next().is_none() {
+            return rest;
+        }
+        left -= 1;
+    }
+    rest
+}
 
 // Copies of the rows from a place on, as many as there are, up to a limit.
 pub(crate) fn page_of(
     alloc: Global,
-    rows: &[Row],
+    rows: Rows<'_>,
     from: u64,
     limit: u64,
 ) -> Result<Vec<Row>, OutOfMemory>
-    ensures { IfOk result (λ page. page.items ≡ take limit (drop from rows.now)) }
+    ensures { IfOk result (λ page. page.items ≡ take limit (drop from rows.entry)) }
 {
+    let mut rest = past(rows, from);
     let mut page = Vec::new(alloc);
-    if from as usize >= rows.len() {
-        return Ok(page);
-    }
-    let rest = &rows[from as usize..];
-    let count = rest.len().min(limit as usize);
-    page.reserve(count)?;
-    for row in &rest[..count] {
+    let mut left = limit;
+    while left > 0 {
+        let Some(row) = rest.next() else {
+            return Ok(page);
+        };
         page.push(row.try_clone(alloc)?)?;
+        left -= 1;
     }
     Ok(page)
-}
-
-// The place of the first row with a key.
-pub(crate) fn place_of_key(table: TableName, key: &RowKey, rows: &[Row]) -> Option<usize>
-    requires { IsInOrder table rows.now }
-    ensures { result ≡ position (has_key table key.now) rows.now }
-{
-    let place = rows.partition_point(|row| key.compare_row(table, row.cells()).is_lt());
-    if place < rows.len() && key.is_of(table, rows[place].cells()) {
-        Some(place)
-    } else {
-        None
-    }
-}
-
-// A copy of the first row with a key.
-pub(crate) fn find_in(
-    alloc: Global,
-    table: TableName,
-    key: &RowKey,
-    rows: &[Row],
-) -> Result<Option<Row>, OutOfMemory>
-    requires { IsInOrder table rows.now }
-    ensures { IfOk result (λ row. row ≡ find (has_key table key.now) rows.now) }
-{
-    match place_of_key(table, key, rows) {
-        Some(place) => Ok(Some(rows[place].try_clone(alloc)?)),
-        None => Ok(None),
-    }
 }
 
 // The bytes of a text or blob, and 8 for another cell.
@@ -82,11 +67,12 @@ fn with_row(size: u64, row: &[Cell]) -> u64
 }
 
 // A size and that of rows, at most the greatest count.
-pub(crate) fn with_rows(size: u64, rows: &[Row]) -> u64
-    ensures { result ≡ min (size + sum_by row_size rows.now) (2 ^ 64 - 1) }
+pub(crate) fn with_rows(size: u64, rows: Rows<'_>) -> u64
+    ensures { result ≡ min (size + sum_by row_size rows.entry) (2 ^ 64 - 1) }
 {
+    let mut rest = rows;
     let mut sum = size;
-    for row in rows {
+    while let Some(row) = rest.next() {
         sum = with_row(sum, row.cells());
     }
     sum

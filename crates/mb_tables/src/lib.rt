@@ -16,8 +16,6 @@ mod patch_type;
 mod row;
 mod schema;
 mod table;
-#[cfg(test)]
-mod tests;
 
 pub use cell::Cell;
 pub use column::{ColumnDesc, ColumnList};

@@ -1,5 +1,9 @@
-use Rattle.std.proofs.Common.{◌≡◌, take}
+use Rattle.std.proofs.Common.{◌≡◌, ◌++◌, take}
 use Rattle.mb_store.proofs.reading.page_of.Given as goal
 
-abbrev pub invariant-loop-row : goal.invariant-loop-row
-invariant-loop-row l = l.page.items ≡ take l.row-index l.row-items
+-- the page so far, and what is still to come
+abbrev pub invariant-loop-left : goal.invariant-loop-left
+invariant-loop-left l = l.page.items ++ take l.left l.rest ≡ take l.limit l.initial.rest
+
+abbrev pub decreases-loop-left : goal.decreases-loop-left
+decreases-loop-left l = l.left

@@ -1,0 +1,12 @@
+use Rattle.std.proofs.Common.{◌≡◌}
+use Rattle.std.specs.Vec.Iter.{into_iter_items}
+use Rattle.mb_store.specs.Editing.{removed}
+use Rattle.mb_store.specs.TableRows.{AreStored}
+use Rattle.mb_store.proofs.editing.remove_all.Given as goal
+
+-- what the keys that are left leave of what there is, is what all leave of all
+abbrev pub invariant-loop-key : goal.invariant-loop-key
+invariant-loop-key l = record {
+  stored : AreStored l.table l.rows;
+  left : removed (into_iter_items l.key-iterator) l.start l.rows.stored.keys ≡ removed l.fn.keys.items l.start l.initial.rows.stored.keys;
+}

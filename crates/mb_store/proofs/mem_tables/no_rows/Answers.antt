@@ -1,0 +1,11 @@
+use Rattle.mb_store.specs.ByTable.{at}
+use Rattle.mb_store.specs.MemTables.{MemTables}
+use Rattle.mb_store.specs.TableRows.{AreStored}
+use Rattle.mb_tables.specs.declared.table.TableName.TheVariants.{Tiles, TilesWithHash, Map, Images, TilesShallow, TilesData, TileCache, Metadata}
+use Rattle.mb_tables.proofs.TableLemmas.{by_tables}
+use Rattle.mb_store.proofs.mem_tables.no_rows.Goals as goal
+
+pub returns-clause-stored : goal.returns-clause-stored
+returns-clause-stored c =
+    let m : MemTables = record { tiles = c.none.result; tiles_with_hash = c.none-2.result; map = c.none-3.result; images = c.none-4.result; tiles_shallow = c.none-5.result; tiles_data = c.none-6.result; tile_cache = c.none-7.result; metadata = c.none-8.result } in
+    by_tables (λ t. AreStored t (at m t)) (c.none.ensures.stored Tiles) (c.none-2.ensures.stored TilesWithHash) (c.none-3.ensures.stored Map) (c.none-4.ensures.stored Images) (c.none-5.ensures.stored TilesShallow) (c.none-6.ensures.stored TilesData) (c.none-7.ensures.stored TileCache) (c.none-8.ensures.stored Metadata)

@@ -1,0 +1,189 @@
+// Rows as they are stored, in the order of their keys.
+ghost use Rattle.std.specs.Prelude.{◌≡◌, IfOk, IfSome, Some, refl};
+ghost use Rattle.std.specs.Ordering.{eq_by_cmp};
+ghost use Rattle.std.specs.Cmp.{eq_by_cmp_equiv, partial_equiv_from_equiv, partial_order_from_total};
+ghost use Rattle.mb_tables.specs.Cell.{cells_cmp};
+ghost use Rattle.mb_tables.specs.Key.{key_cells};
+ghost use Rattle.mb_store.specs.StoredRow.{is_early, numbers_cells, own_key, stored_cmp, stored_total};
+
+use crate::{Cell, Row, RowKey};
+use std::alloc::Global;
+use std::cmp::Ordering;
+use std::marker::Model;
+use tile_ids::OutOfMemory;
+
+// A row and the number of its arrival. Stored rows are ordered by the cells of their keys, and those of equal keys by their arrival. Where the
+// key is three numbers, as that of a place, they lie in the stored row itself, so that two such rows are compared without a look at their cells.
+#[derive(Debug, Drop)]
+pub(crate) struct StoredRow {
+    numbers: (i64, i64, i64),
+    is_numbered: bool,
+    arrival: u64,
+    row: Row,
+}
+
+impl Model for StoredRow {
+    ghost use Rattle.std.specs.Prelude.{◌≡◌, ℕ, List, true};
+    ghost use Rattle.mb_tables.specs.declared.cell.Cell.{Cell};
+    ghost use Rattle.mb_store.specs.StoredRow.{numbers_cells, own_key};
+
+    ghost Value = { List Cell × ℕ };
+
+    ghost view = { λ s. (s.row, s.arrival) };
+
+    ghost invariant = { λ s. s.is_numbered ≡ true → own_key s.row ≡ numbers_cells s.numbers };
+}
+
+// The cells of a row's key, whose number the row's width tells.
+fn own_key(row: &[Cell]) -> &[Cell]
+    ensures { result.now ≡ own_key row.now }
+{
+    let width = if row.len() > 2 { 3 } else { 1 };
+    &row[..row.len().min(width)]
+}
+
+// The three numbers of a row's key, None where it isn't three numbers.
+fn numbers_of(row: &[Cell]) -> Option<(i64, i64, i64)>
+    ensures { IfSome result (λ numbers. own_key row.now ≡ numbers_cells numbers) }
+{
+    match row {
+        [Cell::Int(first), Cell::Int(second), Cell::Int(third), ..] => Some((
+            *first, *second, *third,
+        )),
+        _ => None,
+    }
+}
+
+// The order of three numbers and three others.
+fn compare_numbers(numbers: (i64, i64, i64), others: (i64, i64, i64)) -> Ordering
+    ensures { result ≡ cells_cmp (numbers_cells numbers) (numbers_cells others) }
+{
+    numbers
+        .0
+        .cmp(&others.0)
+        .then(numbers.1.cmp(&others.1))
+        .then(numbers.2.cmp(&others.2))
+}
+
+// The cells of a key.
+fn cells_of(alloc: Global, key: &RowKey) -> Result<Vec<Cell>, OutOfMemory>
+    ensures { IfOk result (λ cells. cells.items ≡ key_cells key.now) }
+{
+    let mut cells = Vec::new(alloc);
+    match key {
+        RowKey::Tile { zoom, column, row } => {
+            cells.push(Cell::Int(i64::from(*zoom)))?;
+            cells.push(Cell::Int(i64::from(*column)))?;
+            cells.push(Cell::Int(i64::from(*row)))?;
+        }
+        RowKey::TextId(text) => cells.push(Cell::Text(text.try_clone(alloc)?))?,
+        RowKey::IntId(id) => cells.push(Cell::Int(*id))?,
+    }
+    Ok(cells)
+}
+
+impl StoredRow {
+    // A row that came with a number.
+    pub fn new(row: Row, arrival: u64) -> StoredRow
+        ensures { result ≡ (row, arrival) }
+    {
+        match numbers_of(row.cells()) {
+            Some(numbers) => StoredRow {
+                numbers,
+                is_numbered: true,
+                arrival,
+                row,
+            },
+            None => StoredRow {
+                numbers: (0, 0, 0),
+                is_numbered: false,
+                arrival,
+                row,
+            },
+        }
+    }
+
+    // A row of a key's cells alone, to look for others.
+    pub fn of_key(alloc: Global, key: &RowKey) -> Result<StoredRow, OutOfMemory>
+        ensures { IfOk result (λ s. s ≡ (key_cells key.now, 0)) }
+    {
+        Ok(StoredRow::new(Row::new(cells_of(alloc, key)?), 0))
+    }
+
+    // The row.
+    pub fn row(&self) -> &Row
+        ensures { result.now ≡ self.now.0 }
+    {
+        &self.row
+    }
+
+    // The number of its arrival.
+    pub fn arrival(&self) -> u64
+        ensures { result ≡ self.now.1 }
+    {
+        self.arrival
+    }
+
+    // Gives the row another number.
+    pub fn set_arrival(&mut self, arrival: u64)
+        ensures { self.new ≡ (self.old.0, arrival) }
+    {
+        self.arrival = arrival;
+    }
+
+    // The order of two rows by their keys.
+    fn compare_keys(&self, other: &StoredRow) -> Ordering
+        ensures { result ≡ cells_cmp (own_key self.now.0) (own_key other.now.0) }
+    {
+        if self.is_numbered && other.is_numbered {
+            return compare_numbers(self.numbers, other.numbers);
+        }
+        own_key(self.row.cells()).cmp(&own_key(other.row.cells()))
+    }
+
+    // Whether the row has the key of another, and came before a number.
+    pub fn is_early(&self, key: &StoredRow, limit: u64) -> bool
+        ensures { result ≡ is_early key.now.0 limit self.now }
+    {
+        key.compare_keys(self).is_eq() && self.arrival < limit
+    }
+}
+
+impl PartialEq for StoredRow {
+    ghost eq = { eq_by_cmp stored_cmp };
+
+    ghost laws = { partial_equiv_from_equiv (eq_by_cmp_equiv stored_total) };
+
+    fn eq(&self, other: &Self) -> bool {
+        self.cmp(other).is_eq()
+    }
+}
+
+impl Eq for StoredRow {
+    ghost laws = { eq_by_cmp_equiv stored_total };
+}
+
+impl PartialOrd for StoredRow {
+    ghost partial_cmp = { λ x y. Some (stored_cmp x y) };
+
+    ghost laws = { partial_order_from_total stored_total };
+
+    fn partial_cmp(&self, other: &Self) -> Option<Ordering> {
+        Some(self.cmp(other))
+    }
+}
+
+impl Ord for StoredRow {
+    ghost cmp = { stored_cmp };
+
+    ghost total = { stored_total };
+
+    ghost matches_partial_cmp = { λ x y. refl };
+
+    ghost matches_eq = { λ x y. refl };
+
+    fn cmp(&self, other: &Self) -> Ordering {
+        self.compare_keys(other)
+            .then_with(|| self.arrival.cmp(&other.arrival))
+    }
+}

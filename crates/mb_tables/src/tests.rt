@@ -1,3 +1,0 @@
-// Descriptions, kinds and their words.
-mod odd_tables;
-mod words;
