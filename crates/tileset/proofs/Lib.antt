@@ -1,5 +1,6 @@
 pub mod DumpLemmas
 pub mod HexDumpLemmas
+pub mod MemSourceLemmas
 pub mod ReportLemmas
 pub mod RunLemmas
 pub mod StreamsLemmas

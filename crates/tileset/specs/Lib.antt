@@ -1,6 +1,8 @@
 pub mod Dump
 pub mod HexDump
 pub mod Input
+pub mod MemSink
+pub mod MemSource
 pub mod OutcomeText
 pub mod Outcomes
 pub mod Places

@@ -1,16 +1,18 @@
 // A sink in memory. The calls that are listed fail.
-ghost use Rattle.std.specs.Prelude.{◌≡◌, ◌↔◌, ℕ, List, [], ◌≤◌, ◌<◌, ◌+◌, Some};
+ghost use Rattle.std.specs.Prelude.{◌≡◌, ◌↔◌, ◌≤◌, [], IsErrOf, IsTrue, Some};
+ghost use Rattle.tile_ids.specs.FailingCalls.{called, next_fails};
+ghost use Rattle.tileset.specs.MemSink.{failing_of};
+ghost use Rattle.tileset.specs.Streams.{WriteAppends};
 
 use crate::{Sink, SinkFault};
 use std::alloc::Global;
+use tile_ids::FailingCalls;
 
 /// A sink whose bytes lie in memory. It tells them, and fails only where it is made to.
 #[derive(Drop)]
 pub struct MemSink {
     bytes: Vec<u8>,
-    failing: Vec<u64>,
-    calls: u64,
-    faults: u64,
+    failing: FailingCalls,
 }
 
 impl MemSink {
@@ -19,12 +21,12 @@ impl MemSink {
         ensures held { ⟦<MemSink as Sink>⟧.held result ≡ Some [] }
         ensures faults { ⟦<MemSink as Sink>⟧.faults result ≡ 0 }
         ensures steady { ⟦<MemSink as Sink>⟧.steady result }
+        ensures failing { (failing_of result).listed.items ≡ [] }
+        ensures calls { (failing_of result).calls ≡ 0 }
     {
         MemSink {
             bytes: Vec::new(alloc),
-            failing: Vec::new(alloc),
-            calls: 0,
-            faults: 0,
+            failing: FailingCalls::none(alloc),
         }
     }
 
@@ -40,22 +42,26 @@ impl MemSink {
         ensures held { ⟦<MemSink as Sink>⟧.held self.new ≡ ⟦<MemSink as Sink>⟧.held self.old }
         ensures faults { ⟦<MemSink as Sink>⟧.faults self.new ≡ ⟦<MemSink as Sink>⟧.faults self.old }
         ensures steady { ⟦<MemSink as Sink>⟧.steady self.new ↔ (calls.items ≡ []) }
+        ensures failing { failing_of self.new ≡ record (failing_of self.old) { listed = calls } }
     {
-        self.failing = calls;
+        self.failing.fail_at(calls);
     }
 }
 
 impl Sink for MemSink {
     ghost held = { λ s. Some s.bytes.items };
 
-    ghost faults = { λ s. s.faults };
+    ghost faults = { λ s. s.failing.faults };
 
-    ghost steady = { λ s. s.failing.items ≡ [] };
+    ghost steady = { λ s. s.failing.listed.items ≡ [] };
 
-    fn write(&mut self, piece: &[u8]) -> Result<usize, SinkFault> {
-        self.calls = self.calls.saturating_add(1);
-        if self.failing.contains(&self.calls) {
-            self.faults = self.faults.saturating_add(1);
+    fn write(&mut self, piece: &[u8]) -> Result<usize, SinkFault>
+        ensures appends { WriteAppends (⟦<MemSink as Sink>⟧.held self.old) (⟦<MemSink as Sink>⟧.held self.new) result piece.now }
+        ensures fails { IsErrOf result SinkFault.Fault ↔ IsTrue (next_fails (failing_of self.old)) }
+        ensures after { failing_of self.new ≡ called (failing_of self.old) }
+        ensures faults { (failing_of self.old).faults ≤ (failing_of self.new).faults }
+    {
+        if self.failing.fails() {
             return Err(SinkFault::Fault);
         }
         match self.bytes.extend_from_slice(piece) {

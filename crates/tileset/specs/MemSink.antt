@@ -1,0 +1,7 @@
+-- a sink in memory
+use Rattle.tile_ids.specs.declared.failing_calls.FailingCalls.{FailingCalls}
+use Rattle.tileset.specs.declared.mem_sink.MemSink.{MemSink}
+
+-- which calls fail, and how many were made and failed
+abbrev pub failing_of : MemSink → FailingCalls
+failing_of s = s.failing
