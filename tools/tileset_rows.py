@@ -250,13 +250,14 @@ def dump(whole):
 
 
 def report(options, rows, queries):
+    """The lines without the bytes, the dump of the bytes, and the bytes."""
     adds = adds_of(rows)
     found = dict(adds)
     whole, numbers = archive(options, adds)
     lines = [f"tile {z}/{x}/{y} {found[tile_id(z, x, y)].hex() if tile_id(z, x, y) in found else 'none'}\n" for z, x, y in queries]
     lines.append(f"aggregate {aggregate(rows)}\n")
     lines += [f"{name} {count}\n" for name, count in numbers[:4]]
-    return "".join(lines) + dump(whole), whole
+    return "".join(lines), dump(whole), whole
 
 
 def bulk(tiles, repeat):
@@ -302,7 +303,7 @@ def ended(status, line, output=b"", medium=b""):
 
 def outcome(words, script, medium=b""):
     """How a run ends whose objects don't fail."""
-    if words == ["convert", "hex"]:
+    if words == ["convert", "hex"] or len(words) == 3 and words[:2] == ["convert", "file"]:
         found = parsed(script)
         if isinstance(found, int):
             return ended(3, f"bad script: line {found}", medium=medium)
@@ -320,7 +321,8 @@ def outcome(words, script, medium=b""):
     options, rows, queries = given
     if options["internal-compression"] != 1:
         return ended(1, f"refused: unsupported compression {LABELS[options['internal-compression']]}")
-    output, whole = report(options, rows, queries)
+    lines, bytes_shown, whole = report(options, rows, queries)
+    output = lines + bytes_shown if words[1] == "hex" else lines
     return ended(0, "", output.encode(), whole)
 
 
@@ -336,6 +338,7 @@ def bad(script, line):
 
 
 ONE_TILE = "base flat\nrow tiles i0 i0 i0 x30\nquery 0 0 0\n"
+FILE = ["convert", "file", "x"]
 NO_TILE = "base flat\nquery 0 0 0\n"
 FIVE = ["row tiles i4 i11 i2 x62", "row tiles i0 i0 i0 x61", "row tiles i4 i1 i12 x30", "row tiles i1 i0 i0 n", "row tiles i1 i1 i0 x"]
 
@@ -399,12 +402,34 @@ BAD_LINES = [
 
 def words_and_bulk():
     """Words that are no command, and sets that are made from two numbers."""
-    for words in [["convert"], ["convert", "Hex"], ["hex", "convert"], ["convert", "hex", ""], [], ["bulk", "100001", "1"], ["bulk", "1", "0"],
+    for words in [["convert"], ["convert", "file"], ["convert", "file", "x", "y"], ["Convert", "file", "x"], ["convert", "files", "x"], ["convert", "hex", "x"],
+                  ["file", "convert", "x"], ["convert", "Hex"], ["hex", "convert"], ["convert", "hex", ""], [], ["bulk", "100001", "1"], ["bulk", "1", "0"],
                   ["bulk", "1", "1000001"], ["bulk", "01", "1"], ["bulk", "-1", "1"], ["bulk", "1"], ["bulk", "1", "1", "1"], ["Bulk", "1", "1"]]:
         run(ONE_TILE, words)
     for tiles, repeat in [(0, 1), (1, 1), (5, 2), (5, 1000000), (86, 3), (4063, 1), (4064, 1), (40000, 1), (12288, 3), (100000, 1000000)]:
         run("", ["bulk", str(tiles), str(repeat)])
     run("base none", ["bulk", "3", "1"])
+
+
+def files():
+    """What is printed beside a file, whatever its path, and the same refusals and faults as of the bytes in hexadecimal."""
+    five = "\n".join(["base flat", *FIVE, "query 4 1 3", "query 1 1 1", "query 0 0 0", "query 31 0 0", ""])
+    for script in [ONE_TILE, NO_TILE, "base flat", five, "option min-zoom 7\noption type mlt\noption metadata t%f0%9f%97%BA\nbase flat\nrow tiles i2 i3 i3 xffFF00\nquery 2 3 0\n",
+                   "option internal-compression gzip\nbase flat\n", "base none\n", "", "base flat\nrow tiles i0 i0 i0 x3\n"]:
+        run(script, FILE)
+    for path in ["", "hex", "file", "/none/a.pmtiles", "5"]:
+        run(ONE_TILE, ["convert", "file", path])
+    for script, held in [(ONE_TILE, b"a"), (ONE_TILE, bytes(200)), ("option internal-compression gzip\nbase flat\n", b"ab"), ("base none\n", b"c")]:
+        run(script, FILE, held)
+    _, _, whole = report(*parsed(ONE_TILE.encode()))
+    for script, calls, wanted in [
+        (ONE_TILE, "i1", ended(4, "input fault")), (ONE_TILE, "o1", ended(5, "output fault", medium=whole)), (ONE_TILE, "m1", ended(6, "medium fault")),
+        ("base none", "o1 m1", ended(3, "bad script: line 1")), (ONE_TILE, "o1 m1", ended(6, "medium fault")),
+    ]:
+        case(["run", " ".join(FILE), escaped(script.encode()), calls, ""], wanted)
+    for script in [ONE_TILE, NO_TILE, five]:
+        for place in ["input", "output", "medium"]:
+            case(["each", place, " ".join(FILE), escaped(script.encode())], "as wanted")
 
 
 def media():
@@ -413,7 +438,7 @@ def media():
         run(script, medium=held)
     run("", ["bulk", "5", "2"], b"d")
     run("", ["bulk", "x", "2"], b"e")
-    _, whole = report(*parsed(ONE_TILE.encode()))
+    _, _, whole = report(*parsed(ONE_TILE.encode()))
     gzip = "option internal-compression gzip\nbase flat\nquery 0 0 0\n"
     for script, calls, wanted in [
         (ONE_TILE, "i1", ended(4, "input fault")), (gzip, "i1", ended(4, "input fault")), ("base none", "i1", ended(4, "input fault")),
@@ -447,7 +472,7 @@ def other_objects():
     gzip = "option internal-compression gzip\nbase flat\nquery 0 0 0\n"
     case(["short", "0", escaped(gzip.encode())], "1|refused: unsupported compression gzip")
     for script in [ONE_TILE, five]:
-        output = report(*parsed(script.encode()))[0]
+        output = "".join(report(*parsed(script.encode()))[:2])
         for kind in ["versions", "single", "streams"]:
             case([kind, escaped(script.encode())], f"0||{shown(output.encode(), 4000)}")
     for name, status, line in [("OutOfMemory", 7, "out of memory"), ("InputTooLong", 8, "input too long"), ("IndexEntryOverflow", 1, "refused: IndexEntryOverflow")]:
@@ -503,6 +528,7 @@ def main():
     for script, line in BAD_LINES:
         bad(script, line)
     words_and_bulk()
+    files()
     media()
     other_objects()
     random_scripts(20)

@@ -1,3 +1,4 @@
+pub mod AnswerLemmas
 pub mod DumpLemmas
 pub mod HexDumpLemmas
 pub mod MemSourceLemmas

@@ -1,5 +1,5 @@
 -- The report, from what a conversion answers.
-use Rattle.std.proofs.Common.{◌≡◌, ℕ, zero, suc, ◌≤◌, min, List, [], ◌∷◌, ◌++◌, length, drop, map, flat_map, Option, Some, None, Result, Ok, Err, IfErr, IfSome, IsErrOf, subst, refl, sym, ◌∙◌, ap, arith, append_assoc, append-nil}
+use Rattle.std.proofs.Common.{◌≡◌, ℕ, zero, suc, ◌≤◌, min, List, [], ◌∷◌, ◌++◌, length, drop, map, flat_map, Option, Some, None, Result, Ok, Err, IfErr, IfSome, IsErrOf, OnOk, subst, refl, sym, ◌∙◌, ap, arith, append-nil}
 use Rattle.std.proofs.lemmas.List.{drop_all}
 use Rattle.tile_ids.specs.Coord.{Coord}
 use Rattle.tile_ids.specs.Hilbert.{id_of}
@@ -11,11 +11,13 @@ use Rattle.pm_writer.specs.declared.places.ArchivePlaces.{ArchivePlaces}
 use Rattle.tile_bridge.specs.declared.report.ConvertReport.{ConvertReport}
 use Rattle.tileset.specs.Dump.{HasLength}
 use Rattle.tileset.specs.HexDump.{hex_dump}
-use Rattle.tileset.specs.Report.{number_lines, query_lines, query_line, report_text, summary_lines}
-use Rattle.tileset.specs.Run.{IsReported, PlacesCauses, ReportCauses}
+use Rattle.tileset.specs.Report.{file_text, number_lines, query_lines, query_line, report_text, summary_lines}
+use Rattle.tileset.specs.Run.{IsReported, LinesCauses, ReportCauses, command_text}
 use Rattle.tileset.specs.declared.outcome.Outcome.{Outcome}
 use Rattle.tileset.specs.declared.outcome.Outcome.TheVariants as outcomes
 use Rattle.tileset.specs.Streams.{Gains, GainsFront}
+use Rattle.tileset_script.specs.declared.words.Command.{Command}
+use Rattle.tileset_script.specs.declared.words.Command.TheVariants.{ConvertFile}
 use Rattle.tileset.specs.Summary.{answer_lines, summary}
 use Rattle.tileset.proofs.DumpLemmas.{front_longer, front_more}
 use Rattle.tileset.proofs.StreamsLemmas.{Gains-more}
@@ -39,32 +41,50 @@ answers_map : (f : Coord → Option (List ℕ)) (cs : List Coord) → answer_lin
 answers_map f [] = refl
 answers_map f (c ∷ cs) = ap (λ r. query_line c (f c) ++ r) (answers_map f cs)
 
--- the report is the lines of the answers and numbers, and the dump
-report_is : (queries : List Coord) (r : ConvertReport) (b : List ℕ) → IsReported queries r b → report_text queries r.aggregate b ≡ summary queries r ++ hex_dump 0 b
-unfolding report_text
-report_is queries r b is =
+-- the lines of the answers and numbers are those of the bytes
+summary_is : (queries : List Coord) (r : ConvertReport) (b : List ℕ) → IsReported queries r b → file_text queries r.aggregate b ≡ summary queries r
+unfolding file_text
+summary_is queries r b is =
     let answers : answer_lines queries r.answers ≡ query_lines b queries = ap (answer_lines queries) is.answers ∙ answers_map (λ c. archive_map b (id_of c)) queries in
     let numbers : summary_lines r.aggregate (places_read b) ≡ number_lines r.aggregate r.places.addressed r.places.entries r.places.contents r.places.length = ap (summary_lines r.aggregate) is.places in
-    sym (append_assoc (query_lines b queries) (summary_lines r.aggregate (places_read b)) (hex_dump 0 b))
-    ∙ (ap (λ x. (x ++ summary_lines r.aggregate (places_read b)) ++ hex_dump 0 b) (sym answers) ∙ ap (λ x. (answer_lines queries r.answers ++ x) ++ hex_dump 0 b) numbers)
+    ap (λ x. x ++ summary_lines r.aggregate (places_read b)) (sym answers) ∙ ap (λ x. answer_lines queries r.answers ++ x) numbers
 
-pub report_all : (old mid new told : Option (List ℕ)) (queries : List Coord) (r : ConvertReport) (text : List ℕ) → IfSome told (IsReported queries r) → text ≡ summary queries r
-    → Gains old mid text → IfSome told (λ b. Gains mid new (hex_dump 0 b)) → IfSome told (λ b. Gains old new (report_text queries r.aggregate b))
-report_all old mid new None queries r text is e p q = tt
-report_all old mid new (Some b) queries r text is e p q =
-    subst (Gains old new) (sym (report_is queries r b is)) (Gains-more old mid new (summary queries r) (hex_dump 0 b) (subst (Gains old mid) e p) q)
+-- the report is these lines and the dump
+report_is : (queries : List Coord) (r : ConvertReport) (b : List ℕ) → IsReported queries r b → report_text queries r.aggregate b ≡ summary queries r ++ hex_dump 0 b
+unfolding report_text
+report_is queries r b is = ap (λ x. x ++ hex_dump 0 b) (summary_is queries r b is)
 
-pub report_front : (old mid told : Option (List ℕ)) (queries : List Coord) (r : ConvertReport) (text : List ℕ) → IfSome told (IsReported queries r) → text ≡ summary queries r
-    → GainsFront old mid text → IfSome told (λ b. GainsFront old mid (report_text queries r.aggregate b))
-report_front old mid None queries r text is e p = tt
-report_front old mid (Some b) queries r text is e p =
-    subst (GainsFront old mid) (sym (report_is queries r b is)) (front_longer old mid (summary queries r) (hex_dump 0 b) (subst (GainsFront old mid) e p))
+pub report_all : (old mid new told : Option (List ℕ)) (queries : List Coord) (r : ConvertReport) → IfSome told (IsReported queries r)
+    → Gains old mid (summary queries r) → IfSome told (λ b. Gains mid new (hex_dump 0 b)) → IfSome told (λ b. Gains old new (report_text queries r.aggregate b))
+report_all old mid new None queries r is p q = tt
+report_all old mid new (Some b) queries r is p q =
+    subst (Gains old new) (sym (report_is queries r b is)) (Gains-more old mid new (summary queries r) (hex_dump 0 b) p q)
 
-pub report_further : (old mid new told : Option (List ℕ)) (queries : List Coord) (r : ConvertReport) (text : List ℕ) → IfSome told (IsReported queries r) → text ≡ summary queries r
-    → Gains old mid text → IfSome told (λ b. GainsFront mid new (hex_dump 0 b)) → IfSome told (λ b. GainsFront old new (report_text queries r.aggregate b))
-report_further old mid new None queries r text is e p q = tt
-report_further old mid new (Some b) queries r text is e p q =
-    subst (GainsFront old new) (sym (report_is queries r b is)) (front_more old mid new (summary queries r) (hex_dump 0 b) (subst (Gains old mid) e p) q)
+pub report_front : (old mid told : Option (List ℕ)) (queries : List Coord) (r : ConvertReport) → IfSome told (IsReported queries r)
+    → GainsFront old mid (summary queries r) → IfSome told (λ b. GainsFront old mid (report_text queries r.aggregate b))
+report_front old mid None queries r is p = tt
+report_front old mid (Some b) queries r is p =
+    subst (GainsFront old mid) (sym (report_is queries r b is)) (front_longer old mid (summary queries r) (hex_dump 0 b) p)
+
+pub report_further : (old mid new told : Option (List ℕ)) (queries : List Coord) (r : ConvertReport) → IfSome told (IsReported queries r)
+    → Gains old mid (summary queries r) → IfSome told (λ b. GainsFront mid new (hex_dump 0 b)) → IfSome told (λ b. GainsFront old new (report_text queries r.aggregate b))
+report_further old mid new None queries r is p q = tt
+report_further old mid new (Some b) queries r is p q =
+    subst (GainsFront old new) (sym (report_is queries r b is)) (front_more old mid new (summary queries r) (hex_dump 0 b) p q)
+
+-- the text of a file has these lines alone
+pub file_all : (asked : Command) (old new told : Option (List ℕ)) (queries : List Coord) (r : ConvertReport) (end : Result Unit Outcome) → asked ≡ ConvertFile → IfSome told (IsReported queries r)
+    → OnOk end (Gains old new (summary queries r)) → OnOk end (IfSome told (λ b. Gains old new (command_text asked queries r.aggregate b)))
+file_all asked old new told queries r (Err e) file is p = tt
+file_all asked old new None queries r (Ok x) file is p = tt
+file_all asked old new (Some b) queries r (Ok x) file is p =
+    subst (λ a. Gains old new (command_text a queries r.aggregate b)) (sym file) (subst (Gains old new) (sym (summary_is queries r b is)) p)
+
+pub file_front : (asked : Command) (old new told : Option (List ℕ)) (queries : List Coord) (r : ConvertReport) → asked ≡ ConvertFile → IfSome told (IsReported queries r)
+    → GainsFront old new (summary queries r) → IfSome told (λ b. GainsFront old new (command_text asked queries r.aggregate b))
+file_front asked old new None queries r file is p = tt
+file_front asked old new (Some b) queries r file is p =
+    subst (λ a. GainsFront old new (command_text a queries r.aggregate b)) (sym file) (subst (GainsFront old new) (sym (summary_is queries r b is)) p)
 
 -- places that are read have the length of the bytes
 length_read : (n : ℕ) (o : Result Opened PmtError) (p : ArchivePlaces) → places_opened n o ≡ Some p → p.length ≡ n
@@ -75,12 +95,12 @@ pub reported_length : (told : Option (List ℕ)) (queries : List Coord) (r : Con
 reported_length None queries r is = tt
 reported_length (Some b) queries r is = length_read (length b) (opened b) r.places is.places
 
--- writing the places ends as a report may
-pub places_end : (told : Option (List ℕ)) (r : Result Unit Outcome) → IfErr r PlacesCauses → IfErr r (ReportCauses told)
-places_end told (Ok x) h = tt
-places_end told (Err outcomes.OutputFault) h = tt
-places_end told (Err outcomes.OutOfMemory) h = tt
-places_end told (Err _) h = absurd h
+-- writing such lines ends as a report may
+pub lines_end : (told : Option (List ℕ)) (r : Result Unit Outcome) → IfErr r LinesCauses → IfErr r (ReportCauses told)
+lines_end told (Ok x) h = tt
+lines_end told (Err outcomes.OutputFault) h = tt
+lines_end told (Err outcomes.OutOfMemory) h = tt
+lines_end told (Err _) h = absurd h
 
-pub no_medium_fault : (r : Result Unit Outcome) → IfErr r PlacesCauses → IsErrOf r outcomes.MediumFault → ⊥
-no_medium_fault r h is = subst (λ x. IfErr x PlacesCauses) is h
+pub no_medium_fault : (r : Result Unit Outcome) → IfErr r LinesCauses → IsErrOf r outcomes.MediumFault → ⊥
+no_medium_fault r h is = subst (λ x. IfErr x LinesCauses) is h

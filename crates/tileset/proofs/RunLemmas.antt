@@ -1,7 +1,6 @@
 -- What a run answers and leaves once there is a script.
-use Rattle.std.proofs.Common.{◌≡◌, ◌≢◌, ◌≤◌, ◌⊎◌, ℕ, inl, inr, false, List, [], ◌∷◌, length, nat_lt, if◌then◌else◌, Option, Some, None, IfSome, Result, Ok, Err, refl, sym, subst, ◌∙◌, ap, arith}
+use Rattle.std.proofs.Common.{◌≡◌, ◌≢◌, ◌⊎◌, ℕ, inl, inr, List, [], ◌∷◌, if◌then◌else◌, Option, Some, None, IfSome, Result, Ok, Err, refl, sym, subst, ◌∙◌, ap, arith}
 use Rattle.std.specs.Result.{IsErrAnd}
-use Rattle.std.proofs.lemmas.Bool.Decides.{nat_tests}
 use Rattle.tile_ids.specs.Coord.{Coord}
 use Rattle.pm_format.specs.declared.compression.Compression.{Compression}
 use Rattle.pm_format.specs.declared.compression.Compression.TheVariants as compression
@@ -15,14 +14,12 @@ use Rattle.pm_format.specs.declared.error.PmtError.TheVariants as errors
 use Rattle.pm_format.specs.declared.error.ReadCause.TheVariants as causes
 use Rattle.tileset.specs.Dump.{IsOtherRange}
 use Rattle.tileset.specs.Outcomes.{of_convert}
-use Rattle.tileset.specs.Run.{AnsweredBy, Causes, Given, Gives, HasBegun, IsConvertible, IsScript, IsScriptOf, LeavesMedium, LeavesOutput, LeftBy, ReportCauses, SomeBegun, WrittenBy, answer, answer_command, answer_input, answer_label, answer_medium, answer_script, command_text, outcome_of, text_of}
+use Rattle.tileset.specs.Run.{AnsweredBy, Causes, Given, Gives, HasBegun, IsConvertible, IsScript, LeavesMedium, LeavesOutput, LeftBy, ReportCauses, SomeBegun, WrittenBy, answer_label, answer_medium, answer_script, command_text, outcome_of, text_of}
 use Rattle.tileset.specs.Streams.{GainsFront}
-use Rattle.tileset_script.specs.Script.{Script, script_of, script_tiles}
-use Rattle.tileset.specs.declared.input.TheConstants.{MAX_INPUT}
+use Rattle.tileset_script.specs.Script.{Script, script_tiles}
 use Rattle.tileset.specs.declared.outcome.Outcome.{Outcome}
 use Rattle.tileset.specs.declared.outcome.Outcome.TheVariants as outcomes
 use Rattle.tileset_script.specs.declared.words.Command.{Command}
-use Rattle.tileset_script.specs.declared.words.Command.TheVariants.{ConvertHex, Bulk}
 
 pub err_outcome : (r : Result Unit Outcome) (o : Outcome) → IsErrAnd r (λ x. x ≡ o) → outcome_of r ≡ o
 err_outcome (Ok x) o h = absurd h
@@ -189,22 +186,6 @@ reported_output asked s coords report medium told left old new e r can leaves sa
     subst (WrittenBy asked s medium left old new) (sym (err_outcome r e ended)) (begun_written asked s told medium left old new e causes (record { convertible = can; archive = archive_left s coords report medium told left leaves same; front = h }))
 
 -- What is known of a run, from what is known of its script.
-pub exact_by : (given : Given) (s : Script) (o : Outcome) → IsScript given s → Gives (answer_script (Ok s) given.medium) o → Gives (answer given) o
-exact_by given s o is h =
-    let found : answer given ≡ answer_command (Some is.asked) given.input given.medium = ap (λ c. answer_command c given.input given.medium) is.words in
-    subst (λ w. Gives w o) (sym found) (by_command is.asked given.input is.script)
-  where
-    below_limit : (n : ℕ) → n ≤ MAX_INPUT → nat_lt MAX_INPUT n ≡ false
-    below_limit n h = grind (arith, nat_tests)
-
-    by_command : (asked : Command) (input : Option (List ℕ)) → IsScriptOf asked input s → Gives (answer_command (Some asked) input given.medium) o
-    by_command (Bulk tiles repeat) input is = subst (λ t. Gives (answer_script (Ok t) given.medium) o) is h
-    by_command ConvertHex None is = tt
-    by_command ConvertHex (Some bytes) is =
-        let within : nat_lt MAX_INPUT (length bytes) ≡ false = below_limit (length bytes) is.0 in
-        let found : answer_input (Some bytes) given.medium ≡ answer_script (Ok s) given.medium = ap (λ b. if b then Some outcomes.InputTooLong else answer_script (script_of bytes) given.medium) within ∙ ap (λ r. answer_script r given.medium) is.1 in
-        subst (λ w. Gives w o) (sym found) h
-
 pub causes_by : (given : Given) (s : Script) (o : Outcome) → IsScript given s → AnsweredBy s given.medium o → Causes given o
 causes_by given s outcomes.Done is h = (s, is, h)
 causes_by given s (outcomes.Refused e) is h = (s, is, h)

@@ -33,9 +33,13 @@ abbrev pub summary_lines : List ℕ → Option ArchivePlaces → List ℕ
 summary_lines aggregate None = []
 summary_lines aggregate (Some p) = number_lines aggregate p.addressed p.entries p.contents p.length
 
--- the report on an archive whose set has this aggregate
+-- the lines on an archive whose set has this aggregate, without its bytes
+unfoldable pub file_text : List Coord → List ℕ → List ℕ → List ℕ
+file_text queries aggregate b = query_lines b queries ++ summary_lines aggregate (places_read b)
+
+-- the same lines, and the bytes in hexadecimal
 unfoldable pub report_text : List Coord → List ℕ → List ℕ → List ℕ
-report_text queries aggregate b = query_lines b queries ++ (summary_lines aggregate (places_read b) ++ hex_dump 0 b)
+report_text queries aggregate b = file_text queries aggregate b ++ hex_dump 0 b
 
 -- the text of an archive that is made from two numbers
 abbrev pub bulk_text : Option ArchivePlaces → List ℕ

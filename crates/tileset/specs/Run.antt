@@ -14,7 +14,7 @@ use Rattle.tile_bridge.specs.declared.error.ConvertError.TheVariants as refusals
 use Rattle.tile_bridge.specs.declared.report.ConvertReport.{ConvertReport}
 use Rattle.tileset_script.specs.Bulk.{bulk_script}
 use Rattle.tileset.specs.Dump.{IsOtherRange}
-use Rattle.tileset.specs.Report.{bulk_text, report_text}
+use Rattle.tileset.specs.Report.{bulk_text, file_text, report_text}
 use Rattle.tileset_script.specs.Script.{Script, script_of, script_tiles}
 use Rattle.tileset.specs.Streams.{Gains, GainsFront, IsAtEnd}
 use Rattle.tileset_script.specs.Words.{command}
@@ -22,7 +22,7 @@ use Rattle.tileset.specs.declared.input.TheConstants.{MAX_INPUT}
 use Rattle.tileset.specs.declared.outcome.Outcome.{Outcome}
 use Rattle.tileset.specs.declared.outcome.Outcome.TheVariants.{Done, Refused, Usage, BadScript, InputFault, OutputFault, MediumFault, OutOfMemory, InputTooLong, ReadBack}
 use Rattle.tileset_script.specs.declared.words.Command.{Command}
-use Rattle.tileset_script.specs.declared.words.Command.TheVariants.{ConvertHex, Bulk}
+use Rattle.tileset_script.specs.declared.words.Command.TheVariants.{ConvertHex, ConvertFile, Bulk}
 
 -- what a run is given: its words, what is left of the input, and what the medium holds, where they tell
 pub record Given : Type 0 where
@@ -41,6 +41,7 @@ Spells input s = IfSome input (λ bytes. script_of bytes ≡ Ok s)
 -- the script of a command: the one that the input spells, or that of two numbers
 abbrev pub IsScriptOf : Command → Option (List ℕ) → Script → Type 0
 IsScriptOf ConvertHex input s = IsShort input × Spells input s
+IsScriptOf ConvertFile input s = IsShort input × Spells input s
 IsScriptOf (Bulk tiles repeat) input s = s ≡ bulk_script tiles repeat
 
 -- the words are a command, and this is its script
@@ -70,6 +71,7 @@ answer_input (Some bytes) medium = if nat_lt MAX_INPUT (length bytes) then Some 
 abbrev pub answer_command : Option Command → Option (List ℕ) → Option (List ℕ) → Option Outcome
 answer_command None input medium = Some Usage
 answer_command (Some ConvertHex) input medium = answer_input input medium
+answer_command (Some ConvertFile) input medium = answer_input input medium
 answer_command (Some (Bulk tiles repeat)) input medium = answer_script (Ok (bulk_script tiles repeat)) medium
 
 abbrev pub answer : Given → Option Outcome
@@ -87,10 +89,15 @@ Yields _ = ⊥
 abbrev pub Gives : Option Outcome → Outcome → Type 0
 Gives wanted given = IfSome wanted (λ w. (given ≡ w) ⊎ Yields given)
 
+-- the input is told, within the limit, and spells this script
+abbrev pub TellsScript : Option (List ℕ) → Script → Type 0
+TellsScript None s = ⊥
+TellsScript (Some bytes) s = (length bytes ≤ MAX_INPUT) × (script_of bytes ≡ Ok s)
+
 -- the script of a command is told
 abbrev pub IsTold : Command → Option (List ℕ) → Script → Type 0
-IsTold ConvertHex None s = ⊥
-IsTold ConvertHex (Some bytes) s = (length bytes ≤ MAX_INPUT) × (script_of bytes ≡ Ok s)
+IsTold ConvertHex input s = TellsScript input s
+IsTold ConvertFile input s = TellsScript input s
 IsTold (Bulk tiles repeat) input s = s ≡ bulk_script tiles repeat
 
 -- the words are a command whose script is told, its directories are plain, its set can be converted, and the medium is empty
@@ -129,12 +136,19 @@ AnsweredBy s medium OutOfMemory = Unit {0}
 AnsweredBy s medium (ReadBack e) = (medium ≡ None) × IsConvertible s medium × IsReadBack e
 AnsweredBy s medium _ = ⊥
 
+-- a command whose script is the input
+abbrev pub ReadsInput : Option Command → Type 0
+ReadsInput (Some ConvertHex) = Unit {0}
+ReadsInput (Some ConvertFile) = Unit {0}
+ReadsInput (Some (Bulk tiles repeat)) = ⊥
+ReadsInput None = ⊥
+
 -- When each answer comes. The faults have their causes by the counts, and want of memory is free.
 abbrev pub Causes : Given → Outcome → Type 0
 Causes given Usage = command given.words ≡ None
-Causes given (BadScript line) = (command given.words ≡ Some ConvertHex) × IsShort given.input × IfSome given.input (λ bytes. script_of bytes ≡ Err line)
-Causes given InputTooLong = (command given.words ≡ Some ConvertHex) × IfSome given.input (λ bytes. MAX_INPUT < length bytes)
-Causes given InputFault = command given.words ≡ Some ConvertHex
+Causes given (BadScript line) = ReadsInput (command given.words) × IsShort given.input × IfSome given.input (λ bytes. script_of bytes ≡ Err line)
+Causes given InputTooLong = ReadsInput (command given.words) × IfSome given.input (λ bytes. MAX_INPUT < length bytes)
+Causes given InputFault = ReadsInput (command given.words)
 Causes given OutOfMemory = Unit {0}
 Causes given Done = SomeScript given (λ s. AnsweredBy s given.medium Done)
 Causes given (Refused e) = SomeScript given (λ s. AnsweredBy s given.medium (Refused e))
@@ -168,6 +182,7 @@ LeavesMedium given new _ = new ≡ given.medium
 -- the text that a command writes on the way to Done, on queries, the aggregate hash of the set, and the bytes of the archive
 abbrev pub command_text : Command → List Coord → List ℕ → List ℕ → List ℕ
 command_text ConvertHex queries hash b = report_text queries hash b
+command_text ConvertFile queries hash b = file_text queries hash b
 command_text (Bulk tiles repeat) queries hash b = bulk_text (places_read b)
 
 abbrev pub text_of : Command → Script → List ℕ → List ℕ
@@ -221,17 +236,20 @@ LoadCauses input _ = ⊥
 
 abbrev pub ScriptCauses : Command → Option (List ℕ) → Outcome → Type 0
 ScriptCauses ConvertHex input e = LoadCauses input e
+ScriptCauses ConvertFile input e = LoadCauses input e
 ScriptCauses (Bulk tiles repeat) input e = e ≡ OutOfMemory
 
 -- the input is read to its end where it has the script
 abbrev pub IsReadFor : Option Command → Option (List ℕ) → Type 0
 IsReadFor (Some ConvertHex) left = IsAtEnd left
+IsReadFor (Some ConvertFile) left = IsAtEnd left
 IsReadFor (Some (Bulk tiles repeat)) left = Unit {0}
 IsReadFor None left = ⊥
 
 -- nothing is taken of the input where it has no script: what is left of it and how much was taken, before and now
 abbrev pub IsUntaken : Option Command → Option (List ℕ) → Option (List ℕ) → ℕ → ℕ → Type 0
 IsUntaken (Some ConvertHex) old new before now = Unit {0}
+IsUntaken (Some ConvertFile) old new before now = Unit {0}
 IsUntaken (Some (Bulk tiles repeat)) old new before now = (new ≡ old) × (now ≡ before)
 IsUntaken None old new before now = (new ≡ old) × (now ≡ before)
 
@@ -247,8 +265,8 @@ ReportCauses told OutOfMemory = Unit {0}
 ReportCauses told (ReadBack e) = (told ≡ None) × IsOtherRange e
 ReportCauses told _ = ⊥
 
--- The answers while the places of the archive are written.
-abbrev pub PlacesCauses : Outcome → Type 0
-PlacesCauses OutputFault = Unit {0}
-PlacesCauses OutOfMemory = Unit {0}
-PlacesCauses _ = ⊥
+-- The answers while lines are written for which the medium isn't asked.
+abbrev pub LinesCauses : Outcome → Type 0
+LinesCauses OutputFault = Unit {0}
+LinesCauses OutOfMemory = Unit {0}
+LinesCauses _ = ⊥

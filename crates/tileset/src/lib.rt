@@ -27,5 +27,5 @@ pub use output::write_all;
 pub use sink::{Sink, SinkFault};
 pub use source::{Source, SourceFault};
 pub use std_streams::{StdSink, StdSource};
-pub use tileset_script::{Command, MAX_BULK_REPEAT, MAX_BULK_TILES};
+pub use tileset_script::{Command, MAX_BULK_REPEAT, MAX_BULK_TILES, command_of};
 pub use top_call::run;

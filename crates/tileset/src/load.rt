@@ -68,7 +68,7 @@ pub(crate) fn script_for<I: Source>(
     ensures calm { I.steady input.old → I.steady input.new × (I.faults input.new ≡ I.faults input.old) }
 {
     match command {
-        Command::ConvertHex => load(alloc, input),
+        Command::ConvertHex | Command::ConvertFile => load(alloc, input),
         Command::Bulk { tiles, repeat } => Ok(bulk(alloc, tiles, repeat)?),
     }
 }

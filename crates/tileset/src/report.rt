@@ -3,8 +3,9 @@ ghost use Rattle.std.specs.Prelude.{◌≡◌, ◌≤◌, IfSome, IfErr, OnOk, I
 ghost use Rattle.tile_ids.specs.Counts.{Rose};
 ghost use Rattle.tileset.specs.Places.{places_text};
 ghost use Rattle.tileset.specs.Report.{report_text};
-ghost use Rattle.tileset.specs.Run.{IsReported, PlacesCauses, ReportCauses, command_text};
+ghost use Rattle.tileset.specs.Run.{IsReported, LinesCauses, ReportCauses, command_text};
 ghost use Rattle.tileset.specs.Streams.{Gains, GainsFront};
+ghost use Rattle.tileset.specs.Summary.{summary};
 
 use crate::dump::write_dump;
 use crate::places::places_text;
@@ -15,6 +16,26 @@ use pm_writer::ArchivePlaces;
 use std::alloc::Global;
 use tile_bridge::ConvertReport;
 use tile_ids::TileCoord;
+
+// Writes the lines of the answers, the aggregate and the numbers.
+fn write_summary<O: Sink>(
+    alloc: Global,
+    queries: &[TileCoord],
+    report: &ConvertReport,
+    output: &mut O,
+) -> Result<(), Outcome>
+    ensures all { OnOk result (Gains (O.held output.old) (O.held output.new) (summary queries.now report.now)) }
+    ensures front { GainsFront (O.held output.old) (O.held output.new) (summary queries.now report.now) }
+    ensures causes { IfErr result LinesCauses }
+    ensures output_fault { IsErrOf result Outcome.OutputFault → Rose (O.faults output.old) (O.faults output.new) }
+    ensures output_tells { is_some (O.held output.new) ≡ is_some (O.held output.old) }
+    ensures output_faults { O.faults output.old ≤ O.faults output.new }
+    ensures output_calm { O.steady output.old → O.steady output.new × (O.faults output.new ≡ O.faults output.old) }
+{
+    let text = summary_of(alloc, queries, report)?;
+    write_all(output, text.as_slice())?;
+    Ok(())
+}
 
 // Writes the report on the archive that a medium holds, whose bytes are read back for the dump.
 fn write_hex_report<O: Sink, M: Medium>(
@@ -38,8 +59,7 @@ fn write_hex_report<O: Sink, M: Medium>(
     ensures output_calm { O.steady output.old → O.steady output.new × (O.faults output.new ≡ O.faults output.old) }
     ensures medium_calm { M.steady medium.old → M.steady medium.new × (M.faults medium.new ≡ M.faults medium.old) }
 {
-    let text = summary_of(alloc, queries, report)?;
-    write_all(output, text.as_slice())?;
+    write_summary(alloc, queries, report, output)?;
     write_dump(alloc, report.places.length, output, medium)?;
     Ok(())
 }
@@ -52,7 +72,7 @@ fn write_places<O: Sink>(
 ) -> Result<(), Outcome>
     ensures all { OnOk result (Gains (O.held output.old) (O.held output.new) (places_text places.now)) }
     ensures front { GainsFront (O.held output.old) (O.held output.new) (places_text places.now) }
-    ensures causes { IfErr result PlacesCauses }
+    ensures causes { IfErr result LinesCauses }
     ensures output_fault { IsErrOf result Outcome.OutputFault → Rose (O.faults output.old) (O.faults output.new) }
     ensures output_tells { is_some (O.held output.new) ≡ is_some (O.held output.old) }
     ensures output_faults { O.faults output.old ≤ O.faults output.new }
@@ -88,6 +108,7 @@ pub(crate) fn write_report<O: Sink, M: Medium>(
 {
     match command {
         Command::ConvertHex => write_hex_report(alloc, queries, report, output, medium),
+        Command::ConvertFile => write_summary(alloc, queries, report, output),
         Command::Bulk { .. } => write_places(alloc, &report.places, output),
     }
 }

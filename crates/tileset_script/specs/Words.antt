@@ -4,7 +4,7 @@ use Rattle.std.specs.Option.{option_and_then}
 use Rattle.std.specs.Str.{bytes_eq}
 use Rattle.tileset_script.specs.Number.{number_to}
 use Rattle.tileset_script.specs.declared.words.Command.{Command}
-use Rattle.tileset_script.specs.declared.words.Command.TheVariants.{ConvertHex, Bulk}
+use Rattle.tileset_script.specs.declared.words.Command.TheVariants.{ConvertHex, ConvertFile, Bulk}
 
 -- 0 to 100,000 tiles, and 1 to 1,000,000 ids with the same contents
 abbrev pub bulk_command : List ℕ → List ℕ → Option Command
@@ -14,16 +14,24 @@ abbrev pub command : List (List ℕ) → Option Command
 command [] = None
 command (word ∷ []) = None
 command (first ∷ second ∷ []) = if bytes_eq first (codes "convert") && bytes_eq second (codes "hex") then Some ConvertHex else None
-command (first ∷ second ∷ third ∷ []) = if bytes_eq first (codes "bulk") then bulk_command second third else None
+command (first ∷ second ∷ third ∷ []) = if bytes_eq first (codes "bulk") then bulk_command second third
+    else (if bytes_eq first (codes "convert") && bytes_eq second (codes "file") then Some ConvertFile else None)
 command (first ∷ second ∷ third ∷ fourth ∷ words) = None
 
 -- the numbers of a command are within their limits
 abbrev pub IsCommand : Command → Type 0
 IsCommand ConvertHex = Unit {0}
+IsCommand ConvertFile = Unit {0}
 IsCommand (Bulk n k) = (n ≤ 100000) × (0 < k) × (k ≤ 1000000)
 
 pub convert_hex : command (codes "convert" ∷ codes "hex" ∷ []) ≡ Some ConvertHex
 convert_hex = refl
+
+pub convert_file : command (codes "convert" ∷ codes "file" ∷ codes "world.pmtiles" ∷ []) ≡ Some ConvertFile
+convert_file = refl
+
+pub file_without_path : command (codes "convert" ∷ codes "file" ∷ []) ≡ None
+file_without_path = refl
 
 pub convert_alone : command (codes "convert" ∷ []) ≡ None
 convert_alone = refl

@@ -16,6 +16,8 @@ pub const MAX_BULK_REPEAT: u64 = 1_000_000;
 pub enum Command {
     /// `convert hex`: the script is the input, and the archive is printed in hexadecimal.
     ConvertHex,
+    /// `convert file PATH`: the script is the input, and the archive is what the medium holds. The path is its caller's to open.
+    ConvertFile,
     /// `bulk N K`: the set is made from two numbers, and where the parts of its archive lie is printed.
     Bulk {
         /// How many tiles there are, those of the first ids: 0 to 100,000.
@@ -35,6 +37,9 @@ pub fn command_of(words: &[TextVal]) -> Option<Command>
             Some(Command::ConvertHex)
         }
         [first, tiles, repeat] if first.as_str() == "bulk" => bulk_command(tiles, repeat),
+        [first, second, _] if first.as_str() == "convert" && second.as_str() == "file" => {
+            Some(Command::ConvertFile)
+        }
         _ => None,
     }
 }

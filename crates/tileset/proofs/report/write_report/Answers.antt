@@ -1,8 +1,20 @@
-use Rattle.tileset.proofs.ReportLemmas.{no_medium_fault, places_end}
+use Rattle.tileset.proofs.ReportLemmas.{file_all, file_front, lines_end, no_medium_fault}
 use Rattle.tileset.proofs.report.write_report.Goals as goal
 
+pub returns-in-ConvertFile-clause-all : goal.returns-in-ConvertFile-clause-all
+returns-in-ConvertFile-clause-all g c = file_all _ _ _ _ c.args.queries.now c.args.report.now c.write_summary.result c.in-ConvertFile.is c.requires.reported c.write_summary.ensures.all
+
+pub returns-in-ConvertFile-clause-front : goal.returns-in-ConvertFile-clause-front
+returns-in-ConvertFile-clause-front g c = file_front _ _ _ _ c.args.queries.now c.args.report.now c.in-ConvertFile.is c.requires.reported c.write_summary.ensures.front
+
+pub returns-in-ConvertFile-clause-causes : goal.returns-in-ConvertFile-clause-causes
+returns-in-ConvertFile-clause-causes g c = lines_end _ _ c.write_summary.ensures.causes
+
+pub returns-in-ConvertFile-clause-medium_fault : goal.returns-in-ConvertFile-clause-medium_fault
+returns-in-ConvertFile-clause-medium_fault g c = λ is. absurd (no_medium_fault _ c.write_summary.ensures.causes is)
+
 pub returns-in-Bulk-clause-causes : goal.returns-in-Bulk-clause-causes
-returns-in-Bulk-clause-causes g c = places_end _ _ c.write_places.ensures.causes
+returns-in-Bulk-clause-causes g c = lines_end _ _ c.write_places.ensures.causes
 
 pub returns-in-Bulk-clause-medium_fault : goal.returns-in-Bulk-clause-medium_fault
 returns-in-Bulk-clause-medium_fault g c = λ is. absurd (no_medium_fault _ c.write_places.ensures.causes is)

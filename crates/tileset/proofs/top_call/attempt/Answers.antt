@@ -1,8 +1,14 @@
 use Rattle.std.proofs.Common.{rules}
 use Rattle.tileset_script.specs.Reading.{script_text}
 use Rattle.tileset.specs.Run.{Given, IsScript}
-use Rattle.tileset.proofs.RunLemmas.{causes_by, exact_by, medium_by, output_by}
+use Rattle.tileset.proofs.AnswerLemmas.{exact_by, exact_unread}
+use Rattle.tileset.proofs.RunLemmas.{causes_by, medium_by, output_by}
 use Rattle.tileset.proofs.top_call.attempt.Goals as goal
+
+pub returns-in_err-script-clause-exact : goal.returns-in_err-script-clause-exact
+returns-in_err-script-clause-exact g c =
+    let given : Given = record { words = c.args.words.now; input = g.I.Source.left c.args.input.now; medium = g.M.Backend.told c.args.medium.now } in
+    exact_unread given c.in-Some.command c.in_err-script.field-0.0 c.from_residual.result (search rules) c.in_err-script.ensures.causes c.from_residual.ensures.1
 
 pub returns-clause-exact : goal.returns-clause-exact
 returns-clause-exact g c =
