@@ -1,0 +1,71 @@
+-- Calls in a row that commit nothing, or once.
+use Rattle.std.proofs.Common.{◌≡◌, ℕ, false, true, List, refl, inl, inr, arith, IsTrue, Result}
+use Rattle.std.proofs.lemmas.Bool.{cases_Bool}
+use Rattle.sqlite.specs.declared.error.Error.{Error}
+use Rattle.sqlite.specs.Held.{Held, state}
+use Rattle.sqlite.specs.Order.{Row}
+use Rattle.sqlite.specs.Steps.{FailsToCommit}
+use Rattle.sqlite.specs.State.{HasCleanDisk, ExecutesInside, IsRolledBack, Survives}
+use Rattle.sqlite.specs.Store.{Ghosts}
+use Rattle.sqlite.specs.Tree.{Trees}
+use Rattle.sqlite.proofs.Callers.{survives_begin}
+use Rattle.sqlite.proofs.InsideLemmas.{inside_keeps, keeps_then, unchanged_keeps}
+use Rattle.sqlite.proofs.StateLemmas.{survives_then, survives_weaker}
+use Rattle.mb_sqlite.specs.Committing.{CommitsNothing, CommitsOnce, KeepsCommitted}
+
+module _ {S : Type 0} (g : Ghosts S) where
+  pub nothing_yet : (h : Held S) → CommitsNothing g h h
+  nothing_yet h = record { clean = omega arith; shield = λ k. k; counts = omega arith; limit = refl; closes = λ _ k. inl k; crash = λ _ db k. inl k }
+
+  pub nothing_then : (a b c : Held S) → CommitsNothing g a b → CommitsNothing g b c → CommitsNothing g a c
+  nothing_then a b c one two = survives_then (state g a) (state g b) (state g c) _ _ _ (λ _ db none. none) (λ _ db none. none) one two
+
+  pub kept_yet : (h : Held S) → KeepsCommitted g h h
+  kept_yet h clean = record { was_open = λ k. k; committed = λ _. refl }
+
+  pub kept_then : (a b c : Held S) → CommitsNothing g b c → KeepsCommitted g a b → KeepsCommitted g b c → KeepsCommitted g a c
+  kept_then a b c step one two clean = keeps_then (state g a) (state g b) (state g c) (one (omega (arith, step.clean))) (two clean)
+
+  -- a statement inside a transaction
+  pub inside_keeps_committed : (sql : List ℕ) (params : Row) (old new : Held S) (r : Result ℕ Error)
+      → ((state g old).in_transaction ≡ false → new ≡ old)
+      → (HasCleanDisk (state g new) → IsTrue (state g old).in_transaction → ExecutesInside 0 sql params (state g old) (state g new) r)
+      → KeepsCommitted g old new
+  inside_keeps_committed sql params old new r ended runs clean = elim (cases_Bool (state g old).in_transaction) [
+    | inl within ↦ inside_keeps (state g old) (state g new) 0 false sql params r (runs clean within)
+    | inr outside ↦ rw (ended outside) (record { was_open = λ k. k; committed = λ _. refl })
+  ]
+
+  -- a transaction that is rolled back
+  pub undone_nothing : (old mid end : Held S) → CommitsNothing g (record old { in_transaction = true }) mid → CommitsNothing g mid end → CommitsNothing g old end
+  undone_nothing old mid end inside last =
+      survives_then (state g old) (state g mid) (state g end) _ _ _ (λ _ db none. none) (λ _ db none. none) (survives_begin g old (state g mid) _ inside) last
+
+  pub undone_keeps : (old mid end : Held S) → KeepsCommitted g (record old { in_transaction = true }) mid → CommitsNothing g mid end
+      → (HasCleanDisk (state g end) → IsRolledBack (state g mid) (state g end)) → KeepsCommitted g old end
+  undone_keeps old mid end kept last undone clean =
+      let was = kept (omega (arith, last.clean)) in
+      keeps_then (state g old) (state g mid) (state g end) (record { was_open = was.was_open; committed = was.committed })
+      (unchanged_keeps (state g mid) (state g end) (inr (undone clean)))
+
+  -- a transaction that isn't committed
+  pub failed_keeps : (old mid end : Held S) (P : Trees → Type 0) (e : Error) → KeepsCommitted g (record old { in_transaction = true }) mid → Survives (state g mid) (state g end) P
+      → (HasCleanDisk (state g end) → FailsToCommit (state g mid) (state g end) e) → KeepsCommitted g old end
+  failed_keeps old mid end P e kept last failed clean =
+      let was = kept (omega (arith, last.clean)) in
+      keeps_then (state g old) (state g mid) (state g end) (record { was_open = was.was_open; committed = was.committed })
+      (unchanged_keeps (state g mid) (state g end) (elim (failed clean) [ inl fails ↦ inr fails.3 | inr late ↦ inl late.2 ]))
+
+  -- a transaction that is committed
+  pub done_once : (old mid end : Held S) → CommitsNothing g (record old { in_transaction = true }) mid
+      → Survives (state g mid) (state g end) (λ db. db ≡ (state g mid).now.trees) → CommitsOnce g old end
+  done_once old mid end inside last = record {
+    made = (state g mid).now.trees;
+    survives = survives_then (state g old) (state g mid) (state g end) _ _ _ (λ _ db none. absurd none) (λ _ db is. is) (survives_begin g old (state g mid) _ inside) last;
+  }
+
+  pub nothing_once : (old new : Held S) → CommitsNothing g old new → CommitsOnce g old new
+  nothing_once old new none = record {
+    made = (state g old).committed.trees;
+    survives = survives_weaker (state g old) (state g new) _ _ (λ _ db no. absurd no) none;
+  }

@@ -1,0 +1,60 @@
+// Why a step on the database fails.
+ghost use Rattle.std.specs.Prelude.{◌≡◌, ◌≤◌, Ok, IfOk, IsErrOf};
+ghost use Rattle.tile_ids.specs.Counts.{Rose};
+
+use mb_store::StoreError;
+use sqlite::{Error, ErrorCode};
+use std::alloc::{AllocError, AllocFailed};
+use tile_ids::OutOfMemory;
+
+// Why a step on the database fails.
+#[derive(Clone, Copy, Debug, PartialEq, Eq)]
+pub(crate) enum Failure {
+    // The database failed, or isn't as the call needs it.
+    Fault,
+    // The step found no memory.
+    OutOfMemory,
+}
+
+impl From<Error> for Failure {
+    fn from(error: Error) -> Self {
+        match error {
+            Error::SqliteFailure(ErrorCode::OutOfMemory) => Failure::OutOfMemory,
+            _ => Failure::Fault,
+        }
+    }
+}
+
+impl From<OutOfMemory> for Failure {
+    fn from(_: OutOfMemory) -> Self {
+        Failure::OutOfMemory
+    }
+}
+
+impl From<AllocError> for Failure {
+    fn from(_: AllocError) -> Self {
+        Failure::OutOfMemory
+    }
+}
+
+impl<T: Drop> From<AllocFailed<T>> for Failure {
+    fn from(_: AllocFailed<T>) -> Self {
+        Failure::OutOfMemory
+    }
+}
+
+// The answer of a call, of which a fault is counted.
+pub(crate) fn counted<T>(faults: &mut u64, answer: Result<T, Failure>) -> Result<T, StoreError>
+    ensures answer { IfOk result (λ value. answer ≡ Ok value) }
+    ensures faults { faults.old ≤ faults.new }
+    ensures fault { IsErrOf result StoreError.Fault → Rose faults.old faults.new }
+{
+    match answer {
+        Ok(value) => Ok(value),
+        Err(Failure::OutOfMemory) => Err(StoreError::OutOfMemory),
+        Err(Failure::Fault) => {
+            *faults = faults.saturating_add(1);
+            Err(StoreError::Fault)
+        }
+    }
+}

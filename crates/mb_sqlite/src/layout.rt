@@ -1,0 +1,57 @@
+// The tables of a layout, and the text that makes them.
+ghost use Rattle.std.specs.Prelude.{◌≡◌};
+ghost use Rattle.mb_tables.specs.Schema.{set_tables};
+ghost use Rattle.mb_tables.specs.Described.{is_table};
+
+use crate::statements;
+use mb_tables::{MbtType, NormalizedSchema, TableName};
+
+// Whether a set of the layout has the table, not only a view of this name.
+pub(crate) fn has_table(layout: MbtType, table: TableName) -> bool
+    ensures { result ≡ is_table (set_tables layout) table }
+{
+    match table {
+        TableName::Metadata => true,
+        TableName::Tiles => matches!(layout, MbtType::Flat),
+        TableName::TilesWithHash => matches!(layout, MbtType::FlatWithHash),
+        TableName::Map | TableName::Images => matches!(
+            layout,
+            MbtType::Normalized {
+                schema: NormalizedSchema::Hash,
+                ..
+            }
+        ),
+        TableName::TilesShallow | TableName::TilesData => matches!(
+            layout,
+            MbtType::Normalized {
+                schema: NormalizedSchema::DedupId,
+                ..
+            }
+        ),
+        TableName::TileCache => matches!(layout, MbtType::Cache),
+    }
+}
+
+// All tables, each after those that a view of its name reads.
+pub(crate) const TABLES: [TableName; 8] = [
+    TableName::Metadata,
+    TableName::Map,
+    TableName::Images,
+    TableName::TilesShallow,
+    TableName::TilesData,
+    TableName::TileCache,
+    TableName::TilesWithHash,
+    TableName::Tiles,
+];
+
+// Makes the table or view of this name that a set of the layout has.
+pub(crate) fn making(layout: MbtType, table: TableName) -> Option<&'static str> {
+    if has_table(layout, table) {
+        return Some(statements::creation_of(table));
+    }
+    match table {
+        TableName::Tiles => statements::tiles_view(layout),
+        TableName::TilesWithHash => statements::hash_view(layout),
+        _ => None,
+    }
+}

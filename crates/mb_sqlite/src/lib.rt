@@ -1,0 +1,14 @@
+//! A store of tables over a database of `sqlite`.
+#![tactic(auto)]
+
+mod cursor;
+mod failure;
+mod layout;
+mod query;
+mod reading;
+mod rows;
+mod statements;
+mod store;
+mod writing;
+
+pub use store::SqliteStore;

@@ -1,0 +1,100 @@
+// Reading the database. Each call reads in a transaction that is rolled back, so that it commits nothing.
+ghost use Rattle.std.specs.Prelude.{◌≡◌, ◌≤◌, All, IfOk, IfSome, length};
+ghost use Rattle.mb_tables.specs.Table.{width};
+ghost use Rattle.mb_sqlite.specs.Committing.{CommitsNothing};
+
+use crate::cursor::{Cursor, moved, start_of};
+use crate::failure::Failure;
+use crate::query;
+use mb_tables::{MbtType, Row, RowKey, TableName};
+use sqlite::{Alter, Connection};
+use std::alloc::Global;
+
+// The number of rows of a table.
+pub(crate) fn count<S: Alter>(
+    connection: &mut Connection<S>,
+    table: TableName,
+) -> Result<u64, Failure>
+    ensures survives { CommitsNothing S.Store connection.old connection.new }
+{
+    if !connection.is_autocommit() {
+        return Err(Failure::Fault);
+    }
+    let mut transaction = connection.transaction();
+    let count = query::count(&mut transaction, table)?;
+    Ok(count)
+}
+
+// The rows of a table from a number on, at most so many. The cursor moves past them.
+pub(crate) fn page<S: Alter>(
+    alloc: Global,
+    connection: &mut Connection<S>,
+    cursor: &mut Option<Cursor>,
+    table: TableName,
+    from: u64,
+    limit: u64,
+) -> Result<Vec<Row>, Failure>
+    ensures widths { IfOk result (λ rows. All (λ row. length row ≡ width table) rows.items) }
+    ensures limit { IfOk result (λ rows. length rows.items ≤ limit) }
+    ensures survives { CommitsNothing S.Store connection.old connection.new }
+{
+    let start = start_of(*cursor, table, from);
+    let mut last = start.0;
+    let page = page_after(alloc, connection, table, start, limit, &mut last)?;
+    *cursor = moved(*cursor, table, from, page.len() as u64, last);
+    Ok(page)
+}
+
+// The rows of a table from a start on, at most so many. The last one's `rowid` is noted.
+fn page_after<S: Alter>(
+    alloc: Global,
+    connection: &mut Connection<S>,
+    table: TableName,
+    start: (i64, u64),
+    limit: u64,
+    last: &mut i64,
+) -> Result<Vec<Row>, Failure>
+    ensures widths { IfOk result (λ rows. All (λ row. length row ≡ width table) rows.items) }
+    ensures limit { IfOk result (λ rows. length rows.items ≤ limit) }
+    ensures survives { CommitsNothing S.Store connection.old connection.new }
+{
+    if !connection.is_autocommit() {
+        return Err(Failure::Fault);
+    }
+    let mut transaction = connection.transaction();
+    let page = query::page(alloc, &mut transaction, table, start, limit, last)?;
+    Ok(page)
+}
+
+// The first row of a table with a key. A key of another kind than the table's has none.
+pub(crate) fn find<S: Alter>(
+    alloc: Global,
+    connection: &mut Connection<S>,
+    table: TableName,
+    key: &RowKey,
+) -> Result<Option<Row>, Failure>
+    ensures widths { IfOk result (λ row. IfSome row (λ row. length row ≡ width table)) }
+    ensures survives { CommitsNothing S.Store connection.old connection.new }
+{
+    if !connection.is_autocommit() {
+        return Err(Failure::Fault);
+    }
+    let mut transaction = connection.transaction();
+    let row = query::find(alloc, &mut transaction, table, key)?;
+    Ok(row)
+}
+
+// The size of all rows of a layout's tables, at most the greatest count.
+pub(crate) fn size<S: Alter>(
+    connection: &mut Connection<S>,
+    layout: MbtType,
+) -> Result<u64, Failure>
+    ensures survives { CommitsNothing S.Store connection.old connection.new }
+{
+    if !connection.is_autocommit() {
+        return Err(Failure::Fault);
+    }
+    let mut transaction = connection.transaction();
+    let size = query::size(&mut transaction, layout)?;
+    Ok(size)
+}

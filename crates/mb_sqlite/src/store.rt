@@ -1,0 +1,249 @@
+// A store over a database.
+ghost use Rattle.std.specs.Prelude.{◌≡◌, ◌≤◌, false, true, [], All, IfOk, IfSome, IsErrOf, OnErr, OnOk, length};
+ghost use Rattle.tile_ids.specs.Counts.{Rose};
+ghost use Rattle.mb_tables.specs.Schema.{set_tables};
+ghost use Rattle.mb_tables.specs.Described.{is_table};
+ghost use Rattle.mb_tables.specs.Table.{width};
+ghost use Rattle.mb_sqlite.specs.Committing.{CommitsNothing, CommitsOnce, KeepsCommitted};
+
+use crate::cursor::Cursor;
+use crate::failure::{Failure, counted};
+use crate::layout::has_table;
+use crate::{reading, writing};
+use mb_store::{Changes, StoreError, TileStore};
+use mb_tables::{MbtType, Row, RowKey, TableDesc, TableName, set_tables};
+use sqlite::{Alter, Connection};
+use std::alloc::Global;
+
+/// A tile set in a database, as an MBTiles file (MBTiles 1.3). It tells no tables.
+///
+/// Its tables are those of a layout and its metadata. The first call makes those that aren't there. Each call but `commit` only reads, in a
+/// transaction that is rolled back; `commit` is one transaction. A connection that a call finds inside a transaction is a fault of that call.
+///
+/// Numbers, texts, blobs and NULL are cells as they are. A real, and a text that isn't UTF-8, is `Cell::Other`.
+pub struct SqliteStore<S: Alter> {
+    alloc: Global,
+    connection: Connection<S>,
+    layout: MbtType,
+    is_made: bool,
+    cursor: Option<Cursor>,
+    faults: u64,
+}
+
+impl<S: Alter + Drop> Drop for SqliteStore<S> {
+    fn drop(self) {
+        let SqliteStore {
+            alloc: _,
+            connection: _,
+            layout: _,
+            is_made: _,
+            cursor: _,
+            faults: _,
+        } = self;
+    }
+}
+
+impl<S: Alter> SqliteStore<S> {
+    /// The store over a connection, with the tables of the layout and its metadata. It runs no statement and takes no memory: the first call
+    /// of the store makes the tables that aren't there.
+    pub fn adopt(alloc: Global, connection: Connection<S>, layout: MbtType) -> SqliteStore<S>
+        ensures connection { result.connection ≡ connection }
+        ensures layout { result.layout ≡ layout }
+        ensures faults { result.faults ≡ 0 }
+    {
+        SqliteStore {
+            alloc,
+            connection,
+            layout,
+            is_made: false,
+            cursor: None,
+            faults: 0,
+        }
+    }
+
+    /// The connection again, to close it. A file that isn't closed keeps its log beside it.
+    pub fn into_connection(self) -> Connection<S>
+        ensures { result ≡ self.connection }
+    {
+        let SqliteStore {
+            alloc: _,
+            connection,
+            layout: _,
+            is_made: _,
+            cursor: _,
+            faults: _,
+        } = self;
+        connection
+    }
+
+    // Makes the tables that aren't there, at the first call. A connection in a transaction is a fault.
+    fn begin(&mut self) -> Result<(), Failure>
+        ensures made { OnOk result (self.new.is_made ≡ true) }
+        ensures same { self.old.is_made ≡ true → self.new.connection ≡ self.old.connection }
+        ensures once { CommitsOnce S.Store self.old.connection self.new.connection }
+        ensures layout { self.new.layout ≡ self.old.layout }
+        ensures faults { self.new.faults ≡ self.old.faults }
+    {
+        if !self.connection.is_autocommit() {
+            return Err(Failure::Fault);
+        }
+        if !self.is_made {
+            writing::make(&mut self.connection, self.layout)?;
+            self.is_made = true;
+        }
+        Ok(())
+    }
+
+    // The descriptions of the layout's tables and views.
+    fn described(&mut self, alloc: Global) -> Result<Vec<TableDesc>, Failure>
+        ensures described { IfOk result (λ tables. tables.items ≡ set_tables self.old.layout) }
+        ensures faults { self.new.faults ≡ self.old.faults }
+    {
+        self.begin()?;
+        Ok(set_tables(alloc, self.layout)?)
+    }
+
+    fn counted_rows(&mut self, table: TableName) -> Result<u64, Failure>
+        ensures survives { self.old.is_made ≡ true → CommitsNothing S.Store self.old.connection self.new.connection }
+        ensures faults { self.new.faults ≡ self.old.faults }
+    {
+        self.begin()?;
+        if !has_table(self.layout, table) {
+            return Ok(0);
+        }
+        reading::count(&mut self.connection, table)
+    }
+
+    fn page(
+        &mut self,
+        alloc: Global,
+        table: TableName,
+        from: u64,
+        limit: u64,
+    ) -> Result<Vec<Row>, Failure>
+        ensures widths { IfOk result (λ rows. All (λ row. length row ≡ width table) rows.items) }
+        ensures limit { IfOk result (λ rows. length rows.items ≤ limit) }
+        ensures undescribed { is_table (set_tables self.old.layout) table ≡ false → IfOk result (λ rows. rows.items ≡ []) }
+        ensures survives { self.old.is_made ≡ true → CommitsNothing S.Store self.old.connection self.new.connection }
+        ensures faults { self.new.faults ≡ self.old.faults }
+    {
+        self.begin()?;
+        if !has_table(self.layout, table) {
+            return Ok(Vec::new(alloc));
+        }
+        reading::page(
+            alloc,
+            &mut self.connection,
+            &mut self.cursor,
+            table,
+            from,
+            limit,
+        )
+    }
+
+    fn found(
+        &mut self,
+        alloc: Global,
+        table: TableName,
+        key: &RowKey,
+    ) -> Result<Option<Row>, Failure>
+        ensures widths { IfOk result (λ row. IfSome row (λ row. length row ≡ width table)) }
+        ensures survives { self.old.is_made ≡ true → CommitsNothing S.Store self.old.connection self.new.connection }
+        ensures faults { self.new.faults ≡ self.old.faults }
+    {
+        self.begin()?;
+        if !has_table(self.layout, table) {
+            return Ok(None);
+        }
+        reading::find(alloc, &mut self.connection, table, key)
+    }
+
+    fn committed(&mut self, alloc: Global, changes: &Changes) -> Result<(), Failure>
+        ensures once { self.old.is_made ≡ true → CommitsOnce S.Store self.old.connection self.new.connection }
+        ensures refused { self.old.is_made ≡ true → OnErr result (KeepsCommitted S.Store self.old.connection self.new.connection) }
+        ensures cursor { OnOk result (self.new.cursor ≡ None) }
+        ensures faults { self.new.faults ≡ self.old.faults }
+    {
+        self.begin()?;
+        self.cursor = None;
+        writing::commit(alloc, &mut self.connection, self.layout, changes)
+    }
+
+    fn size(&mut self) -> Result<u64, Failure>
+        ensures survives { self.old.is_made ≡ true → CommitsNothing S.Store self.old.connection self.new.connection }
+        ensures faults { self.new.faults ≡ self.old.faults }
+    {
+        self.begin()?;
+        reading::size(&mut self.connection, self.layout)
+    }
+}
+
+impl<S: Alter> TileStore for SqliteStore<S> {
+    ghost use Rattle.std.proofs.lemmas.Bool.{false≢true};
+    ghost use Rattle.mb_store.specs.Store.{no_rows};
+
+    ghost tells = { λ _. false };
+
+    ghost told = { λ _. no_rows [] };
+
+    ghost faults = { λ s. s.faults };
+
+    ghost steady = { λ _. ⊥ };
+
+    /// The descriptions of the layout's tables and views and of its metadata, whatever the database has.
+    fn describe(&mut self, alloc: Global) -> Result<Vec<TableDesc>, StoreError>
+        ensures described { IfOk result (λ tables. tables.items ≡ set_tables self.old.layout) }
+        ensures faults { self.old.faults ≤ self.new.faults }
+        ensures fault { IsErrOf result StoreError.Fault → Rose self.old.faults self.new.faults }
+    {
+        let answer = self.described(alloc);
+        counted(&mut self.faults, answer)
+    }
+
+    fn count_rows(&mut self, table: TableName) -> Result<u64, StoreError> {
+        let answer = self.counted_rows(table);
+        counted(&mut self.faults, answer)
+    }
+
+    /// The rows in the order of their `rowid`. Pages in order take time in their own rows; another page passes over all rows before it.
+    fn rows(
+        &mut self,
+        alloc: Global,
+        table: TableName,
+        from: u64,
+        limit: u64,
+    ) -> Result<Vec<Row>, StoreError> {
+        let answer = self.page(alloc, table, from, limit);
+        counted(&mut self.faults, answer)
+    }
+
+    /// The first row of a table with a key. A key of another kind than the table's finds none.
+    fn find(
+        &mut self,
+        alloc: Global,
+        table: TableName,
+        key: &RowKey,
+    ) -> Result<Option<Row>, StoreError> {
+        let answer = self.found(alloc, table, key);
+        counted(&mut self.faults, answer)
+    }
+
+    /// Makes the tables of the layout that aren't there, whatever tables are asked for.
+    fn create(&mut self, _: Global, _: &[TableDesc]) -> Result<(), StoreError> {
+        let answer = self.begin();
+        counted(&mut self.faults, answer)
+    }
+
+    /// Makes all changes in one transaction. A change of a table that the layout doesn't have, and a row with a `Cell::Other`, is a fault.
+    fn commit(&mut self, alloc: Global, changes: &Changes) -> Result<(), StoreError> {
+        let answer = self.committed(alloc, changes);
+        counted(&mut self.faults, answer)
+    }
+
+    fn live_size(&mut self) -> Result<u64, StoreError> {
+        let answer = self.size();
+        counted(&mut self.faults, answer)
+    }
+
+    ghost sound = { λ _ tells. absurd (false≢true tells) };
+}
