@@ -9,6 +9,8 @@ mod reading;
 mod rows;
 mod statements;
 mod store;
+#[cfg(test)]
+mod tests;
 mod writing;
 
 pub use store::SqliteStore;

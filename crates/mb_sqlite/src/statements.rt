@@ -73,23 +73,6 @@ pub(crate) fn count_of(table: TableName) -> &'static str {
     }
 }
 
-// All rows.
-pub(crate) fn all_of(table: TableName) -> &'static str {
-    match table {
-        TableName::Tiles => "SELECT zoom_level, tile_column, tile_row, tile_data FROM tiles",
-        TableName::TilesWithHash =>
-            "SELECT zoom_level, tile_column, tile_row, tile_data, tile_hash FROM tiles_with_hash",
-        TableName::Map => "SELECT zoom_level, tile_column, tile_row, tile_id FROM map",
-        TableName::Images => "SELECT tile_id, tile_data FROM images",
-        TableName::TilesShallow =>
-            "SELECT zoom_level, tile_column, tile_row, tile_data_id FROM tiles_shallow",
-        TableName::TilesData => "SELECT tile_data_id, tile_data FROM tiles_data",
-        TableName::TileCache =>
-            "SELECT zoom_level, tile_column, tile_row, fetched, expires, etag, tile_data FROM tile_cache",
-        TableName::Metadata => "SELECT name, value FROM metadata",
-    }
-}
-
 // Rows in the order in which they are stored, each with its number in the table: from the first number on, at most the second, after as many as the third.
 pub(crate) fn page_of(table: TableName) -> &'static str {
     match table {
