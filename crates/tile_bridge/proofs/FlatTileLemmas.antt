@@ -1,12 +1,11 @@
 -- The tiles of a flat table are the first rows of each place.
-use Rattle.std.proofs.Common.{◌≡◌, ℕ, ◌+◌, ◌<◌, ◌≤◌, Bool, true, false, cond, ◌&&◌, List, [], ◌∷◌, ◌++◌, length, get_or, map, drop, filter_map, Option, Some, None, append-nil, nat_eq, refl, sym, subst, ◌∙◌, ap, arith}
+use Rattle.std.proofs.Common.{◌≡◌, ℕ, Bool, true, false, cond, ◌&&◌, List, [], ◌∷◌, ◌++◌, map, filter_map, Option, Some, None, append-nil, nat_eq, refl, sym, subst, ◌∙◌, ap, arith}
 use Rattle.std.proofs.lemmas.Bool.{and_parts}
 use Rattle.std.proofs.lemmas.Bool.Decides.{nat_tests}
 use Rattle.std.specs.declared.cmp.Ordering.TheVariants.{Less, Equal, Greater}
 use Rattle.std.specs.Ordering.{eq_by_cmp, is_eq, is_gt}
 use Rattle.std.specs.Cmp.{tied_itself}
 use Rattle.std.specs.List.{cons_option}
-use Rattle.std.proofs.lemmas.List.{drop_all, drop_more}
 use Rattle.std.specs.Option.{option_map}
 use Rattle.std.specs.FinMap.{entries, entries-insert, from_entries, put}
 use Rattle.std.specs.FinMap.Entries.{by_order}
@@ -125,62 +124,50 @@ row_tiles (row ∷ rows) =
 pub fresh_rows : (rows : List (List Cell)) → Ranged (pairs_at 3 rows) → Climbs (pairs_at 3 rows) → fresh None (filter_map row_tile rows) ≡ map tile_at (entries (flat_set rows))
 fresh_rows rows h c = ap (fresh None) (row_tiles rows) ∙ fresh_firsts None (pairs_at 3 rows) tt h ∙ sym (ap (map tile_at) (entries_first (pairs_at 3 rows) c))
 
--- one more row
-one_row : (rows : List (List Cell)) (i : ℕ) (row : List Cell) → i < length rows → row ≡ get_or rows i row → filter_map row_tile (drop i rows) ≡ cons_option (row_tile row) (filter_map row_tile (drop (i + 1) rows))
-one_row rows i row far is = ap (filter_map row_tile) (drop_more rows i row far) ∙ sym (ap (λ r. cons_option (row_tile r) (filter_map row_tile (drop (i + 1) rows))) is)
-
 -- the tile that is taken of a row, and those that follow it
 step_fresh : (before : Option Coord) (o : Option (Coord × List ℕ)) (rest : List (Coord × List ℕ)) → fresh before (cons_option o rest) ≡ cons_option (next_of before o) (fresh (after before (next_of before o)) rest)
 step_fresh before None rest = refl
 step_fresh before (Some t) rest = elim (is_at before t.0) as (λ b. cond b (fresh before rest) (t ∷ fresh (Some t.0) rest) ≡ cons_option (cond b None (Some t)) (fresh (after before (cond b None (Some t))) rest)) [ true ↦ refl | false ↦ refl ]
 
--- what the rows from a number on give, behind the coordinate before them
-abbrev pub left : Option Coord → List (List Cell) → ℕ → List (Coord × List ℕ)
-left before rows i = fresh before (filter_map row_tile (drop i rows))
+-- what the rows that are left give, behind the coordinate before them
+abbrev pub left : Option Coord → List (List Cell) → List (Coord × List ℕ)
+left before rest = fresh before (filter_map row_tile rest)
 
-pub one_left : (before : Option Coord) (rows : List (List Cell)) (i : ℕ) (row : List Cell) → i < length rows → row ≡ get_or rows i row
-    → left before rows i ≡ cons_option (next_of before (row_tile row)) (left (after before (next_of before (row_tile row))) rows (i + 1))
-one_left before rows i row far is = ap (fresh before) (one_row rows i row far is) ∙ step_fresh before (row_tile row) (filter_map row_tile (drop (i + 1) rows))
-
-pub none_left : (before : Option Coord) (rows : List (List Cell)) (i : ℕ) → length rows ≤ i → left before rows i ≡ []
-none_left before rows i far = ap (λ rs. fresh before (filter_map row_tile rs)) (drop_all i rows far)
+last_left : (before last : Option Coord) (row : List Cell) (rest : List (List Cell)) → last ≡ after before (next_of before (row_tile row)) → left before (row ∷ rest) ≡ cons_option (next_of before (row_tile row)) (left last rest)
+last_left before last row rest at = step_fresh before (row_tile row) (filter_map row_tile rest) ∙ sym (ap (λ l. cons_option (next_of before (row_tile row)) (left l rest)) at)
 
 -- the tiles so far, and those of the rows that are left
-abbrev pub AreRead : List FlatTile → Option Coord → List (List Cell) → ℕ → Type 0
-AreRead tiles before rows i = shown tiles ++ map under_id (left before rows i) ≡ map under_id (left None rows 0)
+abbrev pub AreRead : List FlatTile → Option Coord → List (List Cell) → List (List Cell) → Type 0
+AreRead tiles before rest rows = shown tiles ++ map under_id (left before rest) ≡ map under_id (left None rows)
 
-pub rows_read : (tiles : List FlatTile) (before : Option Coord) (rows : List (List Cell)) (i : ℕ) → length rows ≤ i → Ranged (pairs_at 3 rows) → Climbs (pairs_at 3 rows) → AreRead tiles before rows i → AreTilesOf tiles rows
-rows_read tiles before rows i far h c so_far =
+pub rows_read : (tiles : List FlatTile) (before : Option Coord) (rest rows : List (List Cell)) → rest ≡ [] → Ranged (pairs_at 3 rows) → Climbs (pairs_at 3 rows) → AreRead tiles before rest rows → AreTilesOf tiles rows
+rows_read tiles before rest rows none h c so_far =
     sym (append-nil (shown tiles))
-    ∙ sym (ap (λ ts. shown tiles ++ map under_id ts) (none_left before rows i far))
+    ∙ sym (ap (λ rs. shown tiles ++ map under_id (left before rs)) none)
     ∙ so_far
     ∙ ap (map under_id) (fresh_rows rows h c)
 
 -- and their texts
-abbrev pub AreHashed : Md5Stream → Md5Stream → Option Coord → List (List Cell) → ℕ → Type 0
-AreHashed start stream before rows i = (m : List ℕ) → HasTaken start m → (text : List ℕ) × HasTaken stream text × (text ++ texts (left before rows i) ≡ m ++ texts (left None rows 0))
+abbrev pub AreHashed : Md5Stream → Md5Stream → Option Coord → List (List Cell) → List (List Cell) → Type 0
+AreHashed start stream before rest rows = (m : List ℕ) → HasTaken start m → (text : List ℕ) × HasTaken stream text × (text ++ texts (left before rest) ≡ m ++ texts (left None rows))
 
-pub rows_hashed : (start stream : Md5Stream) (before : Option Coord) (rows : List (List Cell)) (i : ℕ) → length rows ≤ i → Ranged (pairs_at 3 rows) → Climbs (pairs_at 3 rows) → AreHashed start stream before rows i
+pub rows_hashed : (start stream : Md5Stream) (before : Option Coord) (rest rows : List (List Cell)) → rest ≡ [] → Ranged (pairs_at 3 rows) → Climbs (pairs_at 3 rows) → AreHashed start stream before rest rows
     → (m : List ℕ) → HasTaken start m → HasTaken stream (m ++ texts (tiles_in rows))
-rows_hashed start stream before rows i far h c so_far m taken =
+rows_hashed start stream before rest rows none h c so_far m taken =
     let t = so_far m taken in
-    let end : t.0 ≡ m ++ texts (tiles_in rows) = sym (append-nil t.0) ∙ sym (ap (λ ts. t.0 ++ texts ts) (none_left before rows i far)) ∙ t.2 ∙ ap (λ ts. m ++ texts ts) (fresh_rows rows h c) in
+    let end : t.0 ≡ m ++ texts (tiles_in rows) = sym (append-nil t.0) ∙ sym (ap (λ rs. t.0 ++ texts (left before rs)) none) ∙ t.2 ∙ ap (λ ts. m ++ texts ts) (fresh_rows rows h c) in
     subst (HasTaken stream) end t.1
 
 -- one more row
-last_left : (before last : Option Coord) (rows : List (List Cell)) (i : ℕ) (row : List Cell) → i < length rows → row ≡ get_or rows i row → last ≡ after before (next_of before (row_tile row))
-    → left before rows i ≡ cons_option (next_of before (row_tile row)) (left last rows (i + 1))
-last_left before last rows i row far is at = one_left before rows i row far is ∙ sym (ap (λ l. cons_option (next_of before (row_tile row)) (left l rows (i + 1))) at)
+pub row_read : (tiles new : List FlatTile) (before last : Option Coord) (row : List Cell) (rest old rows : List (List Cell)) → old ≡ row ∷ rest → last ≡ after before (next_of before (row_tile row))
+    → ((rest : List (Coord × List ℕ)) → shown new ++ map under_id rest ≡ shown tiles ++ map under_id (cons_option (next_of before (row_tile row)) rest)) → AreRead tiles before old rows → AreRead new last rest rows
+row_read tiles new before last row rest old rows is at taken so_far =
+    taken (left last rest) ∙ sym (ap (λ ts. shown tiles ++ map under_id ts) (ap (left before) is ∙ last_left before last row rest at)) ∙ so_far
 
-pub row_read : (tiles new : List FlatTile) (before last : Option Coord) (rows : List (List Cell)) (i : ℕ) (row : List Cell) → i < length rows → row ≡ get_or rows i row → last ≡ after before (next_of before (row_tile row))
-    → ((rest : List (Coord × List ℕ)) → shown new ++ map under_id rest ≡ shown tiles ++ map under_id (cons_option (next_of before (row_tile row)) rest)) → AreRead tiles before rows i → AreRead new last rows (i + 1)
-row_read tiles new before last rows i row far is at taken so_far =
-    taken (left last rows (i + 1)) ∙ sym (ap (λ ts. shown tiles ++ map under_id ts) (last_left before last rows i row far is at)) ∙ so_far
-
-pub row_hashed : (start old new : Md5Stream) (before last : Option Coord) (rows : List (List Cell)) (i : ℕ) (row : List Cell) → i < length rows → row ≡ get_or rows i row → last ≡ after before (next_of before (row_tile row))
-    → ((m : List ℕ) (rest : List (Coord × List ℕ)) → HasTaken old m → (text : List ℕ) × HasTaken new text × (text ++ texts rest ≡ m ++ texts (cons_option (next_of before (row_tile row)) rest)))
-    → AreHashed start old before rows i → AreHashed start new last rows (i + 1)
-row_hashed start old new before last rows i row far is at taken so_far = λ m begun.
+pub row_hashed : (start before_row new : Md5Stream) (before last : Option Coord) (row : List Cell) (rest old rows : List (List Cell)) → old ≡ row ∷ rest → last ≡ after before (next_of before (row_tile row))
+    → ((m : List ℕ) (rest : List (Coord × List ℕ)) → HasTaken before_row m → (text : List ℕ) × HasTaken new text × (text ++ texts rest ≡ m ++ texts (cons_option (next_of before (row_tile row)) rest)))
+    → AreHashed start before_row before old rows → AreHashed start new last rest rows
+row_hashed start before_row new before last row rest old rows is at taken so_far = λ m begun.
     let a = so_far m begun in
-    let b = taken a.0 (left last rows (i + 1)) a.1 in
-    (b.0, b.1, b.2 ∙ sym (ap (λ ts. a.0 ++ texts ts) (last_left before last rows i row far is at)) ∙ a.2)
+    let b = taken a.0 (left last rest) a.1 in
+    (b.0, b.1, b.2 ∙ sym (ap (λ ts. a.0 ++ texts ts) (ap (left before) is ∙ last_left before last row rest at)) ∙ a.2)

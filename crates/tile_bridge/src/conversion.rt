@@ -22,7 +22,7 @@ use crate::flat_tiles::{FlatTile, tiles_of_rows};
 use crate::reading_back::read_answers;
 use crate::writing::write_archive;
 use crate::{ConvertError, ConvertReport};
-use mb_store::{MemStore, Row, TableName};
+use mb_store::{MemStore, Rows, TableName};
 use pm_format::{Compression, Medium, PmtError, ReadCause};
 use pm_writer::PmTilesWriter;
 use std::alloc::Global;
@@ -32,14 +32,14 @@ use tile_ids::{TextVal, TileCoord};
 // The aggregate hash and the adds of a flat table whose tiles are few and short enough.
 fn set_of_rows<'a>(
     alloc: Global,
-    rows: &'a [Row],
+    rows: Rows<'a>,
 ) -> Result<(TextVal, Vec<FlatTile<'a>>), ConvertError>
-    requires flat { AreFlatRows rows.now }
-    requires order { IsInOrder Tiles rows.now }
-    ensures aggregate { IfOk result (λ set. set.0 ≡ aggregate (flat_set rows.now)) }
-    ensures are { IfOk result (λ set. AreAddsOf (shown set.1.items) (flat_set rows.now)) }
-    ensures few { IfOk result (λ set. (o : Options) → length o.metadata < 2 ^ 63 → overflows (flat_set rows.now) ≡ false → AreFew o (shown set.1.items)) }
-    ensures causes { SetCauses (overflows (flat_set rows.now)) result }
+    requires flat { AreFlatRows rows }
+    requires order { IsInOrder Tiles rows }
+    ensures aggregate { IfOk result (λ set. set.0 ≡ aggregate (flat_set rows.entry)) }
+    ensures are { IfOk result (λ set. AreAddsOf (shown set.1.items) (flat_set rows.entry)) }
+    ensures few { IfOk result (λ set. (o : Options) → length o.metadata < 2 ^ 63 → overflows (flat_set rows.entry) ≡ false → AreFew o (shown set.1.items)) }
+    ensures causes { SetCauses (overflows (flat_set rows.entry)) result }
 {
     let mut stream = Md5Stream::new();
     let mut tiles = tiles_of_rows(alloc, rows, &mut stream)?;
@@ -72,7 +72,7 @@ fn of_reader(error: PmtError) -> ConvertError
     }
 }
 
-/// Writes the archive of a flat set to an empty medium, leaves what the set tells, opens the archive again, and answers the tiles that it has at the coordinates, the
+/// Writes the archive of a flat set to an empty medium, opens the archive again, and answers the tiles that it has at the coordinates, the
 /// aggregate hash of the set and the places of the archive's parts. Each row has a zoom of 0 to 30, a column and a row in range, and bytes or null.
 ///
 /// In this order: `MediumNotEmpty` comes exactly where the medium's length isn't 0, `UnsupportedCompression` exactly where directories aren't labelled
@@ -81,20 +81,19 @@ fn of_reader(error: PmtError) -> ConvertError
 /// opens its bytes, or the whole archive stands.
 pub fn convert_flat<M: Medium>(
     alloc: Global,
-    base: &mut MemStore,
+    base: &MemStore,
     coords: &[TileCoord],
     options: &PmTilesWriter,
     medium: &mut M,
 ) -> Result<ConvertReport, ConvertError>
-    requires base { AreFlatRows ((told_of base.old).rows Tiles) }
-    ensures causes { ConvertCauses options.now (tiles_of Flat (told_of base.old)) (M.told medium.old) result }
-    ensures leaves { ConvertLeaves options.now (tiles_of Flat (told_of base.old)) coords.now result (M.told medium.old) (M.told medium.new) }
-    ensures aggregate { IfOk result (λ report. report.aggregate ≡ aggregate (tiles_of Flat (told_of base.old))) }
+    requires base { AreFlatRows ((told_of base.now).rows Tiles) }
+    ensures causes { ConvertCauses options.now (tiles_of Flat (told_of base.now)) (M.told medium.old) result }
+    ensures leaves { ConvertLeaves options.now (tiles_of Flat (told_of base.now)) coords.now result (M.told medium.old) (M.told medium.new) }
+    ensures aggregate { IfOk result (λ report. report.aggregate ≡ aggregate (tiles_of Flat (told_of base.now))) }
     ensures reads { IfOk result (λ report. GrewFrom (M.reads medium.old) (M.reads medium.new) (answered report.answers + 1)) }
     ensures counted { M.reads medium.old ≤ M.reads medium.new }
     ensures fault { IsErrOf result ConvertError.MediumFault → Rose (M.faults medium.old) (M.faults medium.new) }
     ensures faults { M.faults medium.old ≤ M.faults medium.new }
-    ensures base { told_of base.new ≡ told_of base.old }
     ensures calm { M.steady medium.old → M.steady medium.new × (M.faults medium.new ≡ M.faults medium.old) }
 {
     let length = medium.len()?;
@@ -105,9 +104,7 @@ pub fn convert_flat<M: Medium>(
     if label != Compression::None {
         return Err(ConvertError::UnsupportedCompression(label));
     }
-    base.settle()?;
-    let rows = base.table_rows(TableName::Tiles);
-    let (aggregate, adds) = set_of_rows(alloc, rows)?;
+    let (aggregate, adds) = set_of_rows(alloc, base.table_rows(TableName::Tiles))?;
     options.fits();
     let places = match write_archive(alloc, options, &adds, medium) {
         Ok(places) => places,

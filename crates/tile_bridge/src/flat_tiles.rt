@@ -1,6 +1,5 @@
 // The tiles of a flat table.
-ghost use Rattle.std.specs.Prelude.{◌≡◌, ◌<◌, ◌≤◌, ◌+◌, ◌++◌, ℕ, List, IfOk, OnOk, map, vec_len};
-ghost use Rattle.std.specs.Vec.{vec_capacity};
+ghost use Rattle.std.specs.Prelude.{◌≡◌, ◌++◌, ℕ, List, IfOk, OnOk, map};
 ghost use Rattle.std.specs.List.{cons_option};
 ghost use Rattle.std.specs.Option.{option_map};
 ghost use Rattle.mb_tables.specs.Key.{IsInOrder};
@@ -12,7 +11,7 @@ ghost use Rattle.tile_bridge.specs.FlatTiles.{AreTilesOf, after, is_at, next_of,
 
 use crate::flat_aggregate::hash_tile;
 use crate::flat_rows::{bytes_of, coord_of};
-use mb_store::Row;
+use mb_store::{Row, Rows};
 use std::alloc::Global;
 use tile_hash::Md5Stream;
 use tile_ids::{OutOfMemory, TileCoord, TileId};
@@ -54,40 +53,38 @@ fn take_row<'a>(
     stream: &mut Md5Stream,
     before: Option<TileCoord>,
     row: &'a Row,
-) -> Option<TileCoord>
-    requires { vec_len tiles.old < vec_capacity tiles.old }
-    ensures last { result ≡ after before (next_of before (row_tile row.now)) }
-    ensures tiles { (rest : List (Coord × List ℕ)) → shown tiles.new.items ++ map under_id rest ≡ shown tiles.old.items ++ map under_id (cons_option (next_of before (row_tile row.now)) rest) }
-    ensures texts { (m : List ℕ) (rest : List (Coord × List ℕ)) → HasTaken stream.old m → (text : List ℕ) × HasTaken stream.new text × (text ++ texts rest ≡ m ++ texts (cons_option (next_of before (row_tile row.now)) rest)) }
-    ensures len { vec_len tiles.new ≤ vec_len tiles.old + 1 }
-    ensures capacity { vec_capacity tiles.new ≡ vec_capacity tiles.old }
+) -> Result<Option<TileCoord>, OutOfMemory>
+    ensures last { IfOk result (λ last. last ≡ after before (next_of before (row_tile row.now))) }
+    ensures tiles { (rest : List (Coord × List ℕ)) → OnOk result (shown tiles.new.items ++ map under_id rest ≡ shown tiles.old.items ++ map under_id (cons_option (next_of before (row_tile row.now)) rest)) }
+    ensures texts { (m : List ℕ) (rest : List (Coord × List ℕ)) → HasTaken stream.old m → OnOk result ((text : List ℕ) × HasTaken stream.new text × (text ++ texts rest ≡ m ++ texts (cons_option (next_of before (row_tile row.now)) rest))) }
 {
     let Some((coord, bytes)) = next_tile(&before, row) else {
-        return before;
+        return Ok(before);
     };
+    tiles.reserve(1)?;
     hash_tile(stream, coord, bytes);
     tiles.push_reserved(FlatTile {
         id: TileId::from(coord),
         bytes,
     });
-    Some(coord)
+    Ok(Some(coord))
 }
 
 /// The tiles of a flat table whose rows stand in the order of their keys, and in one pass their hash. Where rows have one place, the first of them is its tile.
 pub(crate) fn tiles_of_rows<'a>(
     alloc: Global,
-    rows: &'a [Row],
+    rows: Rows<'a>,
     stream: &mut Md5Stream,
 ) -> Result<Vec<FlatTile<'a>>, OutOfMemory>
-    requires flat { AreFlatRows rows.now }
-    requires order { IsInOrder Tiles rows.now }
-    ensures tiles { IfOk result (λ tiles. AreTilesOf tiles.items rows.now) }
-    ensures texts { (m : List ℕ) → HasTaken stream.old m → OnOk result (HasTaken stream.new (m ++ texts (tiles_in rows.now))) }
+    requires flat { AreFlatRows rows }
+    requires order { IsInOrder Tiles rows }
+    ensures tiles { IfOk result (λ tiles. AreTilesOf tiles.items rows.entry) }
+    ensures texts { (m : List ℕ) → HasTaken stream.old m → OnOk result (HasTaken stream.new (m ++ texts (tiles_in rows.entry))) }
 {
-    let mut tiles = Vec::with_capacity(alloc, rows.len())?;
+    let mut tiles = Vec::new(alloc);
     let mut before = None;
     for row in rows {
-        before = take_row(&mut tiles, stream, before, row);
+        before = take_row(&mut tiles, stream, before, row)?;
     }
     Ok(tiles)
 }

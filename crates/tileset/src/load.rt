@@ -3,8 +3,7 @@ ghost use Rattle.std.specs.Prelude.{◌≡◌, ◌≤◌, Some, IfOk, IfErr, OnO
 ghost use Rattle.tile_bridge.specs.FlatRows.{AreFlatRows};
 ghost use Rattle.tile_ids.specs.Counts.{Rose};
 ghost use Rattle.tileset_script.specs.Bulk.{bulk_script};
-ghost use Rattle.tileset_script.specs.Reading.{script_text};
-ghost use Rattle.tileset_script.specs.RowTree.{base_rows};
+ghost use Rattle.tileset_script.specs.Reading.{base_rows, script_text};
 ghost use Rattle.tileset.specs.Run.{IsReadFor, IsScriptOf, IsUntaken, IsShort, LoadCauses, LoadTakes, ScriptCauses, Spells};
 ghost use Rattle.tileset.specs.Streams.{IsAtEnd};
 ghost use Rattle.tileset_script.specs.Words.{IsCommand};

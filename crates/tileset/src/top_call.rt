@@ -2,8 +2,7 @@
 ghost use Rattle.std.specs.Prelude.{◌≡◌, ◌⊎◌, ◌≤◌, Ok, IsErrOf, is_some};
 ghost use Rattle.tile_ids.specs.Counts.{Rose};
 ghost use Rattle.tile_bridge.specs.FlatRows.{AreFlatRows};
-ghost use Rattle.tileset_script.specs.Reading.{script_text};
-ghost use Rattle.tileset_script.specs.RowTree.{base_rows};
+ghost use Rattle.tileset_script.specs.Reading.{base_rows, script_text};
 ghost use Rattle.tileset.specs.Run.{AnsweredBy, Causes, Gives, Given, IsReadFor, IsUntaken, IsValid, LeavesMedium, LeavesOutput, LeftBy, Taken, WrittenBy, answer, answer_script, outcome_of};
 ghost use Rattle.tileset_script.specs.Script.{Script};
 ghost use Rattle.tileset_script.specs.Words.{command};
@@ -67,15 +66,15 @@ pub fn run<I: Source, O: Sink, M: Medium>(
 fn convert<O: Sink, M: Medium>(
     alloc: Global,
     command: Command,
-    script: &mut ParsedScript,
+    script: &ParsedScript,
     output: &mut O,
     medium: &mut M,
 ) -> Result<(), Outcome>
-    requires base { AreFlatRows (base_rows script.old.base) }
-    ensures exact { Gives (answer_script (Ok (script_text script.old)) (M.told medium.old)) (outcome_of result) }
-    ensures causes { AnsweredBy (script_text script.old) (M.told medium.old) (outcome_of result) }
-    ensures medium { LeftBy (script_text script.old) (M.told medium.old) (M.told medium.new) (outcome_of result) }
-    ensures output { WrittenBy command (script_text script.old) (M.told medium.old) (M.told medium.new) (O.held output.old) (O.held output.new) (outcome_of result) }
+    requires base { AreFlatRows (base_rows script.now.base) }
+    ensures exact { Gives (answer_script (Ok (script_text script.now)) (M.told medium.old)) (outcome_of result) }
+    ensures causes { AnsweredBy (script_text script.now) (M.told medium.old) (outcome_of result) }
+    ensures medium { LeftBy (script_text script.now) (M.told medium.old) (M.told medium.new) (outcome_of result) }
+    ensures output { WrittenBy command (script_text script.now) (M.told medium.old) (M.told medium.new) (O.held output.old) (O.held output.new) (outcome_of result) }
     ensures output_fault { IsErrOf result Outcome.OutputFault → Rose (O.faults output.old) (O.faults output.new) }
     ensures medium_fault { IsErrOf result Outcome.MediumFault → Rose (M.faults medium.old) (M.faults medium.new) }
     ensures output_tells { is_some (O.held output.new) ≡ is_some (O.held output.old) }
@@ -128,6 +127,6 @@ fn attempt<I: Source, O: Sink, M: Medium>(
     let Some(command) = command_of(words) else {
         return Err(Outcome::Usage);
     };
-    let mut script = script_for(alloc, command, input)?;
-    convert(alloc, command, &mut script, output, medium)
+    let script = script_for(alloc, command, input)?;
+    convert(alloc, command, &script, output, medium)
 }

@@ -11,7 +11,6 @@ use Rattle.mb_tables.specs.declared.cell.Cell.{Cell}
 use Rattle.mb_tables.specs.declared.table.TableName.TheVariants.{Tiles}
 use Rattle.tile_bridge.specs.FlatRows.{AreFlatRows, IsFlatRow}
 use Rattle.tileset_script.proofs.ScriptLemmas.{flat_placed}
-use Rattle.tileset_script.specs.RowTree.{HasNumbers}
 use Rattle.tileset_script.specs.Bulk.{bulk_rows, numbered_row}
 
 -- the first ids are those of low zooms
@@ -42,10 +41,6 @@ flat_rows zero repeat h = All-nil IsFlatRow
 flat_rows (suc id) repeat h =
     let own = has_id id (omega (arith, h)) in
     flat_placed Tiles (numbered_row (coord_of id) (id / repeat)) (bulk_rows id repeat) (flat_rows id repeat (omega arith)) (flat_row (coord_of id) (id / repeat) own.0 (low_zoom id (omega arith)))
-
--- the key of such a row is three numbers
-pub has_numbers : (c : Coord) (number : ℕ) (row : List Cell) → row ≡ numbered_row c number → HasNumbers row
-has_numbers c number row is = subst HasNumbers (sym is) ((pos c.z, pos c.x, pos (inverted_y c.z c.y)), (refl, refl))
 
 -- no rows, and one row more
 pub no_rows : (repeat : ℕ) → [] ≡ bulk_rows 0 repeat

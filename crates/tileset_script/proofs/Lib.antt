@@ -2,6 +2,5 @@ pub mod BulkLemmas
 pub mod FlatLineLemmas
 pub mod NumberLemmas
 pub mod PartingLemmas
-pub mod RowTreeLemmas
 pub mod ScriptLemmas
 pub mod TextLemmas

@@ -4,7 +4,6 @@ pub mod Lines
 pub mod Number
 pub mod Parting
 pub mod Reading
-pub mod RowTree
 pub mod Script
 pub mod ScriptExamples
 pub mod Setting

@@ -1,14 +1,14 @@
 // Sets that are made from two numbers.
-ghost use Rattle.std.specs.Prelude.{◌≡◌, ◌≤◌, ◌<◌, ◌/◌, IfOk};
+ghost use Rattle.std.specs.Prelude.{◌≡◌, ◌≤◌, ◌<◌, ◌/◌, length, IfOk};
 ghost use Rattle.mb_store.specs.MemStore.{told_of};
 ghost use Rattle.mb_tables.specs.Schema.{set_tables};
 ghost use Rattle.mb_tables.specs.declared.kind.MbtType.TheVariants.{Flat};
 ghost use Rattle.tile_bridge.specs.FlatRows.{AreFlatRows};
 ghost use Rattle.tile_ids.specs.Hilbert.{coord_of};
 ghost use Rattle.tileset_script.specs.Bulk.{bulk_rows, numbered_row};
-ghost use Rattle.tileset_script.specs.RowTree.{HasNumbers, base_rows};
+ghost use Rattle.tileset_script.specs.Reading.{base_rows};
 
-use crate::row_tree::RowTree;
+use crate::base::{new_base, push_tile};
 use itoa::Buffer;
 use mb_store::{Cell, MemStore, Row};
 use std::alloc::Global;
@@ -29,7 +29,7 @@ fn coord_of(id: u64) -> TileCoord
 // The row of a coordinate, whose contents are a number in decimal.
 fn row_at(alloc: Global, coord: TileCoord, number: u64) -> Result<Row, OutOfMemory>
     ensures row { IfOk result (λ row. row ≡ numbered_row coord number) }
-    ensures numbers { IfOk result HasNumbers }
+    ensures wide { IfOk result (λ row. length row ≡ 4) }
 {
     let line = invert_y_value(coord.z(), coord.y());
     let contents = Vec::from_slice(alloc, Buffer::new().format(number).as_bytes())?;
@@ -51,13 +51,13 @@ pub fn bulk_base(alloc: Global, tiles: u64, repeat: u64) -> Result<MemStore, Out
     ensures flat { IfOk result (λ base. AreFlatRows (base_rows base)) }
     ensures described { IfOk result (λ base. (told_of base).descriptions ≡ set_tables Flat) }
 {
-    let mut rows = RowTree::new(alloc);
+    let mut base = new_base(alloc)?;
     for id in 0..tiles {
         let row = row_at(alloc, coord_of(id), id / repeat)?;
         // No id comes twice, so that each row's key is new.
-        if !rows.add(row)? {
+        if !push_tile(&mut base, row)? {
             return Err(OutOfMemory);
         }
     }
-    Ok(rows.into_base(alloc)?)
+    Ok(base)
 }

@@ -1,9 +1,9 @@
 //! What turns words and bytes into a script: commands, lines and their cells, options, the base and its queries, and the set of `bulk`.
 #![tactic(auto)]
 
+mod base;
 mod bulk;
 mod number;
-mod row_tree;
 mod script;
 mod words;
 

@@ -1,15 +1,16 @@
 // What the lines of a script said so far.
 ghost use Rattle.std.specs.Prelude.{◌≡◌, true, false, IfOk, IfSome, MatchOption};
+ghost use Rattle.mb_store.specs.MemStore.{told_of};
+ghost use Rattle.mb_tables.specs.Schema.{set_tables};
+ghost use Rattle.mb_tables.specs.declared.kind.MbtType.TheVariants.{Flat};
 ghost use Rattle.tile_bridge.specs.FlatRows.{AreFlatRows};
-ghost use Rattle.tileset_script.specs.Reading.{IsFlatLine, Takes, drafted, script_text};
-ghost use Rattle.tileset_script.specs.RowTree.{base_rows};
 ghost use Rattle.tileset_script.specs.Script.{in_options, no_lines, script_in, with_line};
 
 use super::ParsedScript;
 use super::line::Line;
 use super::setting::{Setting, options_of};
-use crate::row_tree::RowTree;
-use mb_store::Row;
+use crate::base::{new_base, push_tile};
+use mb_store::{MemStore, Row};
 use std::alloc::Global;
 use tile_ids::{OutOfMemory, TileCoord};
 
@@ -29,29 +30,32 @@ pub enum Section {
 pub struct Draft {
     section: Section,
     settings: Vec<Setting>,
-    rows: RowTree,
+    base: MemStore,
     queries: Vec<TileCoord>,
+    ghost described: { (told_of base).descriptions ≡ set_tables Flat },
 }
 
 impl Draft {
+    ghost use Rattle.tileset_script.specs.Reading.{IsFlatLine, Takes, base_rows, drafted, script_text};
+
     /// Before the first line.
-    pub(crate) fn new(alloc: Global) -> Draft
-        ensures { drafted result ≡ no_lines }
+    pub(crate) fn new(alloc: Global) -> Result<Draft, OutOfMemory>
+        ensures { IfOk result (λ draft. drafted draft ≡ no_lines) }
     {
-        Draft {
+        Ok(Draft {
             section: Section::Options,
             settings: Vec::new(alloc),
-            rows: RowTree::new(alloc),
+            base: new_base(alloc)?,
             queries: Vec::new(alloc),
-        }
+        })
     }
 
     /// Takes a line, and says whether it stands in its section and repeats no key.
     pub(crate) fn take(&mut self, line: Line) -> Result<bool, OutOfMemory>
-        requires rows { AreFlatRows self.old.rows }
+        requires rows { AreFlatRows (base_rows self.old.base) }
         requires line { IsFlatLine line }
         ensures takes { IfOk result (λ taken. Takes (with_line (drafted self.old) line) taken (drafted self.new)) }
-        ensures rows { IfOk result (λ taken. taken ≡ true → AreFlatRows self.new.rows) }
+        ensures rows { IfOk result (λ taken. taken ≡ true → AreFlatRows (base_rows self.new.base)) }
     {
         match line {
             Line::Nothing => Ok(true),
@@ -65,7 +69,7 @@ impl Draft {
     // An option stands before the base.
     fn take_setting(&mut self, setting: Setting) -> Result<bool, OutOfMemory>
         ensures takes { IfOk result (λ taken. Takes (with_line (drafted self.old) (Line.Given setting)) taken (drafted self.new)) }
-        ensures rows { self.new.rows ≡ self.old.rows }
+        ensures rows { base_rows self.new.base ≡ base_rows self.old.base }
     {
         if self.section != Section::Options {
             return Ok(false);
@@ -77,7 +81,7 @@ impl Draft {
     // There is one base.
     fn take_base(&mut self) -> bool
         ensures takes { Takes (with_line (drafted self.old) Line.Base) result (drafted self.new) }
-        ensures rows { self.new.rows ≡ self.old.rows }
+        ensures rows { base_rows self.new.base ≡ base_rows self.old.base }
     {
         if self.section != Section::Options {
             return false;
@@ -88,22 +92,22 @@ impl Draft {
 
     // A row stands behind the base or another row, and has another key than those before it.
     fn take_row(&mut self, row: Row) -> Result<bool, OutOfMemory>
-        requires rows { AreFlatRows self.old.rows }
+        requires rows { AreFlatRows (base_rows self.old.base) }
         requires line { IsFlatLine (Line.Row row) }
         ensures takes { IfOk result (λ taken. Takes (with_line (drafted self.old) (Line.Row row)) taken (drafted self.new)) }
-        ensures rows { IfOk result (λ taken. taken ≡ true → AreFlatRows self.new.rows) }
+        ensures rows { IfOk result (λ taken. taken ≡ true → AreFlatRows (base_rows self.new.base)) }
     {
         if self.section != Section::Rows {
             return Ok(false);
         }
-        let new = self.rows.add(row)?;
+        let new = push_tile(&mut self.base, row)?;
         Ok(new)
     }
 
     // A query stands behind the base.
     fn take_query(&mut self, coord: TileCoord) -> Result<bool, OutOfMemory>
         ensures takes { IfOk result (λ taken. Takes (with_line (drafted self.old) (Line.Query coord)) taken (drafted self.new)) }
-        ensures rows { self.new.rows ≡ self.old.rows }
+        ensures rows { base_rows self.new.base ≡ base_rows self.old.base }
     {
         if self.section == Section::Options {
             return Ok(false);
@@ -114,17 +118,17 @@ impl Draft {
     }
 
     /// The script, where there was a base line.
-    pub(crate) fn finish(self, alloc: Global) -> Result<Option<ParsedScript>, OutOfMemory>
-        ensures script { IfOk result (λ script. MatchOption script (in_options self.section ≡ true) (λ s. (in_options self.section ≡ false) × (script_text s ≡ script_in (drafted self)))) }
-        ensures rows { IfOk result (λ script. IfSome script (λ s. base_rows s.base ≡ self.rows)) }
+    pub(crate) fn finish(self) -> Option<ParsedScript>
+        ensures script { MatchOption result (in_options self.section ≡ true) (λ s. (in_options self.section ≡ false) × (script_text s ≡ script_in (drafted self))) }
+        ensures rows { IfSome result (λ s. base_rows s.base ≡ base_rows self.base) }
     {
         if self.section == Section::Options {
-            return Ok(None);
+            return None;
         }
-        Ok(Some(ParsedScript {
+        Some(ParsedScript {
             options: options_of(self.settings),
-            base: self.rows.into_base(alloc)?,
+            base: self.base,
             queries: self.queries,
-        }))
+        })
     }
 }

@@ -2,8 +2,7 @@
 ghost use Rattle.std.specs.Prelude.{◌≡◌, true, ◌<◌, ◌^◌, length, IfOk};
 ghost use Rattle.std.specs.Option.{option_and_then};
 ghost use Rattle.tile_bridge.specs.FlatRows.{AreFlatRows};
-ghost use Rattle.tileset_script.specs.Reading.{Reads, Takes, drafted};
-ghost use Rattle.tileset_script.specs.RowTree.{base_rows};
+ghost use Rattle.tileset_script.specs.Reading.{Reads, Takes, base_rows, drafted};
 ghost use Rattle.tileset_script.specs.Script.{line_of, with_line};
 
 use super::draft::Draft;
@@ -15,9 +14,9 @@ use tile_ids::OutOfMemory;
 
 // Takes a line, and says whether it is a good one in its place.
 fn take_line(alloc: Global, draft: &mut Draft, line: &[u8]) -> Result<bool, OutOfMemory>
-    requires flat { AreFlatRows draft.old.rows }
+    requires flat { AreFlatRows (base_rows draft.old.base) }
     ensures takes { IfOk result (λ taken. Takes (option_and_then (with_line (drafted draft.old)) (line_of line.now)) taken (drafted draft.new)) }
-    ensures flat { IfOk result (λ taken. taken ≡ true → AreFlatRows draft.new.rows) }
+    ensures flat { IfOk result (λ taken. taken ≡ true → AreFlatRows (base_rows draft.new.base)) }
 {
     match parse_line(alloc, line)? {
         Some(line) => draft.take(line),
@@ -31,7 +30,7 @@ pub fn parse_script(alloc: Global, input: &[u8]) -> Result<ParsedScript, ScriptE
     ensures reads { Reads input.now result }
     ensures base { IfOk result (λ script. AreFlatRows (base_rows script.base)) }
 {
-    let mut draft = Draft::new(alloc);
+    let mut draft = Draft::new(alloc)?;
     let mut rest = input;
     let mut number = 1;
     while let Some((line, tail)) = next_line(rest) {
@@ -41,8 +40,7 @@ pub fn parse_script(alloc: Global, input: &[u8]) -> Result<ParsedScript, ScriptE
         number += 1;
         rest = tail;
     }
-    let finished = draft.finish(alloc)?;
-    match finished {
+    match draft.finish() {
         Some(script) => Ok(script),
         None => Err(ScriptError::BadLine(number)),
     }

@@ -2,14 +2,14 @@
 use Rattle.std.proofs.Common.{◌≡◌, ◌≤◌, ◌+◌, length}
 use Rattle.tile_bridge.specs.FlatRows.{AreFlatRows}
 use Rattle.tileset_script.specs.Lines.{lines_of}
-use Rattle.tileset_script.specs.Reading.{drafted}
+use Rattle.tileset_script.specs.Reading.{base_rows, drafted}
 use Rattle.tileset_script.specs.Script.{script_from, script_of}
 use Rattle.tileset_script.proofs.script.reading.parse_script.Given as goal
 
 abbrev pub invariant-loop-line : goal.invariant-loop-line
 invariant-loop-line l = record {
   whole : script_from l.number (drafted l.draft) (lines_of l.rest) ≡ script_of l.fn.input;
-  flat : AreFlatRows l.draft.rows;
+  flat : AreFlatRows (base_rows l.draft.base);
   small : l.number + length l.rest ≤ 1 + length l.fn.input;
 }
 
