@@ -1,10 +1,12 @@
 // Calls of the directories and entries of pm_format.
-ghost use Rattle.std.specs.Prelude.{◌↔◌, All, IsTrue};
+ghost use Rattle.std.specs.Prelude.{◌≡◌, ◌↔◌, ◌+◌, ◌<◌, ◌≤◌, All, IsTrue, length};
 ghost use Rattle.pm_format.specs.Directory.{IsPlaced};
 
 use crate::words::{Words, bytes, number, say, say_bytes};
-use pm_format::{DirEntry, Directory, encode_entries};
+use pm_format::{DirEntry, Directory, Steps, encode_entries};
 use std::alloc::Global;
+use std::marker::Brand;
+use std::sync::ledger::{Blank, Ledger};
 use tile_ids::{TileCoord, TileId};
 
 fn is_placed(entry: &DirEntry) -> bool
@@ -54,9 +56,36 @@ fn again(alloc: Global, out: &mut String, words: &mut Words) -> Option<()> {
     say(out, &(spelled.as_slice() == input.as_slice()))
 }
 
+// An entry among three is found with at most two steps.
+fn find_in_three<L: Ledger>(
+    directory: &Directory,
+    id: TileId,
+    steps: &mut Steps<L>,
+) -> Option<DirEntry>
+    requires three { length directory.now ≡ 3 }
+    ensures few { steps.new ≤ steps.old + 2 }
+{
+    directory.find_tile_id_counted(id, steps).copied()
+}
+
+fn find_counted<L: Ledger>(directory: &Directory, id: TileId, blank: Blank) -> Option<DirEntry>
+    requires name { blank.name ≡ L.name }
+    requires parts { blank.parts ≡ L.parts }
+    requires some { 0 < blank.parts }
+{
+    let mut steps: Steps<L> = Steps::new(blank);
+    if directory.entries().len() == 3 {
+        return find_in_three(directory, id, &mut steps);
+    }
+    directory.find_tile_id_counted(id, &mut steps).copied()
+}
+
 fn find(alloc: Global, out: &mut String, words: &mut Words) -> Option<()> {
     let directory = given(alloc, words)?;
     let id = TileId::new(number(words)?).ok()?;
+    if directory.find_tile_id(id).copied() != find_counted::<Brand>(&directory, id, Blank::new(1)) {
+        return None;
+    }
     say(out, &directory.find_tile_id(id))
 }
 
