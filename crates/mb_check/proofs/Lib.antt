@@ -1,0 +1,10 @@
+pub mod RowLemmas
+pub mod Finding
+pub mod Items
+pub mod Ordered
+pub mod Sorting
+pub mod Readers
+pub mod Places
+pub mod DescribedLemmas
+pub mod AlgorithmLemmas
+pub mod Refused

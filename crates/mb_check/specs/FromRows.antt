@@ -1,0 +1,21 @@
+-- What is kept of rows, and the tests of it.
+use Rattle.std.specs.Prelude.{List, Option, None}
+use Rattle.mb_check.specs.Hashes.{wrong_hash}
+use Rattle.mb_check.specs.declared.entries.Content.{Content}
+use Rattle.mb_check.specs.declared.entries.Standing.TheVariants.{Kept}
+use Rattle.mb_tables.specs.Tiles.{cell_at}
+use Rattle.mb_tables.specs.declared.cell.Cell.{Cell}
+use Rattle.mb_tables.specs.declared.error.MbtError.{MbtError}
+use Rattle.mb_tables.specs.declared.kind.MbtType.{MbtType}
+use Rattle.mb_tables.specs.declared.kind.MbtType.TheVariants.{Normalized}
+use Rattle.mb_tables.specs.declared.kind.NormalizedSchema.TheVariants.{Hash}
+use Rattle.tile_hash.specs.declared.algorithm.HashAlgorithm.{HashAlgorithm}
+
+-- what is kept of a row of contents
+abbrev pub content_from : List Cell → Content
+content_from row = record { id = cell_at 0 row; cell = cell_at 1 row; standing = Kept }
+
+-- the refusal of contents whose id isn't their digest
+abbrev pub wrong_id : MbtType → HashAlgorithm → Content → Option MbtError
+wrong_id (Normalized view Hash) a c = wrong_hash a c.cell c.id
+wrong_id _ a c = None

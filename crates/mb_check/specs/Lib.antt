@@ -1,0 +1,17 @@
+pub mod Refusals
+pub mod Described
+pub mod Contents
+pub mod Kinds
+pub mod Metadata
+pub mod Algorithm
+pub mod TileRows
+pub mod References
+pub mod Hashes
+pub mod LoadingOrder
+pub mod State
+pub mod Keyed
+pub mod Held
+pub mod HeldCode
+pub mod Entries
+pub mod FromRows
+pub mod LoadingExamples
