@@ -8,3 +8,4 @@ pub mod Places
 pub mod DescribedLemmas
 pub mod AlgorithmLemmas
 pub mod Refused
+pub mod NameLemmas

@@ -1,5 +1,7 @@
 -- What is kept of rows, and the tests of it.
-use Rattle.std.specs.Prelude.{List, Option, None}
+use Rattle.std.specs.Prelude.{ℕ, List, Option, Some, None}
+use Rattle.mb_check.specs.Metadata.{text_of}
+use Rattle.mb_check.specs.declared.entries.StoredName.{StoredName}
 use Rattle.mb_check.specs.Hashes.{wrong_hash}
 use Rattle.mb_check.specs.declared.entries.Content.{Content}
 use Rattle.mb_check.specs.declared.entries.Standing.TheVariants.{Kept}
@@ -14,6 +16,14 @@ use Rattle.tile_hash.specs.declared.algorithm.HashAlgorithm.{HashAlgorithm}
 -- what is kept of a row of contents
 abbrev pub content_from : List Cell → Content
 content_from row = record { id = cell_at 0 row; cell = cell_at 1 row; standing = Kept }
+
+-- what is kept of a row of metadata that has a name
+abbrev pub named : Option (List ℕ) → Cell → Option StoredName
+named (Some name) value = Some (record { name = name; value = value; standing = Kept })
+named None value = None
+
+abbrev pub name_from : List Cell → Option StoredName
+name_from row = named (text_of (cell_at 0 row)) (cell_at 1 row)
 
 -- the refusal of contents whose id isn't their digest
 abbrev pub wrong_id : MbtType → HashAlgorithm → Content → Option MbtError

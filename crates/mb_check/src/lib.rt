@@ -8,5 +8,6 @@ mod described;
 mod entries;
 mod hashes;
 mod kinds;
+mod name_list;
 mod reading;
 mod tile_list;

@@ -1,0 +1,87 @@
+// Names in the order of their bytes, with marks of removed ones behind.
+ghost use Rattle.std.specs.Prelude.{◌≡◌, All, IfErr, IfNone, IfOk, IfSome, false, filter_map, map, option_copied};
+ghost use Rattle.std.specs.Cmp.Lexicographic.{slice_cmp};
+ghost use Rattle.std.specs.List.Sorted.{IsPermutation};
+ghost use Rattle.std.specs.Ordering.{nat_cmp};
+ghost use Rattle.mb_check.specs.Entries.{AreNamesInOrder, is_name_gone, name_of};
+ghost use Rattle.mb_check.specs.FromRows.{name_from};
+ghost use Rattle.mb_check.specs.Keyed.{IsAt, IsGap, are_distinct, live_at};
+
+use crate::entries::{Standing, StoredName};
+use mb_store::{Cell, Row};
+use std::alloc::Global;
+use tile_ids::OutOfMemory;
+
+/// Names in the order of their bytes, `live` of them, and behind them the marks.
+#[derive(Debug, Drop)]
+pub(crate) struct NameList {
+    pub items: Vec<StoredName>,
+    pub live: usize,
+}
+
+// Takes the cells of a row of metadata apart; a row of a null name has none.
+fn name_from(row: Row) -> Option<StoredName>
+    ensures { result ≡ name_from row }
+{
+    let mut cells = row.into_cells().into_iter();
+    let name = cells.next();
+    let value = cells.next().unwrap_or(Cell::Null);
+    match name {
+        Some(Cell::Text(name)) => Some(StoredName {
+            name,
+            value,
+            standing: Standing::Kept,
+        }),
+        _ => None,
+    }
+}
+
+/// The names of all rows that have one.
+pub(crate) fn names_from(alloc: Global, rows: Vec<Row>) -> Result<Vec<StoredName>, OutOfMemory>
+    ensures { IfOk result (λ names. names.items ≡ filter_map name_from rows.items) }
+{
+    let mut names = Vec::with_capacity(alloc, rows.len())?;
+    for row in rows {
+        if let Some(name) = name_from(row) {
+            names.push(name)?;
+        }
+    }
+    Ok(names)
+}
+
+impl NameList {
+    /// Names in the order of their bytes, and none where two are equal.
+    pub(crate) fn in_order(mut items: Vec<StoredName>) -> Option<NameList>
+        requires { All (λ n. is_name_gone n ≡ false) items.items }
+        ensures order { IfSome result (λ l. AreNamesInOrder l.live l.items.items) }
+        ensures same { IfSome result (λ l. IsPermutation items.items l.items.items) }
+        ensures twice { IfNone result (are_distinct (slice_cmp nat_cmp) (map name_of items.items) ≡ false) }
+    {
+        items.sort_unstable_by(|a, b| a.name.cmp(&b.name));
+        if !items.is_sorted_by(|a, b| a.name.cmp(&b.name).is_lt()) {
+            return None;
+        }
+        let live = items.len();
+        Some(NameList { items, live })
+    }
+
+    // Where a name is, or where it would go.
+    fn search(&self, name: &str) -> Result<usize, usize>
+        requires { AreNamesInOrder self.now.live self.now.items.items }
+        ensures found { IfOk result (IsAt (slice_cmp nat_cmp) name_of self.now.live self.now.items.items name.now) }
+        ensures absent { IfErr result (IsGap (slice_cmp nat_cmp) name_of self.now.live self.now.items.items name.now) }
+    {
+        self.items[..self.live].binary_search_by(|entry| entry.name.as_str().cmp(name))
+    }
+
+    /// The entry of a name.
+    pub(crate) fn get(&self, name: &str) -> Option<&StoredName>
+        requires { AreNamesInOrder self.now.live self.now.items.items }
+        ensures { option_copied result ≡ live_at (slice_cmp nat_cmp) name_of is_name_gone name.now self.now.items.items }
+    {
+        match self.search(name) {
+            Ok(at) => Some(&self.items[at]),
+            Err(_) => None,
+        }
+    }
+}
