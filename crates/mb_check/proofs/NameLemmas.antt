@@ -11,8 +11,11 @@ use Rattle.mb_check.specs.Contents.{fronts}
 use Rattle.mb_check.specs.Entries.{is_name_gone, name_of, name_value}
 use Rattle.mb_check.specs.FromRows.{name_from}
 use Rattle.mb_check.specs.Keyed.{are_distinct, entries_by}
-use Rattle.mb_check.specs.Kinds.{has_name_kinds}
-use Rattle.mb_check.specs.Metadata.{name_entry, text_of}
+use Rattle.std.specs.Option.{option_or}
+use Rattle.mb_check.specs.Refusals.{unless}
+use Rattle.mb_tables.specs.declared.error.MbtError.TheVariants.{InvalidDataFormat}
+use Rattle.mb_check.specs.Kinds.{has_name_kinds, name_kind_wrong}
+use Rattle.mb_check.specs.Metadata.{name_entry, name_twice, text_of}
 use Rattle.mb_tables.specs.Cell.{cell_cmp, is_null}
 use Rattle.mb_tables.specs.Tiles.{cell_at}
 use Rattle.mb_tables.specs.declared.cell.Cell.{Cell}
@@ -64,3 +67,10 @@ names_distinct rows h = ap (are_distinct cell_cmp) (texts_of rows h) ∙ distinc
 
 pub names_antisymmetric : IsAntisymmetric (slice_cmp nat_cmp)
 names_antisymmetric = slice_cmp-IsAntisymmetric nat_cmp-IsAntisymmetric
+
+-- what the two tests of names answer
+pub names_pass : (rows : List (List Cell)) → list_all has_name_kinds rows ≡ true → are_distinct (slice_cmp nat_cmp) (map name_of (filter_map name_from rows)) ≡ true → option_or (name_kind_wrong rows) (name_twice rows) ≡ None
+names_pass rows k d = ap (λ b. option_or (unless b InvalidDataFormat) (name_twice rows)) k ∙ ap (λ b. unless b InvalidDataFormat) (names_distinct rows k ∙ d)
+
+pub names_refused : (rows : List (List Cell)) → list_all has_name_kinds rows ≡ true → are_distinct (slice_cmp nat_cmp) (map name_of (filter_map name_from rows)) ≡ false → option_or (name_kind_wrong rows) (name_twice rows) ≡ Some InvalidDataFormat
+names_refused rows k d = ap (λ b. option_or (unless b InvalidDataFormat) (name_twice rows)) k ∙ ap (λ b. unless b InvalidDataFormat) (names_distinct rows k ∙ d)

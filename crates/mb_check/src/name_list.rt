@@ -1,14 +1,19 @@
 // Names in the order of their bytes, with marks of removed ones behind.
-ghost use Rattle.std.specs.Prelude.{◌≡◌, All, IfErr, IfNone, IfOk, IfSome, false, filter_map, map, option_copied};
+ghost use Rattle.std.specs.Prelude.{◌≡◌, All, IfErr, IfNone, IfOk, IfSome, None, false, filter_map, map, option_copied};
 ghost use Rattle.std.specs.Cmp.Lexicographic.{slice_cmp};
 ghost use Rattle.std.specs.List.Sorted.{IsPermutation};
+ghost use Rattle.std.specs.Option.{option_or};
 ghost use Rattle.std.specs.Ordering.{nat_cmp};
-ghost use Rattle.mb_check.specs.Entries.{AreNamesInOrder, is_name_gone, name_of};
+ghost use Rattle.mb_check.specs.Entries.{AreNamesInOrder, is_name_gone, name_of, names_held};
 ghost use Rattle.mb_check.specs.FromRows.{name_from};
 ghost use Rattle.mb_check.specs.Keyed.{IsAt, IsGap, are_distinct, live_at};
+ghost use Rattle.mb_check.specs.Kinds.{name_kind_wrong};
+ghost use Rattle.mb_check.specs.Metadata.{name_twice, names_of};
+ghost use Rattle.mb_check.specs.Refusals.{Tests};
 
 use crate::entries::{Standing, StoredName};
-use mb_store::{Cell, Row};
+use crate::kinds::have_name_kinds;
+use mb_store::{Cell, MbtError, MbtResult, Row};
 use std::alloc::Global;
 use tile_ids::OutOfMemory;
 
@@ -36,8 +41,8 @@ fn name_from(row: Row) -> Option<StoredName>
     }
 }
 
-/// The names of all rows that have one.
-pub(crate) fn names_from(alloc: Global, rows: Vec<Row>) -> Result<Vec<StoredName>, OutOfMemory>
+// The names of all rows that have one.
+fn names_from(alloc: Global, rows: Vec<Row>) -> Result<Vec<StoredName>, OutOfMemory>
     ensures { IfOk result (λ names. names.items ≡ filter_map name_from rows.items) }
 {
     let mut names = Vec::with_capacity(alloc, rows.len())?;
@@ -51,7 +56,7 @@ pub(crate) fn names_from(alloc: Global, rows: Vec<Row>) -> Result<Vec<StoredName
 
 impl NameList {
     /// Names in the order of their bytes, and none where two are equal.
-    pub(crate) fn in_order(mut items: Vec<StoredName>) -> Option<NameList>
+    fn in_order(mut items: Vec<StoredName>) -> Option<NameList>
         requires { All (λ n. is_name_gone n ≡ false) items.items }
         ensures order { IfSome result (λ l. AreNamesInOrder l.live l.items.items) }
         ensures same { IfSome result (λ l. IsPermutation items.items l.items.items) }
@@ -82,6 +87,22 @@ impl NameList {
         match self.search(name) {
             Ok(at) => Some(&self.items[at]),
             Err(_) => None,
+        }
+    }
+
+    /// The names of rows of metadata, or the refusal of these.
+    pub(crate) fn of_rows(alloc: Global, rows: Vec<Row>) -> MbtResult<NameList>
+        ensures tests { Tests (option_or (name_kind_wrong rows.items) (name_twice rows.items)) result }
+        ensures order { IfOk result (λ l. AreNamesInOrder l.live l.items.items) }
+        ensures names { IfOk result (λ l. names_held l.items.items ≡ names_of rows.items) }
+    {
+        if !have_name_kinds(&rows) {
+            return Err(MbtError::InvalidDataFormat);
+        }
+        let items = names_from(alloc, rows)?;
+        match NameList::in_order(items) {
+            Some(names) => Ok(names),
+            None => Err(MbtError::InvalidDataFormat),
         }
     }
 }
