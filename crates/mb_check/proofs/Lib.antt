@@ -9,3 +9,4 @@ pub mod DescribedLemmas
 pub mod AlgorithmLemmas
 pub mod Refused
 pub mod NameLemmas
+pub mod ContentLemmas

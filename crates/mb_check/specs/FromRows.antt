@@ -1,10 +1,11 @@
 -- What is kept of rows, and the tests of it.
-use Rattle.std.specs.Prelude.{ℕ, List, Option, Some, None}
+use Rattle.std.specs.Prelude.{ℕ, suc, cond, List, [], ◌∷◌, Option, Some, None}
 use Rattle.mb_check.specs.Metadata.{text_of}
 use Rattle.mb_check.specs.declared.entries.StoredName.{StoredName}
 use Rattle.mb_check.specs.Hashes.{wrong_hash}
 use Rattle.mb_check.specs.declared.entries.Content.{Content}
 use Rattle.mb_check.specs.declared.entries.Standing.TheVariants.{Kept}
+use Rattle.mb_tables.specs.Cell.{is_null}
 use Rattle.mb_tables.specs.Tiles.{cell_at}
 use Rattle.mb_tables.specs.declared.cell.Cell.{Cell}
 use Rattle.mb_tables.specs.declared.error.MbtError.{MbtError}
@@ -24,6 +25,11 @@ named None value = None
 
 abbrev pub name_from : List Cell → Option StoredName
 name_from row = named (text_of (cell_at 0 row)) (cell_at 1 row)
+
+-- the indexes, from a number on, of the contents that have an id
+abbrev pub ids_from : ℕ → List Content → List ℕ
+ids_from k [] = []
+ids_from k (c ∷ cs) = cond (is_null c.id) (ids_from (suc k) cs) (k ∷ ids_from (suc k) cs)
 
 -- the refusal of contents whose id isn't their digest
 abbrev pub wrong_id : MbtType → HashAlgorithm → Content → Option MbtError

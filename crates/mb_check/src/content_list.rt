@@ -1,11 +1,10 @@
 // Contents, and the order of those that have an id.
-ghost use Rattle.std.specs.Prelude.{◌≡◌, ◌<◌, All, IfErr, IfNone, IfOk, IfSome, false, filter, length, map, not};
+ghost use Rattle.std.specs.Prelude.{◌≡◌, All, IfErr, IfNone, IfOk, IfSome, false, map};
 ghost use Rattle.std.specs.List.Sorted.{IsPermutation};
-ghost use Rattle.mb_check.specs.Entries.{AreContentsInOrder, id_at};
-ghost use Rattle.mb_check.specs.FromRows.{content_from};
-ghost use Rattle.mb_check.specs.Keyed.{IsAt, IsGap, are_distinct};
-ghost use Rattle.mb_tables.specs.Cell.{cell_cmp, is_null};
-ghost use Rattle.mb_tables.specs.Table.{width};
+ghost use Rattle.mb_check.specs.Entries.{AreContentsInOrder, id_at, is_content_gone, is_removed};
+ghost use Rattle.mb_check.specs.FromRows.{content_from, ids_from};
+ghost use Rattle.mb_check.specs.Keyed.{IsAt, IsGap, are_distinct, live_at};
+ghost use Rattle.mb_tables.specs.Cell.{cell_cmp};
 
 use crate::entries::{Content, Standing, compare_id, compare_ids};
 use mb_store::{Cell, Row};
@@ -43,4 +42,60 @@ pub(crate) fn contents_from(alloc: Global, rows: Vec<Row>) -> Result<Vec<Content
         contents.push(content_from(row))?;
     }
     Ok(contents)
+}
+
+// The indexes of the contents that have an id.
+fn ids_of(alloc: Global, items: &[Content]) -> Result<Vec<usize>, OutOfMemory>
+    ensures { IfOk result (λ order. order.items ≡ ids_from 0 items.now) }
+{
+    let mut order = Vec::new(alloc);
+    for index in 0..items.len() {
+        if !items[index].id.is_null() {
+            order.push(index)?;
+        }
+    }
+    Ok(order)
+}
+
+impl ContentList {
+    /// Contents with the order of their ids, and none where an id stands twice.
+    pub(crate) fn in_order(
+        alloc: Global,
+        items: Vec<Content>,
+    ) -> Result<Option<ContentList>, OutOfMemory>
+        requires { All (λ c. is_removed c.standing ≡ false) items.items }
+        ensures order { IfOk result (λ found. IfSome found (λ l. AreContentsInOrder l.items.items l.live l.order.items)) }
+        ensures items { IfOk result (λ found. IfSome found (λ l. l.items.items ≡ items.items)) }
+        ensures same { IfOk result (λ found. IfSome found (λ l. IsPermutation (ids_from 0 items.items) l.order.items)) }
+        ensures twice { IfOk result (λ found. IfNone found (are_distinct cell_cmp (map (id_at items.items) (ids_from 0 items.items)) ≡ false)) }
+    {
+        let mut order = ids_of(alloc, &items)?;
+        order.sort_unstable_by(|a, b| compare_ids(&items, *a, *b));
+        if !order.is_sorted_by(|a, b| compare_ids(&items, *a, *b).is_lt()) {
+            return Ok(None);
+        }
+        let live = order.len();
+        Ok(Some(ContentList { items, order, live }))
+    }
+
+    // Where the index of the contents of an id is, or where it would go.
+    fn search(&self, id: &Cell) -> Result<usize, usize>
+        requires { AreContentsInOrder self.now.items.items self.now.live self.now.order.items }
+        ensures found { IfOk result (IsAt cell_cmp (id_at self.now.items.items) self.now.live self.now.order.items id.now) }
+        ensures absent { IfErr result (IsGap cell_cmp (id_at self.now.items.items) self.now.live self.now.order.items id.now) }
+    {
+        let items = self.items.as_slice();
+        self.order[..self.live].binary_search_by(|index| compare_id(items, *index, id))
+    }
+
+    /// The index of the contents of an id.
+    pub(crate) fn index_of(&self, id: &Cell) -> Option<usize>
+        requires { AreContentsInOrder self.now.items.items self.now.live self.now.order.items }
+        ensures { result ≡ live_at cell_cmp (id_at self.now.items.items) (is_content_gone self.now.items.items) id.now self.now.order.items }
+    {
+        match self.search(id) {
+            Ok(at) => Some(self.order[at]),
+            Err(_) => None,
+        }
+    }
 }
