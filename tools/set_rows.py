@@ -1,6 +1,7 @@
 #!/usr/bin/env python3
 # Writes the input and the wanted output of crates/set_rows. The wanted answers are worked out here from the tables of the layouts, the rules of detection, and the rules
 # of a store: rows in the order of their keys, equal keys in order of arrival. Run it at the top of the repository: python3 tools/set_rows.py
+import hashlib
 import random
 
 import shown
@@ -447,8 +448,84 @@ def faults():
     row('store describe', 'Ok([])')
 
 
+def place_pieces(z, c, r):
+    return f'{z}/{c}/{2 ** z - 1 - r}'
+
+
+# A set of a layout with these rows, and what loading it must answer.
+def load_case(layout, pushes, *answers):
+    row(f'store new layout {layout}')
+    for name, *cells in pushes:
+        row(f"store push {name} {' '.join(cells)}", 'Ok(())')
+    row('load', *answers)
+
+
+def loaded(layout, tiles, names, algorithm='Md5', patch_type='None'):
+    return (LAYOUTS[layout], algorithm, patch_type,
+            *(piece for (z, c, r), contents, name in tiles for piece in (place_pieces(z, c, r), show(contents), option(name and show(name)), 'true')),
+            *(piece for name, value in names for piece in (name, show(value))))
+
+
+def md5(digits):
+    return hashlib.md5(bytes.fromhex(digits)).hexdigest()
+
+
+def bad_index(*cells):
+    zoom, column, line = map(show, cells)
+    return f'Err(InvalidTileIndex {{ zoom_level: {zoom}, tile_column: {column}, tile_row: {line} }})'.removeprefix('Err(').removesuffix(')')
+
+
+def text(t):
+    return f'TextVal {{ text: "{t}" }}'
+
+
+def loads():
+    row('store new')
+    row('load', 'InvalidDataFormat')
+    # one set of each layout: tiles by zoom, column and row from the bottom, names by their bytes
+    two = [('metadata', 'tname', 'ttown'), ('metadata', 'tbounds', 'n'), ('metadata', 'n', 'tnone')]
+    names = [('bounds', 'n'), ('name', 'ttown')]
+    load_case('flat', [('tiles', 'i1', 'i1', 'i0', 'x0203'), ('tiles', 'i1', 'i0', 'i1', 'n'), ('tiles', 'i0', 'i0', 'i0', 'x'), ('tiles', 'i30', 'i1073741823', 'i0', 'x07'), *two],
+              *loaded('flat', [((0, 0, 0), 'x', None), ((1, 0, 1), 'n', None), ((1, 1, 0), 'x0203', None), ((30, 1073741823, 0), 'x07', None)], names))
+    load_case('flat-with-hash', [('tiles_with_hash', 'i1', 'i0', 'i0', 'x01', 't' + md5('01')), ('tiles_with_hash', 'i0', 'i0', 'i0', 'x02', 'n'), ('tiles_with_hash', 'i1', 'i1', 'i0', 'n', 'tany')],
+              *loaded('flat-with-hash', [((0, 0, 0), 'x02', None), ((1, 0, 0), 'x01', None), ((1, 1, 0), 'n', None)], []))
+    a, b = 't' + md5('01'), 't' + md5('02').upper()
+    for layout in ('normalized', 'normalized-with-view'):
+        load_case(layout, [('images', b, 'x02'), ('images', a, 'x01'), ('images', 'n', 'x05'), ('map', 'i1', 'i0', 'i0', a), ('map', 'i1', 'i1', 'i1', a), ('map', 'i0', 'i0', 'i0', b), ('map', 'i40', 'n', 'o', 'n')],
+                  *loaded(layout, [((0, 0, 0), 'x02', b), ((1, 0, 0), 'x01', a), ((1, 1, 1), 'x01', a)], []))
+    load_case('dedup-id', [('tiles_data', 'i7', 'x01'), ('tiles_data', 'i-3', 'n'), ('tiles_shallow', 'i2', 'i3', 'i0', 'i-3'), ('tiles_shallow', 'i2', 'i0', 'i3', 'i7')],
+              *loaded('dedup-id', [((2, 0, 3), 'x01', 'i7'), ((2, 3, 0), 'n', 'i-3')], []))
+    load_case('cache', [('tile_cache', 'i0', 'i0', 'i0', 'i5', 'n', 'tv', 'x09')], *loaded('cache', [((0, 0, 0), 'x09', None)], []))
+    # each refusal, over a bad row that comes later in the order
+    bad = ('tiles', 'i31', 'i0', 'i0', 'n')
+    load_case('flat', [bad], bad_index('i31', 'i0', 'i0'))
+    load_case('flat', [('tiles', 'i2', 'i4', 'i0', 'n'), ('tiles', 'i1', 'i2', 'i0', 'n')], bad_index('i1', 'i2', 'i0'))
+    load_case('flat', [('tiles', 'i1', 'i0', 'i-1', 'n')], bad_index('i1', 'i0', 'i-1'))
+    load_case('flat', [('tiles', 'i2147483648', 'o', 'ttext', 'n')], bad_index('i2147483648', 'o', 'ttext'))
+    load_case('flat', [('tiles', 'i9223372036854775807', 'i9223372036854775807', 'i-9223372036854775808', 'n')], bad_index('i9223372036854775807', 'i9223372036854775807', 'i-9223372036854775808'))
+    load_case('flat', [('tiles', 'i0', 'i0', 'i0', 'ttext')], bad_index('i0', 'i0', 'i0'))
+    load_case('flat', [bad, ('metadata', 'tname', 'i1')], 'InvalidDataFormat')
+    load_case('flat', [bad, ('metadata', 'x01', 'n')], 'InvalidDataFormat')
+    load_case('flat', [bad, ('metadata', 'thash_algorithm', 'tsha1')], f'UnsupportedHashAlgorithm {{ algorithm: {text("sha1")} }}')
+    load_case('flat', [('metadata', 'thash_algorithm', 'tXXH3')], *loaded('flat', [], [('hash_algorithm', 'tXXH3')], 'Xxh3'))
+    load_case('cache', [('tile_cache', 'i31', 'i0', 'i0', 'n', 'tsoon', 'n', 'n')], 'InvalidDataFormat')
+    load_case('flat-with-hash', [('tiles_with_hash', 'i0', 'i0', 'i0', 'x01', 'tabc')], f'IncorrectTileHash {{ stored: {text("ABC")}, computed: {text(md5("01").upper())} }}')
+    load_case('flat-with-hash', [('tiles_with_hash', 'i31', 'i0', 'i0', 'x01', 'i5')], 'InvalidDataFormat')
+    load_case('normalized', [('map', 'i0', 'i0', 'i0', 'tgone')], f'MissingTileReference {{ tile_id: {text("gone")}, table: Images }}')
+    load_case('normalized', [('images', 'tabc', 'x01')], f'IncorrectTileHash {{ stored: {text("ABC")}, computed: {text(md5("01").upper())} }}')
+    load_case('normalized', [('images', 'i1', 'x01')], 'InvalidDataFormat')
+    load_case('dedup-id', [('tiles_shallow', 'i0', 'i0', 'i0', 'i-8')], f'MissingTileReference {{ tile_id: {text("-8")}, table: TilesData }}')
+    load_case('dedup-id', [('tiles_data', 'tseven', 'x01')], 'InvalidDataFormat')
+    # a store that fails
+    for call in (1, 2, 3):
+        row('store new layout flat')
+        row(f'store fail {call}')
+        row('load', 'StoreFault')
+        row('load', *loaded('flat', [], []))
+
+
 def main():
-    for rows in (labels, odd_tables, creating, stores, random_stores, all_changes, faults):
+    for rows in (labels, odd_tables, creating, stores, random_stores, all_changes, faults, loads):
         rows()
     ROWS.write()
 

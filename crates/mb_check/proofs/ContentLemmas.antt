@@ -1,21 +1,20 @@
 -- The indexes of contents that have an id, and what they say of the rows.
-use Rattle.std.proofs.Common.{◌≡◌, ◌∙◌, ap, sym, subst, ℕ, List, [], ◌∷◌, ◌++◌, Option, Some, None, Bool, true, false, not, cond, filter, map, length, refl, suc, zero, append_assoc, length-append, arith}
-use Rattle.std.specs.Prelude.{filter_map, slice_get, unwrap_or}
+use Rattle.std.proofs.Common.{◌≡◌, ◌∙◌, ap, subst, ℕ, List, [], ◌∷◌, ◌++◌, Some, Bool, true, false, not, cond, filter, map, length, refl, suc, zero, append_assoc, length-append, arith}
+use Rattle.std.specs.Prelude.{slice_get, unwrap_or}
 use Rattle.std.specs.Prelude.{All}
 use Rattle.std.proofs.lemmas.List.Elements.{All-head, All-tail}
 use Rattle.mb_check.specs.Entries.{id_at, is_content_gone, is_removed, nothing}
 use Rattle.mb_check.specs.FromRows.{ids_from}
 use Rattle.mb_check.specs.declared.entries.Content.{Content}
 use Rattle.mb_tables.specs.Cell.{is_null}
-use Rattle.mb_tables.specs.declared.cell.Cell.{Cell}
 
 -- the item after a front
-at_middle : {X : Type 0} (pre : List X) (x : X) (xs : List X) → slice_get (pre ++ x ∷ xs) (length pre) ≡ Some x
+pub at_middle : {X : Type 0} (pre : List X) (x : X) (xs : List X) → slice_get (pre ++ x ∷ xs) (length pre) ≡ Some x
 at_middle [] x xs = refl
 at_middle (y ∷ pre) x xs = at_middle pre x xs
 
 -- one more item in front
-longer : (pre : List Content) (c : Content) → length (pre ++ c ∷ []) ≡ suc (length pre)
+pub longer : (pre : List Content) (c : Content) → length (pre ++ c ∷ []) ≡ suc (length pre)
 longer pre c = omega (arith, length-append pre (c ∷ []))
 
 -- the ids under the indexes are the ids that aren't null, in their order
@@ -38,7 +37,7 @@ pub ids_listed : (cs : List Content) → map (id_at cs) (ids_from 0 cs) ≡ filt
 ids_listed cs = ids_after [] cs
 
 -- no index is of a mark where no contents are
-alive : (cs : List Content) (i : ℕ) → All (λ c. is_removed c.standing ≡ false) cs → is_content_gone cs i ≡ false
+pub alive : (cs : List Content) (i : ℕ) → All (λ c. is_removed c.standing ≡ false) cs → is_content_gone cs i ≡ false
 alive [] i h = refl
 alive (c ∷ cs) zero h = All-head (λ c. is_removed c.standing ≡ false) c cs h
 alive (c ∷ cs) (suc i) h = alive cs i (All-tail (λ c. is_removed c.standing ≡ false) c cs h)

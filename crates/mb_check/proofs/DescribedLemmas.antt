@@ -1,5 +1,5 @@
 -- The tests over descriptions, and what they say of the state.
-use Rattle.std.proofs.Common.{◌≡◌, ◌∙◌, ap, sym, Bool, true, false, List, ◌∷◌, Option, Some, None, Result, Ok, Err, refl}
+use Rattle.std.proofs.Common.{◌≡◌, ◌≢◌, ◌∙◌, ap, sym, subst, Bool, true, false, List, ◌∷◌, Option, Some, None, Result, Ok, Err, refl}
 use Rattle.std.specs.Prelude.{IfOk, IfErr}
 use Rattle.std.specs.List.{list_any}
 use Rattle.mb_check.specs.Described.{index_missing, is_metadata}
@@ -14,7 +14,7 @@ use Rattle.mb_tables.specs.Detection.{detected, layout_of, tile_table}
 use Rattle.mb_tables.specs.Table.{Tables}
 use Rattle.mb_tables.specs.declared.description.TableDesc.{TableDesc}
 use Rattle.mb_tables.specs.declared.error.MbtError.{MbtError}
-use Rattle.mb_tables.specs.declared.error.MbtError.TheVariants.{InvalidDataFormat, NoUniquenessConstraint}
+use Rattle.mb_tables.specs.declared.error.MbtError.TheVariants.{InvalidDataFormat, NoUniquenessConstraint, StoreFault}
 use Rattle.mb_tables.specs.declared.kind.MbtType.{MbtType}
 
 -- the first refusal where the first or the second test is the first that refuses
@@ -84,3 +84,18 @@ indexes_found ds (Err e) h = tt
 pub all_refused : (ds : List TableDesc) (r : Result MbtType MbtError) → r ≡ detected ds → list_any is_metadata ds ≡ true → IfErr r (λ e. (t : Tables) → t.descriptions ≡ ds → state_of t ≡ Err e)
 all_refused ds (Ok layout) h named = tt
 all_refused ds (Err e) h named = detected_err ds e (sym h) named
+
+of_detected : (ds : List TableDesc) → IfErr (detected ds) (λ e. e ≢ StoreFault)
+of_detected ds = by (layout_of ds) refl
+  where
+    keyed : (found : MbtType) → layout_of ds ≡ Some found → (b : Bool) → is_keyed ds (tile_table found) ≡ b → IfErr (detected ds) (λ e. e ≢ StoreFault)
+    keyed found e true k = rw (e, k) tt
+    keyed found e false k = rw (e, k) (λ h. cc)
+
+    by : (o : Option MbtType) → layout_of ds ≡ o → IfErr (detected ds) (λ e. e ≢ StoreFault)
+    by None e = rw e (λ h. cc)
+    by (Some found) e = keyed found e (is_keyed ds (tile_table found)) refl
+
+-- no refusal is a fault of a store
+pub never_fault : (ds : List TableDesc) (r : Result MbtType MbtError) → r ≡ detected ds → IfErr r (λ e. e ≢ StoreFault)
+never_fault ds r h = subst (λ (x : Result MbtType MbtError). IfErr x (λ e. e ≢ StoreFault)) (sym h) (of_detected ds)

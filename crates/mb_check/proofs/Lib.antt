@@ -10,3 +10,17 @@ pub mod AlgorithmLemmas
 pub mod Refused
 pub mod NameLemmas
 pub mod ContentLemmas
+pub mod PlaceLemmas
+pub mod IdLemmas
+pub mod TileRowLemmas
+pub mod TilesKept
+pub mod TilesOfRows
+pub mod ContentMap
+pub mod ReaderLemmas
+pub mod Chain
+pub mod HeldLemmas
+pub mod StateLemmas
+pub mod ContentTests
+pub mod Due
+pub mod Final
+pub mod ApartPlaces

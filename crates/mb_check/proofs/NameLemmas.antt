@@ -1,21 +1,24 @@
 -- Rows of metadata, and the names that are kept of them.
 use Rattle.std.proofs.Common.{◌≡◌, ◌∙◌, ap, ℕ, List, [], ◌∷◌, Option, Some, None, Bool, true, false, not, ◌&&◌, filter, map, refl, arith}
-use Rattle.std.specs.Prelude.{All, filter_map}
-use Rattle.std.specs.Cmp.Lexicographic.{slice_cmp}
+use Rattle.std.specs.Prelude.{All, codes, filter_map, option_and_then}
+use Rattle.mb_check.specs.Algorithm.{stored_algorithm}
+use Rattle.mb_check.specs.declared.entries.StoredName.{StoredName}
+use Rattle.std.specs.Cmp.Lexicographic.{slice_cmp, nat_list_cmp_total}
 use Rattle.std.specs.List.{list_all, list_any}
 use Rattle.std.specs.Ordering.{eq_by_cmp, nat_cmp}
-use Rattle.std.specs.FinMap.{IsAntisymmetric, nat_cmp-IsAntisymmetric, slice_cmp-IsAntisymmetric}
+use Rattle.std.specs.FinMap.{IsAntisymmetric, get, get-from_entries, nat_cmp-IsAntisymmetric, slice_cmp-IsAntisymmetric}
 use Rattle.std.proofs.lemmas.Bool.{false≢true}
 use Rattle.std.proofs.lemmas.List.Elements.{All-cons}
 use Rattle.mb_check.specs.Contents.{fronts}
-use Rattle.mb_check.specs.Entries.{is_name_gone, name_of, name_value}
+use Rattle.mb_check.specs.Entries.{IsName, is_name_gone, name_of, name_value, names_held}
 use Rattle.mb_check.specs.FromRows.{name_from}
+use Rattle.mb_check.specs.declared.entries.Standing.TheVariants.{Kept}
 use Rattle.mb_check.specs.Keyed.{are_distinct, entries_by}
 use Rattle.std.specs.Option.{option_or}
 use Rattle.mb_check.specs.Refusals.{unless}
 use Rattle.mb_tables.specs.declared.error.MbtError.TheVariants.{InvalidDataFormat}
-use Rattle.mb_check.specs.Kinds.{has_name_kinds, name_kind_wrong}
-use Rattle.mb_check.specs.Metadata.{name_entry, name_twice, text_of}
+use Rattle.mb_check.specs.Kinds.{has_name_kinds, is_text, name_kind_wrong}
+use Rattle.mb_check.specs.Metadata.{name_entry, name_twice, names_of, text_of}
 use Rattle.mb_tables.specs.Cell.{cell_cmp, is_null}
 use Rattle.mb_tables.specs.Tiles.{cell_at}
 use Rattle.mb_tables.specs.declared.cell.Cell.{Cell}
@@ -74,3 +77,28 @@ names_pass rows k d = ap (λ b. option_or (unless b InvalidDataFormat) (name_twi
 
 pub names_refused : (rows : List (List Cell)) → list_all has_name_kinds rows ≡ true → are_distinct (slice_cmp nat_cmp) (map name_of (filter_map name_from rows)) ≡ false → option_or (name_kind_wrong rows) (name_twice rows) ≡ Some InvalidDataFormat
 names_refused rows k d = ap (λ b. option_or (unless b InvalidDataFormat) (name_twice rows)) k ∙ ap (λ b. unless b InvalidDataFormat) (names_distinct rows k ∙ d)
+
+-- each is as it was loaded, with a text or null
+pub names_kept : (rows : List (List Cell)) → All (λ n. n.standing ≡ Kept) (filter_map name_from rows)
+names_kept [] = λ i d lt. absurd (omega arith)
+names_kept (r ∷ rs) = by (text_of (cell_at 0 r)) refl (names_kept rs)
+  where
+    by : (o : Option (List ℕ)) → text_of (cell_at 0 r) ≡ o → All (λ n. n.standing ≡ Kept) (filter_map name_from rs) → All (λ n. n.standing ≡ Kept) (filter_map name_from (r ∷ rs))
+    by (Some name) e rest = rw e (All-cons (λ n. n.standing ≡ Kept) _ _ refl rest)
+    by None e rest = rw e rest
+
+both_hold : (a b : Bool) → (a && b) ≡ true → (a ≡ true) × (b ≡ true)
+both_hold true b h = (refl, h)
+both_hold false b h = absurd (false≢true h)
+
+pub name_texts : (rows : List (List Cell)) → list_all has_name_kinds rows ≡ true → All IsName (filter_map name_from rows)
+name_texts [] h = λ i d lt. absurd (omega arith)
+name_texts (r ∷ rs) h = by (text_of (cell_at 0 r)) refl (name_texts rs (both_hold (has_name_kinds r) (list_all has_name_kinds rs) h).1)
+  where
+    by : (o : Option (List ℕ)) → text_of (cell_at 0 r) ≡ o → All IsName (filter_map name_from rs) → All IsName (filter_map name_from (r ∷ rs))
+    by (Some name) e rest = rw e (All-cons IsName _ _ (both_hold (is_text (cell_at 0 r)) (is_text (cell_at 1 r)) (both_hold (has_name_kinds r) (list_all has_name_kinds rs) h).0).1 rest)
+    by None e rest = rw e rest
+
+-- the stored algorithm is found under its name
+pub stored_is : (names : List StoredName) (metadata : List (List Cell)) → names_held names ≡ names_of metadata → option_and_then {U = List ℕ} (λ text. text) (get (names_held names) (codes "hash_algorithm")) ≡ stored_algorithm metadata
+stored_is names metadata h = ap (λ (o : Option (Option (List ℕ))). option_and_then {U = List ℕ} (λ text. text) o) (ap (λ m. get m (codes "hash_algorithm")) h ∙ get-from_entries nat_list_cmp_total (filter_map name_entry metadata) (codes "hash_algorithm"))

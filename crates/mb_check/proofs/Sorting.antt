@@ -59,7 +59,7 @@ module _ {K X : Type 0} {R : K → K → Ordering} (total : IsTotalOrder R) (ant
       ap (λ z. find (at_key R key z) ys) same ∙ found_itself total key ys k.0 x apart (slice_get-get_or ys k.0 x k.1 ∙ ap Some (k.2 x))
 
   -- what is found doesn't hang on the order
-  found_permuted : (q : K) (xs ys : List X) → Apart R key xs → Apart R key ys → IsPermutation xs ys → find (at_key R key q) ys ≡ find (at_key R key q) xs
+  pub found_permuted : (q : K) (xs ys : List X) → Apart R key xs → Apart R key ys → IsPermutation xs ys → find (at_key R key q) ys ≡ find (at_key R key q) xs
   found_permuted q xs ys a b p = by (find (at_key R key q) xs) refl (find (at_key R key q) ys) refl
     where
       by : (o : Option X) → find (at_key R key q) xs ≡ o → (r : Option X) → find (at_key R key q) ys ≡ r → find (at_key R key q) ys ≡ find (at_key R key q) xs

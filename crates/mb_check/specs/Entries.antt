@@ -1,5 +1,5 @@
 -- What the entries that a loaded set keeps mean.
-use Rattle.std.specs.Prelude.{ℕ, ◌≡◌, Bool, true, false, cond, List, Option, Some, None, slice_get, is_some, unwrap_or}
+use Rattle.std.specs.Prelude.{ℕ, ◌≡◌, Bool, true, false, cond, List, Option, Some, None, option_and_then, slice_get, is_some, unwrap_or}
 use Rattle.std.specs.Ordering.{nat_cmp}
 use Rattle.std.specs.Cmp.Lexicographic.{slice_cmp}
 use Rattle.std.specs.FinMap.{FinMap, from_entries}
@@ -88,7 +88,7 @@ name_value n = unless_removed n.standing (Some (text_of n.value))
 
 -- values of contents by id
 abbrev pub content_value : List Content → ℕ → Option Cell
-content_value contents i = unless_removed (content_at contents i).standing (Some (content_at contents i).cell)
+content_value contents i = option_and_then (λ c. unless_removed c.standing (Some c.cell)) (slice_get contents i)
 
 abbrev pub is_content_gone : List Content → ℕ → Bool
 is_content_gone contents i = is_removed (content_at contents i).standing

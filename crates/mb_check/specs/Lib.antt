@@ -14,4 +14,6 @@ pub mod Held
 pub mod HeldCode
 pub mod Entries
 pub mod FromRows
+pub mod RowTiles
+pub mod Loading
 pub mod LoadingExamples

@@ -1,10 +1,12 @@
 // Contents, and the order of those that have an id.
-ghost use Rattle.std.specs.Prelude.{◌≡◌, All, IfErr, IfNone, IfOk, IfSome, false, map};
+ghost use Rattle.std.specs.Prelude.{◌≡◌, All, IfErr, IfNone, IfOk, IfSome, None, Some, cond, false, map, option_copied, option_map, slice_get, unwrap_or};
 ghost use Rattle.std.specs.List.Sorted.{IsPermutation};
 ghost use Rattle.mb_check.specs.Entries.{AreContentsInOrder, id_at, is_content_gone, is_removed};
-ghost use Rattle.mb_check.specs.FromRows.{content_from, ids_from};
+ghost use Rattle.mb_check.specs.FromRows.{AreIndexed, content_from, ids_from, index_by, rows_kept};
 ghost use Rattle.mb_check.specs.Keyed.{IsAt, IsGap, are_distinct, live_at};
-ghost use Rattle.mb_tables.specs.Cell.{cell_cmp};
+ghost use Rattle.mb_tables.specs.Cell.{cell_cmp, is_null};
+ghost use Rattle.mb_tables.specs.Tiles.{content_of};
+ghost use Rattle.mb_tables.specs.declared.cell.Cell.TheVariants.{Null};
 
 use crate::entries::{Content, Standing, compare_id, compare_ids};
 use mb_store::{Cell, Row};
@@ -57,6 +59,46 @@ fn ids_of(alloc: Global, items: &[Content]) -> Result<Vec<usize>, OutOfMemory>
     Ok(order)
 }
 
+/// The cell of the contents at an index.
+pub(crate) fn kept_cell(items: &[Content], index: usize) -> Option<&Cell>
+    ensures { option_copied result ≡ option_map (λ c. c.cell) (slice_get items.now index) }
+{
+    match items.get(index) {
+        Some(content) => Some(&content.cell),
+        None => None,
+    }
+}
+
+// An id that isn't null.
+fn present(id: &Cell) -> Option<&Cell>
+    ensures { option_copied result ≡ cond (is_null id.now) None (Some id.now) }
+{
+    if id.is_null() {
+        return None;
+    }
+    Some(id)
+}
+
+/// The id of the contents at an index, if they have one.
+pub(crate) fn kept_id(items: &[Content], index: usize) -> Option<&Cell>
+    ensures { option_copied result ≡ cond (is_null (id_at items.now index)) None (Some (id_at items.now index)) }
+{
+    match items.get(index) {
+        Some(content) => present(&content.id),
+        None => None,
+    }
+}
+
+// The cell of the contents at an index, and the given null past the end.
+fn cell_in<'a>(items: &'a [Content], index: usize, null: &'a Cell) -> &'a Cell
+    ensures { result.now ≡ unwrap_or (option_map (λ c. c.cell) (slice_get items.now index)) null.now }
+{
+    match items.get(index) {
+        Some(content) => &content.cell,
+        None => null,
+    }
+}
+
 impl ContentList {
     /// Contents with the order of their ids, and none where an id stands twice.
     pub(crate) fn in_order(
@@ -96,6 +138,19 @@ impl ContentList {
         match self.search(id) {
             Ok(at) => Some(self.order[at]),
             Err(_) => None,
+        }
+    }
+
+    /// The contents of an id, and the given null where none has it.
+    pub(crate) fn cell_of<'a>(&'a self, id: &Cell, null: &'a Cell) -> &'a Cell
+        requires indexed { AreIndexed self.now.items.items self.now.live self.now.order.items }
+        requires id { is_null id.now ≡ false }
+        requires null { null.now ≡ Null }
+        ensures { result.now ≡ content_of (rows_kept self.now.items.items) id.now }
+    {
+        match self.index_of(id) {
+            Some(index) => cell_in(&self.items, index, null),
+            None => null,
         }
     }
 }

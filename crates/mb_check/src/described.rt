@@ -1,5 +1,5 @@
 // The tests over the descriptions of a set.
-ghost use Rattle.std.specs.Prelude.{◌≡◌, Err, None, Some, IfErr, IfOk};
+ghost use Rattle.std.specs.Prelude.{◌≡◌, ◌≢◌, Err, None, Some, IfErr, IfOk};
 ghost use Rattle.std.specs.List.{list_any};
 ghost use Rattle.mb_check.specs.Described.{has_column, index_missing, is_metadata, metadata_missing};
 ghost use Rattle.mb_check.specs.State.{state_of};
@@ -38,6 +38,7 @@ pub(crate) fn layout_in(tables: &[TableDesc]) -> MbtResult<MbtType>
     ensures layout { IfOk result (λ layout. layout_of tables.now ≡ Some layout) }
     ensures metadata { IfOk result (λ layout. metadata_missing tables.now ≡ None) }
     ensures index { IfOk result (λ layout. index_missing tables.now layout ≡ None) }
+    ensures unfaulted { IfErr result (λ e. e ≢ MbtError.StoreFault) }
     ensures refused { IfErr result (λ e. (t : Tables) → t.descriptions ≡ tables.now → state_of t ≡ Err e) }
 {
     let detected = detect_type(tables);

@@ -4,12 +4,13 @@ ghost use Rattle.std.specs.Cmp.Lexicographic.{slice_cmp};
 ghost use Rattle.std.specs.List.Sorted.{IsPermutation};
 ghost use Rattle.std.specs.Option.{option_or};
 ghost use Rattle.std.specs.Ordering.{nat_cmp};
-ghost use Rattle.mb_check.specs.Entries.{AreNamesInOrder, is_name_gone, name_of, names_held};
+ghost use Rattle.mb_check.specs.Entries.{AreNamesInOrder, IsName, is_name_gone, name_of, names_held};
 ghost use Rattle.mb_check.specs.FromRows.{name_from};
 ghost use Rattle.mb_check.specs.Keyed.{IsAt, IsGap, are_distinct, live_at};
 ghost use Rattle.mb_check.specs.Kinds.{name_kind_wrong};
 ghost use Rattle.mb_check.specs.Metadata.{name_twice, names_of};
 ghost use Rattle.mb_check.specs.Refusals.{Tests};
+ghost use Rattle.mb_check.specs.declared.entries.Standing.TheVariants.{Kept};
 
 use crate::entries::{Standing, StoredName};
 use crate::kinds::have_name_kinds;
@@ -95,6 +96,8 @@ impl NameList {
         ensures tests { Tests (option_or (name_kind_wrong rows.items) (name_twice rows.items)) result }
         ensures order { IfOk result (λ l. AreNamesInOrder l.live l.items.items) }
         ensures names { IfOk result (λ l. names_held l.items.items ≡ names_of rows.items) }
+        ensures kept { IfOk result (λ l. All (λ n. n.standing ≡ Kept) l.items.items) }
+        ensures texts { IfOk result (λ l. All IsName l.items.items) }
     {
         if !have_name_kinds(&rows) {
             return Err(MbtError::InvalidDataFormat);

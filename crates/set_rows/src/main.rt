@@ -1,4 +1,4 @@
-//! Reads calls of mb_tables and mb_store from standard input, one a line, and prints each line with its answer.
+//! Reads calls of mb_tables, mb_store and mb_check from standard input, one a line, and prints each line with its answer.
 #![tactic(auto)]
 
 mod cells;
@@ -6,6 +6,7 @@ mod changes;
 mod creating;
 mod described;
 mod labels;
+mod loads;
 mod stores;
 mod tables;
 mod words;
@@ -31,6 +32,7 @@ fn answer(alloc: Global, out: &mut String, kept: &mut Kept, line: &str) -> Optio
         "changes" => changes::answer(alloc, out, &mut words),
         "create" => creating::answer(alloc, out, &mut kept.store, &mut words),
         "table" => tables::answer(alloc, out, &mut kept.tables, &mut words),
+        "load" => loads::answer(alloc, out, &mut kept.store),
         "label" => labels::answer(out, &mut words),
         _ => None,
     }

@@ -1,5 +1,5 @@
 use Rattle.std.proofs.Common.{rules, ◌∙◌, sym}
-use Rattle.mb_check.proofs.DescribedLemmas.{layouts_found, indexes_found, all_refused}
+use Rattle.mb_check.proofs.DescribedLemmas.{layouts_found, indexes_found, all_refused, never_fault}
 use Rattle.mb_check.proofs.described.layout_in.Goals as goal
 
 pub returns-clause-layout : goal.returns-clause-layout
@@ -10,3 +10,6 @@ returns-clause-index c = indexes_found c.args.tables.now c.detect_type-detected.
 
 pub returns-clause-refused : goal.returns-clause-refused
 returns-clause-refused c = all_refused c.args.tables.now c.detect_type-detected.result c.detect_type-detected.ensures (sym c.has_metadata.ensures ∙ search rules)
+
+pub returns-clause-unfaulted : goal.returns-clause-unfaulted
+returns-clause-unfaulted c = never_fault c.args.tables.now c.detect_type-detected.result c.detect_type-detected.ensures
