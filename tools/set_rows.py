@@ -516,6 +516,26 @@ def loads():
     load_case('normalized', [('images', 'i1', 'x01')], 'InvalidDataFormat')
     load_case('dedup-id', [('tiles_shallow', 'i0', 'i0', 'i0', 'i-8')], f'MissingTileReference {{ tile_id: {text("-8")}, table: TilesData }}')
     load_case('dedup-id', [('tiles_data', 'tseven', 'x01')], 'InvalidDataFormat')
+    # sets of other tools: a stored hash, none of the whole, and all that the usual tool leaves
+    hello, wrong = '5d41402abc4b2a76b9719d911017c592', '5d41402abc4b2a76b9719d911017c593'
+    load_case('flat-with-hash', [('tiles_with_hash', 'i0', 'i0', 'i0', 'x68656c6c6f', 't' + hello)], *loaded('flat-with-hash', [((0, 0, 0), 'x68656c6c6f', None)], []))
+    load_case('flat-with-hash', [('tiles_with_hash', 'i0', 'i0', 'i0', 'x68656c6c6f', 't' + wrong)],
+              f'IncorrectTileHash {{ stored: {text(wrong.upper())}, computed: {text(hello.upper())} }}')
+    load_case('flat-with-hash', [('tiles_with_hash', 'i0', 'i0', 'i0', 'x68656c6c6f', 't11831194018420276491'), ('metadata', 'thash_algorithm', 'tfnv1a-decimal')],
+              *loaded('flat-with-hash', [((0, 0, 0), 'x68656c6c6f', None)], [('hash_algorithm', 'tfnv1a-decimal')], 'Fnv1aDecimal'))
+    load_case('flat', [('tiles', 'i0', 'i0', 'i0', 'x30')], *loaded('flat', [((0, 0, 0), 'x30', None)], []))
+    cities = [('agg_tiles_hash', 't4A7D1ED414474E4033AC29CCB8653D9B'), ('bounds', 't-180,-85.0511,180,85.0511'), ('format', 'tpbf'), ('hash_algorithm', 'tmd5'), ('name', 'tCities')]
+    zero = 'tCFCD208495D565EF66E7DFF9F98764DA'
+    load_case('normalized-with-view', [('images', zero, 'x30'), ('map', 'i0', 'i0', 'i0', zero), *(('metadata', 't' + name, value) for name, value in reversed(cities))],
+              *loaded('normalized-with-view', [((0, 0, 0), 'x30', zero)], cities))
+    # a flat set without its unique index
+    row('table none')
+    row('table add tiles table zoom_level:INTEGER,tile_column:INTEGER,tile_row:INTEGER,tile_data:BLOB plain:zoom_level,tile_column,tile_row')
+    row('table add metadata table name:TEXT,value:TEXT unique:name')
+    row('store new')
+    row('describe', 'Ok(())')
+    row('load', 'NoUniquenessConstraint')
+    row('table none')
     # a store that fails
     for call in (1, 2, 3):
         row('store new layout flat')

@@ -7,7 +7,7 @@ use mb_store::{
     create_flat_with_hash_tables, create_metadata_table, create_normalized_tables,
     create_tiles_with_hash_view, init_mbtiles_schema,
 };
-use mb_tables::MbtResult;
+use mb_tables::{MbtResult, TableDesc};
 use std::alloc::Global;
 
 fn create<S: TileStore>(alloc: Global, store: &mut S, words: &mut Words) -> Option<MbtResult<()>> {
@@ -36,4 +36,14 @@ pub fn answer(
     say(out, &tables.len())?;
     say_layout(out, tables.as_slice())?;
     say_tables(out, tables.as_slice())
+}
+
+// Describes the kept tables in the kept store.
+pub fn describe(
+    alloc: Global,
+    out: &mut String,
+    store: &mut MemStore,
+    tables: &[TableDesc],
+) -> Option<()> {
+    say(out, &store.create(alloc, tables))
 }

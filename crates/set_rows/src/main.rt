@@ -32,6 +32,7 @@ fn answer(alloc: Global, out: &mut String, kept: &mut Kept, line: &str) -> Optio
         "changes" => changes::answer(alloc, out, &mut words),
         "create" => creating::answer(alloc, out, &mut kept.store, &mut words),
         "table" => tables::answer(alloc, out, &mut kept.tables, &mut words),
+        "describe" => creating::describe(alloc, out, &mut kept.store, kept.tables.as_slice()),
         "load" => loads::answer(alloc, out, &mut kept.store),
         "label" => labels::answer(out, &mut words),
         _ => None,
