@@ -12,7 +12,7 @@ use mb_store::{MbtType, NormalizedSchema, Row, StoreError, TableName, TileStore}
 use std::alloc::Global;
 
 // The most rows that are asked for at once.
-const PAGE: u64 = 1024;
+const PAGE: u64 = 65_536;
 
 /// All rows of a table in their order. Over a store that tells nothing it asks for as many rows as the store counted, so that it ends.
 pub(crate) fn read_table<S: TileStore>(
