@@ -1,5 +1,5 @@
 #!/usr/bin/env python3
-# Writes the input and the wanted output of crates/archive_rows. The wanted answers are worked out by pmtiles.py and shown.py, from the definitions of the format alone.
+# Writes the input and the wanted output of crates/archive_rows, and the archive that crates/tile_verify_program reads. The wanted answers are worked out by pmtiles.py and shown.py, from the definitions of the format alone.
 # Run it at the top of the repository: python3 tools/archive_rows.py
 import hashlib
 import random
@@ -37,7 +37,7 @@ def result(call, show):
 
 
 def places(h):
-    names = ('length', 'root_length', 'leaf_offset', 'leaf_length', 'leaves', 'data_offset', 'data_length', 'addressed', 'entries', 'contents')
+    names = ('length', 'root_length', 'leaf_offset', 'leaf_length', 'leaves', 'uppers', 'data_offset', 'data_length', 'addressed', 'entries', 'contents')
     return 'ArchivePlaces { ' + ', '.join(f'{n}: {h[n]}' for n in names) + ' }'
 
 
@@ -169,21 +169,94 @@ def faults():
 
 
 def bulk():
-    for n, k in [(0, 1), (1, 1), (5, 2), (300, 7), (4063, 1), (4064, 1), (12288, 3), (40000, 1), (100000, 1000)]:
+    for n, k, *most in [(0, 1), (1, 1), (5, 2), (300, 7), (4063, 1), (4064, 1), (12288, 3), (40000, 1), (100000, 1000), (4064, 1, 16), (40000, 1, 65536), (65008, 1, 16),
+                       (65009, 1, 16), (100000, 1, 16)]:
         adds = [(i, str(i // k).encode()) for i in range(n)]
-        data, h = pm.archive(adds)
-        row(f'bulk {n} {k}', places(h))
+        data, h = pm.archive(adds, most=most[0] if most else 4096)
+        row(f'bulk {n} {k}' + ''.join(f' {m}' for m in most), places(h))
         held(data)
+        check(data)
         row(f'medium part 127 {h["root_length"]}', 'x' + data[127:127 + h['root_length']].hex())
         whole = md5(b''.join(d for _, d in adds))
         for way in ('none', 'map', 'recent 1', 'recent 3', 'over', 'bytes'):
-            if way in ('none', 'bytes') and n > 20000:
+            if n > 20000 and (way in ('none', 'bytes') or most and way != 'recent 3'):
                 continue
             row(f'read {way} sweep 0 {n + 100}', n, shown.text(whole))
         row(f'read map tiles 0 {n - 1 if n else 0} {n} 1 {pm.LAST}', *(tile(data, t) for t in (0, max(n - 1, 0), n, 1, pm.LAST)))
-        if h['leaves']:
+        if h['leaves'] and not h['uppers']:
             row(f"state walk {h['leaves'] - 1} 1", *(f'Some(Err({i}))' for i in pm.walk(data, h['leaves'] - 1)[:1]))
-    refused('bulk 5 0')
+        if h['uppers']:
+            assert pm.look_up(data, n - 1) == (adds[-1][1], 2)
+            row('state open', 'Ok')
+            row(f'state tile {n - 1}', tile(data, n - 1))
+    for words in ('5 0', '5 1 15', '5 1 65537', '5 1 x'):
+        refused('bulk ' + words)
+
+# Checks.
+
+
+def short(entries, behind, **fields):
+    """An archive without room behind its root."""
+    root = pm.directory(entries)
+    h = pm.default_header()
+    h.update(root_length=len(root), metadata_offset=127 + len(root))
+    h.update((name, 127 + len(root) + place) for name, place in fields.items())
+    return pm.header(h) + root + behind
+
+
+SHORT = short([(0, 0, 1, 1)], b'{}0', data_offset=2)
+SHORT_CYCLE = short([(0, 0, 5, 0)], pm.directory([(0, 0, 5, 0)]), leaf_offset=0)
+
+
+def checked(data):
+    """What a check answers, and its line."""
+    try:
+        found, leaves = pm.check(data)
+    except pm.Refused as refusal:
+        return f'Err(Opening({refusal}))', 'opening ' + str(refusal).split('(')[0] + '\n'
+    line = ' '.join(map(str, found)) + '\n'
+    if isinstance(found[3], int):
+        numbers = ', '.join(f'{n}: {c}' for n, c in zip(('directories', 'addressed', 'entries', 'contents'), found))
+        return f'Ok(VerifyReport {{ {numbers} }})', 'sound ' + line
+    place = 'Place {{ depth: {}, offset: {}, index: {} }}'.format(*found)
+    return f'Err(Broken {{ place: {place}, reason: {found[3]}, directories: {leaves} }})', 'broken ' + line
+
+
+def check(data):
+    row('verify report', checked(data)[0])
+
+
+def run(status, line):
+    row('verify run', status, shown.text(line))
+
+
+def changes(data, first, end, last):
+    lines = ''.join(checked(changed(data, at, bytes([(data[at] + step) % 256])))[1] for at in range(first, end) for step in range(1, last + 1))
+    row(f'verify changes {first} {end} {last}', shown.text(md5(lines.encode())))
+
+
+def checks():
+    for data, calls in ((ONE, 2), (CYCLE, 7), (nested(3), 6), (TWICE, 1), (ONE[:126], 1), (ONE[:-1], 2)):
+        hold(data)
+        check(data)
+        row('medium calls', calls)
+        line = checked(data)[1]
+        for call in range(1, calls + 2):
+            hold(data)
+            row(f'medium fail {call}')
+            run(*((0 if line.startswith('sound') else 1, line) if call > calls else (6, 'opening Reading\n' if call == 1 else 'source fault\n')))
+        hold(data)
+        row('verify run t', 2, shown.text('usage: tile_verify IN\n'))
+        row('verify run ta tb', 2, shown.text('usage: tile_verify IN\n'))
+        row('medium calls', 0)
+    for data in (SHORT, SHORT_CYCLE):
+        hold(data)
+        check(data)
+        changes(data, 0, len(data), 255)
+    hold(ONE)
+    for first, end, last in ((0, 132, 8), (132, pm.FRONT, 1), (pm.FRONT, len(ONE), 255)):
+        changes(ONE, first, end, last)
+    refused('verify other')
 
 # Readers.
 
@@ -251,6 +324,7 @@ def archive(data, ids=(0, 1, 7), budgets=(0, 3)):
 
 
 def ask(data, ids, budgets):
+    check(data)
     try:
         pm.opened(data)
     except pm.Refused as refusal:
@@ -367,6 +441,8 @@ def hostile_table():
 
 
 CYCLE = root_of([(0, 0, 5, 0)], ONE[:16384] + pm.directory([(0, 0, 5, 0)]), leaf_offset=16384)
+
+TWICE = root_of(bytes.fromhex('020000010101010101'))
 
 
 def leaf_cycle():
@@ -522,14 +598,46 @@ def caches():
     row('cache recent insert 0 ' + word(seven), 'Ok(true)')
     row('cache recent find 0 7', found)
     refused('cache recent insert 0 x')
-    random_caches(random.Random(10))
+    limited_caches(seven, found)
+    random_caches(random.Random(10), 3, None)
+    random_caches(random.Random(11), 4, 5)
+    random_caches(random.Random(12), 2, 3)
 
 
-def random_caches(chance):
-    """Any calls, by the rules of each cache: a map keeps all, and one of 3 gives up what was used longest ago."""
+def limited_caches(seven, found):
+    """What is held has at most so many entries together; a longer directory is never held."""
+    two = pm.directory([(7, 0, 1, 1), (9, 1, 1, 1)])
+    three = pm.directory([(7, 0, 1, 1), (9, 1, 1, 1), (11, 2, 1, 1)])
+    refused('cache limit 0 5')
+    row('cache limit 4 3')
+    for call, wanted in [('insert 0 ' + word(seven), 'Ok(true)'), ('insert 10 ' + word(two), 'Ok(true)'), ('find 0 7', found), ('insert 20 ' + word(seven), 'Ok(true)'), ('find 10 7', 'NotCached'),
+                         ('find 0 7', found), ('find 20 7', found), ('insert 30 ' + word(three), 'Ok(true)'), ('find 0 7', 'NotCached'), ('find 20 7', 'NotCached'), ('find 30 7', found),
+                         ('insert 40 ' + word(pm.directory([(i, i, 1, 1) for i in range(4)])), 'Ok(false)'), ('find 40 0', 'NotCached'), ('find 30 7', found),
+                         ('fetch 40 3 ' + word(pm.directory([(i, i, 1, 1) for i in range(4)])), f'Ok(Some({entry((3, 3, 1, 1))}))'), ('find 40 3', 'NotCached'), ('find 30 7', found),
+                         ('insert 30 ' + word(seven), 'Ok(true)'), ('insert 50 ' + word(two), 'Ok(true)'), ('find 30 7', found)]:
+        row('cache recent ' + call, wanted)
+    row('cache limit 1 0')
+    row('cache recent insert 0 ' + word(seven), 'Ok(false)')
+    row('cache recent insert 0 ' + word(b'\0'), 'Ok(true)')
+    row('cache recent find 0 7', 'NotFound')
+    row('cache limit 4294967295 4294967295')
+    row('cache recent insert 0 ' + word(seven), 'Ok(true)')
+    row('cache recent find 0 7', found)
+
+
+def random_caches(chance, capacity, most):
+    """Any calls, by the rules of each cache: a map keeps all, and a bounded one gives up what was used longest ago."""
     row('cache new 3')
+    if most is not None:
+        row(f'cache limit {capacity} {most}')
     held, used = {}, []
     directories = [pm.directory([(i, 0, 1, 1), (i + 3, 1, 1, 2)]) for i in range(5)] + [b'\1']
+    if most is not None:
+        directories += [pm.directory([(k, 0, 1, 1) for k in range(n)]) for n in (0, 1, 3, 4, 6)]
+
+    def length(spelled):
+        return len(pm.read_directory(spelled))
+
     for _ in range(400):
         offset, t, spelled = chance.randrange(6), chance.randrange(9), chance.choice(directories)
         way, call = chance.choice(['map', 'recent']), chance.choice(['insert', 'find', 'find', 'fetch', 'fetch'])
@@ -540,16 +648,20 @@ def random_caches(chance):
         def put():
             if way == 'map':
                 held[offset] = spelled
-            else:
-                used[:] = ([(offset, spelled)] + [u for u in used if u[0] != offset])[:3]
+                return True
+            if most is not None and length(spelled) > most:
+                return False
+            used[:] = ([(offset, spelled)] + [u for u in used if u[0] != offset])[:capacity]
+            while most is not None and sum(length(u[1]) for u in used) > most:
+                used.pop()
+            return True
 
         def touch():
             if way == 'recent':
                 used.sort(key=lambda u: u[0] != offset)
         known = inside.get(offset)
         if call == 'insert':
-            row(f'cache {way} insert {offset} {word(spelled)}', 'Ok(true)')
-            put()
+            row(f'cache {way} insert {offset} {word(spelled)}', 'Ok(true)' if put() else 'Ok(false)')
         elif call == 'find':
             e = known and pm.scan(pm.read_directory(known), t)
             row(f'cache {way} find {offset} {t}', 'NotCached' if not known else f'Found({entry(e)})' if e else 'NotFound')
@@ -577,10 +689,11 @@ def large():
 
 
 def main():
-    for rows in (few_tiles, labels, options, faults, bulk, one_tile, versions, failing_reads, one_changed_field, hostile_table, leaf_cycle, parts, documents, deep, random_archives,
+    for rows in (few_tiles, labels, options, faults, bulk, one_tile, versions, failing_reads, one_changed_field, hostile_table, leaf_cycle, checks, parts, documents, deep, random_archives,
                  caches, large):
         rows()
     ROWS.write()
+    Rows('tile_verify_program').write_data('one_tile.pmtiles', ONE)
 
 
 main()

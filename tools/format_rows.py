@@ -127,10 +127,14 @@ def digests():
     # the published vectors of FNV-1a with 64 bits (draft-eastlake-fnv), and the last of RFC 1321
     digest('fnv1a', b'a', 'AF63DC4C8601EC8C')
     digest('fnv1a', b'foobar', '85944171F73967E8')
-    row('hash pieces ' + ' '.join(['1234567890'] * 8), 'Ok(' + shown.text('57EDF4A22BE3C955AC49DA2E2107B67A') + ')')
-    for i in range(0, 130, 13):
-        pieces = ['a' * i, 'bc', 'd' * 63]
-        row('hash pieces ' + ' '.join(p for p in pieces if p), f"Ok({shown.text(digest_of('md5', ''.join(pieces).encode()))})")
+    row('hash pieces tmd5 ' + ' '.join(['x31323334353637383930'] * 8), 'Ok(' + shown.text('57EDF4A22BE3C955AC49DA2E2107B67A') + ')')
+    # lengths of which the last ones, or all together, end at a border of one of the algorithms, and some that don't
+    lengths = [[], [0], [0, 0, 1], [31], [32], [33], [31, 1], [31, 1, 32, 1], [1, 62, 1], [64, 64], [65, 63, 128], [240], [239, 2], [256], [255, 1, 1], [256, 1],
+               [257], [300, 0, 20], [320], [100, 156, 64], [1, 256, 63, 1], [64] * 5, [64] * 17, [1024], [1024, 1], [1025], [1000, 25, 1024, 1], [3, 200, 2000], [2049, 7],
+               [7] * 60, [1] * 70, [255, 255, 255, 255, 4], [192] * 6, [256, 192, 193, 191], [5000]]
+    for name, _ in NAMES:
+        for parts in lengths:
+            row(' '.join([f'hash pieces t{name}'] + [f'n{n}' for n in parts]), 'Ok(' + shown.text(digest_of(name, b''.join(counted(n) for n in parts))) + ')')
     for n in [16, 17, 128, 129, 240, 241, 1024, 1025]:
         row(f'hash numbers x00*{n}', hashes.fnv1a(bytes(n)), hashes.xxh64(bytes(n)), hashes.xxh3(bytes(n)))
     for line in open(os.path.join(HERE, 'digests.txt')):

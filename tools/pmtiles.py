@@ -244,6 +244,66 @@ def metadata(data):
     except UnicodeDecodeError:
         raise Refused('InvalidMetadataUtf8Encoding')
 
+# Archives that are checked.
+
+
+class Broken(Exception):
+    """The first broken part: the depth and offset of its directory, its index there, and why."""
+
+
+def broken_id(entries, low, limit):
+    """The first entry that fails a test of ids and runs, by its index, and why."""
+    last, run = None, None
+    for i, e in enumerate(entries):
+        if last is not None and e[0] <= last:
+            return i, 'IdsFall'
+        if last is not None and last + run > e[0]:
+            return i, 'RunOverlaps'
+        if not low <= e[0] < limit:
+            return i, 'OutsideRange'
+        if e[3] > 0 and e[0] + e[3] - 1 > LAST:
+            return i, 'PastMaxId'
+        if e[0] + e[3] > limit:
+            return i, 'OutsideRange'
+        last, run = e[0], e[3]
+    return None
+
+
+def check_directory(data, h, entries, place, low, limit, met):
+    depth, offset = place
+    found = broken_id(entries, low, limit)
+    if found:
+        raise Broken(depth, offset, *found)
+    for i, e in enumerate(entries):
+        if e[3] > 0:
+            met['tiles'].append(e)
+            try:
+                part(data, h['data_offset'], e[1], e[2])
+            except Refused:
+                raise Broken(depth, offset, i, 'TilePastEnd')
+            continue
+        if depth == 6:
+            raise Broken(depth, offset, i, 'TooDeep')
+        try:
+            below = leaf(data, h, e)
+        except Refused as refusal:
+            met['leaves'] += str(refusal) == 'InvalidEntry'
+            raise Broken(depth, offset, i, 'NotDecoded' if str(refusal) == 'InvalidEntry' else 'LeafPastEnd')
+        met['leaves'] += 1
+        check_directory(data, h, below, (depth + 1, e[1]), e[0], entries[i + 1][0] if i + 1 < len(entries) else limit, met)
+
+
+def check(data):
+    """The numbers of a sound archive, its refusal or its first broken part, and how many leaves were read."""
+    h, root = opened(data)
+    met = {'leaves': 0, 'tiles': []}
+    try:
+        check_directory(data, h, root, (0, 0), 0, LAST + 1, met)
+    except Broken as broken:
+        return broken.args, met['leaves']
+    tiles = met['tiles']
+    return (met['leaves'], sum(e[3] for e in tiles), len(tiles), len({e[1:3] for e in tiles})), met['leaves']
+
 # Archives that are written.
 
 
@@ -261,26 +321,39 @@ def entries_of(adds, places):
     return sorted(entries)
 
 
-def leaves_of(entries):
-    """The root and the leaves' bytes, by the first size whose root fits."""
-    root = directory(entries)
-    if len(entries) < 16384 and len(root) <= 16257:
-        return root, []
-    size = max(4096, len(entries) // 3500)
+def cut(entries, size):
+    return [entries[i:i + size] for i in range(0, len(entries), size)]
+
+
+def named(place, directories):
+    """An entry for each directory, these lying one behind another from a place on."""
+    names = []
+    for d in directories:
+        length = len(directory(d))
+        names.append((d[0][0], place, length, 0))
+        place += length
+    return names
+
+
+def laid(entries, most):
+    """The root, the leaves of at most so many entries, and the upper directories of the first size whose root fits."""
+    if len(entries) < 16384 and len(directory(entries)) <= 16257:
+        return entries, [], []
+    leaves = cut(entries, most)
+    names = named(0, leaves)
+    if len(directory(names)) <= 16257:
+        return names, leaves, []
+    place, size = sum(map(len, map(directory, leaves))), most
     while True:
-        leaves = [directory(entries[i:i + size]) for i in range(0, len(entries), size)]
-        pointers, offset = [], 0
-        for i, spelled in enumerate(leaves):
-            pointers.append((entries[i * size][0], offset, len(spelled), 0))
-            offset += len(spelled)
-        root = directory(pointers)
-        if len(root) <= 16257:
-            return root, leaves
+        uppers = cut(names, size)
+        root = named(place, uppers)
+        if len(directory(root)) <= 16257:
+            return root, leaves, uppers
         size += size // 5
 
 
-def archive(adds, metadata_text=b'{}', **options):
-    """The bytes of the archive of adds (id, bytes) with distinct ids, and its places."""
+def archive(adds, metadata_text=b'{}', most=4096, **options):
+    """The bytes of the archive of adds (id, bytes) with distinct ids, of at most so many entries in a leaf, and its places."""
     adds = [(t, d) for t, d in adds if d]
     places, contents, data = {}, 0, b''
     parts, length = [], 0
@@ -292,8 +365,8 @@ def archive(adds, metadata_text=b'{}', **options):
             contents += 1
     data = b''.join(parts)
     entries = entries_of(adds, places)
-    root, leaves = leaves_of(entries)
-    leaf_part = b''.join(leaves)
+    root, leaves, uppers = laid(entries, most)
+    root, leaf_part = directory(root), b''.join(map(directory, leaves + uppers))
     h = default_header()
     h.update(options)
     ids = [t for t, _ in adds]
@@ -304,6 +377,6 @@ def archive(adds, metadata_text=b'{}', **options):
              clustered=1 if all(a < b for a, b in zip(ids, ids[1:])) else 0)
     front = header(h) + root
     out = front + bytes(FRONT - len(front)) + metadata_text + data + leaf_part
-    h['leaves'] = len(leaves)
+    h['leaves'], h['uppers'] = len(leaves), len(uppers)
     h['length'] = len(out)
     return out, h

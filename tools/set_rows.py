@@ -3,7 +3,9 @@
 # of a store: rows in the order of their keys, equal keys in order of arrival. Run it at the top of the repository: python3 tools/set_rows.py
 import hashlib
 import random
+import sys
 
+import patch_cases
 import shown
 from rows import Rows, flag, option
 
@@ -262,6 +264,11 @@ def some_cells(chance, name):
     return cells
 
 
+def spelled_changes(call, calls):
+    """Changes in words: how many, and each a table, a key, and the cells that are put, or None."""
+    return f'{call} {len(calls)}' + ''.join(f" {'put' if cells else 'delete'} {name} {words}{''.join(' ' + c for c in cells or [])}" for name, words, cells in calls)
+
+
 class Store:
     """Rows by their tables, in the order of keys."""
 
@@ -294,21 +301,24 @@ class Store:
     def count(self, name):
         row('store count ' + name, f'Ok({len(self.tables.get(name, []))})')
 
+    def commit(self, *calls, fault=False):
+        """Makes changes at once: each a table, a key in words, and the cells that are put in place of the rows of the key, or None."""
+        call = spelled_changes('store commit', calls)
+        for name, words, cells in calls:
+            if name not in self.tables or cells and (len(cells) != len(TABLES[name]) or key_cells(words) != list(cells[:KEYS[name]])):
+                return refused(call)
+        row(call, 'Err(Fault)' if fault else 'Ok(())')
+        for name, words, cells in [] if fault else calls:
+            self.remove(name, key_cells(words))
+            rows = self.tables[name]
+            if cells:
+                rows.insert(next((i for i, r in enumerate(rows) if self.key(name, r) > self.key(name, cells)), len(rows)), cells)
+
     def put(self, name, words, *cells):
-        """Puts a row in place of those of its key, given the key in words."""
-        call = f"store put {name} {words} {' '.join(cells)}"
-        if name not in self.tables or len(cells) != len(TABLES[name]) or key_cells(words) != list(cells[:KEYS[name]]):
-            return refused(call)
-        row(call, 'Ok(())')
-        self.remove(name, cells)
-        rows = self.tables[name]
-        rows.insert(next((i for i, r in enumerate(rows) if self.key(name, r) > self.key(name, cells)), len(rows)), cells)
+        self.commit((name, words, cells))
 
     def delete(self, name, words):
-        if name not in self.tables:
-            return refused(f'store delete {name} {words}')
-        row(f'store delete {name} {words}', 'Ok(())')
-        self.remove(name, key_cells(words))
+        self.commit((name, words, None))
 
     def remove(self, name, cells):
         key = [order(c) for c in cells[:KEYS[name]]]
@@ -320,6 +330,10 @@ class Store:
 
 def tile(z, c, r, b):
     return f'i{z}', f'i{c}', f'i{r}', f'x{b:02x}'
+
+
+# a row put twice, a row removed, and a new row
+THREE = [('tiles', 'place 2 1 0', tile(2, 1, 0, 9)), ('tiles', 'place 2 0 0', None), ('tiles', 'place 2 2 0', tile(2, 2, 0, 8)), ('tiles', 'place 2 1 0', tile(2, 1, 0, 7))]
 
 
 def stores():
@@ -337,6 +351,21 @@ def stores():
     s.find('tiles', 'place 2 2 0', 'i2', 'i2', 'i0')
     s.count('tiles')
     s.live()
+    s.commit(*THREE)
+    s.rows('tiles', 0, 9)
+    s.count('tiles')
+    s.live()
+    s.find('tiles', 'place 2 0 0', 'i2', 'i0', 'i0')
+    s.find('tiles', 'place 2 2 0', 'i2', 'i2', 'i0')
+    for t in [(2, 1, 0, 1), (2, 2, 0, 2), (2, 3, 0, 4), (2, 0, 0, 5), (2, 0, 0, 6)]:
+        s.push('tiles', *tile(*t))
+    s.rows('tiles', 0, 9)
+    s.commit()
+    s.commit(('tiles', 'place 2 0 0', None), ('map', 'place 2 0 0', None))
+    s.commit(('tiles', 'place 2 0 0', None), ('tiles', 'place 2 1 0', tile(2, 1, 1, 0)))
+    refused('store commit 1 delete tiles place 2 0 0 delete tiles place 2 1 0')
+    refused('store commit 2 delete tiles place 2 0 0')
+    s.rows('tiles', 0, 9)
     s = Store('flat')
     for c in reversed(range(300)):
         s.push('tiles', *tile(9, c, 0, 7))
@@ -358,7 +387,7 @@ def stores():
 
 
 def random_stores():
-    chance = random.Random(13)
+    chance, more = random.Random(13), random.Random(15)
     for layout in LAYOUTS:
         for _ in range(4):
             s = Store(layout)
@@ -383,6 +412,25 @@ def random_stores():
             for name in TABLES:
                 s.rows(name, 0, 100)
             s.live()
+            mixed(more, s)
+
+
+def mixed(chance, s):
+    """Commits of several changes, and rows that are pushed between them."""
+    for _ in range(6):
+        calls = []
+        for _ in range(chance.randrange(7)):
+            name = chance.choice(list(s.tables) if chance.random() < 0.98 else list(TABLES))
+            words, cells = some_key(chance, name)
+            calls.append((name, words, None if chance.random() < 0.4 else (*cells, *some_cells(chance, name)[KEYS[name]:])))
+        s.commit(*calls)
+        for _ in range(4):
+            name = chance.choice(list(s.tables))
+            s.push(name, *some_cells(chance, name))
+    for name in s.tables:
+        s.rows(name, 0, 100)
+        s.count(name)
+    s.live()
 
 
 def show_key(words):
@@ -397,8 +445,7 @@ def changes(*calls):
     kept = {}
     for name, words, cells in calls:
         kept[name, words] = cells
-    spelled = ' '.join(f"{'put' if cells else 'delete'} {name} {words}{''.join(' ' + c for c in cells or [])}" for name, words, cells in calls)
-    row(f'changes {len(calls)} {spelled}'.rstrip(), len(kept), flag(not kept), *(f'({VARIANTS[n]}, {show_key(w)}, {option(c and show_row(c))})' for (n, w), c in kept.items()))
+    row(spelled_changes('changes', calls), len(kept), flag(not kept), *(f'({VARIANTS[n]}, {show_key(w)}, {option(c and show_row(c))})' for (n, w), c in kept.items()))
 
 
 def all_changes():
@@ -435,11 +482,22 @@ def faults():
     s = Store('flat')
     s.push('tiles', *tile(1, 0, 0, 5))
     row('store fail 3 5')
-    row('store put tiles place 1 0 0 i1 i0 i0 x06', 'Err(Fault)')
+    s.commit(('tiles', 'place 1 0 0', tile(1, 0, 0, 6)), fault=True)
     s.rows('tiles', 0, 9)
-    refused('store delete tiles place 1 0 0')
+    refused('store commit 1 delete tiles place 1 0 0')
     s.rows('tiles', 0, 9)
     s.delete('tiles', 'place 1 0 0')
+    s.rows('tiles', 0, 9)
+    # the second and the fifth call fail: each commit asks for the descriptions first
+    s = Store('flat')
+    row('store fail 2 5')
+    s.count('tiles')
+    row('store live', 'Err(Fault)')
+    s.live()
+    s.commit(*THREE, fault=True)
+    s.count('tiles')
+    s.commit(*THREE)
+    s.count('tiles')
     s.rows('tiles', 0, 9)
     row('store new')
     row('store fail 1 3')
@@ -547,6 +605,7 @@ def loads():
 def main():
     for rows in (labels, odd_tables, creating, stores, random_stores, all_changes, faults, loads):
         rows()
+    patch_cases.write(sys.modules[__name__])
     ROWS.write()
 
 

@@ -12,10 +12,12 @@ import random
 import re
 import struct
 
+from scripts import LABELS, TYPES, defaults, parsed
+from set_scripts import bad_rows, four_ways, random_chains, refused_patches, refused_sets, removes_the_tile, verified_sets, worked_patches, worked_sets
+from sets import converted
+
 MAX_ROOT = 16384 - 127
-LABELS = ["unknown", "none", "gzip", "brotli", "zstd"]
-TYPES = ["unknown", "mvt", "png", "jpeg", "webp", "avif", "mlt"]
-USAGE = "usage: tileset convert hex | convert file PATH | bulk N K"
+USAGE = "usage: tileset convert hex | convert file PATH | bulk N K [L]"
 
 
 # Ids.
@@ -85,6 +87,17 @@ def spelled(entries):
     return b"".join(out)
 
 
+def cut(entries, size, at):
+    """Directories of so many entries, the last shorter, and an entry for each, the first of them at this place."""
+    parts, named = [], []
+    for k in range(0, len(entries), size):
+        part = spelled(entries[k:k + size])
+        named.append((entries[k][0], at, len(part), 0))
+        parts.append(part)
+        at += len(part)
+    return parts, named
+
+
 def archive(options, adds):
     """The bytes of an archive and its numbers, from pairs of an id and bytes by rising id."""
     data, offsets, entries, last = bytearray(), {}, [], None
@@ -98,21 +111,16 @@ def archive(options, adds):
         else:
             entries.append((number, offsets[content], len(content), 1))
         last = number, content
-    root, leaves, cut = spelled(entries), [], []
+    root, leaves, uppers = spelled(entries), [], []
     if len(entries) >= 16384 or len(root) > MAX_ROOT:
-        size = max(4096, len(entries) // 3500)
-        while True:
-            leaves, cut, at = [], [], 0
-            for k in range(0, len(entries), size):
-                leaf = spelled(entries[k:k + size])
-                cut.append((entries[k][0], at, len(leaf), 0))
-                leaves.append(leaf)
-                at += len(leaf)
-            root = spelled(cut)
-            if len(root) <= MAX_ROOT:
-                break
+        size = most = options["max-leaf-entries"]
+        leaves, named = cut(entries, most, 0)
+        root = spelled(named)
+        while len(root) > MAX_ROOT:
+            uppers, above = cut(named, size, sum(map(len, leaves)))
+            root = spelled(above)
             size += size // 5
-    leaf, meta = b"".join(leaves), options["metadata"]
+    leaf, meta = b"".join(leaves + uppers), options["metadata"]
     data_offset = 16384 + len(meta)
     leaf_offset = data_offset + len(data) if leaf else 0
     label = options["tile-compression"] or (2 if options["type"] == 1 else 1)
@@ -126,119 +134,15 @@ def archive(options, adds):
     whole = (head + root).ljust(16384, b"\0") + meta + data + leaf
     numbers = [
         ("addressed", len(adds)), ("entries", len(entries)), ("contents", len(offsets)), ("length", len(whole)),
-        ("root", len(root)), ("leaves", len(leaves)), ("leaf-offset", leaf_offset), ("leaf-length", len(leaf)),
+        ("root", len(root)), ("leaves", len(leaves)), ("uppers", len(uppers)), ("leaf-offset", leaf_offset), ("leaf-length", len(leaf)),
         ("data-offset", data_offset), ("data-length", len(data))]
     return whole, numbers
 
 
-# Scripts.
-
-class Bad(Exception):
-    pass
-
-
-def number(word, least, most):
-    if not re.fullmatch(rb"0|-?[1-9][0-9]*", word) or not least <= int(word) <= most:
-        raise Bad
-    return int(word)
-
-
-def cell(word):
-    """A cell: None for Null, a number, bytes, a text, or the word for another kind."""
-    if word == b"n":
-        return None
-    if word == b"o":
-        return "other"
-    if word[:1] == b"i":
-        return number(word[1:], -2 ** 63, 2 ** 63 - 1)
-    if word[:1] == b"x" and re.fullmatch(rb"([0-9a-fA-F]{2})*", word[1:]):
-        return bytes.fromhex(word[1:].decode())
-    if word[:1] == b"t":
-        return ("text", text(word[1:]))
-    raise Bad
-
-
-def text(word):
-    if not re.fullmatch(rb"([!-$&-~]|%[0-9a-fA-F]{2})*", word):
-        raise Bad
-    out = re.sub(rb"%(..)", lambda found: bytes([int(found[1], 16)]), word)
-    try:
-        out.decode("utf-8")
-    except UnicodeDecodeError:
-        raise Bad from None
-    return out
-
-
-def defaults():
-    return {"type": 0, "tile-compression": None, "internal-compression": 1, "min-zoom": 0, "max-zoom": 22, "center-zoom": 0,
-            "bounds": [-1800000000, -850511290, 1800000000, 850511290], "center": [0, 0], "metadata": b"{}"}
-
-
-def take_option(options, words):
-    name = words[0].decode("latin-1") if words else ""
-    if name in ("type", "tile-compression", "internal-compression") and len(words) == 2:
-        names = [it.encode() for it in (TYPES if name == "type" else LABELS)]
-        if words[1] not in names:
-            raise Bad
-        options[name] = names.index(words[1])
-    elif name in ("min-zoom", "max-zoom", "center-zoom") and len(words) == 2:
-        options[name] = number(words[1], 0, 255)
-    elif name in ("bounds", "center") and len(words) == {"bounds": 5, "center": 3}[name]:
-        options[name] = [number(it, -2 ** 31, 2 ** 31 - 1) for it in words[1:]]
-    elif name == "metadata" and len(words) == 2 and words[1][:1] == b"t":
-        options[name] = text(words[1][1:])
-    else:
-        raise Bad
-
-
-def take_row(rows, words):
-    if len(words) != 5 or words[0] != b"tiles":
-        raise Bad
-    z, x, line, content = (cell(it) for it in words[1:])
-    if not all(isinstance(it, int) for it in (z, x, line)) or not (content is None or isinstance(content, bytes)):
-        raise Bad
-    if not 0 <= z <= 30 or not 0 <= x < 2 ** z or not 0 <= line < 2 ** z or (z, x, line) in rows:
-        raise Bad
-    rows[z, x, line] = content
-
-
-def parsed(script):
-    """Options, rows and queries, or the number of the first bad line."""
-    options, rows, queries, part = defaults(), {}, [], 0
-    lines = script.split(b"\n")
-    if lines[-1] == b"":
-        lines.pop()
-    for count, line in enumerate(lines, 1):
-        if line == b"" or line[:1] == b"#":
-            continue
-        words = line.split(b" ")
-        try:
-            if words[0] == b"option" and part == 0:
-                take_option(options, words[1:])
-            elif words == [b"base", b"flat"] and part == 0:
-                part = 1
-            elif words[0] == b"row" and part == 1:
-                take_row(rows, words[1:])
-            elif words[0] == b"query" and part > 0 and len(words) == 4:
-                z = number(words[1], 0, 31)
-                queries.append((z, number(words[2], 0, 2 ** z - 1), number(words[3], 0, 2 ** z - 1)))
-                part = 2
-            else:
-                raise Bad
-        except Bad:
-            return count
-    return (options, rows, queries) if part else len(lines) + 1
-
-
 # Reports.
 
-def aggregate(rows):
-    pieces = (b"%d%d%d%s" % (*place, rows[place] or b"") for place in sorted(rows))
-    return hashlib.md5(b"".join(pieces)).hexdigest().upper()
-
-
-def adds_of(rows):
-    return sorted((tile_id(z, x, 2 ** z - 1 - line), content) for (z, x, line), content in rows.items() if content)
+def adds_of(tiles):
+    return sorted((tile_id(z, x, 2 ** z - 1 - line), content) for (z, x, line), content in tiles.items() if content)
 
 
 def dump(whole):
@@ -249,20 +153,26 @@ def dump(whole):
     return "".join(out)
 
 
-def report(options, rows, queries):
+def report(script, state):
     """The lines without the bytes, the dump of the bytes, and the bytes."""
-    adds = adds_of(rows)
+    adds = adds_of(state.tiles)
     found = dict(adds)
-    whole, numbers = archive(options, adds)
-    lines = [f"tile {z}/{x}/{y} {found[tile_id(z, x, y)].hex() if tile_id(z, x, y) in found else 'none'}\n" for z, x, y in queries]
-    lines.append(f"aggregate {aggregate(rows)}\n")
+    whole, numbers = archive(script.options, adds)
+    lines = [f"tile {z}/{x}/{y} {found[tile_id(z, x, y)].hex() if tile_id(z, x, y) in found else 'none'}\n" for z, x, y in script.queries]
+    lines.append(f"aggregate {state.aggregate().decode()}\n")
     lines += [f"{name} {count}\n" for name, count in numbers[:4]]
     return "".join(lines), dump(whole), whole
 
 
-def bulk(tiles, repeat):
-    whole, numbers = archive(defaults(), [(k, b"%d" % (k // repeat)) for k in range(tiles)])
-    return "".join(f"{name} {count}\n" for name, count in numbers), whole
+def report_of(script):
+    """The report of a script that is refused nothing."""
+    script = parsed(script.encode())
+    return report(script, converted(script.stores, script.options["force"], script.options["verify"]))
+
+
+def bulk(tiles, repeat, most=None):
+    whole, numbers = archive({**defaults(), "max-leaf-entries": most or 4096}, [(k, b"%d" % (k // repeat)) for k in range(tiles)])
+    return "".join(f"{name} {count}\n" for name, count in numbers if most or name != "uppers"), whole
 
 
 # Cases.
@@ -298,30 +208,39 @@ def case(fields, wanted):
 
 
 def ended(status, line, output=b"", medium=b""):
-    return f"{status}|{line}|{shown(output, 4000)}|{len(medium)}|{shown(medium, 64)}"
+    line = line.encode() if isinstance(line, str) else line
+    return f"{status}|{shown(line, 4000)}|{shown(output, 4000)}|{len(medium)}|{shown(medium, 64)}"
+
+
+def bulk_numbers(words):
+    """The numbers of the command, or None where the words are none."""
+    if len(words) not in (3, 4) or words[0] != "bulk" or not all(re.fullmatch("0|[1-9][0-9]*", it) for it in words[1:]):
+        return None
+    numbers = [int(it) for it in words[1:]]
+    limits = [(0, 100000), (1, 1000000), (16, 65536)]
+    return numbers if all(least <= it <= most for it, (least, most) in zip(numbers, limits)) else None
 
 
 def outcome(words, script, medium=b""):
     """How a run ends whose objects don't fail."""
+    given, numbers = None, bulk_numbers(words)
     if words == ["convert", "hex"] or len(words) == 3 and words[:2] == ["convert", "file"]:
-        found = parsed(script)
-        if isinstance(found, int):
-            return ended(3, f"bad script: line {found}", medium=medium)
-        given = found
-    elif len(words) == 3 and words[0] == "bulk" and all(re.fullmatch("0|[1-9][0-9]*", it) for it in words[1:]) \
-            and int(words[1]) <= 100000 and 1 <= int(words[2]) <= 1000000:
-        given = None
-    else:
+        given = parsed(script)
+        if isinstance(given, int):
+            return ended(3, f"bad script: line {given}", medium=medium)
+    elif numbers is None:
         return ended(2, USAGE, medium=medium)
     if medium:
         return ended(1, f"refused: medium not empty {len(medium)}", medium=medium)
     if given is None:
-        output, whole = bulk(int(words[1]), int(words[2]))
+        output, whole = bulk(*numbers)
         return ended(0, "", output.encode(), whole)
-    options, rows, queries = given
-    if options["internal-compression"] != 1:
-        return ended(1, f"refused: unsupported compression {LABELS[options['internal-compression']]}")
-    lines, bytes_shown, whole = report(options, rows, queries)
+    if given.options["internal-compression"] != 1:
+        return ended(1, f"refused: unsupported compression {LABELS[given.options['internal-compression']]}")
+    state = converted(given.stores, given.options["force"], given.options["verify"])
+    if isinstance(state, bytes):
+        return ended(1, b"refused: " + state)
+    lines, bytes_shown, whole = report(given, state)
     output = lines + bytes_shown if words[1] == "hex" else lines
     return ended(0, "", output.encode(), whole)
 
@@ -375,14 +294,14 @@ def good_scripts():
 BAD_LINES = [
     # The base, its place, and the end.
     ("", 1), ("# nothing\n\n", 3), ("option min-zoom 1", 2), ("base flat\nbase flat", 2), ("base  flat", 1), ("base  flat\n", 1), ("base flat ", 1),
-    ("base flat\r\n", 1), ("base none", 1), ("row tiles i0 i0 i0 n\nbase flat", 1), ("query 0 0 0\nbase flat", 1),
+    ("base flat\r\n", 1), ("row tiles i0 i0 i0 n\nbase flat", 1), ("query 0 0 0\nbase flat", 1),
     ("base flat\nquery 0 0 0\nrow tiles i0 i0 i0 n\n", 3), ("base flat\n #\n", 2), (b"base flat\n\xff\x00\n", 2), ("\n", 2), (" base flat\n", 1), ("base", 1), ("base \n", 1),
     # Rows.
-    ("base flat\nrow tiles i0 i0 i0\n", 2), ("base flat\nrow tiles i0 i0 i0 n n\n", 2), ("base flat\nrow metadata ta tb\n", 2),
-    ("base flat\nrow tiles i0 i0 n n\n", 2), ("base flat\nrow tiles i0 i0 i0 i0\n", 2), ("base flat\nrow tiles i0 i0 i0 o\n", 2), ("base flat\nrow tiles i0 i0 i0 t\n", 2),
-    ("base flat\nrow tiles i0 i0 i00 n\n", 2), ("base flat\nrow tiles i0 i0 i-0 n\n", 2), ("base flat\nrow tiles i0 i0 i-1 n\n", 2),
-    ("base flat\nrow tiles i0 i0 i0 x3\n", 2), ("base flat\nrow tiles i0 i0 i0 xg0\n", 2), ("base flat\nrow tiles i1 i2 i0 n\n", 2),
-    ("base flat\nrow tiles i1 i0 i2 n\n", 2), ("base flat\nrow tiles i31 i0 i0 n\n", 2), ("base flat\nrow tiles i30 i1073741824 i0 n\n", 2),
+    ("base flat\nrow tiles i0 i0 i0\n", 2), ("base flat\nrow tiles i0 i0 i0 n n\n", 2), 
+    
+    ("base flat\nrow tiles i0 i0 i00 n\n", 2), ("base flat\nrow tiles i0 i0 i-0 n\n", 2), 
+    ("base flat\nrow tiles i0 i0 i0 x3\n", 2), ("base flat\nrow tiles i0 i0 i0 xg0\n", 2), 
+    
     ("base flat\nrow tiles i9223372036854775808 i0 i0 n\n", 2), ("base flat\nrow tiles i i0 i0 n\n", 2), ("base flat\nrow\n", 2), ("base flat\nrow tiles\n", 2),
     ("base flat\nrow tiles i1 i0 i1 xaa\n\n# again\nrow tiles i1 i0 i1 n\n", 5),
     ("base flat\nrow tiles i0 i0 i0 x30\nrow tiles i0 i0 i0 x30\n", 3),
@@ -391,7 +310,7 @@ BAD_LINES = [
     ("base flat\nquery 0 0 1\n", 2), ("base flat\nquery 32 0 0\n", 2), ("base flat\nquery 31 2147483648 0\n", 2), ("base flat\nquery 0 0 0 \n", 2),
     ("base flat\nquery 0 0\n", 2), ("base flat\nquery 0 0 +0\n", 2), ("base flat\nquery 0 0 -1\n", 2), ("base flat\nquery 0  0 0\n", 2),
     # Options.
-    ("base flat\noption min-zoom 1\n", 2), ("option force\nbase flat", 1), ("option verify\nbase flat", 1), ("option type jpg\nbase flat", 1), ("option tile-compression deflate\nbase flat", 1),
+    ("base flat\noption min-zoom 1\n", 2), ("option type jpg\nbase flat", 1), ("option tile-compression deflate\nbase flat", 1),
     ("option min-zoom 256\nbase flat", 1), ("option max-zoom -1\nbase flat", 1), ("option bounds 1 2 3\nbase flat", 1),
     ("option bounds 1 2 3 2147483648\nbase flat", 1), ("option center 1\nbase flat", 1), ("option center -2147483649 0\nbase flat", 1),
     ("option metadata {}\nbase flat", 1), ("option metadata t%2\nbase flat", 1), ("option metadata t%ff\nbase flat", 1),
@@ -404,10 +323,14 @@ def words_and_bulk():
     """Words that are no command, and sets that are made from two numbers."""
     for words in [["convert"], ["convert", "file"], ["convert", "file", "x", "y"], ["Convert", "file", "x"], ["convert", "files", "x"], ["convert", "hex", "x"],
                   ["file", "convert", "x"], ["convert", "Hex"], ["hex", "convert"], ["convert", "hex", ""], [], ["bulk", "100001", "1"], ["bulk", "1", "0"],
-                  ["bulk", "1", "1000001"], ["bulk", "01", "1"], ["bulk", "-1", "1"], ["bulk", "1"], ["bulk", "1", "1", "1"], ["Bulk", "1", "1"]]:
+                  ["bulk", "1", "1000001"], ["bulk", "01", "1"], ["bulk", "-1", "1"], ["bulk", "1"], ["bulk", "1", "1", "1"], ["Bulk", "1", "1"], ["bulk", "1", "1", "15"],
+                  ["bulk", "1", "1", "65537"], ["bulk", "1", "1", "016"], ["bulk", "1", "1", "-16"], ["bulk", "1", "1", "16", "16"], ["bulk", "1", "0", "16"], ["Bulk", "1", "1", "16"]]:
         run(ONE_TILE, words)
     for tiles, repeat in [(0, 1), (1, 1), (5, 2), (5, 1000000), (86, 3), (4063, 1), (4064, 1), (40000, 1), (12288, 3), (100000, 1000000)]:
         run("", ["bulk", str(tiles), str(repeat)])
+    for tiles, repeat, most in [(0, 1, 16), (5, 2, 65536), (4063, 1, 16), (4064, 1, 16), (4064, 1, 4096), (4064, 1, 4063), (12288, 3, 100), (65000, 1, 16), (70000, 1, 17),
+                                (100000, 1, 16), (100000, 1, 65536), (100000, 2, 16)]:
+        run("", ["bulk", str(tiles), str(repeat), str(most)])
     run("base none", ["bulk", "3", "1"])
 
 
@@ -421,10 +344,10 @@ def files():
         run(ONE_TILE, ["convert", "file", path])
     for script, held in [(ONE_TILE, b"a"), (ONE_TILE, bytes(200)), ("option internal-compression gzip\nbase flat\n", b"ab"), ("base none\n", b"c")]:
         run(script, FILE, held)
-    _, _, whole = report(*parsed(ONE_TILE.encode()))
+    _, _, whole = report_of(ONE_TILE)
     for script, calls, wanted in [
         (ONE_TILE, "i1", ended(4, "input fault")), (ONE_TILE, "o1", ended(5, "output fault", medium=whole)), (ONE_TILE, "m1", ended(6, "medium fault")),
-        ("base none", "o1 m1", ended(3, "bad script: line 1")), (ONE_TILE, "o1 m1", ended(6, "medium fault")),
+        ("base flat flat", "o1 m1", ended(3, "bad script: line 1")), ("base none", "o1", ended(1, "refused: store 0 InvalidDataFormat")), (ONE_TILE, "o1 m1", ended(6, "medium fault")),
     ]:
         case(["run", " ".join(FILE), escaped(script.encode()), calls, ""], wanted)
     for script in [ONE_TILE, NO_TILE, five]:
@@ -438,13 +361,13 @@ def media():
         run(script, medium=held)
     run("", ["bulk", "5", "2"], b"d")
     run("", ["bulk", "x", "2"], b"e")
-    _, _, whole = report(*parsed(ONE_TILE.encode()))
+    _, _, whole = report_of(ONE_TILE)
     gzip = "option internal-compression gzip\nbase flat\nquery 0 0 0\n"
     for script, calls, wanted in [
-        (ONE_TILE, "i1", ended(4, "input fault")), (gzip, "i1", ended(4, "input fault")), ("base none", "i1", ended(4, "input fault")),
+        (ONE_TILE, "i1", ended(4, "input fault")), (gzip, "i1", ended(4, "input fault")), ("base flat flat", "i1", ended(4, "input fault")),
         (ONE_TILE, "o1", ended(5, "output fault", medium=whole)), (gzip, "o1", ended(1, "refused: unsupported compression gzip")),
-        (ONE_TILE, "m1", ended(6, "medium fault")), (gzip, "m1", ended(6, "medium fault")), ("base none", "m1", ended(3, "bad script: line 1")),
-        (ONE_TILE, "i1 m1 o1", ended(4, "input fault")), (ONE_TILE, "o1 m1", ended(6, "medium fault")), ("base none", "o1 m1", ended(3, "bad script: line 1")),
+        (ONE_TILE, "m1", ended(6, "medium fault")), (gzip, "m1", ended(6, "medium fault")), ("base flat flat", "m1", ended(3, "bad script: line 1")), ("base none", "m1", ended(6, "medium fault")),
+        (ONE_TILE, "i1 m1 o1", ended(4, "input fault")), (ONE_TILE, "o1 m1", ended(6, "medium fault")), ("base flat flat", "o1 m1", ended(3, "bad script: line 1")), ("base none", "o1", ended(1, "refused: store 0 InvalidDataFormat")),
     ]:
         case(["run", "convert hex", escaped(script.encode()), calls, ""], wanted)
     case(["run", "convert", escaped(ONE_TILE.encode()), "i1 o1 m1", ""], ended(2, USAGE))
@@ -458,7 +381,7 @@ def media():
 def other_objects():
     """Each call failing in turn, reads for what is asked, and objects that answer in odd ways."""
     five = "\n".join(["base flat", *FIVE, "query 4 1 3", "query 0 0 0", ""])
-    for words, script in [("convert hex", ONE_TILE), ("convert hex", NO_TILE), ("convert hex", five), ("bulk 5 2", ""), ("bulk 300 1", "")]:
+    for words, script in [("convert hex", ONE_TILE), ("convert hex", NO_TILE), ("convert hex", five), ("convert hex", removes_the_tile()), ("bulk 5 2", ""), ("bulk 300 1", ""), ("bulk 4064 1 16", "")]:
         for place in ["input", "output", "medium"]:
             wanted = "no call" if place == "input" and words != "convert hex" else "as wanted"
             case(["each", place, words, escaped(script.encode())], wanted)
@@ -472,11 +395,20 @@ def other_objects():
     gzip = "option internal-compression gzip\nbase flat\nquery 0 0 0\n"
     case(["short", "0", escaped(gzip.encode())], "1|refused: unsupported compression gzip")
     for script in [ONE_TILE, five]:
-        output = "".join(report(*parsed(script.encode()))[:2])
+        output = "".join(report_of(script)[:2])
         for kind in ["versions", "single", "streams"]:
             case([kind, escaped(script.encode())], f"0||{shown(output.encode(), 4000)}")
     for name, status, line in [("OutOfMemory", 7, "out of memory"), ("InputTooLong", 8, "input too long"), ("IndexEntryOverflow", 1, "refused: IndexEntryOverflow")]:
         case(["outcome", name], f"{status}|{line}")
+
+
+def sets():
+    """Sets of every layout, and patches."""
+    for scripts in [worked_sets, verified_sets, refused_sets, bad_rows, worked_patches, refused_patches, four_ways]:
+        for script in scripts():
+            run(script)
+    for script in random_chains(23, 150):
+        run(script)
 
 
 def random_scripts(seed):
@@ -518,6 +450,8 @@ def many_rows():
     rows = [line(k) for k in range(4064)]
     run("\n".join(["base flat", *rows[:4063], ""]))
     run("\n".join(["base flat", *rows, "query 5 31 0", "query 9 0 0", ""]))
+    run("\n".join(["option max-leaf-entries 16", "base flat", *rows, "query 5 31 0", "query 4 3 9", "query 9 0 0", ""]))
+    run("\n".join(["option max-leaf-entries 16", "option max-leaf-entries 65536", "base flat", *rows, "query 5 31 0", ""]))
     random.Random(4).shuffle(rows)
     run("\n".join(["base flat", *rows, "query 5 31 0", "query 9 0 0", ""]))
     run("\n".join(["base flat", *rows, rows[17], ""]))
@@ -532,6 +466,7 @@ def main():
     media()
     other_objects()
     random_scripts(20)
+    sets()
     many_rows()
     folder = os.path.join(os.path.dirname(os.path.abspath(__file__)), "..", "crates", "tileset_rows")
     for name, index in [("stdin", 0), ("stdout", 1)]:

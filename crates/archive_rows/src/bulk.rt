@@ -1,5 +1,5 @@
 // Archives of many tiles: each id below a number has the decimal text of its part by another number.
-ghost use Rattle.std.specs.Prelude.{◌≡◌, ◌<◌, ℕ, List};
+ghost use Rattle.std.specs.Prelude.{◌≡◌, ◌≤◌, ◌<◌, ℕ, List, IfSome};
 ghost use Rattle.pm_format.specs.Options.{Options};
 ghost use Rattle.pm_writer.specs.Stream.{IsTied};
 
@@ -30,12 +30,29 @@ fn add_numbers(
     Ok(())
 }
 
-fn numbered(alloc: Global, ids: u64, each: u64) -> PmtResult<(MemMedium, ArchivePlaces)>
-    requires { 0 < each }
+// The next word as the most entries of a leaf, where there is one.
+fn most_entries(words: &mut Words) -> Option<u32>
+    ensures { IfSome result (λ most. (16 ≤ most) × (most ≤ 65536)) }
+{
+    let Some(word) = words.next() else {
+        return Some(4096);
+    };
+    let most = word.parse::<u32>().ok()?;
+    if most < 16 || most > 65_536 {
+        return None;
+    }
+    Some(most)
+}
+
+fn numbered(alloc: Global, ids: u64, each: u64, most: u32) -> PmtResult<(MemMedium, ArchivePlaces)>
+    requires each { 0 < each }
+    requires least { 16 ≤ most }
+    requires most { most ≤ 65536 }
 {
     let mut medium = MemMedium::new(alloc);
     let places = {
-        let mut writer = PmTilesWriter::new(TileType::Unknown).create(alloc, &mut medium)?;
+        let options = PmTilesWriter::new(TileType::Unknown).max_leaf_entries(most);
+        let mut writer = options.create(alloc, &mut medium)?;
         add_numbers(&mut writer, alloc, ids, each)?;
         writer.finalize()?
     };
@@ -50,10 +67,11 @@ pub fn answer(
 ) -> Option<()> {
     let ids = number(words)?;
     let each = number(words)?;
+    let most = most_entries(words)?;
     if each == 0 {
         return None;
     }
-    let (medium, places) = numbered(alloc, ids, each).ok()?;
+    let (medium, places) = numbered(alloc, ids, each, most).ok()?;
     *backend = Counted::new(medium);
     say(out, &places)
 }

@@ -68,6 +68,17 @@ fn new(
     Some(())
 }
 
+// A cache with a limit of entries.
+fn limit(alloc: Global, recent: &mut Option<LruDirCache>, words: &mut Words) -> Option<()> {
+    let capacity = number::<usize>(words)?;
+    let max_entries = number::<usize>(words)?;
+    if capacity == 0 {
+        return None;
+    }
+    *recent = Some(LruDirCache::with_entry_limit(alloc, capacity, max_entries).ok()?);
+    Some(())
+}
+
 // What a directory has for an id, as a cache answers it.
 fn from(alloc: Global, out: &mut String, words: &mut Words) -> Option<()> {
     let spelled = bytes(alloc, words)?;
@@ -87,6 +98,7 @@ pub fn answer(
 ) -> Option<()> {
     match words.next()? {
         "new" => new(alloc, map, recent, words),
+        "limit" => limit(alloc, recent, words),
         "none" => answer_of(alloc, out, &mut NoCache, words),
         "map" => answer_of(alloc, out, map, words),
         "recent" => answer_of(alloc, out, recent.as_mut()?, words),

@@ -1,4 +1,4 @@
-//! Reads calls of pm_writer and pm_reader from standard input, one a line, and prints each line with its answer.
+//! Reads calls of pm_writer, pm_reader and tile_verify from standard input, one a line, and prints each line with its answer.
 #![tactic(auto)]
 
 mod adds;
@@ -11,14 +11,33 @@ mod options;
 mod reading;
 mod states;
 mod sweep;
+mod verifying;
 mod viewing;
 mod words;
 mod writing;
 
+use counted::Counted;
 use kept::Kept;
 use std::alloc::Global;
 use std::io;
 use words::Words;
+
+// The same for a call that reads what is held.
+fn answer_held(
+    alloc: Global,
+    out: &mut String,
+    backend: &mut Counted,
+    call: &str,
+    words: &mut Words,
+) -> Option<()> {
+    match call {
+        "read" => reading::answer(alloc, out, backend, words),
+        "state" => states::answer(alloc, out, backend, words),
+        "view" => viewing::answer(alloc, out, backend.medium.as_bytes(), words),
+        "verify" => verifying::answer(alloc, out, backend, words),
+        _ => None,
+    }
+}
 
 // Appends the answer of a call, or fails where no handler takes the line.
 fn answer(alloc: Global, out: &mut String, kept: &mut Kept, line: &str) -> Option<()> {
@@ -28,11 +47,8 @@ fn answer(alloc: Global, out: &mut String, kept: &mut Kept, line: &str) -> Optio
         "writer" => options::answer(alloc, out, &mut kept.options, &mut words),
         "write" => writing::answer(alloc, out, kept, &mut words),
         "bulk" => bulk::answer(alloc, out, &mut kept.backend, &mut words),
-        "read" => reading::answer(alloc, out, &mut kept.backend, &mut words),
-        "state" => states::answer(alloc, out, &mut kept.backend, &mut words),
-        "view" => viewing::answer(alloc, out, kept.backend.medium.as_bytes(), &mut words),
         "cache" => caches::answer(alloc, out, &mut kept.map, &mut kept.recent, &mut words),
-        _ => None,
+        call => answer_held(alloc, out, &mut kept.backend, call, &mut words),
     }
 }
 

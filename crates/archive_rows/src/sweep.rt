@@ -7,7 +7,7 @@ use bytes::Bytes;
 use pm_format::{Backend, PmtResult};
 use pm_reader::{DirectoryCache, PmTilesReader};
 use std::alloc::Global;
-use tile_hash::Md5Stream;
+use tile_hash::{HashAlgorithm, HashStream};
 use tile_ids::TileId;
 
 // A tile that was looked up: its bytes, `none`, or why it is refused.
@@ -42,7 +42,7 @@ pub fn tiles<B: Backend, C: DirectoryCache>(
 #[derive(Drop)]
 pub struct Swept {
     pub found: u64,
-    pub digest: Md5Stream,
+    pub digest: HashStream,
 }
 
 fn take(swept: Swept, given: Option<Bytes>) -> Swept {
@@ -68,7 +68,7 @@ fn gather<B: Backend, C: DirectoryCache>(
 {
     let mut swept = Swept {
         found: 0,
-        digest: Md5Stream::new(),
+        digest: HashStream::new(HashAlgorithm::Md5),
     };
     for id in first..end {
         let tile_id = TileId::new(id)?;

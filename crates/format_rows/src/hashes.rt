@@ -1,7 +1,7 @@
 // Calls of tile_hash.
 use crate::words::{Words, bytes, say, say_bytes, say_text, text};
 use std::alloc::Global;
-use tile_hash::{HashAlgorithm, Md5Stream, fnv1a, md5_text, xxh3_64, xxh64};
+use tile_hash::{HashAlgorithm, HashStream, fnv1a, md5_text, xxh3_64, xxh64};
 
 fn given(alloc: Global, words: &mut Words) -> Option<HashAlgorithm> {
     HashAlgorithm::parse(text(alloc, words)?.as_str())
@@ -38,9 +38,12 @@ fn md5(alloc: Global, out: &mut String, words: &mut Words) -> Option<()> {
 }
 
 fn pieces(alloc: Global, out: &mut String, words: &mut Words) -> Option<()> {
-    let mut stream = Md5Stream::new();
-    for word in words {
-        stream.update(word.as_bytes());
+    let mut stream = HashStream::new(given(alloc, words)?);
+    for _ in 0..u64::MAX {
+        let Some(piece) = bytes(alloc, words) else {
+            break;
+        };
+        stream.update(piece.as_slice());
     }
     say(out, &stream.finish(alloc))
 }

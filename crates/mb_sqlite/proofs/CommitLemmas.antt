@@ -1,5 +1,5 @@
 -- Calls in a row that commit nothing, or once.
-use Rattle.std.proofs.Common.{◌≡◌, ℕ, false, true, List, refl, inl, inr, arith, IsTrue, Result}
+use Rattle.std.proofs.Common.{◌≡◌, ℕ, false, true, List, refl, inl, inr, arith, subst, IsTrue, Result}
 use Rattle.std.proofs.lemmas.Bool.{cases_Bool}
 use Rattle.sqlite.specs.declared.error.Error.{Error}
 use Rattle.sqlite.specs.Held.{Held, state}
@@ -12,6 +12,7 @@ use Rattle.sqlite.proofs.Callers.{survives_begin}
 use Rattle.sqlite.proofs.InsideLemmas.{inside_keeps, keeps_then, unchanged_keeps}
 use Rattle.sqlite.proofs.StateLemmas.{survives_then, survives_weaker}
 use Rattle.mb_sqlite.specs.Committing.{CommitsNothing, CommitsOnce, KeepsCommitted}
+use Rattle.mb_sqlite.specs.Reading.{Within}
 
 module _ {S : Type 0} (g : Ghosts S) where
   pub nothing_yet : (h : Held S) → CommitsNothing g h h
@@ -25,6 +26,10 @@ module _ {S : Type 0} (g : Ghosts S) where
 
   pub kept_then : (a b c : Held S) → CommitsNothing g b c → KeepsCommitted g a b → KeepsCommitted g b c → KeepsCommitted g a c
   kept_then a b c step one two clean = keeps_then (state g a) (state g b) (state g c) (one (omega (arith, step.clean))) (two clean)
+
+  -- what is seen in a transaction that is rolled back
+  pub seen_within : (P : Held S → Held S → Type 0) (old begun mid end : Held S) → begun ≡ record old { in_transaction = true } → (HasCleanDisk (state g mid) → P begun mid) → CommitsNothing g mid end → HasCleanDisk (state g end) → Within old P
+  seen_within P old begun mid end is seen last clean = (mid, subst (λ h. P h mid) is (seen (omega (arith, last.clean))))
 
   -- a statement inside a transaction
   pub inside_keeps_committed : (sql : List ℕ) (params : Row) (old new : Held S) (r : Result ℕ Error)

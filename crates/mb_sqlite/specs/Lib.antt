@@ -1,2 +1,5 @@
 pub mod Committing
 pub mod Stored
+pub mod Statements
+pub mod Reading
+pub mod Cursor

@@ -1,4 +1,7 @@
 // Where a table was read to, so that pages in order take time in their rows alone.
+ghost use Rattle.std.specs.Prelude.{◌≡◌};
+ghost use Rattle.mb_sqlite.specs.Cursor.{cursor_start};
+
 use mb_tables::TableName;
 
 // The row of this number, counted from 0, has this `rowid`.
@@ -10,7 +13,9 @@ pub(crate) struct Cursor {
 }
 
 // The least `rowid` of the rows of a table from a number on, and how many rows are passed over first.
-pub(crate) fn start_of(cursor: Option<Cursor>, table: TableName, from: u64) -> (i64, u64) {
+pub(crate) fn start_of(cursor: Option<Cursor>, table: TableName, from: u64) -> (i64, u64)
+    ensures { result ≡ cursor_start cursor table from }
+{
     match cursor {
         Some(cursor) if cursor.table == table && cursor.number <= from => {
             (cursor.rowid, from - cursor.number)

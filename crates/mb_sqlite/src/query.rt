@@ -1,7 +1,14 @@
 // Reading the tables inside a transaction.
-ghost use Rattle.std.specs.Prelude.{◌≡◌, ◌≤◌, All, IfOk, IfSome, length};
+ghost use Rattle.std.specs.Prelude.{◌≡◌, ◌≤◌, [], ◌∷◌, All, IfOk, IfSome, length, take};
+ghost use Rattle.std.specs.List.{AllZip};
+ghost use Rattle.sqlite.specs.Held.{state};
+ghost use Rattle.sqlite.specs.State.{HasCleanDisk, Shown};
+ghost use Rattle.sqlite.specs.Values.{bound};
+ghost use Rattle.sqlite_value.specs.declared.value.Value.TheVariants as sql;
 ghost use Rattle.mb_tables.specs.Table.{width};
 ghost use Rattle.mb_sqlite.specs.Committing.{CommitsNothing};
+ghost use Rattle.mb_sqlite.specs.Reading.{ArePaged, IsCounted, IsFirst, IsFound, IsRowOf, sql_number};
+ghost use Rattle.mb_sqlite.specs.Statements.{page_text};
 
 use crate::failure::Failure;
 use crate::layout::{TABLES, has_table};
@@ -16,7 +23,9 @@ use std::alloc::Global;
 const PIECE: i64 = 1000;
 
 // A number that SQL takes, the greatest one for those above it.
-fn sql_number(number: u64) -> i64 {
+fn sql_number(number: u64) -> i64
+    ensures { result ≡ sql_number number }
+{
     i64::try_from(number).unwrap_or(i64::MAX)
 }
 
@@ -27,6 +36,7 @@ pub(crate) fn count<S: Alter>(
 ) -> Result<u64, Failure>
     ensures same_reference { transaction.new.conn.ghost_name ≡ transaction.old.conn.ghost_name }
     ensures survives { CommitsNothing S.Store transaction.old.conn.now transaction.new.conn.now }
+    ensures counted { HasCleanDisk (state S.Store transaction.new.conn.now) → IfOk result (IsCounted S.Store table transaction.old.conn.now transaction.new.conn.now) }
 {
     let row = transaction.query_row(statements::count_of(table), &[])?;
     Ok(row.get(0)?)
@@ -42,6 +52,7 @@ fn answers<S: Alter>(
 ) -> Result<Vec<sqlite::Row>, Failure>
     ensures same_reference { transaction.new.conn.ghost_name ≡ transaction.old.conn.ghost_name }
     ensures survives { CommitsNothing S.Store transaction.old.conn.now transaction.new.conn.now }
+    ensures shown { HasCleanDisk (state S.Store transaction.new.conn.now) → IfOk result (λ rows. Shown (page_text table) (sql.Int least ∷ sql.Int limit ∷ sql.Int passed ∷ []) (state S.Store transaction.old.conn.now) (state S.Store transaction.new.conn.now) rows.items) }
 {
     let text = statements::page_of(table);
     let rows = transaction.query_all(text, params![least, limit, passed])?;
@@ -58,6 +69,7 @@ fn rows_of(
 ) -> Result<Vec<Row>, Failure>
     ensures widths { IfOk result (λ rows. All (λ row. length row ≡ width table) rows.items) }
     ensures limit { IfOk result (λ rows. length rows.items ≤ limit) }
+    ensures rows { IfOk result (λ rows. AllZip (IsRowOf table) (take limit answers.now) rows.items) }
 {
     let mut rows = Vec::new(alloc);
     for answer in answers {
@@ -83,6 +95,7 @@ pub(crate) fn page<S: Alter>(
     ensures limit { IfOk result (λ rows. length rows.items ≤ limit) }
     ensures same_reference { transaction.new.conn.ghost_name ≡ transaction.old.conn.ghost_name }
     ensures survives { CommitsNothing S.Store transaction.old.conn.now transaction.new.conn.now }
+    ensures paged { HasCleanDisk (state S.Store transaction.new.conn.now) → IfOk result (λ rows. ArePaged S.Store table transaction.old.conn.now transaction.new.conn.now start limit rows.items) }
 {
     let passed = sql_number(start.1);
     let answers = answers(transaction, table, start.0, passed, sql_number(limit))?;
@@ -99,6 +112,7 @@ fn first<S: Alter>(
     ensures widths { IfOk result (λ row. IfSome row (λ row. length row ≡ width table)) }
     ensures same_reference { transaction.new.conn.ghost_name ≡ transaction.old.conn.ghost_name }
     ensures survives { CommitsNothing S.Store transaction.old.conn.now transaction.new.conn.now }
+    ensures first { HasCleanDisk (state S.Store transaction.new.conn.now) → IfOk result (IsFirst S.Store table transaction.old.conn.now transaction.new.conn.now (bound key.now)) }
 {
     let rows = transaction.query_all(statements::found_in(table), key)?;
     match rows.first() {
@@ -117,6 +131,7 @@ pub(crate) fn find<S: Alter>(
     ensures widths { IfOk result (λ row. IfSome row (λ row. length row ≡ width table)) }
     ensures same_reference { transaction.new.conn.ghost_name ≡ transaction.old.conn.ghost_name }
     ensures survives { CommitsNothing S.Store transaction.old.conn.now transaction.new.conn.now }
+    ensures found { HasCleanDisk (state S.Store transaction.new.conn.now) → IfOk result (IsFound S.Store table transaction.old.conn.now transaction.new.conn.now key.now) }
 {
     match (table, key) {
         (TableName::Images | TableName::Metadata, RowKey::TextId(text)) => {

@@ -1,7 +1,11 @@
 // Reading the database. Each call reads in a transaction that is rolled back, so that it commits nothing.
 ghost use Rattle.std.specs.Prelude.{◌≡◌, ◌≤◌, All, IfOk, IfSome, length};
 ghost use Rattle.mb_tables.specs.Table.{width};
+ghost use Rattle.sqlite.specs.Held.{state};
+ghost use Rattle.sqlite.specs.State.{HasCleanDisk};
 ghost use Rattle.mb_sqlite.specs.Committing.{CommitsNothing};
+ghost use Rattle.mb_sqlite.specs.Cursor.{cursor_start};
+ghost use Rattle.mb_sqlite.specs.Reading.{ArePaged, IsCounted, IsFound, Within};
 
 use crate::cursor::{Cursor, moved, start_of};
 use crate::failure::Failure;
@@ -16,6 +20,7 @@ pub(crate) fn count<S: Alter>(
     table: TableName,
 ) -> Result<u64, Failure>
     ensures survives { CommitsNothing S.Store connection.old connection.new }
+    ensures counted { HasCleanDisk (state S.Store connection.new) → IfOk result (λ count. Within connection.old (λ old seen. IsCounted S.Store table old seen count)) }
 {
     if !connection.is_autocommit() {
         return Err(Failure::Fault);
@@ -37,6 +42,7 @@ pub(crate) fn page<S: Alter>(
     ensures widths { IfOk result (λ rows. All (λ row. length row ≡ width table) rows.items) }
     ensures limit { IfOk result (λ rows. length rows.items ≤ limit) }
     ensures survives { CommitsNothing S.Store connection.old connection.new }
+    ensures paged { HasCleanDisk (state S.Store connection.new) → IfOk result (λ rows. Within connection.old (λ old seen. ArePaged S.Store table old seen (cursor_start cursor.old table from) limit rows.items)) }
 {
     let start = start_of(*cursor, table, from);
     let mut last = start.0;
@@ -57,6 +63,7 @@ fn page_after<S: Alter>(
     ensures widths { IfOk result (λ rows. All (λ row. length row ≡ width table) rows.items) }
     ensures limit { IfOk result (λ rows. length rows.items ≤ limit) }
     ensures survives { CommitsNothing S.Store connection.old connection.new }
+    ensures paged { HasCleanDisk (state S.Store connection.new) → IfOk result (λ rows. Within connection.old (λ old seen. ArePaged S.Store table old seen start limit rows.items)) }
 {
     if !connection.is_autocommit() {
         return Err(Failure::Fault);
@@ -75,6 +82,7 @@ pub(crate) fn find<S: Alter>(
 ) -> Result<Option<Row>, Failure>
     ensures widths { IfOk result (λ row. IfSome row (λ row. length row ≡ width table)) }
     ensures survives { CommitsNothing S.Store connection.old connection.new }
+    ensures found { HasCleanDisk (state S.Store connection.new) → IfOk result (λ row. Within connection.old (λ old seen. IsFound S.Store table old seen key.now row)) }
 {
     if !connection.is_autocommit() {
         return Err(Failure::Fault);

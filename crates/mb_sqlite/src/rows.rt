@@ -4,6 +4,7 @@ ghost use Rattle.mb_tables.specs.Table.{width};
 ghost use Rattle.sqlite_value.specs.Value.{owned};
 ghost use Rattle.mb_store.specs.Sizes.{cell_size};
 ghost use Rattle.mb_tables.specs.declared.cell.Cell as stored;
+ghost use Rattle.mb_sqlite.specs.Reading.{IsRowOf};
 ghost use Rattle.mb_sqlite.specs.Stored.{IsReadAs, IsWrittenAs};
 
 use crate::failure::Failure;
@@ -44,7 +45,8 @@ pub(crate) fn value_of<'a>(cell: &'a Cell) -> Option<ValueRef<'a>>
 
 // A row of a table, from an answer of the database.
 pub(crate) fn row_of(alloc: Global, table: TableName, row: &sqlite::Row) -> Result<Row, Failure>
-    ensures { IfOk result (λ row. length row ≡ width table) }
+    ensures wide { IfOk result (λ row. length row ≡ width table) }
+    ensures cells { IfOk result (IsRowOf table row.now) }
 {
     let mut cells = Vec::new(alloc);
     for at in 0..table.width() {

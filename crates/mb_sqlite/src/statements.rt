@@ -1,4 +1,7 @@
 // The statements that are run, one text for each table.
+ghost use Rattle.std.specs.Prelude.{◌≡◌};
+ghost use Rattle.mb_sqlite.specs.Statements.{addition_text, count_text, found_text, page_text, removal_text};
+
 use mb_tables::{MbtType, NormalizedSchema, TableName};
 
 // Makes a table, with a unique index on its key.
@@ -60,7 +63,9 @@ pub(crate) fn hash_view(layout: MbtType) -> Option<&'static str> {
 }
 
 // The number of rows.
-pub(crate) fn count_of(table: TableName) -> &'static str {
+pub(crate) fn count_of(table: TableName) -> &'static str
+    ensures { result.now ≡ count_text table }
+{
     match table {
         TableName::Tiles => "SELECT count(*) FROM tiles",
         TableName::TilesWithHash => "SELECT count(*) FROM tiles_with_hash",
@@ -74,7 +79,9 @@ pub(crate) fn count_of(table: TableName) -> &'static str {
 }
 
 // Rows in the order in which they are stored, each with its number in the table: from the first number on, at most the second, after as many as the third.
-pub(crate) fn page_of(table: TableName) -> &'static str {
+pub(crate) fn page_of(table: TableName) -> &'static str
+    ensures { result.now ≡ page_text table }
+{
     match table {
         TableName::Tiles =>
             "SELECT zoom_level, tile_column, tile_row, tile_data, rowid FROM tiles WHERE rowid >= ?1 ORDER BY rowid LIMIT ?2 OFFSET ?3",
@@ -96,7 +103,9 @@ pub(crate) fn page_of(table: TableName) -> &'static str {
 }
 
 // The first row of a key.
-pub(crate) fn found_in(table: TableName) -> &'static str {
+pub(crate) fn found_in(table: TableName) -> &'static str
+    ensures { result.now ≡ found_text table }
+{
     match table {
         TableName::Tiles =>
             "SELECT zoom_level, tile_column, tile_row, tile_data FROM tiles WHERE zoom_level = ?1 AND tile_column = ?2 AND tile_row = ?3 ORDER BY rowid LIMIT 1",
@@ -118,7 +127,9 @@ pub(crate) fn found_in(table: TableName) -> &'static str {
 }
 
 // Removes the rows of a key.
-pub(crate) fn removal_from(table: TableName) -> &'static str {
+pub(crate) fn removal_from(table: TableName) -> &'static str
+    ensures { result.now ≡ removal_text table }
+{
     match table {
         TableName::Tiles =>
             "DELETE FROM tiles WHERE zoom_level = ?1 AND tile_column = ?2 AND tile_row = ?3",
@@ -137,7 +148,9 @@ pub(crate) fn removal_from(table: TableName) -> &'static str {
 }
 
 // Adds a row.
-pub(crate) fn addition_to(table: TableName) -> &'static str {
+pub(crate) fn addition_to(table: TableName) -> &'static str
+    ensures { result.now ≡ addition_text table }
+{
     match table {
         TableName::Tiles =>
             "INSERT INTO tiles (zoom_level, tile_column, tile_row, tile_data) VALUES (?1, ?2, ?3, ?4)",

@@ -4,7 +4,11 @@ ghost use Rattle.tile_ids.specs.Counts.{Rose};
 ghost use Rattle.mb_tables.specs.Schema.{set_tables};
 ghost use Rattle.mb_tables.specs.Described.{is_table};
 ghost use Rattle.mb_tables.specs.Table.{width};
+ghost use Rattle.sqlite.specs.Held.{state};
+ghost use Rattle.sqlite.specs.State.{HasCleanDisk};
 ghost use Rattle.mb_sqlite.specs.Committing.{CommitsNothing, CommitsOnce, KeepsCommitted};
+ghost use Rattle.mb_sqlite.specs.Cursor.{cursor_start};
+ghost use Rattle.mb_sqlite.specs.Reading.{ArePaged, IsCounted, IsFound, Within};
 
 use crate::cursor::Cursor;
 use crate::failure::{Failure, counted};
@@ -82,6 +86,7 @@ impl<S: Alter> SqliteStore<S> {
         ensures same { self.old.is_made ≡ true → self.new.connection ≡ self.old.connection }
         ensures once { CommitsOnce S.Store self.old.connection self.new.connection }
         ensures layout { self.new.layout ≡ self.old.layout }
+        ensures cursor { self.new.cursor ≡ self.old.cursor }
         ensures faults { self.new.faults ≡ self.old.faults }
     {
         if !self.connection.is_autocommit() {
@@ -105,6 +110,8 @@ impl<S: Alter> SqliteStore<S> {
 
     fn counted_rows(&mut self, table: TableName) -> Result<u64, Failure>
         ensures survives { self.old.is_made ≡ true → CommitsNothing S.Store self.old.connection self.new.connection }
+        ensures undescribed { is_table (set_tables self.old.layout) table ≡ false → IfOk result (λ count. count ≡ 0) }
+        ensures counted { self.old.is_made ≡ true → is_table (set_tables self.old.layout) table ≡ true → HasCleanDisk (state S.Store self.new.connection) → IfOk result (λ count. Within self.old.connection (λ old seen. IsCounted S.Store table old seen count)) }
         ensures faults { self.new.faults ≡ self.old.faults }
     {
         self.begin()?;
@@ -125,6 +132,7 @@ impl<S: Alter> SqliteStore<S> {
         ensures limit { IfOk result (λ rows. length rows.items ≤ limit) }
         ensures undescribed { is_table (set_tables self.old.layout) table ≡ false → IfOk result (λ rows. rows.items ≡ []) }
         ensures survives { self.old.is_made ≡ true → CommitsNothing S.Store self.old.connection self.new.connection }
+        ensures paged { self.old.is_made ≡ true → is_table (set_tables self.old.layout) table ≡ true → HasCleanDisk (state S.Store self.new.connection) → IfOk result (λ rows. Within self.old.connection (λ old seen. ArePaged S.Store table old seen (cursor_start self.old.cursor table from) limit rows.items)) }
         ensures faults { self.new.faults ≡ self.old.faults }
     {
         self.begin()?;
@@ -149,6 +157,8 @@ impl<S: Alter> SqliteStore<S> {
     ) -> Result<Option<Row>, Failure>
         ensures widths { IfOk result (λ row. IfSome row (λ row. length row ≡ width table)) }
         ensures survives { self.old.is_made ≡ true → CommitsNothing S.Store self.old.connection self.new.connection }
+        ensures undescribed { is_table (set_tables self.old.layout) table ≡ false → IfOk result (λ row. row ≡ None) }
+        ensures found { self.old.is_made ≡ true → is_table (set_tables self.old.layout) table ≡ true → HasCleanDisk (state S.Store self.new.connection) → IfOk result (λ row. Within self.old.connection (λ old seen. IsFound S.Store table old seen key.now row)) }
         ensures faults { self.new.faults ≡ self.old.faults }
     {
         self.begin()?;

@@ -12,10 +12,13 @@ use Rattle.std.proofs.lemmas.List.Sums.{fails_before_first}
 use Rattle.std.specs.List.{position_or_len}
 use Rattle.mb_store.specs.Changes.{AreChanges, is_own, same_key, with_change}
 use Rattle.mb_store.specs.ChangeIndex.{table_key_of}
+use Rattle.mb_store.specs.Committing.{AreOfTables}
 use Rattle.mb_store.specs.TableKey.{table_keys_total}
+use Rattle.mb_tables.specs.Described.{is_table}
 use Rattle.mb_tables.specs.Key.{key_cmp}
 use Rattle.mb_store.specs.TableKey.{table_key_cmp}
 use Rattle.mb_tables.specs.Table.{table_number}
+use Rattle.mb_tables.specs.declared.description.TableDesc.{TableDesc}
 use Rattle.mb_store.specs.declared.change.Change.{Change}
 
 -- what holds of all pairs still does with an element replaced by one that stands as it did
@@ -82,7 +85,21 @@ changed cs c None h owned sound = rw h (added cs c h owned sound)
 pub AreChanges-with_change : (cs : List Change) (c : Change) → is_own c ≡ true → AreChanges cs → AreChanges (with_change cs c)
 AreChanges-with_change cs c owned sound = changed cs c _ refl owned sound
 
--- after a call that makes a change, or refuses it
+-- what holds with a change and without it holds after a call that makes it, or refuses it
+change_made : {T E : Type 0} (P : List Change → Type 0) (r : Result T E) (old new : List Change) (c : Change) → OnOk r (new ≡ with_change old c) → OnErr r (new ≡ old) → P old → P (with_change old c) → P new
+change_made P (Ok x) old new c ok err before made = subst P (sym ok) made
+change_made P (Err e) old new c ok err before made = subst P (sym err) before
+
 pub AreChanges-after : {T E : Type 0} (r : Result T E) (old new : List Change) (c : Change) → OnOk r (new ≡ with_change old c) → OnErr r (new ≡ old) → is_own c ≡ true → AreChanges old → AreChanges new
-AreChanges-after (Ok x) old new c ok err owned sound = subst AreChanges (sym ok) (AreChanges-with_change old c owned sound)
-AreChanges-after (Err e) old new c ok err owned sound = subst AreChanges (sym err) sound
+AreChanges-after r old new c ok err owned sound = change_made AreChanges r old new c ok err sound (AreChanges-with_change old c owned sound)
+
+-- changes of tables and one more of a table
+pub AreOfTables-with_change : (ds : List TableDesc) (cs : List Change) (c : Change) → is_table ds c.table ≡ true → AreOfTables ds cs → AreOfTables ds (with_change cs c)
+AreOfTables-with_change ds cs c is all = by (position (λ d. same_key d c) cs) refl
+  where
+    by : (o : Option ℕ) → position (λ d. same_key d c) cs ≡ o → AreOfTables ds (with_change cs c)
+    by (Some i) h = rw h (All-set (λ d. is_table ds d.table ≡ true) cs i c is all)
+    by None h = rw h (All-push (λ d. is_table ds d.table ≡ true) cs c all is)
+
+pub AreOfTables-after : {T E : Type 0} (ds : List TableDesc) (r : Result T E) (old new : List Change) (c : Change) → OnOk r (new ≡ with_change old c) → OnErr r (new ≡ old) → is_table ds c.table ≡ true → AreOfTables ds old → AreOfTables ds new
+AreOfTables-after ds r old new c ok err is all = change_made (AreOfTables ds) r old new c ok err all (AreOfTables-with_change ds old c is all)

@@ -10,4 +10,5 @@ pub mod EditLemmas
 pub mod KeptCommit
 pub mod DescribedLemmas
 pub mod Committed
-pub mod ReadingLemmas
+pub mod PushLemmas
+mod ReadingLemmas

@@ -1,5 +1,5 @@
 -- Stored rows: where a new one goes, which is found first, and the order of all.
-use Rattle.std.proofs.Common.{◌≡◌, ℕ, ◌+◌, ◌<◌, ◌^◌, Bor, Bool, true, false, not, cond, ◌&&◌, ◌||◌, List, [], ◌∷◌, Option, Some, None, length, get_or, take, refl, sym, ◌∙◌, ap, subst, arith}
+use Rattle.std.proofs.Common.{◌≡◌, ℕ, ◌+◌, ◌<◌, ◌≤◌, ◌^◌, Bor, Bool, true, false, not, cond, ◌&&◌, ◌||◌, List, [], ◌∷◌, Option, Some, None, length, get_or, take, refl, sym, ◌∙◌, ap, subst, arith}
 use Rattle.std.specs.Prelude.{All, IfSome, find, is_some, nat_lt}
 use Rattle.std.specs.BTreeMap.Range.{range_contains}
 use Rattle.std.specs.BTreeSet.{insert_key}
@@ -16,8 +16,8 @@ use Rattle.std.proofs.lemmas.Bool.{false≢true, lt-ltb}
 use Rattle.std.proofs.lemmas.List.Elements.{All-nil, All-cons, All-head, All-tail, filter_agree}
 use Rattle.std.proofs.lemmas.List.{length-map}
 use Rattle.std.proofs.lemmas.List.Kept.{AllPairs-cons}
-use Rattle.mb_tables.specs.Cell.{cells_cmp, cells_eq, is_null}
-use Rattle.mb_tables.specs.Key.{IsInOrder, clash, has_key, key_cells, row_cmp}
+use Rattle.mb_tables.specs.Cell.{cells_cmp}
+use Rattle.mb_tables.specs.Key.{IsInOrder, has_key, key_cells, row_cmp}
 use Rattle.mb_tables.specs.declared.key.RowKey.{RowKey}
 use Rattle.mb_tables.specs.declared.key.RowKey.TheVariants.{Tile, TextId, IntId}
 use Rattle.mb_tables.specs.Table.{key_of, width}
@@ -29,7 +29,6 @@ use Rattle.mb_store.specs.Store.{placed}
 use Rattle.mb_store.specs.StoredRow.{Stored, is_early, own_key, rows_of, stored_cmp}
 use Rattle.mb_store.specs.TableRows.{AreStored, rows_in}
 use Rattle.mb_store.specs.declared.table_rows.TableRows.{TableRows}
-use Rattle.mb_store.proofs.Ordered.{list_any-and}
 use Rattle.mb_store.proofs.ListLemmas.{AllPairs-nil}
 use Rattle.mb_store.proofs.Placed.{before_greater, behind_others}
 
@@ -66,11 +65,15 @@ module _ (table : TableName) where
   own_cmp : (r s : List Cell) → length r ≡ width table → length s ≡ width table → row_cmp table r s ≡ cells_cmp (own_key r) (own_key s)
   own_cmp r s p q i = cells_cmp (sym (own_is table r p) i) (sym (own_is table s q) i)
 
-  -- the newest row goes before the first row of a greater key
-  pub placed_in : (row : List Cell) (n : ℕ) (keys : List Stored) → length row ≡ width table → All Wide keys → All (λ (s : Stored). s.1 < n) keys → rows_of (insert_key stored_cmp keys (row, n)) ≡ placed table row (rows_of keys)
+  -- a row's number is above those of its key
+  abbrev pub Latest : List Cell → ℕ → Stored → Type 0
+  Latest row n s = cells_cmp (own_key row) (own_key s.0) ≡ Equal → s.1 < n
+
+  -- the newest row of its key goes before the first row of a greater key
+  pub placed_in : (row : List Cell) (n : ℕ) (keys : List Stored) → length row ≡ width table → All Wide keys → All (Latest row n) keys → rows_of (insert_key stored_cmp keys (row, n)) ≡ placed table row (rows_of keys)
   placed_in row n [] own wide earlier = refl
   placed_in row n (s ∷ ss) own wide earlier =
-      by (cells_cmp (own_key row) (own_key s.0)) refl (placed_in row n ss own (All-tail Wide s ss wide) (All-tail (λ (s : Stored). s.1 < n) s ss earlier))
+      by (cells_cmp (own_key row) (own_key s.0)) refl (placed_in row n ss own (All-tail Wide s ss wide) (All-tail (Latest row n) s ss earlier))
     where
       turned : row_cmp table s.0 row ≡ ordering_reverse (cells_cmp (own_key row) (own_key s.0))
       turned = own_cmp s.0 row (All-head Wide s ss wide) own ∙ lists_of_cells_total.antisymm (own_key s.0) (own_key row)
@@ -83,7 +86,7 @@ module _ (table : TableName) where
 
       by : (r : Ordering) → cells_cmp (own_key row) (own_key s.0) ≡ r → rows_of (insert_key stored_cmp ss (row, n)) ≡ placed table row (rows_of ss) → rows_of (inserted (ordering_then (cells_cmp (own_key row) (own_key s.0)) (nat_cmp n s.1)) (row, n) s ss) ≡ placed table row (s.0 ∷ rows_of ss)
       by Less e next = ap (λ r. rows_of (inserted (ordering_then r (nat_cmp n s.1)) (row, n) s ss)) e ∙ sym (before_greater (row_cmp table) row s.0 (rows_of ss) (above Less e))
-      by Equal e next = ap (λ r. rows_of (inserted (ordering_then r (nat_cmp n s.1)) (row, n) s ss)) e ∙ (ap (λ r. rows_of (inserted r (row, n) s ss)) (later_cmp s.1 n (All-head (λ (s : Stored). s.1 < n) s ss earlier)) ∙ behind (above Equal e) next)
+      by Equal e next = ap (λ r. rows_of (inserted (ordering_then r (nat_cmp n s.1)) (row, n) s ss)) e ∙ (ap (λ r. rows_of (inserted r (row, n) s ss)) (later_cmp s.1 n (All-head (Latest row n) s ss earlier e)) ∙ behind (above Equal e) next)
       by Greater e next = ap (λ r. rows_of (inserted (ordering_then r (nat_cmp n s.1)) (row, n) s ss)) e ∙ behind (above Greater e) next
 
   -- the rows stand in the order of their keys
@@ -283,7 +286,7 @@ eq_back a b = ap is_eq (lists_of_cells_total.antisymm a b) ∙ same (cells_cmp b
     same Equal = refl
     same Greater = refl
 
-early_is : (r : Bool) (m n : ℕ) → m < n → r ≡ (r && nat_lt m n)
+pub early_is : (r : Bool) (m n : ℕ) → m < n → r ≡ (r && nat_lt m n)
 early_is true m n lt = sym (lt-ltb m n lt)
 early_is false m n lt = refl
 
@@ -302,28 +305,29 @@ module _ (table : TableName) (r : TableRows) (stored : AreStored table r) where
   key_found key = found_among (has_key table key) (is_early (key_cells key) r.next) r.stored.keys
       (λ k d far. has_key_is table key (get_or r.stored.keys k d).0 (stored.wide k d far) ∙ early_is (is_eq (cells_cmp (own_key (key_cells key)) (own_key (get_or r.stored.keys k d).0))) (get_or r.stored.keys k d).1 r.next (stored.earlier k d far))
 
-  -- whether a row clashes with one of all rows
-  pub clash_found : (row : List Cell) → length row ≡ width table → list_any (clash table row) (rows_in r) ≡ (is_some (find (is_early row r.next) r.stored.keys) && not (list_any is_null (key_of table row)))
-  clash_found row own =
-      list_any-and (λ other. cells_eq (key_of table row) (key_of table other)) (not (list_any is_null (key_of table row))) (rows_in r)
-      ∙ ap (λ b. b && not (list_any is_null (key_of table row))) (any_among (λ other. cells_eq (key_of table row) (key_of table other)) (is_early row r.next) r.stored.keys
-      (λ k d far. (λ i. is_eq (cells_cmp (sym (own_is table row own) i) (sym (own_is table (get_or r.stored.keys k d).0 (stored.wide k d far)) i))) ∙ early_is (is_eq (cells_cmp (own_key row) (own_key (get_or r.stored.keys k d).0))) (get_or r.stored.keys k d).1 r.next (stored.earlier k d far)))
-
 pub copied_some : {X : Type 0} (o : Option (Bor X)) → is_some (option_copied o) ≡ is_some o
 copied_some None = refl
 copied_some (Some x) = refl
 
-module _ (table : TableName) (old new : TableRows) (row : List Cell) (own : length row ≡ width table) (stored : AreStored table old) (added : new.stored.keys ≡ insert_key stored_cmp old.stored.keys (row, old.next)) where
-  pub add_placed : rows_in new ≡ placed table row (rows_in old)
-  add_placed = ap rows_of added ∙ placed_in table row old.next old.stored.keys own stored.wide stored.earlier
-
-  -- what is stored is stored still with a row more
-  pub add_stored : length new.stored.keys < 2 ^ 64 → new.next ≡ old.next + 1 → AreStored table new
-  add_stored count next = record {
-    wide = subst (All (Wide table)) (sym added) (All-insert_key (Wide table) old.stored.keys (row, old.next) stored.wide own);
-    earlier = subst (All (λ (s : Stored). s.1 < new.next)) (sym added) (All-insert_key (λ (s : Stored). s.1 < new.next) old.stored.keys (row, old.next) (λ k d far. let h : (get_or old.stored.keys k d).1 < old.next = stored.earlier k d far in omega (arith, next)) (omega (arith, next)));
+-- what is stored is stored still with a row more
+module _ (table : TableName) (old new : TableRows) (row : List Cell) (n : ℕ) (own : length row ≡ width table) (stored : AreStored table old) (added : new.stored.keys ≡ insert_key stored_cmp old.stored.keys (row, n)) where
+  pub add_stored : length new.stored.keys < 2 ^ 64 → old.next ≤ new.next → n < new.next → AreStored table new
+  add_stored count later below = record {
+    wide = subst (All (Wide table)) (sym added) (All-insert_key (Wide table) old.stored.keys (row, n) stored.wide own);
+    earlier = subst (All (λ (s : Stored). s.1 < new.next)) (sym added) (All-insert_key (λ (s : Stored). s.1 < new.next) old.stored.keys (row, n) (λ k d far. let h : (get_or old.stored.keys k d).1 < old.next = stored.earlier k d far in omega (arith, later)) below);
     count = count;
   }
+
+pub add_placed : (table : TableName) (old new : TableRows) (row : List Cell) → length row ≡ width table → AreStored table old → new.stored.keys ≡ insert_key stored_cmp old.stored.keys (row, old.next) → rows_in new ≡ placed table row (rows_in old)
+add_placed table old new row own stored added = ap rows_of added ∙ placed_in table row old.next old.stored.keys own stored.wide (λ k d far e. stored.earlier k d far)
+
+-- what is stored is stored still with a greater number to come
+pub next_stored : (table : TableName) (old new : TableRows) → new.stored.keys ≡ old.stored.keys → old.next ≤ new.next → AreStored table old → AreStored table new
+next_stored table old new same later stored = record {
+  wide = subst (All (Wide table)) (sym same) stored.wide;
+  earlier = subst (All (λ (s : Stored). s.1 < new.next)) (sym same) (λ k d far. let h : (get_or old.stored.keys k d).1 < old.next = stored.earlier k d far in omega (arith, later));
+  count = subst (λ (keys : List Stored). length keys < 2 ^ 64) (sym same) stored.count;
+}
 
 length-rows_of : (keys : List Stored) → length (rows_of keys) ≡ length keys
 length-rows_of keys = length-map keys (λ (s : Stored). s.0)

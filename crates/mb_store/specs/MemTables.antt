@@ -1,5 +1,6 @@
 -- What the tables in memory hold.
-use Rattle.std.specs.Prelude.{List}
+use Rattle.std.specs.Prelude.{◌≡◌, Bool, List}
+use Rattle.mb_tables.specs.Described.{is_keyed}
 use Rattle.mb_tables.specs.Table.{Tables}
 use Rattle.mb_tables.specs.declared.cell.Cell.{Cell}
 use Rattle.mb_tables.specs.declared.description.TableDesc.{TableDesc}
@@ -20,6 +21,10 @@ rows_at m table = rows_in (at m table)
 
 abbrev pub tables_of : List TableDesc → MemTables → Tables
 tables_of ds m = record { descriptions = ds; rows = rows_at m }
+
+-- which tables are described as keyed
+abbrev pub AreKeyed : List TableDesc → ByTable Bool → Type 0
+AreKeyed ds keyed = (table : TableName) → at keyed table ≡ is_keyed ds table
 
 -- the rows of each table are stored in order
 abbrev pub AreAllStored : MemTables → Type 0

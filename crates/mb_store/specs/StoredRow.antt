@@ -1,5 +1,5 @@
 -- Rows as they are stored: each with the number of its arrival, in the order of their keys.
-use Rattle.std.specs.Prelude.{ℕ, ℤ, ◌&&◌, Bool, cond, nat_lt, List, [], ◌∷◌, length, map, take}
+use Rattle.std.specs.Prelude.{ℕ, pos, ◌&&◌, Bool, cond, nat_lt, List, [], ◌∷◌, length, map, take}
 use Rattle.std.specs.declared.cmp.Ordering.{Ordering}
 use Rattle.std.specs.Ordering.{is_eq, nat_cmp, ordering_then}
 use Rattle.std.specs.Cmp.{IsTotalOrder, nat_cmp_total}
@@ -18,8 +18,8 @@ abbrev pub own_key : List Cell → List Cell
 own_key row = take (cond (nat_lt 2 (length row)) 3 1) row
 
 -- three numbers as cells
-abbrev pub numbers_cells : ℤ × ℤ × ℤ → List Cell
-numbers_cells n = Int n.0 ∷ Int n.1 ∷ Int n.2 ∷ []
+abbrev pub numbers_cells : ℕ × ℕ × ℕ → List Cell
+numbers_cells n = Int (pos n.0) ∷ Int (pos n.1) ∷ Int (pos n.2) ∷ []
 
 -- by the keys' cells, and then by arrival
 abbrev pub stored_cmp : Stored → Stored → Ordering

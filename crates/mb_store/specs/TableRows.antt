@@ -1,6 +1,8 @@
 -- The rows of a table in memory.
-use Rattle.std.specs.Prelude.{◌≡◌, ◌<◌, ◌^◌, List, All, length}
-use Rattle.mb_tables.specs.Table.{width}
+use Rattle.std.specs.Prelude.{◌≡◌, ◌<◌, ◌^◌, Bool, List, All, length}
+use Rattle.std.specs.List.{list_any}
+use Rattle.mb_tables.specs.Cell.{cells_eq}
+use Rattle.mb_tables.specs.Table.{key_of, width}
 use Rattle.mb_tables.specs.declared.cell.Cell.{Cell}
 use Rattle.mb_tables.specs.declared.table.TableName.{TableName}
 use Rattle.mb_store.specs.StoredRow.{Stored, rows_of}
@@ -9,6 +11,10 @@ use Rattle.mb_store.specs.declared.table_rows.TableRows.{TableRows}
 -- the rows, in the order of their keys
 abbrev pub rows_in : TableRows → List (List Cell)
 rows_in r = rows_of r.stored.keys
+
+-- whether one of the rows has a row's key
+abbrev pub has_equal : TableName → List Cell → List (List Cell) → Bool
+has_equal table row rows = list_any (λ other. cells_eq (key_of table row) (key_of table other)) rows
 
 -- each row has the table's width and came before the next number, and a count holds how many there are
 pub record AreStored (table : TableName) (r : TableRows) : Type 0 where

@@ -1,9 +1,12 @@
 // The changes that one commit makes.
-ghost use Rattle.std.specs.Prelude.{◌≡◌, ◌<◌, ◌↔◌, IsTrue, [], true, Some, None, OnOk, OnErr, length, slice_get, option_copied};
+ghost use Rattle.std.specs.Prelude.{◌≡◌, ◌<◌, ◌↔◌, IsTrue, List, [], true, Some, None, OnOk, OnErr, length, slice_get, option_copied};
 ghost use Rattle.mb_store.specs.ChangeIndex.{IsIndex};
 ghost use Rattle.mb_store.specs.Changes.{AreChanges, with_change};
+ghost use Rattle.mb_store.specs.Committing.{AreOfTables};
+ghost use Rattle.mb_tables.specs.Described.{is_table};
 ghost use Rattle.mb_tables.specs.Key.{has_key};
 ghost use Rattle.mb_tables.specs.Table.{width};
+ghost use Rattle.mb_tables.specs.declared.description.TableDesc.{TableDesc};
 
 use crate::change::Change;
 use crate::table_key::TableKey;
@@ -36,7 +39,8 @@ impl Model for Changes {
 impl Changes {
     /// No change.
     pub fn new(alloc: Global) -> Changes
-        ensures { result ≡ [] }
+        ensures none { result ≡ [] }
+        ensures tables { (ds : List TableDesc) → AreOfTables ds result }
     {
         Changes {
             changes: Vec::new(alloc),
@@ -50,6 +54,7 @@ impl Changes {
         requires wide { length row ≡ width table }
         ensures ok { OnOk result (self.new ≡ with_change self.old (record { table = table; key = key; row = Some row })) }
         ensures err { OnErr result (self.new ≡ self.old) }
+        ensures tables { (ds : List TableDesc) → AreOfTables ds self.old → is_table ds table ≡ true → AreOfTables ds self.new }
     {
         let change = Change {
             table,
@@ -63,6 +68,7 @@ impl Changes {
     pub fn delete(&mut self, table: TableName, key: RowKey) -> Result<(), OutOfMemory>
         ensures ok { OnOk result (self.new ≡ with_change self.old (record { table = table; key = key; row = None })) }
         ensures err { OnErr result (self.new ≡ self.old) }
+        ensures tables { (ds : List TableDesc) → AreOfTables ds self.old → is_table ds table ≡ true → AreOfTables ds self.new }
     {
         let change = Change {
             table,

@@ -7,10 +7,11 @@ ghost use Rattle.mb_tables.specs.Key.{IsInOrder, has_key};
 ghost use Rattle.mb_tables.specs.Schema.{set_tables};
 ghost use Rattle.mb_tables.specs.Table.{width};
 ghost use Rattle.mb_store.specs.Committing.{AreOfTables, Commits};
-ghost use Rattle.mb_store.specs.MemTables.{IsKept};
+ghost use Rattle.mb_store.specs.MemTables.{AreKeyed, IsKept};
 ghost use Rattle.mb_store.specs.Sizes.{live_size_of};
 ghost use Rattle.mb_store.specs.Store.{created, is_duplicate, no_rows, with_row};
 
+use crate::by_table::ByTable;
 use crate::mem_tables::MemTables;
 use crate::rows::Rows;
 use crate::{
@@ -25,8 +26,10 @@ use tile_ids::FailingCalls;
 #[derive(Debug, Drop)]
 pub struct MemStore {
     descriptions: Vec<TableDesc>,
+    keyed: ByTable<bool>,
     tables: MemTables,
     failing: FailingCalls,
+    ghost keys: { AreKeyed descriptions.items keyed },
     ghost kept: { IsKept descriptions.items tables },
 }
 
@@ -64,6 +67,7 @@ impl MemStore {
         ensures steady { IsSteady result }
     {
         MemStore {
+            keyed: mem_tables::keyed_tables(descriptions.as_slice()),
             descriptions,
             tables: mem_tables::no_rows(alloc),
             failing: FailingCalls::none(alloc),
@@ -83,7 +87,8 @@ impl MemStore {
         ensures failing { failing_of self.new ≡ failing_of self.old }
         ensures steady { IsSteady self.new ↔ IsSteady self.old }
     {
-        mem_tables::push(&mut self.tables, table, self.descriptions.as_slice(), row)
+        let keyed = *self.keyed.of(table);
+        mem_tables::push(&mut self.tables, table, keyed, row)
     }
 
     /// Goes through the rows of a table, in the order of their keys.
@@ -216,7 +221,9 @@ impl TileStore for MemStore {
         if self.failing.fails() {
             return Err(StoreError::Fault);
         }
-        self.descriptions = describing::with_tables(alloc, self.descriptions.as_slice(), tables)?;
+        let descriptions = describing::with_tables(alloc, self.descriptions.as_slice(), tables)?;
+        self.keyed = mem_tables::keyed_tables(descriptions.as_slice());
+        self.descriptions = descriptions;
         Ok(())
     }
 

@@ -1,11 +1,10 @@
 // The rows of the tables in memory.
 ghost use Rattle.std.specs.Prelude.{◌≡◌, length, ◌+◌, ◌-◌, ◌^◌, ◌&&◌, ◌↔◌, ◌⊎◌, true, [], IfErr, IsErrOf, OnErr, OnOk, min, sum_by};
 ghost use Rattle.std.specs.List.{list_any};
-ghost use Rattle.mb_tables.specs.Described.{is_keyed};
 ghost use Rattle.mb_tables.specs.Key.{clash};
 ghost use Rattle.mb_tables.specs.Table.{width};
 ghost use Rattle.mb_tables.specs.declared.table.TableName.{TableName};
-ghost use Rattle.mb_store.specs.MemTables.{AreAllStored, rows_at};
+ghost use Rattle.mb_store.specs.MemTables.{AreAllStored, AreKeyed, rows_at};
 ghost use Rattle.mb_store.specs.Sizes.{all_tables, row_size};
 ghost use Rattle.mb_store.specs.Store.{placed, with_rows};
 ghost use Rattle.mb_store.specs.TableRows.{rows_in};
@@ -37,22 +36,32 @@ pub(crate) fn no_rows(alloc: Global) -> MemTables
     }
 }
 
-// Adds a row at its place, or refuses it where the table is described as keyed and has its key. Refused, it leaves the rows.
-pub(crate) fn push(
-    tables: &mut MemTables,
-    table: TableName,
-    descriptions: &[TableDesc],
-    row: Row,
-) -> MbtResult<()>
+// Which tables are described as keyed.
+pub(crate) fn keyed_tables(descriptions: &[TableDesc]) -> ByTable<bool>
+    ensures { AreKeyed descriptions.now result }
+{
+    ByTable {
+        tiles: is_keyed(descriptions, TableName::Tiles),
+        tiles_with_hash: is_keyed(descriptions, TableName::TilesWithHash),
+        map: is_keyed(descriptions, TableName::Map),
+        images: is_keyed(descriptions, TableName::Images),
+        tiles_shallow: is_keyed(descriptions, TableName::TilesShallow),
+        tiles_data: is_keyed(descriptions, TableName::TilesData),
+        tile_cache: is_keyed(descriptions, TableName::TileCache),
+        metadata: is_keyed(descriptions, TableName::Metadata),
+    }
+}
+
+// Adds a row at its place, or refuses it where the table is keyed and has its key. Refused, it leaves the rows.
+pub(crate) fn push(tables: &mut MemTables, table: TableName, keyed: bool, row: Row) -> MbtResult<()>
     requires wide { length row ≡ width table }
     requires stored { AreAllStored tables.old }
-    ensures duplicate { IsErrOf result (MbtError.DuplicateRow table) ↔ ((is_keyed descriptions.now table && list_any (clash table row) (rows_at tables.old table)) ≡ true) }
+    ensures duplicate { IsErrOf result (MbtError.DuplicateRow table) ↔ ((keyed && list_any (clash table row) (rows_at tables.old table)) ≡ true) }
     ensures errors { IfErr result (λ e. (e ≡ MbtError.DuplicateRow table) ⊎ (e ≡ MbtError.OutOfMemory)) }
     ensures ok { OnOk result ((other : TableName) → rows_at tables.new other ≡ with_rows (rows_at tables.old) table (placed table row (rows_at tables.old table)) other) }
     ensures err { OnErr result ((other : TableName) → rows_at tables.new other ≡ rows_at tables.old other) }
     ensures stored { AreAllStored tables.new }
 {
-    let keyed = is_keyed(descriptions, table);
     match table {
         TableName::Tiles => table_rows::push(table, keyed, row, &mut tables.tiles),
         TableName::TilesWithHash => table_rows::push(

@@ -1,11 +1,11 @@
 // Going through the rows of a table.
-ghost use Rattle.std.specs.Prelude.{◌≡◌, drop};
+ghost use Rattle.std.specs.Prelude.{◌≡◌, ◌↔◌, IsTrue, [], drop, length};
 ghost use Rattle.mb_store.specs.StoredRow.{rows_of};
 
 use crate::Row;
 use crate::stored_row::StoredRow;
 use std::collections::btree_set::Iter;
-use std::iter::Iterator;
+use std::iter::{ExactSizeIterator, Iterator};
 use std::marker::Model;
 
 /// The rows of a table that are left, in the order of their keys.
@@ -30,6 +30,20 @@ impl<'a> Rows<'a> {
         ensures { result ≡ rows_of stored.entry }
     {
         Rows { stored }
+    }
+
+    /// How many rows are left.
+    pub fn len(&self) -> usize
+        ensures { result ≡ length self.now }
+    {
+        self.stored.len()
+    }
+
+    /// Whether no row is left.
+    pub fn is_empty(&self) -> bool
+        ensures { IsTrue result ↔ (self.now ≡ []) }
+    {
+        self.stored.len() == 0
     }
 }
 

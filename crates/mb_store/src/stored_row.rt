@@ -1,5 +1,5 @@
 // Rows as they are stored, in the order of their keys.
-ghost use Rattle.std.specs.Prelude.{◌≡◌, IfOk, IfSome, Some, refl};
+ghost use Rattle.std.specs.Prelude.{◌≡◌, [], ◌∷◌, IfOk, IfSome, Some, refl};
 ghost use Rattle.std.specs.Ordering.{eq_by_cmp};
 ghost use Rattle.std.specs.Cmp.{eq_by_cmp_equiv, partial_equiv_from_equiv, partial_order_from_total};
 ghost use Rattle.mb_tables.specs.Cell.{cells_cmp};
@@ -13,10 +13,10 @@ use std::marker::Model;
 use tile_ids::OutOfMemory;
 
 // A row and the number of its arrival. Stored rows are ordered by the cells of their keys, and those of equal keys by their arrival. Where the
-// key is three numbers, as that of a place, they lie in the stored row itself, so that two such rows are compared without a look at their cells.
+// key is three small numbers, as that of a place, they lie in the stored row itself, so that two such rows are compared without a look at their cells.
 #[derive(Debug, Drop)]
 pub(crate) struct StoredRow {
-    numbers: (i64, i64, i64),
+    numbers: (u32, u32, u32),
     is_numbered: bool,
     arrival: u64,
     row: Row,
@@ -42,27 +42,36 @@ fn own_key(row: &[Cell]) -> &[Cell]
     &row[..row.len().min(width)]
 }
 
-// The three numbers of a row's key, None where it isn't three numbers.
-fn numbers_of(row: &[Cell]) -> Option<(i64, i64, i64)>
+// Three numbers in fewer bytes, where each of them fits.
+fn small_numbers(first: i64, second: i64, third: i64) -> Option<(u32, u32, u32)>
+    ensures { IfSome result (λ numbers. numbers_cells numbers ≡ Cell.Int first ∷ Cell.Int second ∷ Cell.Int third ∷ []) }
+{
+    let first = u32::try_from(first).ok()?;
+    let second = u32::try_from(second).ok()?;
+    let third = u32::try_from(third).ok()?;
+    Some((first, second, third))
+}
+
+// The three numbers of a row's key, None where it isn't three numbers from 0 to 2^32 - 1.
+fn numbers_of(row: &[Cell]) -> Option<(u32, u32, u32)>
     ensures { IfSome result (λ numbers. own_key row.now ≡ numbers_cells numbers) }
 {
     match row {
-        [Cell::Int(first), Cell::Int(second), Cell::Int(third), ..] => Some((
-            *first, *second, *third,
-        )),
+        [Cell::Int(first), Cell::Int(second), Cell::Int(third), ..] => {
+            small_numbers(*first, *second, *third)
+        }
         _ => None,
     }
 }
 
 // The order of three numbers and three others.
-fn compare_numbers(numbers: (i64, i64, i64), others: (i64, i64, i64)) -> Ordering
+fn compare_numbers(numbers: (u32, u32, u32), others: (u32, u32, u32)) -> Ordering
     ensures { result ≡ cells_cmp (numbers_cells numbers) (numbers_cells others) }
 {
-    numbers
-        .0
-        .cmp(&others.0)
-        .then(numbers.1.cmp(&others.1))
-        .then(numbers.2.cmp(&others.2))
+    i64::from(numbers.0)
+        .cmp(&i64::from(others.0))
+        .then(i64::from(numbers.1).cmp(&i64::from(others.1)))
+        .then(i64::from(numbers.2).cmp(&i64::from(others.2)))
 }
 
 // The cells of a key.

@@ -1,5 +1,5 @@
 // The rows of a table in memory, as a set in the order of their keys.
-ghost use Rattle.std.specs.Prelude.{◌≡◌, ◌<◌, ◌≤◌, ◌↔◌, ◌⊎◌, ◌&&◌, [], true, find, length, IfErr, IfOk, IsErrOf, OnErr, OnOk};
+ghost use Rattle.std.specs.Prelude.{◌≡◌, ◌<◌, ◌≤◌, ◌↔◌, ◌⊎◌, ◌&&◌, [], true, find, length, not, IfErr, IfOk, IsErrOf, OnErr, OnOk};
 ghost use Rattle.std.specs.BTreeSet.{insert_key};
 ghost use Rattle.std.specs.List.{list_any};
 ghost use Rattle.std.specs.Option.{option_copied};
@@ -8,7 +8,7 @@ ghost use Rattle.mb_tables.specs.Key.{IsInOrder, clash, has_key};
 ghost use Rattle.mb_tables.specs.Table.{key_of, width};
 ghost use Rattle.mb_store.specs.Store.{placed};
 ghost use Rattle.mb_store.specs.StoredRow.{is_early, stored_cmp};
-ghost use Rattle.mb_store.specs.TableRows.{AreStored, rows_in};
+ghost use Rattle.mb_store.specs.TableRows.{AreStored, has_equal, rows_in};
 ghost use Rattle.mb_tables.specs.declared.table.TableName.{TableName};
 
 use crate::rows::Rows;
@@ -99,14 +99,21 @@ fn has_null_key(table: TableName, row: &[Cell]) -> bool
     key_of(table, row).iter().any(|cell| cell.is_null())
 }
 
-// Whether rows have one with the key of this one, no cell of it null. This one has no number yet.
-fn has_clash(table: TableName, row: &StoredRow, rows: &TableRows) -> bool
+// Whether a table that is keyed or not has at most one row of the row's key.
+fn is_single(table: TableName, keyed: bool, row: &[Cell]) -> bool
+    ensures { result ≡ (keyed && not (list_any is_null (key_of table row.now))) }
+{
+    keyed && !has_null_key(table, row)
+}
+
+// Whether rows have one with the key of this one, which has no number yet.
+fn has_equal(table: TableName, row: &StoredRow, rows: &TableRows) -> bool
     requires wide { length row.now.0 ≡ width table }
     requires first { row.now.1 ≡ 0 }
     requires stored { AreStored table rows.now }
-    ensures { result ≡ list_any (clash table row.now.0) (rows_in rows.now) }
+    ensures { result ≡ has_equal table row.now.0 (rows_in rows.now) }
 {
-    first_early(row, rows.next, &rows.stored).is_some() && !has_null_key(table, row.row().cells())
+    first_early(row, rows.next, &rows.stored).is_some()
 }
 
 // Adds a row behind those of its key, with the next number. Where memory is wanting, the rows stay.
@@ -129,6 +136,55 @@ pub(crate) fn add(table: TableName, row: StoredRow, rows: &mut TableRows) -> Res
     Ok(())
 }
 
+// Adds a row to rows that all have the number 0, as it has, or refuses it where one has its key: its place and its equal are found by one search.
+fn add_first(table: TableName, row: StoredRow, rows: &mut TableRows) -> MbtResult<()>
+    requires wide { length row.0 ≡ width table }
+    requires first { row.1 ≡ 0 }
+    requires all_first { rows.old.next ≤ 1 }
+    requires stored { AreStored table rows.old }
+    ensures duplicate { IsErrOf result (MbtError.DuplicateRow table) ↔ (has_equal table row.0 (rows_in rows.old) ≡ true) }
+    ensures errors { IfErr result (λ e. (e ≡ MbtError.DuplicateRow table) ⊎ (e ≡ MbtError.OutOfMemory)) }
+    ensures ok { OnOk result (rows_in rows.new ≡ placed table row.0 (rows_in rows.old)) }
+    ensures err { OnErr result (rows_in rows.new ≡ rows_in rows.old) }
+    ensures stored { AreStored table rows.new }
+{
+    if rows.stored.len() == usize::MAX {
+        return Err(MbtError::OutOfMemory);
+    }
+    rows.next = 1;
+    let Ok(added) = rows.stored.insert(row) else {
+        return Err(MbtError::OutOfMemory);
+    };
+    if added {
+        Ok(())
+    } else {
+        Err(MbtError::DuplicateRow(table))
+    }
+}
+
+// Adds a row, or refuses it where one has its key.
+fn add_only(table: TableName, row: StoredRow, rows: &mut TableRows) -> MbtResult<()>
+    requires wide { length row.0 ≡ width table }
+    requires first { row.1 ≡ 0 }
+    requires stored { AreStored table rows.old }
+    ensures duplicate { IsErrOf result (MbtError.DuplicateRow table) ↔ (has_equal table row.0 (rows_in rows.old) ≡ true) }
+    ensures errors { IfErr result (λ e. (e ≡ MbtError.DuplicateRow table) ⊎ (e ≡ MbtError.OutOfMemory)) }
+    ensures ok { OnOk result (rows_in rows.new ≡ placed table row.0 (rows_in rows.old)) }
+    ensures err { OnErr result (rows_in rows.new ≡ rows_in rows.old) }
+    ensures stored { AreStored table rows.new }
+{
+    if rows.next <= 1 {
+        return add_first(table, row, rows);
+    }
+    if has_equal(table, &row, rows) {
+        return Err(MbtError::DuplicateRow(table));
+    }
+    match add(table, row, rows) {
+        Ok(()) => Ok(()),
+        Err(_) => Err(MbtError::OutOfMemory),
+    }
+}
+
 // Adds a row at its place, or refuses it where the table is keyed and has its key. Refused, it leaves the rows.
 pub(crate) fn push(table: TableName, keyed: bool, row: Row, rows: &mut TableRows) -> MbtResult<()>
     requires wide { length row ≡ width table }
@@ -139,11 +195,10 @@ pub(crate) fn push(table: TableName, keyed: bool, row: Row, rows: &mut TableRows
     ensures err { OnErr result (rows_in rows.new ≡ rows_in rows.old) }
     ensures stored { AreStored table rows.new }
 {
-    let row = StoredRow::new(row, 0);
-    if keyed && has_clash(table, &row, rows) {
-        return Err(MbtError::DuplicateRow(table));
+    if is_single(table, keyed, row.cells()) {
+        return add_only(table, StoredRow::new(row, 0), rows);
     }
-    match add(table, row, rows) {
+    match add(table, StoredRow::new(row, 0), rows) {
         Ok(()) => Ok(()),
         Err(_) => Err(MbtError::OutOfMemory),
     }

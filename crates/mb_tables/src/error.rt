@@ -53,6 +53,49 @@ pub enum MbtError {
         /// The digest of the contents.
         computed: TextVal,
     },
+    /// The digest of all tiles, as metadata has it, is another than the computed one.
+    #[error("aggregate hash mismatch: computed {computed}, stored {stored}")]
+    AggHashMismatch {
+        /// The digest of the tiles.
+        computed: TextVal,
+        /// The digest as it is stored.
+        stored: TextVal,
+    },
+    /// The metadata has no digest of all tiles.
+    #[error("no aggregate hash")]
+    AggHashValueNotFound,
+    /// The set that is to be patched has no digest of all tiles, and the patch isn't forced.
+    #[error("cannot patch a set without an aggregate hash")]
+    CannotDiffFileWithoutHash,
+    /// The set that is to be patched is itself a patch: it has a digest of all tiles before or after it, and the patch isn't forced.
+    #[error("cannot patch a patch")]
+    DiffingDiffFile,
+    /// The patch has no digest of all tiles after it, and isn't forced.
+    #[error("the patch has no aggregate hashes")]
+    PatchFileHasNoHashes,
+    /// The patch has a digest of all tiles after it and none before it, and isn't forced.
+    #[error("the patch has no aggregate hash before it")]
+    PatchFileHasNoBeforeHash,
+    /// The patch is meant for a set of another digest of all tiles, and isn't forced.
+    #[error("aggregate hash mismatch: the patch is for {before_apply_hash}, the set has {agg_hash}")]
+    AggHashMismatchWithDiff {
+        /// The digest of the set that the patch is meant for.
+        before_apply_hash: TextVal,
+        /// The digest of the set.
+        agg_hash: TextVal,
+    },
+    /// The patch describes a table of binary differences.
+    #[error("unsupported patch type")]
+    UnsupportedPatchType,
+    /// The layout of the set isn't one that the call can write.
+    #[error("unsupported copy operation")]
+    UnsupportedCopyOperation,
+    /// Contents that are put have the id of others in a normalised set: that id.
+    #[error("contents collide under the id {id}")]
+    IdCollision {
+        /// The id of the contents.
+        id: TextVal,
+    },
     /// The call found no memory.
     #[error("out of memory")]
     OutOfMemory,

@@ -1,7 +1,7 @@
 -- The pieces of a directory, written one behind another, and ids that don't fall.
-use Rattle.std.proofs.Common.{All, ◌≡◌, ℕ, zero, suc, ◌<◌, ◌≤◌, List, [], ◌∷◌, ◌++◌, length, map, None, get_or, append_assoc, arith}
+use Rattle.std.proofs.Common.{All, ◌≡◌, ℕ, zero, suc, ◌<◌, ◌≤◌, List, [], ◌∷◌, ◌++◌, length, map, None, get_or, append_assoc, arith, refl, ap}
 use Rattle.pm_format.specs.Varint.{varint}
-use Rattle.pm_format.specs.Directory.{DirFits, Entry, IdsDontFall, IsPlaced, NotFalling, dir_bytes, spell_all, steps_from, starts_from}
+use Rattle.pm_format.specs.Directory.{DirFits, Entry, IdsDontFall, IsPlaced, IsWritable, NotFalling, dir_bytes, spell_all, steps_from, starts_from}
 
 pub five : (x0 x1 x2 x3 x4 x5 a b c d e : List ℕ) → x1 ≡ x0 ++ a → x2 ≡ x1 ++ b → x3 ≡ x2 ++ c → x4 ≡ x3 ++ d → x5 ≡ x4 ++ e → x5 ≡ x0 ++ (a ++ (b ++ (c ++ (d ++ e))))
 five x0 x1 x2 x3 x4 x5 a b c d e p q r s t = rw (t, s, r, q, p) (simp append_assoc)
@@ -18,6 +18,23 @@ not_falling last (e ∷ es) h g = (g e (omega arith), not_falling e.tile_id es (
 pub not_falling_zero : (es : List Entry) → IdsDontFall es → NotFalling 0 es
 not_falling_zero es h = not_falling 0 es h (λ d q. omega arith)
 
+-- entries in order and at places that fit may be written
+pub placed_writable : (last : ℕ) (es : List Entry) → NotFalling last es → All IsPlaced es → IsWritable last es
+placed_writable last [] h p = tt
+placed_writable last (e ∷ es) h p =
+    let here = p 0 e (omega arith) in
+    (h.0, omega (arith, here.start), here.end, placed_writable e.tile_id es h.1 (λ k d q. p (suc k) d (omega (arith, q))))
+
+-- so may entries that fit
+pub fits_writable : (last : ℕ) (es : List Entry) → DirFits last es → IsWritable last es
+fits_writable last [] h = tt
+fits_writable last (e ∷ es) h = (h.0, h.4, h.5, fits_writable e.tile_id es h.6)
+
+-- entries as they are
+pub same_entries : (es : List Entry) → map (λ e. e) es ≡ es
+same_entries [] = refl
+same_entries (e ∷ es) = ap (λ z. e ∷ z) (same_entries es)
+
 none_below : (last : ℕ) (es : List Entry) → NotFalling last es → (k : ℕ) (d : Entry) → k < length es → last ≤ (get_or es k d).tile_id
 none_below last [] h k d q = absurd (omega (arith, q))
 none_below last (e ∷ es) h zero d q = h.0
@@ -32,16 +49,3 @@ dont_fall last (e ∷ es) h = go (dont_fall e.tile_id es h.1)
     go g zero (suc j) d p q = none_below e.tile_id es h.1 j d (omega (arith, q))
     go g (suc i) zero d p q = absurd (omega (arith, p))
     go g (suc i) (suc j) d p q = g i j d (omega (arith, p)) (omega (arith, q))
-
--- entries that fit may be encoded
-fits_not_falling : (last : ℕ) (es : List Entry) → DirFits last es → NotFalling last es
-fits_not_falling last [] h = tt
-fits_not_falling last (e ∷ es) h = (h.0, fits_not_falling e.tile_id es h.6)
-
-pub fits_ordered : (last : ℕ) (es : List Entry) → DirFits last es → IdsDontFall es
-fits_ordered last es h = dont_fall last es (fits_not_falling last es h)
-
-pub fits_placed : (last : ℕ) (es : List Entry) → DirFits last es → All IsPlaced es
-fits_placed last [] h k d q = absurd (omega (arith, q))
-fits_placed last (e ∷ es) h zero d q = record { start = omega (arith, h.4); end = h.5 }
-fits_placed last (e ∷ es) h (suc k) d q = fits_placed e.tile_id es h.6 k d (omega (arith, q))

@@ -2,6 +2,7 @@
 use Rattle.std.specs.Prelude.{◌≡◌, ℕ, zero, suc, ◌+◌, ◌-◌, ◌^◌, ◌<◌, ◌≤◌, List, [], ◌∷◌, ◌++◌, length, Option, Some, None, nat_lt, nat_eq, if◌then◌else◌, option_map, flat_map, map, refl}
 use Rattle.std.specs.List.Sorted.{IsNonDecreasingBy}
 use Rattle.pm_format.specs.declared.entry.DirEntry.{DirEntry}
+use Rattle.pm_format.specs.declared.wide_entry.WideEntry.{WideEntry}
 use Rattle.pm_format.specs.Varint.{number_at, u64_at, varint}
 
 abbrev pub Entry : Type 0
@@ -9,6 +10,9 @@ Entry = DirEntry
 
 abbrev pub entry : ℕ → ℕ → ℕ → ℕ → Entry
 entry id offset length run = record { tile_id = id; offset = offset; length = length; run_length = run }
+
+abbrev pub wide_as : WideEntry → Entry
+wide_as w = entry w.tile_id w.offset w.length w.run_length
 
 infixl 10 ◌>>=◌
 abbrev pub ◌>>=◌ : {A B : Type 0} → Option A → (A → Option B) → Option B
@@ -73,6 +77,11 @@ dir_bytes es = varint (length es) ++ (spell_all (steps_from 0 es) ++ (spell_all 
 abbrev pub DirFits : ℕ → List Entry → Type 0
 DirFits last [] = Unit {0}
 DirFits last (e ∷ es) = (last ≤ e.tile_id) × (e.tile_id < 2 ^ 64) × (e.length < 2 ^ 32) × (e.run_length < 2 ^ 32) × (e.offset + 1 < 2 ^ 64) × (e.offset + e.length < 2 ^ 64) × DirFits e.tile_id es
+
+-- ids that don't fall, and offsets and ends within u64; a length may be any
+abbrev pub IsWritable : ℕ → List Entry → Type 0
+IsWritable last [] = Unit {0}
+IsWritable last (e ∷ es) = (last ≤ e.tile_id) × (e.offset + 1 < 2 ^ 64) × (e.offset + e.length < 2 ^ 64) × IsWritable e.tile_id es
 
 -- ids that don't fall
 abbrev pub IdsDontFall : List Entry → Type 0

@@ -1,6 +1,7 @@
 pub mod Compression
 pub mod Columns
 pub mod Directory
+pub mod ErrorName
 pub mod Errors
 pub mod Header
 pub mod HeaderDefaults

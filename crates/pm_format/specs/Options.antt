@@ -5,7 +5,7 @@ use Rattle.pm_format.specs.declared.compression.Compression.TheVariants as compr
 use Rattle.pm_format.specs.declared.tile_type.TileType.{TileType}
 use Rattle.pm_format.specs.declared.tile_type.TileType.TheVariants as tile_type
 
--- labels, type, zooms, degrees in ten millionths, and the metadata
+-- labels, type, zooms, degrees in ten millionths, the metadata, and how many entries a directory of tile entries below the root has at most
 pub record Options : Type 0 where
   pub internal_compression : Compression
   pub tile_compression : Compression
@@ -20,6 +20,7 @@ pub record Options : Type 0 where
   pub center_longitude : ℤ
   pub center_latitude : ℤ
   pub metadata : List ℕ
+  pub max_leaf_entries : ℕ
 
 -- how tiles of a type are labelled where nothing else is said
 abbrev pub usual_compression : TileType → Compression
@@ -42,4 +43,5 @@ default_options type = record {
   center_longitude = pos 0;
   center_latitude = pos 0;
   metadata = codes "{}";
+  max_leaf_entries = 4096;
 }

@@ -12,7 +12,7 @@ use Rattle.pm_format.specs.WellFormed.{Parts, header_of}
 
 -- no tile
 abbrev pub no_parts : Parts
-no_parts = record { root = []; leaves = []; contents = [] }
+no_parts = record { root = []; leaves = []; uppers = []; contents = [] }
 
 -- the bytes behind the magic bytes and the version, up to the zooms, where nothing is there
 abbrev pub empty_header : List ℕ
@@ -39,7 +39,7 @@ empty_set_opens = refl
 
 -- one tile of one byte at the id 0
 abbrev pub one_part : Parts
-one_part = record { root = entry 0 0 1 1 ∷ []; leaves = []; contents = (48 ∷ []) ∷ [] }
+one_part = record { root = entry 0 0 1 1 ∷ []; leaves = []; uppers = []; contents = (48 ∷ []) ∷ [] }
 
 abbrev pub one_tile_header : List ℕ
 one_tile_header =

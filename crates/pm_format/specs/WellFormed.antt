@@ -10,23 +10,33 @@ use Rattle.pm_format.specs.Opened.{opened}
 use Rattle.pm_format.specs.Options.{Options}
 use Rattle.pm_format.specs.Sound.{SoundDirectory}
 
--- what the bytes consist of: the entries of the root and of each leaf, and the contents in their order
+-- what the bytes consist of: the entries of the root, of each directory of tile entries below it and of each upper directory between them, and the contents in
+-- their order
 pub record Parts : Type 0 where
   pub root : List Entry
   pub leaves : List (List Entry)
+  pub uppers : List (List Entry)
   pub contents : List (List ℕ)
+
+-- the directories below the root, in the order of the leaf part
+abbrev pub below_root : Parts → List (List Entry)
+below_root p = p.leaves ++ p.uppers
+
+-- the entries of directories, one behind another
+abbrev pub joined : List (List Entry) → List Entry
+joined ls = flat_map (λ l. l) ls
 
 -- the tile entries of all directories
 abbrev pub tile_entries : Parts → List Entry
-tile_entries p = filter (λ e. not (nat_eq e.run_length 0)) p.root ++ flat_map (λ l. l) p.leaves
+tile_entries p = filter (λ e. not (nat_eq e.run_length 0)) p.root ++ joined p.leaves
 
 abbrev pub data_part : Parts → List ℕ
 data_part p = flat_map (λ c. c) p.contents
 
 abbrev pub leaf_part : Parts → List ℕ
-leaf_part p = flat_map dir_bytes p.leaves
+leaf_part p = flat_map dir_bytes (below_root p)
 
--- the header of the parts, with the options: the root behind it, the metadata at the end of the front, the data behind them, then the leaves
+-- the header of the parts, with the options: the root behind it, the metadata at the end of the front, the data behind them, then the directories below the root
 abbrev pub header_of : Options → Bool → Parts → Header
 header_of o clustered p = record {
   version = 3;
@@ -64,11 +74,21 @@ abbrev pub AllLeaves : List (List Entry) → Type 0
 AllLeaves [] = Unit {0}
 AllLeaves (l ∷ ls) = (l ≢ []) × AllTiles l × AllLeaves ls
 
+-- no directory is empty
+abbrev pub AllSome : List (List Entry) → Type 0
+AllSome [] = Unit {0}
+AllSome (l ∷ ls) = (l ≢ []) × AllSome ls
+
+-- no directory has more entries than this
+abbrev pub AllAtMost : ℕ → List (List Entry) → Type 0
+AllAtMost most [] = Unit {0}
+AllAtMost most (l ∷ ls) = (length l ≤ most) × AllAtMost most ls
+
 abbrev pub first_id : List Entry → ℕ
 first_id [] = 0
 first_id (e ∷ es) = e.tile_id
 
--- an entry for each leaf, the leaves lying one behind another from a place on
+-- an entry for each directory, these lying one behind another from a place on
 abbrev pub root_of : ℕ → List (List Entry) → List Entry
 root_of place [] = []
 root_of place (l ∷ ls) = let n = length (dir_bytes l) in entry (first_id l) place n 0 ∷ root_of (place + n) ls
@@ -96,11 +116,30 @@ abbrev pub AllRead : List (List Entry) → Type 0
 AllRead [] = Unit {0}
 AllRead (l ∷ ls) = (dir_of (dir_bytes l) ≡ Some l) × AllRead ls
 
+-- the root has tile entries alone
+pub record IsFlat (p : Parts) : Type 0 where
+  pub tiles : AllTiles p.root
+  pub leaves : p.leaves ≡ []
+  pub uppers : p.uppers ≡ []
+
+-- the root's entries name directories of tile entries
+pub record NamesLeaves (p : Parts) : Type 0 where
+  pub root : p.root ≡ root_of 0 p.leaves
+  pub leaves : AllLeaves p.leaves
+  pub uppers : p.uppers ≡ []
+
+-- the root's entries name upper directories, which lie behind the others and whose entries name them
+pub record NamesUppers (p : Parts) : Type 0 where
+  pub root : p.root ≡ root_of (length (flat_map dir_bytes p.leaves)) p.uppers
+  pub named : joined p.uppers ≡ root_of 0 p.leaves
+  pub leaves : AllLeaves p.leaves
+  pub uppers : AllSome p.uppers
+
 -- the header, the root, and zeros up to the end of the front
 abbrev pub front_bytes : Options → Bool → Parts → List ℕ
 front_bytes o clustered p = header_bytes (header_of o clustered p) ++ (dir_bytes p.root ++ replicate (MAX_ROOT - length (dir_bytes p.root)) 0)
 
--- then the metadata, the contents and the leaves
+-- then the metadata, the contents and the directories below the root
 unfoldable pub archive_bytes : Options → Bool → Parts → List ℕ
 archive_bytes o clustered p = front_bytes o clustered p ++ (o.metadata ++ (data_part p ++ leaf_part p))
 
@@ -110,8 +149,9 @@ pub record ConsistsOf (b : List ℕ) (o : Options) (clustered : Bool) (p : Parts
   pub small : length (dir_bytes p.root) ≤ MAX_ROOT
   pub opens : opened b ≡ Ok (header_of o clustered p, p.root)
   pub sound : SoundDirectory 6 (header_of o clustered p) b 0 (MAX_TILE_ID + 1) p.root
-  pub kinds : (AllTiles p.root × (p.leaves ≡ [])) ⊎ ((p.root ≡ root_of 0 p.leaves) × AllLeaves p.leaves)
-  pub read : AllRead (p.root ∷ p.leaves)
+  pub kinds : IsFlat p ⊎ (NamesLeaves p ⊎ NamesUppers p)
+  pub bounded : AllAtMost o.max_leaf_entries p.leaves
+  pub read : AllRead (p.root ∷ below_root p)
   pub ranges : AllIn p.contents (tile_entries p)
   pub named : AllNamed (tile_entries p) 0 p.contents
 

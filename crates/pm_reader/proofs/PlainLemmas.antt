@@ -5,6 +5,7 @@ use Rattle.pm_format.specs.declared.compression.Compression.{Compression}
 use Rattle.pm_format.specs.declared.compression.Compression.TheVariants as compression
 use Rattle.pm_format.specs.declared.error.PmtError.{PmtError}
 use Rattle.pm_format.specs.declared.error.PmtError.TheVariants as errors
+use Rattle.pm_reader.specs.Answers.{IsWhole}
 use Rattle.pm_reader.specs.Versions.{GivesUnmodified, PlainCauses, UnmodifiedCauses, plain}
 use Rattle.pm_reader.proofs.FollowingLemmas.{gives_refused}
 
@@ -48,3 +49,13 @@ causes_plain label before now (Err e) h = let P : Result (Option (List ℕ)) Pmt
 
 pub plain_causes : (label : Compression) (before now : ℕ) (r given : Result (Option (List ℕ)) PmtError) → given ≡ plain label r → UnmodifiedCauses before now r → PlainCauses label before now given
 plain_causes label before now r given same h = let P : Result (Option (List ℕ)) PmtError → Type 0 = λ x. PlainCauses label before now x in subst P (sym same) (causes_plain label before now r h)
+
+whole_plain : (label : Compression) (r : Result (Option (List ℕ)) PmtError) → IsWhole r → IsWhole (plain label r)
+whole_plain compression.None r h = h
+whole_plain label (Ok (Some bytes)) h = tt
+whole_plain label (Ok None) h = tt
+whole_plain label (Err e) h = let P : Result (Option (List ℕ)) PmtError → Type 0 = λ x. IsWhole x in subst P (sym (refusal_stays label e)) h
+
+pub plain_whole : (told : Option (List ℕ)) (label : Compression) (r given : Result (Option (List ℕ)) PmtError) → given ≡ plain label r → IfSome told (λ _. IsWhole r) → IfSome told (λ _. IsWhole given)
+plain_whole None label r given same h = tt
+plain_whole (Some b) label r given same h = let P : Result (Option (List ℕ)) PmtError → Type 0 = λ x. IsWhole x in subst P (sym same) (whole_plain label r h)

@@ -25,6 +25,12 @@ LookUpCauses before now (Err (errors.UnexpectedNumberOfBytesReturned asked got))
 LookUpCauses before now (Err errors.OutOfMemory) = Unit {0}
 LookUpCauses before now (Err _) = ⊥
 
+-- no wrong number of bytes is answered
+abbrev pub IsWhole : {A : Type 0} → Result A PmtError → Type 0
+IsWhole (Ok _) = Unit {0}
+IsWhole (Err (errors.UnexpectedNumberOfBytesReturned asked got)) = ⊥
+IsWhole (Err _) = Unit {0}
+
 -- the same of bytes that aren't decoded
 abbrev pub RangeCauses : {A : Type 0} → ℕ → ℕ → Result A PmtError → Type 0
 RangeCauses before now (Err errors.InvalidEntry) = ⊥

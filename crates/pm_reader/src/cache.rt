@@ -3,6 +3,7 @@ ghost use Rattle.std.specs.Prelude.{◌≡◌, ℕ, List, Option, None, Ok, Some
 ghost use Rattle.pm_format.specs.Directory.{Entry};
 ghost use Rattle.pm_reader.specs.Caches.{AddsNone, AddsOnly, AnswersFetched, AnswersHeld, answer_of, from_found};
 
+mod kept;
 mod map;
 mod none;
 mod recent;

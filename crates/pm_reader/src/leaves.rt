@@ -1,7 +1,7 @@
 // Leaves: read, or found in a cache, and followed to the entry of a tile.
 ghost use Rattle.std.specs.Prelude.{◌≡◌, ◌≤◌, ◌-◌, IfSome};
 ghost use Rattle.pm_format.specs.LookUp.{leaf_of};
-ghost use Rattle.pm_reader.specs.Answers.{Gives, LookUpCauses};
+ghost use Rattle.pm_reader.specs.Answers.{Gives, IsWhole, LookUpCauses};
 ghost use Rattle.pm_reader.specs.Levels.{IsAtLevel, IsLeafEntry, IsTrusted};
 ghost use Rattle.pm_reader.specs.Path.{entry_in_leaf};
 ghost use Rattle.pm_reader.specs.Way.{Follows};
@@ -22,6 +22,7 @@ pub(crate) fn read_leaf<B: Backend>(
 ) -> PmtResult<Directory>
     ensures answer { IfSome (B.told backend.old) (λ b. Gives (leaf_of header.now b leaf) result) }
     ensures causes { LookUpCauses (B.faults backend.old) (B.faults backend.new) result }
+    ensures whole { IfSome (B.told backend.old) (λ _. IsWhole result) }
     ensures kept { ReadsOnly B.told B.versions B.faults B.steady backend.old backend.new }
     ensures reads { GrewBetween (B.reads backend.old) (B.reads backend.new) (reads_done result) 1 }
 {
@@ -43,6 +44,7 @@ impl ReaderState {
             → IsLeafEntry self.now.header b self.now.root leaf → IsTrusted self.now.header b self.now.root (C.held cache.new) (C.idle cache.new)) }
         ensures idle { C.idle cache.old → C.idle cache.new }
         ensures causes { LookUpCauses (B.faults backend.old) (B.faults backend.new) result }
+        ensures whole { IfSome (B.told backend.old) (λ _. IsWhole result) }
         ensures kept { ReadsOnly B.told B.versions B.faults B.steady backend.old backend.new }
         ensures reads { GrewBetween (B.reads backend.old) (B.reads backend.new) 0 1 }
     {
@@ -76,6 +78,7 @@ impl ReaderState {
             → Follows self.now.header b self.now.root tile_id left found (B.reads backend.old) (B.reads backend.new) (C.held cache.new) (C.idle cache.new) result) }
         ensures idle { C.idle cache.old → C.idle cache.new }
         ensures causes { LookUpCauses (B.faults backend.old) (B.faults backend.new) result }
+        ensures whole { IfSome (B.told backend.old) (λ _. IsWhole result) }
         ensures kept { ReadsOnly B.told B.versions B.faults B.steady backend.old backend.new }
         ensures reads { GrewBetween (B.reads backend.old) (B.reads backend.new) 0 left }
     {

@@ -1,7 +1,7 @@
 // Look-ups of tiles.
 ghost use Rattle.std.specs.Prelude.{◌≡◌, IfSome};
 ghost use Rattle.pm_format.specs.LookUp.{archive_tile};
-ghost use Rattle.pm_reader.specs.Answers.{FoundTextAt, Gives, LookUpCauses, contents_of, tile_of};
+ghost use Rattle.pm_reader.specs.Answers.{FoundTextAt, Gives, IsWhole, LookUpCauses, contents_of, tile_of};
 ghost use Rattle.pm_reader.specs.Archives.{IsCacheable, ReadsByHops};
 ghost use Rattle.pm_reader.specs.Levels.{IsTrusted};
 ghost use Rattle.pm_reader.specs.Opening.{IsOpen};
@@ -31,6 +31,7 @@ impl ReaderState {
         ensures text { FoundTextAt (B.versions backend.new) (B.reads backend.new) result }
         ensures idle { C.idle cache.old → C.idle cache.new }
         ensures causes { LookUpCauses (B.faults backend.old) (B.faults backend.new) result }
+        ensures whole { IfSome (B.told backend.old) (λ _. IsWhole result) }
         ensures kept { ReadsOnly B.told B.versions B.faults B.steady backend.old backend.new }
         ensures reads { GrewBetween (B.reads backend.old) (B.reads backend.new) (reads_for (tile_of result)) 7 }
     {
@@ -64,6 +65,7 @@ impl ReaderState {
         ensures open { IsOpen (B.told backend.new) self.now }
         ensures answer { IfSome (B.told backend.old) (λ b. Gives (archive_tile b tile_id) result) }
         ensures causes { LookUpCauses (B.faults backend.old) (B.faults backend.new) result }
+        ensures whole { IfSome (B.told backend.old) (λ _. IsWhole result) }
         ensures hops { IfSome (B.told backend.old) (λ b. ReadsByHops b tile_id (B.reads backend.old) (B.reads backend.new)) }
         ensures reads { GrewBetween (B.reads backend.old) (B.reads backend.new) (reads_for result) 7 }
         ensures kept { ReadsOnly B.told B.versions B.faults B.steady backend.old backend.new }
@@ -88,6 +90,7 @@ impl ReaderState {
         ensures hops { IfSome (B.told backend.old) (λ b. IsCacheable b (C.idle cache.old) → ReadsByHops b tile_id (B.reads backend.old) (B.reads backend.new)) }
         ensures idle { C.idle cache.old → C.idle cache.new }
         ensures causes { LookUpCauses (B.faults backend.old) (B.faults backend.new) result }
+        ensures whole { IfSome (B.told backend.old) (λ _. IsWhole result) }
         ensures reads { GrewBetween (B.reads backend.old) (B.reads backend.new) (reads_for result) 7 }
         ensures kept { ReadsOnly B.told B.versions B.faults B.steady backend.old backend.new }
     {

@@ -1,7 +1,7 @@
 // Parts of an archive at given places: directories of the leaf part, and contents of the data part.
 ghost use Rattle.std.specs.Prelude.{◌≡◌, ◌+◌, IfSome};
 ghost use Rattle.pm_format.specs.LookUp.{directory_at};
-ghost use Rattle.pm_reader.specs.Answers.{Gives, LookUpCauses, RangeCauses, range_read};
+ghost use Rattle.pm_reader.specs.Answers.{Gives, IsWhole, LookUpCauses, RangeCauses, range_read};
 ghost use Rattle.pm_reader.specs.Opening.{header_of};
 ghost use Rattle.pm_reader.specs.Reads.{GrewBetween, ReadsOnly, reads_done};
 ghost use Rattle.pm_reader.specs.Tied.{IsTied};
@@ -22,6 +22,7 @@ pub(crate) fn read_directory_at<B: Backend>(
 ) -> PmtResult<Directory>
     ensures answer { IfSome (B.told backend.old) (λ b. Gives (directory_at header.now b offset length) result) }
     ensures causes { LookUpCauses (B.faults backend.old) (B.faults backend.new) result }
+    ensures whole { IfSome (B.told backend.old) (λ _. IsWhole result) }
     ensures kept { ReadsOnly B.told B.versions B.faults B.steady backend.old backend.new }
     ensures reads { GrewBetween (B.reads backend.old) (B.reads backend.new) (reads_done result) 1 }
 {

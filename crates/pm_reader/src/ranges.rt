@@ -1,7 +1,7 @@
 // Ranges of a backend's bytes.
 ghost use Rattle.std.specs.Prelude.{◌≡◌, ◌<◌, ◌+◌, ◌^◌, IfSome, IfOk, IsErrOf};
 ghost use Rattle.std.specs.Option.{SomeIff};
-ghost use Rattle.pm_reader.specs.Answers.{Gives, HasTextAt, LookUpCauses, bytes_of, range_read};
+ghost use Rattle.pm_reader.specs.Answers.{Gives, HasTextAt, IsWhole, LookUpCauses, bytes_of, range_read};
 ghost use Rattle.pm_reader.specs.Reads.{GrewBetween, ReadsOnly, reads_done};
 
 use pm_format::{Backend, BackendResponse, PmtError, PmtResult, ReadCause};
@@ -17,6 +17,7 @@ pub(crate) fn read_range<B: Backend>(
 ) -> PmtResult<BackendResponse>
     ensures answer { IfSome (B.told backend.old) (λ b. Gives (range_read b (base + offset) length) (bytes_of result)) }
     ensures causes { LookUpCauses (B.faults backend.old) (B.faults backend.new) result }
+    ensures whole { IfSome (B.told backend.old) (λ _. IsWhole result) }
     ensures plain { IsErrOf result PmtError.InvalidEntry → ⊥ }
     ensures version { IfOk result (HasTextAt (B.versions backend.old) (B.reads backend.new)) }
     ensures kept { ReadsOnly B.told B.versions B.faults B.steady backend.old backend.new }

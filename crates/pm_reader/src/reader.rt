@@ -4,7 +4,7 @@ ghost use Rattle.tile_ids.specs.Counts.{Grew};
 ghost use Rattle.pm_format.specs.LookUp.{archive_tile};
 ghost use Rattle.pm_format.specs.declared.error.PmtError.TheVariants as errors;
 ghost use Rattle.pm_format.specs.declared.error.ReadCause.TheVariants as causes;
-ghost use Rattle.pm_reader.specs.Answers.{Gives, LookUpCauses};
+ghost use Rattle.pm_reader.specs.Answers.{Gives, IsWhole, LookUpCauses};
 ghost use Rattle.pm_reader.specs.Archives.{IsCacheable, ReadsByHops};
 ghost use Rattle.pm_reader.specs.Opening.{HasVersionOf, IsOpen, IsOpenFailure, OpenAnswers, header_of, root_of, version_of};
 ghost use Rattle.pm_reader.specs.Reads.{GrewBetween, ReadsOnly, reads_for};
@@ -134,6 +134,7 @@ impl<'a, B: Backend, C: DirectoryCache> PmTilesReader<'a, B, C> {
         ensures hops { IfSome (B.told self.old.backend.now) (λ b. IsCacheable b (C.idle self.old.cache) → ReadsByHops b tile_id (B.reads self.old.backend.now) (B.reads self.new.backend.now)) }
         ensures idle { C.idle self.old.cache → C.idle self.new.cache }
         ensures causes { LookUpCauses (B.faults self.old.backend.now) (B.faults self.new.backend.now) result }
+        ensures whole { IfSome (B.told self.old.backend.now) (λ _. IsWhole result) }
         ensures kept { ReadsOnly B.told B.versions B.faults B.steady self.old.backend.now self.new.backend.now }
         ensures reads { GrewBetween (B.reads self.old.backend.now) (B.reads self.new.backend.now) (reads_for result) 7 }
     {
@@ -151,13 +152,14 @@ impl<'a, B: Backend, C: DirectoryCache> PmTilesReader<'a, B, C> {
         ensures answer { IfSome (B.told self.old.backend.now) (λ b. IsCacheable b (C.idle self.old.cache) → GivesUnmodified (archive_tile b tile_id) (archive_tile b tile_id) result) }
         ensures text { ComparesTexts (version_of self.new.state) (B.versions self.new.backend.now) (B.reads self.new.backend.now) result }
         ensures causes { UnmodifiedCauses (B.faults self.old.backend.now) (B.faults self.new.backend.now) result }
+        ensures whole { IfSome (B.told self.old.backend.now) (λ _. IsWhole result) }
         ensures hops { IfSome (B.told self.old.backend.now) (λ b. IsCacheable b (C.idle self.old.cache) → ReadsByHops b tile_id (B.reads self.old.backend.now) (B.reads self.new.backend.now)) }
         ensures idle { C.idle self.old.cache → C.idle self.new.cache }
         ensures kept { ReadsOnly B.told B.versions B.faults B.steady self.old.backend.now self.new.backend.now }
         ensures reads { GrewBetween (B.reads self.old.backend.now) (B.reads self.new.backend.now) (reads_for result) 7 }
     {
         self.state
-            .find_unmodified(self.backend, &mut self.cache, tile_id)
+            .get_unmodified_tile(self.backend, &mut self.cache, tile_id)
     }
 
     /// The same, and `UnsupportedCompression` for a found tile exactly where tiles aren't labelled `None`.
@@ -170,6 +172,7 @@ impl<'a, B: Backend, C: DirectoryCache> PmTilesReader<'a, B, C> {
             → GivesUnmodified (archive_tile b tile_id) (plain (header_of self.new.state).tile_compression (archive_tile b tile_id)) result) }
         ensures text { ComparesTexts (version_of self.new.state) (B.versions self.new.backend.now) (B.reads self.new.backend.now) result }
         ensures causes { PlainCauses (header_of self.new.state).tile_compression (B.faults self.old.backend.now) (B.faults self.new.backend.now) result }
+        ensures whole { IfSome (B.told self.old.backend.now) (λ _. IsWhole result) }
         ensures hops { IfSome (B.told self.old.backend.now) (λ b. IsCacheable b (C.idle self.old.cache) → ReadsByHops b tile_id (B.reads self.old.backend.now) (B.reads self.new.backend.now)) }
         ensures idle { C.idle self.old.cache → C.idle self.new.cache }
         ensures kept { ReadsOnly B.told B.versions B.faults B.steady self.old.backend.now self.new.backend.now }

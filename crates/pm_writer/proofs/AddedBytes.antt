@@ -56,7 +56,7 @@ added_writes o adds t0 t1 s after id at bytes w alive e fits m h =
     both_now (λ b. b ≡ begun o adds) (λ b. b ≡ begun o (adds ++ (id, bytes) ∷ [])) (λ b c. c ≡ written b at piece) t0 t1
     (λ b c p q. q ∙ (written_behind b piece at (omega (arith, e, ap length p, begun_length o adds)) ∙ (ap (λ z. z ++ piece) p ∙ (joined (zeros 16384) o.metadata (data_of adds) piece ∙ ap (λ z. zeros 16384 ++ (o.metadata ++ z)) (sym more))))) ((w.held alive).bytes) h in
     record {
-      of = record { settings = w.of.settings; plain = w.of.plain; place = w.of.place };
+      of = record { settings = w.of.settings; plain = w.of.plain; fit = w.of.fit; place = w.of.place };
       hidden = begun_is_hidden o (adds ++ (id, bytes) ∷ []) t1 laid;
       held = λ q. record { means = m; ends = fits.1; bytes = laid };
     }
@@ -68,7 +68,7 @@ added_writes o adds t0 t1 s after id at bytes w alive e fits m h =
 pub failed_writes : (o : Options) (adds : List (ℕ × List ℕ)) (t0 t1 : Option (List ℕ)) (s : WriterState) (after : Adds) (at : ℕ) (bytes : List ℕ) → Writes o t0 s adds → has_failed s ≡ false → at ≡ data_end o adds
     → BothTold (WroteFront at bytes) t0 t1 → Writes o t1 (record s { adds = after; failed = true }) adds
 failed_writes o adds t0 t1 s after at bytes w alive e h = record {
-  of = record { settings = w.of.settings; plain = w.of.plain; place = w.of.place };
+  of = record { settings = w.of.settings; plain = w.of.plain; fit = w.of.fit; place = w.of.place };
   hidden = both_now (λ b. b ≡ begun o adds) IsHidden (WroteFront at bytes) t0 t1
       (λ b c p q.
       let long : length b ≡ at = omega (arith, e, ap length p, begun_length o adds) in
@@ -80,7 +80,7 @@ failed_writes o adds t0 t1 s after at bytes w alive e h = record {
 -- the same writer, over bytes that didn't change
 pub same_writes : (o : Options) (adds : List (ℕ × List ℕ)) (t0 t1 : Option (List ℕ)) (s : WriterState) (after : Adds) → Writes o t0 s adds → has_failed s ≡ false → Means after adds → BothTold (λ b c. c ≡ b) t0 t1 → Writes o t1 (record s { adds = after }) adds
 same_writes o adds t0 t1 s after w alive m h = record {
-  of = record { settings = w.of.settings; plain = w.of.plain; place = w.of.place };
+  of = record { settings = w.of.settings; plain = w.of.plain; fit = w.of.fit; place = w.of.place };
   hidden = both_now IsHidden IsHidden (λ b c. c ≡ b) t0 t1 (λ b c p q. subst IsHidden (sym q) p) w.hidden h;
   held = λ q. record { means = m; ends = (w.held alive).ends; bytes = both_now (λ b. b ≡ begun o adds) (λ b. b ≡ begun o adds) (λ b c. c ≡ b) t0 t1 (λ b c p q. q ∙ p) ((w.held alive).bytes) h };
 }

@@ -1,16 +1,18 @@
 -- The bounds of the entries, from those of the adds.
 use Rattle.std.proofs.Common.{◌≡◌, ℕ, zero, suc, ◌+◌, ◌-◌, ◌/◌, ◌<◌, ◌≤◌, ◌^◌, inl, inr, Bool, true, false, List, [], ◌∷◌, ◌++◌, length, flat_map, refl, sym, ◌∙◌, ap, arith, subst, length-append, lit<, sum_by, if◌then◌else◌, nat_eq}
 use Rattle.std.proofs.lemmas.List.Sums.{sum_by-cons}
-use Rattle.pm_format.specs.Directory.{Entry, entry, DirFits, dir_bytes}
+use Rattle.pm_format.specs.Directory.{DirFits, Entry, entry}
 use Rattle.pm_format.specs.Header.{HeaderFits}
 use Rattle.pm_writer.specs.Adds.{Block, blocks, runs, entries_at, unsorted, longest_run, place_in, contents_from, entries_of_adds}
 use Rattle.pm_format.specs.Options.{Options}
 use Rattle.pm_writer.specs.Archive.{archive, ids_of, parts_of, rising}
 use Rattle.pm_writer.proofs.Parted.{in_append}
-use Rattle.pm_writer.proofs.Parts.{archive_laid, before_length, before_of, head_of, layout_of, tiles_of}
+use Rattle.pm_writer.proofs.Parts.{archive_laid, before_length, before_of, below_of, head_of, layout_of, root_fits, tiles_of}
 use Rattle.tile_ids.specs.declared.id.TheConstants.{MAX_TILE_ID}
-use Rattle.pm_format.specs.WellFormed.{ConsistsOf}
-use Rattle.pm_writer.specs.Bounds.{AddsFilled, AllShort, AllLow, AllSized, OptionsFit}
+use Rattle.pm_format.specs.WellFormed.{AllRead, ConsistsOf}
+use Rattle.pm_writer.specs.Archivable.{IsArchivable}
+use Rattle.pm_writer.specs.Leaves.{below_layout}
+use Rattle.pm_writer.specs.Bounds.{AddsFilled, AllLow, AllSized, OptionsFit}
 use Rattle.pm_writer.specs.Twice.{Distinct}
 use Rattle.pm_writer.proofs.Runs.{le_or, runs_none, runs_short, runs_long}
 use Rattle.pm_writer.proofs.ContentLemmas.{all_had, Filled, contents_filled}
@@ -18,8 +20,8 @@ use Rattle.pm_writer.proofs.Ordered.{NotFalling, AllRun, Apart, falling_sorted}
 use Rattle.pm_writer.specs.Maps.{IsIn}
 use Rattle.pm_writer.proofs.Found.{IsAdd, unsorted_has, had_add, run_in, entries_apart}
 use Rattle.pm_writer.proofs.ContentRanges.{content_between}
-use Rattle.pm_writer.proofs.Reading.{all_run, root_small}
-use Rattle.pm_writer.proofs.Formed.{entries_are, of_entry, ends_low, formed}
+use Rattle.pm_writer.proofs.Reading.{all_run}
+use Rattle.pm_writer.proofs.Formed.{archive_directories, ends_low, entries_are, formed, of_entry}
 
 capped : (limit n offset len id count : ℕ) (e : Entry) → IsIn e (runs limit n offset len id count) → e.run_length ≤ limit
 capped limit zero offset len id count e i = absurd i
@@ -110,12 +112,12 @@ count_low limit low (e ∷ g ∷ es) w a u l h =
 pub entries_few : (adds : List (ℕ × List ℕ)) → Distinct adds → AllLow adds → length (entries_of_adds adds) < 2 ^ 64
 entries_few adds dist low = (let k = count_low (MAX_TILE_ID + 1) 0 (entries_of_adds adds) (entries_apart adds dist (all_run adds)) (all_run adds) (λ e i. ends_low adds e low i) (λ e i. omega arith) (omega arith) in omega (arith, k))
 
-pub total_low : (o : Options) (adds : List (ℕ × List ℕ)) → length (archive o adds) < 2 ^ 64 → (16384 + length o.metadata + length (tiles_of adds) + length (flat_map dir_bytes (layout_of adds).leaves) < 2 ^ 64) × (length (tiles_of adds) + 1 < 2 ^ 64)
-total_low o adds fits =
+pub total_low : (o : Options) (adds : List (ℕ × List ℕ)) → OptionsFit o → length (archive o adds) < 2 ^ 64 → (16384 + length o.metadata + length (tiles_of adds) + length (below_of o adds) < 2 ^ 64) × (length (tiles_of adds) + 1 < 2 ^ 64)
+total_low o adds f fits =
     let whole = ap length (archive_laid o adds) in
-    let front = before_length o adds (root_small (entries_of_adds adds)) in
-    let a = length-append (before_of o adds) (tiles_of adds ++ flat_map dir_bytes (layout_of adds).leaves) in
-    let b = length-append (tiles_of adds) (flat_map dir_bytes (layout_of adds).leaves) in
+    let front = before_length o adds f in
+    let a = length-append (before_of o adds) (tiles_of adds ++ below_of o adds) in
+    let b = length-append (tiles_of adds) (below_of o adds) in
     (omega (arith, fits, whole, front, a, b), omega (arith, fits, whole, front, a, b))
 
 -- the runs together are no more than the ids
@@ -141,15 +143,15 @@ low_choice false n h = h
 
 pub header_fits : (o : Options) (adds : List (ℕ × List ℕ)) → OptionsFit o → AddsFilled adds → Distinct adds → AllLow adds → length (archive o adds) < 2 ^ 64 → HeaderFits (head_of o adds)
 header_fits o adds of filled dist low fits =
-    let t = total_low o adds fits in
-    let es = entries_are adds in
+    let t = total_low o adds of fits in
+    let es = entries_are o adds of in
     record {
       version = lit< tt;
       root_offset = lit< tt;
-      root_length = omega (arith, root_small (entries_of_adds adds));
+      root_length = omega (arith, root_fits o adds of);
       metadata_offset = lit< tt;
       metadata_length = omega (arith, t.0);
-      leaf_offset = low_choice (nat_eq (length (layout_of adds).leaves) 0) (16384 + length o.metadata + length (tiles_of adds)) (omega (arith, t.0));
+      leaf_offset = low_choice (nat_eq (length (layout_of o adds).leaves) 0) (16384 + length o.metadata + length (tiles_of adds)) (omega (arith, t.0));
       leaf_length = omega (arith, t.0);
       data_offset = omega (arith, t.0);
       data_length = omega (arith, t.0);
@@ -167,6 +169,9 @@ header_fits o adds of filled dist low fits =
       center_latitude = of.center_latitude;
     }
 
-pub whole_formed : (o : Options) (adds : List (ℕ × List ℕ)) → OptionsFit o → AddsFilled adds → Distinct adds → AllLow adds → AllSized adds → AllShort (layout_of adds).leaves → length (archive o adds) < 2 ^ 64
-    → ConsistsOf (archive o adds) o (rising (ids_of adds)) (parts_of adds)
-whole_formed o adds of filled dist low sized short fits = formed o adds (header_fits o adds of filled dist low fits) filled dist low short (entries_fit adds low sized (total_low o adds fits).1) (entries_few adds dist low) fits
+-- the root and the directories below it are read again
+pub all_again : (o : Options) (adds : List (ℕ × List ℕ)) → IsArchivable o adds → AllRead ((layout_of o adds).root ∷ below_layout (layout_of o adds))
+all_again o adds a = archive_directories o adds a.options (entries_fit adds a.low a.sized (total_low o adds a.options a.ends).1) (entries_few adds a.distinct a.low) a.short a.ends
+
+pub whole_formed : (o : Options) (adds : List (ℕ × List ℕ)) → IsArchivable o adds → ConsistsOf (archive o adds) o (rising (ids_of adds)) (parts_of o adds)
+whole_formed o adds a = formed o adds a.options (header_fits o adds a.options a.filled a.distinct a.low a.ends) a.filled a.distinct a.low (all_again o adds a) a.ends

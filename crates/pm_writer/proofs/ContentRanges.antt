@@ -1,7 +1,6 @@
 -- Ranges of bytes that are laid one behind another.
-use Rattle.std.proofs.Common.{◌≡◌, ℕ, ◌+◌, ◌<◌, ◌^◌, inl, inr, List, [], ◌∷◌, ◌++◌, length, flat_map, Some, refl, sym, ◌∙◌, ap, arith, append_assoc, length-append}
+use Rattle.std.proofs.Common.{◌≡◌, ℕ, ◌+◌, ◌<◌, ◌^◌, inl, inr, List, [], ◌∷◌, ◌++◌, length, flat_map, Some, sym, ◌∙◌, ap, arith, append_assoc, length-append}
 use Rattle.pm_writer.specs.Adds.{place_in}
-use Rattle.pm_format.specs.Directory.{Entry, dir_bytes}
 use Rattle.pm_format.specs.LookUp.{range_of}
 use Rattle.pm_writer.proofs.ContentLemmas.{Has, same_or, has_front, place_here, place_later}
 use Rattle.pm_format.proofs.Ranges.{range_at}
@@ -35,16 +34,3 @@ content_range b front cs rest x e fits h =
     let at : length front + place_in cs x ≡ length (front ++ r.before) = omega (arith, length-append front r.before, r.place) in
     let laid : b ≡ (front ++ r.before) ++ (x ++ (r.behind ++ rest)) = e ∙ (ap (λ z. front ++ (z ++ rest)) r.parts ∙ (simp append_assoc)) in
     ap (λ k. range_of b k (length x)) at ∙ range_at b (front ++ r.before) x (r.behind ++ rest) laid fits
-
--- the range of a leaf in the leaf part
-pub leaf_range : (b front tiles : List ℕ) (before after : List (List Entry)) (l : List Entry) → b ≡ front ++ (tiles ++ flat_map dir_bytes (before ++ l ∷ after)) → length b < 2 ^ 64
-    → range_of b (length front + length tiles + length (flat_map dir_bytes before)) (length (dir_bytes l)) ≡ Some (dir_bytes l)
-leaf_range b front tiles before after l e fits =
-    let pre = front ++ (tiles ++ flat_map dir_bytes before) in
-    let at : length front + length tiles + length (flat_map dir_bytes before) ≡ length pre = omega (arith, length-append front (tiles ++ flat_map dir_bytes before), length-append tiles (flat_map dir_bytes before)) in
-    let laid : b ≡ pre ++ (dir_bytes l ++ flat_map dir_bytes after) = e ∙ (ap (λ z. front ++ (tiles ++ z)) (flat_append before (l ∷ after)) ∙ simp append_assoc) in
-    ap (λ k. range_of b k (length (dir_bytes l))) at ∙ range_at b pre (dir_bytes l) (flat_map dir_bytes after) laid fits
-  where
-    flat_append : (xs ys : List (List Entry)) → flat_map dir_bytes (xs ++ ys) ≡ flat_map dir_bytes xs ++ flat_map dir_bytes ys
-    flat_append [] ys = refl
-    flat_append (x ∷ xs) ys = ap (λ z. dir_bytes x ++ z) (flat_append xs ys) ∙ sym (append_assoc (dir_bytes x) (flat_map dir_bytes xs) (flat_map dir_bytes ys))

@@ -1,18 +1,19 @@
--- Leaves cut one after another.
-use Rattle.std.proofs.Common.{◌≡◌, ℕ, zero, suc, ◌+◌, ◌<◌, ◌≤◌, ◌^◌, min, Bool, true, false, List, [], ◌∷◌, ◌++◌, length, flat_map, take, drop, refl, sym, ◌∙◌, ap, arith, subst, append_assoc, append-nil, length-append, length-drop, lit<, map, None, nat_lt}
-use Rattle.std.proofs.lemmas.List.{take_min, drop_min, map-append}
+-- Directories cut one after another.
+use Rattle.std.proofs.Common.{All, ◌≡◌, ℕ, zero, suc, ◌+◌, ◌<◌, ◌≤◌, ◌^◌, min, Bool, true, false, List, [], ◌∷◌, ◌++◌, length, flat_map, take, drop, refl, sym, ◌∙◌, ap, arith, subst, append_assoc, append-nil, length-append, length-drop, lit<, map, None, nat_lt}
+use Rattle.std.proofs.lemmas.List.{drop_min, length-map, take_min}
+use Rattle.std.proofs.lemmas.Grind.{flat_map-append}
 use Rattle.pm_format.specs.Varint.{varint, short_of}
-use Rattle.pm_format.specs.Directory.{Entry, entry, dir_bytes, DirFits, spell_all, steps_from, starts_from}
-use Rattle.pm_writer.proofs.Walking.{joined, AllSome, cut_joined, cut_some}
-use Rattle.pm_writer.specs.Leaves.{cut}
-use Rattle.pm_format.specs.WellFormed.{root_of, first_id}
-use Rattle.pm_writer.specs.Cutting.{HasMore, IsCut}
+use Rattle.pm_format.specs.Directory.{DirFits, Entry, IsWritable, dir_bytes, entry, spell_all, starts_from, steps_from, wide_as}
+use Rattle.pm_format.specs.WellFormed.{AllSome, first_id, joined, root_of}
 use Rattle.pm_writer.specs.Bounds.{AllShort}
-use Rattle.pm_writer.specs.Ranges.{RangesFit, named, named_by}
-use Rattle.pm_writer.specs.declared.leaf_root.LeafRange.{LeafRange}
+use Rattle.pm_writer.specs.Cutting.{AreDirectories, HasMore, IsCut, IsLaid, IsShort, named}
+use Rattle.pm_writer.specs.Leaves.{Layout, cut, end_of, pieces}
+use Rattle.pm_format.specs.declared.wide_entry.WideEntry.{WideEntry}
 use Rattle.pm_writer.specs.declared.cutting.Directories.{Directories}
+use Rattle.pm_writer.specs.declared.level.Level.{Level}
+use Rattle.pm_writer.proofs.Walking.{cut_joined, cut_some}
 
--- any number of steps that is enough cuts the same leaves
+-- any number of steps that is enough cuts the same directories
 pub cut_enough : (n m size : ℕ) (es : List Entry) → 1 ≤ size → length es ≤ n → length es ≤ m → cut n size es ≡ cut m size es
 cut_enough zero zero size es h a b = refl
 cut_enough zero (suc m) size [] h a b = refl
@@ -22,58 +23,75 @@ cut_enough zero m size (e ∷ es) h a b = absurd (omega (arith, a))
 cut_enough (suc n) zero size (e ∷ es) h a b = absurd (omega (arith, b))
 cut_enough (suc n) (suc m) size (e ∷ es) h a b = ap (λ t. take size (e ∷ es) ∷ t) (cut_enough n m size (drop size (e ∷ es)) h (omega (arith, length-drop size (e ∷ es), h, a)) (omega (arith, length-drop size (e ∷ es), h, b)))
 
--- one leaf, and the rest
-pub cut_step : (size : ℕ) (es : List Entry) → 1 ≤ size → 0 < length es → cut (length es) size es ≡ take size es ∷ cut (length (drop size es)) size (drop size es)
+-- one directory, and the rest
+pub cut_step : (size : ℕ) (es : List Entry) → 1 ≤ size → 0 < length es → pieces size es ≡ take size es ∷ pieces size (drop size es)
 cut_step size [] h a = absurd (omega (arith, a))
 cut_step size (e ∷ es) h a = ap (λ t. take size (e ∷ es) ∷ t) (cut_enough (length es) (length (drop size (e ∷ es))) size (drop size (e ∷ es)) h (omega (arith, length-drop size (e ∷ es), h)) (omega arith))
 
--- what is put so far with the leaves of the rest is the whole
-pub record Cuts (leaves : Directories) (size : ℕ) (rest whole : List Entry) : Type 0 where
-  pub root : named leaves.ranges.items ++ root_of (length leaves.leaves.items) (cut (length rest) size rest) ≡ root_of 0 (cut (length whole) size whole)
-  pub bytes : leaves.leaves.items ++ flat_map dir_bytes (cut (length rest) size rest) ≡ flat_map dir_bytes (cut (length whole) size whole)
+-- what is put so far with the directories of the rest is the whole
+pub record Cuts (level : Level) (place size : ℕ) (rest whole : List Entry) : Type 0 where
+  pub names : named level ++ root_of (place + length level.bytes.items) (pieces size rest) ≡ root_of place (pieces size whole)
+  pub bytes : level.bytes.items ++ flat_map dir_bytes (pieces size rest) ≡ flat_map dir_bytes (pieces size whole)
   pub low : ℕ
-  pub fits : DirFits low rest
+  pub fits : IsWritable low rest
 
-pub cuts_first : (leaves : Directories) (size : ℕ) (whole : List Entry) → leaves.ranges.items ≡ [] → leaves.leaves.items ≡ [] → DirFits 0 whole → Cuts leaves size whole whole
-cuts_first leaves size whole p q f = record { root = rw (p, q) refl; bytes = rw q refl; low = 0; fits = f }
+pub cuts_first : (level : Level) (place size : ℕ) (whole : List Entry) → IsCut level place [] → IsWritable 0 whole → Cuts level place size whole whole
+cuts_first level place size whole c f =
+    let at : place + length level.bytes.items ≡ place = omega (arith, ap length c.bytes) in
+    record {
+      names = ap (λ z. z ++ root_of (place + length level.bytes.items) (pieces size whole)) c.names ∙ ap (λ n. root_of n (pieces size whole)) at;
+      bytes = ap (λ z. z ++ flat_map dir_bytes (pieces size whole)) c.bytes;
+      low = 0;
+      fits = f;
+    }
 
-fits_drop : (n low : ℕ) (es : List Entry) → DirFits low es → (k : ℕ) × DirFits k (drop n es)
-fits_drop zero low es f = (low, f)
-fits_drop (suc n) low [] f = (low, tt)
-fits_drop (suc n) low (e ∷ es) f = fits_drop n e.tile_id es f.6
+writable_drop : (n low : ℕ) (es : List Entry) → IsWritable low es → (k : ℕ) × IsWritable k (drop n es)
+writable_drop zero low es f = (low, f)
+writable_drop (suc n) low [] f = (low, tt)
+writable_drop (suc n) low (e ∷ es) f = writable_drop n e.tile_id es f.3
 
-fits_take : (n low : ℕ) (es : List Entry) → DirFits low es → DirFits low (take n es)
-fits_take zero low es f = tt
-fits_take (suc n) low [] f = tt
-fits_take (suc n) low (e ∷ es) f = (f.0, f.1, f.2, f.3, f.4, f.5, fits_take n e.tile_id es f.6)
+writable_take : (n low : ℕ) (es : List Entry) → IsWritable low es → IsWritable low (take n es)
+writable_take zero low es f = tt
+writable_take (suc n) low [] f = tt
+writable_take (suc n) low (e ∷ es) f = (f.0, f.1, f.2, writable_take n e.tile_id es f.3)
+
+writable_zero : (low : ℕ) (es : List Entry) → IsWritable low es → IsWritable 0 es
+writable_zero low [] f = tt
+writable_zero low (e ∷ es) f = (omega arith, f.1, f.2, f.3)
+
+pub part_writable : (n low : ℕ) (es : List Entry) → IsWritable low es → IsWritable 0 (take n es)
+part_writable n low es f = writable_zero low (take n es) (writable_take n low es f)
+
+pub cuts_more : (old new : Level) (place size : ℕ) (rest whole : List Entry) → 1 ≤ size → 0 < length rest → HasMore old new place (take size rest) → Cuts old place size rest whole → Cuts new place size (drop size rest) whole
+cuts_more old new place size rest whole h a m c =
+    let step = cut_step size rest h a in
+    let tail = pieces size (drop size rest) in
+    let k = writable_drop size c.low rest c.fits in
+    let at = place + length old.bytes.items in
+    let name = entry (first_id (take size rest)) at (length (dir_bytes (take size rest))) 0 in
+    let next : place + length new.bytes.items ≡ at + length (dir_bytes (take size rest)) = omega (arith, ap length m.bytes, length-append old.bytes.items (dir_bytes (take size rest))) in
+    record {
+      names =
+          ap (λ z. z ++ root_of (place + length new.bytes.items) tail) m.names
+          ∙ (append_assoc (named old) (name ∷ []) (root_of (place + length new.bytes.items) tail)
+          ∙ (ap (λ n. named old ++ (name ∷ root_of n tail)) next
+          ∙ (ap (λ z. named old ++ root_of at z) (sym step) ∙ c.names)));
+      bytes = rw (m.bytes) (append_assoc old.bytes.items (dir_bytes (take size rest)) (flat_map dir_bytes tail) ∙ (ap (λ z. old.bytes.items ++ flat_map dir_bytes z) (sym step) ∙ c.bytes));
+      low = k.0;
+      fits = k.1;
+    }
+
+pub cuts_end : (level : Level) (place size : ℕ) (rest whole : List Entry) → length rest ≡ 0 → Cuts level place size rest whole → IsCut level place (pieces size whole)
+cuts_end level place size [] whole h c = record { names = sym (append-nil (named level)) ∙ c.names; bytes = sym (append-nil level.bytes.items) ∙ c.bytes }
+cuts_end level place size (e ∷ rest) whole h c = absurd (omega (arith, h))
 
 pub fits_zero : (low : ℕ) (es : List Entry) → DirFits low es → DirFits 0 es
 fits_zero low [] f = tt
 fits_zero low (e ∷ es) f = (omega arith, f.1, f.2, f.3, f.4, f.5, f.6)
 
-pub leaf_fits : (n low : ℕ) (es : List Entry) → DirFits low es → DirFits 0 (take n es)
-leaf_fits n low es f = fits_zero low (take n es) (fits_take n low es f)
-
-pub cuts_more : (old new : Directories) (size : ℕ) (rest whole : List Entry) → 1 ≤ size → 0 < length rest → HasMore old new (take size rest) → Cuts old size rest whole → Cuts new size (drop size rest) whole
-cuts_more old new size rest whole h a m c =
-    let step = cut_step size rest h a in
-    let tail = cut (length (drop size rest)) size (drop size rest) in
-    let k = fits_drop size c.low rest c.fits in
-    let place : length new.leaves.items ≡ length old.leaves.items + length (dir_bytes (take size rest)) = ap length m.bytes ∙ length-append old.leaves.items (dir_bytes (take size rest)) in
-    record {
-      root =
-          ap (λ z. z ++ root_of (length new.leaves.items) tail) (ap named m.ranges ∙ map-append named_by old.ranges.items _)
-          ∙ (append_assoc (named old.ranges.items) (entry (first_id (take size rest)) (length old.leaves.items) (length (dir_bytes (take size rest))) 0 ∷ []) (root_of (length new.leaves.items) tail)
-          ∙ (ap (λ n. named old.ranges.items ++ (entry (first_id (take size rest)) (length old.leaves.items) (length (dir_bytes (take size rest))) 0 ∷ root_of n tail)) place
-          ∙ (ap (λ z. named old.ranges.items ++ root_of (length old.leaves.items) z) (sym step) ∙ c.root)));
-      bytes = rw (m.bytes) (append_assoc old.leaves.items (dir_bytes (take size rest)) (flat_map dir_bytes tail) ∙ (ap (λ z. old.leaves.items ++ flat_map dir_bytes z) (sym step) ∙ c.bytes));
-      low = k.0;
-      fits = k.1;
-    }
-
-pub cuts_end : (leaves : Directories) (size : ℕ) (rest whole : List Entry) → length rest ≡ 0 → Cuts leaves size rest whole → IsCut leaves (cut (length whole) size whole)
-cuts_end leaves size [] whole h c = record { root = sym (append-nil (named leaves.ranges.items)) ∙ c.root; bytes = sym (append-nil leaves.leaves.items) ∙ c.bytes }
-cuts_end leaves size (e ∷ rest) whole h c = absurd (omega (arith, h))
+pub root_length : (place : ℕ) (ls : List (List Entry)) → length (root_of place ls) ≡ length ls
+root_length place [] = refl
+root_length place (l ∷ ls) = ap suc (root_length (place + length (dir_bytes l)) ls)
 
 dir_some : (l : List Entry) → 1 ≤ length (dir_bytes l)
 unfolding dir_bytes varint
@@ -94,10 +112,11 @@ behind_fits low e (d ∷ l) es f = lower e.tile_id d.tile_id es f.6.0 (behind_fi
     lower low high [] h f = tt
     lower low high (e ∷ es) h f = (omega (arith, h, f.0), f.1, f.2, f.3, f.4, f.5, f.6)
 
-pub root_dir_fits : (low place : ℕ) (ls : List (List Entry)) → DirFits low (joined ls) → AllSome ls → AllShort ls → place + length (flat_map dir_bytes ls) < 2 ^ 64 → DirFits low (root_of place ls)
-root_dir_fits low place [] f s a h = tt
-root_dir_fits low place ([] ∷ ls) f s a h = absurd (s.0 refl)
-root_dir_fits low place ((e ∷ l) ∷ ls) f s a h =
+-- the entries that name directories fit, where these do
+pub level_fits : (low place : ℕ) (ls : List (List Entry)) → DirFits low (joined ls) → AllSome ls → AllShort ls → place + end_of ls < 2 ^ 64 → DirFits low (root_of place ls)
+level_fits low place [] f s a h = tt
+level_fits low place ([] ∷ ls) f s a h = absurd (s.0 refl)
+level_fits low place ((e ∷ l) ∷ ls) f s a h =
     let n = length-append (dir_bytes (e ∷ l)) (flat_map dir_bytes ls) in
     let some = dir_some (e ∷ l) in (
       f.0,
@@ -106,33 +125,75 @@ root_dir_fits low place ((e ∷ l) ∷ ls) f s a h =
       lit< tt,
       omega (arith, h, n, some),
       omega (arith, h, n),
-      root_dir_fits e.tile_id (place + length (dir_bytes (e ∷ l))) ls (behind_fits low e l (joined ls) f) s.1 a.1 (omega (arith, h, n)),
+      level_fits e.tile_id (place + length (dir_bytes (e ∷ l))) ls (behind_fits low e l (joined ls) f) s.1 a.1 (omega (arith, h, n)),
     )
 
--- the same of ranges, whose sizes may be larger
-ranges_fit : (low place : ℕ) (rs : List LeafRange) (ls : List (List Entry)) → named rs ≡ root_of place ls → DirFits low (joined ls) → AllSome ls → place + length (flat_map dir_bytes ls) < 2 ^ 64 → RangesFit low rs
-ranges_fit low place [] ls e f s h = tt
-ranges_fit low place (r ∷ rs) [] e f s h = absurd (cc)
-ranges_fit low place (r ∷ rs) ([] ∷ ls) e f s h = absurd (s.0 refl)
-ranges_fit low place (r ∷ rs) ((x ∷ l) ∷ ls) e f s h =
-    let n = length-append (dir_bytes (x ∷ l)) (flat_map dir_bytes ls) in
-    let some = dir_some (x ∷ l) in
-    let head : named_by r ≡ entry x.tile_id place (length (dir_bytes (x ∷ l))) 0 = cc in
-    let tail : named rs ≡ root_of (place + length (dir_bytes (x ∷ l))) ls = cc in
-    let i : r.tile_id ≡ x.tile_id = ap (λ z. z.tile_id) head in
-    let p : r.place ≡ place = ap (λ z. z.offset) head in
-    let z : r.size ≡ length (dir_bytes (x ∷ l)) = ap (λ z. z.length) head in (
-      omega (arith, f.0, i),
-      omega (arith, f.1, i),
-      omega (arith, h, n, some, p),
-      omega (arith, h, n, p, z),
-      subst (λ k. RangesFit k rs) (sym i) (ranges_fit x.tile_id (place + length (dir_bytes (x ∷ l))) rs ls tail (behind_fits low x l (joined ls) f) s.1 (omega (arith, h, n))),
-    )
+behind_writable : (low : ℕ) (e : Entry) (l es : List Entry) → IsWritable low (e ∷ (l ++ es)) → IsWritable e.tile_id es
+behind_writable low e [] es f = f.3
+behind_writable low e (d ∷ l) es f = lower e.tile_id d.tile_id es f.3.0 (behind_writable e.tile_id d l es f.3)
+  where
+    lower : (low high : ℕ) (es : List Entry) → low ≤ high → IsWritable high es → IsWritable low es
+    lower low high [] h f = tt
+    lower low high (e ∷ es) h f = (omega (arith, h, f.0), f.1, f.2, f.3)
 
-pub cut_ranges_fit : (leaves : Directories) (size : ℕ) (whole : List Entry) → 1 ≤ size → DirFits 0 whole → length leaves.leaves.items < 2 ^ 64 → IsCut leaves (cut (length whole) size whole) → RangesFit 0 leaves.ranges.items
-cut_ranges_fit leaves size whole h f b c =
-    ranges_fit 0 0 leaves.ranges.items (cut (length whole) size whole) c.root (subst (DirFits 0) (sym (cut_joined (length whole) size whole h (omega arith))) f) (cut_some (length whole) size whole h) (omega (arith, b, ap length c.bytes))
+-- and may be written, however long these are
+level_writable : (low place : ℕ) (ls : List (List Entry)) → IsWritable low (joined ls) → AllSome ls → place + end_of ls < 2 ^ 64 → IsWritable low (root_of place ls)
+level_writable low place [] f s h = tt
+level_writable low place ([] ∷ ls) f s h = absurd (s.0 refl)
+level_writable low place ((e ∷ l) ∷ ls) f s h =
+    let n = length-append (dir_bytes (e ∷ l)) (flat_map dir_bytes ls) in
+    let some = dir_some (e ∷ l) in
+    (f.0, omega (arith, h, n, some), omega (arith, h, n), level_writable e.tile_id (place + length (dir_bytes (e ∷ l))) ls (behind_writable low e l (joined ls) f) s.1 (omega (arith, h, n)))
+
+pub cut_writable : (level : Level) (place size : ℕ) (whole : List Entry) → 1 ≤ size → IsWritable 0 whole → place + length level.bytes.items < 2 ^ 64 → IsCut level place (pieces size whole) → IsWritable 0 (named level)
+cut_writable level place size whole h f b c =
+    let ls = pieces size whole in
+    subst (IsWritable 0) (sym c.names)
+    (level_writable 0 place ls (subst (IsWritable 0) (sym (cut_joined (length whole) size whole h (omega arith))) f) (cut_some (length whole) size whole h) (omega (arith, b, ap length c.bytes)))
 
 -- a part of at most so many
 pub take_part : (size : ℕ) (es : List Entry) → (take (min size (length es)) es ≡ take size es) × (drop (min size (length es)) es ≡ drop size es)
 take_part size es = (take_min size es, drop_min size es)
+
+-- directories are as short as their names say
+pub short_by : (place : ℕ) (ns : List WideEntry) (ls : List (List Entry)) → map wide_as ns ≡ root_of place ls → All IsShort ns → AllShort ls
+short_by place [] [] e s = tt
+short_by place [] (l ∷ ls) e s = absurd (cc)
+short_by place (n ∷ ns) [] e s = absurd (cc)
+short_by place (n ∷ ns) (l ∷ ls) e s =
+    let head : wide_as n ≡ entry (first_id l) place (length (dir_bytes l)) 0 = cc in
+    let tail : map wide_as ns ≡ root_of (place + length (dir_bytes l)) ls = cc in
+    (omega (arith, s 0 n (omega arith), ap (λ z. z.length) head), short_by (place + length (dir_bytes l)) ns ls tail (λ k d h. s (suc k) d (omega (arith, h))))
+
+pub short_named : (place : ℕ) (ns : List WideEntry) (ls : List (List Entry)) → map wide_as ns ≡ root_of place ls → AllShort ls → All IsShort ns
+short_named place [] ls e s k d h = absurd (omega (arith, h))
+short_named place (n ∷ ns) [] e s k d h = absurd (cc)
+short_named place (n ∷ ns) (l ∷ ls) e s zero d h =
+    let head : wide_as n ≡ entry (first_id l) place (length (dir_bytes l)) 0 = cc in
+    omega (arith, s.0, ap (λ z. z.length) head)
+short_named place (n ∷ ns) (l ∷ ls) e s (suc k) d h =
+    let tail : map wide_as ns ≡ root_of (place + length (dir_bytes l)) ls = cc in
+    short_named (place + length (dir_bytes l)) ns ls tail s.1 k d (omega (arith, h))
+
+-- two levels are short where both are
+pub short_both : (xs ys : List (List Entry)) → AllShort xs → AllShort ys → AllShort (xs ++ ys)
+short_both [] ys p q = q
+short_both (x ∷ xs) ys p q = (p.0, short_both xs ys p.1 q)
+
+pub short_left : (xs ys : List (List Entry)) → AllShort (xs ++ ys) → AllShort xs
+short_left [] ys s = tt
+short_left (x ∷ xs) ys s = (s.0, short_left xs ys s.1)
+
+pub short_right : (xs ys : List (List Entry)) → AllShort (xs ++ ys) → AllShort ys
+short_right [] ys s = s
+short_right (x ∷ xs) ys s = short_right xs ys s.1
+
+-- both levels joined
+pub joined_are : (root : List ℕ) (lower upper : Level) (d : Directories) (l : Layout) → IsLaid root lower upper l → d.root.items ≡ root → d.below.items ≡ lower.bytes.items ++ upper.bytes.items → d.leaves ≡ length lower.names.items → d.uppers ≡ length upper.names.items
+    → AreDirectories d l
+joined_are root lower upper d l w r b m n = record {
+  root = r ∙ w.root;
+  below = b ∙ (ap (λ z. z ++ upper.bytes.items) w.leaves.bytes ∙ (ap (λ z. flat_map dir_bytes l.leaves ++ z) w.uppers.bytes ∙ sym (flat_map-append dir_bytes l.leaves l.uppers)));
+  leaves = omega (arith, m, length-map lower.names.items wide_as, ap length w.leaves.names, root_length 0 l.leaves);
+  uppers = omega (arith, n, length-map upper.names.items wide_as, ap length w.uppers.names, root_length (end_of l.leaves) l.uppers);
+}

@@ -1,31 +1,26 @@
 -- The tile entries that the archive of adds has.
-use Rattle.std.proofs.Common.{◌≡◌, ℕ, zero, suc, ◌+◌, ◌≤◌, Bool, true, false, List, [], ◌∷◌, ◌++◌, length, flat_map, Ok, nat_eq, nat_le, nat_lt, ◌&&◌, refl, sym, ◌∙◌, ap, arith, subst, length-append, IfOk, Result}
+use Rattle.std.proofs.Common.{◌≡◌, ℕ, zero, suc, ◌-◌, ◌≤◌, false, List, [], ◌∷◌, length, flat_map, nat_eq, refl, sym, ◌∙◌, ap, arith, subst, IfOk, Result}
 use Rattle.std.proofs.lemmas.Bool.Decides.{nat_tests}
 use Rattle.pm_format.specs.declared.error.PmtError.{PmtError}
 use Rattle.pm_format.specs.declared.header.Header.{Header}
-use Rattle.pm_format.specs.Directory.{Entry, entry, dir_bytes}
-use Rattle.pm_format.specs.LookUp.{leaf_of}
+use Rattle.pm_format.specs.Directory.{Entry}
 use Rattle.pm_format.specs.Opened.{Opened, opened}
 use Rattle.pm_format.specs.Options.{Options}
-use Rattle.pm_format.specs.WellFormed.{first_id, root_of}
 use Rattle.pm_writer.specs.Adds.{entries_of_adds}
 use Rattle.pm_writer.specs.Archivable.{IsArchivable}
-use Rattle.pm_writer.specs.Archive.{archive}
-use Rattle.pm_writer.specs.Leaves.{found_leaves}
+use Rattle.pm_writer.specs.Archive.{archive, tile_in}
 use Rattle.pm_writer.specs.Maps.{Covers, Gives, IsIn, RisingAdds, Tiles}
-use Rattle.pm_writer.specs.Archive.{tile_in}
-use Rattle.pm_writer.specs.TileEntries.{entries_below, entries_by, entries_opened, entries_read}
-use Rattle.pm_writer.proofs.Bounds.{entries_few}
+use Rattle.pm_writer.specs.TileEntries.{entries_by, entries_opened, entries_read}
+use Rattle.pm_writer.proofs.Bounds.{all_again}
 use Rattle.pm_writer.proofs.Counting.{no_less}
 use Rattle.pm_writer.proofs.Formed.{entries_are}
 use Rattle.pm_writer.proofs.Giving.{one_each}
-use Rattle.pm_writer.proofs.Laying.{laid_flat, laid_leaves}
+use Rattle.pm_writer.proofs.Levels.{tower_entries}
 use Rattle.pm_writer.proofs.Ordered.{AllRun}
 use Rattle.pm_writer.proofs.Parts.{head_of, layout_of}
-use Rattle.pm_writer.proofs.Reading.{all_run, leaf_named, leaves_joined}
-use Rattle.pm_writer.proofs.SoundLeaves.{run_left, run_right}
-use Rattle.pm_writer.proofs.Walking.{joined}
-use Rattle.pm_writer.proofs.Whole.{dir_fits, opens}
+use Rattle.pm_writer.proofs.Reading.{all_run}
+use Rattle.pm_writer.proofs.Towers.{archive_tower, laying_of, levels_of, through_six}
+use Rattle.pm_writer.proofs.Whole.{opens}
 
 -- a tile entry is one of its own
 one_entry : (n : ℕ) (h : Header) (b : List ℕ) (e : Entry) → nat_eq e.run_length 0 ≡ false → entries_by n h b e ≡ e ∷ []
@@ -40,46 +35,22 @@ tiles_alone n h b (e ∷ es) a =
     let rest = tiles_alone n h b es a.1 in
     rw (one, rest) refl
 
--- a leaf entry has the entries of its leaf
-one_leaf : (n : ℕ) (h : Header) (b : List ℕ) (id place size : ℕ) (l : List Entry) → leaf_of h b (entry id place size 0) ≡ Ok l → AllRun l → entries_by (suc n) h b (entry id place size 0) ≡ l
-one_leaf n h b id place size l r a = ap (entries_below (entries_by n h b)) r ∙ tiles_alone n h b l a
-
-by_leaves : (n : ℕ) (h : Header) (b : List ℕ) (place : ℕ) (ls : List (List Entry)) → AllRun (joined ls)
-    → ((before : List (List Entry)) (l : List Entry) (after : List (List Entry)) → ls ≡ before ++ l ∷ after → leaf_of h b (entry (first_id l) (place + length (flat_map dir_bytes before)) (length (dir_bytes l)) 0) ≡ Ok l)
-    → flat_map (entries_by (suc n) h b) (root_of place ls) ≡ joined ls
-by_leaves n h b place [] a r = refl
-by_leaves n h b place (l ∷ ls) a r =
-    let here = subst (λ z. leaf_of h b (entry (first_id l) z (length (dir_bytes l)) 0) ≡ Ok l) (let z : place + 0 ≡ place = omega arith in z) (r [] l ls refl) in
-    let one = one_leaf n h b (first_id l) place (length (dir_bytes l)) l here (run_left l (joined ls) a) in
-    let rest = by_leaves n h b (place + length (dir_bytes l)) ls (run_right l (joined ls) a)
-    (λ before x after q. subst (λ z. leaf_of h b (entry (first_id x) z (length (dir_bytes x)) 0) ≡ Ok x) (shifted before) (r (l ∷ before) x after (ap (λ z. l ∷ z) q))) in
-    ap (λ z. z ++ flat_map (entries_by (suc n) h b) (root_of (place + length (dir_bytes l)) ls)) one ∙ ap (λ z. l ++ z) rest
-  where
-    shifted : (before : List (List Entry)) → place + length (flat_map dir_bytes (l ∷ before)) ≡ place + length (dir_bytes l) + length (flat_map dir_bytes before)
-    shifted before = omega (arith, length-append (dir_bytes l) (flat_map dir_bytes before))
-
 -- they are the entries of the adds
 pub archive_entries : (o : Options) (adds : List (ℕ × List ℕ)) → IsArchivable o adds → entries_read (archive o adds) ≡ entries_of_adds adds
-archive_entries o adds a = ap (entries_opened (archive o adds)) (opens o adds a) ∙ go (nat_lt (length (entries_of_adds adds)) 16384 && nat_le (length (dir_bytes (entries_of_adds adds))) 16257) refl
-  where
-    go : (c : Bool) → (nat_lt (length (entries_of_adds adds)) 16384 && nat_le (length (dir_bytes (entries_of_adds adds))) 16257) ≡ c
-        → flat_map (entries_by 6 (head_of o adds) (archive o adds)) (layout_of adds).root ≡ entries_of_adds adds
-    go true q =
-        let es = entries_of_adds adds in
-        ap (λ z. flat_map (entries_by 6 (head_of o adds) (archive o adds)) z.root) (laid_flat es q) ∙ tiles_alone 6 (head_of o adds) (archive o adds) es (all_run adds)
-    go false q =
-        let es = entries_of_adds adds in
-        let runs = subst AllRun (sym (leaves_joined es)) (all_run adds) in
-        ap (λ z. flat_map (entries_by 6 (head_of o adds) (archive o adds)) z.root) (laid_leaves es q)
-        ∙ (by_leaves 5 (head_of o adds) (archive o adds) 0 (found_leaves es) runs
-        (λ before l after p. subst (λ m. leaf_of (head_of o adds) (archive o adds) (entry (first_id l) m (length (dir_bytes l)) 0) ≡ Ok l) (let z : length (flat_map dir_bytes before) ≡ 0 + length (flat_map dir_bytes before) = omega arith in z)
-        (leaf_named o adds (dir_fits o adds a) (entries_few adds a.distinct a.low) a.ends q (entry (first_id l) (length (flat_map dir_bytes before)) (length (dir_bytes l)) 0) l (record { before = before; after = after; parts = p; is = refl })))
-        ∙ leaves_joined es)
+archive_entries o adds a =
+    let es = entries_of_adds adds in
+    let ts = levels_of o.max_leaf_entries es (layout_of o adds) (laying_of o adds a.options) in
+    let n = 6 - length ts in
+    let all = through_six o.max_leaf_entries es (layout_of o adds) (laying_of o adds a.options) in
+    ap (entries_opened (archive o adds)) (opens o adds a)
+    ∙ (ap (λ k. flat_map (entries_by k (head_of o adds) (archive o adds)) (layout_of o adds).root) (sym all)
+    ∙ (tower_entries n (head_of o adds) (archive o adds) ts (layout_of o adds).root es (archive_tower o adds a.options (all_again o adds a).1 a.ends)
+    ∙ tiles_alone n (head_of o adds) (archive o adds) es (all_run adds)))
 
 -- as many as its header says
 pub entries_counted : (o : Options) (adds : List (ℕ × List ℕ)) → IsArchivable o adds → IfOk (opened (archive o adds)) (λ found. found.0.n_tile_entries ≡ length (entries_read (archive o adds)))
 entries_counted o adds a =
-    let count : (head_of o adds).n_tile_entries ≡ length (entries_read (archive o adds)) = ap length (entries_are adds) ∙ sym (ap length (archive_entries o adds a)) in
+    let count : (head_of o adds).n_tile_entries ≡ length (entries_read (archive o adds)) = ap length (entries_are o adds a.options) ∙ sym (ap length (archive_entries o adds a)) in
     let P : Result Opened PmtError → Type 0 = λ z. IfOk z (λ found. found.0.n_tile_entries ≡ length (entries_read (archive o adds))) in
     subst P (sym (opens o adds a)) count
 

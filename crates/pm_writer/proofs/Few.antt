@@ -1,30 +1,32 @@
 -- Few and short adds have an archive that can be written.
-use Rattle.std.proofs.Common.{◌≡◌, ℕ, zero, suc, ◌+◌, ◌*◌, ◌/◌, ◌<◌, ◌≤◌, ◌^◌, inl, inr, max, Bool, true, false, List, [], ◌∷◌, ◌++◌, length, map, flat_map, sum_by, drop, Option, Some, None, nat_le, nat_lt, ◌&&◌, refl, sym, ◌∙◌, ap, arith, subst, length-append}
+use Rattle.std.proofs.Common.{◌≡◌, ℕ, zero, suc, ◌+◌, ◌*◌, ◌/◌, ◌<◌, ◌≤◌, ◌^◌, inl, inr, Bool, true, false, List, [], ◌∷◌, ◌++◌, length, map, flat_map, sum_by, drop, Option, Some, None, refl, sym, ◌∙◌, ap, arith, subst, length-append}
 use Rattle.std.proofs.Math.Nat.{mul-le-mul_right}
 use Rattle.std.proofs.lemmas.Bool.Decides.{nat_tests}
-use Rattle.std.proofs.lemmas.List.{drop_all, length-drop, length-map, length-take}
+use Rattle.std.proofs.lemmas.List.{drop_all, length-drop, length-map}
 use Rattle.std.proofs.lemmas.List.Sums.{sum_by-cons, sum_by-append}
 use Rattle.std.specs.List.{list_any}
 use Rattle.std.specs.Str.{bytes_eq}
 use Rattle.pm_format.specs.Directory.{Entry, dir_bytes, spell_all, starts_from, steps_from}
 use Rattle.pm_format.specs.Options.{Options}
 use Rattle.pm_format.specs.Varint.{varint}
-use Rattle.pm_format.specs.WellFormed.{root_of}
+use Rattle.pm_format.specs.WellFormed.{AllAtMost, AllSome, joined, root_of}
 use Rattle.pm_writer.specs.Adds.{contents_from, entries_of_adds, put_new}
-use Rattle.pm_writer.specs.Bounds.{AllShort, AllSized}
+use Rattle.pm_writer.specs.Bounds.{AllShort, AllSized, OptionsFit}
 use Rattle.pm_writer.specs.Causes.{ArchiveFits}
 use Rattle.pm_writer.specs.Few.{AreFew}
-use Rattle.pm_writer.specs.Leaves.{Layout, cut, found_leaves, laid, leaves_by}
+use Rattle.pm_writer.specs.Leaves.{Layout, below_layout, cut, end_of, fits_root, laid, pieces, stands_in_root, uppers_by}
 use Rattle.pm_writer.specs.Writing.{AddFits, add_to, data_of}
 use Rattle.pm_writer.proofs.AddedBytes.{flat_push}
+use Rattle.pm_writer.proofs.CuttingLemmas.{root_length, short_both}
 use Rattle.pm_writer.proofs.Formed.{addressed}
-use Rattle.pm_writer.proofs.Laying.{laid_flat, laid_leaves, root_length}
+use Rattle.pm_writer.proofs.Laying.{IsLaidAs, cut_most, laid_as, laid_flat, laid_leaves, laid_uppers}
 use Rattle.pm_writer.proofs.Ordered.{AllRun}
-use Rattle.pm_writer.proofs.Parts.{archive_laid, before_length, before_of, layout_of, tiles_of}
-use Rattle.pm_writer.proofs.Reading.{all_run, cut_by, leaves_joined, root_small}
+use Rattle.pm_writer.proofs.Parts.{archive_laid, before_length, before_of, below_of, tiles_of}
+use Rattle.pm_writer.proofs.Reading.{all_run}
 use Rattle.pm_writer.proofs.Runs.{le_or}
+use Rattle.pm_writer.proofs.Towers.{few_directories, parts_length}
 use Rattle.pm_writer.proofs.Trying.{at_once, cut_nil, not_yet, short_length}
-use Rattle.pm_writer.proofs.Walking.{AllSome, cut_some, joined}
+use Rattle.pm_writer.proofs.Walking.{cut_joined, cut_some}
 
 spelled_length : (ns : List ℕ) → length (spell_all ns) ≤ 10 * length ns
 unfolding varint
@@ -66,7 +68,7 @@ dir_length es =
       length-append c d,
     )
 
--- each leaf but the last has as many entries as were asked for
+-- each directory but the last has as many entries as were asked for
 cut_count : (n size : ℕ) (es : List Entry) → 1 ≤ size → length (cut n size es) * size < length es + size
 cut_count zero size es h = omega (arith, h)
 cut_count (suc n) size [] h = omega (arith, h)
@@ -76,60 +78,72 @@ cut_count (suc n) size (e ∷ es) h = elim (le_or (length (e ∷ es)) size) [
 ]
 
 -- a size whose root doesn't fit is small
-tried_low : (size : ℕ) (es : List Entry) → 1 ≤ size → nat_le (length (dir_bytes (root_of 0 (cut (length es) size es)))) 16257 ≡ false → 406 * size < length es
-tried_low size es h q =
-    let ls = cut (length es) size es in
-    let long : 16257 < length (dir_bytes (root_of 0 ls)) = grind (arith, nat_tests) in
-    let many : 407 ≤ length ls = omega (arith, long, dir_length (root_of 0 ls), root_length 0 ls) in
+tried_low : (place size : ℕ) (es : List Entry) → 1 ≤ size → fits_root (root_of place (pieces size es)) ≡ false → 406 * size < length es
+tried_low place size es h q =
+    let ls = pieces size es in
+    let long : 16257 < length (dir_bytes (root_of place ls)) = grind (arith, nat_tests) in
+    let many : 407 ≤ length ls = omega (arith, long, dir_length (root_of place ls), root_length place ls) in
     let more = mul-le-mul_right size many in
     omega (arith, more, cut_count (length es) size es h)
 
--- no leaf has more entries than this
-abbrev AllLow : ℕ → List (List Entry) → Type 0
-AllLow most [] = Unit {0}
-AllLow most (l ∷ ls) = (length l ≤ most) × AllLow most ls
-
-cut_low : (most n size : ℕ) (es : List Entry) → size ≤ most → AllLow most (cut n size es)
-cut_low most zero size es h = tt
-cut_low most (suc n) size [] h = tt
-cut_low most (suc n) size (e ∷ es) h = (omega (arith, h, length-take size (e ∷ es)), cut_low most n size (drop size (e ∷ es)) h)
-
-found_low : (n size : ℕ) (es : List Entry) → 1 ≤ size → size ≤ 13000000 → length es < 2 ^ 32 → AllLow 13000000 (leaves_by n size es)
-found_low zero size es h low few = cut_low 13000000 (length es) size es low
-found_low (suc n) size es h low few = go (nat_le (length (dir_bytes (root_of 0 (cut (length es) size es)))) 16257) refl (found_low n (size + size / 5) es (omega (arith, h)))
+found_low : (n place size : ℕ) (es : List Entry) → 1 ≤ size → size ≤ 13000000 → length es < 2 ^ 32 → AllAtMost 13000000 (uppers_by n place size es)
+found_low zero place size es h low few = cut_most 13000000 (length es) size es low
+found_low (suc n) place size es h low few = go (fits_root (root_of place (pieces size es))) refl (found_low n place (size + size / 5) es (omega (arith, h)))
   where
-    go : (b : Bool) → nat_le (length (dir_bytes (root_of 0 (cut (length es) size es)))) 16257 ≡ b → (size + size / 5 ≤ 13000000 → length es < 2 ^ 32 → AllLow 13000000 (leaves_by n (size + size / 5) es)) → AllLow 13000000 (leaves_by (suc n) size es)
-    go true q again = subst (AllLow 13000000) (sym (at_once n size es q)) (cut_low 13000000 (length es) size es low)
-    go false q again = subst (AllLow 13000000) (sym (not_yet n size es q)) (again (let t = tried_low size es h q in omega (arith, t, few)) few)
+    go : (b : Bool) → fits_root (root_of place (pieces size es)) ≡ b → (size + size / 5 ≤ 13000000 → length es < 2 ^ 32 → AllAtMost 13000000 (uppers_by n place (size + size / 5) es)) → AllAtMost 13000000 (uppers_by (suc n) place size es)
+    go true q again = subst (AllAtMost 13000000) (sym (at_once (suc n) place size es q)) (cut_most 13000000 (length es) size es low)
+    go false q again = subst (AllAtMost 13000000) (sym (not_yet n place size es q)) (again (let t = tried_low place size es h q in omega (arith, t, few)) few)
 
-low_short : (ls : List (List Entry)) → AllLow 13000000 ls → AllShort ls
-low_short [] a = tt
-low_short (l ∷ ls) a = (let d = dir_length l in omega (arith, d, a.0), low_short ls a.1)
+low_short : (most : ℕ) (ls : List (List Entry)) → most ≤ 13000000 → AllAtMost most ls → AllShort ls
+low_short most [] h a = tt
+low_short most (l ∷ ls) h a = (let d = dir_length l in omega (arith, d, a.0, h), low_short most ls h a.1)
 
--- the bytes of leaves, none of which is empty
-leaves_length : (ls : List (List Entry)) → AllSome ls → length (flat_map dir_bytes ls) ≤ 50 * length (joined ls)
-leaves_length [] s = omega arith
-leaves_length ([] ∷ ls) s = absurd (s.0 refl)
-leaves_length ((e ∷ l) ∷ ls) s =
-    omega (arith, dir_length (e ∷ l), leaves_length ls s.1, length-append (dir_bytes (e ∷ l)) (flat_map dir_bytes ls), length-append l (joined ls))
+-- the bytes of directories, none of which is empty
+level_length : (ls : List (List Entry)) → AllSome ls → end_of ls ≤ 50 * length (joined ls)
+level_length [] s = omega arith
+level_length ([] ∷ ls) s = absurd (s.0 refl)
+level_length ((e ∷ l) ∷ ls) s =
+    omega (arith, dir_length (e ∷ l), level_length ls s.1, length-append (dir_bytes (e ∷ l)) (flat_map dir_bytes ls), length-append l (joined ls))
 
-found_some : (es : List Entry) → AllSome (found_leaves es)
-found_some es = let k = cut_by (length es) (max 4096 (length es / 3500)) es (omega arith) in subst AllSome (sym k.2) (cut_some (length es) k.0 es k.1)
-
--- the leaves of few entries
+-- the directories of few entries
 record AreShort (n : ℕ) (l : Layout) : Type 0 where
-  short : AllShort l.leaves
-  all : length (flat_map dir_bytes l.leaves) ≤ 50 * n
+  short : AllShort (below_layout l)
+  all : end_of (below_layout l) ≤ 100 * n
 
-laid_short : (es : List Entry) → length es < 2 ^ 32 → AreShort (length es) (laid es)
-laid_short es few = go (nat_lt (length es) 16384 && nat_le (length (dir_bytes es)) 16257) refl
+-- of a layout whose upper directories have few entries too
+short_of_laid : (most : ℕ) (es : List Entry) (l : Layout) → IsLaidAs most es l → most ≤ 65536 → AllAtMost 13000000 l.uppers → AreShort (length es) l
+short_of_laid most es l (inl w) m u = record {
+  short = short_both l.leaves l.uppers (subst AllShort (sym w.leaves) tt) (subst AllShort (sym w.uppers) tt);
+  all = omega (arith, parts_length l, ap end_of w.leaves, ap end_of w.uppers);
+}
+short_of_laid most es l (inr (inl w)) m u = record {
+  short = short_both l.leaves l.uppers (low_short most l.leaves (omega (arith, m)) w.of.most_of) (low_short 13000000 l.uppers (omega arith) u);
+  all = omega (arith, parts_length l, level_length l.leaves w.of.some, ap length w.of.joins, ap end_of w.uppers);
+}
+short_of_laid most es l (inr (inr w)) m u = record {
+  short = short_both l.leaves l.uppers (low_short most l.leaves (omega (arith, m)) w.of.most_of) (low_short 13000000 l.uppers (omega arith) u);
+  all = omega (arith, parts_length l, level_length l.leaves w.of.some, level_length l.uppers w.some, ap length w.of.joins, ap length w.names, root_length 0 l.leaves, few_directories l.leaves w.of.some);
+}
+
+uppers_low : (size : ℕ) (es : List Entry) → 5 ≤ size → size ≤ 65536 → length es < 2 ^ 32 → AllAtMost 13000000 (laid size es).uppers
+uppers_low size es h most few = flat (stands_in_root es) refl
   where
-    go : (b : Bool) → (nat_lt (length es) 16384 && nat_le (length (dir_bytes es)) 16257) ≡ b → AreShort (length es) (laid es)
-    go true q = subst (AreShort (length es)) (sym (laid_flat es q)) (record { short = tt; all = omega arith })
-    go false q = subst (AreShort (length es)) (sym (laid_leaves es q)) (record {
-      short = low_short (found_leaves es) (found_low (length es) (max 4096 (length es / 3500)) es (omega arith) (omega (arith, few)) few);
-      all = omega (arith, leaves_length (found_leaves es) (found_some es), ap length (leaves_joined es));
-    })
+    ls : List (List Entry)
+    ls = pieces size es
+
+    below : (b : Bool) → stands_in_root es ≡ false → fits_root (root_of 0 ls) ≡ b → AllAtMost 13000000 (laid size es).uppers
+    below true q r = subst (λ l. AllAtMost 13000000 l.uppers) (sym (laid_leaves size es q r)) tt
+    below false q r =
+        let some = few_directories ls (cut_some (length es) size es (omega (arith, h))) in
+        let joins = ap length (cut_joined (length es) size es (omega (arith, h)) (omega arith)) in
+        subst (λ l. AllAtMost 13000000 l.uppers) (sym (laid_uppers size es q r)) (found_low (length (root_of 0 ls)) (end_of ls) size (root_of 0 ls) (omega (arith, h)) (omega (arith, most)) (omega (arith, root_length 0 ls, some, joins, few)))
+
+    flat : (b : Bool) → stands_in_root es ≡ b → AllAtMost 13000000 (laid size es).uppers
+    flat true q = subst (λ l. AllAtMost 13000000 l.uppers) (sym (laid_flat size es q)) tt
+    flat false q = below (fits_root (root_of 0 ls)) q refl
+
+laid_short : (size : ℕ) (es : List Entry) → 5 ≤ size → size ≤ 65536 → length es < 2 ^ 32 → AreShort (length es) (laid size es)
+laid_short size es h most few = short_of_laid size es (laid size es) (laid_as size es h) most (uppers_low size es h most few)
 
 entries_low : (es : List Entry) → AllRun es → length es ≤ sum_by (λ e. e.run_length) es
 entries_low [] a = omega arith
@@ -151,12 +165,11 @@ pub data_length : (adds : List (ℕ × List ℕ)) → length (data_of adds) ≤ 
 data_length adds = omega (arith, contents_length [] adds)
 
 -- so `finalize` doesn't refuse them
-pub archive_fits : (o : Options) (adds : List (ℕ × List ℕ)) → AreFew o adds → ArchiveFits o adds
-archive_fits o adds few =
-    let s = laid_short (entries_of_adds adds) (omega (arith, entries_few adds, few.count)) in
-    let leaves = flat_map dir_bytes (layout_of adds).leaves in
+pub archive_fits : (o : Options) (adds : List (ℕ × List ℕ)) → OptionsFit o → AreFew o adds → ArchiveFits o adds
+archive_fits o adds f few =
+    let s = laid_short o.max_leaf_entries (entries_of_adds adds) (omega (arith, f.least_leaf)) f.most_leaf (omega (arith, entries_few adds, few.count)) in
     let whole = ap length (archive_laid o adds) in
-    (s.short, omega (arith, few.metadata, few.total, few.count, entries_few adds, s.all, data_length adds, whole, before_length o adds (root_small (entries_of_adds adds)), length-append (before_of o adds) (tiles_of adds ++ leaves), length-append (tiles_of adds) leaves))
+    (s.short, omega (arith, few.metadata, few.total, few.count, entries_few adds, s.all, data_length adds, whole, before_length o adds f, length-append (before_of o adds) (tiles_of adds ++ below_of o adds), length-append (tiles_of adds) (below_of o adds)))
 
 sized_in : (before after : List (ℕ × List ℕ)) (a : ℕ × List ℕ) → AllSized (before ++ a ∷ after) → length a.1 < 2 ^ 32
 sized_in [] after a s = s.0

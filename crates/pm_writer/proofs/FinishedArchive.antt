@@ -5,7 +5,7 @@ use Rattle.pm_format.specs.Directory.{dir_bytes}
 use Rattle.pm_format.specs.Header.{header_bytes}
 use Rattle.pm_format.specs.Options.{Options}
 use Rattle.pm_format.specs.WellFormed.{archive_bytes, header_of, leaf_part}
-use Rattle.pm_writer.specs.Adds.{entries_of_adds}
+use Rattle.pm_writer.specs.Bounds.{OptionsFit}
 use Rattle.pm_writer.specs.Archive.{archive, ids_of, parts_of, rising}
 use Rattle.pm_writer.specs.Pieces.{BothTold, IsHidden, IsHiddenOr, IsOpenTo, finished}
 use Rattle.pm_writer.specs.Writing.{IsStateOf, Writes, begun, data_end, data_of, has_failed, zeros}
@@ -13,7 +13,7 @@ use Rattle.pm_writer.specs.declared.state.WriterState.{WriterState}
 use Rattle.pm_writer.proofs.AddedBytes.{begun_length}
 use Rattle.pm_writer.proofs.Beginning.{begun_hidden, if_some_map, zeros_length}
 use Rattle.pm_writer.proofs.MediumPieces.{both_now}
-use Rattle.pm_writer.proofs.Reading.{root_small}
+use Rattle.pm_writer.proofs.Parts.{root_fits}
 
 zeros_drop : (n k : ℕ) → drop k (zeros n) ≡ zeros (n - k)
 unfolding zeros
@@ -29,19 +29,19 @@ room_left o adds n small =
     drop-append-le (127 + n) (zeros 16384) (o.metadata ++ data_of adds) (let z = zeros_length 16384 in omega (arith, z, small))
     ∙ ap (λ z. z ++ (o.metadata ++ data_of adds)) (zeros_drop 16384 (127 + n) ∙ (ap zeros (let e : 16384 - (127 + n) ≡ 16257 - n = omega arith in e) ∙ zeros_is (16257 - n)))
 
-pub finished_is : (o : Options) (adds : List (ℕ × List ℕ)) (b leaves root header : List ℕ) → b ≡ begun o adds → leaves ≡ leaf_part (parts_of adds) → root ≡ dir_bytes (parts_of adds).root → header ≡ header_bytes (header_of o (rising (ids_of adds)) (parts_of adds))
-    → finished b leaves root header ≡ archive o adds
+pub finished_is : (o : Options) (adds : List (ℕ × List ℕ)) (b below root header : List ℕ) → OptionsFit o → b ≡ begun o adds → below ≡ leaf_part (parts_of o adds) → root ≡ dir_bytes (parts_of o adds).root → header ≡ header_bytes (header_of o (rising (ids_of adds)) (parts_of o adds))
+    → finished b below root header ≡ archive o adds
 unfolding archive archive_bytes
-finished_is o adds b leaves root header e l r h =
-    let small : length root ≤ 16257 = omega (arith, root_small (entries_of_adds adds), ap length r) in
-    let front = header_bytes (header_of o (rising (ids_of adds)) (parts_of adds)) in
-    let p = dir_bytes (parts_of adds).root in
+finished_is o adds b below root header f e l r h =
+    let small : length root ≤ 16257 = omega (arith, root_fits o adds f, ap length r) in
+    let front = header_bytes (header_of o (rising (ids_of adds)) (parts_of o adds)) in
+    let p = dir_bytes (parts_of o adds).root in
     let rest : drop (127 + length root) b ≡ replicate (16257 - length p) 0 ++ (o.metadata ++ data_of adds) = ap (drop (127 + length root)) e ∙ (room_left o adds (length root) small ∙ ap (λ z. replicate (16257 - z) 0 ++ (o.metadata ++ data_of adds)) (ap length r)) in
-    ap (λ z. z ++ (root ++ (drop (127 + length root) b ++ leaves))) h
-    ∙ (ap (λ z. front ++ (z ++ (drop (127 + length root) b ++ leaves))) r
-    ∙ (ap (λ z. front ++ (p ++ (z ++ leaves))) rest
+    ap (λ z. z ++ (root ++ (drop (127 + length root) b ++ below))) h
+    ∙ (ap (λ z. front ++ (z ++ (drop (127 + length root) b ++ below))) r
+    ∙ (ap (λ z. front ++ (p ++ (z ++ below))) rest
     ∙ (ap (λ z. front ++ (p ++ ((replicate (16257 - length p) 0 ++ (o.metadata ++ data_of adds)) ++ z))) l
-    ∙ joined front p (replicate (16257 - length p) 0) o.metadata (data_of adds) (leaf_part (parts_of adds)))))
+    ∙ joined front p (replicate (16257 - length p) 0) o.metadata (data_of adds) (leaf_part (parts_of o adds)))))
   where
     joined : (a b c d e f : List ℕ) → a ++ (b ++ ((c ++ (d ++ e)) ++ f)) ≡ (a ++ (b ++ c)) ++ (d ++ (e ++ f))
     joined a b c d e f = simp append_assoc
@@ -53,15 +53,15 @@ open_to o adds told end e h = if_some_map (λ b. b ≡ begun o adds) (IsOpenTo e
 pub state_of : (o : Options) (told : Option (List ℕ)) (s : WriterState) (adds : List (ℕ × List ℕ)) → Writes o told s adds → has_failed s ≡ false → IsStateOf o s adds
 state_of o told s adds w alive = let h = w.held alive in record { of = w.of; means = h.means; ends = h.ends }
 
-pub whole_told : (o : Options) (adds : List (ℕ × List ℕ)) (t0 t1 : Option (List ℕ)) (leaves root header : List ℕ) → leaves ≡ leaf_part (parts_of adds) → root ≡ dir_bytes (parts_of adds).root → header ≡ header_bytes (header_of o (rising (ids_of adds)) (parts_of adds))
-    → IfSome t0 (λ b. b ≡ begun o adds) → BothTold (λ b c. c ≡ finished b leaves root header) t0 t1 → IfSome t1 (λ b. b ≡ archive o adds)
-whole_told o adds t0 t1 leaves root header l r h e g = both_now (λ b. b ≡ begun o adds) (λ b. b ≡ archive o adds) (λ b c. c ≡ finished b leaves root header) t0 t1 (λ b c p q. q ∙ finished_is o adds b leaves root header p l r h) e g
+pub whole_told : (o : Options) (adds : List (ℕ × List ℕ)) (t0 t1 : Option (List ℕ)) (below root header : List ℕ) → OptionsFit o → below ≡ leaf_part (parts_of o adds) → root ≡ dir_bytes (parts_of o adds).root → header ≡ header_bytes (header_of o (rising (ids_of adds)) (parts_of o adds))
+    → IfSome t0 (λ b. b ≡ begun o adds) → BothTold (λ b c. c ≡ finished b below root header) t0 t1 → IfSome t1 (λ b. b ≡ archive o adds)
+whole_told o adds t0 t1 below root header f l r h e g = both_now (λ b. b ≡ begun o adds) (λ b. b ≡ archive o adds) (λ b c. c ≡ finished b below root header) t0 t1 (λ b c p q. q ∙ finished_is o adds b below root header f p l r h) e g
 
-pub shown_told : (o : Options) (adds : List (ℕ × List ℕ)) (t0 t1 : Option (List ℕ)) (leaves root header : List ℕ) → leaves ≡ leaf_part (parts_of adds) → root ≡ dir_bytes (parts_of adds).root → header ≡ header_bytes (header_of o (rising (ids_of adds)) (parts_of adds))
-    → IfSome t0 (λ b. b ≡ begun o adds) → BothTold (λ b c. IsHiddenOr (finished b leaves root header) c) t0 t1 → IfSome t1 (IsHiddenOr (archive o adds))
-shown_told o adds t0 t1 leaves root header l r h e g =
-    both_now (λ b. b ≡ begun o adds) (IsHiddenOr (archive o adds)) (λ b c. IsHiddenOr (finished b leaves root header) c) t0 t1
-    (λ b c p q. elim q [ inl hidden ↦ inl hidden | inr whole ↦ inr (whole ∙ finished_is o adds b leaves root header p l r h) ]) e g
+pub shown_told : (o : Options) (adds : List (ℕ × List ℕ)) (t0 t1 : Option (List ℕ)) (below root header : List ℕ) → OptionsFit o → below ≡ leaf_part (parts_of o adds) → root ≡ dir_bytes (parts_of o adds).root → header ≡ header_bytes (header_of o (rising (ids_of adds)) (parts_of o adds))
+    → IfSome t0 (λ b. b ≡ begun o adds) → BothTold (λ b c. IsHiddenOr (finished b below root header) c) t0 t1 → IfSome t1 (IsHiddenOr (archive o adds))
+shown_told o adds t0 t1 below root header f l r h e g =
+    both_now (λ b. b ≡ begun o adds) (IsHiddenOr (archive o adds)) (λ b c. IsHiddenOr (finished b below root header) c) t0 t1
+    (λ b c p q. elim q [ inl hidden ↦ inl hidden | inr whole ↦ inr (whole ∙ finished_is o adds b below root header f p l r h) ]) e g
 
 pub hidden_told : (o : Options) (adds : List (ℕ × List ℕ)) (told : Option (List ℕ)) → IfSome told IsHidden → IfSome told (IsHiddenOr (archive o adds))
 hidden_told o adds told h = if_some_map IsHidden (IsHiddenOr (archive o adds)) told (λ b p. inl p) h

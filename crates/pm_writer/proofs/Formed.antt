@@ -1,37 +1,35 @@
 -- The archive is well formed.
-use Rattle.std.proofs.Common.{◌≡◌, ◌≢◌, ℕ, zero, suc, ◌+◌, ◌-◌, ◌*◌, ◌/◌, ◌<◌, ◌≤◌, ◌^◌, ◌⊎◌, inl, inr, max, Bool, true, false, not, List, [], ◌∷◌, ◌++◌, length, flat_map, filter, sum_by, Option, Some, None, Ok, IsSome, nat_le, nat_lt, nat_eq, ◌&&◌, refl, sym, ◌∙◌, ap, arith, subst, append-nil, length-append, lit<}
+use Rattle.std.proofs.Common.{◌≡◌, ◌≢◌, ℕ, zero, suc, ◌+◌, ◌-◌, ◌*◌, ◌/◌, ◌<◌, ◌≤◌, ◌^◌, ◌⊎◌, inl, inr, Bool, true, false, not, List, [], ◌∷◌, ◌++◌, length, flat_map, filter, sum_by, Option, Some, None, IsSome, nat_eq, ◌&&◌, refl, sym, ◌∙◌, ap, arith, subst, append-nil, length-append, lit<}
 use Rattle.std.proofs.lemmas.List.Sums.{sum_by-cons, sum_by-append}
 use Rattle.std.proofs.lemmas.Bool.Decides.{nat_tests}
 use Rattle.std.specs.Str.{bytes_eq}
 use Rattle.std.specs.List.{list_any}
-use Rattle.pm_format.specs.Directory.{Entry, entry, DirFits, dir_of, dir_bytes}
+use Rattle.pm_format.specs.Directory.{DirFits, Entry, dir_bytes, entry}
 use Rattle.pm_format.specs.Header.{HeaderFits}
 use Rattle.pm_writer.specs.Adds.{put_new, Block, onto, blocks, runs, entries_at, longest_run, unsorted, place_in, contents_from, entries_of_adds}
-use Rattle.pm_writer.specs.Leaves.{Layout, laid, found_leaves}
-use Rattle.pm_format.specs.WellFormed.{root_of, first_id, ConsistsOf, AllTiles, AllLeaves, AllIn, InContents, AllNamed, IsNamed, AllRead, tile_entries}
+use Rattle.pm_writer.specs.Leaves.{Layout, below_layout, end_of}
+use Rattle.pm_format.specs.WellFormed.{AllAtMost, AllIn, AllLeaves, AllNamed, AllRead, AllSome, AllTiles, ConsistsOf, InContents, IsFlat, IsNamed, NamesLeaves, NamesUppers, joined, root_of, tile_entries}
 use Rattle.pm_format.specs.Options.{Options}
 use Rattle.pm_writer.specs.Archive.{archive, ids_of, parts_of, rising}
-use Rattle.pm_writer.proofs.Parts.{archive_laid, before_length, before_of, head_of, layout_of, tiles_of}
+use Rattle.pm_writer.proofs.Parts.{archive_laid, before_length, before_of, below_of, head_of, layout_of, root_fits, tiles_of}
 use Rattle.tile_ids.specs.declared.id.TheConstants.{MAX_TILE_ID}
-use Rattle.pm_format.specs.LookUp.{range_of, leaf_of}
+use Rattle.pm_format.specs.LookUp.{range_of}
 use Rattle.pm_format.specs.Sound.{SoundDirectory}
-use Rattle.pm_format.proofs.DirectoryAgain.{directory_again}
-use Rattle.pm_writer.specs.Bounds.{AddsFilled, AllShort, AllLow}
+use Rattle.pm_writer.specs.Bounds.{AddsFilled, AllLow, AllShort, OptionsFit}
 use Rattle.pm_writer.specs.Twice.{Distinct}
 use Rattle.pm_writer.proofs.Runs.{le_or, runs_none, runs_short, runs_long}
 use Rattle.pm_writer.proofs.Blocks.{single, longer, enough}
 use Rattle.pm_writer.proofs.ContentLemmas.{Has, same_or, has_front, has_equal, has_later, place_here, place_later, contents_filled, Filled, all_had}
-use Rattle.pm_writer.proofs.Ordered.{AllRun, Apart, same_sorted}
-use Rattle.pm_writer.specs.Through.{Names}
-use Rattle.pm_writer.proofs.Walking.{joined, AllSome, cut_some}
-use Rattle.pm_writer.proofs.CuttingLemmas.{fits_zero, root_dir_fits}
-use Rattle.pm_writer.proofs.SoundLeaves.{run_left, run_right, tiles_sound, root_sound, LeavesHold}
+use Rattle.pm_writer.proofs.Ordered.{AllRun, same_sorted}
+use Rattle.pm_writer.proofs.SoundTiles.{run_left, run_right, tiles_sound}
+use Rattle.pm_writer.proofs.Levels.{tower_sound}
+use Rattle.pm_writer.proofs.Towers.{all_read, archive_tower, laying_of, levels_of, through_six}
 use Rattle.pm_writer.specs.Maps.{IsIn}
 use Rattle.pm_writer.proofs.Found.{IsAdd, Given, given_of, had_add, run_in, add_covered, tile_of_add, entries_apart}
 use Rattle.pm_format.proofs.ArchiveOpens.{archive_opens}
-use Rattle.pm_writer.proofs.Laying.{laid_flat, laid_leaves}
+use Rattle.pm_writer.proofs.Laying.{IsLaidAs, LeavesOf}
 use Rattle.pm_writer.proofs.ContentRanges.{content_range}
-use Rattle.pm_writer.proofs.Reading.{all_run, root_small, cut_by, fits_left, fits_right, leaf_named, leaves_joined}
+use Rattle.pm_writer.proofs.Reading.{all_run}
 
 -- the runs count the adds
 runs_sum : (limit n offset len id count : ℕ) → count ≤ n * limit → sum_by (λ e. e.run_length) (runs limit n offset len id count) ≡ count
@@ -72,15 +70,13 @@ filter_root : (place : ℕ) (ls : List (List Entry)) → filter (λ e. not (nat_
 filter_root place [] = refl
 filter_root place (l ∷ ls) = filter_root (place + length (dir_bytes l)) ls
 
-pub entries_are : (adds : List (ℕ × List ℕ)) → tile_entries (parts_of adds) ≡ entries_of_adds adds
-entries_are adds = go (nat_lt (length (entries_of_adds adds)) 16384 && nat_le (length (dir_bytes (entries_of_adds adds))) 16257) refl
-  where
-    both : Layout → List Entry
-    both l = filter (λ e. not (nat_eq e.run_length 0)) l.root ++ flat_map (λ l. l) l.leaves
+entries_laid : (most : ℕ) (es : List Entry) (l : Layout) → IsLaidAs most es l → AllRun es → filter (λ e. not (nat_eq e.run_length 0)) l.root ++ joined l.leaves ≡ es
+entries_laid most es l (inl w) a = ap (λ z. filter (λ e. not (nat_eq e.run_length 0)) z ++ joined l.leaves) w.root ∙ (ap (λ z. filter (λ e. not (nat_eq e.run_length 0)) es ++ joined z) w.leaves ∙ (append-nil (filter (λ e. not (nat_eq e.run_length 0)) es) ∙ filter_all es a))
+entries_laid most es l (inr (inl w)) a = ap (λ z. filter (λ e. not (nat_eq e.run_length 0)) z ++ joined l.leaves) w.root ∙ (ap (λ z. z ++ joined l.leaves) (filter_root 0 l.leaves) ∙ w.of.joins)
+entries_laid most es l (inr (inr w)) a = ap (λ z. filter (λ e. not (nat_eq e.run_length 0)) z ++ joined l.leaves) w.root ∙ (ap (λ z. z ++ joined l.leaves) (filter_root (end_of l.leaves) l.uppers) ∙ w.of.joins)
 
-    go : (c : Bool) → (nat_lt (length (entries_of_adds adds)) 16384 && nat_le (length (dir_bytes (entries_of_adds adds))) 16257) ≡ c → tile_entries (parts_of adds) ≡ entries_of_adds adds
-    go true q = ap (λ l. filter (λ e. not (nat_eq e.run_length 0)) l.root ++ flat_map (λ l. l) l.leaves) (laid_flat (entries_of_adds adds) q) ∙ (append-nil (filter (λ e. not (nat_eq e.run_length 0)) (entries_of_adds adds)) ∙ filter_all (entries_of_adds adds) (all_run adds))
-    go false q = ap (λ l. filter (λ e. not (nat_eq e.run_length 0)) l.root ++ flat_map (λ l. l) l.leaves) (laid_leaves (entries_of_adds adds) q) ∙ (ap (λ z. z ++ joined (found_leaves (entries_of_adds adds))) (filter_root 0 (found_leaves (entries_of_adds adds))) ∙ leaves_joined (entries_of_adds adds))
+pub entries_are : (o : Options) (adds : List (ℕ × List ℕ)) → OptionsFit o → tile_entries (parts_of o adds) ≡ entries_of_adds adds
+entries_are o adds f = entries_laid o.max_leaf_entries (entries_of_adds adds) (layout_of o adds) (laying_of o adds f) (all_run adds)
 
 -- ranges of contents
 in_contents : (cs : List (List ℕ)) (at : ℕ) (e : Entry) (x : List ℕ) → Has cs x → e.offset ≡ at + place_in cs x → e.length ≡ length x → InContents cs at e
@@ -185,10 +181,6 @@ named_are adds filled dist = all_named (entries_of_adds adds) 0 (contents_from [
         let same : g.bytes ≡ c = (let p = sym (tile_of_add adds t g.bytes (dist t) g.add) ∙ tile_of_add adds t c (dist t) i in cc) in
         named_by (entries_of_adds adds) v.0 (0 + place_in (contents_from [] adds) c) (length c) v.1 (omega (arith, g.offset, ap (place_in (contents_from [] adds)) same)) (g.size ∙ ap length same)
 
--- each directory is read again
-read_again : (l : List Entry) → DirFits 0 l → length l < 2 ^ 64 → dir_of (dir_bytes l) ≡ Some l
-read_again l f many = ap dir_of (sym (append-nil (dir_bytes l))) ∙ directory_again l [] many f
-
 all_tiles : (es : List Entry) → AllRun es → AllTiles es
 all_tiles [] a = tt
 all_tiles (e ∷ es) a = ((λ z. (let r = a.0 in omega (arith, r, z))), all_tiles es a.1)
@@ -197,42 +189,24 @@ all_leaves : (ls : List (List Entry)) → AllSome ls → AllRun (joined ls) → 
 all_leaves [] s a = tt
 all_leaves (l ∷ ls) s a = (s.0, all_tiles l (run_left l (joined ls) a), all_leaves ls s.1 (run_right l (joined ls) a))
 
-leaves_read : (low : ℕ) (ls : List (List Entry)) → DirFits low (joined ls) → length (joined ls) < 2 ^ 64 → AllRead ls
-leaves_read low [] f many = tt
-leaves_read low (l ∷ ls) f many =
-    let n = length-append l (joined ls) in
-    (read_again l (fits_zero low l (fits_left low l (joined ls) f)) (omega (arith, n, many)), leaves_read 0 ls (fits_right low l (joined ls) f) (omega (arith, n, many)))
-
-root_count : (place : ℕ) (ls : List (List Entry)) → AllSome ls → length (root_of place ls) ≤ length (joined ls)
-root_count place [] s = omega arith
-root_count place ([] ∷ ls) s = absurd (s.0 refl)
-root_count place ((e ∷ l) ∷ ls) s = omega (arith, root_count (place + length (dir_bytes (e ∷ l))) ls s.1, length-append l (joined ls))
-
-kinds_are : (es : List Entry) → AllRun es → (AllTiles (laid es).root × ((laid es).leaves ≡ [])) ⊎ (((laid es).root ≡ root_of 0 (laid es).leaves) × AllLeaves (laid es).leaves)
-kinds_are es a = go (nat_lt (length es) 16384 && nat_le (length (dir_bytes es)) 16257) refl
+kinds_are : (o : Options) (adds : List (ℕ × List ℕ)) → OptionsFit o → IsFlat (parts_of o adds) ⊎ (NamesLeaves (parts_of o adds) ⊎ NamesUppers (parts_of o adds))
+kinds_are o adds f = go (laying_of o adds f)
   where
-    go : (c : Bool) → (nat_lt (length es) 16384 && nat_le (length (dir_bytes es)) 16257) ≡ c → (AllTiles (laid es).root × ((laid es).leaves ≡ [])) ⊎ (((laid es).root ≡ root_of 0 (laid es).leaves) × AllLeaves (laid es).leaves)
-    go true q = subst (λ z. (AllTiles z.root × (z.leaves ≡ [])) ⊎ ((z.root ≡ root_of 0 z.leaves) × AllLeaves z.leaves)) (sym (laid_flat es q)) (inl (all_tiles es a, refl))
-    go false q =
-        let k = cut_by (length es) (max 4096 (length es / 3500)) es (omega arith) in
-        let some : AllSome (found_leaves es) = subst AllSome (sym k.2) (cut_some (length es) k.0 es k.1) in
-        subst (λ z. (AllTiles z.root × (z.leaves ≡ [])) ⊎ ((z.root ≡ root_of 0 z.leaves) × AllLeaves z.leaves)) (sym (laid_leaves es q)) (inr (refl, all_leaves (found_leaves es) some (subst AllRun (sym (leaves_joined es)) a)))
+    leaves : LeavesOf o.max_leaf_entries (entries_of_adds adds) (layout_of o adds) → AllLeaves (layout_of o adds).leaves
+    leaves w = all_leaves (layout_of o adds).leaves w.some (subst AllRun (sym w.joins) (all_run adds))
 
-read_are : (es : List Entry) → DirFits 0 es → length es < 2 ^ 64 → AllShort (laid es).leaves → length (flat_map dir_bytes (laid es).leaves) < 2 ^ 64 → AllRead ((laid es).root ∷ (laid es).leaves)
-read_are es f many short fits = go (nat_lt (length es) 16384 && nat_le (length (dir_bytes es)) 16257) refl
+    go : IsLaidAs o.max_leaf_entries (entries_of_adds adds) (layout_of o adds) → IsFlat (parts_of o adds) ⊎ (NamesLeaves (parts_of o adds) ⊎ NamesUppers (parts_of o adds))
+    go (inl w) = inl (record { tiles = subst AllTiles (sym w.root) (all_tiles (entries_of_adds adds) (all_run adds)); leaves = w.leaves; uppers = w.uppers })
+    go (inr (inl w)) = inr (inl (record { root = w.root; leaves = leaves w.of; uppers = w.uppers }))
+    go (inr (inr w)) = inr (inr (record { root = w.root; named = w.names; leaves = leaves w.of; uppers = w.some }))
+
+pub bounded_are : (o : Options) (adds : List (ℕ × List ℕ)) → OptionsFit o → AllAtMost o.max_leaf_entries (layout_of o adds).leaves
+bounded_are o adds f = go (laying_of o adds f)
   where
-    go : (c : Bool) → (nat_lt (length es) 16384 && nat_le (length (dir_bytes es)) 16257) ≡ c → AllRead ((laid es).root ∷ (laid es).leaves)
-    go true q = subst (λ z. AllRead (z.root ∷ z.leaves)) (sym (laid_flat es q)) (read_again es f many, tt)
-    go false q =
-        let ls = found_leaves es in
-        let k = cut_by (length es) (max 4096 (length es / 3500)) es (omega arith) in
-        let some : AllSome ls = subst AllSome (sym k.2) (cut_some (length es) k.0 es k.1) in
-        let fs : DirFits 0 (joined ls) = subst (DirFits 0) (sym (leaves_joined es)) f in
-        let n : length (joined ls) < 2 ^ 64 = subst (λ z. length z < 2 ^ 64) (sym (leaves_joined es)) many in
-        let sh : AllShort ls = subst (λ z. AllShort z.leaves) (laid_leaves es q) short in
-        let ft : length (flat_map dir_bytes ls) < 2 ^ 64 = subst (λ z. length (flat_map dir_bytes z.leaves) < 2 ^ 64) (laid_leaves es q) fits in
-        subst (λ z. AllRead (z.root ∷ z.leaves)) (sym (laid_leaves es q))
-        (read_again (root_of 0 ls) (root_dir_fits 0 0 ls fs some sh (omega (arith, ft))) (omega (arith, root_count 0 ls some, n)), leaves_read 0 ls fs n)
+    go : IsLaidAs o.max_leaf_entries (entries_of_adds adds) (layout_of o adds) → AllAtMost o.max_leaf_entries (layout_of o adds).leaves
+    go (inl w) = subst (AllAtMost o.max_leaf_entries) (sym w.leaves) tt
+    go (inr (inl w)) = w.of.most_of
+    go (inr (inr w)) = w.of.most_of
 
 add_low : (adds : List (ℕ × List ℕ)) (t : ℕ) (x : List ℕ) → AllLow adds → IsAdd adds t x → t ≤ MAX_TILE_ID
 add_low [] t x l i = absurd i
@@ -249,67 +223,43 @@ some_is : (o : Option (List ℕ)) (x : List ℕ) → o ≡ Some x → IsSome o
 some_is None x e = absurd (cc)
 some_is (Some y) x e = refl
 
-entry_range : (o : Options) (adds : List (ℕ × List ℕ)) (e : Entry) → length (archive o adds) < 2 ^ 64 → IsIn e (entries_of_adds adds) → IsSome (range_of (archive o adds) ((head_of o adds).data_offset + e.offset) e.length)
-entry_range o adds e fits i =
+entry_range : (o : Options) (adds : List (ℕ × List ℕ)) (e : Entry) → OptionsFit o → length (archive o adds) < 2 ^ 64 → IsIn e (entries_of_adds adds) → IsSome (range_of (archive o adds) ((head_of o adds).data_offset + e.offset) e.length)
+entry_range o adds e f fits i =
     let g = of_entry adds e i in
     let b = archive o adds in
-    let range = content_range b (before_of o adds) (contents_from [] adds) (flat_map dir_bytes (layout_of adds).leaves) g.bytes (archive_laid o adds) fits (had_add (contents_from [] adds) adds e.tile_id g.bytes (all_had [] adds) g.add) in
-    let place : 16384 + length o.metadata + e.offset ≡ length (before_of o adds) + place_in (contents_from [] adds) g.bytes = omega (arith, g.offset, before_length o adds (root_small (entries_of_adds adds))) in
+    let range = content_range b (before_of o adds) (contents_from [] adds) (below_of o adds) g.bytes (archive_laid o adds) fits (had_add (contents_from [] adds) adds e.tile_id g.bytes (all_had [] adds) g.add) in
+    let place : 16384 + length o.metadata + e.offset ≡ length (before_of o adds) + place_in (contents_from [] adds) g.bytes = omega (arith, g.offset, before_length o adds f) in
     some_is (range_of b (16384 + length o.metadata + e.offset) e.length) g.bytes (ap (λ k. range_of b k e.length) place ∙ (ap (range_of b (length (before_of o adds) + place_in (contents_from [] adds) g.bytes)) g.size ∙ range))
 
-sound_are : (o : Options) (adds : List (ℕ × List ℕ)) → Distinct adds → AllLow adds → DirFits 0 (entries_of_adds adds) → length (entries_of_adds adds) < 2 ^ 64 → length (archive o adds) < 2 ^ 64
-    → SoundDirectory 6 (head_of o adds) (archive o adds) 0 (MAX_TILE_ID + 1) (layout_of adds).root
-sound_are o adds dist low f many fits = go (nat_lt (length (entries_of_adds adds)) 16384 && nat_le (length (dir_bytes (entries_of_adds adds))) 16257) refl
-  where
-    flat : (nat_lt (length (entries_of_adds adds)) 16384 && nat_le (length (dir_bytes (entries_of_adds adds))) 16257) ≡ true → SoundDirectory 6 (head_of o adds) (archive o adds) 0 (MAX_TILE_ID + 1) (layout_of adds).root
-    flat q =
-        let es = entries_of_adds adds in
-        subst (λ z. SoundDirectory 6 (head_of o adds) (archive o adds) 0 (MAX_TILE_ID + 1) z.root) (sym (laid_flat es q))
-        (tiles_sound 6 (head_of o adds) (archive o adds) 0 (MAX_TILE_ID + 1) es (entries_apart adds dist (all_run adds)) (all_run adds) (λ e i. omega arith) (λ e i. ends_low adds e low i) (λ e i. entry_range o adds e fits i))
+sound_are : (o : Options) (adds : List (ℕ × List ℕ)) → OptionsFit o → Distinct adds → AllLow adds → AllRead (below_layout (layout_of o adds)) → length (archive o adds) < 2 ^ 64
+    → SoundDirectory 6 (head_of o adds) (archive o adds) 0 (MAX_TILE_ID + 1) (layout_of o adds).root
+sound_are o adds f dist low read fits =
+    let es = entries_of_adds adds in
+    let ts = levels_of o.max_leaf_entries es (layout_of o adds) (laying_of o adds f) in
+    let n = 6 - length ts in
+    let all = through_six o.max_leaf_entries es (layout_of o adds) (laying_of o adds f) in
+    let tiles = tiles_sound n (head_of o adds) (archive o adds) 0 (MAX_TILE_ID + 1) es (entries_apart adds dist (all_run adds)) (all_run adds) (λ e i. omega arith) (λ e i. ends_low adds e low i) (λ e i. entry_range o adds e f fits i) in
+    subst (λ k. SoundDirectory k (head_of o adds) (archive o adds) 0 (MAX_TILE_ID + 1) (layout_of o adds).root) all
+    (tower_sound n (head_of o adds) (archive o adds) 0 (MAX_TILE_ID + 1) ts (layout_of o adds).root es (archive_tower o adds f read fits) tiles)
 
-    cuts : (nat_lt (length (entries_of_adds adds)) 16384 && nat_le (length (dir_bytes (entries_of_adds adds))) 16257) ≡ false → SoundDirectory 6 (head_of o adds) (archive o adds) 0 (MAX_TILE_ID + 1) (layout_of adds).root
-    cuts q =
-        let es = entries_of_adds adds in
-        let ls = found_leaves es in
-        let lay = laid_leaves es q in
-        let k = cut_by (length es) (max 4096 (length es / 3500)) es (omega arith) in
-        let some : AllSome ls = subst AllSome (sym k.2) (cut_some (length es) k.0 es k.1) in
-        let same : joined ls ≡ es = leaves_joined es in
-        let hold : LeavesHold 5 (head_of o adds) (archive o adds) (MAX_TILE_ID + 1) ls = record {
-          apart = subst Apart (sym same) (entries_apart adds dist (all_run adds));
-          runs = subst AllRun (sym same) (all_run adds);
-          some = some;
-          upto = λ e i. ends_low adds e low (subst (IsIn e) same i);
-          ranges = λ e i. entry_range o adds e fits (subst (IsIn e) same i);
-        } in
-        let leaf : (before : List (List Entry)) (l : List Entry) (after : List (List Entry)) → ls ≡ before ++ l ∷ after → leaf_of (head_of o adds) (archive o adds) (entry (first_id l) (0 + length (flat_map dir_bytes before)) (length (dir_bytes l)) 0) ≡ Ok l =
-        λ (before : List (List Entry)) (l : List Entry) (after : List (List Entry)) (p : ls ≡ before ++ l ∷ after).
-        let e = entry (first_id l) (length (flat_map dir_bytes before)) (length (dir_bytes l)) 0 in
-        let n : Names ls e l = record { before = before; after = after; parts = p; is = refl } in
-        let r = leaf_named o adds f many fits q e l n in
-        let z : length (flat_map dir_bytes before) ≡ 0 + length (flat_map dir_bytes before) = omega arith in
-        subst (λ m. leaf_of (head_of o adds) (archive o adds) (entry (first_id l) m (length (dir_bytes l)) 0) ≡ Ok l) z r in
-        subst (λ z. SoundDirectory 6 (head_of o adds) (archive o adds) 0 (MAX_TILE_ID + 1) z.root) (sym lay)
-        (root_sound 5 (head_of o adds) (archive o adds) 0 (MAX_TILE_ID + 1) 0 ls hold (omega arith) leaf)
+-- the root and the directories below it are read again
+pub archive_directories : (o : Options) (adds : List (ℕ × List ℕ)) → OptionsFit o → DirFits 0 (entries_of_adds adds) → length (entries_of_adds adds) < 2 ^ 64 → AllShort (below_layout (layout_of o adds)) → length (archive o adds) < 2 ^ 64
+    → AllRead ((layout_of o adds).root ∷ below_layout (layout_of o adds))
+archive_directories o adds f fit many short fits =
+    all_read o.max_leaf_entries (entries_of_adds adds) (layout_of o adds) (laying_of o adds f) fit many short
+    (omega (arith, fits, ap length (archive_laid o adds), length-append (before_of o adds) (tiles_of adds ++ below_of o adds), length-append (tiles_of adds) (below_of o adds)))
 
-    go : (c : Bool) → (nat_lt (length (entries_of_adds adds)) 16384 && nat_le (length (dir_bytes (entries_of_adds adds))) 16257) ≡ c → SoundDirectory 6 (head_of o adds) (archive o adds) 0 (MAX_TILE_ID + 1) (layout_of adds).root
-    go true q = flat q
-    go false q = cuts q
-
-pub formed : (o : Options) (adds : List (ℕ × List ℕ)) → HeaderFits (head_of o adds) → AddsFilled adds → Distinct adds → AllLow adds → AllShort (layout_of adds).leaves → DirFits 0 (entries_of_adds adds) → length (entries_of_adds adds) < 2 ^ 64 → length (archive o adds) < 2 ^ 64
-    → ConsistsOf (archive o adds) o (rising (ids_of adds)) (parts_of adds)
+pub formed : (o : Options) (adds : List (ℕ × List ℕ)) → OptionsFit o → HeaderFits (head_of o adds) → AddsFilled adds → Distinct adds → AllLow adds → AllRead ((layout_of o adds).root ∷ below_layout (layout_of o adds)) → length (archive o adds) < 2 ^ 64
+    → ConsistsOf (archive o adds) o (rising (ids_of adds)) (parts_of o adds)
 unfolding archive
-formed o adds hf filled dist low short f many fits =
-    let small = root_small (entries_of_adds adds) in
-    let leaves : length (flat_map dir_bytes (layout_of adds).leaves) < 2 ^ 64 = omega (arith, fits, ap length (archive_laid o adds), length-append (before_of o adds) (tiles_of adds ++ flat_map dir_bytes (layout_of adds).leaves), length-append (tiles_of adds) (flat_map dir_bytes (layout_of adds).leaves)) in
-    let read = read_are (entries_of_adds adds) f many short leaves in
-    record {
-      bytes = refl;
-      small = small;
-      opens = archive_opens o (rising (ids_of adds)) (parts_of adds) hf small read.0;
-      sound = sound_are o adds dist low f many fits;
-      kinds = kinds_are (entries_of_adds adds) (all_run adds);
-      read = read;
-      ranges = subst (AllIn (contents_from [] adds)) (sym (entries_are adds)) (ranges_are adds);
-      named = subst (λ z. AllNamed z 0 (contents_from [] adds)) (sym (entries_are adds)) (named_are adds filled dist);
-    }
+formed o adds f hf filled dist low read fits = record {
+  bytes = refl;
+  small = root_fits o adds f;
+  opens = archive_opens o (rising (ids_of adds)) (parts_of o adds) hf (root_fits o adds f) read.0;
+  sound = sound_are o adds f dist low read.1 fits;
+  kinds = kinds_are o adds f;
+  bounded = bounded_are o adds f;
+  read = read;
+  ranges = subst (AllIn (contents_from [] adds)) (sym (entries_are o adds f)) (ranges_are adds);
+  named = subst (λ z. AllNamed z 0 (contents_from [] adds)) (sym (entries_are o adds f)) (named_are adds filled dist);
+}

@@ -1,45 +1,101 @@
--- Entries that stand in the root, or leaves of some size.
-use Rattle.std.proofs.Common.{◌≡◌, ℕ, zero, suc, ◌+◌, true, false, List, [], ◌∷◌, length, nat_le, nat_lt, ◌&&◌, refl, ap, arith, All}
-use Rattle.std.proofs.lemmas.List.{length-map}
-use Rattle.pm_format.specs.Directory.{Entry, entry, dir_bytes}
-use Rattle.pm_writer.specs.Leaves.{found_leaves, laid, named_leaves}
-use Rattle.pm_format.specs.WellFormed.{root_of, first_id}
-use Rattle.pm_writer.specs.Bounds.{AllShort}
-use Rattle.pm_writer.specs.Ranges.{IsShort, named, named_by}
-use Rattle.pm_writer.specs.Cutting.{AreDirectories, IsWhole}
-use Rattle.pm_writer.specs.declared.cutting.Directories.{Directories}
-use Rattle.pm_writer.specs.declared.leaf_root.LeafRange.{LeafRange}
+-- What a layout is: a flat root, or one that names leaves or upper directories.
+use Rattle.std.proofs.Common.{◌≡◌, ℕ, zero, suc, ◌≤◌, inl, inr, ◌⊎◌, Bool, true, false, ◌&&◌, List, [], ◌∷◌, length, drop, refl, ◌∙◌, sym, ap, arith, subst}
+use Rattle.std.proofs.lemmas.List.{length-take}
+use Rattle.pm_format.specs.Directory.{Entry, dir_bytes}
+use Rattle.pm_format.specs.WellFormed.{AllAtMost, AllSome, joined, root_of}
+use Rattle.pm_writer.specs.Leaves.{Layout, cut, end_of, fits_root, found_uppers, laid, named_leaves, pieces, stands_in_root}
+use Rattle.pm_writer.proofs.Trying.{cut_by, tested, uppers_fit}
+use Rattle.pm_writer.proofs.Walking.{cut_joined, cut_some}
 
-pub laid_flat : (es : List Entry) → (nat_lt (length es) 16384 && nat_le (length (dir_bytes es)) 16257) ≡ true → laid es ≡ record { root = es; leaves = [] }
-laid_flat es q = rw (q, laid) refl
+pub laid_flat : (size : ℕ) (es : List Entry) → stands_in_root es ≡ true → laid size es ≡ record { root = es; leaves = []; uppers = [] }
+laid_flat size es q = rw (q, laid) refl
 
-pub laid_leaves : (es : List Entry) → (nat_lt (length es) 16384 && nat_le (length (dir_bytes es)) 16257) ≡ false → laid es ≡ record { root = root_of 0 (found_leaves es); leaves = found_leaves es }
-laid_leaves es q = rw (q, laid) refl
+laid_below : (size : ℕ) (es : List Entry) → stands_in_root es ≡ false → laid size es ≡ named_leaves size (pieces size es)
+laid_below size es q = rw (q, laid) refl
 
-pub root_length : (place : ℕ) (ls : List (List Entry)) → length (root_of place ls) ≡ length ls
-root_length place [] = refl
-root_length place (l ∷ ls) = ap suc (root_length (place + length (dir_bytes l)) ls)
+named_fit : (size : ℕ) (ls : List (List Entry)) → fits_root (root_of 0 ls) ≡ true → named_leaves size ls ≡ record { root = root_of 0 ls; leaves = ls; uppers = [] }
+named_fit size ls r = rw (r, named_leaves) refl
 
--- the leaves are as short as their ranges
-pub leaves_short : (place : ℕ) (rs : List LeafRange) (ls : List (List Entry)) → named rs ≡ root_of place ls → All IsShort rs → AllShort ls
-leaves_short place [] [] e s = tt
-leaves_short place [] (l ∷ ls) e s = absurd (cc)
-leaves_short place (q ∷ rs) [] e s = absurd (cc)
-leaves_short place (q ∷ rs) (l ∷ ls) e s =
-    let head : named_by q ≡ entry (first_id l) place (length (dir_bytes l)) 0 = cc in
-    let tail : named rs ≡ root_of (place + length (dir_bytes l)) ls = cc in
-    (omega (arith, s 0 q (omega arith), ap (λ z. z.length) head), leaves_short (place + length (dir_bytes l)) rs ls tail (λ k d h. s (suc k) d (omega (arith, h))))
+named_above : (size : ℕ) (ls : List (List Entry)) → fits_root (root_of 0 ls) ≡ false → (let us = found_uppers (end_of ls) size (root_of 0 ls) in named_leaves size ls ≡ record { root = root_of (end_of ls) us; leaves = ls; uppers = us })
+named_above size ls r = rw (r, named_leaves) refl
 
-pub leaves_long : (place : ℕ) (rs : List LeafRange) (ls : List (List Entry)) → named rs ≡ root_of place ls → AllShort ls → All IsShort rs
-leaves_long place [] ls e s k d h = absurd (omega (arith, h))
-leaves_long place (q ∷ rs) [] e s k d h = absurd (cc)
-leaves_long place (q ∷ rs) (l ∷ ls) e s zero d h =
-    let head : named_by q ≡ entry (first_id l) place (length (dir_bytes l)) 0 = cc in
-    omega (arith, s.0, ap (λ z. z.length) head)
-leaves_long place (q ∷ rs) (l ∷ ls) e s (suc k) d h =
-    let tail : named rs ≡ root_of (place + length (dir_bytes l)) ls = cc in
-    leaves_long (place + length (dir_bytes l)) rs ls tail s.1 k d (omega (arith, h))
+pub laid_leaves : (size : ℕ) (es : List Entry) → stands_in_root es ≡ false → (let ls = pieces size es in fits_root (root_of 0 ls) ≡ true → laid size es ≡ record { root = root_of 0 ls; leaves = ls; uppers = [] })
+laid_leaves size es q r = laid_below size es q ∙ named_fit size (pieces size es) r
 
--- leaves with their root are the directories of a layout
-pub whole_are : (d : Directories) (ls : List (List Entry)) → IsWhole d ls → AreDirectories d (named_leaves ls)
-whole_are d ls w = record { root = w.root; leaves = w.cut.bytes; count = omega (arith, length-map d.ranges.items named_by, ap length w.cut.root, root_length 0 ls) }
+pub laid_uppers : (size : ℕ) (es : List Entry) → stands_in_root es ≡ false
+    → (let ls = pieces size es in let us = found_uppers (end_of ls) size (root_of 0 ls) in fits_root (root_of 0 ls) ≡ false → laid size es ≡ record { root = root_of (end_of ls) us; leaves = ls; uppers = us })
+laid_uppers size es q r = laid_below size es q ∙ named_above size (pieces size es) r
+
+-- the directories of tile entries below a root
+pub record LeavesOf (most : ℕ) (es : List Entry) (l : Layout) : Type 0 where
+  pub joins : joined l.leaves ≡ es
+  pub some : AllSome l.leaves
+  pub most_of : AllAtMost most l.leaves
+
+pub record LaidFlat (es : List Entry) (l : Layout) : Type 0 where
+  pub root : l.root ≡ es
+  pub leaves : l.leaves ≡ []
+  pub uppers : l.uppers ≡ []
+
+pub record LaidLeaves (most : ℕ) (es : List Entry) (l : Layout) : Type 0 where
+  pub of : LeavesOf most es l
+  pub root : l.root ≡ root_of 0 l.leaves
+  pub uppers : l.uppers ≡ []
+
+pub record LaidUppers (most : ℕ) (es : List Entry) (l : Layout) : Type 0 where
+  pub of : LeavesOf most es l
+  pub root : l.root ≡ root_of (end_of l.leaves) l.uppers
+  pub names : joined l.uppers ≡ root_of 0 l.leaves
+  pub some : AllSome l.uppers
+
+abbrev pub IsLaidAs : ℕ → List Entry → Layout → Type 0
+IsLaidAs most es l = LaidFlat es l ⊎ (LaidLeaves most es l ⊎ LaidUppers most es l)
+
+pub cut_most : (most n size : ℕ) (es : List Entry) → size ≤ most → AllAtMost most (cut n size es)
+cut_most most zero size es h = tt
+cut_most most (suc n) size [] h = tt
+cut_most most (suc n) size (e ∷ es) h = (omega (arith, h, length-take size (e ∷ es)), cut_most most n size (drop size (e ∷ es)) h)
+
+pub laid_as : (size : ℕ) (es : List Entry) → 5 ≤ size → IsLaidAs size es (laid size es)
+laid_as size es h = flat (stands_in_root es) refl
+  where
+    ls : List (List Entry)
+    ls = pieces size es
+
+    of : (root : List Entry) (us : List (List Entry)) → LeavesOf size es (record { root = root; leaves = ls; uppers = us })
+    of root us = record { joins = cut_joined (length es) size es (omega (arith, h)) (omega arith); some = cut_some (length es) size es (omega (arith, h)); most_of = cut_most size (length es) size es (omega arith) }
+
+    below : (b : Bool) → stands_in_root es ≡ false → fits_root (root_of 0 ls) ≡ b → IsLaidAs size es (laid size es)
+    below true q r = subst (IsLaidAs size es) (sym (laid_leaves size es q r)) (inr (inl (record { of = of (root_of 0 ls) []; root = refl; uppers = refl })))
+    below false q r =
+        let f = root_of 0 ls in
+        let k = cut_by (length f) (end_of ls) size f (omega (arith, h)) in
+        let us = found_uppers (end_of ls) size f in
+        subst (IsLaidAs size es) (sym (laid_uppers size es q r)) (inr (inr (record {
+          of = of (root_of (end_of ls) us) us;
+          root = refl;
+          names = ap joined k.2 ∙ cut_joined (length f) k.0 f k.1 (omega arith);
+          some = subst AllSome (sym k.2) (cut_some (length f) k.0 f k.1);
+        })))
+
+    flat : (b : Bool) → stands_in_root es ≡ b → IsLaidAs size es (laid size es)
+    flat true q = subst (IsLaidAs size es) (sym (laid_flat size es q)) (inl (record { root = refl; leaves = refl; uppers = refl }))
+    flat false q = below (fits_root (root_of 0 ls)) q refl
+
+and_second : (a b : Bool) → (a && b) ≡ true → b ≡ true
+and_second true b h = h
+and_second false b h = absurd (cc)
+
+pub root_small : (size : ℕ) (es : List Entry) → 5 ≤ size → length (dir_bytes (laid size es).root) ≤ 16257
+root_small size es h = flat (stands_in_root es) refl
+  where
+    ls : List (List Entry)
+    ls = pieces size es
+
+    below : (b : Bool) → stands_in_root es ≡ false → fits_root (root_of 0 ls) ≡ b → length (dir_bytes (laid size es).root) ≤ 16257
+    below true q r = subst (λ l. length (dir_bytes l.root) ≤ 16257) (sym (laid_leaves size es q r)) (tested (length (dir_bytes (root_of 0 ls))) r)
+    below false q r = subst (λ l. length (dir_bytes l.root) ≤ 16257) (sym (laid_uppers size es q r)) (uppers_fit (length (root_of 0 ls)) (end_of ls) size (root_of 0 ls) h (omega arith))
+
+    flat : (b : Bool) → stands_in_root es ≡ b → length (dir_bytes (laid size es).root) ≤ 16257
+    flat true q = subst (λ l. length (dir_bytes l.root) ≤ 16257) (sym (laid_flat size es q)) (tested (length (dir_bytes es)) (and_second _ _ q))
+    flat false q = below (fits_root (root_of 0 ls)) q refl

@@ -7,13 +7,13 @@ pub mod AfterAdd
 pub mod Times
 pub mod Ordered
 pub mod Walking
-pub mod RootPieces
 pub mod MediumPieces
 pub mod LastPieces
 pub mod Beginning
 pub mod AddedBytes
 pub mod CuttingLemmas
 pub mod Trying
+pub mod Built
 pub mod Laying
 pub mod Cuts
 pub mod Parted
@@ -24,7 +24,9 @@ pub mod Found
 pub mod ContentRanges
 pub mod Parts
 pub mod Reading
-pub mod SoundLeaves
+pub mod SoundTiles
+pub mod Levels
+pub mod Towers
 pub mod Formed
 pub mod Bounds
 pub mod Whole

@@ -19,7 +19,8 @@ use Rattle.pm_writer.specs.Maps.{RisingAdds}
 use Rattle.pm_writer.specs.Twice.{Distinct, adds_at}
 use Rattle.pm_writer.proofs.Few.{archive_fits}
 use Rattle.pm_writer.proofs.Parted.{tile_here, tile_later}
-use Rattle.pm_writer.proofs.Whole.{consists, map_is}
+use Rattle.pm_writer.proofs.Bounds.{whole_formed}
+use Rattle.pm_writer.proofs.Whole.{map_is}
 use Rattle.pm_writer.proofs.Runs.{eq_or}
 
 is_below : (x y : ℕ) → is_lt (nat_cmp x y) ≡ true → x < y
@@ -109,7 +110,7 @@ tile_found (a ∷ adds) t = elim (eq_or a.0 t) [
 -- few and short adds by rising id have an archive that can be written
 pub sorted_archivable : (o : Options) (adds : List (ℕ × List ℕ)) → OptionsFit o → AreFew o adds → is_sorted nat_cmp adds ≡ true → All (λ a. a.0 ≤ MAX_TILE_ID) adds → All (λ a. a.1 ≢ []) adds → IsArchivable o adds
 sorted_archivable o adds fit few s low some =
-    let f = archive_fits o adds few in
+    let f = archive_fits o adds fit few in
     record { options = fit; filled = all_filled adds some; low = all_low adds low; sized = few.sized; distinct = adds_distinct adds s; short = f.0; ends = f.1 }
 
 -- it has exactly the adds
@@ -118,4 +119,4 @@ sorted_map o adds t a = map_is o adds t a ∙ tile_found adds t
 
 -- and is well formed and clustered
 pub sorted_formed : (o : Options) (adds : List (ℕ × List ℕ)) → IsArchivable o adds → is_sorted nat_cmp adds ≡ true → WellFormed (archive o adds) o true
-sorted_formed o adds a s = subst (WellFormed (archive o adds) o) (ids_rise adds s) (parts_of adds, consists o adds a)
+sorted_formed o adds a s = subst (WellFormed (archive o adds) o) (ids_rise adds s) (parts_of o adds, whole_formed o adds a)

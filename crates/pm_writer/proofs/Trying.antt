@@ -4,7 +4,7 @@ use Rattle.std.proofs.lemmas.List.{drop_all}
 use Rattle.std.proofs.lemmas.Bool.Decides.{nat_tests}
 use Rattle.pm_format.specs.Varint.{varint, short_of}
 use Rattle.pm_format.specs.Directory.{Entry, dir_bytes, spell_all, steps_from, starts_from}
-use Rattle.pm_writer.specs.Leaves.{cut, leaves_by}
+use Rattle.pm_writer.specs.Leaves.{cut, fits_root, pieces, uppers_by}
 use Rattle.pm_format.specs.WellFormed.{root_of}
 use Rattle.pm_writer.proofs.Runs.{le_or}
 
@@ -37,63 +37,70 @@ pub cut_nil : (n size : ℕ) → cut n size [] ≡ []
 cut_nil zero size = refl
 cut_nil (suc n) size = refl
 
--- leaves of a size that is enough are one
-pub one_leaf : (size : ℕ) (es : List Entry) → length es ≤ size → length (root_of 0 (cut (length es) size es)) ≤ 1
-one_leaf size [] h = omega arith
-one_leaf size (e ∷ es) h =
+-- directories of a size that is enough are one
+pub one_directory : (place size : ℕ) (es : List Entry) → length es ≤ size → length (root_of place (pieces size es)) ≤ 1
+one_directory place size [] h = omega arith
+one_directory place size (e ∷ es) h =
     let rest : cut (length es) size (drop size (e ∷ es)) ≡ [] = ap (cut (length es) size) (drop_all size (e ∷ es) h) ∙ cut_nil (length es) size in
-    let t : length (root_of (0 + length (dir_bytes (take size (e ∷ es)))) (cut (length es) size (drop size (e ∷ es)))) ≡ 0 = rw rest refl in
+    let t : length (root_of (place + length (dir_bytes (take size (e ∷ es)))) (cut (length es) size (drop size (e ∷ es)))) ≡ 0 = rw rest refl in
     omega (arith, t)
 
-pub tried_short : (size : ℕ) (es : List Entry) → nat_le (length (dir_bytes (root_of 0 (cut (length es) size es)))) 16257 ≡ false → size < length es
-tried_short size es h = elim (le_or (length es) size) [
-  | inl g ↦ let s = small_root (root_of 0 (cut (length es) size es)) (one_leaf size es g) in
-      let t : nat_le (length (dir_bytes (root_of 0 (cut (length es) size es)))) 16257 ≡ true = grind (arith, nat_tests) in
+pub one_fits : (place size : ℕ) (es : List Entry) → length es ≤ size → length (dir_bytes (root_of place (pieces size es))) ≤ 16257
+one_fits place size es h = small_root (root_of place (pieces size es)) (one_directory place size es h)
+
+-- so a size that is tried in vain is short
+pub tried_short : (place size : ℕ) (es : List Entry) → fits_root (root_of place (pieces size es)) ≡ false → size < length es
+tried_short place size es h = elim (le_or (length es) size) [
+  | inl g ↦ let s = one_fits place size es g in
+      let t : fits_root (root_of place (pieces size es)) ≡ true = grind (arith, nat_tests) in
       absurd (cc)
   | inr g ↦ g
 ]
 
-pub at_once : (n size : ℕ) (es : List Entry) → nat_le (length (dir_bytes (root_of 0 (cut (length es) size es)))) 16257 ≡ true → leaves_by (suc n) size es ≡ cut (length es) size es
-at_once n size es e = rw (e, leaves_by) refl
+pub at_once : (n place size : ℕ) (es : List Entry) → fits_root (root_of place (pieces size es)) ≡ true → uppers_by n place size es ≡ pieces size es
+at_once zero place size es e = refl
+at_once (suc n) place size es e = rw (e, uppers_by) refl
 
-pub not_yet : (n size : ℕ) (es : List Entry) → nat_le (length (dir_bytes (root_of 0 (cut (length es) size es)))) 16257 ≡ false → leaves_by (suc n) size es ≡ leaves_by n (size + size / 5) es
-not_yet n size es e = rw (e, leaves_by) refl
+pub not_yet : (n place size : ℕ) (es : List Entry) → fits_root (root_of place (pieces size es)) ≡ false → uppers_by (suc n) place size es ≡ uppers_by n place (size + size / 5) es
+not_yet n place size es e = rw (e, uppers_by) refl
 
--- after i sizes that don't fit
-pub record Trying (es : List Entry) (first i size : ℕ) : Type 0 where
-  pub same : leaves_by (length es - i) size es ≡ leaves_by (length es) first es
+-- the sizes that are left find the same directories
+pub record Trying (place first size : ℕ) (es : List Entry) : Type 0 where
+  pub left : ℕ
+  pub enough : length es ≤ size + left
+  pub same : uppers_by left place size es ≡ uppers_by (length es) place first es
   pub low : 5 ≤ size
 
-pub trying_first : (es : List Entry) (first : ℕ) → 5 ≤ first → Trying es first 0 first
-trying_first es first h = record { same = (let e : length es - 0 ≡ length es = omega arith in ap (λ k. leaves_by k first es) e); low = h }
+pub trying_first : (place first : ℕ) (es : List Entry) → 5 ≤ first → Trying place first first es
+trying_first place first es h = record { left = length es; enough = omega arith; same = refl; low = h }
 
-pub trying_more : (es : List Entry) (first i size : ℕ) → i < length es → nat_le (length (dir_bytes (root_of 0 (cut (length es) size es)))) 16257 ≡ false → Trying es first i size → Trying es first (i + 1) (size + size / 5)
-trying_more es first i size h e t =
-    let one : length es - i ≡ suc (length es - (i + 1)) = omega (arith, h) in
-    let step : leaves_by (suc (length es - (i + 1))) size es ≡ leaves_by (length es - (i + 1)) (size + size / 5) es = not_yet (length es - (i + 1)) size es e in
-    record { same = sym step ∙ (ap (λ k. leaves_by k size es) (sym one) ∙ t.same); low = omega (arith, t.low) }
+pub trying_more : (place first size : ℕ) (es : List Entry) → fits_root (root_of place (pieces size es)) ≡ false → Trying place first size es → Trying place first (size + size / 5) es
+trying_more place first size es e t = go t.left t.enough t.same
+  where
+    go : (left : ℕ) → length es ≤ size + left → uppers_by left place size es ≡ uppers_by (length es) place first es → Trying place first (size + size / 5) es
+    go zero enough same = absurd (omega (arith, enough, tried_short place size es e))
+    go (suc left) enough same = record { left = left; enough = omega (arith, enough, t.low); same = sym (not_yet left place size es e) ∙ same; low = omega (arith, t.low) }
 
-pub trying_found : (es : List Entry) (first i size : ℕ) → i < length es → nat_le (length (dir_bytes (root_of 0 (cut (length es) size es)))) 16257 ≡ true → Trying es first i size → cut (length es) size es ≡ leaves_by (length es) first es
-trying_found es first i size h e t =
-    let one : length es - i ≡ suc (length es - (i + 1)) = omega (arith, h) in
-    let step : leaves_by (suc (length es - (i + 1))) size es ≡ cut (length es) size es = at_once (length es - (i + 1)) size es e in
-    sym step ∙ (ap (λ k. leaves_by k size es) (sym one) ∙ t.same)
+pub trying_found : (place first size : ℕ) (es : List Entry) → fits_root (root_of place (pieces size es)) ≡ true → Trying place first size es → pieces size es ≡ uppers_by (length es) place first es
+trying_found place first size es e t = sym (at_once t.left place size es e) ∙ t.same
 
-pub trying_last : (es : List Entry) (first i size : ℕ) → length es ≤ i → Trying es first i size → cut (length es) size es ≡ leaves_by (length es) first es
-trying_last es first i size h t = (let e : length es - i ≡ 0 = omega (arith, h) in ap (λ k. leaves_by k size es) (sym e)) ∙ t.same
-
--- a root that is too long doesn't pass the test
-pub too_large : (size : ℕ) (es : List Entry) → 16257 < length (dir_bytes (root_of 0 (cut (length es) size es))) → nat_le (length (dir_bytes (root_of 0 (cut (length es) size es)))) 16257 ≡ false
-too_large size es h = grind (arith, nat_tests)
-
-tested : (n : ℕ) → nat_le n 16257 ≡ true → n ≤ 16257
+pub tested : (n : ℕ) → nat_le n 16257 ≡ true → n ≤ 16257
 tested n e = grind (arith, nat_tests)
 
 -- the search ends with a root that fits
-pub leaves_fit : (n size : ℕ) (es : List Entry) → 5 ≤ size → length es ≤ size + n → length (dir_bytes (root_of 0 (leaves_by n size es))) ≤ 16257
-leaves_fit zero size es h g = small_root (root_of 0 (cut (length es) size es)) (one_leaf size es (omega (arith, g)))
-leaves_fit (suc n) size es h g = go (nat_le (length (dir_bytes (root_of 0 (cut (length es) size es)))) 16257) refl (leaves_fit n (size + size / 5) es (omega (arith, h)) (omega (arith, h, g)))
+pub uppers_fit : (n place size : ℕ) (es : List Entry) → 5 ≤ size → length es ≤ size + n → length (dir_bytes (root_of place (uppers_by n place size es))) ≤ 16257
+uppers_fit zero place size es h g = one_fits place size es (omega (arith, g))
+uppers_fit (suc n) place size es h g = go (fits_root (root_of place (pieces size es))) refl (uppers_fit n place (size + size / 5) es (omega (arith, h)) (omega (arith, h, g)))
   where
-    go : (b : Bool) → nat_le (length (dir_bytes (root_of 0 (cut (length es) size es)))) 16257 ≡ b → length (dir_bytes (root_of 0 (leaves_by n (size + size / 5) es))) ≤ 16257 → length (dir_bytes (root_of 0 (leaves_by (suc n) size es))) ≤ 16257
-    go true e r = subst (λ z. length (dir_bytes (root_of 0 z)) ≤ 16257) (sym (at_once n size es e)) (tested (length (dir_bytes (root_of 0 (cut (length es) size es)))) e)
-    go false e r = subst (λ z. length (dir_bytes (root_of 0 z)) ≤ 16257) (sym (not_yet n size es e)) r
+    go : (b : Bool) → fits_root (root_of place (pieces size es)) ≡ b → length (dir_bytes (root_of place (uppers_by n place (size + size / 5) es))) ≤ 16257 → length (dir_bytes (root_of place (uppers_by (suc n) place size es))) ≤ 16257
+    go true e r = subst (λ z. length (dir_bytes (root_of place z)) ≤ 16257) (sym (at_once (suc n) place size es e)) (tested (length (dir_bytes (root_of place (pieces size es)))) e)
+    go false e r = subst (λ z. length (dir_bytes (root_of place z)) ≤ 16257) (sym (not_yet n place size es e)) r
+
+-- upper directories that were found are of some size
+pub cut_by : (n place size : ℕ) (es : List Entry) → 1 ≤ size → (k : ℕ) × (1 ≤ k) × (uppers_by n place size es ≡ pieces k es)
+cut_by zero place size es h = (size, h, refl)
+cut_by (suc n) place size es h = go (fits_root (root_of place (pieces size es))) refl (cut_by n place (size + size / 5) es (omega arith))
+  where
+    go : (c : Bool) → fits_root (root_of place (pieces size es)) ≡ c → ((k : ℕ) × (1 ≤ k) × (uppers_by n place (size + size / 5) es ≡ pieces k es)) → (k : ℕ) × (1 ≤ k) × (uppers_by (suc n) place size es ≡ pieces k es)
+    go true q r = (size, h, at_once (suc n) place size es q)
+    go false q r = (r.0, r.1, not_yet n place size es q ∙ r.2)

@@ -1,21 +1,13 @@
--- A walk through the root beside a walk through all entries.
+-- A walk through the entries that name directories beside a walk through all entries of these.
 use Rattle.std.proofs.Common.{◌≡◌, ◌≢◌, ℕ, zero, suc, ◌+◌, ◌<◌, ◌≤◌, inl, inr, true, false, List, [], ◌∷◌, ◌++◌, length, flat_map, take, drop, Option, Some, None, nat_le, if◌then◌else◌, refl, sym, ◌∙◌, ap, arith, subst, append_assoc, append-nil, length-append, length-drop, take-append-drop}
 use Rattle.std.proofs.lemmas.List.{nil_from_length}
 use Rattle.std.proofs.lemmas.Bool.Decides.{nat_tests}
 use Rattle.pm_format.specs.Directory.{Entry, entry, dir_bytes, ◌>>=◌}
 use Rattle.pm_format.specs.Scan.{last_below, covers, scan}
-use Rattle.pm_writer.specs.Leaves.{cut}
-use Rattle.pm_format.specs.WellFormed.{root_of, first_id}
+use Rattle.pm_writer.specs.Leaves.{cut, end_of, pieces}
+use Rattle.pm_format.specs.WellFormed.{AllSome, first_id, joined, root_of}
 use Rattle.pm_writer.specs.Through.{Rising, Names, Through}
 use Rattle.pm_writer.proofs.Runs.{le_or}
-
-abbrev pub joined : List (List Entry) → List Entry
-joined ls = flat_map (λ l. l) ls
-
--- leaves that have entries, and begin one after another
-abbrev pub AllSome : List (List Entry) → Type 0
-AllSome [] = Unit {0}
-AllSome (l ∷ ls) = (l ≢ []) × AllSome ls
 
 pub last_yes : (t : ℕ) (found : Option Entry) (e : Entry) (es : List Entry) → e.tile_id ≤ t → last_below t found (e ∷ es) ≡ last_below t (Some e) es
 last_yes t found e es h = let y : nat_le e.tile_id t ≡ true = grind (arith, nat_tests) in rw y refl
@@ -48,12 +40,12 @@ rising_right (e ∷ es) fs r = rising_right es fs (rising_tail e (es ++ fs) r)
 found_lost : (t : ℕ) (found other : Option Entry) (e : Entry) (es : List Entry) → e.tile_id ≤ t → last_below t found (e ∷ es) ≡ last_below t other (e ∷ es)
 found_lost t found other e es h = last_yes t found e es h ∙ sym (last_yes t other e es h)
 
--- the leaf that the id falls in, the last one that begins at it or before
-pub record Falls (t : ℕ) (back : List (List Entry)) (l : List Entry) (ls : List (List Entry)) : Type 0 where
+-- the directory that the id falls in, the last one that begins at it or before
+pub record Falls (t place : ℕ) (back : List (List Entry)) (l : List Entry) (ls : List (List Entry)) : Type 0 where
   pub leaf : List Entry
   pub root : Entry
-  pub names : Names (back ++ l ∷ ls) root leaf
-  pub at_root : (found : Option Entry) → last_below t found (root_of (length (flat_map dir_bytes back)) (l ∷ ls)) ≡ Some root
+  pub names : Names place (back ++ l ∷ ls) root leaf
+  pub at_root : (found : Option Entry) → last_below t found (root_of (place + end_of back) (l ∷ ls)) ≡ Some root
   pub at_leaf : (found : Option Entry) → last_below t found (joined (l ∷ ls)) ≡ last_below t None leaf
 
 -- the first id of a list of leaves is below that of the next
@@ -80,43 +72,44 @@ lost : (t : ℕ) (found other : Option Entry) (l es : List Entry) → l ≢ [] �
 lost t found other [] es s h = absurd (s refl)
 lost t found other (e ∷ l) es s h = found_lost t found other e (l ++ es) h
 
--- one leaf further back
-further : (back : List (List Entry)) (l m : List Entry) (ls : List (List Entry)) (e : Entry) (k : List Entry) → Names ((back ++ l ∷ []) ++ m ∷ ls) e k → Names (back ++ l ∷ m ∷ ls) e k
-further back l m ls e k n = record { before = n.before; after = n.after; parts = sym (append_assoc back (l ∷ []) (m ∷ ls)) ∙ n.parts; is = n.is }
+-- one directory further back
+further : (place : ℕ) (back : List (List Entry)) (l m : List Entry) (ls : List (List Entry)) (e : Entry) (k : List Entry) → Names place ((back ++ l ∷ []) ++ m ∷ ls) e k → Names place (back ++ l ∷ m ∷ ls) e k
+further place back l m ls e k n = record { before = n.before; after = n.after; parts = sym (append_assoc back (l ∷ []) (m ∷ ls)) ∙ n.parts; is = n.is }
 
-next_place : (back : List (List Entry)) (l : List Entry) → length (flat_map dir_bytes (back ++ l ∷ [])) ≡ length (flat_map dir_bytes back) + length (dir_bytes l)
+next_place : (back : List (List Entry)) (l : List Entry) → end_of (back ++ l ∷ []) ≡ end_of back + length (dir_bytes l)
 next_place [] l = omega (arith, ap length (append-nil (dir_bytes l)))
 next_place (b ∷ back) l =
     length-append (dir_bytes b) (flat_map dir_bytes (back ++ l ∷ []))
     ∙ (ap (λ n. length (dir_bytes b) + n) (next_place back l)
     ∙ omega (arith, length-append (dir_bytes b) (flat_map dir_bytes back)))
 
-pub falls : (t : ℕ) (back : List (List Entry)) (l : List Entry) (ls : List (List Entry)) → first_id l ≤ t → AllSome (l ∷ ls) → Rising (joined (l ∷ ls)) → Falls t back l ls
-falls t back l [] h s r =
+pub falls : (t place : ℕ) (back : List (List Entry)) (l : List Entry) (ls : List (List Entry)) → first_id l ≤ t → AllSome (l ∷ ls) → Rising (joined (l ∷ ls)) → Falls t place back l ls
+falls t place back l [] h s r =
     record {
       leaf = l;
-      root = entry (first_id l) (length (flat_map dir_bytes back)) (length (dir_bytes l)) 0;
+      root = entry (first_id l) (place + end_of back) (length (dir_bytes l)) 0;
       names = record { before = back; after = []; parts = refl; is = refl };
-      at_root = λ found. root_yes t (length (flat_map dir_bytes back)) found l [] h;
+      at_root = λ found. root_yes t (place + end_of back) found l [] h;
       at_leaf = λ found. ap (last_below t found) (append-nil l) ∙ (ap (last_below t found) (sym (append-nil l)) ∙ (lost t found None l [] s.0 h ∙ ap (last_below t None) (append-nil l)));
     }
-falls t back l (m ∷ ls) h s r =
+falls t place back l (m ∷ ls) h s r =
     elim (le_or (first_id m) t) [
       | inl g ↦
-          let f = falls t (back ++ l ∷ []) m ls g s.1 (rising_right l (joined (m ∷ ls)) r) in
+          let f = falls t place (back ++ l ∷ []) m ls g s.1 (rising_right l (joined (m ∷ ls)) r) in
+          let next : place + end_of (back ++ l ∷ []) ≡ place + end_of back + length (dir_bytes l) = omega (arith, next_place back l) in
           record {
             leaf = f.leaf;
             root = f.root;
-            names = further back l m ls f.root f.leaf f.names;
-            at_root = λ found. root_yes t (length (flat_map dir_bytes back)) found l (m ∷ ls) h ∙ (ap (λ n. last_below t (Some (entry (first_id l) (length (flat_map dir_bytes back)) (length (dir_bytes l)) 0)) (root_of n (m ∷ ls))) (sym (next_place back l)) ∙ f.at_root _);
+            names = further place back l m ls f.root f.leaf f.names;
+            at_root = λ found. root_yes t (place + end_of back) found l (m ∷ ls) h ∙ (ap (λ n. last_below t (Some (entry (first_id l) (place + end_of back) (length (dir_bytes l)) 0)) (root_of n (m ∷ ls))) (sym next) ∙ f.at_root _);
             at_leaf = λ found. last_append t found l (joined (m ∷ ls)) ∙ f.at_leaf _;
           }
       | inr g ↦
           record {
             leaf = l;
-            root = entry (first_id l) (length (flat_map dir_bytes back)) (length (dir_bytes l)) 0;
+            root = entry (first_id l) (place + end_of back) (length (dir_bytes l)) 0;
             names = record { before = back; after = m ∷ ls; parts = refl; is = refl };
-            at_root = λ found. root_yes t (length (flat_map dir_bytes back)) found l (m ∷ ls) h ∙ behind_root t (length (flat_map dir_bytes back) + length (dir_bytes l)) (Some (entry (first_id l) (length (flat_map dir_bytes back)) (length (dir_bytes l)) 0)) m ls g s.1 (rising_right l (joined (m ∷ ls)) r);
+            at_root = λ found. root_yes t (place + end_of back) found l (m ∷ ls) h ∙ behind_root t (place + end_of back + length (dir_bytes l)) (Some (entry (first_id l) (place + end_of back) (length (dir_bytes l)) 0)) m ls g s.1 (rising_right l (joined (m ∷ ls)) r);
             at_leaf = λ found. last_append t found l (joined (m ∷ ls)) ∙ (behind_leaf t _ m ls g s.1.0 (rising_right l (joined (m ∷ ls)) r) ∙ (ap (last_below t found) (sym (append-nil l)) ∙ (lost t found None l [] s.0 h ∙ ap (last_below t None) (append-nil l))));
           }
     ]
@@ -124,19 +117,27 @@ falls t back l (m ∷ ls) h s r =
 covers_leaf : (t a b c : ℕ) → covers t (entry a b c 0) ≡ Some (entry a b c 0)
 covers_leaf t a b c = refl
 
-pub through : (ls : List (List Entry)) (t : ℕ) → AllSome ls → Rising (joined ls) → Through (root_of 0 ls) ls (joined ls) t
+pub through : (place : ℕ) (ls : List (List Entry)) (t : ℕ) → AllSome ls → Rising (joined ls) → Through place (root_of place ls) ls (joined ls) t
 unfolding scan
-through [] t s r = refl
-through (l ∷ ls) t s r =
+through place [] t s r = refl
+through place (l ∷ ls) t s r =
     elim (le_or (first_id l) t) [
       | inl h ↦
-          let f = falls t [] l ls h s r in
-          let e : scan (root_of 0 (l ∷ ls)) t ≡ Some f.root = ap (λ o. o >>= covers t) (f.at_root None) ∙ ap (covers t) f.names.is ∙ ap Some (sym f.names.is) in
+          let f = falls t place [] l ls h s r in
+          let here : place + 0 ≡ place = omega arith in
+          let met : last_below t None (root_of place (l ∷ ls)) ≡ Some f.root = subst (λ p. last_below t None (root_of p (l ∷ ls)) ≡ Some f.root) here (f.at_root None) in
+          let e : scan (root_of place (l ∷ ls)) t ≡ Some f.root = ap (λ o. o >>= covers t) met ∙ ap (covers t) f.names.is ∙ ap Some (sym f.names.is) in
           rw e (f.leaf, f.names, ap (λ o. o >>= covers t) (sym (f.at_leaf None)))
       | inr h ↦
-          let e : scan (root_of 0 (l ∷ ls)) t ≡ None = ap (λ o. o >>= covers t) (behind_root t 0 None l ls h s r) in
+          let e : scan (root_of place (l ∷ ls)) t ≡ None = ap (λ o. o >>= covers t) (behind_root t place None l ls h s r) in
           rw e (ap (λ o. o >>= covers t) (behind_leaf t None l ls h s.0 r))
     ]
+
+-- the ids of these entries rise as those of the directories do
+pub names_rise : (place : ℕ) (ls : List (List Entry)) → AllSome ls → Rising (joined ls) → Rising (root_of place ls)
+names_rise place [] s r = tt
+names_rise place (l ∷ []) s r = tt
+names_rise place (l ∷ m ∷ ls) s r = (apart l m ls s.0 s.1.0 r, names_rise (place + length (dir_bytes l)) (m ∷ ls) s.1 (rising_right l (joined (m ∷ ls)) r))
 
 pub cut_joined : (n size : ℕ) (es : List Entry) → 1 ≤ size → length es ≤ n → joined (cut n size es) ≡ es
 cut_joined zero size es h g = sym (nil_from_length es (omega arith))
@@ -151,9 +152,9 @@ cut_some (suc n) size [] h = tt
 cut_some (suc n) zero (e ∷ es) h = absurd (omega (arith, h))
 cut_some (suc n) (suc size) (e ∷ es) h = (λ q. cc, cut_some n (suc size) (drop size es) h)
 
-pub answer_as_one : (es : List Entry) (size t : ℕ) → 1 ≤ size → Rising es → Through (root_of 0 (cut (length es) size es)) (cut (length es) size es) es t
-answer_as_one es size t h r =
+pub answer_as_one : (es : List Entry) (place size t : ℕ) → 1 ≤ size → Rising es → Through place (root_of place (pieces size es)) (pieces size es) es t
+answer_as_one es place size t h r =
     let same = cut_joined (length es) size es h (omega arith) in
-    let ls = cut (length es) size es in
-    let P : List Entry → Type 0 = λ z. Through (root_of 0 ls) ls z t in
-    subst P same (through ls t (cut_some (length es) size es h) (subst Rising (sym same) r))
+    let ls = pieces size es in
+    let P : List Entry → Type 0 = λ z. Through place (root_of place ls) ls z t in
+    subst P same (through place ls t (cut_some (length es) size es h) (subst Rising (sym same) r))

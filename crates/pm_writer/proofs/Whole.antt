@@ -1,37 +1,33 @@
 -- What is read from the archive of adds.
-use Rattle.std.proofs.Common.{◌≡◌, ℕ, ◌<◌, ◌≤◌, inl, inr, true, false, List, [], ◌∷◌, length, Option, Some, None, Ok, MatchOption, nat_le, refl, sym, ◌∙◌, ap, arith, subst}
+use Rattle.std.proofs.Common.{◌≡◌, ℕ, ◌<◌, ◌≤◌, ◌^◌, inl, inr, true, false, List, [], ◌∷◌, length, Option, Some, None, Ok, MatchOption, nat_le, refl, sym, ◌∙◌, ap, arith, subst}
 use Rattle.std.proofs.lemmas.Bool.Decides.{nat_tests}
 use Rattle.tile_ids.specs.declared.id.TheConstants.{MAX_TILE_ID}
-use Rattle.pm_format.specs.Directory.{DirFits, Entry}
+use Rattle.pm_format.specs.Directory.{Entry, dir_bytes}
 use Rattle.pm_format.specs.LookUp.{archive_map, archive_tile, data_of, filled, hops, hops_opened, tile_opened}
 use Rattle.pm_format.specs.Opened.{opened}
 use Rattle.pm_format.specs.Options.{Options}
 use Rattle.pm_format.specs.Scan.{scan}
-use Rattle.pm_format.specs.WellFormed.{ConsistsOf}
 use Rattle.pm_writer.specs.Adds.{entries_of_adds}
 use Rattle.pm_writer.specs.Archivable.{IsArchivable}
-use Rattle.pm_writer.specs.Archive.{archive, ids_of, parts_of, rising, tile_in}
+use Rattle.pm_writer.specs.Archive.{archive, tile_in}
 use Rattle.pm_writer.specs.Bounds.{AddsFilled, AllLow}
-use Rattle.pm_writer.proofs.Bounds.{entries_few, entries_fit, total_low, whole_formed}
+use Rattle.pm_writer.proofs.Bounds.{all_again, whole_formed}
 use Rattle.pm_writer.proofs.Parted.{tile_here, tile_later}
-use Rattle.pm_writer.proofs.Parts.{head_of, layout_of}
-use Rattle.pm_writer.proofs.Reading.{archive_hops, archive_read, data_for, root_small}
+use Rattle.pm_writer.proofs.Parts.{head_of, layout_of, root_fits}
+use Rattle.pm_writer.proofs.Reading.{archive_hops, archive_read, data_for}
 use Rattle.pm_writer.proofs.Runs.{eq_or, le_or}
 
-pub consists : (o : Options) (adds : List (ℕ × List ℕ)) → IsArchivable o adds → ConsistsOf (archive o adds) o (rising (ids_of adds)) (parts_of adds)
-consists o adds a = whole_formed o adds a.options a.filled a.distinct a.low a.sized a.short a.ends
+pub opens : (o : Options) (adds : List (ℕ × List ℕ)) → IsArchivable o adds → opened (archive o adds) ≡ Ok (head_of o adds, (layout_of o adds).root)
+opens o adds a = (whole_formed o adds a).opens
 
-pub dir_fits : (o : Options) (adds : List (ℕ × List ℕ)) → IsArchivable o adds → DirFits 0 (entries_of_adds adds)
-dir_fits o adds a = entries_fit adds a.low a.sized (total_low o adds a.ends).1
-
-pub opens : (o : Options) (adds : List (ℕ × List ℕ)) → IsArchivable o adds → opened (archive o adds) ≡ Ok (head_of o adds, (layout_of adds).root)
-opens o adds a = (consists o adds a).opens
+pub root_short : (o : Options) (adds : List (ℕ × List ℕ)) → IsArchivable o adds → length (dir_bytes (layout_of o adds).root) < 2 ^ 32
+root_short o adds a = omega (arith, root_fits o adds a.options)
 
 pub tile_is : (o : Options) (adds : List (ℕ × List ℕ)) (t : ℕ) → IsArchivable o adds → archive_tile (archive o adds) t ≡ Ok (tile_in adds t)
-tile_is o adds t a = ap (tile_opened (archive o adds) t) (opens o adds a) ∙ archive_read o adds t a.distinct (dir_fits o adds a) (entries_few adds a.distinct a.low) a.ends
+tile_is o adds t a = ap (tile_opened (archive o adds) t) (opens o adds a) ∙ archive_read o adds t a.options a.distinct (all_again o adds a).1 a.ends
 
-pub hops_few : (o : Options) (adds : List (ℕ × List ℕ)) (t : ℕ) → IsArchivable o adds → hops (archive o adds) t ≤ 1
-hops_few o adds t a = subst (λ z. z ≤ 1) (sym (ap (hops_opened (archive o adds) t) (opens o adds a))) (archive_hops o adds t a.distinct (dir_fits o adds a) (entries_few adds a.distinct a.low) a.ends)
+pub hops_few : (o : Options) (adds : List (ℕ × List ℕ)) (t : ℕ) → IsArchivable o adds → hops (archive o adds) t ≤ 2
+hops_few o adds t a = subst (λ z. z ≤ 2) (sym (ap (hops_opened (archive o adds) t) (opens o adds a))) (archive_hops o adds t a.options a.distinct (all_again o adds a).1 a.ends)
 
 -- a tile isn't empty, and its id is that of a tile
 tile_filled : (adds : List (ℕ × List ℕ)) (t : ℕ) → AddsFilled adds → filled (Ok (tile_in adds t)) ≡ tile_in adds t
@@ -58,7 +54,7 @@ map_is o adds t a = elim (le_or t MAX_TILE_ID) [
 -- a look-up answers as one in the flat list of entries
 pub flat_is : (o : Options) (adds : List (ℕ × List ℕ)) (t : ℕ) → IsArchivable o adds
     → MatchOption (scan (entries_of_adds adds) t) (archive_tile (archive o adds) t ≡ Ok None) (λ e. archive_tile (archive o adds) t ≡ data_of (head_of o adds) (archive o adds) e)
-flat_is o adds t a = go (scan (entries_of_adds adds) t) (data_for o adds t a.distinct (root_small (entries_of_adds adds)) a.ends)
+flat_is o adds t a = go (scan (entries_of_adds adds) t) (data_for o adds t a.options a.distinct a.ends)
   where
     go : (s : Option Entry) → MatchOption s (tile_in adds t ≡ None) (λ e. (1 ≤ e.run_length) × (data_of (head_of o adds) (archive o adds) e ≡ Ok (tile_in adds t)))
         → MatchOption s (archive_tile (archive o adds) t ≡ Ok None) (λ e. archive_tile (archive o adds) t ≡ data_of (head_of o adds) (archive o adds) e)

@@ -25,14 +25,14 @@ abbrev pub ids_of : List (ℕ × List ℕ) → List ℕ
 ids_of adds = map (λ a. a.0) adds
 
 -- the parts of the archive of adds with distinct ids, none of them empty
-abbrev pub parts_of : List (ℕ × List ℕ) → Parts
-parts_of adds =
-    let l = laid (entries_of_adds adds) in
-    record { root = l.root; leaves = l.leaves; contents = contents_from [] adds }
+abbrev pub parts_of : Options → List (ℕ × List ℕ) → Parts
+parts_of o adds =
+    let l = laid o.max_leaf_entries (entries_of_adds adds) in
+    record { root = l.root; leaves = l.leaves; uppers = l.uppers; contents = contents_from [] adds }
 
 -- its bytes
 unfoldable pub archive : Options → List (ℕ × List ℕ) → List ℕ
-archive o adds = archive_bytes o (rising (ids_of adds)) (parts_of adds)
+archive o adds = archive_bytes o (rising (ids_of adds)) (parts_of o adds)
 
 -- the tile at an id, where there is one
 abbrev pub tile_in : List (ℕ × List ℕ) → ℕ → Option (List ℕ)

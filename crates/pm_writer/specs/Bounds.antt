@@ -20,12 +20,12 @@ abbrev pub AllSized : List (ℕ × List ℕ) → Type 0
 AllSized [] = Unit {0}
 AllSized (a ∷ adds) = (length a.1 < 2 ^ 32) × AllSized adds
 
--- leaves have fewer than 2^32 bytes
+-- directories have fewer than 2^32 bytes
 abbrev pub AllShort : List (List Entry) → Type 0
 AllShort [] = Unit {0}
 AllShort (l ∷ ls) = (length (dir_bytes l) < 2 ^ 32) × AllShort ls
 
--- zooms and degrees lie within their types
+-- zooms and degrees lie within their types, and a leaf has from 16 to 65,536 entries at most
 pub record OptionsFit (o : Options) : Type 0 where
   pub min_zoom : o.min_zoom < 2 ^ 8
   pub max_zoom : o.max_zoom < 2 ^ 8
@@ -36,3 +36,5 @@ pub record OptionsFit (o : Options) : Type 0 where
   pub center_zoom : o.center_zoom < 2 ^ 8
   pub center_longitude : FitsSigned w32 o.center_longitude
   pub center_latitude : FitsSigned w32 o.center_latitude
+  pub least_leaf : 16 ≤ o.max_leaf_entries
+  pub most_leaf : o.max_leaf_entries ≤ 65536

@@ -2,6 +2,7 @@
 use Rattle.std.specs.Prelude.{◌≡◌, ◌≢◌, ℕ, ◌<◌, ◌^◌, Bool, true, false, List, length, Result, Ok, Err}
 use Rattle.tile_ids.specs.Counts.{Rose}
 use Rattle.pm_format.specs.Options.{Options}
+use Rattle.pm_format.specs.WellFormed.{below_root}
 use Rattle.pm_writer.specs.Archivable.{IsArchivable}
 use Rattle.pm_writer.specs.Archive.{archive, parts_of}
 use Rattle.pm_writer.specs.Bounds.{AllShort}
@@ -43,9 +44,9 @@ abbrev pub failed_after : Bool → Result Unit PmtError → Bool
 failed_after failed (Err (errors.Reading causes.Fault)) = true
 failed_after failed _ = failed
 
--- the leaves' sizes fit, and the archive ends within u64
+-- the directories' sizes fit, and the archive ends within u64
 abbrev pub ArchiveFits : Options → List (ℕ × List ℕ) → Type 0
-ArchiveFits o adds = AllShort (parts_of adds).leaves × (length (archive o adds) < 2 ^ 64)
+ArchiveFits o adds = AllShort (below_root (parts_of o adds)) × (length (archive o adds) < 2 ^ 64)
 
 -- the parts of an archive: the least id that was added twice comes first, and then what is too long
 abbrev pub AssembleCauses : {A : Type 0} → Options → List (ℕ × List ℕ) → Result A PmtError → Type 0
@@ -65,7 +66,7 @@ FinishCauses o adds failed before now (Err (errors.Reading causes.Fault)) = (fai
 FinishCauses o adds failed before now (Err errors.OutOfMemory) = (failed ≡ false) × Distinct adds
 FinishCauses o adds failed before now (Err _) = ⊥
 
--- laying directories out: by whether each leaf's size fits
+-- laying directories out: by whether each one's size fits
 abbrev pub SizeCauses : {A : Type 0} → Type 0 → Result A PmtError → Type 0
 SizeCauses fits (Ok _) = fits
 SizeCauses fits (Err errors.IndexEntryOverflow) = fits → ⊥

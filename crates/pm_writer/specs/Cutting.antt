@@ -1,28 +1,44 @@
--- Leaves that are put one behind another, and the directories of an archive as bytes.
-use Rattle.std.specs.Prelude.{◌≡◌, List, [], ◌∷◌, ◌++◌, length, flat_map}
-use Rattle.pm_format.specs.Directory.{Entry, dir_bytes}
-use Rattle.pm_format.specs.WellFormed.{root_of, first_id}
-use Rattle.pm_writer.specs.Leaves.{Layout}
-use Rattle.pm_writer.specs.Ranges.{named}
+-- Directories that are put one behind another, and those of an archive as bytes.
+use Rattle.std.specs.Prelude.{◌≡◌, ℕ, ◌+◌, ◌<◌, ◌^◌, List, [], ◌∷◌, ◌++◌, length, map, flat_map}
+use Rattle.pm_format.specs.Directory.{Entry, dir_bytes, entry, wide_as}
+use Rattle.pm_format.specs.WellFormed.{first_id, root_of}
+use Rattle.pm_format.specs.declared.wide_entry.WideEntry.{WideEntry}
+use Rattle.pm_writer.specs.Leaves.{Layout, below_layout, end_of}
 use Rattle.pm_writer.specs.declared.cutting.Directories.{Directories}
+use Rattle.pm_writer.specs.declared.level.Level.{Level}
 
--- one more leaf
-pub record HasMore (old new : Directories) (leaf : List Entry) : Type 0 where
-  pub bytes : new.leaves.items ≡ old.leaves.items ++ dir_bytes leaf
-  pub ranges : new.ranges.items ≡ old.ranges.items ++ (record { tile_id = first_id leaf; place = length old.leaves.items; size = length (dir_bytes leaf) }) ∷ []
+-- the entries that name the directories of a level
+abbrev pub named : Level → List Entry
+named l = map wide_as l.names.items
 
--- the ranges and the bytes of these leaves
-pub record IsCut (d : Directories) (ls : List (List Entry)) : Type 0 where
-  pub root : named d.ranges.items ≡ root_of 0 ls
-  pub bytes : d.leaves.items ≡ flat_map dir_bytes ls
+-- one more directory, in a level from a place on
+pub record HasMore (old new : Level) (place : ℕ) (es : List Entry) : Type 0 where
+  pub bytes : new.bytes.items ≡ old.bytes.items ++ dir_bytes es
+  pub names : named new ≡ named old ++ entry (first_id es) (place + length old.bytes.items) (length (dir_bytes es)) 0 ∷ []
+
+-- the names and the bytes of these directories
+pub record IsCut (l : Level) (place : ℕ) (ls : List (List Entry)) : Type 0 where
+  pub names : named l ≡ root_of place ls
+  pub bytes : l.bytes.items ≡ flat_map dir_bytes ls
 
 -- with the bytes of the root that names them
-pub record IsWhole (d : Directories) (ls : List (List Entry)) : Type 0 where
-  pub cut : IsCut d ls
-  pub root : d.root.items ≡ dir_bytes (root_of 0 ls)
+pub record IsRooted (l : Level) (bytes : List ℕ) (place : ℕ) (ls : List (List Entry)) : Type 0 where
+  pub cut : IsCut l place ls
+  pub root : bytes ≡ dir_bytes (root_of place ls)
 
--- those of a root and leaves
+-- the root and the levels of a layout
+pub record IsLaid (bytes : List ℕ) (lower upper : Level) (l : Layout) : Type 0 where
+  pub root : bytes ≡ dir_bytes l.root
+  pub leaves : IsCut lower 0 l.leaves
+  pub uppers : IsCut upper (end_of l.leaves) l.uppers
+
+-- the same joined
 pub record AreDirectories (d : Directories) (l : Layout) : Type 0 where
   pub root : d.root.items ≡ dir_bytes l.root
-  pub leaves : d.leaves.items ≡ flat_map dir_bytes l.leaves
-  pub count : length d.ranges.items ≡ length l.leaves
+  pub below : d.below.items ≡ flat_map dir_bytes (below_layout l)
+  pub leaves : d.leaves ≡ length l.leaves
+  pub uppers : d.uppers ≡ length l.uppers
+
+-- a size that fits an entry
+abbrev pub IsShort : WideEntry → Type 0
+IsShort w = w.length < 2 ^ 32

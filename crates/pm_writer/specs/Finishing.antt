@@ -12,7 +12,7 @@ use Rattle.pm_writer.specs.declared.finishing.Assembled.{Assembled}
 
 -- those of the archive of adds
 pub record IsAssembled (o : Options) (adds : List (ℕ × List ℕ)) (a : Assembled) : Type 0 where
-  pub directories : AreDirectories a.directories (laid (entries_of_adds adds))
-  pub header : a.header ≡ header_of o (rising (ids_of adds)) (parts_of adds)
+  pub directories : AreDirectories a.directories (laid o.max_leaf_entries (entries_of_adds adds))
+  pub header : a.header ≡ header_of o (rising (ids_of adds)) (parts_of o adds)
   pub places : a.places ≡ places_of o adds
   pub end : a.end ≡ data_end o adds

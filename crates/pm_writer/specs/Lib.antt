@@ -10,9 +10,9 @@ pub mod Leaves
 pub mod Means
 pub mod Twice
 pub mod Cutting
-pub mod Ranges
 pub mod Through
 pub mod TileEntries
+pub mod DirectoriesRead
 pub mod Maps
 pub mod Archivable
 pub mod Settings

@@ -41,9 +41,9 @@ pub record IsOpenTo (end : ℕ) (b : List ℕ) : Type 0 where
   pub ends : length b ≡ end
   pub hidden : IsHidden b
 
--- the bytes with the header and the root in front, and the leaves behind
+-- the bytes with the header and the root in front, and the other directories behind
 abbrev pub finished : List ℕ → List ℕ → List ℕ → List ℕ → List ℕ
-finished b leaves root header = header ++ (root ++ (drop (127 + length root) b ++ leaves))
+finished b below root header = header ++ (root ++ (drop (127 + length root) b ++ below))
 
 -- no part is shown: the bytes are hidden, or finished
 abbrev pub IsHiddenOr : List ℕ → List ℕ → Type 0

@@ -1,5 +1,5 @@
 -- Where the parts of an archive lie, and what it counts.
-use Rattle.std.specs.Prelude.{◌≡◌, ℕ, ◌+◌, Bool, List, [], filter, length, nat_eq, if◌then◌else◌, Option, Some, None, Result, Ok, Err, refl}
+use Rattle.std.specs.Prelude.{◌≡◌, ℕ, ◌+◌, Bool, List, [], length, nat_eq, if◌then◌else◌, Option, Some, None, Result, Ok, Err, refl}
 use Rattle.pm_format.specs.Opened.{Opened, opened}
 use Rattle.pm_format.specs.Options.{Options}
 use Rattle.pm_format.specs.Directory.{dir_of}
@@ -10,6 +10,7 @@ use Rattle.pm_format.specs.WellFormed.{header_of}
 use Rattle.pm_format.specs.declared.compression.Compression.TheVariants as compression
 use Rattle.pm_format.specs.declared.error.PmtError.{PmtError}
 use Rattle.pm_format.specs.declared.header.Header.{Header}
+use Rattle.pm_writer.specs.DirectoriesRead.{directories_read, leaves_among, uppers_among}
 use Rattle.pm_writer.specs.Archive.{archive, ids_of, parts_of, rising}
 use Rattle.pm_writer.specs.declared.cutting.Directories.{Directories}
 use Rattle.pm_writer.specs.declared.places.ArchivePlaces.{ArchivePlaces}
@@ -18,13 +19,14 @@ use Rattle.pm_writer.specs.declared.settings.Settings.{Settings}
 -- those of the archive of adds
 abbrev pub places_of : Options → List (ℕ × List ℕ) → ArchivePlaces
 places_of o adds =
-    let h = header_of o (rising (ids_of adds)) (parts_of adds) in
+    let h = header_of o (rising (ids_of adds)) (parts_of o adds) in
     record {
       length = length (archive o adds);
       root_length = h.root_length;
       leaf_offset = h.leaf_offset;
       leaf_length = h.leaf_length;
-      leaves = length (parts_of adds).leaves;
+      leaves = length (parts_of o adds).leaves;
+      uppers = length (parts_of o adds).uppers;
       data_offset = h.data_offset;
       data_length = h.data_length;
       addressed = h.n_addressed_tiles;
@@ -32,15 +34,16 @@ places_of o adds =
       contents = h.n_tile_contents;
     }
 
--- as they are read from bytes of this length that open
-abbrev pub places_opened : ℕ → Result Opened PmtError → Option ArchivePlaces
-places_opened n (Err e) = None
-places_opened n (Ok o) = Some (record {
-  length = n;
+-- as they are read from bytes that open
+abbrev pub places_opened : List ℕ → Result Opened PmtError → Option ArchivePlaces
+places_opened b (Err e) = None
+places_opened b (Ok o) = Some (record {
+  length = length b;
   root_length = o.0.root_length;
   leaf_offset = o.0.leaf_offset;
   leaf_length = o.0.leaf_length;
-  leaves = length (filter (λ e. nat_eq e.run_length 0) o.1);
+  leaves = leaves_among (directories_read b o);
+  uppers = uppers_among (directories_read b o);
   data_offset = o.0.data_offset;
   data_length = o.0.data_length;
   addressed = o.0.n_addressed_tiles;
@@ -48,18 +51,19 @@ places_opened n (Ok o) = Some (record {
   contents = o.0.n_tile_contents;
 })
 
--- by the header, the leaf entries of the root, and the length of the bytes, where they open
+-- by the header, the directories that the root leads to, and the length of the bytes, where they open
 abbrev pub places_read : List ℕ → Option ArchivePlaces
-places_read b = places_opened (length b) (opened b)
+places_read b = places_opened b (opened b)
 
 -- those of directories behind data, with the counts of tiles, entries and contents, as they are kept while an archive is finished
 abbrev pub places_with : Directories → ℕ → ℕ → ℕ → ℕ → ℕ → ArchivePlaces
 places_with d data_offset data_length addressed entries contents = record {
-  length = data_offset + data_length + length d.leaves.items;
+  length = data_offset + data_length + length d.below.items;
   root_length = length d.root.items;
-  leaf_offset = if nat_eq (length d.ranges.items) 0 then 0 else (data_offset + data_length);
-  leaf_length = length d.leaves.items;
-  leaves = length d.ranges.items;
+  leaf_offset = if nat_eq d.leaves 0 then 0 else (data_offset + data_length);
+  leaf_length = length d.below.items;
+  leaves = d.leaves;
+  uppers = d.uppers;
   data_offset = data_offset;
   data_length = data_length;
   addressed = addressed;
@@ -105,6 +109,7 @@ one_tile_places = record {
   leaf_offset = 0;
   leaf_length = 0;
   leaves = 0;
+  uppers = 0;
   data_offset = 16386;
   data_length = 1;
   addressed = 1;

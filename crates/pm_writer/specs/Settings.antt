@@ -19,6 +19,7 @@ options_with s metadata = record {
   center_longitude = s.center_longitude;
   center_latitude = s.center_latitude;
   metadata = metadata;
+  max_leaf_entries = s.max_leaf_entries;
 }
 
 -- the metadata, {} where nothing was said

@@ -4,6 +4,7 @@ use Rattle.std.specs.Vec.{vec_capacity}
 use Rattle.pm_format.specs.Options.{Options}
 use Rattle.pm_format.specs.declared.compression.Compression.TheVariants as compression
 use Rattle.pm_writer.specs.Adds.{contents_from}
+use Rattle.pm_writer.specs.Bounds.{OptionsFit}
 use Rattle.pm_writer.specs.Means.{Means}
 use Rattle.pm_writer.specs.Pieces.{IsHidden}
 use Rattle.pm_writer.specs.Settings.{options_with}
@@ -37,6 +38,7 @@ AddFits o adds id bytes = (length bytes < 2 ^ 32) × (data_end o (add_to adds id
 pub record IsWriterOf (o : Options) (s : WriterState) : Type 0 where
   pub settings : o ≡ options_with s.settings o.metadata
   pub plain : o.internal_compression ≡ compression.None
+  pub fit : OptionsFit o
   pub place : s.data_offset ≡ 16384 + length o.metadata
 
 -- the state and the told bytes after these adds

@@ -1,5 +1,5 @@
 // The options of an archive, before there is a medium.
-ghost use Rattle.std.specs.Prelude.{◌≡◌, ◌<◌, ◌^◌, length, Some};
+ghost use Rattle.std.specs.Prelude.{◌≡◌, ◌≤◌, ◌<◌, ◌^◌, length, Some};
 ghost use Rattle.pm_format.specs.Options.{default_options};
 ghost use Rattle.pm_writer.specs.Bounds.{OptionsFit};
 ghost use Rattle.pm_writer.specs.Settings.{options_with};
@@ -17,17 +17,20 @@ pub struct PmTilesWriter {
 }
 
 impl Model for PmTilesWriter {
+    ghost use Rattle.std.specs.Prelude.{◌≤◌};
     ghost use Rattle.pm_format.specs.Options.{Options};
     ghost use Rattle.pm_writer.specs.Settings.{metadata_of, options_with};
 
     ghost Value = { Options };
 
     ghost view = { λ w. options_with w.settings (metadata_of w.metadata) };
+
+    ghost invariant = { λ w. (16 ≤ w.settings.max_leaf_entries) × (w.settings.max_leaf_entries ≤ 65536) };
 }
 
 impl PmTilesWriter {
     /// A writer of tiles of this type. Directories are labelled `None`, and tiles `Gzip` for Mvt and else `None`. The zooms are 0 to 22, the bounds are
-    /// the whole world of the Mercator projection, the center is at zoom 0 and degrees 0, and the metadata is `{}`.
+    /// the whole world of the Mercator projection, the center is at zoom 0 and degrees 0, the metadata is `{}`, and a leaf has at most 4,096 entries.
     pub fn new(tile_type: TileType) -> PmTilesWriter
         ensures { result ≡ default_options tile_type }
     {
@@ -49,6 +52,7 @@ impl PmTilesWriter {
                 center_zoom: 0,
                 center_longitude: 0,
                 center_latitude: 0,
+                max_leaf_entries: 4096,
             },
             metadata: None,
         }
@@ -122,6 +126,16 @@ impl PmTilesWriter {
         self
     }
 
+    /// With at most so many entries in a directory of tile entries below the root, from 16 to 65,536.
+    pub fn max_leaf_entries(mut self, entries: u32) -> Self
+        requires least { 16 ≤ entries }
+        requires most { entries ≤ 65536 }
+        ensures { result ≡ record self { max_leaf_entries = entries } }
+    {
+        self.settings.max_leaf_entries = entries;
+        self
+    }
+
     /// The label of directories and metadata.
     pub fn directory_label(&self) -> Compression
         ensures { result ≡ self.now.internal_compression }
@@ -129,12 +143,12 @@ impl PmTilesWriter {
         self.settings.internal_compression
     }
 
-    /// That zooms and degrees lie within their types and the metadata has fewer than 2^63 bytes, whatever the setters were given. It does nothing.
+    /// That zooms and degrees lie within their types, a leaf has from 16 to 65,536 entries at most and the metadata has fewer than 2^63 bytes, whatever the setters were given. It does nothing.
     pub fn fits(&self)
         ensures options { OptionsFit self.now }
         ensures metadata { length self.now.metadata < 2 ^ 63 }
     {
-        self.settings().fit();
+        let _settings = self.settings();
         let _metadata = self.metadata_bytes();
     }
 
@@ -150,8 +164,10 @@ impl PmTilesWriter {
 
     /// The options but the metadata.
     pub(crate) fn settings(&self) -> Settings
-        ensures { self.now ≡ options_with result self.now.metadata }
+        ensures is { self.now ≡ options_with result self.now.metadata }
+        ensures fit { OptionsFit self.now }
     {
+        self.settings.fit();
         self.settings
     }
 }

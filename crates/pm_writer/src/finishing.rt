@@ -37,7 +37,7 @@ fn addressed_tiles(entries: &[DirEntry]) -> u64
 
 impl WriterState {
     // The parts of the archive of the adds. The first of these that holds is answered: `OverlappingEntries` with the least id that has two adds, exactly where
-    // there is one; `IndexEntryOverflow` exactly where a leaf has 2^32 bytes or more, or the archive would end past u64; `OutOfMemory`.
+    // there is one; `IndexEntryOverflow` exactly where a directory has 2^32 bytes or more, or the archive would end past u64; `OutOfMemory`.
     fn assemble(self) -> PmtResult<Assembled>
         requires { (o : Options) × (adds : List (ℕ × List ℕ)) × IsStateOf o self adds }
         ensures is { (o : Options) (adds : List (ℕ × List ℕ)) → IsStateOf o self adds → IfOk result (λ a. IsAssembled o adds a) }
@@ -53,19 +53,18 @@ impl WriterState {
             adds,
             failed: _,
         } = self;
-        settings.fit();
         let entries = match adds.into_entries() {
             Ok(entries) => entries,
             Err(id) => return Err(PmtError::OverlappingEntries(id)),
         };
         let addressed = addressed_tiles(&entries);
         let count = entries.len() as u64;
-        let directories = match Directories::build(alloc, entries) {
+        let directories = match Directories::build(alloc, entries, settings.max_leaf_entries) {
             Ok(directories) => directories,
             Err(error) => return Err(error),
         };
         let end = data_offset + data_length;
-        if u64::MAX - end < directories.leaves.len() as u64 {
+        if u64::MAX - end < directories.below.len() as u64 {
             return Err(PmtError::IndexEntryOverflow);
         }
         let places = ArchivePlaces::of(
@@ -85,11 +84,11 @@ impl WriterState {
         })
     }
 
-    /// Finishes the archive: the leaves behind the contents, the root at 127, the header at 0 with its label of directories left out, and last this label.
+    /// Finishes the archive: the leaves behind the contents, the upper directories behind these, the root at 127, the header at 0 with its label of directories left out, and last this label.
     /// The medium then holds the one archive of the adds, and the places are its own.
     ///
     /// The first of these that holds is answered: `Failed` exactly after an earlier fault of the medium in this writer; `OverlappingEntries` with the least id that
-    /// has two non-empty adds, exactly where there is one; `IndexEntryOverflow` exactly where a leaf has 2^32 bytes or more, or the archive would end past u64;
+    /// has two non-empty adds, exactly where there is one; `IndexEntryOverflow` exactly where a directory has 2^32 bytes or more, or the archive would end past u64;
     /// `Reading(Fault)` only where the medium's count of faults rose; `OutOfMemory`. After each of them byte 97 of the medium, the label of directories, is 0, or the
     /// whole archive stands.
     pub fn finalize<M: Medium>(self, medium: &mut M) -> PmtResult<ArchivePlaces>
@@ -116,7 +115,7 @@ impl WriterState {
         match write_parts(
             medium,
             parts.end,
-            &directories.leaves,
+            &directories.below,
             &directories.root,
             &header,
         ) {

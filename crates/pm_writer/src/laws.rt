@@ -12,15 +12,15 @@ ghost use Rattle.pm_format.specs.LookUp.{archive_map, archive_tile, data_of, hop
 ghost use Rattle.pm_format.specs.Opened.{opened};
 ghost use Rattle.pm_format.specs.Options.{Options};
 ghost use Rattle.pm_format.specs.Scan.{scan};
-ghost use Rattle.pm_format.specs.WellFormed.{ConsistsOf, WellFormed, data_part, header_of, root_of};
+ghost use Rattle.pm_format.specs.WellFormed.{AllAtMost, ConsistsOf, WellFormed, below_root, data_part, header_of, root_of};
 ghost use Rattle.pm_writer.specs.Adds.{entries_of_adds, longest_run, unsorted};
 ghost use Rattle.pm_writer.specs.Archivable.{IsArchivable};
 ghost use Rattle.pm_writer.specs.Archive.{archive, canon, ids_of, parts_of, rising, tile_in};
-ghost use Rattle.pm_writer.specs.Bounds.{AllLow, AllSized, OptionsFit};
+ghost use Rattle.pm_writer.specs.Bounds.{AllLow, AllShort, AllSized, OptionsFit};
 ghost use Rattle.pm_writer.specs.Causes.{AddCauses, ArchiveFits, CreateCauses, FinishCauses};
 ghost use Rattle.pm_writer.specs.Few.{AreFew};
 ghost use Rattle.pm_writer.specs.Growing.{Separates, put};
-ghost use Rattle.pm_writer.specs.Leaves.{cut, found_leaves};
+ghost use Rattle.pm_writer.specs.Leaves.{laid, pieces};
 ghost use Rattle.pm_writer.specs.Maps.{Covers, Gives, IsIn, RisingAdds, Tiles};
 ghost use Rattle.pm_writer.specs.Pieces.{IsHidden, IsHiddenOr, PutCauses};
 ghost use Rattle.pm_writer.specs.Places.{places_of, places_read};
@@ -28,6 +28,8 @@ ghost use Rattle.pm_writer.specs.Through.{Rising, Through};
 ghost use Rattle.pm_writer.specs.TileEntries.{entries_read};
 ghost use Rattle.pm_writer.specs.Twice.{Distinct, adds_at, times};
 ghost use Rattle.pm_writer.specs.Writing.{AddFits};
+
+use pm_format::MAX_ROOT;
 
 /// One more add grows the last entry, or is an entry of its own.
 pub fn one_more_add()
@@ -39,17 +41,23 @@ pub fn times_of_adds()
     ensures { (place : List ℕ → ℕ) (adds : List (ℕ × List ℕ)) (t : ℕ) → times (unsorted place adds) t ≡ adds_at adds t }
 {}
 
-/// A look-up by the root and one leaf answers as one in a flat directory.
+/// A look-up by the entries that name directories, and one of these, answers as one in a flat directory.
 pub fn leaves_answer_as_one()
-    ensures { (es : List Entry) (size t : ℕ) → 1 ≤ size → Rising es → Through (root_of 0 (cut (length es) size es)) (cut (length es) size es) es t }
+    ensures { (es : List Entry) (place size t : ℕ) → 1 ≤ size → Rising es → Through place (root_of place (pieces size es)) (pieces size es) es t }
 {}
 
-/// The search for a size of leaves ends with a root of at most 16,257 bytes.
-pub fn root_of_leaves_fits()
-    ensures { (es : List Entry) → length (dir_bytes (root_of 0 (found_leaves es))) ≤ 16257 }
+/// The search for a size of upper directories ends with a root that fits.
+pub fn every_root_fits()
+    ensures { (es : List Entry) (size : ℕ) → 5 ≤ size → length (dir_bytes (laid size es).root) ≤ MAX_ROOT }
 {}
 
-/// The tile entries that the bytes of an archive have, in its root and in the leaves that this leads to, are the entries of its adds, as many as its header says.
+/// Every directory is below 2^32 bytes, and no directory of tile entries below the root has more entries than the options say.
+pub fn directories_are_bounded()
+    ensures bytes { (o : Options) (adds : List (ℕ × List ℕ)) → IsArchivable o adds → AllShort ((parts_of o adds).root ∷ below_root (parts_of o adds)) }
+    ensures entries { (o : Options) (adds : List (ℕ × List ℕ)) → IsArchivable o adds → AllAtMost o.max_leaf_entries (parts_of o adds).leaves }
+{}
+
+/// The tile entries that the bytes of an archive have, in its root and in the directories that this leads to, are the entries of its adds, as many as its header says.
 pub fn entries_are_read()
     ensures entries { (o : Options) (adds : List (ℕ × List ℕ)) → IsArchivable o adds → entries_read (archive o adds) ≡ entries_of_adds adds }
     ensures count { (o : Options) (adds : List (ℕ × List ℕ)) → IsArchivable o adds → IfOk (opened (archive o adds)) (λ found. found.0.n_tile_entries ≡ length (entries_read (archive o adds))) }
@@ -84,7 +92,7 @@ pub fn archive_is_canonical()
 
 /// The entries fit a directory, by bounds on the adds alone.
 pub fn entries_fit()
-    ensures { (adds : List (ℕ × List ℕ)) → Distinct adds → AllLow adds → AllSized adds → length (data_part (parts_of adds)) + 1 < 2 ^ 64 → DirFits 0 (entries_of_adds adds) × (length (entries_of_adds adds) < 2 ^ 64) }
+    ensures { (o : Options) (adds : List (ℕ × List ℕ)) → Distinct adds → AllLow adds → AllSized adds → length (data_part (parts_of o adds)) + 1 < 2 ^ 64 → DirFits 0 (entries_of_adds adds) × (length (entries_of_adds adds) < 2 ^ 64) }
 {}
 
 /// As many tiles are addressed by the entries as there are adds.
@@ -95,31 +103,31 @@ pub fn runs_count_adds()
 /// The archive of adds is well formed, where it can be written: its parts are the entries and contents of the adds, and it is
 /// clustered exactly where the ids of the adds rise.
 pub fn archive_is_well_formed()
-    ensures parts { (o : Options) (adds : List (ℕ × List ℕ)) → IsArchivable o adds → ConsistsOf (archive o adds) o (rising (ids_of adds)) (parts_of adds) }
+    ensures parts { (o : Options) (adds : List (ℕ × List ℕ)) → IsArchivable o adds → ConsistsOf (archive o adds) o (rising (ids_of adds)) (parts_of o adds) }
     ensures formed { (o : Options) (adds : List (ℕ × List ℕ)) → IsArchivable o adds → WellFormed (archive o adds) o (rising (ids_of adds)) }
 {}
 
 /// Opening it finds its header and its root.
 pub fn archive_opens()
-    ensures { (o : Options) (adds : List (ℕ × List ℕ)) → IsArchivable o adds → opened (archive o adds) ≡ Ok (header_of o (rising (ids_of adds)) (parts_of adds), (parts_of adds).root) }
+    ensures { (o : Options) (adds : List (ℕ × List ℕ)) → IsArchivable o adds → opened (archive o adds) ≡ Ok (header_of o (rising (ids_of adds)) (parts_of o adds), (parts_of o adds).root) }
 {}
 
-/// Read by its root and leaves, it gives exactly the adds.
+/// Read by its root and what this leads to, it gives exactly the adds.
 pub fn archive_gives_adds()
     ensures tile { (o : Options) (adds : List (ℕ × List ℕ)) (t : ℕ) → IsArchivable o adds → archive_tile (archive o adds) t ≡ Ok (tile_in adds t) }
     ensures tiles { (o : Options) (adds : List (ℕ × List ℕ)) (t : ℕ) → IsArchivable o adds → archive_map (archive o adds) t ≡ tile_in adds t }
 {}
 
-/// A look-up in it answers as one in the flat list of all entries, and reads one leaf at most.
-pub fn one_leaf_at_most()
+/// A look-up in it answers as one in the flat list of all entries, and reads two directories below the root at most.
+pub fn two_leaves_at_most()
     ensures flat { (o : Options) (adds : List (ℕ × List ℕ)) (t : ℕ) → IsArchivable o adds
-        → MatchOption (scan (entries_of_adds adds) t) (archive_tile (archive o adds) t ≡ Ok None) (λ e. archive_tile (archive o adds) t ≡ data_of (header_of o (rising (ids_of adds)) (parts_of adds)) (archive o adds) e) }
-    ensures hops { (o : Options) (adds : List (ℕ × List ℕ)) (t : ℕ) → IsArchivable o adds → hops (archive o adds) t ≤ 1 }
+        → MatchOption (scan (entries_of_adds adds) t) (archive_tile (archive o adds) t ≡ Ok None) (λ e. archive_tile (archive o adds) t ≡ data_of (header_of o (rising (ids_of adds)) (parts_of o adds)) (archive o adds) e) }
+    ensures hops { (o : Options) (adds : List (ℕ × List ℕ)) (t : ℕ) → IsArchivable o adds → hops (archive o adds) t ≤ 2 }
 {}
 
 /// Few and short adds are neither refused by `IndexEntryOverflow` when they are added, each behind those before it, nor when the archive is finished.
 pub fn few_adds_fit()
-    ensures archive { (o : Options) (adds : List (ℕ × List ℕ)) → AreFew o adds → ArchiveFits o adds }
+    ensures archive { (o : Options) (adds : List (ℕ × List ℕ)) → OptionsFit o → AreFew o adds → ArchiveFits o adds }
     ensures adds { (o : Options) (before after : List (ℕ × List ℕ)) (id : ℕ) (bytes : List ℕ) → AreFew o (before ++ (id, bytes) ∷ after) → AddFits o before id bytes }
     ensures turns { (o : Options) (adds : List (ℕ × List ℕ)) (i : ℕ) (d : ℕ × List ℕ) → i < length adds → AreFew o adds → AddFits o (take i adds) (get_or adds i d).0 (get_or adds i d).1 }
 {}
@@ -141,7 +149,7 @@ pub fn only_labelled_bytes_open()
     ensures whole { (whole b : List ℕ) → IsHiddenOr whole b → OnOk (opened b) (b ≡ whole) }
 {}
 
-/// What its header, its root and its length say of an archive of adds are its places.
+/// What its header, its directories and its length say of an archive of adds are its places.
 pub fn places_are_read()
     ensures { (o : Options) (adds : List (ℕ × List ℕ)) → IsArchivable o adds → places_read (archive o adds) ≡ Some (places_of o adds) }
 {}

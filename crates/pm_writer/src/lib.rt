@@ -1,4 +1,4 @@
-//! Archives from tiles: runs and contents once, leaves, and the writer that puts them onto a medium.
+//! Archives from tiles: runs and contents once, leaves of bounded size, and the writer that puts them onto a medium.
 #![tactic(auto)]
 
 mod adding;
@@ -9,7 +9,7 @@ mod contents;
 mod cutting;
 mod finishing;
 pub mod laws;
-mod leaf_root;
+mod level;
 mod order;
 mod pieces;
 mod places;

@@ -27,21 +27,21 @@ pub(crate) fn put<M: Medium>(medium: &mut M, offset: u64, piece: &[u8]) -> PmtRe
     }
 }
 
-/// Finishes an archive whose contents end at a place: the leaves behind them, the root at 127, the header with 0 in place of its label of
+/// Finishes an archive whose contents end at a place: the directories below the root behind them, the root at 127, the header with 0 in place of its label of
 /// directories, and last this label. So until the last byte no reader takes the bytes for an archive.
 pub(crate) fn write_parts<M: Medium>(
     medium: &mut M,
     end: u64,
-    leaves: &[u8],
+    below: &[u8],
     root: &[u8],
     header: &[u8; 127],
 ) -> PmtResult<()>
     requires front { 16384 ≤ end }
     requires small { length root.now ≤ 16257 }
-    requires fits { end + length leaves.now < 2 ^ 64 }
+    requires fits { end + length below.now < 2 ^ 64 }
     requires open { IfSome (M.told medium.old) (IsOpenTo end) }
-    ensures done { OnOk result (BothTold (λ b c. c ≡ finished b leaves.now root.now header.now) (M.told medium.old) (M.told medium.new)) }
-    ensures shown { BothTold (λ b c. IsHiddenOr (finished b leaves.now root.now header.now) c) (M.told medium.old) (M.told medium.new) }
+    ensures done { OnOk result (BothTold (λ b c. c ≡ finished b below.now root.now header.now) (M.told medium.old) (M.told medium.new)) }
+    ensures shown { BothTold (λ b c. IsHiddenOr (finished b below.now root.now header.now) c) (M.told medium.old) (M.told medium.new) }
     ensures causes { PutCauses (M.faults medium.old) (M.faults medium.new) result }
     ensures tells { is_some (M.told medium.new) ≡ is_some (M.told medium.old) }
     ensures versions { is_some (M.versions medium.new) ≡ is_some (M.versions medium.old) }
@@ -52,7 +52,7 @@ pub(crate) fn write_parts<M: Medium>(
     let label = header[97];
     let mut front = *header;
     front[97] = 0;
-    put(medium, end, leaves)?;
+    put(medium, end, below)?;
     put(medium, 127, root)?;
     put(medium, 0, &front)?;
     put(medium, 97, &[label])

@@ -13,12 +13,14 @@ pub struct ArchivePlaces {
     pub length: u64,
     /// How long the root directory at 127 is.
     pub root_length: u64,
-    /// Where the leaf directories begin, 0 where there are none.
+    /// Where the directories below the root begin, 0 where there are none.
     pub leaf_offset: u64,
-    /// How long the leaf directories are together.
+    /// How long the directories below the root are together.
     pub leaf_length: u64,
-    /// How many leaf directories there are.
+    /// How many directories below the root have tile entries.
     pub leaves: u64,
+    /// How many upper directories there are: those between the root and these.
+    pub uppers: u64,
     /// Where the contents of tiles begin.
     pub data_offset: u64,
     /// How long the contents of tiles are together.
@@ -41,18 +43,18 @@ impl ArchivePlaces {
         entries: u64,
         contents: u64,
     ) -> ArchivePlaces
-        requires { data_offset + data_length + length directories.now.leaves.items < 2 ^ 64 }
+        requires { data_offset + data_length + length directories.now.below.items < 2 ^ 64 }
         ensures { result ≡ places_with directories.now data_offset data_length addressed entries contents }
     {
         let end = data_offset + data_length;
-        let leaf_length = directories.leaves.len() as u64;
-        let leaves = directories.ranges.len() as u64;
+        let leaf_length = directories.below.len() as u64;
         ArchivePlaces {
             length: end + leaf_length,
             root_length: directories.root.len() as u64,
-            leaf_offset: if leaves == 0 { 0 } else { end },
+            leaf_offset: if directories.leaves == 0 { 0 } else { end },
             leaf_length,
-            leaves,
+            leaves: directories.leaves,
+            uppers: directories.uppers,
             data_offset,
             data_length,
             addressed,

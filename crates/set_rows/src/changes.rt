@@ -1,9 +1,22 @@
 // Changes: how many, and each `put` or `delete`, a table, a key, and the cells that are put.
+ghost use Rattle.std.specs.Prelude.{◌≡◌, List, true, IfSome};
+ghost use Rattle.mb_store.specs.Committing.{AreOfTables};
+ghost use Rattle.mb_tables.specs.Described.{is_table};
+ghost use Rattle.mb_tables.specs.declared.description.TableDesc.{TableDesc};
+
 use crate::cells::{key, row_of, table};
 use crate::words::{Words, number, say};
 use mb_store::Changes;
-use mb_tables::{RowKey, TableName};
+use mb_tables::{RowKey, TableDesc, TableKind, TableName};
 use std::alloc::Global;
+
+// Whether a table, and not a view, is described by this name.
+pub fn is_table(tables: &[TableDesc], table: TableName) -> bool
+    ensures { result ≡ is_table tables.now table }
+{
+    let name = table.name();
+    tables.iter().any(|d| d.name.as_str() == name && matches!(d.kind, TableKind::Table))
+}
 
 fn put(
     alloc: Global,
@@ -11,7 +24,9 @@ fn put(
     table: TableName,
     key: RowKey,
     words: &mut Words,
-) -> Option<()> {
+) -> Option<()>
+    ensures { (ds : List TableDesc) → AreOfTables ds changes.old → is_table ds table ≡ true → AreOfTables ds changes.new }
+{
     let row = row_of(alloc, table, words)?;
     if row.cells().len() != table.width() || !key.is_of(table, row.cells()) {
         return None;
@@ -19,14 +34,58 @@ fn put(
     changes.put(table, key, row).ok()
 }
 
-fn add(alloc: Global, changes: &mut Changes, words: &mut Words) -> Option<()> {
-    let call = words.next()?;
-    let table = table(words)?;
+fn add(
+    alloc: Global,
+    changes: &mut Changes,
+    call: &str,
+    table: TableName,
+    words: &mut Words,
+) -> Option<()>
+    ensures { (ds : List TableDesc) → AreOfTables ds changes.old → is_table ds table ≡ true → AreOfTables ds changes.new }
+{
     let key = key(alloc, words)?;
     match call {
         "put" => put(alloc, changes, table, key, words),
         "delete" => changes.delete(table, key).ok(),
         _ => None,
+    }
+}
+
+fn add_any(alloc: Global, changes: &mut Changes, words: &mut Words) -> Option<()> {
+    let call = words.next()?;
+    let table = table(words)?;
+    add(alloc, changes, call, table, words)
+}
+
+// Adds a change of a described table.
+fn add_described(
+    alloc: Global,
+    tables: &[TableDesc],
+    changes: &mut Changes,
+    words: &mut Words,
+) -> Option<()>
+    requires { AreOfTables tables.now changes.old }
+    ensures { AreOfTables tables.now changes.new }
+{
+    let call = words.next()?;
+    let table = table(words)?;
+    if !is_table(tables, table) {
+        return None;
+    }
+    add(alloc, changes, call, table, words)
+}
+
+// The changes of the words that are left, each of a described table.
+pub fn changes_of(alloc: Global, tables: &[TableDesc], words: &mut Words) -> Option<Changes>
+    ensures { IfSome result (λ changes. AreOfTables tables.now changes) }
+{
+    let mut changes = Changes::new(alloc);
+    for _ in 0..number::<u8>(words)? {
+        add_described(alloc, tables, &mut changes, words)?;
+    }
+    match words.next() {
+        Some(_) => None,
+        None => Some(changes),
     }
 }
 
@@ -42,7 +101,7 @@ fn say_changes(out: &mut String, changes: &Changes) -> Option<()> {
 pub fn answer(alloc: Global, out: &mut String, words: &mut Words) -> Option<()> {
     let mut changes = Changes::new(alloc);
     for _ in 0..number::<u8>(words)? {
-        add(alloc, &mut changes, words)?;
+        add_any(alloc, &mut changes, words)?;
     }
     say_changes(out, &changes)
 }

@@ -1,6 +1,6 @@
 // Loading of the store that is kept.
 use crate::words::say;
-use mb_check::{Loaded, load};
+use mb_load::{Loaded, load};
 use mb_store::{MbtResult, MemStore};
 use std::alloc::Global;
 use std::fmt::Write;
@@ -25,7 +25,8 @@ fn say_names(out: &mut String, set: &Loaded) -> Option<()> {
     Some(())
 }
 
-fn say_set(out: &mut String, set: &Loaded) -> Option<()> {
+// The layout, the algorithm, the tiles and the names of a set.
+pub fn say_set(out: &mut String, set: &Loaded) -> Option<()> {
     say(out, &set.mbt_type())?;
     say(out, &set.algorithm())?;
     say(out, &set.patch_type())?;

@@ -1,4 +1,4 @@
-//! Reads calls of mb_tables, mb_store and mb_check from standard input, one a line, and prints each line with its answer.
+//! Reads calls of mb_tables, mb_store, mb_load and mb_edit from standard input, one a line, and prints each line with its answer.
 #![tactic(auto)]
 
 mod cells;
@@ -7,6 +7,7 @@ mod creating;
 mod described;
 mod labels;
 mod loads;
+mod patches;
 mod stores;
 mod tables;
 mod words;
@@ -20,6 +21,7 @@ use words::Words;
 // What is kept from line to line.
 #[derive(Drop)]
 struct Kept {
+    base: MemStore,
     store: MemStore,
     tables: Vec<TableDesc>,
 }
@@ -34,6 +36,7 @@ fn answer(alloc: Global, out: &mut String, kept: &mut Kept, line: &str) -> Optio
         "table" => tables::answer(alloc, out, &mut kept.tables, &mut words),
         "describe" => creating::describe(alloc, out, &mut kept.store, kept.tables.as_slice()),
         "load" => loads::answer(alloc, out, &mut kept.store),
+        "patch" => patches::answer(alloc, out, &mut kept.base, &mut kept.store, &mut words),
         "label" => labels::answer(out, &mut words),
         _ => None,
     }
@@ -42,6 +45,7 @@ fn answer(alloc: Global, out: &mut String, kept: &mut Kept, line: &str) -> Optio
 fn main(rt: HostRuntime) -> io::Result<()> {
     let alloc = rt.alloc();
     let mut kept = Kept {
+        base: MemStore::new(alloc),
         store: MemStore::new(alloc),
         tables: Vec::new(alloc),
     };

@@ -1,21 +1,10 @@
 // Calls of the store that is kept.
-ghost use Rattle.std.specs.Prelude.{◌≡◌};
-ghost use Rattle.mb_tables.specs.Described.{is_table};
-
 use crate::cells::{key, row, table};
+use crate::changes::{changes_of, is_table};
 use crate::labels::layout;
 use crate::words::{Words, number, say};
-use mb_store::{Changes, MemStore, TileStore, is_empty_database};
-use mb_tables::{TableDesc, TableKind, TableName};
+use mb_store::{MemStore, TileStore, is_empty_database};
 use std::alloc::Global;
-
-// Whether a table, and not a view, is described by this name.
-fn is_table(tables: &[TableDesc], table: TableName) -> bool
-    ensures { result ≡ is_table tables.now table }
-{
-    let name = table.name();
-    tables.iter().any(|d| d.name.as_str() == name && matches!(d.kind, TableKind::Table))
-}
 
 // Asks for the descriptions first.
 fn push(alloc: Global, out: &mut String, store: &mut MemStore, words: &mut Words) -> Option<()> {
@@ -28,33 +17,10 @@ fn push(alloc: Global, out: &mut String, store: &mut MemStore, words: &mut Words
     say(out, &store.push_row(table, row))
 }
 
-// One change that puts a row. Asks for the descriptions first.
-fn put(alloc: Global, out: &mut String, store: &mut MemStore, words: &mut Words) -> Option<()> {
-    let table = table(words)?;
-    let key = key(alloc, words)?;
-    let row = row(alloc, words)?;
+// All changes of a line at once. Asks for the descriptions first.
+fn commit(alloc: Global, out: &mut String, store: &mut MemStore, words: &mut Words) -> Option<()> {
     let tables = store.describe(alloc).ok()?;
-    if !is_table(tables.as_slice(), table) || row.cells().len() != table.width() {
-        return None;
-    }
-    if !key.is_of(table, row.cells()) {
-        return None;
-    }
-    let mut changes = Changes::new(alloc);
-    changes.put(table, key, row).ok()?;
-    say(out, &store.commit(alloc, &changes))
-}
-
-// One change that removes the rows of a key. Asks for the descriptions first.
-fn delete(alloc: Global, out: &mut String, store: &mut MemStore, words: &mut Words) -> Option<()> {
-    let table = table(words)?;
-    let key = key(alloc, words)?;
-    let tables = store.describe(alloc).ok()?;
-    if !is_table(tables.as_slice(), table) {
-        return None;
-    }
-    let mut changes = Changes::new(alloc);
-    changes.delete(table, key).ok()?;
+    let changes = changes_of(alloc, tables.as_slice(), words)?;
     say(out, &store.commit(alloc, &changes))
 }
 
@@ -126,8 +92,7 @@ pub fn answer(
     match words.next()? {
         "new" => new(alloc, store, words),
         "push" => push(alloc, out, store, words),
-        "put" => put(alloc, out, store, words),
-        "delete" => delete(alloc, out, store, words),
+        "commit" => commit(alloc, out, store, words),
         "fail" => fail(alloc, store, words),
         call => told(alloc, out, store, call, words),
     }

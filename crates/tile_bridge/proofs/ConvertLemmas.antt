@@ -1,5 +1,5 @@
 -- What a conversion owes: the archive of the adds is that of the set.
-use Rattle.std.proofs.Common.{◌≡◌, inl, inr, ℕ, ◌≤◌, ◌<◌, ◌^◌, Bool, true, false, List, [], ◌∷◌, length, map, Option, Some, None, is_some, IfSome, Result, Ok, Err, IsErrAnd, refl, sym, subst, ◌∙◌, ap, arith}
+use Rattle.std.proofs.Common.{◌≡◌, inl, inr, ℕ, ◌≤◌, ◌<◌, ◌^◌, Bool, true, false, List, [], ◌∷◌, length, map, Option, Some, None, is_some, IfSome, Result, Ok, Err, refl, sym, subst, ◌∙◌, ap, arith}
 use Rattle.std.specs.Cmp.{nat_cmp_total}
 use Rattle.std.specs.Ordering.{nat_cmp}
 use Rattle.std.specs.FinMap.{find, from_entries, get, get-from_entries}
@@ -7,7 +7,6 @@ use Rattle.tile_ids.specs.Coord.{Coord}
 use Rattle.tile_ids.specs.Counts.{Rose}
 use Rattle.tile_ids.specs.Hilbert.{id_of}
 use Rattle.mb_tables.specs.Tiles.{TileSet}
-use Rattle.mb_tables.specs.declared.cell.Cell.{Cell}
 use Rattle.pm_format.specs.LookUp.{archive_map}
 use Rattle.pm_format.specs.Options.{Options}
 use Rattle.pm_writer.proofs.Canonical.{canon_is}
@@ -21,18 +20,17 @@ use Rattle.pm_writer.specs.Pieces.{IsHiddenOr}
 use Rattle.pm_writer.specs.Places.{places_of, places_read}
 use Rattle.pm_format.specs.WellFormed.{WellFormed}
 use Rattle.pm_format.specs.declared.error.ReadCause.TheVariants as causes
-use Rattle.pm_format.specs.declared.compression.Compression.TheVariants as compression
-use Rattle.tile_bridge.specs.Convert.{BothTold, ConvertCauses, ConvertLeaves, IsArchiveOf, overflows, IsConverted, LeavesPart, ShowsNoPart}
-use Rattle.tile_bridge.specs.FlatAdds.{AreAddsOf}
-use Rattle.tile_bridge.specs.FlatRows.{flat_set}
+use Rattle.tile_bridge.specs.Adds.{AreAddsOf}
+use Rattle.tile_bridge.specs.Convert.{IsArchiveOf, IsConverted, SetCauses, SetLeaves, ShowsNoPart}
+use Rattle.tile_bridge.specs.Outcome.{overflows}
 use Rattle.tile_bridge.specs.ReadingBack.{IsHindered, ReadBackCauses, of_read_error}
-use Rattle.tile_bridge.specs.Writing.{CanBeWritten, SetCauses, of_write_error}
+use Rattle.tile_bridge.specs.Writing.{CanBeWritten, of_write_error}
 use Rattle.pm_format.specs.declared.error.PmtError.{PmtError}
 use Rattle.pm_format.specs.declared.error.PmtError.TheVariants as errors
 use Rattle.tile_bridge.specs.declared.error.ConvertError.{ConvertError}
 use Rattle.tile_bridge.specs.declared.error.ConvertError.TheVariants as refusals
 use Rattle.tile_bridge.specs.declared.report.ConvertReport.{ConvertReport}
-use Rattle.tile_bridge.proofs.FlatAddLemmas.{holds_adds}
+use Rattle.tile_bridge.proofs.AddLemmas.{holds_adds}
 
 -- a fact on told bytes, after a call that changed nothing told
 pub told_same : (P : List ℕ → Type 0) (old new : Option (List ℕ)) → new ≡ old → IfSome old P → IfSome new P
@@ -44,10 +42,9 @@ none_told None n h e = tt
 none_told (Some []) n h e = refl
 none_told (Some (byte ∷ bytes)) n h e = absurd (omega (arith, h, e))
 
--- the adds of the rows of a set, which can be written
-pub ready : (o : Options) (rows : List (List Cell)) (tiles : TileSet) (adds : List (ℕ × List ℕ)) → flat_set rows ≡ tiles → AreAddsOf adds (flat_set rows) → ((o : Options) → length o.metadata < 2 ^ 63 → overflows (flat_set rows) ≡ false → AreFew o adds)
-    → OptionsFit o → length o.metadata < 2 ^ 63 → overflows (flat_set rows) ≡ false → CanBeWritten o adds × AreAddsOf adds tiles
-ready o rows tiles adds same are few fit short size = (record { options = fit; rising = are.rising; low = are.low; filled = are.filled; few = few o short size }, subst (AreAddsOf adds) same are)
+-- the adds of a set, which can be written
+pub ready : (o : Options) (tiles : TileSet) (adds : List (ℕ × List ℕ)) → AreAddsOf adds tiles → ((o : Options) → length o.metadata < 2 ^ 63 → overflows tiles ≡ false → AreFew o adds) → OptionsFit o → length o.metadata < 2 ^ 63 → overflows tiles ≡ false → CanBeWritten o adds
+ready o tiles adds are few fit short size = record { options = fit; rising = are.rising; low = are.low; filled = are.filled; few = few o short size }
 
 module _ (o : Options) (adds : List (ℕ × List ℕ)) (can : CanBeWritten o adds) where
   archivable : IsArchivable o adds
@@ -76,92 +73,58 @@ module _ (o : Options) (adds : List (ℕ × List ℕ)) (can : CanBeWritten o add
 
   -- after success
   pub leaves_all : (tiles : TileSet) (coords : List Coord) (r : ConvertReport) (old new : Option (List ℕ)) → AreAddsOf adds tiles → r.places ≡ places_of o adds → is_some new ≡ is_some old → IfSome new (λ b. b ≡ archive o adds)
-      → IfSome new (λ b. (p : Options) → WellFormed b p true → r.answers ≡ map (λ c. archive_map b (id_of c)) coords) → BothTold old new (λ a b. IsConverted b o tiles coords r)
+      → IfSome new (λ b. (p : Options) → WellFormed b p true → r.answers ≡ map (λ c. archive_map b (id_of c)) coords) → SetLeaves o tiles coords (Ok r) old new
   leaves_all tiles coords r None None are places same is read = tt
   leaves_all tiles coords r None (Some b) are places same is read = absurd (cc)
   leaves_all tiles coords r (Some a) None are places same is read = absurd (cc)
   leaves_all tiles coords r (Some a) (Some b) are places same is read = converted tiles coords r b are places is (read o (formed b is))
 
-  -- after a refusal of the writer
+  -- after a refusal
   no_part : (tiles : TileSet) (b : List ℕ) → AreAddsOf adds tiles → IsHiddenOr (archive o adds) b → ShowsNoPart o tiles b
   no_part tiles b are (inl hidden) = inl hidden
   no_part tiles b are (inr whole) = inr (subst (λ b. IsArchiveOf b o tiles) (sym whole) (archive_is tiles are))
 
-  pub leaves_part : (tiles : TileSet) (old new : Option (List ℕ)) → AreAddsOf adds tiles → IfSome old (λ b. b ≡ []) → is_some new ≡ is_some old → IfSome new (IsHiddenOr (archive o adds)) → BothTold old new (LeavesPart o tiles)
-  leaves_part tiles None None are empty same h = tt
-  leaves_part tiles None (Some b) are empty same h = absurd (cc)
-  leaves_part tiles (Some a) None are empty same h = absurd (cc)
-  leaves_part tiles (Some []) (Some b) are empty same h = no_part tiles b are h
-  leaves_part tiles (Some (byte ∷ bytes)) (Some b) are empty same h = absurd (cc)
+  pub leaves_part : (tiles : TileSet) (coords : List Coord) (e : ConvertError) (old new : Option (List ℕ)) → AreAddsOf adds tiles → is_some new ≡ is_some old → IfSome new (IsHiddenOr (archive o adds)) → SetLeaves o tiles coords (Err e) old new
+  leaves_part tiles coords e None None are same h = tt
+  leaves_part tiles coords e None (Some b) are same h = absurd (cc)
+  leaves_part tiles coords e (Some a) None are same h = absurd (cc)
+  leaves_part tiles coords e (Some a) (Some b) are same h = no_part tiles b are h
 
   -- once the whole archive stands
   whole : (told : Option (List ℕ)) → IfSome told (λ b. b ≡ archive o adds) → IfSome told (IsHiddenOr (archive o adds))
   whole None is = tt
   whole (Some b) is = inr is
 
-  pub leaves_whole : (tiles : TileSet) (coords : List Coord) (e : PmtError) (x : ConvertError) (old new : Option (List ℕ)) → x ≡ of_read_error e → AreAddsOf adds tiles → IfSome old (λ b. b ≡ []) → is_some new ≡ is_some old → IfSome new (λ b. b ≡ archive o adds)
-      → ConvertCauses o tiles old (Err x) → ConvertLeaves o tiles coords (Err x) old new
-  leaves_whole tiles coords e x old new is are empty same whole_is cause = subst (λ x. ConvertLeaves o tiles coords (Err x) old new) (sym is) (by_case e (subst (λ x. ConvertCauses o tiles old (Err x)) is cause))
-    where
-      part : BothTold old new (LeavesPart o tiles)
-      part = leaves_part tiles old new are empty same (whole new whole_is)
-
-      untold : (P : List ℕ → List ℕ → Type 0) (old new : Option (List ℕ)) → is_some new ≡ is_some old → old ≡ None → BothTold old new P
-      untold P None None same none = tt
-      untold P None (Some b) same none = absurd (cc)
-      untold P (Some a) new same none = absurd (cc)
-
-      by_case : (e : PmtError) → ConvertCauses o tiles old (Err (of_read_error e)) → ConvertLeaves o tiles coords (Err (of_read_error e)) old new
-      by_case errors.OutOfMemory c = part
-      by_case (errors.Reading causes.Fault) c = part
-      by_case _ c = untold (λ a b. ⊥) old new same c.0
+  pub leaves_whole : (tiles : TileSet) (coords : List Coord) (e : ConvertError) (old new : Option (List ℕ)) → AreAddsOf adds tiles → is_some new ≡ is_some old → IfSome new (λ b. b ≡ archive o adds) → SetLeaves o tiles coords (Err e) old new
+  leaves_whole tiles coords e old new are same is = leaves_part tiles coords e old new are same (whole new is)
 
   -- why it couldn't be read back
-  pub read_refused : (tiles : TileSet) (before now : ℕ) (e : PmtError) (x : ConvertError) (old new : Option (List ℕ)) → x ≡ of_read_error e → o.internal_compression ≡ compression.None → overflows tiles ≡ false → is_some new ≡ is_some old → IfSome new (λ b. b ≡ archive o adds)
-      → IfSome new (λ b. (p : Options) → WellFormed b p true → IsHindered e) → ReadBackCauses {A = Unit {0}} before now (Err e) → ConvertCauses o tiles old (Err x)
-  read_refused tiles before now e x old new is plain fits same whole_is hindered cause = subst (λ x. ConvertCauses o tiles old (Err x)) (sym is) (by_told old new same whole_is hindered)
+  pub read_refused : (before now : ℕ) (e : PmtError) (x : ConvertError) (old new : Option (List ℕ)) → x ≡ of_read_error e → is_some new ≡ is_some old → IfSome new (λ b. b ≡ archive o adds)
+      → IfSome new (λ b. (p : Options) → WellFormed b p true → IsHindered e) → ReadBackCauses {A = Unit {0}} before now (Err e) → SetCauses old (Err x)
+  read_refused before now e x old new is same whole_is hindered cause = subst (λ x. SetCauses old (Err x)) (sym is) (by_told old new same whole_is hindered)
     where
-      untold : (e : PmtError) → ReadBackCauses {A = Unit {0}} before now (Err e) → ConvertCauses o tiles None (Err (of_read_error e))
+      untold : (e : PmtError) → ReadBackCauses {A = Unit {0}} before now (Err e) → SetCauses None (Err (of_read_error e))
       untold errors.OutOfMemory c = tt
       untold (errors.Reading causes.Fault) c = tt
-      untold e c = (refl, plain, fits, c)
+      untold e c = (refl, c)
 
-      told : (e : PmtError) (b : List ℕ) → IsHindered e → ConvertCauses o tiles (Some b) (Err (of_read_error e))
+      told : (e : PmtError) (b : List ℕ) → IsHindered e → SetCauses (Some b) (Err (of_read_error e))
       told errors.OutOfMemory b h = tt
       told (errors.Reading causes.Fault) b h = tt
       told _ b h = absurd h
 
-      by_told : (old new : Option (List ℕ)) → is_some new ≡ is_some old → IfSome new (λ b. b ≡ archive o adds) → IfSome new (λ b. (p : Options) → WellFormed b p true → IsHindered e) → ConvertCauses o tiles old (Err (of_read_error e))
+      by_told : (old new : Option (List ℕ)) → is_some new ≡ is_some old → IfSome new (λ b. b ≡ archive o adds) → IfSome new (λ b. (p : Options) → WellFormed b p true → IsHindered e) → SetCauses old (Err (of_read_error e))
       by_told None new same is h = untold e cause
       by_told (Some a) None same is h = absurd (cc)
       by_told (Some a) (Some b) same is h = told e a (h o (formed b is))
 
--- before the writer began
-pub leaves_same : (o : Options) (tiles : TileSet) (old new : Option (List ℕ)) → new ≡ old → BothTold old new (LeavesPart o tiles)
-leaves_same o tiles old new e = subst (λ n. BothTold old n (LeavesPart o tiles)) (sym e) (itself old)
+-- a refusal of the writer
+pub write_refused : (e : PmtError) (x : ConvertError) (told : Option (List ℕ)) → x ≡ of_write_error e → SetCauses told (Err x)
+write_refused e x told is = subst (λ x. SetCauses told (Err x)) (sym is) (by_case e)
   where
-    itself : (told : Option (List ℕ)) → BothTold told told (LeavesPart o tiles)
-    itself None = tt
-    itself (Some []) = inl refl
-    itself (Some (byte ∷ bytes)) = refl
-
--- a set that can't be read
-pub set_refused : (A : Type 0) (o : Options) (tiles : TileSet) (long : Bool) (told : Option (List ℕ)) (e : ConvertError) (r : Result ConvertReport ConvertError) → IfSome told (λ b. b ≡ []) → o.internal_compression ≡ compression.None → long ≡ overflows tiles
-    → SetCauses {A = A} long (Err e) → IsErrAnd r (λ x. x ≡ e) → ConvertCauses o tiles told r
-set_refused A o tiles long told e (Ok x) empty plain size cause is = absurd is
-set_refused A o tiles long told e (Err x) empty plain size cause is = subst (λ x. ConvertCauses o tiles told (Err x)) (sym is) (by_case e cause)
-  where
-    by_case : (e : ConvertError) → SetCauses {A = A} long (Err e) → ConvertCauses o tiles told (Err e)
-    by_case refusals.IndexEntryOverflow c = (empty, plain, sym size ∙ c)
-    by_case refusals.OutOfMemory c = tt
-    by_case _ c = absurd c
-
-pub refused_leaves : (o : Options) (tiles : TileSet) (coords : List Coord) (e : PmtError) (x : ConvertError) (old new : Option (List ℕ)) → x ≡ of_write_error e → BothTold old new (LeavesPart o tiles) → ConvertLeaves o tiles coords (Err x) old new
-refused_leaves o tiles coords e x old new is h = subst (λ x. ConvertLeaves o tiles coords (Err x) old new) (sym is) (by_case e)
-  where
-    by_case : (e : PmtError) → ConvertLeaves o tiles coords (Err (of_write_error e)) old new
-    by_case errors.OutOfMemory = h
-    by_case _ = h
+    by_case : (e : PmtError) → SetCauses told (Err (of_write_error e))
+    by_case errors.OutOfMemory = tt
+    by_case _ = tt
 
 -- the fault of a reader after a writer
 pub read_fault : (start before now : ℕ) (e : PmtError) (x : ConvertError) → x ≡ of_read_error e → start ≤ before → ReadBackCauses {A = Unit {0}} before now (Err e) → x ≡ refusals.MediumFault → Rose start now

@@ -11,26 +11,27 @@ use Rattle.pm_writer.proofs.Few.{archive_fits}
 use Rattle.pm_writer.proofs.Sorted.{adds_distinct}
 use Rattle.pm_writer.specs.Causes.{AddCauses, FinishCauses}
 use Rattle.pm_writer.specs.Writing.{AddFits, add_to}
-use Rattle.tile_bridge.specs.FlatTiles.{shown}
+use Rattle.mb_tables.specs.Tiles.{TileSet}
+use Rattle.tile_bridge.specs.Adds.{bytes_at, shown}
 use Rattle.tile_bridge.specs.Writing.{CanBeWritten, WriteCauses}
-use Rattle.tile_bridge.specs.declared.flat_tiles.FlatTile.{FlatTile}
+use Rattle.tile_bridge.specs.declared.adds.Add.{Add}
 
 -- the add of a number, as it is seen
-shown_at : (adds : List FlatTile) (i : ℕ) (a : FlatTile) → i < length adds → a ≡ get_or adds i a → get_or (shown adds) i (a.id, a.bytes.now) ≡ (a.id, a.bytes.now)
-shown_at adds i a far is = get_or-map (λ (a : FlatTile). (a.id, a.bytes.now)) adds i a (a.id, a.bytes.now) far ∙ sym (ap (λ x. (x.id, x.bytes.now)) is)
+shown_at : (tiles : TileSet) (adds : List Add) (i : ℕ) (a : Add) → i < length adds → a ≡ get_or adds i a → get_or (shown tiles adds) i (a.id, bytes_at tiles a.index) ≡ (a.id, bytes_at tiles a.index)
+shown_at tiles adds i a far is = get_or-map (λ (a : Add). (a.id, bytes_at tiles a.index)) adds i a (a.id, bytes_at tiles a.index) far ∙ sym (ap (λ x. (x.id, bytes_at tiles x.index)) is)
 
-far_shown : (adds : List FlatTile) (i : ℕ) → i < length adds → i < length (shown adds)
-far_shown adds i far = omega (arith, far, length-map {B = ℕ × List ℕ} adds (λ (a : FlatTile). (a.id, a.bytes.now)))
+far_shown : (tiles : TileSet) (adds : List Add) (i : ℕ) → i < length adds → i < length (shown tiles adds)
+far_shown tiles adds i far = omega (arith, far, length-map {B = ℕ × List ℕ} adds (λ (a : Add). (a.id, bytes_at tiles a.index)))
 
 -- it fits behind those before it
-pub fits_at : (o : Options) (adds : List FlatTile) (i : ℕ) (a : FlatTile) → i < length adds → a ≡ get_or adds i a → CanBeWritten o (shown adds) → AddFits o (take i (shown adds)) a.id a.bytes.now
-fits_at o adds i a far at can = subst (λ x. AddFits o (take i (shown adds)) x.0 x.1) (shown_at adds i a far at) (add_fits_at o (shown adds) i (a.id, a.bytes.now) (far_shown adds i far) can.few)
+pub fits_at : (o : Options) (tiles : TileSet) (adds : List Add) (i : ℕ) (a : Add) → i < length adds → a ≡ get_or adds i a → CanBeWritten o (shown tiles adds) → AddFits o (take i (shown tiles adds)) a.id (bytes_at tiles a.index)
+fits_at o tiles adds i a far at can = subst (λ x. AddFits o (take i (shown tiles adds)) x.0 x.1) (shown_at tiles adds i a far at) (add_fits_at o (shown tiles adds) i (a.id, bytes_at tiles a.index) (far_shown tiles adds i far) can.few)
 
 -- and with it one more add is there
-pub added_to : (adds : List FlatTile) (i : ℕ) (a : FlatTile) → i < length adds → a ≡ get_or adds i a → All (λ a. a.1 ≢ []) (shown adds) → add_to (take i (shown adds)) a.id a.bytes.now ≡ take (i + 1) (shown adds)
-added_to adds i a far at filled =
-    ap (λ x. add_to (take i (shown adds)) x.0 x.1) (sym (shown_at adds i a far at))
-    ∙ added_at (shown adds) i (a.id, a.bytes.now) (far_shown adds i far) (filled i (a.id, a.bytes.now) (far_shown adds i far))
+pub added_to : (tiles : TileSet) (adds : List Add) (i : ℕ) (a : Add) → i < length adds → a ≡ get_or adds i a → All (λ a. a.1 ≢ []) (shown tiles adds) → add_to (take i (shown tiles adds)) a.id (bytes_at tiles a.index) ≡ take (i + 1) (shown tiles adds)
+added_to tiles adds i a far at filled =
+    ap (λ x. add_to (take i (shown tiles adds)) x.0 x.1) (sym (shown_at tiles adds i a far at))
+    ∙ added_at (shown tiles adds) i (a.id, bytes_at tiles a.index) (far_shown tiles adds i far) (filled i (a.id, bytes_at tiles a.index) (far_shown tiles adds i far))
 
 -- a refused add, whose data fits, is a fault or want of memory
 pub add_refused : {A : Type 0} (fits : Type 0) (start before now : ℕ) (failed : Bool) (e : PmtError) (r : Result A PmtError) → failed ≡ false → fits → start ≤ before → AddCauses compression.None failed fits before now (Err e) → IsErrAnd r (λ x. x ≡ e) → WriteCauses {A = A} start now r
@@ -53,7 +54,7 @@ pub finish_refused : {A : Type 0} (o : Options) (adds : List (ℕ × List ℕ)) 
 finish_refused o adds start before now failed (Ok x) alive can order c = tt
 finish_refused o adds start before now failed (Err errors.Failed) alive can order c = absurd (cc)
 finish_refused o adds start before now failed (Err (errors.OverlappingEntries id)) alive can order c = absurd (omega (arith, c.1.twice, adds_distinct adds can.rising id))
-finish_refused o adds start before now failed (Err errors.IndexEntryOverflow) alive can order c = absurd (c.2 (archive_fits o adds can.few))
+finish_refused o adds start before now failed (Err errors.IndexEntryOverflow) alive can order c = absurd (c.2 (archive_fits o adds can.options can.few))
 finish_refused o adds start before now failed (Err (errors.Reading causes.Fault)) alive can order c = omega (arith, order, c.2)
 finish_refused o adds start before now failed (Err errors.OutOfMemory) alive can order c = tt
 finish_refused o adds start before now failed (Err _) alive can order c = absurd c

@@ -1,10 +1,12 @@
 -- What a conversion answers, and what it leaves.
-use Rattle.std.specs.Prelude.{ℕ, ◌≡◌, ◌≢◌, ◌⊎◌, ◌-◌, ◌^◌, ◌<◌, Bool, true, false, ◌||◌, List, [], ◌∷◌, length, map, sum_by, nat_le, Option, Some, None, Result, Ok, Err, IfSome}
-use Rattle.std.specs.List.{list_any}
-use Rattle.std.specs.FinMap.{FinMap, entries, get}
+use Rattle.std.specs.Prelude.{ℕ, ◌≡◌, ◌≢◌, ◌⊎◌, ◌-◌, ◌^◌, ◌<◌, true, false, List, [], ◌∷◌, length, map, Option, Some, None, Result, Ok, Err, IfSome, IsOk}
+use Rattle.std.specs.FinMap.{FinMap, get}
 use Rattle.std.specs.Ordering.{nat_cmp}
 use Rattle.tile_ids.specs.Coord.{Coord}
 use Rattle.tile_ids.specs.Hilbert.{id_of, tile_id}
+use Rattle.mb_load.specs.Aggregate.{aggregate}
+use Rattle.mb_load.specs.Refusals.{is_free}
+use Rattle.mb_load.specs.State.{State}
 use Rattle.mb_tables.specs.Tiles.{Place, TileSet, solid}
 use Rattle.pm_format.specs.declared.compression.Compression.TheVariants as compression
 use Rattle.pm_format.specs.LookUp.{archive_map}
@@ -13,10 +15,10 @@ use Rattle.pm_format.specs.WellFormed.{WellFormed}
 use Rattle.pm_writer.specs.Archive.{canon}
 use Rattle.pm_writer.specs.Pieces.{IsHidden}
 use Rattle.pm_writer.specs.Places.{places_read}
-use Rattle.tile_bridge.specs.Aggregate.{bytes_of}
 use Rattle.tile_bridge.specs.ReadingBack.{IsReadBack}
+use Rattle.tile_bridge.specs.Stores.{IsDue, IsRefused}
 use Rattle.tile_bridge.specs.declared.error.ConvertError.{ConvertError}
-use Rattle.tile_bridge.specs.declared.error.ConvertError.TheVariants.{MediumNotEmpty, UnsupportedCompression, IndexEntryOverflow, MediumFault, ReadBack, OutOfMemory}
+use Rattle.tile_bridge.specs.declared.error.ConvertError.TheVariants.{MediumNotEmpty, UnsupportedCompression, Store, IndexEntryOverflow, StoreFault, MediumFault, ReadBack, OutOfMemory}
 use Rattle.tile_bridge.specs.declared.report.ConvertReport.{ConvertReport}
 
 -- the id of a place, whose row is counted from the bottom
@@ -27,12 +29,6 @@ address p = tile_id p.zoom p.column (2 ^ p.zoom - 1 - p.row)
 pub record HoldsExactly (b : List ℕ) (tiles : TileSet) : Type 0 where
   pub each : (p : Place) (bytes : List ℕ) → get (solid tiles) p ≡ Some (Some bytes) → archive_map b (address p) ≡ Some bytes
   pub only : (id : ℕ) (bytes : List ℕ) → archive_map b id ≡ Some bytes → (p : Place) × (get (solid tiles) p ≡ Some (Some bytes)) × (address p ≡ id)
-
--- a tile of 2^32 bytes, 2^32 tiles, or 2^60 bytes in all
-abbrev pub overflows : TileSet → Bool
-overflows tiles =
-    list_any (λ e. nat_le (2 ^ 32) (length (bytes_of e.1))) (entries tiles)
-    || (nat_le (2 ^ 32) (length (entries tiles)) || nat_le (2 ^ 60) (sum_by (λ e. length (bytes_of e.1)) (entries tiles)))
 
 -- The bytes are a well-formed archive with the options, which has exactly the tiles, and they are the one archive of these options and of the map of
 -- these tiles by their ids.
@@ -53,35 +49,47 @@ pub record IsConverted (b : List ℕ) (o : Options) (tiles : TileSet) (coords : 
 abbrev pub IsEmpty : Option (List ℕ) → Type 0
 IsEmpty told = IfSome told (λ bytes. bytes ≡ [])
 
--- When each answer comes. Where the medium tells, the answers but want of memory and the fault rule each other out, so each
+-- directories are labelled `None`
+abbrev pub IsPlain : Options → Type 0
+IsPlain o = o.internal_compression ≡ compression.None
+
+-- When each answer comes. Where all tells, the answers but want of memory and the faults rule each other out, so each
 -- comes exactly where its line says.
-abbrev pub ConvertCauses : Options → TileSet → Option (List ℕ) → Result ConvertReport ConvertError → Type 0
-ConvertCauses o tiles told (Ok r) = IsEmpty told × (o.internal_compression ≡ compression.None) × (overflows tiles ≡ false)
-ConvertCauses o tiles told (Err (MediumNotEmpty n)) = (0 < n) × IfSome told (λ bytes. n ≡ length bytes)
-ConvertCauses o tiles told (Err (UnsupportedCompression label)) = IsEmpty told × (label ≡ o.internal_compression) × (o.internal_compression ≢ compression.None)
-ConvertCauses o tiles told (Err IndexEntryOverflow) = IsEmpty told × (o.internal_compression ≡ compression.None) × (overflows tiles ≡ true)
-ConvertCauses o tiles told (Err MediumFault) = Unit {0}
-ConvertCauses o tiles told (Err (ReadBack e)) = (told ≡ None) × (o.internal_compression ≡ compression.None) × (overflows tiles ≡ false) × IsReadBack e
-ConvertCauses o tiles told (Err OutOfMemory) = Unit {0}
+abbrev pub ConvertCauses : Options → Option (Result State ConvertError) → Option (List ℕ) → Result ConvertReport ConvertError → Type 0
+ConvertCauses o due told (Ok r) = IsEmpty told × IsPlain o × IfSome due IsOk
+ConvertCauses o due told (Err (MediumNotEmpty n)) = (0 < n) × IfSome told (λ bytes. n ≡ length bytes)
+ConvertCauses o due told (Err (UnsupportedCompression label)) = IsEmpty told × (label ≡ o.internal_compression) × (label ≢ compression.None)
+ConvertCauses o due told (Err (Store place e)) = IsEmpty told × IsPlain o × IsRefused due (Store place e) × (is_free e ≡ false)
+ConvertCauses o due told (Err IndexEntryOverflow) = IsEmpty told × IsPlain o × IsRefused due IndexEntryOverflow
+ConvertCauses o due told (Err (StoreFault place)) = IsEmpty told × IsPlain o
+ConvertCauses o due told (Err MediumFault) = Unit {0}
+ConvertCauses o due told (Err (ReadBack e)) = (told ≡ None) × IsPlain o × IfSome due IsOk × IsReadBack e
+ConvertCauses o due told (Err OutOfMemory) = Unit {0}
+
+-- the report has the aggregate hash of the state
+abbrev pub HasAggregate : Option (Result State ConvertError) → ConvertReport → Type 0
+HasAggregate due r = (s : State) × IsDue due s × (r.aggregate ≡ aggregate s.algorithm s.tiles)
 
 -- no part of an archive is shown: the label of directories isn't written, or the whole archive stands
 abbrev pub ShowsNoPart : Options → TileSet → List ℕ → Type 0
 ShowsNoPart o tiles b = IsHidden b ⊎ IsArchiveOf b o tiles
 
+-- the same of the tiles that are due
+abbrev pub ShowsNoDue : Options → Option (Result State ConvertError) → List ℕ → Type 0
+ShowsNoDue o due b = IsHidden b ⊎ ((s : State) × IsDue due s × IsArchiveOf b o s.tiles)
+
 -- bytes of a medium that wasn't empty stay, and an empty one shows no part
-abbrev pub LeavesPart : Options → TileSet → List ℕ → List ℕ → Type 0
-LeavesPart o tiles [] new = ShowsNoPart o tiles new
-LeavesPart o tiles (byte ∷ bytes) new = new ≡ byte ∷ bytes
+abbrev pub LeavesPart : Options → Option (Result State ConvertError) → List ℕ → List ℕ → Type 0
+LeavesPart o due [] new = ShowsNoDue o due new
+LeavesPart o due (byte ∷ bytes) new = new ≡ byte ∷ bytes
 
 -- What the medium holds afterwards.
-abbrev pub LeavesBytes : Options → TileSet → List Coord → Result ConvertReport ConvertError → List ℕ → List ℕ → Type 0
-LeavesBytes o tiles coords (Ok r) old new = IsConverted new o tiles coords r
-LeavesBytes o tiles coords (Err (MediumNotEmpty n)) old new = new ≡ old
-LeavesBytes o tiles coords (Err (UnsupportedCompression label)) old new = new ≡ old
-LeavesBytes o tiles coords (Err IndexEntryOverflow) old new = new ≡ old
-LeavesBytes o tiles coords (Err MediumFault) old new = LeavesPart o tiles old new
-LeavesBytes o tiles coords (Err (ReadBack e)) old new = ⊥
-LeavesBytes o tiles coords (Err OutOfMemory) old new = LeavesPart o tiles old new
+abbrev pub LeavesBytes : Options → Option (Result State ConvertError) → List Coord → Result ConvertReport ConvertError → List ℕ → List ℕ → Type 0
+LeavesBytes o due coords (Ok r) old new = (s : State) × IsDue due s × IsConverted new o s.tiles coords r
+LeavesBytes o due coords (Err MediumFault) old new = LeavesPart o due old new
+LeavesBytes o due coords (Err (ReadBack e)) old new = ⊥
+LeavesBytes o due coords (Err OutOfMemory) old new = LeavesPart o due old new
+LeavesBytes o due coords (Err _) old new = new ≡ old
 
 -- a fact on the bytes before and after, where they are told; whether they are doesn't change
 abbrev pub BothTold : Option (List ℕ) → Option (List ℕ) → (List ℕ → List ℕ → Type 0) → Type 0
@@ -90,5 +98,21 @@ BothTold None (Some new) P = ⊥
 BothTold (Some old) None P = ⊥
 BothTold (Some old) (Some new) P = P old new
 
-abbrev pub ConvertLeaves : Options → TileSet → List Coord → Result ConvertReport ConvertError → Option (List ℕ) → Option (List ℕ) → Type 0
-ConvertLeaves o tiles coords result old new = BothTold old new (LeavesBytes o tiles coords result)
+abbrev pub ConvertLeaves : Options → Option (Result State ConvertError) → List Coord → Result ConvertReport ConvertError → Option (List ℕ) → Option (List ℕ) → Type 0
+ConvertLeaves o due coords result old new = BothTold old new (LeavesBytes o due coords result)
+
+-- Of a set that is at hand: when each answer comes once the medium is empty and directories are labelled `None`.
+abbrev pub SetCauses : Option (List ℕ) → Result ConvertReport ConvertError → Type 0
+SetCauses told (Ok r) = Unit {0}
+SetCauses told (Err MediumFault) = Unit {0}
+SetCauses told (Err (ReadBack e)) = (told ≡ None) × IsReadBack e
+SetCauses told (Err OutOfMemory) = Unit {0}
+SetCauses told (Err _) = ⊥
+
+-- and what the medium holds afterwards
+abbrev pub SetBytes : Options → TileSet → List Coord → Result ConvertReport ConvertError → List ℕ → Type 0
+SetBytes o tiles coords (Ok r) new = IsConverted new o tiles coords r
+SetBytes o tiles coords (Err _) new = ShowsNoPart o tiles new
+
+abbrev pub SetLeaves : Options → TileSet → List Coord → Result ConvertReport ConvertError → Option (List ℕ) → Option (List ℕ) → Type 0
+SetLeaves o tiles coords result old new = BothTold old new (λ a b. SetBytes o tiles coords result b)

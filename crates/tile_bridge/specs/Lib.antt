@@ -1,7 +1,7 @@
-pub mod Aggregate
+pub mod Adds
 pub mod Convert
-pub mod FlatAdds
-pub mod FlatRows
-pub mod FlatTiles
+pub mod Outcome
+pub mod Patching
 pub mod ReadingBack
+pub mod Stores
 pub mod Writing

@@ -1,5 +1,5 @@
 -- Writing the adds of a set to a medium.
-use Rattle.std.specs.Prelude.{◌≡◌, ◌≢◌, ℕ, ◌≤◌, Bool, true, false, List, [], All, Result, Ok, Err}
+use Rattle.std.specs.Prelude.{◌≡◌, ◌≢◌, ℕ, ◌≤◌, true, List, [], All, Result, Ok, Err}
 use Rattle.std.specs.FinMap.{is_sorted}
 use Rattle.std.specs.Ordering.{nat_cmp}
 use Rattle.tile_ids.specs.Counts.{Rose}
@@ -32,10 +32,3 @@ WriteCauses before now (Err _) = ⊥
 abbrev pub of_write_error : PmtError → ConvertError
 of_write_error errors.OutOfMemory = refusals.OutOfMemory
 of_write_error _ = refusals.MediumFault
-
--- reading a set: refused by its size, or for want of memory
-abbrev pub SetCauses : {A : Type 0} → Bool → Result A ConvertError → Type 0
-SetCauses long (Ok _) = long ≡ false
-SetCauses long (Err refusals.IndexEntryOverflow) = long ≡ true
-SetCauses long (Err refusals.OutOfMemory) = Unit {0}
-SetCauses long (Err _) = ⊥

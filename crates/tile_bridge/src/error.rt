@@ -1,23 +1,40 @@
 // Why a conversion ends without an archive.
 ghost use Rattle.std.specs.Prelude.{◌≡◌};
 
+use mb_store::MbtError;
 use pm_format::{Compression, MediumFault, PmtError};
 use std::alloc::AllocError;
 use thiserror::Error;
 use tile_ids::OutOfMemory;
 
 /// Why a conversion ends without an archive.
-#[derive(Debug, Drop, PartialEq, Eq, Error)]
+#[derive(Debug, Drop, Error)]
 pub enum ConvertError {
     /// The medium wasn't empty: its length.
     #[error("medium not empty {length}")]
-    MediumNotEmpty { length: u64 },
+    MediumNotEmpty {
+        length: u64,
+    },
     /// Directories aren't labelled `None`: their label.
     #[error("unsupported compression")]
     UnsupportedCompression(Compression),
+    /// The base or a patch is refused.
+    #[error("store {place}: {error}")]
+    Store {
+        /// 0 for the base, k for the k-th patch.
+        place: u64,
+        /// Why: never a store's fault, and never want of memory.
+        error: MbtError,
+    },
     /// A tile has 2^32 bytes or more, there are 2^32 tiles or more, or their bytes are 2^60 or more.
     #[error("index entry overflow")]
     IndexEntryOverflow,
+    /// A store failed, and its count of faults rose.
+    #[error("store fault {place}")]
+    StoreFault {
+        /// 0 for the base, k for the k-th patch.
+        place: u64,
+    },
     /// The medium failed, and its count of faults rose.
     #[error("medium fault")]
     MediumFault,

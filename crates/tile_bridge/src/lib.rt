@@ -1,16 +1,18 @@
 //! The conversion of tile sets to archives.
 #![tactic(auto)]
 
+mod adds;
 mod conversion;
 mod error;
-mod flat_adds;
-mod flat_aggregate;
-mod flat_rows;
-mod flat_tiles;
+mod loading;
+mod options;
+mod patching;
 mod reading_back;
 mod report;
+mod resolving;
 mod writing;
 
-pub use conversion::convert_flat;
+pub use conversion::convert;
 pub use error::ConvertError;
+pub use options::ConvertOptions;
 pub use report::{Answers, ConvertReport};

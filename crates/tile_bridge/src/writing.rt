@@ -1,15 +1,17 @@
-// The archive of adds, written to a medium.
+// The archive of a set, written to a medium.
 ghost use Rattle.std.specs.Prelude.{◌≡◌, ◌<◌, ◌≤◌, ℕ, List, [], Option, false, length, IfSome, IfOk, OnOk, OnErr, is_some};
+ghost use Rattle.std.specs.FinMap.{len};
 ghost use Rattle.pm_format.specs.Options.{Options};
 ghost use Rattle.pm_format.specs.declared.compression.Compression.TheVariants as compression;
 ghost use Rattle.pm_writer.specs.Archive.{archive};
 ghost use Rattle.pm_writer.specs.Pieces.{IsHidden, IsHiddenOr};
 ghost use Rattle.pm_writer.specs.Places.{places_of};
 ghost use Rattle.pm_writer.specs.Writing.{Writes, has_failed};
-ghost use Rattle.tile_bridge.specs.FlatTiles.{shown};
+ghost use Rattle.tile_bridge.specs.Adds.{AreWithin, shown};
 ghost use Rattle.tile_bridge.specs.Writing.{CanBeWritten, WriteCauses};
 
-use crate::flat_tiles::FlatTile;
+use crate::adds::{Add, tile_bytes};
+use mb_load::Loaded;
 use pm_format::{Medium, PmtResult};
 use pm_writer::{ArchivePlaces, PmTilesWriter, WriterState};
 use std::alloc::Global;
@@ -19,15 +21,21 @@ use tile_ids::OutOfMemory;
 const BLOCK: usize = 64;
 
 // Whether an add goes on the run of the one before it.
-fn goes_on(before: &FlatTile, add: &FlatTile) -> bool {
-    add.id.value() == before.id.value() + 1 && add.bytes == before.bytes
+fn goes_on(set: &Loaded, before: &Add, add: &Add) -> bool
+    requires before { before.now.index < len set.now.state.tiles }
+    requires add { add.now.index < len set.now.state.tiles }
+{
+    add.id.value() == before.id.value() + 1
+        && tile_bytes(set, add.index) == tile_bytes(set, before.index)
 }
 
 // How many entries adds need: one for each that doesn't go on a run.
-fn count_entries(adds: &[FlatTile]) -> usize {
+fn count_entries(set: &Loaded, adds: &[Add]) -> usize
+    requires { AreWithin set.now.state.tiles adds.now }
+{
     let mut count = 0;
     for index in 0..adds.len() {
-        if index == 0 || !goes_on(&adds[index - 1], &adds[index]) {
+        if index == 0 || !goes_on(set, &adds[index - 1], &adds[index]) {
             count += 1;
         }
     }
@@ -36,8 +44,14 @@ fn count_entries(adds: &[FlatTile]) -> usize {
 
 // Makes room for the entries of each block of adds before it. It reads the contents of the block on the way, so that they come from memory side by side and
 // not one after another.
-fn make_room(state: &mut WriterState, adds: &[FlatTile], index: usize) -> Result<(), OutOfMemory>
-    requires { index < length adds.now }
+fn make_room(
+    state: &mut WriterState,
+    set: &Loaded,
+    adds: &[Add],
+    index: usize,
+) -> Result<(), OutOfMemory>
+    requires index { index < length adds.now }
+    requires within { AreWithin set.now.state.tiles adds.now }
     ensures same { (o : Options) (told : Option (List ℕ)) (done : List (ℕ × List ℕ)) → Writes o told state.old done → Writes o told state.new done }
     ensures alive { has_failed state.new ≡ has_failed state.old }
 {
@@ -45,15 +59,21 @@ fn make_room(state: &mut WriterState, adds: &[FlatTile], index: usize) -> Result
         return Ok(());
     }
     let rest = &adds[index..];
-    state.reserve(count_entries(&rest[..rest.len().min(BLOCK)]))
+    state.reserve(count_entries(set, &rest[..rest.len().min(BLOCK)]))
 }
 
-// Adds tiles to an archive that is begun.
-fn add_all<M: Medium>(state: &mut WriterState, medium: &mut M, adds: &[FlatTile]) -> PmtResult<()>
-    requires begun { (o : Options) × Writes o (M.told medium.old) state.old [] × CanBeWritten o (shown adds.now) }
+// Adds the tiles of a set to an archive that is begun.
+fn add_all<M: Medium>(
+    state: &mut WriterState,
+    medium: &mut M,
+    set: &Loaded,
+    adds: &[Add],
+) -> PmtResult<()>
+    requires begun { (o : Options) × Writes o (M.told medium.old) state.old [] × CanBeWritten o (shown set.now.state.tiles adds.now) }
+    requires within { AreWithin set.now.state.tiles adds.now }
     requires alive { has_failed state.old ≡ false }
     ensures tells { is_some (M.told medium.new) ≡ is_some (M.told medium.old) }
-    ensures added { (o : Options) → Writes o (M.told medium.old) state.old [] → OnOk result (Writes o (M.told medium.new) state.new (shown adds.now)) }
+    ensures added { (o : Options) → Writes o (M.told medium.old) state.old [] → OnOk result (Writes o (M.told medium.new) state.new (shown set.now.state.tiles adds.now)) }
     ensures hidden { OnErr result (IfSome (M.told medium.new) IsHidden) }
     ensures alive { OnOk result (has_failed state.new ≡ false) }
     ensures causes { WriteCauses (M.faults medium.old) (M.faults medium.new) result }
@@ -62,35 +82,37 @@ fn add_all<M: Medium>(state: &mut WriterState, medium: &mut M, adds: &[FlatTile]
     ensures calm { M.steady medium.old → M.steady medium.new × (M.faults medium.new ≡ M.faults medium.old) }
 {
     for (index, add) in adds.iter().enumerate() {
-        make_room(state, adds, index)?;
-        state.add_raw_tile_by_id(medium, add.id, add.bytes)?;
+        make_room(state, set, adds, index)?;
+        state.add_raw_tile_by_id(medium, add.id, tile_bytes(set, add.index))?;
     }
     Ok(())
 }
 
-/// Writes the archive of adds with options to an empty medium. The options label directories `None`.
+/// Writes the archive of a set's adds with options to an empty medium. The options label directories `None`.
 ///
 /// `Reading(Fault)` comes only where the medium's count of faults rose, and no other refusal comes but `OutOfMemory`. After each of them no part of an
 /// archive is shown: the label of directories isn't written, or the whole archive stands.
 pub(crate) fn write_archive<M: Medium>(
     alloc: Global,
     options: &PmTilesWriter,
-    adds: &[FlatTile],
+    set: &Loaded,
+    adds: &[Add],
     medium: &mut M,
 ) -> PmtResult<ArchivePlaces>
     requires empty { IfSome (M.told medium.old) (λ b. b ≡ []) }
     requires plain { options.now.internal_compression ≡ compression.None }
-    requires fit { CanBeWritten options.now (shown adds.now) }
+    requires fit { CanBeWritten options.now (shown set.now.state.tiles adds.now) }
+    requires within { AreWithin set.now.state.tiles adds.now }
     ensures tells { is_some (M.told medium.new) ≡ is_some (M.told medium.old) }
-    ensures bytes { OnOk result (IfSome (M.told medium.new) (λ b. b ≡ archive options.now (shown adds.now))) }
-    ensures places { IfOk result (λ p. p ≡ places_of options.now (shown adds.now)) }
-    ensures shown { IfSome (M.told medium.new) (IsHiddenOr (archive options.now (shown adds.now))) }
+    ensures bytes { OnOk result (IfSome (M.told medium.new) (λ b. b ≡ archive options.now (shown set.now.state.tiles adds.now))) }
+    ensures places { IfOk result (λ p. p ≡ places_of options.now (shown set.now.state.tiles adds.now)) }
+    ensures shown { IfSome (M.told medium.new) (IsHiddenOr (archive options.now (shown set.now.state.tiles adds.now))) }
     ensures causes { WriteCauses (M.faults medium.old) (M.faults medium.new) result }
     ensures faults { M.faults medium.old ≤ M.faults medium.new }
     ensures reads { M.reads medium.new ≡ M.reads medium.old }
     ensures calm { M.steady medium.old → M.steady medium.new × (M.faults medium.new ≡ M.faults medium.old) }
 {
     let mut state = options.start(alloc, medium)?;
-    add_all(&mut state, medium, adds)?;
+    add_all(&mut state, medium, set, adds)?;
     state.finalize(medium)
 }

@@ -1,10 +1,11 @@
 -- One more turn of each loop.
-use Rattle.std.proofs.Common.{◌≡◌, ℕ, ◌+◌, ◌*◌, ◌<◌, ◌≤◌, List, length, slice_index, drop, add-one, drop-cons, refl}
+use Rattle.std.proofs.Common.{◌≡◌, ℕ, ◌+◌, ◌*◌, ◌%◌, ◌<◌, ◌≤◌, List, length, slice_index, drop, add-one, drop-cons, refl}
 use Rattle.std.proofs.lemmas.List.{drop_all}
 use Rattle.tile_hash.specs.Words.{add64, word64}
 use Rattle.tile_hash.specs.Fnv.{byte_hashed, hashed_from}
 use Rattle.tile_hash.specs.Xxh64 as X
 use Rattle.tile_hash.specs.Xxh64.{lanes_after, after_words, after_bytes, word_taken, byte_taken}
+use Rattle.tile_hash.specs.Xxh3Stream.{stripe_taken, taken}
 use Rattle.tile_hash.specs.Xxh3.{pair, pairs, mix, first_mixes, more_mixes, striped, stripes, scrambled, blocks}
 
 -- what the bytes behind the first i make of the hash stays the same
@@ -21,9 +22,9 @@ pub lanes_more : (b : List ℕ) (n : ℕ) → lanes_after b (n + 1) ≡ X.stripe
 unfolding lanes_after
 lanes_more b n = rw add-one refl
 
-pub words_more : (h : ℕ) (b : List ℕ) (at n : ℕ) → after_words h b at (n + 1) ≡ word_taken (after_words h b at n) (word64 b (at + 8 * n))
+pub words_more : (h : ℕ) (b : List ℕ) (n : ℕ) → after_words h b (n + 1) ≡ word_taken (after_words h b n) (word64 b (8 * n))
 unfolding after_words
-words_more h b at n = rw add-one refl
+words_more h b n = rw add-one refl
 
 pub bytes_more : (h : ℕ) (b : List ℕ) (at n : ℕ) → after_bytes h b at (n + 1) ≡ byte_taken (after_bytes h b at n) (slice_index b (at + n))
 unfolding after_bytes
@@ -48,3 +49,7 @@ stripes_more v b at n = rw add-one refl
 pub blocks_more : (b : List ℕ) (n : ℕ) → blocks b (n + 1) ≡ scrambled (stripes (blocks b n) b (1024 * n) 16)
 unfolding blocks
 blocks_more b n = rw add-one refl
+
+pub taken_more : (v b : List ℕ) (at number n : ℕ) → taken v b at number (n + 1) ≡ stripe_taken (taken v b at number n) b (at + 64 * n) ((number + n) % 16)
+unfolding taken
+taken_more v b at number n = rw add-one refl

@@ -1,8 +1,10 @@
 pub mod Digest
 pub mod Fnv
-pub mod Md5Stream
+pub mod HashStream
 pub mod Secret
 pub mod Vectors
 pub mod Words
 pub mod Xxh3
+pub mod Xxh3Stream
 pub mod Xxh64
+pub mod Xxh64Stream

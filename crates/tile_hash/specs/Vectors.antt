@@ -4,7 +4,7 @@ use Rattle.std.specs.List.{range_with_len}
 use Rattle.tile_hash.specs.Words.{rotl, xor_shifted, word32, word64}
 use Rattle.tile_hash.specs.Fnv.{fnv1a, hashed_from}
 use Rattle.tile_hash.specs.Xxh64 as X
-use Rattle.tile_hash.specs.Xxh64.{xxh64, round, merged, joined, converged, lanes_after, begun, word_taken, half_taken, byte_taken, after_words, after_bytes, after_whole_words, after_half, after_all, avalanche}
+use Rattle.tile_hash.specs.Xxh64.{xxh64, round, merged, joined, converged, lanes_after, begun, word_taken, half_taken, byte_taken, after_words, after_bytes, after_whole_words, after_half, after_rest, avalanche}
 use Rattle.tile_hash.specs.Xxh3.{xxh3_64, secret64, finished, folded, mix, of_none, combined, of_three, turned, remixed, keyed, of_eight, low_word, high_word, of_sixteen, of_short, pair, pairs, of_middle, first_mixes, more_mixes, of_upper, halves, lane, striped, stripes, scrambled_lane, scrambled, blocks, all_stripes, all_lanes, lanes_folded, lanes_merged, of_long}
 
 -- the bytes i % 251 for i below n
@@ -16,15 +16,15 @@ unfolding hashed_from
 fnv1a_of_hello = refl
 
 xxh64_of_none : xxh64 [] ≡ 0xEF46DB3751D8E999
-unfolding rotl xor_shifted word32 word64 round merged joined converged X.striped lanes_after begun word_taken half_taken byte_taken after_words after_bytes after_whole_words after_half after_all avalanche xxh64
+unfolding rotl xor_shifted word32 word64 round merged joined converged X.striped lanes_after begun word_taken half_taken byte_taken after_words after_bytes after_whole_words after_half after_rest avalanche xxh64
 xxh64_of_none = refl
 
 xxh64_of_hello : xxh64 (codes "hello") ≡ 0x26C7827D889F6DA3
-unfolding rotl xor_shifted word32 word64 round merged joined converged X.striped lanes_after begun word_taken half_taken byte_taken after_words after_bytes after_whole_words after_half after_all avalanche xxh64
+unfolding rotl xor_shifted word32 word64 round merged joined converged X.striped lanes_after begun word_taken half_taken byte_taken after_words after_bytes after_whole_words after_half after_rest avalanche xxh64
 xxh64_of_hello = refl
 
 xxh64_of_79 : xxh64 (counted 79) ≡ 0x5306130D1BA4B651
-unfolding rotl xor_shifted word32 word64 round merged joined converged X.striped lanes_after begun word_taken half_taken byte_taken after_words after_bytes after_whole_words after_half after_all avalanche xxh64
+unfolding rotl xor_shifted word32 word64 round merged joined converged X.striped lanes_after begun word_taken half_taken byte_taken after_words after_bytes after_whole_words after_half after_rest avalanche xxh64
 xxh64_of_79 = refl
 
 xxh3_of_none : xxh3_64 [] ≡ 0x2D06800538D394C2

@@ -3,18 +3,18 @@
 
 mod algorithm;
 mod fnv;
+mod hash_stream;
 mod hash_text;
 pub mod laws;
 mod md5_hex;
-mod md5_stream;
 mod words;
 mod xxh3;
 mod xxh_64;
 
 pub use algorithm::HashAlgorithm;
 pub use fnv::fnv1a;
+pub use hash_stream::HashStream;
 pub use hash_text::HashText;
 pub use md5_hex::md5_text;
-pub use md5_stream::Md5Stream;
 pub use xxh_64::xxh64;
 pub use xxh3::xxh3_64;

@@ -7,10 +7,12 @@ mod middle;
 mod mixing;
 mod secret;
 mod short;
+mod stream;
 
 use long::of_long;
 use middle::{of_middle, of_upper};
 use short::of_short;
+pub(crate) use stream::Xxh3Stream;
 
 /// The XXH3 hash of these bytes with 64 bits and seed 0 (the xxHash specification).
 #[tactic(auto, unfolding(crate::specs::Xxh3::xxh3_64))]

@@ -1,10 +1,13 @@
 // XXH64 with seed 0, a stripe of 32 bytes at a time.
 ghost use Rattle.std.specs.Prelude.{◌≡◌, ◌+◌, ◌/◌, ◌≤◌, length};
-ghost use Rattle.tile_hash.specs.Xxh64.{round, striped, lanes_after, merged, converged, begun, word_taken, half_taken, byte_taken, after_whole_words, after_half, after_all, avalanche, xxh64};
+ghost use Rattle.tile_hash.specs.Xxh64.{round, striped, lanes_after, merged, converged, begun, word_taken, half_taken, byte_taken, after_whole_words, after_half, after_rest, avalanche, xxh64};
+
+mod stream;
 
 use crate::words::{
     PRIME64_1, PRIME64_2, PRIME64_3, PRIME64_4, PRIME64_5, rotl, word32, word64, xor_shifted,
 };
+pub(crate) use stream::Xxh64Stream;
 
 const FIRST_LANES: [u64; 4] = [
     PRIME64_1.wrapping_add(PRIME64_2),
@@ -70,17 +73,13 @@ fn converged(v: [u64; 4]) -> u64
     merged(merged(merged(merged(joined, v[0]), v[1]), v[2]), v[3])
 }
 
-// The hash after all whole stripes, with the length added.
+// The hash of these lanes with the length added, or of fewer than 32 bytes.
 #[tactic(auto, unfolding(crate::specs::Xxh64::begun))]
-fn begun(bytes: &[u8]) -> u64
-    ensures { result ≡ begun bytes.now }
+fn begun(v: [u64; 4], is_short: bool, length: u64) -> u64
+    ensures { result ≡ begun v is_short length }
 {
-    let hash = if bytes.len() < 32 {
-        PRIME64_5
-    } else {
-        converged(lanes(bytes))
-    };
-    hash.wrapping_add(bytes.len() as u64)
+    let hash = if is_short { PRIME64_5 } else { converged(v) };
+    hash.wrapping_add(length)
 }
 
 #[inline(always)]
@@ -111,40 +110,39 @@ fn byte_taken(hash: u64, byte: u64) -> u64
     rotl(hash ^ byte.wrapping_mul(PRIME64_5), 11).wrapping_mul(PRIME64_1)
 }
 
-// The hash after the whole words of 8 bytes behind the stripes.
+// The hash after the whole words of 8 bytes of what is behind the stripes.
 #[tactic(auto, using(crate::proofs::StepLemmas::words_more), unfolding(crate::specs::Xxh64::after_whole_words, crate::specs::Xxh64::after_words))]
-fn after_whole_words(bytes: &[u8]) -> u64
-    ensures { result ≡ after_whole_words bytes.now }
+fn after_whole_words(begun: u64, rest: &[u8]) -> u64
+    ensures { result ≡ after_whole_words begun rest.now }
 {
-    let mut hash = begun(bytes);
-    let at = 32 * (bytes.len() / 32);
-    for i in 0..bytes.len() % 32 / 8 {
-        hash = word_taken(hash, word64(bytes, at + 8 * i));
+    let mut hash = begun;
+    for i in 0..rest.len() / 8 {
+        hash = word_taken(hash, word64(rest, 8 * i));
     }
     hash
 }
 
 // The hash after one word of 4 bytes more, if four bytes are left.
 #[tactic(auto, unfolding(crate::specs::Xxh64::after_half))]
-fn after_half(bytes: &[u8]) -> u64
-    ensures { result ≡ after_half bytes.now }
+fn after_half(begun: u64, rest: &[u8]) -> u64
+    ensures { result ≡ after_half begun rest.now }
 {
-    let hash = after_whole_words(bytes);
-    if bytes.len() % 8 < 4 {
+    let hash = after_whole_words(begun, rest);
+    if rest.len() % 8 < 4 {
         return hash;
     }
-    half_taken(hash, u64::from(word32(bytes, 8 * (bytes.len() / 8))))
+    half_taken(hash, u64::from(word32(rest, 8 * (rest.len() / 8))))
 }
 
 // The hash after the bytes that are left.
-#[tactic(auto, using(crate::proofs::StepLemmas::bytes_more), unfolding(crate::specs::Xxh64::after_all, crate::specs::Xxh64::after_bytes))]
-fn after_all(bytes: &[u8]) -> u64
-    ensures { result ≡ after_all bytes.now }
+#[tactic(auto, using(crate::proofs::StepLemmas::bytes_more), unfolding(crate::specs::Xxh64::after_rest, crate::specs::Xxh64::after_bytes))]
+fn after_rest(begun: u64, rest: &[u8]) -> u64
+    ensures { result ≡ after_rest begun rest.now }
 {
-    let mut hash = after_half(bytes);
-    let at = 4 * (bytes.len() / 4);
-    for i in 0..bytes.len() % 4 {
-        hash = byte_taken(hash, u64::from(bytes[at + i]));
+    let mut hash = after_half(begun, rest);
+    let at = 4 * (rest.len() / 4);
+    for i in 0..rest.len() % 4 {
+        hash = byte_taken(hash, u64::from(rest[at + i]));
     }
     hash
 }
@@ -164,5 +162,6 @@ pub(crate) fn avalanche(hash: u64) -> u64
 pub fn xxh64(bytes: &[u8]) -> u64
     ensures { result ≡ xxh64 bytes.now }
 {
-    avalanche(after_all(bytes))
+    let hash = begun(lanes(bytes), bytes.len() < 32, bytes.len() as u64);
+    avalanche(after_rest(hash, &bytes[32 * (bytes.len() / 32)..]))
 }

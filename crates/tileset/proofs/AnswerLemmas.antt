@@ -3,10 +3,9 @@ use Rattle.std.proofs.Common.{◌≡◌, ◌≤◌, ◌<◌, ◌⊎◌, ℕ, inl
 use Rattle.std.specs.Result.{IsErrAnd}
 use Rattle.std.proofs.lemmas.Bool.Decides.{nat_tests}
 use Rattle.pm_format.specs.declared.compression.Compression.TheVariants as compression
-use Rattle.tile_bridge.specs.Convert.{overflows}
-use Rattle.tile_bridge.specs.declared.error.ConvertError.TheVariants.{IndexEntryOverflow}
-use Rattle.tileset.specs.Run.{Given, Gives, IsScript, IsScriptOf, IsShort, IsTold, IsValid, LoadCauses, ScriptCauses, Spells, TellsScript, Yields, answer, answer_command, answer_input, answer_label, answer_script, outcome_of}
-use Rattle.tileset_script.specs.Script.{Script, script_of, script_tiles}
+use Rattle.mb_load.specs.State.{State}
+use Rattle.tileset.specs.Run.{Given, Gives, IsScript, IsScriptOf, IsShort, IsTold, IsValid, LoadCauses, ScriptCauses, Spells, TellsScript, Yields, answer, answer_command, answer_input, answer_label, answer_script, answer_set, converted, outcome_of}
+use Rattle.tileset_script.specs.Script.{Script, script_of}
 use Rattle.tileset_script.specs.Words.{command}
 use Rattle.tileset.specs.declared.input.TheConstants.{MAX_INPUT}
 use Rattle.tileset.specs.declared.outcome.Outcome.{Outcome}
@@ -37,7 +36,7 @@ input_answer (Some bytes) medium s o short spells h = subst (λ w. Gives w o) (s
 script_answer : (asked : Command) (input medium : Option (List ℕ)) (s : Script) (o : Outcome) → IsScriptOf asked input s → Gives (answer_script (Ok s) medium) o → Gives (answer_command (Some asked) input medium) o
 script_answer ConvertHex input medium s o is h = input_answer input medium s o is.0 is.1 h
 script_answer ConvertFile input medium s o is h = input_answer input medium s o is.0 is.1 h
-script_answer (Bulk tiles repeat) input medium s o is h = subst (λ t. Gives (answer_script (Ok t) medium) o) is h
+script_answer (Bulk tiles repeat leaf) input medium s o is h = subst (λ t. Gives (answer_script (Ok t) medium) o) is h
 
 -- the answer on words that are a command
 asked_answer : (given : Given) (asked : Command) (o : Outcome) → command given.words ≡ Some asked → Gives (answer_command (Some asked) given.input given.medium) o → Gives (answer given) o
@@ -68,16 +67,16 @@ load_answer (Some bytes) medium (ReadBack e) c = absurd c
 unread_answer : (asked : Command) (input medium : Option (List ℕ)) (e : Outcome) → ScriptCauses asked input e → Gives (answer_command (Some asked) input medium) e
 unread_answer ConvertHex input medium e c = load_answer input medium e c
 unread_answer ConvertFile input medium e c = load_answer input medium e c
-unread_answer (Bulk tiles repeat) input medium e c =
-    subst (Gives (answer_command (Some (Bulk tiles repeat)) input medium)) (sym c) (yields (answer_command (Some (Bulk tiles repeat)) input medium) OutOfMemory tt)
+unread_answer (Bulk tiles repeat leaf) input medium e c =
+    subst (Gives (answer_command (Some (Bulk tiles repeat leaf)) input medium)) (sym c) (yields (answer_command (Some (Bulk tiles repeat leaf)) input medium) OutOfMemory tt)
 
 pub exact_unread : (given : Given) (asked : Command) (e : Outcome) (r : Result Unit Outcome) → command given.words ≡ Some asked → ScriptCauses asked given.input e → IsErrAnd r (λ x. x ≡ e) → Gives (answer given) (outcome_of r)
 exact_unread given asked e r words c ended =
     subst (Gives (answer given)) (sym (err_outcome r e ended)) (asked_answer given asked e words (unread_answer asked given.input given.medium e c))
 
 -- where all is valid
-plain_answer : (s : Script) → s.options.internal_compression ≡ compression.None → overflows (script_tiles s) ≡ false → answer_script (Ok s) (Some []) ≡ Some Done
-plain_answer s plain fits = ap Some (ap (answer_label s) plain ∙ ap (λ b. if b then Refused IndexEntryOverflow else Done) fits)
+plain_answer : (s : Script) (final : State) → s.options.writer.internal_compression ≡ compression.None → converted s ≡ Ok final → answer_script (Ok s) (Some []) ≡ Some Done
+plain_answer s final plain set = ap Some (ap (answer_label s) plain ∙ ap answer_set set)
 
 told_answer : (input : Option (List ℕ)) (s : Script) → TellsScript input s → answer_script (Ok s) (Some []) ≡ Some Done → answer_input input (Some []) ≡ Some Done
 told_answer None s is h = absurd is
@@ -86,7 +85,7 @@ told_answer (Some bytes) s is h = read_answer bytes (Some []) (Ok s) is.0 is.1 �
 valid_answer : (asked : Command) (input : Option (List ℕ)) (s : Script) → IsTold asked input s → answer_script (Ok s) (Some []) ≡ Some Done → answer_command (Some asked) input (Some []) ≡ Some Done
 valid_answer ConvertHex input s is h = told_answer input s is h
 valid_answer ConvertFile input s is h = told_answer input s is h
-valid_answer (Bulk tiles repeat) input s is h = ap (λ t. answer_script (Ok t) (Some [])) (sym is) ∙ h
+valid_answer (Bulk tiles repeat leaf) input s is h = ap (λ t. answer_script (Ok t) (Some [])) (sym is) ∙ h
 
 unyielding : (o : Outcome) → Yields o → (o ≡ InputFault → ⊥) → (o ≡ OutputFault → ⊥) → (o ≡ MediumFault → ⊥) → (o ≡ Done) ⊎ (o ≡ OutOfMemory)
 unyielding OutOfMemory y input output medium = inr refl
@@ -100,7 +99,7 @@ complete_by given s o is h input output medium = go (subst (λ w. Gives w o) fou
   where
     found : answer given ≡ Some Done
     found = ap (λ c. answer_command c given.input given.medium) is.words
-        ∙ (ap (answer_command (Some is.asked) given.input) is.empty ∙ valid_answer is.asked given.input s is.script (plain_answer s is.plain is.fits))
+        ∙ (ap (answer_command (Some is.asked) given.input) is.empty ∙ valid_answer is.asked given.input s is.script (plain_answer s is.final is.plain is.set))
 
     go : (o ≡ Done) ⊎ Yields o → (o ≡ Done) ⊎ (o ≡ OutOfMemory)
     go (inl e) = inl e

@@ -1,3 +1,4 @@
+pub mod ConvertingLemmas
 pub mod AnswerLemmas
 pub mod DumpLemmas
 pub mod HexDumpLemmas

@@ -1,5 +1,5 @@
 -- The report, from what a conversion answers.
-use Rattle.std.proofs.Common.{◌≡◌, ℕ, zero, suc, ◌≤◌, min, List, [], ◌∷◌, ◌++◌, length, drop, map, flat_map, Option, Some, None, Result, Ok, Err, IfErr, IfSome, IsErrOf, OnOk, subst, refl, sym, ◌∙◌, ap, arith, append-nil}
+use Rattle.std.proofs.Common.{◌≡◌, ℕ, zero, suc, ◌≤◌, min, Bool, is_some, List, [], ◌∷◌, ◌++◌, length, drop, map, flat_map, Option, Some, None, Result, Ok, Err, IfErr, IfSome, IsErrOf, OnOk, subst, refl, sym, ◌∙◌, ap, arith, append-nil}
 use Rattle.std.proofs.lemmas.List.{drop_all}
 use Rattle.tile_ids.specs.Coord.{Coord}
 use Rattle.tile_ids.specs.Hilbert.{id_of}
@@ -11,13 +11,14 @@ use Rattle.pm_writer.specs.declared.places.ArchivePlaces.{ArchivePlaces}
 use Rattle.tile_bridge.specs.declared.report.ConvertReport.{ConvertReport}
 use Rattle.tileset.specs.Dump.{HasLength}
 use Rattle.tileset.specs.HexDump.{hex_dump}
-use Rattle.tileset.specs.Report.{file_text, number_lines, query_lines, query_line, report_text, summary_lines}
+use Rattle.tileset.specs.Places.{places_text}
+use Rattle.tileset.specs.Report.{bulk_text, file_text, number_lines, query_lines, query_line, report_text, summary_lines}
 use Rattle.tileset.specs.Run.{IsReported, LinesCauses, ReportCauses, command_text}
 use Rattle.tileset.specs.declared.outcome.Outcome.{Outcome}
 use Rattle.tileset.specs.declared.outcome.Outcome.TheVariants as outcomes
 use Rattle.tileset.specs.Streams.{Gains, GainsFront}
 use Rattle.tileset_script.specs.declared.words.Command.{Command}
-use Rattle.tileset_script.specs.declared.words.Command.TheVariants.{ConvertFile}
+use Rattle.tileset_script.specs.declared.words.Command.TheVariants.{Bulk, ConvertFile}
 use Rattle.tileset.specs.Summary.{answer_lines, summary}
 use Rattle.tileset.proofs.DumpLemmas.{front_longer, front_more}
 use Rattle.tileset.proofs.StreamsLemmas.{Gains-more}
@@ -86,14 +87,23 @@ file_front asked old new None queries r file is p = tt
 file_front asked old new (Some b) queries r file is p =
     subst (λ a. GainsFront old new (command_text a queries r.aggregate b)) (sym file) (subst (GainsFront old new) (sym (summary_is queries r b is)) p)
 
+-- the text of two numbers has the places
+pub bulk_front : (asked : Command) (tiles repeat : ℕ) (leaf : Option ℕ) (uppers : Bool) (old new told : Option (List ℕ)) (queries : List Coord) (r : ConvertReport) → asked ≡ Bulk tiles repeat leaf → uppers ≡ is_some leaf → IfSome told (IsReported queries r)
+    → GainsFront old new (places_text uppers r.places) → IfSome told (λ b. GainsFront old new (command_text asked queries r.aggregate b))
+bulk_front asked tiles repeat leaf uppers old new None queries r bulk wanted is p = tt
+bulk_front asked tiles repeat leaf uppers old new (Some b) queries r bulk wanted is p =
+    let text : places_text uppers r.places ≡ command_text asked queries r.aggregate b =
+    ap (λ u. places_text u r.places) wanted ∙ (ap (bulk_text (is_some leaf)) (sym is.places) ∙ ap (λ a. command_text a queries r.aggregate b) (sym bulk)) in
+    subst (GainsFront old new) text p
+
 -- places that are read have the length of the bytes
-length_read : (n : ℕ) (o : Result Opened PmtError) (p : ArchivePlaces) → places_opened n o ≡ Some p → p.length ≡ n
-length_read n (Err e) p is = absurd (cc)
-length_read n (Ok o) p is = cc
+length_read : (b : List ℕ) (o : Result Opened PmtError) (p : ArchivePlaces) → places_opened b o ≡ Some p → p.length ≡ length b
+length_read b (Err e) p is = absurd (cc)
+length_read b (Ok o) p is = cc
 
 pub reported_length : (told : Option (List ℕ)) (queries : List Coord) (r : ConvertReport) → IfSome told (IsReported queries r) → IfSome told (HasLength r.places.length)
 reported_length None queries r is = tt
-reported_length (Some b) queries r is = length_read (length b) (opened b) r.places is.places
+reported_length (Some b) queries r is = length_read b (opened b) r.places is.places
 
 -- writing such lines ends as a report may
 pub lines_end : (told : Option (List ℕ)) (r : Result Unit Outcome) → IfErr r LinesCauses → IfErr r (ReportCauses told)

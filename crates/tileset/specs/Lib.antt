@@ -1,3 +1,4 @@
+pub mod Converting
 pub mod Dump
 pub mod HexDump
 pub mod Input
@@ -6,6 +7,7 @@ pub mod MemSource
 pub mod OutcomeText
 pub mod Outcomes
 pub mod Places
+pub mod RefusalText
 pub mod Report
 pub mod Run
 pub mod Streams

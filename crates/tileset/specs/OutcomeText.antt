@@ -3,10 +3,11 @@ use Rattle.std.specs.Prelude.{◌≡◌, ℕ, ◌++◌, List, [], codes, refl}
 use Rattle.std.specs.Fmt.{decimal}
 use Rattle.pm_format.specs.declared.compression.Compression.{Compression}
 use Rattle.pm_format.specs.declared.compression.Compression.TheVariants as compression
-use Rattle.pm_format.specs.declared.error.PmtError.{PmtError}
+use Rattle.pm_format.specs.ErrorName.{error_name}
 use Rattle.pm_format.specs.declared.error.PmtError.TheVariants as errors
 use Rattle.tile_bridge.specs.declared.error.ConvertError.{ConvertError}
 use Rattle.tile_bridge.specs.declared.error.ConvertError.TheVariants as convert
+use Rattle.tileset.specs.RefusalText.{store_text}
 use Rattle.tileset.specs.declared.outcome.Outcome.{Outcome}
 use Rattle.tileset.specs.declared.outcome.Outcome.TheVariants.{Done, Refused, Usage, BadScript, InputFault, OutputFault, MediumFault, OutOfMemory, InputTooLong, ReadBack}
 
@@ -22,28 +23,6 @@ status OutOfMemory = 7
 status InputTooLong = 8
 status (ReadBack e) = 9
 
--- an error of archives by its name alone
-abbrev pub error_name : PmtError → List ℕ
-error_name (errors.InvalidCoordinate z x y) = codes "InvalidCoordinate"
-error_name (errors.InvalidTileId id) = codes "InvalidTileId"
-error_name errors.InvalidEntry = codes "InvalidEntry"
-error_name errors.InvalidHeader = codes "InvalidHeader"
-error_name errors.InvalidMagicNumber = codes "InvalidMagicNumber"
-error_name errors.UnsupportedPmTilesVersion = codes "UnsupportedPmTilesVersion"
-error_name errors.InvalidCompression = codes "InvalidCompression"
-error_name errors.InvalidTileType = codes "InvalidTileType"
-error_name (errors.UnsupportedCompression c) = codes "UnsupportedCompression"
-error_name errors.IndexEntryOverflow = codes "IndexEntryOverflow"
-error_name (errors.Reading cause) = codes "Reading"
-error_name errors.Failed = codes "Failed"
-error_name (errors.OverlappingEntries id) = codes "OverlappingEntries"
-error_name (errors.UnexpectedNumberOfBytesReturned asked got) = codes "UnexpectedNumberOfBytesReturned"
-error_name (errors.SourceModified opened read) = codes "SourceModified"
-error_name errors.InvalidMetadata = codes "InvalidMetadata"
-error_name errors.InvalidMetadataUtf8Encoding = codes "InvalidMetadataUtf8Encoding"
-error_name errors.BudgetSpent = codes "BudgetSpent"
-error_name errors.OutOfMemory = codes "OutOfMemory"
-
 -- a label as a script says it
 abbrev pub label_name : Compression → List ℕ
 label_name compression.Unknown = codes "unknown"
@@ -55,7 +34,9 @@ label_name compression.Zstd = codes "zstd"
 abbrev pub refusal : ConvertError → List ℕ
 refusal (convert.MediumNotEmpty n) = codes "medium not empty " ++ decimal n
 refusal (convert.UnsupportedCompression label) = codes "unsupported compression " ++ label_name label
+refusal (convert.Store place e) = codes "store " ++ (decimal place ++ (codes " " ++ store_text e))
 refusal convert.IndexEntryOverflow = codes "IndexEntryOverflow"
+refusal (convert.StoreFault place) = codes "StoreFault " ++ decimal place
 refusal convert.MediumFault = codes "MediumFault"
 refusal (convert.ReadBack e) = codes "ReadBack"
 refusal convert.OutOfMemory = codes "OutOfMemory"
@@ -63,7 +44,7 @@ refusal convert.OutOfMemory = codes "OutOfMemory"
 abbrev pub line : Outcome → List ℕ
 line Done = []
 line (Refused e) = codes "refused: " ++ (refusal e ++ codes "\n")
-line Usage = codes "usage: tileset convert hex | convert file PATH | bulk N K\n"
+line Usage = codes "usage: tileset convert hex | convert file PATH | bulk N K [L]\n"
 line (BadScript n) = codes "bad script: line " ++ (decimal n ++ codes "\n")
 line InputFault = codes "input fault\n"
 line OutputFault = codes "output fault\n"

@@ -17,7 +17,9 @@ use Rattle.tileset.specs.declared.outcome.Outcome.TheVariants.{Refused, BadScrip
 abbrev pub of_convert : ConvertError → Outcome
 of_convert (convert.MediumNotEmpty length) = Refused (convert.MediumNotEmpty length)
 of_convert (convert.UnsupportedCompression label) = Refused (convert.UnsupportedCompression label)
+of_convert (convert.Store place e) = Refused (convert.Store place e)
 of_convert convert.IndexEntryOverflow = Refused convert.IndexEntryOverflow
+of_convert (convert.StoreFault place) = Refused (convert.StoreFault place)
 of_convert convert.MediumFault = MediumFault
 of_convert (convert.ReadBack e) = ReadBack e
 of_convert convert.OutOfMemory = OutOfMemory

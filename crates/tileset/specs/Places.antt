@@ -1,5 +1,5 @@
 -- The lines of the command bulk.
-use Rattle.std.specs.Prelude.{ℕ, ◌++◌, List, [], codes}
+use Rattle.std.specs.Prelude.{ℕ, Bool, true, false, ◌++◌, List, [], codes}
 use Rattle.std.specs.Fmt.{decimal}
 use Rattle.pm_writer.specs.declared.places.ArchivePlaces.{ArchivePlaces}
 
@@ -15,17 +15,23 @@ count_lines p =
     (number_line (codes "contents") p.contents
     (number_line (codes "length") p.length [])))
 
+-- the number of upper directories, where that is wanted, before further lines
+abbrev pub upper_line : Bool → ℕ → List ℕ → List ℕ
+upper_line true number lines = number_line (codes "uppers") number lines
+upper_line false number lines = lines
+
 -- its directories
-abbrev pub directory_lines : ArchivePlaces → List ℕ
-directory_lines p =
+abbrev pub directory_lines : Bool → ArchivePlaces → List ℕ
+directory_lines uppers p =
     number_line (codes "root") p.root_length
     (number_line (codes "leaves") p.leaves
+    (upper_line uppers p.uppers
     (number_line (codes "leaf-offset") p.leaf_offset
-    (number_line (codes "leaf-length") p.leaf_length [])))
+    (number_line (codes "leaf-length") p.leaf_length []))))
 
 -- the contents of its tiles
 abbrev pub data_lines : ArchivePlaces → List ℕ
 data_lines p = number_line (codes "data-offset") p.data_offset (number_line (codes "data-length") p.data_length [])
 
-abbrev pub places_text : ArchivePlaces → List ℕ
-places_text p = count_lines p ++ directory_lines p ++ data_lines p
+abbrev pub places_text : Bool → ArchivePlaces → List ℕ
+places_text uppers p = count_lines p ++ directory_lines uppers p ++ data_lines p

@@ -1,5 +1,5 @@
 -- The text that is written on the way to Done.
-use Rattle.std.specs.Prelude.{ℕ, ◌++◌, List, [], flat_map, Option, Some, None, codes}
+use Rattle.std.specs.Prelude.{ℕ, Bool, ◌++◌, List, [], flat_map, Option, Some, None, codes}
 use Rattle.std.specs.Fmt.{decimal}
 use Rattle.hex.specs.Hex.{encode_lower}
 use Rattle.tile_ids.specs.Coord.{Coord}
@@ -41,7 +41,7 @@ file_text queries aggregate b = query_lines b queries ++ summary_lines aggregate
 unfoldable pub report_text : List Coord → List ℕ → List ℕ → List ℕ
 report_text queries aggregate b = file_text queries aggregate b ++ hex_dump 0 b
 
--- the text of an archive that is made from two numbers
-abbrev pub bulk_text : Option ArchivePlaces → List ℕ
-bulk_text None = []
-bulk_text (Some p) = places_text p
+-- the text of an archive that is made from two numbers, with the number of upper directories where that is wanted
+abbrev pub bulk_text : Bool → Option ArchivePlaces → List ℕ
+bulk_text uppers None = []
+bulk_text uppers (Some p) = places_text uppers p

@@ -1,13 +1,16 @@
 -- What a run answers, and what it leaves.
-use Rattle.std.specs.Prelude.{ℕ, ◌≡◌, ◌≢◌, ◌+◌, ◌-◌, ◌^◌, ◌≤◌, ◌<◌, ◌⊎◌, true, false, List, [], ◌∷◌, length, map, nat_lt, if◌then◌else◌, Option, Some, None, Result, Ok, Err, IfSome}
+use Rattle.std.specs.Prelude.{ℕ, ◌≡◌, ◌≢◌, ◌+◌, ◌-◌, ◌^◌, ◌≤◌, ◌<◌, ◌⊎◌, false, List, [], ◌∷◌, length, map, nat_lt, if◌then◌else◌, Option, Some, None, is_some, Result, Ok, Err, IfSome, IsOk}
 use Rattle.tile_ids.specs.Coord.{Coord}
 use Rattle.tile_ids.specs.Hilbert.{id_of}
 use Rattle.pm_format.specs.declared.compression.Compression.{Compression}
 use Rattle.pm_format.specs.declared.compression.Compression.TheVariants as compression
 use Rattle.pm_format.specs.LookUp.{archive_map}
 use Rattle.pm_writer.specs.Places.{places_read}
-use Rattle.tile_bridge.specs.Aggregate.{aggregate}
-use Rattle.tile_bridge.specs.Convert.{BothTold, IsArchiveOf, IsEmpty, LeavesPart, overflows}
+use Rattle.mb_load.specs.Refusals.{is_free}
+use Rattle.mb_load.specs.State.{State}
+use Rattle.mb_load.specs.Aggregate.{aggregate}
+use Rattle.tile_bridge.specs.Convert.{BothTold, IsArchiveOf, IsEmpty, IsPlain, LeavesPart}
+use Rattle.tile_bridge.specs.Outcome.{outcome}
 use Rattle.tile_bridge.specs.ReadingBack.{IsReadBack}
 use Rattle.tile_bridge.specs.declared.error.ConvertError.{ConvertError}
 use Rattle.tile_bridge.specs.declared.error.ConvertError.TheVariants as refusals
@@ -15,7 +18,7 @@ use Rattle.tile_bridge.specs.declared.report.ConvertReport.{ConvertReport}
 use Rattle.tileset_script.specs.Bulk.{bulk_script}
 use Rattle.tileset.specs.Dump.{IsOtherRange}
 use Rattle.tileset.specs.Report.{bulk_text, file_text, report_text}
-use Rattle.tileset_script.specs.Script.{Script, script_of, script_tiles}
+use Rattle.tileset_script.specs.Script.{Script, script_of}
 use Rattle.tileset.specs.Streams.{Gains, GainsFront, IsAtEnd}
 use Rattle.tileset_script.specs.Words.{command}
 use Rattle.tileset.specs.declared.input.TheConstants.{MAX_INPUT}
@@ -42,7 +45,7 @@ Spells input s = IfSome input (λ bytes. script_of bytes ≡ Ok s)
 abbrev pub IsScriptOf : Command → Option (List ℕ) → Script → Type 0
 IsScriptOf ConvertHex input s = IsShort input × Spells input s
 IsScriptOf ConvertFile input s = IsShort input × Spells input s
-IsScriptOf (Bulk tiles repeat) input s = s ≡ bulk_script tiles repeat
+IsScriptOf (Bulk tiles repeat leaf) input s = s ≡ bulk_script tiles repeat leaf
 
 -- the words are a command, and this is its script
 pub record IsScript (given : Given) (s : Script) : Type 0 where
@@ -50,14 +53,22 @@ pub record IsScript (given : Given) (s : Script) : Type 0 where
   pub words : command given.words ≡ Some asked
   pub script : IsScriptOf asked given.input s
 
+-- what the set of a script comes to: the state that is converted, or the first refusal
+abbrev pub converted : Script → Result State ConvertError
+converted s = outcome s.base s.patches s.options.force s.options.verify
+
 -- The answer, in the order of the tests: words, input, script, medium, label of directories, set. None where what decides it isn't told.
+abbrev pub answer_set : Result State ConvertError → Outcome
+answer_set (Ok final) = Done
+answer_set (Err e) = Refused e
+
 abbrev pub answer_label : Script → Compression → Outcome
-answer_label s compression.None = if overflows (script_tiles s) then Refused refusals.IndexEntryOverflow else Done
+answer_label s compression.None = answer_set (converted s)
 answer_label s label = Refused (refusals.UnsupportedCompression label)
 
 abbrev pub answer_medium : Script → List ℕ → Outcome
 answer_medium s (byte ∷ bytes) = Refused (refusals.MediumNotEmpty (length (byte ∷ bytes)))
-answer_medium s [] = answer_label s s.options.internal_compression
+answer_medium s [] = answer_label s s.options.writer.internal_compression
 
 abbrev pub answer_script : Result Script ℕ → Option (List ℕ) → Option Outcome
 answer_script (Err line) medium = Some (BadScript line)
@@ -72,7 +83,7 @@ abbrev pub answer_command : Option Command → Option (List ℕ) → Option (Lis
 answer_command None input medium = Some Usage
 answer_command (Some ConvertHex) input medium = answer_input input medium
 answer_command (Some ConvertFile) input medium = answer_input input medium
-answer_command (Some (Bulk tiles repeat)) input medium = answer_script (Ok (bulk_script tiles repeat)) medium
+answer_command (Some (Bulk tiles repeat leaf)) input medium = answer_script (Ok (bulk_script tiles repeat leaf)) medium
 
 abbrev pub answer : Given → Option Outcome
 answer given = answer_command (command given.words) given.input given.medium
@@ -98,33 +109,36 @@ TellsScript (Some bytes) s = (length bytes ≤ MAX_INPUT) × (script_of bytes �
 abbrev pub IsTold : Command → Option (List ℕ) → Script → Type 0
 IsTold ConvertHex input s = TellsScript input s
 IsTold ConvertFile input s = TellsScript input s
-IsTold (Bulk tiles repeat) input s = s ≡ bulk_script tiles repeat
+IsTold (Bulk tiles repeat leaf) input s = s ≡ bulk_script tiles repeat leaf
 
 -- the words are a command whose script is told, its directories are plain, its set can be converted, and the medium is empty
 pub record IsValid (given : Given) (s : Script) : Type 0 where
   pub asked : Command
   pub words : command given.words ≡ Some asked
   pub script : IsTold asked given.input s
-  pub plain : s.options.internal_compression ≡ compression.None
-  pub fits : overflows (script_tiles s) ≡ false
+  pub plain : IsPlain s.options.writer
+  pub final : State
+  pub set : converted s ≡ Ok final
   pub empty : given.medium ≡ Some []
 
 -- a script of the command with this property
 abbrev pub SomeScript : Given → (Script → Type 0) → Type 0
 SomeScript given P = (s : Script) × IsScript given s × P s
 
--- When each refusal of a script's conversion comes; never another of its errors.
+-- When each refusal of a script's conversion comes; never another of its errors. The refusal of a store is none of a fault or of want of memory.
 abbrev pub RefusedBy : Script → Option (List ℕ) → ConvertError → Type 0
 RefusedBy s medium (refusals.MediumNotEmpty n) = (0 < n) × IfSome medium (λ bytes. n ≡ length bytes)
-RefusedBy s medium (refusals.UnsupportedCompression label) = IsEmpty medium × (label ≡ s.options.internal_compression) × (s.options.internal_compression ≢ compression.None)
-RefusedBy s medium refusals.IndexEntryOverflow = IsEmpty medium × (s.options.internal_compression ≡ compression.None) × (overflows (script_tiles s) ≡ true)
+RefusedBy s medium (refusals.UnsupportedCompression label) = IsEmpty medium × (label ≡ s.options.writer.internal_compression) × (label ≢ compression.None)
+RefusedBy s medium (refusals.Store place e) = IsEmpty medium × IsPlain s.options.writer × (converted s ≡ Err (refusals.Store place e)) × (is_free e ≡ false)
+RefusedBy s medium refusals.IndexEntryOverflow = IsEmpty medium × IsPlain s.options.writer × (converted s ≡ Err refusals.IndexEntryOverflow)
+RefusedBy s medium (refusals.StoreFault place) = ⊥
 RefusedBy s medium refusals.MediumFault = ⊥
 RefusedBy s medium (refusals.ReadBack e) = ⊥
 RefusedBy s medium refusals.OutOfMemory = ⊥
 
--- the script can be converted: the medium is empty, where it tells, directories are plain, and the set fits
+-- the script can be converted: the medium is empty, where it tells, directories are plain, and the set comes to a state
 abbrev pub IsConvertible : Script → Option (List ℕ) → Type 0
-IsConvertible s medium = IsEmpty medium × (s.options.internal_compression ≡ compression.None) × (overflows (script_tiles s) ≡ false)
+IsConvertible s medium = IsEmpty medium × IsPlain s.options.writer × IsOk (converted s)
 
 -- When each answer on a script comes.
 abbrev pub AnsweredBy : Script → Option (List ℕ) → Outcome → Type 0
@@ -140,7 +154,7 @@ AnsweredBy s medium _ = ⊥
 abbrev pub ReadsInput : Option Command → Type 0
 ReadsInput (Some ConvertHex) = Unit {0}
 ReadsInput (Some ConvertFile) = Unit {0}
-ReadsInput (Some (Bulk tiles repeat)) = ⊥
+ReadsInput (Some (Bulk tiles repeat leaf)) = ⊥
 ReadsInput None = ⊥
 
 -- When each answer comes. The faults have their causes by the counts, and want of memory is free.
@@ -161,14 +175,18 @@ abbrev pub Taken : ℕ → ℕ → Outcome → Type 0
 Taken before now InputTooLong = now < 2 ^ 64 - 1 → before + MAX_INPUT < now
 Taken before now _ = now ≤ before + MAX_INPUT
 
--- What the medium holds in the end, where there is a script. After Done and after a fault of the sink it is the archive of the script: well formed,
--- with the script's options, and with exactly the tiles of the script's base of at least one byte, each under its id. After a fault of the medium and
--- want of memory a medium that was empty shows no part: no reader opens its bytes, or the whole archive stands.
+-- the medium holds the archive of the script: well formed, with the script's options, and with exactly the tiles of at least one byte that the base has after its
+-- patches, each under its id
+abbrev pub HoldsArchive : Script → Option (List ℕ) → Option (List ℕ) → Type 0
+HoldsArchive s old new = BothTold old new (λ before b. (final : State) × (converted s ≡ Ok final) × IsArchiveOf b s.options.writer final.tiles)
+
+-- What the medium holds in the end, where there is a script. After Done and after a fault of the sink it is the archive of the script. After a fault of the
+-- medium and want of memory a medium that was empty shows no part: no reader opens its bytes, or the whole archive stands.
 abbrev pub LeftBy : Script → Option (List ℕ) → Option (List ℕ) → Outcome → Type 0
-LeftBy s old new Done = BothTold old new (λ before b. IsArchiveOf b s.options (script_tiles s))
-LeftBy s old new OutputFault = BothTold old new (λ before b. IsArchiveOf b s.options (script_tiles s))
-LeftBy s old new OutOfMemory = BothTold old new (LeavesPart s.options (script_tiles s))
-LeftBy s old new MediumFault = BothTold old new (LeavesPart s.options (script_tiles s))
+LeftBy s old new Done = HoldsArchive s old new
+LeftBy s old new OutputFault = HoldsArchive s old new
+LeftBy s old new OutOfMemory = BothTold old new (LeavesPart s.options.writer (Some (converted s)))
+LeftBy s old new MediumFault = BothTold old new (LeavesPart s.options.writer (Some (converted s)))
 LeftBy s old new _ = new ≡ old
 
 -- What the medium holds in the end.
@@ -183,20 +201,23 @@ LeavesMedium given new _ = new ≡ given.medium
 abbrev pub command_text : Command → List Coord → List ℕ → List ℕ → List ℕ
 command_text ConvertHex queries hash b = report_text queries hash b
 command_text ConvertFile queries hash b = file_text queries hash b
-command_text (Bulk tiles repeat) queries hash b = bulk_text (places_read b)
+command_text (Bulk tiles repeat leaf) queries hash b = bulk_text (is_some leaf) (places_read b)
 
-abbrev pub text_of : Command → Script → List ℕ → List ℕ
-text_of asked s b = command_text asked s.queries (aggregate (script_tiles s)) b
+-- the text on a script whose set came to a state
+abbrev pub text_of : Command → Script → State → List ℕ → List ℕ
+text_of asked s final b = command_text asked s.queries (aggregate final.algorithm final.tiles) b
 
 -- The text was begun: the script can be converted, the medium holds its archive, and the sink gained a front of the text on the bytes that the medium holds.
 pub record HasBegun (asked : Command) (s : Script) (medium left old new : Option (List ℕ)) : Type 0 where
   pub convertible : IsConvertible s medium
-  pub archive : BothTold medium left (λ before b. IsArchiveOf b s.options (script_tiles s))
-  pub front : IfSome left (λ b. GainsFront old new (text_of asked s b))
+  pub archive : HoldsArchive s medium left
+  pub final : State
+  pub set : converted s ≡ Ok final
+  pub front : IfSome left (λ b. GainsFront old new (text_of asked s final b))
 
 -- What the sink gained in the end, where there is a script, what the medium held and what it holds then: the text, a front of it, or nothing.
 abbrev pub WrittenBy : Command → Script → Option (List ℕ) → Option (List ℕ) → Option (List ℕ) → Option (List ℕ) → Outcome → Type 0
-WrittenBy asked s medium left old new Done = IfSome left (λ b. Gains old new (text_of asked s b))
+WrittenBy asked s medium left old new Done = (final : State) × (converted s ≡ Ok final) × IfSome left (λ b. Gains old new (text_of asked s final b))
 WrittenBy asked s medium left old new OutputFault = HasBegun asked s medium left old new
 WrittenBy asked s medium left old new MediumFault = (new ≡ old) ⊎ HasBegun asked s medium left old new
 WrittenBy asked s medium left old new OutOfMemory = (new ≡ old) ⊎ HasBegun asked s medium left old new
@@ -237,20 +258,20 @@ LoadCauses input _ = ⊥
 abbrev pub ScriptCauses : Command → Option (List ℕ) → Outcome → Type 0
 ScriptCauses ConvertHex input e = LoadCauses input e
 ScriptCauses ConvertFile input e = LoadCauses input e
-ScriptCauses (Bulk tiles repeat) input e = e ≡ OutOfMemory
+ScriptCauses (Bulk tiles repeat leaf) input e = e ≡ OutOfMemory
 
 -- the input is read to its end where it has the script
 abbrev pub IsReadFor : Option Command → Option (List ℕ) → Type 0
 IsReadFor (Some ConvertHex) left = IsAtEnd left
 IsReadFor (Some ConvertFile) left = IsAtEnd left
-IsReadFor (Some (Bulk tiles repeat)) left = Unit {0}
+IsReadFor (Some (Bulk tiles repeat leaf)) left = Unit {0}
 IsReadFor None left = ⊥
 
 -- nothing is taken of the input where it has no script: what is left of it and how much was taken, before and now
 abbrev pub IsUntaken : Option Command → Option (List ℕ) → Option (List ℕ) → ℕ → ℕ → Type 0
 IsUntaken (Some ConvertHex) old new before now = Unit {0}
 IsUntaken (Some ConvertFile) old new before now = Unit {0}
-IsUntaken (Some (Bulk tiles repeat)) old new before now = (new ≡ old) × (now ≡ before)
+IsUntaken (Some (Bulk tiles repeat leaf)) old new before now = (new ≡ old) × (now ≡ before)
 IsUntaken None old new before now = (new ≡ old) × (now ≡ before)
 
 abbrev pub LoadTakes : {T : Type 0} → ℕ → ℕ → Result T Outcome → Type 0

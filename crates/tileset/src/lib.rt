@@ -1,6 +1,7 @@
 //! The whole converter as one call over streams and a medium, with its report and outcomes.
 #![tactic(auto)]
 
+mod converting;
 mod dump;
 mod hex_dump;
 mod input;
@@ -11,6 +12,7 @@ mod outcome;
 mod outcome_text;
 mod output;
 mod places;
+mod refusal_text;
 mod report;
 mod sink;
 mod source;

@@ -9,11 +9,11 @@ use tile_ids::OutOfMemory;
 use tileset_script::ScriptError;
 
 /// How a run ends.
-#[derive(Debug, Drop, PartialEq, Eq)]
+#[derive(Debug, Drop)]
 pub enum Outcome {
     /// The archive and the report are written, and the input was read to its end.
     Done,
-    /// The conversion is refused: the medium wasn't empty, or the set is none that can be converted.
+    /// The conversion is refused: the medium wasn't empty, directories have a label that can't be written, or the base or a patch is refused.
     Refused(ConvertError),
     /// The words are no command.
     Usage,

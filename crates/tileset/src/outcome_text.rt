@@ -1,9 +1,10 @@
 // How outcomes are shown: a status and a line.
 ghost use Rattle.std.specs.Prelude.{◌≡◌, IfOk, string_bytes};
-ghost use Rattle.tileset.specs.OutcomeText.{error_name, label_name, line, refusal, status};
+ghost use Rattle.tileset.specs.OutcomeText.{label_name, line, refusal, status};
 
 use crate::Outcome;
-use pm_format::{Compression, PmtError};
+use crate::refusal_text::store_text;
+use pm_format::Compression;
 use std::alloc::Global;
 use tile_bridge::ConvertError;
 use tile_ids::{OutOfMemory, TextVal};
@@ -44,13 +45,13 @@ pub fn outcome_line(alloc: Global, outcome: &Outcome) -> Result<TextVal, OutOfMe
         Outcome::OutOfMemory => String::from_str(alloc, "out of memory\n")?,
         Outcome::InputTooLong => String::from_str(alloc, "input too long\n")?,
         Outcome::ReadBack(error) => {
-            let name = name_of(error);
+            let name = error.name();
             format!(in alloc; "read back: {name}\n")?
         }
     }))
 }
 
-const USAGE: &str = "usage: tileset convert hex | convert file PATH | bulk N K\n";
+const USAGE: &str = "usage: tileset convert hex | convert file PATH | bulk N K [L]\n";
 
 fn refusal_of(alloc: Global, error: &ConvertError) -> Result<String, OutOfMemory>
     ensures { IfOk result (λ text. string_bytes text ≡ refusal error.now) }
@@ -63,7 +64,12 @@ fn refusal_of(alloc: Global, error: &ConvertError) -> Result<String, OutOfMemory
             let name = label_of(*label);
             format!(in alloc; "unsupported compression {name}")?
         }
+        ConvertError::Store { place, error } => {
+            let text = store_text(alloc, error)?;
+            format!(in alloc; "store {place} {text}")?
+        }
         ConvertError::IndexEntryOverflow => String::from_str(alloc, "IndexEntryOverflow")?,
+        ConvertError::StoreFault { place } => format!(in alloc; "StoreFault {place}")?,
         ConvertError::MediumFault => String::from_str(alloc, "MediumFault")?,
         ConvertError::ReadBack(_) => String::from_str(alloc, "ReadBack")?,
         ConvertError::OutOfMemory => String::from_str(alloc, "OutOfMemory")?,
@@ -79,31 +85,5 @@ fn label_of(label: Compression) -> &'static str
         Compression::Gzip => "gzip",
         Compression::Brotli => "brotli",
         Compression::Zstd => "zstd",
-    }
-}
-
-fn name_of(error: &PmtError) -> &'static str
-    ensures { result.now ≡ error_name error.now }
-{
-    match error {
-        PmtError::InvalidCoordinate(_, _, _) => "InvalidCoordinate",
-        PmtError::InvalidTileId(_) => "InvalidTileId",
-        PmtError::InvalidEntry => "InvalidEntry",
-        PmtError::InvalidHeader => "InvalidHeader",
-        PmtError::InvalidMagicNumber => "InvalidMagicNumber",
-        PmtError::UnsupportedPmTilesVersion => "UnsupportedPmTilesVersion",
-        PmtError::InvalidCompression => "InvalidCompression",
-        PmtError::InvalidTileType => "InvalidTileType",
-        PmtError::UnsupportedCompression(_) => "UnsupportedCompression",
-        PmtError::IndexEntryOverflow => "IndexEntryOverflow",
-        PmtError::Reading(_) => "Reading",
-        PmtError::Failed => "Failed",
-        PmtError::OverlappingEntries(_) => "OverlappingEntries",
-        PmtError::UnexpectedNumberOfBytesReturned(_, _) => "UnexpectedNumberOfBytesReturned",
-        PmtError::SourceModified { .. } => "SourceModified",
-        PmtError::InvalidMetadata => "InvalidMetadata",
-        PmtError::InvalidMetadataUtf8Encoding => "InvalidMetadataUtf8Encoding",
-        PmtError::BudgetSpent => "BudgetSpent",
-        PmtError::OutOfMemory => "OutOfMemory",
     }
 }

@@ -1,5 +1,5 @@
 // The lines of the command bulk.
-ghost use Rattle.std.specs.Prelude.{◌≡◌, IfOk, string_bytes};
+ghost use Rattle.std.specs.Prelude.{◌≡◌, true, false, IfOk, string_bytes};
 ghost use Rattle.tileset.specs.Places.{count_lines, data_lines, directory_lines, places_text};
 
 use pm_writer::ArchivePlaces;
@@ -23,7 +23,7 @@ fn count_lines(alloc: Global, places: &ArchivePlaces) -> Result<String, OutOfMem
 
 // The directories of an archive.
 fn directory_lines(alloc: Global, places: &ArchivePlaces) -> Result<String, OutOfMemory>
-    ensures { IfOk result (λ text. string_bytes text ≡ directory_lines places.now) }
+    ensures { IfOk result (λ text. string_bytes text ≡ directory_lines false places.now) }
 {
     let (root, leaves, offset, length) = (
         places.root_length,
@@ -36,6 +36,17 @@ fn directory_lines(alloc: Global, places: &ArchivePlaces) -> Result<String, OutO
     )?)
 }
 
+// The directories of an archive, the upper ones too.
+fn all_directory_lines(alloc: Global, places: &ArchivePlaces) -> Result<String, OutOfMemory>
+    ensures { IfOk result (λ text. string_bytes text ≡ directory_lines true places.now) }
+{
+    let (root, leaves, uppers) = (places.root_length, places.leaves, places.uppers);
+    let (offset, length) = (places.leaf_offset, places.leaf_length);
+    Ok(format!(in alloc;
+        "root {root}\nleaves {leaves}\nuppers {uppers}\nleaf-offset {offset}\nleaf-length {length}\n"
+    )?)
+}
+
 // The contents of the tiles of an archive.
 fn data_lines(alloc: Global, places: &ArchivePlaces) -> Result<String, OutOfMemory>
     ensures { IfOk result (λ text. string_bytes text ≡ data_lines places.now) }
@@ -44,12 +55,21 @@ fn data_lines(alloc: Global, places: &ArchivePlaces) -> Result<String, OutOfMemo
     Ok(format!(in alloc; "data-offset {offset}\ndata-length {length}\n")?)
 }
 
-/// What an archive counts and where its parts lie, ten lines. Places and lengths are in bytes.
-pub(crate) fn places_text(alloc: Global, places: &ArchivePlaces) -> Result<String, OutOfMemory>
-    ensures { IfOk result (λ text. string_bytes text ≡ places_text places.now) }
+/// What an archive counts and where its parts lie, ten lines, and one more where the number of upper directories is wanted. Places and lengths are in bytes.
+pub(crate) fn places_text(
+    alloc: Global,
+    places: &ArchivePlaces,
+    uppers: bool,
+) -> Result<String, OutOfMemory>
+    ensures { IfOk result (λ text. string_bytes text ≡ places_text uppers places.now) }
 {
     let mut text = count_lines(alloc, places)?;
-    text.push_str(directory_lines(alloc, places)?.as_str())?;
+    let directories = if uppers {
+        all_directory_lines(alloc, places)?
+    } else {
+        directory_lines(alloc, places)?
+    };
+    text.push_str(directories.as_str())?;
     text.push_str(data_lines(alloc, places)?.as_str())?;
     Ok(text)
 }

@@ -64,21 +64,22 @@ fn write_hex_report<O: Sink, M: Medium>(
     Ok(())
 }
 
-// Writes the lines of the places of an archive.
+// Writes the lines of the places of an archive, with the number of upper directories where that is wanted.
 fn write_places<O: Sink>(
     alloc: Global,
     places: &ArchivePlaces,
+    uppers: bool,
     output: &mut O,
 ) -> Result<(), Outcome>
-    ensures all { OnOk result (Gains (O.held output.old) (O.held output.new) (places_text places.now)) }
-    ensures front { GainsFront (O.held output.old) (O.held output.new) (places_text places.now) }
+    ensures all { OnOk result (Gains (O.held output.old) (O.held output.new) (places_text uppers places.now)) }
+    ensures front { GainsFront (O.held output.old) (O.held output.new) (places_text uppers places.now) }
     ensures causes { IfErr result LinesCauses }
     ensures output_fault { IsErrOf result Outcome.OutputFault → Rose (O.faults output.old) (O.faults output.new) }
     ensures output_tells { is_some (O.held output.new) ≡ is_some (O.held output.old) }
     ensures output_faults { O.faults output.old ≤ O.faults output.new }
     ensures output_calm { O.steady output.old → O.steady output.new × (O.faults output.new ≡ O.faults output.old) }
 {
-    let text = places_text(alloc, places)?;
+    let text = places_text(alloc, places, uppers)?;
     write_all(output, text.as_bytes())?;
     Ok(())
 }
@@ -109,6 +110,8 @@ pub(crate) fn write_report<O: Sink, M: Medium>(
     match command {
         Command::ConvertHex => write_hex_report(alloc, queries, report, output, medium),
         Command::ConvertFile => write_summary(alloc, queries, report, output),
-        Command::Bulk { .. } => write_places(alloc, &report.places, output),
+        Command::Bulk { leaf_entries, .. } => {
+            write_places(alloc, &report.places, leaf_entries.is_some(), output)
+        }
     }
 }

@@ -1,23 +1,23 @@
 // The whole converter as one call.
 ghost use Rattle.std.specs.Prelude.{◌≡◌, ◌⊎◌, ◌≤◌, Ok, IsErrOf, is_some};
 ghost use Rattle.tile_ids.specs.Counts.{Rose};
-ghost use Rattle.tile_bridge.specs.FlatRows.{AreFlatRows};
-ghost use Rattle.tileset_script.specs.Reading.{base_rows, script_text};
+ghost use Rattle.tileset_script.specs.Reading.{ScriptNeverFails, script_text};
 ghost use Rattle.tileset.specs.Run.{AnsweredBy, Causes, Gives, Given, IsReadFor, IsUntaken, IsValid, LeavesMedium, LeavesOutput, LeftBy, Taken, WrittenBy, answer, answer_script, outcome_of};
 ghost use Rattle.tileset_script.specs.Script.{Script};
 ghost use Rattle.tileset_script.specs.Words.{command};
 
+use crate::converting::convert_stores;
 use crate::load::script_for;
 use crate::report::write_report;
 use crate::{Command, Outcome, Sink, Source};
 use pm_format::Medium;
 use std::alloc::Global;
-use tile_bridge::convert_flat;
 use tile_ids::TextVal;
 use tileset_script::{ParsedScript, command_of};
 
-/// Runs the command that the words are: reads a script from the input, writes the archive of its base to the medium, and the report to the
-/// output. It tests the words, the input, the script, the medium, the label of directories and the set, in this order, and writes to the output only on the way to Done.
+/// Runs the command that the words are: reads a script from the input, writes the archive of its base after its patches to the medium, and the report to the
+/// output. It tests the words, the input, the script, the medium, the label of directories, the base, each patch in turn and what comes of them, in this order, and writes to the
+/// output only on the way to Done.
 pub fn run<I: Source, O: Sink, M: Medium>(
     alloc: Global,
     words: &[TextVal],
@@ -62,19 +62,19 @@ pub fn run<I: Source, O: Sink, M: Medium>(
     }
 }
 
-// Converts the script of a command, and writes the command's text on the archive.
-fn convert<O: Sink, M: Medium>(
+// Converts the set of a script, and writes a command's text on the archive.
+fn convert_script<O: Sink, M: Medium>(
     alloc: Global,
     command: Command,
-    script: &ParsedScript,
+    script: &mut ParsedScript,
     output: &mut O,
     medium: &mut M,
 ) -> Result<(), Outcome>
-    requires base { AreFlatRows (base_rows script.now.base) }
-    ensures exact { Gives (answer_script (Ok (script_text script.now)) (M.told medium.old)) (outcome_of result) }
-    ensures causes { AnsweredBy (script_text script.now) (M.told medium.old) (outcome_of result) }
-    ensures medium { LeftBy (script_text script.now) (M.told medium.old) (M.told medium.new) (outcome_of result) }
-    ensures output { WrittenBy command (script_text script.now) (M.told medium.old) (M.told medium.new) (O.held output.old) (O.held output.new) (outcome_of result) }
+    requires stores { ScriptNeverFails script.old }
+    ensures exact { Gives (answer_script (Ok (script_text script.old)) (M.told medium.old)) (outcome_of result) }
+    ensures causes { AnsweredBy (script_text script.old) (M.told medium.old) (outcome_of result) }
+    ensures medium { LeftBy (script_text script.old) (M.told medium.old) (M.told medium.new) (outcome_of result) }
+    ensures output { WrittenBy command (script_text script.old) (M.told medium.old) (M.told medium.new) (O.held output.old) (O.held output.new) (outcome_of result) }
     ensures output_fault { IsErrOf result Outcome.OutputFault → Rose (O.faults output.old) (O.faults output.new) }
     ensures medium_fault { IsErrOf result Outcome.MediumFault → Rose (M.faults medium.old) (M.faults medium.new) }
     ensures output_tells { is_some (O.held output.new) ≡ is_some (O.held output.old) }
@@ -85,13 +85,17 @@ fn convert<O: Sink, M: Medium>(
     ensures output_calm { O.steady output.old → O.steady output.new × (O.faults output.new ≡ O.faults output.old) }
     ensures medium_calm { M.steady medium.old → M.steady medium.new × (M.faults medium.new ≡ M.faults medium.old) }
 {
-    let ParsedScript {
-        options,
-        base,
+    let queries = script.queries.as_slice();
+    let options = &script.options;
+    let report = convert_stores(
+        alloc,
+        &mut script.base,
+        &mut script.patches,
         queries,
-    } = script;
-    let report = convert_flat(alloc, base, queries.as_slice(), options, medium)?;
-    write_report(alloc, command, queries.as_slice(), &report, output, medium)?;
+        options,
+        medium,
+    )?;
+    write_report(alloc, command, queries, &report, output, medium)?;
     Ok(())
 }
 
@@ -127,6 +131,6 @@ fn attempt<I: Source, O: Sink, M: Medium>(
     let Some(command) = command_of(words) else {
         return Err(Outcome::Usage);
     };
-    let script = script_for(alloc, command, input)?;
-    convert(alloc, command, &script, output, medium)
+    let mut script = script_for(alloc, command, input)?;
+    convert_script(alloc, command, &mut script, output, medium)
 }

@@ -13,7 +13,7 @@ use tileset::{
 
 const HELP: &str = "Converts sets of map tiles to archives of the PMTiles format.
 
-usage: tileset convert hex | convert file PATH | bulk N K
+usage: tileset convert hex | convert file PATH | bulk N K [L]
 
 convert hex        reads a script from standard input, and prints the answers
                    to its queries, the archive's numbers and its bytes in
@@ -23,9 +23,11 @@ convert file PATH  reads a script from standard input, writes the archive to
                    script's queries and the archive's numbers; the file is
                    made before the script is read, and one that isn't empty is
                    refused and stays as it is
-bulk N K           converts the tiles of the ids 0 to N - 1, whose contents
+bulk N K [L]       converts the tiles of the ids 0 to N - 1, whose contents
                    are the id by K in decimal, and prints where the archive's
-                   parts lie; N is 0 to 100000, K is 1 to 1000000
+                   parts lie; N is 0 to 100000, K is 1 to 1000000, and L, 16
+                   to 65536, is how many entries a leaf may have, 4096 where
+                   it isn't said
 --help             prints this text
 --version          prints the version
 
@@ -88,7 +90,7 @@ fn convert_file(rt: &HostRuntime, words: &[TextVal], path: &str) -> Outcome {
         return Outcome::MediumFault;
     };
     let outcome = convert(rt, words, &mut medium);
-    if outcome == Outcome::Done && medium.flush().is_err() {
+    if matches!(outcome, Outcome::Done) && medium.flush().is_err() {
         return Outcome::MediumFault;
     }
     outcome

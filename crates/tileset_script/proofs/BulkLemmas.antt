@@ -1,54 +1,25 @@
 -- Ids and their coordinates, and the rows of the first ids.
-use Rattle.std.proofs.Common.{◌≡◌, ℕ, zero, suc, ◌+◌, ◌-◌, ◌/◌, ◌^◌, ◌≤◌, ◌<◌, true, ◌⊎◌, inl, inr, nat_lt, List, [], pos, refl, sym, ◌∙◌, ap, subst, arith}
-use Rattle.std.proofs.lemmas.Bool.Decides.{nat_tests}
-use Rattle.std.proofs.lemmas.List.Elements.{All-nil}
+use Rattle.std.proofs.Common.{◌≡◌, ℕ, suc, ◌+◌, ◌/◌, List, true, refl, ◌∙◌, ap, arith}
 pub use Rattle.tile_ids.proofs.Bijection.{is_coord_of}
-use Rattle.tile_ids.proofs.Bijection.{has_id, in_zoom, zoom_within}
-use Rattle.tile_ids.specs.Coord.{Coord, IsCoord, inverted_y}
-use Rattle.tile_ids.specs.Hilbert.{coord_of, pyramid, zoom_up_to}
-use Rattle.mb_store.specs.Store.{placed}
+use Rattle.tile_ids.specs.Hilbert.{coord_of}
+use Rattle.mb_store.specs.Store.{no_rows, with_row}
+use Rattle.mb_tables.specs.Schema.{set_tables}
+use Rattle.mb_tables.specs.Table.{Tables}
 use Rattle.mb_tables.specs.declared.cell.Cell.{Cell}
+use Rattle.mb_tables.specs.declared.kind.MbtType.TheVariants.{Flat}
 use Rattle.mb_tables.specs.declared.table.TableName.TheVariants.{Tiles}
-use Rattle.tile_bridge.specs.FlatRows.{AreFlatRows, IsFlatRow}
-use Rattle.tileset_script.proofs.ScriptLemmas.{flat_placed}
-use Rattle.tileset_script.specs.Bulk.{bulk_rows, numbered_row}
+use Rattle.tileset_script.proofs.RowLemmas.{row_stands}
+use Rattle.tileset_script.specs.Bulk.{bulk_tables, numbered_row}
+use Rattle.tileset_script.specs.Reading.{Takes}
+use Rattle.tileset_script.specs.Script.{row_added}
 
--- the first ids are those of low zooms
-low_from : (z id : ℕ) → z ≤ 31 → pyramid z ≤ id → id < 100000 → z ≤ 30
-low_from z id l from h = elim (at_most z l) [
-  | inl low ↦ low
-  | inr top ↦ absurd (let last : pyramid 31 ≤ id = subst (λ k. pyramid k ≤ id) top from in omega arith)
-]
-  where
-    at_most : (k : ℕ) → k ≤ 31 → (k ≤ 30) ⊎ (k ≡ 31)
-    at_most k g = grind arith
+-- no tile, and one more
+pub no_tiles : (repeat : ℕ) → no_rows (set_tables Flat) ≡ bulk_tables 0 repeat
+unfolding bulk_tables
+no_tiles repeat = refl
 
-pub low_zoom : (id : ℕ) → id < 100000 → (coord_of id).z ≤ 30
-unfolding coord_of
-low_zoom id h = let r = in_zoom 31 id (omega arith) in low_from (zoom_up_to 31 id) id (zoom_within 31 id) r.from h
-
--- the row of a coordinate of such a zoom is a tile
-flat_row : (c : Coord) (number : ℕ) → IsCoord c → c.z ≤ 30 → IsFlatRow (numbered_row c number)
-flat_row c number h low =
-    let zoom : nat_lt c.z 31 ≡ true = grind (arith, nat_tests) in
-    let column : nat_lt c.x (2 ^ c.z) ≡ true = grind (arith, nat_tests, h.column) in
-    let line : nat_lt (inverted_y c.z c.y) (2 ^ c.z) ≡ true = grind (arith, nat_tests, h.row) in
-    record { place = simp (zoom, column, line); contents = refl }
-
-pub flat_rows : (n repeat : ℕ) → n ≤ 100000 → AreFlatRows (bulk_rows n repeat)
-unfolding bulk_rows
-flat_rows zero repeat h = All-nil IsFlatRow
-flat_rows (suc id) repeat h =
-    let own = has_id id (omega (arith, h)) in
-    flat_placed Tiles (numbered_row (coord_of id) (id / repeat)) (bulk_rows id repeat) (flat_rows id repeat (omega arith)) (flat_row (coord_of id) (id / repeat) own.0 (low_zoom id (omega arith)))
-
--- no rows, and one row more
-pub no_rows : (repeat : ℕ) → [] ≡ bulk_rows 0 repeat
-unfolding bulk_rows
-no_rows repeat = refl
-
-pub one_more : (id repeat : ℕ) (rows : List (List Cell)) (row : List Cell) (more : List (List Cell)) → rows ≡ bulk_rows id repeat → row ≡ numbered_row (coord_of id) (id / repeat) → more ≡ placed Tiles row rows → more ≡ bulk_rows (id + 1) repeat
-unfolding bulk_rows
-one_more id repeat rows row more so is e =
+pub one_more : (id repeat : ℕ) (t new : Tables) (row : List Cell) → t ≡ bulk_tables id repeat → row ≡ numbered_row (coord_of id) (id / repeat) → Takes (row_added Tiles row t) true new → new ≡ bulk_tables (id + 1) repeat
+unfolding bulk_tables
+one_more id repeat t new row so is h =
     let next : suc id ≡ id + 1 = omega arith in
-    e ∙ (ap (λ r. placed Tiles r rows) is ∙ (ap (placed Tiles (numbered_row (coord_of id) (id / repeat))) so ∙ ap (λ n. bulk_rows n repeat) next))
+    row_stands Tiles row t new h ∙ (ap (λ u. with_row u Tiles row) so ∙ (ap (with_row (bulk_tables id repeat) Tiles) is ∙ ap (λ n. bulk_tables n repeat) next))

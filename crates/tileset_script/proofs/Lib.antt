@@ -1,6 +1,6 @@
 pub mod BulkLemmas
-pub mod FlatLineLemmas
-pub mod NumberLemmas
-pub mod PartingLemmas
+pub mod DraftLemmas
+pub mod RowLemmas
 pub mod ScriptLemmas
+pub mod SettingLemmas
 pub mod TextLemmas

@@ -1,11 +1,11 @@
 pub mod Bulk
 pub mod Cell
-pub mod Lines
-pub mod Number
-pub mod Parting
+pub mod Layout
+pub mod LeafEntries
 pub mod Reading
 pub mod Script
 pub mod ScriptExamples
+pub mod Section
 pub mod Setting
 pub mod Text
 pub mod Words

@@ -1,44 +1,44 @@
 -- Scripts: what they say, or the number of their first bad line.
-use Rattle.std.specs.Prelude.{ℕ, ◌+◌, Bool, true, false, is_some, not, ◌&&◌, List, [], ◌∷◌, ◌++◌, ◌-◌, ◌^◌, nat_eq, if◌then◌else◌, Option, Some, None, Result, Ok, Err, codes}
-use Rattle.std.specs.List.{list_any}
-use Rattle.std.specs.Option.{option_and_then, option_map}
+use Rattle.std.specs.Prelude.{ℕ, zero, suc, ◌+◌, is_some, not, ◌&&◌, List, [], ◌∷◌, ◌++◌, ◌-◌, ◌^◌, nat_eq, length, if◌then◌else◌, Option, Some, None, Result, Ok, Err, codes}
+use Rattle.std.specs.List.{find}
+use Rattle.std.specs.Option.{option_and_then, option_map, option_to_list}
 use Rattle.std.specs.Str.{bytes_eq}
-use Rattle.std.specs.FinMap.{from_entries}
-use Rattle.pm_format.specs.Options.{Options}
+use Rattle.tile_bridge.specs.declared.options.ConvertOptions.{ConvertOptions}
 use Rattle.tile_ids.specs.Coord.{Coord}
-use Rattle.mb_tables.specs.Key.{clash}
-use Rattle.mb_store.specs.Store.{placed}
-use Rattle.mb_tables.specs.Tiles.{TileSet, cell_at, pairs_at, tile_of}
+use Rattle.mb_store.specs.Sizes.{all_tables}
+use Rattle.mb_store.specs.Store.{is_duplicate, no_rows, with_row}
+use Rattle.mb_tables.specs.Described.{is_table}
+use Rattle.mb_tables.specs.Table.{Tables, table_text, width}
 use Rattle.mb_tables.specs.declared.cell.Cell.{Cell}
-use Rattle.mb_tables.specs.declared.table.TableName.TheVariants.{Tiles}
+use Rattle.mb_tables.specs.declared.table.TableName.{TableName}
 use Rattle.tileset_script.specs.Cell.{cell_of}
-use Rattle.tileset_script.specs.Lines.{lines_of}
-use Rattle.tileset_script.specs.Number.{number_to}
-use Rattle.tileset_script.specs.Parting.{words_of}
+use Rattle.tileset_script.specs.Layout.{layout_named, tables_of}
+use Rattle.line_words.specs.Lines.{lines_of}
+use Rattle.line_words.specs.Number.{number_to}
+use Rattle.line_words.specs.Parting.{words_of}
 use Rattle.tileset_script.specs.Setting.{options_of, setting_of}
-use Rattle.tileset_script.specs.declared.script.draft.Section.{Section}
-use Rattle.tileset_script.specs.declared.script.draft.Section.TheVariants as sections
+use Rattle.tileset_script.specs.declared.layout.Layout.{Layout}
 use Rattle.tileset_script.specs.declared.script.line.Line.{Line}
-use Rattle.tileset_script.specs.declared.script.line.Line.TheVariants.{Nothing, Given, Base, Row, Query}
+use Rattle.tileset_script.specs.declared.script.line.Line.TheVariants.{Nothing, Given, Base, Patch, Row, Query}
 use Rattle.tileset_script.specs.declared.script.setting.Setting.{Setting}
 
--- what a script says: the options, the rows of the base's table of tiles in the order of their keys, and the coordinates that are asked for
+-- what a script says: options, the tables of the base and of each patch, and the coordinates that are asked for
 pub record Script : Type 0 where
-  pub options : Options
-  pub rows : List (List Cell)
+  pub options : ConvertOptions
+  pub base : Tables
+  pub patches : List Tables
   pub queries : List Coord
 
--- the tiles of the base
-abbrev pub script_tiles : Script → TileSet
-script_tiles s = from_entries (pairs_at 3 s.rows)
+-- a row of so many cells, one for each word
+abbrev pub row_of : ℕ → List (List ℕ) → Option (List Cell)
+row_of zero [] = Some []
+row_of zero (word ∷ words) = None
+row_of (suc n) [] = None
+row_of (suc n) (word ∷ words) = option_and_then (λ cell. option_map (λ row. cell ∷ row) (row_of n words)) (cell_of word)
 
--- a row of four cells that is a tile: a place of zoom 0 to 30 in range, and bytes or null
-abbrev pub tile_row : List Cell → Option Line
-tile_row row = if is_some (tile_of row (cell_at 3 row)) then Some (Row row) else None
-
-abbrev pub row_line : Option Cell → Option Cell → Option Cell → Option Cell → Option Line
-row_line zoom column row contents =
-    option_and_then (λ z. option_and_then (λ c. option_and_then (λ r. option_and_then (λ t. tile_row (z ∷ c ∷ r ∷ t ∷ [])) contents) row) column) zoom
+-- the table of a name
+abbrev pub table_named : List ℕ → Option TableName
+table_named word = find (λ table. bytes_eq word (table_text table)) all_tables
 
 -- a coordinate of zoom 0 to 31
 abbrev pub query_line : List ℕ → List ℕ → List ℕ → Option Line
@@ -46,13 +46,13 @@ query_line zoom column row =
     option_and_then (λ z. option_and_then (λ x. option_map (λ y. Query (record { z = z; x = x; y = y })) (number_to (2 ^ z - 1) row)) (number_to (2 ^ z - 1) column)) (number_to 31 zoom)
 
 -- what the words behind a line's first word say
-abbrev pub base_words : List (List ℕ) → Option Line
-base_words (layout ∷ []) = if bytes_eq layout (codes "flat") then Some Base else None
-base_words _ = None
+abbrev pub layout_words : List (List ℕ) → Option Layout
+layout_words (word ∷ []) = layout_named word
+layout_words _ = None
 
 abbrev pub row_words : List (List ℕ) → Option Line
-row_words (table ∷ a ∷ b ∷ c ∷ d ∷ []) = if bytes_eq table (codes "tiles") then row_line (cell_of a) (cell_of b) (cell_of c) (cell_of d) else None
-row_words _ = None
+row_words [] = None
+row_words (name ∷ cells) = option_and_then (λ table. option_map (Row table) (row_of (width table) cells)) (table_named name)
 
 abbrev pub query_words : List (List ℕ) → Option Line
 query_words (z ∷ x ∷ y ∷ []) = query_line z x y
@@ -67,7 +67,8 @@ line_by word words =
     if bytes_eq word (codes "row") then row_words words else
     (if bytes_eq word (codes "query") then query_words words else
     (if bytes_eq word (codes "option") then option_words words else
-    (if bytes_eq word (codes "base") then base_words words else None)))
+    (if bytes_eq word (codes "base") then option_map Base (layout_words words) else
+    (if bytes_eq word (codes "patch") then option_map Patch (layout_words words) else None))))
 
 abbrev pub words_line : List (List ℕ) → Option Line
 words_line [] = None
@@ -78,37 +79,40 @@ unfoldable pub line_of : List ℕ → Option Line
 line_of [] = Some Nothing
 line_of (b ∷ line) = if nat_eq b 35 then Some Nothing else words_line (words_of (b ∷ line))
 
--- what lines said so far, and the section in which they ended
+-- what lines said so far: settings, the stores before the latest one, that one, and the coordinates that are asked for
 pub record Draft : Type 0 where
-  pub section : Section
   pub settings : List Setting
-  pub rows : List (List Cell)
+  pub earlier : List Tables
+  pub latest : Option Tables
   pub queries : List Coord
 
-abbrev pub in_options : Section → Bool
-in_options sections.Options = true
-in_options sections.Rows = false
-in_options sections.Queries = false
+-- one store more
+abbrev pub begun : Draft → Layout → Draft
+begun d layout = record d { earlier = d.earlier ++ option_to_list d.latest; latest = Some (no_rows (tables_of layout)) }
 
-abbrev pub in_rows : Section → Bool
-in_rows sections.Options = false
-in_rows sections.Rows = true
-in_rows sections.Queries = false
+-- a store with one row more, None where it doesn't describe the table, or has a row of the same key
+abbrev pub row_added : TableName → List Cell → Tables → Option Tables
+row_added table row t = if is_table t.descriptions table && not (is_duplicate t table row) then Some (with_row t table row) else None
 
 -- with one line more, None where the line doesn't stand in its section or repeats a key
 abbrev pub with_line : Draft → Line → Option Draft
 with_line d Nothing = Some d
-with_line d (Given setting) = if in_options d.section then Some (record d { settings = d.settings ++ setting ∷ [] }) else None
-with_line d Base = if in_options d.section then Some (record d { section = sections.Rows }) else None
-with_line d (Row row) = if in_rows d.section && not (list_any (clash Tiles row) d.rows) then Some (record d { rows = placed Tiles row d.rows }) else None
-with_line d (Query c) = if in_options d.section then None else Some (record d { section = sections.Queries; queries = d.queries ++ c ∷ [] })
+with_line d (Given setting) = if is_some d.latest then None else Some (record d { settings = d.settings ++ setting ∷ [] })
+with_line d (Base layout) = if is_some d.latest then None else Some (begun d layout)
+with_line d (Patch layout) = if is_some d.latest && nat_eq (length d.queries) 0 then Some (begun d layout) else None
+with_line d (Row table row) = if nat_eq (length d.queries) 0 then option_map (λ t. record d { latest = Some t }) (option_and_then (row_added table row) d.latest) else None
+with_line d (Query c) = if is_some d.latest then Some (record d { queries = d.queries ++ c ∷ [] }) else None
 
-abbrev pub script_in : Draft → Script
-script_in d = record { options = options_of d.settings; rows = d.rows; queries = d.queries }
+-- the script, where there is a store: the first is the base, and the others are patches
+abbrev pub ended : Draft → Option Script
+ended d = elim (d.earlier ++ option_to_list d.latest) [
+  | [] ↦ None
+  | base ∷ patches ↦ Some (record { options = options_of d.settings; base = base; patches = patches; queries = d.queries })
+]
 
 -- a script has a base line
 abbrev pub at_end : ℕ → Draft → Result Script ℕ
-at_end n d = if in_options d.section then Err n else Ok (script_in d)
+at_end n d = elim (ended d) [ None ↦ Err n | Some s ↦ Ok s ]
 
 -- the lines from this one on, behind a draft
 abbrev pub script_from : ℕ → Draft → List (List ℕ) → Result Script ℕ
@@ -117,7 +121,7 @@ script_from n d (line ∷ lines) = elim (option_and_then (with_line d) (line_of 
 
 -- before the first line
 abbrev pub no_lines : Draft
-no_lines = record { section = sections.Options; settings = []; rows = []; queries = [] }
+no_lines = record { settings = []; earlier = []; latest = None; queries = [] }
 
 unfoldable pub script_of : List ℕ → Result Script ℕ
 script_of input = script_from 1 no_lines (lines_of input)

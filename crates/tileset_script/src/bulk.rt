@@ -1,16 +1,14 @@
 // Sets that are made from two numbers.
 ghost use Rattle.std.specs.Prelude.{◌≡◌, ◌≤◌, ◌<◌, ◌/◌, length, IfOk};
 ghost use Rattle.mb_store.specs.MemStore.{told_of};
-ghost use Rattle.mb_tables.specs.Schema.{set_tables};
-ghost use Rattle.mb_tables.specs.declared.kind.MbtType.TheVariants.{Flat};
-ghost use Rattle.tile_bridge.specs.FlatRows.{AreFlatRows};
 ghost use Rattle.tile_ids.specs.Hilbert.{coord_of};
-ghost use Rattle.tileset_script.specs.Bulk.{bulk_rows, numbered_row};
-ghost use Rattle.tileset_script.specs.Reading.{base_rows};
+ghost use Rattle.tileset_script.specs.Bulk.{bulk_tables, numbered_row};
+ghost use Rattle.tileset_script.specs.Section.{NeverFails};
 
-use crate::base::{new_base, push_tile};
+use crate::layout::Layout;
+use crate::section::Section;
 use itoa::Buffer;
-use mb_store::{Cell, MemStore, Row};
+use mb_store::{Cell, MbtType, MemStore, Row, TableName};
 use std::alloc::Global;
 use tile_ids::{BlobVal, OutOfMemory, TileCoord, TileId, invert_y_value};
 
@@ -43,21 +41,20 @@ fn row_at(alloc: Global, coord: TileCoord, number: u64) -> Result<Row, OutOfMemo
 }
 
 /// The base of `bulk`: a flat set with a tile for each id below a number, whose contents are the decimal text of its id by `repeat`, rounded
-/// down.
+/// down. No call of the store fails.
 pub fn bulk_base(alloc: Global, tiles: u64, repeat: u64) -> Result<MemStore, OutOfMemory>
     requires tiles { tiles ≤ 100000 }
     requires repeat { 0 < repeat }
-    ensures rows { IfOk result (λ base. base_rows base ≡ bulk_rows tiles repeat) }
-    ensures flat { IfOk result (λ base. AreFlatRows (base_rows base)) }
-    ensures described { IfOk result (λ base. (told_of base).descriptions ≡ set_tables Flat) }
+    ensures told { IfOk result (λ base. told_of base ≡ bulk_tables tiles repeat) }
+    ensures unfailing { IfOk result NeverFails }
 {
-    let mut base = new_base(alloc)?;
+    let mut base = Section::new(alloc, Layout::Set(MbtType::Flat))?;
     for id in 0..tiles {
         let row = row_at(alloc, coord_of(id), id / repeat)?;
         // No id comes twice, so that each row's key is new.
-        if !push_tile(&mut base, row)? {
+        if !base.take_row(TableName::Tiles, row)? {
             return Err(OutOfMemory);
         }
     }
-    Ok(base)
+    Ok(base.into_store())
 }

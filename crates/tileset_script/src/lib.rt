@@ -1,10 +1,11 @@
-//! What turns words and bytes into a script: commands, lines and their cells, options, the base and its queries, and the set of `bulk`.
+//! What turns words and bytes into a script: commands, lines and their cells, options, the base and the patches with their rows, queries, and the set of `bulk`.
 #![tactic(auto)]
 
-mod base;
 mod bulk;
-mod number;
+mod layout;
+mod leaf_entries;
 mod script;
+mod section;
 mod words;
 
 pub use bulk::bulk_base;

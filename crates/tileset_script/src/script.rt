@@ -1,10 +1,8 @@
-// Scripts: options, a base, and the coordinates that are asked for.
+// Scripts: options, a base, patches, and the coordinates that are asked for.
 mod cell;
 mod draft;
 mod error;
 mod line;
-mod lines;
-mod parting;
 mod reading;
 mod setting;
 mod text;
@@ -12,18 +10,20 @@ mod text;
 pub use error::ScriptError;
 pub use line::Line;
 use mb_store::MemStore;
-use pm_writer::PmTilesWriter;
 pub use reading::parse_script;
 pub use setting::Setting;
+use tile_bridge::ConvertOptions;
 use tile_ids::TileCoord;
 
 /// A script that was read.
 #[derive(Drop)]
 pub struct ParsedScript {
-    /// What is said of the archive beside its tiles.
-    pub options: PmTilesWriter,
+    /// How the base is converted.
+    pub options: ConvertOptions,
     /// The base.
     pub base: MemStore,
+    /// The patches, in the order in which they are taken.
+    pub patches: Vec<MemStore>,
     /// The coordinates that are asked for, in their order.
     pub queries: Vec<TileCoord>,
 }

@@ -1,9 +1,9 @@
 // Directories as bytes.
 ghost use Rattle.std.specs.Prelude.{◌≡◌, ◌++◌, All, None, map, IfOk, OnOk};
-ghost use Rattle.pm_format.specs.Directory.{IdsDontFall, IsPlaced, NotFalling, dir_bytes, spell_all, steps_from, starts_from};
+ghost use Rattle.pm_format.specs.Directory.{IsPlaced, IsWritable, dir_bytes, spell_all, starts_from, steps_from};
 
 use super::Directory;
-use crate::{DirEntry, write_varint};
+use crate::{AsWide, write_varint};
 use std::alloc::Global;
 use tile_ids::OutOfMemory;
 
@@ -18,12 +18,11 @@ impl Directory {
 }
 
 /// The bytes of the directory of these entries, as `encode` gives them. The ids are not to fall, every offset is to be below `u64::MAX`, and every offset plus length within u64.
-pub fn encode_entries(alloc: Global, entries: &[DirEntry]) -> Result<Vec<u8>, OutOfMemory>
-    requires ordered { IdsDontFall entries.now }
-    requires placed { All IsPlaced entries.now }
-    ensures { IfOk result (λ v. v.items ≡ dir_bytes entries.now) }
+pub fn encode_entries<E: AsWide>(alloc: Global, entries: &[E]) -> Result<Vec<u8>, OutOfMemory>
+    requires { IsWritable 0 (map E.entry entries.now) }
+    ensures { IfOk result (λ v. v.items ≡ dir_bytes (map E.entry entries.now)) }
 {
-    let mut out = Vec::with_capacity(alloc, 4 * entries.len() + 1)?;
+    let mut out = Vec::with_capacity(alloc, entries.len().saturating_mul(4))?;
     write_varint(&mut out, entries.len() as u64)?;
     write_ids(&mut out, entries)?;
     write_runs(&mut out, entries)?;
@@ -32,45 +31,47 @@ pub fn encode_entries(alloc: Global, entries: &[DirEntry]) -> Result<Vec<u8>, Ou
     Ok(out)
 }
 
-fn write_ids(out: &mut Vec<u8>, entries: &[DirEntry]) -> Result<(), OutOfMemory>
-    requires { NotFalling 0 entries.now }
-    ensures { OnOk result (out.new.items ≡ out.old.items ++ spell_all (steps_from 0 entries.now)) }
+fn write_ids<E: AsWide>(out: &mut Vec<u8>, entries: &[E]) -> Result<(), OutOfMemory>
+    requires { IsWritable 0 (map E.entry entries.now) }
+    ensures { OnOk result (out.new.items ≡ out.old.items ++ spell_all (steps_from 0 (map E.entry entries.now))) }
 {
     let mut last = 0;
     for entry in entries {
-        write_varint(out, entry.tile_id - last)?;
-        last = entry.tile_id;
+        let id = entry.wide().tile_id;
+        write_varint(out, id - last)?;
+        last = id;
     }
     Ok(())
 }
 
-fn write_runs(out: &mut Vec<u8>, entries: &[DirEntry]) -> Result<(), OutOfMemory>
-    ensures { OnOk result (out.new.items ≡ out.old.items ++ spell_all (map (λ e. e.run_length) entries.now)) }
+fn write_runs<E: AsWide>(out: &mut Vec<u8>, entries: &[E]) -> Result<(), OutOfMemory>
+    ensures { OnOk result (out.new.items ≡ out.old.items ++ spell_all (map (λ e. e.run_length) (map E.entry entries.now))) }
 {
     for entry in entries {
-        write_varint(out, u64::from(entry.run_length))?;
+        write_varint(out, u64::from(entry.wide().run_length))?;
     }
     Ok(())
 }
 
-fn write_lengths(out: &mut Vec<u8>, entries: &[DirEntry]) -> Result<(), OutOfMemory>
-    ensures { OnOk result (out.new.items ≡ out.old.items ++ spell_all (map (λ e. e.length) entries.now)) }
+fn write_lengths<E: AsWide>(out: &mut Vec<u8>, entries: &[E]) -> Result<(), OutOfMemory>
+    ensures { OnOk result (out.new.items ≡ out.old.items ++ spell_all (map (λ e. e.length) (map E.entry entries.now))) }
 {
     for entry in entries {
-        write_varint(out, u64::from(entry.length))?;
+        write_varint(out, entry.wide().length)?;
     }
     Ok(())
 }
 
-fn write_offsets(out: &mut Vec<u8>, entries: &[DirEntry]) -> Result<(), OutOfMemory>
-    requires { All IsPlaced entries.now }
-    ensures { OnOk result (out.new.items ≡ out.old.items ++ spell_all (starts_from None entries.now)) }
+fn write_offsets<E: AsWide>(out: &mut Vec<u8>, entries: &[E]) -> Result<(), OutOfMemory>
+    requires { IsWritable 0 (map E.entry entries.now) }
+    ensures { OnOk result (out.new.items ≡ out.old.items ++ spell_all (starts_from None (map E.entry entries.now))) }
 {
     let mut end = None;
     for entry in entries {
-        let follows = end == Some(entry.offset);
-        write_varint(out, if follows { 0 } else { entry.offset + 1 })?;
-        end = Some(entry.offset + u64::from(entry.length));
+        let wide = entry.wide();
+        let follows = end == Some(wide.offset);
+        write_varint(out, if follows { 0 } else { wide.offset + 1 })?;
+        end = Some(wide.offset + wide.length);
     }
     Ok(())
 }

@@ -1,31 +1,46 @@
 // The cache that gives up the directories that were used longest ago.
-ghost use Rattle.std.specs.Prelude.{◌≡◌, ◌≤◌, ℕ, [], Ok, None, Some, true, IfOk, OnOk, OnErr};
-ghost use Rattle.lru.specs.LruCache.{lru_cache};
+ghost use Rattle.std.specs.Prelude.{◌≡◌, ◌≤◌, ℕ, [], Ok, None, Some, IfOk, IsTrue, length};
+ghost use Rattle.bounded_lru.specs.Bounded.{IsWithin, Puts, bounded};
+ghost use Rattle.pm_format.specs.Directory.{Entry};
 ghost use Rattle.pm_reader.specs.Caches.{AddsOnly, AnswersFetched, AnswersHeld, answer_of};
 ghost use Rattle.pm_reader.specs.MapCaches.{FetchLeaves, HoldsSame, IsUsed, PutsRecent, held_by_use, uses_of};
 
+use crate::cache::kept::KeptDirectory;
 use crate::{DirCacheResult, DirectoryCache};
-use lru::LruCache;
+use bounded_lru::BoundedLru;
 use pm_format::{DirEntry, Directory, PmtResult};
 use std::alloc::Global;
-use std::num::NonZeroUsize;
 use tile_ids::{OutOfMemory, TileId};
 
-/// Keeps the directories that were used last, as many as its capacity. Each call makes the directory that it was asked for the last used.
+/// Keeps the directories that were used last: as many as its capacity, and, where it has a limit of entries, of no more entries together than this. Each call makes the
+/// directory that it was asked for the last used.
 #[derive(Drop)]
 pub struct LruDirCache {
-    directories: LruCache<u64, Directory>,
+    directories: BoundedLru<KeptDirectory>,
 }
 
 impl LruDirCache {
     /// A cache that holds nothing yet, and will hold at most so many directories. The capacity is to be at least 1. Room is made only as directories come.
     pub fn new(alloc: Global, capacity: usize) -> Result<LruDirCache, OutOfMemory>
         requires { 1 ≤ capacity }
-        ensures { IfOk result (λ c. uses_of c ≡ lru_cache [] capacity) }
+        ensures { IfOk result (λ c. uses_of c ≡ bounded [] capacity None) }
     {
-        let capacity = NonZeroUsize::new(capacity).unwrap();
         Ok(LruDirCache {
-            directories: LruCache::sparse(alloc, capacity)?,
+            directories: BoundedLru::new(alloc, capacity, None)?,
+        })
+    }
+
+    /// The same, where the directories that are held have at most so many entries together. A longer directory is never held.
+    pub fn with_entry_limit(
+        alloc: Global,
+        capacity: usize,
+        max_entries: usize,
+    ) -> Result<LruDirCache, OutOfMemory>
+        requires { 1 ≤ capacity }
+        ensures { IfOk result (λ c. uses_of c ≡ bounded [] capacity (Some max_entries)) }
+    {
+        Ok(LruDirCache {
+            directories: BoundedLru::new(alloc, capacity, Some(max_entries as u64))?,
         })
     }
 
@@ -33,9 +48,13 @@ impl LruDirCache {
     fn find(&mut self, offset: u64, tile_id: TileId) -> DirCacheResult
         ensures answer { result ≡ answer_of (held_by_use self.old offset) tile_id }
         ensures uses { IsUsed (uses_of self.old) (uses_of self.new) offset }
+        ensures within { IsWithin length (uses_of self.new) }
     {
-        match self.directories.get(&offset) {
-            Some(directory) => DirCacheResult::from(directory.find_tile_id(tile_id)),
+        if !self.directories.promote(offset) {
+            return DirCacheResult::NotCached;
+        }
+        match self.directories.latest() {
+            Some(kept) => DirCacheResult::from(kept.directory().find_tile_id(tile_id)),
             None => DirCacheResult::NotCached,
         }
     }
@@ -54,21 +73,19 @@ impl DirectoryCache for LruDirCache {
         ensures answer { result ≡ answer_of (held_by_use self.old offset) tile_id }
         ensures uses { IsUsed (uses_of self.old) (uses_of self.new) offset }
         ensures same { HoldsSame (held_by_use self.old) (held_by_use self.new) }
+        ensures within { IsWithin length (uses_of self.new) }
     {
         self.find(offset, tile_id)
     }
 
     fn insert_dir(&mut self, offset: u64, directory: Directory) -> Result<bool, OutOfMemory>
-        ensures kept { IfOk result (λ kept. kept ≡ true) }
-        ensures put { OnOk result (PutsRecent (uses_of self.old) (uses_of self.new) offset directory) }
-        ensures held { OnOk result (held_by_use self.new offset ≡ Some directory) }
+        ensures puts { Puts length (uses_of self.old) (uses_of self.new) offset directory result }
+        ensures within { IsWithin length (uses_of self.new) }
+        ensures kept { IfOk result (λ kept. IsTrue kept → held_by_use self.new offset ≡ Some directory) }
         ensures adds { AddsOnly (held_by_use self.old) (held_by_use self.new) offset (λ d. d ≡ directory) }
-        ensures err { OnErr result (uses_of self.new ≡ uses_of self.old) }
     {
-        match self.directories.put(offset, directory) {
-            Ok(_) => Ok(true),
-            Err(_) => Err(OutOfMemory),
-        }
+        self.directories
+            .insert(offset, KeptDirectory::new(directory))
     }
 
     fn get_dir_entry_or_insert<F: FnOnce() -> PmtResult<Directory>>(
@@ -82,6 +99,7 @@ impl DirectoryCache for LruDirCache {
         ensures fetched { AnswersFetched (held_by_use self.old offset) (F.post fetcher) tile_id result }
         ensures adds { AddsOnly (held_by_use self.old) (held_by_use self.new) offset (λ d. F.post fetcher (Ok d)) }
         ensures leaves { FetchLeaves (held_by_use self.old offset) (F.post fetcher) tile_id (IsUsed (uses_of self.old) (uses_of self.new) offset) (PutsRecent (uses_of self.old) (uses_of self.new) offset) result }
+        ensures within { IsWithin length (uses_of self.new) }
     {
         match self.get_dir_entry(offset, tile_id) {
             DirCacheResult::Found(entry) => Ok(Some(entry)),

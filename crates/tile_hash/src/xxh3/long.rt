@@ -1,6 +1,7 @@
 // XXH3 of more than 240 bytes: stripes of 64 bytes, 16 stripes to a block.
 ghost use Rattle.std.specs.Prelude.{◌≡◌, ◌+◌, ◌*◌, ◌<◌, ◌≤◌, length};
 ghost use Rattle.tile_hash.specs.Xxh3.{halves, lane, striped, stripes, scrambled_lane, scrambled, blocks, block_count, all_stripes, all_lanes, lanes_folded, lanes_merged, of_long};
+ghost use Rattle.tile_hash.specs.Xxh3Stream.{stripe_taken, taken};
 
 use super::mixing::{finished, folded};
 use super::secret::secret64;
@@ -12,7 +13,7 @@ const PRIME32_2: u64 = 0x85EB_CA77;
 
 const PRIME32_3: u64 = 0xC2B2_AE3D;
 
-const FIRST_LANES: [u64; 8] = [
+pub(crate) const FIRST_LANES: [u64; 8] = [
     PRIME32_3, PRIME64_1, PRIME64_2, PRIME64_3, PRIME64_4, PRIME32_2, PRIME64_5, PRIME32_1,
 ];
 
@@ -40,10 +41,10 @@ fn lane(v: [u64; 8], bytes: &[u8], at: usize, place: usize, i: usize, j: usize) 
         .wrapping_add(halves(key))
 }
 
-// The lanes after the stripe at this byte.
+/// The lanes after the stripe at this byte.
 #[inline(always)]
 #[tactic(auto, unfolding(crate::specs::Xxh3::striped))]
-fn striped(v: [u64; 8], bytes: &[u8], at: usize, place: usize) -> [u64; 8]
+pub(crate) fn striped(v: [u64; 8], bytes: &[u8], at: usize, place: usize) -> [u64; 8]
     requires bytes { at + 64 ≤ length bytes.now }
     requires secret { place + 64 ≤ 192 }
     ensures { result ≡ striped v bytes.now at place }
@@ -116,6 +117,39 @@ fn blocks(bytes: &[u8], count: usize) -> [u64; 8]
     v
 }
 
+// The lanes after the stripe at this byte, the stripe of this number in its block.
+#[inline(always)]
+#[tactic(auto, unfolding(crate::specs::Xxh3Stream::stripe_taken))]
+fn stripe_taken(v: [u64; 8], bytes: &[u8], at: usize, number: usize) -> [u64; 8]
+    requires bytes { at + 64 ≤ length bytes.now }
+    requires number { number < 16 }
+    ensures { result ≡ stripe_taken v bytes.now at number }
+{
+    let next = striped(v, bytes, at, 8 * number);
+    if number == 15 { scrambled(next) } else { next }
+}
+
+/// The lanes after so many stripes from this byte on, the first of which has this number, counted over blocks.
+#[tactic(auto, using(crate::proofs::StepLemmas::taken_more), unfolding(crate::specs::Xxh3Stream::taken))]
+pub(crate) fn taken(
+    start: [u64; 8],
+    bytes: &[u8],
+    at: usize,
+    number: usize,
+    count: usize,
+) -> [u64; 8]
+    requires within { at + 64 * count ≤ length bytes.now }
+    requires number { number < 32 }
+    ensures { result ≡ taken start bytes.now at number count }
+{
+    let mut v = start;
+    for i in 0..count {
+        let next = stripe_taken(v, bytes, at + 64 * i, (number + i) % 16);
+        v = next;
+    }
+    v
+}
+
 // The lanes after all stripes that end before the last byte.
 #[tactic(auto, unfolding(crate::specs::Xxh3::all_stripes))]
 fn all_stripes(bytes: &[u8]) -> [u64; 8]
@@ -148,7 +182,7 @@ fn lanes_folded(v: [u64; 8], i: usize) -> u64
 }
 
 #[tactic(auto, unfolding(crate::specs::Xxh3::lanes_merged))]
-fn lanes_merged(v: [u64; 8], hash: u64) -> u64
+pub(crate) fn lanes_merged(v: [u64; 8], hash: u64) -> u64
     ensures { result ≡ lanes_merged v hash }
 {
     finished(

@@ -1,67 +1,55 @@
 // What the lines of a script said so far.
-ghost use Rattle.std.specs.Prelude.{◌≡◌, true, false, IfOk, IfSome, MatchOption};
-ghost use Rattle.mb_store.specs.MemStore.{told_of};
-ghost use Rattle.mb_tables.specs.Schema.{set_tables};
-ghost use Rattle.mb_tables.specs.declared.kind.MbtType.TheVariants.{Flat};
-ghost use Rattle.tile_bridge.specs.FlatRows.{AreFlatRows};
-ghost use Rattle.tileset_script.specs.Script.{in_options, no_lines, script_in, with_line};
+ghost use Rattle.std.specs.Prelude.{◌≡◌, ◌++◌, length, IfOk, IfSome, OnOk};
+ghost use Rattle.std.specs.Option.{option_map, option_to_list};
+ghost use Rattle.mb_tables.specs.Table.{width};
+ghost use Rattle.tileset_script.specs.Script.{begun, ended, no_lines, with_line};
 
 use super::ParsedScript;
 use super::line::Line;
 use super::setting::{Setting, options_of};
-use crate::base::{new_base, push_tile};
-use mb_store::{MemStore, Row};
+use crate::layout::Layout;
+use crate::section::Section;
+use mb_store::{MemStore, Row, TableName};
 use std::alloc::Global;
 use tile_ids::{OutOfMemory, TileCoord};
-
-/// The sections of a script, in their order.
-#[derive(Clone, Copy, Debug, PartialEq, Eq)]
-pub enum Section {
-    /// Options, before the base.
-    Options,
-    /// The rows of the base.
-    Rows,
-    /// The coordinates that are asked for.
-    Queries,
-}
 
 /// What the lines of a script said so far.
 #[derive(Drop)]
 pub struct Draft {
-    section: Section,
     settings: Vec<Setting>,
-    base: MemStore,
+    earlier: Vec<MemStore>,
+    latest: Option<Section>,
     queries: Vec<TileCoord>,
-    ghost described: { (told_of base).descriptions ≡ set_tables Flat },
 }
 
 impl Draft {
-    ghost use Rattle.tileset_script.specs.Reading.{IsFlatLine, Takes, base_rows, drafted, script_text};
+    ghost use Rattle.tileset_script.specs.Reading.{ScriptNeverFails, DraftNeverFails, IsWide, Takes, drafted, script_text};
 
     /// Before the first line.
-    pub(crate) fn new(alloc: Global) -> Result<Draft, OutOfMemory>
-        ensures { IfOk result (λ draft. drafted draft ≡ no_lines) }
+    pub(crate) fn new(alloc: Global) -> Draft
+        ensures empty { drafted result ≡ no_lines }
+        ensures unfailing { DraftNeverFails result }
     {
-        Ok(Draft {
-            section: Section::Options,
+        Draft {
             settings: Vec::new(alloc),
-            base: new_base(alloc)?,
+            earlier: Vec::new(alloc),
+            latest: None,
             queries: Vec::new(alloc),
-        })
+        }
     }
 
-    /// Takes a line, and says whether it stands in its section and repeats no key.
-    pub(crate) fn take(&mut self, line: Line) -> Result<bool, OutOfMemory>
-        requires rows { AreFlatRows (base_rows self.old.base) }
-        requires line { IsFlatLine line }
+    /// Takes a line, and says whether it stands in its section, and a row in a table that has no row of its key.
+    pub(crate) fn take(&mut self, alloc: Global, line: Line) -> Result<bool, OutOfMemory>
+        requires { IsWide line }
         ensures takes { IfOk result (λ taken. Takes (with_line (drafted self.old) line) taken (drafted self.new)) }
-        ensures rows { IfOk result (λ taken. taken ≡ true → AreFlatRows (base_rows self.new.base)) }
+        ensures unfailing { OnOk result (DraftNeverFails self.old → DraftNeverFails self.new) }
     {
         match line {
             Line::Nothing => Ok(true),
             Line::Given(setting) => self.take_setting(setting),
-            Line::Base => Ok(self.take_base()),
-            Line::Row(row) => self.take_row(row),
+            Line::Base(layout) => self.take_base(alloc, layout),
+            Line::Patch(layout) => self.take_patch(alloc, layout),
+            Line::Row(table, row) => self.take_row(table, row),
             Line::Query(coord) => self.take_query(coord),
         }
     }
@@ -69,66 +57,112 @@ impl Draft {
     // An option stands before the base.
     fn take_setting(&mut self, setting: Setting) -> Result<bool, OutOfMemory>
         ensures takes { IfOk result (λ taken. Takes (with_line (drafted self.old) (Line.Given setting)) taken (drafted self.new)) }
-        ensures rows { base_rows self.new.base ≡ base_rows self.old.base }
+        ensures unfailing { OnOk result (DraftNeverFails self.old → DraftNeverFails self.new) }
     {
-        if self.section != Section::Options {
+        if self.latest.is_some() {
             return Ok(false);
         }
         self.settings.push(setting)?;
         Ok(true)
     }
 
-    // There is one base.
-    fn take_base(&mut self) -> bool
-        ensures takes { Takes (with_line (drafted self.old) Line.Base) result (drafted self.new) }
-        ensures rows { base_rows self.new.base ≡ base_rows self.old.base }
+    // Begins a store behind those that were begun before.
+    fn begin(&mut self, alloc: Global, layout: Layout) -> Result<(), OutOfMemory>
+        ensures begun { OnOk result (drafted self.new ≡ begun (drafted self.old) layout) }
+        ensures unfailing { OnOk result (DraftNeverFails self.old → DraftNeverFails self.new) }
     {
-        if self.section != Section::Options {
-            return false;
+        let section = Section::new(alloc, layout)?;
+        if let Some(before) = self.latest.replace(section) {
+            self.earlier.push(before.into_store())?;
         }
-        self.section = Section::Rows;
-        true
+        Ok(())
     }
 
-    // A row stands behind the base or another row, and has another key than those before it.
-    fn take_row(&mut self, row: Row) -> Result<bool, OutOfMemory>
-        requires rows { AreFlatRows (base_rows self.old.base) }
-        requires line { IsFlatLine (Line.Row row) }
-        ensures takes { IfOk result (λ taken. Takes (with_line (drafted self.old) (Line.Row row)) taken (drafted self.new)) }
-        ensures rows { IfOk result (λ taken. taken ≡ true → AreFlatRows (base_rows self.new.base)) }
+    // There is one base.
+    fn take_base(&mut self, alloc: Global, layout: Layout) -> Result<bool, OutOfMemory>
+        ensures takes { IfOk result (λ taken. Takes (with_line (drafted self.old) (Line.Base layout)) taken (drafted self.new)) }
+        ensures unfailing { OnOk result (DraftNeverFails self.old → DraftNeverFails self.new) }
     {
-        if self.section != Section::Rows {
+        if self.latest.is_some() {
             return Ok(false);
         }
-        let new = push_tile(&mut self.base, row)?;
-        Ok(new)
+        self.begin(alloc, layout)?;
+        Ok(true)
+    }
+
+    // A patch stands behind the base and before the queries.
+    fn take_patch(&mut self, alloc: Global, layout: Layout) -> Result<bool, OutOfMemory>
+        ensures takes { IfOk result (λ taken. Takes (with_line (drafted self.old) (Line.Patch layout)) taken (drafted self.new)) }
+        ensures unfailing { OnOk result (DraftNeverFails self.old → DraftNeverFails self.new) }
+    {
+        if self.latest.is_none() || !self.queries.is_empty() {
+            return Ok(false);
+        }
+        self.begin(alloc, layout)?;
+        Ok(true)
+    }
+
+    // A row stands behind the base or a patch and before the queries, and goes to the store that was begun last.
+    fn take_row(&mut self, table: TableName, row: Row) -> Result<bool, OutOfMemory>
+        requires { length row ≡ width table }
+        ensures takes { IfOk result (λ taken. Takes (with_line (drafted self.old) (Line.Row table row)) taken (drafted self.new)) }
+        ensures unfailing { OnOk result (DraftNeverFails self.old → DraftNeverFails self.new) }
+    {
+        if !self.queries.is_empty() {
+            return Ok(false);
+        }
+        match &mut self.latest {
+            Some(section) => section.take_row(table, row),
+            None => Ok(false),
+        }
     }
 
     // A query stands behind the base.
     fn take_query(&mut self, coord: TileCoord) -> Result<bool, OutOfMemory>
         ensures takes { IfOk result (λ taken. Takes (with_line (drafted self.old) (Line.Query coord)) taken (drafted self.new)) }
-        ensures rows { base_rows self.new.base ≡ base_rows self.old.base }
+        ensures unfailing { OnOk result (DraftNeverFails self.old → DraftNeverFails self.new) }
     {
-        if self.section == Section::Options {
+        if self.latest.is_none() {
             return Ok(false);
         }
         self.queries.push(coord)?;
-        self.section = Section::Queries;
         Ok(true)
     }
 
     /// The script, where there was a base line.
-    pub(crate) fn finish(self) -> Option<ParsedScript>
-        ensures script { MatchOption result (in_options self.section ≡ true) (λ s. (in_options self.section ≡ false) × (script_text s ≡ script_in (drafted self))) }
-        ensures rows { IfSome result (λ s. base_rows s.base ≡ base_rows self.base) }
+    pub(crate) fn finish(self) -> Result<Option<ParsedScript>, OutOfMemory>
+        ensures script { IfOk result (λ script. option_map script_text script ≡ ended (drafted self)) }
+        ensures unfailing { IfOk result (λ script. DraftNeverFails self → IfSome script ScriptNeverFails) }
     {
-        if self.section == Section::Options {
-            return None;
+        let Draft {
+            settings,
+            earlier,
+            latest,
+            queries,
+        } = self;
+        let mut stores = all_stores(earlier, latest)?;
+        if stores.is_empty() {
+            return Ok(None);
         }
-        Some(ParsedScript {
-            options: options_of(self.settings),
-            base: self.base,
-            queries: self.queries,
-        })
+        let base = stores.remove(0);
+        Ok(Some(ParsedScript {
+            options: options_of(settings),
+            base,
+            patches: stores,
+            queries,
+        }))
     }
+}
+
+// All stores, the latest behind the others.
+fn all_stores(
+    mut earlier: Vec<MemStore>,
+    latest: Option<Section>,
+) -> Result<Vec<MemStore>, OutOfMemory>
+    ensures { IfOk result (λ stores. stores.items ≡ earlier.items ++ option_to_list (option_map (λ s. s.store) latest)) }
+{
+    if let Some(section) = latest {
+        earlier.push(section.into_store())?;
+    }
+    Ok(earlier)
 }

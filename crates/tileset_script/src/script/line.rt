@@ -1,112 +1,105 @@
 // What one line of a script says.
-ghost use Rattle.std.specs.Prelude.{◌≡◌, [], ◌∷◌, IfOk, IfSome, is_some};
-ghost use Rattle.mb_tables.specs.Tiles.{tile_of};
-ghost use Rattle.tile_bridge.specs.FlatRows.{number_in};
-ghost use Rattle.tileset_script.specs.Cell.{cell_of};
-ghost use Rattle.tileset_script.specs.Parting.{words_of};
-ghost use Rattle.tileset_script.specs.Reading.{IsFlatLine};
-ghost use Rattle.tileset_script.specs.Script.{base_words, line_by, line_of, option_words, query_line, query_words, row_line, row_words, tile_row};
+ghost use Rattle.std.specs.Prelude.{◌≡◌, ◌≤◌, ◌-◌, ◌++◌, length, IfOk, IfSome};
+ghost use Rattle.mb_tables.specs.Table.{width};
+ghost use Rattle.line_words.specs.Parting.{words_of};
+ghost use Rattle.tileset_script.specs.Reading.{IsWide};
+ghost use Rattle.tileset_script.specs.Script.{layout_words, line_by, line_of, option_words, query_line, query_words, row_of, row_words, table_named};
 
 use super::cell::parse_cell;
-use super::parting::{first_word, four_words, is_word, one_word, three_words};
-use super::setting::{Setting, parse_setting};
-use crate::number::parse_number;
-use mb_store::{Cell, Row};
+use super::setting::{Setting, parse_flag, parse_setting};
+use crate::layout::{Layout, layout_of};
+use line_words::{first_word, is_word, one_word, parse_number, three_words};
+use mb_store::{Row, TableName};
 use std::alloc::Global;
-use tile_ids::{OutOfMemory, TileCoord, parse_tile_index};
+use tile_ids::{OutOfMemory, TileCoord};
 
 /// A line of a script.
 #[derive(Debug, Drop)]
 pub enum Line {
     /// An empty line, or one that begins with `#`.
     Nothing,
-    /// An option of the archive.
+    /// An option.
     Given(Setting),
     /// The beginning of the base.
-    Base,
-    /// A row of the base's table of tiles.
-    Row(Row),
+    Base(Layout),
+    /// The beginning of a patch.
+    Patch(Layout),
+    /// A row of a table of the base or patch that was begun last.
+    Row(TableName, Row),
     /// A coordinate that is asked for.
     Query(TileCoord),
 }
 
-// The number in a cell.
-fn number_in(cell: &Cell) -> Option<i64>
-    ensures { result ≡ number_in cell.now }
+// The table of a name.
+fn table_of(word: &[u8]) -> Option<TableName>
+    ensures { result ≡ table_named word.now }
 {
-    match cell {
-        Cell::Int(number) => Some(*number),
-        _ => None,
+    if is_word(word, "tiles") {
+        return Some(TableName::Tiles);
     }
-}
-
-// Whether cells are a tile: a place of zoom 0 to 30 in range, and bytes or null.
-fn is_tile(zoom: &Cell, column: &Cell, row: &Cell, contents: &Cell) -> bool
-    ensures { result ≡ is_some (tile_of (zoom.now ∷ column.now ∷ row.now ∷ contents.now ∷ []) contents.now) }
-{
-    matches!(contents, Cell::Null | Cell::Blob(_))
-        && parse_tile_index(number_in(zoom), number_in(column), number_in(row)).is_some()
-}
-
-// The line of a row that is a tile.
-fn tile_row(
-    alloc: Global,
-    zoom: Cell,
-    column: Cell,
-    row: Cell,
-    contents: Cell,
-) -> Result<Option<Line>, OutOfMemory>
-    ensures line { IfOk result (λ line. line ≡ tile_row (zoom ∷ column ∷ row ∷ contents ∷ [])) }
-    ensures flat { IfOk result (λ line. IfSome line IsFlatLine) }
-{
-    if !is_tile(&zoom, &column, &row, &contents) {
-        return Ok(None);
+    if is_word(word, "tiles_with_hash") {
+        return Some(TableName::TilesWithHash);
     }
-    let cells = vec![in alloc; zoom, column, row, contents]?;
-    Ok(Some(Line::Row(Row::new(cells))))
+    if is_word(word, "map") {
+        return Some(TableName::Map);
+    }
+    if is_word(word, "images") {
+        return Some(TableName::Images);
+    }
+    if is_word(word, "tiles_shallow") {
+        return Some(TableName::TilesShallow);
+    }
+    if is_word(word, "tiles_data") {
+        return Some(TableName::TilesData);
+    }
+    if is_word(word, "tile_cache") {
+        return Some(TableName::TileCache);
+    }
+    if is_word(word, "metadata") {
+        return Some(TableName::Metadata);
+    }
+    None
 }
 
-// The line of a row of four words.
-fn row_line(
-    alloc: Global,
-    zoom: &[u8],
-    column: &[u8],
-    row: &[u8],
-    contents: &[u8],
-) -> Result<Option<Line>, OutOfMemory>
-    ensures line { IfOk result (λ line. line ≡ row_line (cell_of zoom.now) (cell_of column.now) (cell_of row.now) (cell_of contents.now)) }
-    ensures flat { IfOk result (λ line. IfSome line IsFlatLine) }
+// The row of so many cells that words are, one for each word.
+fn parse_row(alloc: Global, words: &[u8], width: usize) -> Result<Option<Row>, OutOfMemory>
+    ensures row { IfOk result (λ row. row ≡ row_of width (words_of words.now)) }
+    ensures wide { IfOk result (λ row. IfSome row (λ r. length r ≡ width)) }
 {
-    let Some(zoom) = parse_cell(alloc, zoom)? else {
-        return Ok(None);
-    };
-    let Some(column) = parse_cell(alloc, column)? else {
-        return Ok(None);
-    };
-    let Some(row) = parse_cell(alloc, row)? else {
-        return Ok(None);
-    };
-    let Some(contents) = parse_cell(alloc, contents)? else {
-        return Ok(None);
-    };
-    tile_row(alloc, zoom, column, row, contents)
+    let mut cells = Vec::with_capacity(alloc, width)?;
+    let mut rest = Some(words);
+    for _ in 0..width {
+        let Some(text) = rest else {
+            return Ok(None);
+        };
+        let (word, more) = first_word(text);
+        let Some(cell) = parse_cell(alloc, word)? else {
+            return Ok(None);
+        };
+        cells.push(cell)?;
+        rest = more;
+    }
+    match rest {
+        Some(_) => Ok(None),
+        None => Ok(Some(Row::new(cells))),
+    }
 }
 
 // What the words behind `row` say.
 fn row_words(alloc: Global, words: &[u8]) -> Result<Option<Line>, OutOfMemory>
     ensures line { IfOk result (λ line. line ≡ row_words (words_of words.now)) }
-    ensures flat { IfOk result (λ line. IfSome line IsFlatLine) }
+    ensures wide { IfOk result (λ line. IfSome line IsWide) }
 {
-    let (table, Some(cells)) = first_word(words) else {
+    let (name, Some(cells)) = first_word(words) else {
         return Ok(None);
     };
-    let Some((zoom, column, row, contents)) = four_words(cells) else {
+    let Some(table) = table_of(name) else {
         return Ok(None);
     };
-    if !is_word(table, "tiles") {
-        return Ok(None);
+    match parse_row(alloc, cells, table.width())? {
+        Some(row) => Ok(Some(Line::Row(table, row))),
+        None => Ok(None),
     }
-    row_line(alloc, zoom, column, row, contents)
 }
 
 // The line that asks for a coordinate of zoom 0 to 31.
@@ -134,28 +127,25 @@ fn query_words(words: &[u8]) -> Option<Line>
 // What the words behind `option` say.
 fn option_words(alloc: Global, words: &[u8]) -> Result<Option<Line>, OutOfMemory>
     ensures line { IfOk result (λ line. line ≡ option_words (words_of words.now)) }
+    ensures wide { IfOk result (λ line. IfSome line IsWide) }
 {
-    let (name, Some(values)) = first_word(words) else {
-        return Ok(None);
-    };
-    Ok(parse_setting(alloc, name, values)?.map(Line::Given))
+    match first_word(words) {
+        (name, Some(values)) => Ok(parse_setting(alloc, name, values)?.map(Line::Given)),
+        (name, None) => Ok(parse_flag(name).map(Line::Given)),
+    }
 }
 
-// What the words behind `base` say.
-fn base_words(words: &[u8]) -> Option<Line>
-    ensures line { result ≡ base_words (words_of words.now) }
+// The layout that is alone behind `base` or `patch`.
+fn layout_words(words: &[u8]) -> Option<Layout>
+    ensures { result ≡ layout_words (words_of words.now) }
 {
-    if is_word(one_word(words)?, "flat") {
-        Some(Line::Base)
-    } else {
-        None
-    }
+    layout_of(one_word(words)?)
 }
 
 // What a first word and those behind it say.
 fn line_by(alloc: Global, word: &[u8], words: &[u8]) -> Result<Option<Line>, OutOfMemory>
     ensures line { IfOk result (λ line. line ≡ line_by word.now (words_of words.now)) }
-    ensures flat { IfOk result (λ line. IfSome line IsFlatLine) }
+    ensures wide { IfOk result (λ line. IfSome line IsWide) }
 {
     if is_word(word, "row") {
         return row_words(alloc, words);
@@ -167,7 +157,10 @@ fn line_by(alloc: Global, word: &[u8], words: &[u8]) -> Result<Option<Line>, Out
         return option_words(alloc, words);
     }
     if is_word(word, "base") {
-        return Ok(base_words(words));
+        return Ok(layout_words(words).map(Line::Base));
+    }
+    if is_word(word, "patch") {
+        return Ok(layout_words(words).map(Line::Patch));
     }
     Ok(None)
 }
@@ -176,13 +169,13 @@ fn line_by(alloc: Global, word: &[u8], words: &[u8]) -> Result<Option<Line>, Out
 /// What a line says, or None where it is none of the script's forms.
 pub(crate) fn parse_line(alloc: Global, line: &[u8]) -> Result<Option<Line>, OutOfMemory>
     ensures line { IfOk result (λ parsed. parsed ≡ line_of line.now) }
-    ensures flat { IfOk result (λ parsed. IfSome parsed IsFlatLine) }
+    ensures wide { IfOk result (λ parsed. IfSome parsed IsWide) }
 {
     if let [] | [b'#', ..] = line {
         return Ok(Some(Line::Nothing));
     }
-    let (word, Some(words)) = first_word(line) else {
-        return Ok(None);
-    };
-    line_by(alloc, word, words)
+    match first_word(line) {
+        (word, Some(words)) => line_by(alloc, word, words),
+        (_, None) => Ok(None),
+    }
 }

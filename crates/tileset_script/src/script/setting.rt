@@ -1,20 +1,26 @@
 // The options that lines of a script give.
 ghost use Rattle.std.specs.Prelude.{◌≡◌, false, codes, IfOk};
+ghost use Rattle.std.specs.List.{list_any};
 ghost use Rattle.std.specs.Str.{bytes_eq};
-ghost use Rattle.tileset_script.specs.Parting.{words_of};
-ghost use Rattle.tileset_script.specs.Setting.{bounds_of, center_of, compression_named, degrees_of, options_of, setting_of, type_in, type_named, with_setting, with_value, zoom_of};
+ghost use Rattle.line_words.specs.Parting.{words_of};
+ghost use Rattle.tileset_script.specs.Setting.{bounds_of, center_of, compression_named, degrees_of, is_force, is_verify, options_of, setting_of, type_in, type_named, with_setting, with_value, without_value, writer_of, zoom_of};
 
-use super::parting::{first_word, four_words, is_word, one_word, two_words};
 use super::text::parse_text;
-use crate::number::{parse_integer, parse_number};
+use crate::leaf_entries::LeafEntries;
+use line_words::{four_words, is_word, one_word, parse_integer, parse_number, two_words};
 use pm_format::{Compression, TileType};
 use pm_writer::PmTilesWriter;
 use std::alloc::Global;
+use tile_bridge::ConvertOptions;
 use tile_ids::{OutOfMemory, TextVal};
 
-/// An option of an archive: how it is labelled, or what it says of its tiles.
+/// An option: how the set is converted, how the archive is labelled, or what it says of its tiles.
 #[derive(Debug, Drop)]
 pub enum Setting {
+    /// Patches are taken without the hashes that chain them.
+    Force,
+    /// The stored aggregate hash of the resulting set has to be there and right.
+    Verify,
     /// The type of the tiles.
     TileType(TileType),
     /// The label of tiles.
@@ -27,6 +33,8 @@ pub enum Setting {
     MaxZoom(u8),
     /// The zoom to begin with.
     CenterZoom(u8),
+    /// How many entries a directory of tile entries below the root may have.
+    MaxLeafEntries(LeafEntries),
     /// Least longitude, least latitude, greatest longitude and greatest latitude, in ten millionths of a degree.
     Bounds(i32, i32, i32, i32),
     /// Longitude and latitude to begin with, in ten millionths of a degree.
@@ -79,7 +87,20 @@ fn parse_degrees(word: &[u8]) -> Option<i32>
     Some(parse_integer(word, 1 << 31)? as i32)
 }
 
-// The label, type, or zoom of a name and its one value.
+/// The option of a name without a value.
+pub(crate) fn parse_flag(name: &[u8]) -> Option<Setting>
+    ensures { result ≡ without_value name.now }
+{
+    if is_word(name, "force") {
+        return Some(Setting::Force);
+    }
+    if is_word(name, "verify") {
+        return Some(Setting::Verify);
+    }
+    None
+}
+
+// The label, type, zoom or number of entries of a name and its one value.
 fn plain_setting(name: &[u8], word: &[u8]) -> Option<Setting>
     ensures { bytes_eq name.now (codes "metadata") ≡ false → result ≡ with_value name.now word.now }
 {
@@ -100,6 +121,9 @@ fn plain_setting(name: &[u8], word: &[u8]) -> Option<Setting>
     }
     if is_word(name, "center-zoom") {
         return parse_zoom(word).map(Setting::CenterZoom);
+    }
+    if is_word(name, "max-leaf-entries") {
+        return LeafEntries::parse(word).map(Setting::MaxLeafEntries);
     }
     None
 }
@@ -173,30 +197,62 @@ fn last_type(settings: &[Setting]) -> TileType
     tile_type
 }
 
-// Options with one more given.
+// What is said of the archive, with one setting more.
 fn with_setting(writer: PmTilesWriter, setting: Setting) -> PmTilesWriter
     ensures { result ≡ with_setting writer setting }
 {
     match setting {
-        Setting::TileType(_) => writer,
+        Setting::Force | Setting::Verify | Setting::TileType(_) => writer,
         Setting::TileCompression(label) => writer.tile_compression(label),
         Setting::InternalCompression(label) => writer.internal_compression(label),
         Setting::MinZoom(zoom) => writer.min_zoom(zoom),
         Setting::MaxZoom(zoom) => writer.max_zoom(zoom),
         Setting::CenterZoom(zoom) => writer.center_zoom(zoom),
+        Setting::MaxLeafEntries(entries) => writer.max_leaf_entries(entries.value()),
         Setting::Bounds(west, south, east, north) => writer.bounds(west, south, east, north),
         Setting::Center(longitude, latitude) => writer.center(longitude, latitude),
         Setting::Metadata(text) => writer.metadata(text),
     }
 }
 
-/// The options that are given in order, those of one kind by the last, upon the defaults of the last type.
-pub(crate) fn options_of(settings: Vec<Setting>) -> PmTilesWriter
-    ensures { result ≡ options_of settings.items }
+// What settings say of the archive, upon the defaults of the last type.
+fn writer_of(settings: Vec<Setting>) -> PmTilesWriter
+    ensures { result ≡ writer_of settings.items }
 {
     let mut writer = PmTilesWriter::new(last_type(settings.as_slice()));
     for setting in settings {
         writer = with_setting(writer, setting);
     }
     writer
+}
+
+// Whether patches are to be taken without their hashes.
+fn is_forced(settings: &[Setting]) -> bool
+    ensures { result ≡ list_any is_force settings.now }
+{
+    settings
+        .iter()
+        .any(|setting| matches!(setting, Setting::Force))
+}
+
+// Whether the stored aggregate hash is to be verified.
+fn is_verified(settings: &[Setting]) -> bool
+    ensures { result ≡ list_any is_verify settings.now }
+{
+    settings
+        .iter()
+        .any(|setting| matches!(setting, Setting::Verify))
+}
+
+/// The options that settings give in order, those of one kind by the last, upon the defaults of the last type.
+pub(crate) fn options_of(settings: Vec<Setting>) -> ConvertOptions
+    ensures { result ≡ options_of settings.items }
+{
+    let force = is_forced(settings.as_slice());
+    let verify = is_verified(settings.as_slice());
+    ConvertOptions {
+        force,
+        verify,
+        writer: writer_of(settings),
+    }
 }

@@ -1,6 +1,13 @@
-use Rattle.std.proofs.Common.{◌≡◌, ◌≤◌, All, length}
+use Rattle.std.proofs.Common.{◌≡◌, ◌≤◌, All, length, take}
+use Rattle.std.specs.List.{AllZip}
 use Rattle.mb_tables.specs.Table.{width}
+use Rattle.mb_sqlite.specs.Reading.{IsRowOf}
 use Rattle.mb_sqlite.proofs.query.rows_of.Given as goal
 
 abbrev pub invariant-loop-answer : goal.invariant-loop-answer
-invariant-loop-answer l = (length l.rows.items ≤ l.limit) × All (λ row. length row ≡ width l.table) l.rows.items
+invariant-loop-answer l = record {
+  long : length l.rows.items ≡ l.answer-index;
+  limit : length l.rows.items ≤ l.limit;
+  widths : All (λ row. length row ≡ width l.table) l.rows.items;
+  read : AllZip (IsRowOf l.table) (take l.answer-index l.answers) l.rows.items;
+}

@@ -1,9 +1,9 @@
 use Rattle.pm_writer.specs.Archive.{parts_of}
-use Rattle.pm_writer.proofs.Whole.{consists}
+use Rattle.pm_writer.proofs.Bounds.{whole_formed}
 use Rattle.pm_writer.proofs.laws.archive_is_well_formed.Goals as goal
 
 pub returns-clause-parts : goal.returns-clause-parts
-returns-clause-parts c = consists
+returns-clause-parts c = whole_formed
 
 pub returns-clause-formed : goal.returns-clause-formed
-returns-clause-formed c = λ o adds a. (parts_of adds, consists o adds a)
+returns-clause-formed c = λ o adds a. (parts_of o adds, whole_formed o adds a)

@@ -1,6 +1,6 @@
 use Rattle.std.proofs.Common.{◌≡◌}
-use Rattle.tile_hash.specs.Xxh64.{begun, after_words}
+use Rattle.tile_hash.specs.Xxh64.{after_words}
 use Rattle.tile_hash.proofs.xxh_64.after_whole_words.Given as goal
 
 abbrev pub invariant-loop-i : goal.invariant-loop-i
-invariant-loop-i l = l.hash ≡ after_words (begun l.bytes) l.bytes l.at l.i
+invariant-loop-i l = l.hash ≡ after_words l.fn.begun l.rest l.i

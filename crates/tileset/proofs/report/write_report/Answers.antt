@@ -1,4 +1,4 @@
-use Rattle.tileset.proofs.ReportLemmas.{file_all, file_front, lines_end, no_medium_fault}
+use Rattle.tileset.proofs.ReportLemmas.{bulk_front, file_all, file_front, lines_end, no_medium_fault}
 use Rattle.tileset.proofs.report.write_report.Goals as goal
 
 pub returns-in-ConvertFile-clause-all : goal.returns-in-ConvertFile-clause-all
@@ -12,6 +12,9 @@ returns-in-ConvertFile-clause-causes g c = lines_end _ _ c.write_summary.ensures
 
 pub returns-in-ConvertFile-clause-medium_fault : goal.returns-in-ConvertFile-clause-medium_fault
 returns-in-ConvertFile-clause-medium_fault g c = λ is. absurd (no_medium_fault _ c.write_summary.ensures.causes is)
+
+pub returns-in-Bulk-clause-front : goal.returns-in-Bulk-clause-front
+returns-in-Bulk-clause-front g c = bulk_front _ c.in-Bulk.tiles c.in-Bulk.repeat c.in-Bulk.leaf_entries c.is_some.result _ _ _ c.args.queries.now c.args.report.now c.in-Bulk.is c.is_some.ensures c.requires.reported c.write_places.ensures.front
 
 pub returns-in-Bulk-clause-causes : goal.returns-in-Bulk-clause-causes
 returns-in-Bulk-clause-causes g c = lines_end _ _ c.write_places.ensures.causes

@@ -15,25 +15,25 @@ returns-clause-exact g c =
     let given : Given = record { words = c.args.words.now; input = g.I.Source.left c.args.input.now; medium = g.M.Backend.told c.args.medium.now } in
     let s = script_text c.in_ok-script.script in
     let is : IsScript given s = record { asked = c.in-Some.command; words = search rules; script = c.in_ok-script.ensures.script } in
-    exact_by given s _ is c.convert.ensures.exact
+    exact_by given s _ is c.convert_script.ensures.exact
 
 pub returns-clause-causes : goal.returns-clause-causes
 returns-clause-causes g c =
     let given : Given = record { words = c.args.words.now; input = g.I.Source.left c.args.input.now; medium = g.M.Backend.told c.args.medium.now } in
     let s = script_text c.in_ok-script.script in
     let is : IsScript given s = record { asked = c.in-Some.command; words = search rules; script = c.in_ok-script.ensures.script } in
-    causes_by given s _ is c.convert.ensures.causes
+    causes_by given s _ is c.convert_script.ensures.causes
 
 pub returns-clause-medium : goal.returns-clause-medium
 returns-clause-medium g c =
     let given : Given = record { words = c.args.words.now; input = g.I.Source.left c.args.input.now; medium = g.M.Backend.told c.args.medium.now } in
     let s = script_text c.in_ok-script.script in
     let is : IsScript given s = record { asked = c.in-Some.command; words = search rules; script = c.in_ok-script.ensures.script } in
-    medium_by given s _ _ is c.convert.ensures.medium
+    medium_by given s _ _ is c.convert_script.ensures.medium
 
 pub returns-clause-output : goal.returns-clause-output
 returns-clause-output g c =
     let given : Given = record { words = c.args.words.now; input = g.I.Source.left c.args.input.now; medium = g.M.Backend.told c.args.medium.now } in
     let s = script_text c.in_ok-script.script in
     let is : IsScript given s = record { asked = c.in-Some.command; words = search rules; script = c.in_ok-script.ensures.script } in
-    output_by given s _ _ _ _ is c.convert.ensures.output
+    output_by given s _ _ _ _ is c.convert_script.ensures.output

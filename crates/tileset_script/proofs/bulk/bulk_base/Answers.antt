@@ -1,24 +1,14 @@
-use Rattle.std.proofs.Common.{rules, ◌≡◌, ◌∙◌, ◌/◌, sym, ap, subst, arith}
-use Rattle.tile_bridge.specs.FlatRows.{AreFlatRows}
-use Rattle.tileset_script.specs.Bulk.{bulk_rows, numbered_row}
-use Rattle.tileset_script.specs.Reading.{base_rows}
-use Rattle.tileset_script.proofs.BulkLemmas.{flat_rows, no_rows, one_more}
+use Rattle.std.proofs.Common.{rules, ◌∙◌, ◌/◌, ap}
+use Rattle.mb_store.specs.MemStore.{told_of}
+use Rattle.tileset_script.specs.Bulk.{numbered_row}
+use Rattle.tileset_script.proofs.BulkLemmas.{no_tiles, one_more}
 use Rattle.tileset_script.proofs.bulk.bulk_base.Goals as goal
 
 pub loop-id-init : goal.loop-id-init
-loop-id-init c = record { rows = c.in_ok-base.ensures.rows ∙ no_rows c.args.repeat; described = c.in_ok-base.ensures.described }
+loop-id-init c = record { told = c.in_ok-base.ensures.told ∙ no_tiles c.args.repeat; unfailing = c.in_ok-base.ensures.unfailing }
 
 pub loop-id-preserved : goal.loop-id-preserved
 loop-id-preserved c = record {
-  rows = one_more c.loop-id.id c.args.repeat (base_rows c.loop-id.base) c.in_ok-row.row (base_rows c.push_tile.new.base) c.loop-id.invariant.rows (c.in_ok-row.ensures.row ∙ ap (λ x. numbered_row x (c.loop-id.id / c.args.repeat)) c.coord_of.ensures)
-      (c.in_ok-push_tile.ensures.rows (search rules));
-  described = c.push_tile.ensures.described;
+  told = one_more c.loop-id.id c.args.repeat (told_of c.loop-id.base.store) (told_of c.take_row.new.self.store) c.in_ok-row.row c.loop-id.invariant.told (c.in_ok-row.ensures.row ∙ ap (λ x. numbered_row x (c.loop-id.id / c.args.repeat)) c.coord_of.ensures) (search rules);
+  unfailing = c.take_row.ensures.unfailing c.loop-id.invariant.unfailing;
 }
-
-pub returns-clause-rows : goal.returns-clause-rows
-returns-clause-rows c =
-    let all : c.loop-id.id ≡ c.args.tiles = omega arith in
-    c.loop-id.invariant.rows ∙ ap (λ n. bulk_rows n c.args.repeat) all
-
-pub returns-clause-flat : goal.returns-clause-flat
-returns-clause-flat c = subst AreFlatRows (sym (returns-clause-rows c)) (flat_rows c.args.tiles c.args.repeat c.requires.tiles)

@@ -1,7 +1,6 @@
-use Rattle.std.proofs.Common.{◌≡◌, ◌++◌, drop, None}
-use Rattle.std.specs.Prelude.{All}
-use Rattle.pm_format.specs.Directory.{IsPlaced, spell_all, starts_from}
+use Rattle.std.proofs.Common.{◌≡◌, ℕ, ◌++◌, drop, map, None}
+use Rattle.pm_format.specs.Directory.{IsWritable, spell_all, starts_from}
 use Rattle.pm_format.proofs.directory.encode.write_offsets.Given as goal
 
 abbrev pub invariant-loop-entry : goal.invariant-loop-entry
-invariant-loop-entry l = All IsPlaced (drop l.entry-index l.entries) × (l.out.items ++ spell_all (starts_from l.end (drop l.entry-index l.entries)) ≡ l.fn.out.items ++ spell_all (starts_from None l.entries))
+invariant-loop-entry g l = ((last : ℕ) × IsWritable last (map g.E.AsWide.entry (drop l.entry-index l.entries))) × (l.out.items ++ spell_all (starts_from l.end (map g.E.AsWide.entry (drop l.entry-index l.entries))) ≡ l.fn.out.items ++ spell_all (starts_from None (map g.E.AsWide.entry l.entries)))

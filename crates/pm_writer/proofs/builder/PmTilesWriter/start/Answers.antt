@@ -26,7 +26,7 @@ returns-clause-begun g c =
     let room : c.deref.result.now ≡ zeros 16384 = c.deref.ensures.value ∙ c.in_ok-room.ensures in
     let bytes = metadata_written c.args.self.now c.deref.result.now c.metadata_bytes-metadata.result.now _ _ room c.metadata_bytes-metadata.ensures (room_written c.deref.result.now _ _ c.requires.empty c.in_ok-put.ensures.done) c.in_ok-put-2.ensures.done in
     record {
-      of = record { settings = c.settings.ensures; plain = search rules; place = ap (λ z. 16384 + length z) c.metadata_bytes-metadata.ensures };
+      of = record { settings = c.settings.ensures.is; plain = search rules; fit = c.settings.ensures.fit; place = ap (λ z. 16384 + length z) c.metadata_bytes-metadata.ensures };
       hidden = begun_is_hidden c.args.self.now [] _ bytes;
       held = λ e. record { means = c.new.ensures; ends = omega (arith, ap length c.metadata_bytes-metadata.ensures); bytes = bytes };
     }

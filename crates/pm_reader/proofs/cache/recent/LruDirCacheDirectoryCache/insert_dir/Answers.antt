@@ -1,8 +1,15 @@
+use Rattle.std.proofs.Common.{List, length, subst}
+use Rattle.bounded_lru.specs.Bounded.{Puts}
+use Rattle.pm_format.specs.Directory.{Entry}
 use Rattle.pm_reader.proofs.RecentLemmas.{adds_put, held_put}
 use Rattle.pm_reader.proofs.cache.recent.LruDirCacheDirectoryCache.insert_dir.Goals as goal
 
-pub returns-in-Ok-clause-held : goal.returns-in-Ok-clause-held
-returns-in-Ok-clause-held c = held_put c.args.self.now.directories c.put.new.self c.args.offset c.args.directory c.in-Ok.ensures.entries
+pub returns-clause-kept : goal.returns-clause-kept
+returns-clause-kept c =
+    let P : List Entry → Type 0 = λ d. Puts length c.args.self.now.directories c.insert.new.self c.args.offset d c.insert.result in
+    held_put c.args.self.now.directories c.insert.new.self c.args.offset c.args.directory c.insert.result (subst P c.new.ensures c.insert.ensures.puts) c.insert.ensures.within
 
-pub returns-in-Ok-clause-adds : goal.returns-in-Ok-clause-adds
-returns-in-Ok-clause-adds c = adds_put c.args.self.now.directories c.put.new.self c.args.offset c.args.directory c.in-Ok.ensures.entries
+pub returns-clause-adds : goal.returns-clause-adds
+returns-clause-adds c =
+    let P : List Entry → Type 0 = λ d. Puts length c.args.self.now.directories c.insert.new.self c.args.offset d c.insert.result in
+    adds_put c.args.self.now.directories c.insert.new.self c.args.offset c.args.directory c.insert.result (subst P c.new.ensures c.insert.ensures.puts)

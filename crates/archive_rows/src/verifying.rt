@@ -1,0 +1,55 @@
+// The check of the whole archive that is held.
+use crate::counted::Counted;
+use crate::words::{Words, number, say, texts};
+use pm_format::MemMedium;
+use std::alloc::Global;
+use tile_hash::{HashAlgorithm, HashStream};
+use tile_ids::TextVal;
+use tile_verify::{VerifyOutcome, run_verify, verify, verify_line, verify_status};
+
+// The status and the line of a run with these words.
+fn run(alloc: Global, out: &mut String, backend: &mut Counted, words: &mut Words) -> Option<()> {
+    let words = texts(alloc, words)?;
+    let outcome = run_verify(alloc, words.as_slice(), backend);
+    say(out, &verify_status(&outcome))?;
+    say(out, &verify_line(alloc, &outcome).ok()?)
+}
+
+// The line of a run over bytes of which one is raised.
+fn raised(alloc: Global, bytes: &[u8], at: usize, step: u8) -> Option<TextVal> {
+    let (byte, behind) = bytes.get(at..)?.split_first()?;
+    let mut changed = bytes.get(..at)?.to_vec(alloc).ok()?;
+    changed.push(byte.wrapping_add(step)).ok()?;
+    changed.extend_from_slice(behind).ok()?;
+    let outcome: VerifyOutcome = run_verify(alloc, &[], &mut MemMedium::from_bytes(changed));
+    verify_line(alloc, &outcome).ok()
+}
+
+// Raises each byte from a place to before another by each number from 1 to a last one: the digest of the lines in a row.
+fn changes(alloc: Global, out: &mut String, bytes: &[u8], words: &mut Words) -> Option<()> {
+    let first = number::<usize>(words)?;
+    let end = number::<usize>(words)?;
+    let last = number::<u8>(words)?;
+    let mut digest = HashStream::new(HashAlgorithm::Md5);
+    for at in first..end {
+        for step in 0..last {
+            let line = raised(alloc, bytes, at, step + 1)?;
+            digest.update(line.as_str().as_bytes());
+        }
+    }
+    say(out, &digest.finish(alloc).ok()?)
+}
+
+pub fn answer(
+    alloc: Global,
+    out: &mut String,
+    backend: &mut Counted,
+    words: &mut Words,
+) -> Option<()> {
+    match words.next()? {
+        "report" => say(out, &verify(alloc, backend)),
+        "run" => run(alloc, out, backend, words),
+        "changes" => changes(alloc, out, backend.medium.as_bytes(), words),
+        _ => None,
+    }
+}

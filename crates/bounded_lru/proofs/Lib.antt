@@ -1,0 +1,4 @@
+mod GivingUpLemmas
+pub mod HeldLemmas
+mod PuttingLemmas
+mod WeightLemmas

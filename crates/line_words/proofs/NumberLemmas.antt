@@ -1,0 +1,38 @@
+-- Decimal numbers, a digit at a time.
+use Rattle.std.proofs.Common.{◌≡◌, ℕ, suc, ◌+◌, ◌-◌, ◌*◌, ◌<◌, Bool, true, false, List, [], ◌∷◌, length, get_or, drop, nat_le, if◌then◌else◌, Option, Some, None, refl, sym, ◌∙◌, ap, arith, add-one}
+use Rattle.std.proofs.lemmas.Bool.Decides.{nat_tests}
+use Rattle.std.proofs.Math.Seq.{drop-cons}
+use Rattle.std.specs.Char.{is_ascii_digit}
+use Rattle.std.specs.Option.{option_and_then}
+use Rattle.line_words.specs.Number.{at_most, digits_behind}
+
+-- digits behind a number above a limit
+past : (limit n : ℕ) (word : List ℕ) → limit < n → option_and_then (at_most limit) (digits_behind n word) ≡ None
+past limit n [] h = let test : nat_le n limit ≡ false = grind (arith, nat_tests) in rw test refl
+past limit n (b ∷ word) h = cased (is_ascii_digit b) (past limit (n * 10 + (b - 48)) word (omega arith))
+  where
+    cased : (t : Bool) → option_and_then (at_most limit) (digits_behind (n * 10 + (b - 48)) word) ≡ None → option_and_then (at_most limit) (if t then digits_behind (n * 10 + (b - 48)) word else None) ≡ None
+    cased true g = g
+    cased false g = refl
+
+digit : (limit n b : ℕ) (word : List ℕ) (m : Option ℕ) → option_and_then (at_most limit) (digits_behind n (b ∷ [])) ≡ m
+    → option_and_then (at_most limit) (digits_behind n (b ∷ word)) ≡ option_and_then (λ k. option_and_then (at_most limit) (digits_behind k word)) m
+digit limit n b word m h = cased (is_ascii_digit b) (nat_le (n * 10 + (b - 48)) limit) refl h
+  where
+    cased : (t u : Bool) → nat_le (n * 10 + (b - 48)) limit ≡ u → option_and_then (at_most limit) (if t then Some (n * 10 + (b - 48)) else None) ≡ m
+        → option_and_then (at_most limit) (if t then digits_behind (n * 10 + (b - 48)) word else None) ≡ option_and_then (λ k. option_and_then (at_most limit) (digits_behind k word)) m
+    cased false u e f = ap (option_and_then (λ k. option_and_then (at_most limit) (digits_behind k word))) f
+    cased true true e f = let s : Some (n * 10 + (b - 48)) ≡ m = rw e at f in ap (option_and_then (λ k. option_and_then (at_most limit) (digits_behind k word))) s
+    cased true false e f = let s : None ≡ m = rw e at f in past limit (n * 10 + (b - 48)) word (grind (arith, nat_tests)) ∙ ap (option_and_then (λ k. option_and_then (at_most limit) (digits_behind k word))) s
+
+-- one more digit of a word
+pub digit_taken : (limit n i m : ℕ) (word : List ℕ) (whole : Option ℕ) → i < length word → option_and_then (at_most limit) (digits_behind n (get_or word i 0 ∷ [])) ≡ Some m
+    → option_and_then (at_most limit) (digits_behind n (drop i word)) ≡ whole → option_and_then (at_most limit) (digits_behind m (drop (i + 1) word)) ≡ whole
+digit_taken limit n i m word whole l h w =
+    let cons : drop i word ≡ get_or word i 0 ∷ drop (i + 1) word = rw add-one (drop-cons word i 0 l) in
+    sym (digit limit n (get_or word i 0) (drop (i + 1) word) (Some m) h) ∙ (ap (λ ds. option_and_then (at_most limit) (digits_behind n ds)) (sym cons) ∙ w)
+
+pub digit_refused : (limit n i : ℕ) (word : List ℕ) (whole : Option ℕ) → i < length word → option_and_then (at_most limit) (digits_behind n (get_or word i 0 ∷ [])) ≡ None
+    → option_and_then (at_most limit) (digits_behind n (drop i word)) ≡ whole → whole ≡ None
+digit_refused limit n i word whole l h w =
+    sym w ∙ (ap (λ ds. option_and_then (at_most limit) (digits_behind n ds)) (drop-cons word i 0 l) ∙ digit limit n (get_or word i 0) (drop (suc i) word) None h)

@@ -1,0 +1,91 @@
+-- Rows that no change of a set is of stay.
+use Rattle.std.proofs.Common.{◌≡◌, ◌∙◌, ap, sym, subst, ℕ, List, [], ◌∷◌, ◌++◌, Option, Some, None, Bool, true, false, ◌&&◌, not, filter, refl, is_some, take, drop, get_or, pos, length, ◌<◌, suc, zero}
+use Rattle.std.specs.Prelude.{option_and_then}
+use Rattle.std.specs.FinMap.{FinMap, contains_key, get}
+use Rattle.std.proofs.lemmas.Bool.{false≢true}
+use Rattle.std.proofs.lemmas.List.Folds.{list_any_none}
+use Rattle.mb_edit.specs.Applying.{stands_in}
+use Rattle.mb_load.proofs.PutRowLemmas.{front_read}
+use Rattle.mb_load.specs.Changing.{AreChangesOf, front, name_edited, place_edited}
+use Rattle.mb_load.specs.Held.{Edited, Held}
+use Rattle.mb_load.specs.LoadedFrom.{IsOnBoard}
+use Rattle.mb_store.proofs.Committed.{others_stay}
+use Rattle.mb_store.specs.Committing.{Commits}
+use Rattle.mb_store.specs.declared.change.Change.{Change}
+use Rattle.mb_tables.proofs.CellLemmas.{cells_eq-Decides}
+use Rattle.mb_tables.specs.Cell.{is_null}
+use Rattle.mb_tables.specs.Detection.{tile_table}
+use Rattle.mb_tables.specs.Key.{has_key, key_cells}
+use Rattle.mb_tables.specs.Table.{Tables, key_of, key_width, table_eq}
+use Rattle.mb_tables.specs.Tiles.{Place, cell_at, place_cmp, place_of}
+use Rattle.mb_tables.specs.declared.cell.Cell.{Cell}
+use Rattle.mb_tables.specs.declared.cell.Cell.TheVariants.{Int, Text}
+use Rattle.mb_tables.specs.declared.key.RowKey.{RowKey}
+use Rattle.mb_tables.specs.declared.key.RowKey.TheVariants.{Tile, TextId, IntId}
+use Rattle.mb_tables.specs.declared.kind.MbtType.{MbtType}
+use Rattle.mb_tables.specs.declared.kind.MbtType.TheVariants.{Flat, FlatWithHash, Normalized, Cache}
+use Rattle.mb_tables.specs.declared.kind.NormalizedSchema.TheVariants.{Hash, DedupId}
+use Rattle.mb_tables.specs.declared.table.TableName.{TableName}
+use Rattle.mb_tables.specs.declared.table.TableName.TheVariants.{Metadata}
+
+none_of : (a b : Bool) → (a ≡ true → b ≡ false) → (a && b) ≡ false
+none_of true b h = h refl
+none_of false b h = refl
+
+-- the rows that a test keeps stay, where no change of the table is of them
+frame : (t t' : Tables) (changes : List Change) → Commits changes t t' → (table : TableName) (q : List Cell → Bool) → ((row : List Cell) → q row ≡ true → (k : ℕ) (d : Change) → k < length changes → table_eq (get_or changes k d).table table ≡ true → has_key table (get_or changes k d).key row ≡ false) → filter q (t'.rows table) ≡ filter q (t.rows table)
+frame t t' changes made table q apart = others_stay changes table (t.rows table) (t'.rows table) (made.tables table) q (λ row kept.
+    list_any_none (λ c. table_eq c.table table && has_key table c.key row) changes (λ k d lt. none_of (table_eq (get_or changes k d).table table) (has_key table (get_or changes k d).key row) (apart row kept k d lt)))
+
+three_columns : (l : MbtType) → key_width (tile_table l) ≡ 3
+three_columns Flat = refl
+three_columns FlatWithHash = refl
+three_columns Cache = refl
+three_columns (Normalized view Hash) = refl
+three_columns (Normalized view DedupId) = refl
+
+-- a row under the key of a place begins with the place
+begins : (row : List Cell) (p : Place) → take 3 row ≡ front p → row ≡ front p ++ drop 3 row
+begins row p e = sym (take_drop 3 row) ∙ ap (λ l. l ++ drop 3 row) e
+  where
+    take_drop : (n : ℕ) (xs : List Cell) → take n xs ++ drop n xs ≡ xs
+    take_drop zero [] = refl
+    take_drop zero (x ∷ xs) = refl
+    take_drop (suc n) [] = refl
+    take_drop (suc n) (x ∷ xs) = ap (λ l. x ∷ l) (take_drop n xs)
+
+place_in : {A : Type 0} (m : FinMap place_cmp A) (row : List Cell) (p : Place) → place_of row ≡ Some p → contains_key m p ≡ true → stands_in m row ≡ true
+place_in m row p at has = ap (λ o. is_some (option_and_then (get m) o)) at ∙ has
+
+-- rows of places that weren't edited stay
+module _ (h : Held) (t t' : Tables) (changes : List Change) (are : AreChangesOf h changes) (made : Commits changes t t') where
+  pub tile_rows_stay : ((p : Place) → contains_key h.edited.places p ≡ true → IsOnBoard p) → filter (λ row. not (stands_in h.edited.places row)) (t'.rows (tile_table h.state.layout)) ≡ filter (λ row. not (stands_in h.edited.places row)) (t.rows (tile_table h.state.layout))
+  tile_rows_stay on = frame t t' changes made (tile_table h.state.layout) (λ row. not (stands_in h.edited.places row)) (λ row kept k d lt is.
+      other row kept (get_or changes k d).key (are.tiles.only k d lt is).0 (has_key (tile_table h.state.layout) (get_or changes k d).key row) refl)
+    where
+      at : (row : List Cell) (p : Place) → not (stands_in h.edited.places row) ≡ true → contains_key h.edited.places p ≡ true → has_key (tile_table h.state.layout) (Tile p.zoom p.column p.row) row ≡ true → ⊥
+      at row p kept edited e =
+          let cells : take 3 row ≡ front p = ap (λ n. take n row) (sym (three_columns h.state.layout)) ∙ (cells_eq-Decides (key_of (tile_table h.state.layout) row) (key_cells (Tile p.zoom p.column p.row))).0 e in
+          let read : place_of row ≡ Some p = ap place_of (begins row p cells) ∙ front_read p (drop 3 row) (on p edited) in
+          false≢true (sym (ap not (place_in h.edited.places row p read edited)) ∙ kept)
+
+      other : (row : List Cell) → not (stands_in h.edited.places row) ≡ true → (key : RowKey) → place_edited h.edited key ≡ true → (b : Bool) → has_key (tile_table h.state.layout) key row ≡ b → has_key (tile_table h.state.layout) key row ≡ false
+      other row kept key edited false e = e
+      other row kept (Tile zoom column line) edited true e = absurd (at row (record { zoom = zoom; column = column; row = line }) kept edited e)
+      other row kept (TextId text) edited true e = absurd (false≢true edited)
+      other row kept (IntId n) edited true e = absurd (false≢true edited)
+
+  -- rows of a null name stay
+  pub null_names_stay : filter (λ row. is_null (cell_at 0 row)) (t'.rows Metadata) ≡ filter (λ row. is_null (cell_at 0 row)) (t.rows Metadata)
+  null_names_stay = frame t t' changes made Metadata (λ row. is_null (cell_at 0 row)) (λ row null k d lt is.
+      other row null (get_or changes k d).key (are.names.only k d lt is).0 (has_key Metadata (get_or changes k d).key row) refl)
+    where
+      named : (row : List Cell) (text : List ℕ) → is_null (cell_at 0 row) ≡ true → take 1 row ≡ Text text ∷ [] → ⊥
+      named [] text n e = cc
+      named (x ∷ row) text n e = let s : x ≡ Text text = cc in false≢true (ap is_null (sym s) ∙ n)
+
+      other : (row : List Cell) → is_null (cell_at 0 row) ≡ true → (key : RowKey) → name_edited h.edited key ≡ true → (b : Bool) → has_key Metadata key row ≡ b → has_key Metadata key row ≡ false
+      other row null key edited false e = e
+      other row null (TextId text) edited true e = absurd (named row text null ((cells_eq-Decides (key_of Metadata row) (key_cells (TextId text))).0 e))
+      other row null (Tile zoom column line) edited true e = absurd (false≢true edited)
+      other row null (IntId n) edited true e = absurd (false≢true edited)

@@ -1,0 +1,16 @@
+pub mod PatchedLemmas
+pub mod StateLemmas
+pub mod LawLemmas
+pub mod OrderLemmas
+pub mod EntryLemmas
+pub mod MarkLemmas
+pub mod FromLast
+pub mod FreeLemmas
+pub mod EditedLemmas
+pub mod AlgorithmLemmas
+pub mod PassedLemmas
+pub mod LoadedLemmas
+pub mod StepLemmas
+pub mod FrameLemmas
+pub mod ApplyLemmas
+pub mod AnswerLemmas

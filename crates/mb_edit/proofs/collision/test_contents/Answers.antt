@@ -1,0 +1,23 @@
+use Rattle.std.proofs.Common.{◌≡◌, ◌∙◌, sym, subst, arith, drop, filter_map, length}
+use Rattle.std.specs.FinMap.{entries, len-entries}
+use Rattle.mb_edit.specs.Marks.{AreMarked}
+use Rattle.mb_edit.proofs.EntryLemmas.{past_end}
+use Rattle.mb_edit.proofs.MarkLemmas.{none_marked, none_put, put_before}
+use Rattle.tile_hash.specs.Digest.{digest}
+use Rattle.mb_edit.proofs.collision.test_contents.Goals as goal
+
+pub loop-left-init : goal.loop-left-init
+loop-left-init c =
+    let all : length (entries c.args.patch.now.state.tiles) ≡ c.tile_count-left.result = sym (c.tile_count-left.ensures ∙ len-entries c.args.patch.now.state.tiles) in
+    record {
+      within = omega (arith, all);
+      marked = subst (λ put. AreMarked (digest c.args.base.now.state.algorithm) c.args.base.now.state.contents (entries c.args.patch.now.state.tiles) put (record { by_id = c.new.result; first = c.tile_count-left.result })) (sym (none_put (entries c.args.patch.now.state.tiles) c.tile_count-left.result (omega (arith, all))))
+          (none_marked (digest c.args.base.now.state.algorithm) c.args.base.now.state.contents (entries c.args.patch.now.state.tiles) (record { by_id = c.new.result; first = c.tile_count-left.result }) c.new.ensures.empty (sym (past_end (entries c.args.patch.now.state.tiles) c.tile_count-left.result (omega (arith, all)))));
+    }
+
+pub loop-left-preserved : goal.loop-left-preserved
+loop-left-preserved c = record {
+  within = omega (arith, c.loop-left.invariant.within);
+  marked = subst (λ put. AreMarked (digest c.args.base.now.state.algorithm) c.args.base.now.state.contents (entries c.args.patch.now.state.tiles) put c.meet.new.marks) (sym (put_before (entries c.args.patch.now.state.tiles) c.loop-left.left c.loop-left-test.true c.loop-left.invariant.within))
+      (c.in_ok-meet.ensures (filter_map (λ e. e.1) (drop c.loop-left.left (entries c.args.patch.now.state.tiles))) c.loop-left.invariant.marked);
+}

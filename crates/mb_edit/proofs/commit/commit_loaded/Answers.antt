@@ -1,0 +1,6 @@
+use Rattle.std.proofs.Common.{◌≡◌}
+use Rattle.mb_load.proofs.FrameLemmas.{of_tables}
+use Rattle.mb_edit.proofs.commit.commit_loaded.Goals as goal
+
+pub commit-requires : goal.commit-requires
+commit-requires g c tells = of_tables c.args.set.now (g.S.TileStore.told c.args.store.now) c.in_ok-changes.changes (c.requires tells) c.in_ok-changes.ensures

@@ -1,0 +1,13 @@
+use Rattle.std.proofs.Common.{◌≡◌, ◌≤◌, drop, length}
+use Rattle.std.specs.FinMap.{entries}
+use Rattle.mb_edit.specs.HeldPatched.{from_last, null_cleared}
+use Rattle.mb_edit.proofs.patch.clear_nulls.Given as goal
+
+abbrev pub invariant-loop-left : goal.invariant-loop-left
+invariant-loop-left l = record {
+  within : l.left ≤ length (entries l.patch.state.metadata);
+  made : l.set ≡ from_last null_cleared l.initial.set (drop l.left (entries l.patch.state.metadata));
+}
+
+abbrev pub decreases-loop-left : goal.decreases-loop-left
+decreases-loop-left l = l.left

@@ -1,0 +1,9 @@
+pub mod Patched
+pub mod Collision
+pub mod PatchingOrder
+pub mod Marks
+pub mod Step
+pub mod HeldPatched
+pub mod PatchExamples
+pub mod Committing
+pub mod Applying

@@ -1,0 +1,71 @@
+-- The tests that a patch of a loaded set must pass, in their order.
+use Rattle.std.specs.Prelude.{◌==◌, ℕ, codes, Bool, true, false, not, List, [], ◌∷◌, Option, Some, None, filter_map, is_some}
+use Rattle.std.specs.FinMap.{entries}
+use Rattle.std.specs.Str.{bytes_eq}
+use Rattle.mb_edit.specs.Collision.{collision}
+use Rattle.mb_load.specs.Contents.{Contents}
+use Rattle.mb_load.specs.DiffHashes.{base_refused, patch_refused, unless_forced}
+use Rattle.mb_load.specs.HeldCode.{algorithm_number}
+use Rattle.mb_load.specs.Metadata.{Names, text_at}
+use Rattle.mb_load.specs.Refusals.{first_refusal, unless}
+use Rattle.mb_load.specs.State.{State}
+use Rattle.mb_tables.specs.Tiles.{TileSet}
+use Rattle.mb_tables.specs.declared.error.MbtError.{MbtError}
+use Rattle.mb_tables.specs.declared.error.MbtError.TheVariants.{AggHashMismatchWithDiff, UnsupportedCopyOperation, UnsupportedHashAlgorithm, UnsupportedPatchType}
+use Rattle.mb_tables.specs.declared.kind.MbtType.{MbtType}
+use Rattle.mb_tables.specs.declared.kind.MbtType.TheVariants.{Flat, FlatWithHash, Normalized, Cache}
+use Rattle.mb_tables.specs.declared.kind.NormalizedSchema.TheVariants.{Hash, DedupId}
+use Rattle.tile_hash.specs.Digest.{digest, name_of}
+use Rattle.tile_hash.specs.declared.algorithm.HashAlgorithm.{HashAlgorithm}
+
+-- the digest of all tiles that metadata has, and those of before and after a patch
+abbrev pub agg_hash : Names → Option (List ℕ)
+agg_hash names = text_at names (codes "agg_tiles_hash")
+
+abbrev pub before_hash : Names → Option (List ℕ)
+before_hash names = text_at names (codes "agg_tiles_hash_before_apply")
+
+abbrev pub after_hash : Names → Option (List ℕ)
+after_hash names = text_at names (codes "agg_tiles_hash_after_apply")
+
+-- whether a set of the layout can be patched
+abbrev pub can_be_patched : MbtType → Bool
+can_be_patched Flat = true
+can_be_patched FlatWithHash = true
+can_be_patched (Normalized view Hash) = true
+can_be_patched (Normalized view DedupId) = false
+can_be_patched Cache = false
+
+-- a patch and its set: both have the digest of the set before the patch, and they differ
+abbrev pub wrong_base : Option (List ℕ) → Option (List ℕ) → Option MbtError
+wrong_base (Some before) (Some agg) = unless (bytes_eq before agg) (AggHashMismatchWithDiff before agg)
+wrong_base _ _ = None
+
+-- they have two algorithms: the name of the patch's
+abbrev pub wrong_algorithm : HashAlgorithm → HashAlgorithm → Option MbtError
+wrong_algorithm base patch = unless (algorithm_number base == algorithm_number patch) (UnsupportedHashAlgorithm (name_of patch))
+
+-- the bytes that a patch puts, in the order of their places
+abbrev pub bytes_put : TileSet → List (List ℕ)
+bytes_put tiles = filter_map (λ e. e.1) (entries tiles)
+
+-- contents that are put into a normalised set collide
+abbrev pub id_collides : MbtType → HashAlgorithm → Contents → List (List ℕ) → Option MbtError
+id_collides (Normalized view schema) a contents put = collision (digest a) contents put
+id_collides _ a contents put = None
+
+-- the refusal of each test, in the order of the tests
+abbrev pub patch_refusals : Bool → State → State → List (Option MbtError)
+patch_refusals force base patch =
+    unless (not (is_some patch.patch_type)) UnsupportedPatchType
+    ∷ unless_forced force (patch_refused (is_some (before_hash patch.metadata)) (is_some (after_hash patch.metadata)))
+    ∷ unless (can_be_patched base.layout) UnsupportedCopyOperation
+    ∷ unless_forced force (base_refused (is_some (agg_hash base.metadata)) (is_some (before_hash base.metadata)) (is_some (after_hash base.metadata)))
+    ∷ unless_forced force (wrong_base (before_hash patch.metadata) (agg_hash base.metadata))
+    ∷ wrong_algorithm base.algorithm patch.algorithm
+    ∷ id_collides base.layout base.algorithm base.contents (bytes_put patch.tiles)
+    ∷ []
+
+-- the first refusal of a patch of a set, if there is one
+abbrev pub may_patch : Bool → State → State → Option MbtError
+may_patch force base patch = first_refusal (patch_refusals force base patch)

@@ -1,0 +1,43 @@
+// Applying a patch to a store.
+ghost use Rattle.std.specs.Prelude.{◌≡◌, ◌≤◌, ◌⊎◌, true, false, OnOk, OnErr, IfErr, IsErrOf};
+ghost use Rattle.mb_edit.specs.Applying.{IsAppliedBy, IsRefusedBy};
+ghost use Rattle.mb_load.specs.Refusals.{is_free};
+ghost use Rattle.tile_ids.specs.Counts.{Rose};
+
+use crate::{commit_loaded, patch_loaded};
+use mb_load::load;
+use mb_store::{MbtError, MbtResult, TileStore};
+use std::alloc::Global;
+
+/// Applies a whole-tile patch to a store, in one commit: the set that `patch_loaded` makes of what both hold.
+///
+/// It answers the first refusal of these: that of loading the set, that of loading the patch, that of `patch_loaded`. Refused, both stores hold what they
+/// held; the patch does so always. After Ok the tables load again as the patched set. Rows of places that the patch doesn't name stay as they
+/// were, also stored digests; rows of bytes that it puts carry the digest of these, where the layout has one. A store that tells nothing is
+/// answered as tables are that its answers could be of. `StoreFault` comes only where the count of faults of one of the two stores rose.
+pub fn apply_patch<S: TileStore, P: TileStore>(
+    alloc: Global,
+    base: &mut S,
+    patch: &mut P,
+    force: bool,
+) -> MbtResult<()>
+    ensures answer { IfErr result (λ e. is_free e ≡ false → IsRefusedBy force (S.tells base.old) (S.told base.old) (P.tells patch.old) (P.told patch.old) e) }
+    ensures applied { S.tells base.old ≡ true → OnOk result (IsAppliedBy force (P.tells patch.old) (P.told patch.old) (S.told base.old) (S.told base.new)) }
+    ensures refused { OnErr result (S.told base.new ≡ S.told base.old) }
+    ensures patch { P.told patch.new ≡ P.told patch.old }
+    ensures tells { S.tells base.new ≡ S.tells base.old }
+    ensures patch_tells { P.tells patch.new ≡ P.tells patch.old }
+    ensures faults { S.faults base.old ≤ S.faults base.new }
+    ensures patch_faults { P.faults patch.old ≤ P.faults patch.new }
+    ensures fault { IsErrOf result MbtError.StoreFault → Rose (S.faults base.old) (S.faults base.new) ⊎ Rose (P.faults patch.old) (P.faults patch.new) }
+    ensures steady { S.steady base.old → S.steady base.new }
+    ensures patch_steady { P.steady patch.old → P.steady patch.new }
+    ensures calm { S.steady base.old → S.faults base.new ≡ S.faults base.old }
+    ensures patch_calm { P.steady patch.old → P.faults patch.new ≡ P.faults patch.old }
+{
+    let set = load(alloc, base)?;
+    let other = load(alloc, patch)?;
+    let patched = patch_loaded(alloc, set, &other, force)?;
+    commit_loaded(alloc, base, &patched)?;
+    Ok(())
+}

@@ -1,0 +1,28 @@
+// Committing the edits of a loaded set.
+ghost use Rattle.std.specs.Prelude.{◌≡◌, ◌≤◌, true, OnOk, OnErr, IfErr, IsErrOf};
+ghost use Rattle.mb_edit.specs.Committing.{MakesChanges};
+ghost use Rattle.mb_load.specs.LoadedFrom.{IsLoadedFrom};
+ghost use Rattle.mb_load.specs.Refusals.{is_free};
+ghost use Rattle.tile_ids.specs.Counts.{Rose};
+
+use mb_load::Loaded;
+use mb_store::{MbtError, MbtResult, TileStore};
+use std::alloc::Global;
+
+/// Commits all edits of a loaded set at once to the store that it was loaded from. Only want of memory and a fault of the store refuse it, and then
+/// the store holds what it held.
+pub fn commit_loaded<S: TileStore>(alloc: Global, store: &mut S, set: &Loaded) -> MbtResult<()>
+    requires { S.tells store.old ≡ true → IsLoadedFrom (S.told store.old) set.now }
+    ensures committed { S.tells store.old ≡ true → OnOk result (MakesChanges set.now (S.told store.old) (S.told store.new)) }
+    ensures refused { OnErr result (S.told store.new ≡ S.told store.old) }
+    ensures free { IfErr result (λ e. is_free e ≡ true) }
+    ensures tells { S.tells store.new ≡ S.tells store.old }
+    ensures faults { S.faults store.old ≤ S.faults store.new }
+    ensures fault { IsErrOf result MbtError.StoreFault → Rose (S.faults store.old) (S.faults store.new) }
+    ensures steady { S.steady store.old → S.steady store.new }
+    ensures calm { S.steady store.old → S.faults store.new ≡ S.faults store.old }
+{
+    let changes = set.changes(alloc)?;
+    store.commit(alloc, &changes)?;
+    Ok(())
+}

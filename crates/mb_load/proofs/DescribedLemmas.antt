@@ -1,0 +1,101 @@
+-- The tests over descriptions, and what they say of the state.
+use Rattle.std.proofs.Common.{◌≡◌, ◌≢◌, ◌∙◌, ap, sym, subst, Bool, true, false, List, ◌∷◌, Option, Some, None, Result, Ok, Err, refl}
+use Rattle.std.specs.Prelude.{IfOk, IfErr}
+use Rattle.std.specs.List.{list_any}
+use Rattle.mb_load.specs.Described.{index_missing, is_metadata}
+use Rattle.mb_load.specs.Contents.{content_rows}
+use Rattle.mb_load.specs.LoadingOrder.{row_refusals}
+use Rattle.mb_load.specs.Refusals.{first_refusal, unless}
+use Rattle.mb_load.specs.State.{state_of, stated, unless_refused}
+use Rattle.std.proofs.lemmas.Bool.{false≢true}
+use Rattle.mb_tables.specs.declared.table.TableName.TheVariants.{Metadata}
+use Rattle.mb_tables.specs.Described.{is_keyed}
+use Rattle.mb_tables.specs.Detection.{detected, layout_of, tile_table}
+use Rattle.mb_tables.specs.Table.{Tables}
+use Rattle.mb_tables.specs.declared.description.TableDesc.{TableDesc}
+use Rattle.mb_tables.specs.declared.error.MbtError.{MbtError}
+use Rattle.mb_tables.specs.declared.error.MbtError.TheVariants.{InvalidDataFormat, NoUniquenessConstraint, StoreFault}
+use Rattle.mb_tables.specs.declared.kind.MbtType.{MbtType}
+
+-- the first refusal where the first or the second test is the first that refuses
+one_test : (a : Bool) (rest : List (Option MbtError)) → a ≡ false → first_refusal (unless a InvalidDataFormat ∷ rest) ≡ Some InvalidDataFormat
+one_test false rest h = refl
+one_test true rest h = absurd (false≢true (sym h))
+
+two_tests : (a b : Bool) (rest : List (Option MbtError)) → a ≡ true → b ≡ false → first_refusal (unless a InvalidDataFormat ∷ unless b NoUniquenessConstraint ∷ rest) ≡ Some NoUniquenessConstraint
+two_tests true false rest h k = refl
+two_tests true true rest h k = absurd (false≢true (sym k))
+two_tests false b rest h k = absurd (false≢true h)
+
+-- what was detected
+pub detected_ok : (ds : List TableDesc) (layout : MbtType) → detected ds ≡ Ok layout → (layout_of ds ≡ Some layout) × (index_missing ds layout ≡ None)
+detected_ok ds layout h = by (layout_of ds) refl
+  where
+    keyed : (found : MbtType) → layout_of ds ≡ Some found → (b : Bool) → is_keyed ds (tile_table found) ≡ b → (layout_of ds ≡ Some layout) × (index_missing ds layout ≡ None)
+    keyed found e true k =
+        let g = rw (e, k) at h in
+        let same : found ≡ layout = cc in
+        (e ∙ ap Some same, ap (index_missing ds) (sym same) ∙ rw k refl)
+    keyed found e false k = let g = rw (e, k) at h in cc
+
+    by : (o : Option MbtType) → layout_of ds ≡ o → (layout_of ds ≡ Some layout) × (index_missing ds layout ≡ None)
+    by None e = let g = rw e at h in cc
+    by (Some found) e = keyed found e (is_keyed ds (tile_table found)) refl
+
+-- without a table of metadata
+pub no_metadata : (ds : List TableDesc) → list_any is_metadata ds ≡ false → (t : Tables) → t.descriptions ≡ ds → state_of t ≡ Err InvalidDataFormat
+no_metadata ds h t same = by (layout_of t.descriptions)
+  where
+    none : list_any is_metadata t.descriptions ≡ false
+    none = ap (list_any is_metadata) same ∙ h
+
+    by : (o : Option MbtType) → stated o t ≡ Err InvalidDataFormat
+    by None = refl
+    by (Some layout) = ap (unless_refused layout t) (one_test (list_any is_metadata t.descriptions) (index_missing t.descriptions layout ∷ row_refusals layout (t.rows Metadata) (content_rows layout t) (t.rows (tile_table layout))) none)
+
+-- with one, what was detected is refused as the set is
+pub detected_err : (ds : List TableDesc) (e : MbtError) → detected ds ≡ Err e → list_any is_metadata ds ≡ true → (t : Tables) → t.descriptions ≡ ds → state_of t ≡ Err e
+detected_err ds e h named t same = by (layout_of ds) refl
+  where
+    here : list_any is_metadata t.descriptions ≡ true
+    here = ap (list_any is_metadata) same ∙ named
+
+    keyed : (found : MbtType) → layout_of ds ≡ Some found → (b : Bool) → is_keyed ds (tile_table found) ≡ b → state_of t ≡ Err e
+    keyed found l true k = let g = rw (l, k) at h in cc
+    keyed found l false k =
+        let g = rw (l, k) at h in
+        let due : e ≡ NoUniquenessConstraint = cc in
+        let off : is_keyed t.descriptions (tile_table found) ≡ false = ap (λ d. is_keyed d (tile_table found)) same ∙ k in
+        ap (λ o. stated o t) (ap layout_of same ∙ l) ∙ (ap (unless_refused found t) (two_tests (list_any is_metadata t.descriptions) (is_keyed t.descriptions (tile_table found)) (row_refusals found (t.rows Metadata) (content_rows found t) (t.rows (tile_table found))) here off) ∙ ap Err (sym due))
+
+    by : (o : Option MbtType) → layout_of ds ≡ o → state_of t ≡ Err e
+    by None l = let g = rw l at h in let due : e ≡ InvalidDataFormat = cc in ap (λ o. stated o t) (ap layout_of same ∙ l) ∙ ap Err (sym due)
+    by (Some found) l = keyed found l (is_keyed ds (tile_table found)) refl
+
+-- the same of an answer
+pub layouts_found : (ds : List TableDesc) (r : Result MbtType MbtError) → r ≡ detected ds → IfOk r (λ layout. layout_of ds ≡ Some layout)
+layouts_found ds (Ok layout) h = (detected_ok ds layout (sym h)).0
+layouts_found ds (Err e) h = tt
+
+pub indexes_found : (ds : List TableDesc) (r : Result MbtType MbtError) → r ≡ detected ds → IfOk r (λ layout. index_missing ds layout ≡ None)
+indexes_found ds (Ok layout) h = (detected_ok ds layout (sym h)).1
+indexes_found ds (Err e) h = tt
+
+pub all_refused : (ds : List TableDesc) (r : Result MbtType MbtError) → r ≡ detected ds → list_any is_metadata ds ≡ true → IfErr r (λ e. (t : Tables) → t.descriptions ≡ ds → state_of t ≡ Err e)
+all_refused ds (Ok layout) h named = tt
+all_refused ds (Err e) h named = detected_err ds e (sym h) named
+
+of_detected : (ds : List TableDesc) → IfErr (detected ds) (λ e. e ≢ StoreFault)
+of_detected ds = by (layout_of ds) refl
+  where
+    keyed : (found : MbtType) → layout_of ds ≡ Some found → (b : Bool) → is_keyed ds (tile_table found) ≡ b → IfErr (detected ds) (λ e. e ≢ StoreFault)
+    keyed found e true k = rw (e, k) tt
+    keyed found e false k = rw (e, k) (λ h. cc)
+
+    by : (o : Option MbtType) → layout_of ds ≡ o → IfErr (detected ds) (λ e. e ≢ StoreFault)
+    by None e = rw e (λ h. cc)
+    by (Some found) e = keyed found e (is_keyed ds (tile_table found)) refl
+
+-- no refusal is a fault of a store
+pub never_fault : (ds : List TableDesc) (r : Result MbtType MbtError) → r ≡ detected ds → IfErr r (λ e. e ≢ StoreFault)
+never_fault ds r h = subst (λ (x : Result MbtType MbtError). IfErr x (λ e. e ≢ StoreFault)) (sym h) (of_detected ds)

@@ -1,0 +1,5 @@
+use Rattle.mb_load.proofs.EditViews.{held_gone}
+use Rattle.mb_load.proofs.editing.Editing.clear_tile.Goals as goal
+
+pub returns-clause-ok : goal.returns-clause-ok
+returns-clause-ok c = rw (← c.self.view_is) (held_gone c.self.inside.layout c.self.inside.algorithm c.self.inside.patch_type c.self.inside.contents.items c.self.inside.order.items c.self.inside.dates.items c.self.inside.tiles.items c.self.inside.names.items c.args.coord c.push.new.self.items c.in_ok-push.ensures.items)

@@ -1,0 +1,10 @@
+use Rattle.std.proofs.Common.{◌∙◌, ap, sym, ℕ, List, Option}
+use Rattle.std.specs.Prelude.{option_and_then}
+use Rattle.mb_load.proofs.ReaderLemmas.{name_found, name_missing}
+use Rattle.mb_load.proofs.from_rows.text_under.Goals as goal
+
+pub returns-in-Some : goal.returns-in-Some
+returns-in-Some c = c.text_of.ensures ∙ ap (λ (o : Option (Option (List ℕ))). option_and_then {U = List ℕ} (λ text. text) o) (sym (name_found c.args.names.now.live c.args.names.now.items.items c.requires c.args.name.now c.in-Some.entry.now (sym c.in-Some.ensures)))
+
+pub returns-in-None : goal.returns-in-None
+returns-in-None c = ap (λ (o : Option (Option (List ℕ))). option_and_then {U = List ℕ} (λ text. text) o) (sym (name_missing c.args.names.now.live c.args.names.now.items.items c.requires c.args.name.now (sym c.in-None.ensures)))

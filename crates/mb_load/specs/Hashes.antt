@@ -1,0 +1,39 @@
+-- Stored digests of contents.
+use Rattle.std.specs.Prelude.{ℕ, List, Option, None, map}
+use Rattle.std.specs.Char.{to_ascii_uppercase}
+use Rattle.std.specs.Option.{option_or}
+use Rattle.std.specs.Str.{bytes_eq}
+use Rattle.mb_load.specs.Refusals.{first_refused, unless}
+use Rattle.mb_tables.specs.Tiles.{cell_at}
+use Rattle.mb_tables.specs.declared.cell.Cell.{Cell}
+use Rattle.mb_tables.specs.declared.cell.Cell.TheVariants.{Text, Blob}
+use Rattle.mb_tables.specs.declared.error.MbtError.{MbtError}
+use Rattle.mb_tables.specs.declared.error.MbtError.TheVariants.{IncorrectTileHash}
+use Rattle.mb_tables.specs.declared.kind.MbtType.{MbtType}
+use Rattle.mb_tables.specs.declared.kind.MbtType.TheVariants.{FlatWithHash, Normalized}
+use Rattle.mb_tables.specs.declared.kind.NormalizedSchema.TheVariants.{Hash}
+use Rattle.tile_hash.specs.Digest.{digest}
+use Rattle.tile_hash.specs.declared.algorithm.HashAlgorithm.{HashAlgorithm}
+
+-- the refusal of a stored text that isn't the digest of bytes, ASCII case aside
+abbrev pub wrong_digest : HashAlgorithm → List ℕ → List ℕ → Option MbtError
+wrong_digest a bytes stored = unless (bytes_eq (map to_ascii_uppercase stored) (digest a bytes)) (IncorrectTileHash (map to_ascii_uppercase stored) (digest a bytes))
+
+-- null contents have no digest, and a null one is none
+abbrev pub wrong_hash : HashAlgorithm → Cell → Cell → Option MbtError
+wrong_hash a (Blob bytes) (Text stored) = wrong_digest a bytes stored
+wrong_hash a _ _ = None
+
+-- rows that have the digest of their contents
+abbrev pub wrong_tile_hash : MbtType → HashAlgorithm → List Cell → Option MbtError
+wrong_tile_hash FlatWithHash a row = wrong_hash a (cell_at 3 row) (cell_at 4 row)
+wrong_tile_hash _ a row = None
+
+-- contents whose id is their digest, whether a tile names them or not
+abbrev pub wrong_content_hash : MbtType → HashAlgorithm → List Cell → Option MbtError
+wrong_content_hash (Normalized view Hash) a row = wrong_hash a (cell_at 1 row) (cell_at 0 row)
+wrong_content_hash _ a row = None
+
+-- a stored digest is wrong: the first one. No layout has both kinds of rows
+abbrev pub hash_wrong : MbtType → HashAlgorithm → List (List Cell) → List (List Cell) → Option MbtError
+hash_wrong layout a contents rows = option_or (first_refused (wrong_tile_hash layout a) rows) (first_refused (wrong_content_hash layout a) contents)

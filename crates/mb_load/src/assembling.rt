@@ -1,0 +1,51 @@
+// A set from the tiles and names that are kept of its rows.
+ghost use Rattle.std.specs.Prelude.{◌≡◌, All, IfNone, IfSome, false, is_some, map, true};
+ghost use Rattle.mb_load.specs.Entries.{AreDated, AreNamesInOrder, IsName, held_of, place_of, tile_value};
+ghost use Rattle.mb_load.specs.FromRows.{AreIndexed};
+ghost use Rattle.mb_load.specs.Keyed.{are_distinct};
+ghost use Rattle.mb_load.specs.declared.entries.Standing.TheVariants.{Kept};
+ghost use Rattle.mb_tables.specs.Tiles.{place_cmp};
+
+use crate::Loaded;
+use crate::name_list::NameList;
+use crate::row_tiles::RowTiles;
+use crate::tile_list::TileList;
+use mb_store::{MbtType, PatchType};
+use tile_hash::HashAlgorithm;
+
+/// The set of these tiles and names, and none where two tiles have one place.
+pub(crate) fn set_of(
+    layout: MbtType,
+    algorithm: HashAlgorithm,
+    patch_type: Option<PatchType>,
+    rows: RowTiles,
+    names: NameList,
+) -> Option<Loaded>
+    requires indexed { AreIndexed rows.contents.items.items rows.contents.live rows.contents.order.items }
+    requires whole { All (λ t. is_some (tile_value rows.contents.items.items t) ≡ true) rows.tiles.items }
+    requires kept { All (λ t. t.standing ≡ Kept) rows.tiles.items }
+    requires dated { AreDated layout rows.contents.items.items rows.dates.items }
+    requires names { AreNamesInOrder names.live names.items.items }
+    requires texts { All IsName names.items.items }
+    ensures held { IfSome result (λ l. l ≡ held_of layout algorithm patch_type rows.contents.items.items rows.contents.order.items rows.dates.items rows.tiles.items names.items.items) }
+    ensures apart { IfSome result (λ l. are_distinct place_cmp (map place_of rows.tiles.items) ≡ true) }
+    ensures twice { IfNone result (are_distinct place_cmp (map place_of rows.tiles.items) ≡ false) }
+{
+    let RowTiles {
+        contents,
+        tiles,
+        dates,
+    } = rows;
+    match TileList::in_order(tiles) {
+        Some(tiles) => Some(Loaded {
+            layout,
+            algorithm,
+            patch_type,
+            contents,
+            dates,
+            tiles,
+            names,
+        }),
+        None => None,
+    }
+}

@@ -1,0 +1,54 @@
+// Loading a set.
+ghost use Rattle.std.specs.Prelude.{◌≡◌, ◌≤◌, true, IfOk, IsErrOf};
+ghost use Rattle.tile_ids.specs.Counts.{Rose};
+ghost use Rattle.mb_load.specs.Loading.{Loads};
+ghost use Rattle.mb_load.specs.LoadedFrom.{IsLoadable, IsLoadedFrom, NamesAlgorithm};
+ghost use Rattle.mb_load.specs.State.{state_of};
+ghost use Rattle.mb_tables.specs.Table.{Tables};
+
+use crate::Loaded;
+use crate::described::layout_in;
+use crate::from_rows::loaded_from;
+use crate::reading::read_all;
+use mb_store::{MbtError, MbtResult, TileStore, get_patch_type};
+use std::alloc::Global;
+
+/// Loads a set: what its tables hold, or the first refusal of the tests of loading, in their order.
+///
+/// 1. `InvalidDataFormat`: the tables are of no layout, or there is no table `metadata` with columns `name` and `value`.
+/// 2. `NoUniquenessConstraint`: no unique index of exactly the columns of a place keeps the tiles apart; then an id of contents twice.
+/// 3. `InvalidDataFormat`: a name, value, digest, id, fetched, expires or etag that is neither null nor of its kind, or a name twice.
+/// 4. `UnsupportedHashAlgorithm`: the stored algorithm is none of the five, with its name as it is stored.
+/// 5. `InvalidTileIndex`: the first row of a tile whose place is none of zoom 0 to 30, or whose contents are neither bytes nor null.
+/// 6. `MissingTileReference`: the first row of a tile whose contents aren't there.
+/// 7. `IncorrectTileHash`: the first stored digest, in upper case, that isn't that of its bytes.
+/// 8. `NoUniquenessConstraint`: a place stands twice, as only in a store that breaks its own index or changes while it is read.
+///
+/// A store that tells nothing is refused, or loaded, as tables are that its answers could be of. `StoreFault` comes only where the
+/// store's count of faults rose. The store holds what it held, whatever the answer.
+pub fn load<S: TileStore>(alloc: Global, store: &mut S) -> MbtResult<Loaded>
+    ensures answer { S.tells store.old ≡ true → Loads (state_of (S.told store.old)) result }
+    ensures own { (t : Tables) × Loads (state_of t) result }
+    ensures loaded { S.tells store.old ≡ true → IfOk result (IsLoadedFrom (S.told store.old)) }
+    ensures whole { IfOk result (λ h. IsLoadable h.state) }
+    ensures named { IfOk result (λ h. NamesAlgorithm h.state) }
+    ensures told { S.told store.new ≡ S.told store.old }
+    ensures tells { S.tells store.new ≡ S.tells store.old }
+    ensures faults { S.faults store.old ≤ S.faults store.new }
+    ensures fault { IsErrOf result MbtError.StoreFault → Rose (S.faults store.old) (S.faults store.new) }
+    ensures steady { S.steady store.old → S.steady store.new }
+    ensures calm { S.steady store.old → S.faults store.new ≡ S.faults store.old }
+{
+    let descriptions = store.describe(alloc)?;
+    let layout = layout_in(&descriptions)?;
+    let patch_type = get_patch_type(&descriptions);
+    let rows = read_all(alloc, store, layout)?;
+    loaded_from(
+        alloc,
+        layout,
+        patch_type,
+        rows.metadata,
+        rows.contents,
+        rows.tiles,
+    )
+}

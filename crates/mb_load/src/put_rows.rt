@@ -1,0 +1,167 @@
+// The rows that a set puts into its tables, and their keys.
+ghost use Rattle.std.specs.Prelude.{◌≡◌, ◌++◌, false, IfOk, OnOk, option_copied, slice_get, unwrap_or};
+ghost use Rattle.mb_load.specs.Changing.{content_table, front, tile_key};
+ghost use Rattle.mb_load.specs.Edits.{no_dates};
+ghost use Rattle.mb_load.specs.Entries.{IsTile, is_gone, place_at};
+ghost use Rattle.mb_load.specs.PutRows.{cells_kept, digest_cell, id_key, row_of_content, row_of_name, row_of_tile, times_cells};
+
+use crate::dates::Dates;
+use crate::entries::{Content, StoredName, StoredTile};
+use crate::references::content_table;
+use mb_store::{Cell, MbtType, Row, RowKey, TableName};
+use std::alloc::Global;
+use tile_hash::HashAlgorithm;
+use tile_ids::{OutOfMemory, TileCoord, invert_y_value};
+
+/// The table of the contents of a layout by id; one that a layout without ids has no row of.
+pub(crate) fn contents_table(layout: MbtType) -> TableName
+    ensures { result ≡ content_table layout }
+{
+    match layout {
+        MbtType::Normalized { schema, .. } => content_table(schema),
+        _ => TableName::Images,
+    }
+}
+
+/// The key of a place.
+pub(crate) fn place_key(coord: TileCoord) -> RowKey
+    ensures { result ≡ tile_key (place_at coord) }
+{
+    let zoom = coord.z();
+    RowKey::Tile {
+        zoom,
+        column: coord.x(),
+        row: invert_y_value(zoom, coord.y()),
+    }
+}
+
+/// The key of an id, a text or a number.
+pub(crate) fn id_key(alloc: Global, id: &Cell) -> Result<Option<RowKey>, OutOfMemory>
+    ensures { IfOk result (λ key. key ≡ id_key id.now) }
+{
+    match id {
+        Cell::Text(text) => Ok(Some(RowKey::TextId(text.try_clone(alloc)?))),
+        Cell::Int(number) => Ok(Some(RowKey::IntId(*number))),
+        _ => Ok(None),
+    }
+}
+
+// The digest of contents; null has none.
+fn digest_cell(
+    alloc: Global,
+    algorithm: HashAlgorithm,
+    contents: &Cell,
+) -> Result<Cell, OutOfMemory>
+    ensures { IfOk result (λ cell. cell ≡ digest_cell algorithm contents.now) }
+{
+    match contents {
+        Cell::Blob(bytes) => Ok(Cell::Text(algorithm.hash(alloc, bytes.as_bytes())?)),
+        _ => Ok(Cell::Null),
+    }
+}
+
+// The cells of a place.
+fn place_cells(alloc: Global, coord: TileCoord) -> Result<Vec<Cell>, OutOfMemory>
+    ensures { IfOk result (λ cells. cells.items ≡ front (place_at coord)) }
+{
+    let zoom = coord.z();
+    let row = invert_y_value(zoom, coord.y());
+    let mut cells = Vec::with_capacity(alloc, 7)?;
+    cells.push(Cell::Int(i64::from(zoom)))?;
+    cells.push(Cell::Int(i64::from(coord.x())))?;
+    cells.push(Cell::Int(i64::from(row)))?;
+    Ok(cells)
+}
+
+// Adds the times of a tile.
+fn add_times(alloc: Global, cells: &mut Vec<Cell>, dates: Option<&Dates>) -> Result<(), OutOfMemory>
+    ensures { OnOk result (cells.new.items ≡ cells.old.items ++ times_cells (unwrap_or (option_copied dates.entry) no_dates)) }
+{
+    match dates {
+        Some(dates) => {
+            cells.push(dates.fetched.try_clone(alloc)?)?;
+            cells.push(dates.expires.try_clone(alloc)?)?;
+            cells.push(dates.etag.try_clone(alloc)?)?;
+            Ok(())
+        }
+        None => {
+            cells.push(Cell::Null)?;
+            cells.push(Cell::Null)?;
+            cells.push(Cell::Null)?;
+            Ok(())
+        }
+    }
+}
+
+// Adds the cells after the place.
+fn add_cells(
+    alloc: Global,
+    layout: MbtType,
+    algorithm: HashAlgorithm,
+    content: &Content,
+    dates: Option<&Dates>,
+    cells: &mut Vec<Cell>,
+) -> Result<(), OutOfMemory>
+    ensures { OnOk result (cells.new.items ≡ cells.old.items ++ cells_kept layout algorithm content.now (option_copied dates.entry)) }
+{
+    match layout {
+        MbtType::Flat => {
+            cells.push(content.cell.try_clone(alloc)?)?;
+            Ok(())
+        }
+        MbtType::FlatWithHash => {
+            cells.push(content.cell.try_clone(alloc)?)?;
+            cells.push(digest_cell(alloc, algorithm, &content.cell)?)?;
+            Ok(())
+        }
+        MbtType::Normalized { .. } => {
+            cells.push(content.id.try_clone(alloc)?)?;
+            Ok(())
+        }
+        MbtType::Cache => {
+            add_times(alloc, cells, dates)?;
+            cells.push(content.cell.try_clone(alloc)?)?;
+            Ok(())
+        }
+    }
+}
+
+/// The row of a tile, with the digest of its bytes where the layout has one.
+pub(crate) fn tile_row(
+    alloc: Global,
+    layout: MbtType,
+    algorithm: HashAlgorithm,
+    contents: &[Content],
+    dates: &[Dates],
+    tile: &StoredTile,
+) -> Result<Row, OutOfMemory>
+    requires whole { IsTile contents.now tile.now }
+    requires live { is_gone tile.now ≡ false }
+    ensures { IfOk result (λ row. row ≡ row_of_tile layout algorithm contents.now dates.now tile.now) }
+{
+    let mut cells = place_cells(alloc, tile.coord)?;
+    let content = &contents[tile.contents];
+    let dates = dates.get(tile.contents);
+    add_cells(alloc, layout, algorithm, content, dates, &mut cells)?;
+    Ok(Row::new(cells))
+}
+
+/// The row of contents under their id.
+pub(crate) fn content_row(alloc: Global, content: &Content) -> Result<Row, OutOfMemory>
+    ensures { IfOk result (λ row. row ≡ row_of_content content.now) }
+{
+    let mut cells = Vec::with_capacity(alloc, 2)?;
+    cells.push(content.id.try_clone(alloc)?)?;
+    cells.push(content.cell.try_clone(alloc)?)?;
+    Ok(Row::new(cells))
+}
+
+/// The row of a name.
+pub(crate) fn name_row(alloc: Global, entry: &StoredName) -> Result<Row, OutOfMemory>
+    ensures { IfOk result (λ row. row ≡ row_of_name entry.now) }
+{
+    let mut cells = Vec::with_capacity(alloc, 2)?;
+    cells.push(Cell::Text(entry.name.try_clone(alloc)?))?;
+    cells.push(entry.value.try_clone(alloc)?)?;
+    Ok(Row::new(cells))
+}

@@ -1,0 +1,119 @@
+// All rows of a table, page by page.
+ghost use Rattle.std.specs.Prelude.{◌≡◌, ◌≤◌, All, [], false, true, IfOk, IsErrOf, length};
+ghost use Rattle.tile_ids.specs.Counts.{Rose};
+ghost use Rattle.mb_load.specs.Contents.{content_rows};
+ghost use Rattle.mb_tables.specs.Detection.{tile_table};
+ghost use Rattle.mb_tables.specs.Kind.{is_normalized};
+ghost use Rattle.mb_tables.specs.Table.{width};
+ghost use Rattle.mb_tables.specs.declared.table.TableName.TheVariants.{Metadata};
+
+use crate::references::content_table;
+use mb_store::{MbtType, NormalizedSchema, Row, StoreError, TableName, TileStore};
+use std::alloc::Global;
+
+// The most rows that are asked for at once.
+const PAGE: u64 = 65_536;
+
+/// All rows of a table in their order. Over a store that tells nothing it asks for as many rows as the store counted, so that it ends.
+pub(crate) fn read_table<S: TileStore>(
+    alloc: Global,
+    store: &mut S,
+    table: TableName,
+) -> Result<Vec<Row>, StoreError>
+    ensures answer { S.tells store.old ≡ true → IfOk result (λ rows. rows.items ≡ (S.told store.old).rows table) }
+    ensures widths { IfOk result (λ rows. All (λ row. length row ≡ width table) rows.items) }
+    ensures told { S.told store.new ≡ S.told store.old }
+    ensures tells { S.tells store.new ≡ S.tells store.old }
+    ensures faults { S.faults store.old ≤ S.faults store.new }
+    ensures fault { IsErrOf result StoreError.Fault → Rose (S.faults store.old) (S.faults store.new) }
+    ensures steady { S.steady store.old → S.steady store.new }
+    ensures calm { S.steady store.old → S.faults store.new ≡ S.faults store.old }
+{
+    let count = store.count_rows(table)?;
+    let mut rows = Vec::new(alloc);
+    let mut from: u64 = 0;
+    while from < count {
+        let limit = (count - from).min(PAGE);
+        let mut page = store.rows(alloc, table, from, limit)?;
+        rows.append(&mut page)?;
+        from += limit;
+    }
+    Ok(rows)
+}
+
+/// The table that has the places of a layout's tiles.
+pub(crate) fn tile_table(layout: MbtType) -> TableName
+    ensures { result ≡ tile_table layout }
+{
+    match layout {
+        MbtType::Flat => TableName::Tiles,
+        MbtType::FlatWithHash => TableName::TilesWithHash,
+        MbtType::Normalized {
+            schema: NormalizedSchema::Hash,
+            ..
+        } => TableName::Map,
+        MbtType::Normalized {
+            schema: NormalizedSchema::DedupId,
+            ..
+        } => TableName::TilesShallow,
+        MbtType::Cache => TableName::TileCache,
+    }
+}
+
+// The rows of contents of a normalised set; the other layouts have none.
+fn read_contents<S: TileStore>(
+    alloc: Global,
+    store: &mut S,
+    layout: MbtType,
+) -> Result<Vec<Row>, StoreError>
+    ensures answer { S.tells store.old ≡ true → IfOk result (λ rows. rows.items ≡ content_rows layout (S.told store.old)) }
+    ensures widths { IfOk result (λ rows. All (λ row. length row ≡ 2) rows.items) }
+    ensures none { is_normalized layout ≡ false → IfOk result (λ rows. rows.items ≡ []) }
+    ensures told { S.told store.new ≡ S.told store.old }
+    ensures tells { S.tells store.new ≡ S.tells store.old }
+    ensures faults { S.faults store.old ≤ S.faults store.new }
+    ensures fault { IsErrOf result StoreError.Fault → Rose (S.faults store.old) (S.faults store.new) }
+    ensures steady { S.steady store.old → S.steady store.new }
+    ensures calm { S.steady store.old → S.faults store.new ≡ S.faults store.old }
+{
+    match layout {
+        MbtType::Normalized { schema, .. } => read_table(alloc, store, content_table(schema)),
+        _ => Ok(Vec::new(alloc)),
+    }
+}
+
+/// All rows of a set.
+#[derive(Debug, Drop)]
+pub(crate) struct AllRows {
+    pub metadata: Vec<Row>,
+    pub tiles: Vec<Row>,
+    pub contents: Vec<Row>,
+}
+
+/// All rows of the tables of a layout.
+pub(crate) fn read_all<S: TileStore>(
+    alloc: Global,
+    store: &mut S,
+    layout: MbtType,
+) -> Result<AllRows, StoreError>
+    ensures metadata { S.tells store.old ≡ true → IfOk result (λ r. r.metadata.items ≡ (S.told store.old).rows Metadata) }
+    ensures tiles { S.tells store.old ≡ true → IfOk result (λ r. r.tiles.items ≡ (S.told store.old).rows (tile_table layout)) }
+    ensures contents { S.tells store.old ≡ true → IfOk result (λ r. r.contents.items ≡ content_rows layout (S.told store.old)) }
+    ensures widths { IfOk result (λ r. All (λ row. length row ≡ 2) r.contents.items) }
+    ensures none { is_normalized layout ≡ false → IfOk result (λ r. r.contents.items ≡ []) }
+    ensures told { S.told store.new ≡ S.told store.old }
+    ensures tells { S.tells store.new ≡ S.tells store.old }
+    ensures faults { S.faults store.old ≤ S.faults store.new }
+    ensures fault { IsErrOf result StoreError.Fault → Rose (S.faults store.old) (S.faults store.new) }
+    ensures steady { S.steady store.old → S.steady store.new }
+    ensures calm { S.steady store.old → S.faults store.new ≡ S.faults store.old }
+{
+    let metadata = read_table(alloc, store, TableName::Metadata)?;
+    let tiles = read_table(alloc, store, tile_table(layout))?;
+    let contents = read_contents(alloc, store, layout)?;
+    Ok(AllRows {
+        metadata,
+        tiles,
+        contents,
+    })
+}

@@ -1,0 +1,13 @@
+use Rattle.std.proofs.Common.{rules, ◌≡◌, subst, sym}
+use Rattle.sqlite.specs.Held.{state}
+use Rattle.sqlite.specs.State.{HasCleanDisk}
+use Rattle.mb_sqlite.specs.Reading.{IsCounted}
+use Rattle.mb_sqlite.proofs.CommitLemmas.{seen_within}
+use Rattle.mb_sqlite.proofs.reading.count.Goals as goal
+
+pub returns-clause-counted : goal.returns-clause-counted
+returns-clause-counted g c clean =
+    let old = c.args.connection.now in
+    let end = c.drop-transaction-2.new.self.0 in
+    let same : end ≡ c.connection-2-1.given.0 = search rules in
+    seen_within g.S.Store (λ old seen. IsCounted g.S.Store c.args.table old seen c.in_ok-count.count) old _ c.count.new.transaction.conn.now end c.transaction-transaction.ensures.begun c.in_ok-count.ensures.counted c.drop-transaction-2.ensures.survives (subst (λ h. HasCleanDisk (state g.S.Store h)) (sym same) clean)

@@ -1,0 +1,54 @@
+-- The texts of the statements on a table, by its name and its columns.
+use Rattle.std.specs.Prelude.{ℕ, ◌+◌, codes, ◌++◌, List, [], ◌∷◌, map}
+use Rattle.mb_tables.specs.Schema.{columns_of}
+use Rattle.mb_tables.specs.Table.{key_columns, table_text}
+use Rattle.mb_tables.specs.declared.column.ColumnDesc.{ColumnDesc}
+use Rattle.mb_tables.specs.declared.table.TableName.{TableName}
+
+-- texts with another one between them
+abbrev pub joined : List ℕ → List (List ℕ) → List ℕ
+joined between [] = []
+joined between (t ∷ []) = t
+joined between (t ∷ ts) = t ++ between ++ joined between ts
+
+-- the names of a table's columns
+abbrev pub names_of : TableName → List (List ℕ)
+names_of table = map (λ (c : ColumnDesc). c.name) (columns_of table)
+
+-- a value of a statement by its number, from 1 to 9
+abbrev pub numbered : ℕ → List ℕ
+numbered n = codes "?" ++ (48 + n) ∷ []
+
+-- as many values as there are texts, from a number on
+abbrev pub values_from : ℕ → List (List ℕ) → List (List ℕ)
+values_from n [] = []
+values_from n (t ∷ ts) = numbered n ∷ values_from (n + 1) ts
+
+-- columns are equal to the values from a number on
+abbrev pub equal_from : ℕ → List (List ℕ) → List (List ℕ)
+equal_from n [] = []
+equal_from n (t ∷ ts) = (t ++ codes " = " ++ numbered n) ∷ equal_from (n + 1) ts
+
+-- rows with the key of the first values
+abbrev pub with_key : TableName → List ℕ
+with_key table = codes " WHERE " ++ joined (codes " AND ") (equal_from 1 (key_columns table))
+
+-- the number of rows
+abbrev pub count_text : TableName → List ℕ
+count_text table = codes "SELECT count(*) FROM " ++ table_text table
+
+-- rows by their `rowid`, from the first value on, at most the second, after as many as the third
+abbrev pub page_text : TableName → List ℕ
+page_text table = codes "SELECT " ++ joined (codes ", ") (names_of table) ++ codes ", rowid FROM " ++ table_text table ++ codes " WHERE rowid >= ?1 ORDER BY rowid LIMIT ?2 OFFSET ?3"
+
+-- the first row of a key
+abbrev pub found_text : TableName → List ℕ
+found_text table = codes "SELECT " ++ joined (codes ", ") (names_of table) ++ codes " FROM " ++ table_text table ++ with_key table ++ codes " ORDER BY rowid LIMIT 1"
+
+-- removes the rows of a key
+abbrev pub removal_text : TableName → List ℕ
+removal_text table = codes "DELETE FROM " ++ table_text table ++ with_key table
+
+-- adds a row
+abbrev pub addition_text : TableName → List ℕ
+addition_text table = codes "INSERT INTO " ++ table_text table ++ codes " (" ++ joined (codes ", ") (names_of table) ++ codes ") VALUES (" ++ joined (codes ", ") (values_from 1 (names_of table)) ++ codes ")"

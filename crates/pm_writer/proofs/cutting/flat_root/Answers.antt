@@ -1,0 +1,7 @@
+use Rattle.std.proofs.Common.{sym, subst}
+use Rattle.pm_format.specs.Directory.{IsWritable}
+use Rattle.pm_format.proofs.DirectoryPieces.{fits_writable, same_entries}
+use Rattle.pm_writer.proofs.cutting.flat_root.Goals as goal
+
+pub root_bytes-requires : goal.root_bytes-requires
+root_bytes-requires c = subst (IsWritable 0) (sym (same_entries c.args.entries.now)) (fits_writable 0 c.args.entries.now c.requires)

@@ -1,0 +1,169 @@
+-- Patches one after another.
+use Rattle.std.proofs.Common.{◌≡◌, ◌∙◌, ap, sym, subst, refl, arith, ℕ, suc, zero, ◌+◌, ◌<◌, ◌≤◌, Bool, true, false, cond, ◌&&◌, List, [], ◌∷◌, ◌++◌, drop, get_or, length, map, set, take, All, Option, Some, None, Result, Ok, Err, IfErr, IfSome, IsErrAnd}
+use Rattle.std.proofs.Math.Seq.{map-set_same}
+use Rattle.std.proofs.lemmas.Bool.{and_parts}
+use Rattle.std.proofs.lemmas.List.{drop_all, drop_more, get_or-map, get_or-set_same, length-map, length-set, map-append, map-set, take_all, take_more}
+use Rattle.std.proofs.lemmas.List.Elements.{All-get_or, All-set}
+use Rattle.std.specs.Prelude.{slice_index}
+use Rattle.std.specs.List.{list_all}
+use Rattle.tile_ids.specs.Counts.{Rose}
+use Rattle.mb_edit.specs.HeldPatched.{held_patched}
+use Rattle.mb_load.specs.Held.{Held}
+use Rattle.mb_load.specs.LoadedFrom.{IsLoadedFrom, NamesAlgorithm}
+use Rattle.mb_load.specs.State.{State, state_of}
+use Rattle.mb_tables.specs.Table.{Tables}
+use Rattle.tile_bridge.specs.Outcome.{all_patched, one_patched, then}
+use Rattle.tile_bridge.specs.Patching.{AreStatesOf, all_held}
+use Rattle.tile_bridge.specs.Stores.{AreOnlyRead, IsDue, IsRefused, NoneFell, Refuses, RoseAt, due_patch, due_patches}
+use Rattle.tile_bridge.specs.declared.error.ConvertError.{ConvertError}
+use Rattle.tile_bridge.specs.declared.error.ConvertError.TheVariants.{IndexEntryOverflow, OutOfMemory, Store, StoreFault}
+
+-- all of these tell
+abbrev pub AllTell : List Bool → Type 0
+AllTell tells = list_all (λ t. t) tells ≡ true
+
+-- after so many patches
+pub record Folded {P : Type 0} (tell : P → Bool) (tables : P → Tables) (failed : P → ℕ) (calm : P → Type 0) (force : Bool) (base : Held) (old now : List P) (n : ℕ) (set : Held) : Type 0 where
+  pub read : AreOnlyRead tell tables failed calm old now
+  pub rest : AllTell (map tell old) → all_patched force 1 base.state (map tables old) ≡ all_patched force (n + 1) set.state (drop n (map tables old))
+  pub states : (qs : List State) × (AllTell (map tell old) → AreStatesOf (take n (map tables old)) qs) × (set ≡ all_held base qs)
+  pub loaded : (t : Tables) → IsLoadedFrom t base → NamesAlgorithm base.state → IsLoadedFrom t set × NamesAlgorithm set.state
+
+all_held_more : (h : Held) (qs : List State) (q : State) → all_held h (qs ++ q ∷ []) ≡ held_patched (all_held h qs) q
+all_held_more h [] q = refl
+all_held_more h (p ∷ qs) q = all_held_more (held_patched h p) qs q
+
+-- what follows for a refusal, where what is due of it follows
+pub refuses_on : (due on : Option (Result State ConvertError)) (e : ConvertError) → ((x : ConvertError) → IsRefused due x → IsRefused on x) → Refuses due e → Refuses on e
+refuses_on due on (Store place e) f h = (f (Store place e) h.0, h.1)
+refuses_on due on IndexEntryOverflow f h = f IndexEntryOverflow h
+refuses_on due on (StoreFault place) f h = tt
+refuses_on due on OutOfMemory f h = tt
+refuses_on due on _ f h = absurd h
+
+one_on : (n : ℕ) → suc n ≡ n + 1
+one_on n = omega arith
+
+-- an element among those that are mapped
+mapped_at : {P : Type 0} (f : P → ℕ) (xs : List P) (n : ℕ) (x : P) → n < length xs → x ≡ get_or xs n x → slice_index (map f xs) n ≡ f x
+mapped_at f xs n x low is = get_or-map f xs n x 0 low ∙ ap f (sym is)
+
+one_tells : (tells : List Bool) (n : ℕ) (d : Bool) → n < length tells → AllTell tells → get_or tells n d ≡ true
+one_tells [] n d low all = absurd (omega (arith, low))
+one_tells (t ∷ ts) zero d low all = (and_parts t (list_all (λ t. t) ts) all).0
+one_tells (t ∷ ts) (suc n) d low all = one_tells ts n d (omega (arith, low)) (and_parts t (list_all (λ t. t) ts) all).1
+
+none_fell : (counts : List ℕ) (n count : ℕ) → slice_index counts n ≤ count → NoneFell counts (set counts n count)
+none_fell [] n count up place = omega arith
+none_fell (c ∷ cs) zero count up zero = up
+none_fell (c ∷ cs) zero count up (suc place) = omega arith
+none_fell (c ∷ cs) (suc n) count up zero = omega arith
+none_fell (c ∷ cs) (suc n) count up (suc place) = none_fell cs n count up place
+
+-- as many stores as before
+pub as_long : {P : Type 0} (tables : P → Tables) (old now : List P) → map tables now ≡ map tables old → length now ≡ length old
+as_long tables old now same = omega (arith, ap length same, length-map now tables, length-map old tables)
+
+-- one more patch
+module _ {P : Type 0} (tell : P → Bool) (tables : P → Tables) (failed : P → ℕ) (calm : P → Type 0) (force : Bool) (base : Held) (old now : List P) (n : ℕ) (h : Held) (so : Folded tell tables failed calm force base old now n h)
+    (x y : P) (low : n < length now) (is : x ≡ get_or now n x) (same : tables y ≡ tables x) (also : tell y ≡ tell x) (up : failed x ≤ failed y) (still : calm x → calm y × (failed y ≡ failed x)) where
+  abbrev pub after : List P
+  after = set now n y
+
+  failed_after : map failed after ≡ set (map failed now) n (failed y)
+  failed_after = map-set failed now n y
+
+  failed_at : slice_index (map failed now) n ≡ failed x
+  failed_at = mapped_at failed now n x low is
+
+  pub read_after : AreOnlyRead tell tables failed calm old after
+  read_after = record {
+    told = map-set_same tables now n y x (same ∙ ap tables is) ∙ so.read.told;
+    tells = map-set_same tell now n y x (also ∙ ap tell is) ∙ so.read.tells;
+    faults = λ place.
+        let up : slice_index (map failed now) n ≤ failed y = omega (arith, failed_at, up) in
+        omega (arith, so.read.faults place, none_fell (map failed now) n (failed y) up place, ap (λ xs. slice_index xs place) failed_after);
+    steady = λ all.
+        let before = so.read.steady all in
+        let one : calm x = subst calm (sym is) (All-get_or calm now n x low before.0) in
+        let next = still one in
+        (All-set calm now n y next.0 before.0, map-set_same failed now n y x (next.1 ∙ ap failed is) ∙ before.1);
+  }
+
+  pub rose_after : Rose (failed x) (failed y) → RoseAt n (map failed old) (map failed after)
+  rose_after rose =
+      let there : slice_index (map failed after) n ≡ failed y = mapped_at failed after n y (omega (arith, low, length-set now n y)) (sym (get_or-set_same now n y y low)) in
+      omega (arith, so.read.faults n, failed_at, there, rose)
+
+  -- what is due of it
+  as_many : length (map tables old) ≡ length now
+  as_many = ap length (sym so.read.told) ∙ length-map now tables
+
+  tells_one : AllTell (map tell old) → tell x ≡ true
+  tells_one all =
+      let far : n < length (map tell now) = omega (arith, low, length-map now tell) in
+      ap tell is ∙ sym (get_or-map tell now n x true low) ∙ one_tells (map tell now) n true far (ap (list_all (λ t. t)) so.read.tells ∙ all)
+
+  at : get_or (map tables old) n (tables x) ≡ tables x
+  at = ap (λ ts. get_or ts n (tables x)) (sym so.read.told) ∙ get_or-map tables now n x (tables x) low ∙ ap tables (sym is)
+
+  left : drop n (map tables old) ≡ tables x ∷ drop (n + 1) (map tables old)
+  left = drop_more (map tables old) n (tables x) (omega (arith, low, as_many)) ∙ ap (λ t. t ∷ drop (n + 1) (map tables old)) at
+
+  front : take (n + 1) (map tables old) ≡ take n (map tables old) ++ tables x ∷ []
+  front = take_more (map tables old) n (tables x) (omega (arith, low, as_many)) ∙ ap (λ t. take n (map tables old) ++ t ∷ []) at
+
+  abbrev on_from : Result State ConvertError → Result State ConvertError
+  on_from r = then r (λ s. all_patched force (suc (n + 1)) s (drop (n + 1) (map tables old)))
+
+  due_now : AllTell (map tell old) → all_patched force 1 base.state (map tables old) ≡ on_from (one_patched force (n + 1) h.state (tables x))
+  due_now all = so.rest all ∙ ap (all_patched force (n + 1) h.state) left
+
+  abbrev one_due : Bool → Result State ConvertError → Type 0
+  one_due b r = IfSome (cond b (Some (one_patched force (n + 1) h.state (tables x))) None) (λ d. d ≡ r)
+
+  refused_on : (e : ConvertError) → IsRefused (due_patch force (n + 1) h.state (tell x) (tables x)) e → IsRefused (due_patches force 1 base.state (map tell old) (map tables old)) e
+  refused_on e r = by (list_all (λ t. t) (map tell old)) refl
+    where
+      by : (b : Bool) → list_all (λ t. t) (map tell old) ≡ b → IfSome (cond b (Some (all_patched force 1 base.state (map tables old))) None) (λ d. d ≡ Err e)
+      by false all = tt
+      by true all = due_now all ∙ ap on_from (subst (λ b. one_due b (Err e)) (tells_one all) r)
+
+  pub refused_after : {A : Type 0} (e : ConvertError) (r : Result A ConvertError) → Refuses (due_patch force (n + 1) h.state (tell x) (tables x)) e → IsErrAnd r (λ z. z ≡ e) → IfErr r (Refuses (due_patches force 1 base.state (map tell old) (map tables old)))
+  refused_after e (Ok z) refuses is = tt
+  refused_after e (Err z) refuses is = subst (Refuses (due_patches force 1 base.state (map tell old) (map tables old))) (sym is) (refuses_on _ _ e refused_on refuses)
+
+  pub fault_after : {A : Type 0} (e : ConvertError) (r : Result A ConvertError) → ((p : ℕ) → e ≡ StoreFault p → (p ≡ n + 1) × Rose (failed x) (failed y)) → IsErrAnd r (λ z. z ≡ e) → (p : ℕ) → r ≡ Err (StoreFault p) → (k : ℕ) × (p ≡ suc k) × RoseAt k (map failed old) (map failed after)
+  fault_after e (Ok z) fault is p at = absurd is
+  fault_after e (Err z) fault is p at = let same : z ≡ StoreFault p = cc in let rose = fault p (sym is ∙ same) in (n, rose.0 ∙ sym (one_on n), rose_after rose.1)
+
+  states_more : AllTell (map tell old) → (q : State) → state_of (tables x) ≡ Ok q → AreStatesOf (take (n + 1) (map tables old)) (so.states.0 ++ q ∷ [])
+  states_more all q one =
+      let are = so.states.1 all in
+      ap (map state_of) front ∙ map-append state_of (take n (map tables old)) (tables x ∷ []) ∙ (λ i. are i ++ one i ∷ []) ∙ sym (map-append Ok so.states.0 (q ∷ []))
+
+  pub folded_more : (next : Held) → IsDue (due_patch force (n + 1) h.state (tell x) (tables x)) next.state
+      → (q : State) × (tell x ≡ true → state_of (tables x) ≡ Ok q) × (next ≡ held_patched h q)
+      → ((t : Tables) → IsLoadedFrom t h → NamesAlgorithm h.state → IsLoadedFrom t next × NamesAlgorithm next.state)
+      → Folded tell tables failed calm force base old after (n + 1) next
+  folded_more next due held loads = record {
+    read = read_after;
+    rest = λ all. due_now all ∙ ap on_from (subst (λ b. one_due b (Ok next.state)) (tells_one all) due) ∙ ap (λ k. all_patched force k next.state (drop (n + 1) (map tables old))) (one_on (n + 1));
+    states = (so.states.0 ++ held.0 ∷ [], λ all. states_more all held.0 (held.1 (tells_one all)), held.2 ∙ ap (λ h. held_patched h held.0) so.states.2 ∙ sym (all_held_more base so.states.0 held.0));
+    loaded = λ t from named. let before = so.loaded t from named in loads t before.0 before.1;
+  }
+
+-- all of them
+module _ {P : Type 0} (tell : P → Bool) (tables : P → Tables) (failed : P → ℕ) (calm : P → Type 0) (force : Bool) (base : Held) (old now : List P) (n : ℕ) (h : Held) (so : Folded tell tables failed calm force base old now n h) (far : length now ≤ n) where
+  as_far : length (map tables old) ≤ n
+  as_far = omega (arith, far, ap length so.read.told, length-map now tables)
+
+  pub due_all : IsDue (due_patches force 1 base.state (map tell old) (map tables old)) h.state
+  due_all = by (list_all (λ t. t) (map tell old)) refl
+    where
+      by : (b : Bool) → list_all (λ t. t) (map tell old) ≡ b → IfSome (cond b (Some (all_patched force 1 base.state (map tables old))) None) (λ d. d ≡ Ok h.state)
+      by false all = tt
+      by true all = so.rest all ∙ ap (all_patched force (n + 1) h.state) (drop_all n (map tables old) as_far)
+
+  pub states_all : (qs : List State) × (AllTell (map tell old) → AreStatesOf (map tables old) qs) × (h ≡ all_held base qs)
+  states_all = (so.states.0, λ all. ap (map state_of) (sym (take_all n (map tables old) as_far)) ∙ so.states.1 all, so.states.2)

@@ -1,0 +1,65 @@
+-- What is due of a base and its patches.
+use Rattle.std.proofs.Common.{◌≡◌, ◌∙◌, ap, sym, subst, refl, ℕ, Bool, true, false, cond, ◌&&◌, List, map, Option, Some, None, Result, Ok, Err, IfErr, IfSome, IsErrAnd}
+use Rattle.std.proofs.lemmas.List.Folds.{list_all-map}
+use Rattle.std.specs.List.{list_all}
+use Rattle.mb_load.specs.Held.{Held, fresh, nothing_edited}
+use Rattle.mb_load.specs.LoadedFrom.{IsLoadedFrom, NamesAlgorithm}
+use Rattle.mb_load.specs.State.{State, state_of}
+use Rattle.mb_tables.specs.Table.{Tables}
+use Rattle.tile_bridge.specs.Outcome.{all_patched, at_place, due, outcome, tested, then}
+use Rattle.tile_bridge.specs.Patching.{AreStatesOf, IsHeldFrom, all_held}
+use Rattle.tile_bridge.specs.Stores.{IsDue, IsRefused, Refuses, due_patches}
+use Rattle.tile_bridge.specs.declared.error.ConvertError.{ConvertError}
+use Rattle.tile_bridge.specs.declared.options.ConvertOptions.{ConvertOptions}
+use Rattle.tile_bridge.proofs.FoldLemmas.{refuses_on}
+
+module _ {S P : Type 0} (tells : S → Bool) (told : S → Tables) (patch_tells : P → Bool) (patch_told : P → Tables) (base : S) (patches : List P) (options : ConvertOptions) (s : State) (is : tells base ≡ true → state_of (told base) ≡ Ok s) where
+  abbrev all_due : Option (Result State ConvertError)
+  all_due = due tells told patch_tells patch_told base patches options
+
+  abbrev patches_due : Option (Result State ConvertError)
+  patches_due = due_patches options.force 1 s (map patch_tells patches) (map patch_told patches)
+
+  -- what follows from what is due of the patches, once it is tested
+  from_patches : (Q : Result State ConvertError → Type 0) → IfSome patches_due (λ d. Q (then d (tested options.verify))) → IfSome all_due Q
+  from_patches Q h = by (tells base) (list_all patch_tells patches) refl refl
+    where
+      by : (b c : Bool) → tells base ≡ b → list_all patch_tells patches ≡ c → IfSome (cond (b && c) (Some (outcome (told base) (map patch_told patches) options.force options.verify)) None) Q
+      by false c e f = tt
+      by true false e f = tt
+      by true true e f =
+          let all : list_all (λ t. t) (map patch_tells patches) ≡ true = list_all-map (λ t. t) patch_tells patches ∙ f in
+          let there : Q (then (all_patched options.force 1 s (map patch_told patches)) (tested options.verify)) = subst (λ b. IfSome (cond b (Some (all_patched options.force 1 s (map patch_told patches))) None) (λ d. Q (then d (tested options.verify)))) all h in
+          subst Q (sym (ap (λ r. then (at_place 0 r) (λ s. then (all_patched options.force 1 s (map patch_told patches)) (tested options.verify))) (is e))) there
+
+  more : (d : Option (Result State ConvertError)) (P Q : Result State ConvertError → Type 0) → ((r : Result State ConvertError) → P r → Q r) → IfSome d P → IfSome d Q
+  more None P Q f h = tt
+  more (Some r) P Q f h = f r h
+
+  pub patches_refused : {A : Type 0} (e : ConvertError) (r : Result A ConvertError) → Refuses patches_due e → IsErrAnd r (λ x. x ≡ e) → IfErr r (Refuses all_due)
+  patches_refused e (Ok x) h same = tt
+  patches_refused e (Err x) h same = subst (Refuses all_due) (sym same) (refuses_on patches_due all_due e (λ e r. from_patches (λ d. d ≡ Err e) (more patches_due (λ d. d ≡ Err e) (λ d. then d (tested options.verify) ≡ Err e) (λ r is. ap (λ r. then r (tested options.verify)) is) r)) h)
+
+  module _ (next : State) (made : IsDue patches_due next) where
+    from_tests : (Q : Result State ConvertError → Type 0) → Q (tested options.verify next) → IfSome all_due Q
+    from_tests Q h = from_patches Q (more patches_due (λ d. d ≡ Ok next) (λ d. Q (then d (tested options.verify))) (λ r is. subst Q (sym (ap (λ r. then r (tested options.verify)) is)) h) made)
+
+    pub tests_refused : {A : Type 0} (e : ConvertError) (r : Result A ConvertError) → Refuses (Some (tested options.verify next)) e → IsErrAnd r (λ x. x ≡ e) → IfErr r (Refuses all_due)
+    tests_refused e (Ok x) h same = tt
+    tests_refused e (Err x) h same = subst (Refuses all_due) (sym same) (refuses_on (Some (tested options.verify next)) all_due e (λ e r. from_tests (λ d. d ≡ Err e) r) h)
+
+    pub state_due : tested options.verify next ≡ Ok next → IsDue all_due next
+    state_due passed = from_tests (λ d. d ≡ Ok next) passed
+
+-- the set that is converted
+pub held_from : (tells : Bool) (base : Tables) (patch_tells : List Bool) (patches : List Tables) (first next : Held) → first.edited ≡ nothing_edited → (tells ≡ true → state_of base ≡ Ok first.state) → (tells ≡ true → IsLoadedFrom base first) → NamesAlgorithm first.state
+    → (qs : List State) × (list_all (λ t. t) patch_tells ≡ true → AreStatesOf patches qs) × (next ≡ all_held first qs) → ((t : Tables) → IsLoadedFrom t first → NamesAlgorithm first.state → IsLoadedFrom t next × NamesAlgorithm next.state) → IsHeldFrom tells base patch_tells patches next
+held_from tells base patch_tells patches first next clean is from named states loads = record {
+  first = first.state;
+  states = states.0;
+  base_state = is;
+  patch_states = states.1;
+  held = states.2 ∙ ap (λ e. all_held (record { state = first.state; edited = e }) states.0) clean;
+  loaded = λ t. (loads base (from t) named).0;
+  named = λ t. (loads base (from t) named).1;
+}

@@ -1,0 +1,44 @@
+-- What is due of a store.
+use Rattle.std.proofs.Common.{◌≡◌, ℕ, Bool, true, false, Option, Some, None, Result, Ok, Err, refl, sym, subst, ◌∙◌, ap}
+use Rattle.mb_edit.specs.Step.{step}
+use Rattle.mb_load.specs.Refusals.{is_free}
+use Rattle.mb_load.specs.State.{State, state_of}
+use Rattle.mb_tables.specs.Table.{Tables}
+use Rattle.mb_tables.specs.declared.error.MbtError.{MbtError}
+use Rattle.mb_tables.specs.declared.error.MbtError.TheVariants.{OutOfMemory, StoreFault}
+use Rattle.tile_bridge.specs.Outcome.{at_place, then}
+use Rattle.tile_bridge.specs.Stores.{IsRefused, Refuses, due_at, due_patch, refusal_at}
+use Rattle.tile_bridge.specs.declared.error.ConvertError.{ConvertError}
+use Rattle.tile_bridge.specs.declared.error.ConvertError.TheVariants.{Store}
+
+-- the refusal of a store that can't be loaded
+pub load_refused : (place : ℕ) (tells : Bool) (t : Tables) (e : MbtError) (x : ConvertError) → x ≡ refusal_at place e → (tells ≡ true → is_free e ≡ false → state_of t ≡ Err e) → Refuses (due_at place tells t) x
+load_refused place tells t e x is answer = subst (Refuses (due_at place tells t)) (sym is) (by_case e answer)
+  where
+    stands : (e : MbtError) → (tells ≡ true → state_of t ≡ Err e) → IsRefused (due_at place tells t) (Store place e)
+    stands e h = by tells h
+      where
+        by : (b : Bool) → (b ≡ true → state_of t ≡ Err e) → IsRefused (due_at place b t) (Store place e)
+        by true h = ap (at_place place) (h refl)
+        by false h = tt
+
+    by_case : (e : MbtError) → (tells ≡ true → is_free e ≡ false → state_of t ≡ Err e) → Refuses (due_at place tells t) (refusal_at place e)
+    by_case StoreFault h = tt
+    by_case OutOfMemory h = tt
+    by_case e h = (stands e (λ b. h b refl), refl)
+
+-- the refusal of a patch
+pub patch_refused : (force : Bool) (place : ℕ) (s q : State) (tells : Bool) (t : Tables) (e : MbtError) (x : ConvertError) → x ≡ refusal_at place e → (tells ≡ true → state_of t ≡ Ok q) → (is_free e ≡ false → step force s q ≡ Err e) → Refuses (due_patch force place s tells t) x
+patch_refused force place s q tells t e x is loads answer = subst (Refuses (due_patch force place s tells t)) (sym is) (by_case e answer)
+  where
+    stands : (e : MbtError) → step force s q ≡ Err e → IsRefused (due_patch force place s tells t) (Store place e)
+    stands e h = by tells loads
+      where
+        by : (b : Bool) → (b ≡ true → state_of t ≡ Ok q) → IsRefused (due_patch force place s b t) (Store place e)
+        by true l = ap (λ r. then (at_place place r) (λ q. at_place place (step force s q))) (l refl) ∙ ap (at_place place) h
+        by false l = tt
+
+    by_case : (e : MbtError) → (is_free e ≡ false → step force s q ≡ Err e) → Refuses (due_patch force place s tells t) (refusal_at place e)
+    by_case StoreFault h = tt
+    by_case OutOfMemory h = tt
+    by_case e h = (stands e (h refl), refl)

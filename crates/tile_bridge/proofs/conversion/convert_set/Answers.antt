@@ -1,0 +1,48 @@
+use Rattle.std.proofs.Common.{rules, ◌≡◌, ℕ, List, is_some, IfSome, subst, ◌∙◌, ap}
+use Rattle.pm_writer.specs.Archive.{archive}
+use Rattle.pm_writer.specs.Pieces.{IsHiddenOr}
+use Rattle.pm_writer.specs.Places.{places_of}
+use Rattle.tile_bridge.specs.Adds.{shown}
+use Rattle.tile_bridge.proofs.ConvertLemmas.{leaves_all, leaves_part, leaves_whole, read_refused, ready, told_same}
+use Rattle.tile_bridge.proofs.conversion.convert_set.Goals as goal
+
+pub returns-in-Err-clause-leaves : goal.returns-in-Err-clause-leaves
+returns-in-Err-clause-leaves g c =
+    let tiles = c.args.set.now.state.tiles in
+    let adds = shown tiles c.in_ok-adds.adds.items in
+    let can = ready c.args.options.now tiles adds c.in_ok-adds.ensures.are c.in_ok-adds.ensures.few c.fits.ensures.options c.fits.ensures.metadata c.requires.size in
+    leaves_part c.args.options.now adds can tiles c.args.coords.now c.of_writer.result (g.M.Backend.told c.args.medium.now) (g.M.Backend.told c.write_archive.new.medium) c.in_ok-adds.ensures.are c.write_archive.ensures.tells
+    (subst (λ xs. IfSome (g.M.Backend.told c.write_archive.new.medium) (IsHiddenOr (archive c.args.options.now (shown tiles xs)))) c.deref.ensures.value c.write_archive.ensures.shown)
+
+pub returns-in-Ok-read_answers-clause-leaves : goal.returns-in-Ok-read_answers-clause-leaves
+returns-in-Ok-read_answers-clause-leaves g c =
+    let tiles = c.args.set.now.state.tiles in
+    let adds = shown tiles c.in_ok-adds.adds.items in
+    let can = ready c.args.options.now tiles adds c.in_ok-adds.ensures.are c.in_ok-adds.ensures.few c.fits.ensures.options c.fits.ensures.metadata c.requires.size in
+    let before = g.M.Backend.told c.write_archive.new.medium in
+    let after = g.M.Backend.told c.read_answers.new.backend in
+    let written : IfSome after (λ b. b ≡ archive c.args.options.now adds) = told_same (λ b. b ≡ archive c.args.options.now adds) before after c.read_answers.ensures.told (subst (λ xs. IfSome before (λ b. b ≡ archive c.args.options.now (shown tiles xs))) c.deref.ensures.value c.in-Ok.ensures.bytes) in
+    leaves_all c.args.options.now adds can tiles c.args.coords.now _ (g.M.Backend.told c.args.medium.now) after c.in_ok-adds.ensures.are
+    (c.in-Ok.ensures.places ∙ ap (λ xs. places_of c.args.options.now (shown tiles xs)) c.deref.ensures.value) (ap is_some c.read_answers.ensures.told ∙ c.write_archive.ensures.tells) written
+    (told_same (λ b. _) before after c.read_answers.ensures.told c.in-Ok-read_answers.ensures.answers)
+
+pub returns-in-Err-read_answers-clause-causes : goal.returns-in-Err-read_answers-clause-causes
+returns-in-Err-read_answers-clause-causes g c =
+    let tiles = c.args.set.now.state.tiles in
+    let adds = shown tiles c.in_ok-adds.adds.items in
+    let can = ready c.args.options.now tiles adds c.in_ok-adds.ensures.are c.in_ok-adds.ensures.few c.fits.ensures.options c.fits.ensures.metadata c.requires.size in
+    let before = g.M.Backend.told c.write_archive.new.medium in
+    let after = g.M.Backend.told c.read_answers.new.backend in
+    let written : IfSome after (λ b. b ≡ archive c.args.options.now adds) = told_same (λ b. b ≡ archive c.args.options.now adds) before after c.read_answers.ensures.told (subst (λ xs. IfSome before (λ b. b ≡ archive c.args.options.now (shown tiles xs))) c.deref.ensures.value c.in-Ok.ensures.bytes) in
+    read_refused c.args.options.now adds can (g.M.Backend.faults c.write_archive.new.medium) (g.M.Backend.faults c.read_answers.new.backend) c.in-Err-read_answers.error c.of_reader.result (g.M.Backend.told c.args.medium.now) after c.of_reader.ensures
+    (ap is_some c.read_answers.ensures.told ∙ c.write_archive.ensures.tells) written (told_same (λ b. _) before after c.read_answers.ensures.told c.in-Err-read_answers.ensures.answers) c.in-Err-read_answers.ensures.causes
+
+pub returns-in-Err-read_answers-clause-leaves : goal.returns-in-Err-read_answers-clause-leaves
+returns-in-Err-read_answers-clause-leaves g c =
+    let tiles = c.args.set.now.state.tiles in
+    let adds = shown tiles c.in_ok-adds.adds.items in
+    let can = ready c.args.options.now tiles adds c.in_ok-adds.ensures.are c.in_ok-adds.ensures.few c.fits.ensures.options c.fits.ensures.metadata c.requires.size in
+    let before = g.M.Backend.told c.write_archive.new.medium in
+    let after = g.M.Backend.told c.read_answers.new.backend in
+    leaves_whole c.args.options.now adds can tiles c.args.coords.now c.of_reader.result (g.M.Backend.told c.args.medium.now) after c.in_ok-adds.ensures.are (ap is_some c.read_answers.ensures.told ∙ c.write_archive.ensures.tells)
+    (told_same (λ b. b ≡ archive c.args.options.now adds) before after c.read_answers.ensures.told (subst (λ xs. IfSome before (λ b. b ≡ archive c.args.options.now (shown tiles xs))) c.deref.ensures.value c.in-Ok.ensures.bytes))

@@ -1,0 +1,11 @@
+use Rattle.std.proofs.Common.{◌≡◌, subst, sym}
+use Rattle.mb_edit.specs.HeldPatched.{held_patched}
+use Rattle.mb_edit.proofs.ApplyLemmas.{named_after}
+use Rattle.mb_edit.proofs.LoadedLemmas.{patched_loaded}
+use Rattle.mb_load.specs.Held.{Held}
+use Rattle.mb_load.specs.LoadedFrom.{IsLoadedFrom, NamesAlgorithm}
+use Rattle.tile_bridge.proofs.StoreLemmas.{patch_refused}
+use Rattle.tile_bridge.proofs.patching.patch_at.Goals as goal
+
+pub returns-clause-refused : goal.returns-clause-refused
+returns-clause-refused g c = patch_refused c.args.force c.args.place c.args.set.state c.in_ok-patch.patch.state (g.P.TileStore.tells c.args.patch.now) (g.P.TileStore.told c.args.patch.now) c.in-Err.error c.of_store.result c.of_store.ensures c.in_ok-patch.ensures.state c.in-Err.ensures.refused

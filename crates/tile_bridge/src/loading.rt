@@ -1,0 +1,47 @@
+// The stores of a conversion are loaded.
+ghost use Rattle.std.specs.Prelude.{◌≡◌, ◌≢◌, ◌≤◌, ℕ, true, Err, IfErr, IfOk, IsErrOf, Ok};
+ghost use Rattle.tile_ids.specs.Counts.{Rose};
+ghost use Rattle.mb_load.specs.Held.{nothing_edited};
+ghost use Rattle.mb_load.specs.State.{state_of};
+ghost use Rattle.mb_load.specs.LoadedFrom.{IsLoadable, IsLoadedFrom, NamesAlgorithm};
+ghost use Rattle.tile_bridge.specs.Stores.{Refuses, due_at, refusal_at};
+
+use crate::ConvertError;
+use mb_load::{Loaded, load};
+use mb_store::{MbtError, TileStore};
+use std::alloc::Global;
+
+/// The conversion's word for the error of the store at a place: 0 is the base, k the k-th patch.
+pub(crate) fn of_store(place: u64, error: MbtError) -> ConvertError
+    ensures { result ≡ refusal_at place error }
+{
+    match error {
+        MbtError::StoreFault => ConvertError::StoreFault { place },
+        MbtError::OutOfMemory => ConvertError::OutOfMemory,
+        error => ConvertError::Store { place, error },
+    }
+}
+
+/// Loads the store at a place.
+pub(crate) fn load_at<S: TileStore>(
+    alloc: Global,
+    store: &mut S,
+    place: u64,
+) -> Result<Loaded, ConvertError>
+    ensures edited { IfOk result (λ set. set.edited ≡ nothing_edited) }
+    ensures refused { IfErr result (Refuses (due_at place (S.tells store.old) (S.told store.old))) }
+    ensures state { IfOk result (λ set. S.tells store.old ≡ true → state_of (S.told store.old) ≡ Ok set.state) }
+    ensures loaded { S.tells store.old ≡ true → IfOk result (λ set. IsLoadedFrom (S.told store.old) set) }
+    ensures whole { IfOk result (λ set. IsLoadable set.state) }
+    ensures named { IfOk result (λ set. NamesAlgorithm set.state) }
+    ensures told { S.told store.new ≡ S.told store.old }
+    ensures tells { S.tells store.new ≡ S.tells store.old }
+    ensures faults { S.faults store.old ≤ S.faults store.new }
+    ensures fault { (p : ℕ) → IsErrOf result (ConvertError.StoreFault p) → (p ≡ place) × Rose (S.faults store.old) (S.faults store.new) }
+    ensures calm { S.steady store.old → S.steady store.new × (S.faults store.new ≡ S.faults store.old) }
+{
+    match load(alloc, store) {
+        Ok(set) => Ok(set),
+        Err(error) => Err(of_store(place, error)),
+    }
+}

@@ -1,6 +1,0 @@
-use Rattle.std.proofs.Common.{◌≡◌}
-use Rattle.tile_hash.specs.Xxh64.{after_half, after_bytes}
-use Rattle.tile_hash.proofs.xxh_64.after_all.Given as goal
-
-abbrev pub invariant-loop-i : goal.invariant-loop-i
-invariant-loop-i l = l.hash ≡ after_bytes (after_half l.bytes) l.bytes l.at l.i

@@ -1,0 +1,6 @@
+pub mod CheckingLemmas
+pub mod MeetingLemmas
+pub mod ReportLemmas
+pub mod SoundLemmas
+pub mod ToldLemmas
+pub mod WalkingLemmas

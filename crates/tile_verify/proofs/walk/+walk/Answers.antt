@@ -1,0 +1,135 @@
+use Rattle.std.proofs.Common.{◌∙◌, ◌≢◌, ◌+◌, ap, sym, subst, Ok, IfSome, refl, arith}
+use Rattle.pm_reader.specs.Opening.{header_of}
+use Rattle.tile_verify.proofs.ToldLemmas.{told_all_gone, told_begun, told_not_within, told_past_leaf, told_past_tile, told_stopped, told_stopped_below}
+use Rattle.tile_verify.proofs.walk.+walk.Goals as goal
+
+pub returns-in-Some-clause-answer : goal.returns-in-Some-clause-answer
+returns-in-Some-clause-answer g t c =
+    (told_not_within (g.B.Backend.told c.args.backend.now) (header_of c.args.state.now) c.args.at c.args.left c.args.low c.args.limit c.entries-entries.result.now c.args.directory.now c.args.met.now c.args.met.now c.in-Some.index c.in-Some.reason
+    c.limits_reason.result c.broken.result c.entries-entries.ensures.value c.limits_reason.ensures c.in-Some.is c.broken.ensures).0
+
+pub loop-entry-init : goal.loop-entry-init
+loop-entry-init g t c = (
+  omega arith,
+  sym c.limits_reason.ensures ∙ c.in_default.is,
+  c.entries-entries.ensures.value,
+  record { told = refl; versions = refl; faults = omega arith; calm = λ s. (s, refl) },
+  told_begun (g.B.Backend.told c.args.backend.now) (header_of c.args.state.now) c.args.at c.args.left c.args.limit c.entries-entries.result.now c.args.met.now (g.B.Backend.reads c.args.backend.now),
+)
+
+pub returns-in-Err-clause-answer : goal.returns-in-Err-clause-answer
+returns-in-Err-clause-answer g t c =
+    let i = c.loop-entry.invariant in
+    (told_stopped (g.B.Backend.told c.args.backend.now) (g.B.Backend.told c.loop-entry.backend) (header_of c.args.state.now) c.args.at c.args.left c.args.low c.args.limit c.entries-entries.result.now c.loop-entry.rest.now c.args.directory.now
+    c.in-Some-split_first.entry.now c.in-Some-split_first.others.now c.args.met.now c.loop-entry.met c.meet.new.met c.args.met.now (g.B.Backend.reads c.args.backend.now) (g.B.Backend.reads c.loop-entry.backend) (g.B.Backend.reads c.meet.new.backend) _ c.meet.result c.in-Err.error
+    i.3.told i.2 c.in-Some-split_first.ensures.cases.0 refl c.in-Err.is i.1 i.4 c.meet.ensures.answer c.meet.ensures.reads).0
+
+pub returns-in-Err-clause-reads : goal.returns-in-Err-clause-reads
+returns-in-Err-clause-reads g t c =
+    let i = c.loop-entry.invariant in
+    (told_stopped (g.B.Backend.told c.args.backend.now) (g.B.Backend.told c.loop-entry.backend) (header_of c.args.state.now) c.args.at c.args.left c.args.low c.args.limit c.entries-entries.result.now c.loop-entry.rest.now c.args.directory.now
+    c.in-Some-split_first.entry.now c.in-Some-split_first.others.now c.args.met.now c.loop-entry.met c.meet.new.met c.args.met.now (g.B.Backend.reads c.args.backend.now) (g.B.Backend.reads c.loop-entry.backend) (g.B.Backend.reads c.meet.new.backend) _ c.meet.result c.in-Err.error
+    i.3.told i.2 c.in-Some-split_first.ensures.cases.0 refl c.in-Err.is i.1 i.4 c.meet.ensures.answer c.meet.ensures.reads).1
+
+pub returns-in-Err-walk-clause-answer : goal.returns-in-Err-walk-clause-answer
+returns-in-Err-walk-clause-answer g t c =
+    let i = c.loop-entry.invariant in
+    (told_stopped_below (g.B.Backend.told c.args.backend.now) (g.B.Backend.told c.loop-entry.backend) (g.B.Backend.told c.meet.new.backend) (header_of c.args.state.now) c.args.at c.args.left c.args.low c.args.limit c.entries-entries.result.now c.loop-entry.rest.now c.args.directory.now
+    c.in-Some-split_first.entry.now c.in-Some-split_first.others.now c.in-Ok-Some.leaf c.args.met.now c.loop-entry.met c.meet.new.met c.walk.new.met c.args.met.now
+    (g.B.Backend.reads c.args.backend.now) (g.B.Backend.reads c.loop-entry.backend) (g.B.Backend.reads c.meet.new.backend) (g.B.Backend.reads c.walk.new.backend) _ _ _ _ _ c.meet.result c.in-Err-walk.error i.2 i.1 record {
+      same = i.3.told;
+      kept = c.meet.ensures.kept.told ∙ i.3.told;
+      first = c.in-Some-split_first.ensures.cases.0;
+      fits = i.0;
+      place = refl;
+      is = c.in-Ok-Some.is ∙ ap (λ o. Ok o) c.in-Ok-Some.field-0-is;
+      deep = subst (λ o. IfSome o (λ x. c.args.left ≢ 0)) c.in-Ok-Some.field-0-is c.in-Ok-Some.ensures.deep;
+      fewer_is = refl;
+      deeper_is = ap (λ o. record { depth = c.args.at.depth + 1; offset = o }) c.offset.ensures;
+      id_is = c.tile_id-id.ensures;
+      end_is = c.end_of-end.ensures;
+      goes = i.4;
+      meets = c.meet.ensures.answer;
+      one = c.meet.ensures.reads;
+      walks = c.in-Err-walk.ensures.answer;
+      more = c.in-Err-walk.ensures.reads;
+    }).0
+
+pub returns-in-Err-walk-clause-reads : goal.returns-in-Err-walk-clause-reads
+returns-in-Err-walk-clause-reads g t c =
+    let i = c.loop-entry.invariant in
+    (told_stopped_below (g.B.Backend.told c.args.backend.now) (g.B.Backend.told c.loop-entry.backend) (g.B.Backend.told c.meet.new.backend) (header_of c.args.state.now) c.args.at c.args.left c.args.low c.args.limit c.entries-entries.result.now c.loop-entry.rest.now c.args.directory.now
+    c.in-Some-split_first.entry.now c.in-Some-split_first.others.now c.in-Ok-Some.leaf c.args.met.now c.loop-entry.met c.meet.new.met c.walk.new.met c.args.met.now
+    (g.B.Backend.reads c.args.backend.now) (g.B.Backend.reads c.loop-entry.backend) (g.B.Backend.reads c.meet.new.backend) (g.B.Backend.reads c.walk.new.backend) _ _ _ _ _ c.meet.result c.in-Err-walk.error i.2 i.1 record {
+      same = i.3.told;
+      kept = c.meet.ensures.kept.told ∙ i.3.told;
+      first = c.in-Some-split_first.ensures.cases.0;
+      fits = i.0;
+      place = refl;
+      is = c.in-Ok-Some.is ∙ ap (λ o. Ok o) c.in-Ok-Some.field-0-is;
+      deep = subst (λ o. IfSome o (λ x. c.args.left ≢ 0)) c.in-Ok-Some.field-0-is c.in-Ok-Some.ensures.deep;
+      fewer_is = refl;
+      deeper_is = ap (λ o. record { depth = c.args.at.depth + 1; offset = o }) c.offset.ensures;
+      id_is = c.tile_id-id.ensures;
+      end_is = c.end_of-end.ensures;
+      goes = i.4;
+      meets = c.meet.ensures.answer;
+      one = c.meet.ensures.reads;
+      walks = c.in-Err-walk.ensures.answer;
+      more = c.in-Err-walk.ensures.reads;
+    }).1
+
+pub returns-clause-answer : goal.returns-clause-answer
+returns-clause-answer g t c =
+    let i = c.loop-entry.invariant in
+    (told_all_gone (g.B.Backend.told c.args.backend.now) (header_of c.args.state.now) c.args.at c.args.left c.args.low c.args.limit c.entries-entries.result.now c.loop-entry.rest.now c.args.directory.now c.args.met.now c.loop-entry.met
+    (g.B.Backend.reads c.args.backend.now) (g.B.Backend.reads c.loop-entry.backend) i.2 c.in_default-split_first.ensures.cases i.1 i.4).0
+
+pub returns-clause-reads : goal.returns-clause-reads
+returns-clause-reads g t c =
+    let i = c.loop-entry.invariant in
+    (told_all_gone (g.B.Backend.told c.args.backend.now) (header_of c.args.state.now) c.args.at c.args.left c.args.low c.args.limit c.entries-entries.result.now c.loop-entry.rest.now c.args.directory.now c.args.met.now c.loop-entry.met
+    (g.B.Backend.reads c.args.backend.now) (g.B.Backend.reads c.loop-entry.backend) i.2 c.in_default-split_first.ensures.cases i.1 i.4).1
+
+pub loop-entry-preserved-in-Ok-None : goal.loop-entry-preserved-in-Ok-None
+loop-entry-preserved-in-Ok-None g t c =
+    let i = c.loop-entry.invariant in (
+      omega (arith, i.0, c.in-Some-split_first.ensures.cases.1),
+      i.1,
+      i.2,
+      record { told = c.meet.ensures.kept.told ∙ i.3.told; versions = c.meet.ensures.kept.versions ∙ i.3.versions; faults = omega (arith, c.meet.ensures.kept.faults, i.3.faults); calm = λ s. let p = i.3.calm s in let q = c.meet.ensures.kept.calm p.0 in (q.0, q.1 ∙ p.1) },
+      told_past_tile (g.B.Backend.told c.args.backend.now) (g.B.Backend.told c.loop-entry.backend) (header_of c.args.state.now) c.args.at c.args.left c.args.limit c.entries-entries.result.now c.loop-entry.rest.now c.in-Some-split_first.entry.now c.in-Some-split_first.others.now c.args.met.now c.loop-entry.met c.meet.new.met
+          (g.B.Backend.reads c.args.backend.now) (g.B.Backend.reads c.loop-entry.backend) (g.B.Backend.reads c.meet.new.backend) _ c.meet.result
+          i.3.told c.in-Some-split_first.ensures.cases.0 i.0 refl (c.in-Ok-None.is ∙ ap (λ o. Ok o) c.in-Ok-None.field-0-is) i.4 c.meet.ensures.answer c.meet.ensures.reads,
+    )
+
+pub loop-entry-preserved : goal.loop-entry-preserved
+loop-entry-preserved g t c =
+    let i = c.loop-entry.invariant in
+    let k = c.meet.ensures.kept in
+    let m = c.in_default-walk.ensures.kept in (
+      omega (arith, i.0, c.in-Some-split_first.ensures.cases.1),
+      i.1,
+      i.2,
+      record { told = m.told ∙ k.told ∙ i.3.told; versions = m.versions ∙ k.versions ∙ i.3.versions; faults = omega (arith, m.faults, k.faults, i.3.faults); calm = λ s. let p = i.3.calm s in let q = k.calm p.0 in let r = m.calm q.0 in (r.0, r.1 ∙ q.1 ∙ p.1) },
+      told_past_leaf (g.B.Backend.told c.args.backend.now) (g.B.Backend.told c.loop-entry.backend) (g.B.Backend.told c.meet.new.backend) (header_of c.args.state.now) c.args.at c.args.left c.args.limit c.entries-entries.result.now c.loop-entry.rest.now
+          c.in-Some-split_first.entry.now c.in-Some-split_first.others.now c.in-Ok-Some.leaf c.args.met.now c.loop-entry.met c.meet.new.met c.walk.new.met
+          (g.B.Backend.reads c.args.backend.now) (g.B.Backend.reads c.loop-entry.backend) (g.B.Backend.reads c.meet.new.backend) (g.B.Backend.reads c.walk.new.backend) _ _ _ _ _ c.meet.result record {
+            same = i.3.told;
+            kept = c.meet.ensures.kept.told ∙ i.3.told;
+            first = c.in-Some-split_first.ensures.cases.0;
+            fits = i.0;
+            place = refl;
+            is = c.in-Ok-Some.is ∙ ap (λ o. Ok o) c.in-Ok-Some.field-0-is;
+            deep = subst (λ o. IfSome o (λ x. c.args.left ≢ 0)) c.in-Ok-Some.field-0-is c.in-Ok-Some.ensures.deep;
+            fewer_is = refl;
+            deeper_is = ap (λ o. record { depth = c.args.at.depth + 1; offset = o }) c.offset.ensures;
+            id_is = c.tile_id-id.ensures;
+            end_is = c.end_of-end.ensures;
+            goes = i.4;
+            meets = c.meet.ensures.answer;
+            one = c.meet.ensures.reads;
+            walks = c.in_default-walk.ensures.answer;
+            more = c.in_default-walk.ensures.reads;
+          },
+    )

@@ -1,0 +1,20 @@
+use Rattle.std.proofs.Common.{◌≡◌, ◌≤◌, length, None, IfSome}
+use Rattle.pm_reader.specs.Opening.{header_of}
+use Rattle.pm_reader.specs.Reads.{ReadsOnly}
+use Rattle.tile_verify.specs.FirstBreak.{limits_break}
+use Rattle.tile_verify.proofs.WalkingLemmas.{SoFar}
+use Rattle.tile_verify.proofs.walk.+walk.Given as goal
+
+abbrev pub decreases-walk : goal.decreases-walk
+decreases-walk g l = l.left
+
+abbrev pub invariant-loop-entry : goal.invariant-loop-entry
+invariant-loop-entry g l =
+    (length l.rest ≤ length l.entries)
+    × (limits_break None l.low l.limit 0 l.entries ≡ None)
+    × (l.entries ≡ l.directory)
+    × ReadsOnly g.B.Backend.told g.B.Backend.versions g.B.Backend.faults g.B.Backend.steady l.fn.backend l.backend
+    × IfSome (g.B.Backend.told l.fn.backend) (λ b. SoFar (header_of l.state) b l.at l.left l.limit l.entries l.rest l.fn.met l.met (g.B.Backend.reads l.fn.backend) (g.B.Backend.reads l.backend))
+
+abbrev pub decreases-loop-entry : goal.decreases-loop-entry
+decreases-loop-entry g l = length l.rest

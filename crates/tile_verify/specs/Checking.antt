@@ -1,0 +1,39 @@
+-- What a check answers, and why.
+use Rattle.std.specs.Prelude.{◌≡◌, ◌≢◌, ◌+◌, ℕ, List, Some, Result, Ok, Err}
+use Rattle.tile_ids.specs.Counts.{Rose}
+use Rattle.pm_format.specs.declared.error.PmtError.{PmtError}
+use Rattle.pm_format.specs.declared.error.PmtError.TheVariants as errors
+use Rattle.pm_format.specs.declared.error.ReadCause.TheVariants as causes
+use Rattle.pm_format.specs.Opened.{Opened, opened}
+use Rattle.pm_format.specs.Sound.{Sound}
+use Rattle.pm_reader.specs.Opening.{IsOpenRefusal}
+use Rattle.tile_verify.specs.FirstBreak.{walk_of}
+use Rattle.tile_verify.specs.Tiles.{capped, report_of}
+use Rattle.tile_verify.specs.declared.error.VerifyError.{VerifyError}
+use Rattle.tile_verify.specs.declared.error.VerifyError.TheVariants.{Opening, Broken, Fault, Short, OutOfMemory}
+use Rattle.tile_verify.specs.declared.report.VerifyReport.{VerifyReport}
+
+-- Over told bytes: they are sound and the report is theirs, they don't open, or the first break is this one. A fault and want of memory may come in its place.
+abbrev pub Answers : List ℕ → Result VerifyReport VerifyError → Type 0
+Answers b (Ok r) = Sound b × ((o : Opened) → opened b ≡ Ok o → r ≡ report_of b o)
+Answers b (Err (Opening (errors.Reading causes.Fault))) = Unit {0}
+Answers b (Err (Opening e)) = opened b ≡ Err e
+Answers b (Err (Broken at why directories)) = (o : Opened) × (opened b ≡ Ok o) × ((walk_of b o).broken ≡ Some (at, why)) × (directories ≡ capped (walk_of b o).directories)
+Answers b (Err Fault) = Unit {0}
+Answers b (Err (Short asked got)) = ⊥
+Answers b (Err OutOfMemory) = Unit {0}
+
+-- Told or not: a fault comes only where the count of faults rose, and two numbers only where they differ.
+abbrev pub Causes : {A : Type 0} → ℕ → ℕ → Result A VerifyError → Type 0
+Causes before now (Ok r) = Unit {0}
+Causes before now (Err (Opening (errors.Reading causes.Fault))) = Rose before now
+Causes before now (Err (Opening e)) = IsOpenRefusal e
+Causes before now (Err (Broken at why directories)) = Unit {0}
+Causes before now (Err Fault) = Rose before now
+Causes before now (Err (Short asked got)) = asked ≢ got
+Causes before now (Err OutOfMemory) = Unit {0}
+
+-- the reads: one opens, each leaf and each tile entry takes one, and one more may find a leaf past the end
+abbrev pub reads_at_most : List ℕ → Result Opened PmtError → ℕ
+reads_at_most b (Ok o) = 2 + (walk_of b o).directories + (walk_of b o).tiles
+reads_at_most b (Err e) = 1

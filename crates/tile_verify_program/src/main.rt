@@ -1,0 +1,116 @@
+//! Runs the verifier on the file that the words of the command line name.
+#![tactic(auto)]
+
+use pm_format::FileBackend;
+use std::alloc::{AllocError, Global};
+use std::env;
+use std::io::Write;
+use std::process::ExitCode;
+use tile_ids::TextVal;
+use tile_verify::{VerifyError, VerifyOutcome, run_verify, verify_line, verify_status};
+
+const HELP: &str = "Checks archives of the PMTiles format.
+
+usage: tile_verify IN
+
+tile_verify IN  reads the file IN, which isn't changed, and prints one line:
+                sound DIRECTORIES ADDRESSED ENTRIES CONTENTS
+                    the leaf entries, the ids with a tile, the tile entries
+                    and their different ranges
+                broken DEPTH OFFSET INDEX REASON
+                    the first entry that is broken: how many leaves lead to
+                    its directory, where that begins in the leaf part, the
+                    entry's index there, and what is wrong
+                opening NAME
+                    it doesn't open: the error's name
+                source fault
+                    the file can't be opened or read
+                short ASKED GOT
+                    the file gave other numbers of bytes than it was asked
+                out of memory
+--help          prints this text
+--version       prints the version
+
+status: 0 sound, 1 refused, 2 no command, 5 the line can't be written,
+6 source fault, 7 out of memory
+";
+
+const VERSION: &str = "tile_verify 0.1.0\n";
+
+// The status where a line or a text can't be written.
+const OUTPUT_FAULT: u8 = 5;
+
+// The words after the program's name, where each of them is a text.
+fn words_of(rt: &HostRuntime, alloc: Global) -> Result<Option<Vec<TextVal>>, AllocError> {
+    let Ok(args) = env::args(rt) else {
+        return Ok(None);
+    };
+    let mut words = Vec::new(alloc);
+    for arg in args.skip(1) {
+        words.push(TextVal::new(arg))?;
+    }
+    Ok(Some(words))
+}
+
+// The text that a single word asks for in place of a run.
+fn text_of(words: &[TextVal]) -> Option<&'static str> {
+    match words {
+        [word] => match word.as_str() {
+            "--help" => Some(HELP),
+            "--version" => Some(VERSION),
+            _ => None,
+        },
+        _ => None,
+    }
+}
+
+// Prints a text, and gives the status where that is done.
+fn print(rt: &HostRuntime, text: &str, status: u8) -> u8 {
+    let mut out = rt.stdout();
+    if out.write_all(text.as_bytes()).is_ok() && out.flush().is_ok() {
+        status
+    } else {
+        OUTPUT_FAULT
+    }
+}
+
+// Prints the line of an outcome, or nothing where that finds no memory.
+fn tell(rt: &HostRuntime, outcome: &VerifyOutcome) -> u8 {
+    let status = verify_status(outcome);
+    match verify_line(rt.alloc(), outcome) {
+        Ok(line) => print(rt, line.as_str(), status),
+        Err(_) => status,
+    }
+}
+
+// Checks a file, which is opened first.
+fn verify_file(rt: &HostRuntime, path: &str, words: &[TextVal]) -> VerifyOutcome {
+    match FileBackend::open(rt, path) {
+        Ok(mut source) => run_verify(rt.alloc(), words, &mut source),
+        Err(_) => VerifyOutcome::Refused(VerifyError::Fault),
+    }
+}
+
+// Without a word for the file nothing is printed.
+fn run_words(rt: &HostRuntime, words: &[TextVal]) -> u8 {
+    match words.split_first() {
+        Some((path, rest)) => tell(rt, &verify_file(rt, path.as_str(), rest)),
+        None => verify_status(&VerifyOutcome::Usage),
+    }
+}
+
+fn status_of(rt: &HostRuntime) -> u8 {
+    let words = match words_of(rt, rt.alloc()) {
+        Err(_) => return tell(rt, &VerifyOutcome::OutOfMemory),
+        Ok(None) => return tell(rt, &VerifyOutcome::Usage),
+        Ok(Some(words)) => words,
+    };
+    match text_of(words.as_slice()) {
+        Some(text) => print(rt, text, 0),
+        None => run_words(rt, words.as_slice()),
+    }
+}
+
+fn main(rt: HostRuntime) -> ExitCode {
+    ExitCode::from(status_of(&rt))
+}

@@ -1,8 +1,0 @@
-use Rattle.std.proofs.Common.{sym, ◌∙◌, arith}
-use Rattle.tileset_script.proofs.NumberLemmas.{digit_refused}
-use Rattle.tileset_script.specs.Number.{number_to}
-use Rattle.tileset_script.proofs.number.parse_number.Goals as goal
-
-pub returns-in_err-number-clause-value : goal.returns-in_err-number-clause-value
-returns-in_err-number-clause-value c =
-    c.from_residual.ensures ∙ sym (digit_refused c.args.limit c.loop-byte.number c.loop-byte.byte-index c.args.word.now (number_to c.args.limit c.args.word.now) (omega arith) (sym c.in_err-number.ensures) c.loop-byte.invariant.whole)

@@ -1,8 +1,0 @@
--- the options so far, and what the rest makes of them
-use Rattle.std.proofs.Common.{◌≡◌}
-use Rattle.std.specs.Vec.Iter.{into_iter_items}
-use Rattle.tileset_script.specs.Setting.{options_of, with_settings}
-use Rattle.tileset_script.proofs.script.setting.options_of.Given as goal
-
-abbrev pub invariant-loop-setting : goal.invariant-loop-setting
-invariant-loop-setting l = with_settings l.writer (into_iter_items l.setting-iterator) ≡ options_of l.fn.settings.items
