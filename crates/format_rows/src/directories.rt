@@ -3,7 +3,7 @@ ghost use Rattle.std.specs.Prelude.{◌≡◌, ◌↔◌, ◌+◌, ◌<◌, ◌�
 ghost use Rattle.pm_format.specs.Directory.{IsPlaced};
 
 use crate::words::{Words, bytes, number, say, say_bytes};
-use pm_format::{DirEntry, Directory, Steps, encode_entries};
+use pm_format::{DirEntry, Directory, Steps};
 use std::alloc::Global;
 use std::marker::Brand;
 use std::sync::ledger::{Blank, Ledger};
@@ -52,7 +52,7 @@ fn again(alloc: Global, out: &mut String, words: &mut Words) -> Option<()> {
     if !all_placed(directory.entries()) {
         return None;
     }
-    let spelled = encode_entries(alloc, directory.entries()).ok()?;
+    let spelled = directory.encode(alloc).ok()?;
     say(out, &(spelled.as_slice() == input.as_slice()))
 }
 

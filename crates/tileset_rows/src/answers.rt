@@ -1,0 +1,54 @@
+// How outcomes and bytes are printed.
+use std::alloc::Global;
+use std::fmt::Write;
+use tile_bridge::ConvertError;
+use tile_hash::HashAlgorithm;
+use tileset::{Outcome, outcome_line, outcome_status};
+
+/// Appends a text.
+pub fn say(out: &mut String, text: &str) -> Option<()> {
+    out.push_str(text).ok()
+}
+
+fn say_byte(out: &mut String, byte: u8) -> Option<()> {
+    match byte {
+        b'\n' => say(out, "\\n"),
+        b'\\' => say(out, "\\\\"),
+        b'|' => say(out, "\\x7c"),
+        b' '..=b'~' => out.push(char::from(byte)).ok(),
+        _ => write!(out, "\\x{byte:02x}").ok(),
+    }
+}
+
+/// Appends bytes as a text, or their number and their MD5 where they are more than this many.
+pub fn say_bytes(alloc: Global, out: &mut String, bytes: &[u8], most: usize) -> Option<()> {
+    if bytes.len() > most {
+        let count = bytes.len();
+        let digest = HashAlgorithm::Md5.hash(alloc, bytes).ok()?;
+        let digest = digest.as_str();
+        return write!(out, "{count} bytes {digest}").ok();
+    }
+    for byte in bytes {
+        say_byte(out, *byte)?;
+    }
+    Some(())
+}
+
+/// Appends the status and the line of an outcome.
+pub fn say_outcome(alloc: Global, out: &mut String, outcome: &Outcome) -> Option<()> {
+    let status = outcome_status(outcome);
+    let line = outcome_line(alloc, outcome).ok()?;
+    let line = line.as_str().trim_end_matches('\n');
+    write!(out, "{status}|{line}").ok()
+}
+
+/// Appends the status and the line of an outcome that no case of a few bytes ends in.
+pub fn named(alloc: Global, out: &mut String, name: &str) -> Option<()> {
+    let outcome = match name {
+        "OutOfMemory" => Outcome::OutOfMemory,
+        "InputTooLong" => Outcome::InputTooLong,
+        "IndexEntryOverflow" => Outcome::Refused(ConvertError::IndexEntryOverflow),
+        _ => return None,
+    };
+    say_outcome(alloc, out, &outcome)
+}
