@@ -7,7 +7,7 @@ use Rattle.mb_load.specs.State.{State}
 use Rattle.tileset.specs.Run.{Given, Gives, IsScript, IsScriptOf, IsShort, IsTold, IsValid, LoadCauses, ScriptCauses, Spells, TellsScript, Yields, answer, answer_command, answer_input, answer_label, answer_script, answer_set, converted, outcome_of}
 use Rattle.tileset_script.specs.Script.{Script, script_of}
 use Rattle.tileset_script.specs.Words.{command}
-use Rattle.tileset.specs.declared.input.TheConstants.{MAX_INPUT}
+use Rattle.byte_streams.specs.declared.input.TheConstants.{MAX_INPUT}
 use Rattle.tileset.specs.declared.outcome.Outcome.{Outcome}
 use Rattle.tileset.specs.declared.outcome.Outcome.TheVariants.{Done, Refused, Usage, BadScript, InputFault, OutputFault, MediumFault, OutOfMemory, InputTooLong, ReadBack}
 use Rattle.tileset_script.specs.declared.words.Command.{Command}

@@ -3,9 +3,9 @@ use Rattle.std.proofs.Common.{◌≡◌, ℕ, ◌+◌, ◌-◌, ◌%◌, ◌<◌
 use Rattle.std.proofs.lemmas.List.{take_all, take_at, drop_at, take-append-le, take-append-drop, length-take-le}
 use Rattle.std.proofs.lemmas.Bool.Decides.{nat_tests}
 use Rattle.tileset.specs.HexDump.{hex_dump}
-use Rattle.tileset.specs.Streams.{Gains, GainsFront}
+use Rattle.byte_streams.specs.Streams.{Gains, GainsFront}
 use Rattle.tileset.proofs.HexDumpLemmas.{hex_dump-append, hex_dump-none}
-use Rattle.tileset.proofs.StreamsLemmas.{Gains-more, Gains-nil}
+use Rattle.byte_streams.proofs.StreamsLemmas.{Gains-more, Gains-nil}
 
 -- the lines of one more piece
 piece_more : (b : List ℕ) (at size : ℕ) → at % 32 ≡ 0 → at + size ≤ length b → hex_dump 0 (take (at + size) b) ≡ hex_dump 0 (take at b) ++ hex_dump at (take size (drop at b))

@@ -2,7 +2,5 @@ pub mod ConvertingLemmas
 pub mod AnswerLemmas
 pub mod DumpLemmas
 pub mod HexDumpLemmas
-pub mod MemSourceLemmas
 pub mod ReportLemmas
 pub mod RunLemmas
-pub mod StreamsLemmas

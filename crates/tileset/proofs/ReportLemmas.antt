@@ -16,12 +16,12 @@ use Rattle.tileset.specs.Report.{bulk_text, file_text, number_lines, query_lines
 use Rattle.tileset.specs.Run.{IsReported, LinesCauses, ReportCauses, command_text}
 use Rattle.tileset.specs.declared.outcome.Outcome.{Outcome}
 use Rattle.tileset.specs.declared.outcome.Outcome.TheVariants as outcomes
-use Rattle.tileset.specs.Streams.{Gains, GainsFront}
+use Rattle.byte_streams.specs.Streams.{Gains, GainsFront}
 use Rattle.tileset_script.specs.declared.words.Command.{Command}
 use Rattle.tileset_script.specs.declared.words.Command.TheVariants.{Bulk, ConvertFile}
 use Rattle.tileset.specs.Summary.{answer_lines, summary}
 use Rattle.tileset.proofs.DumpLemmas.{front_longer, front_more}
-use Rattle.tileset.proofs.StreamsLemmas.{Gains-more}
+use Rattle.byte_streams.proofs.StreamsLemmas.{Gains-more}
 
 no_tiles : (cs : List Coord) → answer_lines cs [] ≡ []
 no_tiles [] = refl

@@ -17,7 +17,7 @@ use Rattle.tileset.specs.Converting.{IsNoStoreFault}
 use Rattle.tileset.specs.Dump.{IsOtherRange}
 use Rattle.tileset.specs.Outcomes.{of_convert}
 use Rattle.tileset.specs.Run.{AnsweredBy, Causes, Given, Gives, HasBegun, HoldsArchive, IsConvertible, IsScript, LeavesMedium, LeavesOutput, LeftBy, ReportCauses, SomeBegun, WrittenBy, answer_label, answer_medium, answer_script, answer_set, command_text, converted, outcome_of, text_of}
-use Rattle.tileset.specs.Streams.{Gains, GainsFront}
+use Rattle.byte_streams.specs.Streams.{Gains, GainsFront}
 use Rattle.tileset_script.specs.Script.{Script}
 use Rattle.tileset.specs.declared.outcome.Outcome.{Outcome}
 use Rattle.tileset.specs.declared.outcome.Outcome.TheVariants as outcomes

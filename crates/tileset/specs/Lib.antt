@@ -1,14 +1,10 @@
 pub mod Converting
 pub mod Dump
 pub mod HexDump
-pub mod Input
-pub mod MemSink
-pub mod MemSource
 pub mod OutcomeText
 pub mod Outcomes
 pub mod Places
 pub mod RefusalText
 pub mod Report
 pub mod Run
-pub mod Streams
 pub mod Summary

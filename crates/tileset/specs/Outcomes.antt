@@ -5,12 +5,12 @@ use Rattle.pm_format.specs.declared.backend.ReadFault.{ReadFault}
 use Rattle.pm_format.specs.declared.backend.ReadFault.TheVariants as read
 use Rattle.pm_format.specs.declared.error.PmtError.TheVariants as errors
 use Rattle.pm_format.specs.declared.error.ReadCause.TheVariants as causes
-use Rattle.tileset.specs.declared.input.InputError.{InputError}
-use Rattle.tileset.specs.declared.input.InputError.TheVariants as input
+use Rattle.byte_streams.specs.declared.input.InputError.{InputError}
+use Rattle.byte_streams.specs.declared.input.InputError.TheVariants as input
 use Rattle.tileset_script.specs.declared.script.error.ScriptError.{ScriptError}
 use Rattle.tileset_script.specs.declared.script.error.ScriptError.TheVariants as script
-use Rattle.tileset.specs.declared.sink.SinkFault.{SinkFault}
-use Rattle.tileset.specs.declared.sink.SinkFault.TheVariants as sink
+use Rattle.byte_streams.specs.declared.sink.SinkFault.{SinkFault}
+use Rattle.byte_streams.specs.declared.sink.SinkFault.TheVariants as sink
 use Rattle.tileset.specs.declared.outcome.Outcome.{Outcome}
 use Rattle.tileset.specs.declared.outcome.Outcome.TheVariants.{Refused, BadScript, InputFault, OutputFault, MediumFault, OutOfMemory, InputTooLong, ReadBack}
 

@@ -19,9 +19,9 @@ use Rattle.tileset_script.specs.Bulk.{bulk_script}
 use Rattle.tileset.specs.Dump.{IsOtherRange}
 use Rattle.tileset.specs.Report.{bulk_text, file_text, report_text}
 use Rattle.tileset_script.specs.Script.{Script, script_of}
-use Rattle.tileset.specs.Streams.{Gains, GainsFront, IsAtEnd}
+use Rattle.byte_streams.specs.Streams.{Gains, GainsFront, IsAtEnd}
 use Rattle.tileset_script.specs.Words.{command}
-use Rattle.tileset.specs.declared.input.TheConstants.{MAX_INPUT}
+use Rattle.byte_streams.specs.declared.input.TheConstants.{MAX_INPUT}
 use Rattle.tileset.specs.declared.outcome.Outcome.{Outcome}
 use Rattle.tileset.specs.declared.outcome.Outcome.TheVariants.{Done, Refused, Usage, BadScript, InputFault, OutputFault, MediumFault, OutOfMemory, InputTooLong, ReadBack}
 use Rattle.tileset_script.specs.declared.words.Command.{Command}

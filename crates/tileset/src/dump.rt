@@ -3,7 +3,7 @@ ghost use Rattle.std.specs.Prelude.{◌≡◌, ◌≤◌, ◌<◌, ◌+◌, ◌^
 ghost use Rattle.tile_ids.specs.Counts.{Rose};
 ghost use Rattle.tileset.specs.Dump.{DumpCauses, HasLength};
 ghost use Rattle.tileset.specs.HexDump.{hex_dump};
-ghost use Rattle.tileset.specs.Streams.{Gains, GainsFront};
+ghost use Rattle.byte_streams.specs.Streams.{Gains, GainsFront};
 
 use crate::hex_dump::push_hex_dump;
 use crate::{Outcome, Sink, write_all};

@@ -6,7 +6,7 @@ ghost use Rattle.tileset_script.specs.Bulk.{bulk_script};
 ghost use Rattle.tileset_script.specs.LeafEntries.{IsLeafEntries};
 ghost use Rattle.tileset_script.specs.Reading.{ScriptNeverFails, script_text};
 ghost use Rattle.tileset.specs.Run.{IsReadFor, IsScriptOf, IsUntaken, IsShort, LoadCauses, LoadTakes, ScriptCauses, Spells};
-ghost use Rattle.tileset.specs.Streams.{IsAtEnd};
+ghost use Rattle.byte_streams.specs.Streams.{IsAtEnd};
 ghost use Rattle.tileset_script.specs.Setting.{options_of};
 ghost use Rattle.tileset_script.specs.Words.{IsCommand};
 ghost use Rattle.tileset_script.specs.declared.script.setting.Setting.TheVariants.{MaxLeafEntries};

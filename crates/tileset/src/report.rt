@@ -4,7 +4,7 @@ ghost use Rattle.tile_ids.specs.Counts.{Rose};
 ghost use Rattle.tileset.specs.Places.{places_text};
 ghost use Rattle.tileset.specs.Report.{report_text};
 ghost use Rattle.tileset.specs.Run.{IsReported, LinesCauses, ReportCauses, command_text};
-ghost use Rattle.tileset.specs.Streams.{Gains, GainsFront};
+ghost use Rattle.byte_streams.specs.Streams.{Gains, GainsFront};
 ghost use Rattle.tileset.specs.Summary.{summary};
 
 use crate::dump::write_dump;

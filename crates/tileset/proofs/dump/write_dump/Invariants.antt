@@ -1,7 +1,7 @@
 -- the lines of what was written so far
 use Rattle.std.proofs.Common.{◌≡◌, ◌≤◌, ◌<◌, ◌-◌, ◌%◌, take, IfSome, is_some}
 use Rattle.tileset.specs.HexDump.{hex_dump}
-use Rattle.tileset.specs.Streams.{Gains}
+use Rattle.byte_streams.specs.Streams.{Gains}
 use Rattle.tileset.proofs.dump.write_dump.Given as goal
 
 abbrev pub invariant-loop-at : goal.invariant-loop-at

@@ -1,8 +1,8 @@
 // Reading all of the input.
 ghost use Rattle.std.specs.Prelude.{◌≡◌, ℕ, ◌≤◌, ◌<◌, length, OnOk, IfOk, IfSome, IsErrOf, is_some};
 ghost use Rattle.tile_ids.specs.Counts.{Rose};
-ghost use Rattle.tileset.specs.Input.{InputCounts};
-ghost use Rattle.tileset.specs.Streams.{Loses, IsAtEnd};
+ghost use Rattle.byte_streams.specs.Input.{InputCounts};
+ghost use Rattle.byte_streams.specs.Streams.{Loses, IsAtEnd};
 
 use crate::Source;
 use std::alloc::{AllocError, Global};
@@ -29,7 +29,7 @@ pub enum InputError {
 
 impl From<AllocError> for InputError {
     ghost use Rattle.std.specs.Prelude.{◌≡◌};
-    ghost use Rattle.tileset.specs.declared.input.InputError.TheVariants as errors;
+    ghost use Rattle.byte_streams.specs.declared.input.InputError.TheVariants as errors;
 
     ghost from_gives = { λ _ e. e ≡ errors.OutOfMemory };
 

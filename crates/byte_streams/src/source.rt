@@ -2,7 +2,7 @@
 ghost use Rattle.std.specs.Prelude.{◌≡◌, ℕ, List, ◌≤◌, OnErr};
 ghost use Rattle.std.specs.declared.option.Option.{Option};
 ghost use Rattle.tile_ids.specs.Counts.{Rose};
-ghost use Rattle.tileset.specs.Streams.{ReadTakes, CountsRead};
+ghost use Rattle.byte_streams.specs.Streams.{ReadTakes, CountsRead};
 
 use thiserror::Error;
 

@@ -1,7 +1,7 @@
 // A source in memory. The calls that are listed fail.
 ghost use Rattle.std.specs.Prelude.{◌≡◌, ◌↔◌, ◌≤◌, [], drop, is_err, Ok, Some, vec_len};
 ghost use Rattle.tile_ids.specs.FailingCalls.{called, next_fails};
-ghost use Rattle.tileset.specs.Streams.{CountsRead, ReadTakes};
+ghost use Rattle.byte_streams.specs.Streams.{CountsRead, ReadTakes};
 
 use crate::{Source, SourceFault};
 use tile_ids::FailingCalls;
@@ -17,7 +17,7 @@ pub struct MemSource {
 }
 
 impl MemSource {
-    ghost use Rattle.tileset.specs.MemSource.{failing_of};
+    ghost use Rattle.byte_streams.specs.MemSource.{failing_of};
 
     /// A source of these bytes.
     pub fn new(bytes: Vec<u8>) -> MemSource
@@ -63,7 +63,7 @@ impl MemSource {
 }
 
 impl Source for MemSource {
-    ghost use Rattle.tileset.specs.MemSource.{failing_of};
+    ghost use Rattle.byte_streams.specs.MemSource.{failing_of};
 
     ghost left = { λ s. Some (drop s.place s.bytes.items) };
 

@@ -1,8 +1,8 @@
 // A sink in memory. The calls that are listed fail.
 ghost use Rattle.std.specs.Prelude.{◌≡◌, ◌↔◌, ◌≤◌, [], IsErrOf, IsTrue, Some};
 ghost use Rattle.tile_ids.specs.FailingCalls.{called, next_fails};
-ghost use Rattle.tileset.specs.MemSink.{failing_of};
-ghost use Rattle.tileset.specs.Streams.{WriteAppends};
+ghost use Rattle.byte_streams.specs.MemSink.{failing_of};
+ghost use Rattle.byte_streams.specs.Streams.{WriteAppends};
 
 use crate::{Sink, SinkFault};
 use std::alloc::Global;

@@ -1,7 +1,7 @@
--- a sink in memory
+-- a source in memory
 use Rattle.tile_ids.specs.declared.failing_calls.FailingCalls.{FailingCalls}
-use Rattle.tileset.specs.declared.mem_sink.MemSink.{MemSink}
+use Rattle.byte_streams.specs.declared.mem_source.MemSource.{MemSource}
 
 -- which calls fail, and how many were made and failed
-abbrev pub failing_of : MemSink → FailingCalls
+abbrev pub failing_of : MemSource → FailingCalls
 failing_of s = s.failing

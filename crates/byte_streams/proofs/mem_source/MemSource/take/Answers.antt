@@ -1,6 +1,6 @@
 use Rattle.std.proofs.Common.{rules, arith, ◌∙◌, ◌+◌, ◌-◌, ap, take, drop}
-use Rattle.tileset.proofs.MemSourceLemmas.{next_bytes}
-use Rattle.tileset.proofs.mem_source.MemSource.take.Goals as goal
+use Rattle.byte_streams.proofs.MemSourceLemmas.{next_bytes}
+use Rattle.byte_streams.proofs.mem_source.MemSource.take.Goals as goal
 
 pub returns-clause-takes : goal.returns-clause-takes
 returns-clause-takes c =

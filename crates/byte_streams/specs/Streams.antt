@@ -3,8 +3,8 @@ use Rattle.std.specs.Prelude.{ℕ, ◌≡◌, ◌≤◌, ◌<◌, List, [], ◌+
 use Rattle.std.specs.declared.option.Option.{Option}
 use Rattle.std.specs.declared.result.Result.{Result}
 use Rattle.tile_ids.specs.Counts.{Grew}
-use Rattle.tileset.specs.declared.source.SourceFault.{SourceFault}
-use Rattle.tileset.specs.declared.sink.SinkFault.{SinkFault}
+use Rattle.byte_streams.specs.declared.source.SourceFault.{SourceFault}
+use Rattle.byte_streams.specs.declared.sink.SinkFault.{SinkFault}
 
 -- what is left loses these bytes at its front, where it is told; whether it is doesn't change
 abbrev pub Loses : Option (List ℕ) → Option (List ℕ) → List ℕ → Type 0

@@ -3,9 +3,9 @@ use Rattle.std.specs.Prelude.{ℕ, ◌+◌, ◌-◌, ◌^◌, ◌≤◌, ◌<◌
 use Rattle.std.specs.declared.alloc.Global.{Global}
 use Rattle.std.specs.declared.result.Result.{Result}
 use Rattle.tile_ids.specs.Counts.{Grew}
-use Rattle.tileset.specs.declared.input.InputError.{InputError}
-use Rattle.tileset.specs.declared.input.InputError.TheVariants.{Fault, TooLong, OutOfMemory}
-use Rattle.tileset.specs.declared.input.TheConstants.{MAX_INPUT}
+use Rattle.byte_streams.specs.declared.input.InputError.{InputError}
+use Rattle.byte_streams.specs.declared.input.InputError.TheVariants.{Fault, TooLong, OutOfMemory}
+use Rattle.byte_streams.specs.declared.input.TheConstants.{MAX_INPUT}
 
 -- Ok took exactly its bytes, not too many. TooLong comes exactly where too many were taken, by the count.
 abbrev pub InputCounts : ℕ → ℕ → Result (Vec ℕ Global) InputError → Type 0

@@ -1,7 +1,7 @@
 // Writing all of a text.
 ghost use Rattle.std.specs.Prelude.{◌≡◌, ◌≤◌, OnOk, IsErrOf, is_some};
 ghost use Rattle.tile_ids.specs.Counts.{Rose};
-ghost use Rattle.tileset.specs.Streams.{Gains, GainsFront};
+ghost use Rattle.byte_streams.specs.Streams.{Gains, GainsFront};
 
 use crate::{Sink, SinkFault};
 

@@ -1,9 +1,9 @@
 -- what was read so far is what the source lost
 use Rattle.std.proofs.Common.{◌≡◌, ◌≤◌, ◌-◌, length, vec_len, is_some}
-use Rattle.tileset.specs.Streams.{Loses}
+use Rattle.byte_streams.specs.Streams.{Loses}
 use Rattle.tile_ids.specs.Counts.{Grew}
-use Rattle.tileset.specs.declared.input.TheConstants.{MAX_INPUT}
-use Rattle.tileset.proofs.input.read_input.Given as goal
+use Rattle.byte_streams.specs.declared.input.TheConstants.{MAX_INPUT}
+use Rattle.byte_streams.proofs.input.read_input.Given as goal
 
 abbrev pub invariant-loop-count : goal.invariant-loop-count
 invariant-loop-count g l =

@@ -1,7 +1,7 @@
 -- what the sink gained is the front that was written
 use Rattle.std.proofs.Common.{◌≡◌, ◌≤◌, ◌-◌, length, take, is_some}
-use Rattle.tileset.specs.Streams.{Gains}
-use Rattle.tileset.proofs.output.write_all.Given as goal
+use Rattle.byte_streams.specs.Streams.{Gains}
+use Rattle.byte_streams.proofs.output.write_all.Given as goal
 
 abbrev pub invariant-loop-done : goal.invariant-loop-done
 invariant-loop-done g l =

@@ -2,7 +2,7 @@
 use Rattle.std.proofs.Common.{ℕ, ◌≡◌, ◌+◌, ◌-◌, ◌≤◌, List, [], ◌++◌, length, take, drop, Some, None, refl, sym, ap, ◌∙◌, append_assoc, append-nil, take-add, length-append, arith, IfSome, is_some, subst}
 use Rattle.std.proofs.lemmas.Slice.{between_to_end}
 use Rattle.std.specs.declared.option.Option.{Option}
-use Rattle.tileset.specs.Streams.{Loses, Gains, IsAtEnd}
+use Rattle.byte_streams.specs.Streams.{Loses, Gains, IsAtEnd}
 use Rattle.tile_ids.specs.Counts.{Grew}
 
 pub Loses-nil : (a : Option (List ℕ)) → Loses a a []

@@ -1,6 +1,6 @@
 use Rattle.std.proofs.Common.{rules, ◌∙◌}
-use Rattle.tileset.proofs.StreamsLemmas.{Gains-part, Gains-tells}
-use Rattle.tileset.proofs.output.write_all.Goals as goal
+use Rattle.byte_streams.proofs.StreamsLemmas.{Gains-part, Gains-tells}
+use Rattle.byte_streams.proofs.output.write_all.Goals as goal
 
 pub loop-done-preserved : goal.loop-done-preserved
 loop-done-preserved g c =

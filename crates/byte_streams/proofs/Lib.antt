@@ -1,0 +1,2 @@
+pub mod MemSourceLemmas
+pub mod StreamsLemmas

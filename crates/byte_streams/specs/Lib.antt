@@ -1,0 +1,4 @@
+pub mod Input
+pub mod MemSink
+pub mod MemSource
+pub mod Streams
