@@ -5,6 +5,7 @@ import hashlib
 import random
 import sys
 
+import edit_cases
 import patch_cases
 import shown
 from rows import Rows, flag, option
@@ -606,6 +607,7 @@ def main():
     for rows in (labels, odd_tables, creating, stores, random_stores, all_changes, faults, loads):
         rows()
     patch_cases.write(sys.modules[__name__])
+    edit_cases.write(sys.modules[__name__])
     ROWS.write()
 
 

@@ -33,6 +33,10 @@ pub mod DatedLemmas
 pub mod EditMaps
 pub mod MoreContents
 pub mod EditViews
+pub mod ListEdits
+pub mod Placed
+pub mod StandsLemmas
+pub mod PlacedViews
 pub mod Listed
 pub mod ChangeSteps
 pub mod Covering

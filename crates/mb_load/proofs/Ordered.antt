@@ -31,7 +31,7 @@ module _ {K X : Type 0} {R : K → K → Ordering} (total : IsTotalOrder R) (ant
       (ap (eq_by_cmp R q) (at.has_key d) ∙ ap is_eq (tied_itself total q)) in
       rw (e, o.live i d at.in_range) refl
 
-  gap_apart : (n : ℕ) (xs : List X) (q : K) (i k : ℕ) (d : X) → IsGap R key n xs q i → k < n → eq_by_cmp R q (key (get_or xs k d)) ≡ false
+  pub gap_apart : (n : ℕ) (xs : List X) (q : K) (i k : ℕ) (d : X) → IsGap R key n xs q i → k < n → eq_by_cmp R q (key (get_or xs k d)) ≡ false
   gap_apart n xs q i k d g lt = (eq_by_cmp_equiv total).symm q (key (get_or xs k d)) ∙ elim (cases_lt k i) [
     | inl a ↦ less_apart (R (key (get_or xs k d)) q) (g.before k d a)
     | inr b ↦ greater_apart (R (key (get_or xs k d)) q) (g.after k d b lt)

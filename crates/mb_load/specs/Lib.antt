@@ -24,5 +24,6 @@ pub mod Changing
 pub mod LoadedFrom
 pub mod Committed
 pub mod Adding
+pub mod Clearing
 pub mod PutRows
 pub mod Dropping

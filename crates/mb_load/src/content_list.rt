@@ -149,8 +149,8 @@ impl ContentList {
         Ok(ContentList { items, order, live })
     }
 
-    // Where the index of the contents of an id is, or where it would go.
-    fn search(&self, id: &Cell) -> Result<usize, usize>
+    /// Where the index of the contents of an id is, or where it would go.
+    pub(crate) fn search(&self, id: &Cell) -> Result<usize, usize>
         requires { AreContentsInOrder self.now.items.items self.now.live self.now.order.items }
         ensures found { IfOk result (IsAt cell_cmp (id_at self.now.items.items) self.now.live self.now.order.items id.now) }
         ensures absent { IfErr result (IsGap cell_cmp (id_at self.now.items.items) self.now.live self.now.order.items id.now) }

@@ -94,8 +94,8 @@ impl NameList {
         Ok(NameList { items, live })
     }
 
-    // Where a name is, or where it would go.
-    fn search(&self, name: &str) -> Result<usize, usize>
+    /// Where a name is, or where it would go.
+    pub(crate) fn search(&self, name: &str) -> Result<usize, usize>
         requires { AreNamesInOrder self.now.live self.now.items.items }
         ensures found { IfOk result (IsAt (slice_cmp nat_cmp) name_of self.now.live self.now.items.items name.now) }
         ensures absent { IfErr result (IsGap (slice_cmp nat_cmp) name_of self.now.live self.now.items.items name.now) }

@@ -60,8 +60,8 @@ impl TileList {
         Ok(TileList { items, live })
     }
 
-    // Where the tile at a coordinate is, or where it would go.
-    fn search(&self, coord: TileCoord) -> Result<usize, usize>
+    /// Where the tile at a coordinate is, or where it would go.
+    pub(crate) fn search(&self, coord: TileCoord) -> Result<usize, usize>
         requires { AreInOrder self.now.live self.now.items.items }
         ensures found { IfOk result (IsAt place_cmp place_of self.now.live self.now.items.items (place_at coord)) }
         ensures absent { IfErr result (IsGap place_cmp place_of self.now.live self.now.items.items (place_at coord)) }

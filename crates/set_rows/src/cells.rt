@@ -19,7 +19,7 @@ pub fn table(words: &mut Words) -> Option<TableName> {
 }
 
 // A cell: `n`, `o`, `i` and a number, `t` and a text, or `x` and hexadecimal digits.
-fn cell(alloc: Global, word: &str) -> Option<Cell> {
+pub fn cell(alloc: Global, word: &str) -> Option<Cell> {
     if let Some(digits) = word.strip_prefix('i') {
         return Some(Cell::Int(digits.parse::<i64>().ok()?));
     }

@@ -5,6 +5,7 @@ mod cells;
 mod changes;
 mod creating;
 mod described;
+mod edits;
 mod labels;
 mod loads;
 mod patches;
@@ -36,6 +37,7 @@ fn answer(alloc: Global, out: &mut String, kept: &mut Kept, line: &str) -> Optio
         "table" => tables::answer(alloc, out, &mut kept.tables, &mut words),
         "describe" => creating::describe(alloc, out, &mut kept.store, kept.tables.as_slice()),
         "load" => loads::answer(alloc, out, &mut kept.store),
+        "edit" => edits::answer(alloc, out, &mut kept.store, &mut words),
         "patch" => patches::answer(alloc, out, &mut kept.base, &mut kept.store, &mut words),
         "label" => labels::answer(out, &mut words),
         _ => None,

@@ -63,7 +63,9 @@ fn is_wanted(object: Object, ended: &Ended, whole: &Ended) -> bool {
             matches!(ended.outcome, Outcome::InputFault) && written.is_empty() && held.is_empty()
         }
         Object::Output => {
-            matches!(ended.outcome, Outcome::OutputFault) && front && held == whole.medium.as_bytes()
+            matches!(ended.outcome, Outcome::OutputFault)
+                && front
+                && held == whole.medium.as_bytes()
         }
         Object::Medium => {
             matches!(ended.outcome, Outcome::MediumFault)

@@ -1,0 +1,100 @@
+// Edits of the set that the kept store holds, one at a time, and the commit of their changes.
+ghost use Rattle.std.specs.Prelude.{IsTrue};
+ghost use Rattle.mb_store.specs.Committing.{AreOfTables};
+
+use crate::cells::cell;
+use crate::changes::is_table;
+use crate::loads::say_set;
+use crate::words::{Words, number, owned, say};
+use mb_load::{Loaded, load};
+use mb_store::{Changes, MemStore, TileStore};
+use mb_tables::{Cell, TableDesc};
+use std::alloc::Global;
+use tile_ids::TileCoord;
+
+// A zoom, a column, and a row counted from the top.
+fn coord(words: &mut Words) -> Option<TileCoord> {
+    let zoom = number(words)?;
+    let column = number(words)?;
+    TileCoord::new(zoom, column, number(words)?).ok()
+}
+
+fn set_tile(alloc: Global, set: &mut Loaded, words: &mut Words) -> Option<()> {
+    let coord = coord(words)?;
+    match cell(alloc, words.next()?)? {
+        Cell::Blob(bytes) => set.set_tile(coord, bytes).ok(),
+        _ => None,
+    }
+}
+
+fn set_metadata(alloc: Global, set: &mut Loaded, words: &mut Words) -> Option<()> {
+    let name = owned(alloc, words.next()?)?;
+    match cell(alloc, words.next()?)? {
+        Cell::Text(text) => set.set_metadata(name, Cell::Text(text)).ok(),
+        Cell::Null => set.set_metadata(name, Cell::Null).ok(),
+        _ => None,
+    }
+}
+
+fn clear_tile(set: &mut Loaded, words: &mut Words) -> Option<()> {
+    set.clear_tile(coord(words)?);
+    Some(())
+}
+
+fn clear_metadata(set: &mut Loaded, words: &mut Words) -> Option<()> {
+    set.clear_metadata(words.next()?);
+    Some(())
+}
+
+// One edit.
+fn edit(alloc: Global, set: &mut Loaded, words: &mut Words) -> Option<()> {
+    match words.next()? {
+        "set" => set_tile(alloc, set, words),
+        "clear" => clear_tile(set, words),
+        "put" => set_metadata(alloc, set, words),
+        "remove" => clear_metadata(set, words),
+        "drop" => {
+            set.drop_unreferenced();
+            Some(())
+        }
+        _ => None,
+    }
+}
+
+// Whether all changes are of described tables.
+fn are_described(tables: &[TableDesc], changes: &Changes) -> bool
+    ensures { IsTrue result → AreOfTables tables.now changes.now }
+{
+    for index in 0..changes.len() {
+        if !is_table(tables, changes.change_at(index).0) {
+            return false;
+        }
+    }
+    true
+}
+
+// Asks for the descriptions first.
+fn commit(alloc: Global, out: &mut String, store: &mut MemStore, changes: &Changes) -> Option<()> {
+    let tables = store.describe(alloc).ok()?;
+    if !are_described(tables.as_slice(), changes) {
+        return None;
+    }
+    say(out, &store.commit(alloc, changes))
+}
+
+// As many edits as the first word says: the set after them, how many changes they make, and the commit.
+pub fn answer(
+    alloc: Global,
+    out: &mut String,
+    store: &mut MemStore,
+    words: &mut Words,
+) -> Option<()> {
+    let mut set = load(alloc, store).ok()?;
+    for _ in 0..number::<u8>(words)? {
+        edit(alloc, &mut set, words)?;
+    }
+    say_set(out, &set)?;
+    let changes = set.changes(alloc).ok()?;
+    say(out, &changes.len())?;
+    commit(alloc, out, store, &changes)
+}
