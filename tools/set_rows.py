@@ -5,6 +5,7 @@ import hashlib
 import random
 import sys
 
+import check_rows
 import edit_cases
 import patch_cases
 import shown
@@ -608,6 +609,7 @@ def main():
         rows()
     patch_cases.write(sys.modules[__name__])
     edit_cases.write(sys.modules[__name__])
+    check_rows.write(sys.modules[__name__])
     ROWS.write()
 
 

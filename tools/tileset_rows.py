@@ -382,7 +382,8 @@ def other_objects():
     """Each call failing in turn, reads for what is asked, and objects that answer in odd ways."""
     five = "\n".join(["base flat", *FIVE, "query 4 1 3", "query 0 0 0", ""])
     for words, script in [("convert hex", ONE_TILE), ("convert hex", NO_TILE), ("convert hex", five), ("convert hex", removes_the_tile()), ("bulk 5 2", ""), ("bulk 300 1", ""), ("bulk 4064 1 16", "")]:
-        for place in ["input", "output", "medium"]:
+        # The medium of 4064 contents has more calls than a case takes.
+        for place in ["input", "output"] + ["medium"] * (words != "bulk 4064 1 16"):
             wanted = "no call" if place == "input" and words != "convert hex" else "as wanted"
             case(["each", place, words, escaped(script.encode())], wanted)
     base = "base flat\nrow tiles i0 i0 i0 x30\nrow tiles i1 i0 i0 x\n"

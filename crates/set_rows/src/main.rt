@@ -1,8 +1,9 @@
-//! Reads calls of mb_tables, mb_store, mb_load and mb_edit from standard input, one a line, and prints each line with its answer.
+//! Reads calls of mb_tables, mb_store, mb_load, mb_edit and mb_check from standard input, one a line, and prints each line with its answer.
 #![tactic(auto)]
 
 mod cells;
 mod changes;
+mod checks;
 mod creating;
 mod described;
 mod edits;
@@ -38,6 +39,7 @@ fn answer(alloc: Global, out: &mut String, kept: &mut Kept, line: &str) -> Optio
         "describe" => creating::describe(alloc, out, &mut kept.store, kept.tables.as_slice()),
         "load" => loads::answer(alloc, out, &mut kept.store),
         "edit" => edits::answer(alloc, out, &mut kept.store, &mut words),
+        "check" => checks::answer(alloc, out, &mut kept.store, &mut words),
         "patch" => patches::answer(alloc, out, &mut kept.base, &mut kept.store, &mut words),
         "label" => labels::answer(out, &mut words),
         _ => None,

@@ -38,8 +38,10 @@ pub fn say_bytes(alloc: Global, out: &mut String, bytes: &[u8], most: usize) -> 
 pub fn say_outcome(alloc: Global, out: &mut String, outcome: &Outcome) -> Option<()> {
     let status = outcome_status(outcome);
     let line = outcome_line(alloc, outcome).ok()?;
-    let line = line.as_str().trim_end_matches('\n');
-    write!(out, "{status}|{line}").ok()
+    let line = line.as_str();
+    let line = line.strip_suffix('\n').unwrap_or(line);
+    write!(out, "{status}|").ok()?;
+    say_bytes(alloc, out, line.as_bytes(), 4000)
 }
 
 /// Appends the status and the line of an outcome that no case of a few bytes ends in.

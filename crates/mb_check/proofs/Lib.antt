@@ -1,0 +1,4 @@
+pub mod BegunLemmas
+pub mod InfoLemmas
+pub mod SizesLemmas
+pub mod UpdatedLemmas

@@ -1,0 +1,8 @@
+use Rattle.std.proofs.Common.{◌≡◌, length, sum_by, take}
+use Rattle.std.specs.FinMap.{entries}
+use Rattle.mb_check.specs.Totals.{capped}
+use Rattle.mb_load.specs.Aggregate.{bytes_of}
+use Rattle.mb_check.proofs.totals.total_size.Given as goal
+
+abbrev pub invariant-loop-index : goal.invariant-loop-index
+invariant-loop-index l = l.total ≡ capped (sum_by (λ e. length (bytes_of e.1)) (take l.index (entries l.set.state.tiles)))

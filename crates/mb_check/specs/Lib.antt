@@ -1,0 +1,7 @@
+pub mod Begun
+pub mod AggregateHash
+pub mod PatchInfo
+pub mod Updated
+pub mod Validation
+pub mod Totals
+pub mod Sizes

@@ -1,0 +1,55 @@
+// Storing the computed hash of all tiles.
+ghost use Rattle.std.specs.Prelude.{◌≡◌, ◌≤◌, Some, true, IfOk, IsErrOf, OnErr, OnOk};
+ghost use Rattle.tile_ids.specs.Counts.{Rose};
+ghost use Rattle.mb_check.specs.AggregateHash.{own_hash_answer};
+ghost use Rattle.mb_check.specs.Begun.{IsBegun};
+ghost use Rattle.mb_check.specs.Updated.{IsUpdated, held_hashed};
+ghost use Rattle.mb_load.specs.Edits.{with_name};
+
+use mb_edit::commit_loaded;
+use mb_load::{Editing, Loaded, load};
+use mb_store::{AGG_TILES_HASH, Cell, HASH_ALGORITHM, MbtError, MbtResult, TileStore};
+use std::alloc::Global;
+use tile_ids::{OutOfMemory, TextVal};
+
+// Puts a text under a name.
+fn put_text(alloc: Global, edits: &mut Editing, name: &str, value: &str) -> Result<(), OutOfMemory>
+    ensures { OnOk result (edits.new ≡ with_name edits.old name.now (Some value.now)) }
+{
+    let name = TextVal::new(String::from_str(alloc, name)?);
+    let value = TextVal::new(String::from_str(alloc, value)?);
+    edits.set_metadata(name, Cell::Text(value))
+}
+
+// A loaded set with a hash of all tiles and the name of its algorithm in its metadata.
+fn with_hash(alloc: Global, set: Loaded, hash: &TextVal) -> Result<Loaded, OutOfMemory>
+    ensures { IfOk result (λ h. h ≡ held_hashed set hash.now) }
+{
+    let algorithm = set.algorithm();
+    let mut edits = set.edit();
+    put_text(alloc, &mut edits, AGG_TILES_HASH, hash.as_str())?;
+    put_text(alloc, &mut edits, HASH_ALGORITHM, algorithm.as_str())?;
+    edits.settle()
+}
+
+/// Stores the computed hash of all tiles under `agg_tiles_hash` and the name of its algorithm, which is that of the set, under `hash_algorithm`, in one commit. It
+/// gives the hash.
+///
+/// It answers the refusals of `load`; refused, the store holds what it held. After Ok the set loads again, as it was but for these two names; all other rows
+/// stay as they were.
+pub fn update_agg_tiles_hash<S: TileStore>(alloc: Global, store: &mut S) -> MbtResult<TextVal>
+    ensures answer { IsBegun own_hash_answer (S.tells store.old) (S.told store.old) result }
+    ensures updated { S.tells store.old ≡ true → OnOk result (IsUpdated (S.told store.old) (S.told store.new)) }
+    ensures refused { OnErr result (S.told store.new ≡ S.told store.old) }
+    ensures tells { S.tells store.new ≡ S.tells store.old }
+    ensures faults { S.faults store.old ≤ S.faults store.new }
+    ensures fault { IsErrOf result MbtError.StoreFault → Rose (S.faults store.old) (S.faults store.new) }
+    ensures steady { S.steady store.old → S.steady store.new }
+    ensures calm { S.steady store.old → S.faults store.new ≡ S.faults store.old }
+{
+    let set = load(alloc, store)?;
+    let hash = set.aggregate(alloc)?;
+    let updated = with_hash(alloc, set, &hash)?;
+    commit_loaded(alloc, store, &updated)?;
+    Ok(hash)
+}

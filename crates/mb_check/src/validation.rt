@@ -1,0 +1,90 @@
+// Validation of a set.
+ghost use Rattle.std.specs.Prelude.{◌≡◌, ◌≢◌, ◌≤◌, true, IsErrOf, OnErr, OnOk};
+ghost use Rattle.tile_ids.specs.Counts.{Rose};
+ghost use Rattle.mb_check.specs.Begun.{IsBegun};
+ghost use Rattle.mb_check.specs.Validation.{IsLeft, hash_type_words, validated};
+
+use crate::{check_agg_tiles_hashes, update_agg_tiles_hash};
+use mb_load::load;
+use mb_store::{MbtError, MbtResult, TileStore};
+use std::alloc::Global;
+use std::fmt;
+use tile_ids::TextVal;
+
+/// What a validation does with the hash of all tiles in a set's metadata.
+#[derive(Clone, Copy, Debug, Default, PartialEq, Eq)]
+pub enum AggHashType {
+    /// It has to be the computed one.
+    #[default]
+    Verify,
+    /// The computed one is stored.
+    Update,
+    /// It isn't looked at.
+    Off,
+}
+
+impl AggHashType {
+    // Its words in lower case.
+    fn words(self) -> &'static str
+        ensures { result.now ≡ hash_type_words self }
+    {
+        match self {
+            AggHashType::Verify => "verify",
+            AggHashType::Update => "update",
+            AggHashType::Off => "off",
+        }
+    }
+}
+
+impl fmt::Display for AggHashType {
+    ghost use Rattle.std.specs.Prelude.{Some};
+    ghost use Rattle.mb_check.specs.Validation.{hash_type_words};
+
+    ghost output = { λ t. Some (hash_type_words t) };
+
+    fn fmt<W: fmt::Write>(&self, f: &mut fmt::Formatter<W>) -> fmt::Result {
+        let words = self.words();
+        write!(f, "{words}")
+    }
+}
+
+// No text, of a set that loads.
+fn load_alone<S: TileStore>(alloc: Global, store: &mut S) -> MbtResult<TextVal>
+    ensures answer { IsBegun (validated AggHashType.Off) (S.tells store.old) (S.told store.old) result }
+    ensures told { S.told store.new ≡ S.told store.old }
+    ensures tells { S.tells store.new ≡ S.tells store.old }
+    ensures faults { S.faults store.old ≤ S.faults store.new }
+    ensures fault { IsErrOf result MbtError.StoreFault → Rose (S.faults store.old) (S.faults store.new) }
+    ensures steady { S.steady store.old → S.steady store.new }
+    ensures calm { S.steady store.old → S.faults store.new ≡ S.faults store.old }
+{
+    let _set = load(alloc, store)?;
+    Ok(TextVal::new(String::new(alloc)))
+}
+
+/// Tests the rows of a set, each stored digest, and then its hash of all tiles as is wanted: `check_agg_tiles_hashes`, `update_agg_tiles_hash`, or nothing. It gives
+/// the hash, and no text where nothing is done with it.
+///
+/// It answers the refusals of `load`; to verify, `AggHashValueNotFound` and `AggHashMismatch` follow. Refused, the store holds what it held; it does so always but
+/// for an update.
+pub fn validate<S: TileStore>(
+    alloc: Global,
+    store: &mut S,
+    agg_hash: AggHashType,
+) -> MbtResult<TextVal>
+    ensures answer { IsBegun (validated agg_hash) (S.tells store.old) (S.told store.old) result }
+    ensures left { S.tells store.old ≡ true → OnOk result (IsLeft agg_hash (S.told store.old) (S.told store.new)) }
+    ensures read { agg_hash ≢ AggHashType.Update → S.told store.new ≡ S.told store.old }
+    ensures refused { OnErr result (S.told store.new ≡ S.told store.old) }
+    ensures tells { S.tells store.new ≡ S.tells store.old }
+    ensures faults { S.faults store.old ≤ S.faults store.new }
+    ensures fault { IsErrOf result MbtError.StoreFault → Rose (S.faults store.old) (S.faults store.new) }
+    ensures steady { S.steady store.old → S.steady store.new }
+    ensures calm { S.steady store.old → S.faults store.new ≡ S.faults store.old }
+{
+    match agg_hash {
+        AggHashType::Verify => check_agg_tiles_hashes(alloc, store),
+        AggHashType::Update => update_agg_tiles_hash(alloc, store),
+        AggHashType::Off => load_alone(alloc, store),
+    }
+}
