@@ -35,11 +35,11 @@ def checked(state):
 
 
 def own_tests(state):
-    """The tests of what a set says of itself: as the base of a patch, and as a patch, each without force and by force."""
+    """The tests of what a set says of itself: as the base of a patch, and as a patch, without force and then by force."""
     agg, before, after = (state.names.get(name) for name in (AGG, BEFORE, AFTER))
     base = 'Ok(())' if agg is not None and before is None and after is None else 'Err(CannotDiffFileWithoutHash)' if agg is None else 'Err(DiffingDiffFile)'
     patch = 'Err(PatchFileHasNoHashes)' if after is None else 'Err(PatchFileHasNoBeforeHash)' if before is None else 'Ok(())'
-    return base, 'Ok(())', patch, 'Ok(())'
+    return base, patch, 'Ok(())', 'Ok(())'
 
 
 def info(rows, state):

@@ -8,8 +8,8 @@ use mb_check::{
 };
 use mb_store::{MbtResult, MemStore};
 use std::alloc::Global;
+use std::fmt::Debug;
 use tile_hash::HashAlgorithm;
-use tile_ids::TextVal;
 
 // What a validation does with the hash, by its word.
 fn hash_type(words: &mut Words) -> Option<AggHashType> {
@@ -22,6 +22,11 @@ fn hash_type(words: &mut Words) -> Option<AggHashType> {
     }
 }
 
+// Appends an answer, which ends here.
+fn said<T: Debug + Drop>(out: &mut String, answer: MbtResult<T>) -> Option<()> {
+    say(out, &answer)
+}
+
 // The hash by an algorithm that is named.
 fn calculated(
     alloc: Global,
@@ -30,8 +35,7 @@ fn calculated(
     words: &mut Words,
 ) -> Option<()> {
     let algorithm = HashAlgorithm::parse(words.next()?)?;
-    let hash: MbtResult<TextVal> = calc_agg_tiles_hash(alloc, store, algorithm);
-    say(out, &hash)
+    said(out, calc_agg_tiles_hash(alloc, store, algorithm))
 }
 
 // What the set is to be validated by, and the answer.
@@ -43,22 +47,23 @@ fn validated(
 ) -> Option<()> {
     let wanted = hash_type(words)?;
     say_text(out, &wanted)?;
-    let hash: MbtResult<TextVal> = validate(alloc, store, wanted);
-    say(out, &hash)
+    said(out, validate(alloc, store, wanted))
 }
 
 // The tests of what a set says of itself, without force and by force.
+fn say_tests(out: &mut String, info: &PatchFileInfo, force: bool) -> Option<()> {
+    said(out, assert_hashes(info, force))?;
+    said(out, validate_diff_info(info, force))
+}
+
 fn say_info(out: &mut String, info: &PatchFileInfo) -> Option<()> {
     say(out, info)?;
-    say(out, &assert_hashes(info, false))?;
-    say(out, &assert_hashes(info, true))?;
-    say(out, &validate_diff_info(info, false))?;
-    say(out, &validate_diff_info(info, true))
+    say_tests(out, info, false)?;
+    say_tests(out, info, true)
 }
 
 fn examined(alloc: Global, out: &mut String, store: &mut MemStore) -> Option<()> {
-    let info: MbtResult<PatchFileInfo> = examine_diff(alloc, store);
-    match info {
+    match examine_diff(alloc, store) {
         Ok(info) => say_info(out, &info),
         Err(error) => say(out, &error),
     }
@@ -77,8 +82,7 @@ fn say_summary(out: &mut String, summary: &Summary) -> Option<()> {
 }
 
 fn summarized(alloc: Global, out: &mut String, store: &mut MemStore) -> Option<()> {
-    let answer: MbtResult<Summary> = summary(alloc, store);
-    match answer {
+    match summary(alloc, store) {
         Ok(summary) => say_summary(out, &summary),
         Err(error) => say(out, &error),
     }
@@ -86,15 +90,21 @@ fn summarized(alloc: Global, out: &mut String, store: &mut MemStore) -> Option<(
 
 fn hashes(alloc: Global, out: &mut String, store: &mut MemStore, call: &str) -> Option<()> {
     match call {
-        "algorithm" => say(out, &get_hash_algorithm(alloc, store)),
-        "stored" => say(out, &get_agg_tiles_hash(alloc, store)),
-        "hashes" => say(out, &check_agg_tiles_hashes(alloc, store)),
-        "update" => say(out, &update_agg_tiles_hash(alloc, store)),
-        "types" => say(out, &check_tiles_type_validity(alloc, store)),
-        "each" => say(out, &check_each_tile_hash(alloc, store)),
+        "algorithm" => said(out, get_hash_algorithm(alloc, store)),
+        "stored" => said(out, get_agg_tiles_hash(alloc, store)),
+        "hashes" => said(out, check_agg_tiles_hashes(alloc, store)),
+        "update" => said(out, update_agg_tiles_hash(alloc, store)),
+        _ => None,
+    }
+}
+
+fn tests(alloc: Global, out: &mut String, store: &mut MemStore, call: &str) -> Option<()> {
+    match call {
+        "types" => said(out, check_tiles_type_validity(alloc, store)),
+        "each" => said(out, check_each_tile_hash(alloc, store)),
         "diff" => examined(alloc, out, store),
         "summary" => summarized(alloc, out, store),
-        _ => None,
+        call => hashes(alloc, out, store, call),
     }
 }
 
@@ -107,6 +117,6 @@ pub fn answer(
     match words.next()? {
         "calc" => calculated(alloc, out, store, words),
         "validate" => validated(alloc, out, store, words),
-        call => hashes(alloc, out, store, call),
+        call => tests(alloc, out, store, call),
     }
 }
