@@ -1,0 +1,77 @@
+// Lines that one server answers, one after another.
+ghost use Rattle.std.specs.Prelude.{◌≡◌, IfSome};
+ghost use Rattle.tile_serve.specs.Limits.{IsLimits};
+ghost use Rattle.tile_serve.specs.Server.{IsTied};
+
+use crate::counted::Counted;
+use crate::words::{Words, number, say, show, spelled};
+use pm_format::Backend;
+use std::alloc::Global;
+use tile_serve::{ServeLimits, TileServer};
+
+// The four limits, where they allow a directory and a tile.
+fn limits_of(words: &mut Words) -> Option<ServeLimits>
+    ensures { IfSome result IsLimits }
+{
+    let directories = number::<usize>(words)?;
+    let directory_entries = number::<usize>(words)?;
+    let tiles = number::<usize>(words)?;
+    let tile_bytes = number::<u64>(words)?;
+    if directories == 0 || tiles == 0 {
+        return None;
+    }
+    Some(ServeLimits {
+        directories,
+        directory_entries,
+        tiles,
+        tile_bytes,
+    })
+}
+
+// Answers a line: its reply or error, and how many bytes of tiles are held then.
+fn answer_line<B: Backend>(
+    alloc: Global,
+    out: &mut String,
+    server: &mut TileServer<'_, B>,
+    word: &str,
+) -> Option<()>
+    requires tied { IsTied B.told B.versions server.old }
+    ensures tied { IsTied B.told B.versions server.new }
+    ensures same_reference { server.new.backend.ghost_name ≡ server.old.backend.ghost_name }
+{
+    let line = spelled(alloc, word)?;
+    match server.answer(line.as_slice()) {
+        Ok(text) => show(out, text.as_bytes())?,
+        Err(error) => say(out, &error)?,
+    }
+    say(out, &server.held_tile_bytes())
+}
+
+fn answer_lines<B: Backend>(
+    alloc: Global,
+    out: &mut String,
+    server: &mut TileServer<'_, B>,
+    words: &mut Words,
+) -> Option<()>
+    requires tied { IsTied B.told B.versions server.old }
+    ensures tied { IsTied B.told B.versions server.new }
+    ensures same_reference { server.new.backend.ghost_name ≡ server.old.backend.ghost_name }
+{
+    for word in words {
+        answer_line(alloc, out, server, word)?;
+    }
+    Some(())
+}
+
+pub fn answer(
+    alloc: Global,
+    out: &mut String,
+    backend: &mut Counted,
+    words: &mut Words,
+) -> Option<()> {
+    let limits = limits_of(words)?;
+    match TileServer::open(alloc, backend, limits) {
+        Ok(mut server) => answer_lines(alloc, out, &mut server, words),
+        Err(error) => say(out, &error),
+    }
+}

@@ -1,0 +1,260 @@
+-- One line after another, and what the output gains by them.
+use Rattle.std.proofs.Common.{◌≡◌, ◌∙◌, ℕ, ◌+◌, ◌≤◌, List, [], ◌∷◌, ◌++◌, length, take, flat_map, Option, None, Some, Result, Ok, Err, IfErr, IfSome, IsErrAnd, refl, sym, ap, subst, arith, append_assoc, append-nil, length-append}
+use Rattle.std.proofs.lemmas.Grind.{flat_map-append}
+use Rattle.std.proofs.Math.Seq.{take-append-add}
+use Rattle.std.proofs.lemmas.List.{take-append-le}
+use Rattle.byte_streams.proofs.StreamsLemmas.{Gains-more, Gains-nil}
+use Rattle.byte_streams.specs.Streams.{Gains, GainsFront}
+use Rattle.byte_streams.specs.declared.sink.SinkFault.{SinkFault}
+use Rattle.byte_streams.specs.declared.sink.SinkFault.TheVariants as sink
+use Rattle.line_words.specs.Lines.{lines_of, no_byte}
+use Rattle.pm_reader.specs.Archives.{UsesOneLength}
+use Rattle.pm_reader.specs.Reads.{ReadsOnly}
+use Rattle.tile_ids.specs.Counts.{Rose}
+use Rattle.tile_serve.specs.Answers.{Answers, Causes, IsUniform, IsUnmodified}
+use Rattle.tile_serve.specs.Outcomes.{of_serve, of_sink, outcome_of}
+use Rattle.tile_serve.specs.Reply.{replies, reply}
+use Rattle.tile_serve.specs.Serving.{IsStop, IsUnmodifiedRun, LinesEnd, RefusalCauses, RefusedAt, Served, Writes, WritesLine}
+use Rattle.tile_serve.specs.declared.error.ServeError.{ServeError}
+use Rattle.tile_serve.specs.declared.error.ServeError.TheVariants as errors
+use Rattle.tile_serve.specs.declared.outcome.ServeOutcome.{ServeOutcome}
+use Rattle.tile_serve.specs.declared.outcome.ServeOutcome.TheVariants.{Done, Refused, Usage, InputFault, OutputFault, InputTooLong, OutOfMemory}
+
+abbrev Held : Type 0
+Held = Option (List ℕ)
+
+-- the outcome of an error that is handed on
+pub outcome_is : {T : Type 0} (r : Result T ServeOutcome) (o : ServeOutcome) → IsErrAnd r (λ x. x ≡ o) → outcome_of r ≡ o
+outcome_is (Ok x) o h = absurd h
+outcome_is (Err e) o h = h
+
+serve_by : (e : ServeError) → of_serve e ≡ OutputFault → ⊥
+serve_by errors.OutOfMemory q = absurd (cc)
+serve_by (errors.Opening e) q = absurd (cc)
+serve_by errors.Fault q = absurd (cc)
+serve_by (errors.Modified x y) q = absurd (cc)
+serve_by (errors.Short x y) q = absurd (cc)
+
+-- an error of the archive is no fault of the output
+pub serve_no_fault : (e : ServeError) (o : ServeOutcome) → o ≡ of_serve e → o ≡ OutputFault → ⊥
+serve_no_fault e o is q = serve_by e (sym is ∙ q)
+
+pub sink_fault : (f : SinkFault) (o : ServeOutcome) → o ≡ of_sink f → o ≡ OutputFault → f ≡ sink.Fault
+sink_fault sink.Fault o is q = refl
+sink_fault sink.OutOfMemory o is q = absurd (cc)
+
+-- nothing is a front of each text
+pub front_none : (held : Held) (text : List ℕ) → GainsFront held held text
+front_none held text = (0, omega arith, Gains-nil held)
+
+-- One line.
+
+refused_by : (b line : List ℕ) (held : Held) (e : ServeError) → Answers b line (Err e) → WritesLine b line held held (of_serve e)
+refused_by b line held errors.OutOfMemory q = front_none held (reply b line)
+refused_by b line held (errors.Opening e) q = (refl, q)
+refused_by b line held errors.Fault q = (refl, q)
+refused_by b line held (errors.Modified x y) q = (refl, q)
+refused_by b line held (errors.Short x y) q = (refl, q)
+
+pub line_refused : (told : Option (List ℕ)) (line : List ℕ) (held : Held) (e : ServeError) (o : ServeOutcome) → o ≡ of_serve e → IfSome told (λ b. UsesOneLength b → Answers b line (Err e)) → IfSome told (λ b. UsesOneLength b → WritesLine b line held held o)
+line_refused None line held e o is q = tt
+line_refused (Some b) line held e o is q = λ one. let P : ServeOutcome → Type 0 = λ x. WritesLine b line held held x in subst P (sym is) (refused_by b line held e (q one))
+
+end_by : (A : Type 0) (told : Option (List ℕ)) (before now : ℕ) (e : ServeError) → Causes {A = A} told before now (Err e) → LinesEnd told before now (of_serve e)
+end_by A told before now errors.OutOfMemory q = tt
+end_by A told before now (errors.Opening e) q = q
+end_by A told before now errors.Fault q = q
+end_by A told before now (errors.Modified x y) q = q
+end_by A told before now (errors.Short x y) q = q
+
+pub end_refused : (A : Type 0) (told : Option (List ℕ)) (before now : ℕ) (e : ServeError) (o : ServeOutcome) → o ≡ of_serve e → Causes {A = A} told before now (Err e) → LinesEnd told before now o
+end_refused A told before now e o is q = let P : ServeOutcome → Type 0 = λ x. LinesEnd told before now x in subst P (sym is) (end_by A told before now e q)
+
+unmodified_by : (A : Type 0) (e : ServeError) → IsUnmodified {A = A} (Err e) → IsUnmodifiedRun (of_serve e)
+unmodified_by A errors.OutOfMemory q = tt
+unmodified_by A (errors.Opening e) q = tt
+unmodified_by A errors.Fault q = tt
+unmodified_by A (errors.Modified x y) q = q
+unmodified_by A (errors.Short x y) q = tt
+
+pub unmodified_refused : (A : Type 0) (e : ServeError) (o : ServeOutcome) → o ≡ of_serve e → IsUnmodified {A = A} (Err e) → IsUnmodifiedRun o
+unmodified_refused A e o is q = subst IsUnmodifiedRun (sym is) (unmodified_by A e q)
+
+pub line_written : (told : Option (List ℕ)) (line text piece : List ℕ) (old new : Held) → piece ≡ text → IfSome told (λ b. UsesOneLength b → Answers b line (Ok text)) → Gains old new piece → IfSome told (λ b. UsesOneLength b → WritesLine b line old new Done)
+line_written None line text piece old new is q gains = tt
+line_written (Some b) line text piece old new is q gains = λ one. let P : List ℕ → Type 0 = λ x. Gains old new x in subst P (is ∙ q one) gains
+
+stopped_by : (b line : List ℕ) (old new : Held) (f : SinkFault) → GainsFront old new (reply b line) → WritesLine b line old new (of_sink f)
+stopped_by b line old new sink.Fault q = q
+stopped_by b line old new sink.OutOfMemory q = q
+
+pub line_stopped : (told : Option (List ℕ)) (line text piece : List ℕ) (old new : Held) (f : SinkFault) (o : ServeOutcome) → piece ≡ text → o ≡ of_sink f → IfSome told (λ b. UsesOneLength b → Answers b line (Ok text)) → GainsFront old new piece
+    → IfSome told (λ b. UsesOneLength b → WritesLine b line old new o)
+line_stopped None line text piece old new f o same is q gains = tt
+line_stopped (Some b) line text piece old new f o same is q gains = λ one.
+    let P : ServeOutcome → Type 0 = λ x. WritesLine b line old new x in
+    let Q : List ℕ → Type 0 = λ x. GainsFront old new x in
+    subst P (sym is) (stopped_by b line old new f (subst Q (same ∙ q one) gains))
+
+end_stop : (told : Option (List ℕ)) (before now : ℕ) (f : SinkFault) → LinesEnd told before now (of_sink f)
+end_stop told before now sink.Fault = tt
+end_stop told before now sink.OutOfMemory = tt
+
+pub end_stopped : (told : Option (List ℕ)) (before now : ℕ) (f : SinkFault) (o : ServeOutcome) → o ≡ of_sink f → LinesEnd told before now o
+end_stopped told before now f o is = let P : ServeOutcome → Type 0 = λ x. LinesEnd told before now x in subst P (sym is) (end_stop told before now f)
+
+unmodified_stop : (f : SinkFault) → IsUnmodifiedRun (of_sink f)
+unmodified_stop sink.Fault = tt
+unmodified_stop sink.OutOfMemory = tt
+
+pub unmodified_stopped : (f : SinkFault) (o : ServeOutcome) → o ≡ of_sink f → IsUnmodifiedRun o
+unmodified_stopped f o is = subst IsUnmodifiedRun (sym is) (unmodified_stop f)
+
+-- All lines.
+
+pub serving_begun : (told : Option (List ℕ)) (all : List ℕ) (held : Held) → IfSome told (λ b. UsesOneLength b → Served b all all held held)
+serving_begun None all held = tt
+serving_begun (Some b) all held = λ one. record { done = []; lines = refl; written = Gains-nil held }
+
+served_more : (b all rest behind line : List ℕ) (old mid new : Held) → lines_of rest ≡ line ∷ lines_of behind → Gains mid new (reply b line) → Served b all rest old mid → Served b all behind old new
+served_more b all rest behind line old mid new parts gains s =
+    let joined : flat_map (reply b) (s.done ++ line ∷ []) ≡ flat_map (reply b) s.done ++ reply b line = flat_map-append (reply b) s.done (line ∷ []) ∙ ap (λ x. flat_map (reply b) s.done ++ x) (append-nil (reply b line)) in
+    let P : List ℕ → Type 0 = λ x. Gains old new x in
+    record {
+      done = s.done ++ line ∷ [];
+      lines = s.lines ∙ (ap (λ x. s.done ++ x) parts ∙ sym (append_assoc s.done (line ∷ []) (lines_of behind)));
+      written = subst P (sym joined) (Gains-more old mid new (flat_map (reply b) s.done) (reply b line) s.written gains);
+    }
+
+pub serving_more : (told : Option (List ℕ)) (all rest behind line : List ℕ) (old mid new : Held) → lines_of rest ≡ line ∷ lines_of behind → IfSome told (λ b. UsesOneLength b → WritesLine b line mid new Done)
+    → IfSome told (λ b. UsesOneLength b → Served b all rest old mid) → IfSome told (λ b. UsesOneLength b → Served b all behind old new)
+serving_more None all rest behind line old mid new parts gains s = tt
+serving_more (Some b) all rest behind line old mid new parts gains s = λ one. served_more b all rest behind line old mid new parts (gains one) (s one)
+
+served_all : (b all rest : List ℕ) (old new : Held) → rest ≡ [] → Served b all rest old new → Gains old new (replies b all)
+served_all b all rest old new end s =
+    let whole : lines_of all ≡ s.done = s.lines ∙ (ap (λ x. s.done ++ x) (ap lines_of end ∙ no_byte) ∙ append-nil s.done) in
+    let P : List (List ℕ) → Type 0 = λ x. Gains old new (flat_map (reply b) x) in
+    subst P (sym whole) s.written
+
+pub serving_done : (told : Option (List ℕ)) (all rest : List ℕ) (old new : Held) → rest ≡ [] → IfSome told (λ b. UsesOneLength b → Served b all rest old new) → IfSome told (λ b. UsesOneLength b → Writes b all old new Done)
+serving_done None all rest old new end s = tt
+serving_done (Some b) all rest old new end s = λ one. served_all b all rest old new end (s one)
+
+-- a front of what follows is a front of the whole
+front_more : (old mid new : Held) (done text behind whole : List ℕ) → whole ≡ done ++ (text ++ behind) → Gains old mid done → GainsFront mid new text → GainsFront old new whole
+front_more old mid new done text behind whole is gains front =
+    let cut : take (length done + front.0) whole ≡ done ++ take front.0 text = ap (take (length done + front.0)) is ∙ (take-append-add done (text ++ behind) front.0 ∙ ap (λ x. done ++ x) (take-append-le front.0 text behind front.1)) in
+    let P : List ℕ → Type 0 = λ x. Gains old new x in (
+      length done + front.0,
+      omega (arith, front.1, ap length is, length-append done (text ++ behind), length-append text behind),
+      subst P (sym cut) (Gains-more old mid new done (take front.0 text) gains front.2),
+    )
+
+served_front : (b all rest behind line : List ℕ) (old mid new : Held) → lines_of rest ≡ line ∷ lines_of behind → Served b all rest old mid → GainsFront mid new (reply b line) → GainsFront old new (replies b all)
+served_front b all rest behind line old mid new parts s front =
+    let whole : replies b all ≡ flat_map (reply b) s.done ++ (reply b line ++ flat_map (reply b) (lines_of behind)) =
+    ap (flat_map (reply b)) (s.lines ∙ ap (λ x. s.done ++ x) parts) ∙ flat_map-append (reply b) s.done (line ∷ lines_of behind) in
+    front_more old mid new (flat_map (reply b) s.done) (reply b line) (flat_map (reply b) (lines_of behind)) (replies b all) whole s.written front
+
+refused_at : (b all rest behind line : List ℕ) (old mid new : Held) (e : ServeError) → lines_of rest ≡ line ∷ lines_of behind → Served b all rest old mid → (new ≡ mid) × Answers b line (Err e) → RefusedAt b all old new e
+refused_at b all rest behind line old mid new e parts s q =
+    let P : Held → Type 0 = λ x. Gains old x (flat_map (reply b) s.done) in
+    record { before = s.done; line = line; behind = lines_of behind; lines = s.lines ∙ ap (λ x. s.done ++ x) parts; written = subst P (sym q.0) s.written; refused = q.1 }
+
+stop_by : (b all rest behind line : List ℕ) (old mid new : Held) (o : ServeOutcome) → lines_of rest ≡ line ∷ lines_of behind → IsStop o → Served b all rest old mid → WritesLine b line mid new o → Writes b all old new o
+stop_by b all rest behind line old mid new Done parts not s q = absurd not
+stop_by b all rest behind line old mid new (Refused (errors.Opening e)) parts not s q = absurd q.1
+stop_by b all rest behind line old mid new (Refused errors.Fault) parts not s q = refused_at b all rest behind line old mid new errors.Fault parts s q
+stop_by b all rest behind line old mid new (Refused (errors.Modified x y)) parts not s q = refused_at b all rest behind line old mid new (errors.Modified x y) parts s q
+stop_by b all rest behind line old mid new (Refused (errors.Short x y)) parts not s q = refused_at b all rest behind line old mid new (errors.Short x y) parts s q
+stop_by b all rest behind line old mid new (Refused errors.OutOfMemory) parts not s q = refused_at b all rest behind line old mid new errors.OutOfMemory parts s q
+stop_by b all rest behind line old mid new OutputFault parts not s q = served_front b all rest behind line old mid new parts s q
+stop_by b all rest behind line old mid new OutOfMemory parts not s q = served_front b all rest behind line old mid new parts s q
+stop_by b all rest behind line old mid new Usage parts not s q = absurd q
+stop_by b all rest behind line old mid new InputFault parts not s q = absurd q
+stop_by b all rest behind line old mid new InputTooLong parts not s q = absurd q
+
+-- a line at which it ends; a line that is Done doesn't
+pub serving_stopped : (told : Option (List ℕ)) (all rest behind line : List ℕ) (old mid new : Held) (o : ServeOutcome) → lines_of rest ≡ line ∷ lines_of behind → IsStop o → IfSome told (λ b. UsesOneLength b → WritesLine b line mid new o)
+    → IfSome told (λ b. UsesOneLength b → Served b all rest old mid) → IfSome told (λ b. UsesOneLength b → Writes b all old new o)
+serving_stopped None all rest behind line old mid new o parts not q s = tt
+serving_stopped (Some b) all rest behind line old mid new o parts not q s = λ one. stop_by b all rest behind line old mid new o parts not (s one) (q one)
+
+stop_serve : (e : ServeError) → IsStop (of_serve e)
+stop_serve errors.OutOfMemory = tt
+stop_serve (errors.Opening e) = tt
+stop_serve errors.Fault = tt
+stop_serve (errors.Modified x y) = tt
+stop_serve (errors.Short x y) = tt
+
+stop_sink : (f : SinkFault) → IsStop (of_sink f)
+stop_sink sink.Fault = tt
+stop_sink sink.OutOfMemory = tt
+
+stop_of : {T : Type 0} (r : Result T ServeOutcome) (o : ServeOutcome) → IsErrAnd r (λ x. x ≡ o) → IsStop o → IfErr r IsStop
+stop_of (Ok x) o h stop = tt
+stop_of (Err e) o h stop = subst IsStop (sym h) stop
+
+pub stops_serve : {T : Type 0} (r : Result T ServeOutcome) (e : ServeError) → IsErrAnd r (λ x. x ≡ of_serve e) → IfErr r IsStop
+stops_serve r e h = stop_of r (of_serve e) h (stop_serve e)
+
+pub stops_sink : {T : Type 0} (r : Result T ServeOutcome) (f : SinkFault) → IsErrAnd r (λ x. x ≡ of_sink f) → IfErr r IsStop
+stops_sink r f h = stop_of r (of_sink f) h (stop_sink f)
+
+pub rose_before : (start before now : ℕ) → start ≤ before → Rose before now → Rose start now
+rose_before start before now low r = omega (arith, low, r)
+
+refused_later : (told : Option (List ℕ)) (start before now : ℕ) (e : ServeError) → start ≤ before → RefusalCauses told before now e → RefusalCauses told start now e
+refused_later told start before now (errors.Opening e) low q = q
+refused_later told start before now errors.Fault low q = rose_before start before now low q
+refused_later told start before now (errors.Modified x y) low q = q
+refused_later told start before now (errors.Short x y) low q = q
+refused_later told start before now errors.OutOfMemory low q = q
+
+later_by : (told : Option (List ℕ)) (start before now : ℕ) (o : ServeOutcome) → start ≤ before → LinesEnd told before now o → LinesEnd told start now o
+later_by told start before now Done low q = q
+later_by told start before now (Refused e) low q = refused_later told start before now e low q
+later_by told start before now OutputFault low q = q
+later_by told start before now OutOfMemory low q = q
+later_by told start before now Usage low q = q
+later_by told start before now InputFault low q = q
+later_by told start before now InputTooLong low q = q
+
+-- the same end, seen from an earlier count
+pub end_later : (told again : Option (List ℕ)) (start before now : ℕ) (o p : ServeOutcome) → again ≡ told → p ≡ o → start ≤ before → LinesEnd again before now o → LinesEnd told start now p
+end_later told again start before now o p same is low q =
+    let P : Option (List ℕ) → Type 0 = λ x. LinesEnd x before now o in
+    let Q : ServeOutcome → Type 0 = λ x. LinesEnd told start now x in
+    subst Q (sym is) (later_by told start before now o low (subst P same q))
+
+pub fault_later : (start before now : ℕ) (o p : ServeOutcome) → p ≡ o → start ≤ before → (o ≡ OutputFault → Rose before now) → p ≡ OutputFault → Rose start now
+fault_later start before now o p is low q fault = rose_before start before now low (q (sym is ∙ fault))
+
+pub unmodified_again : (versions again : Option (ℕ → Option (List ℕ))) (o p : ServeOutcome) → again ≡ versions → p ≡ o → (IsUniform again → IsUnmodifiedRun o) → IsUniform versions → IsUnmodifiedRun p
+unmodified_again versions again o p same is q uniform = subst IsUnmodifiedRun (sym is) (q (subst IsUniform (sym same) uniform))
+
+-- one call that reads after another
+pub reads_then : {B V : Type 0} (tells : B → Option (List ℕ)) (texts : B → V) (failed : B → ℕ) (steady : B → Type 0) (x y z : B) → ReadsOnly tells texts failed steady x y → ReadsOnly tells texts failed steady y z → ReadsOnly tells texts failed steady x z
+reads_then tells texts failed steady x y z p q = record {
+  told = q.told ∙ p.told;
+  versions = q.versions ∙ p.versions;
+  faults = omega (arith, p.faults, q.faults);
+  calm = λ s. let w = p.calm s in let v = q.calm w.0 in (v.0, v.1 ∙ w.1);
+}
+
+pub reads_nothing : {B V : Type 0} (tells : B → Option (List ℕ)) (texts : B → V) (failed : B → ℕ) (steady : B → Type 0) (x : B) → ReadsOnly tells texts failed steady x x
+reads_nothing tells texts failed steady x = record { told = refl; versions = refl; faults = omega arith; calm = λ s. (s, refl) }
+
+pub serving_stopped_as : (told again : Option (List ℕ)) (all rest behind line : List ℕ) (old mid new : Held) (o p : ServeOutcome) → again ≡ told → p ≡ o → lines_of rest ≡ line ∷ lines_of behind → IsStop o → IfSome again (λ b. UsesOneLength b → WritesLine b line mid new o)
+    → IfSome told (λ b. UsesOneLength b → Served b all rest old mid) → IfSome told (λ b. UsesOneLength b → Writes b all old new p)
+serving_stopped_as told again all rest behind line old mid new o p same is parts not q s =
+    let P : Option (List ℕ) → Type 0 = λ x. IfSome x (λ b. UsesOneLength b → WritesLine b line mid new o) in
+    let Q : ServeOutcome → Type 0 = λ x. IfSome told (λ b. UsesOneLength b → Writes b all old new x) in
+    subst Q (sym is) (serving_stopped told all rest behind line old mid new o parts not (subst P same q) s)
+
+pub serving_more_as : (told again : Option (List ℕ)) (all rest behind line : List ℕ) (old mid new : Held) → again ≡ told → lines_of rest ≡ line ∷ lines_of behind → IfSome again (λ b. UsesOneLength b → WritesLine b line mid new Done)
+    → IfSome told (λ b. UsesOneLength b → Served b all rest old mid) → IfSome told (λ b. UsesOneLength b → Served b all behind old new)
+serving_more_as told again all rest behind line old mid new same parts q s =
+    let P : Option (List ℕ) → Type 0 = λ x. IfSome x (λ b. UsesOneLength b → WritesLine b line mid new Done) in
+    serving_more told all rest behind line old mid new parts (subst P same q) s

@@ -1,0 +1,23 @@
+-- the lines so far were answered, and their replies written
+use Rattle.std.proofs.Common.{◌≡◌, ◌≤◌, length, IfSome, is_some}
+use Rattle.pm_reader.specs.Archives.{UsesOneLength}
+use Rattle.pm_reader.specs.Reads.{ReadsOnly}
+use Rattle.tile_serve.specs.Serving.{Served}
+use Rattle.tile_serve.specs.State.{IsServing}
+use Rattle.tile_serve.proofs.serving.serve_lines.Given as goal
+
+abbrev pub invariant-loop-line : goal.invariant-loop-line
+invariant-loop-line g l =
+    let b = g.B.Backend in
+    let k = g.O.Sink in
+    record {
+      serving : IsServing (b.told l.source) (b.versions l.source) l.state;
+      served : IfSome (b.told l.fn.source) (λ bytes. UsesOneLength bytes → Served bytes l.fn.requests l.rest (k.held l.fn.output) (k.held l.output));
+      kept : ReadsOnly b.told b.versions b.faults b.steady l.fn.source l.source;
+      tells : is_some (k.held l.output) ≡ is_some (k.held l.fn.output);
+      faults : k.faults l.fn.output ≤ k.faults l.output;
+      calm : k.steady l.fn.output → k.steady l.output × (k.faults l.output ≡ k.faults l.fn.output);
+    }
+
+abbrev pub decreases-loop-line : goal.decreases-loop-line
+decreases-loop-line g l = length l.rest

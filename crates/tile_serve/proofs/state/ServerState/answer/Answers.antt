@@ -1,0 +1,38 @@
+use Rattle.std.proofs.Common.{rules, ◌≡◌, ℕ, List, [], Some, Result, Ok, IfSome, sym, subst}
+use Rattle.pm_reader.specs.Archives.{UsesOneLength}
+use Rattle.tile_serve.specs.Answers.{IsUnmodified, LeavesTiles}
+use Rattle.tile_serve.specs.Request.{asked, request_of}
+use Rattle.tile_serve.specs.State.{opened_as, tiles_of}
+use Rattle.tile_serve.specs.declared.error.ServeError.{ServeError}
+use Rattle.tile_serve.specs.declared.found.Found.{Found}
+use Rattle.tile_serve.proofs.HoldingLemmas.{bounds_stay}
+use Rattle.tile_serve.proofs.ReplyingLemmas.{compares_found, tiles_error, unmodified_after}
+use Rattle.tile_serve.proofs.ServingLemmas.{handed}
+use Rattle.tile_serve.proofs.state.ServerState.answer.Goals as goal
+
+pub returns-in_err-found-clause-tiles : goal.returns-in_err-found-clause-tiles
+returns-in_err-found-clause-tiles g c =
+    let told = g.B.Backend.told c.args.backend.now in
+    let old = tiles_of c.args.self.now in
+    let new = tiles_of c.find.new.self in
+    let some : request_of c.args.line.now ≡ Some (asked c.in-Some.id-1-own.given.0.0.0 c.in-Some.tag.now) = search rules in
+    let P : Result (List ℕ) ServeError → Type 0 = λ r. IfSome told (λ b. UsesOneLength b → LeavesTiles b (request_of c.args.line.now) old new r) in
+    subst P (sym (handed c.from_residual-in_err-found.result c.in_err-found.field-0.0 c.from_residual-in_err-found.ensures.1)) (tiles_error told c.args.line.now c.in-Some.tag.now old new c.in-Some.id-1-own.given.0.0.0 c.in_err-found.field-0.0 some c.in_err-found.ensures.tiles)
+
+pub returns-in_err-found-clause-unmodified : goal.returns-in_err-found-clause-unmodified
+returns-in_err-found-clause-unmodified g c = λ uniform.
+    let P : Result (List ℕ) ServeError → Type 0 = λ r. IsUnmodified r in
+    subst P (sym (handed c.from_residual-in_err-found.result c.in_err-found.field-0.0 c.from_residual-in_err-found.ensures.1))
+    (unmodified_after Found (List ℕ) (g.B.Backend.versions c.args.backend.now) (g.B.Backend.versions c.find.new.backend) (opened_as c.args.self.now) (g.B.Backend.reads c.find.new.backend) c.in_err-found.field-0.0 c.in_err-found.ensures.kept.versions
+    c.requires.serving.opened c.in_err-found.ensures.texts uniform)
+
+pub returns-in_err-text_for-clause-bounds : goal.returns-in_err-text_for-clause-bounds
+returns-in_err-text_for-clause-bounds g c = bounds_stay (tiles_of c.args.self.now) (tiles_of c.find.new.self) c.in-Some.id-1-own.given.0.0.0 (Ok c.in_ok-found.found) c.in_ok-found.ensures.tiles
+
+pub returns-clause-compares : goal.returns-clause-compares
+returns-clause-compares g c =
+    let some : request_of c.args.line.now ≡ Some (asked c.in-Some.id-1-own.given.0.0.0 c.in-Some.tag.now) = search rules in
+    compares_found {A = List ℕ} (g.B.Backend.told c.args.backend.now) (opened_as c.args.self.now) (g.B.Backend.versions c.find.new.backend) (g.B.Backend.reads c.find.new.backend) c.args.line.now c.in-Some.tag.now (tiles_of c.args.self.now) c.in-Some.id-1-own.given.0.0.0 c.in_ok-found.found [] some c.in_ok-found.ensures.compares
+
+pub returns-clause-bounds : goal.returns-clause-bounds
+returns-clause-bounds g c = bounds_stay (tiles_of c.args.self.now) (tiles_of c.find.new.self) c.in-Some.id-1-own.given.0.0.0 (Ok c.in_ok-found.found) c.in_ok-found.ensures.tiles

@@ -1,0 +1,10 @@
+pub mod Answers
+pub mod Limits
+pub mod Outcomes
+pub mod Reply
+pub mod Request
+pub mod Server
+pub mod Serving
+pub mod State
+pub mod Tiles
+pub mod TopCall

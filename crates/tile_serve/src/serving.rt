@@ -1,0 +1,63 @@
+// The lines of an input, one after another.
+ghost use Rattle.std.specs.Prelude.{◌≡◌, ◌≤◌, IfErr, IfSome, is_some};
+ghost use Rattle.tile_ids.specs.Counts.{Rose};
+ghost use Rattle.pm_reader.specs.Archives.{UsesOneLength};
+ghost use Rattle.pm_reader.specs.Reads.{ReadsOnly};
+ghost use Rattle.tile_serve.specs.Answers.{IsUniform};
+ghost use Rattle.tile_serve.specs.Outcomes.{outcome_of};
+ghost use Rattle.tile_serve.specs.Serving.{IsStop, IsUnmodifiedRun, LinesEnd, Writes, WritesLine};
+ghost use Rattle.tile_serve.specs.State.{IsServing};
+
+use crate::{ServeOutcome, ServerState};
+use byte_streams::{Sink, write_all};
+use line_words::next_line;
+use pm_format::Backend;
+
+// Answers a line, and writes the reply.
+fn serve_line<B: Backend, O: Sink>(
+    state: &mut ServerState,
+    source: &mut B,
+    output: &mut O,
+    line: &[u8],
+) -> Result<(), ServeOutcome>
+    requires serving { IsServing (B.told source.old) (B.versions source.old) state.old }
+    ensures serving { IsServing (B.told source.new) (B.versions source.new) state.new }
+    ensures writes { IfSome (B.told source.old) (λ b. UsesOneLength b → WritesLine b line.now (O.held output.old) (O.held output.new) (outcome_of result)) }
+    ensures end { LinesEnd (B.told source.old) (B.faults source.old) (B.faults source.new) (outcome_of result) }
+    ensures stops { IfErr result IsStop }
+    ensures unmodified { IsUniform (B.versions source.old) → IsUnmodifiedRun (outcome_of result) }
+    ensures fault { outcome_of result ≡ ServeOutcome.OutputFault → Rose (O.faults output.old) (O.faults output.new) }
+    ensures kept { ReadsOnly B.told B.versions B.faults B.steady source.old source.new }
+    ensures tells { is_some (O.held output.new) ≡ is_some (O.held output.old) }
+    ensures faults { O.faults output.old ≤ O.faults output.new }
+    ensures calm { O.steady output.old → O.steady output.new × (O.faults output.new ≡ O.faults output.old) }
+{
+    let text = state.answer(source, line)?;
+    write_all(output, text.as_bytes())?;
+    Ok(())
+}
+
+/// Answers each line of requests, and writes its reply before the next one is answered.
+pub(crate) fn serve_lines<B: Backend, O: Sink>(
+    state: &mut ServerState,
+    source: &mut B,
+    output: &mut O,
+    requests: &[u8],
+) -> Result<(), ServeOutcome>
+    requires serving { IsServing (B.told source.old) (B.versions source.old) state.old }
+    ensures writes { IfSome (B.told source.old) (λ b. UsesOneLength b → Writes b requests.now (O.held output.old) (O.held output.new) (outcome_of result)) }
+    ensures end { LinesEnd (B.told source.old) (B.faults source.old) (B.faults source.new) (outcome_of result) }
+    ensures unmodified { IsUniform (B.versions source.old) → IsUnmodifiedRun (outcome_of result) }
+    ensures fault { outcome_of result ≡ ServeOutcome.OutputFault → Rose (O.faults output.old) (O.faults output.new) }
+    ensures kept { ReadsOnly B.told B.versions B.faults B.steady source.old source.new }
+    ensures tells { is_some (O.held output.new) ≡ is_some (O.held output.old) }
+    ensures faults { O.faults output.old ≤ O.faults output.new }
+    ensures calm { O.steady output.old → O.steady output.new × (O.faults output.new ≡ O.faults output.old) }
+{
+    let mut rest = requests;
+    while let Some((line, behind)) = next_line(rest) {
+        serve_line(state, source, output, line)?;
+        rest = behind;
+    }
+    Ok(())
+}

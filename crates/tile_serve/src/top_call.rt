@@ -1,0 +1,129 @@
+// The whole server as one call.
+ghost use Rattle.std.specs.Prelude.{◌≡◌, ◌⊎◌, ◌≤◌, ◌<◌, true, IfSome, IsOk, is_some, length};
+ghost use Rattle.tile_ids.specs.Counts.{Rose};
+ghost use Rattle.byte_streams.specs.Streams.{IsAtEnd};
+ghost use Rattle.byte_streams.specs.declared.input.TheConstants.{MAX_INPUT};
+ghost use Rattle.pm_format.specs.Opened.{opened};
+ghost use Rattle.pm_reader.specs.Archives.{UsesOneLength};
+ghost use Rattle.pm_reader.specs.Reads.{ReadsOnly};
+ghost use Rattle.tile_serve.specs.Answers.{IsUniform};
+ghost use Rattle.tile_serve.specs.Limits.{IsLimits, limits_in};
+ghost use Rattle.tile_serve.specs.Outcomes.{outcome_of};
+ghost use Rattle.tile_serve.specs.Serving.{IsUnmodifiedRun, Writes};
+ghost use Rattle.tile_serve.specs.TopCall.{IsFor, IsRead, IsShort, IsSilent, IsUnopened, OpensFor, SourceCauses, Taken};
+
+use crate::limits::limits_of;
+use crate::serving::serve_lines;
+use crate::{ServeLimits, ServeOutcome, ServerState};
+use byte_streams::{Sink, Source, read_input};
+use pm_format::Backend;
+use std::alloc::Global;
+use tile_ids::TextVal;
+
+// Opens an archive, and serves the lines of requests.
+fn serve_requests<B: Backend, O: Sink>(
+    alloc: Global,
+    limits: ServeLimits,
+    source: &mut B,
+    output: &mut O,
+    requests: &[u8],
+) -> Result<(), ServeOutcome>
+    requires limits { IsLimits limits }
+    ensures writes { IfSome (B.told source.old) (λ b. UsesOneLength b → Writes b requests.now (O.held output.old) (O.held output.new) (outcome_of result)) }
+    ensures opens { IfSome (B.told source.old) (λ b. OpensFor (opened b) (outcome_of result)) }
+    ensures read { IsRead (outcome_of result) }
+    ensures silent { IsSilent (outcome_of result) → O.held output.new ≡ O.held output.old }
+    ensures causes { SourceCauses (B.told source.old) (B.faults source.old) (B.faults source.new) (outcome_of result) }
+    ensures unmodified { IsUniform (B.versions source.old) → IsUnmodifiedRun (outcome_of result) }
+    ensures fault { outcome_of result ≡ ServeOutcome.OutputFault → Rose (O.faults output.old) (O.faults output.new) }
+    ensures kept { ReadsOnly B.told B.versions B.faults B.steady source.old source.new }
+    ensures tells { is_some (O.held output.new) ≡ is_some (O.held output.old) }
+    ensures faults { O.faults output.old ≤ O.faults output.new }
+    ensures calm { O.steady output.old → O.steady output.new × (O.faults output.new ≡ O.faults output.old) }
+{
+    let mut state = ServerState::open(alloc, source, limits)?;
+    serve_lines(&mut state, source, output, requests)
+}
+
+fn attempt<B: Backend, I: Source, O: Sink>(
+    alloc: Global,
+    words: &[TextVal],
+    source: &mut B,
+    input: &mut I,
+    output: &mut O,
+) -> Result<(), ServeOutcome>
+    ensures words { IsFor (limits_in words.now) (outcome_of result) }
+    ensures writes { IfSome (B.told source.old) (λ b. UsesOneLength b → IfSome (I.left input.old) (λ requests. Writes b requests (O.held output.old) (O.held output.new) (outcome_of result))) }
+    ensures opens { IfSome (B.told source.old) (λ b. OpensFor (opened b) (outcome_of result)) }
+    ensures silent { IsSilent (outcome_of result) → O.held output.new ≡ O.held output.old }
+    ensures read { outcome_of result ≡ ServeOutcome.Done → IsAtEnd (I.left input.new) }
+    ensures taken { Taken (I.taken input.old) (I.taken input.new) (outcome_of result) }
+    ensures too_long { outcome_of result ≡ ServeOutcome.InputTooLong → IfSome (I.left input.old) (λ requests. MAX_INPUT < length requests) }
+    ensures untaken { outcome_of result ≡ ServeOutcome.Usage → input.new ≡ input.old }
+    ensures unread { IsUnopened (outcome_of result) → source.new ≡ source.old }
+    ensures causes { SourceCauses (B.told source.old) (B.faults source.old) (B.faults source.new) (outcome_of result) }
+    ensures unmodified { IsUniform (B.versions source.old) → IsUnmodifiedRun (outcome_of result) }
+    ensures input_fault { outcome_of result ≡ ServeOutcome.InputFault → Rose (I.faults input.old) (I.faults input.new) }
+    ensures output_fault { outcome_of result ≡ ServeOutcome.OutputFault → Rose (O.faults output.old) (O.faults output.new) }
+    ensures kept { ReadsOnly B.told B.versions B.faults B.steady source.old source.new }
+    ensures input_tells { is_some (I.left input.new) ≡ is_some (I.left input.old) }
+    ensures output_tells { is_some (O.held output.new) ≡ is_some (O.held output.old) }
+    ensures counted { I.taken input.old ≤ I.taken input.new }
+    ensures input_faults { I.faults input.old ≤ I.faults input.new }
+    ensures output_faults { O.faults output.old ≤ O.faults output.new }
+    ensures input_calm { I.steady input.old → I.steady input.new × (I.faults input.new ≡ I.faults input.old) }
+    ensures output_calm { O.steady output.old → O.steady output.new × (O.faults output.new ≡ O.faults output.old) }
+{
+    let Some(limits) = limits_of(words) else {
+        return Err(ServeOutcome::Usage);
+    };
+    let requests = read_input(alloc, input)?;
+    serve_requests(alloc, limits, source, output, requests.as_slice())
+}
+
+/// Serves the requests of an input: tests the words, which are the four limits, reads the input to its end, opens the archive of the backend, and writes the reply to each line before it
+/// answers the next one.
+///
+/// `Usage`, `InputFault`, `InputTooLong` and `Refused` with `Opening` come before anything is written. `Refused` has the first error of opening or answering other than want of memory, and
+/// then the replies to the lines before are written; after `OutputFault` and `OutOfMemory` a front of all replies is.
+pub fn run_serve<B: Backend, I: Source, O: Sink>(
+    alloc: Global,
+    words: &[TextVal],
+    source: &mut B,
+    input: &mut I,
+    output: &mut O,
+) -> ServeOutcome
+    ensures words { IsFor (limits_in words.now) result }
+    // What is written are the replies of a server without caches.
+    ensures writes { IfSome (B.told source.old) (λ b. UsesOneLength b → IfSome (I.left input.old) (λ requests. Writes b requests (O.held output.old) (O.held output.new) result)) }
+    ensures opens { IfSome (B.told source.old) (λ b. OpensFor (opened b) result) }
+    // Where the words are limits, the input is within its limit, the archive opens, its version texts don't differ and no count rose, it is Done, or memory ran out.
+    ensures complete { is_some (limits_in words.now) ≡ true → IsShort (I.left input.old) → is_some (I.left input.old) ≡ true
+        → is_some (B.told source.old) ≡ true → IfSome (B.told source.old) (λ b. IsOk (opened b)) → IsUniform (B.versions source.old)
+        → ¬ Rose (I.faults input.old) (I.faults input.new) → ¬ Rose (O.faults output.old) (O.faults output.new) → ¬ Rose (B.faults source.old) (B.faults source.new)
+        → (result ≡ ServeOutcome.Done) ⊎ (result ≡ ServeOutcome.OutOfMemory) }
+    ensures silent { IsSilent result → O.held output.new ≡ O.held output.old }
+    ensures read { result ≡ ServeOutcome.Done → IsAtEnd (I.left input.new) }
+    ensures taken { Taken (I.taken input.old) (I.taken input.new) result }
+    ensures too_long { result ≡ ServeOutcome.InputTooLong → IfSome (I.left input.old) (λ requests. MAX_INPUT < length requests) }
+    ensures untaken { result ≡ ServeOutcome.Usage → input.new ≡ input.old }
+    ensures unread { IsUnopened result → source.new ≡ source.old }
+    ensures causes { SourceCauses (B.told source.old) (B.faults source.old) (B.faults source.new) result }
+    ensures unmodified { IsUniform (B.versions source.old) → IsUnmodifiedRun result }
+    ensures input_fault { result ≡ ServeOutcome.InputFault → Rose (I.faults input.old) (I.faults input.new) }
+    ensures output_fault { result ≡ ServeOutcome.OutputFault → Rose (O.faults output.old) (O.faults output.new) }
+    // Counts don't fall, what tells goes on to tell, and an object whose calls don't fail has no fault.
+    ensures kept { ReadsOnly B.told B.versions B.faults B.steady source.old source.new }
+    ensures input_tells { is_some (I.left input.new) ≡ is_some (I.left input.old) }
+    ensures output_tells { is_some (O.held output.new) ≡ is_some (O.held output.old) }
+    ensures counted { I.taken input.old ≤ I.taken input.new }
+    ensures input_faults { I.faults input.old ≤ I.faults input.new }
+    ensures output_faults { O.faults output.old ≤ O.faults output.new }
+    ensures input_calm { I.steady input.old → I.steady input.new × (I.faults input.new ≡ I.faults input.old) }
+    ensures output_calm { O.steady output.old → O.steady output.new × (O.faults output.new ≡ O.faults output.old) }
+{
+    match attempt(alloc, words, source, input, output) {
+        Ok(()) => ServeOutcome::Done,
+        Err(outcome) => outcome,
+    }
+}
