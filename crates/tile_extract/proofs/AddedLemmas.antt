@@ -1,0 +1,124 @@
+-- The tiles that parts come to, added in order.
+use Rattle.std.proofs.Common.{◌≡◌, ◌∙◌, ◌≢◌, ◌+◌, ◌^◌, ◌≤◌, ◌<◌, ◌⊎◌, inl, inr, ℕ, zero, suc, Bool, true, false, cond, nat_le, nat_lt, nat_eq, ◌&&◌, if◌then◌else◌, List, [], ◌∷◌, ◌++◌, length, Option, None, Some, Result, Ok, Err, refl, ap, sym, subst, arith}
+use Rattle.std.proofs.lemmas.Bool.{and_from, and_parts, true≢false}
+use Rattle.std.proofs.lemmas.Bool.Decides.{nat_tests}
+use Rattle.std.proofs.lemmas.List.{append-nil, append_assoc}
+use Rattle.std.specs.FinMap.{find, is_sorted}
+use Rattle.std.specs.FinMap.Entries.{below_all}
+use Rattle.std.specs.List.{range_with_len}
+use Rattle.std.specs.Ordering.{is_lt, nat_cmp}
+use Rattle.tile_ids.specs.Counts.{Rose}
+use Rattle.pm_format.specs.declared.compression.Compression.TheVariants as compression
+use Rattle.pm_format.specs.declared.error.PmtError.{PmtError}
+use Rattle.pm_format.specs.declared.error.PmtError.TheVariants as errors
+use Rattle.pm_format.specs.declared.error.ReadCause.TheVariants as causes
+use Rattle.pm_format.specs.declared.header.Header.{Header}
+use Rattle.pm_format.specs.Directory.{Entry}
+use Rattle.pm_format.specs.LookUp.{range_of}
+use Rattle.pm_format.specs.Options.{Options}
+use Rattle.pm_writer.specs.Causes.{AddCauses}
+use Rattle.pm_writer.specs.Writing.{AddFits, Writes, add_to, data_end}
+use Rattle.pm_writer.specs.declared.state.WriterState.{WriterState}
+use Rattle.tile_extract.proofs.CoveringLemmas.{lt_by, never, to_lt}
+use Rattle.tile_extract.specs.Written.{EndsBy, PartsRefuse, Puts, Rises, has_room, ids_of, of_read_error, of_write_error, put_all, put_next, put_parts}
+use Rattle.tile_extract.specs.declared.error.ExtractError.{ExtractError}
+use Rattle.tile_extract.specs.declared.error.ExtractError.TheVariants.{Archive, IndexEntryOverflow, MediumFault, OutOfMemory}
+
+-- the same bytes at ids
+abbrev pub at_each : List ℕ → List ℕ → List (ℕ × List ℕ)
+at_each bytes [] = []
+at_each bytes (id ∷ ids) = (id, bytes) ∷ at_each bytes ids
+
+add_some : (done : List (ℕ × List ℕ)) (id : ℕ) (bytes : List ℕ) → bytes ≢ [] → add_to done id bytes ≡ done ++ (id, bytes) ∷ []
+add_some done id [] some = absurd (some refl)
+add_some done id (b ∷ bytes) some = refl
+
+ok_is : {A E : Type 0} (x y : A) → ◌≡◌ {A = Result A E} (Ok x) (Ok y) → x ≡ y
+ok_is x y e = cc
+
+pub put_all_is : (o : Options) (bytes : List ℕ) (ids : List ℕ) (done more : List (ℕ × List ℕ)) → bytes ≢ [] → put_all o bytes done ids ≡ Ok more → more ≡ done ++ at_each bytes ids
+put_all_is o bytes [] done more some is = sym (ok_is done more is) ∙ sym (append-nil done)
+put_all_is o bytes (id ∷ ids) done more some is = by_test (has_room o done id bytes) (λ at. put_all_is o bytes ids (add_to done id bytes) more some at) is
+  where
+    by_test : (t : Bool) → (put_all o bytes (add_to done id bytes) ids ≡ Ok more → more ≡ add_to done id bytes ++ at_each bytes ids)
+        → (elim t as (λ _. Result (List (ℕ × List ℕ)) ExtractError) [ true ↦ put_all o bytes (add_to done id bytes) ids | false ↦ Err IndexEntryOverflow ]) ≡ Ok more → more ≡ done ++ (id, bytes) ∷ at_each bytes ids
+    by_test true rest is = rest is ∙ ap (λ l. l ++ at_each bytes ids) (add_some done id bytes some) ∙ append_assoc done ((id, bytes) ∷ []) (at_each bytes ids)
+    by_test false rest is = absurd (cc)
+
+below_by : (x low : ℕ) (adds : List (ℕ × List ℕ)) → x < low → Rises low adds → below_all nat_cmp x adds ≡ true
+below_by x low [] less r = refl
+below_by x low (a ∷ adds) less r =
+    let first : is_lt (nat_cmp x a.0) ≡ true = let le : low ≤ a.0 = r.0 in grind (arith, nat_tests) in
+    and_from (is_lt (nat_cmp x a.0)) (below_all nat_cmp x adds) first (below_by x (a.0 + 1) adds (omega (arith, less, r.0)) r.1)
+
+pub sorted_by : (low : ℕ) (adds : List (ℕ × List ℕ)) → Rises low adds → is_sorted nat_cmp adds ≡ true
+sorted_by low [] r = refl
+sorted_by low (a ∷ adds) r = and_from (below_all nat_cmp a.0 adds) (is_sorted nat_cmp adds) (below_by a.0 (a.0 + 1) adds (omega arith) r.1) (sorted_by (a.0 + 1) adds r.1)
+
+rises_less : (low from : ℕ) (adds : List (ℕ × List ℕ)) → low ≤ from → Rises from adds → Rises low adds
+rises_less low from [] le r = tt
+rises_less low from (a ∷ adds) le r = (omega (arith, le, r.0), r.1)
+
+pub ends_nothing : EndsBy [] 0
+ends_nothing = λ more r. r
+
+pub ends_later : (adds : List (ℕ × List ℕ)) (m n : ℕ) → m ≤ n → EndsBy adds m → EndsBy adds n
+ends_later adds m n le e = λ more r. e more (rises_less m n more le r)
+
+pub ends_rise : (adds : List (ℕ × List ℕ)) (m : ℕ) → EndsBy adds m → Rises 0 adds
+ends_rise adds m e = subst (Rises 0) (append-nil adds) (e [] tt)
+
+-- one more add
+ends_add : (adds : List (ℕ × List ℕ)) (id : ℕ) (bytes : List ℕ) → EndsBy adds id → EndsBy (add_to adds id bytes) (id + 1)
+ends_add adds id [] e = ends_later adds id (id + 1) (omega arith) e
+ends_add adds id (b ∷ bytes) e = λ more r. subst (Rises 0) (sym (append_assoc adds ((id, b ∷ bytes) ∷ []) more)) (e ((id, b ∷ bytes) ∷ more) (omega arith, r))
+
+-- all of them
+pub ends_all : (o : Options) (bytes : List ℕ) (n id : ℕ) (done more : List (ℕ × List ℕ)) → put_all o bytes done (range_with_len id n) ≡ Ok more → EndsBy done id → EndsBy more (id + n)
+ends_all o bytes zero id done more is e = subst (λ l. EndsBy l (id + 0)) (ok_is done more is) (ends_later done id (id + 0) (omega arith) e)
+ends_all o bytes (suc n) id done more is e = by_test (has_room o done id bytes) (λ at. ends_all o bytes n (id + 1) (add_to done id bytes) more at (ends_add done id bytes e)) is
+  where
+    by_test : (t : Bool) → (put_all o bytes (add_to done id bytes) (range_with_len (id + 1) n) ≡ Ok more → EndsBy more (id + 1 + n))
+        → (elim t as (λ _. Result (List (ℕ × List ℕ)) ExtractError) [ true ↦ put_all o bytes (add_to done id bytes) (range_with_len (id + 1) n) | false ↦ Err IndexEntryOverflow ]) ≡ Ok more → EndsBy more (id + suc n)
+    by_test true rest is = ends_later more (id + 1 + n) (id + suc n) (omega arith) (rest is)
+    by_test false rest is = absurd (cc)
+
+-- an add that fits, and one that doesn't
+room_true : (o : Options) (done : List (ℕ × List ℕ)) (id : ℕ) (bytes : List ℕ) → AddFits o done id bytes → has_room o done id bytes ≡ true
+unfolding has_room
+room_true o done id bytes f = and_from (nat_lt (length bytes) (2 ^ 32)) (nat_lt (data_end o (add_to done id bytes)) (2 ^ 64)) (to_lt (length bytes) (2 ^ 32) f.0) (to_lt (data_end o (add_to done id bytes)) (2 ^ 64) f.1)
+
+room_false : (o : Options) (done : List (ℕ × List ℕ)) (id : ℕ) (bytes : List ℕ) → (AddFits o done id bytes → ⊥) → has_room o done id bytes ≡ false
+unfolding has_room
+room_false o done id bytes unfit = never (nat_lt (length bytes) (2 ^ 32) && nat_lt (data_end o (add_to done id bytes)) (2 ^ 64)) (λ is.
+    let p = and_parts (nat_lt (length bytes) (2 ^ 32)) (nat_lt (data_end o (add_to done id bytes)) (2 ^ 64)) is in
+    unfit (lt_by (length bytes) (2 ^ 32) p.0, lt_by (data_end o (add_to done id bytes)) (2 ^ 64) p.1))
+
+pub puts_next : (o : Options) (bytes : List ℕ) (mid : List (ℕ × List ℕ)) (id : ℕ) (ids : List ℕ) → AddFits o mid id bytes → put_all o bytes mid (id ∷ ids) ≡ put_all o bytes (add_to mid id bytes) ids
+puts_next o bytes mid id ids fits =
+    ap (λ t. elim t as (λ _. Result (List (ℕ × List ℕ)) ExtractError) [ true ↦ put_all o bytes (add_to mid id bytes) ids | false ↦ Err IndexEntryOverflow ]) (room_true o mid id bytes fits)
+
+puts_over : (o : Options) (bytes : List ℕ) (mid : List (ℕ × List ℕ)) (id : ℕ) (ids : List ℕ) → (AddFits o mid id bytes → ⊥) → put_all o bytes mid (id ∷ ids) ≡ Err IndexEntryOverflow
+puts_over o bytes mid id ids unfit =
+    ap (λ t. elim t as (λ _. Result (List (ℕ × List ℕ)) ExtractError) [ true ↦ put_all o bytes (add_to mid id bytes) ids | false ↦ Err IndexEntryOverflow ]) (room_false o mid id bytes unfit)
+
+-- an add that is refused
+pub add_refused : (o : Options) (bytes : List ℕ) (done : List (ℕ × List ℕ)) (all : List ℕ) (mid : List (ℕ × List ℕ)) (id : ℕ) (ids : List ℕ) (told : Option (List ℕ)) (s : WriterState) (failed : Bool) (before now : ℕ) (e : PmtError)
+    → failed ≡ false → put_all o bytes done all ≡ put_all o bytes mid (id ∷ ids) → AddCauses compression.None failed (AddFits o mid id bytes) before now (Err e) → Puts o bytes done all told s (Err (of_write_error e))
+add_refused o bytes done all mid id ids told s failed before now errors.Failed alive so c = absurd (true≢false (sym c ∙ alive))
+add_refused o bytes done all mid id ids told s failed before now (errors.UnsupportedCompression label) alive so c = absurd (c.2 refl)
+add_refused o bytes done all mid id ids told s failed before now errors.IndexEntryOverflow alive so c = so ∙ puts_over o bytes mid id ids c.2
+add_refused o bytes done all mid id ids told s failed before now (errors.Reading causes.Fault) alive so c = tt
+add_refused o bytes done all mid id ids told s failed before now errors.OutOfMemory alive so c = tt
+add_refused o bytes done all mid id ids told s failed before now e alive so c = absurd c
+
+pub add_faulted : (fits : Type 0) (failed : Bool) (start before now : ℕ) (e : PmtError) → failed ≡ false → start ≤ before → AddCauses compression.None failed fits before now (Err e) → of_write_error e ≡ MediumFault → Rose start now
+add_faulted fits failed start before now errors.Failed alive le c is = absurd (true≢false (sym c ∙ alive))
+add_faulted fits failed start before now (errors.UnsupportedCompression label) alive le c is = absurd (c.2 refl)
+add_faulted fits failed start before now errors.IndexEntryOverflow alive le c is = absurd (cc)
+add_faulted fits failed start before now (errors.Reading causes.Fault) alive le c is = omega (arith, le, c.3)
+add_faulted fits failed start before now errors.OutOfMemory alive le c is = absurd (cc)
+add_faulted fits failed start before now e alive le c is = absurd c
+
+pub err_is : (x y : ExtractError) → ◌≡◌ {A = Result Unit ExtractError} (Err x) (Err y) → x ≡ y
+err_is x y e = cc

@@ -1,0 +1,91 @@
+-- The archive of parts, finished or refused.
+use Rattle.std.proofs.Common.{◌≡◌, ◌∙◌, ◌≢◌, ◌⊎◌, inl, inr, ◌+◌, ◌≤◌, ◌<◌, ℕ, Bool, true, false, List, [], Option, None, Some, IfSome, Result, Ok, Err, refl, ap, sym, subst, arith}
+use Rattle.std.proofs.lemmas.Bool.{true≢false}
+use Rattle.std.specs.FinMap.{is_sorted}
+use Rattle.std.specs.Ordering.{nat_cmp}
+use Rattle.tile_ids.specs.Counts.{Rose}
+use Rattle.pm_format.specs.declared.compression.Compression.TheVariants as compression
+use Rattle.pm_format.specs.declared.error.PmtError.{PmtError}
+use Rattle.pm_format.specs.declared.error.PmtError.TheVariants as errors
+use Rattle.pm_format.specs.declared.error.ReadCause.TheVariants as causes
+use Rattle.pm_format.specs.declared.header.Header.{Header}
+use Rattle.pm_format.specs.Directory.{Entry}
+use Rattle.pm_format.specs.Options.{Options}
+use Rattle.pm_writer.specs.Archive.{archive}
+use Rattle.pm_writer.specs.Causes.{CreateCauses, FinishCauses}
+use Rattle.pm_writer.specs.Pieces.{IsHidden, IsHiddenOr}
+use Rattle.pm_writer.specs.Places.{places_of}
+use Rattle.pm_writer.specs.Writing.{Writes}
+use Rattle.pm_writer.specs.declared.places.ArchivePlaces.{ArchivePlaces}
+use Rattle.pm_writer.specs.declared.state.WriterState.{WriterState}
+use Rattle.pm_writer.proofs.Sorted.{adds_distinct}
+use Rattle.tile_extract.specs.Written.{Adds, IsArchiveOf, IsWritten, PartsAdded, PartsOverflow, PartsPut, PartsRefuse, Rises, ShowsNone, WriteCauses, WritesParts, of_write_error, put_parts}
+use Rattle.tile_extract.specs.declared.error.ExtractError.{ExtractError}
+use Rattle.tile_extract.specs.declared.error.ExtractError.TheVariants.{Archive, IndexEntryOverflow, MediumFault, OutOfMemory}
+use Rattle.tile_extract.proofs.AddedLemmas.{sorted_by}
+use Rattle.tile_extract.proofs.ToldLemmas.{one_told}
+
+-- a writer that isn't begun
+pub start_refused : (o : Options) (h : Header) (source : Option (List ℕ)) (ps : List Entry) (told : Option (List ℕ)) (before now : ℕ) (e : PmtError) → o.internal_compression ≡ compression.None → CreateCauses {A = WriterState} o.internal_compression before now (Err e)
+    → WritesParts o h source ps told (Err (of_write_error e))
+start_refused o h source ps told before now (errors.UnsupportedCompression label) plain c = tt
+start_refused o h source ps told before now (errors.Reading causes.Fault) plain c = tt
+start_refused o h source ps told before now errors.OutOfMemory plain c = tt
+start_refused o h source ps told before now e plain c = absurd c
+
+pub start_causes : (o : Options) (first last before now : ℕ) (e : PmtError) → o.internal_compression ≡ compression.None → CreateCauses {A = WriterState} o.internal_compression before now (Err e) → WriteCauses {A = ArchivePlaces} first last before now (Err (of_write_error e))
+start_causes o first last before now (errors.UnsupportedCompression label) plain c = absurd (c.1 plain)
+start_causes o first last before now (errors.Reading causes.Fault) plain c = c.1
+start_causes o first last before now errors.OutOfMemory plain c = tt
+start_causes o first last before now e plain c = absurd c
+
+-- a part that isn't added
+pub parts_refused : (o : Options) (h : Header) (source : Option (List ℕ)) (ps : List Entry) (told : Option (List ℕ)) (s : WriterState) (first last before now : ℕ) (x : ExtractError) → PartsPut o h source ps told s (Err x) → IfSome told IsHidden → WriteCauses {A = Unit {0}} first last before now (Err x)
+    → WritesParts o h source ps told (Err x)
+parts_refused o h source ps told s first last before now (Archive e) put hidden c = (put, hidden)
+parts_refused o h source ps told s first last before now IndexEntryOverflow put hidden c = one_told (λ b. PartsRefuse (put_parts o h b ps []) IndexEntryOverflow) (PartsOverflow o h ps) source (λ b is. inl is) put
+parts_refused o h source ps told s first last before now MediumFault put hidden c = tt
+parts_refused o h source ps told s first last before now OutOfMemory put hidden c = tt
+parts_refused o h source ps told s first last before now x put hidden c = absurd c
+
+pub parts_causes : (first last old mid now : ℕ) (before : ℕ) (x : ExtractError) → old ≤ before → WriteCauses {A = Unit {0}} first last before now (Err x) → WriteCauses {A = ArchivePlaces} first last old now (Err x)
+parts_causes first last old mid now before (Archive (errors.Reading causes.Fault)) le c = c
+parts_causes first last old mid now before (Archive (errors.Reading causes.PastEnd)) le c = c
+parts_causes first last old mid now before (Archive (errors.UnexpectedNumberOfBytesReturned asked got)) le c = c
+parts_causes first last old mid now before IndexEntryOverflow le c = c
+parts_causes first last old mid now before MediumFault le c = omega (arith, le, c)
+parts_causes first last old mid now before OutOfMemory le c = c
+parts_causes first last old mid now before x le c = absurd c
+
+hidden_shows : (o : Options) (h : Header) (source : Option (List ℕ)) (ps : List Entry) (told : Option (List ℕ)) → IfSome told IsHidden → IfSome told (ShowsNone o h source ps)
+hidden_shows o h source ps told hidden = one_told IsHidden (ShowsNone o h source ps) told (λ b is. inl is) hidden
+
+pub shows_hidden : (o : Options) (h : Header) (source : Option (List ℕ)) (ps : List Entry) (told : Option (List ℕ)) → IfSome told IsHidden → IfSome told (ShowsNone o h source ps)
+shows_hidden o h source ps told hidden = hidden_shows o h source ps told hidden
+
+-- an archive that is finished, or not
+pub finished : (o : Options) (h : Header) (source : Option (List ℕ)) (ps : List Entry) (mid told : Option (List ℕ)) (s : WriterState) (failed : Bool) (before now : ℕ) (p : ArchivePlaces) (a : PartsAdded o h source ps mid s)
+    → IfSome told (λ b. b ≡ archive o a.more) → p ≡ places_of o a.more → FinishCauses o a.more failed before now (Ok p) → IsWritten o h source ps told p
+finished o h source ps mid told s failed before now p a one places c = record { adds = a.more; rises = a.rises; fits = c.1; one = one; places = places; are = a.are }
+
+pub finish_shows : (o : Options) (h : Header) (source : Option (List ℕ)) (ps : List Entry) (mid told : Option (List ℕ)) (s : WriterState) (a : PartsAdded o h source ps mid s) → IfSome told (IsHiddenOr (archive o a.more)) → IfSome told (ShowsNone o h source ps)
+finish_shows o h source ps mid told s a shown =
+    one_told (IsHiddenOr (archive o a.more)) (ShowsNone o h source ps) told (λ b is. elim is [ inl hidden ↦ inl hidden | inr whole ↦ inr (record { adds = a.more; rises = a.rises; one = whole; are = a.are }) ]) shown
+
+pub finish_refused : (o : Options) (h : Header) (source : Option (List ℕ)) (ps : List Entry) (mid told : Option (List ℕ)) (s : WriterState) (failed : Bool) (before now : ℕ) (e : PmtError) (a : PartsAdded o h source ps mid s) → failed ≡ false
+    → FinishCauses {A = ArchivePlaces} o a.more failed before now (Err e) → WritesParts o h source ps told (Err (of_write_error e))
+finish_refused o h source ps mid told s failed before now errors.Failed a alive c = tt
+finish_refused o h source ps mid told s failed before now (errors.OverlappingEntries id) a alive c = tt
+finish_refused o h source ps mid told s failed before now errors.IndexEntryOverflow a alive c = one_told (λ b. put_parts o h b ps [] ≡ Ok a.more) (PartsOverflow o h ps) source (λ b is. inr (a.more, is, c.2)) a.are
+finish_refused o h source ps mid told s failed before now (errors.Reading causes.Fault) a alive c = tt
+finish_refused o h source ps mid told s failed before now errors.OutOfMemory a alive c = tt
+finish_refused o h source ps mid told s failed before now e a alive c = absurd c
+
+pub finish_causes : (o : Options) (h : Header) (source : Option (List ℕ)) (ps : List Entry) (mid : Option (List ℕ)) (s : WriterState) (failed : Bool) (first last old before now : ℕ) (e : PmtError) (a : PartsAdded o h source ps mid s) → failed ≡ false → old ≤ before
+    → FinishCauses {A = ArchivePlaces} o a.more failed before now (Err e) → WriteCauses {A = ArchivePlaces} first last old now (Err (of_write_error e))
+finish_causes o h source ps mid s failed first last old before now errors.Failed a alive le c = absurd (true≢false (sym c ∙ alive))
+finish_causes o h source ps mid s failed first last old before now (errors.OverlappingEntries id) a alive le c = absurd (omega (arith, c.1.twice, adds_distinct a.more (sorted_by 0 a.more a.rises) id))
+finish_causes o h source ps mid s failed first last old before now errors.IndexEntryOverflow a alive le c = tt
+finish_causes o h source ps mid s failed first last old before now (errors.Reading causes.Fault) a alive le c = omega (arith, le, c.2)
+finish_causes o h source ps mid s failed first last old before now errors.OutOfMemory a alive le c = tt
+finish_causes o h source ps mid s failed first last old before now e a alive le c = absurd c

@@ -1,0 +1,15 @@
+pub mod ToldLemmas
+pub mod IntervalLemmas
+pub mod CollectingLemmas
+pub mod ClippingLemmas
+pub mod CoveringLemmas
+pub mod WalkingLemmas
+pub mod WalkToldLemmas
+pub mod OrderLemmas
+pub mod LookUpLemmas
+pub mod CutLemmas
+pub mod AddedLemmas
+pub mod PartsLemmas
+pub mod FinishLemmas
+pub mod CollectLemmas
+pub mod ExtractLemmas

@@ -1,0 +1,141 @@
+-- Parts that are added one after another.
+use Rattle.std.proofs.Common.{◌≡◌, ◌∙◌, ◌≢◌, ◌+◌, ◌≤◌, ℕ, Bool, true, false, List, [], ◌∷◌, Option, None, Some, IfSome, Result, Ok, Err, refl, ap, sym, subst, arith}
+use Rattle.std.proofs.lemmas.Option.{none-some}
+use Rattle.tile_ids.specs.Counts.{Rose}
+use Rattle.tile_ids.specs.declared.id.TheConstants.{MAX_TILE_ID}
+use Rattle.pm_format.specs.declared.error.PmtError.{PmtError}
+use Rattle.pm_format.specs.declared.error.PmtError.TheVariants as errors
+use Rattle.pm_format.specs.declared.error.ReadCause.TheVariants as causes
+use Rattle.pm_format.specs.declared.header.Header.{Header}
+use Rattle.pm_format.specs.Directory.{Entry}
+use Rattle.pm_format.specs.LookUp.{range_of}
+use Rattle.pm_format.specs.Options.{Options}
+use Rattle.pm_reader.specs.Answers.{Gives, RangeCauses, range_read}
+use Rattle.pm_writer.specs.Writing.{Writes}
+use Rattle.pm_writer.specs.declared.state.WriterState.{WriterState}
+use Rattle.tile_extract.specs.Collecting.{AreOrdered}
+use Rattle.tile_extract.specs.Written.{Adds, EndsBy, PartsAdded, PartsPut, PartsRefuse, Puts, Rises, WriteCauses, ids_of, of_read_error, put_all, put_next, put_parts}
+use Rattle.tile_extract.specs.declared.error.ExtractError.{ExtractError}
+use Rattle.tile_extract.specs.declared.error.ExtractError.TheVariants.{Archive, IndexEntryOverflow, InvalidZoom, MediumFault, MediumNotEmpty, OutOfMemory, TooManyTiles}
+use Rattle.tile_extract.proofs.AddedLemmas.{ends_all, ends_later, ends_nothing, ends_rise}
+use Rattle.tile_extract.proofs.ToldLemmas.{any_told, both_told, one_told}
+
+-- a range that is read, and one that isn't there
+range_found : (b : List ℕ) (at len : ℕ) (bytes : List ℕ) → range_read b at len ≡ Ok bytes → range_of b at len ≡ Some bytes
+range_found b at len bytes is = by_range (range_of b at len) is
+  where
+    by_range : (o : Option (List ℕ)) → (elim o as (λ _. Result (List ℕ) PmtError) [ None ↦ Err (errors.Reading causes.PastEnd) | Some x ↦ Ok x ]) ≡ Ok bytes → o ≡ Some bytes
+    by_range None is = absurd (cc)
+    by_range (Some x) is = cc
+
+range_past : (b : List ℕ) (at len : ℕ) (e : PmtError) → range_read b at len ≡ Err e → range_of b at len ≡ None
+range_past b at len e is = by_range (range_of b at len) is
+  where
+    by_range : (o : Option (List ℕ)) → (elim o as (λ _. Result (List ℕ) PmtError) [ None ↦ Err (errors.Reading causes.PastEnd) | Some x ↦ Ok x ]) ≡ Err e → o ≡ None
+    by_range None is = refl
+    by_range (Some x) is = absurd (cc)
+
+-- the first of some parts: its contents lie there and are added, don't lie there, or can't be added
+parts_all : (o : Options) (h : Header) (b : List ℕ) (p : Entry) (ps : List Entry) (mid : Adds) (found : Option (List ℕ)) → range_of b (h.data_offset + p.offset) p.length ≡ found
+    → put_parts o h b (p ∷ ps) mid ≡ elim found as (λ _. Result Adds ExtractError) [ None ↦ Err (Archive (errors.Reading causes.PastEnd)) | Some bytes ↦ put_next (put_parts o h b ps) (put_all o bytes mid (ids_of p)) ]
+parts_all o h b p ps mid found is =
+    ap (λ x. elim x as (λ _. Result Adds ExtractError) [ None ↦ Err (Archive (errors.Reading causes.PastEnd)) | Some bytes ↦ put_next (put_parts o h b ps) (put_all o bytes mid (ids_of p)) ]) is
+
+parts_put : (o : Options) (h : Header) (b : List ℕ) (p : Entry) (ps : List Entry) (mid : Adds) (bytes : List ℕ) (r : Result Adds ExtractError) → range_read b (h.data_offset + p.offset) p.length ≡ Ok bytes → put_all o bytes mid (ids_of p) ≡ r
+    → put_parts o h b (p ∷ ps) mid ≡ put_next (put_parts o h b ps) r
+parts_put o h b p ps mid bytes r read is = parts_all o h b p ps mid (Some bytes) (range_found b (h.data_offset + p.offset) p.length bytes read) ∙ ap (put_next (put_parts o h b ps)) is
+
+-- the parts so far
+pub record PutSoFar (o : Options) (h : Header) (source : Option (List ℕ)) (ps rest : List Entry) (told : Option (List ℕ)) (s : WriterState) : Type 0 where
+  pub mid : Adds
+  pub writes : Writes o told s mid
+  pub low : ℕ
+  pub ordered : AreOrdered low rest None
+  pub ends : EndsBy mid low
+  pub so : IfSome source (λ b. put_parts o h b ps [] ≡ put_parts o h b rest mid)
+
+pub put_begun : (o : Options) (h : Header) (source : Option (List ℕ)) (ps : List Entry) (told : Option (List ℕ)) (s : WriterState) → Writes o told s [] → AreOrdered 0 ps None → PutSoFar o h source ps ps told s
+put_begun o h source ps told s w ordered = record { mid = []; writes = w; low = 0; ordered = ordered; ends = ends_nothing; so = any_told (λ b. put_parts o h b ps [] ≡ put_parts o h b ps []) source (λ b. refl) }
+
+-- a part that is read and added
+pub put_more : (o : Options) (h : Header) (source again : Option (List ℕ)) (ps rest : List Entry) (p : Entry) (others : List Entry) (told now : Option (List ℕ)) (s new : WriterState) (bytes : List ℕ) (s1 : PutSoFar o h source ps rest told s)
+    → again ≡ source → rest ≡ p ∷ others → IfSome again (λ b. Gives (range_read b (h.data_offset + p.offset) p.length) (Ok bytes)) → Puts o bytes s1.mid (ids_of p) now new (Ok tt) → PutSoFar o h source ps others now new
+put_more o h source again ps rest p others told now s new bytes s1 same first read put =
+    let ordered : AreOrdered s1.low (p ∷ others) None = subst (λ l. AreOrdered s1.low l None) first s1.ordered in
+    record {
+      mid = put.0;
+      writes = put.2;
+      low = p.tile_id + p.run_length;
+      ordered = ordered.3;
+      ends = ends_all o bytes p.run_length p.tile_id s1.mid put.0 put.1 (ends_later s1.mid s1.low p.tile_id ordered.0 s1.ends);
+      so = both_told (λ b. put_parts o h b ps [] ≡ put_parts o h b rest s1.mid) (λ b. Gives (range_read b (h.data_offset + p.offset) p.length) (Ok bytes)) (λ b. put_parts o h b ps [] ≡ put_parts o h b others put.0) source again same
+          (λ b whole found. whole ∙ ap (λ l. put_parts o h b l s1.mid) first ∙ parts_put o h b p others s1.mid bytes (Ok put.0) found put.1) s1.so read;
+    }
+
+-- where no more are left
+pub put_all_parts : (o : Options) (h : Header) (source : Option (List ℕ)) (ps rest : List Entry) (told : Option (List ℕ)) (s : WriterState) → rest ≡ [] → PutSoFar o h source ps rest told s → PartsPut o h source ps told s (Ok tt)
+put_all_parts o h source ps rest told s none s1 = record {
+  more = s1.mid;
+  writes = s1.writes;
+  rises = ends_rise s1.mid s1.low s1.ends;
+  are = one_told (λ b. put_parts o h b ps [] ≡ put_parts o h b rest s1.mid) (λ b. put_parts o h b ps [] ≡ Ok s1.mid) source (λ b whole. whole ∙ ap (λ l. put_parts o h b l s1.mid) none) s1.so;
+}
+
+-- a part that isn't read
+refused_by : (whole : Result Adds ExtractError) (o : Options) (h : Header) (b : List ℕ) (p : Entry) (others : List Entry) (mid : Adds) (before now : ℕ) (e : PmtError) → whole ≡ put_parts o h b (p ∷ others) mid
+    → Gives (range_read b (h.data_offset + p.offset) p.length) (Err e) → RangeCauses {A = List ℕ} before now (Err e) → PartsRefuse whole (of_read_error e)
+refused_by whole o h b p others mid before now errors.OutOfMemory so g c = tt
+refused_by whole o h b p others mid before now (errors.Reading causes.Fault) so g c = tt
+refused_by whole o h b p others mid before now (errors.Reading causes.PastEnd) so g c =
+    so ∙ parts_all o h b p others mid None (range_past b (h.data_offset + p.offset) p.length (errors.Reading causes.PastEnd) g)
+refused_by whole o h b p others mid before now (errors.UnexpectedNumberOfBytesReturned asked got) so g c = absurd g
+refused_by whole o h b p others mid before now errors.InvalidEntry so g c = absurd c
+refused_by whole o h b p others mid before now e so g c = absurd c
+
+pub read_refused : (o : Options) (h : Header) (source again : Option (List ℕ)) (ps rest : List Entry) (p : Entry) (others : List Entry) (told : Option (List ℕ)) (s new : WriterState) (now : Option (List ℕ)) (before after : ℕ) (e : PmtError) → PutSoFar o h source ps rest told s
+    → again ≡ source → rest ≡ p ∷ others → IfSome again (λ b. Gives (range_read b (h.data_offset + p.offset) p.length) (Err e)) → RangeCauses {A = List ℕ} before after (Err e) → PartsPut o h source ps now new (Err (of_read_error e))
+read_refused o h source again ps rest p others told s new now before after e s1 same first read c =
+    both_told (λ b. put_parts o h b ps [] ≡ put_parts o h b rest s1.mid) (λ b. Gives (range_read b (h.data_offset + p.offset) p.length) (Err e)) (λ b. PartsRefuse (put_parts o h b ps []) (of_read_error e)) source again same
+    (λ b whole g. refused_by (put_parts o h b ps []) o h b p others s1.mid before after e (whole ∙ ap (λ l. put_parts o h b l s1.mid) first) g c) s1.so read
+
+pub read_causes : (start before now old new : ℕ) (e : PmtError) → start ≤ before → RangeCauses {A = List ℕ} before now (Err e) → WriteCauses {A = Unit {0}} start now old new (Err (of_read_error e))
+read_causes start before now old new errors.OutOfMemory le c = tt
+read_causes start before now old new (errors.Reading causes.Fault) le c = omega (arith, le, c)
+read_causes start before now old new (errors.Reading causes.PastEnd) le c = tt
+read_causes start before now old new (errors.UnexpectedNumberOfBytesReturned asked got) le c = c
+read_causes start before now old new errors.InvalidEntry le c = absurd c
+read_causes start before now old new e le c = absurd c
+
+-- a part that isn't added
+put_by : (whole : Result Adds ExtractError) (o : Options) (h : Header) (b : List ℕ) (p : Entry) (others : List Entry) (mid : Adds) (bytes : List ℕ) (told : Option (List ℕ)) (s : WriterState) (x : ExtractError) → whole ≡ put_parts o h b (p ∷ others) mid
+    → range_read b (h.data_offset + p.offset) p.length ≡ Ok bytes → Puts o bytes mid (ids_of p) told s (Err x) → PartsRefuse whole x
+put_by whole o h b p others mid bytes told s IndexEntryOverflow so read put = so ∙ parts_put o h b p others mid bytes (Err IndexEntryOverflow) read put
+put_by whole o h b p others mid bytes told s MediumFault so read put = tt
+put_by whole o h b p others mid bytes told s OutOfMemory so read put = tt
+put_by whole o h b p others mid bytes told s x so read put = absurd put
+
+pub put_refused : (o : Options) (h : Header) (source again : Option (List ℕ)) (ps rest : List Entry) (p : Entry) (others : List Entry) (told now : Option (List ℕ)) (s new : WriterState) (bytes : List ℕ) (x : ExtractError) (s1 : PutSoFar o h source ps rest told s)
+    → again ≡ source → rest ≡ p ∷ others → IfSome again (λ b. Gives (range_read b (h.data_offset + p.offset) p.length) (Ok bytes)) → Puts o bytes s1.mid (ids_of p) now new (Err x) → PartsPut o h source ps now new (Err x)
+put_refused o h source again ps rest p others told now s new bytes x s1 same first read put =
+    both_told (λ b. put_parts o h b ps [] ≡ put_parts o h b rest s1.mid) (λ b. Gives (range_read b (h.data_offset + p.offset) p.length) (Ok bytes)) (λ b. PartsRefuse (put_parts o h b ps []) x) source again same
+    (λ b whole found. put_by (put_parts o h b ps []) o h b p others s1.mid bytes now new x (whole ∙ ap (λ l. put_parts o h b l s1.mid) first) found put) s1.so read
+
+pub put_causes : (o : Options) (bytes : List ℕ) (mid : Adds) (ids : List ℕ) (told : Option (List ℕ)) (s : WriterState) (start now old before new : ℕ) (x : ExtractError) → old ≤ before → Puts o bytes mid ids told s (Err x) → (x ≡ MediumFault → Rose before new)
+    → WriteCauses {A = Unit {0}} start now old new (Err x)
+put_causes o bytes mid ids told s start now old before new IndexEntryOverflow le put rose = tt
+put_causes o bytes mid ids told s start now old before new MediumFault le put rose = omega (arith, le, rose refl)
+put_causes o bytes mid ids told s start now old before new OutOfMemory le put rose = tt
+put_causes o bytes mid ids told s start now old before new x le put rose = absurd put
+
+-- each part's run is one of tiles
+pub run_within : (low : ℕ) (rest : List Entry) (p : Entry) (others : List Entry) → rest ≡ p ∷ others → AreOrdered low rest None → p.tile_id + p.run_length ≤ MAX_TILE_ID + 1
+run_within low rest p others first o = (subst (λ l. AreOrdered low l None) first o).2
+
+-- what was read for a part, by the place that it was asked for
+pub read_at : (again : Option (List ℕ)) (h : Header) (off len : ℕ) (p : Entry) (r : Result (List ℕ) PmtError) → off ≡ p.offset → len ≡ p.length → IfSome again (λ b. Gives (range_read b (h.data_offset + off) len) r) → IfSome again (λ b. Gives (range_read b (h.data_offset + p.offset) p.length) r)
+read_at None h off len p r o l g = tt
+read_at (Some b) h off len p r o l g = subst (λ n. Gives (range_read b (h.data_offset + p.offset) n) r) l (subst (λ n. Gives (range_read b (h.data_offset + n) len) r) o g)
+
+-- the parts behind one
+pub rest_ordered : (low : ℕ) (rest : List Entry) (p : Entry) (others : List Entry) → rest ≡ p ∷ others → AreOrdered low rest None → AreOrdered (p.tile_id + p.run_length) others None
+rest_ordered low rest p others first o = (subst (λ l. AreOrdered low l None) first o).3

@@ -1,0 +1,27 @@
+use Rattle.std.proofs.Common.{◌≡◌, ◌∙◌, ◌+◌, ◌-◌, ◌≤◌, [], ◌∷◌, ◌++◌, ap, sym, subst, arith}
+use Rattle.tile_extract.specs.Collecting.{AreApart}
+use Rattle.tile_extract.specs.Cut.{intervals, intervals_from}
+use Rattle.tile_extract.proofs.IntervalLemmas.{all_found, apart, more_intervals, none_yet, pair_is}
+use Rattle.tile_extract.proofs.intervals.intervals_of.Goals as goal
+
+pub loop-zoom-init : goal.loop-zoom-init
+loop-zoom-init c = (
+  omega (arith, c.z-zoom.ensures.value),
+  ap (λ l. l ++ intervals_from c.args.root c.z-zoom.result (c.args.max_zoom + 1 - c.z-zoom.result)) c.new-found.ensures.items ∙ none_yet c.args.root c.args.max_zoom c.z-zoom.result c.z-zoom.ensures.value,
+)
+
+pub loop-zoom-preserved : goal.loop-zoom-preserved
+loop-zoom-preserved c = (
+  omega (arith, c.loop-zoom.invariant.0),
+  ap (λ l. l ++ intervals_from c.args.root (c.loop-zoom.zoom + 1) (c.args.max_zoom + 1 - (c.loop-zoom.zoom + 1))) c.in_ok-push.ensures.items
+      ∙ ap (λ p. (c.loop-zoom.found.items ++ p ∷ []) ++ intervals_from c.args.root (c.loop-zoom.zoom + 1) (c.args.max_zoom + 1 - (c.loop-zoom.zoom + 1)))
+      (pair_is _ _ _ _ c.value.ensures.value c.value-in-loop-zoom.ensures.value)
+      ∙ more_intervals c.args.root c.args.max_zoom c.loop-zoom.zoom _ _ c.loop-zoom.found.items c.z-zoom.ensures.within c.loop-zoom.invariant.0 (omega (arith, c.loop-zoom-test.true)) c.requires.most c.in-Some.ensures.ends c.loop-zoom.invariant.1,
+)
+
+pub returns-clause-are : goal.returns-clause-are
+returns-clause-are c = all_found c.args.root c.args.max_zoom c.loop-zoom.zoom c.loop-zoom.found.items (omega (arith, c.loop-zoom-test.false)) c.loop-zoom.invariant.1
+
+pub returns-clause-apart : goal.returns-clause-apart
+returns-clause-apart c =
+    subst (AreApart 0) (sym (all_found c.args.root c.args.max_zoom c.loop-zoom.zoom c.loop-zoom.found.items (omega (arith, c.loop-zoom-test.false)) c.loop-zoom.invariant.1)) (apart c.args.root c.args.max_zoom)

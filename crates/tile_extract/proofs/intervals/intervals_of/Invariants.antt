@@ -1,0 +1,7 @@
+use Rattle.std.proofs.Common.{◌≡◌, ◌+◌, ◌-◌, ◌≤◌, ◌++◌}
+use Rattle.tile_ids.specs.Coord.{IsCoord}
+use Rattle.tile_extract.specs.Cut.{intervals, intervals_from}
+use Rattle.tile_extract.proofs.intervals.intervals_of.Given as goal
+
+abbrev pub invariant-loop-zoom : goal.invariant-loop-zoom
+invariant-loop-zoom l = (l.root.z ≤ l.zoom) × (l.found.items ++ intervals_from l.root l.zoom (l.max_zoom + 1 - l.zoom) ≡ intervals l.root l.max_zoom)

@@ -1,0 +1,54 @@
+use Rattle.std.proofs.Common.{◌≡◌, ◌∙◌, ◌+◌, ℕ, List, Ok, Err, IfSome, refl, ap, sym, subst, arith}
+use Rattle.pm_reader.specs.Answers.{Gives, range_read}
+use Rattle.pm_reader.specs.Opening.{header_of}
+use Rattle.tile_extract.proofs.ClippingLemmas.{no_items}
+use Rattle.tile_extract.proofs.PartsLemmas.{put_all_parts, put_causes, put_more, put_refused, read_at, read_causes, read_refused, rest_ordered}
+use Rattle.tile_extract.proofs.writing.add_parts.Goals as goal
+
+pub loop-part-preserved-in-Ok-add_part : goal.loop-part-preserved-in-Ok-add_part
+loop-part-preserved-in-Ok-add_part g c =
+    let i = c.loop-part.invariant in
+    let k = c.read_contents.ensures.kept in
+    let a = c.in-Ok-add_part.ensures in (
+      λ o w.
+          let s = i.0 o w in
+          put_more o (header_of c.args.reader.now) (g.B.Backend.told c.args.source.now) (g.B.Backend.told c.loop-part.source) c.args.parts.now c.loop-part.rest.now c.in-Some.part.now c.in-Some.others.now (g.M.Backend.told c.loop-part.medium) (g.M.Backend.told c.add_part.new.medium) c.loop-part.writer c.add_part.new.writer c.as_slice.result.now s
+          i.4.told c.in-Some.ensures.cases.0
+          (read_at (g.B.Backend.told c.loop-part.source) (header_of c.args.reader.now) c.offset.result c.length.result c.in-Some.part.now (Ok c.as_slice.result.now) c.offset.ensures c.length.ensures
+          (subst (λ l. IfSome (g.B.Backend.told c.loop-part.source) (λ b. Gives (range_read b ((header_of c.args.reader.now).data_offset + c.offset.result) c.length.result) (Ok l))) (sym c.as_slice.ensures) c.in-Ok.ensures.answer))
+          (a.added o s.mid s.writes),
+      a.writes,
+      a.alive,
+      (c.in-Some.part.now.tile_id + c.in-Some.part.now.run_length, rest_ordered i.3.0 c.loop-part.rest.now c.in-Some.part.now c.in-Some.others.now c.in-Some.ensures.cases.0 i.3.1),
+      record { told = k.told ∙ i.4.told; versions = k.versions ∙ i.4.versions; faults = omega (arith, k.faults, i.4.faults); calm = λ s. let p = i.4.calm s in let q = k.calm p.0 in (q.0, q.1 ∙ p.1) },
+      a.tells ∙ i.5,
+      omega (arith, a.faults, i.6),
+      a.counted ∙ i.7,
+      λ s. let p = i.8 s in let q = a.calm p.0 in (q.0, q.1 ∙ p.1),
+    )
+
+pub loop-part-preserved : goal.loop-part-preserved
+loop-part-preserved g c =
+    let i = c.loop-part.invariant in
+    let k = c.read_contents.ensures.kept in
+    let a = c.in-Ok-add_part.ensures in (
+      λ o w.
+          let s = i.0 o w in
+          put_more o (header_of c.args.reader.now) (g.B.Backend.told c.args.source.now) (g.B.Backend.told c.loop-part.source) c.args.parts.now c.loop-part.rest.now c.in-Some.part.now c.in-Some.others.now (g.M.Backend.told c.loop-part.medium) (g.M.Backend.told c.add_part.new.medium) c.loop-part.writer c.add_part.new.writer c.as_slice.result.now s
+          i.4.told c.in-Some.ensures.cases.0
+          (read_at (g.B.Backend.told c.loop-part.source) (header_of c.args.reader.now) c.offset.result c.length.result c.in-Some.part.now (Ok c.as_slice.result.now) c.offset.ensures c.length.ensures
+          (subst (λ l. IfSome (g.B.Backend.told c.loop-part.source) (λ b. Gives (range_read b ((header_of c.args.reader.now).data_offset + c.offset.result) c.length.result) (Ok l))) (sym c.as_slice.ensures) c.in-Ok.ensures.answer))
+          (a.added o s.mid s.writes),
+      a.writes,
+      a.alive,
+      (c.in-Some.part.now.tile_id + c.in-Some.part.now.run_length, rest_ordered i.3.0 c.loop-part.rest.now c.in-Some.part.now c.in-Some.others.now c.in-Some.ensures.cases.0 i.3.1),
+      record { told = k.told ∙ i.4.told; versions = k.versions ∙ i.4.versions; faults = omega (arith, k.faults, i.4.faults); calm = λ s. let p = i.4.calm s in let q = k.calm p.0 in (q.0, q.1 ∙ p.1) },
+      a.tells ∙ i.5,
+      omega (arith, a.faults, i.6),
+      a.counted ∙ i.7,
+      λ s. let p = i.8 s in let q = a.calm p.0 in (q.0, q.1 ∙ p.1),
+    )
+
+pub returns-clause-added : goal.returns-clause-added
+returns-clause-added g c = λ o w.
+    put_all_parts o (header_of c.args.reader.now) (g.B.Backend.told c.args.source.now) c.args.parts.now c.loop-part.rest.now (g.M.Backend.told c.loop-part.medium) c.loop-part.writer (no_items c.loop-part.rest.now c.in_default.ensures.cases) (c.loop-part.invariant.0 o w)

@@ -1,0 +1,23 @@
+use Rattle.std.proofs.Common.{◌≡◌, ◌≤◌, ℕ, false, List, [], None, is_some, length}
+use Rattle.pm_format.specs.Options.{Options}
+use Rattle.pm_reader.specs.Opening.{header_of}
+use Rattle.pm_reader.specs.Reads.{ReadsOnly}
+use Rattle.pm_writer.specs.Writing.{Writes, has_failed}
+use Rattle.tile_extract.specs.Collecting.{AreOrdered}
+use Rattle.tile_extract.proofs.PartsLemmas.{PutSoFar}
+use Rattle.tile_extract.proofs.writing.add_parts.Given as goal
+
+abbrev pub invariant-loop-part : goal.invariant-loop-part
+invariant-loop-part g l =
+    ((o : Options) → Writes o (g.M.Backend.told l.fn.medium) l.fn.writer [] → PutSoFar o (header_of l.reader) (g.B.Backend.told l.fn.source) l.parts l.rest (g.M.Backend.told l.medium) l.writer)
+    × ((o : Options) × (done : List (ℕ × List ℕ)) × Writes o (g.M.Backend.told l.medium) l.writer done)
+    × (has_failed l.writer ≡ false)
+    × ((low : ℕ) × AreOrdered low l.rest None)
+    × ReadsOnly g.B.Backend.told g.B.Backend.versions g.B.Backend.faults g.B.Backend.steady l.fn.source l.source
+    × (is_some (g.M.Backend.told l.medium) ≡ is_some (g.M.Backend.told l.fn.medium))
+    × (g.M.Backend.faults l.fn.medium ≤ g.M.Backend.faults l.medium)
+    × (g.M.Backend.reads l.medium ≡ g.M.Backend.reads l.fn.medium)
+    × (g.M.Backend.steady l.fn.medium → g.M.Backend.steady l.medium × (g.M.Backend.faults l.medium ≡ g.M.Backend.faults l.fn.medium))
+
+abbrev pub decreases-loop-part : goal.decreases-loop-part
+decreases-loop-part g l = length l.rest

@@ -1,0 +1,6 @@
+pub mod Cut
+pub mod Met
+pub mod Parts
+pub mod Collecting
+pub mod Written
+pub mod Extract

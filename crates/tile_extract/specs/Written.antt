@@ -1,0 +1,138 @@
+-- The tiles of parts in order, added to an archive that is begun.
+use Rattle.std.specs.Prelude.{◌≡◌, ◌≢◌, ◌⊎◌, ◌+◌, ◌≤◌, ℕ, ◌^◌, Bool, true, false, List, [], ◌∷◌, ◌++◌, length, nat_lt, ◌&&◌, Option, Some, None, Result, Ok, Err, IfSome}
+use Rattle.std.specs.List.{range_with_len}
+use Rattle.tile_ids.specs.Counts.{Rose}
+use Rattle.pm_format.specs.declared.error.PmtError.{PmtError}
+use Rattle.pm_format.specs.declared.error.PmtError.TheVariants as errors
+use Rattle.pm_format.specs.declared.error.ReadCause.TheVariants as causes
+use Rattle.pm_format.specs.declared.header.Header.{Header}
+use Rattle.pm_format.specs.Directory.{Entry}
+use Rattle.pm_format.specs.LookUp.{range_of}
+use Rattle.pm_format.specs.Options.{Options}
+use Rattle.pm_writer.specs.Archivable.{IsArchivable}
+use Rattle.pm_writer.specs.Archive.{archive}
+use Rattle.pm_writer.specs.Causes.{ArchiveFits}
+use Rattle.pm_writer.specs.Pieces.{IsHidden}
+use Rattle.pm_writer.specs.Places.{places_of}
+use Rattle.pm_writer.specs.Writing.{Writes, add_to, data_end}
+use Rattle.pm_writer.specs.declared.places.ArchivePlaces.{ArchivePlaces}
+use Rattle.pm_writer.specs.declared.state.WriterState.{WriterState}
+use Rattle.tile_extract.specs.declared.error.ExtractError.{ExtractError}
+use Rattle.tile_extract.specs.declared.error.ExtractError.TheVariants.{Archive, IndexEntryOverflow, MediumFault, OutOfMemory}
+
+-- an add is an id and bytes
+abbrev pub Adds : Type 0
+Adds = List (ℕ × List ℕ)
+
+-- whether bytes can be added: fewer than 2^32, and the data doesn't end past u64
+unfoldable pub has_room : Options → Adds → ℕ → List ℕ → Bool
+has_room o done id bytes = nat_lt (length bytes) (2 ^ 32) && nat_lt (data_end o (add_to done id bytes)) (2 ^ 64)
+
+-- the same bytes at ids in order
+abbrev pub put_all : Options → List ℕ → Adds → List ℕ → Result Adds ExtractError
+put_all o bytes done [] = Ok done
+put_all o bytes done (id ∷ ids) = elim (has_room o done id bytes) [ true ↦ put_all o bytes (add_to done id bytes) ids | false ↦ Err IndexEntryOverflow ]
+
+abbrev pub ids_of : Entry → List ℕ
+ids_of p = range_with_len p.tile_id p.run_length
+
+abbrev pub put_next : (Adds → Result Adds ExtractError) → Result Adds ExtractError → Result Adds ExtractError
+put_next f (Ok done) = f done
+put_next f (Err e) = Err e
+
+-- the contents of each part, read where the header says, at its ids
+abbrev pub put_parts : Options → Header → List ℕ → List Entry → Adds → Result Adds ExtractError
+put_parts o h b [] done = Ok done
+put_parts o h b (p ∷ ps) done = elim (range_of b (h.data_offset + p.offset) p.length) [
+  | None ↦ Err (Archive (errors.Reading causes.PastEnd))
+  | Some bytes ↦ put_next (put_parts o h b ps) (put_all o bytes done (ids_of p))
+]
+
+-- adds by strictly rising id, from an id on
+abbrev pub Rises : ℕ → Adds → Type 0
+Rises low [] = Unit {0}
+Rises low (a ∷ adds) = (low ≤ a.0) × Rises (a.0 + 1) adds
+
+-- adds by strictly rising id that all end before an id, as do others from there on behind them
+abbrev pub EndsBy : Adds → ℕ → Type 0
+EndsBy adds end = (more : Adds) → Rises end more → Rises 0 (adds ++ more)
+
+-- What adding the same bytes at ids leaves. A fault and want of memory may come in the place of each answer.
+abbrev pub Puts : Options → List ℕ → Adds → List ℕ → Option (List ℕ) → WriterState → Result Unit ExtractError → Type 0
+Puts o bytes done ids told s (Ok x) = (more : Adds) × (put_all o bytes done ids ≡ Ok more) × Writes o told s more
+Puts o bytes done ids told s (Err IndexEntryOverflow) = put_all o bytes done ids ≡ Err IndexEntryOverflow
+Puts o bytes done ids told s (Err MediumFault) = Unit {0}
+Puts o bytes done ids told s (Err OutOfMemory) = Unit {0}
+Puts o bytes done ids told s (Err e) = ⊥
+
+-- Over told bytes of the source: a refusal is that of the parts. A fault may come in its place, and a wrong number of bytes never does.
+abbrev pub PartsRefuse : Result Adds ExtractError → ExtractError → Type 0
+PartsRefuse r (Archive (errors.Reading causes.Fault)) = Unit {0}
+PartsRefuse r (Archive (errors.UnexpectedNumberOfBytesReturned asked got)) = ⊥
+PartsRefuse r (Archive e) = r ≡ Err (Archive e)
+PartsRefuse r IndexEntryOverflow = r ≡ Err IndexEntryOverflow
+PartsRefuse r MediumFault = Unit {0}
+PartsRefuse r OutOfMemory = Unit {0}
+PartsRefuse r e = ⊥
+
+-- what adding parts leaves: the adds that they come to, where the source tells, and in any case such as rise
+pub record PartsAdded (o : Options) (h : Header) (source : Option (List ℕ)) (ps : List Entry) (told : Option (List ℕ)) (s : WriterState) : Type 0 where
+  pub more : Adds
+  pub writes : Writes o told s more
+  pub rises : Rises 0 more
+  pub are : IfSome source (λ b. put_parts o h b ps [] ≡ Ok more)
+
+abbrev pub PartsPut : Options → Header → Option (List ℕ) → List Entry → Option (List ℕ) → WriterState → Result Unit ExtractError → Type 0
+PartsPut o h source ps told s (Ok x) = PartsAdded o h source ps told s
+PartsPut o h source ps told s (Err e) = IfSome source (λ b. PartsRefuse (put_parts o h b ps []) e)
+
+-- the extraction's words for a refusal of the writer, and of the reader
+abbrev pub of_write_error : PmtError → ExtractError
+of_write_error errors.OutOfMemory = OutOfMemory
+of_write_error errors.IndexEntryOverflow = IndexEntryOverflow
+of_write_error e = MediumFault
+
+abbrev pub of_read_error : PmtError → ExtractError
+of_read_error errors.OutOfMemory = OutOfMemory
+of_read_error e = Archive e
+
+-- bytes that are the archive of the adds of parts
+pub record IsArchiveOf (o : Options) (h : Header) (source : Option (List ℕ)) (ps : List Entry) (whole : List ℕ) : Type 0 where
+  pub adds : Adds
+  pub rises : Rises 0 adds
+  pub one : whole ≡ archive o adds
+  pub are : IfSome source (λ b. put_parts o h b ps [] ≡ Ok adds)
+
+-- no part of it is shown
+abbrev pub ShowsNone : Options → Header → Option (List ℕ) → List Entry → List ℕ → Type 0
+ShowsNone o h source ps b = IsHidden b ⊎ IsArchiveOf o h source ps b
+
+-- what writing parts comes to
+pub record IsWritten (o : Options) (h : Header) (source : Option (List ℕ)) (ps : List Entry) (told : Option (List ℕ)) (p : ArchivePlaces) : Type 0 where
+  pub adds : Adds
+  pub rises : Rises 0 adds
+  pub fits : IsArchivable o adds
+  pub one : IfSome told (λ b. b ≡ archive o adds)
+  pub places : p ≡ places_of o adds
+  pub are : IfSome source (λ b. put_parts o h b ps [] ≡ Ok adds)
+
+-- the data of parts would end past u64, or their archive doesn't fit
+abbrev pub PartsOverflow : Options → Header → List Entry → List ℕ → Type 0
+PartsOverflow o h ps b = (put_parts o h b ps [] ≡ Err IndexEntryOverflow) ⊎ ((adds : Adds) × (put_parts o h b ps [] ≡ Ok adds) × (ArchiveFits o adds → ⊥))
+
+abbrev pub WritesParts : Options → Header → Option (List ℕ) → List Entry → Option (List ℕ) → Result ArchivePlaces ExtractError → Type 0
+WritesParts o h source ps told (Ok p) = IsWritten o h source ps told p
+WritesParts o h source ps told (Err IndexEntryOverflow) = IfSome source (PartsOverflow o h ps)
+WritesParts o h source ps told (Err (Archive e)) = IfSome source (λ b. PartsRefuse (put_parts o h b ps []) (Archive e)) × IfSome told IsHidden
+WritesParts o h source ps told (Err e) = Unit {0}
+
+-- Told or not, why: a fault of the source or the medium comes where its count of faults rose, other numbers of bytes only where they differ, and no other refusal comes.
+abbrev pub WriteCauses : {A : Type 0} → ℕ → ℕ → ℕ → ℕ → Result A ExtractError → Type 0
+WriteCauses before now old new (Ok x) = Unit {0}
+WriteCauses before now old new (Err (Archive (errors.Reading causes.Fault))) = Rose before now
+WriteCauses before now old new (Err (Archive (errors.Reading causes.PastEnd))) = Unit {0}
+WriteCauses before now old new (Err (Archive (errors.UnexpectedNumberOfBytesReturned asked got))) = asked ≢ got
+WriteCauses before now old new (Err IndexEntryOverflow) = Unit {0}
+WriteCauses before now old new (Err MediumFault) = Rose old new
+WriteCauses before now old new (Err OutOfMemory) = Unit {0}
+WriteCauses before now old new (Err e) = ⊥

@@ -1,0 +1,56 @@
+// The ids of what lies below a tile, zoom by zoom.
+ghost use Rattle.std.specs.Prelude.{◌≡◌, ◌≤◌, IfOk};
+ghost use Rattle.tile_extract.specs.Collecting.{AreApart};
+ghost use Rattle.tile_extract.specs.Cut.{intervals};
+ghost use Rattle.tile_extract.specs.Met.{is_below, is_met};
+
+use std::alloc::Global;
+use tile_ids::{OutOfMemory, TileCoord, subtree_interval};
+
+/// The first and the last id of a tile's descendants at each zoom from its own to another, up to 31.
+pub(crate) fn intervals_of(
+    alloc: Global,
+    root: TileCoord,
+    max_zoom: u8,
+) -> Result<Vec<(u64, u64)>, OutOfMemory>
+    requires least { root.z ≤ max_zoom }
+    requires most { max_zoom ≤ 31 }
+    ensures are { IfOk result (λ found. found.items ≡ intervals root max_zoom) }
+    ensures apart { IfOk result (λ found. AreApart 0 found.items) }
+{
+    let mut found = Vec::new(alloc);
+    for zoom in root.z()..max_zoom + 1 {
+        let Some((first, last)) = subtree_interval(root, zoom) else {
+            unreachable!();
+        };
+        found.push((first.value(), last.value()))?;
+    }
+    Ok(found)
+}
+
+/// Whether some id from the first one on and below an end, where there is one, lies in an interval.
+pub(crate) fn is_met(intervals: &[(u64, u64)], first: u64, end: Option<u64>) -> bool
+    ensures { result ≡ is_met intervals.now first end }
+{
+    if !is_below(end, first) {
+        return false;
+    }
+    let mut rest = intervals;
+    while let Some((interval, others)) = rest.split_first() {
+        if first <= interval.1 && is_below(end, interval.0) {
+            return true;
+        }
+        rest = others;
+    }
+    false
+}
+
+/// Whether an id lies below an end, where there is one.
+pub(crate) fn is_below(end: Option<u64>, id: u64) -> bool
+    ensures { result ≡ is_below end id }
+{
+    match end {
+        None => true,
+        Some(end) => id < end,
+    }
+}

@@ -1,0 +1,13 @@
+//! Archives of one subtree: the tiles of an archive among a tile and its descendants down to a zoom.
+#![tactic(auto)]
+
+mod collection;
+mod error;
+mod intervals;
+mod parts;
+mod walk;
+mod writing;
+
+pub use collection::{collect, options_from};
+pub use error::ExtractError;
+pub use writing::write_parts;

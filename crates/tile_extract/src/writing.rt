@@ -1,0 +1,138 @@
+// The tiles of parts, written to a medium.
+ghost use Rattle.std.specs.Prelude.{◌≡◌, ◌+◌, ◌≤◌, ℕ, List, [], Option, false, IfSome, OnOk, IsErrOf, is_some, None};
+ghost use Rattle.tile_ids.specs.Counts.{Rose};
+ghost use Rattle.tile_ids.specs.declared.id.TheConstants.{MAX_TILE_ID};
+ghost use Rattle.pm_format.specs.Options.{Options};
+ghost use Rattle.pm_format.specs.declared.compression.Compression.TheVariants as compression;
+ghost use Rattle.pm_reader.specs.Opening.{header_of};
+ghost use Rattle.pm_reader.specs.Reads.{ReadsOnly};
+ghost use Rattle.pm_writer.specs.Pieces.{IsHidden};
+ghost use Rattle.pm_writer.specs.Writing.{Writes, has_failed};
+ghost use Rattle.tile_extract.specs.Collecting.{AreOrdered};
+ghost use Rattle.tile_extract.specs.Written.{PartsPut, Puts, ShowsNone, WriteCauses, WritesParts, ids_of, of_read_error, of_write_error};
+
+use crate::ExtractError;
+use pm_format::{Backend, DirEntry, Medium, PmtError};
+use pm_reader::ReaderState;
+use pm_writer::{ArchivePlaces, PmTilesWriter, WriterState};
+use std::alloc::Global;
+
+/// The extraction's word for the error of a writer.
+fn of_writer(error: PmtError) -> ExtractError
+    ensures { result ≡ of_write_error error }
+{
+    match error {
+        PmtError::OutOfMemory => ExtractError::OutOfMemory,
+        PmtError::IndexEntryOverflow => ExtractError::IndexEntryOverflow,
+        _ => ExtractError::MediumFault,
+    }
+}
+
+/// The extraction's word for the error of a reader.
+pub(crate) fn of_reader(error: PmtError) -> ExtractError
+    ensures { result ≡ of_read_error error }
+{
+    match error {
+        PmtError::OutOfMemory => ExtractError::OutOfMemory,
+        error => ExtractError::Archive(error),
+    }
+}
+
+// Adds the contents of a part at each of its ids.
+fn add_part<M: Medium>(
+    writer: &mut WriterState,
+    medium: &mut M,
+    part: DirEntry,
+    bytes: &[u8],
+) -> Result<(), ExtractError>
+    requires writes { (o : Options) × (done : List (ℕ × List ℕ)) × Writes o (M.told medium.old) writer.old done }
+    requires alive { has_failed writer.old ≡ false }
+    requires within { part.tile_id + part.run_length ≤ MAX_TILE_ID + 1 }
+    ensures added { (o : Options) (done : List (ℕ × List ℕ)) → Writes o (M.told medium.old) writer.old done → Puts o bytes.now done (ids_of part) (M.told medium.new) writer.new result }
+    ensures writes { (o : Options) × (done : List (ℕ × List ℕ)) × Writes o (M.told medium.new) writer.new done }
+    ensures alive { OnOk result (has_failed writer.new ≡ false) }
+    ensures fault { IsErrOf result ExtractError.MediumFault → Rose (M.faults medium.old) (M.faults medium.new) }
+    ensures tells { is_some (M.told medium.new) ≡ is_some (M.told medium.old) }
+    ensures faults { M.faults medium.old ≤ M.faults medium.new }
+    ensures counted { M.reads medium.new ≡ M.reads medium.old }
+    ensures calm { M.steady medium.old → M.steady medium.new × (M.faults medium.new ≡ M.faults medium.old) }
+{
+    for id in part.iter_coords() {
+        match writer.add_raw_tile_by_id(medium, id, bytes) {
+            Ok(()) => {}
+            Err(error) => return Err(of_writer(error)),
+        }
+    }
+    Ok(())
+}
+
+// Adds the contents of parts at their ids, in order. The contents of each part are read once.
+fn add_parts<B: Backend, M: Medium>(
+    writer: &mut WriterState,
+    medium: &mut M,
+    reader: &ReaderState,
+    source: &mut B,
+    parts: &[DirEntry],
+) -> Result<(), ExtractError>
+    requires writes { (o : Options) × Writes o (M.told medium.old) writer.old [] }
+    requires alive { has_failed writer.old ≡ false }
+    requires ordered { AreOrdered 0 parts.now None }
+    ensures added { (o : Options) → Writes o (M.told medium.old) writer.old [] → PartsPut o (header_of reader.now) (B.told source.old) parts.now (M.told medium.new) writer.new result }
+    ensures writes { (o : Options) × (done : List (ℕ × List ℕ)) × Writes o (M.told medium.new) writer.new done }
+    ensures alive { OnOk result (has_failed writer.new ≡ false) }
+    ensures causes { WriteCauses (B.faults source.old) (B.faults source.new) (M.faults medium.old) (M.faults medium.new) result }
+    ensures kept { ReadsOnly B.told B.versions B.faults B.steady source.old source.new }
+    ensures tells { is_some (M.told medium.new) ≡ is_some (M.told medium.old) }
+    ensures faults { M.faults medium.old ≤ M.faults medium.new }
+    ensures counted { M.reads medium.new ≡ M.reads medium.old }
+    ensures calm { M.steady medium.old → M.steady medium.new × (M.faults medium.new ≡ M.faults medium.old) }
+{
+    let mut rest = parts;
+    while let Some((part, others)) = rest.split_first() {
+        let bytes = match reader.read_contents(source, part.offset(), part.length()) {
+            Ok(bytes) => bytes,
+            Err(error) => return Err(of_reader(error)),
+        };
+        match add_part(writer, medium, *part, bytes.as_slice()) {
+            Ok(()) => {}
+            Err(error) => return Err(error),
+        }
+        rest = others;
+    }
+    Ok(())
+}
+
+/// Writes the archive of parts with options to an empty medium. The options label directories `None`.
+pub fn write_parts<B: Backend, M: Medium>(
+    alloc: Global,
+    options: &PmTilesWriter,
+    reader: &ReaderState,
+    source: &mut B,
+    parts: &[DirEntry],
+    medium: &mut M,
+) -> Result<ArchivePlaces, ExtractError>
+    requires empty { IfSome (M.told medium.old) (λ b. b ≡ []) }
+    requires plain { options.now.internal_compression ≡ compression.None }
+    requires ordered { AreOrdered 0 parts.now None }
+    ensures written { WritesParts options.now (header_of reader.now) (B.told source.old) parts.now (M.told medium.new) result }
+    ensures shown { IfSome (M.told medium.new) (ShowsNone options.now (header_of reader.now) (B.told source.old) parts.now) }
+    ensures causes { WriteCauses (B.faults source.old) (B.faults source.new) (M.faults medium.old) (M.faults medium.new) result }
+    ensures kept { ReadsOnly B.told B.versions B.faults B.steady source.old source.new }
+    ensures tells { is_some (M.told medium.new) ≡ is_some (M.told medium.old) }
+    ensures faults { M.faults medium.old ≤ M.faults medium.new }
+    ensures counted { M.reads medium.new ≡ M.reads medium.old }
+    ensures calm { M.steady medium.old → M.steady medium.new × (M.faults medium.new ≡ M.faults medium.old) }
+{
+    let mut writer = match options.start(alloc, medium) {
+        Ok(writer) => writer,
+        Err(error) => return Err(of_writer(error)),
+    };
+    match add_parts(&mut writer, medium, reader, source, parts) {
+        Ok(()) => {}
+        Err(error) => return Err(error),
+    }
+    match writer.finalize(medium) {
+        Ok(places) => Ok(places),
+        Err(error) => Err(of_writer(error)),
+    }
+}
