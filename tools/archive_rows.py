@@ -6,6 +6,7 @@ import random
 
 import pmtiles as pm
 import shown
+from hashes import xxh3
 from rows import Rows, entry, extent, option, text_word, word
 
 U32, U64 = 2 ** 32, 2 ** 64
@@ -65,7 +66,7 @@ def written(way, adds, calls=None, metadata=b'{}', **options):
     data, h = pm.archive(real, metadata, **options)
     row(words, *['Ok(())'] * len(adds), f'Ok({places(h)})')
     held(data)
-    row(f'medium part 127 {h["root_length"]}', word(data[127:127 + h['root_length']]))
+    row(f'medium part 127 {h["root_length"]}', 'x' + data[127:127 + h['root_length']].hex())
     ids = sorted({t for t, _ in real} | {0, 1, 7, pm.LAST})
     row('read none tiles ' + ' '.join(map(str, ids)), *(tile(data, t) for t in ids))
     row('read bytes entries 9', *(f'Ok({entry(e)})' for e in pm.walk(data, 9)))
@@ -94,6 +95,22 @@ def few_tiles():
             ids.sort()
         adds = [(chance.choice(['raw', 'plain']), t, chance.choice([b'', b'a', b'a', b'b', b'ab', LONG])) for t in ids]
         written(chance.choice(['create', 'over', 'start']), adds)
+
+
+def one_digest():
+    """Contents of one XXH3 digest: where eight bytes are the secret's first ones, the eight behind them don't count."""
+    alike = [bytes.fromhex('b8fe6c3923a44bbe') + b'%08d' % i + b'the same last 16' for i in range(60)]
+    assert len({xxh3(content) for content in alike}) == 1
+    row('writer new 0')
+    for way in ('create', 'over', 'start'):
+        written(way, [('raw', t, alike[t % 7]) for t in range(30)])
+        written(way, [('raw', t, alike[-t % 60]) for t in range(120)])
+        written(way, [('raw', t, [alike[0], LONG, alike[5], OTHER, alike[5]][t % 5]) for t in range(10, 0, -1)])
+        front = '0 ' if way == 'start' else ''
+        adds = '4 ' + ' '.join(f'raw {t} {word(alike[t])}' for t in (0, 1, 2, 1))
+        for call, answers in [(3, [FAULT] + [FAILED] * 4), (4, ['Ok(())', FAULT] + [FAILED] * 3), (5, ['Ok(())'] * 2 + [FAULT, FAILED, FAILED])]:
+            row(f'write {way} {call} {front}{adds}', *answers)
+            row('medium part 97 1', 'x00')
 
 
 def labels():
@@ -689,7 +706,7 @@ def large():
 
 
 def main():
-    for rows in (few_tiles, labels, options, faults, bulk, one_tile, versions, failing_reads, one_changed_field, hostile_table, leaf_cycle, checks, parts, documents, deep, random_archives,
+    for rows in (few_tiles, one_digest, labels, options, faults, bulk, one_tile, versions, failing_reads, one_changed_field, hostile_table, leaf_cycle, checks, parts, documents, deep, random_archives,
                  caches, large):
         rows()
     ROWS.write()

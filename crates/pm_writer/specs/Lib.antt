@@ -2,8 +2,6 @@ pub mod Adds
 pub mod Archive
 pub mod Bounds
 pub mod Few
-pub mod ContentOrder
-pub mod ContentLaws
 pub mod Contents
 pub mod Growing
 pub mod Leaves

@@ -6,16 +6,17 @@ ghost use Rattle.tile_ids.specs.Hilbert.{id_of};
 ghost use Rattle.pm_format.specs.Options.{Options};
 ghost use Rattle.pm_format.specs.declared.compression.Compression.TheVariants as compression;
 ghost use Rattle.pm_writer.specs.Causes.{AddCauses, failed_after};
+ghost use Rattle.pm_writer.specs.Means.{Means};
 ghost use Rattle.pm_writer.specs.Writing.{AddFits, FilledFits, IsStateOf, Writes, add_to, has_failed};
 
 use crate::WriterState;
-use crate::content::Content;
 use pm_format::{Compression, Medium, PmtError, PmtResult, ReadCause, WriteFault};
 use tile_ids::{TileCoord, TileId};
 
 impl WriterState {
-    // Whether bytes can be added: new ones don't end past u64. It takes no memory, and goes through the contents only where new bytes would end past u64.
+    // Whether bytes can be added: new ones don't end past u64. It takes no memory, and looks among the contents only where new bytes would end past u64.
     fn fits(&self, bytes: &[u8], size: u32) -> bool
+        requires means { (adds : List (ℕ × List ℕ)) × Means self.now.adds adds }
         requires ends { self.now.data_offset + self.now.adds.contents.total < 2 ^ 64 }
         requires size { size ≡ length bytes.now }
         ensures { (o : Options) (adds : List (ℕ × List ℕ)) (id : ℕ) → IsStateOf o self.now adds → Decides result (FilledFits o adds id bytes.now) }
@@ -50,8 +51,10 @@ impl WriterState {
         if !self.fits(bytes, size) {
             return Err(PmtError::IndexEntryOverflow);
         }
-        let content = Content::new(self.alloc, bytes)?;
-        match self.adds.add(medium, self.data_offset, id, content, size) {
+        match self
+            .adds
+            .add(self.alloc, medium, self.data_offset, id, bytes, size)
+        {
             Ok(()) => Ok(()),
             Err(WriteFault::OutOfMemory) => Err(PmtError::OutOfMemory),
             Err(WriteFault::Fault) => {

@@ -12,7 +12,6 @@ ghost use Rattle.pm_writer.specs.Growing.{grows, put};
 ghost use Rattle.pm_writer.specs.Means.{Means, is_above};
 ghost use Rattle.pm_writer.specs.Pieces.{LeavesPiece};
 
-use crate::content::Content;
 use crate::contents::Contents;
 use pm_format::{DirEntry, Medium, WriteFault};
 use std::alloc::{AllocError, Global};
@@ -81,8 +80,9 @@ impl Adds {
         }
     }
 
-    /// Whether the contents have these bytes. It goes through all of them, and takes no memory.
+    /// Whether the contents have these bytes. It takes no memory.
     pub(crate) fn has(&self, bytes: &[u8]) -> bool
+        requires { (adds : List (ℕ × List ℕ)) × Means self.now adds }
         ensures { (adds : List (ℕ × List ℕ)) → Means self.now adds → result ≡ is_some (found_in (contents_from [] adds) bytes.now) }
     {
         self.contents.has(bytes)
@@ -119,25 +119,26 @@ impl Adds {
         Ok(())
     }
 
-    /// Adds a content. Where it is new it is written behind the others on a medium, on which they lie from a place on. Memory is taken before anything is
+    /// Adds bytes. New ones are written behind the others on a medium, on which they lie from a place on. Memory is taken before anything is
     /// written. Refused, the adds are as before.
     pub(crate) fn add<M: Medium>(
         &mut self,
+        alloc: Global,
         medium: &mut M,
         from: u64,
         id: u64,
-        content: Content,
+        bytes: &[u8],
         size: u32,
     ) -> Result<(), WriteFault>
         requires id { id ≤ MAX_TILE_ID }
-        requires some { 0 < length content }
-        requires size { size ≡ length content }
+        requires some { 0 < length bytes.now }
+        requires size { size ≡ length bytes.now }
         requires within { IfSome (M.told medium.old) (IsWithin (from + self.old.contents.total)) }
-        requires room { (adds : List (ℕ × List ℕ)) × Means self.old adds × HasRoom (from + self.old.contents.total) (contents_from [] adds) content }
-        ensures added { (adds : List (ℕ × List ℕ)) → Means self.old adds → OnOk result (Means self.new (adds ++ (id, content) ∷ [])) }
+        requires room { (adds : List (ℕ × List ℕ)) × Means self.old adds × HasRoom (from + self.old.contents.total) (contents_from [] adds) bytes.now }
+        ensures added { (adds : List (ℕ × List ℕ)) → Means self.old adds → OnOk result (Means self.new (adds ++ (id, bytes.now) ∷ [])) }
         ensures kept { (adds : List (ℕ × List ℕ)) → Means self.old adds → OnErr result (Means self.new adds) }
         ensures leaves { (adds : List (ℕ × List ℕ)) → Means self.old adds
-            → LeavesPiece (from + self.old.contents.total) (fresh (contents_from [] adds) content) result (M.told medium.old) (M.told medium.new) }
+            → LeavesPiece (from + self.old.contents.total) (fresh (contents_from [] adds) bytes.now) result (M.told medium.old) (M.told medium.new) }
         ensures cause { IsErrOf result WriteFault.Fault → Rose (M.faults medium.old) (M.faults medium.new) }
         ensures tells { is_some (M.told medium.new) ≡ is_some (M.told medium.old) }
         ensures versions { is_some (M.versions medium.new) ≡ is_some (M.versions medium.old) }
@@ -146,7 +147,7 @@ impl Adds {
         ensures calm { M.steady medium.old → M.steady medium.new × (M.faults medium.new ≡ M.faults medium.old) }
     {
         self.entries.reserve(1)?;
-        let place = self.contents.put(medium, from, content)?;
+        let place = self.contents.put(alloc, medium, from, bytes)?;
         let Ok(()) = put_entry(&mut self.entries, id, place, size) else {
             unreachable!()
         };

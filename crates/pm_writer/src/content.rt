@@ -1,21 +1,14 @@
 // The bytes of a content, as a key of an ordered map.
-ghost use Rattle.std.specs.Prelude.{◌≡◌, ◌≤◌, length, IfOk};
-ghost use Rattle.pm_writer.specs.ContentOrder.{front_of, spelled};
+ghost use Rattle.std.specs.Prelude.{◌≡◌, IfOk};
 
-use smallvec::SmallVec;
-use std::alloc::Global;
+use std::alloc::{AllocError, Global};
 use std::cmp::Ordering;
 use std::marker::Model;
-use tile_ids::OutOfMemory;
 
-/// The bytes of a content, which lie in the key itself where they are few. They are ordered by the first eight of them, which are kept as a number, then
-/// by their length, and then by all of them: mostly one comparison of two numbers. Greater numbers come first, since the map looks through a node from its
-/// front: contents that rise, as numbered ones do, are then found with the fewest comparisons.
+/// The bytes of a content, which are compared as lists of numbers.
 #[derive(Drop)]
 pub(crate) struct Content {
-    bytes: SmallVec<u8, 16>,
-    front: u64,
-    ghost front_is: { front ≡ front_of bytes.items },
+    bytes: Vec<u8>,
 }
 
 impl Model for Content {
@@ -26,37 +19,13 @@ impl Model for Content {
     ghost view = { λ c. c.bytes.items };
 }
 
-// The number that at most eight bytes spell, the first of them counting most.
-fn spelled(bytes: &[u8]) -> u64
-    requires { length bytes.now ≤ 8 }
-    ensures { result ≡ spelled 0 bytes.now }
-{
-    let mut number: u64 = 0;
-    for byte in bytes {
-        number = 256 * number + u64::from(*byte);
-    }
-    number
-}
-
-// The first eight bytes as a number, or all where there are fewer.
-fn front_of(bytes: &[u8]) -> u64
-    ensures { result ≡ front_of bytes.now }
-{
-    if bytes.len() < 8 {
-        spelled(bytes)
-    } else {
-        spelled(&bytes[..8])
-    }
-}
-
 impl Content {
     /// A copy of these bytes.
-    pub(crate) fn new(alloc: Global, bytes: &[u8]) -> Result<Content, OutOfMemory>
+    pub(crate) fn new(alloc: Global, bytes: &[u8]) -> Result<Content, AllocError>
         ensures { IfOk result (λ c. c ≡ bytes.now) }
     {
         Ok(Content {
-            front: front_of(bytes),
-            bytes: SmallVec::from_slice(alloc, bytes)?,
+            bytes: Vec::from_slice(alloc, bytes)?,
         })
     }
 
@@ -89,13 +58,13 @@ impl Eq for Content {
 }
 
 impl PartialOrd for Content {
-    ghost use Rattle.std.specs.Ordering.{as_partial_cmp};
-    ghost use Rattle.pm_writer.specs.ContentOrder.{content_cmp};
-    ghost use Rattle.pm_writer.specs.ContentLaws.{contents_ordered};
+    ghost use Rattle.std.specs.Prelude.{Some};
+    ghost use Rattle.std.specs.Cmp.Lexicographic.{texts_po};
+    ghost use Rattle.pm_writer.specs.Contents.{content_cmp};
 
-    ghost partial_cmp = { as_partial_cmp content_cmp };
+    ghost partial_cmp = { λ x y. Some (content_cmp x y) };
 
-    ghost laws = { contents_ordered };
+    ghost laws = { texts_po };
 
     fn partial_cmp(&self, other: &Self) -> Option<Ordering> {
         Some(self.cmp(other))
@@ -103,28 +72,19 @@ impl PartialOrd for Content {
 }
 
 impl Ord for Content {
-    ghost use Rattle.pm_writer.specs.ContentOrder.{content_cmp};
-    ghost use Rattle.pm_writer.specs.ContentLaws.{contents_total, contents_tied};
-    ghost use Rattle.std.proofs.Common.{rules};
-    ghost use Rattle.std.specs.Cmp.Rules.{comparing};
+    ghost use Rattle.std.specs.Prelude.{refl};
+    ghost use Rattle.std.specs.Cmp.Lexicographic.{nat_list_cmp_total, texts_ties};
+    ghost use Rattle.pm_writer.specs.Contents.{content_cmp};
 
     ghost cmp = { content_cmp };
 
-    ghost total = { contents_total };
+    ghost total = { nat_list_cmp_total };
 
-    ghost matches_partial_cmp = { Prim.search (comparing, rules) };
+    ghost matches_partial_cmp = { λ x y. refl };
 
-    ghost matches_eq = { contents_tied };
+    ghost matches_eq = { texts_ties };
 
     fn cmp(&self, other: &Self) -> Ordering {
-        let by_front = other.front.cmp(&self.front);
-        if by_front.is_ne() {
-            return by_front;
-        }
-        let by_length = self.bytes.len().cmp(&other.bytes.len());
-        if by_length.is_ne() {
-            return by_length;
-        }
         self.as_bytes().cmp(other.as_bytes())
     }
 }

@@ -1,8 +1,6 @@
-use Rattle.std.proofs.Common.{◌≡◌, ◌+◌, [], ◌∷◌, ◌++◌, refl, sym, subst}
-use Rattle.pm_format.specs.Media.{written}
+use Rattle.std.proofs.Common.{◌+◌, [], refl}
 use Rattle.pm_writer.specs.Adds.{contents_from}
-use Rattle.pm_writer.specs.Contents.{HasRoom, fresh}
-use Rattle.pm_writer.specs.Means.{Means}
+use Rattle.pm_writer.specs.Contents.{fresh}
 use Rattle.pm_writer.specs.Pieces.{BothTold, WroteFront}
 use Rattle.pm_writer.specs.Writing.{IsStateOf}
 use Rattle.pm_writer.proofs.AddedBytes.{added_writes, end_is, ends_at, failed_writes, room_for, within_end}
@@ -21,8 +19,7 @@ add-requires-clause-room g c =
     let state : IsStateOf o c.args.self.now adds = record { of = c.requires.writes.2.of; means = h.means; ends = h.ends } in
     let end = c.args.self.now.data_offset + c.args.self.now.adds.contents.total in
     let fits = (c.fits.ensures o adds c.args.id state).0 c.if-not-fits.false in
-    let room = room_for o adds c.args.id end c.args.bytes.now fits (end_is o c.args.self.now adds state) in
-    (adds, h.means, subst (HasRoom end (contents_from [] adds)) (sym c.in_ok-content.ensures) room)
+    (adds, h.means, room_for o adds c.args.id end c.args.bytes.now fits (end_is o c.args.self.now adds state))
 
 pub returns-in-Ok-add-clause-added : goal.returns-in-Ok-add-clause-added
 returns-in-Ok-add-clause-added g c = λ o adds w.
@@ -30,12 +27,9 @@ returns-in-Ok-add-clause-added g c = λ o adds w.
     let state : IsStateOf o c.args.self.now adds = record { of = w.of; means = h.means; ends = h.ends } in
     let at = c.args.self.now.data_offset + c.args.self.now.adds.contents.total in
     let fits = (c.fits.ensures o adds c.args.id state).0 c.if-not-fits.false in
-    let same = c.in_ok-content.ensures in
-    let means = subst (λ z. Means c.add.new.self (adds ++ (c.args.id, z) ∷ [])) same (c.in-Ok-add.ensures.added adds h.means) in
     let t0 = g.M.Backend.told c.args.medium.now in
     let t1 = g.M.Backend.told c.add.new.medium in
-    let wrote = subst (λ z. BothTold (λ b d. d ≡ written b at (fresh (contents_from [] adds) z)) t0 t1) same (c.in-Ok-add.ensures.leaves adds h.means) in
-    added_writes o adds t0 t1 c.args.self.now c.add.new.self c.args.id at c.args.bytes.now w c.requires.alive (end_is o c.args.self.now adds state) fits means wrote
+    added_writes o adds t0 t1 c.args.self.now c.add.new.self c.args.id at c.args.bytes.now w c.requires.alive (end_is o c.args.self.now adds state) fits (c.in-Ok-add.ensures.added adds h.means) (c.in-Ok-add.ensures.leaves adds h.means)
 
 pub returns-in-Err-Fault-clause-kept : goal.returns-in-Err-Fault-clause-kept
 returns-in-Err-Fault-clause-kept g c = λ o adds w.
@@ -43,6 +37,6 @@ returns-in-Err-Fault-clause-kept g c = λ o adds w.
     let at = c.args.self.now.data_offset + c.args.self.now.adds.contents.total in
     let t0 = g.M.Backend.told c.args.medium.now in
     let t1 = g.M.Backend.told c.add.new.medium in
-    let piece = fresh (contents_from [] adds) c.in_ok-content.content in
+    let piece = fresh (contents_from [] adds) c.args.bytes.now in
     let wrote : BothTold (WroteFront at piece) t0 t1 = rw c.in-Err-Fault.field-0-is at (c.in-Err-Fault.ensures.leaves adds h.means) in
     failed_writes o adds t0 t1 c.args.self.now c.add.new.self at piece w c.requires.alive (ends_at o t0 c.args.self.now adds c.args.self.now.adds.contents.total w c.requires.alive refl) wrote
