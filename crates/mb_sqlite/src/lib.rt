@@ -4,6 +4,7 @@
 mod cursor;
 mod failure;
 mod layout;
+mod making;
 mod query;
 mod reading;
 mod rows;

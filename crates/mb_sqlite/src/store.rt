@@ -1,19 +1,18 @@
 // A store over a database.
-ghost use Rattle.std.specs.Prelude.{◌≡◌, ◌≤◌, false, true, [], All, IfOk, IfSome, IsErrOf, OnErr, OnOk, length};
+ghost use Rattle.std.specs.Prelude.{◌≡◌, ◌⊎◌, ◌≤◌, false, true, [], All, IfOk, IfSome, IsErrOf, OnErr, OnOk, length};
 ghost use Rattle.tile_ids.specs.Counts.{Rose};
 ghost use Rattle.mb_tables.specs.Schema.{set_tables};
 ghost use Rattle.mb_tables.specs.Described.{is_table};
 ghost use Rattle.mb_tables.specs.Table.{width};
-ghost use Rattle.sqlite.specs.Held.{state};
-ghost use Rattle.sqlite.specs.State.{HasCleanDisk};
-ghost use Rattle.mb_sqlite.specs.Committing.{CommitsNothing, CommitsOnce, KeepsCommitted};
+ghost use Rattle.mb_sqlite.specs.Committing.{CommitsNothing, CommitsOnce, IsReady, KeepsCommitted, MakesChanges, OnceReady, RefusesChanges, Sees};
 ghost use Rattle.mb_sqlite.specs.Cursor.{cursor_start};
-ghost use Rattle.mb_sqlite.specs.Reading.{ArePaged, IsCounted, IsFound, Within};
+ghost use Rattle.mb_sqlite.specs.Making.{AreChanged, AreMade, begun};
+ghost use Rattle.mb_sqlite.specs.Reading.{ArePaged, IsCounted, IsFound};
 
 use crate::cursor::Cursor;
 use crate::failure::{Failure, counted};
 use crate::layout::has_table;
-use crate::{reading, writing};
+use crate::{making, reading, writing};
 use mb_store::{Changes, StoreError, TileStore};
 use mb_tables::{MbtType, Row, RowKey, TableDesc, TableName, set_tables};
 use sqlite::{Alter, Connection};
@@ -84,7 +83,8 @@ impl<S: Alter> SqliteStore<S> {
     fn begin(&mut self) -> Result<(), Failure>
         ensures made { OnOk result (self.new.is_made ≡ true) }
         ensures same { self.old.is_made ≡ true → self.new.connection ≡ self.old.connection }
-        ensures once { CommitsOnce S.Store self.old.connection self.new.connection }
+        ensures once { CommitsOnce S.Store (AreMade S.Store self.old.layout (begun self.old.connection)) self.old.connection self.new.connection }
+        ensures ready { OnOk result (IsReady S.Store self.old.layout self.old.is_made self.old.connection self.new.connection) }
         ensures layout { self.new.layout ≡ self.old.layout }
         ensures cursor { self.new.cursor ≡ self.old.cursor }
         ensures faults { self.new.faults ≡ self.old.faults }
@@ -93,7 +93,7 @@ impl<S: Alter> SqliteStore<S> {
             return Err(Failure::Fault);
         }
         if !self.is_made {
-            writing::make(&mut self.connection, self.layout)?;
+            making::make(&mut self.connection, self.layout)?;
             self.is_made = true;
         }
         Ok(())
@@ -110,8 +110,12 @@ impl<S: Alter> SqliteStore<S> {
 
     fn counted_rows(&mut self, table: TableName) -> Result<u64, Failure>
         ensures survives { self.old.is_made ≡ true → CommitsNothing S.Store self.old.connection self.new.connection }
+        ensures once { CommitsOnce S.Store (AreMade S.Store self.old.layout (begun self.old.connection)) self.old.connection self.new.connection }
         ensures undescribed { is_table (set_tables self.old.layout) table ≡ false → IfOk result (λ count. count ≡ 0) }
-        ensures counted { self.old.is_made ≡ true → is_table (set_tables self.old.layout) table ≡ true → HasCleanDisk (state S.Store self.new.connection) → IfOk result (λ count. Within self.old.connection (λ old seen. IsCounted S.Store table old seen count)) }
+        ensures counted { is_table (set_tables self.old.layout) table ≡ true → IfOk result (λ count. OnceReady S.Store self.old.layout self.old.is_made self.old.connection (Sees S.Store (λ old seen. IsCounted S.Store table old seen count) self.new.connection)) }
+        ensures layout { self.new.layout ≡ self.old.layout }
+        ensures cursor { self.new.cursor ≡ self.old.cursor }
+        ensures made { OnOk result (self.new.is_made ≡ true) }
         ensures faults { self.new.faults ≡ self.old.faults }
     {
         self.begin()?;
@@ -132,7 +136,10 @@ impl<S: Alter> SqliteStore<S> {
         ensures limit { IfOk result (λ rows. length rows.items ≤ limit) }
         ensures undescribed { is_table (set_tables self.old.layout) table ≡ false → IfOk result (λ rows. rows.items ≡ []) }
         ensures survives { self.old.is_made ≡ true → CommitsNothing S.Store self.old.connection self.new.connection }
-        ensures paged { self.old.is_made ≡ true → is_table (set_tables self.old.layout) table ≡ true → HasCleanDisk (state S.Store self.new.connection) → IfOk result (λ rows. Within self.old.connection (λ old seen. ArePaged S.Store table old seen (cursor_start self.old.cursor table from) limit rows.items)) }
+        ensures once { CommitsOnce S.Store (AreMade S.Store self.old.layout (begun self.old.connection)) self.old.connection self.new.connection }
+        ensures paged { is_table (set_tables self.old.layout) table ≡ true → IfOk result (λ rows. OnceReady S.Store self.old.layout self.old.is_made self.old.connection (Sees S.Store (λ old seen. ArePaged S.Store table old seen (cursor_start self.old.cursor table from) limit rows.items) self.new.connection)) }
+        ensures layout { self.new.layout ≡ self.old.layout }
+        ensures made { OnOk result (self.new.is_made ≡ true) }
         ensures faults { self.new.faults ≡ self.old.faults }
     {
         self.begin()?;
@@ -157,8 +164,12 @@ impl<S: Alter> SqliteStore<S> {
     ) -> Result<Option<Row>, Failure>
         ensures widths { IfOk result (λ row. IfSome row (λ row. length row ≡ width table)) }
         ensures survives { self.old.is_made ≡ true → CommitsNothing S.Store self.old.connection self.new.connection }
+        ensures once { CommitsOnce S.Store (AreMade S.Store self.old.layout (begun self.old.connection)) self.old.connection self.new.connection }
         ensures undescribed { is_table (set_tables self.old.layout) table ≡ false → IfOk result (λ row. row ≡ None) }
-        ensures found { self.old.is_made ≡ true → is_table (set_tables self.old.layout) table ≡ true → HasCleanDisk (state S.Store self.new.connection) → IfOk result (λ row. Within self.old.connection (λ old seen. IsFound S.Store table old seen key.now row)) }
+        ensures found { is_table (set_tables self.old.layout) table ≡ true → IfOk result (λ row. OnceReady S.Store self.old.layout self.old.is_made self.old.connection (Sees S.Store (λ old seen. IsFound S.Store table old seen key.now row) self.new.connection)) }
+        ensures layout { self.new.layout ≡ self.old.layout }
+        ensures cursor { self.new.cursor ≡ self.old.cursor }
+        ensures made { OnOk result (self.new.is_made ≡ true) }
         ensures faults { self.new.faults ≡ self.old.faults }
     {
         self.begin()?;
@@ -169,18 +180,27 @@ impl<S: Alter> SqliteStore<S> {
     }
 
     fn committed(&mut self, alloc: Global, changes: &Changes) -> Result<(), Failure>
-        ensures once { self.old.is_made ≡ true → CommitsOnce S.Store self.old.connection self.new.connection }
+        ensures once { self.old.is_made ≡ true → CommitsOnce S.Store (AreChanged S.Store self.old.layout changes.now (begun self.old.connection)) self.old.connection self.new.connection }
+        ensures changed { OnOk result (OnceReady S.Store self.old.layout self.old.is_made self.old.connection (MakesChanges S.Store self.old.layout changes.now self.new.connection)) }
+        ensures unchanged { OnErr result (CommitsOnce S.Store (AreMade S.Store self.old.layout (begun self.old.connection)) self.old.connection self.new.connection ⊎ OnceReady S.Store self.old.layout self.old.is_made self.old.connection (RefusesChanges S.Store self.old.layout changes.now self.new.connection)) }
         ensures refused { self.old.is_made ≡ true → OnErr result (KeepsCommitted S.Store self.old.connection self.new.connection) }
         ensures cursor { OnOk result (self.new.cursor ≡ None) }
+        ensures layout { self.new.layout ≡ self.old.layout }
+        ensures made { OnOk result (self.new.is_made ≡ true) }
         ensures faults { self.new.faults ≡ self.old.faults }
     {
         self.begin()?;
         self.cursor = None;
-        writing::commit(alloc, &mut self.connection, self.layout, changes)
+        writing::commit(alloc, &mut self.connection, self.layout, changes)?;
+        Ok(())
     }
 
     fn size(&mut self) -> Result<u64, Failure>
         ensures survives { self.old.is_made ≡ true → CommitsNothing S.Store self.old.connection self.new.connection }
+        ensures once { CommitsOnce S.Store (AreMade S.Store self.old.layout (begun self.old.connection)) self.old.connection self.new.connection }
+        ensures layout { self.new.layout ≡ self.old.layout }
+        ensures cursor { self.new.cursor ≡ self.old.cursor }
+        ensures made { OnOk result (self.new.is_made ≡ true) }
         ensures faults { self.new.faults ≡ self.old.faults }
     {
         self.begin()?;
