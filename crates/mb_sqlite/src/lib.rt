@@ -1,6 +1,7 @@
 //! A store of tables over a database of `sqlite`.
 #![tactic(auto)]
 
+mod calls;
 mod cursor;
 mod failure;
 mod layout;
