@@ -5,13 +5,14 @@ use Rattle.sqlite.specs.declared.error.Error.{Error}
 use Rattle.sqlite.specs.Held.{Held, state}
 use Rattle.sqlite.specs.Order.{Row}
 use Rattle.sqlite.specs.Steps.{FailsToCommit}
-use Rattle.sqlite.specs.State.{HasCleanDisk, ExecutesInside, IsRolledBack, Survives}
+use Rattle.sqlite.specs.State.{HasCleanDisk, ExecutesInside, IsRolledBack, Shows, Survives}
 use Rattle.sqlite.specs.Store.{Ghosts}
 use Rattle.sqlite.specs.Tree.{Trees}
 use Rattle.sqlite.proofs.Callers.{survives_begin}
 use Rattle.sqlite.proofs.InsideLemmas.{inside_keeps, keeps_then, unchanged_keeps}
 use Rattle.sqlite.proofs.StateLemmas.{survives_then, survives_weaker}
 use Rattle.mb_sqlite.specs.Committing.{CommitsNothing, CommitsOnce, KeepsCommitted}
+use Rattle.mb_sqlite.specs.Making.{Commits, begun}
 use Rattle.mb_sqlite.specs.Reading.{Within}
 
 module _ {S : Type 0} (g : Ghosts S) where
@@ -62,15 +63,28 @@ module _ {S : Type 0} (g : Ghosts S) where
       (unchanged_keeps (state g mid) (state g end) (elim (failed clean) [ inl fails ↦ inr fails.3 | inr late ↦ inl late.2 ]))
 
   -- a transaction that is committed
-  pub done_once : (old mid end : Held S) → CommitsNothing g (record old { in_transaction = true }) mid
-      → Survives (state g mid) (state g end) (λ db. db ≡ (state g mid).now.trees) → CommitsOnce g old end
-  done_once old mid end inside last = record {
+  pub done_once : (Ends : Held S → Type 0) (old mid end : Held S) → CommitsNothing g (begun old) mid → (HasCleanDisk (state g mid) → Ends mid)
+      → Survives (state g mid) (state g end) (λ db. db ≡ (state g mid).now.trees) → CommitsOnce g Ends old end
+  done_once Ends old mid end inside ends last = record {
     made = (state g mid).now.trees;
-    survives = survives_then (state g old) (state g mid) (state g end) _ _ _ (λ _ db none. absurd none) (λ _ db is. is) (survives_begin g old (state g mid) _ inside) last;
+    survives = survives_then (state g old) (state g mid) (state g end) _ _ _ (λ _ db none. absurd none) (λ clean db is. (is, (mid, ends (omega (arith, clean, last.clean)), is))) (survives_begin g old (state g mid) _ inside) last;
   }
 
-  pub nothing_once : (old new : Held S) → CommitsNothing g old new → CommitsOnce g old new
-  nothing_once old new none = record {
+  pub nothing_once : (Ends : Held S → Type 0) (old new : Held S) → CommitsNothing g old new → CommitsOnce g Ends old new
+  nothing_once Ends old new none = record {
     made = (state g old).committed.trees;
     survives = survives_weaker (state g old) (state g new) _ _ (λ _ db no. absurd no) none;
   }
+
+  -- nothing more is committed after it
+  pub once_then : (Ends : Held S → Type 0) (a b c : Held S) → CommitsOnce g Ends a b → CommitsNothing g b c → CommitsOnce g Ends a c
+  once_then Ends a b c one two = record {
+    made = one.made;
+    survives = survives_then (state g a) (state g b) (state g c) _ _ _ (λ _ db is. is) (λ _ db no. absurd no) one.survives two;
+  }
+
+  -- what a transaction made, and was committed
+  pub commits_made : (Ends : Held S → Type 0) (mid end : Held S) (A B C : Type 0) (P : Trees → Type 0) → (HasCleanDisk (state g mid) → Ends mid) → Survives (state g mid) (state g end) P
+      → (HasCleanDisk (state g end) → A × Shows (state g mid) (state g end) (state g mid).now (state g mid).now false × B × C) → HasCleanDisk (state g end) → Commits g Ends end
+  unfolding Commits
+  commits_made Ends mid end A B C P ends last ok clean = (mid, ends (omega (arith, clean, last.clean)), (ok clean).1)

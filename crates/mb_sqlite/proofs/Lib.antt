@@ -1,2 +1,6 @@
 mod CommitLemmas
+mod PassingLemmas
 mod ReadingLemmas
+mod ReadyLemmas
+mod StepLemmas
+mod WritingLemmas

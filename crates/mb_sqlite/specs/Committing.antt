@@ -1,9 +1,13 @@
 -- What a call leaves of the database of a connection.
-use Rattle.std.specs.Prelude.{◌≡◌}
+use Rattle.std.specs.Prelude.{Bool, ◌≡◌, List, MatchBool}
 use Rattle.sqlite.specs.Held.{Held, state}
 use Rattle.sqlite.specs.State.{HasCleanDisk, KeepsCommit, Survives}
 use Rattle.sqlite.specs.Store.{Ghosts}
 use Rattle.sqlite.specs.Tree.{Trees}
+use Rattle.mb_tables.specs.declared.kind.MbtType.{MbtType}
+use Rattle.mb_store.specs.declared.change.Change.{Change}
+use Rattle.mb_sqlite.specs.Making.{AreChanged, AreMade, ArePrepared, Commits, begun}
+use Rattle.mb_sqlite.specs.Reading.{Within}
 
 -- nothing is committed: a crash leaves what it could leave before
 abbrev pub CommitsNothing : {S : Type 0} → Ghosts S → Held S → Held S → Type 0
@@ -13,7 +17,33 @@ CommitsNothing g old new = Survives (state g old) (state g new) (λ _. ⊥)
 abbrev pub KeepsCommitted : {S : Type 0} → Ghosts S → Held S → Held S → Type 0
 KeepsCommitted g old new = HasCleanDisk (state g new) → KeepsCommit (state g old) (state g new)
 
--- there is one state of the tables that is committed: a crash leaves it, or what it could leave before
-pub record CommitsOnce {S : Type 0} (g : Ghosts S) (old new : Held S) : Type 0 where
+-- there is one state of the tables that is committed, which a transaction ended in: a crash leaves it, or what it could leave before
+pub record CommitsOnce {S : Type 0} (g : Ghosts S) (EndsIn : Held S → Type 0) (old new : Held S) : Type 0 where
   pub made : Trees
-  pub survives : Survives (state g old) (state g new) (λ db. db ≡ made)
+  pub survives : Survives (state g old) (state g new) (λ db. (db ≡ made) × ((end : Held S) × EndsIn end × (db ≡ (state g end).now.trees)))
+
+-- the tables of the layout, where they weren't made yet, are
+unfoldable pub IsReady : {S : Type 0} → Ghosts S → MbtType → Bool → Held S → Held S → Type 0
+IsReady g layout is_made old ready = MatchBool is_made (ready ≡ old) (HasCleanDisk (state g ready) → ArePrepared g layout old ready)
+
+-- first the tables are made, where they weren't yet, and then this comes of it
+pub record OnceReady {S : Type 0} (g : Ghosts S) (layout : MbtType) (is_made : Bool) (old : Held S) (Then : Held S → Type 0) : Type 0 where
+  pub ready : Held S
+  pub is_ready : IsReady g layout is_made old ready
+  pub once : CommitsOnce g (AreMade g layout (begun old)) old ready
+  pub after : Then ready
+
+-- nothing more is committed, and this is seen in a transaction
+pub record Sees {S : Type 0} (g : Ghosts S) (P : Held S → Held S → Type 0) (new ready : Held S) : Type 0 where
+  pub survives : CommitsNothing g ready new
+  pub seen : HasCleanDisk (state g new) → Within ready P
+
+-- the changes are made in one transaction, which is committed
+pub record MakesChanges {S : Type 0} (g : Ghosts S) (layout : MbtType) (changes : List Change) (new ready : Held S) : Type 0 where
+  pub once : CommitsOnce g (AreChanged g layout changes (begun ready)) ready new
+  pub committed : HasCleanDisk (state g new) → Commits g (AreChanged g layout changes (begun ready)) new
+
+-- a crash leaves the changes made or not, and what was committed last stands
+pub record RefusesChanges {S : Type 0} (g : Ghosts S) (layout : MbtType) (changes : List Change) (new ready : Held S) : Type 0 where
+  pub once : CommitsOnce g (AreChanged g layout changes (begun ready)) ready new
+  pub kept : KeepsCommitted g ready new

@@ -46,9 +46,9 @@ abbrev pub found_text : TableName → List ℕ
 found_text table = codes "SELECT " ++ joined (codes ", ") (names_of table) ++ codes " FROM " ++ table_text table ++ with_key table ++ codes " ORDER BY rowid LIMIT 1"
 
 -- removes the rows of a key
-abbrev pub removal_text : TableName → List ℕ
+unfoldable pub removal_text : TableName → List ℕ
 removal_text table = codes "DELETE FROM " ++ table_text table ++ with_key table
 
 -- adds a row
-abbrev pub addition_text : TableName → List ℕ
+unfoldable pub addition_text : TableName → List ℕ
 addition_text table = codes "INSERT INTO " ++ table_text table ++ codes " (" ++ joined (codes ", ") (names_of table) ++ codes ") VALUES (" ++ joined (codes ", ") (values_from 1 (names_of table)) ++ codes ")"

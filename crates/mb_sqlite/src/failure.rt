@@ -1,5 +1,5 @@
 // Why a step on the database fails.
-ghost use Rattle.std.specs.Prelude.{◌≡◌, ◌≤◌, Ok, IfOk, IsErrOf};
+ghost use Rattle.std.specs.Prelude.{◌≡◌, ◌≤◌, Ok, IfOk, IsErrOf, OnErr, OnOk};
 ghost use Rattle.tile_ids.specs.Counts.{Rose};
 
 use mb_store::StoreError;
@@ -46,6 +46,7 @@ impl<T: Drop> From<AllocFailed<T>> for Failure {
 // The answer of a call, of which a fault is counted.
 pub(crate) fn counted<T>(faults: &mut u64, answer: Result<T, Failure>) -> Result<T, StoreError>
     ensures answer { IfOk result (λ value. answer ≡ Ok value) }
+    ensures refused { OnErr result (OnOk answer ⊥) }
     ensures faults { faults.old ≤ faults.new }
     ensures fault { IsErrOf result StoreError.Fault → Rose faults.old faults.new }
 {

@@ -1,7 +1,9 @@
 // The tables of a layout, and the text that makes them.
 ghost use Rattle.std.specs.Prelude.{◌≡◌};
+ghost use Rattle.std.specs.Option.{option_copied};
 ghost use Rattle.mb_tables.specs.Schema.{set_tables};
 ghost use Rattle.mb_tables.specs.Described.{is_table};
+ghost use Rattle.mb_sqlite.specs.Creation.{making_text};
 
 use crate::statements;
 use mb_tables::{MbtType, NormalizedSchema, TableName};
@@ -45,7 +47,10 @@ pub(crate) const TABLES: [TableName; 8] = [
 ];
 
 // Makes the table or view of this name that a set of the layout has.
-pub(crate) fn making(layout: MbtType, table: TableName) -> Option<&'static str> {
+#[tactic(auto, unfolding(crate::specs::Creation::making_text, crate::specs::Creation::view_text))]
+pub(crate) fn making_of(layout: MbtType, table: TableName) -> Option<&'static str>
+    ensures { option_copied result ≡ making_text layout table }
+{
     if has_table(layout, table) {
         return Some(statements::creation_of(table));
     }

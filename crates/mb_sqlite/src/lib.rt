@@ -1,9 +1,11 @@
 //! A store of tables over a database of `sqlite`.
 #![tactic(auto)]
 
+mod calls;
 mod cursor;
 mod failure;
 mod layout;
+mod making;
 mod query;
 mod reading;
 mod rows;

@@ -1,11 +1,25 @@
 // The statements that are run, one text for each table.
 ghost use Rattle.std.specs.Prelude.{◌≡◌};
+ghost use Rattle.std.specs.Option.{option_copied};
+ghost use Rattle.mb_tables.specs.declared.table.TableName.TheVariants.{Tiles, TilesWithHash};
+ghost use Rattle.mb_sqlite.specs.Creation.{creation_text, there_text, view_text};
 ghost use Rattle.mb_sqlite.specs.Statements.{addition_text, count_text, found_text, page_text, removal_text};
 
 use mb_tables::{MbtType, NormalizedSchema, TableName};
 
+// How many tables and views have a name, in any ASCII case.
+#[tactic(auto, unfolding(crate::specs::Creation::there_text))]
+pub(crate) fn named() -> &'static str
+    ensures { result.now ≡ there_text }
+{
+    "SELECT count(*) FROM sqlite_master WHERE name = ?1 COLLATE NOCASE"
+}
+
 // Makes a table, with a unique index on its key.
-pub(crate) fn creation_of(table: TableName) -> &'static str {
+#[tactic(auto, unfolding(crate::specs::Creation::creation_text))]
+pub(crate) fn creation_of(table: TableName) -> &'static str
+    ensures { result.now ≡ creation_text table }
+{
     match table {
         TableName::Tiles =>
             "CREATE TABLE tiles (zoom_level INTEGER, tile_column INTEGER, tile_row INTEGER, tile_data BLOB, UNIQUE (zoom_level, tile_column, tile_row))",
@@ -25,7 +39,10 @@ pub(crate) fn creation_of(table: TableName) -> &'static str {
 }
 
 // Makes the view of the tiles of a layout other than Flat.
-pub(crate) fn tiles_view(layout: MbtType) -> Option<&'static str> {
+#[tactic(auto, unfolding(crate::specs::Creation::view_text))]
+pub(crate) fn tiles_view(layout: MbtType) -> Option<&'static str>
+    ensures { option_copied result ≡ view_text layout Tiles }
+{
     match layout {
         MbtType::Flat => None,
         MbtType::FlatWithHash => Some(
@@ -50,7 +67,10 @@ pub(crate) fn tiles_view(layout: MbtType) -> Option<&'static str> {
 }
 
 // Makes the view of the tiles with their digests, where the layout has one.
-pub(crate) fn hash_view(layout: MbtType) -> Option<&'static str> {
+#[tactic(auto, unfolding(crate::specs::Creation::view_text))]
+pub(crate) fn hash_view(layout: MbtType) -> Option<&'static str>
+    ensures { option_copied result ≡ view_text layout TilesWithHash }
+{
     match layout {
         MbtType::Normalized {
             hash_view: true,
@@ -127,6 +147,7 @@ pub(crate) fn found_in(table: TableName) -> &'static str
 }
 
 // Removes the rows of a key.
+#[tactic(auto, unfolding(crate::specs::Statements::removal_text))]
 pub(crate) fn removal_from(table: TableName) -> &'static str
     ensures { result.now ≡ removal_text table }
 {
@@ -148,6 +169,7 @@ pub(crate) fn removal_from(table: TableName) -> &'static str
 }
 
 // Adds a row.
+#[tactic(auto, unfolding(crate::specs::Statements::addition_text))]
 pub(crate) fn addition_to(table: TableName) -> &'static str
     ensures { result.now ≡ addition_text table }
 {

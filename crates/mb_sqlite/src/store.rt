@@ -1,21 +1,18 @@
 // A store over a database.
-ghost use Rattle.std.specs.Prelude.{◌≡◌, ◌≤◌, false, true, [], All, IfOk, IfSome, IsErrOf, OnErr, OnOk, length};
+ghost use Rattle.std.specs.Prelude.{◌≡◌, ◌⊎◌, ◌≤◌, false, true, [], All, IfOk, IfSome, IsErrOf, OnErr, OnOk, length};
 ghost use Rattle.tile_ids.specs.Counts.{Rose};
 ghost use Rattle.mb_tables.specs.Schema.{set_tables};
 ghost use Rattle.mb_tables.specs.Described.{is_table};
 ghost use Rattle.mb_tables.specs.Table.{width};
-ghost use Rattle.sqlite.specs.Held.{state};
-ghost use Rattle.sqlite.specs.State.{HasCleanDisk};
-ghost use Rattle.mb_sqlite.specs.Committing.{CommitsNothing, CommitsOnce, KeepsCommitted};
+ghost use Rattle.mb_sqlite.specs.Committing.{CommitsNothing, CommitsOnce, IsReady, KeepsCommitted, MakesChanges, OnceReady, RefusesChanges, Sees};
 ghost use Rattle.mb_sqlite.specs.Cursor.{cursor_start};
-ghost use Rattle.mb_sqlite.specs.Reading.{ArePaged, IsCounted, IsFound, Within};
+ghost use Rattle.mb_sqlite.specs.Making.{AreChanged, AreMade, begun};
+ghost use Rattle.mb_sqlite.specs.Reading.{ArePaged, IsCounted, IsFound};
 
 use crate::cursor::Cursor;
-use crate::failure::{Failure, counted};
-use crate::layout::has_table;
-use crate::{reading, writing};
+use crate::failure::counted;
 use mb_store::{Changes, StoreError, TileStore};
-use mb_tables::{MbtType, Row, RowKey, TableDesc, TableName, set_tables};
+use mb_tables::{MbtType, Row, RowKey, TableDesc, TableName};
 use sqlite::{Alter, Connection};
 use std::alloc::Global;
 
@@ -27,10 +24,10 @@ use std::alloc::Global;
 /// Numbers, texts, blobs and NULL are cells as they are. A real, and a text that isn't UTF-8, is `Cell::Other`.
 pub struct SqliteStore<S: Alter> {
     alloc: Global,
-    connection: Connection<S>,
-    layout: MbtType,
-    is_made: bool,
-    cursor: Option<Cursor>,
+    pub(crate) connection: Connection<S>,
+    pub(crate) layout: MbtType,
+    pub(crate) is_made: bool,
+    pub(crate) cursor: Option<Cursor>,
     faults: u64,
 }
 
@@ -79,113 +76,6 @@ impl<S: Alter> SqliteStore<S> {
         } = self;
         connection
     }
-
-    // Makes the tables that aren't there, at the first call. A connection in a transaction is a fault.
-    fn begin(&mut self) -> Result<(), Failure>
-        ensures made { OnOk result (self.new.is_made ≡ true) }
-        ensures same { self.old.is_made ≡ true → self.new.connection ≡ self.old.connection }
-        ensures once { CommitsOnce S.Store self.old.connection self.new.connection }
-        ensures layout { self.new.layout ≡ self.old.layout }
-        ensures cursor { self.new.cursor ≡ self.old.cursor }
-        ensures faults { self.new.faults ≡ self.old.faults }
-    {
-        if !self.connection.is_autocommit() {
-            return Err(Failure::Fault);
-        }
-        if !self.is_made {
-            writing::make(&mut self.connection, self.layout)?;
-            self.is_made = true;
-        }
-        Ok(())
-    }
-
-    // The descriptions of the layout's tables and views.
-    fn described(&mut self, alloc: Global) -> Result<Vec<TableDesc>, Failure>
-        ensures described { IfOk result (λ tables. tables.items ≡ set_tables self.old.layout) }
-        ensures faults { self.new.faults ≡ self.old.faults }
-    {
-        self.begin()?;
-        Ok(set_tables(alloc, self.layout)?)
-    }
-
-    fn counted_rows(&mut self, table: TableName) -> Result<u64, Failure>
-        ensures survives { self.old.is_made ≡ true → CommitsNothing S.Store self.old.connection self.new.connection }
-        ensures undescribed { is_table (set_tables self.old.layout) table ≡ false → IfOk result (λ count. count ≡ 0) }
-        ensures counted { self.old.is_made ≡ true → is_table (set_tables self.old.layout) table ≡ true → HasCleanDisk (state S.Store self.new.connection) → IfOk result (λ count. Within self.old.connection (λ old seen. IsCounted S.Store table old seen count)) }
-        ensures faults { self.new.faults ≡ self.old.faults }
-    {
-        self.begin()?;
-        if !has_table(self.layout, table) {
-            return Ok(0);
-        }
-        reading::count(&mut self.connection, table)
-    }
-
-    fn page(
-        &mut self,
-        alloc: Global,
-        table: TableName,
-        from: u64,
-        limit: u64,
-    ) -> Result<Vec<Row>, Failure>
-        ensures widths { IfOk result (λ rows. All (λ row. length row ≡ width table) rows.items) }
-        ensures limit { IfOk result (λ rows. length rows.items ≤ limit) }
-        ensures undescribed { is_table (set_tables self.old.layout) table ≡ false → IfOk result (λ rows. rows.items ≡ []) }
-        ensures survives { self.old.is_made ≡ true → CommitsNothing S.Store self.old.connection self.new.connection }
-        ensures paged { self.old.is_made ≡ true → is_table (set_tables self.old.layout) table ≡ true → HasCleanDisk (state S.Store self.new.connection) → IfOk result (λ rows. Within self.old.connection (λ old seen. ArePaged S.Store table old seen (cursor_start self.old.cursor table from) limit rows.items)) }
-        ensures faults { self.new.faults ≡ self.old.faults }
-    {
-        self.begin()?;
-        if !has_table(self.layout, table) {
-            return Ok(Vec::new(alloc));
-        }
-        reading::page(
-            alloc,
-            &mut self.connection,
-            &mut self.cursor,
-            table,
-            from,
-            limit,
-        )
-    }
-
-    fn found(
-        &mut self,
-        alloc: Global,
-        table: TableName,
-        key: &RowKey,
-    ) -> Result<Option<Row>, Failure>
-        ensures widths { IfOk result (λ row. IfSome row (λ row. length row ≡ width table)) }
-        ensures survives { self.old.is_made ≡ true → CommitsNothing S.Store self.old.connection self.new.connection }
-        ensures undescribed { is_table (set_tables self.old.layout) table ≡ false → IfOk result (λ row. row ≡ None) }
-        ensures found { self.old.is_made ≡ true → is_table (set_tables self.old.layout) table ≡ true → HasCleanDisk (state S.Store self.new.connection) → IfOk result (λ row. Within self.old.connection (λ old seen. IsFound S.Store table old seen key.now row)) }
-        ensures faults { self.new.faults ≡ self.old.faults }
-    {
-        self.begin()?;
-        if !has_table(self.layout, table) {
-            return Ok(None);
-        }
-        reading::find(alloc, &mut self.connection, table, key)
-    }
-
-    fn committed(&mut self, alloc: Global, changes: &Changes) -> Result<(), Failure>
-        ensures once { self.old.is_made ≡ true → CommitsOnce S.Store self.old.connection self.new.connection }
-        ensures refused { self.old.is_made ≡ true → OnErr result (KeepsCommitted S.Store self.old.connection self.new.connection) }
-        ensures cursor { OnOk result (self.new.cursor ≡ None) }
-        ensures faults { self.new.faults ≡ self.old.faults }
-    {
-        self.begin()?;
-        self.cursor = None;
-        writing::commit(alloc, &mut self.connection, self.layout, changes)
-    }
-
-    fn size(&mut self) -> Result<u64, Failure>
-        ensures survives { self.old.is_made ≡ true → CommitsNothing S.Store self.old.connection self.new.connection }
-        ensures faults { self.new.faults ≡ self.old.faults }
-    {
-        self.begin()?;
-        reading::size(&mut self.connection, self.layout)
-    }
 }
 
 impl<S: Alter> TileStore for SqliteStore<S> {
@@ -203,6 +93,11 @@ impl<S: Alter> TileStore for SqliteStore<S> {
     /// The descriptions of the layout's tables and views and of its metadata, whatever the database has.
     fn describe(&mut self, alloc: Global) -> Result<Vec<TableDesc>, StoreError>
         ensures described { IfOk result (λ tables. tables.items ≡ set_tables self.old.layout) }
+        ensures once { CommitsOnce S.Store (AreMade S.Store self.old.layout (begun self.old.connection)) self.old.connection self.new.connection }
+        ensures ready { OnOk result (IsReady S.Store self.old.layout self.old.is_made self.old.connection self.new.connection) }
+        ensures layout { self.new.layout ≡ self.old.layout }
+        ensures cursor { self.new.cursor ≡ self.old.cursor }
+        ensures made { OnOk result (self.new.is_made ≡ true) }
         ensures faults { self.old.faults ≤ self.new.faults }
         ensures fault { IsErrOf result StoreError.Fault → Rose self.old.faults self.new.faults }
     {
@@ -210,7 +105,17 @@ impl<S: Alter> TileStore for SqliteStore<S> {
         counted(&mut self.faults, answer)
     }
 
-    fn count_rows(&mut self, table: TableName) -> Result<u64, StoreError> {
+    fn count_rows(&mut self, table: TableName) -> Result<u64, StoreError>
+        ensures survives { self.old.is_made ≡ true → CommitsNothing S.Store self.old.connection self.new.connection }
+        ensures once { CommitsOnce S.Store (AreMade S.Store self.old.layout (begun self.old.connection)) self.old.connection self.new.connection }
+        ensures undescribed { is_table (set_tables self.old.layout) table ≡ false → IfOk result (λ count. count ≡ 0) }
+        ensures counted { is_table (set_tables self.old.layout) table ≡ true → IfOk result (λ count. OnceReady S.Store self.old.layout self.old.is_made self.old.connection (Sees S.Store (λ old seen. IsCounted S.Store table old seen count) self.new.connection)) }
+        ensures layout { self.new.layout ≡ self.old.layout }
+        ensures cursor { self.new.cursor ≡ self.old.cursor }
+        ensures made { OnOk result (self.new.is_made ≡ true) }
+        ensures faults { self.old.faults ≤ self.new.faults }
+        ensures fault { IsErrOf result StoreError.Fault → Rose self.old.faults self.new.faults }
+    {
         let answer = self.counted_rows(table);
         counted(&mut self.faults, answer)
     }
@@ -222,7 +127,18 @@ impl<S: Alter> TileStore for SqliteStore<S> {
         table: TableName,
         from: u64,
         limit: u64,
-    ) -> Result<Vec<Row>, StoreError> {
+    ) -> Result<Vec<Row>, StoreError>
+        ensures widths { IfOk result (λ rows. All (λ row. length row ≡ width table) rows.items) }
+        ensures limit { IfOk result (λ rows. length rows.items ≤ limit) }
+        ensures undescribed { is_table (set_tables self.old.layout) table ≡ false → IfOk result (λ rows. rows.items ≡ []) }
+        ensures survives { self.old.is_made ≡ true → CommitsNothing S.Store self.old.connection self.new.connection }
+        ensures once { CommitsOnce S.Store (AreMade S.Store self.old.layout (begun self.old.connection)) self.old.connection self.new.connection }
+        ensures paged { is_table (set_tables self.old.layout) table ≡ true → IfOk result (λ rows. OnceReady S.Store self.old.layout self.old.is_made self.old.connection (Sees S.Store (λ old seen. ArePaged S.Store table old seen (cursor_start self.old.cursor table from) limit rows.items) self.new.connection)) }
+        ensures layout { self.new.layout ≡ self.old.layout }
+        ensures made { OnOk result (self.new.is_made ≡ true) }
+        ensures faults { self.old.faults ≤ self.new.faults }
+        ensures fault { IsErrOf result StoreError.Fault → Rose self.old.faults self.new.faults }
+    {
         let answer = self.page(alloc, table, from, limit);
         counted(&mut self.faults, answer)
     }
@@ -233,24 +149,61 @@ impl<S: Alter> TileStore for SqliteStore<S> {
         alloc: Global,
         table: TableName,
         key: &RowKey,
-    ) -> Result<Option<Row>, StoreError> {
+    ) -> Result<Option<Row>, StoreError>
+        ensures widths { IfOk result (λ row. IfSome row (λ row. length row ≡ width table)) }
+        ensures survives { self.old.is_made ≡ true → CommitsNothing S.Store self.old.connection self.new.connection }
+        ensures once { CommitsOnce S.Store (AreMade S.Store self.old.layout (begun self.old.connection)) self.old.connection self.new.connection }
+        ensures undescribed { is_table (set_tables self.old.layout) table ≡ false → IfOk result (λ row. row ≡ None) }
+        ensures found { is_table (set_tables self.old.layout) table ≡ true → IfOk result (λ row. OnceReady S.Store self.old.layout self.old.is_made self.old.connection (Sees S.Store (λ old seen. IsFound S.Store table old seen key.now row) self.new.connection)) }
+        ensures layout { self.new.layout ≡ self.old.layout }
+        ensures cursor { self.new.cursor ≡ self.old.cursor }
+        ensures made { OnOk result (self.new.is_made ≡ true) }
+        ensures faults { self.old.faults ≤ self.new.faults }
+        ensures fault { IsErrOf result StoreError.Fault → Rose self.old.faults self.new.faults }
+    {
         let answer = self.found(alloc, table, key);
         counted(&mut self.faults, answer)
     }
 
     /// Makes the tables of the layout that aren't there, whatever tables are asked for.
-    fn create(&mut self, _: Global, _: &[TableDesc]) -> Result<(), StoreError> {
+    fn create(&mut self, _: Global, _: &[TableDesc]) -> Result<(), StoreError>
+        ensures once { CommitsOnce S.Store (AreMade S.Store self.old.layout (begun self.old.connection)) self.old.connection self.new.connection }
+        ensures ready { OnOk result (IsReady S.Store self.old.layout self.old.is_made self.old.connection self.new.connection) }
+        ensures layout { self.new.layout ≡ self.old.layout }
+        ensures cursor { self.new.cursor ≡ self.old.cursor }
+        ensures made { OnOk result (self.new.is_made ≡ true) }
+        ensures faults { self.old.faults ≤ self.new.faults }
+        ensures fault { IsErrOf result StoreError.Fault → Rose self.old.faults self.new.faults }
+    {
         let answer = self.begin();
         counted(&mut self.faults, answer)
     }
 
     /// Makes all changes in one transaction. A change of a table that the layout doesn't have, and a row with a `Cell::Other`, is a fault.
-    fn commit(&mut self, alloc: Global, changes: &Changes) -> Result<(), StoreError> {
+    fn commit(&mut self, alloc: Global, changes: &Changes) -> Result<(), StoreError>
+        ensures once { self.old.is_made ≡ true → CommitsOnce S.Store (AreChanged S.Store self.old.layout changes.now (begun self.old.connection)) self.old.connection self.new.connection }
+        ensures changed { OnOk result (OnceReady S.Store self.old.layout self.old.is_made self.old.connection (MakesChanges S.Store self.old.layout changes.now self.new.connection)) }
+        ensures unchanged { OnErr result (CommitsOnce S.Store (AreMade S.Store self.old.layout (begun self.old.connection)) self.old.connection self.new.connection ⊎ OnceReady S.Store self.old.layout self.old.is_made self.old.connection (RefusesChanges S.Store self.old.layout changes.now self.new.connection)) }
+        ensures refused { self.old.is_made ≡ true → OnErr result (KeepsCommitted S.Store self.old.connection self.new.connection) }
+        ensures cursor { OnOk result (self.new.cursor ≡ None) }
+        ensures layout { self.new.layout ≡ self.old.layout }
+        ensures made { OnOk result (self.new.is_made ≡ true) }
+        ensures faults { self.old.faults ≤ self.new.faults }
+        ensures fault { IsErrOf result StoreError.Fault → Rose self.old.faults self.new.faults }
+    {
         let answer = self.committed(alloc, changes);
         counted(&mut self.faults, answer)
     }
 
-    fn live_size(&mut self) -> Result<u64, StoreError> {
+    fn live_size(&mut self) -> Result<u64, StoreError>
+        ensures survives { self.old.is_made ≡ true → CommitsNothing S.Store self.old.connection self.new.connection }
+        ensures once { CommitsOnce S.Store (AreMade S.Store self.old.layout (begun self.old.connection)) self.old.connection self.new.connection }
+        ensures layout { self.new.layout ≡ self.old.layout }
+        ensures cursor { self.new.cursor ≡ self.old.cursor }
+        ensures made { OnOk result (self.new.is_made ≡ true) }
+        ensures faults { self.old.faults ≤ self.new.faults }
+        ensures fault { IsErrOf result StoreError.Fault → Rose self.old.faults self.new.faults }
+    {
         let answer = self.size();
         counted(&mut self.faults, answer)
     }

@@ -1,71 +1,26 @@
 // Writing the database. What a call changes is committed at once, or not at all.
-ghost use Rattle.std.specs.Prelude.{◌≡◌, OnErr};
+ghost use Rattle.std.specs.Prelude.{◌≡◌, IfOk, OnErr, OnOk, option_copied};
+ghost use Rattle.std.specs.List.{AllZip};
+ghost use Rattle.sqlite.specs.Held.{state};
+ghost use Rattle.sqlite.specs.State.{HasCleanDisk};
+ghost use Rattle.sqlite.specs.Values.{bound};
 ghost use Rattle.mb_sqlite.specs.Committing.{CommitsNothing, CommitsOnce, KeepsCommitted};
+ghost use Rattle.mb_sqlite.specs.Making.{Adds, AreChanged, Changed, Commits, IsRun, Removes, begun};
+ghost use Rattle.mb_sqlite.specs.Statements.{removal_text};
+ghost use Rattle.mb_sqlite.specs.Stored.{IsWrittenAs};
 
 use crate::failure::Failure;
-use crate::layout::{TABLES, has_table, making};
+use crate::layout::has_table;
 use crate::rows::value_of;
 use crate::statements;
 use mb_store::Changes;
-use mb_tables::{Cell, MbtType, RowKey, TableName};
+use mb_tables::{Cell, MbtType, Row, RowKey, TableName};
 use sqlite::types::ValueRef;
 use sqlite::{Alter, Connection, Transaction, params};
 use std::alloc::Global;
 
-// Whether the database has a table or view of this name, in any ASCII case.
-fn is_there<S: Alter>(
-    transaction: &mut Transaction<'_, S>,
-    table: TableName,
-) -> Result<bool, Failure>
-    ensures same_reference { transaction.new.conn.ghost_name ≡ transaction.old.conn.ghost_name }
-    ensures survives { CommitsNothing S.Store transaction.old.conn.now transaction.new.conn.now }
-{
-    let row = transaction.query_row(
-        "SELECT count(*) FROM sqlite_master WHERE name = ?1 COLLATE NOCASE",
-        params![table.name()],
-    )?;
-    let count: i64 = row.get(0)?;
-    Ok(count > 0)
-}
-
-// Makes the tables and views of a layout that aren't there. Whether there were any.
-fn make_missing<S: Alter>(
-    transaction: &mut Transaction<'_, S>,
-    layout: MbtType,
-) -> Result<bool, Failure>
-    ensures same_reference { transaction.new.conn.ghost_name ≡ transaction.old.conn.ghost_name }
-    ensures survives { CommitsNothing S.Store transaction.old.conn.now transaction.new.conn.now }
-{
-    let mut made = false;
-    for table in TABLES {
-        let Some(text) = making(layout, table) else {
-            continue;
-        };
-        if !is_there(transaction, table)? {
-            run(transaction, text, &[])?;
-            made = true;
-        }
-    }
-    Ok(made)
-}
-
-// Makes the tables and views of a layout that aren't there, in one transaction. Where none is missing, nothing is written.
-#[tactic(auto, using(crate::proofs::CommitLemmas::nothing_yet, crate::proofs::CommitLemmas::nothing_once, crate::proofs::CommitLemmas::undone_nothing))]
-pub(crate) fn make<S: Alter>(connection: &mut Connection<S>, layout: MbtType) -> Result<(), Failure>
-    ensures once { CommitsOnce S.Store connection.old connection.new }
-{
-    if !connection.is_autocommit() {
-        return Err(Failure::Fault);
-    }
-    let mut transaction = connection.transaction();
-    if make_missing(&mut transaction, layout)? {
-        transaction.commit()?;
-    }
-    Ok(())
-}
-
 // Runs a text in a transaction.
-fn run<S: Alter>(
+pub(crate) fn run<S: Alter>(
     transaction: &mut Transaction<'_, S>,
     text: &str,
     values: &[ValueRef<'_>],
@@ -73,12 +28,28 @@ fn run<S: Alter>(
     ensures same_reference { transaction.new.conn.ghost_name ≡ transaction.old.conn.ghost_name }
     ensures survives { CommitsNothing S.Store transaction.old.conn.now transaction.new.conn.now }
     ensures kept { KeepsCommitted S.Store transaction.old.conn.now transaction.new.conn.now }
+    ensures runs { HasCleanDisk (state S.Store transaction.new.conn.now) → OnOk result (IsRun S.Store text.now (bound values.now) transaction.old.conn.now transaction.new.conn.now) }
 {
     transaction.execute(text, values)?;
     Ok(())
 }
 
+// Removes the rows with these values as their key.
+fn remove_rows<S: Alter>(
+    transaction: &mut Transaction<'_, S>,
+    table: TableName,
+    key: &[ValueRef<'_>],
+) -> Result<(), Failure>
+    ensures same_reference { transaction.new.conn.ghost_name ≡ transaction.old.conn.ghost_name }
+    ensures survives { CommitsNothing S.Store transaction.old.conn.now transaction.new.conn.now }
+    ensures kept { KeepsCommitted S.Store transaction.old.conn.now transaction.new.conn.now }
+    ensures removes { HasCleanDisk (state S.Store transaction.new.conn.now) → OnOk result (IsRun S.Store (removal_text table) (bound key.now) transaction.old.conn.now transaction.new.conn.now) }
+{
+    run(transaction, statements::removal_from(table), key)
+}
+
 // Removes the rows of a key. A key of another kind than the table's has none.
+#[tactic(auto, unfolding(crate::specs::Making::Removes))]
 fn remove<S: Alter>(
     transaction: &mut Transaction<'_, S>,
     table: TableName,
@@ -87,13 +58,13 @@ fn remove<S: Alter>(
     ensures same_reference { transaction.new.conn.ghost_name ≡ transaction.old.conn.ghost_name }
     ensures survives { CommitsNothing S.Store transaction.old.conn.now transaction.new.conn.now }
     ensures kept { KeepsCommitted S.Store transaction.old.conn.now transaction.new.conn.now }
+    ensures removes { HasCleanDisk (state S.Store transaction.new.conn.now) → OnOk result (Removes S.Store table key.now transaction.old.conn.now transaction.new.conn.now) }
 {
-    let text = statements::removal_from(table);
     match (table, key) {
         (TableName::Images | TableName::Metadata, RowKey::TextId(id)) => {
-            run(transaction, text, params![id.as_str()])
+            remove_rows(transaction, table, params![id.as_str()])
         }
-        (TableName::TilesData, RowKey::IntId(id)) => run(transaction, text, params![*id]),
+        (TableName::TilesData, RowKey::IntId(id)) => remove_rows(transaction, table, params![*id]),
         (
             TableName::Tiles
             | TableName::TilesWithHash
@@ -101,9 +72,23 @@ fn remove<S: Alter>(
             | TableName::TilesShallow
             | TableName::TileCache,
             RowKey::Tile { zoom, column, row },
-        ) => run(transaction, text, params![u32::from(*zoom), *column, *row]),
+        ) => remove_rows(transaction, table, params![u32::from(*zoom), *column, *row]),
         _ => Ok(()),
     }
+}
+
+// Cells as values of the database. A cell of another kind can't be written.
+fn values_of<'a>(alloc: Global, cells: &'a [Cell]) -> Result<Vec<ValueRef<'a>>, Failure>
+    ensures { IfOk result (λ values. AllZip IsWrittenAs cells.now (bound values.items)) }
+{
+    let mut values = Vec::new(alloc);
+    for cell in cells {
+        let Some(value) = value_of(cell) else {
+            return Err(Failure::Fault);
+        };
+        values.push(value)?;
+    }
+    Ok(values)
 }
 
 // Adds a row. One with a cell of another kind can't be written.
@@ -116,19 +101,42 @@ fn add<S: Alter>(
     ensures same_reference { transaction.new.conn.ghost_name ≡ transaction.old.conn.ghost_name }
     ensures survives { CommitsNothing S.Store transaction.old.conn.now transaction.new.conn.now }
     ensures kept { KeepsCommitted S.Store transaction.old.conn.now transaction.new.conn.now }
+    ensures adds { HasCleanDisk (state S.Store transaction.new.conn.now) → OnOk result (Adds S.Store table cells.now transaction.old.conn.now transaction.new.conn.now) }
 {
-    let mut values = Vec::new(alloc);
-    for cell in cells {
-        let Some(value) = value_of(cell) else {
-            return Err(Failure::Fault);
-        };
-        values.push(value)?;
-    }
+    let values = values_of(alloc, cells)?;
     run(
         transaction,
         statements::addition_to(table),
         values.as_slice(),
-    )
+    )?;
+    Ok(())
+}
+
+// Makes one change: the rows of a key are removed, and the row that is put is added.
+fn change_one<S: Alter>(
+    alloc: Global,
+    transaction: &mut Transaction<'_, S>,
+    layout: MbtType,
+    table: TableName,
+    key: &RowKey,
+    row: Option<&Row>,
+) -> Result<(), Failure>
+    ensures same_reference { transaction.new.conn.ghost_name ≡ transaction.old.conn.ghost_name }
+    ensures survives { CommitsNothing S.Store transaction.old.conn.now transaction.new.conn.now }
+    ensures kept { KeepsCommitted S.Store transaction.old.conn.now transaction.new.conn.now }
+    ensures changed { HasCleanDisk (state S.Store transaction.new.conn.now) → OnOk result (Changed S.Store layout (record { table = table; key = key.now; row = option_copied row.entry }) transaction.old.conn.now transaction.new.conn.now) }
+{
+    if !has_table(layout, table) {
+        return Err(Failure::Fault);
+    }
+    remove(transaction, table, key)?;
+    match row {
+        Some(row) => {
+            add(alloc, transaction, table, row.cells())?;
+            Ok(())
+        }
+        None => Ok(()),
+    }
 }
 
 // Makes changes in a transaction.
@@ -141,16 +149,11 @@ fn change<S: Alter>(
     ensures same_reference { transaction.new.conn.ghost_name ≡ transaction.old.conn.ghost_name }
     ensures survives { CommitsNothing S.Store transaction.old.conn.now transaction.new.conn.now }
     ensures kept { KeepsCommitted S.Store transaction.old.conn.now transaction.new.conn.now }
+    ensures changed { HasCleanDisk (state S.Store transaction.new.conn.now) → OnOk result (AreChanged S.Store layout changes.now transaction.old.conn.now transaction.new.conn.now) }
 {
     for at in 0..changes.len() {
         let (table, key, row) = changes.change_at(at);
-        if !has_table(layout, table) {
-            return Err(Failure::Fault);
-        }
-        remove(transaction, table, key)?;
-        if let Some(row) = row {
-            add(alloc, transaction, table, row.cells())?;
-        }
+        change_one(alloc, transaction, layout, table, key, row)?;
     }
     Ok(())
 }
@@ -163,7 +166,8 @@ pub(crate) fn commit<S: Alter>(
     layout: MbtType,
     changes: &Changes,
 ) -> Result<(), Failure>
-    ensures once { CommitsOnce S.Store connection.old connection.new }
+    ensures once { CommitsOnce S.Store (AreChanged S.Store layout changes.now (begun connection.old)) connection.old connection.new }
+    ensures changed { HasCleanDisk (state S.Store connection.new) → OnOk result (Commits S.Store (AreChanged S.Store layout changes.now (begun connection.old)) connection.new) }
     ensures refused { OnErr result (KeepsCommitted S.Store connection.old connection.new) }
 {
     if !connection.is_autocommit() {

@@ -1,24 +1,28 @@
 use Rattle.std.proofs.Common.{rules, ◌≡◌, subst}
+use Rattle.sqlite.specs.Held.{state}
+use Rattle.sqlite.specs.State.{HasCleanDisk}
 use Rattle.mb_sqlite.specs.Committing.{CommitsOnce, KeepsCommitted}
-use Rattle.mb_sqlite.proofs.CommitLemmas.{nothing_once, undone_nothing, undone_keeps, failed_keeps, done_once}
+use Rattle.mb_sqlite.specs.Making.{AreChanged, Commits, begun}
+use Rattle.mb_sqlite.proofs.CommitLemmas.{commits_made, nothing_once, undone_nothing, undone_keeps, failed_keeps, done_once}
 use Rattle.mb_sqlite.proofs.writing.commit.Goals as goal
 
 pub returns-in_err-change-clause-once : goal.returns-in_err-change-clause-once
 returns-in_err-change-clause-once g c =
     let old = c.args.connection.now in
+    let Ends = AreChanged g.S.Store c.args.layout c.args.changes.now (begun old) in
     let end = c.drop-transaction.new.self.0 in
-    let begun = c.transaction-transaction.ensures.begun in
-    let whole = nothing_once g.S.Store old end
-    (undone_nothing g.S.Store old c.change.new.transaction.conn.now end (rw begun at c.change.ensures.survives) c.drop-transaction.ensures.survives) in
+    let began = c.transaction-transaction.ensures.begun in
+    let whole = nothing_once g.S.Store Ends old end
+    (undone_nothing g.S.Store old c.change.new.transaction.conn.now end (rw began at c.change.ensures.survives) c.drop-transaction.ensures.survives) in
     let same : end ≡ c.connection-1.given.0 = search rules in
-    subst (λ h. CommitsOnce g.S.Store old h) same whole
+    subst (λ h. CommitsOnce g.S.Store Ends old h) same whole
 
 pub returns-in_err-change-clause-refused : goal.returns-in_err-change-clause-refused
 returns-in_err-change-clause-refused g c =
     let old = c.args.connection.now in
     let end = c.drop-transaction.new.self.0 in
-    let begun = c.transaction-transaction.ensures.begun in
-    let whole = undone_keeps g.S.Store old c.change.new.transaction.conn.now end (rw begun at c.change.ensures.kept) c.drop-transaction.ensures.survives c.drop-transaction.ensures.undone in
+    let began = c.transaction-transaction.ensures.begun in
+    let whole = undone_keeps g.S.Store old c.change.new.transaction.conn.now end (rw began at c.change.ensures.kept) c.drop-transaction.ensures.survives c.drop-transaction.ensures.undone in
     let same : end ≡ c.connection-1.given.0 = search rules in
     let kept = subst (λ h. KeepsCommitted g.S.Store old h) same whole in
     search rules
@@ -26,18 +30,19 @@ returns-in_err-change-clause-refused g c =
 pub returns-in_err-commit-clause-once : goal.returns-in_err-commit-clause-once
 returns-in_err-commit-clause-once g c =
     let old = c.args.connection.now in
+    let Ends = AreChanged g.S.Store c.args.layout c.args.changes.now (begun old) in
     let end = c.commit.new.self.0 in
-    let begun = c.transaction-transaction.ensures.begun in
-    let whole = done_once g.S.Store old c.change.new.transaction.conn.now end (rw begun at c.change.ensures.survives) c.commit.ensures.survives in
+    let began = c.transaction-transaction.ensures.begun in
+    let whole = done_once g.S.Store Ends old c.change.new.transaction.conn.now end (rw began at c.change.ensures.survives) (rw began at c.in_ok-change.ensures.changed) c.commit.ensures.survives in
     let same : end ≡ c.connection-2-1.given.0 = search rules in
-    subst (λ h. CommitsOnce g.S.Store old h) same whole
+    subst (λ h. CommitsOnce g.S.Store Ends old h) same whole
 
 pub returns-in_err-commit-clause-refused : goal.returns-in_err-commit-clause-refused
 returns-in_err-commit-clause-refused g c =
     let old = c.args.connection.now in
     let end = c.commit.new.self.0 in
-    let begun = c.transaction-transaction.ensures.begun in
-    let whole = failed_keeps g.S.Store old c.change.new.transaction.conn.now end _ _ (rw begun at c.change.ensures.kept) c.commit.ensures.survives c.in_err-commit.ensures.err in
+    let began = c.transaction-transaction.ensures.begun in
+    let whole = failed_keeps g.S.Store old c.change.new.transaction.conn.now end _ _ (rw began at c.change.ensures.kept) c.commit.ensures.survives c.in_err-commit.ensures.err in
     let same : end ≡ c.connection-2-1.given.0 = search rules in
     let kept = subst (λ h. KeepsCommitted g.S.Store old h) same whole in
     search rules
@@ -45,8 +50,19 @@ returns-in_err-commit-clause-refused g c =
 pub returns-clause-once : goal.returns-clause-once
 returns-clause-once g c =
     let old = c.args.connection.now in
+    let Ends = AreChanged g.S.Store c.args.layout c.args.changes.now (begun old) in
     let end = c.commit.new.self.0 in
-    let begun = c.transaction-transaction.ensures.begun in
-    let whole = done_once g.S.Store old c.change.new.transaction.conn.now end (rw begun at c.change.ensures.survives) c.commit.ensures.survives in
+    let began = c.transaction-transaction.ensures.begun in
+    let whole = done_once g.S.Store Ends old c.change.new.transaction.conn.now end (rw began at c.change.ensures.survives) (rw began at c.in_ok-change.ensures.changed) c.commit.ensures.survives in
     let same : end ≡ c.connection-2-1.given.0 = search rules in
-    subst (λ h. CommitsOnce g.S.Store old h) same whole
+    subst (λ h. CommitsOnce g.S.Store Ends old h) same whole
+
+pub returns-clause-changed : goal.returns-clause-changed
+returns-clause-changed g c clean =
+    let old = c.args.connection.now in
+    let Ends = AreChanged g.S.Store c.args.layout c.args.changes.now (begun old) in
+    let end = c.commit.new.self.0 in
+    let began = c.transaction-transaction.ensures.begun in
+    let same : end ≡ c.connection-2-1.given.0 = search rules in
+    let whole = commits_made g.S.Store Ends c.change.new.transaction.conn.now end _ _ _ _ (rw began at c.in_ok-change.ensures.changed) c.commit.ensures.survives c.in_ok-commit.ensures.ok in
+    subst (λ h. HasCleanDisk (state g.S.Store h) → Commits g.S.Store Ends h) same whole clean

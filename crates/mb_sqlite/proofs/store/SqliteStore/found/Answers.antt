@@ -1,8 +1,11 @@
-use Rattle.std.proofs.Common.{subst}
-use Rattle.std.specs.Prelude.{IfOk}
-use Rattle.mb_sqlite.specs.Reading.{IsFound, Within}
+use Rattle.mb_sqlite.specs.Reading.{IsFound}
+use Rattle.mb_sqlite.proofs.CommitLemmas.{once_then}
+use Rattle.mb_sqlite.proofs.ReadyLemmas.{sees_ready}
 use Rattle.mb_sqlite.proofs.store.SqliteStore.found.Goals as goal
 
 pub returns-clause-found : goal.returns-clause-found
-returns-clause-found g c made described clean =
-    subst (λ h. IfOk c.find.result (λ row. Within h (λ old seen. IsFound g.S.Store c.args.table old seen c.args.key.now row))) (c.in_ok-begin.ensures.same made) (c.find.ensures.found clean)
+returns-clause-found g c described =
+    sees_ready g.S.Store _ (λ row old seen. IsFound g.S.Store c.args.table old seen c.args.key.now row) _ _ _ _ c.find.result c.in_ok-begin.ensures.ready c.begin.ensures.once c.find.ensures.survives c.find.ensures.found
+
+pub returns-clause-once : goal.returns-clause-once
+returns-clause-once g c = once_then g.S.Store _ _ _ _ c.begin.ensures.once c.find.ensures.survives

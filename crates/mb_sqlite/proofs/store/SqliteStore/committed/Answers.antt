@@ -1,0 +1,25 @@
+use Rattle.std.proofs.Common.{subst, inl, inr}
+use Rattle.mb_sqlite.specs.Committing.{MakesChanges, RefusesChanges}
+use Rattle.mb_sqlite.proofs.ReadyLemmas.{on_err}
+use Rattle.mb_sqlite.proofs.store.SqliteStore.committed.Goals as goal
+
+pub returns-in_err-begin-clause-unchanged : goal.returns-in_err-begin-clause-unchanged
+returns-in_err-begin-clause-unchanged g c = on_err _ _ (inl c.begin.ensures.once)
+
+pub returns-in_err-commit-clause-unchanged : goal.returns-in_err-commit-clause-unchanged
+returns-in_err-commit-clause-unchanged g c = on_err _ _ (inr (record {
+  ready = c.begin.new.self.connection;
+  is_ready = c.in_ok-begin.ensures.ready;
+  once = c.begin.ensures.once;
+  after = subst (λ layout. RefusesChanges g.S.Store layout c.args.changes.now c.commit.new.connection c.begin.new.self.connection) c.in_ok-begin.ensures.layout
+      (record { once = c.commit.ensures.once; kept = c.in_err-commit.ensures.refused });
+}))
+
+pub returns-clause-changed : goal.returns-clause-changed
+returns-clause-changed g c = record {
+  ready = c.begin.new.self.connection;
+  is_ready = c.in_ok-begin.ensures.ready;
+  once = c.begin.ensures.once;
+  after = subst (λ layout. MakesChanges g.S.Store layout c.args.changes.now c.commit.new.connection c.begin.new.self.connection) c.in_ok-begin.ensures.layout
+      (record { once = c.commit.ensures.once; committed = c.in_ok-commit.ensures.changed });
+}

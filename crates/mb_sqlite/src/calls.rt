@@ -1,0 +1,153 @@
+// What each call does, with an answer whose fault isn't counted yet. The first one makes the tables that aren't there.
+ghost use Rattle.std.specs.Prelude.{◌≡◌, ◌⊎◌, ◌≤◌, false, true, [], All, IfOk, IfSome, OnErr, OnOk, length};
+ghost use Rattle.mb_tables.specs.Schema.{set_tables};
+ghost use Rattle.mb_tables.specs.Described.{is_table};
+ghost use Rattle.mb_tables.specs.Table.{width};
+ghost use Rattle.mb_sqlite.specs.Committing.{CommitsNothing, CommitsOnce, IsReady, KeepsCommitted, MakesChanges, OnceReady, RefusesChanges, Sees};
+ghost use Rattle.mb_sqlite.specs.Cursor.{cursor_start};
+ghost use Rattle.mb_sqlite.specs.Making.{AreChanged, AreMade, begun};
+ghost use Rattle.mb_sqlite.specs.Reading.{ArePaged, IsCounted, IsFound};
+
+use crate::failure::Failure;
+use crate::layout::has_table;
+use crate::store::SqliteStore;
+use crate::{making, reading, writing};
+use mb_store::Changes;
+use mb_tables::{Row, RowKey, TableDesc, TableName, set_tables};
+use sqlite::Alter;
+use std::alloc::Global;
+
+impl<S: Alter> SqliteStore<S> {
+    // Makes the tables that aren't there, at the first call. A connection in a transaction is a fault.
+    pub(crate) fn begin(&mut self) -> Result<(), Failure>
+        ensures made { OnOk result (self.new.is_made ≡ true) }
+        ensures same { self.old.is_made ≡ true → self.new.connection ≡ self.old.connection }
+        ensures once { CommitsOnce S.Store (AreMade S.Store self.old.layout (begun self.old.connection)) self.old.connection self.new.connection }
+        ensures ready { OnOk result (IsReady S.Store self.old.layout self.old.is_made self.old.connection self.new.connection) }
+        ensures layout { self.new.layout ≡ self.old.layout }
+        ensures cursor { self.new.cursor ≡ self.old.cursor }
+        ensures faults { self.new.faults ≡ self.old.faults }
+    {
+        if !self.connection.is_autocommit() {
+            return Err(Failure::Fault);
+        }
+        if !self.is_made {
+            making::make(&mut self.connection, self.layout)?;
+            self.is_made = true;
+        }
+        Ok(())
+    }
+
+    // The descriptions of the layout's tables and views.
+    pub(crate) fn described(&mut self, alloc: Global) -> Result<Vec<TableDesc>, Failure>
+        ensures described { IfOk result (λ tables. tables.items ≡ set_tables self.old.layout) }
+        ensures once { CommitsOnce S.Store (AreMade S.Store self.old.layout (begun self.old.connection)) self.old.connection self.new.connection }
+        ensures ready { OnOk result (IsReady S.Store self.old.layout self.old.is_made self.old.connection self.new.connection) }
+        ensures layout { self.new.layout ≡ self.old.layout }
+        ensures cursor { self.new.cursor ≡ self.old.cursor }
+        ensures made { OnOk result (self.new.is_made ≡ true) }
+        ensures faults { self.new.faults ≡ self.old.faults }
+    {
+        self.begin()?;
+        Ok(set_tables(alloc, self.layout)?)
+    }
+
+    pub(crate) fn counted_rows(&mut self, table: TableName) -> Result<u64, Failure>
+        ensures survives { self.old.is_made ≡ true → CommitsNothing S.Store self.old.connection self.new.connection }
+        ensures once { CommitsOnce S.Store (AreMade S.Store self.old.layout (begun self.old.connection)) self.old.connection self.new.connection }
+        ensures undescribed { is_table (set_tables self.old.layout) table ≡ false → IfOk result (λ count. count ≡ 0) }
+        ensures counted { is_table (set_tables self.old.layout) table ≡ true → IfOk result (λ count. OnceReady S.Store self.old.layout self.old.is_made self.old.connection (Sees S.Store (λ old seen. IsCounted S.Store table old seen count) self.new.connection)) }
+        ensures layout { self.new.layout ≡ self.old.layout }
+        ensures cursor { self.new.cursor ≡ self.old.cursor }
+        ensures made { OnOk result (self.new.is_made ≡ true) }
+        ensures faults { self.new.faults ≡ self.old.faults }
+    {
+        self.begin()?;
+        if !has_table(self.layout, table) {
+            return Ok(0);
+        }
+        reading::count(&mut self.connection, table)
+    }
+
+    pub(crate) fn page(
+        &mut self,
+        alloc: Global,
+        table: TableName,
+        from: u64,
+        limit: u64,
+    ) -> Result<Vec<Row>, Failure>
+        ensures widths { IfOk result (λ rows. All (λ row. length row ≡ width table) rows.items) }
+        ensures limit { IfOk result (λ rows. length rows.items ≤ limit) }
+        ensures undescribed { is_table (set_tables self.old.layout) table ≡ false → IfOk result (λ rows. rows.items ≡ []) }
+        ensures survives { self.old.is_made ≡ true → CommitsNothing S.Store self.old.connection self.new.connection }
+        ensures once { CommitsOnce S.Store (AreMade S.Store self.old.layout (begun self.old.connection)) self.old.connection self.new.connection }
+        ensures paged { is_table (set_tables self.old.layout) table ≡ true → IfOk result (λ rows. OnceReady S.Store self.old.layout self.old.is_made self.old.connection (Sees S.Store (λ old seen. ArePaged S.Store table old seen (cursor_start self.old.cursor table from) limit rows.items) self.new.connection)) }
+        ensures layout { self.new.layout ≡ self.old.layout }
+        ensures made { OnOk result (self.new.is_made ≡ true) }
+        ensures faults { self.new.faults ≡ self.old.faults }
+    {
+        self.begin()?;
+        if !has_table(self.layout, table) {
+            return Ok(Vec::new(alloc));
+        }
+        reading::page(
+            alloc,
+            &mut self.connection,
+            &mut self.cursor,
+            table,
+            from,
+            limit,
+        )
+    }
+
+    pub(crate) fn found(
+        &mut self,
+        alloc: Global,
+        table: TableName,
+        key: &RowKey,
+    ) -> Result<Option<Row>, Failure>
+        ensures widths { IfOk result (λ row. IfSome row (λ row. length row ≡ width table)) }
+        ensures survives { self.old.is_made ≡ true → CommitsNothing S.Store self.old.connection self.new.connection }
+        ensures once { CommitsOnce S.Store (AreMade S.Store self.old.layout (begun self.old.connection)) self.old.connection self.new.connection }
+        ensures undescribed { is_table (set_tables self.old.layout) table ≡ false → IfOk result (λ row. row ≡ None) }
+        ensures found { is_table (set_tables self.old.layout) table ≡ true → IfOk result (λ row. OnceReady S.Store self.old.layout self.old.is_made self.old.connection (Sees S.Store (λ old seen. IsFound S.Store table old seen key.now row) self.new.connection)) }
+        ensures layout { self.new.layout ≡ self.old.layout }
+        ensures cursor { self.new.cursor ≡ self.old.cursor }
+        ensures made { OnOk result (self.new.is_made ≡ true) }
+        ensures faults { self.new.faults ≡ self.old.faults }
+    {
+        self.begin()?;
+        if !has_table(self.layout, table) {
+            return Ok(None);
+        }
+        reading::find(alloc, &mut self.connection, table, key)
+    }
+
+    pub(crate) fn committed(&mut self, alloc: Global, changes: &Changes) -> Result<(), Failure>
+        ensures once { self.old.is_made ≡ true → CommitsOnce S.Store (AreChanged S.Store self.old.layout changes.now (begun self.old.connection)) self.old.connection self.new.connection }
+        ensures changed { OnOk result (OnceReady S.Store self.old.layout self.old.is_made self.old.connection (MakesChanges S.Store self.old.layout changes.now self.new.connection)) }
+        ensures unchanged { OnErr result (CommitsOnce S.Store (AreMade S.Store self.old.layout (begun self.old.connection)) self.old.connection self.new.connection ⊎ OnceReady S.Store self.old.layout self.old.is_made self.old.connection (RefusesChanges S.Store self.old.layout changes.now self.new.connection)) }
+        ensures refused { self.old.is_made ≡ true → OnErr result (KeepsCommitted S.Store self.old.connection self.new.connection) }
+        ensures cursor { OnOk result (self.new.cursor ≡ None) }
+        ensures layout { self.new.layout ≡ self.old.layout }
+        ensures made { OnOk result (self.new.is_made ≡ true) }
+        ensures faults { self.new.faults ≡ self.old.faults }
+    {
+        self.begin()?;
+        self.cursor = None;
+        writing::commit(alloc, &mut self.connection, self.layout, changes)?;
+        Ok(())
+    }
+
+    pub(crate) fn size(&mut self) -> Result<u64, Failure>
+        ensures survives { self.old.is_made ≡ true → CommitsNothing S.Store self.old.connection self.new.connection }
+        ensures once { CommitsOnce S.Store (AreMade S.Store self.old.layout (begun self.old.connection)) self.old.connection self.new.connection }
+        ensures layout { self.new.layout ≡ self.old.layout }
+        ensures cursor { self.new.cursor ≡ self.old.cursor }
+        ensures made { OnOk result (self.new.is_made ≡ true) }
+        ensures faults { self.new.faults ≡ self.old.faults }
+    {
+        self.begin()?;
+        reading::size(&mut self.connection, self.layout)
+    }
+}
