@@ -35,7 +35,7 @@ after_twice xs ys m n w =
     ∙ ap (λ l. record { refusal = w.refusal; entries = l; leaves = m + n + w.leaves }) (sym (append_assoc xs ys w.entries))
 
 -- an entry that stands, and one that doesn't
-stood : (left : ℕ) (f : Entry → Option ℕ → Walked) (before : Option Entry) (low : ℕ) (limit : Option ℕ) (e : Entry) (es : List Entry) → stands left before low limit (end_before es limit) e ≡ true
+pub stood : (left : ℕ) (f : Entry → Option ℕ → Walked) (before : Option Entry) (low : ℕ) (limit : Option ℕ) (e : Entry) (es : List Entry) → stands left before low limit (end_before es limit) e ≡ true
     → walk_each left f before low limit (e ∷ es) ≡ then_walk (f e (end_before es limit)) (walk_each left f (Some e) low limit es)
 stood left f before low limit e es is =
     ap (λ t. elim t as (λ _. Walked) [ true ↦ then_walk (f e (end_before es limit)) (walk_each left f (Some e) low limit es) | false ↦ refuses errors.InvalidEntry ]) is
@@ -46,7 +46,7 @@ fell left f before low limit e es is =
     ap (λ t. elim t as (λ _. Walked) [ true ↦ then_walk (f e (end_before es limit)) (walk_each left f (Some e) low limit es) | false ↦ refuses errors.InvalidEntry ]) is
 
 -- two walks in a row
-then_on : (w next : Walked) → w.refusal ≡ None → then_walk w next ≡ after w.entries w.leaves next
+pub then_on : (w next : Walked) → w.refusal ≡ None → then_walk w next ≡ after w.entries w.leaves next
 then_on w next is = ap (λ o. elim o as (λ _. Walked) [ Some e ↦ w | None ↦ record { refusal = next.refusal; entries = w.entries ++ next.entries; leaves = w.leaves + next.leaves } ]) is
 
 then_stops : (w next : Walked) (e : PmtError) → w.refusal ≡ Some e → then_walk w next ≡ w
