@@ -1,9 +1,9 @@
 -- The tiles that parts come to, added in order.
-use Rattle.std.proofs.Common.{◌≡◌, ◌∙◌, ◌≢◌, ◌+◌, ◌^◌, ◌≤◌, ◌<◌, ◌⊎◌, inl, inr, ℕ, zero, suc, Bool, true, false, cond, nat_le, nat_lt, nat_eq, ◌&&◌, if◌then◌else◌, List, [], ◌∷◌, ◌++◌, length, Option, None, Some, Result, Ok, Err, refl, ap, sym, subst, arith}
+use Rattle.std.proofs.Common.{◌≡◌, ◌∙◌, ◌+◌, ◌^◌, ◌≤◌, ◌<◌, ℕ, zero, suc, Bool, true, false, nat_lt, ◌&&◌, List, [], ◌∷◌, length, Option, Result, Ok, Err, refl, ap, sym, subst, arith}
 use Rattle.std.proofs.lemmas.Bool.{and_from, and_parts, true≢false}
 use Rattle.std.proofs.lemmas.Bool.Decides.{nat_tests}
 use Rattle.std.proofs.lemmas.List.{append-nil, append_assoc}
-use Rattle.std.specs.FinMap.{find, is_sorted}
+use Rattle.std.specs.FinMap.{is_sorted}
 use Rattle.std.specs.FinMap.Entries.{below_all}
 use Rattle.std.specs.List.{range_with_len}
 use Rattle.std.specs.Ordering.{is_lt, nat_cmp}
@@ -12,17 +12,14 @@ use Rattle.pm_format.specs.declared.compression.Compression.TheVariants as compr
 use Rattle.pm_format.specs.declared.error.PmtError.{PmtError}
 use Rattle.pm_format.specs.declared.error.PmtError.TheVariants as errors
 use Rattle.pm_format.specs.declared.error.ReadCause.TheVariants as causes
-use Rattle.pm_format.specs.declared.header.Header.{Header}
-use Rattle.pm_format.specs.Directory.{Entry}
-use Rattle.pm_format.specs.LookUp.{range_of}
 use Rattle.pm_format.specs.Options.{Options}
 use Rattle.pm_writer.specs.Causes.{AddCauses}
-use Rattle.pm_writer.specs.Writing.{AddFits, Writes, add_to, data_end}
+use Rattle.pm_writer.specs.Writing.{AddFits, add_to, data_end}
 use Rattle.pm_writer.specs.declared.state.WriterState.{WriterState}
 use Rattle.tile_extract.proofs.CoveringLemmas.{lt_by, never, to_lt}
-use Rattle.tile_extract.specs.Written.{EndsBy, PartsRefuse, Puts, Rises, has_room, ids_of, of_read_error, of_write_error, put_all, put_next, put_parts}
+use Rattle.tile_extract.specs.Written.{EndsBy, Puts, Rises, has_room, of_write_error, put_all}
 use Rattle.tile_extract.specs.declared.error.ExtractError.{ExtractError}
-use Rattle.tile_extract.specs.declared.error.ExtractError.TheVariants.{Archive, IndexEntryOverflow, MediumFault, OutOfMemory}
+use Rattle.tile_extract.specs.declared.error.ExtractError.TheVariants.{IndexEntryOverflow, MediumFault}
 
 -- the same bytes at ids
 abbrev pub at_each : List ℕ → List ℕ → List (ℕ × List ℕ)

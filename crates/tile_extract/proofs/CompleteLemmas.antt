@@ -1,9 +1,9 @@
 -- What can be extracted is.
-use Rattle.std.proofs.Common.{◌≡◌, ◌∙◌, ◌≢◌, ◌⊎◌, inl, inr, ◌+◌, ◌^◌, ◌≤◌, ◌<◌, ℕ, Bool, true, false, nat_le, nat_lt, ◌&&◌, if◌then◌else◌, not, T, List, [], ◌∷◌, length, length-take, take, drop, Option, None, Some, IsSome, Result, Ok, Err, refl, ap, sym, subst, arith}
+use Rattle.std.proofs.Common.{◌≡◌, ◌∙◌, ◌⊎◌, inl, inr, ◌+◌, ◌^◌, ◌≤◌, ◌<◌, ℕ, Bool, true, false, nat_le, nat_lt, ◌&&◌, if◌then◌else◌, not, T, List, [], ◌∷◌, length, length-take, take, drop, Option, None, Some, IsSome, Result, Ok, Err, refl, ap, sym, subst, arith}
 use Rattle.std.proofs.lemmas.Bool.{and_from}
 use Rattle.std.proofs.lemmas.Option.{none-some}
 use Rattle.std.specs.Cmp.{nat_cmp_total}
-use Rattle.std.specs.FinMap.{FinMap, entries, find, from_entries, get, get-from_entries, nat_cmp-IsAntisymmetric, same_map}
+use Rattle.std.specs.FinMap.{entries, find, from_entries, get, get-from_entries, nat_cmp-IsAntisymmetric, same_map}
 use Rattle.std.specs.Ordering.{nat_cmp}
 use Rattle.std.specs.Str.{IsUtf8}
 use Rattle.tile_ids.specs.Coord.{Coord}
@@ -13,29 +13,26 @@ use Rattle.pm_format.specs.declared.error.PmtError.TheVariants as errors
 use Rattle.pm_format.specs.declared.error.ReadCause.TheVariants as causes
 use Rattle.pm_format.specs.declared.header.Header.{Header}
 use Rattle.pm_format.specs.Directory.{Entry}
-use Rattle.pm_format.specs.LookUp.{archive_map, range_of}
+use Rattle.pm_format.specs.LookUp.{range_of}
 use Rattle.pm_format.specs.Opened.{Opened, opened}
 use Rattle.pm_format.specs.Options.{Options}
-use Rattle.pm_format.specs.Sound.{HasData, Sound}
 use Rattle.pm_reader.specs.Metadata.{metadata_read}
 use Rattle.pm_writer.proofs.AddedBytes.{end_more}
 use Rattle.pm_writer.proofs.Canonical.{entries_sorted}
 use Rattle.pm_writer.proofs.Sorted.{tile_found}
-use Rattle.pm_writer.specs.Archive.{tile_in}
 use Rattle.pm_writer.specs.Causes.{ArchiveFits}
 use Rattle.pm_writer.specs.Writing.{add_to, data_end}
 use Rattle.pm_writer.specs.declared.places.ArchivePlaces.{ArchivePlaces}
 use Rattle.tile_extract.specs.Collecting.{AreOrdered}
 use Rattle.tile_extract.specs.Completeness.{CanExtract, EndsWell, IsDoneOrWanting}
-use Rattle.tile_extract.specs.Cut.{cut, intervals, options_from}
-use Rattle.tile_extract.specs.Extract.{Answers, Causes, Due, IntoCauses, IsEarly, IsLate, IsMetadataRefused, ReadCauses, Source, added, count_met, parts_met}
+use Rattle.tile_extract.specs.Cut.{intervals, options_from}
+use Rattle.tile_extract.specs.Extract.{Answers, Causes, Due, IsEarly, IsLate, IsMetadataRefused, ReadCauses, Source, added, count_met, parts_met}
 use Rattle.tile_extract.specs.Met.{met_of}
-use Rattle.tile_extract.specs.Parts.{parts}
 use Rattle.tile_extract.specs.Written.{Adds, has_room, ids_of, put_all, put_next, put_parts}
 use Rattle.tile_extract.specs.declared.error.ExtractError.{ExtractError}
 use Rattle.tile_extract.specs.declared.error.ExtractError.TheVariants.{Archive, IndexEntryOverflow, InvalidZoom, MediumFault, MediumNotEmpty, OutOfMemory, TooManyTiles}
 use Rattle.tile_extract.proofs.AddedLemmas.{ends_nothing, ok_is, sorted_by}
-use Rattle.tile_extract.proofs.CoveringLemmas.{covering, lt_by, to_lt}
+use Rattle.tile_extract.proofs.CoveringLemmas.{to_lt}
 use Rattle.tile_extract.proofs.CutLemmas.{cut_held, parts_in_order}
 use Rattle.tile_extract.proofs.SoundLemmas.{AreThere, GoesWell, archive_well, parts_there}
 use Rattle.tile_extract.proofs.TileLemmas.{add_all, add_each, bytes_at, all_held, all_rise}

@@ -1,33 +1,29 @@
 -- The archive of the parts of a source, finished or refused.
-use Rattle.std.proofs.Common.{◌≡◌, ◌∙◌, ◌≢◌, ◌⊎◌, inl, inr, ◌+◌, ◌≤◌, ◌<◌, ℕ, true, List, [], Option, None, Some, IfSome, Result, Ok, Err, refl, ap, sym, subst, arith}
+use Rattle.std.proofs.Common.{◌≡◌, ◌∙◌, inl, inr, ◌≤◌, ℕ, true, List, [], Option, None, Some, IfSome, Ok, Err, refl, ap, sym, subst, arith}
 use Rattle.std.specs.Cmp.{nat_cmp_total}
 use Rattle.std.specs.FinMap.{find, from_entries, get, get-from_entries}
 use Rattle.std.specs.Ordering.{nat_cmp}
 use Rattle.tile_ids.specs.Coord.{Coord}
-use Rattle.tile_ids.specs.Counts.{Rose}
 use Rattle.pm_format.specs.declared.error.PmtError.{PmtError}
 use Rattle.pm_format.specs.declared.error.PmtError.TheVariants as errors
 use Rattle.pm_format.specs.declared.error.ReadCause.TheVariants as causes
 use Rattle.pm_format.specs.declared.header.Header.{Header}
 use Rattle.pm_format.specs.Directory.{Entry}
 use Rattle.pm_format.specs.LookUp.{archive_map}
-use Rattle.pm_format.specs.Opened.{opened}
 use Rattle.pm_format.specs.Options.{Options}
 use Rattle.pm_format.specs.WellFormed.{WellFormed}
-use Rattle.pm_reader.specs.Metadata.{metadata_read}
 use Rattle.pm_writer.proofs.Canonical.{canon_is}
 use Rattle.pm_writer.proofs.PlacesRead.{places_are}
 use Rattle.pm_writer.proofs.Sorted.{sorted_formed, tile_found}
 use Rattle.pm_writer.specs.Archive.{archive, tile_in}
-use Rattle.pm_writer.specs.Causes.{ArchiveFits}
 use Rattle.pm_writer.specs.Pieces.{IsHidden}
-use Rattle.pm_writer.specs.Places.{places_of, places_read}
+use Rattle.pm_writer.specs.Places.{places_read}
 use Rattle.pm_writer.specs.declared.places.ArchivePlaces.{ArchivePlaces}
 use Rattle.tile_extract.specs.Collecting.{AreOrdered}
 use Rattle.tile_extract.specs.Cut.{cut, intervals, options_from, options_of, options_opened, options_with}
-use Rattle.tile_extract.specs.Extract.{Answers, Due, IntoBytes, IntoCauses, IntoLeaves, IsCollected, IsDone, IsExtract, IsExtracted, IsLate, Overflows, ShowsNoPart, added}
+use Rattle.tile_extract.specs.Extract.{Answers, Due, IntoBytes, IntoCauses, IntoLeaves, IsCollected, IsDone, IsExtract, IsLate, Overflows, ShowsNoPart, added}
 use Rattle.tile_extract.specs.Met.{walked}
-use Rattle.tile_extract.specs.Written.{Adds, IsArchiveOf, IsWritten, PartsOverflow, PartsRefuse, Rises, ShowsNone, WriteCauses, WritesParts, put_parts}
+use Rattle.tile_extract.specs.Written.{Adds, IsWritten, PartsOverflow, PartsRefuse, Rises, ShowsNone, WriteCauses, WritesParts, put_parts}
 use Rattle.tile_extract.specs.declared.error.ExtractError.{ExtractError}
 use Rattle.tile_extract.specs.declared.error.ExtractError.TheVariants.{Archive, IndexEntryOverflow, MediumFault, OutOfMemory}
 use Rattle.tile_extract.proofs.AddedLemmas.{sorted_by}

@@ -1,19 +1,15 @@
 -- A source that is read, or refused.
-use Rattle.std.proofs.Common.{◌≡◌, ◌∙◌, ◌≢◌, ◌⊎◌, inl, inr, ◌+◌, ◌≤◌, ◌<◌, ℕ, List, [], ◌∷◌, length, Option, None, Some, IfSome, Result, Ok, Err, refl, ap, sym, subst, arith}
-use Rattle.std.specs.Str.{IsUtf8}
-use Rattle.tile_ids.specs.Counts.{Grew, Rose}
+use Rattle.std.proofs.Common.{◌≡◌, inl, inr, ◌≤◌, ℕ, List, [], ◌∷◌, length, Option, None, Some, IfSome, Result, Ok, Err, refl, ap, arith}
 use Rattle.pm_format.specs.declared.error.PmtError.{PmtError}
 use Rattle.pm_format.specs.declared.error.PmtError.TheVariants as errors
 use Rattle.pm_format.specs.declared.error.ReadCause.TheVariants as causes
 use Rattle.pm_format.specs.Opened.{Opened, opened}
 use Rattle.pm_reader.specs.Metadata.{MetadataAnswers, MetadataCauses, metadata_read}
-use Rattle.pm_reader.specs.Opening.{IsOpenRefusal, OpenAnswers, OpenCauses, OpensAs, header_of, root_of}
+use Rattle.pm_reader.specs.Opening.{OpenAnswers, OpenCauses, OpensAs, header_of, root_of}
 use Rattle.pm_reader.specs.declared.state.ReaderState.{ReaderState}
-use Rattle.tile_extract.specs.Extract.{IsEmpty, IsMetadataRefused, ReadCauses}
-use Rattle.tile_extract.specs.Opening.{IsUnread, SourceCauses, SourceRead, opening_reads}
+use Rattle.tile_extract.specs.Extract.{IsEmpty}
+use Rattle.tile_extract.specs.Opening.{SourceCauses, SourceRead, opening_reads}
 use Rattle.tile_extract.specs.Written.{of_read_error}
-use Rattle.tile_extract.specs.declared.error.ExtractError.{ExtractError}
-use Rattle.tile_extract.specs.declared.error.ExtractError.TheVariants.{Archive, OutOfMemory}
 
 -- a length of 0 is that of an empty medium
 pub empty_told : (told : Option (List ℕ)) (n : ℕ) → IfSome told (λ b. n ≡ length b) → n ≡ 0 → IsEmpty told

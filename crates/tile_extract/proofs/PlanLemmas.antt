@@ -1,26 +1,23 @@
 -- What an extraction answers and leaves, by what is found of the source.
-use Rattle.std.proofs.Common.{◌≡◌, ◌∙◌, ◌≢◌, ◌⊎◌, inl, inr, ◌+◌, ◌≤◌, ◌<◌, ℕ, List, [], length, slice_index, Option, None, Some, IfSome, Result, Ok, Err, refl, ap, sym, subst, arith}
+use Rattle.std.proofs.Common.{◌≡◌, inl, inr, ◌+◌, ◌≤◌, ℕ, List, [], length, slice_index, Option, None, IfSome, Result, Ok, Err, ap, arith}
 use Rattle.std.specs.Str.{IsUtf8}
 use Rattle.tile_ids.specs.Coord.{Coord}
-use Rattle.tile_ids.specs.Counts.{Rose}
 use Rattle.pm_format.specs.declared.error.PmtError.{PmtError}
 use Rattle.pm_format.specs.declared.error.PmtError.TheVariants as errors
 use Rattle.pm_format.specs.declared.error.ReadCause.TheVariants as causes
 use Rattle.pm_format.specs.declared.header.Header.{Header}
 use Rattle.pm_format.specs.Directory.{Entry}
 use Rattle.pm_format.specs.Opened.{Opened, opened}
-use Rattle.pm_reader.specs.Answers.{LookUpCauses}
 use Rattle.pm_reader.specs.Metadata.{metadata_read}
 use Rattle.pm_reader.specs.declared.state.ReaderState.{ReaderState}
-use Rattle.pm_writer.specs.declared.places.ArchivePlaces.{ArchivePlaces}
 use Rattle.tile_extract.specs.Collecting.{Refuses}
 use Rattle.tile_extract.specs.Cut.{intervals}
-use Rattle.tile_extract.specs.Extract.{Answers, CollectCauses, CollectRefuses, Due, IntoBytes, IntoCauses, IntoLeaves, IsCollected, IsEarly, IsEmpty, IsMetadataRefused, ReadCauses, Source,  reads_at_most, reads_opened}
-use Rattle.tile_extract.specs.Met.{Walked, walked}
+use Rattle.tile_extract.specs.Extract.{Answers, CollectCauses, CollectRefuses, IntoBytes, IntoCauses, IntoLeaves, IsEarly, IsEmpty, ReadCauses, Source, reads_at_most, reads_opened}
+use Rattle.tile_extract.specs.Met.{walked}
 use Rattle.tile_extract.specs.Opening.{IsUnread, SourceCauses, SourceRead, opening_reads}
-use Rattle.tile_extract.specs.Parts.{parts, tile_count}
+use Rattle.tile_extract.specs.Parts.{parts}
 use Rattle.tile_extract.specs.declared.error.ExtractError.{ExtractError}
-use Rattle.tile_extract.specs.declared.error.ExtractError.TheVariants.{Archive, IndexEntryOverflow, InvalidZoom, MediumFault, MediumNotEmpty, OutOfMemory, TooManyTiles}
+use Rattle.tile_extract.specs.declared.error.ExtractError.TheVariants.{Archive, InvalidZoom, MediumNotEmpty, OutOfMemory, TooManyTiles}
 use Rattle.tile_extract.proofs.ToldLemmas.{one_told}
 
 -- an error that comes before the archive is begun

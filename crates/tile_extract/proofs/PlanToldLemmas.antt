@@ -1,5 +1,5 @@
 -- The steps of an extraction over a source that may tell its bytes.
-use Rattle.std.proofs.Common.{◌≡◌, ◌∙◌, ◌+◌, ◌≤◌, ℕ, List, [], length, Option, None, Some, IfSome, Result, Ok, Err, refl, ap, sym, subst, arith}
+use Rattle.std.proofs.Common.{◌≡◌, ◌+◌, ◌≤◌, ℕ, List, length, Option, None, Some, IfSome, Ok, Err, subst, arith}
 use Rattle.tile_ids.specs.Coord.{Coord}
 use Rattle.pm_format.specs.Directory.{Entry}
 use Rattle.pm_format.specs.Opened.{opened}

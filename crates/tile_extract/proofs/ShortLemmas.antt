@@ -1,5 +1,5 @@
 -- Entries of directories have lengths below 2^32.
-use Rattle.std.proofs.Common.{◌≡◌, ◌∙◌, ◌+◌, ◌^◌, ◌≤◌, ◌<◌, ℕ, zero, suc, Bool, true, false, nat_lt, nat_le, ◌&&◌, if◌then◌else◌, List, [], ◌∷◌, length, take, drop, Option, None, Some, option_map, Result, Ok, Err, refl, ap, sym, subst, arith}
+use Rattle.std.proofs.Common.{◌≡◌, ◌+◌, ◌^◌, ◌<◌, ℕ, zero, suc, Bool, true, false, nat_lt, if◌then◌else◌, List, [], ◌∷◌, length, take, drop, Option, None, Some, option_map, Result, Ok, Err, refl, ap, subst}
 use Rattle.std.proofs.lemmas.Option.{none-some}
 use Rattle.pm_format.specs.declared.compression.Compression.{Compression}
 use Rattle.pm_format.specs.declared.compression.Compression.TheVariants as compression
@@ -8,7 +8,7 @@ use Rattle.pm_format.specs.declared.error.PmtError.TheVariants as errors
 use Rattle.pm_format.specs.declared.error.ReadCause.TheVariants as causes
 use Rattle.pm_format.specs.declared.header.Header.{Header}
 use Rattle.pm_format.specs.declared.header.TheConstants.{HEADER_SIZE, ROOT_END}
-use Rattle.pm_format.specs.Directory.{Entry, ◌>>=◌, column, dir_of, entries_of, entry, ids_from, offsets_from}
+use Rattle.pm_format.specs.Directory.{Entry, column, dir_of, entries_of, ids_from, offsets_from}
 use Rattle.pm_format.specs.Header.{head}
 use Rattle.pm_format.specs.LookUp.{leaf_of, range_of}
 use Rattle.pm_format.specs.Opened.{Opened, opened, root_decoded, root_labelled, root_placed}

@@ -1,21 +1,20 @@
 -- The walk of a sound archive isn't refused, and comes to tiles that are there.
-use Rattle.std.proofs.Common.{◌≡◌, ◌∙◌, ◌≢◌, ◌+◌, ◌^◌, ◌≤◌, ◌<◌, ℕ, zero, suc, Bool, true, false, not, nat_le, nat_lt, nat_eq, ◌&&◌, if◌then◌else◌, ◌-◌, max, min, List, [], ◌∷◌, ◌++◌, Option, None, Some, IsSome, Result, Ok, Err, refl, ap, sym, subst, arith}
+use Rattle.std.proofs.Common.{◌≡◌, ◌∙◌, ◌≢◌, ◌+◌, ◌^◌, ◌≤◌, ◌<◌, ℕ, zero, suc, Bool, true, false, not, nat_le, nat_eq, ◌&&◌, if◌then◌else◌, ◌-◌, max, min, List, [], ◌∷◌, ◌++◌, Option, None, Some, Ok, refl, ap, sym, subst, arith}
 use Rattle.std.proofs.lemmas.Bool.{and_from}
 use Rattle.std.proofs.lemmas.Bool.Decides.{nat_tests}
 use Rattle.tile_ids.specs.declared.id.TheConstants.{MAX_TILE_ID}
 use Rattle.pm_format.specs.declared.header.Header.{Header}
 use Rattle.pm_format.specs.Directory.{Entry, entry}
-use Rattle.pm_format.specs.LookUp.{leaf_of, range_of}
-use Rattle.pm_format.specs.Opened.{Opened, opened}
+use Rattle.pm_format.specs.LookUp.{leaf_of}
 use Rattle.pm_format.specs.Sound.{EachEntry, HasData, Sound, SoundDirectory}
 use Rattle.tile_ids.specs.Coord.{Coord}
 use Rattle.tile_extract.specs.Cut.{intervals}
-use Rattle.tile_extract.specs.Met.{Walked, below, end_before, entry_walk, fits_kind, is_below, is_met, leaf_read, met_of, nothing_met, rises, stands, stays_within, then_walk, tile_met, walk_each, walked}
+use Rattle.tile_extract.specs.Met.{Walked, below, entry_walk, fits_kind, is_below, is_met, met_of, nothing_met, rises, stands, stays_within, then_walk, walk_each, walked}
 use Rattle.tile_extract.specs.Parts.{clip, clip_all, parts, parts_of}
-use Rattle.tile_extract.proofs.CoveringLemmas.{le_by, never, to_le, to_lt}
+use Rattle.tile_extract.proofs.CoveringLemmas.{to_le, to_lt}
 use Rattle.tile_extract.proofs.OrderLemmas.{is_zero}
 use Rattle.tile_extract.proofs.ShortLemmas.{AreShort, leaf_short, root_short}
-use Rattle.tile_extract.proofs.WalkingLemmas.{after, leaf_goes, stood, then_on, tile_goes, unmet_goes, walked_is}
+use Rattle.tile_extract.proofs.WalkingLemmas.{leaf_goes, stood, then_on, tile_goes, unmet_goes, walked_is}
 
 -- tile entries whose contents are there, and shorter than 2^32 bytes
 abbrev pub AreThere : Header → List ℕ → List Entry → Type 0

@@ -1,10 +1,9 @@
 -- An extraction with the tests of the zoom and of the medium before it.
-use Rattle.std.proofs.Common.{◌≡◌, ◌∙◌, ◌≢◌, ◌⊎◌, inl, inr, ◌+◌, ◌≤◌, ◌<◌, ℕ, List, [], ◌∷◌, length, slice_index, Option, None, Some, is_some, IfSome, Result, Ok, Err, refl, ap, sym, subst, arith}
+use Rattle.std.proofs.Common.{◌≡◌, inl, ◌≤◌, ℕ, List, [], ◌∷◌, Option, None, Some, is_some, IfSome, Result, Ok, Err, refl, sym, subst, arith}
 use Rattle.tile_ids.specs.Coord.{Coord}
-use Rattle.tile_ids.specs.Counts.{Rose}
 use Rattle.pm_writer.specs.Pieces.{BothTold}
 use Rattle.pm_writer.specs.declared.places.ArchivePlaces.{ArchivePlaces}
-use Rattle.tile_extract.specs.Extract.{Answers, Causes, IntoBytes, IntoCauses, IntoLeaves, IsEmpty, IsValid, Leaves, LeavesBytes, LeavesPart, ShowsNoPart}
+use Rattle.tile_extract.specs.Extract.{Answers, Causes, IntoBytes, IntoCauses, IntoLeaves, IsEmpty, IsValid, Leaves, LeavesBytes, LeavesPart}
 use Rattle.tile_extract.specs.Opening.{MediumTested}
 use Rattle.tile_extract.specs.declared.error.ExtractError.{ExtractError}
 use Rattle.tile_extract.specs.declared.error.ExtractError.TheVariants.{Archive, IndexEntryOverflow, InvalidZoom, MediumFault, MediumNotEmpty, OutOfMemory, TooManyTiles}
