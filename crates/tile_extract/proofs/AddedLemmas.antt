@@ -1,9 +1,9 @@
 -- The tiles that parts come to, added in order.
-use Rattle.std.proofs.Common.{◌≡◌, ◌∙◌, ◌≢◌, ◌+◌, ◌^◌, ◌≤◌, ◌<◌, ◌⊎◌, inl, inr, ℕ, zero, suc, Bool, true, false, cond, nat_le, nat_lt, nat_eq, ◌&&◌, if◌then◌else◌, List, [], ◌∷◌, ◌++◌, length, Option, None, Some, Result, Ok, Err, refl, ap, sym, subst, arith}
+use Rattle.std.proofs.Common.{◌≡◌, ◌∙◌, ◌+◌, ◌^◌, ◌≤◌, ◌<◌, ℕ, zero, suc, Bool, true, false, nat_lt, ◌&&◌, List, [], ◌∷◌, length, Option, Result, Ok, Err, refl, ap, sym, subst, arith}
 use Rattle.std.proofs.lemmas.Bool.{and_from, and_parts, true≢false}
 use Rattle.std.proofs.lemmas.Bool.Decides.{nat_tests}
 use Rattle.std.proofs.lemmas.List.{append-nil, append_assoc}
-use Rattle.std.specs.FinMap.{find, is_sorted}
+use Rattle.std.specs.FinMap.{is_sorted}
 use Rattle.std.specs.FinMap.Entries.{below_all}
 use Rattle.std.specs.List.{range_with_len}
 use Rattle.std.specs.Ordering.{is_lt, nat_cmp}
@@ -12,38 +12,22 @@ use Rattle.pm_format.specs.declared.compression.Compression.TheVariants as compr
 use Rattle.pm_format.specs.declared.error.PmtError.{PmtError}
 use Rattle.pm_format.specs.declared.error.PmtError.TheVariants as errors
 use Rattle.pm_format.specs.declared.error.ReadCause.TheVariants as causes
-use Rattle.pm_format.specs.declared.header.Header.{Header}
-use Rattle.pm_format.specs.Directory.{Entry}
-use Rattle.pm_format.specs.LookUp.{range_of}
 use Rattle.pm_format.specs.Options.{Options}
 use Rattle.pm_writer.specs.Causes.{AddCauses}
-use Rattle.pm_writer.specs.Writing.{AddFits, Writes, add_to, data_end}
+use Rattle.pm_writer.specs.Writing.{AddFits, add_to, data_end}
 use Rattle.pm_writer.specs.declared.state.WriterState.{WriterState}
 use Rattle.tile_extract.proofs.CoveringLemmas.{lt_by, never, to_lt}
-use Rattle.tile_extract.specs.Written.{EndsBy, PartsRefuse, Puts, Rises, has_room, ids_of, of_read_error, of_write_error, put_all, put_next, put_parts}
+use Rattle.tile_extract.specs.Written.{EndsBy, Puts, Rises, has_room, of_write_error, put_all}
 use Rattle.tile_extract.specs.declared.error.ExtractError.{ExtractError}
-use Rattle.tile_extract.specs.declared.error.ExtractError.TheVariants.{Archive, IndexEntryOverflow, MediumFault, OutOfMemory}
+use Rattle.tile_extract.specs.declared.error.ExtractError.TheVariants.{IndexEntryOverflow, MediumFault}
 
 -- the same bytes at ids
 abbrev pub at_each : List ℕ → List ℕ → List (ℕ × List ℕ)
 at_each bytes [] = []
 at_each bytes (id ∷ ids) = (id, bytes) ∷ at_each bytes ids
 
-add_some : (done : List (ℕ × List ℕ)) (id : ℕ) (bytes : List ℕ) → bytes ≢ [] → add_to done id bytes ≡ done ++ (id, bytes) ∷ []
-add_some done id [] some = absurd (some refl)
-add_some done id (b ∷ bytes) some = refl
-
-ok_is : {A E : Type 0} (x y : A) → ◌≡◌ {A = Result A E} (Ok x) (Ok y) → x ≡ y
+pub ok_is : {A E : Type 0} (x y : A) → ◌≡◌ {A = Result A E} (Ok x) (Ok y) → x ≡ y
 ok_is x y e = cc
-
-pub put_all_is : (o : Options) (bytes : List ℕ) (ids : List ℕ) (done more : List (ℕ × List ℕ)) → bytes ≢ [] → put_all o bytes done ids ≡ Ok more → more ≡ done ++ at_each bytes ids
-put_all_is o bytes [] done more some is = sym (ok_is done more is) ∙ sym (append-nil done)
-put_all_is o bytes (id ∷ ids) done more some is = by_test (has_room o done id bytes) (λ at. put_all_is o bytes ids (add_to done id bytes) more some at) is
-  where
-    by_test : (t : Bool) → (put_all o bytes (add_to done id bytes) ids ≡ Ok more → more ≡ add_to done id bytes ++ at_each bytes ids)
-        → (elim t as (λ _. Result (List (ℕ × List ℕ)) ExtractError) [ true ↦ put_all o bytes (add_to done id bytes) ids | false ↦ Err IndexEntryOverflow ]) ≡ Ok more → more ≡ done ++ (id, bytes) ∷ at_each bytes ids
-    by_test true rest is = rest is ∙ ap (λ l. l ++ at_each bytes ids) (add_some done id bytes some) ∙ append_assoc done ((id, bytes) ∷ []) (at_each bytes ids)
-    by_test false rest is = absurd (cc)
 
 below_by : (x low : ℕ) (adds : List (ℕ × List ℕ)) → x < low → Rises low adds → below_all nat_cmp x adds ≡ true
 below_by x low [] less r = refl
@@ -69,7 +53,7 @@ pub ends_rise : (adds : List (ℕ × List ℕ)) (m : ℕ) → EndsBy adds m → 
 ends_rise adds m e = subst (Rises 0) (append-nil adds) (e [] tt)
 
 -- one more add
-ends_add : (adds : List (ℕ × List ℕ)) (id : ℕ) (bytes : List ℕ) → EndsBy adds id → EndsBy (add_to adds id bytes) (id + 1)
+pub ends_add : (adds : List (ℕ × List ℕ)) (id : ℕ) (bytes : List ℕ) → EndsBy adds id → EndsBy (add_to adds id bytes) (id + 1)
 ends_add adds id [] e = ends_later adds id (id + 1) (omega arith) e
 ends_add adds id (b ∷ bytes) e = λ more r. subst (Rises 0) (sym (append_assoc adds ((id, b ∷ bytes) ∷ []) more)) (e ((id, b ∷ bytes) ∷ more) (omega arith, r))
 

@@ -1,12 +1,13 @@
 -- The parts of a tile entry in intervals that are apart.
-use Rattle.std.proofs.Common.{◌≡◌, ◌∙◌, ◌≢◌, ◌+◌, ◌-◌, ◌≤◌, ◌<◌, ℕ, Bool, true, false, List, [], ◌∷◌, ◌++◌, length, max, min, nat_le, nat_eq, if◌then◌else◌, Option, Some, refl, ap, sym, subst, arith}
+use Rattle.std.proofs.Common.{◌≡◌, ◌∙◌, ◌≢◌, ◌+◌, ◌-◌, ◌≤◌, ℕ, Bool, true, false, List, [], ◌∷◌, ◌++◌, length, max, min, nat_le, nat_eq, if◌then◌else◌, Option, Some, refl, ap, sym, subst, arith}
 use Rattle.std.proofs.lemmas.Bool.Decides.{nat_tests}
 use Rattle.std.proofs.lemmas.List.{append-nil, append_assoc}
 use Rattle.tile_ids.specs.declared.id.TheConstants.{MAX_TILE_ID}
 use Rattle.pm_format.specs.Directory.{Entry, entry}
 use Rattle.tile_extract.specs.Collecting.{AreApart, AreOrdered, Collects}
-use Rattle.tile_extract.specs.Parts.{clip, clip_all, parts_of}
+use Rattle.tile_extract.specs.Parts.{clip, clip_all, parts, parts_of}
 use Rattle.tile_extract.specs.declared.parts.Collected.{Collected}
+use Rattle.tile_extract.proofs.CoveringLemmas.{le_by, ordered_append, to_le}
 use Rattle.tile_extract.proofs.CollectingLemmas.{collects_nothing, collects_twice, ordered_later}
 
 -- Where the parts collected so far end, the intervals from an id on being left.
@@ -91,3 +92,36 @@ all_reached e rest now s = ordered_later 0 now.parts.items (reach e s.low) (e.ti
 
 pub nothing_clipped : (e : Entry) (is : List (ℕ × ℕ)) (old : Collected) → e.length ≡ 0 → Collects old (parts_of is e) old
 nothing_clipped e is old none = subst (λ n. Collects old (if nat_eq n 0 then [] else clip_all e is) old) (sym none) (collects_nothing old)
+
+-- the parts of an entry are in order, and so are those of entries in order
+from_low : (low m : ℕ) (ps : List Entry) (end : Option ℕ) → low ≤ m → AreOrdered m ps end → AreOrdered low ps end
+from_low low m ps end le o = ordered_append low m [] ps end (to_le low m le) o
+
+clips_ordered : (e : Entry) (low : ℕ) (is : List (ℕ × ℕ)) → 1 ≤ e.run_length → e.tile_id + e.run_length ≤ MAX_TILE_ID + 1 → AreApart low is → AreOrdered (reach e low) (clip_all e is) (Some (e.tile_id + e.run_length))
+clips_ordered e low [] some most apart = to_le (reach e low) (e.tile_id + e.run_length) (omega arith)
+clips_ordered e low (i ∷ is) some most apart = by_test (nat_le first last) refl (clips_ordered e (i.1 + 1) is some most apart.2)
+  where
+    first : ℕ
+    first = max e.tile_id i.0
+
+    last : ℕ
+    last = min (e.tile_id + (e.run_length - 1)) i.1
+
+    by_test : (t : Bool) → nat_le first last ≡ t → AreOrdered (reach e (i.1 + 1)) (clip_all e is) (Some (e.tile_id + e.run_length))
+        → AreOrdered (reach e low) ((if t then entry first e.offset e.length (last - first + 1) ∷ [] else []) ++ clip_all e is) (Some (e.tile_id + e.run_length))
+    by_test false test rest = from_low (reach e low) (reach e (i.1 + 1)) (clip_all e is) (Some (e.tile_id + e.run_length)) (omega (arith, apart.0, apart.1)) rest
+    by_test true test rest =
+        let fits : first ≤ last = le_by first last test in (
+          omega (arith, apart.0, apart.1),
+          omega arith,
+          omega (arith, fits, most, some),
+          from_low (first + (last - first + 1)) (reach e (i.1 + 1)) (clip_all e is) (Some (e.tile_id + e.run_length)) (omega (arith, fits, some)) rest,
+        )
+
+pub parts_ordered : (is : List (ℕ × ℕ)) (low : ℕ) (es : List Entry) (end : Option ℕ) → AreApart 0 is → AreOrdered low es end → AreOrdered low (parts is es) end
+parts_ordered is low [] end apart o = o
+parts_ordered is low (e ∷ es) end apart o = by_test (nat_eq e.length 0) (parts_ordered is (e.tile_id + e.run_length) es end apart o.3)
+  where
+    by_test : (t : Bool) → AreOrdered (e.tile_id + e.run_length) (parts is es) end → AreOrdered low ((if t then [] else clip_all e is) ++ parts is es) end
+    by_test true rest = from_low low (e.tile_id + e.run_length) (parts is es) end (omega (arith, o.0)) rest
+    by_test false rest = ordered_append low (e.tile_id + e.run_length) (clip_all e is) (parts is es) end (from_low low (reach e 0) (clip_all e is) (Some (e.tile_id + e.run_length)) (omega (arith, o.0)) (clips_ordered e 0 is o.1 o.2 apart)) rest

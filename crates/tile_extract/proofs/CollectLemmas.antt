@@ -1,9 +1,9 @@
 -- Room for tiles.
-use Rattle.std.proofs.Common.{◌≡◌, ◌∙◌, ◌+◌, ◌-◌, ◌≤◌, ◌<◌, ℕ, Bool, true, false, nat_le, if◌then◌else◌, List, [], ◌∷◌, Option, None, Some, refl, ap, sym, subst, arith}
+use Rattle.std.proofs.Common.{◌≡◌, ◌∙◌, ◌+◌, ◌-◌, ◌≤◌, ◌<◌, ℕ, Bool, true, false, nat_le, if◌then◌else◌, List, [], ◌∷◌, None, Some, refl, sym, arith}
 use Rattle.std.proofs.lemmas.Bool.Decides.{nat_tests}
 use Rattle.std.proofs.lemmas.Option.{none-some}
 use Rattle.pm_format.specs.Directory.{Entry}
-use Rattle.tile_extract.specs.Collecting.{room_after, taken}
+use Rattle.tile_extract.specs.Collecting.{room_after}
 use Rattle.tile_extract.specs.Parts.{tile_count}
 use Rattle.tile_extract.proofs.CollectingLemmas.{room_none}
 

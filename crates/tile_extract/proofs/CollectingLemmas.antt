@@ -1,5 +1,5 @@
 -- Parts that are collected.
-use Rattle.std.proofs.Common.{◌≡◌, ◌∙◌, ◌+◌, ◌≤◌, ℕ, true, List, [], ◌∷◌, ◌++◌, Option, None, Some, IfSome, refl, ap, sym, subst, arith}
+use Rattle.std.proofs.Common.{◌≡◌, ◌∙◌, ◌+◌, ◌≤◌, ℕ, true, List, [], ◌∷◌, ◌++◌, Option, None, Some, IfSome, refl, ap, sym, arith}
 use Rattle.std.proofs.lemmas.Bool.Decides.{nat_tests}
 use Rattle.std.proofs.lemmas.List.{append-nil, append_assoc}
 use Rattle.std.proofs.lemmas.Option.{none-some}
@@ -7,7 +7,6 @@ use Rattle.tile_ids.specs.declared.id.TheConstants.{MAX_TILE_ID}
 use Rattle.pm_format.specs.Directory.{Entry}
 use Rattle.tile_extract.specs.Collecting.{AreOrdered, Collects, room_after, taken}
 use Rattle.tile_extract.specs.Met.{stays_within}
-use Rattle.tile_extract.specs.Parts.{parts, parts_of}
 use Rattle.tile_extract.specs.declared.parts.Collected.{Collected}
 
 pub if_some : {A : Type 0} (o : Option ℕ) → A → IfSome o (λ _. A)

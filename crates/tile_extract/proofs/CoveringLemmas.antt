@@ -1,14 +1,13 @@
 -- Which of some tile entries in order has an id.
-use Rattle.std.proofs.Common.{◌≡◌, ◌∙◌, ◌≢◌, ◌+◌, ◌-◌, ◌≤◌, ◌<◌, ℕ, Bool, true, false, nat_le, nat_lt, nat_eq, ◌&&◌, ◌||◌, if◌then◌else◌, List, [], ◌∷◌, ◌++◌, max, min, Option, None, Some, refl, ap, sym, subst, arith}
+use Rattle.std.proofs.Common.{◌≡◌, ◌∙◌, ◌+◌, ◌-◌, ◌≤◌, ◌<◌, ℕ, Bool, true, false, nat_le, nat_lt, nat_eq, ◌&&◌, ◌||◌, if◌then◌else◌, List, [], ◌∷◌, ◌++◌, max, min, Option, None, Some, refl, ap, sym, arith}
 use Rattle.std.proofs.lemmas.Bool.Decides.{nat_tests}
 use Rattle.std.proofs.lemmas.Bool.{and_from, and_parts, true≢false}
 use Rattle.std.proofs.lemmas.List.{append_assoc}
 use Rattle.std.proofs.lemmas.Option.{none-some}
-use Rattle.tile_ids.specs.declared.id.TheConstants.{MAX_TILE_ID}
 use Rattle.pm_format.specs.Directory.{Entry, entry}
 use Rattle.tile_extract.specs.Collecting.{AreOrdered}
 use Rattle.tile_extract.specs.Cut.{in_intervals, lies_in}
-use Rattle.tile_extract.specs.Met.{is_below, stays_within}
+use Rattle.tile_extract.specs.Met.{stays_within}
 use Rattle.tile_extract.specs.Parts.{clip, clip_all, parts, parts_of}
 
 -- the first entry whose run has an id

@@ -1,8 +1,7 @@
 -- The tiles of the part that is extracted, by the parts of the tile entries that are met.
-use Rattle.std.proofs.Common.{◌≡◌, ◌∙◌, ◌≢◌, ◌+◌, ◌^◌, ◌≤◌, ◌<◌, ◌⊎◌, inl, inr, ℕ, Bool, true, false, nat_le, nat_lt, nat_eq, ◌&&◌, if◌then◌else◌, List, [], ◌∷◌, ◌++◌, length, take, drop, Option, None, Some, Result, Ok, Err, refl, ap, sym, subst, arith}
+use Rattle.std.proofs.Common.{◌≡◌, ◌∙◌, ◌+◌, ◌^◌, ◌≤◌, ◌<◌, ◌⊎◌, inl, inr, ℕ, Bool, true, false, nat_le, nat_lt, nat_eq, ◌&&◌, if◌then◌else◌, List, [], ◌∷◌, ◌++◌, length, take, drop, Option, None, Some, Result, Ok, Err, refl, ap, sym, arith}
 use Rattle.std.proofs.lemmas.Bool.{and_parts}
 use Rattle.std.proofs.lemmas.Bool.Decides.{nat_tests}
-use Rattle.std.proofs.lemmas.Option.{none-some}
 use Rattle.tile_ids.specs.Coord.{Coord}
 use Rattle.tile_ids.specs.declared.id.TheConstants.{MAX_TILE_ID}
 use Rattle.pm_format.specs.declared.error.PmtError.{PmtError}
@@ -10,14 +9,15 @@ use Rattle.pm_format.specs.declared.error.PmtError.TheVariants as errors
 use Rattle.pm_format.specs.declared.error.ReadCause.TheVariants as causes
 use Rattle.pm_format.specs.declared.header.Header.{Header}
 use Rattle.pm_format.specs.Directory.{Entry}
-use Rattle.pm_format.specs.LookUp.{archive_map, archive_tile, data_behind, data_of, entry_from, filled, range_of, tile_by, tile_opened}
+use Rattle.pm_format.specs.LookUp.{archive_map, archive_tile, data_behind, filled, range_of, tile_by, tile_opened}
 use Rattle.pm_format.specs.Opened.{Opened, opened}
-use Rattle.pm_format.specs.Scan.{scan}
 use Rattle.tile_extract.specs.Collecting.{AreOrdered}
 use Rattle.tile_extract.specs.Cut.{cut, in_intervals, intervals}
-use Rattle.tile_extract.specs.Met.{Walked, met_of, stays_within, walked}
+use Rattle.tile_extract.specs.Met.{met_of}
 use Rattle.tile_extract.specs.Parts.{clip_all, parts, parts_of}
 use Rattle.tile_extract.proofs.CoveringLemmas.{IsPartOf, clips_inside, clips_none, covering, covering_behind, covers_here, covers_later, has_id, none_below, parts_none, parts_outside}
+use Rattle.tile_extract.proofs.ClippingLemmas.{parts_ordered}
+use Rattle.tile_extract.proofs.IntervalLemmas.{apart}
 use Rattle.tile_extract.proofs.LookUpLemmas.{walked_looked}
 use Rattle.tile_extract.proofs.OrderLemmas.{walked_ordered}
 
@@ -99,3 +99,7 @@ cut_held b o c m t opens fine = by_test (in_intervals t (intervals c m)) refl
               ∙ sym (parts_held o.0 b t (intervals c m) 0 (met_of b o c m).entries None (walked_ordered 6 o.0 b (intervals c m) 0 None o.1 fine refl) lies
               ∙ ap (held o.0 b) (none_past t 0 (met_of b o c m).entries None (walked_ordered 6 o.0 b (intervals c m) 0 None o.1 fine refl) past))
         ]
+
+-- the parts that are met are in order
+pub parts_in_order : (b : List ℕ) (o : Opened) (c : Coord) (m : ℕ) → (met_of b o c m).refusal ≡ None → AreOrdered 0 (parts (intervals c m) (met_of b o c m).entries) None
+parts_in_order b o c m fine = parts_ordered (intervals c m) 0 (met_of b o c m).entries None (apart c m) (walked_ordered 6 o.0 b (intervals c m) 0 None o.1 fine refl)

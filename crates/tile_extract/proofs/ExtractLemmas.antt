@@ -1,19 +1,15 @@
 -- What an extraction comes to.
-use Rattle.std.proofs.Common.{◌≡◌, ◌∙◌, ◌≢◌, ◌⊎◌, inl, inr, ◌+◌, ◌≤◌, ◌<◌, ℕ, Bool, true, false, is_some, List, [], ◌++◌, Option, None, Some, IfSome, Result, Ok, Err, refl, ap, sym, subst, arith}
-use Rattle.std.specs.FinMap.{FinMap, from_entries, get, get-from_entries}
-use Rattle.std.specs.Ordering.{nat_cmp}
-use Rattle.tile_ids.specs.Coord.{Coord}
+use Rattle.std.proofs.Common.{◌≡◌, ◌∙◌, ℕ, true, is_some, List, [], ◌++◌, Option, None, Some, IfSome, Ok, Err, refl, ap, sym, subst}
 use Rattle.pm_format.specs.declared.error.PmtError.{PmtError}
 use Rattle.pm_format.specs.declared.error.PmtError.TheVariants as errors
-use Rattle.pm_format.specs.declared.error.ReadCause.TheVariants as causes
 use Rattle.pm_format.specs.declared.header.Header.{Header}
 use Rattle.pm_format.specs.Directory.{Entry}
 use Rattle.tile_extract.specs.Collecting.{Collects, Refuses, Walks, room_after}
 use Rattle.tile_extract.specs.Met.{Walked, walked}
-use Rattle.tile_extract.specs.Parts.{parts, tile_count}
+use Rattle.tile_extract.specs.Parts.{parts}
 use Rattle.tile_extract.specs.declared.parts.Collected.{Collected}
 use Rattle.tile_extract.specs.declared.error.ExtractError.{ExtractError}
-use Rattle.tile_extract.specs.declared.error.ExtractError.TheVariants.{Archive, OutOfMemory, TooManyTiles}
+use Rattle.tile_extract.specs.declared.error.ExtractError.TheVariants.{TooManyTiles}
 use Rattle.tile_extract.specs.Extract.{CollectCauses, CollectRefuses, IsCollected}
 use Rattle.tile_extract.specs.Written.{of_read_error}
 use Rattle.tile_extract.proofs.CollectLemmas.{enough, too_many}

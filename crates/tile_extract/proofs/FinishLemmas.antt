@@ -1,9 +1,6 @@
 -- The archive of parts, finished or refused.
-use Rattle.std.proofs.Common.{◌≡◌, ◌∙◌, ◌≢◌, ◌⊎◌, inl, inr, ◌+◌, ◌≤◌, ◌<◌, ℕ, Bool, true, false, List, [], Option, None, Some, IfSome, Result, Ok, Err, refl, ap, sym, subst, arith}
+use Rattle.std.proofs.Common.{◌≡◌, ◌∙◌, inl, inr, ◌≤◌, ℕ, Bool, false, List, [], Option, IfSome, Ok, Err, sym, arith}
 use Rattle.std.proofs.lemmas.Bool.{true≢false}
-use Rattle.std.specs.FinMap.{is_sorted}
-use Rattle.std.specs.Ordering.{nat_cmp}
-use Rattle.tile_ids.specs.Counts.{Rose}
 use Rattle.pm_format.specs.declared.compression.Compression.TheVariants as compression
 use Rattle.pm_format.specs.declared.error.PmtError.{PmtError}
 use Rattle.pm_format.specs.declared.error.PmtError.TheVariants as errors
@@ -15,11 +12,10 @@ use Rattle.pm_writer.specs.Archive.{archive}
 use Rattle.pm_writer.specs.Causes.{CreateCauses, FinishCauses}
 use Rattle.pm_writer.specs.Pieces.{IsHidden, IsHiddenOr}
 use Rattle.pm_writer.specs.Places.{places_of}
-use Rattle.pm_writer.specs.Writing.{Writes}
 use Rattle.pm_writer.specs.declared.places.ArchivePlaces.{ArchivePlaces}
 use Rattle.pm_writer.specs.declared.state.WriterState.{WriterState}
 use Rattle.pm_writer.proofs.Sorted.{adds_distinct}
-use Rattle.tile_extract.specs.Written.{Adds, IsArchiveOf, IsWritten, PartsAdded, PartsOverflow, PartsPut, PartsRefuse, Rises, ShowsNone, WriteCauses, WritesParts, of_write_error, put_parts}
+use Rattle.tile_extract.specs.Written.{IsWritten, PartsAdded, PartsOverflow, PartsPut, PartsRefuse, ShowsNone, WriteCauses, WritesParts, of_write_error, put_parts}
 use Rattle.tile_extract.specs.declared.error.ExtractError.{ExtractError}
 use Rattle.tile_extract.specs.declared.error.ExtractError.TheVariants.{Archive, IndexEntryOverflow, MediumFault, OutOfMemory}
 use Rattle.tile_extract.proofs.AddedLemmas.{sorted_by}

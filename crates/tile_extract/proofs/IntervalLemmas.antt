@@ -1,5 +1,5 @@
 -- The intervals of a tile, zoom by zoom.
-use Rattle.std.proofs.Common.{◌≡◌, ◌∙◌, ◌+◌, ◌-◌, ◌*◌, ◌^◌, ◌≤◌, ◌<◌, ℕ, zero, suc, List, [], ◌∷◌, ◌++◌, refl, ap, sym, subst, arith}
+use Rattle.std.proofs.Common.{◌≡◌, ◌∙◌, ◌+◌, ◌-◌, ◌^◌, ◌≤◌, ℕ, zero, suc, List, [], ◌∷◌, ◌++◌, ap, sym, arith}
 use Rattle.std.proofs.lemmas.List.{append-nil, append_assoc}
 use Rattle.tile_ids.specs.Coord.{Coord, IsCoord}
 use Rattle.tile_ids.specs.Hilbert.{number_of, pyramid}
@@ -38,12 +38,8 @@ is_interval c z first last coord low most i =
 one_more : (c : Coord) (m z : ℕ) → z ≤ m → intervals_from c z (m + 1 - z) ≡ interval c z ∷ intervals_from c (z + 1) (m + 1 - (z + 1))
 one_more c m z le = ap (intervals_from c z) (let p : m + 1 - z ≡ suc (m + 1 - (z + 1)) = omega (arith, le) in p)
 
-pub more_intervals : (c : Coord) (m z first last : ℕ) (found : List (ℕ × ℕ)) → IsCoord c → c.z ≤ z → z ≤ m → m ≤ 31 → IsInterval c z (first, last)
-    → found ++ intervals_from c z (m + 1 - z) ≡ intervals c m → (found ++ (first, last) ∷ []) ++ intervals_from c (z + 1) (m + 1 - (z + 1)) ≡ intervals c m
-more_intervals c m z first last found coord low le most i so =
-    append_assoc found ((first, last) ∷ []) (intervals_from c (z + 1) (m + 1 - (z + 1)))
-    ∙ ap (λ k. found ++ (k ∷ intervals_from c (z + 1) (m + 1 - (z + 1)))) (sym (is_interval c z first last coord low (omega (arith, le, most)) i))
-    ∙ ap (λ l. found ++ l) (sym (one_more c m z le)) ∙ so
+pub more_intervals : (c : Coord) (m z : ℕ) (found : List (ℕ × ℕ)) → z ≤ m → found ++ intervals_from c z (m + 1 - z) ≡ intervals c m → (found ++ interval c z ∷ []) ++ intervals_from c (z + 1) (m + 1 - (z + 1)) ≡ intervals c m
+more_intervals c m z found le so = append_assoc found (interval c z ∷ []) (intervals_from c (z + 1) (m + 1 - (z + 1))) ∙ ap (λ l. found ++ l) (sym (one_more c m z le)) ∙ so
 
 pub all_found : (c : Coord) (m z : ℕ) (found : List (ℕ × ℕ)) → m + 1 ≤ z → found ++ intervals_from c z (m + 1 - z) ≡ intervals c m → found ≡ intervals c m
 all_found c m z found past so =

@@ -13,3 +13,12 @@ pub mod PartsLemmas
 pub mod FinishLemmas
 pub mod CollectLemmas
 pub mod ExtractLemmas
+pub mod TileLemmas
+pub mod OpeningLemmas
+pub mod PlanLemmas
+pub mod DoneLemmas
+pub mod ShortLemmas
+pub mod SoundLemmas
+pub mod CompleteLemmas
+pub mod PlanToldLemmas
+pub mod TestedLemmas

@@ -1,23 +1,21 @@
 -- What look-ups end at, by a walk that isn't refused.
-use Rattle.std.proofs.Common.{◌≡◌, ◌∙◌, ◌≢◌, ◌⊎◌, inl, inr, ◌+◌, ◌-◌, ◌≤◌, ◌<◌, ℕ, zero, suc, Bool, true, false, not, nat_le, nat_lt, nat_eq, ◌&&◌, ◌||◌, if◌then◌else◌, List, [], ◌∷◌, ◌++◌, Option, None, Some, Result, Ok, Err, refl, ap, sym, subst, arith}
+use Rattle.std.proofs.Common.{◌≡◌, ◌∙◌, ◌⊎◌, inl, inr, ◌+◌, ◌-◌, ◌≤◌, ◌<◌, ℕ, zero, suc, Bool, true, false, not, nat_le, nat_lt, nat_eq, ◌&&◌, ◌||◌, if◌then◌else◌, List, [], ◌∷◌, Option, None, Some, Result, Ok, Err, refl, ap, sym, arith}
 use Rattle.std.proofs.lemmas.Bool.{and_parts}
 use Rattle.std.proofs.lemmas.Bool.Decides.{nat_tests}
 use Rattle.std.proofs.lemmas.List.{append-nil}
 use Rattle.std.proofs.lemmas.Option.{none-some}
 use Rattle.tile_ids.specs.declared.id.TheConstants.{MAX_TILE_ID}
 use Rattle.pm_format.specs.declared.error.PmtError.{PmtError}
-use Rattle.pm_format.specs.declared.error.PmtError.TheVariants as errors
 use Rattle.pm_format.specs.declared.header.Header.{Header}
 use Rattle.pm_format.specs.Directory.{Entry, ◌>>=◌}
-use Rattle.pm_format.specs.LookUp.{Reached, entry_from, leaf_of, leaf_more, reached}
+use Rattle.pm_format.specs.LookUp.{entry_from, leaf_of}
 use Rattle.pm_format.specs.Scan.{covers, last_below, scan}
 use Rattle.pm_format.proofs.LookUpLemmas.{reached_leaf, reached_none, reached_tile}
-use Rattle.tile_extract.specs.Collecting.{AreOrdered}
 use Rattle.tile_extract.specs.Cut.{in_intervals, lies_in}
-use Rattle.tile_extract.specs.Met.{Walked, below, end_before, entry_walk, fits_kind, is_below, is_met, leaf_walk, meets_any, meets_one, nothing_met, refuses, rises, stands, stays_within, then_walk, tile_met, walk_each, walked}
+use Rattle.tile_extract.specs.Met.{Walked, entry_walk, fits_kind, is_below, is_met, leaf_walk, meets_any, meets_one, walk_each, walked}
 use Rattle.tile_extract.proofs.OrderLemmas.{IsOrderly, first_ordered, is_zero, orderly, unrefused}
-use Rattle.tile_extract.proofs.CoveringLemmas.{covering, covering_before, covering_behind, covers_here, covers_later, has_id, none_above, none_below, ordered_append}
-use Rattle.tile_extract.proofs.WalkingLemmas.{Stood, met_goes, stood_by, tile_goes, walked_is}
+use Rattle.tile_extract.proofs.CoveringLemmas.{covering, covering_before, covering_behind, covers_here, covers_later, has_id, none_above, none_below}
+use Rattle.tile_extract.proofs.WalkingLemmas.{met_goes, tile_goes, walked_is}
 
 lt_or : (m n : ℕ) → (m < n) ⊎ (n ≤ m)
 lt_or m n = grind arith

@@ -1,6 +1,5 @@
 -- The tile entries of a walk that isn't refused, in order.
-use Rattle.std.proofs.Common.{◌≡◌, ◌∙◌, ◌≢◌, ◌⊎◌, inl, inr, ◌+◌, ◌-◌, ◌≤◌, ◌<◌, ℕ, zero, suc, Bool, true, false, not, nat_le, nat_lt, nat_eq, ◌&&◌, ◌||◌, if◌then◌else◌, List, [], ◌∷◌, ◌++◌, Option, None, Some, Result, Ok, Err, refl, ap, sym, subst, arith}
-use Rattle.std.proofs.lemmas.Bool.{and_parts}
+use Rattle.std.proofs.Common.{◌≡◌, ◌∙◌, ◌+◌, ◌≤◌, ℕ, zero, suc, Bool, true, false, not, nat_le, nat_eq, if◌then◌else◌, List, [], ◌∷◌, ◌++◌, Option, None, Some, Result, Ok, Err, refl, ap, sym, subst, arith}
 use Rattle.std.proofs.lemmas.Bool.Decides.{nat_tests}
 use Rattle.std.proofs.lemmas.List.{append-nil}
 use Rattle.std.proofs.lemmas.Option.{none-some}
@@ -8,15 +7,12 @@ use Rattle.tile_ids.specs.declared.id.TheConstants.{MAX_TILE_ID}
 use Rattle.pm_format.specs.declared.error.PmtError.{PmtError}
 use Rattle.pm_format.specs.declared.error.PmtError.TheVariants as errors
 use Rattle.pm_format.specs.declared.header.Header.{Header}
-use Rattle.pm_format.specs.Directory.{Entry, ◌>>=◌}
-use Rattle.pm_format.specs.LookUp.{Reached, entry_from, leaf_of, leaf_more, reached}
-use Rattle.pm_format.specs.Scan.{covers, last_below, scan}
-use Rattle.pm_format.proofs.LookUpLemmas.{reached_leaf, reached_none, reached_tile}
+use Rattle.pm_format.specs.Directory.{Entry}
+use Rattle.pm_format.specs.LookUp.{leaf_of}
 use Rattle.tile_extract.specs.Collecting.{AreOrdered}
-use Rattle.tile_extract.specs.Cut.{in_intervals, lies_in}
-use Rattle.tile_extract.specs.Met.{Walked, below, end_before, entry_walk, fits_kind, is_below, is_met, leaf_walk, meets_any, meets_one, nothing_met, refuses, rises, stands, stays_within, then_walk, tile_met, walk_each, walked}
-use Rattle.tile_extract.proofs.CoveringLemmas.{covering, covering_before, covering_behind, covers_here, covers_later, has_id, none_above, none_below, ordered_append}
-use Rattle.tile_extract.proofs.WalkingLemmas.{Stood, met_goes, stood_by, tile_goes, walked_is}
+use Rattle.tile_extract.specs.Met.{Walked, below, end_before, entry_walk, fits_kind, is_met, leaf_walk, nothing_met, refuses, stands, stays_within, then_walk, tile_met, walk_each, walked}
+use Rattle.tile_extract.proofs.CoveringLemmas.{ordered_append}
+use Rattle.tile_extract.proofs.WalkingLemmas.{Stood, stood_by, walked_is}
 
 -- the first entry of a walk that isn't refused, and the rest
 pub record Unrefused (left : ℕ) (f : Entry → Option ℕ → Walked) (before : Option Entry) (low : ℕ) (limit : Option ℕ) (e : Entry) (es : List Entry) : Type 0 where

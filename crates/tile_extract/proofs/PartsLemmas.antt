@@ -1,6 +1,5 @@
 -- Parts that are added one after another.
-use Rattle.std.proofs.Common.{◌≡◌, ◌∙◌, ◌≢◌, ◌+◌, ◌≤◌, ℕ, Bool, true, false, List, [], ◌∷◌, Option, None, Some, IfSome, Result, Ok, Err, refl, ap, sym, subst, arith}
-use Rattle.std.proofs.lemmas.Option.{none-some}
+use Rattle.std.proofs.Common.{◌≡◌, ◌∙◌, ◌+◌, ◌≤◌, ℕ, List, [], ◌∷◌, Option, None, Some, IfSome, Result, Ok, Err, refl, ap, subst, arith}
 use Rattle.tile_ids.specs.Counts.{Rose}
 use Rattle.tile_ids.specs.declared.id.TheConstants.{MAX_TILE_ID}
 use Rattle.pm_format.specs.declared.error.PmtError.{PmtError}
@@ -14,9 +13,9 @@ use Rattle.pm_reader.specs.Answers.{Gives, RangeCauses, range_read}
 use Rattle.pm_writer.specs.Writing.{Writes}
 use Rattle.pm_writer.specs.declared.state.WriterState.{WriterState}
 use Rattle.tile_extract.specs.Collecting.{AreOrdered}
-use Rattle.tile_extract.specs.Written.{Adds, EndsBy, PartsAdded, PartsPut, PartsRefuse, Puts, Rises, WriteCauses, ids_of, of_read_error, put_all, put_next, put_parts}
+use Rattle.tile_extract.specs.Written.{Adds, EndsBy, PartsPut, PartsRefuse, Puts, WriteCauses, ids_of, of_read_error, put_all, put_next, put_parts}
 use Rattle.tile_extract.specs.declared.error.ExtractError.{ExtractError}
-use Rattle.tile_extract.specs.declared.error.ExtractError.TheVariants.{Archive, IndexEntryOverflow, InvalidZoom, MediumFault, MediumNotEmpty, OutOfMemory, TooManyTiles}
+use Rattle.tile_extract.specs.declared.error.ExtractError.TheVariants.{Archive, IndexEntryOverflow, MediumFault, OutOfMemory}
 use Rattle.tile_extract.proofs.AddedLemmas.{ends_all, ends_later, ends_nothing, ends_rise}
 use Rattle.tile_extract.proofs.ToldLemmas.{any_told, both_told, one_told}
 

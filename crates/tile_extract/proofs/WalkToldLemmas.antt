@@ -1,18 +1,18 @@
 -- A walk over bytes that may be told.
-use Rattle.std.proofs.Common.{◌≡◌, ◌∙◌, ◌≢◌, ◌+◌, ◌-◌, ◌≤◌, ℕ, zero, suc, Bool, true, false, List, [], ◌∷◌, length, Option, None, Some, IfSome, Result, Ok, Err, refl, ap, sym, subst, arith}
+use Rattle.std.proofs.Common.{◌≡◌, ◌∙◌, ◌+◌, ◌-◌, ◌≤◌, ℕ, zero, suc, Bool, true, false, List, ◌∷◌, length, Option, None, Some, IfSome, Result, Ok, Err, refl, ap, sym, subst, arith}
 use Rattle.std.proofs.lemmas.Bool.Decides.{nat_tests}
 use Rattle.pm_format.specs.declared.error.PmtError.{PmtError}
 use Rattle.pm_format.specs.declared.error.PmtError.TheVariants as errors
 use Rattle.pm_format.specs.declared.header.Header.{Header}
 use Rattle.pm_format.specs.Directory.{Entry}
 use Rattle.pm_format.specs.LookUp.{leaf_of}
-use Rattle.tile_extract.specs.Collecting.{AreOrdered, IsMetLeaf, MeetReads, Meets, Refuses, Walks}
+use Rattle.tile_extract.specs.Collecting.{AreOrdered, IsMetLeaf, MeetReads, Meets, Walks}
 use Rattle.tile_extract.specs.Met.{below, end_before, entry_walk, is_met, stands, stays_within, walked}
 use Rattle.tile_extract.specs.declared.parts.Collected.{Collected}
 use Rattle.tile_extract.proofs.ClippingLemmas.{no_items}
 use Rattle.tile_extract.proofs.CollectingLemmas.{ordered_end, ordered_later, starts_within}
-use Rattle.tile_extract.proofs.ToldLemmas.{all_told, both_told, one_told}
-use Rattle.tile_extract.proofs.WalkingLemmas.{SoFar, Stood, all_gone, fallen, past_leaf, reach, stood_by, stopped, stopped_below, went_on}
+use Rattle.tile_extract.proofs.ToldLemmas.{both_told}
+use Rattle.tile_extract.proofs.WalkingLemmas.{SoFar, all_gone, fallen, past_leaf, reach, stood_by, stopped, stopped_below, went_on}
 
 -- the walk of a directory so far
 abbrev pub Goes : Option (List ℕ) → Header → List (ℕ × ℕ) → ℕ → ℕ → Option ℕ → List Entry → Option Entry → List Entry → Collected → Collected → ℕ → ℕ → Type 0

@@ -1,9 +1,7 @@
 -- A walk along the entries of a directory.
-use Rattle.std.proofs.Common.{◌≡◌, ◌∙◌, ◌≢◌, ◌+◌, ◌-◌, ◌≤◌, ℕ, zero, suc, Bool, true, false, nat_eq, nat_le, ◌&&◌, List, [], ◌∷◌, ◌++◌, Option, None, Some, IfSome, Result, Ok, Err, refl, ap, sym, subst, arith}
+use Rattle.std.proofs.Common.{◌≡◌, ◌∙◌, ◌+◌, ◌≤◌, ℕ, zero, suc, true, false, nat_eq, nat_le, ◌&&◌, List, [], ◌∷◌, ◌++◌, Option, None, Some, Ok, refl, ap, sym, subst, arith}
 use Rattle.std.proofs.lemmas.Bool.{and_parts}
-use Rattle.std.proofs.lemmas.Bool.Decides.{nat_tests}
 use Rattle.std.proofs.lemmas.List.{append-nil, append_assoc}
-use Rattle.std.proofs.lemmas.Option.{none-some}
 use Rattle.pm_format.specs.declared.error.PmtError.{PmtError}
 use Rattle.pm_format.specs.declared.error.PmtError.TheVariants as errors
 use Rattle.pm_format.specs.declared.error.ReadCause.TheVariants as causes
@@ -35,7 +33,7 @@ after_twice xs ys m n w =
     ∙ ap (λ l. record { refusal = w.refusal; entries = l; leaves = m + n + w.leaves }) (sym (append_assoc xs ys w.entries))
 
 -- an entry that stands, and one that doesn't
-stood : (left : ℕ) (f : Entry → Option ℕ → Walked) (before : Option Entry) (low : ℕ) (limit : Option ℕ) (e : Entry) (es : List Entry) → stands left before low limit (end_before es limit) e ≡ true
+pub stood : (left : ℕ) (f : Entry → Option ℕ → Walked) (before : Option Entry) (low : ℕ) (limit : Option ℕ) (e : Entry) (es : List Entry) → stands left before low limit (end_before es limit) e ≡ true
     → walk_each left f before low limit (e ∷ es) ≡ then_walk (f e (end_before es limit)) (walk_each left f (Some e) low limit es)
 stood left f before low limit e es is =
     ap (λ t. elim t as (λ _. Walked) [ true ↦ then_walk (f e (end_before es limit)) (walk_each left f (Some e) low limit es) | false ↦ refuses errors.InvalidEntry ]) is
@@ -46,7 +44,7 @@ fell left f before low limit e es is =
     ap (λ t. elim t as (λ _. Walked) [ true ↦ then_walk (f e (end_before es limit)) (walk_each left f (Some e) low limit es) | false ↦ refuses errors.InvalidEntry ]) is
 
 -- two walks in a row
-then_on : (w next : Walked) → w.refusal ≡ None → then_walk w next ≡ after w.entries w.leaves next
+pub then_on : (w next : Walked) → w.refusal ≡ None → then_walk w next ≡ after w.entries w.leaves next
 then_on w next is = ap (λ o. elim o as (λ _. Walked) [ Some e ↦ w | None ↦ record { refusal = next.refusal; entries = w.entries ++ next.entries; leaves = w.leaves + next.leaves } ]) is
 
 then_stops : (w next : Walked) (e : PmtError) → w.refusal ≡ Some e → then_walk w next ≡ w

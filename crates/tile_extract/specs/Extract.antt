@@ -15,10 +15,12 @@ use Rattle.pm_format.specs.Options.{Options}
 use Rattle.pm_format.specs.WellFormed.{WellFormed}
 use Rattle.pm_reader.specs.Answers.{LookUpCauses}
 use Rattle.pm_reader.specs.Metadata.{metadata_read}
+use Rattle.pm_reader.specs.Opening.{IsOpenRefusal}
+use Rattle.pm_writer.specs.Archivable.{IsArchivable}
 use Rattle.pm_writer.specs.Archive.{canon}
 use Rattle.pm_writer.specs.Causes.{ArchiveFits}
 use Rattle.pm_writer.specs.Pieces.{BothTold, IsHidden}
-use Rattle.pm_writer.specs.Places.{places_read}
+use Rattle.pm_writer.specs.Places.{places_of, places_read}
 use Rattle.pm_writer.specs.declared.places.ArchivePlaces.{ArchivePlaces}
 use Rattle.tile_extract.specs.Cut.{cut, intervals, options_from, options_of}
 use Rattle.tile_extract.specs.Collecting.{Refuses}
@@ -75,6 +77,7 @@ added b c m most d = put_parts (options_from d.source.found.0 d.source.text c m)
 -- a refusal of a tile, after the archive was begun
 abbrev pub IsLate : List ℕ → Coord → ℕ → ℕ → PmtError → Type 0
 IsLate b c m most (errors.Reading causes.Fault) = Unit {0}
+IsLate b c m most (errors.UnexpectedNumberOfBytesReturned asked got) = ⊥
 IsLate b c m most e = (d : Due b c m most) × (added b c m most d ≡ Err (Archive e))
 
 -- data that would end past u64, or an archive that doesn't fit
@@ -83,21 +86,34 @@ Overflows b c m most = (d : Due b c m most)
     × ((added b c m most d ≡ Err IndexEntryOverflow)
     ⊎ ((adds : List (ℕ × List ℕ)) × (added b c m most d ≡ Ok adds) × (ArchiveFits (options_from d.source.found.0 d.source.text c m) adds → ⊥)))
 
+-- all tiles lie in the bytes, and their archive can be written; the places are its own
+pub record IsExtracted (b : List ℕ) (c : Coord) (m most : ℕ) (p : ArchivePlaces) : Type 0 where
+  pub due : Due b c m most
+  pub adds : List (ℕ × List ℕ)
+  pub are : added b c m most due ≡ Ok adds
+  pub fits : IsArchivable (options_from due.source.found.0 due.source.text c m) adds
+  pub places : p ≡ places_of (options_from due.source.found.0 due.source.text c m) adds
+
 -- Over told bytes: when each answer comes, once the zoom is valid and the medium empty.
 abbrev pub Answers : List ℕ → Coord → ℕ → ℕ → Result ArchivePlaces ExtractError → Type 0
-Answers b c m most (Ok p) = Due b c m most
+Answers b c m most (Ok p) = IsExtracted b c m most p
 Answers b c m most (Err (Archive e)) = IsEarly b c m e ⊎ IsLate b c m most e
 Answers b c m most (Err (TooManyTiles n)) = (n ≡ most) × ((s : Source b) × ((met_of b s.found c m).refusal ≡ None) × (most < count_met b s.found c m))
 Answers b c m most (Err IndexEntryOverflow) = Overflows b c m most
 Answers b c m most (Err e) = Unit {0}
 
+-- Told or not: why an archive isn't read. A fault comes where the count of faults rose, other numbers of bytes only where they differ.
+abbrev pub ReadCauses : ℕ → ℕ → PmtError → Type 0
+ReadCauses before now (errors.Reading causes.Fault) = Rose before now
+ReadCauses before now (errors.Reading causes.PastEnd) = Unit {0}
+ReadCauses before now (errors.UnexpectedNumberOfBytesReturned asked got) = asked ≢ got
+ReadCauses before now errors.InvalidMetadataUtf8Encoding = Unit {0}
+ReadCauses before now e = IsOpenRefusal e
+
 -- Told or not: when each answer comes once the zoom is valid and the medium empty, by the counts of faults of the source and the medium.
 abbrev pub IntoCauses : ℕ → ℕ → ℕ → ℕ → ℕ → Result ArchivePlaces ExtractError → Type 0
 IntoCauses most before now old new (Ok p) = Unit {0}
-IntoCauses most before now old new (Err (Archive (errors.Reading causes.Fault))) = Rose before now
-IntoCauses most before now old new (Err (Archive (errors.UnexpectedNumberOfBytesReturned asked got))) = asked ≢ got
-IntoCauses most before now old new (Err (Archive errors.OutOfMemory)) = ⊥
-IntoCauses most before now old new (Err (Archive e)) = Unit {0}
+IntoCauses most before now old new (Err (Archive e)) = ReadCauses before now e
 IntoCauses most before now old new (Err (TooManyTiles n)) = n ≡ most
 IntoCauses most before now old new (Err IndexEntryOverflow) = Unit {0}
 IntoCauses most before now old new (Err MediumFault) = Rose old new
@@ -115,9 +131,11 @@ Causes c m most held before now old new (Err (MediumNotEmpty n)) = IsValid c m �
 Causes c m most held before now old new (Err MediumFault) = IsValid c m × Rose old new
 Causes c m most held before now old new result = IsValid c m × IsEmpty held × IntoCauses most before now old new result
 
--- The bytes are the one archive of some options and tiles; where the source tells its bytes, those of the part that was asked for.
+-- The bytes are the one archive of some tiles and of options that have the zooms that were asked for; where the source tells its bytes, those of the part that was asked for.
 pub record IsExtract (source : Option (List ℕ)) (c : Coord) (m : ℕ) (b : List ℕ) : Type 0 where
   pub options : Options
+  pub least : options.min_zoom ≡ c.z
+  pub greatest : options.max_zoom ≡ m
   pub tiles : FinMap nat_cmp (List ℕ)
   pub one : b ≡ canon options tiles
   pub of : IfSome source (λ s. (options_of s c m ≡ Some options) × ((id : ℕ) → get tiles id ≡ cut (archive_map s) c m id))

@@ -4,3 +4,5 @@ pub mod Parts
 pub mod Collecting
 pub mod Written
 pub mod Extract
+pub mod Opening
+pub mod Completeness

@@ -1,5 +1,5 @@
 -- The parts of tile entries that lie in intervals.
-use Rattle.std.specs.Prelude.{◌≡◌, ℕ, ◌+◌, ◌-◌, Bool, true, false, List, [], ◌∷◌, ◌++◌, flat_map, max, min, nat_le, nat_eq, if◌then◌else◌, Option, Some, None, refl}
+use Rattle.std.specs.Prelude.{◌≡◌, ℕ, ◌+◌, ◌-◌, List, [], ◌∷◌, ◌++◌, flat_map, max, min, nat_le, nat_eq, if◌then◌else◌, refl}
 use Rattle.pm_format.specs.Directory.{Entry, entry}
 
 -- the part of a run of at least one id that lies in an interval

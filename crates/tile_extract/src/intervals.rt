@@ -1,11 +1,25 @@
 // The ids of what lies below a tile, zoom by zoom.
 ghost use Rattle.std.specs.Prelude.{◌≡◌, ◌≤◌, IfOk};
+ghost use Rattle.tile_ids.specs.Coord.{IsCoord};
 ghost use Rattle.tile_extract.specs.Collecting.{AreApart};
-ghost use Rattle.tile_extract.specs.Cut.{intervals};
+ghost use Rattle.tile_extract.specs.Cut.{interval, intervals};
 ghost use Rattle.tile_extract.specs.Met.{is_below, is_met};
 
 use std::alloc::Global;
 use tile_ids::{OutOfMemory, TileCoord, subtree_interval};
+
+// The first and the last id of a tile's descendants at a zoom.
+fn interval_of(root: TileCoord, zoom: u8) -> (u64, u64)
+    requires coord { IsCoord root }
+    requires least { root.z ≤ zoom }
+    requires most { zoom ≤ 31 }
+    ensures { result ≡ interval root zoom }
+{
+    let Some((first, last)) = subtree_interval(root, zoom) else {
+        unreachable!();
+    };
+    (first.value(), last.value())
+}
 
 /// The first and the last id of a tile's descendants at each zoom from its own to another, up to 31.
 pub(crate) fn intervals_of(
@@ -20,10 +34,7 @@ pub(crate) fn intervals_of(
 {
     let mut found = Vec::new(alloc);
     for zoom in root.z()..max_zoom + 1 {
-        let Some((first, last)) = subtree_interval(root, zoom) else {
-            unreachable!();
-        };
-        found.push((first.value(), last.value()))?;
+        found.push(interval_of(root, zoom))?;
     }
     Ok(found)
 }

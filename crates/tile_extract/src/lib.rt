@@ -3,11 +3,15 @@
 
 mod collection;
 mod error;
+mod extraction;
 mod intervals;
+pub mod laws;
+mod opening;
 mod parts;
 mod walk;
 mod writing;
 
 pub use collection::{collect, options_from};
 pub use error::ExtractError;
+pub use extraction::extract;
 pub use writing::write_parts;

@@ -1,5 +1,5 @@
 // The tiles of parts, written to a medium.
-ghost use Rattle.std.specs.Prelude.{◌≡◌, ◌+◌, ◌≤◌, ℕ, List, [], Option, false, IfSome, OnOk, IsErrOf, is_some, None};
+ghost use Rattle.std.specs.Prelude.{◌≡◌, ◌+◌, ◌≤◌, ℕ, List, [], length, Option, false, IfSome, OnOk, IsErrOf, is_some, None};
 ghost use Rattle.tile_ids.specs.Counts.{Rose};
 ghost use Rattle.tile_ids.specs.declared.id.TheConstants.{MAX_TILE_ID};
 ghost use Rattle.pm_format.specs.Options.{Options};
@@ -82,6 +82,7 @@ fn add_parts<B: Backend, M: Medium>(
     ensures alive { OnOk result (has_failed writer.new ≡ false) }
     ensures causes { WriteCauses (B.faults source.old) (B.faults source.new) (M.faults medium.old) (M.faults medium.new) result }
     ensures kept { ReadsOnly B.told B.versions B.faults B.steady source.old source.new }
+    ensures reads { B.reads source.new ≤ B.reads source.old + length parts.now }
     ensures tells { is_some (M.told medium.new) ≡ is_some (M.told medium.old) }
     ensures faults { M.faults medium.old ≤ M.faults medium.new }
     ensures counted { M.reads medium.new ≡ M.reads medium.old }
@@ -118,6 +119,7 @@ pub fn write_parts<B: Backend, M: Medium>(
     ensures shown { IfSome (M.told medium.new) (ShowsNone options.now (header_of reader.now) (B.told source.old) parts.now) }
     ensures causes { WriteCauses (B.faults source.old) (B.faults source.new) (M.faults medium.old) (M.faults medium.new) result }
     ensures kept { ReadsOnly B.told B.versions B.faults B.steady source.old source.new }
+    ensures reads { B.reads source.new ≤ B.reads source.old + length parts.now }
     ensures tells { is_some (M.told medium.new) ≡ is_some (M.told medium.old) }
     ensures faults { M.faults medium.old ≤ M.faults medium.new }
     ensures counted { M.reads medium.new ≡ M.reads medium.old }

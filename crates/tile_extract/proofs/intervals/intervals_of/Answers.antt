@@ -1,7 +1,7 @@
-use Rattle.std.proofs.Common.{◌≡◌, ◌∙◌, ◌+◌, ◌-◌, ◌≤◌, [], ◌∷◌, ◌++◌, ap, sym, subst, arith}
+use Rattle.std.proofs.Common.{◌∙◌, ◌+◌, ◌-◌, [], ◌∷◌, ◌++◌, ap, sym, subst, arith}
 use Rattle.tile_extract.specs.Collecting.{AreApart}
-use Rattle.tile_extract.specs.Cut.{intervals, intervals_from}
-use Rattle.tile_extract.proofs.IntervalLemmas.{all_found, apart, more_intervals, none_yet, pair_is}
+use Rattle.tile_extract.specs.Cut.{intervals_from}
+use Rattle.tile_extract.proofs.IntervalLemmas.{all_found, apart, more_intervals, none_yet}
 use Rattle.tile_extract.proofs.intervals.intervals_of.Goals as goal
 
 pub loop-zoom-init : goal.loop-zoom-init
@@ -14,9 +14,8 @@ pub loop-zoom-preserved : goal.loop-zoom-preserved
 loop-zoom-preserved c = (
   omega (arith, c.loop-zoom.invariant.0),
   ap (λ l. l ++ intervals_from c.args.root (c.loop-zoom.zoom + 1) (c.args.max_zoom + 1 - (c.loop-zoom.zoom + 1))) c.in_ok-push.ensures.items
-      ∙ ap (λ p. (c.loop-zoom.found.items ++ p ∷ []) ++ intervals_from c.args.root (c.loop-zoom.zoom + 1) (c.args.max_zoom + 1 - (c.loop-zoom.zoom + 1)))
-      (pair_is _ _ _ _ c.value.ensures.value c.value-in-loop-zoom.ensures.value)
-      ∙ more_intervals c.args.root c.args.max_zoom c.loop-zoom.zoom _ _ c.loop-zoom.found.items c.z-zoom.ensures.within c.loop-zoom.invariant.0 (omega (arith, c.loop-zoom-test.true)) c.requires.most c.in-Some.ensures.ends c.loop-zoom.invariant.1,
+      ∙ ap (λ p. (c.loop-zoom.found.items ++ p ∷ []) ++ intervals_from c.args.root (c.loop-zoom.zoom + 1) (c.args.max_zoom + 1 - (c.loop-zoom.zoom + 1))) c.interval_of.ensures
+      ∙ more_intervals c.args.root c.args.max_zoom c.loop-zoom.zoom c.loop-zoom.found.items (omega (arith, c.loop-zoom-test.true)) c.loop-zoom.invariant.1,
 )
 
 pub returns-clause-are : goal.returns-clause-are

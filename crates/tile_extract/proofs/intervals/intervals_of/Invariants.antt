@@ -1,5 +1,4 @@
 use Rattle.std.proofs.Common.{◌≡◌, ◌+◌, ◌-◌, ◌≤◌, ◌++◌}
-use Rattle.tile_ids.specs.Coord.{IsCoord}
 use Rattle.tile_extract.specs.Cut.{intervals, intervals_from}
 use Rattle.tile_extract.proofs.intervals.intervals_of.Given as goal
 

@@ -1,4 +1,4 @@
-use Rattle.std.proofs.Common.{◌∙◌, ◌+◌, ap, sym, subst, Ok, Some, IfSome, refl, arith}
+use Rattle.std.proofs.Common.{◌∙◌, ap, subst, Ok, IfSome, refl, arith}
 use Rattle.pm_reader.specs.Opening.{header_of}
 use Rattle.tile_extract.specs.Collecting.{IsMetLeaf}
 use Rattle.tile_extract.proofs.ToldLemmas.{any_told}

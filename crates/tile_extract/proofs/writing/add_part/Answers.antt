@@ -1,4 +1,4 @@
-use Rattle.std.proofs.Common.{◌≡◌, ◌∙◌, ℕ, List, Err, refl, ap, sym, subst, arith}
+use Rattle.std.proofs.Common.{◌∙◌, Err, refl, ap, sym, subst, arith}
 use Rattle.pm_writer.specs.Writing.{add_to}
 use Rattle.tile_extract.specs.Written.{Puts, ids_of, put_all}
 use Rattle.tile_extract.proofs.AddedLemmas.{add_faulted, add_refused, err_is, puts_next}

@@ -1,8 +1,8 @@
-use Rattle.std.proofs.Common.{◌≡◌, ◌∙◌, ◌+◌, ℕ, List, Ok, Err, IfSome, refl, ap, sym, subst, arith}
+use Rattle.std.proofs.Common.{◌≡◌, ◌∙◌, ◌+◌, ◌∷◌, length, Ok, IfSome, ap, sym, subst, arith}
 use Rattle.pm_reader.specs.Answers.{Gives, range_read}
 use Rattle.pm_reader.specs.Opening.{header_of}
 use Rattle.tile_extract.proofs.ClippingLemmas.{no_items}
-use Rattle.tile_extract.proofs.PartsLemmas.{put_all_parts, put_causes, put_more, put_refused, read_at, read_causes, read_refused, rest_ordered}
+use Rattle.tile_extract.proofs.PartsLemmas.{put_all_parts, put_more, read_at, rest_ordered}
 use Rattle.tile_extract.proofs.writing.add_parts.Goals as goal
 
 pub loop-part-preserved-in-Ok-add_part : goal.loop-part-preserved-in-Ok-add_part
@@ -25,6 +25,7 @@ loop-part-preserved-in-Ok-add_part g c =
       omega (arith, a.faults, i.6),
       a.counted ∙ i.7,
       λ s. let p = i.8 s in let q = a.calm p.0 in (q.0, q.1 ∙ p.1),
+      let n : length c.loop-part.rest.now ≡ length (c.in-Some.part.now ∷ c.in-Some.others.now) = ap length c.in-Some.ensures.cases.0 in omega (arith, i.9, c.read_contents.ensures.reads.most, n),
     )
 
 pub loop-part-preserved : goal.loop-part-preserved
@@ -47,6 +48,7 @@ loop-part-preserved g c =
       omega (arith, a.faults, i.6),
       a.counted ∙ i.7,
       λ s. let p = i.8 s in let q = a.calm p.0 in (q.0, q.1 ∙ p.1),
+      let n : length c.loop-part.rest.now ≡ length (c.in-Some.part.now ∷ c.in-Some.others.now) = ap length c.in-Some.ensures.cases.0 in omega (arith, i.9, c.read_contents.ensures.reads.most, n),
     )
 
 pub returns-clause-added : goal.returns-clause-added

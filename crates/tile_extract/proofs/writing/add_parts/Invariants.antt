@@ -1,4 +1,4 @@
-use Rattle.std.proofs.Common.{◌≡◌, ◌≤◌, ℕ, false, List, [], None, is_some, length}
+use Rattle.std.proofs.Common.{◌≡◌, ◌≤◌, ◌+◌, ℕ, false, List, [], None, is_some, length}
 use Rattle.pm_format.specs.Options.{Options}
 use Rattle.pm_reader.specs.Opening.{header_of}
 use Rattle.pm_reader.specs.Reads.{ReadsOnly}
@@ -18,6 +18,7 @@ invariant-loop-part g l =
     × (g.M.Backend.faults l.fn.medium ≤ g.M.Backend.faults l.medium)
     × (g.M.Backend.reads l.medium ≡ g.M.Backend.reads l.fn.medium)
     × (g.M.Backend.steady l.fn.medium → g.M.Backend.steady l.medium × (g.M.Backend.faults l.medium ≡ g.M.Backend.faults l.fn.medium))
+    × (g.B.Backend.reads l.source + length l.rest ≤ g.B.Backend.reads l.fn.source + length l.parts)
 
 abbrev pub decreases-loop-part : goal.decreases-loop-part
 decreases-loop-part g l = length l.rest

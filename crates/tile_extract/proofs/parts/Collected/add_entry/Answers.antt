@@ -1,5 +1,5 @@
-use Rattle.std.proofs.Common.{◌+◌, ◌≢◌, Some, subst, arith}
-use Rattle.tile_extract.proofs.ClippingLemmas.{Clipping, Reached, all_clipped, all_reached, clipping, nothing_clipped, past_none, past_one, reach_none, reach_one, reaching}
+use Rattle.std.proofs.Common.{◌+◌, ◌≢◌, subst, arith}
+use Rattle.tile_extract.proofs.ClippingLemmas.{Clipping, Reached, all_clipped, all_reached, clipping, past_none, past_one, reach_none, reach_one, reaching}
 use Rattle.tile_extract.proofs.CollectingLemmas.{ordered_later}
 use Rattle.tile_extract.proofs.parts.Collected.add_entry.Goals as goal
 

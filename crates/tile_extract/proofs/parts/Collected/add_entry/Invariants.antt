@@ -1,4 +1,4 @@
-use Rattle.std.proofs.Common.{◌≡◌, ◌≢◌, Some, length}
+use Rattle.std.proofs.Common.{◌≢◌, Some, length}
 use Rattle.tile_extract.specs.Collecting.{AreApart, AreOrdered}
 use Rattle.tile_extract.proofs.ClippingLemmas.{Clipping, Reached}
 use Rattle.tile_extract.proofs.parts.Collected.add_entry.Given as goal

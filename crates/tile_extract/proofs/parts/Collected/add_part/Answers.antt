@@ -1,4 +1,4 @@
-use Rattle.std.proofs.Common.{◌≡◌, ◌+◌, ◌≤◌, List, ◌++◌, ◌∷◌, [], Some, sym, subst, arith}
+use Rattle.std.proofs.Common.{◌+◌, ◌≤◌, List, Some, sym, subst, arith}
 use Rattle.pm_format.specs.Directory.{Entry}
 use Rattle.tile_extract.specs.Collecting.{AreOrdered}
 use Rattle.tile_extract.proofs.CollectingLemmas.{ordered_later, ordered_push}

@@ -1,0 +1,117 @@
+-- What an extraction answers and leaves, by what is found of the source.
+use Rattle.std.proofs.Common.{◌≡◌, inl, inr, ◌+◌, ◌≤◌, ℕ, List, [], length, slice_index, Option, None, IfSome, Result, Ok, Err, ap, arith}
+use Rattle.std.specs.Str.{IsUtf8}
+use Rattle.tile_ids.specs.Coord.{Coord}
+use Rattle.pm_format.specs.declared.error.PmtError.{PmtError}
+use Rattle.pm_format.specs.declared.error.PmtError.TheVariants as errors
+use Rattle.pm_format.specs.declared.error.ReadCause.TheVariants as causes
+use Rattle.pm_format.specs.declared.header.Header.{Header}
+use Rattle.pm_format.specs.Directory.{Entry}
+use Rattle.pm_format.specs.Opened.{Opened, opened}
+use Rattle.pm_reader.specs.Metadata.{metadata_read}
+use Rattle.pm_reader.specs.declared.state.ReaderState.{ReaderState}
+use Rattle.tile_extract.specs.Collecting.{Refuses}
+use Rattle.tile_extract.specs.Cut.{intervals}
+use Rattle.tile_extract.specs.Extract.{Answers, CollectCauses, CollectRefuses, IntoBytes, IntoCauses, IntoLeaves, IsEarly, IsEmpty, ReadCauses, Source, reads_at_most, reads_opened}
+use Rattle.tile_extract.specs.Met.{walked}
+use Rattle.tile_extract.specs.Opening.{IsUnread, SourceCauses, SourceRead, opening_reads}
+use Rattle.tile_extract.specs.Parts.{parts}
+use Rattle.tile_extract.specs.declared.error.ExtractError.{ExtractError}
+use Rattle.tile_extract.specs.declared.error.ExtractError.TheVariants.{Archive, InvalidZoom, MediumNotEmpty, OutOfMemory, TooManyTiles}
+use Rattle.tile_extract.proofs.ToldLemmas.{one_told}
+
+-- an error that comes before the archive is begun
+abbrev pub ComesEarly : List ℕ → Coord → ℕ → ℕ → ExtractError → Type 0
+ComesEarly b c m most (Archive e) = IsEarly b c m e
+ComesEarly b c m most (TooManyTiles n) = Answers b c m most (Err (TooManyTiles n))
+ComesEarly b c m most OutOfMemory = Unit {0}
+ComesEarly b c m most e = ⊥
+
+unread_early : (b : List ℕ) (c : Coord) (m : ℕ) (e : PmtError) → IsUnread b e → IsEarly b c m e
+unread_early b c m (errors.Reading causes.Fault) is = tt
+unread_early b c m (errors.UnexpectedNumberOfBytesReturned asked got) is = is
+unread_early b c m errors.OutOfMemory is = is
+unread_early b c m e (inl is) = inl is
+unread_early b c m e (inr is) = inr (inl is)
+
+pub source_early : (b : List ℕ) (c : Coord) (m most : ℕ) (x : ExtractError) → SourceRead b (Err x) → ComesEarly b c m most x
+source_early b c m most (Archive e) is = unread_early b c m e is
+source_early b c m most OutOfMemory is = tt
+source_early b c m most x is = absurd is
+
+pub source_causes : (most before now old new : ℕ) (x : ExtractError) → SourceCauses {A = ReaderState × List ℕ} before now (Err x) → IntoCauses most before now old new (Err x)
+source_causes most before now old new (Archive e) c = c
+source_causes most before now old new OutOfMemory c = tt
+source_causes most before now old new x c = absurd c
+
+-- what is found of a source that tells its bytes
+pub record Found (b : List ℕ) (h : Header) (es : List Entry) (text : List ℕ) : Type 0 where
+  pub opens : opened b ≡ Ok (h, es)
+  pub metadata : metadata_read b h ≡ Ok text
+  pub utf8 : IsUtf8 text
+
+abbrev pub source_of : (b : List ℕ) (h : Header) (es : List Entry) (text : List ℕ) → Found b h es text → Source b
+source_of b h es text f = record { found = (h, es); opens = f.opens; text = text; metadata = f.metadata; utf8 = f.utf8 }
+
+pub collect_early : (b : List ℕ) (c : Coord) (m most before now : ℕ) (h : Header) (es : List Entry) (text : List ℕ) (x : ExtractError) → Found b h es text → CollectCauses most before now x
+    → CollectRefuses (walked 6 h b (intervals c m) 0 None es) (intervals c m) most x → ComesEarly b c m most x
+collect_early b c m most before now h es text (Archive errors.OutOfMemory) f cause is = absurd cause
+collect_early b c m most before now h es text (Archive e) f cause is = walk_early e cause is
+  where
+    walk_early : (e : PmtError) → CollectCauses most before now (Archive e) → Refuses (walked 6 h b (intervals c m) 0 None es) e → IsEarly b c m e
+    walk_early (errors.Reading causes.Fault) cause is = tt
+    walk_early (errors.UnexpectedNumberOfBytesReturned asked got) cause is = is
+    walk_early errors.OutOfMemory cause is = absurd cause
+    walk_early e cause is = inr (inr (source_of b h es text f, is))
+collect_early b c m most before now h es text (TooManyTiles n) f cause is = (is.0, (source_of b h es text f, is.1, is.2))
+collect_early b c m most before now h es text OutOfMemory f cause is = tt
+collect_early b c m most before now h es text x f cause is = absurd is
+
+pub collect_causes : (most first before now old new : ℕ) (x : ExtractError) → first ≤ before → CollectCauses most before now x → IntoCauses most first now old new (Err x)
+collect_causes most first before now old new (Archive e) le c = read_causes e c
+  where
+    read_causes : (e : PmtError) → CollectCauses most before now (Archive e) → ReadCauses first now e
+    read_causes errors.OutOfMemory c = absurd c
+    read_causes errors.InvalidEntry c = tt
+    read_causes (errors.Reading causes.PastEnd) c = tt
+    read_causes (errors.Reading causes.Fault) c = omega (arith, le, c)
+    read_causes (errors.UnexpectedNumberOfBytesReturned asked got) c = c
+    read_causes e c = absurd c
+collect_causes most first before now old new (TooManyTiles n) le c = c
+collect_causes most first before now old new OutOfMemory le c = tt
+collect_causes most first before now old new x le c = absurd c
+
+-- an early error answers, and leaves the medium empty
+pub early_answers : (b : List ℕ) (c : Coord) (m most : ℕ) (x : ExtractError) → ComesEarly b c m most x → Answers b c m most (Err x)
+early_answers b c m most (Archive e) is = inl is
+early_answers b c m most (TooManyTiles n) is = is
+early_answers b c m most OutOfMemory is = tt
+early_answers b c m most x is = absurd is
+
+early_bytes : (source : Option (List ℕ)) (c : Coord) (m most before now old new : ℕ) (x : ExtractError) (b : List ℕ) → IntoCauses most before now old new (Err x) → IfSome source (λ s. ComesEarly s c m most x) → b ≡ [] → IntoBytes source c m most (Err x) b
+early_bytes source c m most before now old new (Archive e) b cause is empty = inl (is, empty)
+early_bytes source c m most before now old new (TooManyTiles n) b cause is empty = empty
+early_bytes source c m most before now old new (InvalidZoom z n) b cause is empty = absurd cause
+early_bytes source c m most before now old new (MediumNotEmpty n) b cause is empty = absurd cause
+early_bytes source c m most before now old new x b cause is empty = inl (ap (λ l. slice_index l 97) empty)
+
+pub early_leaves : (source : Option (List ℕ)) (c : Coord) (m most before now old new : ℕ) (x : ExtractError) (held : Option (List ℕ)) → IntoCauses most before now old new (Err x) → IfSome source (λ s. ComesEarly s c m most x) → IsEmpty held → IntoLeaves source c m most (Err x) held
+early_leaves source c m most before now old new x held cause is empty = one_told (λ b. b ≡ []) (IntoBytes source c m most (Err x)) held (λ b e. early_bytes source c m most before now old new x b cause is e) empty
+
+-- how often the source is read until then
+pub opening_most : (b : List ℕ) (c : Coord) (m : ℕ) → opening_reads (opened b) ≤ reads_at_most b c m
+opening_most b c m = most (opened b)
+  where
+    most : (r : Result Opened PmtError) → opening_reads r ≤ reads_opened b c m r
+    most (Ok o) = omega arith
+    most (Err e) = omega arith
+
+pub reads_are : (b : List ℕ) (c : Coord) (m : ℕ) (h : Header) (es : List Entry) → opened b ≡ Ok (h, es) → reads_at_most b c m ≡ 2 + (walked 6 h b (intervals c m) 0 None es).leaves + length (parts (intervals c m) (walked 6 h b (intervals c m) 0 None es).entries)
+reads_are b c m h es opens = ap (reads_opened b c m) opens
+
+pub collect_most : (b : List ℕ) (c : Coord) (m first mid now : ℕ) (h : Header) (es : List Entry) → opened b ≡ Ok (h, es) → mid ≤ first + opening_reads (opened b) → now ≤ mid + (walked 6 h b (intervals c m) 0 None es).leaves → now ≤ first + reads_at_most b c m
+collect_most b c m first mid now h es opens one more = omega (arith, one, more, reads_are b c m h es opens, ap opening_reads opens)
+
+pub all_most : (b : List ℕ) (c : Coord) (m first mid between now : ℕ) (h : Header) (es ps : List Entry) → opened b ≡ Ok (h, es) → mid ≤ first + opening_reads (opened b) → between ≤ mid + (walked 6 h b (intervals c m) 0 None es).leaves
+    → ps ≡ parts (intervals c m) (walked 6 h b (intervals c m) 0 None es).entries → now ≤ between + length ps → now ≤ first + reads_at_most b c m
+all_most b c m first mid between now h es ps opens one more are last = omega (arith, one, more, last, ap length are, reads_are b c m h es opens, ap opening_reads opens)

@@ -1,0 +1,90 @@
+// The archive of a subtree, from one archive to another.
+ghost use Rattle.std.specs.Prelude.{◌≡◌, ◌≤◌, ◌+◌, IfSome, is_some};
+ghost use Rattle.pm_reader.specs.Reads.{ReadsOnly};
+ghost use Rattle.tile_extract.specs.Extract.{Answers, Causes, IntoCauses, IntoLeaves, IsEmpty, IsValid, Leaves, reads_at_most};
+
+use crate::ExtractError;
+use crate::collection::{collect, options_from};
+use crate::opening::{read_source, test_medium, test_zoom};
+use crate::writing::write_parts;
+use pm_format::{Backend, Medium};
+use pm_writer::ArchivePlaces;
+use std::alloc::Global;
+use tile_ids::TileCoord;
+
+// The same to an empty medium, down to a zoom that the tile has descendants at.
+fn extract_into<B: Backend, M: Medium>(
+    alloc: Global,
+    source: &mut B,
+    root: TileCoord,
+    max_zoom: u8,
+    max_tiles: u64,
+    medium: &mut M,
+) -> Result<ArchivePlaces, ExtractError>
+    requires valid { IsValid root max_zoom }
+    requires empty { IsEmpty (M.told medium.old) }
+    ensures causes { IntoCauses max_tiles (B.faults source.old) (B.faults source.new) (M.faults medium.old) (M.faults medium.new) result }
+    ensures answers { IfSome (B.told source.old) (λ b. Answers b root max_zoom max_tiles result) }
+    ensures leaves { IntoLeaves (B.told source.old) root max_zoom max_tiles result (M.told medium.new) }
+    ensures kept { ReadsOnly B.told B.versions B.faults B.steady source.old source.new }
+    ensures reads { IfSome (B.told source.old) (λ b. B.reads source.new ≤ B.reads source.old + reads_at_most b root max_zoom) }
+    ensures tells { is_some (M.told medium.new) ≡ is_some (M.told medium.old) }
+    ensures faults { M.faults medium.old ≤ M.faults medium.new }
+    ensures counted { M.reads medium.new ≡ M.reads medium.old }
+    ensures calm { M.steady medium.old → M.steady medium.new × (M.faults medium.new ≡ M.faults medium.old) }
+{
+    let (reader, metadata) = match read_source(alloc, source) {
+        Ok(read) => read,
+        Err(error) => return Err(error),
+    };
+    let parts = match collect(alloc, &reader, source, root, max_zoom, max_tiles) {
+        Ok(parts) => parts,
+        Err(error) => return Err(error),
+    };
+    let options = options_from(reader.get_header(), metadata, root, max_zoom);
+    match write_parts(alloc, &options, &reader, source, &parts, medium) {
+        Ok(written) => Ok(written),
+        Err(error) => Err(error),
+    }
+}
+
+/// Writes to an empty medium the archive of the tiles that an archive has among a tile and its descendants down to a zoom. It says beside its tiles what the other one says, but for the zooms,
+/// which are the tile's and the one that is asked for.
+///
+/// The first of these that holds is answered: `InvalidZoom` where the zoom is below the tile's or above 31; `MediumNotEmpty` where the medium has bytes; `Archive` where the source doesn't
+/// open, where its metadata isn't there or isn't UTF-8, and where a directory that leads to one of the tiles' ids fails a test; `TooManyTiles` where there are more tiles than the limit;
+/// `Archive` where a tile passes the end of the source; `IndexEntryOverflow` where the data ends past u64 or a directory of the new archive has 2^32 bytes or more. Until the tiles are
+/// written the medium is unchanged, and after a later refusal it shows no part of an archive.
+///
+/// Each directory that leads to one of the ids is read once, and so is each part of a tile entry. `Archive(Reading(Fault))` comes only where the source's count of faults rose, and
+/// `MediumFault` only where the medium's did.
+pub fn extract<B: Backend, M: Medium>(
+    alloc: Global,
+    source: &mut B,
+    root: TileCoord,
+    max_zoom: u8,
+    max_tiles: u64,
+    medium: &mut M,
+) -> Result<ArchivePlaces, ExtractError>
+    ensures causes { Causes root max_zoom max_tiles (M.told medium.old) (B.faults source.old) (B.faults source.new) (M.faults medium.old) (M.faults medium.new) result }
+    ensures answers { IfSome (B.told source.old) (λ b. Answers b root max_zoom max_tiles result) }
+    ensures leaves { Leaves (B.told source.old) root max_zoom max_tiles result (M.told medium.old) (M.told medium.new) }
+    ensures kept { ReadsOnly B.told B.versions B.faults B.steady source.old source.new }
+    ensures reads { IfSome (B.told source.old) (λ b. B.reads source.new ≤ B.reads source.old + reads_at_most b root max_zoom) }
+    ensures faults { M.faults medium.old ≤ M.faults medium.new }
+    ensures counted { M.reads medium.new ≡ M.reads medium.old }
+    ensures calm { M.steady medium.old → M.steady medium.new × (M.faults medium.new ≡ M.faults medium.old) }
+{
+    match test_zoom(root, max_zoom) {
+        Ok(()) => {}
+        Err(error) => return Err(error),
+    }
+    match test_medium(medium) {
+        Ok(()) => {}
+        Err(error) => return Err(error),
+    }
+    match extract_into(alloc, source, root, max_zoom, max_tiles, medium) {
+        Ok(places) => Ok(places),
+        Err(error) => Err(error),
+    }
+}

@@ -1,0 +1,66 @@
+// What is tested before the tiles of an archive are sought.
+ghost use Rattle.std.specs.Prelude.{◌≡◌, ◌≤◌, ◌+◌, IfOk, IfErr, IfSome};
+ghost use Rattle.pm_format.specs.Opened.{opened};
+ghost use Rattle.pm_reader.specs.Reads.{ReadsOnly};
+ghost use Rattle.tile_extract.specs.Extract.{IsValid};
+ghost use Rattle.tile_extract.specs.Opening.{MediumTested, SourceCauses, SourceRead, opening_reads};
+
+use crate::ExtractError;
+use crate::writing::of_reader;
+use pm_format::{Backend, Medium};
+use pm_reader::ReaderState;
+use std::alloc::Global;
+use tile_ids::{TextVal, TileCoord};
+
+/// Whether the greatest zoom is the tile's or a deeper one, up to 31.
+pub(crate) fn test_zoom(root: TileCoord, max_zoom: u8) -> Result<(), ExtractError>
+    ensures ok { IfOk result (λ _. IsValid root max_zoom) }
+    ensures err { IfErr result (λ e. (e ≡ ExtractError.InvalidZoom root.z max_zoom) × (IsValid root max_zoom → ⊥)) }
+{
+    let tile = root.z();
+    if max_zoom < tile || 31 < max_zoom {
+        return Err(ExtractError::InvalidZoom {
+            tile,
+            asked: max_zoom,
+        });
+    }
+    Ok(())
+}
+
+/// Whether a medium is empty.
+pub(crate) fn test_medium<M: Medium>(medium: &mut M) -> Result<(), ExtractError>
+    ensures tested { MediumTested (M.told medium.old) (M.faults medium.old) (M.faults medium.new) result }
+    ensures told { M.told medium.new ≡ M.told medium.old }
+    ensures faults { M.faults medium.old ≤ M.faults medium.new }
+    ensures counted { M.reads medium.new ≡ M.reads medium.old }
+    ensures calm { M.steady medium.old → M.steady medium.new × (M.faults medium.new ≡ M.faults medium.old) }
+{
+    let length = match medium.len() {
+        Ok(length) => length,
+        Err(_) => return Err(ExtractError::MediumFault),
+    };
+    if length != 0 {
+        return Err(ExtractError::MediumNotEmpty { length });
+    }
+    Ok(())
+}
+
+/// Opens a source, and reads its metadata.
+pub(crate) fn read_source<B: Backend>(
+    alloc: Global,
+    source: &mut B,
+) -> Result<(ReaderState, TextVal), ExtractError>
+    ensures answer { IfSome (B.told source.old) (λ b. SourceRead b result) }
+    ensures causes { SourceCauses (B.faults source.old) (B.faults source.new) result }
+    ensures kept { ReadsOnly B.told B.versions B.faults B.steady source.old source.new }
+    ensures reads { IfSome (B.told source.old) (λ b. B.reads source.new ≤ B.reads source.old + opening_reads (opened b)) }
+{
+    let reader = match ReaderState::open(alloc, source) {
+        Ok(reader) => reader,
+        Err(error) => return Err(of_reader(error)),
+    };
+    match reader.get_metadata(source) {
+        Ok(metadata) => Ok((reader, metadata)),
+        Err(error) => Err(of_reader(error)),
+    }
+}
