@@ -3,7 +3,7 @@ use Rattle.std.proofs.Common.{◌≡◌, inl, ◌≤◌, ℕ, List, [], ◌∷�
 use Rattle.tile_ids.specs.Coord.{Coord}
 use Rattle.pm_writer.specs.Pieces.{BothTold}
 use Rattle.pm_writer.specs.declared.places.ArchivePlaces.{ArchivePlaces}
-use Rattle.tile_extract.specs.Extract.{Answers, Causes, IntoBytes, IntoCauses, IntoLeaves, IsEmpty, IsValid, Leaves, LeavesBytes, LeavesPart}
+use Rattle.tile_extract.specs.Extract.{Answers, Causes, IntoBytes, IntoCauses, IntoLeaves, IsEmpty, IsValid, Leaves, LeavesBytes, LeavesPart, LeavesUnread}
 use Rattle.tile_extract.specs.Opening.{MediumTested}
 use Rattle.tile_extract.specs.declared.error.ExtractError.{ExtractError}
 use Rattle.tile_extract.specs.declared.error.ExtractError.TheVariants.{Archive, IndexEntryOverflow, InvalidZoom, MediumFault, MediumNotEmpty, OutOfMemory, TooManyTiles}
@@ -57,6 +57,21 @@ into_causes c m most held before now first old new (Err (TooManyTiles n)) valid 
 into_causes c m most held before now first old new (Err IndexEntryOverflow) valid empty le is = (valid, empty, is)
 into_causes c m most held before now first old new (Err MediumFault) valid empty le is = (valid, omega (arith, le, is))
 into_causes c m most held before now first old new (Err OutOfMemory) valid empty le is = (valid, empty, is)
+
+-- only the first two tests leave the source unread
+pub into_unread : (most before now old new first last : ℕ) (r : Result ArchivePlaces ExtractError) → IntoCauses most before now old new r → LeavesUnread first last r
+into_unread most before now old new first last (Ok p) is = tt
+into_unread most before now old new first last (Err (InvalidZoom tile asked)) is = absurd is
+into_unread most before now old new first last (Err (MediumNotEmpty n)) is = absurd is
+into_unread most before now old new first last (Err e) is = tt
+
+pub zoom_unread : (c : Coord) (m reads : ℕ) (x : ExtractError) → (x ≡ InvalidZoom c.z m) × (IsValid c m → ⊥) → LeavesUnread reads reads (Err x)
+zoom_unread c m reads x is = subst (λ e. LeavesUnread reads reads (Err e)) (sym is.0) refl
+
+pub medium_unread : (held : Option (List ℕ)) (old new reads : ℕ) (x : ExtractError) → MediumTested held old new (Err x) → LeavesUnread reads reads (Err x)
+medium_unread held old new reads (MediumNotEmpty n) is = refl
+medium_unread held old new reads MediumFault is = tt
+medium_unread held old new reads x is = absurd is
 
 into_bytes : (source : Option (List ℕ)) (c : Coord) (m most before now old new : ℕ) (r : Result ArchivePlaces ExtractError) (a b : List ℕ) → IntoCauses most before now old new r → a ≡ [] → IntoBytes source c m most r b → LeavesBytes source c m most r a b
 into_bytes source c m most before now old new (Ok p) a b cause empty is = is

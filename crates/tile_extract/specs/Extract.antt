@@ -201,3 +201,9 @@ reads_opened b c m (Err e) = 1
 
 abbrev pub reads_at_most : List ℕ → Coord → ℕ → ℕ
 reads_at_most b c m = reads_opened b c m (opened b)
+
+-- a zoom or a medium that is refused is so before the source is read
+abbrev pub LeavesUnread : ℕ → ℕ → Result ArchivePlaces ExtractError → Type 0
+LeavesUnread before now (Err (InvalidZoom tile asked)) = now ≡ before
+LeavesUnread before now (Err (MediumNotEmpty n)) = now ≡ before
+LeavesUnread before now result = Unit {0}

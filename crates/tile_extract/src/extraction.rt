@@ -1,7 +1,7 @@
 // The archive of a subtree, from one archive to another.
 ghost use Rattle.std.specs.Prelude.{◌≡◌, ◌≤◌, ◌+◌, IfSome, is_some};
 ghost use Rattle.pm_reader.specs.Reads.{ReadsOnly};
-ghost use Rattle.tile_extract.specs.Extract.{Answers, Causes, IntoCauses, IntoLeaves, IsEmpty, IsValid, Leaves, reads_at_most};
+ghost use Rattle.tile_extract.specs.Extract.{Answers, Causes, IntoCauses, IntoLeaves, IsEmpty, IsValid, Leaves, LeavesUnread, reads_at_most};
 
 use crate::ExtractError;
 use crate::collection::{collect, options_from};
@@ -56,7 +56,7 @@ fn extract_into<B: Backend, M: Medium>(
 /// `Archive` where a tile passes the end of the source; `IndexEntryOverflow` where the data ends past u64 or a directory of the new archive has 2^32 bytes or more. Until the tiles are
 /// written the medium is unchanged, and after a later refusal it shows no part of an archive.
 ///
-/// Each directory that leads to one of the ids is read once, and so is each part of a tile entry. `Archive(Reading(Fault))` comes only where the source's count of faults rose, and
+/// The source isn't read before the zoom and the medium are tested. Each directory that leads to one of the ids is read once, and so is each part of a tile entry. `Archive(Reading(Fault))` comes only where the source's count of faults rose, and
 /// `MediumFault` only where the medium's did.
 pub fn extract<B: Backend, M: Medium>(
     alloc: Global,
@@ -71,6 +71,7 @@ pub fn extract<B: Backend, M: Medium>(
     ensures leaves { Leaves (B.told source.old) root max_zoom max_tiles result (M.told medium.old) (M.told medium.new) }
     ensures kept { ReadsOnly B.told B.versions B.faults B.steady source.old source.new }
     ensures reads { IfSome (B.told source.old) (λ b. B.reads source.new ≤ B.reads source.old + reads_at_most b root max_zoom) }
+    ensures unread { LeavesUnread (B.reads source.old) (B.reads source.new) result }
     ensures faults { M.faults medium.old ≤ M.faults medium.new }
     ensures counted { M.reads medium.new ≡ M.reads medium.old }
     ensures calm { M.steady medium.old → M.steady medium.new × (M.faults medium.new ≡ M.faults medium.old) }
