@@ -14,7 +14,7 @@ use Rattle.mb_check.specs.Totals.{below, capped, greatest, info_of, known, least
 use Rattle.mb_check.specs.declared.sizes.Sizes.{Sizes}
 use Rattle.mb_check.specs.declared.zoom_info.ZoomInfo.{ZoomInfo}
 use Rattle.mb_load.specs.Aggregate.{bytes_of}
-use Rattle.mb_load.specs.Entries.{blob_cell, place_at}
+use Rattle.mb_lists.specs.Entries.{blob_cell, place_at}
 use Rattle.mb_tables.specs.Tiles.{Place, TileSet}
 use Rattle.mb_tables.specs.declared.cell.Cell.{Cell}
 use Rattle.tile_ids.specs.Coord.{Coord}

@@ -16,10 +16,10 @@ use Rattle.mb_load.specs.Aggregate.{aggregate}
 use Rattle.mb_load.specs.Algorithm.{algorithm_by, unknown_name}
 use Rattle.mb_load.specs.Changing.{AreChangesOf, content_table, id_edited, is_own_table, name_edited, place_edited}
 use Rattle.mb_load.specs.Edits.{with_name}
-use Rattle.mb_load.specs.Entries.{text_cell}
+use Rattle.mb_lists.specs.Entries.{text_cell}
 use Rattle.mb_load.specs.Held.{Edited, Held, nothing_edited}
 use Rattle.mb_load.specs.LoadedFrom.{IsLoadedFrom, NamesAlgorithm}
-use Rattle.mb_load.specs.Metadata.{Names, text_at}
+use Rattle.mb_lists.specs.Metadata.{Names, text_at}
 use Rattle.mb_load.specs.State.{state_of}
 use Rattle.mb_store.proofs.Committed.{others_stay}
 use Rattle.mb_store.proofs.ListLemmas.{filter_every}

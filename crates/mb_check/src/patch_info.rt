@@ -4,7 +4,7 @@ ghost use Rattle.tile_ids.specs.Counts.{Rose};
 ghost use Rattle.mb_check.specs.Begun.{IsBegun};
 ghost use Rattle.mb_check.specs.PatchInfo.{info_answer};
 ghost use Rattle.mb_load.specs.DiffHashes.{base_refused, patch_refused, refused_by, unless_forced};
-ghost use Rattle.mb_load.specs.Refusals.{Answers};
+ghost use Rattle.mb_lists.specs.Refusals.{Answers};
 
 use crate::aggregate::text_of;
 use mb_load::{Loaded, load, test_base_hashes, test_patch_hashes};

@@ -7,8 +7,8 @@ ghost use Rattle.mb_check.specs.Begun.{IsBegun};
 ghost use Rattle.mb_check.specs.Sizes.{info_by, no_sizes, with_sizes, with_tile};
 ghost use Rattle.mb_check.specs.Totals.{below, greatest, last_of, least, size_at, sizes_at, summary_answer, summary_of, total_of, zoom_infos};
 ghost use Rattle.mb_check.specs.declared.sizes.Sizes.{Sizes};
-ghost use Rattle.mb_load.specs.Entries.{blob_cell};
-ghost use Rattle.mb_load.specs.Refusals.{Answers};
+ghost use Rattle.mb_lists.specs.Entries.{blob_cell};
+ghost use Rattle.mb_lists.specs.Refusals.{Answers};
 
 use crate::sizes::{Sizes, greatest_with, least_with};
 use crate::{Summary, ZoomInfo, ZoomInfoList};

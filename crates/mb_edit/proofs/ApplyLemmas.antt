@@ -26,7 +26,7 @@ use Rattle.mb_load.specs.Edits.{dates_for, id_for}
 use Rattle.mb_load.specs.Held.{Edited, Held, fresh, nothing_edited}
 use Rattle.mb_load.specs.LoadedFrom.{AllOnBoard, IsLoadable, IsLoadedFrom, IsOnBoard, NamesAlgorithm}
 use Rattle.mb_load.specs.State.{State, state_of}
-use Rattle.mb_load.specs.declared.dates.Dates.{Dates}
+use Rattle.mb_lists.specs.declared.dates.Dates.{Dates}
 use Rattle.mb_store.specs.Committing.{Commits}
 use Rattle.mb_store.specs.Store.{IsSound}
 use Rattle.mb_store.specs.declared.change.Change.{Change}

@@ -10,7 +10,7 @@ use Rattle.mb_edit.specs.Collision.{collides, has_twin, is_other}
 use Rattle.mb_edit.specs.Step.{content_entry, contents_over}
 use Rattle.mb_edit.proofs.MarkLemmas.{twin}
 use Rattle.mb_edit.proofs.PatchedLemmas.{get-over}
-use Rattle.mb_load.specs.Contents.{Contents}
+use Rattle.mb_lists.specs.Contents.{Contents}
 use Rattle.mb_tables.proofs.CellLemmas.{cell_eq-Decides}
 use Rattle.mb_tables.specs.Cell.{cell_cmp, cell_eq}
 use Rattle.mb_tables.specs.CellOrder.{cells_total}

@@ -4,7 +4,7 @@ use Rattle.std.specs.FinMap.{contains_key, get, same_map}
 use Rattle.std.proofs.lemmas.Bool.{false≢true}
 use Rattle.mb_edit.specs.Patched.{patched, patched_at}
 use Rattle.mb_edit.proofs.PatchedLemmas.{get-patched_by}
-use Rattle.mb_load.proofs.Places.{places_antisymmetric}
+use Rattle.mb_lists.proofs.Places.{places_antisymmetric}
 use Rattle.mb_tables.proofs.TileLemmas.{places_total}
 use Rattle.mb_tables.specs.Tiles.{Place, TileSet}
 

@@ -16,7 +16,7 @@ use Rattle.mb_edit.proofs.MarkLemmas.{rest_apart}
 use Rattle.mb_edit.proofs.PassedLemmas.{none_collide, passed}
 use Rattle.mb_edit.proofs.StateLemmas.{content_steps, contents_same, tiles_state, with_tiles}
 use Rattle.mb_load.proofs.EditedFrom.{from_only_referenced, from_removed_name, from_removed_tile, from_with_name, from_with_tile}
-use Rattle.mb_load.specs.Contents.{Contents}
+use Rattle.mb_lists.specs.Contents.{Contents}
 use Rattle.mb_load.specs.Edits.{with_name}
 use Rattle.mb_load.specs.Held.{Held}
 use Rattle.mb_load.specs.LoadedFrom.{AllOnBoard, IsFree, IsLoadedFrom, IsOnBoard, is_editable}

@@ -13,7 +13,7 @@ use Rattle.mb_edit.specs.Collision.{collides, has_twin, is_other}
 use Rattle.mb_edit.specs.Marks.{AreMarked, Entries, IsMarkOf, IsMarked, bytes_of}
 use Rattle.mb_edit.specs.declared.collision.Mark.{Mark}
 use Rattle.mb_edit.specs.declared.collision.Marks.{Marks}
-use Rattle.mb_load.specs.Contents.{Contents}
+use Rattle.mb_lists.specs.Contents.{Contents}
 use Rattle.mb_tables.proofs.CellLemmas.{cell_eq-Decides}
 use Rattle.mb_tables.specs.Cell.{cell_cmp, cell_eq}
 use Rattle.mb_tables.specs.declared.cell.Cell.{Cell}

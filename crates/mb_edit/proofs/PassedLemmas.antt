@@ -8,7 +8,7 @@ use Rattle.mb_edit.specs.PatchingOrder.{after_hash, agg_hash, before_hash, bytes
 use Rattle.mb_load.specs.DiffHashes.{base_refused, patch_refused, unless_forced}
 use Rattle.mb_load.specs.HeldCode.{algorithm_at, algorithm_back, algorithm_number}
 use Rattle.mb_load.specs.LoadedFrom.{is_editable}
-use Rattle.mb_load.specs.Refusals.{first_refusal, unless}
+use Rattle.mb_lists.specs.Refusals.{first_refusal, unless}
 use Rattle.mb_load.specs.State.{State}
 use Rattle.mb_tables.specs.declared.error.MbtError.{MbtError}
 use Rattle.mb_tables.specs.declared.error.MbtError.TheVariants.{IdCollision, UnsupportedCopyOperation, UnsupportedHashAlgorithm, UnsupportedPatchType}

@@ -12,8 +12,8 @@ use Rattle.std.specs.FinMap.{FinMap, contains_key, entries, entries_sorted, find
 use Rattle.std.specs.FinMap.Entries.{below_all, is_sorted}
 use Rattle.std.proofs.lemmas.Cmp.{nat_list_cmp_total}
 use Rattle.mb_edit.specs.Patched.{is_null_at, landed, meta_patched, over, patched_at, patched_by, put_entry}
-use Rattle.mb_load.specs.Metadata.{Names}
-use Rattle.mb_load.proofs.Places.{places_antisymmetric}
+use Rattle.mb_lists.specs.Metadata.{Names}
+use Rattle.mb_lists.proofs.Places.{places_antisymmetric}
 use Rattle.mb_tables.proofs.TileLemmas.{places_total}
 use Rattle.mb_tables.specs.Tiles.{Place, TileSet, place_cmp}
 

@@ -14,12 +14,12 @@ use Rattle.mb_edit.specs.Patched.{is_null_at, landed, meta_patched, over, patche
 use Rattle.mb_edit.specs.PatchingOrder.{bytes_put}
 use Rattle.mb_edit.specs.Step.{content_entry, contents_over, state_patched}
 use Rattle.mb_edit.proofs.PatchedLemmas.{first, get-meta_patched, get-over, get-patched_by, none_below, second}
-use Rattle.mb_load.proofs.NameLemmas.{names_antisymmetric}
-use Rattle.mb_load.proofs.Places.{places_antisymmetric}
-use Rattle.mb_load.specs.Contents.{Contents}
+use Rattle.mb_lists.proofs.NameLemmas.{names_antisymmetric}
+use Rattle.mb_lists.proofs.Places.{places_antisymmetric}
+use Rattle.mb_lists.specs.Contents.{Contents}
 use Rattle.mb_load.specs.Edits.{dates_for, id_for, is_named, with_content, with_name, with_value}
 use Rattle.mb_load.specs.Held.{Held}
-use Rattle.mb_load.specs.Metadata.{Names}
+use Rattle.mb_lists.specs.Metadata.{Names}
 use Rattle.mb_load.specs.State.{State}
 use Rattle.mb_tables.proofs.CellLemmas.{cell_cmp-IsAntisymmetric}
 use Rattle.mb_tables.proofs.TileLemmas.{places_total}

@@ -3,7 +3,7 @@ use Rattle.std.specs.Prelude.{ℕ, ◌&&◌, ◌||◌, Bool, false, not, List, O
 use Rattle.std.specs.List.{list_any}
 use Rattle.std.specs.FinMap.{get}
 use Rattle.std.specs.Str.{bytes_eq}
-use Rattle.mb_load.specs.Contents.{Contents}
+use Rattle.mb_lists.specs.Contents.{Contents}
 use Rattle.mb_tables.specs.Cell.{cell_eq}
 use Rattle.mb_tables.specs.declared.cell.Cell.{Cell}
 use Rattle.mb_tables.specs.declared.cell.Cell.TheVariants.{Text, Blob}

@@ -6,7 +6,7 @@ use Rattle.std.specs.Str.{bytes_eq}
 use Rattle.mb_edit.specs.Collision.{collides}
 use Rattle.mb_edit.specs.declared.collision.Mark.{Mark}
 use Rattle.mb_edit.specs.declared.collision.Marks.{Marks}
-use Rattle.mb_load.specs.Contents.{Contents}
+use Rattle.mb_lists.specs.Contents.{Contents}
 use Rattle.mb_tables.specs.Cell.{cell_cmp}
 use Rattle.mb_tables.specs.Tiles.{Place}
 use Rattle.mb_tables.specs.declared.cell.Cell.TheVariants.{Text}

@@ -7,8 +7,8 @@ use Rattle.std.specs.FinMap.{empty, find, from_entries, get-from_entries}
 use Rattle.mb_edit.specs.Collision.{collision}
 use Rattle.mb_edit.specs.Patched.{landed}
 use Rattle.mb_edit.specs.PatchingOrder.{may_patch}
-use Rattle.mb_load.specs.Contents.{Contents}
-use Rattle.mb_load.specs.Metadata.{text_at}
+use Rattle.mb_lists.specs.Contents.{Contents}
+use Rattle.mb_lists.specs.Metadata.{text_at}
 use Rattle.mb_load.specs.State.{State}
 use Rattle.mb_tables.specs.CellOrder.{cells_total}
 use Rattle.mb_tables.specs.declared.cell.Cell.{Cell}

@@ -3,7 +3,7 @@ use Rattle.std.specs.Prelude.{ℕ, codes, ◌++◌, ◌||◌, Bool, true, false,
 use Rattle.std.specs.declared.cmp.Ordering.{Ordering}
 use Rattle.std.specs.FinMap.{FinMap, contains_key, entries, from_entries, get, retain_keys}
 use Rattle.std.specs.Str.{bytes_eq}
-use Rattle.mb_load.specs.Metadata.{Names}
+use Rattle.mb_lists.specs.Metadata.{Names}
 use Rattle.mb_tables.specs.Tiles.{Place, TileSet, place_cmp}
 
 -- entries over those of a map: the first of a key counts

@@ -3,7 +3,7 @@ use Rattle.std.specs.Prelude.{ℕ, Bool, List, Option, Result, filter_map, optio
 use Rattle.std.specs.FinMap.{retain_keys}
 use Rattle.mb_edit.specs.Patched.{meta_patched, over, patched, patched_by}
 use Rattle.mb_edit.specs.PatchingOrder.{bytes_put, may_patch}
-use Rattle.mb_load.specs.Contents.{Contents}
+use Rattle.mb_lists.specs.Contents.{Contents}
 use Rattle.mb_load.specs.Edits.{dates_for, id_for, is_named}
 use Rattle.mb_load.specs.Loading.{due_by}
 use Rattle.mb_load.specs.State.{State}

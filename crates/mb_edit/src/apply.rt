@@ -1,7 +1,7 @@
 // Applying a patch to a store.
 ghost use Rattle.std.specs.Prelude.{◌≡◌, ◌≤◌, ◌⊎◌, true, false, OnOk, OnErr, IfErr, IsErrOf};
 ghost use Rattle.mb_edit.specs.Applying.{IsAppliedBy, IsRefusedBy};
-ghost use Rattle.mb_load.specs.Refusals.{is_free};
+ghost use Rattle.mb_lists.specs.Refusals.{is_free};
 ghost use Rattle.tile_ids.specs.Counts.{Rose};
 
 use crate::{commit_loaded, patch_loaded};

@@ -2,7 +2,7 @@
 ghost use Rattle.std.specs.Prelude.{◌≡◌, ◌≤◌, true, OnOk, OnErr, IfErr, IsErrOf};
 ghost use Rattle.mb_edit.specs.Committing.{MakesChanges};
 ghost use Rattle.mb_load.specs.LoadedFrom.{IsLoadedFrom};
-ghost use Rattle.mb_load.specs.Refusals.{is_free};
+ghost use Rattle.mb_lists.specs.Refusals.{is_free};
 ghost use Rattle.tile_ids.specs.Counts.{Rose};
 
 use mb_load::Loaded;

@@ -1,6 +1,6 @@
 -- The changes of entries, one after another.
-use Rattle.std.proofs.Common.{◌≡◌, ◌∙◌, ap, sym, subst, ℕ, ℤ, pos, ◌<◌, ◌+◌, ◌++◌, Option, Some, None, List, [], ◌∷◌, Bool, true, false, ◌&&◌, ◌⊎◌, inl, inr, take, refl, get_or, length, arith}
-use Rattle.std.specs.Prelude.{All, filter_map, option_and_then, slice_get}
+use Rattle.std.proofs.Common.{◌≡◌, ◌∙◌, ap, sym, ℕ, ◌<◌, ◌+◌, ◌++◌, Option, Some, None, List, [], ◌∷◌, Bool, true, false, ◌&&◌, ◌⊎◌, inl, inr, take, refl, get_or, length, arith}
+use Rattle.std.specs.Prelude.{All, filter_map, option_and_then}
 use Rattle.std.specs.declared.cmp.Ordering.{Ordering}
 use Rattle.std.specs.Ordering.{eq_by_cmp, is_eq, nat_cmp}
 use Rattle.std.specs.Cmp.{tied_itself}
@@ -10,17 +10,16 @@ use Rattle.std.proofs.lemmas.Cmp.{nat_list_cmp_total}
 use Rattle.std.proofs.lemmas.List.{get_or_default}
 use Rattle.std.proofs.lemmas.Option.{get_or_from_slice_get, slice_get_within}
 use Rattle.mb_load.specs.Changing.{content_table, front, tile_key}
-use Rattle.mb_load.specs.Entries.{content_at, id_at, name_of, place_of}
-use Rattle.mb_load.specs.Keyed.{Apart}
+use Rattle.mb_lists.specs.Entries.{content_at, id_at, name_of, place_of}
+use Rattle.mb_lists.specs.Keyed.{Apart}
 use Rattle.mb_load.specs.PutRows.{change_by, content_change, id_key, listed_change, name_change, row_of_content, row_of_name, row_of_tile, tile_change, with_any}
-use Rattle.mb_load.specs.declared.dates.Dates.{Dates}
-use Rattle.mb_load.specs.declared.entries.Content.{Content}
-use Rattle.mb_load.specs.declared.entries.Standing.{Standing}
-use Rattle.mb_load.specs.declared.entries.Standing.TheVariants.{Kept, Put, Removed}
-use Rattle.mb_load.specs.declared.entries.StoredName.{StoredName}
-use Rattle.mb_load.specs.declared.entries.StoredTile.{StoredTile}
+use Rattle.mb_lists.specs.declared.dates.Dates.{Dates}
+use Rattle.mb_lists.specs.declared.entries.Content.{Content}
+use Rattle.mb_lists.specs.declared.entries.Standing.{Standing}
+use Rattle.mb_lists.specs.declared.entries.Standing.TheVariants.{Kept, Put, Removed}
+use Rattle.mb_lists.specs.declared.entries.StoredName.{StoredName}
+use Rattle.mb_lists.specs.declared.entries.StoredTile.{StoredTile}
 use Rattle.mb_load.proofs.Listed.{more}
-use Rattle.mb_store.specs.Changes.{same_key}
 use Rattle.mb_store.specs.declared.change.Change.{Change}
 use Rattle.mb_tables.proofs.CellLemmas.{cells_eq-Decides}
 use Rattle.mb_tables.proofs.TileLemmas.{places_total}
@@ -28,7 +27,7 @@ use Rattle.mb_tables.specs.Cell.{cell_cmp, cells_eq}
 use Rattle.mb_tables.specs.CellOrder.{cells_total}
 use Rattle.mb_tables.specs.Detection.{tile_table}
 use Rattle.mb_tables.specs.Key.{has_key, key_cells}
-use Rattle.mb_tables.specs.Table.{key_of, key_width, table_eq}
+use Rattle.mb_tables.specs.Table.{key_width, table_eq}
 use Rattle.mb_tables.specs.Tiles.{Place, place_cmp}
 use Rattle.mb_tables.specs.declared.cell.Cell.{Cell}
 use Rattle.mb_tables.specs.declared.cell.Cell.TheVariants.{Null, Int, Text, Blob, Other}

@@ -1,29 +1,26 @@
 -- After a commit of its changes, tables that a set was loaded from are those of its present state.
-use Rattle.std.proofs.Common.{◌≡◌, ◌∙◌, ap, sym, subst, ℕ, ℤ, Option, Some, None, List, [], ◌∷◌, Bool, true, false, ◌||◌, filter, refl, is_some}
-use Rattle.std.specs.Prelude.{All, IfSome, option_map, option_to_list}
-use Rattle.std.specs.Ordering.{nat_cmp}
-use Rattle.std.specs.Cmp.Lexicographic.{slice_cmp}
-use Rattle.std.specs.FinMap.{contains_key, empty, get, get-empty}
-use Rattle.std.proofs.lemmas.Bool.{false≢true, and_parts}
-use Rattle.std.proofs.lemmas.List.Elements.{All-nil, All-weaker}
-use Rattle.mb_load.specs.Changing.{AreChangesOf, content_row, content_row_by, content_table, id_edited, is_own_table, name_edited, name_row, name_row_by, place_edited, tile_key, tile_row, tile_row_by}
-use Rattle.mb_load.specs.Contents.{content_rows}
-use Rattle.mb_load.specs.Described.{has_column, index_missing, is_metadata, metadata_missing}
+use Rattle.std.proofs.Common.{◌≡◌, ◌∙◌, ap, sym, subst, ℕ, ℤ, Option, Some, None, List, [], ◌∷◌, Bool, true, false, filter, refl, is_some}
+use Rattle.std.specs.Prelude.{All, option_map, option_to_list}
+use Rattle.std.specs.FinMap.{contains_key, get, get-empty}
+use Rattle.std.proofs.lemmas.Bool.{false≢true}
+use Rattle.std.proofs.lemmas.List.Elements.{All-nil}
+use Rattle.mb_load.specs.Changing.{AreChangesOf, content_row, content_row_by, content_table, id_edited, name_edited, name_row, name_row_by, place_edited, tile_key, tile_row, tile_row_by}
+use Rattle.mb_lists.specs.Contents.{content_rows}
+use Rattle.mb_load.specs.Described.{index_missing, metadata_missing}
 use Rattle.mb_load.specs.Held.{Held, fresh}
-use Rattle.mb_load.specs.Kinds.{has_name_kinds}
-use Rattle.mb_load.specs.LoadedFrom.{FitsPlace, IsContentOf, IsGoodContent, IsGoodRow, IsLoadable, IsLoadedFrom}
+use Rattle.mb_lists.specs.Kinds.{has_name_kinds}
+use Rattle.mb_load.specs.LoadedFrom.{FitsPlace, IsGoodContent, IsGoodRow, IsLoadable, IsLoadedFrom}
 use Rattle.mb_load.specs.State.{State}
 use Rattle.mb_load.proofs.KeyedCommit.{all_then, edited_stand, fits_then, unedited_stay}
-use Rattle.mb_load.proofs.PutRowLemmas.{content_put, fits_put, good_put, name_put, not_there}
-use Rattle.mb_store.proofs.Committed.{others_stay}
-use Rattle.mb_store.specs.Committing.{AreOfTables, Commits, is_changed}
+use Rattle.mb_load.proofs.PutRowLemmas.{content_put, fits_put, good_put, name_put}
+use Rattle.mb_store.specs.Committing.{Commits}
 use Rattle.mb_store.specs.declared.change.Change.{Change}
-use Rattle.mb_tables.specs.Cell.{cell_cmp, is_null}
+use Rattle.mb_tables.specs.Cell.{cell_cmp}
 use Rattle.mb_tables.specs.Detection.{layout_of, patch_type_of, tile_table}
 use Rattle.mb_tables.specs.Key.{has_key, key_cells}
 use Rattle.mb_tables.specs.Kind.{is_normalized}
 use Rattle.mb_tables.specs.Table.{Tables}
-use Rattle.mb_tables.specs.Tiles.{Place, place_cmp}
+use Rattle.mb_tables.specs.Tiles.{Place}
 use Rattle.mb_tables.specs.declared.cell.Cell.{Cell}
 use Rattle.mb_tables.specs.declared.cell.Cell.TheVariants.{Int, Text}
 use Rattle.mb_tables.specs.declared.key.RowKey.{RowKey}

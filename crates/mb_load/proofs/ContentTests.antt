@@ -7,17 +7,18 @@ use Rattle.std.specs.Option.{option_or}
 use Rattle.std.proofs.lemmas.Bool.{false≢true}
 use Rattle.std.proofs.lemmas.List.Elements.{All-cons, All-head, All-tail}
 use Rattle.std.proofs.lemmas.List.Sorted.{IsPermutation-sym}
-use Rattle.mb_load.specs.Contents.{are_apart, fronts, id_twice}
-use Rattle.mb_load.specs.Entries.{AreContentsInOrder, id_at, is_removed}
-use Rattle.mb_load.specs.FromRows.{content_from, ids_from, row_kept, rows_kept, wrong_id}
+use Rattle.mb_lists.specs.Contents.{are_apart, fronts, id_twice}
+use Rattle.mb_lists.specs.Entries.{AreContentsInOrder, id_at, is_removed}
+use Rattle.mb_lists.specs.FromRows.{content_from, ids_from, row_kept, rows_kept}
+use Rattle.mb_load.specs.Hashes.{wrong_id}
 use Rattle.mb_load.specs.Hashes.{hash_wrong, wrong_content_hash, wrong_tile_hash}
-use Rattle.mb_load.specs.Keyed.{are_distinct}
-use Rattle.mb_load.specs.Kinds.{content_kind_wrong, has_tile_kinds, is_id, tile_kind_wrong}
-use Rattle.mb_load.specs.Refusals.{first_refused, unless}
-use Rattle.mb_load.specs.declared.entries.Content.{Content}
-use Rattle.mb_load.specs.declared.entries.Standing.TheVariants.{Kept}
-use Rattle.mb_load.proofs.ContentLemmas.{ids_listed}
-use Rattle.mb_load.proofs.Sorting.{apart_permuted, distinct_from_apart}
+use Rattle.mb_lists.specs.Keyed.{are_distinct}
+use Rattle.mb_lists.specs.Kinds.{content_kind_wrong, has_tile_kinds, is_id, tile_kind_wrong}
+use Rattle.mb_lists.specs.Refusals.{first_refused, unless}
+use Rattle.mb_lists.specs.declared.entries.Content.{Content}
+use Rattle.mb_lists.specs.declared.entries.Standing.TheVariants.{Kept}
+use Rattle.mb_lists.proofs.ContentLemmas.{ids_listed}
+use Rattle.mb_lists.proofs.Sorting.{apart_permuted, distinct_from_apart}
 use Rattle.mb_tables.specs.Cell.{cell_cmp, is_null}
 use Rattle.mb_tables.specs.CellOrder.{cells_total}
 use Rattle.mb_tables.specs.Tiles.{cell_at}
@@ -108,8 +109,3 @@ last_tested layout a contents rows places references due p r t h =
     ap (λ o. option_or o (option_or references (hash_wrong layout a (rows_kept contents) rows))) p
     ∙ (ap (λ o. option_or o (hash_wrong layout a (rows_kept contents) rows)) r
     ∙ (ap (λ o. option_or o (first_refused (wrong_content_hash layout a) (rows_kept contents))) t ∙ (ids_tested layout a contents ∙ h)))
-
-pub parts_pass : (a b c : Option MbtError) → option_or a (option_or b c) ≡ None → (a ≡ None) × ((b ≡ None) × (c ≡ None))
-parts_pass None None c h = (refl, (refl, h))
-parts_pass None (Some x) c h = cc
-parts_pass (Some x) b c h = cc

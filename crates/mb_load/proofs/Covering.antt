@@ -1,36 +1,37 @@
 -- The changes of all entries are those of the set.
-use Rattle.std.proofs.Common.{◌≡◌, ◌∙◌, ap, sym, subst, ℕ, ℤ, ◌<◌, ◌++◌, Option, Some, None, List, [], ◌∷◌, Bool, true, false, ◌||◌, ◌⊎◌, inl, inr, cond, find, refl, get_or, length, arith, is_some, append_assoc}
+use Rattle.std.proofs.Common.{◌≡◌, ◌∙◌, ap, sym, subst, ℕ, ℤ, ◌++◌, Option, Some, None, List, [], ◌∷◌, Bool, true, false, ◌||◌, ◌⊎◌, inl, inr, cond, find, refl, get_or, is_some}
 use Rattle.std.specs.Prelude.{All, filter_map, option_and_then, option_map, slice_get, unwrap_or}
 use Rattle.std.specs.declared.cmp.Ordering.{Ordering}
-use Rattle.std.specs.Ordering.{eq_by_cmp, nat_cmp}
+use Rattle.std.specs.Ordering.{nat_cmp}
 use Rattle.std.specs.Cmp.{IsTotalOrder}
 use Rattle.std.specs.Cmp.Lexicographic.{slice_cmp}
-use Rattle.std.specs.FinMap.{FinMap, IsAntisymmetric, contains_key, from_entries, get}
+use Rattle.std.specs.FinMap.{IsAntisymmetric, contains_key, from_entries, get}
 use Rattle.std.proofs.lemmas.Bool.{false≢true}
 use Rattle.std.proofs.lemmas.Bool.Decides.{Decides-eqb}
 use Rattle.std.proofs.lemmas.Cmp.{nat_list_cmp_total}
 use Rattle.std.proofs.lemmas.Option.{get_or_from_slice_get, slice_get-get_or, slice_get_within}
-use Rattle.mb_load.specs.Changing.{AreChangesOf, Covers, cells_for, content_row_by, content_table, front, hash_cell, id_edited, is_own_table, name_edited, name_row_by, place_edited, tile_key, tile_row, tile_row_by}
+use Rattle.mb_load.specs.Changing.{AreChangesOf, cells_for, content_row_by, content_table, front, hash_cell, id_edited, is_own_table, name_edited, name_row_by, place_edited, tile_key, tile_row_by}
 use Rattle.mb_load.specs.Edits.{no_dates}
-use Rattle.mb_load.specs.Entries.{IsName, IsTile, blob_cell, content_at, content_value, held_of, id_at, if_edited, is_gone, is_removed, name_of, name_value, nothing, place_of, text_cell, tile_dates, tile_id, tile_value, tiles_held, unless_removed}
+use Rattle.mb_lists.specs.Entries.{IsName, IsTile, blob_cell, content_at, content_value, id_at, if_edited, is_removed, name_of, name_value, nothing, place_of, text_cell, tile_dates, tile_id, tile_value, tiles_held, unless_removed}
+use Rattle.mb_load.specs.HeldEntries.{held_of}
 use Rattle.mb_load.specs.Held.{Held}
-use Rattle.mb_load.specs.Keyed.{Apart, at_key, entries_by}
-use Rattle.mb_load.specs.Kinds.{is_text}
-use Rattle.mb_load.specs.Metadata.{text_of}
-use Rattle.mb_load.specs.PutRows.{cells_kept, change_by, content_change, digest_cell, id_key, listed_change, name_change, row_of_content, row_of_name, row_of_tile, tile_change}
-use Rattle.mb_load.specs.declared.dates.Dates.{Dates}
-use Rattle.mb_load.specs.declared.entries.Content.{Content}
-use Rattle.mb_load.specs.declared.entries.Standing.{Standing}
-use Rattle.mb_load.specs.declared.entries.Standing.TheVariants.{Kept, Put, Removed}
-use Rattle.mb_load.specs.declared.entries.StoredName.{StoredName}
-use Rattle.mb_load.specs.declared.entries.StoredTile.{StoredTile}
-use Rattle.mb_load.proofs.ChangeSteps.{change_cases, front_same, of_content, of_name, of_tile}
-use Rattle.mb_load.proofs.Finding.{found_in}
-use Rattle.mb_load.proofs.Items.{equal_of, found_itself, look_up}
+use Rattle.mb_lists.specs.Keyed.{Apart, at_key, entries_by}
+use Rattle.mb_lists.specs.Kinds.{is_text}
+use Rattle.mb_lists.specs.Metadata.{text_of}
+use Rattle.mb_load.specs.PutRows.{cells_kept, change_by, digest_cell, id_key, listed_change, name_change, row_of_content, row_of_name, row_of_tile, tile_change}
+use Rattle.mb_lists.specs.declared.dates.Dates.{Dates}
+use Rattle.mb_lists.specs.declared.entries.Content.{Content}
+use Rattle.mb_lists.specs.declared.entries.Standing.{Standing}
+use Rattle.mb_lists.specs.declared.entries.Standing.TheVariants.{Kept, Put, Removed}
+use Rattle.mb_lists.specs.declared.entries.StoredName.{StoredName}
+use Rattle.mb_lists.specs.declared.entries.StoredTile.{StoredTile}
+use Rattle.mb_load.proofs.ChangeSteps.{change_cases, of_content, of_name, of_tile}
+use Rattle.mb_lists.proofs.Finding.{found_in}
+use Rattle.mb_lists.proofs.Items.{equal_of, found_itself, look_up}
 use Rattle.mb_load.proofs.Listed.{at_right, in_append, in_mapped, keeps_mapped}
 use Rattle.mb_load.proofs.MoreContents.{at_left}
-use Rattle.mb_load.proofs.NameLemmas.{names_antisymmetric}
-use Rattle.mb_load.proofs.Places.{places_antisymmetric}
+use Rattle.mb_lists.proofs.NameLemmas.{names_antisymmetric}
+use Rattle.mb_lists.proofs.Places.{places_antisymmetric}
 use Rattle.mb_store.specs.declared.change.Change.{Change}
 use Rattle.mb_tables.proofs.CellLemmas.{cell_cmp-IsAntisymmetric}
 use Rattle.mb_tables.proofs.TileLemmas.{places_total}
@@ -38,7 +39,7 @@ use Rattle.mb_tables.specs.Cell.{cell_cmp, is_null}
 use Rattle.mb_tables.specs.CellOrder.{cells_total}
 use Rattle.mb_tables.specs.Detection.{tile_table}
 use Rattle.mb_tables.specs.Table.{table_eq, table_number}
-use Rattle.mb_tables.specs.Tiles.{Place, contents_of, place_cmp}
+use Rattle.mb_tables.specs.Tiles.{contents_of, place_cmp}
 use Rattle.mb_tables.specs.declared.cell.Cell.{Cell}
 use Rattle.mb_tables.specs.declared.cell.Cell.TheVariants.{Null, Int, Text, Blob, Other}
 use Rattle.mb_tables.specs.declared.key.RowKey.{RowKey}
@@ -224,9 +225,6 @@ module _ (layout : MbtType) (a : HashAlgorithm) (p : Option PatchType) (contents
       )
 
   -- contents
-  standing_at : ℕ → Standing
-  standing_at i = (content_at contents i).standing
-
   content_made : (key : RowKey) (id : Cell) → id_key id ≡ Some key → contains_key held.edited.ids id ≡ true → (i : ℕ) × (c : Change) × (slice_get all i ≡ Some c) × (table_eq c.table (content_table layout) ≡ true) × (c.key ≡ key)
   content_made key id is h =
       let e = edited_item cells_total cell_cmp-IsAntisymmetric (id_at contents) order oa (λ i. (content_at contents i).standing) id h in

@@ -4,12 +4,12 @@ use Rattle.std.specs.Prelude.{All, unwrap_or}
 use Rattle.std.proofs.lemmas.Bool.{false≢true}
 use Rattle.std.proofs.lemmas.List.Elements.{All-cons, All-nil}
 use Rattle.std.proofs.lemmas.List.Sorted.{All-permutation}
-use Rattle.mb_load.specs.Entries.{AreDated, HasId, nothing}
-use Rattle.mb_load.specs.FromRows.{AreIndexed, dates_from, ids_from, own_content}
+use Rattle.mb_lists.specs.Entries.{AreDated, HasId, nothing}
+use Rattle.mb_lists.specs.FromRows.{AreIndexed, dates_from, ids_from, own_content}
 use Rattle.mb_load.specs.LoadedFrom.{is_cache}
-use Rattle.mb_load.specs.declared.dates.Dates.{Dates}
-use Rattle.mb_load.specs.declared.entries.Content.{Content}
-use Rattle.mb_load.proofs.ContentLemmas.{at_middle, longer}
+use Rattle.mb_lists.specs.declared.dates.Dates.{Dates}
+use Rattle.mb_lists.specs.declared.entries.Content.{Content}
+use Rattle.mb_lists.proofs.ContentLemmas.{at_middle, longer}
 use Rattle.mb_tables.specs.Cell.{is_null}
 use Rattle.mb_tables.specs.declared.cell.Cell.{Cell}
 use Rattle.mb_tables.specs.declared.kind.MbtType.{MbtType}

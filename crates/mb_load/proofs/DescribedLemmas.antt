@@ -3,9 +3,9 @@ use Rattle.std.proofs.Common.{◌≡◌, ◌≢◌, ◌∙◌, ap, sym, subst, B
 use Rattle.std.specs.Prelude.{IfOk, IfErr}
 use Rattle.std.specs.List.{list_any}
 use Rattle.mb_load.specs.Described.{index_missing, is_metadata}
-use Rattle.mb_load.specs.Contents.{content_rows}
+use Rattle.mb_lists.specs.Contents.{content_rows}
 use Rattle.mb_load.specs.LoadingOrder.{row_refusals}
-use Rattle.mb_load.specs.Refusals.{first_refusal, unless}
+use Rattle.mb_lists.specs.Refusals.{first_refusal, unless}
 use Rattle.mb_load.specs.State.{state_of, stated, unless_refused}
 use Rattle.std.proofs.lemmas.Bool.{false≢true}
 use Rattle.mb_tables.specs.declared.table.TableName.TheVariants.{Metadata}
@@ -42,18 +42,7 @@ detected_ok ds layout h = by (layout_of ds) refl
     by None e = let g = rw e at h in cc
     by (Some found) e = keyed found e (is_keyed ds (tile_table found)) refl
 
--- without a table of metadata
-pub no_metadata : (ds : List TableDesc) → list_any is_metadata ds ≡ false → (t : Tables) → t.descriptions ≡ ds → state_of t ≡ Err InvalidDataFormat
-no_metadata ds h t same = by (layout_of t.descriptions)
-  where
-    none : list_any is_metadata t.descriptions ≡ false
-    none = ap (list_any is_metadata) same ∙ h
-
-    by : (o : Option MbtType) → stated o t ≡ Err InvalidDataFormat
-    by None = refl
-    by (Some layout) = ap (unless_refused layout t) (one_test (list_any is_metadata t.descriptions) (index_missing t.descriptions layout ∷ row_refusals layout (t.rows Metadata) (content_rows layout t) (t.rows (tile_table layout))) none)
-
--- with one, what was detected is refused as the set is
+-- what was detected is refused as the set is, where there is a table of metadata
 pub detected_err : (ds : List TableDesc) (e : MbtError) → detected ds ≡ Err e → list_any is_metadata ds ≡ true → (t : Tables) → t.descriptions ≡ ds → state_of t ≡ Err e
 detected_err ds e h named t same = by (layout_of ds) refl
   where

@@ -1,5 +1,5 @@
 -- What a set holds without the contents that no tile has.
-use Rattle.std.proofs.Common.{◌≡◌, ◌∙◌, ap, sym, subst, ℕ, ◌<◌, ◌≤◌, ◌++◌, List, [], ◌∷◌, Option, Some, None, Bool, true, false, cond, not, filter, find, map, refl, is_some, length, take}
+use Rattle.std.proofs.Common.{◌≡◌, ◌∙◌, ap, sym, subst, ℕ, ◌≤◌, ◌++◌, List, [], ◌∷◌, Option, Some, None, Bool, true, false, cond, not, filter, find, map, refl, is_some, length, take}
 use Rattle.std.specs.Prelude.{All, option_and_then, slice_get, unwrap_or}
 use Rattle.std.specs.Option.{option_or}
 use Rattle.std.specs.declared.cmp.Ordering.{Ordering}
@@ -11,25 +11,26 @@ use Rattle.std.specs.FinMap.Entries.{find-where_key}
 use Rattle.std.proofs.lemmas.List.Elements.{All-weaker}
 use Rattle.std.proofs.lemmas.List.Sorted.{All-permutation}
 use Rattle.std.proofs.lemmas.Option.{slice_get_within, get_or_from_slice_get}
-use Rattle.mb_load.specs.Contents.{Contents}
-use Rattle.mb_load.specs.Dropping.{has_id, is_unnamed, marked_unnamed}
+use Rattle.mb_lists.specs.Contents.{Contents}
+use Rattle.mb_lists.specs.Dropping.{is_unnamed, marked_unnamed}
 use Rattle.mb_load.specs.Edits.{is_named, only_referenced, unnamed_ids}
-use Rattle.mb_load.specs.Entries.{AreDated, HasId, IsTile, content_at, content_value, contents_held, dated_count, held_of, id_at, if_edited, is_gone, nothing, place_of, tile_dates, tile_id, tile_value, tiles_held, unless_removed}
-use Rattle.mb_load.specs.Keyed.{Apart, at_key, entries_by}
-use Rattle.mb_load.specs.declared.dates.Dates.{Dates}
-use Rattle.mb_load.specs.declared.entries.Content.{Content}
-use Rattle.mb_load.specs.declared.entries.Standing.{Standing}
-use Rattle.mb_load.specs.declared.entries.Standing.TheVariants.{Kept, Put, Removed}
-use Rattle.mb_load.specs.declared.entries.StoredName.{StoredName}
-use Rattle.mb_load.specs.declared.entries.StoredTile.{StoredTile}
-use Rattle.mb_load.proofs.Dropped.{AreLike, gone_after, kept_after, like_all}
+use Rattle.mb_lists.specs.Entries.{AreDated, HasId, IsTile, content_at, content_value, contents_held, dated_count, id_at, if_edited, is_gone, nothing, place_of, tile_dates, tile_id, tile_value, tiles_held, unless_removed}
+use Rattle.mb_load.specs.HeldEntries.{held_of}
+use Rattle.mb_lists.specs.Keyed.{Apart, at_key, entries_by}
+use Rattle.mb_lists.specs.declared.dates.Dates.{Dates}
+use Rattle.mb_lists.specs.declared.entries.Content.{Content}
+use Rattle.mb_lists.specs.declared.entries.Standing.{Standing}
+use Rattle.mb_lists.specs.declared.entries.Standing.TheVariants.{Kept, Put, Removed}
+use Rattle.mb_lists.specs.declared.entries.StoredName.{StoredName}
+use Rattle.mb_lists.specs.declared.entries.StoredTile.{StoredTile}
+use Rattle.mb_lists.proofs.Dropped.{AreLike, gone_after, kept_after, like_all}
 use Rattle.mb_load.proofs.EditViews.{parts_same}
-use Rattle.mb_load.proofs.Finding.{found_in}
-use Rattle.mb_load.proofs.Items.{equal_of, look_up}
+use Rattle.mb_lists.proofs.Finding.{found_in}
+use Rattle.mb_lists.proofs.Items.{equal_of, look_up}
 use Rattle.mb_load.proofs.MoreContents.{listed_contents}
 use Rattle.mb_load.proofs.Naming.{named_is}
-use Rattle.mb_load.proofs.Places.{places_antisymmetric}
-use Rattle.mb_load.proofs.Sorting.{apart_permuted, map_permuted}
+use Rattle.mb_lists.proofs.Places.{places_antisymmetric}
+use Rattle.mb_lists.proofs.Sorting.{apart_permuted, map_permuted}
 use Rattle.mb_tables.proofs.CellLemmas.{cell_cmp-IsAntisymmetric}
 use Rattle.mb_tables.proofs.TileLemmas.{places_total}
 use Rattle.mb_tables.specs.Cell.{cell_cmp, is_null}

@@ -2,14 +2,14 @@
 use Rattle.std.proofs.Common.{◌≡◌, ◌∙◌, ap, sym, List, Option, Some, None, Err}
 use Rattle.std.specs.Option.{option_or}
 use Rattle.mb_load.specs.Algorithm.{algorithm_of, algorithm_unknown}
-use Rattle.mb_load.specs.Contents.{id_twice}
+use Rattle.mb_lists.specs.Contents.{id_twice}
 use Rattle.mb_load.specs.Hashes.{hash_wrong}
-use Rattle.mb_load.specs.Kinds.{content_kind_wrong, name_kind_wrong, tile_kind_wrong}
+use Rattle.mb_lists.specs.Kinds.{content_kind_wrong, name_kind_wrong, tile_kind_wrong}
 use Rattle.mb_load.specs.Loading.{due_by, held_by, rows_due}
-use Rattle.mb_load.specs.Metadata.{name_twice}
+use Rattle.mb_lists.specs.Metadata.{name_twice}
 use Rattle.mb_load.specs.References.{reference_missing}
 use Rattle.mb_load.specs.TileRows.{place_twice, tile_bad}
-use Rattle.mb_load.proofs.Chain.{first_part, fourth_part, last_part, second_part, third_part}
+use Rattle.mb_lists.proofs.Chain.{first_part, fourth_part, last_part, second_part, third_part}
 use Rattle.mb_tables.specs.declared.cell.Cell.{Cell}
 use Rattle.mb_tables.specs.declared.error.MbtError.{MbtError}
 use Rattle.mb_tables.specs.declared.kind.MbtType.{MbtType}

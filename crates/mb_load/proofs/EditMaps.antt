@@ -1,18 +1,17 @@
 -- Maps of values of the latest items, after one more item.
-use Rattle.std.proofs.Common.{◌≡◌, ◌∙◌, ap, sym, subst, ℕ, ◌<◌, ◌++◌, Option, Some, None, List, [], ◌∷◌, Bool, true, false, cond, find, reverse, refl, get_or, length, arith}
+use Rattle.std.proofs.Common.{◌≡◌, ◌∙◌, ap, sym, ◌++◌, Option, Some, None, List, [], ◌∷◌, Bool, true, false, cond, find, reverse, refl}
 use Rattle.std.specs.Prelude.{All, option_and_then}
 use Rattle.std.specs.declared.cmp.Ordering.{Ordering}
-use Rattle.std.specs.List.Sorted.{IsPermutation}
 use Rattle.std.specs.Ordering.{eq_by_cmp}
 use Rattle.std.specs.Cmp.{IsTotalOrder}
-use Rattle.std.specs.FinMap.{FinMap, IsAntisymmetric, from_entries, get, insert, remove, get-insert, get-remove, same_map}
+use Rattle.std.specs.FinMap.{FinMap, IsAntisymmetric, from_entries, get, get-insert, get-remove, same_map}
 use Rattle.std.proofs.lemmas.List.Elements.{All-head, All-tail}
-use Rattle.std.proofs.lemmas.List.Sorted.{All-permutation, IsPermutation-reverse, IsPermutation-sym}
+use Rattle.std.proofs.lemmas.List.Sorted.{All-permutation, IsPermutation-reverse}
 use Rattle.mb_load.specs.Edits.{with_value}
-use Rattle.mb_load.specs.Keyed.{Apart, StandsAs, at_key, entries_by, newest}
-use Rattle.mb_load.proofs.Items.{look_up}
-use Rattle.mb_load.proofs.Newest.{find_newest, newest_apart}
-use Rattle.mb_load.proofs.Sorting.{apart_permuted, found_permuted}
+use Rattle.mb_lists.specs.Keyed.{Apart, StandsAs, at_key, entries_by, newest}
+use Rattle.mb_lists.proofs.Items.{look_up}
+use Rattle.mb_lists.proofs.Newest.{find_newest, newest_apart}
+use Rattle.mb_lists.proofs.Sorting.{apart_permuted, found_permuted}
 use Rattle.std.proofs.lemmas.List.{reverse-append}
 
 -- tests and values that agree on the items of a list find the same

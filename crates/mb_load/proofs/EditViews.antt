@@ -3,32 +3,34 @@ use Rattle.std.proofs.Common.{◌≡◌, ◌∙◌, ap, sym, subst, ℕ, ◌++�
 use Rattle.std.specs.Prelude.{All, Contains, option_and_then, unwrap_or}
 use Rattle.std.specs.Ordering.{nat_cmp}
 use Rattle.std.specs.Cmp.Lexicographic.{slice_cmp}
-use Rattle.std.specs.FinMap.{FinMap, from_entries, insert}
+use Rattle.std.specs.FinMap.{FinMap, from_entries}
 use Rattle.std.proofs.lemmas.Cmp.{nat_list_cmp_total}
 use Rattle.std.proofs.lemmas.Bool.{false≢true}
 use Rattle.std.proofs.lemmas.List.Elements.{All-contains, All-push, All-weaker}
-use Rattle.mb_load.specs.Adding.{added_dates, listed}
-use Rattle.mb_load.specs.Contents.{Contents}
-use Rattle.mb_load.specs.Edits.{dates_for, id_for, removed_name, removed_tile, with_content, with_key, with_name, with_tile, with_value}
-use Rattle.mb_load.specs.Entries.{AreDated, HasId, IsName, IsTile, content_at, content_value, contents_held, held_of, id_at, if_edited, name_of, name_value, names_held, newest_ids, newest_names, newest_tiles, nothing, place_at, place_of, tile_dates, tile_id, tile_value, tiles_held, unless_removed}
-use Rattle.mb_load.specs.Held.{Edited, Held}
-use Rattle.mb_load.specs.Keyed.{Apart, StandsAs, entries_by}
-use Rattle.mb_load.specs.Metadata.{Names, text_of}
-use Rattle.mb_load.specs.declared.dates.Dates.{Dates}
-use Rattle.mb_load.specs.declared.entries.Content.{Content}
-use Rattle.mb_load.specs.declared.entries.Standing.TheVariants.{Put, Removed}
-use Rattle.mb_load.specs.declared.entries.StoredName.{StoredName}
-use Rattle.mb_load.specs.declared.entries.StoredTile.{StoredTile}
+use Rattle.mb_load.specs.Adding.{added_dates}
+use Rattle.mb_lists.specs.Clearing.{listed}
+use Rattle.mb_lists.specs.Contents.{Contents}
+use Rattle.mb_load.specs.Edits.{id_for, removed_name, removed_tile, with_content, with_key, with_name, with_tile, with_value}
+use Rattle.mb_lists.specs.Entries.{AreDated, HasId, IsName, IsTile, content_at, content_value, contents_held, id_at, if_edited, name_of, name_value, newest_ids, newest_names, newest_tiles, nothing, place_at, place_of, tile_dates, tile_id, tile_value, tiles_held, unless_removed}
+use Rattle.mb_load.specs.HeldEntries.{held_of}
+use Rattle.mb_load.specs.Held.{Held}
+use Rattle.mb_lists.specs.Keyed.{Apart, StandsAs, entries_by}
+use Rattle.mb_lists.specs.Metadata.{Names, text_of}
+use Rattle.mb_lists.specs.declared.dates.Dates.{Dates}
+use Rattle.mb_lists.specs.declared.entries.Content.{Content}
+use Rattle.mb_lists.specs.declared.entries.Standing.TheVariants.{Put, Removed}
+use Rattle.mb_lists.specs.declared.entries.StoredName.{StoredName}
+use Rattle.mb_lists.specs.declared.entries.StoredTile.{StoredTile}
 use Rattle.mb_load.proofs.EditMaps.{newest_of_apart, newest_put, newest_same, stands_map}
 use Rattle.mb_load.proofs.MoreContents.{at_end, dated_more, dates_added, dates_same, id_kept, listed_same, tile_kept, tile_same}
-use Rattle.mb_load.proofs.NameLemmas.{names_antisymmetric}
-use Rattle.mb_load.proofs.Newest.{newest_apart}
-use Rattle.mb_load.proofs.Places.{places_antisymmetric}
+use Rattle.mb_lists.proofs.NameLemmas.{names_antisymmetric}
+use Rattle.mb_lists.proofs.Newest.{newest_apart}
+use Rattle.mb_lists.proofs.Places.{places_antisymmetric}
 use Rattle.mb_tables.proofs.CellLemmas.{cell_cmp-IsAntisymmetric}
 use Rattle.mb_tables.proofs.TileLemmas.{places_total}
 use Rattle.mb_tables.specs.Cell.{cell_cmp, is_null}
 use Rattle.mb_tables.specs.CellOrder.{cells_total}
-use Rattle.mb_tables.specs.Tiles.{Place, TileSet, contents_of, place_cmp}
+use Rattle.mb_tables.specs.Tiles.{TileSet, contents_of, place_cmp}
 use Rattle.mb_tables.specs.declared.cell.Cell.{Cell}
 use Rattle.mb_tables.specs.declared.cell.Cell.TheVariants.{Null, Int, Text, Blob, Other}
 use Rattle.mb_tables.specs.declared.kind.MbtType.{MbtType}
@@ -81,18 +83,6 @@ module _ (layout : MbtType) (a : HashAlgorithm) (p : Option PatchType) (contents
 
     standings : All (λ i. if_edited (content_at more i).standing ≡ if_edited (content_at contents i).standing) order
     standings = agrees (HasId contents) (λ i. if_edited (content_at more i).standing) (λ i. if_edited (content_at contents i).standing) order (listed_same contents c (λ o. if_edited (unwrap_or o nothing).standing)) ids
-
-    -- contents that nothing names change nothing
-    pub held_more : held_of layout a p more (newest_ids more order) (dates ++ added_dates layout) (newest_tiles tiles) (newest_names names) ≡ held
-    held_more = parts_same layout a p _ _ _ _ _ _ _ _ _ _ _ _ _ _ _ _
-        (newest_same places_total places_antisymmetric place_of place_of (tile_value contents) (tile_value more) tiles (always place_of place_of tiles (λ x. refl)) values)
-        refl
-        (newest_same places_total places_antisymmetric place_of place_of (tile_id contents) (tile_id more) tiles (always place_of place_of tiles (λ x. refl)) named)
-        (newest_same cells_total cell_cmp-IsAntisymmetric (id_at contents) (id_at more) (content_value contents) (content_value more) order keys cells)
-        (newest_same places_total places_antisymmetric place_of place_of (tile_dates dates) (tile_dates (dates ++ added_dates layout)) tiles (always place_of place_of tiles (λ x. refl)) times)
-        refl
-        (newest_same cells_total cell_cmp-IsAntisymmetric (id_at contents) (id_at more) (λ i. if_edited (content_at contents i).standing) (λ i. if_edited (content_at more i).standing) order keys standings)
-        refl
 
   -- new contents of an id, or of none
   abbrev new : Option Cell → List ℕ → Content

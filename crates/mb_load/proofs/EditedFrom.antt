@@ -1,6 +1,6 @@
 -- Tables that a set was loaded from are so of the edited set, too.
-use Rattle.std.proofs.Common.{◌≡◌, ◌∙◌, ap, sym, subst, ℕ, ◌<◌, ◌++◌, Option, Some, None, List, [], ◌∷◌, Bool, true, false, ◌&&◌, ◌||◌, ◌⊎◌, inl, inr, not, cond, map, filter, refl, is_some, get_or, length}
-use Rattle.std.specs.Prelude.{All, T, option_and_then, option_map, option_to_list, slice_get}
+use Rattle.std.proofs.Common.{◌≡◌, ◌∙◌, ap, sym, subst, ℕ, Option, Some, None, List, [], ◌∷◌, Bool, true, false, ◌&&◌, ◌||◌, ◌⊎◌, inl, inr, not, cond, refl, is_some}
+use Rattle.std.specs.Prelude.{T, option_and_then, option_map, option_to_list}
 use Rattle.std.specs.List.{list_any}
 use Rattle.std.specs.Option.{option_or}
 use Rattle.std.specs.declared.cmp.Ordering.{Ordering}
@@ -10,36 +10,31 @@ use Rattle.std.specs.Cmp.{IsTotalOrder, tied_itself}
 use Rattle.std.specs.Cmp.Lexicographic.{slice_cmp}
 use Rattle.std.specs.FinMap as fin
 use Rattle.std.specs.FinMap.Entries.{below_all}
-use Rattle.std.specs.FinMap.{FinMap, contains_key, entries, from_entries, entries_sorted, get, insert, remove, retain_keys, get-entries, get-from_entries, get-insert, get-remove, get-retain_keys}
-use Rattle.std.proofs.lemmas.Bool.{false≢true, and_parts}
+use Rattle.std.specs.FinMap.{FinMap, contains_key, entries, entries_sorted, get, insert, remove, get-entries, get-insert, get-remove}
+use Rattle.std.proofs.lemmas.Bool.{false≢true}
 use Rattle.std.proofs.lemmas.Cmp.{nat_list_cmp_total}
-use Rattle.mb_load.specs.Changing.{content_row, content_table, name_row, tile_key}
-use Rattle.mb_load.specs.Contents.{Contents, content_rows}
-use Rattle.mb_load.specs.Edits.{dates_for, id_for, is_named, no_dates, only_referenced, removed_name, removed_tile, unnamed_ids, with_content, with_key, with_name, with_tile, with_value, without_name, without_tile}
-use Rattle.mb_load.specs.Entries.{text_cell}
+use Rattle.mb_lists.specs.Contents.{Contents}
+use Rattle.mb_load.specs.Edits.{dates_for, id_for, is_named, no_dates, only_referenced, removed_name, removed_tile, with_content, with_key, with_name, with_tile, with_value, without_name, without_tile}
+use Rattle.mb_lists.specs.Entries.{text_cell}
 use Rattle.mb_load.specs.Held.{Held}
 use Rattle.mb_load.specs.LoadedFrom.{AreTimes, FitsPlace, IsContentOf, IsFree, IsLoadable, IsLoadedFrom, IsOnBoard, at_place, found, is_cache, is_editable}
 use Rattle.mb_load.specs.State.{State}
 use Rattle.mb_load.specs.TileRows.{dates_in, id_in, tile_in}
-use Rattle.mb_load.specs.declared.dates.Dates.{Dates}
+use Rattle.mb_lists.specs.declared.dates.Dates.{Dates}
 use Rattle.mb_load.proofs.DroppedHeld.{any_unit, contents_with, edited_with}
 use Rattle.mb_load.proofs.EditMaps.{get-with_value}
-use Rattle.mb_load.proofs.Items.{equal_of}
-use Rattle.mb_load.proofs.NameLemmas.{names_antisymmetric}
-use Rattle.mb_load.proofs.Places.{places_antisymmetric}
-use Rattle.mb_load.proofs.PutRowLemmas.{digest_right, id_known, not_there, there}
+use Rattle.mb_lists.proofs.Items.{equal_of}
+use Rattle.mb_lists.proofs.Places.{places_antisymmetric}
+use Rattle.mb_load.proofs.PutRowLemmas.{digest_right, id_known, there}
 use Rattle.mb_tables.proofs.CellLemmas.{cell_cmp-IsAntisymmetric}
 use Rattle.mb_tables.proofs.TileLemmas.{places_total}
 use Rattle.mb_tables.specs.Cell.{cell_cmp, cell_eq}
 use Rattle.mb_tables.specs.CellOrder.{cells_total}
-use Rattle.mb_tables.specs.Detection.{tile_table}
-use Rattle.mb_tables.specs.Key.{has_key, key_cells}
 use Rattle.mb_tables.specs.Kind.{is_normalized}
 use Rattle.mb_tables.specs.Table.{Tables}
 use Rattle.mb_tables.specs.Tiles.{Place, contents_of, place_cmp}
 use Rattle.mb_tables.specs.declared.cell.Cell.{Cell}
-use Rattle.mb_tables.specs.declared.cell.Cell.TheVariants.{Null, Text, Blob}
-use Rattle.mb_tables.specs.declared.key.RowKey.{RowKey}
+use Rattle.mb_tables.specs.declared.cell.Cell.TheVariants.{Text, Blob}
 use Rattle.mb_tables.specs.declared.kind.MbtType.{MbtType}
 use Rattle.mb_tables.specs.declared.kind.MbtType.TheVariants.{Flat, FlatWithHash, Normalized, Cache}
 use Rattle.mb_tables.specs.declared.kind.NormalizedSchema.TheVariants.{Hash, DedupId}

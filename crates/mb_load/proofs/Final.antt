@@ -3,20 +3,21 @@ use Rattle.std.proofs.Common.{◌≡◌, ◌∙◌, ap, sym, ℕ, List, Option, 
 use Rattle.std.specs.Prelude.{All}
 use Rattle.std.specs.FinMap.{from_entries}
 use Rattle.mb_load.specs.Algorithm.{algorithm_of}
-use Rattle.mb_load.specs.Contents.{contents_by_id}
-use Rattle.mb_load.specs.Entries.{contents_held, held_of, names_held, place_of, tile_dates, tile_id, tile_value, tiles_held}
+use Rattle.mb_lists.specs.Contents.{contents_by_id}
+use Rattle.mb_lists.specs.Entries.{contents_held, names_held, place_of, tile_dates, tile_id, tile_value, tiles_held}
+use Rattle.mb_load.specs.HeldEntries.{held_of}
 use Rattle.mb_load.specs.Held.{Held, nothing_edited}
-use Rattle.mb_load.specs.Keyed.{are_distinct}
+use Rattle.mb_lists.specs.Keyed.{are_distinct}
 use Rattle.mb_load.specs.Loading.{due_by, held_by, rows_due}
-use Rattle.mb_load.specs.Metadata.{names_of}
-use Rattle.mb_load.specs.Refusals.{unless}
+use Rattle.mb_lists.specs.Metadata.{names_of}
+use Rattle.mb_lists.specs.Refusals.{unless}
 use Rattle.mb_load.specs.RowTiles.{AreTilesOf}
 use Rattle.mb_load.specs.TileRows.{by_place, dates_in, id_in, place_twice, tile_in}
-use Rattle.mb_load.specs.declared.dates.Dates.{Dates}
-use Rattle.mb_load.specs.declared.entries.Content.{Content}
-use Rattle.mb_load.specs.declared.entries.Standing.TheVariants.{Kept}
-use Rattle.mb_load.specs.declared.entries.StoredName.{StoredName}
-use Rattle.mb_load.specs.declared.entries.StoredTile.{StoredTile}
+use Rattle.mb_lists.specs.declared.dates.Dates.{Dates}
+use Rattle.mb_lists.specs.declared.entries.Content.{Content}
+use Rattle.mb_lists.specs.declared.entries.Standing.TheVariants.{Kept}
+use Rattle.mb_lists.specs.declared.entries.StoredName.{StoredName}
+use Rattle.mb_lists.specs.declared.entries.StoredTile.{StoredTile}
 use Rattle.mb_load.proofs.HeldLemmas.{edited_none, places_listed, states_same}
 use Rattle.mb_tables.specs.Tiles.{Place, place_cmp}
 use Rattle.mb_tables.specs.declared.cell.Cell.{Cell}

@@ -1,18 +1,17 @@
 -- Changes are of tables that are described, and what a commit of them leaves as it was beside the rows of keys.
-use Rattle.std.proofs.Common.{◌≡◌, ◌∙◌, ap, sym, subst, ℕ, Option, Some, None, List, [], ◌∷◌, Bool, true, false, ◌&&◌, ◌||◌, ◌⊎◌, inl, inr, cond, not, filter, refl, take, get_or}
+use Rattle.std.proofs.Common.{◌≡◌, ◌∙◌, ap, sym, subst, Some, None, List, [], ◌∷◌, Bool, true, false, ◌&&◌, ◌||◌, ◌⊎◌, inl, inr, cond, filter, refl, take, get_or}
 use Rattle.std.specs.Prelude.{All}
 use Rattle.std.specs.List.{list_any}
 use Rattle.std.specs.FinMap.{contains_key}
 use Rattle.std.specs.Str.{bytes_eq}
-use Rattle.std.proofs.lemmas.Bool.{false≢true, and_parts, and_from}
-use Rattle.std.proofs.lemmas.List.Elements.{All-weaker}
+use Rattle.std.proofs.lemmas.Bool.{false≢true, and_parts}
 use Rattle.std.proofs.lemmas.List.Folds.{list_any_none}
 use Rattle.mb_load.specs.Changing.{AreChangesOf, content_row_by, content_table, id_edited, is_own_table}
 use Rattle.mb_load.specs.Committed.{is_set_table}
-use Rattle.mb_load.specs.Described.{has_column, is_metadata, metadata_missing}
+use Rattle.mb_load.specs.Described.{is_metadata, metadata_missing}
 use Rattle.mb_load.specs.Held.{Edited, Held}
 use Rattle.mb_load.specs.LoadedFrom.{IsLoadedFrom}
-use Rattle.mb_load.specs.Refusals.{unless}
+use Rattle.mb_lists.specs.Refusals.{unless}
 use Rattle.mb_store.proofs.Committed.{others_stay}
 use Rattle.mb_store.proofs.ListLemmas.{filter_every}
 use Rattle.mb_store.specs.Committing.{AreOfTables, Commits, is_changed}
@@ -25,10 +24,10 @@ use Rattle.mb_tables.specs.Detection.{fits, has_columns, has_table, layout_of, t
 use Rattle.mb_tables.specs.Key.{has_key, key_cells}
 use Rattle.mb_tables.specs.Kind.{is_normalized}
 use Rattle.mb_tables.specs.Schema.{columns_of}
-use Rattle.mb_tables.specs.Table.{Tables, key_of, key_width, table_eq, table_number, table_text}
+use Rattle.mb_tables.specs.Table.{Tables, key_of, key_width, table_eq, table_text}
 use Rattle.mb_tables.specs.Tiles.{cell_at}
 use Rattle.mb_tables.specs.declared.cell.Cell.{Cell}
-use Rattle.mb_tables.specs.declared.cell.Cell.TheVariants.{Null, Int, Text}
+use Rattle.mb_tables.specs.declared.cell.Cell.TheVariants.{Int, Text}
 use Rattle.mb_tables.specs.declared.description.TableDesc.{TableDesc}
 use Rattle.mb_tables.specs.declared.error.MbtError.TheVariants.{InvalidDataFormat}
 use Rattle.mb_tables.specs.declared.key.RowKey.{RowKey}

@@ -1,5 +1,5 @@
 -- A set as it was loaded, from what is kept.
-use Rattle.std.proofs.Common.{◌≡◌, ◌∙◌, ap, sym, ℕ, List, [], ◌∷◌, Option, Some, None, true, false, map, refl, is_some, suc, zero, get_or}
+use Rattle.std.proofs.Common.{◌≡◌, ◌∙◌, ap, sym, ℕ, List, [], ◌∷◌, Option, Some, None, true, map, refl, is_some, suc, zero, get_or}
 use Rattle.std.specs.Prelude.{All}
 use Rattle.std.specs.Option.{option_map}
 use Rattle.std.specs.Cmp.Lexicographic.{slice_cmp}
@@ -10,19 +10,20 @@ use Rattle.std.specs.FinMap.{FinMap, from_entries}
 use Rattle.std.proofs.lemmas.Bool.{false≢true}
 use Rattle.std.proofs.lemmas.List.Elements.{All-head, All-tail}
 use Rattle.std.proofs.lemmas.List.Sorted.{IsPermutation-sym}
-use Rattle.mb_load.specs.Contents.{Contents}
-use Rattle.mb_load.specs.Entries.{IsTile, content_at, contents_held, held_of, id_at, if_edited, is_gone, is_removed, name_of, names_held, place_of, tile_dates, tile_id, tile_value, tiles_held, unless_removed}
+use Rattle.mb_lists.specs.Contents.{Contents}
+use Rattle.mb_lists.specs.Entries.{IsTile, content_at, contents_held, id_at, if_edited, name_of, names_held, place_of, tile_dates, tile_id, tile_value, tiles_held, unless_removed}
+use Rattle.mb_load.specs.HeldEntries.{held_of}
 use Rattle.mb_load.specs.Held.{nothing_edited}
-use Rattle.mb_load.specs.Keyed.{Apart, entries_by}
-use Rattle.mb_load.specs.Metadata.{Names}
+use Rattle.mb_lists.specs.Keyed.{Apart, entries_by}
+use Rattle.mb_lists.specs.Metadata.{Names}
 use Rattle.mb_load.specs.State.{State}
-use Rattle.mb_load.specs.declared.dates.Dates.{Dates}
-use Rattle.mb_load.specs.declared.entries.Content.{Content}
-use Rattle.mb_load.specs.declared.entries.Standing.TheVariants.{Kept}
-use Rattle.mb_load.specs.declared.entries.StoredName.{StoredName}
-use Rattle.mb_load.specs.declared.entries.StoredTile.{StoredTile}
-use Rattle.mb_load.proofs.Places.{places_antisymmetric}
-use Rattle.mb_load.proofs.Sorting.{apart_permuted, map_permuted}
+use Rattle.mb_lists.specs.declared.dates.Dates.{Dates}
+use Rattle.mb_lists.specs.declared.entries.Content.{Content}
+use Rattle.mb_lists.specs.declared.entries.Standing.TheVariants.{Kept}
+use Rattle.mb_lists.specs.declared.entries.StoredName.{StoredName}
+use Rattle.mb_lists.specs.declared.entries.StoredTile.{StoredTile}
+use Rattle.mb_lists.proofs.Places.{places_antisymmetric}
+use Rattle.mb_lists.proofs.Sorting.{apart_permuted, map_permuted}
 use Rattle.mb_tables.proofs.TileLemmas.{places_total}
 use Rattle.mb_tables.specs.Cell.{cell_cmp}
 use Rattle.mb_tables.specs.Tiles.{Place, TileSet, contents_of, place_cmp}
@@ -101,6 +102,3 @@ tiles_are contents tiles k w = λ i d lt. one (get_or tiles i d) (k i d lt) (w i
   where
     one : (t : StoredTile) → t.standing ≡ Kept → is_some (tile_value contents t) ≡ true → IsTile contents t
     one t k w = λ live. ap (λ s. is_some (unless_removed s (contents_of (content_at contents t.contents).cell))) (sym k) ∙ w
-
-pub none_removed : (tiles : List StoredTile) → All (λ t. t.standing ≡ Kept) tiles → All (λ t. is_gone t ≡ false) tiles
-none_removed tiles k = λ i d lt. ap is_removed (k i d lt)

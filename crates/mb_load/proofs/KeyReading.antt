@@ -1,5 +1,5 @@
 -- What is read at a place is read of the rows under its key.
-use Rattle.std.proofs.Common.{◌≡◌, ◌∙◌, ap, sym, subst, ℕ, ◌<◌, ◌≤◌, ◌^◌, Option, Some, None, List, [], ◌∷◌, Bool, true, false, ◌&&◌, ◌⊎◌, inl, inr, cond, not, filter, filter_map, refl, pos, negsuc, is_some, length, get_or, nat_lt, arith}
+use Rattle.std.proofs.Common.{◌≡◌, ◌∙◌, ap, sym, subst, ℕ, ◌<◌, ◌≤◌, ◌^◌, Option, Some, None, List, [], ◌∷◌, Bool, true, false, ◌⊎◌, inl, inr, cond, not, filter, filter_map, refl, pos, negsuc, is_some, length, get_or, nat_lt, arith}
 use Rattle.std.specs.Prelude.{All, AllPairs, option_and_then, option_map}
 use Rattle.std.specs.List.{cons_option, list_any}
 use Rattle.std.specs.Ordering.{eq_by_cmp, is_eq}
@@ -13,8 +13,8 @@ use Rattle.mb_load.specs.Changing.{front, tile_key}
 use Rattle.mb_load.specs.LoadedFrom.{IsOnBoard, at_place, found}
 use Rattle.mb_load.proofs.ApartPlaces.{cells_of_place, key_is}
 use Rattle.mb_load.proofs.ChangeSteps.{front_same}
-use Rattle.mb_load.proofs.Items.{equal_of}
-use Rattle.mb_load.proofs.Places.{places_antisymmetric}
+use Rattle.mb_lists.proofs.Items.{equal_of}
+use Rattle.mb_lists.proofs.Places.{places_antisymmetric}
 use Rattle.mb_store.proofs.ListLemmas.{AllPairs-head, AllPairs-tail, filter_none}
 use Rattle.mb_tables.proofs.CellLemmas.{cells_eq-Decides}
 use Rattle.mb_tables.proofs.TileLemmas.{places_total}

@@ -1,6 +1,6 @@
 -- A set that loads is loaded from its tables.
-use Rattle.std.proofs.Common.{◌≡◌, ◌∙◌, ap, sym, subst, ℕ, ◌<◌, ◌≤◌, Option, Some, None, List, [], ◌∷◌, Bool, true, false, ◌&&◌, ◌⊎◌, inl, inr, cond, filter, filter_map, refl, is_some, length, get_or, codes, Result, Ok, Err}
-use Rattle.std.specs.Prelude.{All, AllPairs, IfOk, option_and_then, option_map, option_to_list}
+use Rattle.std.proofs.Common.{◌≡◌, ◌∙◌, ap, sym, subst, ℕ, Option, Some, None, List, [], ◌∷◌, Bool, true, false, ◌&&◌, filter, filter_map, refl, is_some, length, get_or, codes, Result, Ok, Err}
+use Rattle.std.specs.Prelude.{All, IfOk, option_and_then, option_map, option_to_list}
 use Rattle.std.specs.Option.{option_or}
 use Rattle.std.specs.Ordering.{nat_cmp}
 use Rattle.std.specs.Cmp.Lexicographic.{slice_cmp}
@@ -9,25 +9,25 @@ use Rattle.std.specs.FinMap.{contains_key, get, get-empty, get-from_entries}
 use Rattle.std.proofs.lemmas.Bool.{false≢true, and_parts}
 use Rattle.std.proofs.lemmas.Cmp.{nat_list_cmp_total}
 use Rattle.std.proofs.lemmas.List.Elements.{All-nil, All-weaker}
-use Rattle.mb_load.specs.Algorithm.{algorithm_by, algorithm_of, unknown_name}
-use Rattle.mb_load.specs.Changing.{content_row, content_table, name_row, tile_key}
-use Rattle.mb_load.specs.Contents.{content_entry, content_rows}
+use Rattle.mb_load.specs.Algorithm.{algorithm_by, unknown_name}
+use Rattle.mb_load.specs.Changing.{content_table, tile_key}
+use Rattle.mb_lists.specs.Contents.{content_entry, content_rows}
 use Rattle.mb_load.specs.Described.{index_missing, metadata_missing}
-use Rattle.mb_load.specs.Entries.{text_cell}
-use Rattle.mb_load.specs.Hashes.{wrong_content_hash, wrong_hash, wrong_tile_hash}
+use Rattle.mb_lists.specs.Entries.{text_cell}
+use Rattle.mb_load.specs.Hashes.{wrong_content_hash, wrong_hash}
 use Rattle.mb_load.specs.Held.{Held, fresh}
-use Rattle.mb_load.specs.Kinds.{has_name_kinds, has_tile_kinds, is_id, is_number, is_text}
+use Rattle.mb_lists.specs.Kinds.{has_tile_kinds, is_id, is_number, is_text}
 use Rattle.mb_load.specs.Loading.{Loads, due_by, held_by}
-use Rattle.mb_load.specs.LoadedFrom.{AllOnBoard, AreTimes, FitsPlace, IsContentOf, IsGoodContent, IsGoodRow, IsLoadable, IsLoadedFrom, IsOnBoard, NamesAlgorithm, at_place, found, is_cache}
+use Rattle.mb_load.specs.LoadedFrom.{AllOnBoard, AreTimes, FitsPlace, IsContentOf, IsLoadable, IsLoadedFrom, IsOnBoard, NamesAlgorithm, at_place, found, is_cache}
 use Rattle.mb_load.specs.LoadingOrder.{refusals, row_refusals}
-use Rattle.mb_load.specs.Metadata.{name_entry, names_of, text_at}
-use Rattle.mb_load.specs.Refusals.{first_refusal, unless}
+use Rattle.mb_lists.specs.Metadata.{name_entry}
+use Rattle.mb_lists.specs.Refusals.{first_refusal}
 use Rattle.mb_load.specs.State.{State, state_of, stated, unless_refused}
-use Rattle.mb_load.specs.TileRows.{bad_tile, contents_in, dates_in, id_in, tile_in}
-use Rattle.mb_load.specs.declared.dates.Dates.{Dates}
+use Rattle.mb_load.specs.TileRows.{bad_tile, dates_in, id_in, tile_in}
+use Rattle.mb_lists.specs.declared.dates.Dates.{Dates}
 use Rattle.mb_load.proofs.ApartPlaces.{in_has_place}
 use Rattle.mb_load.proofs.CommitLemmas.{no_contents, rows_of_contents}
-use Rattle.mb_load.proofs.FrontLemmas.{begins, entry_key, filter_entry, key_begins, key_whole, names_as_entries}
+use Rattle.mb_lists.proofs.FrontLemmas.{begins, entry_key, filter_entry, key_begins, key_whole, names_as_entries}
 use Rattle.mb_load.proofs.KeyReading.{Agrees, Joins, agree_if_joined, alone_under, at_place_placed, found_both, found_never, found_row, found_through, place_on_board, under_key}
 use Rattle.mb_load.proofs.RowsPass.{ArePassing, cell_under, dates_row, holds, joins_row, passing, place_tested}
 use Rattle.mb_load.proofs.StateLemmas.{state_is}
@@ -42,7 +42,7 @@ use Rattle.mb_tables.specs.Kind.{is_normalized}
 use Rattle.mb_tables.specs.Table.{Tables, key_width, width}
 use Rattle.mb_tables.specs.Tiles.{Place, cell_at, contents_of, place_cmp, place_of}
 use Rattle.mb_tables.specs.declared.cell.Cell.{Cell}
-use Rattle.mb_tables.specs.declared.cell.Cell.TheVariants.{Null, Text}
+use Rattle.mb_tables.specs.declared.cell.Cell.TheVariants.{Text}
 use Rattle.mb_tables.specs.declared.error.MbtError.{MbtError}
 use Rattle.mb_tables.specs.declared.error.MbtError.TheVariants.{InvalidDataFormat, NoUniquenessConstraint}
 use Rattle.mb_tables.specs.declared.key.RowKey.{RowKey}

@@ -1,17 +1,15 @@
 -- More contents, and more times, change nothing for those that are kept.
-use Rattle.std.proofs.Common.{◌≡◌, ◌∙◌, ap, sym, subst, ℕ, ◌<◌, ◌+◌, ◌++◌, Option, Some, None, List, [], ◌∷◌, Bool, true, false, cond, length, refl, zero, suc, is_some, arith, append-nil, length-append}
-use Rattle.std.specs.Prelude.{All, option_and_then, slice_get, unwrap_or}
-use Rattle.std.proofs.lemmas.Bool.{false≢true, true≢false}
-use Rattle.std.proofs.lemmas.List.Elements.{All-weaker}
+use Rattle.std.proofs.Common.{◌≡◌, ◌∙◌, ap, sym, ℕ, ◌<◌, ◌++◌, Option, Some, None, List, [], ◌∷◌, Bool, true, false, cond, length, refl, zero, suc, is_some, arith, append-nil, length-append}
+use Rattle.std.specs.Prelude.{slice_get, unwrap_or}
+use Rattle.std.proofs.lemmas.Bool.{false≢true}
 use Rattle.std.proofs.lemmas.Option.{slice_get-get_or, slice_get_within}
 use Rattle.mb_load.specs.Adding.{added_dates}
 use Rattle.mb_load.specs.Edits.{dates_for, no_dates}
-use Rattle.mb_load.specs.Entries.{AreDated, HasId, IsTile, content_at, content_value, id_at, if_edited, is_content_gone, is_gone, is_removed, nothing, tile_dates, tile_id, tile_value, unless_removed}
-use Rattle.mb_load.specs.declared.dates.Dates.{Dates}
-use Rattle.mb_load.specs.declared.entries.Content.{Content}
-use Rattle.mb_load.specs.declared.entries.Standing.{Standing}
-use Rattle.mb_load.specs.declared.entries.StoredTile.{StoredTile}
-use Rattle.mb_load.proofs.ReaderLemmas.{removed_none}
+use Rattle.mb_lists.specs.Entries.{AreDated, HasId, IsTile, content_at, is_gone, nothing, tile_dates, unless_removed}
+use Rattle.mb_lists.specs.declared.dates.Dates.{Dates}
+use Rattle.mb_lists.specs.declared.entries.Content.{Content}
+use Rattle.mb_lists.specs.declared.entries.StoredTile.{StoredTile}
+use Rattle.mb_lists.proofs.ReaderLemmas.{removed_none}
 use Rattle.mb_tables.specs.Cell.{is_null}
 use Rattle.mb_tables.specs.Tiles.{contents_of}
 use Rattle.mb_tables.specs.declared.kind.MbtType.{MbtType}

@@ -1,11 +1,11 @@
 -- Whether a tile has an id: in the map of ids, in the tiles, and in those that are no marks.
-use Rattle.std.proofs.Common.{◌≡◌, ◌∙◌, ap, sym, ℕ, ◌<◌, ◌≤◌, ◌+◌, ◌++◌, List, [], ◌∷◌, Option, Some, None, Bool, true, false, ◌||◌, ◌&&◌, cond, not, find, refl, suc, length, get_or, take, drop, min, arith, length-drop}
+use Rattle.std.proofs.Common.{◌≡◌, ◌∙◌, ap, sym, ℕ, ◌<◌, ◌≤◌, ◌+◌, List, [], ◌∷◌, Option, Some, None, Bool, true, false, ◌||◌, ◌&&◌, cond, not, refl, length, get_or, take, drop, arith, length-drop}
 use Rattle.std.specs.Prelude.{All, option_and_then, option_map}
 use Rattle.std.specs.List.{cons_option, list_any}
-use Rattle.std.specs.List.Sorted.{IsPartitionPoint, IsPermutation, IsSortedBy}
+use Rattle.std.specs.List.Sorted.{IsPartitionPoint, IsPermutation}
 use Rattle.std.specs.declared.cmp.Ordering.{Ordering}
 use Rattle.std.specs.declared.cmp.Ordering.TheVariants.{Less, Equal, Greater}
-use Rattle.std.specs.Ordering.{eq_by_cmp, is_eq, is_lt}
+use Rattle.std.specs.Ordering.{is_eq}
 use Rattle.std.specs.Cmp.{IsTotalOrder, tied_itself}
 use Rattle.std.specs.FinMap as fin
 use Rattle.std.specs.FinMap.{empty, entries, entries-insert, from_entries, get-entries, len-empty, len-entries}
@@ -15,19 +15,18 @@ use Rattle.std.proofs.lemmas.List.{get_or-drop, get_or-take, length-take-le, tak
 use Rattle.std.proofs.lemmas.List.Elements.{All-head, All-tail}
 use Rattle.std.proofs.lemmas.List.Folds.{list_any-append, list_any_none}
 use Rattle.std.proofs.lemmas.List.Sorted.{list_any-IsPermutation}
-use Rattle.mb_load.specs.Dropping.{has_id}
+use Rattle.mb_lists.specs.Dropping.{has_id}
 use Rattle.mb_load.specs.Edits.{is_named}
-use Rattle.mb_load.specs.Entries.{id_at, is_gone, is_removed, place_of, tile_id, tiles_held, unless_removed}
-use Rattle.mb_load.specs.Keyed.{Apart, at_key, behind, entries_by}
-use Rattle.mb_load.specs.declared.entries.Content.{Content}
-use Rattle.mb_load.specs.declared.entries.Standing.{Standing}
-use Rattle.mb_load.specs.declared.entries.Standing.TheVariants.{Kept, Put, Removed}
-use Rattle.mb_load.specs.declared.entries.StoredTile.{StoredTile}
-use Rattle.mb_load.proofs.Finding.{find_none}
-use Rattle.mb_load.proofs.Items.{Apart-tail, look_up, others_apart}
-use Rattle.mb_load.proofs.Settling.{live_sorted}
+use Rattle.mb_lists.specs.Entries.{id_at, is_gone, is_removed, place_of, tile_id, tiles_held, unless_removed}
+use Rattle.mb_lists.specs.Keyed.{Apart, at_key, entries_by}
+use Rattle.mb_lists.specs.declared.entries.Content.{Content}
+use Rattle.mb_lists.specs.declared.entries.Standing.{Standing}
+use Rattle.mb_lists.specs.declared.entries.Standing.TheVariants.{Kept, Put, Removed}
+use Rattle.mb_lists.specs.declared.entries.StoredTile.{StoredTile}
+use Rattle.mb_lists.proofs.Finding.{find_none}
+use Rattle.mb_lists.proofs.Items.{Apart-tail, look_up, others_apart}
 use Rattle.mb_tables.proofs.TileLemmas.{places_total}
-use Rattle.mb_tables.specs.Cell.{cell_cmp, cell_eq, is_null}
+use Rattle.mb_tables.specs.Cell.{cell_eq, is_null}
 use Rattle.mb_tables.specs.Tiles.{place_cmp}
 use Rattle.mb_tables.specs.declared.cell.Cell.{Cell}
 use Rattle.mb_tables.specs.declared.cell.Cell.TheVariants.{Null, Int, Text, Blob, Other}
@@ -141,7 +140,3 @@ module _ (contents : List Content) (id : Cell) (present : is_null id ≡ false) 
           let len = length-take-le n sorted le in
           let less : k < n = omega (arith, len, lt) in
           alive (is_gone (get_or (take n sorted) k d)) _ (ap (λ t. not (is_gone t)) (get_or-take n sorted k d less) ∙ point.0 k d (omega arith) less)
-
--- tiles that aren't marks stand in the order of their ids
-pub ids_rise : (contents : List Content) (sorted : List StoredTile) (n : ℕ) → IsSortedBy (λ x y. is_lt (behind cell_cmp (λ t. id_at contents t.contents) is_gone x y)) sorted → n ≤ length sorted → IsPartitionPoint (λ t. not (is_gone t) ≡ true) (λ t. not (is_gone t) ≡ false) sorted n → IsSortedBy (λ x y. is_lt (cell_cmp (id_at contents x.contents) (id_at contents y.contents))) (take n sorted)
-ids_rise contents sorted n up le point = live_sorted cell_cmp (λ (t : StoredTile). id_at contents t.contents) is_gone sorted n up le point

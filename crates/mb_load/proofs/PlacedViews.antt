@@ -1,30 +1,32 @@
 -- What single edits make of a set that is kept in order.
-use Rattle.std.proofs.Common.{◌≡◌, ◌∙◌, ap, sym, subst, ℕ, ◌<◌, ◌++◌, Option, Some, None, List, [], ◌∷◌, Bool, true, false, cond, refl, length, is_some}
+use Rattle.std.proofs.Common.{◌≡◌, ◌∙◌, ap, sym, subst, ℕ, ◌++◌, Option, Some, None, List, [], ◌∷◌, Bool, false, cond, refl, length, is_some}
 use Rattle.std.specs.Prelude.{All, option_and_then, unwrap_or}
 use Rattle.std.specs.Ordering.{nat_cmp}
 use Rattle.std.specs.Cmp.Lexicographic.{slice_cmp}
 use Rattle.std.specs.FinMap.{contains_key}
 use Rattle.std.proofs.lemmas.Cmp.{nat_list_cmp_total}
 use Rattle.std.proofs.lemmas.List.Elements.{All-weaker}
-use Rattle.mb_load.specs.Adding.{added_dates, listed}
-use Rattle.mb_load.specs.Clearing.{Clears, name_mark, tile_mark}
+use Rattle.mb_load.specs.Adding.{added_dates}
+use Rattle.mb_lists.specs.Clearing.{listed}
+use Rattle.mb_lists.specs.Clearing.{Clears, name_mark, tile_mark}
 use Rattle.mb_load.specs.Edits.{id_for, removed_name, removed_tile, with_name, with_tile, without_name, without_tile}
-use Rattle.mb_load.specs.Entries.{AreContentsInOrder, AreDated, AreInOrder, AreNamesInOrder, HasId, IsName, IsTile, held_of, id_at, is_content_gone, is_gone, is_name_gone, is_removed, name_of, names_held, newest_ids, newest_names, newest_tiles, nothing, place_at, place_of, tile_value, tiles_held}
+use Rattle.mb_lists.specs.Entries.{AreContentsInOrder, AreDated, AreInOrder, AreNamesInOrder, HasId, IsName, IsTile, id_at, is_content_gone, is_gone, is_name_gone, is_removed, name_of, newest_ids, newest_names, newest_tiles, nothing, place_at, place_of, tile_value}
+use Rattle.mb_load.specs.HeldEntries.{held_of}
 use Rattle.mb_load.specs.Held.{Held}
-use Rattle.mb_load.specs.Keyed.{Apart, StandsAs, live_at}
-use Rattle.mb_load.specs.Metadata.{text_of}
-use Rattle.mb_load.specs.declared.dates.Dates.{Dates}
-use Rattle.mb_load.specs.declared.entries.Content.{Content}
-use Rattle.mb_load.specs.declared.entries.Standing.TheVariants.{Put}
-use Rattle.mb_load.specs.declared.entries.StoredName.{StoredName}
-use Rattle.mb_load.specs.declared.entries.StoredTile.{StoredTile}
+use Rattle.mb_lists.specs.Keyed.{Apart, StandsAs, live_at}
+use Rattle.mb_lists.specs.Metadata.{text_of}
+use Rattle.mb_lists.specs.declared.dates.Dates.{Dates}
+use Rattle.mb_lists.specs.declared.entries.Content.{Content}
+use Rattle.mb_lists.specs.declared.entries.Standing.TheVariants.{Put}
+use Rattle.mb_lists.specs.declared.entries.StoredName.{StoredName}
+use Rattle.mb_lists.specs.declared.entries.StoredTile.{StoredTile}
 use Rattle.mb_load.proofs.EditViews.{all_from, gone_whole, held_gone, held_named, held_opened, held_settled, held_unnamed, named_texts, put_view}
 use Rattle.mb_load.proofs.MoreContents.{at_end, listed_same}
-use Rattle.mb_load.proofs.NameLemmas.{names_antisymmetric}
-use Rattle.mb_load.proofs.Places.{places_antisymmetric}
-use Rattle.mb_load.proofs.ReaderLemmas.{live_has, name_found, name_missing, removed_none, tile_there}
-use Rattle.mb_load.proofs.Readers.{found_at}
-use Rattle.mb_load.proofs.StandsLemmas.{order_same, stands_from, stands_itself}
+use Rattle.mb_lists.proofs.NameLemmas.{names_antisymmetric}
+use Rattle.mb_lists.proofs.Places.{places_antisymmetric}
+use Rattle.mb_lists.proofs.ReaderLemmas.{live_has, name_found, name_missing, removed_none, tile_there}
+use Rattle.mb_lists.proofs.Readers.{found_at}
+use Rattle.mb_lists.proofs.StandsLemmas.{order_same, stands_from, stands_itself}
 use Rattle.mb_tables.proofs.TileLemmas.{places_total}
 use Rattle.mb_tables.proofs.CellLemmas.{cell_cmp-IsAntisymmetric}
 use Rattle.mb_tables.specs.Cell.{cell_cmp, is_null}

@@ -1,7 +1,6 @@
 -- The rows that are put are read as what the state has.
-use Rattle.std.proofs.Common.{◌≡◌, ◌∙◌, ap, sym, subst, ℕ, ◌<◌, ◌≤◌, ◌^◌, ◌++◌, Option, Some, None, List, [], ◌∷◌, Bool, true, false, ◌&&◌, cond, map, pos, refl, is_some, length, nat_lt, arith}
+use Rattle.std.proofs.Common.{◌≡◌, ◌∙◌, ap, sym, ℕ, ◌<◌, ◌^◌, ◌++◌, Option, Some, None, List, [], ◌∷◌, Bool, true, false, ◌&&◌, cond, pos, refl, is_some, arith}
 use Rattle.std.specs.Prelude.{IfSome, option_and_then, option_map, option_to_list, unwrap_or}
-use Rattle.std.specs.Char.{to_ascii_uppercase}
 use Rattle.std.specs.Ordering.{eq_by_cmp, is_eq}
 use Rattle.std.specs.Cmp.{tied_itself}
 use Rattle.std.specs.FinMap.{contains_key, get}
@@ -9,23 +8,21 @@ use Rattle.std.specs.Str.{bytes_eq}
 use Rattle.std.proofs.lemmas.Bool.{false≢true, and_from, and_parts}
 use Rattle.std.proofs.lemmas.Bool.Decides.{Decides-ltb}
 use Rattle.std.proofs.lemmas.Slice.Eq.{bytes_eq-Decides}
-use Rattle.mb_load.specs.Changing.{cells_for, content_row, content_row_by, front, hash_cell, name_row, name_row_by, tile_row, tile_row_by}
-use Rattle.mb_load.specs.Edits.{no_dates}
-use Rattle.mb_load.specs.Entries.{blob_cell, text_cell}
+use Rattle.mb_load.specs.Changing.{cells_for, content_row, content_row_by, front, hash_cell, name_row_by, tile_row, tile_row_by}
+use Rattle.mb_lists.specs.Entries.{blob_cell, text_cell}
 use Rattle.mb_load.specs.Hashes.{wrong_digest, wrong_hash, wrong_tile_hash}
-use Rattle.mb_load.specs.Kinds.{has_name_kinds, has_tile_kinds, is_id, is_number, is_text}
+use Rattle.mb_lists.specs.Kinds.{has_name_kinds, has_tile_kinds, is_id, is_number, is_text}
 use Rattle.mb_load.specs.LoadedFrom.{AreTimes, FitsPlace, IsContentOf, IsGoodContent, IsGoodRow, IsLoadable, IsOnBoard, at_place, found, is_cache}
-use Rattle.mb_load.specs.Refusals.{unless}
+use Rattle.mb_lists.specs.Refusals.{unless}
 use Rattle.mb_load.specs.State.{State}
 use Rattle.mb_load.specs.TileRows.{bad_tile, dates_in, id_in, tile_in}
-use Rattle.mb_load.specs.declared.dates.Dates.{Dates}
+use Rattle.mb_lists.specs.declared.dates.Dates.{Dates}
 use Rattle.mb_tables.proofs.TileLemmas.{places_total}
 use Rattle.mb_tables.specs.Cell.{is_null}
 use Rattle.mb_tables.specs.Kind.{is_normalized}
-use Rattle.mb_tables.specs.Tiles.{Place, cell_at, contents_of, number_below, place_cmp, place_of, tile_of}
+use Rattle.mb_tables.specs.Tiles.{Place, contents_of, number_below, place_cmp, place_of, tile_of}
 use Rattle.mb_tables.specs.declared.cell.Cell.{Cell}
-use Rattle.mb_tables.specs.declared.cell.Cell.TheVariants.{Null, Int, Text, Blob, Other}
-use Rattle.mb_tables.specs.declared.error.MbtError.{MbtError}
+use Rattle.mb_tables.specs.declared.cell.Cell.TheVariants.{Null, Int, Text}
 use Rattle.mb_tables.specs.declared.error.MbtError.TheVariants.{IncorrectTileHash, InvalidTileIndex}
 use Rattle.mb_tables.specs.declared.key.RowKey.{RowKey}
 use Rattle.mb_tables.specs.declared.key.RowKey.TheVariants.{Tile, TextId, IntId}

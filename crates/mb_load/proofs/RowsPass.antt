@@ -1,6 +1,6 @@
 -- Rows that no test of loading refuses, each test by itself.
-use Rattle.std.proofs.Common.{◌≡◌, ◌∙◌, ap, sym, subst, ℕ, ◌<◌, Option, Some, None, List, [], ◌∷◌, Bool, true, false, ◌&&◌, ◌||◌, ◌⊎◌, inl, inr, cond, filter_map, map, refl, is_some, length, get_or}
-use Rattle.std.specs.Prelude.{All, option_and_then, option_map, slice_get}
+use Rattle.std.proofs.Common.{◌≡◌, ◌∙◌, ap, sym, ℕ, Option, Some, None, List, [], ◌∷◌, Bool, true, false, ◌||◌, inl, inr, cond, filter_map, refl, is_some, get_or}
+use Rattle.std.specs.Prelude.{All, option_and_then, option_map}
 use Rattle.std.specs.List.{list_all, list_any}
 use Rattle.std.specs.Option.{option_or}
 use Rattle.std.specs.FinMap as fin
@@ -8,16 +8,16 @@ use Rattle.std.proofs.lemmas.Bool.{false≢true, and_from, and_parts}
 use Rattle.std.proofs.lemmas.List.Elements.{All-cons, All-head, All-nil, All-tail}
 use Rattle.std.proofs.lemmas.Option.{none-some, slice_get-get_or}
 use Rattle.mb_load.specs.Algorithm.{algorithm_of, algorithm_unknown}
-use Rattle.mb_load.specs.Contents.{are_apart, content_entry, fronts}
+use Rattle.mb_lists.specs.Contents.{are_apart, content_entry, fronts}
 use Rattle.mb_load.specs.Hashes.{hash_wrong, wrong_content_hash, wrong_tile_hash}
-use Rattle.mb_load.specs.Kinds.{has_name_kinds, has_tile_kinds, is_id}
+use Rattle.mb_lists.specs.Kinds.{has_name_kinds, has_tile_kinds, is_id}
 use Rattle.mb_load.specs.LoadedFrom.{at_place, is_cache}
 use Rattle.mb_load.specs.LoadingOrder.{row_refusals}
 use Rattle.mb_load.specs.References.{id_text, missing_reference}
-use Rattle.mb_load.specs.Refusals.{first_refusal, first_refused, unless}
-use Rattle.mb_load.specs.TileRows.{bad_tile, contents_in, dates_in, id_in, place_twice, tile_in}
-use Rattle.mb_load.specs.declared.dates.Dates.{Dates}
-use Rattle.mb_load.proofs.FrontLemmas.{begins, content_found}
+use Rattle.mb_lists.specs.Refusals.{first_refusal, first_refused, unless}
+use Rattle.mb_load.specs.TileRows.{bad_tile, dates_in, id_in, place_twice, tile_in}
+use Rattle.mb_lists.specs.declared.dates.Dates.{Dates}
+use Rattle.mb_lists.proofs.FrontLemmas.{begins, content_found}
 use Rattle.mb_load.proofs.KeyReading.{Agrees, Joins}
 use Rattle.mb_load.proofs.TilesKept.{passed}
 use Rattle.mb_tables.specs.Cell.{cell_cmp, is_null}
@@ -30,7 +30,6 @@ use Rattle.mb_tables.specs.declared.error.MbtError.{MbtError}
 use Rattle.mb_tables.specs.declared.error.MbtError.TheVariants.{InvalidDataFormat, InvalidTileIndex, MissingTileReference, NoUniquenessConstraint}
 use Rattle.mb_tables.specs.declared.kind.MbtType.{MbtType}
 use Rattle.mb_tables.specs.declared.kind.MbtType.TheVariants.{Flat, FlatWithHash, Normalized, Cache}
-use Rattle.tile_hash.specs.declared.algorithm.HashAlgorithm.{HashAlgorithm}
 
 pub record ArePassing (layout : MbtType) (metadata contents rows : List (List Cell)) : Type 0 where
   pub ids : are_apart (fronts contents) ≡ true

@@ -1,37 +1,35 @@
 -- Tables that a set was loaded from, with nothing edited since, load to the same state.
-use Rattle.std.proofs.Common.{◌≡◌, ◌∙◌, ap, sym, subst, ℕ, ◌<◌, ◌≤◌, Option, Some, None, List, [], ◌∷◌, Bool, true, false, ◌&&◌, ◌||◌, ◌⊎◌, inl, inr, cond, filter, filter_map, find, refl, suc, zero, is_some, length, get_or, codes, arith, Result, Ok, Err}
-use Rattle.std.specs.Prelude.{All, option_and_then, option_map, option_to_list, unwrap_or}
+use Rattle.std.proofs.Common.{◌≡◌, ◌∙◌, ap, sym, subst, ℕ, ◌<◌, ◌≤◌, Option, Some, None, List, [], ◌∷◌, Bool, true, false, ◌||◌, cond, filter, filter_map, find, refl, suc, zero, is_some, length, get_or, codes, arith, Ok}
+use Rattle.std.specs.Prelude.{option_and_then, option_map, option_to_list, unwrap_or}
 use Rattle.std.specs.List.{list_any}
 use Rattle.std.specs.Ordering.{nat_cmp}
 use Rattle.std.specs.Cmp.Lexicographic.{slice_cmp}
 use Rattle.std.specs.FinMap as fin
-use Rattle.std.specs.FinMap.{FinMap, contains_key, empty, get, get-empty, get-from_entries, same_map}
+use Rattle.std.specs.FinMap.{contains_key, get, get-empty, get-from_entries, same_map}
 use Rattle.std.proofs.lemmas.Bool.{false≢true, and_parts}
 use Rattle.std.proofs.lemmas.Cmp.{nat_list_cmp_total}
-use Rattle.std.proofs.lemmas.List.Elements.{All-nil}
 use Rattle.mb_load.specs.Algorithm.{algorithm_by, algorithm_of, algorithm_unknown, unknown_name}
-use Rattle.mb_load.specs.Changing.{content_row, content_table, name_row, tile_key}
-use Rattle.mb_load.specs.Contents.{are_apart, content_entry, content_rows, contents_by_id, fronts}
-use Rattle.mb_load.specs.Entries.{text_cell}
+use Rattle.mb_load.specs.Changing.{content_row, content_table, tile_key}
+use Rattle.mb_lists.specs.Contents.{are_apart, content_entry, content_rows, contents_by_id, fronts}
+use Rattle.mb_lists.specs.Entries.{text_cell}
 use Rattle.mb_load.specs.Hashes.{wrong_content_hash, wrong_tile_hash}
 use Rattle.mb_load.specs.Held.{fresh}
-use Rattle.mb_load.specs.Kinds.{has_name_kinds, is_id, is_number, is_text}
+use Rattle.mb_lists.specs.Kinds.{is_id, is_number, is_text}
 use Rattle.mb_load.specs.Loading.{due_by, held_by}
-use Rattle.mb_load.specs.LoadedFrom.{FitsPlace, IsContentOf, IsGoodContent, IsGoodRow, IsLoadable, IsLoadedFrom, NamesAlgorithm, at_place, found}
-use Rattle.mb_load.specs.LoadingOrder.{row_refusals}
-use Rattle.mb_load.specs.Metadata.{Names, name_entry, names_of, text_at}
+use Rattle.mb_load.specs.LoadedFrom.{FitsPlace, IsGoodContent, IsLoadedFrom, NamesAlgorithm, at_place, found}
+use Rattle.mb_lists.specs.Metadata.{name_entry, names_of}
 use Rattle.mb_load.specs.References.{id_text, missing_reference}
-use Rattle.mb_load.specs.Refusals.{first_refusal, unless}
+use Rattle.mb_lists.specs.Refusals.{unless}
 use Rattle.mb_load.specs.State.{State, state_of}
 use Rattle.mb_load.specs.TileRows.{bad_tile, by_place, dates_in, id_in, tile_in}
 use Rattle.mb_load.proofs.ApartPlaces.{in_has_place, never_twice}
 use Rattle.mb_load.proofs.CommitLemmas.{no_contents}
-use Rattle.mb_load.proofs.FrontLemmas.{any_from_filter, apart_from, begins, entry_from, entry_key, key_whole, names_as_entries, text_cells}
-use Rattle.mb_load.proofs.KeyReading.{Joins, at_place_placed, found_through, key_of_place, under_key}
+use Rattle.mb_lists.proofs.FrontLemmas.{any_from_filter, apart_from, begins, entry_from, entry_key, key_whole, names_as_entries, text_cells}
+use Rattle.mb_load.proofs.KeyReading.{at_place_placed, found_through, key_of_place, under_key}
 use Rattle.mb_load.proofs.LoadsFrom.{filter_begins, key_first, own_contents}
-use Rattle.mb_load.proofs.NameLemmas.{names_antisymmetric}
-use Rattle.mb_load.proofs.Places.{places_antisymmetric}
-use Rattle.mb_load.proofs.PutRowLemmas.{id_known, not_there, tied}
+use Rattle.mb_lists.proofs.NameLemmas.{names_antisymmetric}
+use Rattle.mb_lists.proofs.Places.{places_antisymmetric}
+use Rattle.mb_load.proofs.PutRowLemmas.{id_known, tied}
 use Rattle.mb_load.proofs.RowsPass.{ArePassing, cell_under, holds, joins_row, pass_all}
 use Rattle.mb_load.proofs.StateLemmas.{state_is}
 use Rattle.mb_store.proofs.Committed.{find_only}
@@ -46,7 +44,7 @@ use Rattle.mb_tables.specs.Key.{has_key, key_cells}
 use Rattle.mb_tables.specs.Kind.{is_normalized}
 use Rattle.mb_tables.specs.Kind as kind
 use Rattle.mb_tables.specs.Table.{Tables}
-use Rattle.mb_tables.specs.Tiles.{Place, TileSet, cell_at, content_of, contents_of, place_cmp, place_of, tile_of}
+use Rattle.mb_tables.specs.Tiles.{Place, cell_at, content_of, contents_of, place_cmp, place_of, tile_of}
 use Rattle.mb_tables.specs.declared.cell.Cell.{Cell}
 use Rattle.mb_tables.specs.declared.cell.Cell.TheVariants.{Null, Int, Text, Blob, Other}
 use Rattle.mb_tables.specs.declared.error.MbtError.TheVariants.{InvalidTileIndex, MissingTileReference, NoUniquenessConstraint}
@@ -56,7 +54,6 @@ use Rattle.mb_tables.specs.declared.kind.MbtType.{MbtType}
 use Rattle.mb_tables.specs.declared.kind.MbtType.TheVariants.{Flat, FlatWithHash, Normalized, Cache}
 use Rattle.mb_tables.specs.declared.kind.NormalizedSchema.TheVariants.{Hash, DedupId}
 use Rattle.mb_tables.specs.declared.table.TableName.TheVariants.{Metadata}
-use Rattle.tile_hash.specs.declared.algorithm.HashAlgorithm.{HashAlgorithm}
 
 -- a cell that is the key of a row
 abbrev pub IsKeyed : Cell → Type 0

@@ -1,9 +1,9 @@
 -- Rows that are tiles.
 use Rattle.std.proofs.Common.{◌≡◌, ◌∙◌, ap, sym, ℕ, ◌&&◌, List, Option, Some, None, is_some, refl}
 use Rattle.std.specs.Option.{option_map}
-use Rattle.mb_load.specs.Entries.{place_at}
-use Rattle.mb_load.specs.FromRows.{coord_in}
-use Rattle.mb_load.proofs.PlaceLemmas.{place_is}
+use Rattle.mb_lists.specs.Entries.{place_at}
+use Rattle.mb_lists.specs.FromRows.{coord_in}
+use Rattle.mb_lists.proofs.PlaceLemmas.{place_is}
 use Rattle.mb_tables.specs.Tiles.{Place, contents_of, place_of, tile_of}
 use Rattle.mb_tables.specs.declared.cell.Cell.{Cell}
 use Rattle.tile_ids.specs.Coord.{Coord}

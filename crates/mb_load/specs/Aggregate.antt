@@ -16,10 +16,6 @@ bytes_of (Some bytes) = bytes
 abbrev pub tile_text : Place × Option (List ℕ) → List ℕ
 tile_text e = decimal e.0.zoom ++ (decimal e.0.column ++ (decimal e.0.row ++ bytes_of e.1))
 
--- the texts of all tiles, by zoom, column and row counted from the bottom, joined
-abbrev pub joined_text : TileSet → List ℕ
-joined_text tiles = flat_map tile_text (entries tiles)
-
 -- the algorithm whose digests are the same number in hexadecimal
 abbrev pub in_hexadecimal : HashAlgorithm → HashAlgorithm
 in_hexadecimal Fnv1aDecimal = Fnv1a

@@ -2,8 +2,8 @@
 use Rattle.std.specs.Prelude.{ℕ, codes, List, [], ◌∷◌, Option, Some, None, find, is_some, map, unwrap_or}
 use Rattle.std.specs.Char.{to_ascii_lowercase}
 use Rattle.std.specs.Str.{bytes_eq}
-use Rattle.mb_load.specs.Metadata.{stored_text}
-use Rattle.mb_load.specs.Refusals.{unless}
+use Rattle.mb_lists.specs.Metadata.{stored_text}
+use Rattle.mb_lists.specs.Refusals.{unless}
 use Rattle.mb_tables.specs.declared.cell.Cell.{Cell}
 use Rattle.mb_tables.specs.declared.error.MbtError.{MbtError}
 use Rattle.mb_tables.specs.declared.error.MbtError.TheVariants.{UnsupportedHashAlgorithm}

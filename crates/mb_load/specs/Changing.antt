@@ -2,11 +2,11 @@
 use Rattle.std.specs.Prelude.{◌≡◌, ℕ, pos, ◌++◌, ◌||◌, Bool, true, false, List, [], ◌∷◌, Option, Some, None, All, option_map, slice_get, unwrap_or}
 use Rattle.std.specs.FinMap.{contains_key, get}
 use Rattle.mb_load.specs.Edits.{no_dates}
-use Rattle.mb_load.specs.Entries.{blob_cell, text_cell}
+use Rattle.mb_lists.specs.Entries.{blob_cell, text_cell}
 use Rattle.mb_load.specs.Held.{Edited, Held}
-use Rattle.mb_load.specs.Metadata.{Names}
+use Rattle.mb_lists.specs.Metadata.{Names}
 use Rattle.mb_load.specs.State.{State}
-use Rattle.mb_load.specs.declared.dates.Dates.{Dates}
+use Rattle.mb_lists.specs.declared.dates.Dates.{Dates}
 use Rattle.mb_store.specs.declared.change.Change.{Change}
 use Rattle.mb_tables.specs.Detection.{tile_table}
 use Rattle.mb_tables.specs.Kind.{contents_of}

@@ -3,10 +3,10 @@ use Rattle.std.specs.Prelude.{ℕ, Bool, cond, not, List, ◌++◌, Option, Some
 use Rattle.std.specs.declared.cmp.Ordering.{Ordering}
 use Rattle.std.specs.List.{list_any}
 use Rattle.std.specs.FinMap.{FinMap, contains_key, entries, from_entries, insert, remove, retain_keys}
-use Rattle.mb_load.specs.Contents.{Contents}
+use Rattle.mb_lists.specs.Contents.{Contents}
 use Rattle.mb_load.specs.Held.{Held}
-use Rattle.mb_load.specs.declared.dates.Dates.{Dates}
-use Rattle.mb_tables.specs.Cell.{cell_cmp, cell_eq}
+use Rattle.mb_lists.specs.declared.dates.Dates.{Dates}
+use Rattle.mb_tables.specs.Cell.{cell_eq}
 use Rattle.mb_tables.specs.Tiles.{Place, place_cmp}
 use Rattle.mb_tables.specs.declared.cell.Cell.{Cell}
 use Rattle.mb_tables.specs.declared.cell.Cell.TheVariants.{Null, Text, Blob}

@@ -3,7 +3,8 @@ use Rattle.std.specs.Prelude.{ℕ, List, Option, None, map}
 use Rattle.std.specs.Char.{to_ascii_uppercase}
 use Rattle.std.specs.Option.{option_or}
 use Rattle.std.specs.Str.{bytes_eq}
-use Rattle.mb_load.specs.Refusals.{first_refused, unless}
+use Rattle.mb_lists.specs.Refusals.{first_refused, unless}
+use Rattle.mb_lists.specs.declared.entries.Content.{Content}
 use Rattle.mb_tables.specs.Tiles.{cell_at}
 use Rattle.mb_tables.specs.declared.cell.Cell.{Cell}
 use Rattle.mb_tables.specs.declared.cell.Cell.TheVariants.{Text, Blob}
@@ -33,6 +34,11 @@ wrong_tile_hash _ a row = None
 abbrev pub wrong_content_hash : MbtType → HashAlgorithm → List Cell → Option MbtError
 wrong_content_hash (Normalized view Hash) a row = wrong_hash a (cell_at 1 row) (cell_at 0 row)
 wrong_content_hash _ a row = None
+
+-- the refusal of contents whose id isn't their digest
+abbrev pub wrong_id : MbtType → HashAlgorithm → Content → Option MbtError
+wrong_id (Normalized view Hash) a c = wrong_hash a c.cell c.id
+wrong_id _ a c = None
 
 -- a stored digest is wrong: the first one. No layout has both kinds of rows
 abbrev pub hash_wrong : MbtType → HashAlgorithm → List (List Cell) → List (List Cell) → Option MbtError

@@ -4,11 +4,11 @@ use Rattle.std.specs.Ordering.{nat_cmp}
 use Rattle.std.specs.Cmp.Lexicographic.{slice_cmp}
 use Rattle.std.specs.Coded.{Coded, code_by, coded×, coded_ℕ, coded_ℤ, coded_list, coded_option}
 use Rattle.std.specs.FinMap as fin
-use Rattle.mb_load.specs.Contents.{Contents}
+use Rattle.mb_lists.specs.Contents.{Contents}
 use Rattle.mb_load.specs.Held.{Edited, Held}
-use Rattle.mb_load.specs.Metadata.{Names}
+use Rattle.mb_lists.specs.Metadata.{Names}
 use Rattle.mb_load.specs.State.{State}
-use Rattle.mb_load.specs.declared.dates.Dates.{Dates}
+use Rattle.mb_lists.specs.declared.dates.Dates.{Dates}
 use Rattle.mb_tables.specs.Cell.{cell_cmp}
 use Rattle.mb_tables.specs.Tiles.{Place, TileSet, place_cmp}
 use Rattle.mb_tables.specs.declared.cell.Cell.{Cell}

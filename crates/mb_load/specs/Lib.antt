@@ -1,8 +1,4 @@
-pub mod Refusals
 pub mod Described
-pub mod Contents
-pub mod Kinds
-pub mod Metadata
 pub mod Algorithm
 pub mod TileRows
 pub mod References
@@ -11,11 +7,9 @@ pub mod LoadingOrder
 pub mod DiffHashes
 pub mod State
 pub mod Aggregate
-pub mod Keyed
 pub mod Held
 pub mod HeldCode
-pub mod Entries
-pub mod FromRows
+pub mod HeldEntries
 pub mod RowTiles
 pub mod Loading
 pub mod LoadingExamples
@@ -24,6 +18,4 @@ pub mod Changing
 pub mod LoadedFrom
 pub mod Committed
 pub mod Adding
-pub mod Clearing
 pub mod PutRows
-pub mod Dropping

@@ -1,12 +1,12 @@
 -- What is kept of the rows of tiles means what the rows do.
 use Rattle.std.specs.Prelude.{◌≡◌, true, List, All, filter_map, is_some}
-use Rattle.mb_load.specs.Entries.{place_of, tile_dates, tile_id, tile_value, tiles_held}
-use Rattle.mb_load.specs.Keyed.{entries_by}
+use Rattle.mb_lists.specs.Entries.{place_of, tile_dates, tile_id, tile_value, tiles_held}
+use Rattle.mb_lists.specs.Keyed.{entries_by}
 use Rattle.mb_load.specs.TileRows.{by_place, dates_in, id_in, tile_in}
-use Rattle.mb_load.specs.declared.dates.Dates.{Dates}
-use Rattle.mb_load.specs.declared.entries.Content.{Content}
-use Rattle.mb_load.specs.declared.entries.Standing.TheVariants.{Kept}
-use Rattle.mb_load.specs.declared.entries.StoredTile.{StoredTile}
+use Rattle.mb_lists.specs.declared.dates.Dates.{Dates}
+use Rattle.mb_lists.specs.declared.entries.Content.{Content}
+use Rattle.mb_lists.specs.declared.entries.Standing.TheVariants.{Kept}
+use Rattle.mb_lists.specs.declared.entries.StoredTile.{StoredTile}
 use Rattle.mb_tables.specs.declared.cell.Cell.{Cell}
 use Rattle.mb_tables.specs.declared.kind.MbtType.{MbtType}
 

@@ -1,12 +1,12 @@
 // New contents behind those that are kept.
 ghost use Rattle.std.specs.Prelude.{◌≡◌, ◌++◌, ◌∷◌, ◌<◌, [], IfOk, OnOk, OnErr, length, unwrap_or, vec_capacity, vec_len};
-ghost use Rattle.mb_load.specs.Adding.{added_dates, listed};
+ghost use Rattle.mb_load.specs.Adding.{added_dates};
+ghost use Rattle.mb_lists.specs.Clearing.{listed};
 ghost use Rattle.mb_load.specs.Edits.{id_for};
-ghost use Rattle.mb_load.specs.Entries.{AreDated};
+ghost use Rattle.mb_lists.specs.Entries.{AreDated};
 ghost use Rattle.mb_tables.specs.declared.cell.Cell.TheVariants.{Null};
 
-use crate::dates::Dates;
-use crate::entries::Content;
+use mb_lists::{Content, Dates};
 use mb_store::{Cell, MbtType};
 use std::alloc::Global;
 use tile_hash::HashAlgorithm;

@@ -1,7 +1,7 @@
 // The hash of all tiles of a loaded set.
 ghost use Rattle.std.specs.Prelude.{◌≡◌, ◌++◌, ℕ, List, Option, IfOk};
 ghost use Rattle.mb_load.specs.Aggregate.{aggregate, bytes_of, in_hexadecimal, tile_text};
-ghost use Rattle.mb_load.specs.Entries.{blob_cell, place_at};
+ghost use Rattle.mb_lists.specs.Entries.{blob_cell, place_at};
 ghost use Rattle.tile_hash.specs.HashStream.{HasTaken};
 ghost use Rattle.tile_hash.specs.declared.algorithm.HashAlgorithm.{HashAlgorithm};
 

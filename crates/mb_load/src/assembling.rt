@@ -1,15 +1,14 @@
 // A set from the tiles and names that are kept of its rows.
 ghost use Rattle.std.specs.Prelude.{◌≡◌, All, IfNone, IfSome, false, is_some, map, true};
-ghost use Rattle.mb_load.specs.Entries.{AreDated, AreNamesInOrder, IsName, held_of, place_of, tile_value};
-ghost use Rattle.mb_load.specs.FromRows.{AreIndexed};
-ghost use Rattle.mb_load.specs.Keyed.{are_distinct};
-ghost use Rattle.mb_load.specs.declared.entries.Standing.TheVariants.{Kept};
+ghost use Rattle.mb_lists.specs.Entries.{AreDated, AreNamesInOrder, IsName, place_of, tile_value};
+ghost use Rattle.mb_load.specs.HeldEntries.{held_of};
+ghost use Rattle.mb_lists.specs.FromRows.{AreIndexed};
+ghost use Rattle.mb_lists.specs.Keyed.{are_distinct};
+ghost use Rattle.mb_lists.specs.declared.entries.Standing.TheVariants.{Kept};
 ghost use Rattle.mb_tables.specs.Tiles.{place_cmp};
 
 use crate::Loaded;
-use crate::name_list::NameList;
-use crate::row_tiles::RowTiles;
-use crate::tile_list::TileList;
+use mb_lists::{NameList, RowTiles, TileList};
 use mb_store::{MbtType, PatchType};
 use tile_hash::HashAlgorithm;
 

@@ -3,8 +3,8 @@ ghost use Rattle.std.specs.Prelude.{◌≡◌, ◌++◌, All, IfOk, OnOk, Some, 
 ghost use Rattle.std.specs.Cmp.Lexicographic.{slice_cmp};
 ghost use Rattle.std.specs.Ordering.{nat_cmp};
 ghost use Rattle.mb_load.specs.Changing.{AreChangesOf, content_table};
-ghost use Rattle.mb_load.specs.Entries.{IsTile, id_at, name_of, place_of};
-ghost use Rattle.mb_load.specs.Keyed.{Apart};
+ghost use Rattle.mb_lists.specs.Entries.{IsTile, id_at, name_of, place_of};
+ghost use Rattle.mb_lists.specs.Keyed.{Apart};
 ghost use Rattle.mb_load.specs.PutRows.{change_by, content_change, id_key, listed_change, name_change, row_of_content, tile_change, with_any};
 ghost use Rattle.mb_tables.specs.Cell.{cell_cmp};
 ghost use Rattle.mb_tables.specs.Table.{key_width, table_eq, width};
@@ -12,10 +12,9 @@ ghost use Rattle.mb_tables.specs.Tiles.{place_cmp};
 ghost use Rattle.mb_tables.specs.declared.table.TableName.TheVariants.{Metadata};
 
 use crate::Loaded;
-use crate::dates::Dates;
-use crate::entries::{Content, Standing, StoredName, StoredTile};
 use crate::put_rows::{content_row, contents_table, id_key, name_row, place_key, tile_row};
 use crate::reading::tile_table;
+use mb_lists::{Content, Dates, Standing, StoredName, StoredTile};
 use mb_store::{Changes, MbtType, RowKey, TableName};
 use std::alloc::Global;
 use tile_hash::HashAlgorithm;

@@ -1,17 +1,13 @@
 // A loaded set that takes many edits.
 ghost use Rattle.std.specs.Prelude.{◌≡◌, IfOk, OnErr, OnOk, true};
 ghost use Rattle.mb_load.specs.Edits.{removed_name, removed_tile, with_name, with_tile};
-ghost use Rattle.mb_load.specs.Entries.{place_at};
-ghost use Rattle.mb_load.specs.Kinds.{is_text};
-ghost use Rattle.mb_load.specs.Metadata.{text_of};
+ghost use Rattle.mb_lists.specs.Entries.{place_at};
+ghost use Rattle.mb_lists.specs.Kinds.{is_text};
+ghost use Rattle.mb_lists.specs.Metadata.{text_of};
 
 use crate::Loaded;
 use crate::adding::{add_content, id_for, list_id};
-use crate::content_list::ContentList;
-use crate::dates::Dates;
-use crate::entries::{Content, Standing, StoredName, StoredTile};
-use crate::name_list::NameList;
-use crate::tile_list::TileList;
+use mb_lists::{Content, ContentList, Dates, NameList, Standing, StoredName, StoredTile, TileList};
 use mb_store::{Cell, MbtType, PatchType};
 use std::marker::Model;
 use tile_hash::HashAlgorithm;
@@ -34,7 +30,8 @@ impl Model for Editing {
     ghost use Rattle.std.specs.Prelude.{All};
     ghost use Rattle.mb_load.specs.Held.{Held};
     ghost use Rattle.mb_load.specs.HeldCode.{held_code};
-    ghost use Rattle.mb_load.specs.Entries.{AreDated, HasId, IsName, IsTile, held_of, newest_ids, newest_names, newest_tiles};
+    ghost use Rattle.mb_lists.specs.Entries.{AreDated, HasId, IsName, IsTile, newest_ids, newest_names, newest_tiles};
+    ghost use Rattle.mb_load.specs.HeldEntries.{held_of};
 
     ghost Value = { Held };
 

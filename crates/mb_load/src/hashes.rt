@@ -2,14 +2,13 @@
 ghost use Rattle.std.specs.Prelude.{◌≡◌, IfErr, IfOk, map};
 ghost use Rattle.std.specs.Char.{to_ascii_uppercase};
 ghost use Rattle.mb_load.specs.Hashes.{wrong_digest, wrong_hash, wrong_tile_hash};
-ghost use Rattle.mb_load.specs.Refusals.{Tests, first_refused};
-ghost use Rattle.mb_load.specs.FromRows.{wrong_id};
+ghost use Rattle.mb_lists.specs.Refusals.{Tests, first_refused};
+ghost use Rattle.mb_load.specs.Hashes.{wrong_id};
 ghost use Rattle.mb_tables.specs.Tiles.{cell_at};
 ghost use Rattle.tile_hash.specs.Digest.{digest};
 ghost use Rattle.tile_hash.specs.declared.algorithm.HashAlgorithm.{HashAlgorithm};
 
-use crate::entries::Content;
-use crate::kinds::cell_at;
+use mb_lists::{Content, cell_at};
 use mb_store::{Cell, MbtError, MbtResult, MbtType, NormalizedSchema, Row};
 use std::alloc::Global;
 use tile_hash::HashAlgorithm;

@@ -1,13 +1,10 @@
 // A loaded set.
 ghost use Rattle.std.specs.Prelude.{◌≡◌, ◌<◌, IfSome, option_copied, option_map, slice_get};
 ghost use Rattle.std.specs.FinMap.{entries, get, len};
-ghost use Rattle.mb_load.specs.Entries.{blob_cell, place_at, text_cell};
-ghost use Rattle.mb_load.specs.Metadata.{text_at};
+ghost use Rattle.mb_lists.specs.Entries.{blob_cell, place_at, text_cell};
+ghost use Rattle.mb_lists.specs.Metadata.{text_at};
 
-use crate::content_list::{ContentList, kept_cell, kept_id};
-use crate::dates::Dates;
-use crate::name_list::NameList;
-use crate::tile_list::TileList;
+use mb_lists::{ContentList, Dates, NameList, TileList, kept_cell, kept_id};
 use mb_store::{Cell, MbtType, PatchType};
 use std::marker::Model;
 use tile_hash::HashAlgorithm;
@@ -30,7 +27,8 @@ impl Model for Loaded {
     ghost use Rattle.std.specs.Prelude.{All};
     ghost use Rattle.mb_load.specs.Held.{Held};
     ghost use Rattle.mb_load.specs.HeldCode.{held_code};
-    ghost use Rattle.mb_load.specs.Entries.{AreContentsInOrder, AreDated, AreInOrder, AreNamesInOrder, HasId, IsName, IsTile, held_of};
+    ghost use Rattle.mb_lists.specs.Entries.{AreContentsInOrder, AreDated, AreInOrder, AreNamesInOrder, HasId, IsName, IsTile};
+    ghost use Rattle.mb_load.specs.HeldEntries.{held_of};
 
     ghost Value = { Held };
 

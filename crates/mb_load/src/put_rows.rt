@@ -2,12 +2,11 @@
 ghost use Rattle.std.specs.Prelude.{◌≡◌, ◌++◌, false, IfOk, OnOk, option_copied, slice_get, unwrap_or};
 ghost use Rattle.mb_load.specs.Changing.{content_table, front, tile_key};
 ghost use Rattle.mb_load.specs.Edits.{no_dates};
-ghost use Rattle.mb_load.specs.Entries.{IsTile, is_gone, place_at};
+ghost use Rattle.mb_lists.specs.Entries.{IsTile, is_gone, place_at};
 ghost use Rattle.mb_load.specs.PutRows.{cells_kept, digest_cell, id_key, row_of_content, row_of_name, row_of_tile, times_cells};
 
-use crate::dates::Dates;
-use crate::entries::{Content, StoredName, StoredTile};
 use crate::references::content_table;
+use mb_lists::{Content, Dates, StoredName, StoredTile};
 use mb_store::{Cell, MbtType, Row, RowKey, TableName};
 use std::alloc::Global;
 use tile_hash::HashAlgorithm;

@@ -1,7 +1,7 @@
 // All rows of a table, page by page.
 ghost use Rattle.std.specs.Prelude.{◌≡◌, ◌≤◌, All, [], false, true, IfOk, IsErrOf, length};
 ghost use Rattle.tile_ids.specs.Counts.{Rose};
-ghost use Rattle.mb_load.specs.Contents.{content_rows};
+ghost use Rattle.mb_lists.specs.Contents.{content_rows};
 ghost use Rattle.mb_tables.specs.Detection.{tile_table};
 ghost use Rattle.mb_tables.specs.Kind.{is_normalized};
 ghost use Rattle.mb_tables.specs.Table.{width};

@@ -1,15 +1,14 @@
 // References from the rows of a normalised set to its contents.
 ghost use Rattle.std.specs.Prelude.{◌≡◌, ◌||◌, IfErr, IfOk};
-ghost use Rattle.mb_load.specs.FromRows.{AreIndexed, rows_kept};
+ghost use Rattle.mb_lists.specs.FromRows.{AreIndexed, rows_kept};
 ghost use Rattle.mb_load.specs.References.{id_text, missing_reference};
-ghost use Rattle.mb_load.specs.Refusals.{Tests, first_refused, unless};
+ghost use Rattle.mb_lists.specs.Refusals.{Tests, first_refused, unless};
 ghost use Rattle.std.specs.List.{list_any};
 ghost use Rattle.mb_tables.specs.Cell.{cell_eq, is_null};
 ghost use Rattle.mb_tables.specs.Kind.{contents_of};
 ghost use Rattle.mb_tables.specs.Tiles.{cell_at};
 
-use crate::content_list::ContentList;
-use crate::kinds::cell_at;
+use mb_lists::{ContentList, cell_at};
 use mb_store::{Cell, MbtError, MbtResult, MbtType, NormalizedSchema, Row, TableName};
 use std::alloc::Global;
 use tile_ids::TextVal;

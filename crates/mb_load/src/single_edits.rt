@@ -1,13 +1,15 @@
 // Edits of a loaded set, one at a time.
 ghost use Rattle.std.specs.Prelude.{◌≡◌, OnErr, OnOk, true};
-ghost use Rattle.mb_load.specs.Edits.{with_name, with_tile, without_name, without_tile};
-ghost use Rattle.mb_load.specs.Entries.{place_at};
-ghost use Rattle.mb_load.specs.Kinds.{is_text};
-ghost use Rattle.mb_load.specs.Metadata.{text_of};
+ghost use Rattle.mb_load.specs.Edits.{only_referenced, with_name, with_tile, without_name, without_tile};
+ghost use Rattle.mb_lists.specs.Entries.{place_at};
+ghost use Rattle.mb_lists.specs.Kinds.{is_text};
+ghost use Rattle.mb_lists.specs.Metadata.{text_of};
 
 use crate::Loaded;
 use crate::adding::{add_content, id_for};
-use crate::entries::{Content, Standing, StoredName, StoredTile};
+use mb_lists::{
+    Content, ContentList, Standing, StoredName, StoredTile, TileList, mark_all, sort_named,
+};
 use mb_store::Cell;
 use tile_ids::{BlobVal, OutOfMemory, TextVal, TileCoord};
 
@@ -70,5 +72,17 @@ impl Loaded {
         ensures { self.new ≡ without_name self.old name.now }
     {
         self.names.clear(name);
+    }
+
+    /// Drops the contents of a normalised set that no tile has any more. Contents without an id stay.
+    pub fn drop_unreferenced(&mut self)
+        ensures { self.new ≡ only_referenced self.old }
+    {
+        let contents = &mut self.contents;
+        let tiles = &mut self.tiles;
+        let live = sort_named(&contents.items, &mut tiles.items);
+        mark_all(&mut contents.items, &contents.order, &tiles.items[..live]);
+        contents.live = ContentList::settle(&contents.items, &mut contents.order);
+        tiles.live = TileList::settle(&mut tiles.items);
     }
 }

@@ -1,37 +1,14 @@
-// Rows of tiles: their coordinates, and the tests of their places and of the contents that they name.
+// Rows of tiles: the tests of their places and of the contents that they name.
 ghost use Rattle.std.specs.Prelude.{◌≡◌, Bool, is_some};
-ghost use Rattle.mb_load.specs.FromRows.{AreIndexed, coord_in, number_in, rows_kept};
-ghost use Rattle.mb_load.specs.Refusals.{Tests, first_refused, unless};
+ghost use Rattle.mb_lists.specs.FromRows.{AreIndexed, rows_kept};
+ghost use Rattle.mb_lists.specs.Refusals.{Tests, first_refused, unless};
 ghost use Rattle.mb_load.specs.TileRows.{bad_tile};
 ghost use Rattle.mb_tables.specs.Tiles.{cell_at, contents_of, tile_of};
 ghost use Rattle.mb_tables.specs.declared.kind.NormalizedSchema.{NormalizedSchema};
 
-use crate::content_list::ContentList;
-use crate::kinds::cell_at;
+use mb_lists::{ContentList, cell_at, coord_of};
 use mb_store::{Cell, MbtError, MbtResult, MbtType, Row};
 use std::alloc::Global;
-use tile_ids::{TileCoord, parse_tile_index};
-
-// The whole number in a cell.
-fn number_in(cell: &Cell) -> Option<i64>
-    ensures { result ≡ number_in cell.now }
-{
-    match cell {
-        Cell::Int(number) => Some(*number),
-        _ => None,
-    }
-}
-
-/// The coordinate of a row of zoom 0 to 30, its column and row below two to the zoom.
-pub(crate) fn coord_of(row: &Row) -> Option<TileCoord>
-    ensures { result ≡ coord_in row.now }
-{
-    let null = Cell::Null;
-    let zoom = number_in(cell_at(row, 0, &null));
-    let column = number_in(cell_at(row, 1, &null));
-    let line = number_in(cell_at(row, 2, &null));
-    parse_tile_index(zoom, column, line)
-}
 
 // Whether a cell is bytes or null.
 fn are_contents(cell: &Cell) -> bool

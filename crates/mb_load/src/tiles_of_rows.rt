@@ -1,17 +1,16 @@
 // The tiles of the rows of each layout.
 ghost use Rattle.std.specs.Prelude.{◌≡◌, All, IfOk, None, [], false};
-ghost use Rattle.mb_load.specs.Contents.{contents_by_id};
-ghost use Rattle.mb_load.specs.Entries.{AreDated, contents_held};
-ghost use Rattle.mb_load.specs.FromRows.{AreIndexed, rows_kept};
+ghost use Rattle.mb_lists.specs.Contents.{contents_by_id};
+ghost use Rattle.mb_lists.specs.Entries.{AreDated, contents_held};
+ghost use Rattle.mb_lists.specs.FromRows.{AreIndexed, rows_kept};
 ghost use Rattle.mb_load.specs.References.{missing_reference};
-ghost use Rattle.mb_load.specs.Refusals.{first_refused};
+ghost use Rattle.mb_lists.specs.Refusals.{first_refused};
 ghost use Rattle.mb_load.specs.RowTiles.{AreTilesOf};
 ghost use Rattle.mb_load.specs.TileRows.{bad_tile};
-ghost use Rattle.mb_load.specs.declared.entries.Standing.TheVariants.{Kept};
+ghost use Rattle.mb_lists.specs.declared.entries.Standing.TheVariants.{Kept};
 ghost use Rattle.mb_tables.specs.Kind.{is_normalized};
 
-use crate::content_list::ContentList;
-use crate::row_tiles::{RowTiles, cache_tiles, flat_tiles, named_tiles};
+use mb_lists::{ContentList, RowTiles, cache_tiles, flat_tiles, named_tiles};
 use mb_store::{MbtType, Row};
 use std::alloc::Global;
 use tile_ids::OutOfMemory;

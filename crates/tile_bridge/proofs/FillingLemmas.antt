@@ -11,7 +11,7 @@ use Rattle.std.specs.FinMap.{entries, len, len-entries}
 use Rattle.tile_ids.specs.Coord.{Coord, IsCoord}
 use Rattle.tile_ids.specs.Hilbert.{id_of}
 use Rattle.mb_load.specs.Aggregate.{bytes_of}
-use Rattle.mb_load.specs.Entries.{blob_cell, place_at}
+use Rattle.mb_lists.specs.Entries.{blob_cell, place_at}
 use Rattle.mb_tables.specs.Tiles.{Place, TileSet}
 use Rattle.mb_tables.specs.declared.cell.Cell.{Cell}
 use Rattle.tile_bridge.specs.Adds.{AreFilled, AreWithin, InRange, Ranged, add_of, bytes_at, cell_bytes, shown}

@@ -18,7 +18,7 @@ use Rattle.mb_load.specs.Edits.{dates_for, id_for}
 use Rattle.mb_load.specs.Held.{Held}
 use Rattle.mb_load.specs.LoadedFrom.{IsOnBoard}
 use Rattle.mb_load.specs.State.{State, state_of}
-use Rattle.mb_load.specs.declared.dates.Dates.{Dates}
+use Rattle.mb_lists.specs.declared.dates.Dates.{Dates}
 use Rattle.mb_tables.specs.Table.{Tables}
 use Rattle.mb_tables.specs.Tiles.{Place}
 use Rattle.mb_tables.specs.declared.cell.Cell.{Cell}

@@ -10,7 +10,7 @@ use Rattle.tile_ids.specs.Hilbert.{id_of, tile_id}
 use Rattle.tile_ids.proofs.Bijection.{id_within, one_id}
 use Rattle.tile_ids.proofs.Indexes.{inverted_twice}
 use Rattle.tile_ids.specs.declared.id.TheConstants.{MAX_TILE_ID}
-use Rattle.mb_load.specs.Entries.{place_at}
+use Rattle.mb_lists.specs.Entries.{place_at}
 use Rattle.mb_tables.proofs.TileLemmas.{places_total}
 use Rattle.mb_tables.specs.Tiles.{Place, place_cmp}
 use Rattle.tile_bridge.specs.Adds.{InRange}

@@ -1,7 +1,7 @@
 -- What is due of a store.
 use Rattle.std.proofs.Common.{◌≡◌, ℕ, Bool, true, false, Option, Some, None, Result, Ok, Err, refl, sym, subst, ◌∙◌, ap}
 use Rattle.mb_edit.specs.Step.{step}
-use Rattle.mb_load.specs.Refusals.{is_free}
+use Rattle.mb_lists.specs.Refusals.{is_free}
 use Rattle.mb_load.specs.State.{State, state_of}
 use Rattle.mb_tables.specs.Table.{Tables}
 use Rattle.mb_tables.specs.declared.error.MbtError.{MbtError}

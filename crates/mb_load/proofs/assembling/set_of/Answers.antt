@@ -1,8 +1,8 @@
 use Rattle.std.proofs.lemmas.List.Sorted.{All-permutation, IsPermutation-sym}
-use Rattle.mb_load.specs.Entries.{IsTile, place_of}
+use Rattle.mb_lists.specs.Entries.{IsTile, place_of}
 use Rattle.mb_load.proofs.DatedLemmas.{listed_have_ids}
 use Rattle.mb_load.proofs.HeldLemmas.{held_permuted, tiles_are}
-use Rattle.mb_load.proofs.Sorting.{apart_permuted, distinct_from_apart}
+use Rattle.mb_lists.proofs.Sorting.{apart_permuted, distinct_from_apart}
 use Rattle.mb_tables.proofs.TileLemmas.{places_total}
 use Rattle.mb_load.proofs.assembling.set_of.Goals as goal
 

@@ -1,13 +1,13 @@
 use Rattle.std.proofs.Common.{rules, ◌≡◌, ◌∙◌, sym, subst, List, Option, map, true, false}
 use Rattle.std.specs.Prelude.{IfNone, IfSome}
 use Rattle.std.specs.List.Sorted.{IsPermutation}
-use Rattle.mb_load.specs.Entries.{AreContentsInOrder, id_at}
-use Rattle.mb_load.specs.FromRows.{content_from, ids_from}
-use Rattle.mb_load.specs.Keyed.{are_distinct}
-use Rattle.mb_load.specs.Kinds.{content_kind_wrong, tile_kind_wrong}
+use Rattle.mb_lists.specs.Entries.{AreContentsInOrder, id_at}
+use Rattle.mb_lists.specs.FromRows.{content_from, ids_from}
+use Rattle.mb_lists.specs.Keyed.{are_distinct}
+use Rattle.mb_lists.specs.Kinds.{content_kind_wrong, tile_kind_wrong}
 use Rattle.std.specs.Option.{option_or}
-use Rattle.mb_load.specs.declared.content_list.ContentList.{ContentList}
-use Rattle.mb_load.specs.declared.entries.Content.{Content}
+use Rattle.mb_lists.specs.declared.content_list.ContentList.{ContentList}
+use Rattle.mb_lists.specs.declared.entries.Content.{Content}
 use Rattle.mb_load.proofs.ContentTests.{all_new, all_present, ids_pass, ids_refused, kinds_pass, kinds_refused, rows_same}
 use Rattle.mb_tables.specs.Cell.{cell_cmp}
 use Rattle.mb_load.proofs.from_rows.contents_of.Goals as goal

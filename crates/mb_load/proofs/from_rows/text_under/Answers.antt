@@ -1,6 +1,6 @@
 use Rattle.std.proofs.Common.{◌∙◌, ap, sym, ℕ, List, Option}
 use Rattle.std.specs.Prelude.{option_and_then}
-use Rattle.mb_load.proofs.ReaderLemmas.{name_found, name_missing}
+use Rattle.mb_lists.proofs.ReaderLemmas.{name_found, name_missing}
 use Rattle.mb_load.proofs.from_rows.text_under.Goals as goal
 
 pub returns-in-Some : goal.returns-in-Some

@@ -1,7 +1,7 @@
 use Rattle.std.proofs.Common.{rules, ◌≡◌, ◌∙◌, false}
 use Rattle.std.specs.Prelude.{is_some}
-use Rattle.mb_load.specs.FromRows.{index_by}
-use Rattle.mb_load.proofs.IdLemmas.{id_named}
+use Rattle.mb_lists.specs.FromRows.{index_by}
+use Rattle.mb_lists.proofs.IdLemmas.{id_named}
 use Rattle.mb_tables.specs.Cell.{is_null}
 use Rattle.mb_load.proofs.references.has_contents.Goals as goal
 

@@ -1,7 +1,7 @@
 use Rattle.std.proofs.Common.{◌++◌, ◌∷◌, ◌∙◌, List, ℕ, [], ap}
-use Rattle.mb_load.specs.Adding.{listed}
-use Rattle.mb_load.specs.declared.entries.Standing.TheVariants.{Put}
-use Rattle.mb_load.specs.declared.entries.StoredTile.{StoredTile}
+use Rattle.mb_lists.specs.Clearing.{listed}
+use Rattle.mb_lists.specs.declared.entries.Standing.TheVariants.{Put}
+use Rattle.mb_lists.specs.declared.entries.StoredTile.{StoredTile}
 use Rattle.mb_load.proofs.EditViews.{put_dated, put_ids, put_view, put_whole}
 use Rattle.mb_load.proofs.editing.Editing.set_tile.Goals as goal
 

@@ -1,7 +1,7 @@
 use Rattle.std.proofs.Common.{◌∙◌, List, subst, sym}
 use Rattle.std.specs.Prelude.{All}
-use Rattle.mb_load.specs.Entries.{AreContentsInOrder, AreDated, HasId, IsName, IsTile}
-use Rattle.mb_load.specs.declared.entries.Content.{Content}
+use Rattle.mb_lists.specs.Entries.{AreContentsInOrder, AreDated, HasId, IsName, IsTile}
+use Rattle.mb_lists.specs.declared.entries.Content.{Content}
 use Rattle.mb_load.proofs.EditViews.{all_from, held_settled}
 use Rattle.mb_load.proofs.editing.Editing.settle.Goals as goal
 

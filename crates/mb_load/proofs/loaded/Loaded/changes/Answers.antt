@@ -1,7 +1,7 @@
-use Rattle.std.proofs.Common.{◌≡◌, ◌∙◌, ◌++◌, List, ap, false, subst, sym}
+use Rattle.std.proofs.Common.{◌≡◌, ◌∙◌, ◌++◌, ap, false, subst, sym}
 use Rattle.std.specs.Prelude.{All, filter_map}
 use Rattle.mb_load.specs.Changing.{AreChangesOf, content_table}
-use Rattle.mb_load.specs.Entries.{held_of}
+use Rattle.mb_load.specs.HeldEntries.{held_of}
 use Rattle.mb_load.specs.PutRows.{listed_change, name_change, tile_change}
 use Rattle.mb_load.proofs.Covering.{are_changes, names_last, tiles_first}
 use Rattle.mb_load.proofs.loaded.Loaded.changes.Goals as goal

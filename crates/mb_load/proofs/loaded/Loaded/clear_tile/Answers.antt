@@ -1,6 +1,6 @@
 use Rattle.std.proofs.Common.{ap, ◌∙◌}
 use Rattle.mb_load.specs.Edits.{without_tile}
-use Rattle.mb_load.specs.Entries.{place_at}
+use Rattle.mb_lists.specs.Entries.{place_at}
 use Rattle.mb_load.specs.Held.{Held}
 use Rattle.mb_load.proofs.PlacedViews.{cleared_whole, tile_cleared}
 use Rattle.mb_load.proofs.loaded.Loaded.clear_tile.Goals as goal

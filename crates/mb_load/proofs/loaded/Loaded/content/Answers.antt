@@ -3,8 +3,8 @@ use Rattle.std.specs.Prelude.{slice_get}
 use Rattle.std.specs.FinMap.{get}
 use Rattle.std.specs.Option.{option_map}
 use Rattle.mb_load.specs.Held.{Held}
-use Rattle.mb_load.specs.declared.entries.Content.{Content}
-use Rattle.mb_load.proofs.ReaderLemmas.{content_none, content_some}
+use Rattle.mb_lists.specs.declared.entries.Content.{Content}
+use Rattle.mb_lists.proofs.ReaderLemmas.{content_none, content_some}
 use Rattle.mb_load.proofs.loaded.Loaded.content.Goals as goal
 
 pub returns-in-Some : goal.returns-in-Some

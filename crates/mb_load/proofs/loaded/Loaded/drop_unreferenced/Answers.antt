@@ -1,16 +1,17 @@
-use Rattle.std.proofs.Common.{List, ℕ, rules, ◌≡◌, ◌∙◌, ap, sym, subst, length, take}
+use Rattle.std.proofs.Common.{List, ◌≡◌, ◌∙◌, ap, sym, subst, length, take}
 use Rattle.std.specs.Prelude.{All}
 use Rattle.std.specs.Vec.{with_items}
 use Rattle.std.proofs.lemmas.List.{with_items_is}
 use Rattle.std.proofs.lemmas.List.Sorted.{IsPermutation-trans}
-use Rattle.mb_load.specs.Dropping.{marked_unnamed}
-use Rattle.mb_load.specs.Entries.{AreContentsInOrder, AreDated, HasId, IsTile, held_of, id_at, is_gone, place_of}
-use Rattle.mb_load.specs.Keyed.{Apart}
+use Rattle.mb_lists.specs.Dropping.{marked_unnamed}
+use Rattle.mb_lists.specs.Entries.{AreContentsInOrder, AreDated, HasId, IsTile, id_at, place_of}
+use Rattle.mb_load.specs.HeldEntries.{held_of}
+use Rattle.mb_lists.specs.Keyed.{Apart}
 use Rattle.mb_load.specs.Edits.{only_referenced}
-use Rattle.mb_load.specs.declared.entries.Content.{Content}
-use Rattle.mb_load.proofs.Dropped.{like_all}
+use Rattle.mb_lists.specs.declared.entries.Content.{Content}
+use Rattle.mb_lists.proofs.Dropped.{like_all}
 use Rattle.mb_load.proofs.DroppedHeld.{apart_left, dated_left, held_dropped, ids_left, tiles_left}
-use Rattle.mb_load.proofs.Sorting.{apart_permuted}
+use Rattle.mb_lists.proofs.Sorting.{apart_permuted}
 use Rattle.mb_load.proofs.loaded.Loaded.drop_unreferenced.Goals as goal
 use Rattle.mb_tables.proofs.TileLemmas.{places_total}
 use Rattle.mb_tables.specs.Cell.{cell_cmp}

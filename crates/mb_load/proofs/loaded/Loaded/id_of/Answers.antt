@@ -1,9 +1,9 @@
 use Rattle.std.proofs.Common.{◌∙◌, List, Some, None, cond, ap, sym}
 use Rattle.std.specs.FinMap.{get}
-use Rattle.mb_load.specs.Entries.{id_at, place_at}
+use Rattle.mb_lists.specs.Entries.{id_at, place_at}
 use Rattle.mb_load.specs.Held.{Held}
-use Rattle.mb_load.specs.declared.entries.Content.{Content}
-use Rattle.mb_load.proofs.ReaderLemmas.{id_none, id_some}
+use Rattle.mb_lists.specs.declared.entries.Content.{Content}
+use Rattle.mb_lists.proofs.ReaderLemmas.{id_none, id_some}
 use Rattle.mb_tables.specs.Cell.{is_null}
 use Rattle.mb_load.proofs.loaded.Loaded.id_of.Goals as goal
 

@@ -1,9 +1,9 @@
 use Rattle.std.proofs.Common.{◌∙◌, ap, sym}
 use Rattle.std.specs.FinMap.{get}
 use Rattle.std.specs.Option.{option_map}
-use Rattle.mb_load.specs.Entries.{text_cell}
+use Rattle.mb_lists.specs.Entries.{text_cell}
 use Rattle.mb_load.specs.Held.{Held}
-use Rattle.mb_load.proofs.ReaderLemmas.{name_missing, name_some}
+use Rattle.mb_lists.proofs.ReaderLemmas.{name_missing, name_some}
 use Rattle.mb_load.proofs.loaded.Loaded.metadata.Goals as goal
 
 pub returns-in-Some : goal.returns-in-Some

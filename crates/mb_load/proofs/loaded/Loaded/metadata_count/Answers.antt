@@ -1,7 +1,7 @@
 use Rattle.std.proofs.Common.{◌∙◌, ap, sym}
 use Rattle.std.specs.FinMap.{len}
 use Rattle.mb_load.specs.Held.{Held}
-use Rattle.mb_load.proofs.ReaderLemmas.{names_count}
+use Rattle.mb_lists.proofs.ReaderLemmas.{names_count}
 use Rattle.mb_load.proofs.loaded.Loaded.metadata_count.Goals as goal
 
 pub returns : goal.returns

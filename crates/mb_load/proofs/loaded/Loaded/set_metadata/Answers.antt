@@ -3,16 +3,16 @@ use Rattle.std.specs.Cmp.Lexicographic.{slice_cmp}
 use Rattle.std.specs.Ordering.{nat_cmp}
 use Rattle.std.proofs.lemmas.Cmp.{nat_list_cmp_total}
 use Rattle.mb_load.specs.Edits.{with_name}
-use Rattle.mb_load.specs.Entries.{IsName, name_of, newest_names}
+use Rattle.mb_lists.specs.Entries.{IsName, name_of, newest_names}
 use Rattle.mb_load.specs.Held.{Held}
-use Rattle.mb_load.specs.Keyed.{StandsAs}
-use Rattle.mb_load.specs.Metadata.{text_of}
-use Rattle.mb_load.specs.declared.entries.Standing.TheVariants.{Put}
-use Rattle.mb_load.specs.declared.entries.StoredName.{StoredName}
+use Rattle.mb_lists.specs.Keyed.{StandsAs}
+use Rattle.mb_lists.specs.Metadata.{text_of}
+use Rattle.mb_lists.specs.declared.entries.Standing.TheVariants.{Put}
+use Rattle.mb_lists.specs.declared.entries.StoredName.{StoredName}
 use Rattle.mb_load.proofs.EditViews.{all_from, named_texts}
-use Rattle.mb_load.proofs.NameLemmas.{names_antisymmetric}
+use Rattle.mb_lists.proofs.NameLemmas.{names_antisymmetric}
 use Rattle.mb_load.proofs.PlacedViews.{name_placed}
-use Rattle.mb_load.proofs.StandsLemmas.{stands_from}
+use Rattle.mb_lists.proofs.StandsLemmas.{stands_from}
 use Rattle.mb_load.proofs.loaded.Loaded.set_metadata.Goals as goal
 
 pub invariant_of-self-2 : goal.invariant_of-self-2

@@ -1,17 +1,18 @@
 use Rattle.std.proofs.Common.{List, ℕ, [], ◌∷◌, ◌++◌, ◌≡◌, ap, subst, sym, refl, ◌∙◌}
 use Rattle.std.specs.Prelude.{All}
-use Rattle.mb_load.specs.Adding.{listed}
+use Rattle.mb_lists.specs.Clearing.{listed}
 use Rattle.mb_load.specs.Edits.{with_tile}
-use Rattle.mb_load.specs.Entries.{AreContentsInOrder, AreDated, HasId, IsTile, held_of, id_at, newest_ids, newest_tiles, place_at, place_of}
+use Rattle.mb_lists.specs.Entries.{AreContentsInOrder, AreDated, HasId, IsTile, id_at, newest_ids, newest_tiles, place_at, place_of}
+use Rattle.mb_load.specs.HeldEntries.{held_of}
 use Rattle.mb_load.specs.Held.{Held}
-use Rattle.mb_load.specs.Keyed.{StandsAs}
-use Rattle.mb_load.specs.declared.entries.Content.{Content}
-use Rattle.mb_load.specs.declared.entries.Standing.TheVariants.{Put}
-use Rattle.mb_load.specs.declared.entries.StoredTile.{StoredTile}
+use Rattle.mb_lists.specs.Keyed.{StandsAs}
+use Rattle.mb_lists.specs.declared.entries.Content.{Content}
+use Rattle.mb_lists.specs.declared.entries.Standing.TheVariants.{Put}
+use Rattle.mb_lists.specs.declared.entries.StoredTile.{StoredTile}
 use Rattle.mb_load.proofs.EditViews.{all_from, put_dated, put_ids, put_whole}
 use Rattle.mb_load.proofs.PlacedViews.{more_in_order, new_live, put_placed}
-use Rattle.mb_load.proofs.Places.{places_antisymmetric}
-use Rattle.mb_load.proofs.StandsLemmas.{stands_from}
+use Rattle.mb_lists.proofs.Places.{places_antisymmetric}
+use Rattle.mb_lists.proofs.StandsLemmas.{stands_from}
 use Rattle.mb_load.proofs.loaded.Loaded.set_tile.Goals as goal
 use Rattle.mb_tables.proofs.CellLemmas.{cell_cmp-IsAntisymmetric}
 use Rattle.mb_tables.proofs.TileLemmas.{places_total}

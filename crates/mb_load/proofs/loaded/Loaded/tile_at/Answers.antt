@@ -1,9 +1,9 @@
 use Rattle.std.proofs.Common.{◌≡◌, ◌∙◌, ◌<◌, ap, sym, subst, arith}
 use Rattle.std.specs.Prelude.{IfSome, slice_get}
 use Rattle.std.specs.FinMap.{entries, len}
-use Rattle.mb_load.specs.Entries.{blob_cell, place_at}
+use Rattle.mb_lists.specs.Entries.{blob_cell, place_at}
 use Rattle.mb_load.specs.Held.{Held}
-use Rattle.mb_load.proofs.ReaderLemmas.{tile_read, tile_within, tiles_count}
+use Rattle.mb_lists.proofs.ReaderLemmas.{tile_read, tile_within, tiles_count}
 use Rattle.mb_load.proofs.loaded.Loaded.tile_at.Goals as goal
 
 pub index-tile-requires : goal.index-tile-requires

@@ -1,0 +1,9 @@
+pub mod Refusals
+pub mod Contents
+pub mod Kinds
+pub mod Metadata
+pub mod Keyed
+pub mod Entries
+pub mod FromRows
+pub mod Clearing
+pub mod Dropping

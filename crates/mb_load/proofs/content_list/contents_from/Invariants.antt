@@ -1,8 +1,0 @@
--- the contents so far, and those of the rows that are left
-use Rattle.std.proofs.Common.{◌≡◌, ◌++◌, map}
-use Rattle.std.specs.Vec.Iter.{into_iter_items}
-use Rattle.mb_load.specs.FromRows.{content_from}
-use Rattle.mb_load.proofs.content_list.contents_from.Given as goal
-
-abbrev pub invariant-loop-row : goal.invariant-loop-row
-invariant-loop-row l = l.contents.items ++ map content_from (into_iter_items l.row-iterator) ≡ map content_from l.fn.rows.items

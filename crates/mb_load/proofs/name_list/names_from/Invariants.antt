@@ -1,9 +1,0 @@
--- the names so far, and those of the rows that are left
-use Rattle.std.proofs.Common.{◌≡◌, ◌++◌}
-use Rattle.std.specs.Prelude.{filter_map}
-use Rattle.std.specs.Vec.Iter.{into_iter_items}
-use Rattle.mb_load.specs.FromRows.{name_from}
-use Rattle.mb_load.proofs.name_list.names_from.Given as goal
-
-abbrev pub invariant-loop-row : goal.invariant-loop-row
-invariant-loop-row l = l.names.items ++ filter_map name_from (into_iter_items l.row-iterator) ≡ filter_map name_from l.fn.rows.items
