@@ -1,8 +1,8 @@
 use Rattle.std.proofs.Common.{Err, sym, subst, arith}
 use Rattle.pm_reader.specs.Opening.{header_of}
 use Rattle.pm_writer.specs.declared.places.ArchivePlaces.{ArchivePlaces}
-use Rattle.tile_extract.specs.Written.{WriteCauses}
-use Rattle.tile_extract.proofs.FinishLemmas.{finish_causes}
+use Rattle.tile_extract.specs.Written.{WriteCauses, WritesParts}
+use Rattle.tile_extract.proofs.FinishLemmas.{finish_causes, finish_refused}
 use Rattle.tile_extract.proofs.writing.write_parts.Goals as goal
 
 pub returns-in-Err-finalize-clause-causes : goal.returns-in-Err-finalize-clause-causes
@@ -12,3 +12,14 @@ returns-in-Err-finalize-clause-causes g c =
     subst (λ x. WriteCauses {A = ArchivePlaces} (g.B.Backend.faults c.args.source.now) (g.B.Backend.faults c.add_parts.new.source) (g.M.Backend.faults c.args.medium.now) (g.M.Backend.faults c.finalize.new.medium) (Err x)) (sym c.of_writer-in-Err-finalize.ensures)
     (finish_causes o (header_of c.args.reader.now) (g.B.Backend.told c.args.source.now) c.args.parts.now (g.M.Backend.told c.add_parts.new.medium) c.add_parts.new.writer _ (g.B.Backend.faults c.args.source.now) (g.B.Backend.faults c.add_parts.new.source) (g.M.Backend.faults c.args.medium.now) (g.M.Backend.faults c.add_parts.new.medium) (g.M.Backend.faults c.finalize.new.medium) c.in-Err-finalize.error a
     c.in-Ok-add_parts.ensures.alive (omega (arith, c.start.ensures.faults, c.add_parts.ensures.faults)) (c.in-Err-finalize.ensures.causes o a.more a.writes))
+
+pub returns-in-Err-finalize-clause-written : goal.returns-in-Err-finalize-clause-written
+returns-in-Err-finalize-clause-written g c =
+    let o = c.args.options.now in
+    let h = header_of c.args.reader.now in
+    let source = g.B.Backend.told c.args.source.now in
+    let told = g.M.Backend.told c.finalize.new.medium in
+    let a = c.in-Ok-add_parts.ensures.added o c.in-Ok.ensures.begun in
+    subst (λ x. WritesParts o h source c.args.parts.now told (Err x)) (sym c.of_writer-in-Err-finalize.ensures)
+    (finish_refused o h source c.args.parts.now (g.M.Backend.told c.add_parts.new.medium) told c.add_parts.new.writer _ (g.M.Backend.faults c.add_parts.new.medium) (g.M.Backend.faults c.finalize.new.medium) c.in-Err-finalize.error a
+    c.in-Ok-add_parts.ensures.alive (c.in-Err-finalize.ensures.causes o a.more a.writes))
