@@ -23,3 +23,5 @@ pub mod CompleteLemmas
 pub mod PlanToldLemmas
 pub mod TestedLemmas
 pub mod RunLemmas
+pub mod FitLemmas
+pub mod FewLemmas

@@ -1,7 +1,11 @@
 //! Laws of extraction.
-ghost use Rattle.std.specs.Prelude.{ℕ, List, Result};
+ghost use Rattle.std.specs.Prelude.{◌≡◌, ◌<◌, ◌≤◌, ◌^◌, ℕ, All, List, Ok, Result, length};
+ghost use Rattle.std.specs.Str.{IsUtf8};
+ghost use Rattle.pm_format.specs.Sound.{Sound};
+ghost use Rattle.pm_reader.specs.Metadata.{metadata_read};
 ghost use Rattle.pm_writer.specs.declared.places.ArchivePlaces.{ArchivePlaces};
-ghost use Rattle.tile_extract.specs.Completeness.{EndsWell};
+ghost use Rattle.tile_extract.specs.Completeness.{CanExtract, EndsWell};
+ghost use Rattle.tile_extract.specs.Extract.{IsValid, count_met};
 ghost use Rattle.tile_extract.specs.declared.error.ExtractError.{ExtractError};
 ghost use Rattle.tile_ids.specs.Coord.{Coord};
 
@@ -9,4 +13,10 @@ ghost use Rattle.tile_ids.specs.Coord.{Coord};
 /// `OutOfMemory`.
 pub fn extracted_where_sound()
     ensures well { (b : List ℕ) (c : Coord) (m most : ℕ) (result : Result ArchivePlaces ExtractError) → EndsWell b c m most result }
+{}
+
+/// Where an archive is sound, its metadata a text of fewer than 2^63 bytes, the zoom valid, and the tiles no more than the limit and than 2^28, the new archive keeps within its bounds.
+pub fn few_tiles_keep_within_bounds()
+    ensures can { (b : List ℕ) (c : Coord) (m most : ℕ) (s : Sound b) (text : List ℕ) → All (λ byte. byte < 256) b → IsValid c m → metadata_read b s.found.0 ≡ Ok text → IsUtf8 text → length text < 2 ^ 63
+        → count_met b s.found c m ≤ most → count_met b s.found c m ≤ 2 ^ 28 → CanExtract b c m most }
 {}

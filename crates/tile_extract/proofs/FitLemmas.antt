@@ -1,0 +1,101 @@
+-- What an archive says beside its tiles lies within its types.
+use Rattle.std.proofs.Common.{◌≡◌, ◌∙◌, ◌+◌, ◌<◌, ◌^◌, ℕ, ℤ, zero, suc, Bool, true, false, nat_lt, if◌then◌else◌, codes, All, FitsSigned, w32, List, [], ◌∷◌, length, take, slice_get, slice_index, Option, None, Some, Result, Ok, Err, refl, ap, sym, subst, arith}
+use Rattle.std.proofs.lemmas.List.Elements.{All-head, All-tail, All-take}
+use Rattle.std.specs.Int.{Width, cast_signed}
+use Rattle.std.specs.Str.{bytes_eq}
+use Rattle.pm_format.specs.declared.compression.Compression.{Compression}
+use Rattle.pm_format.specs.declared.compression.Compression.TheVariants as compression
+use Rattle.pm_format.specs.declared.error.PmtError.{PmtError}
+use Rattle.pm_format.specs.declared.error.PmtError.TheVariants as errors
+use Rattle.pm_format.specs.declared.header.Header.{Header}
+use Rattle.pm_format.specs.declared.header.TheConstants.{HEADER_SIZE, ROOT_END}
+use Rattle.pm_format.specs.declared.tile_type.TileType.{TileType}
+use Rattle.pm_format.specs.Directory.{Entry}
+use Rattle.pm_format.specs.Header.{byte_at, compressions, fields, head, labelled, magic, tile_types}
+use Rattle.pm_format.specs.Opened.{Opened, opened, root_decoded, root_labelled, root_placed}
+use Rattle.pm_writer.specs.Bounds.{OptionsFit}
+use Rattle.tile_ids.specs.Coord.{Coord}
+use Rattle.tile_extract.specs.Cut.{options_from}
+use Rattle.tile_extract.specs.Extract.{IsValid}
+use borrow.Author.Differences.{fits_in, read_fits}
+
+-- a signed number of any bits lies within its type
+signed_fits : (w : Width) (n : ℕ) → FitsSigned w (cast_signed w n)
+signed_fits w n = omega (arith, fits_in, read_fits w n)
+
+-- no test before an answer is the one that refuses
+if_ok : {A : Type 0} (t : Bool) (e : PmtError) (r : Result A PmtError) (x : A) → (if t then Err e else r) ≡ Ok x → r ≡ Ok x
+if_ok true e r x is = absurd (cc)
+if_ok false e r x is = is
+
+if_first : {A : Type 0} (t u : Bool) (e f : PmtError) (r : Result A PmtError) (x : A) → (if t then r else (if u then Err e else Err f)) ≡ Ok x → r ≡ Ok x
+if_first true u e f r x is = is
+if_first false true e f r x is = absurd (cc)
+if_first false false e f r x is = absurd (cc)
+
+-- a header is what stands at the places of its fields
+pub record IsRead (front : List ℕ) (h : Header) : Type 0 where
+  pub directories : Compression
+  pub tiles : Compression
+  pub type : TileType
+  pub is : h ≡ fields front directories tiles type
+
+labelled_read : (front : List ℕ) (directories tiles : Option Compression) (type : Option TileType) (h : Header) → labelled front directories tiles type ≡ Ok h → IsRead front h
+labelled_read front None tiles type h is = absurd (cc)
+labelled_read front (Some directories) None type h is = absurd (cc)
+labelled_read front (Some directories) (Some tiles) None h is = absurd (cc)
+labelled_read front (Some directories) (Some tiles) (Some type) h is = record { directories = directories; tiles = tiles; type = type; is = cc }
+
+head_read : (front : List ℕ) (h : Header) → head front ≡ Ok h → IsRead front h
+unfolding head
+head_read front h is =
+    let a = if_ok (nat_lt (length front) 7) errors.InvalidHeader _ h is in
+    let b = if_first (bytes_eq (take 7 front) magic) (bytes_eq (take 2 front) (codes "PM")) errors.UnsupportedPmTilesVersion errors.InvalidMagicNumber _ h a in
+    let c = if_ok (nat_lt (length front) HEADER_SIZE) errors.InvalidHeader _ h b in
+    labelled_read front (slice_get compressions (byte_at 97 front)) (slice_get compressions (byte_at 98 front)) (slice_get tile_types (byte_at 99 front)) h c
+
+-- and that of an archive is the header of its front
+decoded_head : (h : Header) (d : Option (List Entry)) (o : Opened) → root_decoded h d ≡ Ok o → o.0 ≡ h
+decoded_head h None o is = absurd (cc)
+decoded_head h (Some es) o is = let same : (h, es) ≡ o = cc in ap (λ p. p.0) (sym same)
+
+labelled_head : (front : List ℕ) (h : Header) (label : Compression) (o : Opened) → root_labelled front h label ≡ Ok o → o.0 ≡ h
+labelled_head front h compression.None o is = decoded_head h _ o is
+labelled_head front h label o is = absurd (cc)
+
+placed_read : (front : List ℕ) (r : Result Header PmtError) (o : Opened) → ((h : Header) → r ≡ Ok h → IsRead front h) → root_placed front r ≡ Ok o → IsRead front o.0
+placed_read front (Err e) o read is = absurd (cc)
+placed_read front (Ok h) o read is =
+    let a = if_ok (nat_lt h.root_offset HEADER_SIZE) errors.InvalidHeader _ o is in
+    let b = if_ok (nat_lt (length front) (h.root_offset + h.root_length)) errors.InvalidHeader _ o a in
+    subst (IsRead front) (sym (labelled_head front h h.internal_compression o b)) (read h refl)
+
+pub opened_read : (b : List ℕ) (o : Opened) → opened b ≡ Ok o → IsRead (take ROOT_END b) o.0
+unfolding opened
+opened_read b o is = placed_read (take ROOT_END b) (head (take ROOT_END b)) o (λ h at. head_read (take ROOT_END b) h at) (if_ok (nat_lt (length (take ROOT_END b)) HEADER_SIZE) errors.InvalidHeader _ o is)
+
+-- each byte fits
+byte_fits : (b : List ℕ) (at : ℕ) → All (λ byte. byte < 256) b → slice_index b at < 256
+byte_fits [] at all = omega arith
+byte_fits (x ∷ b) zero all = All-head (λ byte. byte < 256) x b all
+byte_fits (x ∷ b) (suc at) all = byte_fits b at (All-tail (λ byte. byte < 256) x b all)
+
+-- the options that are taken from an archive fit
+pub options_fit : (b : List ℕ) (o : Opened) (text : List ℕ) (c : Coord) (m : ℕ) → All (λ byte. byte < 256) b → opened b ≡ Ok o → IsValid c m → OptionsFit (options_from o.0 text c m)
+options_fit b o text c m all is zoom =
+    let r = opened_read b o is in
+    let center : o.0.center_zoom < 2 ^ 8 = subst (λ z. z < 2 ^ 8) (sym (ap (λ h. h.center_zoom) r.is)) (byte_fits (take ROOT_END b) 118 (All-take (λ byte. byte < 256) ROOT_END b all)) in
+    let degrees = λ (f : Header → ℤ) (n : ℕ) (at : f (fields (take ROOT_END b) r.directories r.tiles r.type) ≡ cast_signed w32 n). subst (FitsSigned w32) (sym (ap f r.is ∙ at)) (signed_fits w32 n) in
+    record {
+      min_zoom = omega (arith, zoom.0, zoom.1);
+      max_zoom = omega (arith, zoom.1);
+      min_longitude = degrees (λ h. h.min_longitude) _ refl;
+      min_latitude = degrees (λ h. h.min_latitude) _ refl;
+      max_longitude = degrees (λ h. h.max_longitude) _ refl;
+      max_latitude = degrees (λ h. h.max_latitude) _ refl;
+      center_zoom = center;
+      center_longitude = degrees (λ h. h.center_longitude) _ refl;
+      center_latitude = degrees (λ h. h.center_latitude) _ refl;
+      least_leaf = omega arith;
+      most_leaf = omega arith;
+    }
