@@ -22,3 +22,4 @@ pub mod SoundLemmas
 pub mod CompleteLemmas
 pub mod PlanToldLemmas
 pub mod TestedLemmas
+pub mod RunLemmas

@@ -6,3 +6,6 @@ pub mod Written
 pub mod Extract
 pub mod Opening
 pub mod Completeness
+pub mod Words
+pub mod Outcome
+pub mod TopCall

@@ -7,11 +7,16 @@ mod extraction;
 mod intervals;
 pub mod laws;
 mod opening;
+mod outcome;
 mod parts;
+mod top_call;
 mod walk;
+mod words;
 mod writing;
 
 pub use collection::{collect, options_from};
 pub use error::ExtractError;
 pub use extraction::extract;
+pub use outcome::{ExtractOutcome, extract_status};
+pub use top_call::run_extract;
 pub use writing::write_parts;
