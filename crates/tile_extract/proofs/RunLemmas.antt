@@ -1,5 +1,5 @@
 -- Where the words ask for what can be extracted and no count rose, a run is done, or memory ran out.
-use Rattle.std.proofs.Common.{◌≡◌, ℕ, List, [], Option, None, Some, Result, Ok, Err, IfSome, sym, subst}
+use Rattle.std.proofs.Common.{◌≡◌, ℕ, List, [], Option, None, Some, Result, IfSome, sym, subst}
 use Rattle.tile_ids.specs.Coord.{Coord}
 use Rattle.tile_ids.specs.Counts.{Rose}
 use Rattle.pm_writer.specs.declared.places.ArchivePlaces.{ArchivePlaces}
