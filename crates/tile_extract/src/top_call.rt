@@ -3,7 +3,7 @@ ghost use Rattle.std.specs.Prelude.{◌≡◌, ◌≢◌, ◌+◌, ◌≤◌, []
 ghost use Rattle.tile_ids.specs.Counts.{Rose};
 ghost use Rattle.pm_reader.specs.Reads.{ReadsOnly};
 ghost use Rattle.tile_extract.specs.Completeness.{CanExtract, IsDoneOrWanting};
-ghost use Rattle.tile_extract.specs.Extract.{Answers, Causes, Leaves, reads_at_most};
+ghost use Rattle.tile_extract.specs.Extract.{Answers, Causes, Leaves, LeavesUnread, reads_at_most};
 ghost use Rattle.tile_extract.specs.TopCall.{IsFor, OfExtract};
 ghost use Rattle.tile_extract.specs.Words.{asked_in};
 
@@ -33,6 +33,7 @@ pub fn run_extract<B: Backend, M: Medium>(
     ensures untouched { result ≡ ExtractOutcome.Usage → (source.new ≡ source.old) × (medium.new ≡ medium.old) }
     ensures kept { ReadsOnly B.told B.versions B.faults B.steady source.old source.new }
     ensures reads { IfSome (asked_in words.now) (λ a. IfSome (B.told source.old) (λ b. B.reads source.new ≤ B.reads source.old + reads_at_most b a.root a.max_zoom)) }
+    ensures unread { OfExtract (LeavesUnread (B.reads source.old) (B.reads source.new)) result }
     ensures faults { M.faults medium.old ≤ M.faults medium.new }
     ensures counted { M.reads medium.new ≡ M.reads medium.old }
     ensures calm { M.steady medium.old → M.steady medium.new × (M.faults medium.new ≡ M.faults medium.old) }
