@@ -20,6 +20,12 @@ use Rattle.mb_sqlite.specs.Stored.{IsReadAs}
 abbrev pub IsRowOf : TableName → Row → List Cell → Type 0
 IsRowOf table answer row = AllZip IsReadAs (take (width table) answer) row
 
+-- the last of these answers on a table, if there is one, has this `rowid`
+abbrev pub EndsAt : TableName → List Row → ℤ → Type 0
+EndsAt table [] last = Unit {0}
+EndsAt table (answer ∷ []) last = column answer (width table) ≡ sql.Int last
+EndsAt table (answer ∷ more ∷ answers) last = EndsAt table (more ∷ answers) last
+
 -- a number as SQL takes it
 abbrev pub sql_number : ℕ → ℤ
 sql_number n = pos (min n (2 ^ 63 - 1))
@@ -44,9 +50,9 @@ module _ {S : Type 0} (g : Ghosts S) (table : TableName) (old new : Held S) wher
   abbrev pub IsCounted : ℕ → Type 0
   IsCounted n = (row : Row) × QueriesRowInside (count_text table) [] (state g old) (state g new) (Ok row) × (column row 0 ≡ sql.Int (pos n))
 
-  -- it shows these rows of the table: from a `rowid` on, after so many, at most so many
-  abbrev pub ArePaged : ℤ × ℕ → ℕ → List (List Cell) → Type 0
-  ArePaged start limit rows = (found : List Row) × Shown (page_text table) (sql.Int start.0 ∷ sql.Int (sql_number limit) ∷ sql.Int (sql_number start.1) ∷ []) (state g old) (state g new) found × AllZip (IsRowOf table) (take limit found) rows
+  -- it shows these rows of the table: from a `rowid` on, after so many, at most so many; and the last one's `rowid`
+  abbrev pub ArePaged : ℤ × ℕ → ℕ → List (List Cell) → ℤ → Type 0
+  ArePaged start limit rows last = (found : List Row) × Shown (page_text table) (sql.Int start.0 ∷ sql.Int (sql_number limit) ∷ sql.Int (sql_number start.1) ∷ []) (state g old) (state g new) found × AllZip (IsRowOf table) (take limit found) rows × EndsAt table (take limit found) last
 
   -- it shows this row first of those with these values as their key, or none
   abbrev pub IsFirst : Row → Option (List Cell) → Type 0

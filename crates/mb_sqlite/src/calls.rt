@@ -4,9 +4,9 @@ ghost use Rattle.mb_tables.specs.Schema.{set_tables};
 ghost use Rattle.mb_tables.specs.Described.{is_table};
 ghost use Rattle.mb_tables.specs.Table.{width};
 ghost use Rattle.mb_sqlite.specs.Committing.{CommitsNothing, CommitsOnce, IsReady, KeepsCommitted, MakesChanges, OnceReady, RefusesChanges, Sees};
-ghost use Rattle.mb_sqlite.specs.Cursor.{cursor_start};
+ghost use Rattle.mb_sqlite.specs.Cursor.{MovesPast};
 ghost use Rattle.mb_sqlite.specs.Making.{AreChanged, AreMade, begun};
-ghost use Rattle.mb_sqlite.specs.Reading.{ArePaged, IsCounted, IsFound};
+ghost use Rattle.mb_sqlite.specs.Reading.{IsCounted, IsFound};
 
 use crate::failure::Failure;
 use crate::layout::has_table;
@@ -79,9 +79,11 @@ impl<S: Alter> SqliteStore<S> {
         ensures widths { IfOk result (λ rows. All (λ row. length row ≡ width table) rows.items) }
         ensures limit { IfOk result (λ rows. length rows.items ≤ limit) }
         ensures undescribed { is_table (set_tables self.old.layout) table ≡ false → IfOk result (λ rows. rows.items ≡ []) }
+        ensures passed { is_table (set_tables self.old.layout) table ≡ false → self.new.cursor ≡ self.old.cursor }
+        ensures kept { OnErr result (self.new.cursor ≡ self.old.cursor) }
         ensures survives { self.old.is_made ≡ true → CommitsNothing S.Store self.old.connection self.new.connection }
         ensures once { CommitsOnce S.Store (AreMade S.Store self.old.layout (begun self.old.connection)) self.old.connection self.new.connection }
-        ensures paged { is_table (set_tables self.old.layout) table ≡ true → IfOk result (λ rows. OnceReady S.Store self.old.layout self.old.is_made self.old.connection (Sees S.Store (λ old seen. ArePaged S.Store table old seen (cursor_start self.old.cursor table from) limit rows.items) self.new.connection)) }
+        ensures paged { is_table (set_tables self.old.layout) table ≡ true → IfOk result (λ rows. OnceReady S.Store self.old.layout self.old.is_made self.old.connection (Sees S.Store (λ old seen. MovesPast S.Store table old seen from limit self.old.cursor self.new.cursor rows.items) self.new.connection)) }
         ensures layout { self.new.layout ≡ self.old.layout }
         ensures made { OnOk result (self.new.is_made ≡ true) }
         ensures faults { self.new.faults ≡ self.old.faults }

@@ -1,6 +1,6 @@
 // Where a table was read to, so that pages in order take time in their rows alone.
 ghost use Rattle.std.specs.Prelude.{◌≡◌};
-ghost use Rattle.mb_sqlite.specs.Cursor.{cursor_start};
+ghost use Rattle.mb_sqlite.specs.Cursor.{cursor_past, cursor_start};
 
 use mb_tables::TableName;
 
@@ -31,7 +31,9 @@ pub(crate) fn moved(
     from: u64,
     count: u64,
     last: i64,
-) -> Option<Cursor> {
+) -> Option<Cursor>
+    ensures { result ≡ cursor_past cursor table from count last }
+{
     if count == 0 {
         return cursor;
     }

@@ -1,5 +1,5 @@
 // Reading the tables inside a transaction.
-ghost use Rattle.std.specs.Prelude.{◌≡◌, ◌≤◌, [], ◌∷◌, All, IfOk, IfSome, length, take};
+ghost use Rattle.std.specs.Prelude.{◌≡◌, ◌≤◌, [], ◌∷◌, All, IfOk, IfSome, OnOk, length, take};
 ghost use Rattle.std.specs.List.{AllZip};
 ghost use Rattle.sqlite.specs.Held.{state};
 ghost use Rattle.sqlite.specs.State.{HasCleanDisk, Shown};
@@ -7,7 +7,7 @@ ghost use Rattle.sqlite.specs.Values.{bound};
 ghost use Rattle.sqlite_value.specs.declared.value.Value.TheVariants as sql;
 ghost use Rattle.mb_tables.specs.Table.{width};
 ghost use Rattle.mb_sqlite.specs.Committing.{CommitsNothing};
-ghost use Rattle.mb_sqlite.specs.Reading.{ArePaged, IsCounted, IsFirst, IsFound, IsRowOf, sql_number};
+ghost use Rattle.mb_sqlite.specs.Reading.{ArePaged, EndsAt, IsCounted, IsFirst, IsFound, IsRowOf, sql_number};
 ghost use Rattle.mb_sqlite.specs.Statements.{page_text};
 
 use crate::failure::Failure;
@@ -70,6 +70,7 @@ fn rows_of(
     ensures widths { IfOk result (λ rows. All (λ row. length row ≡ width table) rows.items) }
     ensures limit { IfOk result (λ rows. length rows.items ≤ limit) }
     ensures rows { IfOk result (λ rows. AllZip (IsRowOf table) (take limit answers.now) rows.items) }
+    ensures last { OnOk result (EndsAt table (take limit answers.now) last.new) }
 {
     let mut rows = Vec::new(alloc);
     for answer in answers {
@@ -95,7 +96,7 @@ pub(crate) fn page<S: Alter>(
     ensures limit { IfOk result (λ rows. length rows.items ≤ limit) }
     ensures same_reference { transaction.new.conn.ghost_name ≡ transaction.old.conn.ghost_name }
     ensures survives { CommitsNothing S.Store transaction.old.conn.now transaction.new.conn.now }
-    ensures paged { HasCleanDisk (state S.Store transaction.new.conn.now) → IfOk result (λ rows. ArePaged S.Store table transaction.old.conn.now transaction.new.conn.now start limit rows.items) }
+    ensures paged { HasCleanDisk (state S.Store transaction.new.conn.now) → IfOk result (λ rows. ArePaged S.Store table transaction.old.conn.now transaction.new.conn.now start limit rows.items last.new) }
 {
     let passed = sql_number(start.1);
     let answers = answers(transaction, table, start.0, passed, sql_number(limit))?;

@@ -1,10 +1,10 @@
 // Reading the database. Each call reads in a transaction that is rolled back, so that it commits nothing.
-ghost use Rattle.std.specs.Prelude.{◌≡◌, ◌≤◌, All, IfOk, IfSome, length};
+ghost use Rattle.std.specs.Prelude.{◌≡◌, ◌≤◌, All, IfOk, IfSome, OnErr, length};
 ghost use Rattle.mb_tables.specs.Table.{width};
 ghost use Rattle.sqlite.specs.Held.{state};
 ghost use Rattle.sqlite.specs.State.{HasCleanDisk};
 ghost use Rattle.mb_sqlite.specs.Committing.{CommitsNothing};
-ghost use Rattle.mb_sqlite.specs.Cursor.{cursor_start};
+ghost use Rattle.mb_sqlite.specs.Cursor.{MovesPast};
 ghost use Rattle.mb_sqlite.specs.Reading.{ArePaged, IsCounted, IsFound, Within};
 
 use crate::cursor::{Cursor, moved, start_of};
@@ -42,7 +42,8 @@ pub(crate) fn page<S: Alter>(
     ensures widths { IfOk result (λ rows. All (λ row. length row ≡ width table) rows.items) }
     ensures limit { IfOk result (λ rows. length rows.items ≤ limit) }
     ensures survives { CommitsNothing S.Store connection.old connection.new }
-    ensures paged { HasCleanDisk (state S.Store connection.new) → IfOk result (λ rows. Within connection.old (λ old seen. ArePaged S.Store table old seen (cursor_start cursor.old table from) limit rows.items)) }
+    ensures paged { HasCleanDisk (state S.Store connection.new) → IfOk result (λ rows. Within connection.old (λ old seen. MovesPast S.Store table old seen from limit cursor.old cursor.new rows.items)) }
+    ensures kept { OnErr result (cursor.new ≡ cursor.old) }
 {
     let start = start_of(*cursor, table, from);
     let mut last = start.0;
@@ -63,7 +64,7 @@ fn page_after<S: Alter>(
     ensures widths { IfOk result (λ rows. All (λ row. length row ≡ width table) rows.items) }
     ensures limit { IfOk result (λ rows. length rows.items ≤ limit) }
     ensures survives { CommitsNothing S.Store connection.old connection.new }
-    ensures paged { HasCleanDisk (state S.Store connection.new) → IfOk result (λ rows. Within connection.old (λ old seen. ArePaged S.Store table old seen start limit rows.items)) }
+    ensures paged { HasCleanDisk (state S.Store connection.new) → IfOk result (λ rows. Within connection.old (λ old seen. ArePaged S.Store table old seen start limit rows.items last.new)) }
 {
     if !connection.is_autocommit() {
         return Err(Failure::Fault);

@@ -1,10 +1,13 @@
-use Rattle.std.proofs.Common.{◌≡◌, ◌+◌, ◌≤◌, ◌++◌, ◌∷◌, ◌∙◌, [], List, All, arith, ap, length, length-append, subst, sym, take}
+use Rattle.std.proofs.Common.{rules, of_z, to_z, w64, ◌≡◌, ◌+◌, ◌≤◌, ◌++◌, ◌∷◌, ◌∙◌, [], List, All, arith, ap, length, length-append, subst, sym, take}
 use Rattle.std.specs.List.{AllZip}
 use Rattle.std.proofs.lemmas.List.Elements.{All-push}
+use Rattle.std.proofs.lemmas.Int.{to_z-of_z}
+use Rattle.sqlite_value.specs.Order.{column}
+use Rattle.sqlite_value.specs.declared.value.Value.TheVariants.{Int}
 use Rattle.mb_tables.specs.Table.{width}
 use Rattle.mb_tables.specs.declared.cell.Cell.{Cell}
-use Rattle.mb_sqlite.specs.Reading.{IsRowOf}
-use Rattle.mb_sqlite.proofs.ReadingLemmas.{AllZip-enough, AllZip-next}
+use Rattle.mb_sqlite.specs.Reading.{EndsAt, IsRowOf}
+use Rattle.mb_sqlite.proofs.ReadingLemmas.{AllZip-enough, AllZip-next, EndsAt-enough, EndsAt-next}
 use Rattle.mb_sqlite.proofs.query.rows_of.Goals as goal
 
 pub loop-answer-preserved : goal.loop-answer-preserved
@@ -12,6 +15,7 @@ loop-answer-preserved c =
     let rows : List (List Cell) = c.loop-answer.rows.items in
     let row : List Cell = c.in_ok-row_of.field-0 in
     let pushed : c.push.new.self.items ≡ rows ++ row ∷ [] = c.in_ok-push.ensures.items in
+    let same : to_z w64 (of_z w64 c.in_ok-last.field-0) ≡ c.in_ok-last.field-0 = to_z-of_z w64 c.in_ok-last.field-0 (search rules) in
     let long : length c.push.new.self.items ≡ length rows + 1 = ap length pushed ∙ length-append rows (row ∷ []) in
     record {
       long = omega (arith, long, c.loop-answer.invariant.long);
@@ -20,6 +24,9 @@ loop-answer-preserved c =
       read = subst (λ (rs : List (List Cell)). AllZip (IsRowOf c.args.table) (take (c.loop-answer.answer-index + 1) c.args.answers.now) rs) (sym pushed)
           (AllZip-next (IsRowOf c.args.table) c.args.answers.now rows c.loop-answer.answer-index row c.answer-item.result c.loop-answer-test.true c.loop-answer.invariant.read
           (subst (λ answer. IsRowOf c.args.table answer row) c.answer-item.is c.in_ok-row_of.ensures.cells));
+      last = subst (λ z. EndsAt c.args.table (take (c.loop-answer.answer-index + 1) c.args.answers.now) z) (sym same)
+          (EndsAt-next c.args.table c.args.answers.now c.loop-answer.answer-index c.in_ok-last.field-0 c.answer-item.result c.loop-answer-test.true
+          (subst (λ answer. column answer (width c.args.table) ≡ Int c.in_ok-last.field-0) c.answer-item.is (subst (λ at. column c.answer-item.result at ≡ Int c.in_ok-last.field-0) c.width.ensures c.in_ok-last.ensures.ok.1)));
     }
 
 pub returns-then-len-limit-clause-rows : goal.returns-then-len-limit-clause-rows
@@ -30,3 +37,12 @@ returns-then-len-limit-clause-rows c =
 pub returns-clause-rows : goal.returns-clause-rows
 returns-clause-rows c =
     AllZip-enough (IsRowOf c.args.table) c.args.answers.now c.loop-answer.rows.items c.loop-answer.answer-index c.args.limit (omega (arith, c.loop-answer-test.false)) (omega (arith, c.loop-answer-test.false, c.loop-answer.invariant.long, c.loop-answer.invariant.limit)) c.loop-answer.invariant.read
+
+pub returns-then-len-limit-clause-last : goal.returns-then-len-limit-clause-last
+returns-then-len-limit-clause-last c =
+    let full : c.loop-answer.answer-index ≡ c.args.limit = omega (arith, c.loop-answer.invariant.long, c.loop-answer.invariant.limit, c.if-len-limit.true, c.len.ensures) in
+    subst (λ n. EndsAt c.args.table (take n c.args.answers.now) c.loop-answer.last) full c.loop-answer.invariant.last
+
+pub returns-clause-last : goal.returns-clause-last
+returns-clause-last c =
+    EndsAt-enough c.args.table c.args.answers.now c.loop-answer.answer-index c.args.limit c.loop-answer.last (omega (arith, c.loop-answer-test.false)) (omega (arith, c.loop-answer-test.false, c.loop-answer.invariant.long, c.loop-answer.invariant.limit)) c.loop-answer.invariant.last

@@ -1,16 +1,15 @@
 use Rattle.std.proofs.Common.{subst}
 use Rattle.std.specs.Prelude.{IfOk}
 use Rattle.mb_sqlite.specs.Committing.{OnceReady, Sees}
-use Rattle.mb_sqlite.specs.Cursor.{cursor_start}
-use Rattle.mb_sqlite.specs.Reading.{ArePaged}
+use Rattle.mb_sqlite.specs.Cursor.{MovesPast}
 use Rattle.mb_sqlite.proofs.CommitLemmas.{once_then}
 use Rattle.mb_sqlite.proofs.ReadyLemmas.{sees_ready}
 use Rattle.mb_sqlite.proofs.store.SqliteStore.page.Goals as goal
 
 pub returns-clause-paged : goal.returns-clause-paged
 returns-clause-paged g c described =
-    subst (λ cursor. IfOk c.page.result (λ rows. OnceReady g.S.Store c.args.self.now.layout c.args.self.now.is_made c.args.self.now.connection (Sees g.S.Store (λ old seen. ArePaged g.S.Store c.args.table old seen (cursor_start cursor c.args.table c.args.from) c.args.limit rows.items) c.page.new.connection))) c.in_ok-begin.ensures.cursor
-    (sees_ready g.S.Store _ (λ rows old seen. ArePaged g.S.Store c.args.table old seen (cursor_start c.begin.new.self.cursor c.args.table c.args.from) c.args.limit rows.items) _ _ _ _ c.page.result c.in_ok-begin.ensures.ready c.begin.ensures.once c.page.ensures.survives c.page.ensures.paged)
+    subst (λ cursor. IfOk c.page.result (λ rows. OnceReady g.S.Store c.args.self.now.layout c.args.self.now.is_made c.args.self.now.connection (Sees g.S.Store (λ old seen. MovesPast g.S.Store c.args.table old seen c.args.from c.args.limit cursor c.page.new.cursor rows.items) c.page.new.connection))) c.in_ok-begin.ensures.cursor
+    (sees_ready g.S.Store _ (λ rows old seen. MovesPast g.S.Store c.args.table old seen c.args.from c.args.limit c.begin.new.self.cursor c.page.new.cursor rows.items) _ _ _ _ c.page.result c.in_ok-begin.ensures.ready c.begin.ensures.once c.page.ensures.survives c.page.ensures.paged)
 
 pub returns-clause-once : goal.returns-clause-once
 returns-clause-once g c = once_then g.S.Store _ _ _ _ c.begin.ensures.once c.page.ensures.survives
