@@ -1,7 +1,9 @@
 -- the first part of bytes
-use Rattle.std.proofs.Common.{◌≡◌, ◌≢◌, ℕ, zero, suc, ◌+◌, ◌<◌, Bool, true, false, List, [], ◌∷◌, length, take, drop, get_or, nat_eq, if◌then◌else◌, refl, ◌∙◌, ap, arith, ◌-◌, length-drop}
+use Rattle.std.proofs.Common.{◌≡◌, ◌≢◌, ℕ, zero, suc, ◌+◌, ◌<◌, Bool, true, false, List, [], ◌∷◌, length, take, drop, get_or, slice_index, nat_eq, Option, None, Some, IfSome, MatchOption, if◌then◌else◌, refl, ◌∙◌, ap, arith, ◌-◌, length-drop}
 use Rattle.std.proofs.lemmas.Bool.Decides.{nat_tests}
+use Rattle.std.proofs.lemmas.Bool.{eq-eqb, eqb-true}
 use Rattle.std.proofs.lemmas.List.{take_all}
+use Rattle.memchr.specs.Find.{IsFirstByte, is_byte}
 use Rattle.line_words.specs.Lines.{ended, lines_of}
 use Rattle.line_words.specs.Parting.{HasNo, onto, parted, words_of}
 
@@ -79,3 +81,13 @@ some_part separator (b ∷ bytes) = cased (nat_eq b separator) (parted separator
 -- words behind a first one
 pub more_words : (line word rest : List ℕ) → words_of line ≡ word ∷ words_of rest → length (words_of line) ≡ 1 → ⊥
 more_words line word rest e h = let some = some_part 32 rest in let many = ap length e in omega arith
+
+-- the first byte that is the separator
+pub separator_there : (separator : ℕ) (bytes : List ℕ) (r : Option ℕ) → IsFirstByte (is_byte separator) bytes r → IfSome r (λ place. (place < length bytes) × (slice_index bytes place ≡ separator))
+separator_there separator bytes None h = tt
+separator_there separator bytes (Some k) h = (h.0.high, eqb-true (slice_index bytes k) separator h.1)
+
+-- and none before it
+pub separator_first : (separator : ℕ) (bytes : List ℕ) (r : Option ℕ) → IsFirstByte (is_byte separator) bytes r → MatchOption r (HasNo separator bytes (length bytes)) (HasNo separator bytes)
+separator_first separator bytes None h = λ k l e. h k (omega arith) l (eq-eqb (slice_index bytes k) separator e)
+separator_first separator bytes (Some k) h = λ j l e. h.0.before j (omega arith) l (eq-eqb (slice_index bytes j) separator e)

@@ -3,17 +3,14 @@ ghost use Rattle.std.specs.Prelude.{◌≡◌, ◌≢◌, ◌<◌, [], ◌∷◌
 ghost use Rattle.std.specs.Str.{bytes_eq};
 ghost use Rattle.line_words.specs.Parting.{words_of, HasNo};
 
+use memchr::memchr;
+
 /// Where the first separator is.
 pub fn first_separator(separator: u8, bytes: &[u8]) -> Option<usize>
     ensures found { IfSome result (λ place. (place < length bytes.now) × (slice_index bytes.now place ≡ separator)) }
     ensures before { MatchOption result (HasNo separator bytes.now (length bytes.now)) (HasNo separator bytes.now) }
 {
-    for (place, byte) in bytes.iter().enumerate() {
-        if *byte == separator {
-            return Some(place);
-        }
-    }
-    None
+    memchr(separator, bytes)
 }
 
 #[tactic(auto, using(crate::proofs::PartingLemmas::first_words))]

@@ -1,6 +1,0 @@
--- no separator so far
-use Rattle.std.proofs.Common.{◌≡◌, ℕ, ◌<◌, get_or}
-use Rattle.line_words.proofs.parting.first_separator.Given as goal
-
-abbrev pub invariant-loop-place : goal.invariant-loop-place
-invariant-loop-place l = (k : ℕ) → k < l.place → get_or l.bytes k 0 ≡ l.separator → ⊥
