@@ -5,3 +5,4 @@ pub mod Creation
 pub mod Reading
 pub mod Making
 pub mod Cursor
+pub mod Failing

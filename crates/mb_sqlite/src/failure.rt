@@ -1,6 +1,7 @@
 // Why a step on the database fails.
-ghost use Rattle.std.specs.Prelude.{◌≡◌, ◌≤◌, Ok, IfOk, IsErrOf, OnErr, OnOk};
+ghost use Rattle.std.specs.Prelude.{◌≡◌, ◌≤◌, Ok, IfErr, IfOk, IsErrOf, OnErr, OnOk};
 ghost use Rattle.tile_ids.specs.Counts.{Rose};
+ghost use Rattle.mb_sqlite.specs.Failing.{answer_of};
 
 use mb_store::StoreError;
 use sqlite::{Error, ErrorCode};
@@ -17,6 +18,11 @@ pub(crate) enum Failure {
 }
 
 impl From<Error> for Failure {
+    ghost use Rattle.std.specs.Prelude.{◌≡◌};
+    ghost use Rattle.mb_sqlite.specs.Failing.{failure_of};
+
+    ghost from_gives = { λ error e. e ≡ failure_of error };
+
     fn from(error: Error) -> Self {
         match error {
             Error::SqliteFailure(ErrorCode::OutOfMemory) => Failure::OutOfMemory,
@@ -26,18 +32,33 @@ impl From<Error> for Failure {
 }
 
 impl From<OutOfMemory> for Failure {
+    ghost use Rattle.std.specs.Prelude.{◌≡◌};
+    ghost use Rattle.mb_sqlite.specs.declared.failure.Failure.TheVariants as failures;
+
+    ghost from_gives = { λ _ e. e ≡ failures.OutOfMemory };
+
     fn from(_: OutOfMemory) -> Self {
         Failure::OutOfMemory
     }
 }
 
 impl From<AllocError> for Failure {
+    ghost use Rattle.std.specs.Prelude.{◌≡◌};
+    ghost use Rattle.mb_sqlite.specs.declared.failure.Failure.TheVariants as failures;
+
+    ghost from_gives = { λ _ e. e ≡ failures.OutOfMemory };
+
     fn from(_: AllocError) -> Self {
         Failure::OutOfMemory
     }
 }
 
 impl<T: Drop> From<AllocFailed<T>> for Failure {
+    ghost use Rattle.std.specs.Prelude.{◌≡◌};
+    ghost use Rattle.mb_sqlite.specs.declared.failure.Failure.TheVariants as failures;
+
+    ghost from_gives = { λ _ e. e ≡ failures.OutOfMemory };
+
     fn from(_: AllocFailed<T>) -> Self {
         Failure::OutOfMemory
     }
@@ -46,7 +67,8 @@ impl<T: Drop> From<AllocFailed<T>> for Failure {
 // The answer of a call, of which a fault is counted.
 pub(crate) fn counted<T>(faults: &mut u64, answer: Result<T, Failure>) -> Result<T, StoreError>
     ensures answer { IfOk result (λ value. answer ≡ Ok value) }
-    ensures refused { OnErr result (OnOk answer ⊥) }
+    ensures refused { IfErr result (λ e. IfErr answer (λ failure. e ≡ answer_of failure)) }
+    ensures refused_alone { OnErr result (OnOk answer ⊥) }
     ensures faults { faults.old ≤ faults.new }
     ensures fault { IsErrOf result StoreError.Fault → Rose faults.old faults.new }
 {
