@@ -13,6 +13,5 @@ pub mod SpellingLemmas
 pub mod VarintWritingLemmas
 pub mod VarintReadingLemmas
 pub mod VarintLemmas
-pub mod WriteLemmas
 mod HeaderRefusalLemmas
 mod LabelLemmas

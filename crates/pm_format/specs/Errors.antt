@@ -4,10 +4,10 @@ use Rattle.tile_ids.specs.declared.error.TileError.TheVariants as tiles
 use Rattle.pm_format.specs.declared.error.PmtError.{PmtError}
 use Rattle.pm_format.specs.declared.error.PmtError.TheVariants.{InvalidCoordinate, InvalidTileId, Reading, UnexpectedNumberOfBytesReturned, OutOfMemory}
 use Rattle.pm_format.specs.declared.error.ReadCause.TheVariants as causes
-use Rattle.pm_format.specs.declared.backend.ReadFault.{ReadFault}
-use Rattle.pm_format.specs.declared.backend.ReadFault.TheVariants as reads
-use Rattle.pm_format.specs.declared.medium.WriteFault.{WriteFault}
-use Rattle.pm_format.specs.declared.medium.WriteFault.TheVariants as writes
+use Rattle.byte_media.specs.declared.backend.ReadFault.{ReadFault}
+use Rattle.byte_media.specs.declared.backend.ReadFault.TheVariants as reads
+use Rattle.byte_media.specs.declared.medium.WriteFault.{WriteFault}
+use Rattle.byte_media.specs.declared.medium.WriteFault.TheVariants as writes
 
 abbrev pub of_tile_error : TileError → PmtError
 of_tile_error (tiles.InvalidCoordinate z x y) = InvalidCoordinate z x y

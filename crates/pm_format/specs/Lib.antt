@@ -7,8 +7,6 @@ pub mod Header
 pub mod HeaderDefaults
 pub mod LookUp
 pub mod HeaderParts
-pub mod Media
-pub mod MemMedium
 pub mod Opened
 pub mod Options
 pub mod Scan

@@ -4,7 +4,7 @@ use Rattle.std.specs.Result.{IsErrAnd}
 use Rattle.pm_format.specs.Directory.{Entry}
 use Rattle.pm_format.specs.LookUp.{data_behind, data_of, entry_from, hops_by, hops_from, range_of, tile_by}
 use Rattle.pm_format.specs.Scan.{scan}
-use Rattle.pm_format.specs.declared.backend.BackendResponse.{BackendResponse}
+use Rattle.byte_media.specs.declared.backend.BackendResponse.{BackendResponse}
 use Rattle.pm_format.specs.declared.error.PmtError.{PmtError}
 use Rattle.pm_format.specs.declared.header.Header.{Header}
 use Rattle.pm_reader.specs.Answers.{Gives, range_read, tile_of}

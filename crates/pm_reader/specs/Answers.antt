@@ -2,7 +2,7 @@
 use Rattle.std.specs.Prelude.{◌≡◌, ◌≢◌, ℕ, List, Option, Some, None, Result, Ok, Err, IfSome, IfOk}
 use Rattle.tile_ids.specs.Counts.{Rose}
 use Rattle.pm_format.specs.LookUp.{range_of}
-use Rattle.pm_format.specs.declared.backend.BackendResponse.{BackendResponse}
+use Rattle.byte_media.specs.declared.backend.BackendResponse.{BackendResponse}
 use Rattle.pm_format.specs.declared.error.PmtError.{PmtError}
 use Rattle.pm_format.specs.declared.error.PmtError.TheVariants as errors
 use Rattle.pm_format.specs.declared.error.ReadCause.TheVariants as causes

@@ -3,7 +3,7 @@ use Rattle.std.proofs.Common.{◌≡◌, ℕ, ◌+◌, ◌<◌, ◌≤◌, ◌^�
 use Rattle.std.specs.Bool.{Decides}
 use Rattle.std.specs.List.{list_any}
 use Rattle.std.specs.Str.{bytes_eq}
-use Rattle.pm_format.specs.Media.{IsWithin, written}
+use Rattle.byte_media.specs.Media.{IsWithin, written}
 use Rattle.pm_format.specs.Options.{Options}
 use Rattle.pm_writer.specs.Adds.{contents_from, put_new}
 use Rattle.pm_writer.specs.Contents.{HasRoom, found_in, fresh}

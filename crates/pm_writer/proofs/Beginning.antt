@@ -2,7 +2,7 @@
 use Rattle.std.proofs.Common.{◌≡◌, ℕ, zero, suc, ◌≤◌, inl, inr, List, [], ◌∷◌, ◌++◌, length, take, get_or, Option, Some, None, IfSome, refl, sym, ◌∙◌, ap, arith, subst, append-nil}
 use Rattle.std.proofs.Math.ListN.{get_or-append}
 use Rattle.std.proofs.lemmas.List.{get_or-replicate, length-replicate}
-use Rattle.pm_format.specs.Media.{IsWithin, written}
+use Rattle.byte_media.specs.Media.{IsWithin, written}
 use Rattle.pm_format.specs.Options.{Options}
 use Rattle.pm_writer.specs.Pieces.{BothTold, IsHidden, WroteFront}
 use Rattle.pm_writer.specs.Writing.{begun, data_of, zeros}

@@ -2,7 +2,7 @@
 use Rattle.std.proofs.Common.{◌≡◌, ℕ, zero, suc, append-nil, ◌+◌, ◌≤◌, ◌<◌, inl, inr, List, [], ◌∷◌, ◌++◌, length, take, drop, get_or, set, Option, Result, Ok, Err, OnOk, IfSome, refl, sym, ◌∙◌, ap, arith, subst, length-append}
 use Rattle.std.proofs.Math.ListN.{get_or-append}
 use Rattle.std.proofs.lemmas.List.{get_or-take, length-take-le, take-append-drop}
-use Rattle.pm_format.specs.Media.{written}
+use Rattle.byte_media.specs.Media.{written}
 use Rattle.pm_writer.specs.Pieces.{BothTold, IsHidden, IsHiddenOr, IsOpenTo, WroteFront, finished}
 use Rattle.pm_writer.proofs.MediumPieces.{both_then, both_with, hidden_behind, hidden_front, header_written, label_written, root_written, written_behind, zeroed_hidden}
 

@@ -5,8 +5,8 @@ use Rattle.std.proofs.Math.ListN.{get_or-append}
 use Rattle.std.proofs.lemmas.List.{drop_all, drop-append-le, get_or-append_right, get_or-drop, get_or-take, length-take-le, take-append-drop, take-append-le, take_all, drop_at}
 use Rattle.std.proofs.Math.ListN.{length-set}
 use Rattle.std.proofs.lemmas.List.{drop_more, get_or-set_same, take-set-le, drop-set-lt}
-use Rattle.pm_format.specs.declared.medium.WriteFault.TheVariants as writes
-use Rattle.pm_format.specs.Media.{WriteLeaves, written}
+use Rattle.byte_media.specs.declared.medium.WriteFault.TheVariants as writes
+use Rattle.byte_media.specs.Media.{WriteLeaves, written}
 use Rattle.pm_writer.specs.Pieces.{BothTold, IsHidden, WroteFront}
 
 pub both_map : (R S : List ℕ → List ℕ → Type 0) (old new : Option (List ℕ)) → ((b c : List ℕ) → R b c → S b c) → BothTold R old new → BothTold S old new

@@ -3,7 +3,7 @@ ghost use Rattle.std.specs.Prelude.{◌≡◌, ◌<◌, ◌≤◌, ◌&&◌, ◌
 ghost use Rattle.std.specs.Vec.{vec_capacity};
 ghost use Rattle.tile_ids.specs.Counts.{Rose};
 ghost use Rattle.tile_ids.specs.declared.id.TheConstants.{MAX_TILE_ID};
-ghost use Rattle.pm_format.specs.Media.{IsWithin};
+ghost use Rattle.byte_media.specs.Media.{IsWithin};
 ghost use Rattle.pm_format.specs.Directory.{entry};
 ghost use Rattle.pm_writer.specs.Adds.{contents_from, longest_run};
 ghost use Rattle.pm_writer.specs.Archive.{ids_of, rising};

@@ -4,7 +4,7 @@ ghost use Rattle.std.specs.BTreeMap.{get};
 ghost use Rattle.std.specs.Str.{bytes_eq};
 ghost use Rattle.tile_hash.specs.Xxh3.{xxh3_64};
 ghost use Rattle.tile_ids.specs.Counts.{Rose};
-ghost use Rattle.pm_format.specs.Media.{IsWithin};
+ghost use Rattle.byte_media.specs.Media.{IsWithin};
 ghost use Rattle.pm_writer.specs.Adds.{put_new};
 ghost use Rattle.pm_writer.specs.Contents.{content_cmp, HasRoom, HasSpare, Holds, first_of, found_in, fresh, in_span};
 ghost use Rattle.pm_writer.specs.Pieces.{LeavesPiece};

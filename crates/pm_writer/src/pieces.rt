@@ -1,7 +1,7 @@
 // Pieces that are written to a medium, and the order in which an archive is finished.
 ghost use Rattle.std.specs.Prelude.{◌≡◌, ◌≤◌, ◌<◌, ◌+◌, ◌^◌, length, IfSome, OnOk, IsErrOf, is_some};
 ghost use Rattle.pm_format.specs.Header.{header_bytes};
-ghost use Rattle.pm_format.specs.Media.{EndsBelow, IsWithin, written};
+ghost use Rattle.byte_media.specs.Media.{EndsBelow, IsWithin, written};
 ghost use Rattle.pm_writer.specs.Pieces.{BothTold, IsHiddenOr, IsOpenTo, PutCauses, WroteFront, finished};
 
 use pm_format::{Header, Medium, PmtError, PmtResult, ReadCause, WriteFault};

@@ -1,8 +1,8 @@
 -- The outcomes that errors end a run in.
 use Rattle.tile_bridge.specs.declared.error.ConvertError.{ConvertError}
 use Rattle.tile_bridge.specs.declared.error.ConvertError.TheVariants as convert
-use Rattle.pm_format.specs.declared.backend.ReadFault.{ReadFault}
-use Rattle.pm_format.specs.declared.backend.ReadFault.TheVariants as read
+use Rattle.byte_media.specs.declared.backend.ReadFault.{ReadFault}
+use Rattle.byte_media.specs.declared.backend.ReadFault.TheVariants as read
 use Rattle.pm_format.specs.declared.error.PmtError.TheVariants as errors
 use Rattle.pm_format.specs.declared.error.ReadCause.TheVariants as causes
 use Rattle.byte_streams.specs.declared.input.InputError.{InputError}

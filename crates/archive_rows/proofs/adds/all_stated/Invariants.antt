@@ -1,5 +1,5 @@
 use Rattle.std.proofs.Common.{ℕ, List, Some}
-use Rattle.pm_format.specs.MemMedium.{held}
+use Rattle.byte_media.specs.MemMedium.{held}
 use Rattle.pm_format.specs.Options.{Options}
 use Rattle.pm_writer.specs.Writing.{Writes}
 use Rattle.archive_rows.proofs.adds.all_stated.Given as goal

@@ -1,7 +1,7 @@
 use Rattle.std.proofs.Common.{◌≡◌, ◌+◌, true, Some, sym, ◌∙◌, subst, rules}
 use Rattle.std.specs.Str.{bytes_eq}
 use Rattle.tile_hash.specs.Xxh3.{xxh3_64}
-use Rattle.pm_format.specs.Media.{written}
+use Rattle.byte_media.specs.Media.{written}
 use Rattle.pm_writer.specs.Contents.{first_of, in_span}
 use Rattle.pm_writer.specs.Pieces.{BothTold}
 use Rattle.pm_writer.proofs.ContentPlaces.{first_is, fresh_known}

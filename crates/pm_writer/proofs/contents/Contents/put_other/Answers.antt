@@ -1,6 +1,6 @@
 use Rattle.std.proofs.Common.{◌≡◌, ◌+◌, ◌++◌, None, Some, refl, sym, ap, ◌∙◌, subst, length, rules}
 use Rattle.std.specs.BTreeMap.{Updates, btree_map_len, get}
-use Rattle.pm_format.specs.Media.{written}
+use Rattle.byte_media.specs.Media.{written}
 use Rattle.pm_writer.specs.Contents.{content_cmp, found_in}
 use Rattle.pm_writer.specs.Pieces.{BothTold}
 use Rattle.pm_writer.proofs.ContentPlaces.{fresh_known, holds_other, holds_same, other_is, others_back, place_put}

@@ -2,7 +2,7 @@
 ghost use Rattle.std.specs.Prelude.{◌≡◌, ℕ, List, ◌≤◌, IfSome, Some, None};
 ghost use Rattle.std.specs.declared.option.Option.{Option};
 ghost use Rattle.tile_ids.specs.Counts.{Grew};
-ghost use Rattle.pm_format.specs.Media.{ReadAnswers, ReadExactAnswers, HasVersion, ReadCauses, ReadExactCauses};
+ghost use Rattle.byte_media.specs.Media.{ReadAnswers, ReadExactAnswers, HasVersion, ReadCauses, ReadExactCauses};
 
 use bytes::Bytes;
 use std::alloc::{AllocError, AllocFailed, Global};
@@ -113,7 +113,7 @@ pub trait Backend {
 
 impl From<AllocError> for ReadFault {
     ghost use Rattle.std.specs.Prelude.{◌≡◌};
-    ghost use Rattle.pm_format.specs.declared.backend.ReadFault.TheVariants.{OutOfMemory};
+    ghost use Rattle.byte_media.specs.declared.backend.ReadFault.TheVariants.{OutOfMemory};
 
     ghost from_gives = { λ _ e. e ≡ OutOfMemory };
 
@@ -124,7 +124,7 @@ impl From<AllocError> for ReadFault {
 
 impl<T: Drop> From<AllocFailed<T>> for ReadFault {
     ghost use Rattle.std.specs.Prelude.{◌≡◌};
-    ghost use Rattle.pm_format.specs.declared.backend.ReadFault.TheVariants.{OutOfMemory};
+    ghost use Rattle.byte_media.specs.declared.backend.ReadFault.TheVariants.{OutOfMemory};
 
     ghost from_gives = { λ _ e. e ≡ OutOfMemory };
 
@@ -135,7 +135,7 @@ impl<T: Drop> From<AllocFailed<T>> for ReadFault {
 
 impl From<OutOfMemory> for ReadFault {
     ghost use Rattle.std.specs.Prelude.{◌≡◌};
-    ghost use Rattle.pm_format.specs.declared.backend.ReadFault.TheVariants.{OutOfMemory};
+    ghost use Rattle.byte_media.specs.declared.backend.ReadFault.TheVariants.{OutOfMemory};
 
     ghost from_gives = { λ _ e. e ≡ OutOfMemory };
 

@@ -2,7 +2,7 @@
 ghost use Rattle.std.specs.Prelude.{◌≡◌, ◌≤◌, ◌+◌, ◌<◌, ◌^◌, IfOk, IfErr, OnOk, OnErr, IsErrOf, None, length, vec_len};
 ghost use Rattle.std.specs.Io.KnownBytes.{Appends};
 ghost use Rattle.tile_ids.specs.Counts.{Grew, Rose};
-ghost use Rattle.pm_format.specs.Media.{EndsBelow};
+ghost use Rattle.byte_media.specs.Media.{EndsBelow};
 
 use crate::{Backend, BackendResponse, FileBackend, Medium, MediumFault, ReadFault, WriteFault};
 use std::alloc::Global;

@@ -1,6 +1,6 @@
 -- no more came than the buffer has room for
 use Rattle.std.proofs.Common.{◌≤◌, length}
-use Rattle.pm_format.proofs.file_backend.fill.Given as goal
+use Rattle.byte_media.proofs.file_backend.fill.Given as goal
 
 abbrev pub invariant-loop : goal.invariant-loop
 invariant-loop l = l.got ≤ length l.buffer

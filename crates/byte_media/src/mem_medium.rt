@@ -1,8 +1,8 @@
 // A medium in memory. The calls that are listed fail.
 ghost use Rattle.std.specs.Prelude.{◌≡◌, [], ◌≤◌, ◌<◌, ◌+◌, ◌↔◌, IfOk, OnOk, OnErr, IsErrOf, IsTrue, is_err, Some, None, length};
 ghost use Rattle.tile_ids.specs.Counts.{Grew};
-ghost use Rattle.pm_format.specs.Media.{written, WriteGives, IsLength, IsWithin, ReadAnswers, ReadExactAnswers, HasVersion};
-ghost use Rattle.pm_format.specs.MemMedium.{version_at, held, version_texts, call_count, fault_count, read_count, failing_calls, next_fails, called, read_called};
+ghost use Rattle.byte_media.specs.Media.{written, WriteGives, IsLength, IsWithin, ReadAnswers, ReadExactAnswers, HasVersion};
+ghost use Rattle.byte_media.specs.MemMedium.{version_at, held, version_texts, call_count, fault_count, read_count, failing_calls, next_fails, called, read_called};
 
 use crate::{Backend, BackendResponse, Medium, MediumFault, ReadFault, WriteFault};
 use bytes::Bytes;

@@ -1,7 +1,7 @@
 -- Pieces that are written over bytes.
 use Rattle.std.proofs.Common.{◌≡◌, ℕ, ◌+◌, ◌≤◌, List, [], length, take, sym, arith}
 use Rattle.std.proofs.lemmas.List.{take-append-drop}
-use Rattle.pm_format.specs.Media.{written}
+use Rattle.byte_media.specs.Media.{written}
 
 pub written_nothing : (b : List ℕ) (at : ℕ) → written b at [] ≡ b
 written_nothing b at = let e : at + 0 ≡ at = omega arith in rw e (take-append-drop at b)

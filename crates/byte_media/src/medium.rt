@@ -1,7 +1,7 @@
 // What is written to, and read back from: bytes at places.
 ghost use Rattle.std.specs.Prelude.{◌≡◌, ◌≤◌, ◌<◌, ◌^◌, IfSome, OnErr, IsErrOf, is_some};
 ghost use Rattle.tile_ids.specs.Counts.{Rose};
-ghost use Rattle.pm_format.specs.Media.{IsWithin, EndsBelow, WriteLeaves, IsLength};
+ghost use Rattle.byte_media.specs.Media.{IsWithin, EndsBelow, WriteLeaves, IsLength};
 
 use crate::Backend;
 use std::alloc::AllocError;
@@ -51,7 +51,7 @@ pub trait Medium: Backend {
 
 impl From<AllocError> for WriteFault {
     ghost use Rattle.std.specs.Prelude.{◌≡◌};
-    ghost use Rattle.pm_format.specs.declared.medium.WriteFault.TheVariants.{OutOfMemory};
+    ghost use Rattle.byte_media.specs.declared.medium.WriteFault.TheVariants.{OutOfMemory};
 
     ghost from_gives = { λ _ e. e ≡ OutOfMemory };
 

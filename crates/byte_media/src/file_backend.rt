@@ -1,7 +1,7 @@
 // A backend over a file of the system.
 ghost use Rattle.std.specs.Prelude.{◌≡◌, ◌≤◌, ◌+◌, IfOk, IfErr, IsErrOf, None, length, vec_len};
 ghost use Rattle.tile_ids.specs.Counts.{Grew, Rose};
-ghost use Rattle.pm_format.specs.Media.{IsPartFault};
+ghost use Rattle.byte_media.specs.Media.{IsPartFault};
 
 use crate::{Backend, BackendResponse, MediumFault, ReadFault};
 use bytes::Bytes;

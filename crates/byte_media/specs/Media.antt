@@ -3,12 +3,12 @@ use Rattle.std.specs.Prelude.{ℕ, ◌≡◌, ◌≢◌, ◌+◌, ◌≤◌, ◌
 use Rattle.std.specs.declared.option.Option.{Option}
 use Rattle.std.specs.declared.result.Result.{Result}
 use Rattle.tile_ids.specs.Counts.{Rose}
-use Rattle.pm_format.specs.declared.backend.BackendResponse.{BackendResponse}
-use Rattle.pm_format.specs.declared.backend.ReadFault.{ReadFault}
-use Rattle.pm_format.specs.declared.backend.ReadFault.TheVariants.{Fault, PastEnd, Short, OutOfMemory}
-use Rattle.pm_format.specs.declared.medium.WriteFault.{WriteFault}
-use Rattle.pm_format.specs.declared.medium.WriteFault.TheVariants as writes
-use Rattle.pm_format.specs.declared.medium.MediumFault.{MediumFault}
+use Rattle.byte_media.specs.declared.backend.BackendResponse.{BackendResponse}
+use Rattle.byte_media.specs.declared.backend.ReadFault.{ReadFault}
+use Rattle.byte_media.specs.declared.backend.ReadFault.TheVariants.{Fault, PastEnd, Short, OutOfMemory}
+use Rattle.byte_media.specs.declared.medium.WriteFault.{WriteFault}
+use Rattle.byte_media.specs.declared.medium.WriteFault.TheVariants as writes
+use Rattle.byte_media.specs.declared.medium.MediumFault.{MediumFault}
 
 -- Over told bytes: the bytes from the offset, as many as asked and there; PastEnd only where the offset is above their length; Short never.
 -- So where the offset is above their length only PastEnd is left, but for want of memory and a fault.

@@ -3,7 +3,7 @@ use Rattle.std.specs.Prelude.{ℕ, ◌-◌, Bool, List, length, slice_get, min}
 use Rattle.std.specs.declared.option.Option.{Option}
 use Rattle.tile_ids.specs.Counts.{one_more}
 use Rattle.tile_ids.specs.FailingCalls as failing
-use Rattle.pm_format.specs.declared.mem_medium.MemMedium.{MemMedium}
+use Rattle.byte_media.specs.declared.mem_medium.MemMedium.{MemMedium}
 
 -- the text of the read with this number: the n-th, or the last one beyond
 abbrev pub version_at : List (List ℕ) → ℕ → Option (List ℕ)
