@@ -410,6 +410,23 @@ def backends():
     refused('ids coord 0 0')
 
 
+def gathered():
+    """Reads at a border, behind which 20 bytes are gathered: those that they alone answer, those that end at the border, and those that have them written first."""
+    held = bytes(range(20))
+    row('disk open gathered')
+    row('open gathered')
+    row('disk call write 0 ' + word(held), 'Ok(())')
+    for name in ('read', 'exact'):
+        for first, end, is_written in [(0, 20, False), (0, 1, False), (7, 11, False), (19, 20, False), (-9, 0, False), (-9, -4, False), (-1, 1, True), (-5, 20, True), (19, 21, True), (20, 21, True), (21, 22, True)]:
+            border = len(held)
+            row('disk call len', f'Ok({border})')
+            piece = bytes((border + i) % 251 for i in range(20))
+            row(f'disk call write {border} {word(piece)}', 'Ok(())')
+            held += piece
+            row(f'disk call {name} {border + first} {end - first}', read_of(held, border + first, end - first, name == 'exact'))
+            row(f'file read {border - 2} 40', read_of(held if is_written else held[:border], border - 2, 40, False))
+
+
 # The answers follow from what was written before, and from what Linux says of a full device and of folders.
 def files():
     for line in open(os.path.join(HERE, 'files.txt')):
@@ -418,7 +435,7 @@ def files():
 
 
 def main():
-    for rows in (ids, indexes, values, digests, varints, directories, hostile_directories, headers, documents, fields, labels, media, backends, files):
+    for rows in (ids, indexes, values, digests, varints, directories, hostile_directories, headers, documents, fields, labels, media, backends, gathered, files):
         rows()
     ROWS.write_data('one_tile.pmtiles', ONE)
     ROWS.write()

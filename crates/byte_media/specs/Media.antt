@@ -1,5 +1,5 @@
 -- what calls of a backend and a medium answer and leave
-use Rattle.std.specs.Prelude.{ℕ, ◌≡◌, ◌≢◌, ◌+◌, ◌≤◌, ◌<◌, List, ◌++◌, length, take, drop, Some, None, Ok, Err, IfOk}
+use Rattle.std.specs.Prelude.{ℕ, ◌≡◌, ◌≢◌, ◌+◌, ◌-◌, ◌≤◌, ◌<◌, List, ◌++◌, length, take, drop, Some, None, Ok, Err, IfOk}
 use Rattle.std.specs.declared.option.Option.{Option}
 use Rattle.std.specs.declared.result.Result.{Result}
 use Rattle.tile_ids.specs.Counts.{Rose}
@@ -72,6 +72,10 @@ WriteLeaves offset piece result None None = Unit {0}
 WriteLeaves offset piece result None (Some new) = ⊥
 WriteLeaves offset piece result (Some old) None = ⊥
 WriteLeaves offset piece result (Some old) (Some new) = WriteGives offset piece result old new
+
+-- a part of bytes that lie from a place on is the range of an offset and a number
+abbrev pub IsPart : List ℕ → ℕ → ℕ → ℕ → List ℕ → Type 0
+IsPart bytes from offset n part = (from ≤ offset) × (offset + n ≤ from + length bytes) × (part ≡ take n (drop (offset - from) bytes))
 
 -- why a read of bytes that end at most there gives none: Short never, PastEnd not where that is the front
 abbrev pub IsPartFault : ℕ → ReadFault → Type 0

@@ -1,11 +1,12 @@
 // A medium over a file of the system.
-ghost use Rattle.std.specs.Prelude.{◌≡◌, ◌≤◌, ◌+◌, ◌<◌, ◌^◌, IfOk, IfErr, OnOk, OnErr, IsErrOf, None, length, vec_len};
+ghost use Rattle.std.specs.Prelude.{◌≡◌, ◌≤◌, ◌+◌, ◌<◌, ◌^◌, IfOk, IfErr, IfSome, OnOk, OnErr, IsErrOf, MatchOption, None, length, vec_len};
 ghost use Rattle.std.specs.Io.KnownBytes.{Appends};
 ghost use Rattle.tile_ids.specs.Counts.{Grew, Rose};
-ghost use Rattle.byte_media.specs.Media.{EndsBelow};
+ghost use Rattle.byte_media.specs.Media.{EndsBelow, IsPart};
 
 use crate::{Backend, BackendResponse, FileBackend, Medium, MediumFault, ReadFault, WriteFault};
-use std::alloc::Global;
+use bytes::Bytes;
+use std::alloc::{AllocError, Global};
 use std::fs::File;
 use std::io::{Seek, SeekFrom, Write};
 
@@ -15,7 +16,8 @@ const ROOM: usize = 262_144;
 /// A medium over a file. It tells nothing, and counts its faults.
 ///
 /// A piece that begins where the last one ended is gathered, up to 262,144 bytes. What is gathered is written before any other piece,
-/// which is written through at once, before each read, by `len` and by `flush`, and where the medium is dropped.
+/// which is written through at once, by `len` and by `flush`, where the medium is dropped, and before a read, but for two kinds:
+/// a read of gathered bytes alone is answered from memory, and one that ends at or before the first of them reads the file as it is.
 /// So pieces reach the file in their order, and one that doesn't begin where the last one ended has reached it when `write_at` answers.
 /// Where gathered bytes can't be written, that call fails and they are gone. The file then has what reached it before and perhaps a front of
 /// them, and each later call fails, so that nothing is written behind what is missing.
@@ -100,20 +102,56 @@ impl FileMedium {
         Ok(())
     }
 
-    // Writes what is gathered before a read. A read that is hindered by that is counted here.
-    fn begin_read(&mut self) -> Result<(), ReadFault>
+    // A read of gathered bytes alone, from memory. It is counted here, and any other one isn't.
+    fn read_gathered(
+        &mut self,
+        alloc: Global,
+        offset: u64,
+        count: u64,
+    ) -> Result<Option<BackendResponse>, AllocError>
+        ensures found { IfOk result (λ found. IfSome found (λ response. IsPart self.old.gathered.items self.old.from offset count response.bytes)) }
+        ensures counted { IfOk result (λ found. MatchOption found (self.new.backend.reads ≡ self.old.backend.reads) (λ _. Grew self.old.backend.reads self.new.backend.reads 1)) }
+        ensures hindered { OnErr result (Grew self.old.backend.reads self.new.backend.reads 1) }
+        ensures faults { self.new.backend.faults ≡ self.old.backend.faults }
+    {
+        let Some(part) = part_within(&self.gathered, self.from, offset, count) else {
+            return Ok(None);
+        };
+        self.backend.reads = self.backend.reads.saturating_add(1);
+        let bytes = Bytes::copy_from_slice(alloc, part)?;
+        Ok(Some(BackendResponse::new(bytes)))
+    }
+
+    // Writes what is gathered before a read, unless that ends before it. A read that is hindered by that is counted here.
+    fn begin_read(&mut self, offset: u64, count: u64) -> Result<(), ReadFault>
         ensures fault { IfErr result (λ fault. fault ≡ ReadFault.Fault) }
         ensures cause { OnErr result (Rose self.old.backend.faults self.new.backend.faults) }
         ensures faults { self.old.backend.faults ≤ self.new.backend.faults }
         ensures done { OnOk result (self.new.backend.reads ≡ self.old.backend.reads) }
         ensures hindered { OnErr result (Grew self.old.backend.reads self.new.backend.reads 1) }
     {
+        let ends_before = count <= self.from && offset <= self.from - count;
+        if ends_before && !self.lost {
+            return Ok(());
+        }
         if self.flush().is_err() {
             self.backend.reads = self.backend.reads.saturating_add(1);
             return Err(ReadFault::Fault);
         }
         Ok(())
     }
+}
+
+// The part of what is gathered from a place on that a range is, where it begins and ends there.
+fn part_within(gathered: &[u8], from: u64, offset: u64, count: u64) -> Option<&[u8]>
+    ensures { IfSome result (λ part. IsPart gathered.now from offset count part.now) }
+{
+    let held = gathered.len() as u64;
+    if offset < from || offset - from >= held || count > held - (offset - from) {
+        return None;
+    }
+    let at = (offset - from) as usize;
+    Some(&gathered[at..at + count as usize])
 }
 
 // Writes a whole piece where the writer stands.
@@ -164,7 +202,11 @@ impl Backend for FileMedium {
         offset: u64,
         length: u64,
     ) -> Result<BackendResponse, ReadFault> {
-        self.begin_read()?;
+        let found = self.read_gathered(alloc, offset, length)?;
+        if let Some(response) = found {
+            return Ok(response);
+        }
+        self.begin_read(offset, length)?;
         self.backend.read(alloc, offset, length)
     }
 
@@ -174,7 +216,11 @@ impl Backend for FileMedium {
         offset: u64,
         length: u64,
     ) -> Result<BackendResponse, ReadFault> {
-        self.begin_read()?;
+        let found = self.read_gathered(alloc, offset, length)?;
+        if let Some(response) = found {
+            return Ok(response);
+        }
+        self.begin_read(offset, length)?;
         self.backend.read_exact(alloc, offset, length)
     }
 }
