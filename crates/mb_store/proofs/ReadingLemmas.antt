@@ -1,7 +1,9 @@
 -- Rows that are read one after another.
-use Rattle.std.proofs.Common.{◌≡◌, ℕ, ◌+◌, ◌-◌, ◌<◌, ◌^◌, ◌++◌, List, [], ◌∷◌, min, suc, sum_by, take, append_assoc, sym, ◌∙◌, ap, arith}
+use Rattle.std.proofs.Common.{◌≡◌, ℕ, ◌-◌, ◌<◌, ◌++◌, List, [], ◌∷◌, suc, take, drop, append_assoc, append-nil, sym, ◌∙◌, ap, arith}
+use Rattle.std.proofs.Math.Seq.{take-nil}
+use Rattle.std.proofs.lemmas.List.{drop-map}
 use Rattle.mb_tables.specs.declared.cell.Cell.{Cell}
-use Rattle.mb_store.specs.Sizes.{row_size}
+use Rattle.mb_store.specs.StoredRow.{Stored, rows_of}
 
 -- one more row of a page
 pub page_next : (page : List (List Cell)) (left : ℕ) (row : List Cell) (old rest all : List (List Cell)) → 0 < left → old ≡ row ∷ rest → page ++ take left old ≡ all → (page ++ row ∷ []) ++ take (left - 1) rest ≡ all
@@ -10,6 +12,14 @@ page_next page left row old rest all some front now =
     append_assoc page (row ∷ []) (take (left - 1) rest)
     ∙ (ap (λ xs. page ++ xs) (sym (ap (take left) front ∙ ap (λ n. take n (row ∷ rest)) next)) ∙ now)
 
--- a sum to which no row is added any more
-pub whole_sum : (sum size : ℕ) (rest all : List (List Cell)) → rest ≡ [] → sum < 2 ^ 64 → min (sum + sum_by row_size rest) (2 ^ 64 - 1) ≡ min (size + sum_by row_size all) (2 ^ 64 - 1) → sum ≡ min (size + sum_by row_size all) (2 ^ 64 - 1)
-whole_sum sum size rest all none fits now = let zero : sum_by row_size rest ≡ 0 = ap (sum_by row_size) none in omega (arith, zero, fits, now)
+-- no row is wanted any more, or none is there
+pub none_wanted : (left : ℕ) (rest : List Stored) → left ≡ 0 → take left (rows_of rest) ≡ []
+none_wanted left rest none = ap (λ n. take n (rows_of rest)) none
+
+pub none_there : (left : ℕ) (rest : List Stored) → rest ≡ [] → take left (rows_of rest) ≡ []
+none_there left rest none = ap (λ keys. take left (rows_of keys)) none ∙ take-nil left
+
+-- a page to which no row comes any more
+pub page_whole : (page : List (List Cell)) (left limit from : ℕ) (rest past keys : List Stored) → past ≡ drop from keys → take left (rows_of rest) ≡ [] → page ++ take left (rows_of rest) ≡ take limit (rows_of past) → page ≡ take limit (drop from (rows_of keys))
+page_whole page left limit from rest past keys is none now =
+    sym (append-nil page) ∙ (ap (λ xs. page ++ xs) (sym none) ∙ (now ∙ (ap (λ ks. take limit (rows_of ks)) is ∙ ap (take limit) (sym (drop-map (λ (s : Stored). s.0) from keys)))))

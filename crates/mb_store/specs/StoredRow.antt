@@ -1,5 +1,5 @@
 -- Rows as they are stored: each with the number of its arrival, in the order of their keys.
-use Rattle.std.specs.Prelude.{ℕ, pos, ◌&&◌, Bool, cond, nat_lt, List, [], ◌∷◌, length, map, take}
+use Rattle.std.specs.Prelude.{ℕ, pos, ◌&&◌, Bool, cond, nat_lt, List, [], ◌∷◌, ◌++◌, Option, Some, None, length, map, take}
 use Rattle.std.specs.declared.cmp.Ordering.{Ordering}
 use Rattle.std.specs.Ordering.{is_eq, nat_cmp, ordering_then}
 use Rattle.std.specs.Cmp.{IsTotalOrder, nat_cmp_total}
@@ -8,6 +8,8 @@ use Rattle.mb_tables.specs.Cell.{cells_cmp}
 use Rattle.mb_tables.specs.CellOrder.{cells_total}
 use Rattle.mb_tables.specs.declared.cell.Cell.{Cell}
 use Rattle.mb_tables.specs.declared.cell.Cell.TheVariants.{Int}
+use Rattle.mb_store.specs.declared.stored_row.StoredCells.{StoredCells}
+use Rattle.mb_store.specs.declared.stored_row.StoredCells.TheVariants.{All, Last}
 
 -- the cells of a row, and the number of its arrival
 abbrev pub Stored : Type 0
@@ -20,6 +22,16 @@ own_key row = take (cond (nat_lt 2 (length row)) 3 1) row
 -- three numbers as cells
 abbrev pub numbers_cells : ℕ × ℕ × ℕ → List Cell
 numbers_cells n = Int (pos n.0) ∷ Int (pos n.1) ∷ Int (pos n.2) ∷ []
+
+-- the cells of a row whose numbers are these: they stand in front of its last one, or all cells are kept
+abbrev pub cells_in : ℕ × ℕ × ℕ → StoredCells → List Cell
+cells_in numbers (Last cell) = numbers_cells numbers ++ cell ∷ []
+cells_in numbers (All row) = row
+
+-- the cells of numbers, where there are any
+abbrev pub in_front : Option (ℕ × ℕ × ℕ) → List Cell
+in_front None = []
+in_front (Some numbers) = numbers_cells numbers
 
 -- by the keys' cells, and then by arrival
 abbrev pub stored_cmp : Stored → Stored → Ordering

@@ -12,7 +12,6 @@ pub mod laws;
 mod mem_store;
 mod mem_tables;
 mod reading;
-mod rows;
 mod store;
 mod stored_row;
 mod table_key;
@@ -33,5 +32,4 @@ pub use mb_tables::{
     is_normalized_tables_type, missing_tile_index,
 };
 pub use mem_store::MemStore;
-pub use rows::Rows;
 pub use store::{StoreError, TileStore};

@@ -13,7 +13,6 @@ ghost use Rattle.mb_store.specs.Store.{created, is_duplicate, no_rows, with_row}
 
 use crate::by_table::ByTable;
 use crate::mem_tables::MemTables;
-use crate::rows::Rows;
 use crate::{
     Changes, MbtError, MbtResult, MbtType, Row, RowKey, StoreError, TableDesc, TableName,
     TileStore, committing, describing, mem_tables, reading, table_rows,
@@ -91,19 +90,11 @@ impl MemStore {
         mem_tables::push(&mut self.tables, table, keyed, row)
     }
 
-    /// Goes through the rows of a table, in the order of their keys.
-    pub fn table_rows(&self, table: TableName) -> Rows<'_>
-        ensures rows { result ≡ (told_of self.now).rows table }
-        ensures order { IsInOrder table result }
-    {
-        self.tables.of(table).iter()
-    }
-
     /// The rows of a table stand in the order of their keys, whatever was pushed and committed.
     pub fn rows_in_order(&self, table: TableName)
         ensures { IsInOrder table ((told_of self.now).rows table) }
     {
-        let _ = self.table_rows(table);
+        let _ = self.tables.of(table).iter();
     }
 
     /// From here on the calls of a store with these numbers fail, counted from 1 over all calls that this store has been asked.
@@ -183,7 +174,8 @@ impl TileStore for MemStore {
         if self.failing.fails() {
             return Err(StoreError::Fault);
         }
-        Ok(reading::page_of(alloc, self.table_rows(table), from, limit)?)
+        let rows = self.tables.of(table);
+        Ok(reading::page_of(alloc, rows, from, limit)?)
     }
 
     fn find(

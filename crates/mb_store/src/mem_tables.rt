@@ -83,7 +83,7 @@ pub(crate) fn push(tables: &mut MemTables, table: TableName, keyed: bool, row: R
 fn with_table(size: u64, rows: &TableRows) -> u64
     ensures { result ≡ min (size + sum_by row_size (rows_in rows.now)) (2 ^ 64 - 1) }
 {
-    with_rows(size, rows.iter())
+    with_rows(size, rows)
 }
 
 // The sizes of all rows of all tables, at most the greatest count.

@@ -1,14 +1,17 @@
 // Reading rows in the order of their keys.
 ghost use Rattle.std.specs.Prelude.{◌≡◌, ◌+◌, ◌-◌, ◌^◌, IfOk, drop, min, sum_by, take};
 ghost use Rattle.mb_store.specs.Sizes.{cell_size, row_size};
+ghost use Rattle.mb_store.specs.TableRows.{rows_in};
 
-use crate::rows::Rows;
+use crate::stored_row::StoredRow;
+use crate::table_rows::TableRows;
 use crate::{Cell, Row};
 use std::alloc::Global;
+use std::collections::btree_set::Iter;
 use tile_ids::OutOfMemory;
 
 // The rows behind the first ones.
-fn past(rows: Rows<'_>, count: u64) -> Rows<'_>
+fn past(rows: Iter<'_, StoredRow>, count: u64) -> Iter<'_, StoredRow>
     ensures { result ≡ drop count rows.entry }
 {
     let mut rest = rows;
@@ -25,20 +28,20 @@ fn past(rows: Rows<'_>, count: u64) -> Rows<'_>
 // Copies of the rows from a place on, as many as there are, up to a limit.
 pub(crate) fn page_of(
     alloc: Global,
-    rows: Rows<'_>,
+    rows: &TableRows,
     from: u64,
     limit: u64,
 ) -> Result<Vec<Row>, OutOfMemory>
-    ensures { IfOk result (λ page. page.items ≡ take limit (drop from rows.entry)) }
+    ensures { IfOk result (λ page. page.items ≡ take limit (drop from (rows_in rows.now))) }
 {
-    let mut rest = past(rows, from);
-    let mut page = Vec::new(alloc);
+    let mut rest = past(rows.iter(), from);
+    let mut page = Vec::with_capacity(alloc, rest.len().min(limit as usize))?;
     let mut left = limit;
     while left > 0 {
         let Some(row) = rest.next() else {
             return Ok(page);
         };
-        page.push(row.try_clone(alloc)?)?;
+        page.push(row.to_row(alloc)?)?;
         left -= 1;
     }
     Ok(page)
@@ -55,25 +58,34 @@ fn size_of_cell(cell: &Cell) -> u64
     }
 }
 
-// A size and that of a row, at most the greatest count.
-fn with_row(size: u64, row: &[Cell]) -> u64
-    ensures { result ≡ min (size + sum_by cell_size row.now) (2 ^ 64 - 1) }
+// A size and that of cells, at most the greatest count.
+fn with_cells(size: u64, cells: &[Cell]) -> u64
+    ensures { result ≡ min (size + sum_by cell_size cells.now) (2 ^ 64 - 1) }
 {
     let mut sum = size;
-    for cell in row {
+    for cell in cells {
         sum = sum.saturating_add(size_of_cell(cell));
     }
     sum
 }
 
-// A size and that of rows, at most the greatest count.
-pub(crate) fn with_rows(size: u64, rows: Rows<'_>) -> u64
-    ensures { result ≡ min (size + sum_by row_size rows.entry) (2 ^ 64 - 1) }
+// A size and that of a row, at most the greatest count.
+fn with_row(size: u64, row: &StoredRow) -> u64
+    ensures { result ≡ min (size + row_size row.now.0) (2 ^ 64 - 1) }
 {
-    let mut rest = rows;
+    let (numbers, cells) = row.parts();
+    let numbers_size = if numbers.is_some() { 24 } else { 0 };
+    with_cells(size.saturating_add(numbers_size), cells)
+}
+
+// A size and that of rows, at most the greatest count.
+pub(crate) fn with_rows(size: u64, rows: &TableRows) -> u64
+    ensures { result ≡ min (size + sum_by row_size (rows_in rows.now)) (2 ^ 64 - 1) }
+{
+    let mut rest = rows.iter();
     let mut sum = size;
     while let Some(row) = rest.next() {
-        sum = with_row(sum, row.cells());
+        sum = with_row(sum, row);
     }
     sum
 }

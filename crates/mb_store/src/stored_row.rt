@@ -1,37 +1,46 @@
 // Rows as they are stored, in the order of their keys.
-ghost use Rattle.std.specs.Prelude.{◌≡◌, [], ◌∷◌, IfOk, IfSome, Some, refl};
+ghost use Rattle.std.specs.Prelude.{◌≡◌, [], ◌∷◌, ◌++◌, IfOk, IfSome, Some, refl};
 ghost use Rattle.std.specs.Ordering.{eq_by_cmp};
 ghost use Rattle.std.specs.Cmp.{eq_by_cmp_equiv, partial_equiv_from_equiv, partial_order_from_total};
 ghost use Rattle.mb_tables.specs.Cell.{cells_cmp};
 ghost use Rattle.mb_tables.specs.Key.{key_cells};
-ghost use Rattle.mb_store.specs.StoredRow.{is_early, numbers_cells, own_key, stored_cmp, stored_total};
+ghost use Rattle.mb_store.specs.StoredRow.{cells_in, in_front, is_early, numbers_cells, own_key, stored_cmp, stored_total};
 
 use crate::{Cell, Row, RowKey};
 use std::alloc::Global;
 use std::cmp::Ordering;
 use std::marker::Model;
+use std::slice;
 use tile_ids::OutOfMemory;
 
+// The cells of a stored row: the one behind its numbers, or all.
+#[derive(Debug, Drop)]
+pub(crate) enum StoredCells {
+    Last(Cell),
+    All(Row),
+}
+
 // A row and the number of its arrival. Stored rows are ordered by the cells of their keys, and those of equal keys by their arrival. Where the
-// key is three small numbers, as that of a place, they lie in the stored row itself, so that two such rows are compared without a look at their cells.
+// key is three small numbers, as that of a place, they lie in the stored row itself, so that two such rows are compared without a look at their cells. So does
+// the only cell behind them, as that of a tile's contents: such a row takes no memory of its own but that of this cell.
 #[derive(Debug, Drop)]
 pub(crate) struct StoredRow {
     numbers: (u32, u32, u32),
     is_numbered: bool,
     arrival: u64,
-    row: Row,
+    cells: StoredCells,
 }
 
 impl Model for StoredRow {
     ghost use Rattle.std.specs.Prelude.{◌≡◌, ℕ, List, true};
     ghost use Rattle.mb_tables.specs.declared.cell.Cell.{Cell};
-    ghost use Rattle.mb_store.specs.StoredRow.{numbers_cells, own_key};
+    ghost use Rattle.mb_store.specs.StoredRow.{cells_in, numbers_cells, own_key};
 
     ghost Value = { List Cell × ℕ };
 
-    ghost view = { λ s. (s.row, s.arrival) };
+    ghost view = { λ s. (cells_in s.numbers s.cells, s.arrival) };
 
-    ghost invariant = { λ s. s.is_numbered ≡ true → own_key s.row ≡ numbers_cells s.numbers };
+    ghost invariant = { λ s. s.is_numbered ≡ true → own_key (cells_in s.numbers s.cells) ≡ numbers_cells s.numbers };
 }
 
 // The cells of a row's key, whose number the row's width tells.
@@ -62,6 +71,44 @@ fn numbers_of(row: &[Cell]) -> Option<(u32, u32, u32)>
         }
         _ => None,
     }
+}
+
+// Three numbers as cells.
+fn number_cells(numbers: (u32, u32, u32)) -> [Cell; 3]
+    ensures { result ≡ numbers_cells numbers }
+{
+    [
+        Cell::Int(i64::from(numbers.0)),
+        Cell::Int(i64::from(numbers.1)),
+        Cell::Int(i64::from(numbers.2)),
+    ]
+}
+
+// What is kept of the cells of a row whose key is three numbers.
+fn behind_numbers(numbers: (u32, u32, u32), row: Row) -> StoredCells
+    requires { own_key row ≡ numbers_cells numbers }
+    ensures { cells_in numbers result ≡ row }
+{
+    if row.cells().len() != 4 {
+        return StoredCells::All(row);
+    }
+    let mut cells = row.into_cells();
+    let Some(last) = cells.pop() else {
+        unreachable!()
+    };
+    StoredCells::Last(last)
+}
+
+// The row of three numbers and a cell.
+fn row_of(alloc: Global, numbers: (u32, u32, u32), last: &Cell) -> Result<Row, OutOfMemory>
+    ensures { IfOk result (λ row. row ≡ numbers_cells numbers ++ last.now ∷ []) }
+{
+    let mut cells = Vec::with_capacity(alloc, 4)?;
+    cells.push(Cell::Int(i64::from(numbers.0)))?;
+    cells.push(Cell::Int(i64::from(numbers.1)))?;
+    cells.push(Cell::Int(i64::from(numbers.2)))?;
+    cells.push(last.try_clone(alloc)?)?;
+    Ok(Row::new(cells))
 }
 
 // The order of three numbers and three others.
@@ -101,13 +148,13 @@ impl StoredRow {
                 numbers,
                 is_numbered: true,
                 arrival,
-                row,
+                cells: behind_numbers(numbers, row),
             },
             None => StoredRow {
                 numbers: (0, 0, 0),
                 is_numbered: false,
                 arrival,
-                row,
+                cells: StoredCells::All(row),
             },
         }
     }
@@ -119,11 +166,24 @@ impl StoredRow {
         Ok(StoredRow::new(Row::new(cells_of(alloc, key)?), 0))
     }
 
-    // The row.
-    pub fn row(&self) -> &Row
-        ensures { result.now ≡ self.now.0 }
+    // A copy of the row.
+    pub fn to_row(&self, alloc: Global) -> Result<Row, OutOfMemory>
+        ensures { IfOk result (λ row. row ≡ self.now.0) }
     {
-        &self.row
+        match &self.cells {
+            StoredCells::Last(last) => row_of(alloc, self.numbers, last),
+            StoredCells::All(row) => row.try_clone(alloc),
+        }
+    }
+
+    // The numbers that lie in the stored row itself, and the other cells.
+    pub fn parts(&self) -> (Option<(u32, u32, u32)>, &[Cell])
+        ensures { self.now.0 ≡ in_front result.0 ++ result.1.now }
+    {
+        match &self.cells {
+            StoredCells::Last(last) => (Some(self.numbers), slice::from_ref(last)),
+            StoredCells::All(row) => (None, row.cells()),
+        }
     }
 
     // The number of its arrival.
@@ -147,7 +207,22 @@ impl StoredRow {
         if self.is_numbered && other.is_numbered {
             return compare_numbers(self.numbers, other.numbers);
         }
-        own_key(self.row.cells()).cmp(&own_key(other.row.cells()))
+        match (&self.cells, &other.cells) {
+            (StoredCells::All(row), StoredCells::All(other)) => {
+                own_key(row.cells()).cmp(&own_key(other.cells()))
+            }
+            (StoredCells::All(row), StoredCells::Last(_)) => {
+                own_key(row.cells()).cmp(&number_cells(other.numbers).as_slice())
+            }
+            (StoredCells::Last(_), StoredCells::All(other)) => {
+                number_cells(self.numbers)
+                    .as_slice()
+                    .cmp(&own_key(other.cells()))
+            }
+            (StoredCells::Last(_), StoredCells::Last(_)) => {
+                compare_numbers(self.numbers, other.numbers)
+            }
+        }
     }
 
     // Whether the row has the key of another, and came before a number.

@@ -11,12 +11,12 @@ ghost use Rattle.mb_store.specs.StoredRow.{is_early, stored_cmp};
 ghost use Rattle.mb_store.specs.TableRows.{AreStored, has_equal, rows_in};
 ghost use Rattle.mb_tables.specs.declared.table.TableName.{TableName};
 
-use crate::rows::Rows;
 use crate::stored_row::StoredRow;
 use crate::{Cell, MbtError, MbtResult, Row, RowKey, TableName};
 use mb_tables::key_of;
 use std::alloc::Global;
 use std::collections::BTreeSet;
+use std::collections::btree_set::Iter;
 use tile_ids::OutOfMemory;
 
 // The rows of a table, and the number of the row that comes next.
@@ -46,11 +46,11 @@ impl TableRows {
     }
 
     // The rows in the order of their keys.
-    pub fn iter(&self) -> Rows<'_>
-        ensures rows { result ≡ rows_in self.now }
+    pub fn iter(&self) -> Iter<'_, StoredRow>
+        ensures rows { result ≡ self.now.stored.keys }
         ensures order { (table : TableName) → AreStored table self.now → IsInOrder table (rows_in self.now) }
     {
-        Rows::new(self.stored.iter())
+        self.stored.iter()
     }
 }
 
@@ -87,7 +87,7 @@ pub(crate) fn find_in(
 {
     let key = StoredRow::of_key(alloc, key)?;
     match first_early(&key, rows.next, &rows.stored) {
-        Some(found) => Ok(Some(found.row().try_clone(alloc)?)),
+        Some(found) => Ok(Some(found.to_row(alloc)?)),
         None => Ok(None),
     }
 }

@@ -6,7 +6,7 @@ use Rattle.mb_store.proofs.table_rows.find_in.Goals as goal
 
 pub returns-in-Some : goal.returns-in-Some
 returns-in-Some c =
-    ap Some (c.in_ok-try_clone-in-Some.ensures ∙ c.row.ensures)
+    ap Some c.in_ok-to_row-in-Some.ensures
     ∙ sym (key_found_in c.args.table c.args.rows.now c.requires c.args.key.now c.in_ok-key.key c.in_ok-key.ensures c.first_early.result c.first_early.ensures
     ∙ ap (λ (o : Option (Bor Stored)). option_map (λ (s : Stored). s.0) (option_copied o)) c.in-Some.is)
 
