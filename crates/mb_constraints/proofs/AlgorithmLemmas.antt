@@ -10,7 +10,7 @@ use Rattle.mb_lists.proofs.Finding.{find_none}
 use Rattle.mb_lists.specs.Entries.{names_held}
 use Rattle.mb_lists.specs.Metadata.{name_entry, names_of}
 use Rattle.mb_lists.specs.declared.entries.StoredName.{StoredName}
-use Rattle.mb_load.specs.Algorithm.{algorithms, stored_algorithm}
+use Rattle.mb_constraints.specs.Algorithm.{algorithms, stored_algorithm}
 use Rattle.mb_tables.specs.declared.cell.Cell.{Cell}
 use Rattle.tile_hash.specs.Digest.{name_of}
 use Rattle.tile_hash.specs.declared.algorithm.HashAlgorithm.{HashAlgorithm}

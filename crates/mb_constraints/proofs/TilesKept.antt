@@ -10,14 +10,14 @@ use Rattle.mb_lists.specs.Entries.{content_at, id_at, nothing, place_at, place_o
 use Rattle.mb_lists.specs.FromRows.{AreIndexed, by_index, coord_in, index_by, own_content, own_tiles, rows_kept, stored, stored_by_id}
 use Rattle.mb_lists.specs.Keyed.{entries_by}
 use Rattle.mb_lists.specs.Refusals.{first_refused, unless}
-use Rattle.mb_load.specs.References.{missing_reference}
-use Rattle.mb_load.specs.TileRows.{bad_tile, dates_in, id_in, tile_in}
+use Rattle.mb_constraints.specs.References.{missing_reference}
+use Rattle.mb_constraints.specs.TileRows.{bad_tile, dates_in, id_in, tile_in}
 use Rattle.mb_lists.specs.declared.entries.Content.{Content}
 use Rattle.mb_lists.specs.declared.entries.Standing.TheVariants.{Kept}
 use Rattle.mb_lists.specs.declared.entries.StoredTile.{StoredTile}
 use Rattle.mb_lists.proofs.IdLemmas.{cell_under, id_present, id_under}
 use Rattle.mb_lists.proofs.PlaceLemmas.{place_is}
-use Rattle.mb_load.proofs.TileRowLemmas.{tile_parts}
+use Rattle.mb_constraints.proofs.TileRowLemmas.{tile_parts}
 use Rattle.mb_tables.proofs.CellLemmas.{cell_eq-Decides}
 use Rattle.mb_tables.specs.Cell.{cell_eq, is_null}
 use Rattle.mb_tables.specs.Tiles as tables

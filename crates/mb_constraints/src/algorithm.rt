@@ -1,7 +1,7 @@
 // The algorithm of a set's digests.
 ghost use Rattle.std.specs.Prelude.{◌≡◌, IfOk};
 ghost use Rattle.std.specs.Option.{option_copied};
-ghost use Rattle.mb_load.specs.Algorithm.{algorithm_by, algorithm_named, unknown_name};
+ghost use Rattle.mb_constraints.specs.Algorithm.{algorithm_by, algorithm_named, unknown_name};
 ghost use Rattle.mb_lists.specs.Refusals.{Tests};
 
 use mb_store::{MbtError, MbtResult};
@@ -17,7 +17,7 @@ fn algorithm_named(name: &str) -> Option<HashAlgorithm>
 }
 
 /// The algorithm that a stored name means, MD5 where none is stored.
-pub(crate) fn algorithm_by(alloc: Global, name: Option<&TextVal>) -> MbtResult<HashAlgorithm>
+pub fn algorithm_by(alloc: Global, name: Option<&TextVal>) -> MbtResult<HashAlgorithm>
     ensures tests { Tests (unknown_name (option_copied name.entry)) result }
     ensures algorithm { IfOk result (λ a. a ≡ algorithm_by (option_copied name.entry)) }
 {

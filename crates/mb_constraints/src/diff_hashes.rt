@@ -1,6 +1,6 @@
 // The tests of the digests of all tiles that a set, and a patch for it, have in their metadata.
 ghost use Rattle.std.specs.Prelude.{◌≡◌};
-ghost use Rattle.mb_load.specs.DiffHashes.{base_refused, patch_refused, refused_by, unless_forced};
+ghost use Rattle.mb_constraints.specs.DiffHashes.{base_refused, patch_refused, refused_by, unless_forced};
 
 use mb_store::{MbtError, MbtResult};
 

@@ -1,9 +1,8 @@
 // Stored digests of contents.
 ghost use Rattle.std.specs.Prelude.{◌≡◌, IfErr, IfOk, map};
 ghost use Rattle.std.specs.Char.{to_ascii_uppercase};
-ghost use Rattle.mb_load.specs.Hashes.{wrong_digest, wrong_hash, wrong_tile_hash};
+ghost use Rattle.mb_constraints.specs.Hashes.{wrong_digest, wrong_hash, wrong_id, wrong_tile_hash};
 ghost use Rattle.mb_lists.specs.Refusals.{Tests, first_refused};
-ghost use Rattle.mb_load.specs.Hashes.{wrong_id};
 ghost use Rattle.mb_tables.specs.Tiles.{cell_at};
 ghost use Rattle.tile_hash.specs.Digest.{digest};
 ghost use Rattle.tile_hash.specs.declared.algorithm.HashAlgorithm.{HashAlgorithm};
@@ -76,7 +75,7 @@ fn test_tile_hash(
 }
 
 /// The test of the digests of all tile rows: the first that is wrong.
-pub(crate) fn test_tile_hashes(
+pub fn test_tile_hashes(
     alloc: Global,
     layout: MbtType,
     algorithm: HashAlgorithm,
@@ -109,7 +108,7 @@ fn test_content_hash(
 }
 
 /// The test of the digests of all contents: the first that is wrong.
-pub(crate) fn test_content_hashes(
+pub fn test_content_hashes(
     alloc: Global,
     layout: MbtType,
     algorithm: HashAlgorithm,

@@ -1,7 +1,7 @@
 // References from the rows of a normalised set to its contents.
 ghost use Rattle.std.specs.Prelude.{◌≡◌, ◌||◌, IfErr, IfOk};
 ghost use Rattle.mb_lists.specs.FromRows.{AreIndexed, rows_kept};
-ghost use Rattle.mb_load.specs.References.{id_text, missing_reference};
+ghost use Rattle.mb_constraints.specs.References.{id_text, missing_reference};
 ghost use Rattle.mb_lists.specs.Refusals.{Tests, first_refused, unless};
 ghost use Rattle.std.specs.List.{list_any};
 ghost use Rattle.mb_tables.specs.Cell.{cell_eq, is_null};
@@ -14,7 +14,7 @@ use std::alloc::Global;
 use tile_ids::TextVal;
 
 /// The table of the contents of a normalised set.
-pub(crate) fn content_table(schema: NormalizedSchema) -> TableName
+pub fn content_table(schema: NormalizedSchema) -> TableName
     ensures { result ≡ contents_of schema }
 {
     match schema {
@@ -95,7 +95,7 @@ fn test_reference(
 }
 
 /// The test of the contents that all rows name: the first that aren't there.
-pub(crate) fn test_references(
+pub fn test_references(
     alloc: Global,
     layout: MbtType,
     contents: &ContentList,

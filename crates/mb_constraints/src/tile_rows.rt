@@ -2,7 +2,7 @@
 ghost use Rattle.std.specs.Prelude.{◌≡◌, Bool, is_some};
 ghost use Rattle.mb_lists.specs.FromRows.{AreIndexed, rows_kept};
 ghost use Rattle.mb_lists.specs.Refusals.{Tests, first_refused, unless};
-ghost use Rattle.mb_load.specs.TileRows.{bad_tile};
+ghost use Rattle.mb_constraints.specs.TileRows.{bad_tile};
 ghost use Rattle.mb_tables.specs.Tiles.{cell_at, contents_of, tile_of};
 ghost use Rattle.mb_tables.specs.declared.kind.NormalizedSchema.{NormalizedSchema};
 
@@ -78,7 +78,7 @@ fn test_tile(alloc: Global, layout: MbtType, contents: &ContentList, row: &Row) 
 }
 
 /// The test of all rows of the tile table: the first that is bad.
-pub(crate) fn test_tiles(
+pub fn test_tiles(
     alloc: Global,
     layout: MbtType,
     contents: &ContentList,

@@ -1,6 +1,6 @@
 use Rattle.std.proofs.lemmas.Result.{err_from_is_err_and}
 use Rattle.mb_lists.proofs.Refused.{passes, refuses}
-use Rattle.mb_load.proofs.hashes.test_tile_hashes.Goals as goal
+use Rattle.mb_constraints.proofs.hashes.test_tile_hashes.Goals as goal
 
 pub returns-in_err-test_tile_hash : goal.returns-in_err-test_tile_hash
 returns-in_err-test_tile_hash c =

@@ -3,7 +3,7 @@ use Rattle.std.specs.Prelude.{is_some}
 use Rattle.mb_lists.specs.FromRows.{index_by}
 use Rattle.mb_lists.proofs.IdLemmas.{id_named}
 use Rattle.mb_tables.specs.Cell.{is_null}
-use Rattle.mb_load.proofs.references.has_contents.Goals as goal
+use Rattle.mb_constraints.proofs.references.has_contents.Goals as goal
 
 pub returns : goal.returns
 returns c =

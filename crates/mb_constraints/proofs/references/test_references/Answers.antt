@@ -1,6 +1,6 @@
 use Rattle.std.proofs.lemmas.Result.{err_from_is_err_and}
 use Rattle.mb_lists.proofs.Refused.{passes, refuses}
-use Rattle.mb_load.proofs.references.test_references.Goals as goal
+use Rattle.mb_constraints.proofs.references.test_references.Goals as goal
 
 pub returns-in_err-test_reference : goal.returns-in_err-test_reference
 returns-in_err-test_reference c =

@@ -1,6 +1,6 @@
 use Rattle.std.proofs.Common.{rules, ◌∙◌, sym}
 use Rattle.mb_load.proofs.DescribedLemmas.{layouts_found, indexes_found, all_refused, never_fault}
-use Rattle.mb_load.proofs.described.layout_in.Goals as goal
+use Rattle.mb_load.proofs.loading.layout_in.Goals as goal
 
 pub returns-clause-layout : goal.returns-clause-layout
 returns-clause-layout c = layouts_found c.args.tables.now c.detect_type-detected.result c.detect_type-detected.ensures
