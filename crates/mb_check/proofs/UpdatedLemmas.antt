@@ -13,7 +13,7 @@ use Rattle.mb_load.proofs.CommitLemmas.{committed, names_stand}
 use Rattle.mb_load.proofs.EditedFrom.{from_with_name}
 use Rattle.mb_load.proofs.StateAgain.{state_again}
 use Rattle.mb_load.specs.Aggregate.{aggregate}
-use Rattle.mb_load.specs.Algorithm.{algorithm_by, unknown_name}
+use Rattle.mb_constraints.specs.Algorithm.{algorithm_by, unknown_name}
 use Rattle.mb_load.specs.Changing.{AreChangesOf, content_table, id_edited, is_own_table, name_edited, place_edited}
 use Rattle.mb_load.specs.Edits.{with_name}
 use Rattle.mb_lists.specs.Entries.{text_cell}

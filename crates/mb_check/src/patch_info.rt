@@ -3,7 +3,7 @@ ghost use Rattle.std.specs.Prelude.{◌≡◌, ◌≢◌, ◌≤◌, Err, IsErrO
 ghost use Rattle.tile_ids.specs.Counts.{Rose};
 ghost use Rattle.mb_check.specs.Begun.{IsBegun};
 ghost use Rattle.mb_check.specs.PatchInfo.{info_answer};
-ghost use Rattle.mb_load.specs.DiffHashes.{base_refused, patch_refused, refused_by, unless_forced};
+ghost use Rattle.mb_constraints.specs.DiffHashes.{base_refused, patch_refused, refused_by, unless_forced};
 ghost use Rattle.mb_lists.specs.Refusals.{Answers};
 
 use crate::aggregate::text_of;

@@ -13,7 +13,7 @@ use Rattle.std.proofs.lemmas.Cmp.{nat_list_cmp_total}
 use Rattle.mb_edit.specs.Patched.{is_null_at, landed, meta_patched, target_of}
 use Rattle.mb_edit.proofs.PatchedLemmas.{get-meta_patched}
 use Rattle.mb_lists.proofs.NameLemmas.{names_antisymmetric}
-use Rattle.mb_load.specs.Algorithm.{algorithm_by, unknown_name}
+use Rattle.mb_constraints.specs.Algorithm.{algorithm_by, unknown_name}
 use Rattle.mb_load.specs.LoadedFrom.{NamesAlgorithm}
 use Rattle.mb_lists.specs.Metadata.{Names, text_at}
 use Rattle.mb_load.specs.State.{State}

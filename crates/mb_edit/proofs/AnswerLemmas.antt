@@ -1,7 +1,7 @@
 -- Answers over stores that tell their tables or not.
-use Rattle.std.proofs.Common.{◌≡◌, ◌∙◌, ap, sym, subst, Bool, true, false, Ok, Err, Result, refl}
+use Rattle.std.proofs.Common.{◌≡◌, ◌∙◌, ap, Bool, true, false, Ok, Err, refl}
 use Rattle.std.proofs.lemmas.Bool.{false≢true}
-use Rattle.mb_edit.specs.Applying.{IsRefusedBy, applied, then}
+use Rattle.mb_edit.specs.Applying.{IsRefusedBy, then}
 use Rattle.mb_edit.specs.Step.{step}
 use Rattle.mb_load.specs.State.{State, state_of}
 use Rattle.mb_tables.specs.Table.{Tables}

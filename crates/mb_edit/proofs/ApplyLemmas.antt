@@ -1,14 +1,13 @@
 -- A committed patch leaves the tables that it is to leave.
-use Rattle.std.proofs.Common.{◌≡◌, ◌∙◌, ap, sym, subst, ℕ, List, [], ◌∷◌, ◌++◌, Option, Some, None, Bool, true, false, ◌||◌, not, filter, cond, refl, is_some, Ok}
+use Rattle.std.proofs.Common.{◌≡◌, ◌∙◌, ap, sym, subst, ℕ, List, [], ◌∷◌, ◌++◌, Option, Some, None, Bool, true, ◌||◌, not, filter, cond, refl, is_some, Ok}
 use Rattle.std.specs.Prelude.{option_and_then, option_map, option_to_list}
-use Rattle.std.specs.FinMap.{FinMap, contains_key, empty, get, get-empty}
-use Rattle.std.proofs.lemmas.Bool.{false≢true}
+use Rattle.std.specs.FinMap.{contains_key, get, get-empty}
 use Rattle.mb_edit.specs.Applying.{IsApplied, put_row, stands_in}
 use Rattle.mb_edit.specs.Committing.{MakesChanges}
 use Rattle.mb_edit.specs.HeldPatched.{held_patched}
 use Rattle.mb_edit.specs.Patched.{patched_at}
 use Rattle.mb_edit.specs.PatchingOrder.{may_patch}
-use Rattle.mb_edit.specs.Step.{state_patched, step}
+use Rattle.mb_edit.specs.Step.{state_patched}
 use Rattle.mb_edit.proofs.AlgorithmLemmas.{algorithm_kept}
 use Rattle.mb_edit.proofs.EditedLemmas.{places_edited}
 use Rattle.mb_edit.proofs.FrameLemmas.{null_names_stay, tile_rows_stay}
@@ -23,7 +22,7 @@ use Rattle.mb_load.proofs.StateAgain.{state_again}
 use Rattle.mb_load.specs.Changing.{AreChangesOf, cells_for, content_table, front, tile_key, tile_row}
 use Rattle.mb_load.specs.Committed.{is_set_table}
 use Rattle.mb_load.specs.Edits.{dates_for, id_for}
-use Rattle.mb_load.specs.Held.{Edited, Held, fresh, nothing_edited}
+use Rattle.mb_load.specs.Held.{Edited, Held, nothing_edited}
 use Rattle.mb_load.specs.LoadedFrom.{AllOnBoard, IsLoadable, IsLoadedFrom, IsOnBoard, NamesAlgorithm}
 use Rattle.mb_load.specs.State.{State, state_of}
 use Rattle.mb_lists.specs.declared.dates.Dates.{Dates}

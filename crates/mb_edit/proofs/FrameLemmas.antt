@@ -1,5 +1,5 @@
 -- Rows that no change of a set is of stay.
-use Rattle.std.proofs.Common.{◌≡◌, ◌∙◌, ap, sym, subst, ℕ, List, [], ◌∷◌, ◌++◌, Option, Some, None, Bool, true, false, ◌&&◌, not, filter, refl, is_some, take, drop, get_or, pos, length, ◌<◌, suc, zero}
+use Rattle.std.proofs.Common.{◌≡◌, ◌∙◌, ap, sym, ℕ, List, [], ◌∷◌, ◌++◌, Some, Bool, true, false, ◌&&◌, not, filter, refl, is_some, take, drop, get_or, length, ◌<◌, suc, zero}
 use Rattle.std.specs.Prelude.{option_and_then}
 use Rattle.std.specs.FinMap.{FinMap, contains_key, get}
 use Rattle.std.proofs.lemmas.Bool.{false≢true}
@@ -7,7 +7,7 @@ use Rattle.std.proofs.lemmas.List.Folds.{list_any_none}
 use Rattle.mb_edit.specs.Applying.{stands_in}
 use Rattle.mb_load.proofs.PutRowLemmas.{front_read}
 use Rattle.mb_load.specs.Changing.{AreChangesOf, front, name_edited, place_edited}
-use Rattle.mb_load.specs.Held.{Edited, Held}
+use Rattle.mb_load.specs.Held.{Held}
 use Rattle.mb_load.specs.LoadedFrom.{IsOnBoard}
 use Rattle.mb_store.proofs.Committed.{others_stay}
 use Rattle.mb_store.specs.Committing.{Commits}
@@ -19,7 +19,7 @@ use Rattle.mb_tables.specs.Key.{has_key, key_cells}
 use Rattle.mb_tables.specs.Table.{Tables, key_of, key_width, table_eq}
 use Rattle.mb_tables.specs.Tiles.{Place, cell_at, place_cmp, place_of}
 use Rattle.mb_tables.specs.declared.cell.Cell.{Cell}
-use Rattle.mb_tables.specs.declared.cell.Cell.TheVariants.{Int, Text}
+use Rattle.mb_tables.specs.declared.cell.Cell.TheVariants.{Text}
 use Rattle.mb_tables.specs.declared.key.RowKey.{RowKey}
 use Rattle.mb_tables.specs.declared.key.RowKey.TheVariants.{Tile, TextId, IntId}
 use Rattle.mb_tables.specs.declared.kind.MbtType.{MbtType}

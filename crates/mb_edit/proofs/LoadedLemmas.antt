@@ -4,7 +4,7 @@ use Rattle.std.specs.List.{cons_option}
 use Rattle.std.specs.Ordering.{eq_by_cmp, is_eq}
 use Rattle.std.specs.Cmp.{tied_itself}
 use Rattle.std.specs.FinMap as fin
-use Rattle.std.specs.FinMap.{contains_key, entries, get, get-entries}
+use Rattle.std.specs.FinMap.{entries, get, get-entries}
 use Rattle.std.proofs.lemmas.Bool.{false≢true}
 use Rattle.mb_edit.specs.Collision.{collides}
 use Rattle.mb_edit.specs.HeldPatched.{from_last, held_patched, name_patched, names_patched, null_cleared, tile_patched, tiles_patched}
@@ -14,9 +14,8 @@ use Rattle.mb_edit.specs.Step.{contents_over}
 use Rattle.mb_edit.proofs.FreeLemmas.{put_free}
 use Rattle.mb_edit.proofs.MarkLemmas.{rest_apart}
 use Rattle.mb_edit.proofs.PassedLemmas.{none_collide, passed}
-use Rattle.mb_edit.proofs.StateLemmas.{content_steps, contents_same, tiles_state, with_tiles}
+use Rattle.mb_edit.proofs.StateLemmas.{contents_same, tiles_state, with_tiles}
 use Rattle.mb_load.proofs.EditedFrom.{from_only_referenced, from_removed_name, from_removed_tile, from_with_name, from_with_tile}
-use Rattle.mb_lists.specs.Contents.{Contents}
 use Rattle.mb_load.specs.Edits.{with_name}
 use Rattle.mb_load.specs.Held.{Held}
 use Rattle.mb_load.specs.LoadedFrom.{AllOnBoard, IsFree, IsLoadedFrom, IsOnBoard, is_editable}
@@ -25,12 +24,10 @@ use Rattle.mb_tables.proofs.TileLemmas.{places_total}
 use Rattle.mb_tables.specs.Kind.{is_normalized}
 use Rattle.mb_tables.specs.Table.{Tables}
 use Rattle.mb_tables.specs.Tiles.{Place, place_cmp}
-use Rattle.mb_tables.specs.declared.cell.Cell.{Cell}
 use Rattle.mb_tables.specs.declared.cell.Cell.TheVariants.{Text, Blob}
 use Rattle.mb_tables.specs.declared.kind.MbtType.{MbtType}
 use Rattle.mb_tables.specs.declared.kind.MbtType.TheVariants.{Flat, FlatWithHash, Normalized, Cache}
 use Rattle.tile_hash.specs.Digest.{digest}
-use Rattle.tile_hash.specs.declared.algorithm.HashAlgorithm.{HashAlgorithm}
 
 -- the places of a list of tiles are on the board
 record AreOnBoard (es : List (Place × Option (List ℕ))) : Type 0 where

@@ -1,6 +1,6 @@
 -- What is said of facts that are known by others.
 use Rattle.std.proofs.Common.{◌≡◌, ◌∙◌, ap, refl, Bool, true, false}
-use Rattle.mb_load.specs.DiffHashes.{base_refused, patch_refused, refused_by, unless_forced}
+use Rattle.mb_constraints.specs.DiffHashes.{base_refused, patch_refused, refused_by, unless_forced}
 use Rattle.mb_lists.specs.Refusals.{Tests}
 
 pub same_two : {A B C : Type 0} (f : A → B → C) (x a : A) (y b : B) → x ≡ a → y ≡ b → f x y ≡ f a b

@@ -1,11 +1,11 @@
 -- What is known of a patch that passes all tests.
-use Rattle.std.proofs.Common.{◌≡◌, ◌∙◌, ap, sym, List, [], ◌∷◌, Option, Some, None, Bool, true, false, not, cond, find, refl, is_some, ℕ}
+use Rattle.std.proofs.Common.{◌≡◌, ◌∙◌, ap, sym, List, [], ◌∷◌, Option, Some, None, Bool, true, false, not, find, refl, is_some, ℕ}
 use Rattle.std.specs.Prelude.{◌==◌, option_map}
 use Rattle.std.proofs.lemmas.Bool.{false≢true}
 use Rattle.std.proofs.lemmas.Bool.Decides.{Decides-eqb}
 use Rattle.mb_edit.specs.Collision.{collides}
 use Rattle.mb_edit.specs.PatchingOrder.{after_hash, agg_hash, before_hash, bytes_put, can_be_patched, id_collides, may_patch, wrong_algorithm, wrong_base}
-use Rattle.mb_load.specs.DiffHashes.{base_refused, patch_refused, unless_forced}
+use Rattle.mb_constraints.specs.DiffHashes.{base_refused, patch_refused, unless_forced}
 use Rattle.mb_load.specs.HeldCode.{algorithm_at, algorithm_back, algorithm_number}
 use Rattle.mb_load.specs.LoadedFrom.{is_editable}
 use Rattle.mb_lists.specs.Refusals.{first_refusal, unless}

@@ -1,5 +1,5 @@
 -- What a patch makes of the tables of a store.
-use Rattle.std.specs.Prelude.{ℕ, ◌≡◌, ◌++◌, Bool, false, not, true, List, [], ◌∷◌, Option, Some, None, Result, Ok, Err, filter, is_some, option_and_then}
+use Rattle.std.specs.Prelude.{ℕ, ◌≡◌, ◌++◌, Bool, false, not, true, List, [], ◌∷◌, Some, None, Result, Ok, Err, filter, is_some, option_and_then}
 use Rattle.std.specs.FinMap.{FinMap, get}
 use Rattle.mb_edit.specs.Step.{step}
 use Rattle.mb_load.specs.Changing.{cells_for, content_table, front, tile_key}

@@ -4,7 +4,7 @@ use Rattle.std.specs.FinMap.{entries}
 use Rattle.std.specs.Str.{bytes_eq}
 use Rattle.mb_edit.specs.Collision.{collision}
 use Rattle.mb_lists.specs.Contents.{Contents}
-use Rattle.mb_load.specs.DiffHashes.{base_refused, patch_refused, unless_forced}
+use Rattle.mb_constraints.specs.DiffHashes.{base_refused, patch_refused, unless_forced}
 use Rattle.mb_load.specs.HeldCode.{algorithm_number}
 use Rattle.mb_lists.specs.Metadata.{Names, text_at}
 use Rattle.mb_lists.specs.Refusals.{first_refusal, unless}

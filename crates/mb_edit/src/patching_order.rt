@@ -2,7 +2,7 @@
 ghost use Rattle.std.specs.Prelude.{◌≡◌, is_some, not};
 ghost use Rattle.mb_edit.specs.PatchingOrder.{after_hash, agg_hash, before_hash, can_be_patched, may_patch, wrong_algorithm, wrong_base};
 ghost use Rattle.mb_lists.specs.Metadata.{text_at};
-ghost use Rattle.mb_load.specs.DiffHashes.{base_refused, patch_refused, unless_forced};
+ghost use Rattle.mb_constraints.specs.DiffHashes.{base_refused, patch_refused, unless_forced};
 ghost use Rattle.mb_lists.specs.Refusals.{Tests, unless};
 
 use crate::collision::test_ids;

@@ -2,15 +2,14 @@
 use Rattle.std.proofs.Common.{◌≡◌, ◌∙◌, ap, sym, ℕ, ◌<◌, ◌≤◌, ◌+◌, List, Bool, true, false, not, refl, length, get_or, take, arith}
 use Rattle.std.specs.List.Sorted.{IsPermutation, IsSortedBy, IsPartitionedBy, IsPartitionPoint}
 use Rattle.std.specs.declared.cmp.Ordering.{Ordering}
-use Rattle.std.specs.declared.cmp.Ordering.TheVariants.{Less, Equal, Greater}
-use Rattle.std.specs.Ordering.{bool_cmp, is_eq, is_lt, ordering_reverse, ordering_then}
+use Rattle.std.specs.Ordering.{bool_cmp, is_lt, ordering_then}
 use Rattle.std.specs.Cmp.{IsTotalOrder, bool_cmp_total}
 use Rattle.std.proofs.lemmas.Bool.{false≢true}
 use Rattle.std.proofs.lemmas.Cmp.{on_total, then_total}
 use Rattle.std.proofs.lemmas.List.{get_or-take, length-take-le}
 use Rattle.std.proofs.lemmas.List.Sorted.{ranks_by, sorted_far}
 use Rattle.mb_lists.specs.Keyed.{Apart, IsInOrder, behind}
-use Rattle.mb_lists.proofs.Sorting.{apart_permuted}
+use Rattle.mb_lists.proofs.Sorting.{apart_permuted, only_less}
 
 module _ {K X : Type 0} {R : K → K → Ordering} (total : IsTotalOrder R) (key : X → K) (gone : X → Bool) where
   pub behind_total : IsTotalOrder (behind R key gone)
@@ -25,11 +24,6 @@ module _ {K X : Type 0} {R : K → K → Ordering} (total : IsTotalOrder R) (key
   key_below false false o e f h = h
   key_below true b o e f h = absurd (false≢true (sym e))
   key_below false true o e f h = absurd (false≢true (sym f))
-
-  only_less : (o : Ordering) → is_lt (ordering_reverse o) ≡ false → is_eq o ≡ false → o ≡ Less
-  only_less Less h k = refl
-  only_less Equal h k = absurd (false≢true (sym k))
-  only_less Greater h k = absurd (false≢true (sym h))
 
   alive : (b : Bool) → not b ≡ true → b ≡ false
   alive false h = refl

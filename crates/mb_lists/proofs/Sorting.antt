@@ -24,7 +24,7 @@ less_of Less h = refl
 less_of Equal h = absurd (false≢true (sym h))
 less_of Greater h = absurd (false≢true (sym h))
 
-only_less : (o : Ordering) → is_lt (ordering_reverse o) ≡ false → is_eq o ≡ false → o ≡ Less
+pub only_less : (o : Ordering) → is_lt (ordering_reverse o) ≡ false → is_eq o ≡ false → o ≡ Less
 only_less Less h k = refl
 only_less Equal h k = absurd (false≢true (sym k))
 only_less Greater h k = absurd (false≢true (sym h))

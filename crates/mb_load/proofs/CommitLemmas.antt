@@ -6,7 +6,7 @@ use Rattle.std.proofs.lemmas.Bool.{false≢true}
 use Rattle.std.proofs.lemmas.List.Elements.{All-nil}
 use Rattle.mb_load.specs.Changing.{AreChangesOf, content_row, content_row_by, content_table, id_edited, name_edited, name_row, name_row_by, place_edited, tile_key, tile_row, tile_row_by}
 use Rattle.mb_lists.specs.Contents.{content_rows}
-use Rattle.mb_load.specs.Described.{index_missing, metadata_missing}
+use Rattle.mb_constraints.specs.Described.{index_missing, metadata_missing}
 use Rattle.mb_load.specs.Held.{Held, fresh}
 use Rattle.mb_lists.specs.Kinds.{has_name_kinds}
 use Rattle.mb_load.specs.LoadedFrom.{FitsPlace, IsGoodContent, IsGoodRow, IsLoadable, IsLoadedFrom}

@@ -2,7 +2,7 @@
 use Rattle.std.proofs.Common.{◌≡◌, ◌≢◌, ◌∙◌, ap, sym, subst, Bool, true, false, List, ◌∷◌, Option, Some, None, Result, Ok, Err, refl}
 use Rattle.std.specs.Prelude.{IfOk, IfErr}
 use Rattle.std.specs.List.{list_any}
-use Rattle.mb_load.specs.Described.{index_missing, is_metadata}
+use Rattle.mb_constraints.specs.Described.{index_missing, is_metadata}
 use Rattle.mb_lists.specs.Contents.{content_rows}
 use Rattle.mb_load.specs.LoadingOrder.{row_refusals}
 use Rattle.mb_lists.specs.Refusals.{first_refusal, unless}

@@ -1,14 +1,14 @@
 -- What is due of rows, by the first part of the tests that refuses.
 use Rattle.std.proofs.Common.{◌≡◌, ◌∙◌, ap, sym, List, Option, Some, None, Err}
 use Rattle.std.specs.Option.{option_or}
-use Rattle.mb_load.specs.Algorithm.{algorithm_of, algorithm_unknown}
+use Rattle.mb_constraints.specs.Algorithm.{algorithm_of, algorithm_unknown}
 use Rattle.mb_lists.specs.Contents.{id_twice}
-use Rattle.mb_load.specs.Hashes.{hash_wrong}
+use Rattle.mb_constraints.specs.Hashes.{hash_wrong}
 use Rattle.mb_lists.specs.Kinds.{content_kind_wrong, name_kind_wrong, tile_kind_wrong}
 use Rattle.mb_load.specs.Loading.{due_by, held_by, rows_due}
 use Rattle.mb_lists.specs.Metadata.{name_twice}
-use Rattle.mb_load.specs.References.{reference_missing}
-use Rattle.mb_load.specs.TileRows.{place_twice, tile_bad}
+use Rattle.mb_constraints.specs.References.{reference_missing}
+use Rattle.mb_constraints.specs.TileRows.{place_twice, tile_bad}
 use Rattle.mb_lists.proofs.Chain.{first_part, fourth_part, last_part, second_part, third_part}
 use Rattle.mb_tables.specs.declared.cell.Cell.{Cell}
 use Rattle.mb_tables.specs.declared.error.MbtError.{MbtError}

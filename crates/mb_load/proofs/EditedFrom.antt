@@ -19,7 +19,7 @@ use Rattle.mb_lists.specs.Entries.{text_cell}
 use Rattle.mb_load.specs.Held.{Held}
 use Rattle.mb_load.specs.LoadedFrom.{AreTimes, FitsPlace, IsContentOf, IsFree, IsLoadable, IsLoadedFrom, IsOnBoard, at_place, found, is_cache, is_editable}
 use Rattle.mb_load.specs.State.{State}
-use Rattle.mb_load.specs.TileRows.{dates_in, id_in, tile_in}
+use Rattle.mb_constraints.specs.TileRows.{dates_in, id_in, tile_in}
 use Rattle.mb_lists.specs.declared.dates.Dates.{Dates}
 use Rattle.mb_load.proofs.DroppedHeld.{any_unit, contents_with, edited_with}
 use Rattle.mb_load.proofs.EditMaps.{get-with_value}

@@ -2,7 +2,7 @@
 use Rattle.std.proofs.Common.{◌≡◌, ◌∙◌, ap, sym, ℕ, List, Option, true, false, Ok, Err, filter_map, map}
 use Rattle.std.specs.Prelude.{All}
 use Rattle.std.specs.FinMap.{from_entries}
-use Rattle.mb_load.specs.Algorithm.{algorithm_of}
+use Rattle.mb_constraints.specs.Algorithm.{algorithm_of}
 use Rattle.mb_lists.specs.Contents.{contents_by_id}
 use Rattle.mb_lists.specs.Entries.{contents_held, names_held, place_of, tile_dates, tile_id, tile_value, tiles_held}
 use Rattle.mb_load.specs.HeldEntries.{held_of}
@@ -12,7 +12,7 @@ use Rattle.mb_load.specs.Loading.{due_by, held_by, rows_due}
 use Rattle.mb_lists.specs.Metadata.{names_of}
 use Rattle.mb_lists.specs.Refusals.{unless}
 use Rattle.mb_load.specs.RowTiles.{AreTilesOf}
-use Rattle.mb_load.specs.TileRows.{by_place, dates_in, id_in, place_twice, tile_in}
+use Rattle.mb_constraints.specs.TileRows.{by_place, dates_in, id_in, place_twice, tile_in}
 use Rattle.mb_lists.specs.declared.dates.Dates.{Dates}
 use Rattle.mb_lists.specs.declared.entries.Content.{Content}
 use Rattle.mb_lists.specs.declared.entries.Standing.TheVariants.{Kept}

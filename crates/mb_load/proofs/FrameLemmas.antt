@@ -8,7 +8,7 @@ use Rattle.std.proofs.lemmas.Bool.{false≢true, and_parts}
 use Rattle.std.proofs.lemmas.List.Folds.{list_any_none}
 use Rattle.mb_load.specs.Changing.{AreChangesOf, content_row_by, content_table, id_edited, is_own_table}
 use Rattle.mb_load.specs.Committed.{is_set_table}
-use Rattle.mb_load.specs.Described.{is_metadata, metadata_missing}
+use Rattle.mb_constraints.specs.Described.{is_metadata, metadata_missing}
 use Rattle.mb_load.specs.Held.{Edited, Held}
 use Rattle.mb_load.specs.LoadedFrom.{IsLoadedFrom}
 use Rattle.mb_lists.specs.Refusals.{unless}

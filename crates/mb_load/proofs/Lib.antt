@@ -1,16 +1,11 @@
 pub mod DescribedLemmas
-pub mod AlgorithmLemmas
-pub mod TileRowLemmas
-pub mod TilesKept
 pub mod TilesOfRows
 pub mod HeldLemmas
 pub mod StateLemmas
-pub mod ContentTests
 pub mod Naming
 pub mod DroppedHeld
 pub mod Due
 pub mod Final
-pub mod ApartPlaces
 pub mod DatedLemmas
 pub mod EditMaps
 pub mod MoreContents

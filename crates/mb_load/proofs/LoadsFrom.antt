@@ -9,12 +9,12 @@ use Rattle.std.specs.FinMap.{contains_key, get, get-empty, get-from_entries}
 use Rattle.std.proofs.lemmas.Bool.{false≢true, and_parts}
 use Rattle.std.proofs.lemmas.Cmp.{nat_list_cmp_total}
 use Rattle.std.proofs.lemmas.List.Elements.{All-nil, All-weaker}
-use Rattle.mb_load.specs.Algorithm.{algorithm_by, unknown_name}
+use Rattle.mb_constraints.specs.Algorithm.{algorithm_by, unknown_name}
 use Rattle.mb_load.specs.Changing.{content_table, tile_key}
 use Rattle.mb_lists.specs.Contents.{content_entry, content_rows}
-use Rattle.mb_load.specs.Described.{index_missing, metadata_missing}
+use Rattle.mb_constraints.specs.Described.{index_missing, metadata_missing}
 use Rattle.mb_lists.specs.Entries.{text_cell}
-use Rattle.mb_load.specs.Hashes.{wrong_content_hash, wrong_hash}
+use Rattle.mb_constraints.specs.Hashes.{wrong_content_hash, wrong_hash}
 use Rattle.mb_load.specs.Held.{Held, fresh}
 use Rattle.mb_lists.specs.Kinds.{has_tile_kinds, is_id, is_number, is_text}
 use Rattle.mb_load.specs.Loading.{Loads, due_by, held_by}
@@ -23,9 +23,9 @@ use Rattle.mb_load.specs.LoadingOrder.{refusals, row_refusals}
 use Rattle.mb_lists.specs.Metadata.{name_entry}
 use Rattle.mb_lists.specs.Refusals.{first_refusal}
 use Rattle.mb_load.specs.State.{State, state_of, stated, unless_refused}
-use Rattle.mb_load.specs.TileRows.{bad_tile, dates_in, id_in, tile_in}
+use Rattle.mb_constraints.specs.TileRows.{bad_tile, dates_in, id_in, tile_in}
 use Rattle.mb_lists.specs.declared.dates.Dates.{Dates}
-use Rattle.mb_load.proofs.ApartPlaces.{in_has_place}
+use Rattle.mb_constraints.proofs.ApartPlaces.{in_has_place}
 use Rattle.mb_load.proofs.CommitLemmas.{no_contents, rows_of_contents}
 use Rattle.mb_lists.proofs.FrontLemmas.{begins, entry_key, filter_entry, key_begins, key_whole, names_as_entries}
 use Rattle.mb_load.proofs.KeyReading.{Agrees, Joins, agree_if_joined, alone_under, at_place_placed, found_both, found_never, found_row, found_through, place_on_board, under_key}

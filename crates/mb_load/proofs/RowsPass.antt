@@ -7,19 +7,19 @@ use Rattle.std.specs.FinMap as fin
 use Rattle.std.proofs.lemmas.Bool.{false≢true, and_from, and_parts}
 use Rattle.std.proofs.lemmas.List.Elements.{All-cons, All-head, All-nil, All-tail}
 use Rattle.std.proofs.lemmas.Option.{none-some, slice_get-get_or}
-use Rattle.mb_load.specs.Algorithm.{algorithm_of, algorithm_unknown}
+use Rattle.mb_constraints.specs.Algorithm.{algorithm_of, algorithm_unknown}
 use Rattle.mb_lists.specs.Contents.{are_apart, content_entry, fronts}
-use Rattle.mb_load.specs.Hashes.{hash_wrong, wrong_content_hash, wrong_tile_hash}
+use Rattle.mb_constraints.specs.Hashes.{hash_wrong, wrong_content_hash, wrong_tile_hash}
 use Rattle.mb_lists.specs.Kinds.{has_name_kinds, has_tile_kinds, is_id}
 use Rattle.mb_load.specs.LoadedFrom.{at_place, is_cache}
 use Rattle.mb_load.specs.LoadingOrder.{row_refusals}
-use Rattle.mb_load.specs.References.{id_text, missing_reference}
+use Rattle.mb_constraints.specs.References.{id_text, missing_reference}
 use Rattle.mb_lists.specs.Refusals.{first_refusal, first_refused, unless}
-use Rattle.mb_load.specs.TileRows.{bad_tile, dates_in, id_in, place_twice, tile_in}
+use Rattle.mb_constraints.specs.TileRows.{bad_tile, dates_in, id_in, place_twice, tile_in}
 use Rattle.mb_lists.specs.declared.dates.Dates.{Dates}
 use Rattle.mb_lists.proofs.FrontLemmas.{begins, content_found}
 use Rattle.mb_load.proofs.KeyReading.{Agrees, Joins}
-use Rattle.mb_load.proofs.TilesKept.{passed}
+use Rattle.mb_constraints.proofs.TilesKept.{passed}
 use Rattle.mb_tables.specs.Cell.{cell_cmp, is_null}
 use Rattle.mb_tables.specs.Kind.{is_normalized}
 use Rattle.mb_tables.specs.Kind as kind

@@ -4,16 +4,16 @@ use Rattle.std.specs.Prelude.{option_and_then}
 use Rattle.std.specs.Option.{option_or}
 use Rattle.std.specs.FinMap.{from_entries}
 use Rattle.std.proofs.lemmas.Bool.{false≢true}
-use Rattle.mb_load.specs.Algorithm.{algorithm_of}
+use Rattle.mb_constraints.specs.Algorithm.{algorithm_of}
 use Rattle.mb_lists.specs.Contents.{content_rows, contents_by_id}
-use Rattle.mb_load.specs.Described.{index_missing, metadata_missing}
+use Rattle.mb_constraints.specs.Described.{index_missing, metadata_missing}
 use Rattle.mb_load.specs.Loading.{Loads, due_by, held_by, rows_due}
 use Rattle.mb_load.specs.Held.{Held}
 use Rattle.mb_load.specs.LoadingOrder.{row_refusals}
 use Rattle.mb_lists.specs.Metadata.{names_of}
 use Rattle.mb_lists.specs.Refusals.{first_refusal, is_free}
 use Rattle.mb_load.specs.State.{State, held_in, state_of, stated, unless_refused}
-use Rattle.mb_load.specs.TileRows.{by_place, dates_in, id_in, tile_in}
+use Rattle.mb_constraints.specs.TileRows.{by_place, dates_in, id_in, tile_in}
 use Rattle.mb_store.specs.Errors.{of_store}
 use Rattle.mb_store.specs.declared.store.StoreError.{StoreError}
 use Rattle.mb_store.specs.declared.store.StoreError.TheVariants.{Fault, OutOfMemory}

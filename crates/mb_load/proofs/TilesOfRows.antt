@@ -10,14 +10,14 @@ use Rattle.std.proofs.lemmas.Option.{slice_get-map}
 use Rattle.mb_lists.specs.Entries.{content_at, is_removed, tile_dates, tile_id, tile_value}
 use Rattle.mb_lists.specs.FromRows.{AreIndexed, dates_from, ids_from, own_content, own_tiles, rows_kept, stored_by_id}
 use Rattle.mb_lists.specs.Refusals.{first_refused, unless}
-use Rattle.mb_load.specs.References.{missing_reference}
+use Rattle.mb_constraints.specs.References.{missing_reference}
 use Rattle.mb_load.specs.RowTiles.{AreTilesOf}
-use Rattle.mb_load.specs.TileRows.{bad_tile, contents_in, dates_in, id_in, tile_in}
+use Rattle.mb_constraints.specs.TileRows.{bad_tile, contents_in, dates_in, id_in, tile_in}
 use Rattle.mb_lists.specs.declared.dates.Dates.{Dates}
 use Rattle.mb_lists.specs.declared.entries.Content.{Content}
 use Rattle.mb_lists.specs.declared.entries.Standing.TheVariants.{Kept}
 use Rattle.mb_lists.specs.declared.entries.StoredTile.{StoredTile}
-use Rattle.mb_load.proofs.TilesKept.{by_all, by_entries, by_id_if, dates_by_id, id_by_id, own_all, own_at, own_entries, passed, placed, placed_entry, stored_if, tile_by_id, tile_entry, whole_by_id, whole_row}
+use Rattle.mb_constraints.proofs.TilesKept.{by_all, by_entries, by_id_if, dates_by_id, id_by_id, own_all, own_at, own_entries, passed, placed, placed_entry, stored_if, tile_by_id, tile_entry, whole_by_id, whole_row}
 use Rattle.mb_tables.specs.Cell.{is_null}
 use Rattle.mb_tables.specs.Tiles.{cell_at, contents_of, place_cmp, tile_of}
 use Rattle.mb_tables.specs.declared.cell.Cell.{Cell}

@@ -1,10 +1,4 @@
-pub mod Described
-pub mod Algorithm
-pub mod TileRows
-pub mod References
-pub mod Hashes
 pub mod LoadingOrder
-pub mod DiffHashes
 pub mod State
 pub mod Aggregate
 pub mod Held

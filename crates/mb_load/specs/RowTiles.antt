@@ -2,7 +2,7 @@
 use Rattle.std.specs.Prelude.{◌≡◌, true, List, All, filter_map, is_some}
 use Rattle.mb_lists.specs.Entries.{place_of, tile_dates, tile_id, tile_value, tiles_held}
 use Rattle.mb_lists.specs.Keyed.{entries_by}
-use Rattle.mb_load.specs.TileRows.{by_place, dates_in, id_in, tile_in}
+use Rattle.mb_constraints.specs.TileRows.{by_place, dates_in, id_in, tile_in}
 use Rattle.mb_lists.specs.declared.dates.Dates.{Dates}
 use Rattle.mb_lists.specs.declared.entries.Content.{Content}
 use Rattle.mb_lists.specs.declared.entries.Standing.TheVariants.{Kept}

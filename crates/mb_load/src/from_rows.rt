@@ -3,28 +3,27 @@ ghost use Rattle.std.specs.Prelude.{◌≡◌, ◌≢◌, ◌&&◌, All, IfErr, 
 ghost use Rattle.std.specs.FinMap.{get};
 ghost use Rattle.std.specs.List.{list_all};
 ghost use Rattle.std.specs.Option.{option_or};
-ghost use Rattle.mb_load.specs.Algorithm.{algorithm_of, algorithm_unknown};
+ghost use Rattle.mb_constraints.specs.Algorithm.{algorithm_of, algorithm_unknown};
 ghost use Rattle.mb_lists.specs.Contents.{id_twice};
 ghost use Rattle.mb_lists.specs.Entries.{AreNamesInOrder, names_held};
 ghost use Rattle.mb_lists.specs.FromRows.{AreIndexed, rows_kept};
-ghost use Rattle.mb_load.specs.Hashes.{hash_wrong};
+ghost use Rattle.mb_constraints.specs.Hashes.{hash_wrong};
 ghost use Rattle.mb_lists.specs.Kinds.{content_kind_wrong, has_tile_kinds, is_id, tile_kind_wrong};
 ghost use Rattle.mb_load.specs.Loading.{Loads, rows_due};
 ghost use Rattle.mb_lists.specs.Metadata.{names_of, text_of};
-ghost use Rattle.mb_load.specs.References.{reference_missing};
+ghost use Rattle.mb_constraints.specs.References.{reference_missing};
 ghost use Rattle.mb_lists.specs.Refusals.{Tests};
-ghost use Rattle.mb_load.specs.TileRows.{tile_bad};
+ghost use Rattle.mb_constraints.specs.TileRows.{tile_bad};
 ghost use Rattle.mb_lists.specs.declared.entries.Standing.TheVariants.{Kept};
 ghost use Rattle.mb_tables.specs.Kind.{is_normalized};
 ghost use Rattle.mb_tables.specs.declared.cell.Cell.{Cell};
 
 use crate::Loaded;
-use crate::algorithm::algorithm_by;
 use crate::assembling::set_of;
-use crate::hashes::{test_content_hashes, test_tile_hashes};
-use crate::references::test_references;
-use crate::tile_rows::test_tiles;
 use crate::tiles_of_rows::tiles_of;
+use mb_constraints::{
+    algorithm_by, test_content_hashes, test_references, test_tile_hashes, test_tiles,
+};
 use mb_lists::{ContentList, NameList, contents_from, have_id_kinds, have_tile_kinds};
 use mb_store::{Cell, HASH_ALGORITHM, MbtError, MbtResult, MbtType, PatchType, Row};
 use std::alloc::Global;

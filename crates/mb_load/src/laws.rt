@@ -7,7 +7,7 @@ ghost use Rattle.mb_load.specs.Edits.{only_referenced, removed_name, removed_til
 ghost use Rattle.mb_load.specs.Held.{Held, fresh};
 ghost use Rattle.mb_load.specs.LoadedFrom.{IsFree, IsLoadable, IsLoadedFrom, IsOnBoard, NamesAlgorithm, is_editable};
 ghost use Rattle.mb_load.specs.State.{State, state_of};
-ghost use Rattle.mb_load.specs.TileRows.{place_twice};
+ghost use Rattle.mb_constraints.specs.TileRows.{place_twice};
 ghost use Rattle.mb_store.specs.Committing.{AreOfTables, Commits};
 ghost use Rattle.mb_store.specs.Store.{IsSound};
 ghost use Rattle.mb_store.specs.declared.change.Change.{Change};

@@ -1,17 +1,34 @@
 // Loading a set.
-ghost use Rattle.std.specs.Prelude.{◌≡◌, ◌≤◌, true, IfOk, IsErrOf};
+ghost use Rattle.std.specs.Prelude.{◌≡◌, ◌≢◌, ◌≤◌, Err, None, Some, true, IfErr, IfOk, IsErrOf};
 ghost use Rattle.tile_ids.specs.Counts.{Rose};
+ghost use Rattle.mb_constraints.specs.Described.{index_missing, metadata_missing};
 ghost use Rattle.mb_load.specs.Loading.{Loads};
 ghost use Rattle.mb_load.specs.LoadedFrom.{IsLoadable, IsLoadedFrom, NamesAlgorithm};
 ghost use Rattle.mb_load.specs.State.{state_of};
+ghost use Rattle.mb_tables.specs.Detection.{layout_of};
 ghost use Rattle.mb_tables.specs.Table.{Tables};
 
 use crate::Loaded;
-use crate::described::layout_in;
 use crate::from_rows::loaded_from;
 use crate::reading::read_all;
-use mb_store::{MbtError, MbtResult, TileStore, get_patch_type};
+use mb_constraints::has_metadata;
+use mb_store::{MbtError, MbtResult, MbtType, TableDesc, TileStore, detect_type, get_patch_type};
 use std::alloc::Global;
+
+// The layout of a set whose descriptions pass their tests, or their first refusal.
+fn layout_in(tables: &[TableDesc]) -> MbtResult<MbtType>
+    ensures layout { IfOk result (λ layout. layout_of tables.now ≡ Some layout) }
+    ensures metadata { IfOk result (λ layout. metadata_missing tables.now ≡ None) }
+    ensures index { IfOk result (λ layout. index_missing tables.now layout ≡ None) }
+    ensures unfaulted { IfErr result (λ e. e ≢ MbtError.StoreFault) }
+    ensures refused { IfErr result (λ e. (t : Tables) → t.descriptions ≡ tables.now → state_of t ≡ Err e) }
+{
+    let detected = detect_type(tables);
+    if !has_metadata(tables) {
+        return Err(MbtError::InvalidDataFormat);
+    }
+    detected
+}
 
 /// Loads a set: what its tables hold, or the first refusal of the tests of loading, in their order.
 ///

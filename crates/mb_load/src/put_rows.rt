@@ -5,7 +5,7 @@ ghost use Rattle.mb_load.specs.Edits.{no_dates};
 ghost use Rattle.mb_lists.specs.Entries.{IsTile, is_gone, place_at};
 ghost use Rattle.mb_load.specs.PutRows.{cells_kept, digest_cell, id_key, row_of_content, row_of_name, row_of_tile, times_cells};
 
-use crate::references::content_table;
+use mb_constraints::content_table;
 use mb_lists::{Content, Dates, StoredName, StoredTile};
 use mb_store::{Cell, MbtType, Row, RowKey, TableName};
 use std::alloc::Global;

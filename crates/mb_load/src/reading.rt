@@ -7,7 +7,7 @@ ghost use Rattle.mb_tables.specs.Kind.{is_normalized};
 ghost use Rattle.mb_tables.specs.Table.{width};
 ghost use Rattle.mb_tables.specs.declared.table.TableName.TheVariants.{Metadata};
 
-use crate::references::content_table;
+use mb_constraints::content_table;
 use mb_store::{MbtType, NormalizedSchema, Row, StoreError, TableName, TileStore};
 use std::alloc::Global;
 

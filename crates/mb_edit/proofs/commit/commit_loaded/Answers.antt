@@ -1,4 +1,3 @@
-use Rattle.std.proofs.Common.{◌≡◌}
 use Rattle.mb_load.proofs.FrameLemmas.{of_tables}
 use Rattle.mb_edit.proofs.commit.commit_loaded.Goals as goal
 

@@ -1,5 +1,5 @@
 use Rattle.std.proofs.Common.{◌≡◌, ◌∙◌, is_some, subst, sym, Result}
-use Rattle.mb_load.specs.DiffHashes.{patch_refused, refused_by, unless_forced}
+use Rattle.mb_constraints.specs.DiffHashes.{patch_refused, refused_by, unless_forced}
 use Rattle.mb_lists.specs.Refusals.{Tests}
 use Rattle.mb_tables.specs.declared.error.MbtError.{MbtError}
 use Rattle.mb_edit.specs.PatchingOrder.{after_hash, before_hash}

@@ -8,7 +8,7 @@ use Rattle.mb_lists.specs.Kinds.{content_kind_wrong, tile_kind_wrong}
 use Rattle.std.specs.Option.{option_or}
 use Rattle.mb_lists.specs.declared.content_list.ContentList.{ContentList}
 use Rattle.mb_lists.specs.declared.entries.Content.{Content}
-use Rattle.mb_load.proofs.ContentTests.{all_new, all_present, ids_pass, ids_refused, kinds_pass, kinds_refused, rows_same}
+use Rattle.mb_constraints.proofs.ContentTests.{all_new, all_present, ids_pass, ids_refused, kinds_pass, kinds_refused, rows_same}
 use Rattle.mb_tables.specs.Cell.{cell_cmp}
 use Rattle.mb_load.proofs.from_rows.contents_of.Goals as goal
 

@@ -1,7 +1,7 @@
 use Rattle.std.proofs.Common.{◌∙◌, ap, sym}
 use Rattle.std.proofs.lemmas.Result.{err_from_is_err_and}
 use Rattle.mb_lists.specs.Contents.{content_rows}
-use Rattle.mb_load.specs.Described.{index_missing, metadata_missing}
+use Rattle.mb_constraints.specs.Described.{index_missing, metadata_missing}
 use Rattle.mb_load.proofs.LoadsFrom.{answer_loaded, answer_named, answer_whole}
 use Rattle.mb_load.proofs.StateLemmas.{answer_of, no_fault, own_of, own_of_store, own_refused}
 use Rattle.mb_tables.specs.Detection.{layout_of, patch_type_of, tile_table}

@@ -1,0 +1,5 @@
+pub mod AlgorithmLemmas
+pub mod TileRowLemmas
+pub mod TilesKept
+pub mod ContentTests
+pub mod ApartPlaces

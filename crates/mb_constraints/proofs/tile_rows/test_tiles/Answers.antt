@@ -1,0 +1,11 @@
+use Rattle.std.proofs.lemmas.Result.{err_from_is_err_and}
+use Rattle.mb_lists.proofs.Refused.{passes, refuses}
+use Rattle.mb_constraints.proofs.tile_rows.test_tiles.Goals as goal
+
+pub returns-in_err-test_tile : goal.returns-in_err-test_tile
+returns-in_err-test_tile c =
+    let p = err_from_is_err_and c.from_residual.result c.from_residual.ensures.1 in
+    rw (p.1, p.2) (λ h. refuses _ _ _ _ _ c.loop-row-test.true c.row-item.is c.loop-row.invariant (c.in_err-test_tile.ensures.0 h), c.in_err-test_tile.ensures.1)
+
+pub loop-row-preserved : goal.loop-row-preserved
+loop-row-preserved c = passes _ _ _ _ c.loop-row-test.true c.row-item.is c.loop-row.invariant c.in_ok-test_tile.ensures

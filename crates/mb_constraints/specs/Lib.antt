@@ -1,0 +1,6 @@
+pub mod Described
+pub mod Algorithm
+pub mod TileRows
+pub mod References
+pub mod Hashes
+pub mod DiffHashes

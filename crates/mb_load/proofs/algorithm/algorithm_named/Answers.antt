@@ -1,5 +1,0 @@
-use Rattle.mb_load.proofs.AlgorithmLemmas.{named_is}
-use Rattle.mb_load.proofs.algorithm.algorithm_named.Goals as goal
-
-pub returns : goal.returns
-returns c = named_is _ c.parse.result c.parse.ensures.named c.parse.ensures.found

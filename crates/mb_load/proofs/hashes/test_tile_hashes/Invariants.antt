@@ -1,8 +1,0 @@
--- what is left is refused as all are
-use Rattle.std.proofs.Common.{◌≡◌, drop}
-use Rattle.mb_load.specs.Hashes.{wrong_tile_hash}
-use Rattle.mb_lists.specs.Refusals.{first_refused}
-use Rattle.mb_load.proofs.hashes.test_tile_hashes.Given as goal
-
-abbrev pub invariant-loop-row : goal.invariant-loop-row
-invariant-loop-row l = first_refused (wrong_tile_hash l.layout l.algorithm) l.rows ≡ first_refused (wrong_tile_hash l.layout l.algorithm) (drop l.row-index l.rows)

@@ -1,9 +1,0 @@
--- what is left is refused as all are
-use Rattle.std.proofs.Common.{◌≡◌, drop}
-use Rattle.mb_lists.specs.FromRows.{rows_kept}
-use Rattle.mb_load.specs.References.{missing_reference}
-use Rattle.mb_lists.specs.Refusals.{first_refused}
-use Rattle.mb_load.proofs.references.test_references.Given as goal
-
-abbrev pub invariant-loop-row : goal.invariant-loop-row
-invariant-loop-row l = first_refused (missing_reference l.layout (rows_kept l.contents.items.items)) l.rows ≡ first_refused (missing_reference l.layout (rows_kept l.contents.items.items)) (drop l.row-index l.rows)

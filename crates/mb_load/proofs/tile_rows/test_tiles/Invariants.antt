@@ -1,9 +1,0 @@
--- what is left is refused as all are
-use Rattle.std.proofs.Common.{◌≡◌, drop}
-use Rattle.mb_lists.specs.FromRows.{rows_kept}
-use Rattle.mb_lists.specs.Refusals.{first_refused}
-use Rattle.mb_load.specs.TileRows.{bad_tile}
-use Rattle.mb_load.proofs.tile_rows.test_tiles.Given as goal
-
-abbrev pub invariant-loop-row : goal.invariant-loop-row
-invariant-loop-row l = first_refused (bad_tile l.layout (rows_kept l.contents.items.items)) l.rows ≡ first_refused (bad_tile l.layout (rows_kept l.contents.items.items)) (drop l.row-index l.rows)
