@@ -1,4 +1,4 @@
-// All rows of a table, page by page.
+// All rows of a table.
 ghost use Rattle.std.specs.Prelude.{◌≡◌, ◌≤◌, All, [], false, true, IfOk, IsErrOf, length};
 ghost use Rattle.tile_ids.specs.Counts.{Rose};
 ghost use Rattle.mb_lists.specs.Contents.{content_rows};
@@ -11,10 +11,7 @@ use mb_constraints::content_table;
 use mb_store::{MbtType, NormalizedSchema, Row, StoreError, TableName, TileStore};
 use std::alloc::Global;
 
-// The most rows that are asked for at once.
-const PAGE: u64 = 65_536;
-
-/// All rows of a table in their order. Over a store that tells nothing it asks for as many rows as the store counted, so that it ends.
+/// All rows of a table in their order: as many as the store counts are asked for at once.
 pub(crate) fn read_table<S: TileStore>(
     alloc: Global,
     store: &mut S,
@@ -30,15 +27,7 @@ pub(crate) fn read_table<S: TileStore>(
     ensures calm { S.steady store.old → S.faults store.new ≡ S.faults store.old }
 {
     let count = store.count_rows(table)?;
-    let mut rows = Vec::new(alloc);
-    let mut from: u64 = 0;
-    while from < count {
-        let limit = (count - from).min(PAGE);
-        let mut page = store.rows(alloc, table, from, limit)?;
-        rows.append(&mut page)?;
-        from += limit;
-    }
-    Ok(rows)
+    store.rows(alloc, table, 0, count)
 }
 
 /// The table that has the places of a layout's tiles.
