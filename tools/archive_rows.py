@@ -76,6 +76,16 @@ def tile(data, t):
     return answered(lambda: pm.archive_tile(data, t), lambda d: 'none' if d is None else word(d) if len(d) < 40 else 'x' + d.hex())
 
 
+def answers(contents, call, at_last):
+    """What adds and the end are answered by a medium whose call with a number fails, the first two being those of the beginning."""
+    known = pm.Contents()
+    for i, content in enumerate(contents):
+        call -= len(known.calls(content))
+        if call <= 2:
+            return ['Ok(())'] * i + [FAULT] + [FAILED] * (len(contents) - i)
+    return ['Ok(())'] * len(contents) + [at_last(call - 2)]
+
+
 LONG, OTHER = b'0123456789abcdefghij' * 2, b'0123456789abcdefghij_123456789abcdefghij'
 
 
@@ -107,9 +117,10 @@ def one_digest():
         written(way, [('raw', t, alike[-t % 60]) for t in range(120)])
         written(way, [('raw', t, [alike[0], LONG, alike[5], OTHER, alike[5]][t % 5]) for t in range(10, 0, -1)])
         front = '0 ' if way == 'start' else ''
-        adds = '4 ' + ' '.join(f'raw {t} {word(alike[t])}' for t in (0, 1, 2, 1))
-        for call, answers in [(3, [FAULT] + [FAILED] * 4), (4, ['Ok(())', FAULT] + [FAILED] * 3), (5, ['Ok(())'] * 2 + [FAULT, FAILED, FAILED])]:
-            row(f'write {way} {call} {front}{adds}', *answers)
+        adds = [(t, alike[t]) for t in (0, 1, 2)] + [(3, alike[1])]
+        words = '4 ' + ' '.join(f'raw {t} {word(content)}' for t, content in adds)
+        for call in range(3, 9):
+            row(f'write {way} {call} {front}{words}', *answers([content for _, content in adds], call, str))
             row('medium part 97 1', 'x00')
 
 
@@ -164,23 +175,21 @@ def options():
 
 
 def faults():
-    """A medium whose call with a number fails, the first two being those of the beginning, and each new content one more."""
+    """A medium whose call with a number fails: one of the two of the beginning, of those of the adds, or of the four of the end."""
     for way, front in (('create', ''), ('over', ''), ('start', '0 ')):
         adds = '4 raw 0 x30 raw 1 x30 raw 2 x30 raw 1 x31'
-        for call, answers in [(1, ['Reading(Fault)']), (2, ['Reading(Fault)']), (3, [FAULT] + [FAILED] * 4), (4, ['Ok(())'] * 3 + [FAULT, FAILED]),
-                              (5, ['Ok(())'] * 4 + ['Err(OverlappingEntries(1))']), (6, ['Ok(())'] * 4 + ['Err(OverlappingEntries(1))'])]:
-            row(f'write {way} {call} {front}{adds}', *answers)
+        for call in range(1, 9):
+            row(f'write {way} {call} {front}{adds}', *(['Reading(Fault)'] if call < 3 else answers([b'0', b'0', b'0', b'1'], call, lambda _: 'Err(OverlappingEntries(1))')))
         row('writer new 2')
         data, h = pm.archive([(0, b'a'), (1, b'a'), (pm.tile_id(1, 1, 1), b'b')], type=2)
         adds = '3 plain 0 x61 raw 1 x61 raw 3 x62'
-        ok = ['Ok(())'] * 3
-        for call in range(10):
-            row(f'write {way} {call} {front}{adds}', *([*ok, f'Ok({places(h)})'] if call in (0, 9) else ['Reading(Fault)'] if call < 3 else [FAULT] + [FAILED] * 3 if call == 3
-                                                       else [*ok[:2], FAULT, FAILED] if call == 4 else [*ok, FAULT]))
+        last = 9
+        for call in [*range(1, last + 2), 0]:
+            row(f'write {way} {call} {front}{adds}', *(['Reading(Fault)'] if 0 < call < 3 else answers([b'a', b'a', b'b'], call or U64, lambda left: FAULT if left <= 4 else f'Ok({places(h)})')))
             if call > 2 or call == 0:
-                row('medium part 97 1', 'x01' if call in (0, 9) else 'x00')
-            if 2 < call < 9 or call == 0:
-                row('state tile 0', 'InvalidMagicNumber' if 0 < call < 8 else 'UnsupportedCompression(Unknown)' if call else 'x61')
+                row('medium part 97 1', 'x00' if 0 < call <= last else 'x01')
+            if 2 < call <= last or call == 0:
+                row('state tile 0', 'InvalidMagicNumber' if 0 < call < last else 'UnsupportedCompression(Unknown)' if call else 'x61')
         held(data)
         row('writer new 0')
 

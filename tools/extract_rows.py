@@ -136,15 +136,15 @@ class Run:
         return h, text, parts
 
     def add(self, h, parts):
-        """The tiles of parts, each read once, and each new content written once."""
-        adds, known = [], set()
+        """The tiles of parts, each read once from the source, and the calls of the medium that their adds make."""
+        adds, known = [], pm.Contents()
         for first, offset, length, run in parts:
             self.source.read(h['data_offset'], offset, length)
             content = of_archive(lambda: pm.part(self.data, h['data_offset'], offset, length))
-            if content not in known:
-                self.write()
-                known.add(content)
-            adds += [(first + i, content) for i in range(run)]
+            for i in range(run):
+                for call in known.calls(content):
+                    self.write() if call == 'write' else self.medium.call()
+                adds.append((first + i, content))
         return adds
 
     def extract(self, z, x, y, greatest, most):

@@ -2,6 +2,8 @@
 # The scripts beside it compute from it what the rows programs must print. Nothing here is taken from a program of this repository.
 import struct
 
+from hashes import xxh3
+
 COMPRESSIONS = ['Unknown', 'None', 'Gzip', 'Brotli', 'Zstd']
 TYPES = ['Unknown', 'Mvt', 'Png', 'Jpeg', 'Webp', 'Avif', 'Mlt']
 FRONT = 16384
@@ -350,6 +352,25 @@ def laid(entries, most):
         if len(directory(root)) <= 16257:
             return root, leaves, uppers
         size += size // 5
+
+
+class Contents:
+    """The contents that a writer has: the first one of each digest, and others by their bytes."""
+
+    def __init__(self):
+        self.firsts, self.others = {}, set()
+
+    def calls(self, content):
+        """The calls of the medium that an add makes: a read of the first content of its digest, where that has as many bytes, and a write where the content is new."""
+        first = self.firsts.get(xxh3(content)) if content else content
+        reads = ['read'] * (first is not None and content != b'' and len(first) == len(content))
+        if content == first or content in self.others:
+            return reads
+        if first is None:
+            self.firsts[xxh3(content)] = content
+        else:
+            self.others.add(content)
+        return reads + ['write']
 
 
 def archive(adds, metadata_text=b'{}', most=4096, **options):

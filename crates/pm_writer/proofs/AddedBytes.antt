@@ -1,21 +1,25 @@
 -- Bytes that are added to a medium, behind the contents that it has.
-use Rattle.std.proofs.Common.{◌≡◌, ℕ, ◌+◌, ◌<◌, ◌≤◌, ◌^◌, Bool, true, false, List, [], ◌∷◌, ◌++◌, length, take, flat_map, Option, Some, None, IfSome, is_some, refl, sym, ◌∙◌, ap, arith, subst, append_assoc, append-nil, length-append}
-use Rattle.std.specs.Bool.{Decides}
+use Rattle.std.proofs.Common.{◌≡◌, ℕ, ◌+◌, ◌<◌, ◌≤◌, ◌^◌, Bool, true, false, List, [], ◌∷◌, ◌++◌, length, take, drop, flat_map, Option, Some, None, IfSome, is_some, refl, sym, ◌∙◌, ap, arith, subst, append_assoc, append-nil, length-append}
+use Rattle.std.proofs.lemmas.List.{drop_at}
 use Rattle.std.specs.List.{list_any}
 use Rattle.std.specs.Str.{bytes_eq}
 use Rattle.byte_media.specs.Media.{IsWithin, written}
 use Rattle.pm_format.specs.Options.{Options}
 use Rattle.pm_writer.specs.Adds.{contents_from, put_new}
-use Rattle.pm_writer.specs.Contents.{HasRoom, found_in, fresh}
+use Rattle.pm_writer.specs.Contents.{Finds, IsAlike, IsNew, IsTold, found_in, fresh, piece_sought, place_sought}
 use Rattle.pm_writer.specs.Means.{Means}
 use Rattle.pm_writer.specs.Pieces.{BothTold, IsHidden, WroteFront}
+use Rattle.pm_writer.specs.Took.{Took}
 use Rattle.pm_writer.specs.Writing.{FilledFits, IsStateOf, Writes, begun, data_end, data_of, has_failed, zeros}
 use Rattle.pm_writer.specs.declared.adds.Adds.{Adds}
+use Rattle.pm_writer.specs.declared.contents.Contents.{Contents}
+use Rattle.pm_writer.specs.declared.contents.Sought.{Sought}
+use Rattle.pm_writer.specs.declared.contents.Sought.TheVariants as sought
 use Rattle.pm_writer.specs.declared.state.WriterState.{WriterState}
-use Rattle.pm_writer.proofs.Beginning.{begun_is_hidden, if_some_map, zeros_length}
+use Rattle.pm_writer.proofs.Beginning.{begun_is_hidden, if_both, if_some_map, zeros_length}
 use Rattle.pm_writer.proofs.ContentLemmas.{contents_push}
-use Rattle.pm_writer.proofs.ContentPlaces.{fresh_known, fresh_new}
-use Rattle.pm_writer.proofs.MediumPieces.{both_now, hidden_behind, written_behind}
+use Rattle.pm_writer.proofs.ContentPlaces.{finds_alike, flat_push, fresh_known, fresh_new}
+use Rattle.pm_writer.proofs.MediumPieces.{both_now, both_tell, hidden_behind, written_behind}
 
 pub begun_length : (o : Options) (adds : List (ℕ × List ℕ)) → length (begun o adds) ≡ data_end o adds
 begun_length o adds = (let n = zeros_length 16384 in omega (arith, n, length-append (zeros 16384) (o.metadata ++ data_of adds), length-append o.metadata (data_of adds)))
@@ -26,10 +30,6 @@ ends_at o told s adds place w alive p = let h = w.held alive in omega (arith, w.
 
 pub within_end : (o : Options) (told : Option (List ℕ)) (s : WriterState) (adds : List (ℕ × List ℕ)) (at : ℕ) → Writes o told s adds → has_failed s ≡ false → at ≡ data_end o adds → IfSome told (IsWithin at)
 within_end o told s adds at w alive e = if_some_map (λ b. b ≡ begun o adds) (IsWithin at) told (λ b q. omega (arith, e, ap length q, begun_length o adds)) ((w.held alive).bytes)
-
-pub flat_push : (cs : List (List ℕ)) (x : List ℕ) → flat_map (λ c. c) (cs ++ x ∷ []) ≡ flat_map (λ c. c) cs ++ x
-flat_push [] x = append-nil x
-flat_push (c ∷ cs) x = ap (λ z. c ++ z) (flat_push cs x) ∙ sym (append_assoc c (flat_map (λ c. c) cs) x)
 
 -- one more add puts what is new of its bytes behind the others
 pub data_more : (adds : List (ℕ × List ℕ)) (id : ℕ) (bytes : List ℕ) → data_of (adds ++ (id, bytes) ∷ []) ≡ data_of adds ++ fresh (contents_from [] adds) bytes
@@ -46,19 +46,61 @@ data_more adds id bytes = ap (flat_map (λ c. c)) (contents_push [] adds (id, by
 pub end_more : (o : Options) (adds : List (ℕ × List ℕ)) (id : ℕ) (bytes : List ℕ) → data_end o (adds ++ (id, bytes) ∷ []) ≡ data_end o adds + length (fresh (contents_from [] adds) bytes)
 end_more o adds id bytes = omega (arith, ap length (data_more adds id bytes), length-append (data_of adds) (fresh (contents_from [] adds) bytes))
 
+-- sought bytes are fresh as they were found
+fresh_sought : (cs : List (List ℕ)) (x bytes : List ℕ) (s : Sought) → found_in cs x ≡ place_sought s → length x ≡ length bytes → length (fresh cs x) ≡ length (piece_sought s bytes)
+fresh_sought cs x bytes (sought.Known place) f n = ap length (fresh_known cs x place f)
+fresh_sought cs x bytes (sought.First digest) f n = ap length (fresh_new cs x f) ∙ n
+fresh_sought cs x bytes (sought.Other content) f n = ap length (fresh_new cs x f) ∙ n
+
+piece_is : (cs : List (List ℕ)) (x : List ℕ) (s : Sought) → found_in cs x ≡ place_sought s → piece_sought s x ≡ fresh cs x
+piece_is cs x (sought.Known place) f = sym (fresh_known cs x place f)
+piece_is cs x (sought.First digest) f = sym (fresh_new cs x f)
+piece_is cs x (sought.Other content) f = sym (fresh_new cs x f)
+
+-- what they were taken for lies on a medium that tells
+left_taken : (cs : List (List ℕ)) (at : ℕ) (x bytes : List ℕ) (s : Sought) (t0 t1 : Option (List ℕ)) → Took t0 bytes x → found_in cs x ≡ place_sought s
+    → BothTold (λ b c. c ≡ written b at (piece_sought s bytes)) t0 t1 → BothTold (λ b c. c ≡ written b at (fresh cs x)) t0 t1
+left_taken cs at x bytes s None None t f h = h
+left_taken cs at x bytes s None (Some c) t f h = absurd h
+left_taken cs at x bytes s (Some b) None t f h = absurd h
+left_taken cs at x bytes s (Some b) (Some c) t f h = h ∙ ap (written b at) (ap (piece_sought s) (sym t) ∙ piece_is cs x s f)
+
+-- and is found there
+found_taken : (d : Contents) (adds : List (ℕ × List ℕ)) (id : ℕ) (x bytes : List ℕ) (s : Sought) (t0 t1 : Option (List ℕ)) → Took t0 bytes x → is_some t1 ≡ is_some t0 → found_in (contents_from [] adds) x ≡ place_sought s
+    → IfSome t0 (λ b. found_in (contents_from [] adds) bytes ≡ place_sought s → Finds d (contents_from [] (adds ++ (id, bytes) ∷ []))) → IfSome t1 (λ b. Finds d (contents_from [] (adds ++ (id, x) ∷ [])))
+found_taken d adds id x bytes s t0 None t same f k = tt
+found_taken d adds id x bytes s None (Some c) t same f k = absurd (cc)
+found_taken d adds id x bytes s (Some b) (Some c) t same f k = subst (λ z. Finds d (contents_from [] (adds ++ (id, z) ∷ []))) (sym t) (k (ap (found_in (contents_from [] adds)) (sym t) ∙ f))
+
+pub sought_fits : (o : Options) (adds : List (ℕ × List ℕ)) (id at : ℕ) (x bytes : List ℕ) (s : Sought) → at ≡ data_end o adds → length bytes < 2 ^ 32 → length x ≡ length bytes → found_in (contents_from [] adds) x ≡ place_sought s
+    → at + length (piece_sought s bytes) < 2 ^ 64 → FilledFits o adds id x
+sought_fits o adds id at x bytes s e z n f h = (omega (arith, z, n), omega (arith, e, end_more o adds id x, fresh_sought (contents_from [] adds) x bytes s f n, h))
+
+-- new bytes that end past u64 don't fit
+pub new_long : (o : Options) (adds : List (ℕ × List ℕ)) (id at size : ℕ) (x : List ℕ) → at ≡ data_end o adds → length x ≡ size → IsNew (contents_from [] adds) x → 2 ^ 64 ≤ at + size → FilledFits o adds id x → ⊥
+new_long o adds id at size x e n new long fits = omega (arith, fits.1, end_more o adds id x, ap length (fresh_new (contents_from [] adds) x new), e, n, long)
+
 -- the writer with one more add
-pub added_writes : (o : Options) (adds : List (ℕ × List ℕ)) (t0 t1 : Option (List ℕ)) (s : WriterState) (after : Adds) (id at : ℕ) (bytes : List ℕ) → Writes o t0 s adds → has_failed s ≡ false → at ≡ data_end o adds
-    → FilledFits o adds id bytes → Means after (adds ++ (id, bytes) ∷ []) → BothTold (λ b c. c ≡ written b at (fresh (contents_from [] adds) bytes)) t0 t1 → Writes o t1 (record s { adds = after }) (adds ++ (id, bytes) ∷ [])
-added_writes o adds t0 t1 s after id at bytes w alive e fits m h =
-    let more = data_more adds id bytes in
-    let piece = fresh (contents_from [] adds) bytes in
-    let laid : IfSome t1 (λ b. b ≡ begun o (adds ++ (id, bytes) ∷ [])) =
-    both_now (λ b. b ≡ begun o adds) (λ b. b ≡ begun o (adds ++ (id, bytes) ∷ [])) (λ b c. c ≡ written b at piece) t0 t1
-    (λ b c p q. q ∙ (written_behind b piece at (omega (arith, e, ap length p, begun_length o adds)) ∙ (ap (λ z. z ++ piece) p ∙ (joined (zeros 16384) o.metadata (data_of adds) piece ∙ ap (λ z. zeros 16384 ++ (o.metadata ++ z)) (sym more))))) ((w.held alive).bytes) h in
+pub added_writes : (o : Options) (adds : List (ℕ × List ℕ)) (t0 t1 : Option (List ℕ)) (s : WriterState) (after : Adds) (id at : ℕ) (x bytes : List ℕ) (how : Sought) → Writes o t0 s adds → has_failed s ≡ false → at ≡ data_end o adds
+    → FilledFits o adds id x → Took t0 bytes x → found_in (contents_from [] adds) x ≡ place_sought how → Means after (adds ++ (id, x) ∷ [])
+    → (Finds s.adds.contents (contents_from [] adds) → found_in (contents_from [] adds) bytes ≡ place_sought how → Finds after.contents (contents_from [] (adds ++ (id, bytes) ∷ [])))
+    → BothTold (λ b c. c ≡ written b at (piece_sought how bytes)) t0 t1 → Writes o t1 (record s { adds = after }) (adds ++ (id, x) ∷ [])
+added_writes o adds t0 t1 s after id at x bytes how w alive e fits t f m k h =
+    let more = data_more adds id x in
+    let piece = fresh (contents_from [] adds) x in
+    let left = left_taken (contents_from [] adds) at x bytes how t0 t1 t f h in
+    let laid : IfSome t1 (λ b. b ≡ begun o (adds ++ (id, x) ∷ [])) =
+    both_now (λ b. b ≡ begun o adds) (λ b. b ≡ begun o (adds ++ (id, x) ∷ [])) (λ b c. c ≡ written b at piece) t0 t1
+    (λ b c p q. q ∙ (written_behind b piece at (omega (arith, e, ap length p, begun_length o adds)) ∙ (ap (λ z. z ++ piece) p ∙ (joined (zeros 16384) o.metadata (data_of adds) piece ∙ ap (λ z. zeros 16384 ++ (o.metadata ++ z)) (sym more))))) ((w.held alive).bytes) left in
     record {
       of = record { settings = w.of.settings; plain = w.of.plain; fit = w.of.fit; place = w.of.place };
-      hidden = begun_is_hidden o (adds ++ (id, bytes) ∷ []) t1 laid;
-      held = λ q. record { means = m; ends = fits.1; bytes = laid };
+      hidden = begun_is_hidden o (adds ++ (id, x) ∷ []) t1 laid;
+      held = λ q. record {
+        means = m;
+        ends = fits.1;
+        bytes = laid;
+        finds = found_taken after.contents adds id x bytes how t0 t1 t (both_tell (λ b c. c ≡ written b at piece) t0 t1 left) f (if_some_map (λ b. Finds s.adds.contents (contents_from [] adds)) _ t0 (λ b. k) ((w.held alive).finds));
+      };
     }
   where
     joined : (a b c d : List ℕ) → (a ++ (b ++ c)) ++ d ≡ a ++ (b ++ (c ++ d))
@@ -78,46 +120,30 @@ failed_writes o adds t0 t1 s after at bytes w alive e h = record {
 }
 
 -- the same writer, over bytes that didn't change
-pub same_writes : (o : Options) (adds : List (ℕ × List ℕ)) (t0 t1 : Option (List ℕ)) (s : WriterState) (after : Adds) → Writes o t0 s adds → has_failed s ≡ false → Means after adds → BothTold (λ b c. c ≡ b) t0 t1 → Writes o t1 (record s { adds = after }) adds
-same_writes o adds t0 t1 s after w alive m h = record {
+pub same_writes : (o : Options) (adds : List (ℕ × List ℕ)) (t0 t1 : Option (List ℕ)) (s : WriterState) (after : Adds) → Writes o t0 s adds → has_failed s ≡ false → Means after adds → IsAlike s.adds.contents after.contents
+    → BothTold (λ b c. c ≡ b) t0 t1 → Writes o t1 (record s { adds = after }) adds
+same_writes o adds t0 t1 s after w alive m a h = record {
   of = record { settings = w.of.settings; plain = w.of.plain; fit = w.of.fit; place = w.of.place };
   hidden = both_now IsHidden IsHidden (λ b c. c ≡ b) t0 t1 (λ b c p q. subst IsHidden (sym q) p) w.hidden h;
-  held = λ q. record { means = m; ends = (w.held alive).ends; bytes = both_now (λ b. b ≡ begun o adds) (λ b. b ≡ begun o adds) (λ b c. c ≡ b) t0 t1 (λ b c p q. q ∙ p) ((w.held alive).bytes) h };
+  held = λ q. record {
+    means = m;
+    ends = (w.held alive).ends;
+    bytes = both_now (λ b. b ≡ begun o adds) (λ b. b ≡ begun o adds) (λ b c. c ≡ b) t0 t1 (λ b c p q. q ∙ p) ((w.held alive).bytes) h;
+    finds = both_now (λ b. Finds s.adds.contents (contents_from [] adds)) (λ b. Finds after.contents (contents_from [] adds)) (λ b c. c ≡ b) t0 t1 (λ b c k q. finds_alike s.adds.contents after.contents (contents_from [] adds) a k) ((w.held alive).finds) h;
+  };
 }
+
+-- what a medium tells of the contents
+pub told_contents : (o : Options) (told : Option (List ℕ)) (s : WriterState) (adds : List (ℕ × List ℕ)) → Writes o told s adds → has_failed s ≡ false → IfSome told (IsTold s.data_offset s.adds.contents (contents_from [] adds))
+told_contents o told s adds w alive = if_both (λ b. b ≡ begun o adds) (λ b. Finds s.adds.contents (contents_from [] adds)) (IsTold s.data_offset s.adds.contents (contents_from [] adds)) told
+    (λ b e k. record { lies = ap (drop s.data_offset) e ∙ behind; finds = k }) ((w.held alive).bytes) ((w.held alive).finds)
+  where
+    front : s.data_offset ≡ length (zeros 16384 ++ o.metadata)
+    front = let z = zeros_length 16384 in omega (arith, w.of.place, z, length-append (zeros 16384) o.metadata)
+
+    behind : drop s.data_offset (begun o adds) ≡ data_of adds
+    behind = ap (drop s.data_offset) (sym (append_assoc (zeros 16384) o.metadata (data_of adds))) ∙ drop_at (zeros 16384 ++ o.metadata) (data_of adds) s.data_offset (sym front)
 
 -- where the data ends, by the state
 pub end_is : (o : Options) (s : WriterState) (adds : List (ℕ × List ℕ)) → IsStateOf o s adds → s.data_offset + s.adds.contents.total ≡ data_end o adds
 end_is o s adds i = omega (arith, i.of.place, i.means.contents.total)
-
--- bytes that fit have room behind the others
-pub room_for : (o : Options) (adds : List (ℕ × List ℕ)) (id at : ℕ) (bytes : List ℕ) → FilledFits o adds id bytes → at ≡ data_end o adds → HasRoom at (contents_from [] adds) bytes
-room_for o adds id at bytes f e = omega (arith, f.1, e, end_more o adds id bytes)
-
-fresh_short : (cs : List (List ℕ)) (x : List ℕ) → length (fresh cs x) ≤ length x
-fresh_short cs x = go (list_any (bytes_eq x) cs) refl
-  where
-    go : (b : Bool) → list_any (bytes_eq x) cs ≡ b → length (fresh cs x) ≤ length x
-    go true e = rw e (omega arith)
-    go false e = rw e (omega arith)
-
--- bytes fit where new ones would end within u64
-pub fits_by_end : (o : Options) (s : WriterState) (adds : List (ℕ × List ℕ)) (id : ℕ) (bytes : List ℕ) → IsStateOf o s adds → length bytes < 2 ^ 32 → s.data_offset + s.adds.contents.total + length bytes < 2 ^ 64
-    → FilledFits o adds id bytes
-fits_by_end o s adds id bytes i z e = (z, omega (arith, end_is o s adds i, end_more o adds id bytes, fresh_short (contents_from [] adds) bytes, e))
-
--- and else exactly where they are known
-pub fits_by_known : (o : Options) (s : WriterState) (adds : List (ℕ × List ℕ)) (id : ℕ) (bytes : List ℕ) (known : Bool) → IsStateOf o s adds → length bytes < 2 ^ 32 → 2 ^ 64 ≤ s.data_offset + s.adds.contents.total + length bytes
-    → known ≡ is_some (found_in (contents_from [] adds) bytes) → Decides known (FilledFits o adds id bytes)
-fits_by_known o s adds id bytes known i z e k = go (found_in cs bytes) refl
-  where
-    cs : List (List ℕ)
-    cs = contents_from [] adds
-
-    more : data_end o (adds ++ (id, bytes) ∷ []) ≡ data_end o adds + length (fresh cs bytes)
-    more = end_more o adds id bytes
-
-    go : (p : Option ℕ) → found_in cs bytes ≡ p → Decides known (FilledFits o adds id bytes)
-    go None f =
-        let n : known ≡ false = k ∙ ap is_some f in
-        (λ t. absurd (cc), λ q. absurd (omega (arith, q.1, more, ap length (fresh_new cs bytes f), end_is o s adds i, e)))
-    go (Some p) f = (λ t. (z, omega (arith, i.ends, more, ap length (fresh_known cs bytes p f))), λ q. k ∙ ap is_some f)

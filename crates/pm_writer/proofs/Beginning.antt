@@ -13,6 +13,10 @@ pub if_some_map : (P Q : List ℕ → Type 0) (o : Option (List ℕ)) → ((b : 
 if_some_map P Q None f h = tt
 if_some_map P Q (Some b) f h = f b h
 
+pub if_both : (P Q R : List ℕ → Type 0) (o : Option (List ℕ)) → ((b : List ℕ) → P b → Q b → R b) → IfSome o P → IfSome o Q → IfSome o R
+if_both P Q R None f p q = tt
+if_both P Q R (Some b) f p q = f b p q
+
 pub zeros_length : (n : ℕ) → length (zeros n) ≡ n
 unfolding zeros
 zeros_length n = length-replicate n 0

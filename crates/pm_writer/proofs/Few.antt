@@ -16,7 +16,7 @@ use Rattle.pm_writer.specs.Causes.{ArchiveFits}
 use Rattle.pm_writer.specs.Few.{AreFew}
 use Rattle.pm_writer.specs.Leaves.{Layout, below_layout, cut, end_of, fits_root, laid, pieces, stands_in_root, uppers_by}
 use Rattle.pm_writer.specs.Writing.{AddFits, add_to, data_of}
-use Rattle.pm_writer.proofs.AddedBytes.{flat_push}
+use Rattle.pm_writer.proofs.ContentPlaces.{flat_push}
 use Rattle.pm_writer.proofs.CuttingLemmas.{root_length, short_both}
 use Rattle.pm_writer.proofs.Formed.{addressed}
 use Rattle.pm_writer.proofs.Laying.{IsLaidAs, cut_most, laid_as, laid_flat, laid_leaves, laid_uppers}

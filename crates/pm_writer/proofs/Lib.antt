@@ -2,6 +2,7 @@ pub mod Runs
 pub mod Blocks
 pub mod ContentLemmas
 pub mod ContentPlaces
+pub mod Seeking
 pub mod Putting
 pub mod AfterAdd
 pub mod Times
@@ -39,3 +40,4 @@ pub mod InTurn
 pub mod Labelled
 pub mod PlacesRead
 pub mod Complete
+pub mod Took

@@ -1,6 +1,6 @@
 -- Pieces written one after another, where the bytes are told.
 use Rattle.pm_writer.proofs.Runs.{le_or}
-use Rattle.std.proofs.Common.{◌≡◌, ℕ, ◌+◌, ◌-◌, ◌<◌, ◌≤◌, inl, inr, List, [], ◌∷◌, ◌++◌, length, take, drop, get_or, set, Option, Some, None, IfSome, Ok, Err, refl, sym, ◌∙◌, ap, arith, append_assoc, append-nil}
+use Rattle.std.proofs.Common.{◌≡◌, ℕ, ◌+◌, ◌-◌, ◌<◌, ◌≤◌, inl, inr, List, [], ◌∷◌, ◌++◌, length, take, drop, get_or, set, Option, Some, None, IfSome, is_some, Ok, Err, refl, sym, ◌∙◌, ap, arith, append_assoc, append-nil}
 use Rattle.std.proofs.Math.ListN.{get_or-append}
 use Rattle.std.proofs.lemmas.List.{drop_all, drop-append-le, get_or-append_right, get_or-drop, get_or-take, length-take-le, take-append-drop, take-append-le, take_all, drop_at}
 use Rattle.std.proofs.Math.ListN.{length-set}
@@ -34,6 +34,12 @@ both_now P Q R None None f p h = tt
 both_now P Q R None (Some c) f p h = absurd h
 both_now P Q R (Some b) None f p h = absurd h
 both_now P Q R (Some b) (Some c) f p h = f b c p h
+
+pub both_tell : (R : List ℕ → List ℕ → Type 0) (old new : Option (List ℕ)) → BothTold R old new → is_some new ≡ is_some old
+both_tell R None None h = refl
+both_tell R None (Some c) h = absurd h
+both_tell R (Some b) None h = absurd h
+both_tell R (Some b) (Some c) h = refl
 
 -- all of a piece is a front of it
 pub wrote_all : (at : ℕ) (piece b c : List ℕ) → c ≡ written b at piece → WroteFront at piece b c

@@ -20,3 +20,4 @@ pub mod Writing
 pub mod Places
 pub mod Finishing
 pub mod Stream
+pub mod Took

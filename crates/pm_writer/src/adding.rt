@@ -1,43 +1,81 @@
 // Adds to an archive that is begun.
-ghost use Rattle.std.specs.Prelude.{◌≡◌, ◌≤◌, ◌<◌, ◌+◌, ◌^◌, ℕ, List, [], ◌∷◌, ◌++◌, false, length, OnOk, OnErr, is_some};
-ghost use Rattle.std.specs.Bool.{Decides};
+ghost use Rattle.std.specs.Prelude.{◌≡◌, ◌≤◌, ◌<◌, ◌+◌, ◌^◌, ℕ, List, [], ◌∷◌, ◌++◌, false, length, None, Err, IfOk, IfErr, OnOk, OnErr, IsTrue, IsFalse, is_some};
 ghost use Rattle.tile_ids.specs.declared.id.TheConstants.{MAX_TILE_ID};
 ghost use Rattle.tile_ids.specs.Hilbert.{id_of};
 ghost use Rattle.pm_format.specs.Options.{Options};
 ghost use Rattle.pm_format.specs.declared.compression.Compression.TheVariants as compression;
 ghost use Rattle.pm_writer.specs.Causes.{AddCauses, failed_after};
-ghost use Rattle.pm_writer.specs.Means.{Means};
-ghost use Rattle.pm_writer.specs.Writing.{AddFits, FilledFits, IsStateOf, Writes, add_to, has_failed};
+ghost use Rattle.pm_writer.specs.Adds.{contents_from};
+ghost use Rattle.pm_writer.specs.Contents.{IsSought, found_in, piece_sought, place_sought};
+ghost use Rattle.pm_writer.specs.Pieces.{PutCauses};
+ghost use Rattle.pm_writer.specs.Took.{Took};
+ghost use Rattle.pm_writer.specs.Writing.{AddFits, FilledFits, Writes, add_to, has_failed};
 
 use crate::WriterState;
+use crate::contents::Sought;
 use pm_format::{Compression, Medium, PmtError, PmtResult, ReadCause, WriteFault};
 use tile_ids::{TileCoord, TileId};
 
 impl WriterState {
-    // Whether bytes can be added: new ones don't end past u64. It takes no memory, and looks among the contents only where new bytes would end past u64.
-    fn fits(&self, bytes: &[u8], size: u32) -> bool
-        requires means { (adds : List (ℕ × List ℕ)) × Means self.now.adds adds }
-        requires ends { self.now.data_offset + self.now.adds.contents.total < 2 ^ 64 }
-        requires size { size ≡ length bytes.now }
-        ensures { (o : Options) (adds : List (ℕ × List ℕ)) (id : ℕ) → IsStateOf o self.now adds → Decides result (FilledFits o adds id bytes.now) }
+    // Whether sought bytes can be added: known ones, and new ones that don't end past u64.
+    fn fits(&self, size: u32, sought: &Sought) -> bool
+        requires { self.now.data_offset + self.now.adds.contents.total < 2 ^ 64 }
+        ensures yes { IsTrue result → (x : List ℕ) → length x ≡ size → self.now.data_offset + self.now.adds.contents.total + length (piece_sought sought.now x) < 2 ^ 64 }
+        ensures no { IsFalse result → (place_sought sought.now ≡ None) × (2 ^ 64 ≤ self.now.data_offset + self.now.adds.contents.total + size) }
     {
         let end = self.data_offset + self.adds.total();
-        if u64::from(size) <= u64::MAX - end {
-            return true;
-        }
-        self.adds.has(bytes)
+        !sought.is_new() || u64::from(size) <= u64::MAX - end
     }
 
-    // Adds bytes of which there is at least one.
-    fn add_filled<M: Medium>(&mut self, medium: &mut M, id: u64, bytes: &[u8]) -> PmtResult<()>
+    // What bytes are found as. After a fault the writer has failed.
+    fn seek<M: Medium>(&mut self, medium: &mut M, bytes: &[u8]) -> PmtResult<Sought>
+        requires alive { has_failed self.old ≡ false }
+        requires some { 0 < length bytes.now }
+        requires writes { (o : Options) × (adds : List (ℕ × List ℕ)) × Writes o (M.told medium.old) self.old adds }
+        ensures found { (o : Options) (adds : List (ℕ × List ℕ)) → Writes o (M.told medium.old) self.old adds
+            → IfOk result (λ s. (taken : List ℕ) × Took (M.told medium.old) bytes.now taken × (found_in (contents_from [] adds) taken ≡ place_sought s)) }
+        ensures sought { IfOk result (IsSought self.new.adds.contents bytes.now) }
+        ensures kept { (o : Options) (adds : List (ℕ × List ℕ)) → Writes o (M.told medium.old) self.old adds → Writes o (M.told medium.new) self.new adds }
+        ensures causes { IfErr result (λ e. PutCauses (M.faults medium.old) (M.faults medium.new) (Err e)) }
+        ensures alive { OnOk result (has_failed self.new ≡ false) }
+        ensures failed { IfErr result (λ e. has_failed self.new ≡ failed_after false (Err e)) }
+        ensures told { M.told medium.new ≡ M.told medium.old }
+        ensures versions { M.versions medium.new ≡ M.versions medium.old }
+        ensures faults { M.faults medium.old ≤ M.faults medium.new }
+        ensures counted { M.reads medium.old ≤ M.reads medium.new }
+        ensures reads { M.reads medium.new ≤ M.reads medium.old + 1 }
+        ensures calm { M.steady medium.old → M.steady medium.new × (M.faults medium.new ≡ M.faults medium.old) }
+    {
+        match self.adds.seek(self.alloc, medium, self.data_offset, bytes) {
+            Ok(sought) => Ok(sought),
+            Err(WriteFault::OutOfMemory) => Err(PmtError::OutOfMemory),
+            Err(WriteFault::Fault) => {
+                self.failed = true;
+                Err(PmtError::Reading(ReadCause::Fault))
+            }
+        }
+    }
+
+    // Adds bytes that were sought. After a fault the writer has failed.
+    fn add_sought<M: Medium>(
+        &mut self,
+        medium: &mut M,
+        id: u64,
+        bytes: &[u8],
+        size: u32,
+        sought: Sought,
+    ) -> PmtResult<()>
         requires alive { has_failed self.old ≡ false }
         requires id { id ≤ MAX_TILE_ID }
         requires some { 0 < length bytes.now }
+        requires size { size ≡ length bytes.now }
+        requires sought { IsSought self.old.adds.contents bytes.now sought }
+        requires fits { self.old.data_offset + self.old.adds.contents.total + length (piece_sought sought bytes.now) < 2 ^ 64 }
         requires writes { (o : Options) × (adds : List (ℕ × List ℕ)) × Writes o (M.told medium.old) self.old adds }
-        ensures added { (o : Options) (adds : List (ℕ × List ℕ)) → Writes o (M.told medium.old) self.old adds → OnOk result (Writes o (M.told medium.new) self.new (adds ++ (id, bytes.now) ∷ [])) }
+        ensures added { (o : Options) (adds : List (ℕ × List ℕ)) (taken : List ℕ) → Writes o (M.told medium.old) self.old adds → Took (M.told medium.old) bytes.now taken → found_in (contents_from [] adds) taken ≡ place_sought sought
+            → OnOk result (FilledFits o adds id taken × Writes o (M.told medium.new) self.new (adds ++ (id, taken) ∷ [])) }
         ensures kept { (o : Options) (adds : List (ℕ × List ℕ)) → Writes o (M.told medium.old) self.old adds → OnErr result (Writes o (M.told medium.new) self.new adds) }
-        ensures causes { (o : Options) (adds : List (ℕ × List ℕ)) → Writes o (M.told medium.old) self.old adds
-            → AddCauses compression.None false (FilledFits o adds id bytes.now) (M.faults medium.old) (M.faults medium.new) result }
+        ensures causes { PutCauses (M.faults medium.old) (M.faults medium.new) result }
         ensures failed { has_failed self.new ≡ failed_after false result }
         ensures tells { is_some (M.told medium.new) ≡ is_some (M.told medium.old) }
         ensures versions { is_some (M.versions medium.new) ≡ is_some (M.versions medium.old) }
@@ -45,15 +83,9 @@ impl WriterState {
         ensures reads { M.reads medium.new ≡ M.reads medium.old }
         ensures calm { M.steady medium.old → M.steady medium.new × (M.faults medium.new ≡ M.faults medium.old) }
     {
-        let Ok(size) = u32::try_from(bytes.len()) else {
-            return Err(PmtError::IndexEntryOverflow);
-        };
-        if !self.fits(bytes, size) {
-            return Err(PmtError::IndexEntryOverflow);
-        }
         match self
             .adds
-            .add(self.alloc, medium, self.data_offset, id, bytes, size)
+            .add(medium, self.data_offset, id, bytes, size, sought)
         {
             Ok(()) => Ok(()),
             Err(WriteFault::OutOfMemory) => Err(PmtError::OutOfMemory),
@@ -64,10 +96,41 @@ impl WriterState {
         }
     }
 
+    // Adds bytes of which there is at least one.
+    fn add_filled<M: Medium>(&mut self, medium: &mut M, id: u64, bytes: &[u8]) -> PmtResult<()>
+        requires alive { has_failed self.old ≡ false }
+        requires id { id ≤ MAX_TILE_ID }
+        requires some { 0 < length bytes.now }
+        requires writes { (o : Options) × (adds : List (ℕ × List ℕ)) × Writes o (M.told medium.old) self.old adds }
+        ensures added { (o : Options) (adds : List (ℕ × List ℕ)) → Writes o (M.told medium.old) self.old adds → OnOk result ((taken : List ℕ) × Took (M.told medium.old) bytes.now taken × Writes o (M.told medium.new) self.new (adds ++ (id, taken) ∷ [])) }
+        ensures kept { (o : Options) (adds : List (ℕ × List ℕ)) → Writes o (M.told medium.old) self.old adds → OnErr result (Writes o (M.told medium.new) self.new adds) }
+        ensures causes { (o : Options) (adds : List (ℕ × List ℕ)) → Writes o (M.told medium.old) self.old adds
+            → (taken : List ℕ) × Took (M.told medium.old) bytes.now taken × AddCauses compression.None false (FilledFits o adds id taken) (M.faults medium.old) (M.faults medium.new) result }
+        ensures failed { has_failed self.new ≡ failed_after false result }
+        ensures tells { is_some (M.told medium.new) ≡ is_some (M.told medium.old) }
+        ensures versions { is_some (M.versions medium.new) ≡ is_some (M.versions medium.old) }
+        ensures faults { M.faults medium.old ≤ M.faults medium.new }
+        ensures counted { M.reads medium.old ≤ M.reads medium.new }
+        ensures reads { M.reads medium.new ≤ M.reads medium.old + 1 }
+        ensures calm { M.steady medium.old → M.steady medium.new × (M.faults medium.new ≡ M.faults medium.old) }
+    {
+        let Ok(size) = u32::try_from(bytes.len()) else {
+            return Err(PmtError::IndexEntryOverflow);
+        };
+        let sought = self.seek(medium, bytes)?;
+        if !self.fits(size, &sought) {
+            return Err(PmtError::IndexEntryOverflow);
+        }
+        self.add_sought(medium, id, bytes, size, sought)
+    }
+
     /// Adds the bytes of the tile with this id as they are; empty data is no tile and changes nothing.
     ///
-    /// The first of these that holds is answered: `Failed` exactly after an earlier fault of the medium in this writer; `IndexEntryOverflow` exactly where
-    /// the data has 2^32 bytes or more, or its end would pass u64; `Reading(Fault)` only where the medium's count of faults rose; `OutOfMemory`.
+    /// The data is compared with contents that the medium answers, by one read at most. A medium that tells its bytes answers what was written, and the data is taken for itself; one that doesn't may
+    /// answer other bytes, and the data is then taken for some data of the same length.
+    ///
+    /// `Failed` comes exactly after an earlier fault of the medium in this writer, and `IndexEntryOverflow` only where what the data is taken for has 2^32 bytes or more, or its end would pass u64; then the answer
+    /// is never Ok. `Reading(Fault)`, only where the medium's count of faults rose, and `OutOfMemory` may come in the place of the last one.
     /// After each of them the writer and its medium mean what they did, and no part of an archive is shown.
     pub fn add_raw_tile_by_id<M: Medium>(
         &mut self,
@@ -77,15 +140,16 @@ impl WriterState {
     ) -> PmtResult<()>
         requires writes { (o : Options) × (adds : List (ℕ × List ℕ)) × Writes o (M.told medium.old) self.old adds }
         ensures writes { (o : Options) × (adds : List (ℕ × List ℕ)) × Writes o (M.told medium.new) self.new adds }
-        ensures added { (o : Options) (adds : List (ℕ × List ℕ)) → Writes o (M.told medium.old) self.old adds → OnOk result (Writes o (M.told medium.new) self.new (add_to adds id bytes.now)) }
+        ensures added { (o : Options) (adds : List (ℕ × List ℕ)) → Writes o (M.told medium.old) self.old adds → OnOk result ((taken : List ℕ) × Took (M.told medium.old) bytes.now taken × Writes o (M.told medium.new) self.new (add_to adds id taken)) }
         ensures kept { (o : Options) (adds : List (ℕ × List ℕ)) → Writes o (M.told medium.old) self.old adds → OnErr result (Writes o (M.told medium.new) self.new adds) }
         ensures causes { (o : Options) (adds : List (ℕ × List ℕ)) → Writes o (M.told medium.old) self.old adds
-            → AddCauses compression.None (has_failed self.old) (AddFits o adds id bytes.now) (M.faults medium.old) (M.faults medium.new) result }
+            → (taken : List ℕ) × Took (M.told medium.old) bytes.now taken × AddCauses compression.None (has_failed self.old) (AddFits o adds id taken) (M.faults medium.old) (M.faults medium.new) result }
         ensures failed { has_failed self.new ≡ failed_after (has_failed self.old) result }
         ensures tells { is_some (M.told medium.new) ≡ is_some (M.told medium.old) }
         ensures versions { is_some (M.versions medium.new) ≡ is_some (M.versions medium.old) }
         ensures faults { M.faults medium.old ≤ M.faults medium.new }
-        ensures reads { M.reads medium.new ≡ M.reads medium.old }
+        ensures counted { M.reads medium.old ≤ M.reads medium.new }
+        ensures reads { M.reads medium.new ≤ M.reads medium.old + 1 }
         ensures calm { M.steady medium.old → M.steady medium.new × (M.faults medium.new ≡ M.faults medium.old) }
     {
         if self.failed {
@@ -106,15 +170,16 @@ impl WriterState {
     ) -> PmtResult<()>
         requires writes { (o : Options) × (adds : List (ℕ × List ℕ)) × Writes o (M.told medium.old) self.old adds }
         ensures writes { (o : Options) × (adds : List (ℕ × List ℕ)) × Writes o (M.told medium.new) self.new adds }
-        ensures added { (o : Options) (adds : List (ℕ × List ℕ)) → Writes o (M.told medium.old) self.old adds → OnOk result (Writes o (M.told medium.new) self.new (add_to adds (id_of coord) bytes.now)) }
+        ensures added { (o : Options) (adds : List (ℕ × List ℕ)) → Writes o (M.told medium.old) self.old adds → OnOk result ((taken : List ℕ) × Took (M.told medium.old) bytes.now taken × Writes o (M.told medium.new) self.new (add_to adds (id_of coord) taken)) }
         ensures kept { (o : Options) (adds : List (ℕ × List ℕ)) → Writes o (M.told medium.old) self.old adds → OnErr result (Writes o (M.told medium.new) self.new adds) }
         ensures causes { (o : Options) (adds : List (ℕ × List ℕ)) → Writes o (M.told medium.old) self.old adds
-            → AddCauses compression.None (has_failed self.old) (AddFits o adds (id_of coord) bytes.now) (M.faults medium.old) (M.faults medium.new) result }
+            → (taken : List ℕ) × Took (M.told medium.old) bytes.now taken × AddCauses compression.None (has_failed self.old) (AddFits o adds (id_of coord) taken) (M.faults medium.old) (M.faults medium.new) result }
         ensures failed { has_failed self.new ≡ failed_after (has_failed self.old) result }
         ensures tells { is_some (M.told medium.new) ≡ is_some (M.told medium.old) }
         ensures versions { is_some (M.versions medium.new) ≡ is_some (M.versions medium.old) }
         ensures faults { M.faults medium.old ≤ M.faults medium.new }
-        ensures reads { M.reads medium.new ≡ M.reads medium.old }
+        ensures counted { M.reads medium.old ≤ M.reads medium.new }
+        ensures reads { M.reads medium.new ≤ M.reads medium.old + 1 }
         ensures calm { M.steady medium.old → M.steady medium.new × (M.faults medium.new ≡ M.faults medium.old) }
     {
         self.add_raw_tile_by_id(medium, TileId::from(coord), bytes)
@@ -129,15 +194,16 @@ impl WriterState {
     ) -> PmtResult<()>
         requires writes { (o : Options) × (adds : List (ℕ × List ℕ)) × Writes o (M.told medium.old) self.old adds }
         ensures writes { (o : Options) × (adds : List (ℕ × List ℕ)) × Writes o (M.told medium.new) self.new adds }
-        ensures added { (o : Options) (adds : List (ℕ × List ℕ)) → Writes o (M.told medium.old) self.old adds → OnOk result (Writes o (M.told medium.new) self.new (add_to adds (id_of coord) bytes.now)) }
+        ensures added { (o : Options) (adds : List (ℕ × List ℕ)) → Writes o (M.told medium.old) self.old adds → OnOk result ((taken : List ℕ) × Took (M.told medium.old) bytes.now taken × Writes o (M.told medium.new) self.new (add_to adds (id_of coord) taken)) }
         ensures kept { (o : Options) (adds : List (ℕ × List ℕ)) → Writes o (M.told medium.old) self.old adds → OnErr result (Writes o (M.told medium.new) self.new adds) }
         ensures causes { (o : Options) (adds : List (ℕ × List ℕ)) → Writes o (M.told medium.old) self.old adds
-            → AddCauses o.tile_compression (has_failed self.old) (AddFits o adds (id_of coord) bytes.now) (M.faults medium.old) (M.faults medium.new) result }
+            → (taken : List ℕ) × Took (M.told medium.old) bytes.now taken × AddCauses o.tile_compression (has_failed self.old) (AddFits o adds (id_of coord) taken) (M.faults medium.old) (M.faults medium.new) result }
         ensures failed { has_failed self.new ≡ failed_after (has_failed self.old) result }
         ensures tells { is_some (M.told medium.new) ≡ is_some (M.told medium.old) }
         ensures versions { is_some (M.versions medium.new) ≡ is_some (M.versions medium.old) }
         ensures faults { M.faults medium.old ≤ M.faults medium.new }
-        ensures reads { M.reads medium.new ≡ M.reads medium.old }
+        ensures counted { M.reads medium.old ≤ M.reads medium.new }
+        ensures reads { M.reads medium.new ≤ M.reads medium.old + 1 }
         ensures calm { M.steady medium.old → M.steady medium.new × (M.faults medium.new ≡ M.faults medium.old) }
     {
         let label = self.settings.tile_compression;

@@ -1,5 +1,5 @@
 // The adds so far: their contents once each, and their entries.
-ghost use Rattle.std.specs.Prelude.{◌≡◌, ◌<◌, ◌≤◌, ◌&&◌, ◌+◌, ℕ, List, [], ◌∷◌, ◌++◌, length, IfSome, OnOk, OnErr, IsErrOf, is_some, vec_len};
+ghost use Rattle.std.specs.Prelude.{◌≡◌, ◌<◌, ◌≤◌, ◌&&◌, ◌+◌, ℕ, List, [], ◌∷◌, ◌++◌, ◌^◌, length, IfSome, IfOk, OnOk, OnErr, IsErrOf, is_some, vec_len};
 ghost use Rattle.std.specs.Vec.{vec_capacity};
 ghost use Rattle.tile_ids.specs.Counts.{Rose};
 ghost use Rattle.tile_ids.specs.declared.id.TheConstants.{MAX_TILE_ID};
@@ -7,12 +7,13 @@ ghost use Rattle.byte_media.specs.Media.{IsWithin};
 ghost use Rattle.pm_format.specs.Directory.{entry};
 ghost use Rattle.pm_writer.specs.Adds.{contents_from, longest_run};
 ghost use Rattle.pm_writer.specs.Archive.{ids_of, rising};
-ghost use Rattle.pm_writer.specs.Contents.{HasRoom, found_in, fresh};
+ghost use Rattle.pm_writer.specs.Contents.{Finds, IsAlike, IsSought, IsTold, found_in, piece_sought, place_sought};
 ghost use Rattle.pm_writer.specs.Growing.{grows, put};
 ghost use Rattle.pm_writer.specs.Means.{Means, is_above};
 ghost use Rattle.pm_writer.specs.Pieces.{LeavesPiece};
+ghost use Rattle.pm_writer.specs.Took.{Took};
 
-use crate::contents::Contents;
+use crate::contents::{Contents, Sought};
 use pm_format::{DirEntry, Medium, WriteFault};
 use std::alloc::{AllocError, Global};
 use tile_ids::OutOfMemory;
@@ -70,7 +71,8 @@ fn still_rises(rises: bool, last: Option<u64>, id: u64) -> bool
 impl Adds {
     /// No add.
     pub(crate) fn new(alloc: Global) -> Adds
-        ensures { Means result [] }
+        ensures means { Means result [] }
+        ensures finds { Finds result.contents [] }
     {
         Adds {
             contents: Contents::new(alloc),
@@ -78,14 +80,6 @@ impl Adds {
             last: None,
             rises: true,
         }
-    }
-
-    /// Whether the contents have these bytes. It takes no memory.
-    pub(crate) fn has(&self, bytes: &[u8]) -> bool
-        requires { (adds : List (ℕ × List ℕ)) × Means self.now adds }
-        ensures { (adds : List (ℕ × List ℕ)) → Means self.now adds → result ≡ is_some (found_in (contents_from [] adds) bytes.now) }
-    {
-        self.contents.has(bytes)
     }
 
     /// How many bytes the contents have together.
@@ -112,33 +106,62 @@ impl Adds {
     /// Makes room for the entries of so many more adds. After each answer the adds are as before.
     pub(crate) fn reserve(&mut self, additional: usize) -> Result<(), OutOfMemory>
         ensures same { (adds : List (ℕ × List ℕ)) → Means self.old adds → Means self.new adds }
-        ensures total { self.new.contents.total ≡ self.old.contents.total }
+        ensures contents { self.new.contents ≡ self.old.contents }
         ensures room { OnOk result (vec_len self.new.entries + additional ≤ vec_capacity self.new.entries) }
     {
         self.entries.reserve(additional)?;
         Ok(())
     }
 
-    /// Adds bytes. New ones are written behind the others on a medium, on which they lie from a place on. Memory is taken before anything is
-    /// written. Refused, the adds are as before.
+    /// What bytes are found as, among contents that lie on a medium from a place on: `Contents::seek`.
+    pub(crate) fn seek<M: Medium>(
+        &self,
+        alloc: Global,
+        medium: &mut M,
+        from: u64,
+        bytes: &[u8],
+    ) -> Result<Sought, WriteFault>
+        requires some { 0 < length bytes.now }
+        requires ends { from + self.now.contents.total < 2 ^ 64 }
+        requires within { IfSome (M.told medium.old) (IsWithin (from + self.now.contents.total)) }
+        requires means { (adds : List (ℕ × List ℕ)) × Means self.now adds }
+        ensures found { (adds : List (ℕ × List ℕ)) → Means self.now adds → IfSome (M.told medium.old) (IsTold from self.now.contents (contents_from [] adds))
+            → IfOk result (λ s. (taken : List ℕ) × Took (M.told medium.old) bytes.now taken × (found_in (contents_from [] adds) taken ≡ place_sought s)) }
+        ensures sought { IfOk result (IsSought self.now.contents bytes.now) }
+        ensures cause { IsErrOf result WriteFault.Fault → Rose (M.faults medium.old) (M.faults medium.new) }
+        ensures told { M.told medium.new ≡ M.told medium.old }
+        ensures versions { M.versions medium.new ≡ M.versions medium.old }
+        ensures faults { M.faults medium.old ≤ M.faults medium.new }
+        ensures counted { M.reads medium.old ≤ M.reads medium.new }
+        ensures reads { M.reads medium.new ≤ M.reads medium.old + 1 }
+        ensures calm { M.steady medium.old → M.steady medium.new × (M.faults medium.new ≡ M.faults medium.old) }
+    {
+        self.contents.seek(alloc, medium, from, bytes)
+    }
+
+    /// Adds bytes that were sought. New ones are written behind the others on the medium. Memory is taken before anything is written. Refused, the adds are as before.
     pub(crate) fn add<M: Medium>(
         &mut self,
-        alloc: Global,
         medium: &mut M,
         from: u64,
         id: u64,
         bytes: &[u8],
         size: u32,
+        sought: Sought,
     ) -> Result<(), WriteFault>
         requires id { id ≤ MAX_TILE_ID }
         requires some { 0 < length bytes.now }
         requires size { size ≡ length bytes.now }
+        requires sought { IsSought self.old.contents bytes.now sought }
         requires within { IfSome (M.told medium.old) (IsWithin (from + self.old.contents.total)) }
-        requires room { (adds : List (ℕ × List ℕ)) × Means self.old adds × HasRoom (from + self.old.contents.total) (contents_from [] adds) bytes.now }
-        ensures added { (adds : List (ℕ × List ℕ)) → Means self.old adds → OnOk result (Means self.new (adds ++ (id, bytes.now) ∷ [])) }
+        requires fits { from + self.old.contents.total + length (piece_sought sought bytes.now) < 2 ^ 64 }
+        ensures added { (adds : List (ℕ × List ℕ)) (taken : List ℕ) → Means self.old adds → length taken ≡ length bytes.now → found_in (contents_from [] adds) taken ≡ place_sought sought
+            → OnOk result (Means self.new (adds ++ (id, taken) ∷ [])) }
+        ensures finds { (adds : List (ℕ × List ℕ)) → Means self.old adds → Finds self.old.contents (contents_from [] adds) → found_in (contents_from [] adds) bytes.now ≡ place_sought sought
+            → OnOk result (Finds self.new.contents (contents_from [] (adds ++ (id, bytes.now) ∷ []))) }
         ensures kept { (adds : List (ℕ × List ℕ)) → Means self.old adds → OnErr result (Means self.new adds) }
-        ensures leaves { (adds : List (ℕ × List ℕ)) → Means self.old adds
-            → LeavesPiece (from + self.old.contents.total) (fresh (contents_from [] adds) bytes.now) result (M.told medium.old) (M.told medium.new) }
+        ensures alike { OnErr result (IsAlike self.old.contents self.new.contents) }
+        ensures leaves { LeavesPiece (from + self.old.contents.total) (piece_sought sought bytes.now) result (M.told medium.old) (M.told medium.new) }
         ensures cause { IsErrOf result WriteFault.Fault → Rose (M.faults medium.old) (M.faults medium.new) }
         ensures tells { is_some (M.told medium.new) ≡ is_some (M.told medium.old) }
         ensures versions { is_some (M.versions medium.new) ≡ is_some (M.versions medium.old) }
@@ -147,7 +170,7 @@ impl Adds {
         ensures calm { M.steady medium.old → M.steady medium.new × (M.faults medium.new ≡ M.faults medium.old) }
     {
         self.entries.reserve(1)?;
-        let place = self.contents.put(alloc, medium, from, bytes)?;
+        let place = self.contents.put(medium, from, bytes, sought)?;
         let Ok(()) = put_entry(&mut self.entries, id, place, size) else {
             unreachable!()
         };

@@ -1,81 +1,65 @@
-// The different contents so far, found by their bytes.
-ghost use Rattle.std.specs.Prelude.{◌≡◌, ◌≤◌, ◌<◌, ◌+◌, ◌^◌, ℕ, List, [], false, length, None, Some, IfSome, IfOk, OnOk, OnErr, IsErrOf, is_some};
+// The different contents so far, found by their digests and their bytes.
+ghost use Rattle.std.specs.Prelude.{◌≡◌, ◌≤◌, ◌<◌, ◌+◌, ◌^◌, ℕ, List, [], length, None, Some, IfSome, IfOk, OnOk, OnErr, IsErrOf, is_some, is_none};
 ghost use Rattle.std.specs.BTreeMap.{get};
-ghost use Rattle.std.specs.Str.{bytes_eq};
+ghost use Rattle.std.specs.HashMap as hashed;
 ghost use Rattle.tile_hash.specs.Xxh3.{xxh3_64};
 ghost use Rattle.tile_ids.specs.Counts.{Rose};
 ghost use Rattle.byte_media.specs.Media.{IsWithin};
 ghost use Rattle.pm_writer.specs.Adds.{put_new};
-ghost use Rattle.pm_writer.specs.Contents.{content_cmp, HasRoom, HasSpare, Holds, first_of, found_in, fresh, in_span};
+ghost use Rattle.pm_writer.specs.Contents.{Finds, Holds, IsAlike, IsNew, IsSought, IsTold, content_cmp, first_of, found_in, piece_sought, place_sought};
 ghost use Rattle.pm_writer.specs.Pieces.{LeavesPiece};
-ghost use Rattle.pm_writer.specs.declared.contents.Span.{Span};
+ghost use Rattle.pm_writer.specs.Took.{Took};
+ghost use Rattle.pm_writer.specs.declared.span.Span.{Span};
 
 use crate::content::Content;
+use crate::span::Span;
 use pm_format::{Medium, WriteFault};
 use std::alloc::{AllocError, Global};
 use std::collections::btree_map::Entry;
 use std::collections::{BTreeMap, HashMap};
 use tile_hash::xxh3_64;
 
-/// Where a content lies among the bytes of all contents.
-#[derive(Clone, Copy, Debug)]
-pub(crate) struct Span {
-    pub(crate) place: u64,
-    pub(crate) length: u64,
+/// What bytes were found as.
+#[derive(Drop)]
+pub(crate) enum Sought {
+    /// A content that begins at this place.
+    Known(u64),
+    /// None of the contents, and none of them has this digest of theirs.
+    First(u64),
+    /// None of the contents, but another one has their digest.
+    Other(Content),
 }
 
-/// The different contents, one behind another in order of first add. The first content of each XXH3 digest is found by this digest, and compared. Others of its digest are found
-/// in an ordered map, so that among contents that were picked to share a digest one is found by as many comparisons as the logarithm of their number.
+impl Sought {
+    /// Whether they are none of the contents.
+    pub(crate) fn is_new(&self) -> bool
+        ensures { result ≡ is_none (place_sought self.now) }
+    {
+        !matches!(self, Sought::Known(_))
+    }
+}
+
+/// The different contents, which lie on a medium one behind another in order of first add. The first content of each XXH3 digest is found by this digest, and compared by reading
+/// it back. Others of its digest are found in an ordered map, so that among contents that were picked to share a digest one is found by as many comparisons as the logarithm of
+/// their number.
 #[derive(Drop)]
 pub(crate) struct Contents {
     firsts: HashMap<u64, Span>,
     others: BTreeMap<Content, u64>,
-    bytes: Vec<u8>,
     total: u64,
 }
 
 impl Contents {
     /// No content.
     pub(crate) fn new(alloc: Global) -> Contents
-        ensures { Holds result [] }
+        ensures holds { Holds result [] }
+        ensures finds { Finds result [] }
     {
         Contents {
             firsts: HashMap::new(alloc),
             others: BTreeMap::new(alloc),
-            bytes: Vec::new(alloc),
             total: 0,
         }
-    }
-
-    // Whether these bytes lie in a span.
-    fn lie_in(&self, span: Span, bytes: &[u8]) -> bool
-        requires { span.place + span.length ≤ length self.now.bytes.items }
-        ensures { result ≡ bytes_eq (in_span self.now.bytes.items span) bytes.now }
-    {
-        let all = self.bytes.as_slice();
-        let start = span.place as usize;
-        let end = start + span.length as usize;
-        &all[start..end] == bytes
-    }
-
-    /// Whether these bytes are among the contents. It takes no memory, and goes through all contents that aren't the first of their digest.
-    pub(crate) fn has(&self, bytes: &[u8]) -> bool
-        requires { (cs : List (List ℕ)) × Holds self.now cs }
-        ensures { (cs : List (List ℕ)) → Holds self.now cs → result ≡ is_some (found_in cs bytes.now) }
-    {
-        match self.firsts.get(&xxh3_64(bytes)) {
-            None => false,
-            Some(first) => self.lie_in(*first, bytes) || self.is_other(bytes),
-        }
-    }
-
-    // Whether these bytes are among the contents that aren't the first of their digest.
-    fn is_other(&self, bytes: &[u8]) -> bool
-        ensures { result ≡ is_some (get content_cmp self.now.others bytes.now) }
-    {
-        self.others
-            .keys()
-            .any(|content| bytes == content.as_bytes())
     }
 
     /// How many bytes they have together.
@@ -92,37 +76,69 @@ impl Contents {
         self.firsts.len() as u64 + self.others.len() as u64
     }
 
-    // Makes room for a content that is the first of its digest. After each answer the contents are as before.
-    fn reserve(&mut self, size: usize) -> Result<(), AllocError>
-        ensures kept { (cs : List (List ℕ)) → Holds self.old cs → Holds self.new cs }
-        ensures firsts { (digest : ℕ) → first_of self.new digest ≡ first_of self.old digest }
-        ensures total { self.new.total ≡ self.old.total }
-        ensures room { OnOk result (HasSpare self.new size) }
+    /// What these bytes are found as. The first content of their digest is read back from the medium, on which the contents lie from a place on; a range that it doesn't have is
+    /// another content.
+    pub(crate) fn seek<M: Medium>(
+        &self,
+        alloc: Global,
+        medium: &mut M,
+        from: u64,
+        bytes: &[u8],
+    ) -> Result<Sought, WriteFault>
+        requires some { 0 < length bytes.now }
+        requires ends { from + self.now.total < 2 ^ 64 }
+        requires within { IfSome (M.told medium.old) (IsWithin (from + self.now.total)) }
+        requires holds { (cs : List (List ℕ)) × Holds self.now cs }
+        ensures found { (cs : List (List ℕ)) → Holds self.now cs → IfSome (M.told medium.old) (IsTold from self.now cs)
+            → IfOk result (λ s. (taken : List ℕ) × Took (M.told medium.old) bytes.now taken × (found_in cs taken ≡ place_sought s)) }
+        ensures sought { IfOk result (IsSought self.now bytes.now) }
+        ensures cause { IsErrOf result WriteFault.Fault → Rose (M.faults medium.old) (M.faults medium.new) }
+        ensures told { M.told medium.new ≡ M.told medium.old }
+        ensures versions { M.versions medium.new ≡ M.versions medium.old }
+        ensures faults { M.faults medium.old ≤ M.faults medium.new }
+        ensures counted { M.reads medium.old ≤ M.reads medium.new }
+        ensures reads { M.reads medium.new ≤ M.reads medium.old + 1 }
+        ensures calm { M.steady medium.old → M.steady medium.new × (M.faults medium.new ≡ M.faults medium.old) }
     {
-        self.firsts.reserve(1)?;
-        self.bytes.reserve(size)?;
-        Ok(())
+        let digest = xxh3_64(bytes);
+        let first = match self.firsts.get(&digest) {
+            None => return Ok(Sought::First(digest)),
+            Some(first) => *first,
+        };
+        if first.has(alloc, medium, from, bytes)? {
+            return Ok(Sought::Known(first.place));
+        }
+        let content = Content::new(alloc, bytes)?;
+        match self.others.get(&content) {
+            Some(place) => Ok(Sought::Known(*place)),
+            None => Ok(Sought::Other(content)),
+        }
     }
 
-    // Puts bytes behind the contents, none of which has their digest, where there is room.
-    fn push_first(&mut self, digest: u64, bytes: &[u8])
-        requires digest { digest ≡ xxh3_64 bytes.now }
+    // Makes room for a content that is the first of its digest. After each answer the contents are as before.
+    fn reserve(&mut self) -> Result<(), AllocError>
+        ensures alike { IsAlike self.old self.new }
+        ensures room { OnOk result (1 ≤ hashed.spare self.new.firsts) }
+    {
+        self.firsts.reserve(1)
+    }
+
+    // Puts a content behind the others, none of which has its digest, where there is room.
+    fn push_first(&mut self, digest: u64, size: u64)
         requires none { first_of self.old digest ≡ None }
-        requires room { HasSpare self.old (length bytes.now) }
-        requires fits { self.old.total + length bytes.now < 2 ^ 64 }
-        ensures { (cs : List (List ℕ)) → Holds self.old cs → Holds self.new (put_new cs bytes.now) }
+        requires room { 1 ≤ hashed.spare self.old.firsts }
+        requires fits { self.old.total + size < 2 ^ 64 }
+        ensures put { (cs : List (List ℕ)) (taken : List ℕ) → Holds self.old cs → length taken ≡ size → IsNew cs taken → Holds self.new (put_new cs taken) }
+        ensures finds { (cs : List (List ℕ)) (x : List ℕ) → Holds self.old cs → Finds self.old cs → digest ≡ xxh3_64 x → length x ≡ size → IsNew cs x → Finds self.new (put_new cs x) }
     {
         let span = Span {
             place: self.total,
-            length: bytes.len() as u64,
+            length: size,
         };
         let Ok(_) = self.firsts.insert(digest, span) else {
             unreachable!()
         };
-        let Ok(()) = self.bytes.extend_from_slice(bytes) else {
-            unreachable!()
-        };
-        self.total += span.length;
+        self.total += size;
     }
 
     // Writes bytes behind the contents, none of which has their digest, and puts them there.
@@ -136,11 +152,12 @@ impl Contents {
         requires digest { digest ≡ xxh3_64 bytes.now }
         requires none { first_of self.old digest ≡ None }
         requires within { IfSome (M.told medium.old) (IsWithin (from + self.old.total)) }
-        requires room { (cs : List (List ℕ)) × Holds self.old cs × HasRoom (from + self.old.total) cs bytes.now }
-        ensures put { (cs : List (List ℕ)) → Holds self.old cs → OnOk result (Holds self.new (put_new cs bytes.now)) }
-        ensures place { (cs : List (List ℕ)) → Holds self.old cs → IfOk result (λ place. found_in (put_new cs bytes.now) bytes.now ≡ Some place) }
-        ensures kept { (cs : List (List ℕ)) → Holds self.old cs → OnErr result (Holds self.new cs) }
-        ensures leaves { (cs : List (List ℕ)) → Holds self.old cs → LeavesPiece (from + self.old.total) (fresh cs bytes.now) result (M.told medium.old) (M.told medium.new) }
+        requires fits { from + self.old.total + length bytes.now < 2 ^ 64 }
+        ensures put { (cs : List (List ℕ)) (taken : List ℕ) → Holds self.old cs → length taken ≡ length bytes.now → IsNew cs taken → OnOk result (Holds self.new (put_new cs taken)) }
+        ensures finds { (cs : List (List ℕ)) → Holds self.old cs → Finds self.old cs → IsNew cs bytes.now → OnOk result (Finds self.new (put_new cs bytes.now)) }
+        ensures place { IfOk result (λ place. place ≡ self.old.total) }
+        ensures kept { OnErr result (IsAlike self.old self.new) }
+        ensures leaves { LeavesPiece (from + self.old.total) bytes.now result (M.told medium.old) (M.told medium.new) }
         ensures cause { IsErrOf result WriteFault.Fault → Rose (M.faults medium.old) (M.faults medium.new) }
         ensures tells { is_some (M.told medium.new) ≡ is_some (M.told medium.old) }
         ensures versions { is_some (M.versions medium.new) ≡ is_some (M.versions medium.old) }
@@ -149,26 +166,28 @@ impl Contents {
         ensures calm { M.steady medium.old → M.steady medium.new × (M.faults medium.new ≡ M.faults medium.old) }
     {
         let place = self.total;
-        self.reserve(bytes.len())?;
+        self.reserve()?;
         medium.write_at(from + place, bytes)?;
-        self.push_first(digest, bytes);
+        self.push_first(digest, bytes.len() as u64);
         Ok(place)
     }
 
-    // Where a content begins whose digest another one has. A new one is written behind the contents, and put there.
+    // Writes bytes behind the contents, one of which has their digest, and puts them among those that aren't the first of theirs.
     fn put_other<M: Medium>(
         &mut self,
         medium: &mut M,
         from: u64,
         content: Content,
     ) -> Result<u64, WriteFault>
-        requires other { (span : Span) × (first_of self.old (xxh3_64 content) ≡ Some span) × (bytes_eq (in_span self.old.bytes.items span) content ≡ false) }
+        requires other { get content_cmp self.old.others content ≡ None }
+        requires first { (span : Span) × (first_of self.old (xxh3_64 content) ≡ Some span) }
         requires within { IfSome (M.told medium.old) (IsWithin (from + self.old.total)) }
-        requires room { (cs : List (List ℕ)) × Holds self.old cs × HasRoom (from + self.old.total) cs content }
-        ensures put { (cs : List (List ℕ)) → Holds self.old cs → OnOk result (Holds self.new (put_new cs content)) }
-        ensures place { (cs : List (List ℕ)) → Holds self.old cs → IfOk result (λ place. found_in (put_new cs content) content ≡ Some place) }
-        ensures kept { (cs : List (List ℕ)) → Holds self.old cs → OnErr result (Holds self.new cs) }
-        ensures leaves { (cs : List (List ℕ)) → Holds self.old cs → LeavesPiece (from + self.old.total) (fresh cs content) result (M.told medium.old) (M.told medium.new) }
+        requires fits { from + self.old.total + length content < 2 ^ 64 }
+        ensures put { (cs : List (List ℕ)) (taken : List ℕ) → Holds self.old cs → length taken ≡ length content → IsNew cs taken → OnOk result (Holds self.new (put_new cs taken)) }
+        ensures finds { (cs : List (List ℕ)) → Holds self.old cs → Finds self.old cs → IsNew cs content → OnOk result (Finds self.new (put_new cs content)) }
+        ensures place { IfOk result (λ place. place ≡ self.old.total) }
+        ensures kept { OnErr result (IsAlike self.old self.new) }
+        ensures leaves { LeavesPiece (from + self.old.total) content result (M.told medium.old) (M.told medium.new) }
         ensures cause { IsErrOf result WriteFault.Fault → Rose (M.faults medium.old) (M.faults medium.new) }
         ensures tells { is_some (M.told medium.new) ≡ is_some (M.told medium.old) }
         ensures versions { is_some (M.versions medium.new) ≡ is_some (M.versions medium.old) }
@@ -177,18 +196,14 @@ impl Contents {
         ensures calm { M.steady medium.old → M.steady medium.new × (M.faults medium.new ≡ M.faults medium.old) }
     {
         let place = self.total;
-        self.bytes.reserve(content.as_bytes().len())?;
         match self.others.entry(content) {
-            Ok(Entry::Occupied(known)) => Ok(*known.get()),
+            Ok(Entry::Occupied(_)) => unreachable!(),
             Ok(Entry::Vacant(new)) => {
                 let entry = new.insert_entry(place);
                 let bytes = entry.key().as_bytes();
                 let end = place + bytes.len() as u64;
                 match medium.write_at(from + place, bytes) {
                     Ok(()) => {
-                        let Ok(()) = self.bytes.extend_from_slice(bytes) else {
-                            unreachable!()
-                        };
                         self.total = end;
                         Ok(place)
                     }
@@ -202,21 +217,23 @@ impl Contents {
         }
     }
 
-    /// Where these bytes begin. Such as are none of the contents are put behind them, and written behind them on a medium, where they lie from a place on.
-    /// Memory is taken before anything is written. Refused, the contents are as before.
+    /// Where bytes begin that were sought. New ones are written behind the contents on the medium, and put there. Memory is taken before anything is written. Refused, the contents
+    /// are as before.
     pub(crate) fn put<M: Medium>(
         &mut self,
-        alloc: Global,
         medium: &mut M,
         from: u64,
         bytes: &[u8],
+        sought: Sought,
     ) -> Result<u64, WriteFault>
+        requires sought { IsSought self.old bytes.now sought }
         requires within { IfSome (M.told medium.old) (IsWithin (from + self.old.total)) }
-        requires room { (cs : List (List ℕ)) × Holds self.old cs × HasRoom (from + self.old.total) cs bytes.now }
-        ensures put { (cs : List (List ℕ)) → Holds self.old cs → OnOk result (Holds self.new (put_new cs bytes.now)) }
-        ensures place { (cs : List (List ℕ)) → Holds self.old cs → IfOk result (λ place. found_in (put_new cs bytes.now) bytes.now ≡ Some place) }
-        ensures kept { (cs : List (List ℕ)) → Holds self.old cs → OnErr result (Holds self.new cs) }
-        ensures leaves { (cs : List (List ℕ)) → Holds self.old cs → LeavesPiece (from + self.old.total) (fresh cs bytes.now) result (M.told medium.old) (M.told medium.new) }
+        requires fits { from + self.old.total + length (piece_sought sought bytes.now) < 2 ^ 64 }
+        ensures put { (cs : List (List ℕ)) (taken : List ℕ) → Holds self.old cs → length taken ≡ length bytes.now → found_in cs taken ≡ place_sought sought → OnOk result (Holds self.new (put_new cs taken)) }
+        ensures finds { (cs : List (List ℕ)) → Holds self.old cs → Finds self.old cs → found_in cs bytes.now ≡ place_sought sought → OnOk result (Finds self.new (put_new cs bytes.now)) }
+        ensures place { (cs : List (List ℕ)) (taken : List ℕ) → Holds self.old cs → found_in cs taken ≡ place_sought sought → IfOk result (λ place. found_in (put_new cs taken) taken ≡ Some place) }
+        ensures kept { OnErr result (IsAlike self.old self.new) }
+        ensures leaves { LeavesPiece (from + self.old.total) (piece_sought sought bytes.now) result (M.told medium.old) (M.told medium.new) }
         ensures cause { IsErrOf result WriteFault.Fault → Rose (M.faults medium.old) (M.faults medium.new) }
         ensures tells { is_some (M.told medium.new) ≡ is_some (M.told medium.old) }
         ensures versions { is_some (M.versions medium.new) ≡ is_some (M.versions medium.old) }
@@ -224,15 +241,10 @@ impl Contents {
         ensures reads { M.reads medium.new ≡ M.reads medium.old }
         ensures calm { M.steady medium.old → M.steady medium.new × (M.faults medium.new ≡ M.faults medium.old) }
     {
-        let digest = xxh3_64(bytes);
-        let first = match self.firsts.get(&digest) {
-            None => return self.put_first(medium, from, digest, bytes),
-            Some(first) => *first,
-        };
-        if self.lie_in(first, bytes) {
-            return Ok(first.place);
+        match sought {
+            Sought::Known(place) => Ok(place),
+            Sought::First(digest) => self.put_first(medium, from, digest, bytes),
+            Sought::Other(content) => self.put_other(medium, from, content),
         }
-        let content = Content::new(alloc, bytes)?;
-        self.put_other(medium, from, content)
     }
 }

@@ -14,6 +14,7 @@ mod order;
 mod pieces;
 mod places;
 mod settings;
+mod span;
 mod state;
 mod stream;
 

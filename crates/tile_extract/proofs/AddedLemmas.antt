@@ -14,10 +14,11 @@ use Rattle.pm_format.specs.declared.error.PmtError.TheVariants as errors
 use Rattle.pm_format.specs.declared.error.ReadCause.TheVariants as causes
 use Rattle.pm_format.specs.Options.{Options}
 use Rattle.pm_writer.specs.Causes.{AddCauses}
+use Rattle.pm_writer.specs.Took.{Took}
 use Rattle.pm_writer.specs.Writing.{AddFits, add_to, data_end}
 use Rattle.pm_writer.specs.declared.state.WriterState.{WriterState}
 use Rattle.tile_extract.proofs.CoveringLemmas.{lt_by, never, to_lt}
-use Rattle.tile_extract.specs.Written.{EndsBy, Puts, Rises, has_room, of_write_error, put_all}
+use Rattle.tile_extract.specs.Written.{ByRoom, EndsBy, Puts, PutsAll, Rises, has_room, of_write_error}
 use Rattle.tile_extract.specs.declared.error.ExtractError.{ExtractError}
 use Rattle.tile_extract.specs.declared.error.ExtractError.TheVariants.{IndexEntryOverflow, MediumFault}
 
@@ -58,14 +59,14 @@ ends_add adds id [] e = ends_later adds id (id + 1) (omega arith) e
 ends_add adds id (b ∷ bytes) e = λ more r. subst (Rises 0) (sym (append_assoc adds ((id, b ∷ bytes) ∷ []) more)) (e ((id, b ∷ bytes) ∷ more) (omega arith, r))
 
 -- all of them
-pub ends_all : (o : Options) (bytes : List ℕ) (n id : ℕ) (done more : List (ℕ × List ℕ)) → put_all o bytes done (range_with_len id n) ≡ Ok more → EndsBy done id → EndsBy more (id + n)
-ends_all o bytes zero id done more is e = subst (λ l. EndsBy l (id + 0)) (ok_is done more is) (ends_later done id (id + 0) (omega arith) e)
-ends_all o bytes (suc n) id done more is e = by_test (has_room o done id bytes) (λ at. ends_all o bytes n (id + 1) (add_to done id bytes) more at (ends_add done id bytes e)) is
+pub ends_all : (takes : List ℕ → List ℕ → Type 0) (o : Options) (bytes : List ℕ) (n id : ℕ) (done more : List (ℕ × List ℕ)) → PutsAll takes o bytes done (range_with_len id n) (Ok more) → EndsBy done id → EndsBy more (id + n)
+ends_all takes o bytes zero id done more is e = subst (λ l. EndsBy l (id + 0)) (sym (ok_is more done is)) (ends_later done id (id + 0) (omega arith) e)
+ends_all takes o bytes (suc n) id done more is e = by_room (has_room o done id is.0) (λ at. ends_all takes o bytes n (id + 1) (add_to done id is.0) more at (ends_add done id is.0 e)) is.2
   where
-    by_test : (t : Bool) → (put_all o bytes (add_to done id bytes) (range_with_len (id + 1) n) ≡ Ok more → EndsBy more (id + 1 + n))
-        → (elim t as (λ _. Result (List (ℕ × List ℕ)) ExtractError) [ true ↦ put_all o bytes (add_to done id bytes) (range_with_len (id + 1) n) | false ↦ Err IndexEntryOverflow ]) ≡ Ok more → EndsBy more (id + suc n)
-    by_test true rest is = ends_later more (id + 1 + n) (id + suc n) (omega arith) (rest is)
-    by_test false rest is = absurd (cc)
+    by_room : (t : Bool) → (PutsAll takes o bytes (add_to done id is.0) (range_with_len (id + 1) n) (Ok more) → EndsBy more (id + 1 + n))
+        → ByRoom t (PutsAll takes o bytes (add_to done id is.0) (range_with_len (id + 1) n) (Ok more)) (Ok more ≡ Err IndexEntryOverflow) → EndsBy more (id + suc n)
+    by_room true rest is = ends_later more (id + 1 + n) (id + suc n) (omega arith) (rest is)
+    by_room false rest is = absurd (cc)
 
 -- an add that fits, and one that doesn't
 room_true : (o : Options) (done : List (ℕ × List ℕ)) (id : ℕ) (bytes : List ℕ) → AddFits o done id bytes → has_room o done id bytes ≡ true
@@ -78,29 +79,36 @@ room_false o done id bytes unfit = never (nat_lt (length bytes) (2 ^ 32) && nat_
     let p = and_parts (nat_lt (length bytes) (2 ^ 32)) (nat_lt (data_end o (add_to done id bytes)) (2 ^ 64)) is in
     unfit (lt_by (length bytes) (2 ^ 32) p.0, lt_by (data_end o (add_to done id bytes)) (2 ^ 64) p.1))
 
-pub puts_next : (o : Options) (bytes : List ℕ) (mid : List (ℕ × List ℕ)) (id : ℕ) (ids : List ℕ) → AddFits o mid id bytes → put_all o bytes mid (id ∷ ids) ≡ put_all o bytes (add_to mid id bytes) ids
-puts_next o bytes mid id ids fits =
-    ap (λ t. elim t as (λ _. Result (List (ℕ × List ℕ)) ExtractError) [ true ↦ put_all o bytes (add_to mid id bytes) ids | false ↦ Err IndexEntryOverflow ]) (room_true o mid id bytes fits)
+pub puts_next : (takes : List ℕ → List ℕ → Type 0) (o : Options) (bytes taken : List ℕ) (mid : List (ℕ × List ℕ)) (id : ℕ) (ids : List ℕ) (r : Result (List (ℕ × List ℕ)) ExtractError) → takes bytes taken → AddFits o mid id taken
+    → PutsAll takes o bytes (add_to mid id taken) ids r → PutsAll takes o bytes mid (id ∷ ids) r
+puts_next takes o bytes taken mid id ids r take fits next =
+    (taken, take, subst (λ t. ByRoom t (PutsAll takes o bytes (add_to mid id taken) ids r) (r ≡ Err IndexEntryOverflow)) (sym (room_true o mid id taken fits)) next)
 
-puts_over : (o : Options) (bytes : List ℕ) (mid : List (ℕ × List ℕ)) (id : ℕ) (ids : List ℕ) → (AddFits o mid id bytes → ⊥) → put_all o bytes mid (id ∷ ids) ≡ Err IndexEntryOverflow
-puts_over o bytes mid id ids unfit =
-    ap (λ t. elim t as (λ _. Result (List (ℕ × List ℕ)) ExtractError) [ true ↦ put_all o bytes (add_to mid id bytes) ids | false ↦ Err IndexEntryOverflow ]) (room_false o mid id bytes unfit)
+puts_over : (takes : List ℕ → List ℕ → Type 0) (o : Options) (bytes taken : List ℕ) (mid : List (ℕ × List ℕ)) (id : ℕ) (ids : List ℕ) → takes bytes taken → (AddFits o mid id taken → ⊥) → PutsAll takes o bytes mid (id ∷ ids) (Err IndexEntryOverflow)
+puts_over takes o bytes taken mid id ids take unfit =
+    let over : Result (List (ℕ × List ℕ)) ExtractError = Err IndexEntryOverflow in
+    let same : over ≡ over = refl in
+    (taken, take, subst (λ t. ByRoom t (PutsAll takes o bytes (add_to mid id taken) ids over) (over ≡ over)) (sym (room_false o mid id taken unfit)) same)
+
+-- what is put at the ids that are left is what is put at all
+abbrev pub PutsOn : (List ℕ → List ℕ → Type 0) → Options → List ℕ → List (ℕ × List ℕ) → List ℕ → List (ℕ × List ℕ) → List ℕ → Type 0
+PutsOn takes o bytes done all mid ids = (r : Result (List (ℕ × List ℕ)) ExtractError) → PutsAll takes o bytes mid ids r → PutsAll takes o bytes done all r
 
 -- an add that is refused
-pub add_refused : (o : Options) (bytes : List ℕ) (done : List (ℕ × List ℕ)) (all : List ℕ) (mid : List (ℕ × List ℕ)) (id : ℕ) (ids : List ℕ) (told : Option (List ℕ)) (s : WriterState) (failed : Bool) (before now : ℕ) (e : PmtError)
-    → failed ≡ false → put_all o bytes done all ≡ put_all o bytes mid (id ∷ ids) → AddCauses compression.None failed (AddFits o mid id bytes) before now (Err e) → Puts o bytes done all told s (Err (of_write_error e))
-add_refused o bytes done all mid id ids told s failed before now errors.Failed alive so c = absurd (true≢false (sym c ∙ alive))
-add_refused o bytes done all mid id ids told s failed before now (errors.UnsupportedCompression label) alive so c = absurd (c.2 refl)
-add_refused o bytes done all mid id ids told s failed before now errors.IndexEntryOverflow alive so c = so ∙ puts_over o bytes mid id ids c.2
-add_refused o bytes done all mid id ids told s failed before now (errors.Reading causes.Fault) alive so c = tt
-add_refused o bytes done all mid id ids told s failed before now errors.OutOfMemory alive so c = tt
-add_refused o bytes done all mid id ids told s failed before now e alive so c = absurd c
+pub add_refused : (o : Options) (bytes taken : List ℕ) (done : List (ℕ × List ℕ)) (all : List ℕ) (mid : List (ℕ × List ℕ)) (id : ℕ) (ids : List ℕ) (told : Option (List ℕ)) (s : WriterState) (failed : Bool) (before now : ℕ) (e : PmtError)
+    → failed ≡ false → PutsOn (Took told) o bytes done all mid (id ∷ ids) → Took told bytes taken → AddCauses compression.None failed (AddFits o mid id taken) before now (Err e) → Puts o bytes done all told s (Err (of_write_error e))
+add_refused o bytes taken done all mid id ids told s failed before now errors.Failed alive so take c = absurd (true≢false (sym c ∙ alive))
+add_refused o bytes taken done all mid id ids told s failed before now (errors.UnsupportedCompression label) alive so take c = absurd (c.2 refl)
+add_refused o bytes taken done all mid id ids told s failed before now errors.IndexEntryOverflow alive so take c = so (Err IndexEntryOverflow) (puts_over (Took told) o bytes taken mid id ids take c.2)
+add_refused o bytes taken done all mid id ids told s failed before now (errors.Reading causes.Fault) alive so take c = tt
+add_refused o bytes taken done all mid id ids told s failed before now errors.OutOfMemory alive so take c = tt
+add_refused o bytes taken done all mid id ids told s failed before now e alive so take c = absurd c
 
 pub add_faulted : (fits : Type 0) (failed : Bool) (start before now : ℕ) (e : PmtError) → failed ≡ false → start ≤ before → AddCauses compression.None failed fits before now (Err e) → of_write_error e ≡ MediumFault → Rose start now
 add_faulted fits failed start before now errors.Failed alive le c is = absurd (true≢false (sym c ∙ alive))
 add_faulted fits failed start before now (errors.UnsupportedCompression label) alive le c is = absurd (c.2 refl)
 add_faulted fits failed start before now errors.IndexEntryOverflow alive le c is = absurd (cc)
-add_faulted fits failed start before now (errors.Reading causes.Fault) alive le c is = omega (arith, le, c.3)
+add_faulted fits failed start before now (errors.Reading causes.Fault) alive le c is = omega (arith, le, c.2)
 add_faulted fits failed start before now errors.OutOfMemory alive le c is = absurd (cc)
 add_faulted fits failed start before now e alive le c is = absurd c
 

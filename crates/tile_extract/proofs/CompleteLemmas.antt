@@ -26,7 +26,7 @@ use Rattle.pm_writer.specs.declared.places.ArchivePlaces.{ArchivePlaces}
 use Rattle.tile_extract.specs.Collecting.{AreOrdered}
 use Rattle.tile_extract.specs.Completeness.{CanExtract, EndsWell, IsDoneOrWanting}
 use Rattle.tile_extract.specs.Cut.{intervals, options_from}
-use Rattle.tile_extract.specs.Extract.{Answers, Causes, Due, IsEarly, IsLate, IsMetadataRefused, ReadCauses, Source, added, count_met, parts_met}
+use Rattle.tile_extract.specs.Extract.{Answers, Causes, Added, Due, IsEarly, IsLate, IsMetadataRefused, ReadCauses, Source, count_met, parts_met}
 use Rattle.tile_extract.specs.Met.{met_of}
 use Rattle.tile_extract.specs.Written.{Adds, has_room, ids_of, put_all, put_next, put_parts}
 use Rattle.tile_extract.specs.declared.error.ExtractError.{ExtractError}
@@ -119,7 +119,7 @@ module _ (b : List ℕ) (c : Coord) (m most : ℕ) (can : CanExtract b c m most)
   same_text : (o : Opened) (text : List ℕ) → opened b ≡ Ok o → metadata_read b o.0 ≡ Ok text → text ≡ can.text
   same_text o text opens is = ok_is text can.text (sym is ∙ ap (λ p. metadata_read b p.0) (same_found o opens) ∙ can.metadata)
 
-  put_again : (d : Due b c m most) → added b c m most d ≡ Ok all
+  put_again : (d : Due b c m most) → Added (Some []) b c m most d (Ok all)
   put_again d =
       ap (λ t. put_parts (options_from d.source.found.0 t c m) d.source.found.0 b (parts_met b d.source.found c m) []) (same_text d.source.found d.source.text d.source.opens d.source.metadata)
       ∙ ap (λ o. put_parts (options_from o.0 can.text c m) o.0 b (parts_met b o c m) []) (same_found d.source.found d.source.opens) ∙ put
@@ -138,12 +138,12 @@ module _ (b : List ℕ) (c : Coord) (m most : ℕ) (can : CanExtract b c m most)
   no_early e fault (inr (inr is)) =
       none-some e (sym (ap (λ o. (met_of b o c m).refusal) (same_found is.0.found is.0.opens) ∙ well.fine) ∙ is.1)
 
-  no_late : (e : PmtError) → (e ≡ errors.Reading causes.Fault → ⊥) → IsLate b c m most e → ⊥
+  no_late : (e : PmtError) → (e ≡ errors.Reading causes.Fault → ⊥) → IsLate (Some []) b c m most e → ⊥
   no_late (errors.Reading causes.Fault) fault is = fault refl
   no_late (errors.UnexpectedNumberOfBytesReturned asked got) fault is = is
   no_late e fault is = let bad : Ok all ≡ Err (Archive e) = sym (put_again is.0) ∙ is.1 in absurd (cc)
 
-  no_overflow : (d : Due b c m most) → ((added b c m most d ≡ Err IndexEntryOverflow) ⊎ ((adds : Adds) × (added b c m most d ≡ Ok adds) × (ArchiveFits (options_from d.source.found.0 d.source.text c m) adds → ⊥))) → ⊥
+  no_overflow : (d : Due b c m most) → (Added (Some []) b c m most d (Err IndexEntryOverflow) ⊎ ((adds : Adds) × Added (Some []) b c m most d (Ok adds) × (ArchiveFits (options_from d.source.found.0 d.source.text c m) adds → ⊥))) → ⊥
   no_overflow d (inl is) = let bad : Ok all ≡ Err IndexEntryOverflow = sym (put_again d) ∙ is in absurd (cc)
   no_overflow d (inr is) =
       let same : is.0 ≡ all = ok_is is.0 all (sym is.1 ∙ put_again d) in
@@ -156,7 +156,7 @@ module _ (b : List ℕ) (c : Coord) (m most : ℕ) (can : CanExtract b c m most)
   no_fault : (before now : ℕ) (e : PmtError) → (Rose before now → ⊥) → ReadCauses before now e → e ≡ errors.Reading causes.Fault → ⊥
   no_fault before now e calm cause is = calm (subst (ReadCauses before now) is cause)
 
-  ends_well : (result : Result ArchivePlaces ExtractError) (before now old new : ℕ) → Causes c m most (Some []) before now old new result → Answers b c m most result → (Rose before now → ⊥) → (Rose old new → ⊥) → IsDoneOrWanting result
+  ends_well : (result : Result ArchivePlaces ExtractError) (before now old new : ℕ) → Causes c m most (Some []) before now old new result → Answers (Some []) b c m most result → (Rose before now → ⊥) → (Rose old new → ⊥) → IsDoneOrWanting result
   ends_well (Ok p) before now old new cause is calm quiet = tt
   ends_well (Err (InvalidZoom tile asked)) before now old new cause is calm quiet = cause.2 can.zoom
   ends_well (Err (MediumNotEmpty n)) before now old new cause is calm quiet = omega (arith, cause.1, cause.2)

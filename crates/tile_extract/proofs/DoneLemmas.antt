@@ -1,5 +1,5 @@
 -- The archive of the parts of a source, finished or refused.
-use Rattle.std.proofs.Common.{◌≡◌, ◌∙◌, inl, inr, ◌≤◌, ℕ, true, List, [], Option, None, Some, IfSome, Ok, Err, refl, ap, sym, subst, arith}
+use Rattle.std.proofs.Common.{◌≡◌, ◌∙◌, inl, inr, ◌≤◌, ℕ, true, List, [], Option, None, Some, IfSome, is_some, Result, Ok, Err, refl, ap, sym, subst, arith}
 use Rattle.std.specs.Cmp.{nat_cmp_total}
 use Rattle.std.specs.FinMap.{find, from_entries, get, get-from_entries}
 use Rattle.std.specs.Ordering.{nat_cmp}
@@ -21,14 +21,15 @@ use Rattle.pm_writer.specs.Places.{places_read}
 use Rattle.pm_writer.specs.declared.places.ArchivePlaces.{ArchivePlaces}
 use Rattle.tile_extract.specs.Collecting.{AreOrdered}
 use Rattle.tile_extract.specs.Cut.{cut, intervals, options_from, options_of, options_opened, options_with}
-use Rattle.tile_extract.specs.Extract.{Answers, Due, IntoBytes, IntoCauses, IntoLeaves, IsCollected, IsDone, IsExtract, IsLate, Overflows, ShowsNoPart, added}
+use Rattle.tile_extract.specs.Extract.{Added, Answers, Due, IntoBytes, IntoCauses, IntoLeaves, IsCollected, IsDone, IsExtract, IsLate, Overflows, ShowsNoPart}
 use Rattle.tile_extract.specs.Met.{walked}
-use Rattle.tile_extract.specs.Written.{Adds, IsWritten, PartsOverflow, PartsRefuse, Rises, ShowsNone, WriteCauses, WritesParts, put_parts}
+use Rattle.tile_extract.specs.Written.{Adds, ComesTo, IsWritten, PartsOverflow, PartsRefuse, Rises, ShowsNone, WriteCauses, WritesParts, put_parts}
 use Rattle.tile_extract.specs.declared.error.ExtractError.{ExtractError}
 use Rattle.tile_extract.specs.declared.error.ExtractError.TheVariants.{Archive, IndexEntryOverflow, MediumFault, OutOfMemory}
 use Rattle.tile_extract.proofs.AddedLemmas.{sorted_by}
 use Rattle.tile_extract.proofs.CoveringLemmas.{covering}
 use Rattle.tile_extract.proofs.CutLemmas.{cut_held, held}
+use Rattle.tile_extract.proofs.PartsLemmas.{comes_as}
 use Rattle.tile_extract.proofs.PlanLemmas.{Found, source_of}
 use Rattle.tile_extract.proofs.TileLemmas.{all_held, put_is}
 use Rattle.tile_extract.proofs.ToldLemmas.{both_told, one_told}
@@ -46,8 +47,8 @@ module _ (c : Coord) (m most : ℕ) (h : Header) (es : List Entry) (text : List 
   abbrev due_of : (b : List ℕ) → Planned c m most h es text ps b → Due b c m most
   due_of b p = record { source = source_of b h es text p.found; fine = p.collected.fine; few = p.collected.few }
 
-  added_is : (b : List ℕ) (p : Planned c m most h es text ps b) → added b c m most (due_of b p) ≡ put_parts opts h b ps []
-  added_is b p = ap (λ l. put_parts opts h b l []) (sym p.collected.are)
+  added_as : (told held : Option (List ℕ)) (b : List ℕ) (p : Planned c m most h es text ps b) (r : Result Adds ExtractError) → is_some held ≡ is_some told → ComesTo told opts h b ps r → Added held b c m most (due_of b p) r
+  added_as told held b p r same is = subst (λ l. ComesTo held opts h b l r) p.collected.are (comes_as told held opts h b ps r same is)
 
   -- the options and the tiles of a source
   abbrev IsOf : Options → Adds → List ℕ → Type 0
@@ -75,65 +76,74 @@ module _ (c : Coord) (m most : ℕ) (h : Header) (es : List Entry) (text : List 
       }
 
   -- an archive that is finished
-  done_bytes : (source told : Option (List ℕ)) (p : ArchivePlaces) (b : List ℕ) → AreOrdered 0 ps None → IfSome source (Planned c m most h es text ps) → (w : IsWritten opts h source ps told p) → b ≡ archive opts w.adds → IsDone source c m p b
+  done_bytes : (source : Option (List ℕ)) (p : ArchivePlaces) (b : List ℕ) → AreOrdered 0 ps None → IfSome source (Planned c m most h es text ps) → (w : IsWritten opts h source ps (Some b) p) → b ≡ archive opts w.adds → IsDone source c m p b
   unfolding is_extract
-  done_bytes source told p b order plan w is = record {
+  done_bytes source p b order plan w is = record {
     extract = is_extract source w.adds b w.rises (told_of source w.adds order plan w.are) is;
     formed = subst (λ x. WellFormed x opts true) (sym is) (sorted_formed opts w.adds w.fits (sorted_by 0 w.adds w.rises));
     places = ap places_read is ∙ places_are opts w.adds w.fits ∙ ap Some (sym w.places);
   }
 
-  done_answers : (source told : Option (List ℕ)) (p : ArchivePlaces) → IfSome source (Planned c m most h es text ps) → IsWritten opts h source ps told p → IfSome source (λ b. Answers b c m most (Ok p))
-  done_answers source told p plan w =
-      both_told (Planned c m most h es text ps) (λ b. put_parts opts h b ps [] ≡ Ok w.adds) (λ b. Answers b c m most (Ok p)) source source refl
-      (λ b l put. record { due = due_of b l; adds = w.adds; are = added_is b l ∙ put; fits = w.fits; places = w.places }) plan w.are
+  done_answers : (source told held : Option (List ℕ)) (p : ArchivePlaces) → is_some held ≡ is_some told → IfSome source (Planned c m most h es text ps) → IsWritten opts h source ps told p → IfSome source (λ b. Answers held b c m most (Ok p))
+  done_answers source told held p tells plan w =
+      both_told (Planned c m most h es text ps) (λ b. ComesTo told opts h b ps (Ok w.adds)) (λ b. Answers held b c m most (Ok p)) source source refl
+      (λ b l put. record { due = due_of b l; adds = w.adds; are = added_as told held b l (Ok w.adds) tells put; fits = w.fits; places = w.places }) plan w.are
 
   -- one that isn't
-  is_late : (b : List ℕ) (e : PmtError) → Planned c m most h es text ps b → PartsRefuse (put_parts opts h b ps []) (Archive e) → IsLate b c m most e
-  is_late b (errors.Reading causes.Fault) p is = tt
-  is_late b (errors.UnexpectedNumberOfBytesReturned asked got) p is = is
-  is_late b e p is = (due_of b p, added_is b p ∙ is)
+  is_late : (told held : Option (List ℕ)) (b : List ℕ) (e : PmtError) → is_some held ≡ is_some told → Planned c m most h es text ps b → PartsRefuse (ComesTo told opts h b ps) (Archive e) → IsLate held b c m most e
+  is_late told held b (errors.Reading causes.Fault) tells p is = tt
+  is_late told held b (errors.UnexpectedNumberOfBytesReturned asked got) tells p is = is
+  is_late told held b e tells p is = (due_of b p, added_as told held b p (Err (Archive e)) tells is)
 
-  late_overflow : (b : List ℕ) → Planned c m most h es text ps b → PartsOverflow opts h ps b → Overflows b c m most
-  late_overflow b p (inl is) = (due_of b p, inl (added_is b p ∙ is))
-  late_overflow b p (inr is) = (due_of b p, inr (is.0, added_is b p ∙ is.1, is.2))
+  late_overflow : (told held : Option (List ℕ)) (b : List ℕ) → is_some held ≡ is_some told → Planned c m most h es text ps b → PartsOverflow told opts h ps b → Overflows held b c m most
+  late_overflow told held b tells p (inl is) = (due_of b p, inl (added_as told held b p (Err IndexEntryOverflow) tells is))
+  late_overflow told held b tells p (inr is) = (due_of b p, inr (is.0, added_as told held b p (Ok is.0) tells is.1, is.2))
 
-  lates : (source : Option (List ℕ)) (e : PmtError) → IfSome source (Planned c m most h es text ps) → IfSome source (λ b. PartsRefuse (put_parts opts h b ps []) (Archive e)) → IfSome source (λ b. IsLate b c m most e)
-  lates source e p is = both_told (Planned c m most h es text ps) (λ b. PartsRefuse (put_parts opts h b ps []) (Archive e)) (λ b. IsLate b c m most e) source source refl (λ b l r. is_late b e l r) p is
+  lates : (source told held : Option (List ℕ)) (e : PmtError) → is_some held ≡ is_some told → IfSome source (Planned c m most h es text ps) → IfSome source (λ b. PartsRefuse (ComesTo told opts h b ps) (Archive e)) → IfSome source (λ b. IsLate held b c m most e)
+  lates source told held e tells p is =
+      both_told (Planned c m most h es text ps) (λ b. PartsRefuse (ComesTo told opts h b ps) (Archive e)) (λ b. IsLate held b c m most e) source source refl (λ b l r. is_late told held b e tells l r) p is
 
-  late_answers : (source told : Option (List ℕ)) (first now old new : ℕ) (x : ExtractError) → IfSome source (Planned c m most h es text ps) → WriteCauses {A = ArchivePlaces} first now old new (Err x) → WritesParts opts h source ps told (Err x)
-      → IfSome source (λ b. Answers b c m most (Err x))
-  late_answers source told first now old new (Archive e) p cause is = one_told (λ b. IsLate b c m most e) (λ b. Answers b c m most (Err (Archive e))) source (λ b l. inr l) (lates source e p is.0)
-  late_answers source told first now old new IndexEntryOverflow p cause is = both_told (Planned c m most h es text ps) (PartsOverflow opts h ps) (λ b. Answers b c m most (Err IndexEntryOverflow)) source source refl (λ b l o. late_overflow b l o) p is
-  late_answers source told first now old new MediumFault p cause is = one_told (Planned c m most h es text ps) (λ b. Answers b c m most (Err MediumFault)) source (λ b l. tt) p
-  late_answers source told first now old new OutOfMemory p cause is = one_told (Planned c m most h es text ps) (λ b. Answers b c m most (Err OutOfMemory)) source (λ b l. tt) p
-  late_answers source told first now old new x p cause is = absurd cause
+  late_answers : (source told held : Option (List ℕ)) (first now old new : ℕ) (x : ExtractError) → is_some held ≡ is_some told → IfSome source (Planned c m most h es text ps) → WriteCauses {A = ArchivePlaces} first now old new (Err x) → WritesParts opts h source ps told (Err x)
+      → IfSome source (λ b. Answers held b c m most (Err x))
+  late_answers source told held first now old new (Archive e) tells p cause is = one_told (λ b. IsLate held b c m most e) (λ b. Answers held b c m most (Err (Archive e))) source (λ b l. inr l) (lates source told held e tells p is.0)
+  late_answers source told held first now old new IndexEntryOverflow tells p cause is =
+      both_told (Planned c m most h es text ps) (PartsOverflow told opts h ps) (λ b. Answers held b c m most (Err IndexEntryOverflow)) source source refl (λ b l o. late_overflow told held b tells l o) p is
+  late_answers source told held first now old new MediumFault tells p cause is = one_told (Planned c m most h es text ps) (λ b. Answers held b c m most (Err MediumFault)) source (λ b l. tt) p
+  late_answers source told held first now old new OutOfMemory tells p cause is = one_told (Planned c m most h es text ps) (λ b. Answers held b c m most (Err OutOfMemory)) source (λ b l. tt) p
+  late_answers source told held first now old new x tells p cause is = absurd cause
 
   no_part : (source : Option (List ℕ)) (b : List ℕ) → AreOrdered 0 ps None → IfSome source (Planned c m most h es text ps) → ShowsNone opts h source ps b → ShowsNoPart source c m b
   no_part source b order p (inl hidden) = inl hidden
   no_part source b order p (inr a) = inr (is_extract source a.adds b a.rises (told_of source a.adds order p a.are) a.one)
 
+  late_hidden : (source told : Option (List ℕ)) (e : PmtError) → IfSome source (Planned c m most h es text ps) → IfSome source (λ b. PartsRefuse (ComesTo told opts h b ps) (Archive e)) → IfSome told IsHidden → IntoLeaves source c m most (Err (Archive e)) told
+  late_hidden source None e p is hidden = tt
+  late_hidden source (Some b) e p is hidden = inr (lates source (Some b) (Some b) e refl p is, hidden)
+
   late_leaves : (source told : Option (List ℕ)) (first now old new : ℕ) (x : ExtractError) → AreOrdered 0 ps None → IfSome source (Planned c m most h es text ps) → WriteCauses {A = ArchivePlaces} first now old new (Err x) → WritesParts opts h source ps told (Err x)
       → IfSome told (ShowsNone opts h source ps) → IntoLeaves source c m most (Err x) told
-  late_leaves source told first now old new (Archive e) order p cause is shown = one_told IsHidden (IntoBytes source c m most (Err (Archive e))) told (λ b hidden. inr (lates source e p is.0, hidden)) is.1
+  late_leaves source told first now old new (Archive e) order p cause is shown = late_hidden source told e p is.0 is.1
   late_leaves source told first now old new IndexEntryOverflow order p cause is shown = one_told (ShowsNone opts h source ps) (IntoBytes source c m most (Err IndexEntryOverflow)) told (λ b s. no_part source b order p s) shown
   late_leaves source told first now old new MediumFault order p cause is shown = one_told (ShowsNone opts h source ps) (IntoBytes source c m most (Err MediumFault)) told (λ b s. no_part source b order p s) shown
   late_leaves source told first now old new OutOfMemory order p cause is shown = one_told (ShowsNone opts h source ps) (IntoBytes source c m most (Err OutOfMemory)) told (λ b s. no_part source b order p s) shown
   late_leaves source told first now old new x order p cause is shown = absurd cause
 
   -- the same in the words of the code: the options, and what the source tells later
-  pub ok_answers : (source again told : Option (List ℕ)) (o : Options) (p : ArchivePlaces) → o ≡ opts → again ≡ source → IfSome source (Planned c m most h es text ps) → WritesParts o h again ps told (Ok p) → IfSome source (λ b. Answers b c m most (Ok p))
-  ok_answers source again told o p same kept plan w = done_answers source told p plan (subst (λ s. IsWritten opts h s ps told p) kept (subst (λ q. IsWritten q h again ps told p) same w))
+  pub ok_answers : (source again told held : Option (List ℕ)) (o : Options) (p : ArchivePlaces) → o ≡ opts → again ≡ source → is_some held ≡ is_some told → IfSome source (Planned c m most h es text ps) → WritesParts o h again ps told (Ok p) → IfSome source (λ b. Answers held b c m most (Ok p))
+  ok_answers source again told held o p same kept tells plan w = done_answers source told held p tells plan (subst (λ s. IsWritten opts h s ps told p) kept (subst (λ q. IsWritten q h again ps told p) same w))
 
   pub ok_leaves : (source again told : Option (List ℕ)) (o : Options) (p : ArchivePlaces) → o ≡ opts → again ≡ source → AreOrdered 0 ps None → IfSome source (Planned c m most h es text ps) → WritesParts o h again ps told (Ok p) → IntoLeaves source c m most (Ok p) told
   ok_leaves source again told o p same kept order plan w =
-      let v : IsWritten opts h source ps told p = subst (λ s. IsWritten opts h s ps told p) kept (subst (λ q. IsWritten q h again ps told p) same w) in
-      one_told (λ b. b ≡ archive opts v.adds) (IsDone source c m p) told (λ b is. done_bytes source told p b order plan v is) v.one
+      by_told told (subst (λ s. IsWritten opts h s ps told p) kept (subst (λ q. IsWritten q h again ps told p) same w))
+    where
+      by_told : (told : Option (List ℕ)) → IsWritten opts h source ps told p → IntoLeaves source c m most (Ok p) told
+      by_told None v = tt
+      by_told (Some b) v = done_bytes source p b order plan v v.one
 
-  pub err_answers : (source again told : Option (List ℕ)) (first now old new : ℕ) (o : Options) (x : ExtractError) → o ≡ opts → again ≡ source → IfSome source (Planned c m most h es text ps) → WriteCauses {A = ArchivePlaces} first now old new (Err x)
-      → WritesParts o h again ps told (Err x) → IfSome source (λ b. Answers b c m most (Err x))
-  err_answers source again told first now old new o x same kept plan cause w =
-      late_answers source told first now old new x plan cause (subst (λ s. WritesParts opts h s ps told (Err x)) kept (subst (λ q. WritesParts q h again ps told (Err x)) same w))
+  pub err_answers : (source again told held : Option (List ℕ)) (first now old new : ℕ) (o : Options) (x : ExtractError) → o ≡ opts → again ≡ source → is_some held ≡ is_some told → IfSome source (Planned c m most h es text ps) → WriteCauses {A = ArchivePlaces} first now old new (Err x)
+      → WritesParts o h again ps told (Err x) → IfSome source (λ b. Answers held b c m most (Err x))
+  err_answers source again told held first now old new o x same kept tells plan cause w =
+      late_answers source told held first now old new x tells plan cause (subst (λ s. WritesParts opts h s ps told (Err x)) kept (subst (λ q. WritesParts q h again ps told (Err x)) same w))
 
   pub err_leaves : (source again told : Option (List ℕ)) (first now old new : ℕ) (o : Options) (x : ExtractError) → o ≡ opts → again ≡ source → AreOrdered 0 ps None → IfSome source (Planned c m most h es text ps) → WriteCauses {A = ArchivePlaces} first now old new (Err x)
       → WritesParts o h again ps told (Err x) → IfSome told (ShowsNone o h again ps) → IntoLeaves source c m most (Err x) told

@@ -1,5 +1,5 @@
 -- The archive of parts, finished or refused.
-use Rattle.std.proofs.Common.{◌≡◌, ◌∙◌, inl, inr, ◌≤◌, ℕ, Bool, false, List, [], Option, IfSome, Ok, Err, sym, arith}
+use Rattle.std.proofs.Common.{◌≡◌, ◌∙◌, inl, inr, ◌≤◌, ℕ, Bool, false, List, [], Option, None, Some, IfSome, is_some, Ok, Err, sym, arith}
 use Rattle.std.proofs.lemmas.Bool.{true≢false}
 use Rattle.pm_format.specs.declared.compression.Compression.TheVariants as compression
 use Rattle.pm_format.specs.declared.error.PmtError.{PmtError}
@@ -15,10 +15,11 @@ use Rattle.pm_writer.specs.Places.{places_of}
 use Rattle.pm_writer.specs.declared.places.ArchivePlaces.{ArchivePlaces}
 use Rattle.pm_writer.specs.declared.state.WriterState.{WriterState}
 use Rattle.pm_writer.proofs.Sorted.{adds_distinct}
-use Rattle.tile_extract.specs.Written.{IsWritten, PartsAdded, PartsOverflow, PartsPut, PartsRefuse, ShowsNone, WriteCauses, WritesParts, of_write_error, put_parts}
+use Rattle.tile_extract.specs.Written.{ComesTo, IsWritten, PartsAdded, PartsOverflow, PartsPut, PartsRefuse, ShowsNone, WriteCauses, WritesParts, of_write_error}
 use Rattle.tile_extract.specs.declared.error.ExtractError.{ExtractError}
 use Rattle.tile_extract.specs.declared.error.ExtractError.TheVariants.{Archive, IndexEntryOverflow, MediumFault, OutOfMemory}
 use Rattle.tile_extract.proofs.AddedLemmas.{sorted_by}
+use Rattle.tile_extract.proofs.PartsLemmas.{comes_as}
 use Rattle.tile_extract.proofs.ToldLemmas.{one_told}
 
 -- a writer that isn't begun
@@ -39,7 +40,7 @@ start_causes o first last before now e plain c = absurd c
 pub parts_refused : (o : Options) (h : Header) (source : Option (List ℕ)) (ps : List Entry) (told : Option (List ℕ)) (s : WriterState) (first last before now : ℕ) (x : ExtractError) → PartsPut o h source ps told s (Err x) → IfSome told IsHidden → WriteCauses {A = Unit {0}} first last before now (Err x)
     → WritesParts o h source ps told (Err x)
 parts_refused o h source ps told s first last before now (Archive e) put hidden c = (put, hidden)
-parts_refused o h source ps told s first last before now IndexEntryOverflow put hidden c = one_told (λ b. PartsRefuse (put_parts o h b ps []) IndexEntryOverflow) (PartsOverflow o h ps) source (λ b is. inl is) put
+parts_refused o h source ps told s first last before now IndexEntryOverflow put hidden c = one_told (λ b. PartsRefuse (ComesTo told o h b ps) IndexEntryOverflow) (PartsOverflow told o h ps) source (λ b is. inl is) put
 parts_refused o h source ps told s first last before now MediumFault put hidden c = tt
 parts_refused o h source ps told s first last before now OutOfMemory put hidden c = tt
 parts_refused o h source ps told s first last before now x put hidden c = absurd c
@@ -60,22 +61,32 @@ pub shows_hidden : (o : Options) (h : Header) (source : Option (List ℕ)) (ps :
 shows_hidden o h source ps told hidden = hidden_shows o h source ps told hidden
 
 -- an archive that is finished, or not
-pub finished : (o : Options) (h : Header) (source : Option (List ℕ)) (ps : List Entry) (mid told : Option (List ℕ)) (s : WriterState) (failed : Bool) (before now : ℕ) (p : ArchivePlaces) (a : PartsAdded o h source ps mid s)
+pub finished : (o : Options) (h : Header) (source : Option (List ℕ)) (ps : List Entry) (mid told : Option (List ℕ)) (s : WriterState) (failed : Bool) (before now : ℕ) (p : ArchivePlaces) (a : PartsAdded o h source ps mid s) → is_some told ≡ is_some mid
     → IfSome told (λ b. b ≡ archive o a.more) → p ≡ places_of o a.more → FinishCauses o a.more failed before now (Ok p) → IsWritten o h source ps told p
-finished o h source ps mid told s failed before now p a one places c = record { adds = a.more; rises = a.rises; fits = c.1; one = one; places = places; are = a.are }
+finished o h source ps mid told s failed before now p a same one places c = record {
+  adds = a.more;
+  rises = a.rises;
+  fits = c.1;
+  one = one;
+  places = places;
+  are = one_told (λ b. ComesTo mid o h b ps (Ok a.more)) (λ b. ComesTo told o h b ps (Ok a.more)) source (λ b is. comes_as mid told o h b ps (Ok a.more) same is) a.are;
+}
 
-pub finish_shows : (o : Options) (h : Header) (source : Option (List ℕ)) (ps : List Entry) (mid told : Option (List ℕ)) (s : WriterState) (a : PartsAdded o h source ps mid s) → IfSome told (IsHiddenOr (archive o a.more)) → IfSome told (ShowsNone o h source ps)
-finish_shows o h source ps mid told s a shown =
-    one_told (IsHiddenOr (archive o a.more)) (ShowsNone o h source ps) told (λ b is. elim is [ inl hidden ↦ inl hidden | inr whole ↦ inr (record { adds = a.more; rises = a.rises; one = whole; are = a.are }) ]) shown
+pub finish_shows : (o : Options) (h : Header) (source : Option (List ℕ)) (ps : List Entry) (mid told : Option (List ℕ)) (s : WriterState) (a : PartsAdded o h source ps mid s) → is_some told ≡ is_some mid → IfSome told (IsHiddenOr (archive o a.more)) → IfSome told (ShowsNone o h source ps)
+finish_shows o h source ps mid told s a same shown = by_told told (one_told (λ b. ComesTo mid o h b ps (Ok a.more)) (λ b. ComesTo told o h b ps (Ok a.more)) source (λ b is. comes_as mid told o h b ps (Ok a.more) same is) a.are) shown
+  where
+    by_told : (told : Option (List ℕ)) → IfSome source (λ b. ComesTo told o h b ps (Ok a.more)) → IfSome told (IsHiddenOr (archive o a.more)) → IfSome told (ShowsNone o h source ps)
+    by_told None are shown = tt
+    by_told (Some b) are shown = elim shown [ inl hidden ↦ inl hidden | inr whole ↦ inr (record { adds = a.more; rises = a.rises; one = whole; are = are }) ]
 
-pub finish_refused : (o : Options) (h : Header) (source : Option (List ℕ)) (ps : List Entry) (mid told : Option (List ℕ)) (s : WriterState) (failed : Bool) (before now : ℕ) (e : PmtError) (a : PartsAdded o h source ps mid s) → failed ≡ false
+pub finish_refused : (o : Options) (h : Header) (source : Option (List ℕ)) (ps : List Entry) (mid told : Option (List ℕ)) (s : WriterState) (failed : Bool) (before now : ℕ) (e : PmtError) (a : PartsAdded o h source ps mid s) → is_some told ≡ is_some mid → failed ≡ false
     → FinishCauses {A = ArchivePlaces} o a.more failed before now (Err e) → WritesParts o h source ps told (Err (of_write_error e))
-finish_refused o h source ps mid told s failed before now errors.Failed a alive c = tt
-finish_refused o h source ps mid told s failed before now (errors.OverlappingEntries id) a alive c = tt
-finish_refused o h source ps mid told s failed before now errors.IndexEntryOverflow a alive c = one_told (λ b. put_parts o h b ps [] ≡ Ok a.more) (PartsOverflow o h ps) source (λ b is. inr (a.more, is, c.2)) a.are
-finish_refused o h source ps mid told s failed before now (errors.Reading causes.Fault) a alive c = tt
-finish_refused o h source ps mid told s failed before now errors.OutOfMemory a alive c = tt
-finish_refused o h source ps mid told s failed before now e a alive c = absurd c
+finish_refused o h source ps mid told s failed before now errors.Failed a same alive c = tt
+finish_refused o h source ps mid told s failed before now (errors.OverlappingEntries id) a same alive c = tt
+finish_refused o h source ps mid told s failed before now errors.IndexEntryOverflow a same alive c = one_told (λ b. ComesTo mid o h b ps (Ok a.more)) (PartsOverflow told o h ps) source (λ b is. inr (a.more, comes_as mid told o h b ps (Ok a.more) same is, c.2)) a.are
+finish_refused o h source ps mid told s failed before now (errors.Reading causes.Fault) a same alive c = tt
+finish_refused o h source ps mid told s failed before now errors.OutOfMemory a same alive c = tt
+finish_refused o h source ps mid told s failed before now e a same alive c = absurd c
 
 pub finish_causes : (o : Options) (h : Header) (source : Option (List ℕ)) (ps : List Entry) (mid : Option (List ℕ)) (s : WriterState) (failed : Bool) (first last old before now : ℕ) (e : PmtError) (a : PartsAdded o h source ps mid s) → failed ≡ false → old ≤ before
     → FinishCauses {A = ArchivePlaces} o a.more failed before now (Err e) → WriteCauses {A = ArchivePlaces} first last old now (Err (of_write_error e))

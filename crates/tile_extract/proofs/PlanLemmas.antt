@@ -23,7 +23,7 @@ use Rattle.tile_extract.proofs.ToldLemmas.{one_told}
 -- an error that comes before the archive is begun
 abbrev pub ComesEarly : List ℕ → Coord → ℕ → ℕ → ExtractError → Type 0
 ComesEarly b c m most (Archive e) = IsEarly b c m e
-ComesEarly b c m most (TooManyTiles n) = Answers b c m most (Err (TooManyTiles n))
+ComesEarly b c m most (TooManyTiles n) = Answers None b c m most (Err (TooManyTiles n))
 ComesEarly b c m most OutOfMemory = Unit {0}
 ComesEarly b c m most e = ⊥
 
@@ -82,11 +82,11 @@ collect_causes most first before now old new OutOfMemory le c = tt
 collect_causes most first before now old new x le c = absurd c
 
 -- an early error answers, and leaves the medium empty
-pub early_answers : (b : List ℕ) (c : Coord) (m most : ℕ) (x : ExtractError) → ComesEarly b c m most x → Answers b c m most (Err x)
-early_answers b c m most (Archive e) is = inl is
-early_answers b c m most (TooManyTiles n) is = is
-early_answers b c m most OutOfMemory is = tt
-early_answers b c m most x is = absurd is
+pub early_answers : (held : Option (List ℕ)) (b : List ℕ) (c : Coord) (m most : ℕ) (x : ExtractError) → ComesEarly b c m most x → Answers held b c m most (Err x)
+early_answers held b c m most (Archive e) is = inl is
+early_answers held b c m most (TooManyTiles n) is = is
+early_answers held b c m most OutOfMemory is = tt
+early_answers held b c m most x is = absurd is
 
 early_bytes : (source : Option (List ℕ)) (c : Coord) (m most before now old new : ℕ) (x : ExtractError) (b : List ℕ) → IntoCauses most before now old new (Err x) → IfSome source (λ s. ComesEarly s c m most x) → b ≡ [] → IntoBytes source c m most (Err x) b
 early_bytes source c m most before now old new (Archive e) b cause is empty = inl (is, empty)

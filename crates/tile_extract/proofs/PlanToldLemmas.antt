@@ -37,8 +37,8 @@ uncollected c m most before now s text x None again same read cause refused = tt
 uncollected c m most before now s text x (Some b) again same read cause refused =
     collect_early b c m most before now (header_of s) (root_of s) text x (found_of b s text read) cause (subst (λ a. IfSome a (λ b. CollectRefuses (walk_of c m s b) (intervals c m) most x)) same refused)
 
-pub answered : (c : Coord) (m most : ℕ) (x : ExtractError) (told : Option (List ℕ)) → IfSome told (λ b. ComesEarly b c m most x) → IfSome told (λ b. Answers b c m most (Err x))
-answered c m most x told early = one_told (λ b. ComesEarly b c m most x) (λ b. Answers b c m most (Err x)) told (λ b is. early_answers b c m most x is) early
+pub answered : (c : Coord) (m most : ℕ) (x : ExtractError) (told held : Option (List ℕ)) → IfSome told (λ b. ComesEarly b c m most x) → IfSome told (λ b. Answers held b c m most (Err x))
+answered c m most x told held early = one_told (λ b. ComesEarly b c m most x) (λ b. Answers held b c m most (Err x)) told (λ b is. early_answers held b c m most x is) early
 
 -- how often the source is read
 pub reads_opened : (c : Coord) (m first now : ℕ) (told : Option (List ℕ)) → IfSome told (λ b. now ≤ first + opening_reads (opened b)) → IfSome told (λ b. now ≤ first + reads_at_most b c m)

@@ -21,8 +21,8 @@ both_same R old new same f = subst (BothTold R old) (sym same) (by_told old)
 pub zoom_causes : (c : Coord) (m most : ℕ) (held : Option (List ℕ)) (before now old new : ℕ) (x : ExtractError) → (x ≡ InvalidZoom c.z m) × (IsValid c m → ⊥) → Causes c m most held before now old new (Err x)
 zoom_causes c m most held before now old new x is = subst (λ e. Causes c m most held before now old new (Err e)) (sym is.0) (refl, refl, is.1)
 
-pub zoom_answers : (source : Option (List ℕ)) (c : Coord) (m most : ℕ) (x : ExtractError) → (x ≡ InvalidZoom c.z m) × (IsValid c m → ⊥) → IfSome source (λ b. Answers b c m most (Err x))
-zoom_answers source c m most x is = subst (λ e. IfSome source (λ b. Answers b c m most (Err e))) (sym is.0) (any_told (λ b. Answers b c m most (Err (InvalidZoom c.z m))) source (λ b. tt))
+pub zoom_answers : (source held : Option (List ℕ)) (c : Coord) (m most : ℕ) (x : ExtractError) → (x ≡ InvalidZoom c.z m) × (IsValid c m → ⊥) → IfSome source (λ b. Answers held b c m most (Err x))
+zoom_answers source held c m most x is = subst (λ e. IfSome source (λ b. Answers held b c m most (Err e))) (sym is.0) (any_told (λ b. Answers held b c m most (Err (InvalidZoom c.z m))) source (λ b. tt))
 
 pub zoom_leaves : (source : Option (List ℕ)) (c : Coord) (m most : ℕ) (x : ExtractError) (held : Option (List ℕ)) → (x ≡ InvalidZoom c.z m) × (IsValid c m → ⊥) → Leaves source c m most (Err x) held held
 zoom_leaves source c m most x held is = subst (λ e. Leaves source c m most (Err e) held held) (sym is.0) (both_same (LeavesBytes source c m most (Err (InvalidZoom c.z m))) held held refl (λ b. refl))
@@ -33,9 +33,9 @@ medium_causes c m most held before now old new (MediumNotEmpty n) valid is = (va
 medium_causes c m most held before now old new MediumFault valid is = (valid, is)
 medium_causes c m most held before now old new x valid is = absurd is
 
-pub medium_answers : (source held : Option (List ℕ)) (c : Coord) (m most old new : ℕ) (x : ExtractError) → MediumTested held old new (Err x) → IfSome source (λ b. Answers b c m most (Err x))
-medium_answers source held c m most old new (MediumNotEmpty n) is = any_told (λ b. Answers b c m most (Err (MediumNotEmpty n))) source (λ b. tt)
-medium_answers source held c m most old new MediumFault is = any_told (λ b. Answers b c m most (Err MediumFault)) source (λ b. tt)
+pub medium_answers : (source held : Option (List ℕ)) (c : Coord) (m most old new : ℕ) (x : ExtractError) → MediumTested held old new (Err x) → IfSome source (λ b. Answers held b c m most (Err x))
+medium_answers source held c m most old new (MediumNotEmpty n) is = any_told (λ b. Answers held b c m most (Err (MediumNotEmpty n))) source (λ b. tt)
+medium_answers source held c m most old new MediumFault is = any_told (λ b. Answers held b c m most (Err MediumFault)) source (λ b. tt)
 medium_answers source held c m most old new x is = absurd is
 
 pub medium_leaves : (source held again : Option (List ℕ)) (c : Coord) (m most old new : ℕ) (x : ExtractError) → again ≡ held → MediumTested held old new (Err x) → Leaves source c m most (Err x) held again

@@ -39,4 +39,4 @@ IsDoneOrWanting (Err e) = ⊥
 -- An extraction to an empty medium that tells its bytes, over a source that tells its own, ends so where no count of faults rose.
 abbrev pub EndsWell : List ℕ → Coord → ℕ → ℕ → Result ArchivePlaces ExtractError → Type 0
 EndsWell b c m most result =
-    (before now old new : ℕ) → CanExtract b c m most → Causes c m most (Some []) before now old new result → Answers b c m most result → (Rose before now → ⊥) → (Rose old new → ⊥) → IsDoneOrWanting result
+    (before now old new : ℕ) → CanExtract b c m most → Causes c m most (Some []) before now old new result → Answers (Some []) b c m most result → (Rose before now → ⊥) → (Rose old new → ⊥) → IsDoneOrWanting result

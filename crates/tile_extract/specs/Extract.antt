@@ -26,7 +26,7 @@ use Rattle.tile_extract.specs.Cut.{cut, intervals, options_from, options_of}
 use Rattle.tile_extract.specs.Collecting.{Refuses}
 use Rattle.tile_extract.specs.Met.{Walked, met_of}
 use Rattle.tile_extract.specs.Parts.{parts, tile_count}
-use Rattle.tile_extract.specs.Written.{put_parts}
+use Rattle.tile_extract.specs.Written.{ComesTo}
 use Rattle.tile_extract.specs.declared.error.ExtractError.{ExtractError}
 use Rattle.tile_extract.specs.declared.error.ExtractError.TheVariants.{InvalidZoom, MediumNotEmpty, Archive, TooManyTiles, IndexEntryOverflow, MediumFault, OutOfMemory}
 
@@ -70,37 +70,37 @@ pub record Due (b : List ℕ) (c : Coord) (m most : ℕ) : Type 0 where
   pub fine : (met_of b source.found c m).refusal ≡ None
   pub few : count_met b source.found c m ≤ most
 
--- what the tiles come to, added in order
-abbrev pub added : (b : List ℕ) (c : Coord) (m most : ℕ) → Due b c m most → Result (List (ℕ × List ℕ)) ExtractError
-added b c m most d = put_parts (options_from d.source.found.0 d.source.text c m) d.source.found.0 b (parts_met b d.source.found c m) []
+-- what the tiles come to, added in order on a medium
+abbrev pub Added : Option (List ℕ) → (b : List ℕ) (c : Coord) (m most : ℕ) → Due b c m most → Result (List (ℕ × List ℕ)) ExtractError → Type 0
+Added held b c m most d = ComesTo held (options_from d.source.found.0 d.source.text c m) d.source.found.0 b (parts_met b d.source.found c m)
 
 -- a refusal of a tile, after the archive was begun
-abbrev pub IsLate : List ℕ → Coord → ℕ → ℕ → PmtError → Type 0
-IsLate b c m most (errors.Reading causes.Fault) = Unit {0}
-IsLate b c m most (errors.UnexpectedNumberOfBytesReturned asked got) = ⊥
-IsLate b c m most e = (d : Due b c m most) × (added b c m most d ≡ Err (Archive e))
+abbrev pub IsLate : Option (List ℕ) → List ℕ → Coord → ℕ → ℕ → PmtError → Type 0
+IsLate held b c m most (errors.Reading causes.Fault) = Unit {0}
+IsLate held b c m most (errors.UnexpectedNumberOfBytesReturned asked got) = ⊥
+IsLate held b c m most e = (d : Due b c m most) × Added held b c m most d (Err (Archive e))
 
 -- data that would end past u64, or an archive that doesn't fit
-abbrev pub Overflows : List ℕ → Coord → ℕ → ℕ → Type 0
-Overflows b c m most = (d : Due b c m most)
-    × ((added b c m most d ≡ Err IndexEntryOverflow)
-    ⊎ ((adds : List (ℕ × List ℕ)) × (added b c m most d ≡ Ok adds) × (ArchiveFits (options_from d.source.found.0 d.source.text c m) adds → ⊥)))
+abbrev pub Overflows : Option (List ℕ) → List ℕ → Coord → ℕ → ℕ → Type 0
+Overflows held b c m most = (d : Due b c m most)
+    × (Added held b c m most d (Err IndexEntryOverflow)
+    ⊎ ((adds : List (ℕ × List ℕ)) × Added held b c m most d (Ok adds) × (ArchiveFits (options_from d.source.found.0 d.source.text c m) adds → ⊥)))
 
 -- all tiles lie in the bytes, and their archive can be written; the places are its own
-pub record IsExtracted (b : List ℕ) (c : Coord) (m most : ℕ) (p : ArchivePlaces) : Type 0 where
+pub record IsExtracted (held : Option (List ℕ)) (b : List ℕ) (c : Coord) (m most : ℕ) (p : ArchivePlaces) : Type 0 where
   pub due : Due b c m most
   pub adds : List (ℕ × List ℕ)
-  pub are : added b c m most due ≡ Ok adds
+  pub are : Added held b c m most due (Ok adds)
   pub fits : IsArchivable (options_from due.source.found.0 due.source.text c m) adds
   pub places : p ≡ places_of (options_from due.source.found.0 due.source.text c m) adds
 
--- Over told bytes: when each answer comes, once the zoom is valid and the medium empty.
-abbrev pub Answers : List ℕ → Coord → ℕ → ℕ → Result ArchivePlaces ExtractError → Type 0
-Answers b c m most (Ok p) = IsExtracted b c m most p
-Answers b c m most (Err (Archive e)) = IsEarly b c m e ⊎ IsLate b c m most e
-Answers b c m most (Err (TooManyTiles n)) = (n ≡ most) × ((s : Source b) × ((met_of b s.found c m).refusal ≡ None) × (most < count_met b s.found c m))
-Answers b c m most (Err IndexEntryOverflow) = Overflows b c m most
-Answers b c m most (Err e) = Unit {0}
+-- Over told bytes: when each answer comes, once the zoom is valid and the medium empty, by what the medium tells, if it does.
+abbrev pub Answers : Option (List ℕ) → List ℕ → Coord → ℕ → ℕ → Result ArchivePlaces ExtractError → Type 0
+Answers held b c m most (Ok p) = IsExtracted held b c m most p
+Answers held b c m most (Err (Archive e)) = IsEarly b c m e ⊎ IsLate held b c m most e
+Answers held b c m most (Err (TooManyTiles n)) = (n ≡ most) × ((s : Source b) × ((met_of b s.found c m).refusal ≡ None) × (most < count_met b s.found c m))
+Answers held b c m most (Err IndexEntryOverflow) = Overflows held b c m most
+Answers held b c m most (Err e) = Unit {0}
 
 -- Told or not: why an archive isn't read. A fault comes where the count of faults rose, other numbers of bytes only where they differ.
 abbrev pub ReadCauses : ℕ → ℕ → PmtError → Type 0
@@ -153,7 +153,7 @@ pub record IsDone (source : Option (List ℕ)) (c : Coord) (m : ℕ) (p : Archiv
 -- What an empty medium holds afterwards: nothing, where the archive wasn't begun.
 abbrev pub IntoBytes : Option (List ℕ) → Coord → ℕ → ℕ → Result ArchivePlaces ExtractError → List ℕ → Type 0
 IntoBytes source c m most (Ok p) new = IsDone source c m p new
-IntoBytes source c m most (Err (Archive e)) new = (IfSome source (λ b. IsEarly b c m e) × (new ≡ [])) ⊎ (IfSome source (λ b. IsLate b c m most e) × IsHidden new)
+IntoBytes source c m most (Err (Archive e)) new = (IfSome source (λ b. IsEarly b c m e) × (new ≡ [])) ⊎ (IfSome source (λ b. IsLate (Some new) b c m most e) × IsHidden new)
 IntoBytes source c m most (Err (TooManyTiles n)) new = new ≡ []
 IntoBytes source c m most (Err e) new = ShowsNoPart source c m new
 

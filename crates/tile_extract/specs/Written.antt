@@ -14,6 +14,7 @@ use Rattle.pm_writer.specs.Archive.{archive}
 use Rattle.pm_writer.specs.Causes.{ArchiveFits}
 use Rattle.pm_writer.specs.Pieces.{IsHidden}
 use Rattle.pm_writer.specs.Places.{places_of}
+use Rattle.pm_writer.specs.Took.{Took}
 use Rattle.pm_writer.specs.Writing.{Writes, add_to, data_end}
 use Rattle.pm_writer.specs.declared.places.ArchivePlaces.{ArchivePlaces}
 use Rattle.pm_writer.specs.declared.state.WriterState.{WriterState}
@@ -48,6 +49,33 @@ put_parts o h b (p ∷ ps) done = elim (range_of b (h.data_offset + p.offset) p.
   | Some bytes ↦ put_next (put_parts o h b ps) (put_all o bytes done (ids_of p))
 ]
 
+-- The same where each of the data is taken for some data: what putting bytes at ids may come to.
+abbrev pub ByRoom : Bool → Type 0 → Type 0 → Type 0
+ByRoom true there over = there
+ByRoom false there over = over
+
+abbrev pub PutsAll : (List ℕ → List ℕ → Type 0) → Options → List ℕ → Adds → List ℕ → Result Adds ExtractError → Type 0
+PutsAll takes o bytes done [] r = r ≡ Ok done
+PutsAll takes o bytes done (id ∷ ids) r = (taken : List ℕ) × takes bytes taken × ByRoom (has_room o done id taken) (PutsAll takes o bytes (add_to done id taken) ids r) (r ≡ Err IndexEntryOverflow)
+
+abbrev pub PutsNext : (Adds → Type 0) → Result Adds ExtractError → Result Adds ExtractError → Type 0
+PutsNext next r (Ok done) = next done
+PutsNext next r (Err e) = r ≡ Err e
+
+abbrev pub PutsFound : (List ℕ → Type 0) → Result Adds ExtractError → Option (List ℕ) → Type 0
+PutsFound next r None = r ≡ Err (Archive (errors.Reading causes.PastEnd))
+PutsFound next r (Some bytes) = next bytes
+
+abbrev pub PutsParts : (List ℕ → List ℕ → Type 0) → Options → Header → List ℕ → List Entry → Adds → Result Adds ExtractError → Type 0
+PutsParts takes o h b [] done r = r ≡ Ok done
+PutsParts takes o h b (p ∷ ps) done r =
+    PutsFound (λ bytes. (mid : Result Adds ExtractError) × PutsAll takes o bytes done (ids_of p) mid × PutsNext (λ more. PutsParts takes o h b ps more r) r mid) r (range_of b (h.data_offset + p.offset) p.length)
+
+-- What parts come to on a medium: one result where it tells its bytes, and else that of some data of the same lengths, for which the contents are taken.
+abbrev pub ComesTo : Option (List ℕ) → Options → Header → List ℕ → List Entry → Result Adds ExtractError → Type 0
+ComesTo (Some held) o h b ps r = put_parts o h b ps [] ≡ r
+ComesTo None o h b ps r = PutsParts (Took None) o h b ps [] r
+
 -- adds by strictly rising id, from an id on
 abbrev pub Rises : ℕ → Adds → Type 0
 Rises low [] = Unit {0}
@@ -57,34 +85,34 @@ Rises low (a ∷ adds) = (low ≤ a.0) × Rises (a.0 + 1) adds
 abbrev pub EndsBy : Adds → ℕ → Type 0
 EndsBy adds end = (more : Adds) → Rises end more → Rises 0 (adds ++ more)
 
--- What adding the same bytes at ids leaves. A fault and want of memory may come in the place of each answer.
+-- What adding the same bytes at ids leaves, each taken for some data. A fault and want of memory may come in the place of each answer.
 abbrev pub Puts : Options → List ℕ → Adds → List ℕ → Option (List ℕ) → WriterState → Result Unit ExtractError → Type 0
-Puts o bytes done ids told s (Ok x) = (more : Adds) × (put_all o bytes done ids ≡ Ok more) × Writes o told s more
-Puts o bytes done ids told s (Err IndexEntryOverflow) = put_all o bytes done ids ≡ Err IndexEntryOverflow
+Puts o bytes done ids told s (Ok x) = (more : Adds) × PutsAll (Took told) o bytes done ids (Ok more) × Writes o told s more
+Puts o bytes done ids told s (Err IndexEntryOverflow) = PutsAll (Took told) o bytes done ids (Err IndexEntryOverflow)
 Puts o bytes done ids told s (Err MediumFault) = Unit {0}
 Puts o bytes done ids told s (Err OutOfMemory) = Unit {0}
 Puts o bytes done ids told s (Err e) = ⊥
 
 -- Over told bytes of the source: a refusal is that of the parts. A fault may come in its place, and a wrong number of bytes never does.
-abbrev pub PartsRefuse : Result Adds ExtractError → ExtractError → Type 0
-PartsRefuse r (Archive (errors.Reading causes.Fault)) = Unit {0}
-PartsRefuse r (Archive (errors.UnexpectedNumberOfBytesReturned asked got)) = ⊥
-PartsRefuse r (Archive e) = r ≡ Err (Archive e)
-PartsRefuse r IndexEntryOverflow = r ≡ Err IndexEntryOverflow
-PartsRefuse r MediumFault = Unit {0}
-PartsRefuse r OutOfMemory = Unit {0}
-PartsRefuse r e = ⊥
+abbrev pub PartsRefuse : (Result Adds ExtractError → Type 0) → ExtractError → Type 0
+PartsRefuse comes (Archive (errors.Reading causes.Fault)) = Unit {0}
+PartsRefuse comes (Archive (errors.UnexpectedNumberOfBytesReturned asked got)) = ⊥
+PartsRefuse comes (Archive e) = comes (Err (Archive e))
+PartsRefuse comes IndexEntryOverflow = comes (Err IndexEntryOverflow)
+PartsRefuse comes MediumFault = Unit {0}
+PartsRefuse comes OutOfMemory = Unit {0}
+PartsRefuse comes e = ⊥
 
--- what adding parts leaves: the adds that they come to, where the source tells, and in any case such as rise
+-- what adding parts leaves: adds that they come to, where the source tells, and in any case such as rise
 pub record PartsAdded (o : Options) (h : Header) (source : Option (List ℕ)) (ps : List Entry) (told : Option (List ℕ)) (s : WriterState) : Type 0 where
   pub more : Adds
   pub writes : Writes o told s more
   pub rises : Rises 0 more
-  pub are : IfSome source (λ b. put_parts o h b ps [] ≡ Ok more)
+  pub are : IfSome source (λ b. ComesTo told o h b ps (Ok more))
 
 abbrev pub PartsPut : Options → Header → Option (List ℕ) → List Entry → Option (List ℕ) → WriterState → Result Unit ExtractError → Type 0
 PartsPut o h source ps told s (Ok x) = PartsAdded o h source ps told s
-PartsPut o h source ps told s (Err e) = IfSome source (λ b. PartsRefuse (put_parts o h b ps []) e)
+PartsPut o h source ps told s (Err e) = IfSome source (λ b. PartsRefuse (ComesTo told o h b ps) e)
 
 -- the extraction's words for a refusal of the writer, and of the reader
 abbrev pub of_write_error : PmtError → ExtractError
@@ -114,16 +142,16 @@ pub record IsWritten (o : Options) (h : Header) (source : Option (List ℕ)) (ps
   pub fits : IsArchivable o adds
   pub one : IfSome told (λ b. b ≡ archive o adds)
   pub places : p ≡ places_of o adds
-  pub are : IfSome source (λ b. put_parts o h b ps [] ≡ Ok adds)
+  pub are : IfSome source (λ b. ComesTo told o h b ps (Ok adds))
 
 -- the data of parts would end past u64, or their archive doesn't fit
-abbrev pub PartsOverflow : Options → Header → List Entry → List ℕ → Type 0
-PartsOverflow o h ps b = (put_parts o h b ps [] ≡ Err IndexEntryOverflow) ⊎ ((adds : Adds) × (put_parts o h b ps [] ≡ Ok adds) × (ArchiveFits o adds → ⊥))
+abbrev pub PartsOverflow : Option (List ℕ) → Options → Header → List Entry → List ℕ → Type 0
+PartsOverflow told o h ps b = ComesTo told o h b ps (Err IndexEntryOverflow) ⊎ ((adds : Adds) × ComesTo told o h b ps (Ok adds) × (ArchiveFits o adds → ⊥))
 
 abbrev pub WritesParts : Options → Header → Option (List ℕ) → List Entry → Option (List ℕ) → Result ArchivePlaces ExtractError → Type 0
 WritesParts o h source ps told (Ok p) = IsWritten o h source ps told p
-WritesParts o h source ps told (Err IndexEntryOverflow) = IfSome source (PartsOverflow o h ps)
-WritesParts o h source ps told (Err (Archive e)) = IfSome source (λ b. PartsRefuse (put_parts o h b ps []) (Archive e)) × IfSome told IsHidden
+WritesParts o h source ps told (Err IndexEntryOverflow) = IfSome source (PartsOverflow told o h ps)
+WritesParts o h source ps told (Err (Archive e)) = IfSome source (λ b. PartsRefuse (ComesTo told o h b ps) (Archive e)) × IfSome told IsHidden
 WritesParts o h source ps told (Err e) = Unit {0}
 
 -- Told or not, why: a fault of the source or the medium comes where its count of faults rose, other numbers of bytes only where they differ, and no other refusal comes.

@@ -24,13 +24,13 @@ fn extract_into<B: Backend, M: Medium>(
     requires valid { IsValid root max_zoom }
     requires empty { IsEmpty (M.told medium.old) }
     ensures causes { IntoCauses max_tiles (B.faults source.old) (B.faults source.new) (M.faults medium.old) (M.faults medium.new) result }
-    ensures answers { IfSome (B.told source.old) (λ b. Answers b root max_zoom max_tiles result) }
+    ensures answers { IfSome (B.told source.old) (λ b. Answers (M.told medium.old) b root max_zoom max_tiles result) }
     ensures leaves { IntoLeaves (B.told source.old) root max_zoom max_tiles result (M.told medium.new) }
     ensures kept { ReadsOnly B.told B.versions B.faults B.steady source.old source.new }
     ensures reads { IfSome (B.told source.old) (λ b. B.reads source.new ≤ B.reads source.old + reads_at_most b root max_zoom) }
     ensures tells { is_some (M.told medium.new) ≡ is_some (M.told medium.old) }
     ensures faults { M.faults medium.old ≤ M.faults medium.new }
-    ensures counted { M.reads medium.new ≡ M.reads medium.old }
+    ensures counted { M.reads medium.old ≤ M.reads medium.new }
     ensures calm { M.steady medium.old → M.steady medium.new × (M.faults medium.new ≡ M.faults medium.old) }
 {
     let (reader, metadata) = match read_source(alloc, source) {
@@ -67,13 +67,13 @@ pub fn extract<B: Backend, M: Medium>(
     medium: &mut M,
 ) -> Result<ArchivePlaces, ExtractError>
     ensures causes { Causes root max_zoom max_tiles (M.told medium.old) (B.faults source.old) (B.faults source.new) (M.faults medium.old) (M.faults medium.new) result }
-    ensures answers { IfSome (B.told source.old) (λ b. Answers b root max_zoom max_tiles result) }
+    ensures answers { IfSome (B.told source.old) (λ b. Answers (M.told medium.old) b root max_zoom max_tiles result) }
     ensures leaves { Leaves (B.told source.old) root max_zoom max_tiles result (M.told medium.old) (M.told medium.new) }
     ensures kept { ReadsOnly B.told B.versions B.faults B.steady source.old source.new }
     ensures reads { IfSome (B.told source.old) (λ b. B.reads source.new ≤ B.reads source.old + reads_at_most b root max_zoom) }
     ensures unread { LeavesUnread (B.reads source.old) (B.reads source.new) result }
     ensures faults { M.faults medium.old ≤ M.faults medium.new }
-    ensures counted { M.reads medium.new ≡ M.reads medium.old }
+    ensures counted { M.reads medium.old ≤ M.reads medium.new }
     ensures calm { M.steady medium.old → M.steady medium.new × (M.faults medium.new ≡ M.faults medium.old) }
 {
     match test_zoom(root, max_zoom) {

@@ -24,7 +24,7 @@ pub fn run_extract<B: Backend, M: Medium>(
 ) -> ExtractOutcome
     ensures words { IsFor (asked_in words.now) result }
     ensures causes { IfSome (asked_in words.now) (λ a. OfExtract (Causes a.root a.max_zoom a.max_tiles (M.told medium.old) (B.faults source.old) (B.faults source.new) (M.faults medium.old) (M.faults medium.new)) result) }
-    ensures answers { IfSome (asked_in words.now) (λ a. IfSome (B.told source.old) (λ b. OfExtract (Answers b a.root a.max_zoom a.max_tiles) result)) }
+    ensures answers { IfSome (asked_in words.now) (λ a. IfSome (B.told source.old) (λ b. OfExtract (Answers (M.told medium.old) b a.root a.max_zoom a.max_tiles) result)) }
     ensures leaves { IfSome (asked_in words.now) (λ a. OfExtract (λ r. Leaves (B.told source.old) a.root a.max_zoom a.max_tiles r (M.told medium.old) (M.told medium.new)) result) }
     // Where the source can be extracted, the medium tells that it is empty and no count rose, it is Done, or memory ran out.
     ensures complete { IfSome (asked_in words.now) (λ a. IfSome (B.told source.old) (λ b. CanExtract b a.root a.max_zoom a.max_tiles → M.told medium.old ≡ Some [] → ¬ Rose (B.faults source.old) (B.faults source.new)
@@ -35,7 +35,7 @@ pub fn run_extract<B: Backend, M: Medium>(
     ensures reads { IfSome (asked_in words.now) (λ a. IfSome (B.told source.old) (λ b. B.reads source.new ≤ B.reads source.old + reads_at_most b a.root a.max_zoom)) }
     ensures unread { OfExtract (LeavesUnread (B.reads source.old) (B.reads source.new)) result }
     ensures faults { M.faults medium.old ≤ M.faults medium.new }
-    ensures counted { M.reads medium.new ≡ M.reads medium.old }
+    ensures counted { M.reads medium.old ≤ M.reads medium.new }
     ensures calm { M.steady medium.old → M.steady medium.new × (M.faults medium.new ≡ M.faults medium.old) }
 {
     let Some((root, max_zoom, max_tiles)) = parse_words(words) else {

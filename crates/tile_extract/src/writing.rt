@@ -54,7 +54,7 @@ fn add_part<M: Medium>(
     ensures fault { IsErrOf result ExtractError.MediumFault → Rose (M.faults medium.old) (M.faults medium.new) }
     ensures tells { is_some (M.told medium.new) ≡ is_some (M.told medium.old) }
     ensures faults { M.faults medium.old ≤ M.faults medium.new }
-    ensures counted { M.reads medium.new ≡ M.reads medium.old }
+    ensures counted { M.reads medium.old ≤ M.reads medium.new }
     ensures calm { M.steady medium.old → M.steady medium.new × (M.faults medium.new ≡ M.faults medium.old) }
 {
     for id in part.iter_coords() {
@@ -85,7 +85,7 @@ fn add_parts<B: Backend, M: Medium>(
     ensures reads { B.reads source.new ≤ B.reads source.old + length parts.now }
     ensures tells { is_some (M.told medium.new) ≡ is_some (M.told medium.old) }
     ensures faults { M.faults medium.old ≤ M.faults medium.new }
-    ensures counted { M.reads medium.new ≡ M.reads medium.old }
+    ensures counted { M.reads medium.old ≤ M.reads medium.new }
     ensures calm { M.steady medium.old → M.steady medium.new × (M.faults medium.new ≡ M.faults medium.old) }
 {
     let mut rest = parts;
@@ -122,7 +122,7 @@ pub fn write_parts<B: Backend, M: Medium>(
     ensures reads { B.reads source.new ≤ B.reads source.old + length parts.now }
     ensures tells { is_some (M.told medium.new) ≡ is_some (M.told medium.old) }
     ensures faults { M.faults medium.old ≤ M.faults medium.new }
-    ensures counted { M.reads medium.new ≡ M.reads medium.old }
+    ensures counted { M.reads medium.old ≤ M.reads medium.new }
     ensures calm { M.steady medium.old → M.steady medium.new × (M.faults medium.new ≡ M.faults medium.old) }
 {
     let mut writer = match options.start(alloc, medium) {

@@ -1,4 +1,4 @@
-use Rattle.std.proofs.Common.{◌∙◌, IfSome, Ok, Err, ap, subst}
+use Rattle.std.proofs.Common.{◌∙◌, IfSome, Ok, Err, ap, sym, subst}
 use Rattle.pm_reader.specs.Opening.{header_of, root_of}
 use Rattle.tile_extract.specs.Cut.{options_from}
 use Rattle.tile_extract.specs.Written.{ShowsNone, WritesParts}
@@ -11,7 +11,7 @@ pub returns-in-Err-collect-clause-answers : goal.returns-in-Err-collect-clause-a
 returns-in-Err-collect-clause-answers g c =
     let told = g.B.Backend.told c.args.source.now in
     let again = g.B.Backend.told c.read_source.new.source in
-    answered c.args.root c.args.max_zoom c.args.max_tiles c.in-Err-collect.error told
+    answered c.args.root c.args.max_zoom c.args.max_tiles c.in-Err-collect.error told (g.M.Backend.told c.args.medium.now)
     (uncollected c.args.root c.args.max_zoom c.args.max_tiles _ _ c.in-Ok.read.0 c.in-Ok.read.1 c.in-Err-collect.error told again c.read_source.ensures.kept.told c.in-Ok.ensures.answer c.in-Err-collect.ensures.causes c.in-Err-collect.ensures.refused)
 
 pub returns-in-Err-collect-clause-leaves : goal.returns-in-Err-collect-clause-leaves
@@ -34,8 +34,8 @@ returns-in-Ok-write_parts-clause-answers g c =
     let h = header_of c.in-Ok.read.0 in
     let held = g.M.Backend.told c.write_parts.new.medium in
     let items = c.in-Ok-collect.parts.items in
-    ok_answers c.args.root c.args.max_zoom c.args.max_tiles h (root_of c.in-Ok.read.0) c.in-Ok.read.1 items told again held c.options_from-options.result c.in-Ok-write_parts.written
-    (c.options_from-options.ensures ∙ ap (λ k. options_from k c.in-Ok.read.1 c.args.root c.args.max_zoom) c.get_header.ensures) (c.collect.ensures.kept.told ∙ c.read_source.ensures.kept.told)
+    ok_answers c.args.root c.args.max_zoom c.args.max_tiles h (root_of c.in-Ok.read.0) c.in-Ok.read.1 items told again held (g.M.Backend.told c.args.medium.now) c.options_from-options.result c.in-Ok-write_parts.written
+    (c.options_from-options.ensures ∙ ap (λ k. options_from k c.in-Ok.read.1 c.args.root c.args.max_zoom) c.get_header.ensures) (c.collect.ensures.kept.told ∙ c.read_source.ensures.kept.told) (sym c.write_parts.ensures.tells)
     (planned c.args.root c.args.max_zoom c.args.max_tiles c.in-Ok.read.0 c.in-Ok.read.1 items told (g.B.Backend.told c.read_source.new.source) c.read_source.ensures.kept.told c.in-Ok.ensures.answer c.in-Ok-collect.ensures.collected)
     (subst (λ l. WritesParts c.options_from-options.result h again l held (Ok c.in-Ok-write_parts.written)) c.deref.ensures.value c.in-Ok-write_parts.ensures.written)
 
@@ -58,8 +58,8 @@ returns-clause-answers g c =
     let h = header_of c.in-Ok.read.0 in
     let held = g.M.Backend.told c.write_parts.new.medium in
     let items = c.in-Ok-collect.parts.items in
-    err_answers c.args.root c.args.max_zoom c.args.max_tiles h (root_of c.in-Ok.read.0) c.in-Ok.read.1 items told again held _ _ _ _ c.options_from-options.result c.in-Err-write_parts.error
-    (c.options_from-options.ensures ∙ ap (λ k. options_from k c.in-Ok.read.1 c.args.root c.args.max_zoom) c.get_header.ensures) (c.collect.ensures.kept.told ∙ c.read_source.ensures.kept.told)
+    err_answers c.args.root c.args.max_zoom c.args.max_tiles h (root_of c.in-Ok.read.0) c.in-Ok.read.1 items told again held (g.M.Backend.told c.args.medium.now) _ _ _ _ c.options_from-options.result c.in-Err-write_parts.error
+    (c.options_from-options.ensures ∙ ap (λ k. options_from k c.in-Ok.read.1 c.args.root c.args.max_zoom) c.get_header.ensures) (c.collect.ensures.kept.told ∙ c.read_source.ensures.kept.told) (sym c.write_parts.ensures.tells)
     (planned c.args.root c.args.max_zoom c.args.max_tiles c.in-Ok.read.0 c.in-Ok.read.1 items told (g.B.Backend.told c.read_source.new.source) c.read_source.ensures.kept.told c.in-Ok.ensures.answer c.in-Ok-collect.ensures.collected) c.in-Err-write_parts.ensures.causes
     (subst (λ l. WritesParts c.options_from-options.result h again l held (Err c.in-Err-write_parts.error)) c.deref.ensures.value c.in-Err-write_parts.ensures.written)
 

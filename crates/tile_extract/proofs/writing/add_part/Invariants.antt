@@ -1,16 +1,18 @@
 use Rattle.std.proofs.Common.{◌≡◌, ◌≤◌, ℕ, false, List, is_some}
 use Rattle.pm_format.specs.Options.{Options}
+use Rattle.pm_writer.specs.Took.{Took}
 use Rattle.pm_writer.specs.Writing.{Writes, has_failed}
-use Rattle.tile_extract.specs.Written.{ids_of, put_all}
+use Rattle.tile_extract.specs.Written.{ids_of}
+use Rattle.tile_extract.proofs.AddedLemmas.{PutsOn}
 use Rattle.tile_extract.proofs.writing.add_part.Given as goal
 
 abbrev pub invariant-loop-id : goal.invariant-loop-id
 invariant-loop-id g l =
     ((o : Options) (done : List (ℕ × List ℕ)) → Writes o (g.M.Backend.told l.fn.medium) l.fn.writer done
-    → (mid : List (ℕ × List ℕ)) × (put_all o l.bytes done (ids_of l.fn.part) ≡ put_all o l.bytes mid l.id-iterator) × Writes o (g.M.Backend.told l.medium) l.writer mid)
+    → (mid : List (ℕ × List ℕ)) × PutsOn (Took (g.M.Backend.told l.medium)) o l.bytes done (ids_of l.fn.part) mid l.id-iterator × Writes o (g.M.Backend.told l.medium) l.writer mid)
     × ((o : Options) × (done : List (ℕ × List ℕ)) × Writes o (g.M.Backend.told l.medium) l.writer done)
     × (has_failed l.writer ≡ false)
     × (is_some (g.M.Backend.told l.medium) ≡ is_some (g.M.Backend.told l.fn.medium))
     × (g.M.Backend.faults l.fn.medium ≤ g.M.Backend.faults l.medium)
-    × (g.M.Backend.reads l.medium ≡ g.M.Backend.reads l.fn.medium)
+    × (g.M.Backend.reads l.fn.medium ≤ g.M.Backend.reads l.medium)
     × (g.M.Backend.steady l.fn.medium → g.M.Backend.steady l.medium × (g.M.Backend.faults l.medium ≡ g.M.Backend.faults l.fn.medium))

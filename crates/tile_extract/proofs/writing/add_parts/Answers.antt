@@ -1,8 +1,9 @@
-use Rattle.std.proofs.Common.{◌≡◌, ◌∙◌, ◌+◌, ◌∷◌, length, Ok, IfSome, ap, sym, subst, arith}
+use Rattle.std.proofs.Common.{◌≡◌, ◌∙◌, ◌+◌, ◌∷◌, length, Err, Ok, IfSome, ap, sym, subst, arith}
 use Rattle.pm_reader.specs.Answers.{Gives, range_read}
 use Rattle.pm_reader.specs.Opening.{header_of}
+use Rattle.tile_extract.specs.Written.{PartsPut}
 use Rattle.tile_extract.proofs.ClippingLemmas.{no_items}
-use Rattle.tile_extract.proofs.PartsLemmas.{put_all_parts, put_more, read_at, rest_ordered}
+use Rattle.tile_extract.proofs.PartsLemmas.{put_all_parts, put_more, put_refused, read_at, read_refused, rest_ordered}
 use Rattle.tile_extract.proofs.writing.add_parts.Goals as goal
 
 pub loop-part-preserved-in-Ok-add_part : goal.loop-part-preserved-in-Ok-add_part
@@ -13,7 +14,7 @@ loop-part-preserved-in-Ok-add_part g c =
       λ o w.
           let s = i.0 o w in
           put_more o (header_of c.args.reader.now) (g.B.Backend.told c.args.source.now) (g.B.Backend.told c.loop-part.source) c.args.parts.now c.loop-part.rest.now c.in-Some.part.now c.in-Some.others.now (g.M.Backend.told c.loop-part.medium) (g.M.Backend.told c.add_part.new.medium) c.loop-part.writer c.add_part.new.writer c.as_slice.result.now s
-          i.4.told c.in-Some.ensures.cases.0
+          i.4.told a.tells c.in-Some.ensures.cases.0
           (read_at (g.B.Backend.told c.loop-part.source) (header_of c.args.reader.now) c.offset.result c.length.result c.in-Some.part.now (Ok c.as_slice.result.now) c.offset.ensures c.length.ensures
           (subst (λ l. IfSome (g.B.Backend.told c.loop-part.source) (λ b. Gives (range_read b ((header_of c.args.reader.now).data_offset + c.offset.result) c.length.result) (Ok l))) (sym c.as_slice.ensures) c.in-Ok.ensures.answer))
           (a.added o s.mid s.writes),
@@ -23,7 +24,7 @@ loop-part-preserved-in-Ok-add_part g c =
       record { told = k.told ∙ i.4.told; versions = k.versions ∙ i.4.versions; faults = omega (arith, k.faults, i.4.faults); calm = λ s. let p = i.4.calm s in let q = k.calm p.0 in (q.0, q.1 ∙ p.1) },
       a.tells ∙ i.5,
       omega (arith, a.faults, i.6),
-      a.counted ∙ i.7,
+      omega (arith, a.counted, i.7),
       λ s. let p = i.8 s in let q = a.calm p.0 in (q.0, q.1 ∙ p.1),
       let n : length c.loop-part.rest.now ≡ length (c.in-Some.part.now ∷ c.in-Some.others.now) = ap length c.in-Some.ensures.cases.0 in omega (arith, i.9, c.read_contents.ensures.reads.most, n),
     )
@@ -36,7 +37,7 @@ loop-part-preserved g c =
       λ o w.
           let s = i.0 o w in
           put_more o (header_of c.args.reader.now) (g.B.Backend.told c.args.source.now) (g.B.Backend.told c.loop-part.source) c.args.parts.now c.loop-part.rest.now c.in-Some.part.now c.in-Some.others.now (g.M.Backend.told c.loop-part.medium) (g.M.Backend.told c.add_part.new.medium) c.loop-part.writer c.add_part.new.writer c.as_slice.result.now s
-          i.4.told c.in-Some.ensures.cases.0
+          i.4.told a.tells c.in-Some.ensures.cases.0
           (read_at (g.B.Backend.told c.loop-part.source) (header_of c.args.reader.now) c.offset.result c.length.result c.in-Some.part.now (Ok c.as_slice.result.now) c.offset.ensures c.length.ensures
           (subst (λ l. IfSome (g.B.Backend.told c.loop-part.source) (λ b. Gives (range_read b ((header_of c.args.reader.now).data_offset + c.offset.result) c.length.result) (Ok l))) (sym c.as_slice.ensures) c.in-Ok.ensures.answer))
           (a.added o s.mid s.writes),
@@ -46,7 +47,7 @@ loop-part-preserved g c =
       record { told = k.told ∙ i.4.told; versions = k.versions ∙ i.4.versions; faults = omega (arith, k.faults, i.4.faults); calm = λ s. let p = i.4.calm s in let q = k.calm p.0 in (q.0, q.1 ∙ p.1) },
       a.tells ∙ i.5,
       omega (arith, a.faults, i.6),
-      a.counted ∙ i.7,
+      omega (arith, a.counted, i.7),
       λ s. let p = i.8 s in let q = a.calm p.0 in (q.0, q.1 ∙ p.1),
       let n : length c.loop-part.rest.now ≡ length (c.in-Some.part.now ∷ c.in-Some.others.now) = ap length c.in-Some.ensures.cases.0 in omega (arith, i.9, c.read_contents.ensures.reads.most, n),
     )
@@ -54,3 +55,26 @@ loop-part-preserved g c =
 pub returns-clause-added : goal.returns-clause-added
 returns-clause-added g c = λ o w.
     put_all_parts o (header_of c.args.reader.now) (g.B.Backend.told c.args.source.now) c.args.parts.now c.loop-part.rest.now (g.M.Backend.told c.loop-part.medium) c.loop-part.writer (no_items c.loop-part.rest.now c.in_default.ensures.cases) (c.loop-part.invariant.0 o w)
+
+pub returns-in-Err-clause-added : goal.returns-in-Err-clause-added
+returns-in-Err-clause-added g c = λ o w.
+    let i = c.loop-part.invariant in
+    let h = header_of c.args.reader.now in
+    let source = g.B.Backend.told c.args.source.now in
+    let again = g.B.Backend.told c.loop-part.source in
+    let told = g.M.Backend.told c.loop-part.medium in
+    subst (λ x. PartsPut o h source c.args.parts.now told c.loop-part.writer (Err x)) (sym c.of_reader.ensures)
+    (read_refused o h source again c.args.parts.now c.loop-part.rest.now c.in-Some.part.now c.in-Some.others.now told c.loop-part.writer c.loop-part.writer (g.B.Backend.faults c.loop-part.source) (g.B.Backend.faults c.read_contents.new.backend) c.in-Err.error (i.0 o w)
+    i.4.told c.in-Some.ensures.cases.0 (read_at again h c.offset.result c.length.result c.in-Some.part.now (Err c.in-Err.error) c.offset.ensures c.length.ensures c.in-Err.ensures.answer) c.in-Err.ensures.causes)
+
+pub returns-in-Err-add_part-clause-added : goal.returns-in-Err-add_part-clause-added
+returns-in-Err-add_part-clause-added g c = λ o w.
+    let i = c.loop-part.invariant in
+    let h = header_of c.args.reader.now in
+    let again = g.B.Backend.told c.loop-part.source in
+    let s = i.0 o w in
+    put_refused o h (g.B.Backend.told c.args.source.now) again c.args.parts.now c.loop-part.rest.now c.in-Some.part.now c.in-Some.others.now (g.M.Backend.told c.loop-part.medium) (g.M.Backend.told c.add_part.new.medium) c.loop-part.writer c.add_part.new.writer c.as_slice.result.now c.in-Err-add_part.error s
+    i.4.told c.in-Err-add_part.ensures.tells c.in-Some.ensures.cases.0
+    (read_at again h c.offset.result c.length.result c.in-Some.part.now (Ok c.as_slice.result.now) c.offset.ensures c.length.ensures
+    (subst (λ l. IfSome again (λ b. Gives (range_read b (h.data_offset + c.offset.result) c.length.result) (Ok l))) (sym c.as_slice.ensures) c.in-Ok.ensures.answer))
+    (c.in-Err-add_part.ensures.added o s.mid s.writes)

@@ -16,7 +16,7 @@ invariant-loop-part g l =
     × ReadsOnly g.B.Backend.told g.B.Backend.versions g.B.Backend.faults g.B.Backend.steady l.fn.source l.source
     × (is_some (g.M.Backend.told l.medium) ≡ is_some (g.M.Backend.told l.fn.medium))
     × (g.M.Backend.faults l.fn.medium ≤ g.M.Backend.faults l.medium)
-    × (g.M.Backend.reads l.medium ≡ g.M.Backend.reads l.fn.medium)
+    × (g.M.Backend.reads l.fn.medium ≤ g.M.Backend.reads l.medium)
     × (g.M.Backend.steady l.fn.medium → g.M.Backend.steady l.medium × (g.M.Backend.faults l.medium ≡ g.M.Backend.faults l.fn.medium))
     × (g.B.Backend.reads l.source + length l.rest ≤ g.B.Backend.reads l.fn.source + length l.parts)
 

@@ -1,6 +1,6 @@
 use Rattle.std.proofs.Common.{◌≡◌, ◌+◌, rules, ◌∙◌, ap, arith, length, []}
-use Rattle.pm_writer.specs.Writing.{zeros}
-use Rattle.pm_writer.proofs.Beginning.{begun_is_hidden, metadata_hidden, metadata_written, room_enough, room_hidden, room_written}
+use Rattle.pm_writer.specs.Writing.{begun, zeros}
+use Rattle.pm_writer.proofs.Beginning.{begun_is_hidden, if_some_map, metadata_hidden, metadata_written, room_enough, room_hidden, room_written}
 use Rattle.pm_writer.proofs.builder.PmTilesWriter.start.Goals as goal
 
 pub returns-in_err-put-clause-hidden : goal.returns-in_err-put-clause-hidden
@@ -28,5 +28,5 @@ returns-clause-begun g c =
     record {
       of = record { settings = c.settings.ensures.is; plain = search rules; fit = c.settings.ensures.fit; place = ap (λ z. 16384 + length z) c.metadata_bytes-metadata.ensures };
       hidden = begun_is_hidden c.args.self.now [] _ bytes;
-      held = λ e. record { means = c.new.ensures; ends = omega (arith, ap length c.metadata_bytes-metadata.ensures); bytes = bytes };
+      held = λ e. record { means = c.new.ensures.means; ends = omega (arith, ap length c.metadata_bytes-metadata.ensures); bytes = bytes; finds = if_some_map (λ b. b ≡ begun c.args.self.now []) _ _ (λ b e. c.new.ensures.finds) bytes };
     }

@@ -1,19 +1,16 @@
-use Rattle.std.proofs.Common.{◌≡◌, ◌+◌, true, Some, sym, ◌∙◌, subst, rules}
-use Rattle.std.specs.Str.{bytes_eq}
-use Rattle.tile_hash.specs.Xxh3.{xxh3_64}
-use Rattle.byte_media.specs.Media.{written}
-use Rattle.pm_writer.specs.Contents.{first_of, in_span}
-use Rattle.pm_writer.specs.Pieces.{BothTold}
-use Rattle.pm_writer.proofs.ContentPlaces.{first_is, fresh_known}
-use Rattle.pm_writer.proofs.MediumPieces.{left_nothing}
+use Rattle.std.proofs.Common.{◌≡◌, Some, sym, ◌∙◌, ap}
+use Rattle.std.proofs.lemmas.Result.{IfOk-weaker}
+use Rattle.pm_writer.specs.Adds.{put_new}
+use Rattle.pm_writer.specs.Contents.{found_in, place_sought}
+use Rattle.pm_writer.proofs.ContentPlaces.{place_put}
 use Rattle.pm_writer.proofs.contents.Contents.put.Goals as goal
 
-pub returns-then-lie_in-clause-leaves : goal.returns-then-lie_in-clause-leaves
-returns-then-lie_in-clause-leaves g c = λ cs h.
-    let at = c.args.from + c.args.self.now.total in
-    let t = g.M.Backend.told c.args.medium.now in
-    let x = c.args.bytes.now in
-    let span = c.in-Some.first.now in
-    let first : first_of c.args.self.now (xxh3_64 x) ≡ Some span = search rules in
-    let same : bytes_eq (in_span c.args.self.now.bytes.items span) x ≡ true = sym c.lie_in.ensures ∙ c.if-lie_in.true in
-    subst (λ z. BothTold (λ b d. d ≡ written b at z) t t) (sym (fresh_known cs x span.place (first_is c.args.self.now cs x span h first same))) (left_nothing at t)
+pub returns-in-First-clause-place : goal.returns-in-First-clause-place
+returns-in-First-clause-place g c = λ cs x h f.
+    let behind = place_put c.args.self.now cs x h (f ∙ ap place_sought c.in-First.is) in
+    IfOk-weaker c.put_first.result (λ place. place ≡ c.args.self.now.total) (λ place. found_in (put_new cs x) x ≡ Some place) (λ place e. behind ∙ ap Some (sym e)) c.put_first.ensures.place
+
+pub returns-in-Other-clause-place : goal.returns-in-Other-clause-place
+returns-in-Other-clause-place g c = λ cs x h f.
+    let behind = place_put c.args.self.now cs x h (f ∙ ap place_sought c.in-Other.is) in
+    IfOk-weaker c.put_other.result (λ place. place ≡ c.args.self.now.total) (λ place. found_in (put_new cs x) x ≡ Some place) (λ place e. behind ∙ ap Some (sym e)) c.put_other.ensures.place

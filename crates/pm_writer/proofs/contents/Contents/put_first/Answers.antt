@@ -1,11 +1,11 @@
-use Rattle.std.proofs.Common.{◌≡◌, None, sym, ap, ◌∙◌}
-use Rattle.tile_hash.specs.Xxh3.{xxh3_64}
-use Rattle.pm_writer.specs.Contents.{first_of}
-use Rattle.pm_writer.proofs.ContentPlaces.{none_is, place_put}
+use Rattle.std.proofs.Common.{refl}
+use Rattle.pm_writer.proofs.ContentPlaces.{finds_alike, holds_alike}
 use Rattle.pm_writer.proofs.contents.Contents.put_first.Goals as goal
 
-pub returns-clause-place : goal.returns-clause-place
-returns-clause-place g c = λ cs h.
-    let old = c.args.self.now in
-    let none : first_of old (xxh3_64 c.args.bytes.now) ≡ None = ap (first_of old) (sym c.requires.digest) ∙ c.requires.none in
-    place_put old cs c.args.bytes.now h (none_is old cs c.args.bytes.now h none)
+pub returns-clause-put : goal.returns-clause-put
+returns-clause-put g c = λ cs taken h n new. c.push_first.ensures.put cs taken (holds_alike c.args.self.now c.reserve.new.self cs c.in_ok-reserve.ensures.alike h) n new
+
+pub returns-clause-finds : goal.returns-clause-finds
+returns-clause-finds g c = λ cs h k new.
+    let alike = c.in_ok-reserve.ensures.alike in
+    c.push_first.ensures.finds cs c.args.bytes.now (holds_alike c.args.self.now c.reserve.new.self cs alike h) (finds_alike c.args.self.now c.reserve.new.self cs alike k) c.requires.digest refl new

@@ -1,0 +1,50 @@
+// Where a content lies among the bytes of all contents, and what a medium answers there.
+ghost use Rattle.std.specs.Prelude.{◌≡◌, ◌≤◌, ◌<◌, ◌+◌, ◌^◌, true, drop, length, IfSome, IfOk, IsErrOf};
+ghost use Rattle.std.specs.Str.{bytes_eq};
+ghost use Rattle.tile_ids.specs.Counts.{Rose};
+ghost use Rattle.byte_media.specs.Media.{IsWithin};
+ghost use Rattle.pm_writer.specs.Contents.{in_span};
+
+use pm_format::{Medium, ReadFault, WriteFault};
+use std::alloc::Global;
+
+/// Where a content lies among the bytes of all contents.
+#[derive(Clone, Copy, Debug)]
+pub(crate) struct Span {
+    pub(crate) place: u64,
+    pub(crate) length: u64,
+}
+
+impl Span {
+    /// Whether a medium, on which the contents lie from a place on, answers these bytes for the span. Only a span of as many bytes is read. A range that the medium
+    /// doesn't have is another content, and a fault is that of a write.
+    pub(crate) fn has<M: Medium>(
+        self,
+        alloc: Global,
+        medium: &mut M,
+        from: u64,
+        bytes: &[u8],
+    ) -> Result<bool, WriteFault>
+        requires fits { from + self.place < 2 ^ 64 }
+        requires within { IfSome (M.told medium.old) (IsWithin (from + (self.place + self.length))) }
+        ensures same { IfSome (M.told medium.old) (λ b. IfOk result (λ same. same ≡ bytes_eq (in_span (drop from b) self) bytes.now)) }
+        ensures size { IfOk result (λ same. same ≡ true → self.length ≡ length bytes.now) }
+        ensures cause { IsErrOf result WriteFault.Fault → Rose (M.faults medium.old) (M.faults medium.new) }
+        ensures told { M.told medium.new ≡ M.told medium.old }
+        ensures versions { M.versions medium.new ≡ M.versions medium.old }
+        ensures faults { M.faults medium.old ≤ M.faults medium.new }
+        ensures counted { M.reads medium.old ≤ M.reads medium.new }
+        ensures reads { M.reads medium.new ≤ M.reads medium.old + 1 }
+        ensures calm { M.steady medium.old → M.steady medium.new × (M.faults medium.new ≡ M.faults medium.old) }
+    {
+        if self.length != bytes.len() as u64 {
+            return Ok(false);
+        }
+        match medium.read_exact(alloc, from + self.place, self.length) {
+            Ok(response) => Ok(response.bytes.as_slice() == bytes),
+            Err(ReadFault::PastEnd | ReadFault::Short { .. }) => Ok(false),
+            Err(ReadFault::Fault) => Err(WriteFault::Fault),
+            Err(ReadFault::OutOfMemory) => Err(WriteFault::OutOfMemory),
+        }
+    }
+}
