@@ -1,5 +1,5 @@
 -- What adds are taken for: their ids and lengths stay, and all that follows from these.
-use Rattle.std.proofs.Common.{◌≡◌, ◌≢◌, ℕ, suc, ◌+◌, ◌<◌, ◌≤◌, ◌^◌, ◌&&◌, true, false, List, [], ◌∷◌, ◌++◌, length, sum_by, get_or, take, drop, All, Option, Some, None, is_some, refl, sym, ◌∙◌, ap, arith, subst}
+use Rattle.std.proofs.Common.{◌≡◌, ◌≢◌, ℕ, suc, ◌+◌, ◌<◌, ◌≤◌, ◌^◌, ◌&&◌, true, false, List, [], ◌∷◌, ◌++◌, length, sum_by, get_or, take, drop, All, Option, Some, None, IfSome, is_some, refl, sym, ◌∙◌, ap, arith, subst}
 use Rattle.std.proofs.lemmas.List.{drop_more, take-append-drop}
 use Rattle.std.proofs.lemmas.List.Elements.{All-cons, All-head, All-nil, All-tail}
 use Rattle.std.proofs.lemmas.List.Sums.{sum_by-cons}
@@ -128,6 +128,18 @@ told_themselves b [] [] t = refl
 told_themselves b [] (x ∷ ts) t = absurd t
 told_themselves b (g ∷ gs) [] t = absurd t
 told_themselves b (g ∷ gs) (x ∷ ts) t = ap (λ k. (k, x.1) ∷ ts) t.0 ∙ ap (λ y. (g.0, y) ∷ ts) t.1 ∙ ap (λ r. g ∷ r) (told_themselves b gs ts t.2)
+
+-- so what is told of them is told of what they were given as
+pub told_as_given : (P : List (ℕ × List ℕ) → List ℕ → Type 0) (old told : Option (List ℕ)) (gs ts : List (ℕ × List ℕ)) → is_some told ≡ is_some old → TookAll old gs ts → IfSome told (P ts) → IfSome told (P gs)
+told_as_given P old None gs ts same all h = tt
+told_as_given P None (Some b) gs ts same all h = absurd (cc)
+told_as_given P (Some a) (Some b) gs ts same all h = subst (λ adds. P adds b) (told_themselves a gs ts all) h
+
+pub all_took_as : (old new : Option (List ℕ)) (gs ts : List (ℕ × List ℕ)) → is_some new ≡ is_some old → TookAll old gs ts → TookAll new gs ts
+all_took_as old new [] [] same t = tt
+all_took_as old new [] (x ∷ ts) same t = absurd t
+all_took_as old new (g ∷ gs) [] same t = absurd t
+all_took_as old new (g ∷ gs) (x ∷ ts) same t = (t.0, took_as (λ takes. takes g.1 x.1) old new same t.1, all_took_as old new gs ts same t.2)
 
 -- what an add that succeeded was taken for fits
 pub written_fits : (told new : Option (List ℕ)) (o : Options) (s : WriterState) (done : List (ℕ × List ℕ)) (id : ℕ) (given taken other : List ℕ) → Writes o new s (add_to done id taken) → has_failed s ≡ false → Took told given taken → Took told given other → AddFits o done id other

@@ -1,5 +1,5 @@
 -- What a conversion owes: the archive of the adds is that of the set.
-use Rattle.std.proofs.Common.{◌≡◌, inl, inr, ℕ, ◌≤◌, ◌<◌, ◌^◌, Bool, true, false, List, [], ◌∷◌, length, map, Option, Some, None, is_some, IfSome, Result, Ok, Err, refl, sym, subst, ◌∙◌, ap, arith}
+use Rattle.std.proofs.Common.{◌≡◌, inl, inr, ℕ, ◌≤◌, ◌<◌, ◌^◌, true, false, List, [], ◌∷◌, length, map, Option, Some, None, is_some, IfSome, Ok, Err, refl, sym, subst, ◌∙◌, ap, arith}
 use Rattle.std.specs.Cmp.{nat_cmp_total}
 use Rattle.std.specs.Ordering.{nat_cmp}
 use Rattle.std.specs.FinMap.{find, from_entries, get, get-from_entries}
@@ -12,12 +12,14 @@ use Rattle.pm_format.specs.Options.{Options}
 use Rattle.pm_writer.proofs.Canonical.{canon_is}
 use Rattle.pm_writer.proofs.PlacesRead.{places_are}
 use Rattle.pm_writer.proofs.Sorted.{sorted_archivable, sorted_formed, sorted_map}
+use Rattle.pm_writer.proofs.Took.{told_themselves}
 use Rattle.pm_writer.specs.Archivable.{IsArchivable}
 use Rattle.pm_writer.specs.Bounds.{OptionsFit}
 use Rattle.pm_writer.specs.Few.{AreFew}
 use Rattle.pm_writer.specs.Archive.{archive}
 use Rattle.pm_writer.specs.Pieces.{IsHiddenOr}
 use Rattle.pm_writer.specs.Places.{places_of, places_read}
+use Rattle.pm_writer.specs.Took.{TookAll}
 use Rattle.pm_format.specs.WellFormed.{WellFormed}
 use Rattle.pm_format.specs.declared.error.ReadCause.TheVariants as causes
 use Rattle.tile_bridge.specs.Adds.{AreAddsOf}
@@ -72,12 +74,12 @@ module _ (o : Options) (adds : List (ℕ × List ℕ)) (can : CanBeWritten o add
   }
 
   -- after success
-  pub leaves_all : (tiles : TileSet) (coords : List Coord) (r : ConvertReport) (old new : Option (List ℕ)) → AreAddsOf adds tiles → r.places ≡ places_of o adds → is_some new ≡ is_some old → IfSome new (λ b. b ≡ archive o adds)
+  pub leaves_all : (tiles : TileSet) (coords : List Coord) (r : ConvertReport) (old new : Option (List ℕ)) → AreAddsOf adds tiles → ((taken : List (ℕ × List ℕ)) × TookAll old adds taken × (r.places ≡ places_of o taken)) → is_some new ≡ is_some old → IfSome new (λ b. b ≡ archive o adds)
       → IfSome new (λ b. (p : Options) → WellFormed b p true → r.answers ≡ map (λ c. archive_map b (id_of c)) coords) → SetLeaves o tiles coords (Ok r) old new
   leaves_all tiles coords r None None are places same is read = tt
   leaves_all tiles coords r None (Some b) are places same is read = absurd (cc)
   leaves_all tiles coords r (Some a) None are places same is read = absurd (cc)
-  leaves_all tiles coords r (Some a) (Some b) are places same is read = converted tiles coords r b are places is (read o (formed b is))
+  leaves_all tiles coords r (Some a) (Some b) are places same is read = converted tiles coords r b are (places.2 ∙ ap (places_of o) (told_themselves a adds places.0 places.1)) is (read o (formed b is))
 
   -- after a refusal
   no_part : (tiles : TileSet) (b : List ℕ) → AreAddsOf adds tiles → IsHiddenOr (archive o adds) b → ShowsNoPart o tiles b

@@ -1,16 +1,20 @@
 -- Adds written one after another.
-use Rattle.std.proofs.Common.{◌≡◌, ℕ, ◌+◌, ◌<◌, ◌≤◌, Bool, false, All, ◌≢◌, List, [], length, get_or, take, Result, Ok, Err, IsErrAnd, refl, sym, subst, ◌∙◌, ap, arith}
+use Rattle.std.proofs.Common.{◌≡◌, ℕ, ◌+◌, ◌<◌, ◌≤◌, Bool, false, All, ◌≢◌, List, [], length, get_or, take, Option, Result, Ok, Err, IfOk, IsErrAnd, refl, sym, subst, ◌∙◌, ap, arith}
 use Rattle.std.proofs.lemmas.List.{get_or-map, length-map}
 use Rattle.pm_format.specs.Options.{Options}
 use Rattle.pm_format.specs.declared.compression.Compression.TheVariants as compression
 use Rattle.pm_format.specs.declared.error.PmtError.{PmtError}
 use Rattle.pm_format.specs.declared.error.PmtError.TheVariants as errors
 use Rattle.pm_format.specs.declared.error.ReadCause.TheVariants as causes
-use Rattle.pm_writer.proofs.InTurn.{add_fits_at, added_at}
+use Rattle.pm_writer.proofs.InTurn.{added_at}
+use Rattle.pm_writer.proofs.Took.{few_took, filled_took, low_took, sorted_took, took_fits_at}
 use Rattle.pm_writer.proofs.Few.{archive_fits}
 use Rattle.pm_writer.proofs.Sorted.{adds_distinct}
 use Rattle.pm_writer.specs.Causes.{AddCauses, FinishCauses}
+use Rattle.pm_writer.specs.Places.{places_of}
+use Rattle.pm_writer.specs.Took.{Took, TookAll}
 use Rattle.pm_writer.specs.Writing.{AddFits, add_to}
+use Rattle.pm_writer.specs.declared.places.ArchivePlaces.{ArchivePlaces}
 use Rattle.mb_tables.specs.Tiles.{TileSet}
 use Rattle.tile_bridge.specs.Adds.{bytes_at, shown}
 use Rattle.tile_bridge.specs.Writing.{CanBeWritten, WriteCauses}
@@ -23,9 +27,22 @@ shown_at tiles adds i a far is = get_or-map (λ (a : Add). (a.id, bytes_at tiles
 far_shown : (tiles : TileSet) (adds : List Add) (i : ℕ) → i < length adds → i < length (shown tiles adds)
 far_shown tiles adds i far = omega (arith, far, length-map {B = ℕ × List ℕ} adds (λ (a : Add). (a.id, bytes_at tiles a.index)))
 
--- it fits behind those before it
-pub fits_at : (o : Options) (tiles : TileSet) (adds : List Add) (i : ℕ) (a : Add) → i < length adds → a ≡ get_or adds i a → CanBeWritten o (shown tiles adds) → AddFits o (take i (shown tiles adds)) a.id (bytes_at tiles a.index)
-fits_at o tiles adds i a far at can = subst (λ x. AddFits o (take i (shown tiles adds)) x.0 x.1) (shown_at tiles adds i a far at) (add_fits_at o (shown tiles adds) i (a.id, bytes_at tiles a.index) (far_shown tiles adds i far) can.few)
+-- what it is taken for fits behind what those before it were taken for
+pub fits_at : (told : Option (List ℕ)) (o : Options) (tiles : TileSet) (adds : List Add) (i : ℕ) (a : Add) (ts : List (ℕ × List ℕ)) (taken : List ℕ) → i < length adds → a ≡ get_or adds i a → CanBeWritten o (shown tiles adds) → TookAll told (take i (shown tiles adds)) ts
+    → Took told (bytes_at tiles a.index) taken → AddFits o ts a.id taken
+fits_at told o tiles adds i a ts taken far at can all took =
+    let here = shown_at tiles adds i a far at in
+    subst (λ x. AddFits o ts x.0 taken) here (took_fits_at told o (shown tiles adds) ts i (a.id, bytes_at tiles a.index) taken (far_shown tiles adds i far) can.few all (subst (λ x. Took told x.1 taken) (sym here) took))
+
+-- what can be written can be written as it is taken
+pub written_took : (told : Option (List ℕ)) (o : Options) (gs ts : List (ℕ × List ℕ)) → TookAll told gs ts → CanBeWritten o gs → CanBeWritten o ts
+written_took told o gs ts all can = record {
+  options = can.options;
+  rising = sorted_took told gs ts all ∙ can.rising;
+  low = low_took told gs ts all can.low;
+  filled = filled_took told gs ts all can.filled;
+  few = few_took told o gs ts all can.few;
+}
 
 -- and with it one more add is there
 pub added_to : (tiles : TileSet) (adds : List Add) (i : ℕ) (a : Add) → i < length adds → a ≡ get_or adds i a → All (λ a. a.1 ≢ []) (shown tiles adds) → add_to (take i (shown tiles adds)) a.id (bytes_at tiles a.index) ≡ take (i + 1) (shown tiles adds)
@@ -45,7 +62,7 @@ add_refused fits start before now failed e (Err x) alive fit order cause is = su
     by_case errors.Failed c = absurd (cc)
     by_case (errors.UnsupportedCompression refused) c = absurd (c.2 refl)
     by_case errors.IndexEntryOverflow c = absurd (c.2 fit)
-    by_case (errors.Reading causes.Fault) c = omega (arith, order, c.3)
+    by_case (errors.Reading causes.Fault) c = omega (arith, order, c.2)
     by_case errors.OutOfMemory c = tt
     by_case _ c = absurd c
 
@@ -58,3 +75,8 @@ finish_refused o adds start before now failed (Err errors.IndexEntryOverflow) al
 finish_refused o adds start before now failed (Err (errors.Reading causes.Fault)) alive can order c = omega (arith, order, c.2)
 finish_refused o adds start before now failed (Err errors.OutOfMemory) alive can order c = tt
 finish_refused o adds start before now failed (Err _) alive can order c = absurd c
+
+-- the places of a finished archive are those of what its adds were taken for
+pub placed : (told : Option (List ℕ)) (o : Options) (gs ts : List (ℕ × List ℕ)) (r : Result ArchivePlaces PmtError) → TookAll told gs ts → IfOk r (λ p. p ≡ places_of o ts) → IfOk r (λ p. (taken : List (ℕ × List ℕ)) × TookAll told gs taken × (p ≡ places_of o taken))
+placed told o gs ts (Ok p) all is = (ts, all, is)
+placed told o gs ts (Err e) all is = tt

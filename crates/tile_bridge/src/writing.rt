@@ -6,6 +6,7 @@ ghost use Rattle.pm_format.specs.declared.compression.Compression.TheVariants as
 ghost use Rattle.pm_writer.specs.Archive.{archive};
 ghost use Rattle.pm_writer.specs.Pieces.{IsHidden, IsHiddenOr};
 ghost use Rattle.pm_writer.specs.Places.{places_of};
+ghost use Rattle.pm_writer.specs.Took.{TookAll};
 ghost use Rattle.pm_writer.specs.Writing.{Writes, has_failed};
 ghost use Rattle.tile_bridge.specs.Adds.{AreWithin, shown};
 ghost use Rattle.tile_bridge.specs.Writing.{CanBeWritten, WriteCauses};
@@ -73,12 +74,13 @@ fn add_all<M: Medium>(
     requires within { AreWithin set.now.state.tiles adds.now }
     requires alive { has_failed state.old ≡ false }
     ensures tells { is_some (M.told medium.new) ≡ is_some (M.told medium.old) }
-    ensures added { (o : Options) → Writes o (M.told medium.old) state.old [] → OnOk result (Writes o (M.told medium.new) state.new (shown set.now.state.tiles adds.now)) }
+    ensures added { (o : Options) → Writes o (M.told medium.old) state.old []
+        → OnOk result ((taken : List (ℕ × List ℕ)) × TookAll (M.told medium.old) (shown set.now.state.tiles adds.now) taken × Writes o (M.told medium.new) state.new taken) }
     ensures hidden { OnErr result (IfSome (M.told medium.new) IsHidden) }
     ensures alive { OnOk result (has_failed state.new ≡ false) }
     ensures causes { WriteCauses (M.faults medium.old) (M.faults medium.new) result }
     ensures faults { M.faults medium.old ≤ M.faults medium.new }
-    ensures reads { M.reads medium.new ≡ M.reads medium.old }
+    ensures counted { M.reads medium.old ≤ M.reads medium.new }
     ensures calm { M.steady medium.old → M.steady medium.new × (M.faults medium.new ≡ M.faults medium.old) }
 {
     for (index, add) in adds.iter().enumerate() {
@@ -91,7 +93,7 @@ fn add_all<M: Medium>(
 /// Writes the archive of a set's adds with options to an empty medium. The options label directories `None`.
 ///
 /// `Reading(Fault)` comes only where the medium's count of faults rose, and no other refusal comes but `OutOfMemory`. After each of them no part of an
-/// archive is shown: the label of directories isn't written, or the whole archive stands.
+/// archive is shown: the label of directories isn't written, or the whole archive stands. Over a medium that tells nothing the places are those of what the writer takes the adds for.
 pub(crate) fn write_archive<M: Medium>(
     alloc: Global,
     options: &PmTilesWriter,
@@ -105,11 +107,11 @@ pub(crate) fn write_archive<M: Medium>(
     requires within { AreWithin set.now.state.tiles adds.now }
     ensures tells { is_some (M.told medium.new) ≡ is_some (M.told medium.old) }
     ensures bytes { OnOk result (IfSome (M.told medium.new) (λ b. b ≡ archive options.now (shown set.now.state.tiles adds.now))) }
-    ensures places { IfOk result (λ p. p ≡ places_of options.now (shown set.now.state.tiles adds.now)) }
+    ensures places { IfOk result (λ p. (taken : List (ℕ × List ℕ)) × TookAll (M.told medium.old) (shown set.now.state.tiles adds.now) taken × (p ≡ places_of options.now taken)) }
     ensures shown { IfSome (M.told medium.new) (IsHiddenOr (archive options.now (shown set.now.state.tiles adds.now))) }
     ensures causes { WriteCauses (M.faults medium.old) (M.faults medium.new) result }
     ensures faults { M.faults medium.old ≤ M.faults medium.new }
-    ensures reads { M.reads medium.new ≡ M.reads medium.old }
+    ensures counted { M.reads medium.old ≤ M.reads medium.new }
     ensures calm { M.steady medium.old → M.steady medium.new × (M.faults medium.new ≡ M.faults medium.old) }
 {
     let mut state = options.start(alloc, medium)?;

@@ -21,11 +21,11 @@ use Rattle.pm_writer.specs.Places.{places_read}
 use Rattle.pm_writer.specs.declared.places.ArchivePlaces.{ArchivePlaces}
 use Rattle.tile_extract.specs.Collecting.{AreOrdered}
 use Rattle.tile_extract.specs.Cut.{cut, intervals, options_from, options_of, options_opened, options_with}
-use Rattle.tile_extract.specs.Extract.{Added, Answers, Due, IntoBytes, IntoCauses, IntoLeaves, IsCollected, IsDone, IsExtract, IsLate, Overflows, ShowsNoPart}
+use Rattle.tile_extract.specs.Extract.{Added, Answers, Due, IntoBytes, IntoCauses, IntoLeaves, IsCollected, IsDone, IsExtract, IsLate, LeavesUncompared, Overflows, ShowsNoPart}
 use Rattle.tile_extract.specs.Met.{walked}
 use Rattle.tile_extract.specs.Written.{Adds, ComesTo, IsWritten, PartsOverflow, PartsRefuse, Rises, ShowsNone, WriteCauses, WritesParts, put_parts}
 use Rattle.tile_extract.specs.declared.error.ExtractError.{ExtractError}
-use Rattle.tile_extract.specs.declared.error.ExtractError.TheVariants.{Archive, IndexEntryOverflow, MediumFault, OutOfMemory}
+use Rattle.tile_extract.specs.declared.error.ExtractError.TheVariants.{Archive, IndexEntryOverflow, InvalidZoom, MediumFault, MediumNotEmpty, OutOfMemory, TooManyTiles}
 use Rattle.tile_extract.proofs.AddedLemmas.{sorted_by}
 use Rattle.tile_extract.proofs.CoveringLemmas.{covering}
 use Rattle.tile_extract.proofs.CutLemmas.{cut_held, held}
@@ -160,3 +160,18 @@ late_causes most first before now old new IndexEntryOverflow le c = tt
 late_causes most first before now old new MediumFault le c = c
 late_causes most first before now old new OutOfMemory le c = tt
 late_causes most first before now old new x le c = absurd c
+
+-- the medium is read only once the archive is begun
+pub late_uncompared : (first now old new before after : ℕ) (x : ExtractError) → WriteCauses {A = ArchivePlaces} first now old new (Err x) → LeavesUncompared before after (Err x)
+late_uncompared first now old new before after (Archive e) c = tt
+late_uncompared first now old new before after IndexEntryOverflow c = tt
+late_uncompared first now old new before after MediumFault c = tt
+late_uncompared first now old new before after OutOfMemory c = tt
+late_uncompared first now old new before after x c = absurd c
+
+pub unread_uncompared : (before after : ℕ) (r : Result ArchivePlaces ExtractError) → after ≡ before → LeavesUncompared before after r
+unread_uncompared before after (Ok p) same = tt
+unread_uncompared before after (Err (InvalidZoom tile asked)) same = same
+unread_uncompared before after (Err (MediumNotEmpty n)) same = same
+unread_uncompared before after (Err (TooManyTiles n)) same = same
+unread_uncompared before after (Err e) same = tt

@@ -1,5 +1,5 @@
 -- The archive of parts, finished or refused.
-use Rattle.std.proofs.Common.{◌≡◌, ◌∙◌, inl, inr, ◌≤◌, ℕ, Bool, false, List, [], Option, None, Some, IfSome, is_some, Ok, Err, sym, arith}
+use Rattle.std.proofs.Common.{◌≡◌, ◌∙◌, inl, inr, ◌≤◌, ℕ, Bool, false, List, Option, None, Some, IfSome, is_some, Ok, Err, sym, arith}
 use Rattle.std.proofs.lemmas.Bool.{true≢false}
 use Rattle.pm_format.specs.declared.compression.Compression.TheVariants as compression
 use Rattle.pm_format.specs.declared.error.PmtError.{PmtError}

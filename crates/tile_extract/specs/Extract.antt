@@ -207,3 +207,10 @@ abbrev pub LeavesUnread : ℕ → ℕ → Result ArchivePlaces ExtractError → 
 LeavesUnread before now (Err (InvalidZoom tile asked)) = now ≡ before
 LeavesUnread before now (Err (MediumNotEmpty n)) = now ≡ before
 LeavesUnread before now result = Unit {0}
+
+-- a refusal of the zoom, of the medium or of the number of tiles comes before the medium is read
+abbrev pub LeavesUncompared : ℕ → ℕ → Result ArchivePlaces ExtractError → Type 0
+LeavesUncompared before now (Err (InvalidZoom tile asked)) = now ≡ before
+LeavesUncompared before now (Err (MediumNotEmpty n)) = now ≡ before
+LeavesUncompared before now (Err (TooManyTiles n)) = now ≡ before
+LeavesUncompared before now result = Unit {0}

@@ -1,7 +1,7 @@
 // The archive of a subtree, from one archive to another.
 ghost use Rattle.std.specs.Prelude.{◌≡◌, ◌≤◌, ◌+◌, IfSome, is_some};
 ghost use Rattle.pm_reader.specs.Reads.{ReadsOnly};
-ghost use Rattle.tile_extract.specs.Extract.{Answers, Causes, IntoCauses, IntoLeaves, IsEmpty, IsValid, Leaves, LeavesUnread, reads_at_most};
+ghost use Rattle.tile_extract.specs.Extract.{Answers, Causes, IntoCauses, IntoLeaves, IsEmpty, IsValid, Leaves, LeavesUncompared, LeavesUnread, reads_at_most};
 
 use crate::ExtractError;
 use crate::collection::{collect, options_from};
@@ -31,6 +31,8 @@ fn extract_into<B: Backend, M: Medium>(
     ensures tells { is_some (M.told medium.new) ≡ is_some (M.told medium.old) }
     ensures faults { M.faults medium.old ≤ M.faults medium.new }
     ensures counted { M.reads medium.old ≤ M.reads medium.new }
+    ensures compared { IfSome (B.told source.old) (λ b. M.reads medium.new ≤ M.reads medium.old + max_tiles) }
+    ensures uncompared { LeavesUncompared (M.reads medium.old) (M.reads medium.new) result }
     ensures calm { M.steady medium.old → M.steady medium.new × (M.faults medium.new ≡ M.faults medium.old) }
 {
     let (reader, metadata) = match read_source(alloc, source) {
@@ -74,6 +76,8 @@ pub fn extract<B: Backend, M: Medium>(
     ensures unread { LeavesUnread (B.reads source.old) (B.reads source.new) result }
     ensures faults { M.faults medium.old ≤ M.faults medium.new }
     ensures counted { M.reads medium.old ≤ M.reads medium.new }
+    ensures compared { IfSome (B.told source.old) (λ b. M.reads medium.new ≤ M.reads medium.old + max_tiles) }
+    ensures uncompared { LeavesUncompared (M.reads medium.old) (M.reads medium.new) result }
     ensures calm { M.steady medium.old → M.steady medium.new × (M.faults medium.new ≡ M.faults medium.old) }
 {
     match test_zoom(root, max_zoom) {

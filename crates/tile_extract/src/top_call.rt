@@ -3,7 +3,7 @@ ghost use Rattle.std.specs.Prelude.{◌≡◌, ◌≢◌, ◌+◌, ◌≤◌, []
 ghost use Rattle.tile_ids.specs.Counts.{Rose};
 ghost use Rattle.pm_reader.specs.Reads.{ReadsOnly};
 ghost use Rattle.tile_extract.specs.Completeness.{CanExtract, IsDoneOrWanting};
-ghost use Rattle.tile_extract.specs.Extract.{Answers, Causes, Leaves, LeavesUnread, reads_at_most};
+ghost use Rattle.tile_extract.specs.Extract.{Answers, Causes, Leaves, LeavesUncompared, LeavesUnread, reads_at_most};
 ghost use Rattle.tile_extract.specs.TopCall.{IsFor, OfExtract};
 ghost use Rattle.tile_extract.specs.Words.{asked_in};
 
@@ -36,6 +36,8 @@ pub fn run_extract<B: Backend, M: Medium>(
     ensures unread { OfExtract (LeavesUnread (B.reads source.old) (B.reads source.new)) result }
     ensures faults { M.faults medium.old ≤ M.faults medium.new }
     ensures counted { M.reads medium.old ≤ M.reads medium.new }
+    ensures compared { IfSome (asked_in words.now) (λ a. IfSome (B.told source.old) (λ b. M.reads medium.new ≤ M.reads medium.old + a.max_tiles)) }
+    ensures uncompared { OfExtract (LeavesUncompared (M.reads medium.old) (M.reads medium.new)) result }
     ensures calm { M.steady medium.old → M.steady medium.new × (M.faults medium.new ≡ M.faults medium.old) }
 {
     let Some((root, max_zoom, max_tiles)) = parse_words(words) else {

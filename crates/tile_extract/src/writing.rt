@@ -9,6 +9,7 @@ ghost use Rattle.pm_reader.specs.Reads.{ReadsOnly};
 ghost use Rattle.pm_writer.specs.Pieces.{IsHidden};
 ghost use Rattle.pm_writer.specs.Writing.{Writes, has_failed};
 ghost use Rattle.tile_extract.specs.Collecting.{AreOrdered};
+ghost use Rattle.tile_extract.specs.Parts.{tile_count};
 ghost use Rattle.tile_extract.specs.Written.{PartsPut, Puts, ShowsNone, WriteCauses, WritesParts, ids_of, of_read_error, of_write_error};
 
 use crate::ExtractError;
@@ -55,6 +56,7 @@ fn add_part<M: Medium>(
     ensures tells { is_some (M.told medium.new) ≡ is_some (M.told medium.old) }
     ensures faults { M.faults medium.old ≤ M.faults medium.new }
     ensures counted { M.reads medium.old ≤ M.reads medium.new }
+    ensures compared { M.reads medium.new ≤ M.reads medium.old + part.run_length }
     ensures calm { M.steady medium.old → M.steady medium.new × (M.faults medium.new ≡ M.faults medium.old) }
 {
     for id in part.iter_coords() {
@@ -86,6 +88,7 @@ fn add_parts<B: Backend, M: Medium>(
     ensures tells { is_some (M.told medium.new) ≡ is_some (M.told medium.old) }
     ensures faults { M.faults medium.old ≤ M.faults medium.new }
     ensures counted { M.reads medium.old ≤ M.reads medium.new }
+    ensures compared { M.reads medium.new ≤ M.reads medium.old + tile_count parts.now }
     ensures calm { M.steady medium.old → M.steady medium.new × (M.faults medium.new ≡ M.faults medium.old) }
 {
     let mut rest = parts;
@@ -123,6 +126,7 @@ pub fn write_parts<B: Backend, M: Medium>(
     ensures tells { is_some (M.told medium.new) ≡ is_some (M.told medium.old) }
     ensures faults { M.faults medium.old ≤ M.faults medium.new }
     ensures counted { M.reads medium.old ≤ M.reads medium.new }
+    ensures compared { M.reads medium.new ≤ M.reads medium.old + tile_count parts.now }
     ensures calm { M.steady medium.old → M.steady medium.new × (M.faults medium.new ≡ M.faults medium.old) }
 {
     let mut writer = match options.start(alloc, medium) {

@@ -1,7 +1,8 @@
-use Rattle.std.proofs.Common.{rules, ◌≡◌, ℕ, List, is_some, IfSome, subst, ◌∙◌, ap}
+use Rattle.std.proofs.Common.{◌≡◌, ℕ, List, is_some, IfSome, subst, ◌∙◌, ap}
 use Rattle.pm_writer.specs.Archive.{archive}
 use Rattle.pm_writer.specs.Pieces.{IsHiddenOr}
 use Rattle.pm_writer.specs.Places.{places_of}
+use Rattle.pm_writer.specs.Took.{TookAll}
 use Rattle.tile_bridge.specs.Adds.{shown}
 use Rattle.tile_bridge.proofs.ConvertLemmas.{leaves_all, leaves_part, leaves_whole, read_refused, ready, told_same}
 use Rattle.tile_bridge.proofs.conversion.convert_set.Goals as goal
@@ -23,7 +24,7 @@ returns-in-Ok-read_answers-clause-leaves g c =
     let after = g.M.Backend.told c.read_answers.new.backend in
     let written : IfSome after (λ b. b ≡ archive c.args.options.now adds) = told_same (λ b. b ≡ archive c.args.options.now adds) before after c.read_answers.ensures.told (subst (λ xs. IfSome before (λ b. b ≡ archive c.args.options.now (shown tiles xs))) c.deref.ensures.value c.in-Ok.ensures.bytes) in
     leaves_all c.args.options.now adds can tiles c.args.coords.now _ (g.M.Backend.told c.args.medium.now) after c.in_ok-adds.ensures.are
-    (c.in-Ok.ensures.places ∙ ap (λ xs. places_of c.args.options.now (shown tiles xs)) c.deref.ensures.value) (ap is_some c.read_answers.ensures.told ∙ c.write_archive.ensures.tells) written
+    (subst (λ xs. (taken : List (ℕ × List ℕ)) × TookAll (g.M.Backend.told c.args.medium.now) (shown tiles xs) taken × (c.in-Ok.places ≡ places_of c.args.options.now taken)) c.deref.ensures.value c.in-Ok.ensures.places) (ap is_some c.read_answers.ensures.told ∙ c.write_archive.ensures.tells) written
     (told_same (λ b. _) before after c.read_answers.ensures.told c.in-Ok-read_answers.ensures.answers)
 
 pub returns-in-Err-read_answers-clause-causes : goal.returns-in-Err-read_answers-clause-causes

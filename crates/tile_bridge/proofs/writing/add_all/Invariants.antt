@@ -1,15 +1,17 @@
--- the archive of the adds so far is begun
-use Rattle.std.proofs.Common.{◌≡◌, ◌≤◌, false, [], take, is_some}
+-- the archive of what the adds so far are taken for is begun
+use Rattle.std.proofs.Common.{◌≡◌, ◌≤◌, ℕ, false, List, [], take, is_some}
 use Rattle.pm_format.specs.Options.{Options}
+use Rattle.pm_writer.specs.Took.{TookAll}
 use Rattle.pm_writer.specs.Writing.{Writes, has_failed}
 use Rattle.tile_bridge.specs.Adds.{shown}
 use Rattle.tile_bridge.proofs.writing.add_all.Given as goal
 
 abbrev pub invariant-loop-index : goal.invariant-loop-index
 invariant-loop-index g l =
-    ((o : Options) → Writes o (g.M.Backend.told l.fn.medium) l.fn.state [] → Writes o (g.M.Backend.told l.medium) l.state (take l.index (shown l.set.state.tiles l.adds)))
+    ((o : Options) → Writes o (g.M.Backend.told l.fn.medium) l.fn.state []
+    → (taken : List (ℕ × List ℕ)) × TookAll (g.M.Backend.told l.fn.medium) (take l.index (shown l.set.state.tiles l.adds)) taken × Writes o (g.M.Backend.told l.medium) l.state taken)
     × (has_failed l.state ≡ false)
     × (is_some (g.M.Backend.told l.medium) ≡ is_some (g.M.Backend.told l.fn.medium))
     × (g.M.Backend.faults l.fn.medium ≤ g.M.Backend.faults l.medium)
-    × (g.M.Backend.reads l.medium ≡ g.M.Backend.reads l.fn.medium)
+    × (g.M.Backend.reads l.fn.medium ≤ g.M.Backend.reads l.medium)
     × (g.M.Backend.steady l.fn.medium → g.M.Backend.steady l.medium × (g.M.Backend.faults l.medium ≡ g.M.Backend.faults l.fn.medium))

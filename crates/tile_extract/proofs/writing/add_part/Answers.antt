@@ -1,4 +1,5 @@
-use Rattle.std.proofs.Common.{◌∷◌, ◌∙◌, Err, Ok, refl, sym, subst, arith}
+use Rattle.std.proofs.Common.{◌∙◌, length, Err, Ok, refl, ap, sym, subst, arith}
+use Rattle.std.proofs.lemmas.List.FromFn.{length-range_with_len}
 use Rattle.pm_writer.proofs.Took.{took_as, written_fits}
 use Rattle.pm_writer.specs.Took.{Took}
 use Rattle.pm_writer.specs.Writing.{add_to}
@@ -14,6 +15,7 @@ loop-id-init g c = (
   refl,
   omega arith,
   omega arith,
+  let n = ap length (c.into_iter-id-iterator.ensures.into_iter_gives ∙ c.iter_coords-id-items.ensures) in omega (arith, n, length-range_with_len c.args.part.tile_id c.args.part.run_length),
   λ s. (s, refl),
 )
 
@@ -43,7 +45,8 @@ loop-id-preserved g c =
       e.tells ∙ i.3,
       omega (arith, e.faults, i.4),
       omega (arith, e.counted, i.5),
-      λ s. let p = i.6 s in let q = e.calm p.0 in (q.0, q.1 ∙ p.1),
+      let n = ap length c.in-Some.ensures.steps in omega (arith, e.reads, i.6, n),
+      λ s. let p = i.7 s in let q = e.calm p.0 in (q.0, q.1 ∙ p.1),
     )
 
 pub returns-in-Err-clause-added : goal.returns-in-Err-clause-added

@@ -1,4 +1,4 @@
-use Rattle.std.proofs.Common.{◌≡◌, ◌≤◌, ℕ, false, List, is_some}
+use Rattle.std.proofs.Common.{◌≡◌, ◌≤◌, ◌+◌, ℕ, false, List, is_some, length}
 use Rattle.pm_format.specs.Options.{Options}
 use Rattle.pm_writer.specs.Took.{Took}
 use Rattle.pm_writer.specs.Writing.{Writes, has_failed}
@@ -15,4 +15,5 @@ invariant-loop-id g l =
     × (is_some (g.M.Backend.told l.medium) ≡ is_some (g.M.Backend.told l.fn.medium))
     × (g.M.Backend.faults l.fn.medium ≤ g.M.Backend.faults l.medium)
     × (g.M.Backend.reads l.fn.medium ≤ g.M.Backend.reads l.medium)
+    × (g.M.Backend.reads l.medium + length l.id-iterator ≤ g.M.Backend.reads l.fn.medium + l.fn.part.run_length)
     × (g.M.Backend.steady l.fn.medium → g.M.Backend.steady l.medium × (g.M.Backend.faults l.medium ≡ g.M.Backend.faults l.fn.medium))

@@ -1,6 +1,7 @@
 use Rattle.std.proofs.Common.{◌≡◌, ◌∙◌, ◌+◌, ◌∷◌, length, Err, Ok, IfSome, ap, sym, subst, arith}
 use Rattle.pm_reader.specs.Answers.{Gives, range_read}
 use Rattle.pm_reader.specs.Opening.{header_of}
+use Rattle.tile_extract.specs.Parts.{tile_count}
 use Rattle.tile_extract.specs.Written.{PartsPut}
 use Rattle.tile_extract.proofs.ClippingLemmas.{no_items}
 use Rattle.tile_extract.proofs.PartsLemmas.{put_all_parts, put_more, put_refused, read_at, read_refused, rest_ordered}
@@ -25,8 +26,9 @@ loop-part-preserved-in-Ok-add_part g c =
       a.tells ∙ i.5,
       omega (arith, a.faults, i.6),
       omega (arith, a.counted, i.7),
-      λ s. let p = i.8 s in let q = a.calm p.0 in (q.0, q.1 ∙ p.1),
-      let n : length c.loop-part.rest.now ≡ length (c.in-Some.part.now ∷ c.in-Some.others.now) = ap length c.in-Some.ensures.cases.0 in omega (arith, i.9, c.read_contents.ensures.reads.most, n),
+      let n : tile_count c.loop-part.rest.now ≡ tile_count (c.in-Some.part.now ∷ c.in-Some.others.now) = ap tile_count c.in-Some.ensures.cases.0 in omega (arith, i.8, a.compared, n),
+      λ s. let p = i.9 s in let q = a.calm p.0 in (q.0, q.1 ∙ p.1),
+      let n : length c.loop-part.rest.now ≡ length (c.in-Some.part.now ∷ c.in-Some.others.now) = ap length c.in-Some.ensures.cases.0 in omega (arith, i.10, c.read_contents.ensures.reads.most, n),
     )
 
 pub loop-part-preserved : goal.loop-part-preserved
@@ -48,8 +50,9 @@ loop-part-preserved g c =
       a.tells ∙ i.5,
       omega (arith, a.faults, i.6),
       omega (arith, a.counted, i.7),
-      λ s. let p = i.8 s in let q = a.calm p.0 in (q.0, q.1 ∙ p.1),
-      let n : length c.loop-part.rest.now ≡ length (c.in-Some.part.now ∷ c.in-Some.others.now) = ap length c.in-Some.ensures.cases.0 in omega (arith, i.9, c.read_contents.ensures.reads.most, n),
+      let n : tile_count c.loop-part.rest.now ≡ tile_count (c.in-Some.part.now ∷ c.in-Some.others.now) = ap tile_count c.in-Some.ensures.cases.0 in omega (arith, i.8, a.compared, n),
+      λ s. let p = i.9 s in let q = a.calm p.0 in (q.0, q.1 ∙ p.1),
+      let n : length c.loop-part.rest.now ≡ length (c.in-Some.part.now ∷ c.in-Some.others.now) = ap length c.in-Some.ensures.cases.0 in omega (arith, i.10, c.read_contents.ensures.reads.most, n),
     )
 
 pub returns-clause-added : goal.returns-clause-added

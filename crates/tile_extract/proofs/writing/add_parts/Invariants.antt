@@ -4,6 +4,7 @@ use Rattle.pm_reader.specs.Opening.{header_of}
 use Rattle.pm_reader.specs.Reads.{ReadsOnly}
 use Rattle.pm_writer.specs.Writing.{Writes, has_failed}
 use Rattle.tile_extract.specs.Collecting.{AreOrdered}
+use Rattle.tile_extract.specs.Parts.{tile_count}
 use Rattle.tile_extract.proofs.PartsLemmas.{PutSoFar}
 use Rattle.tile_extract.proofs.writing.add_parts.Given as goal
 
@@ -17,6 +18,7 @@ invariant-loop-part g l =
     × (is_some (g.M.Backend.told l.medium) ≡ is_some (g.M.Backend.told l.fn.medium))
     × (g.M.Backend.faults l.fn.medium ≤ g.M.Backend.faults l.medium)
     × (g.M.Backend.reads l.fn.medium ≤ g.M.Backend.reads l.medium)
+    × (g.M.Backend.reads l.medium + tile_count l.rest ≤ g.M.Backend.reads l.fn.medium + tile_count l.parts)
     × (g.M.Backend.steady l.fn.medium → g.M.Backend.steady l.medium × (g.M.Backend.faults l.medium ≡ g.M.Backend.faults l.fn.medium))
     × (g.B.Backend.reads l.source + length l.rest ≤ g.B.Backend.reads l.fn.source + length l.parts)
 
