@@ -7,9 +7,9 @@ use Rattle.mb_store.proofs.reading.page_of.Goals as goal
 pub returns-in_default : goal.returns-in_default
 returns-in_default c =
     page_whole c.loop-left.page.items c.loop-left.left c.args.limit c.args.from c.loop-left.rest c.past-rest.result c.args.rows.now.stored.keys
-        (c.past-rest.ensures ∙ ap (λ (keys : List Stored). drop c.args.from keys) c.iter.ensures.rows)
-        (none_there c.loop-left.left c.loop-left.rest c.in_default.ensures.steps.0)
-        c.loop-left.invariant
+    (c.past-rest.ensures ∙ ap (λ (keys : List Stored). drop c.args.from keys) c.iter.ensures.rows)
+    (none_there c.loop-left.left c.loop-left.rest c.in_default.ensures.steps.0)
+    c.loop-left.invariant
 
 pub loop-left-preserved : goal.loop-left-preserved
 loop-left-preserved c =
@@ -19,6 +19,6 @@ loop-left-preserved c =
 pub returns : goal.returns
 returns c =
     page_whole c.loop-left.page.items c.loop-left.left c.args.limit c.args.from c.loop-left.rest c.past-rest.result c.args.rows.now.stored.keys
-        (c.past-rest.ensures ∙ ap (λ (keys : List Stored). drop c.args.from keys) c.iter.ensures.rows)
-        (none_wanted c.loop-left.left c.loop-left.rest (omega arith))
-        c.loop-left.invariant
+    (c.past-rest.ensures ∙ ap (λ (keys : List Stored). drop c.args.from keys) c.iter.ensures.rows)
+    (none_wanted c.loop-left.left c.loop-left.rest (omega arith))
+    c.loop-left.invariant
