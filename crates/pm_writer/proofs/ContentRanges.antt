@@ -3,7 +3,7 @@ use Rattle.std.proofs.Common.{◌≡◌, ℕ, ◌+◌, ◌<◌, ◌^◌, inl, in
 use Rattle.pm_writer.specs.Adds.{place_in}
 use Rattle.pm_format.specs.LookUp.{range_of}
 use Rattle.pm_writer.proofs.ContentLemmas.{Has, same_or, has_front, place_here, place_later}
-use Rattle.byte_media.proofs.Ranges.{range_at}
+use Rattle.pm_format.proofs.Ranges.{range_at}
 
 -- what lies before and behind a content
 pub record Between (whole x : List ℕ) (at : ℕ) : Type 0 where

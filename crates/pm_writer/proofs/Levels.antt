@@ -12,7 +12,7 @@ use Rattle.pm_format.specs.declared.error.PmtError.TheVariants as errors
 use Rattle.pm_format.specs.declared.error.ReadCause.TheVariants as causes
 use Rattle.pm_format.specs.declared.header.Header.{Header}
 use Rattle.pm_format.proofs.LookUpLemmas.{reached_leaf, reached_none, reached_tile}
-use Rattle.byte_media.proofs.Ranges.{range_at}
+use Rattle.pm_format.proofs.Ranges.{range_at}
 use Rattle.pm_writer.specs.Leaves.{end_of}
 use Rattle.pm_writer.specs.Through.{Names, Rising, Through}
 use Rattle.pm_writer.specs.TileEntries.{entries_below, entries_by}
