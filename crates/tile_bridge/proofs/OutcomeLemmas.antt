@@ -1,14 +1,14 @@
 -- What a conversion answers and leaves, by what is due.
-use Rattle.std.proofs.Common.{◌≡◌, inl, inr, ℕ, Bool, true, false, cond, ◌&&◌, List, [], ◌∷◌, Option, Some, None, IfSome, IfOk, Result, Ok, Err, IsErrAnd, refl, sym, subst, ◌∙◌, ap}
+use Rattle.std.proofs.Common.{◌≡◌, inl, inr, ℕ, List, [], ◌∷◌, Option, Some, None, IfSome, IfOk, Result, Ok, Err, IsErrAnd, refl, sym, subst, ◌∙◌, ap}
 use Rattle.std.specs.Prelude.{IsOk, is_ok}
 use Rattle.tile_ids.specs.Coord.{Coord}
 use Rattle.mb_load.specs.State.{State}
 use Rattle.pm_format.specs.Options.{Options}
 use Rattle.mb_load.specs.Aggregate.{aggregate}
-use Rattle.tile_bridge.specs.Convert.{BothTold, ConvertCauses, ConvertLeaves, HasAggregate, IsEmpty, IsPlain, LeavesPart, SetBytes, SetCauses, SetLeaves, ShowsNoPart}
+use Rattle.tile_bridge.specs.Convert.{BothTold, ConvertCauses, ConvertLeaves, HasAggregate, IsEmpty, IsPlain, LeavesPart, SetCauses, SetLeaves, ShowsNoPart}
 use Rattle.tile_bridge.specs.Stores.{IsDue, IsStoreError, Refuses}
 use Rattle.tile_bridge.specs.declared.error.ConvertError.{ConvertError}
-use Rattle.tile_bridge.specs.declared.error.ConvertError.TheVariants.{MediumNotEmpty, UnsupportedCompression, Store, IndexEntryOverflow, StoreFault, MediumFault, ReadBack, OutOfMemory}
+use Rattle.tile_bridge.specs.declared.error.ConvertError.TheVariants.{Store, IndexEntryOverflow, StoreFault, MediumFault, ReadBack, OutOfMemory}
 use Rattle.tile_bridge.specs.declared.report.ConvertReport.{ConvertReport}
 
 -- a fact on bytes of which each is what it was

@@ -5,6 +5,7 @@ mod adds;
 mod conversion;
 mod error;
 mod loading;
+mod numbers;
 mod options;
 mod patching;
 mod reading_back;
@@ -14,5 +15,6 @@ mod writing;
 
 pub use conversion::convert;
 pub use error::ConvertError;
+pub use numbers::convert_numbers;
 pub use options::ConvertOptions;
 pub use report::{Answers, ConvertReport};

@@ -1,5 +1,6 @@
 pub mod ConvertingLemmas
 pub mod AnswerLemmas
+pub mod BulkLemmas
 pub mod DumpLemmas
 pub mod HexDumpLemmas
 pub mod ReportLemmas

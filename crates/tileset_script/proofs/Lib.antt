@@ -1,5 +1,11 @@
-pub mod BulkLemmas
+pub mod BulkOutcome
+pub mod BulkRows
+pub mod BulkSet
+pub mod BulkSizes
+pub mod BulkState
+pub mod BulkTiles
 pub mod DraftLemmas
+pub mod IdPlaces
 pub mod RowLemmas
 pub mod ScriptLemmas
 pub mod SettingLemmas

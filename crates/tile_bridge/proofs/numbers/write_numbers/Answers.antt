@@ -1,0 +1,42 @@
+use Rattle.std.proofs.Common.{◌≡◌, rules, sym, ◌∙◌}
+use Rattle.std.proofs.lemmas.Result.{on_ok_weaker}
+use Rattle.pm_writer.proofs.Took.{all_took_as, told_as_given}
+use Rattle.pm_writer.specs.Archive.{archive}
+use Rattle.pm_writer.specs.Pieces.{IsHiddenOr}
+use Rattle.tile_bridge.specs.Numbers.{numbered}
+use Rattle.tile_bridge.proofs.WritingLemmas.{finish_refused, placed, written_took}
+use Rattle.tile_bridge.proofs.numbers.write_numbers.Goals as goal
+
+pub finalize-requires : goal.finalize-requires
+finalize-requires g c =
+    let t = c.in_ok-add_numbers.ensures.added c.args.options.now c.in_ok-state.ensures.begun in
+    record { writes = (c.args.options.now, t.0, t.2) }
+
+pub returns-clause-causes : goal.returns-clause-causes
+returns-clause-causes g c =
+    let o = c.args.options.now in
+    let adds = numbered c.args.tiles c.args.repeat in
+    let t = c.in_ok-add_numbers.ensures.added o c.in_ok-state.ensures.begun in
+    finish_refused o t.0 (g.M.Backend.faults c.args.medium.now) (g.M.Backend.faults c.add_numbers.new.medium) (g.M.Backend.faults c.finalize.new.medium) _ _
+    c.in_ok-add_numbers.ensures.alive (written_took _ o adds t.0 t.1 c.requires.fit) (search rules) (c.finalize.ensures.causes o t.0 t.2)
+
+pub returns-clause-bytes : goal.returns-clause-bytes
+returns-clause-bytes g c =
+    let o = c.args.options.now in
+    let adds = numbered c.args.tiles c.args.repeat in
+    let t = c.in_ok-add_numbers.ensures.added o c.in_ok-state.ensures.begun in
+    on_ok_weaker c.finalize.result (told_as_given (λ adds b. b ≡ archive o adds) _ (g.M.Backend.told c.finalize.new.medium) adds t.0 (c.finalize.ensures.tells ∙ c.add_numbers.ensures.tells) t.1) (c.finalize.ensures.bytes o t.0 t.2)
+
+pub returns-clause-places : goal.returns-clause-places
+returns-clause-places g c =
+    let o = c.args.options.now in
+    let adds = numbered c.args.tiles c.args.repeat in
+    let t = c.in_ok-add_numbers.ensures.added o c.in_ok-state.ensures.begun in
+    placed (g.M.Backend.told c.args.medium.now) o adds t.0 c.finalize.result (all_took_as _ (g.M.Backend.told c.args.medium.now) adds t.0 (sym c.start.ensures.tells) t.1) (c.finalize.ensures.places o t.0 t.2)
+
+pub returns-clause-shown : goal.returns-clause-shown
+returns-clause-shown g c =
+    let o = c.args.options.now in
+    let adds = numbered c.args.tiles c.args.repeat in
+    let t = c.in_ok-add_numbers.ensures.added o c.in_ok-state.ensures.begun in
+    told_as_given (λ adds. IsHiddenOr (archive o adds)) _ (g.M.Backend.told c.finalize.new.medium) adds t.0 (c.finalize.ensures.tells ∙ c.add_numbers.ensures.tells) t.1 (c.finalize.ensures.shown o t.0 t.2)
