@@ -29,7 +29,7 @@ use Rattle.mb_store.specs.declared.change.Change.{Change}
 use Rattle.mb_tables.proofs.CellLemmas.{cell_eq-Decides, cells_eq-Decides}
 use Rattle.mb_tables.proofs.TableLemmas.{same_table}
 use Rattle.mb_tables.specs.Cell.{cell_cmp, cell_eq}
-use Rattle.mb_tables.specs.Detection.{tile_table}
+use Rattle.mb_tables.specs.Kind.{tile_table}
 use Rattle.mb_tables.specs.Key.{has_key, key_cells}
 use Rattle.mb_tables.specs.Table.{Tables, key_of, table_eq}
 use Rattle.mb_tables.specs.Tiles.{cell_at, place_cmp}

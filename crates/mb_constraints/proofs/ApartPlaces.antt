@@ -14,7 +14,7 @@ use Rattle.mb_store.specs.Store.{IsSound}
 use Rattle.mb_tables.proofs.CellLemmas.{cells_eq-Decides}
 use Rattle.mb_tables.specs.Cell.{cells_eq, is_null}
 use Rattle.mb_tables.specs.Described.{is_keyed}
-use Rattle.mb_tables.specs.Detection.{tile_table}
+use Rattle.mb_tables.specs.Kind.{tile_table}
 use Rattle.mb_tables.specs.Key.{clash}
 use Rattle.mb_tables.specs.Table.{Tables, key_of}
 use Rattle.mb_tables.specs.Tiles.{Place, cell_at, contents_of, number_below, place_cmp, place_of, tile_of}

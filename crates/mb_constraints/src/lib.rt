@@ -12,5 +12,5 @@ pub use algorithm::algorithm_by;
 pub use described::has_metadata;
 pub use diff_hashes::{test_base_hashes, test_patch_hashes};
 pub use hashes::{test_content_hashes, test_tile_hashes};
-pub use references::{content_table, test_references};
+pub use references::test_references;
 pub use tile_rows::test_tiles;

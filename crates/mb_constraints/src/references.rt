@@ -9,19 +9,9 @@ ghost use Rattle.mb_tables.specs.Kind.{contents_of};
 ghost use Rattle.mb_tables.specs.Tiles.{cell_at};
 
 use mb_lists::{ContentList, cell_at};
-use mb_store::{Cell, MbtError, MbtResult, MbtType, NormalizedSchema, Row, TableName};
+use mb_store::{Cell, MbtError, MbtResult, MbtType, NormalizedSchema, Row};
 use std::alloc::Global;
 use tile_ids::TextVal;
-
-/// The table of the contents of a normalised set.
-pub fn content_table(schema: NormalizedSchema) -> TableName
-    ensures { result ≡ contents_of schema }
-{
-    match schema {
-        NormalizedSchema::Hash => TableName::Images,
-        NormalizedSchema::DedupId => TableName::TilesData,
-    }
-}
 
 // An id as text, a number in decimal.
 fn id_text(alloc: Global, id: &Cell) -> MbtResult<TextVal>
@@ -60,7 +50,7 @@ fn test_id(
         return Ok(());
     }
     let tile_id = id_text(alloc, id)?;
-    let table = content_table(schema);
+    let table = schema.contents();
     Err(MbtError::MissingTileReference { tile_id, table })
 }
 

@@ -30,7 +30,7 @@ use Rattle.mb_store.specs.Committing.{Commits}
 use Rattle.mb_store.specs.Store.{IsSound}
 use Rattle.mb_store.specs.declared.change.Change.{Change}
 use Rattle.mb_tables.specs.Cell.{is_null}
-use Rattle.mb_tables.specs.Detection.{tile_table}
+use Rattle.mb_tables.specs.Kind.{tile_table}
 use Rattle.mb_tables.specs.Key.{has_key}
 use Rattle.mb_tables.specs.Table.{Tables}
 use Rattle.mb_tables.specs.Tiles.{Place, cell_at, place_cmp, place_of}

@@ -14,7 +14,7 @@ use Rattle.mb_store.specs.Committing.{Commits}
 use Rattle.mb_store.specs.declared.change.Change.{Change}
 use Rattle.mb_tables.proofs.CellLemmas.{cells_eq-Decides}
 use Rattle.mb_tables.specs.Cell.{is_null}
-use Rattle.mb_tables.specs.Detection.{tile_table}
+use Rattle.mb_tables.specs.Kind.{tile_table}
 use Rattle.mb_tables.specs.Key.{has_key, key_cells}
 use Rattle.mb_tables.specs.Table.{Tables, key_of, key_width, table_eq}
 use Rattle.mb_tables.specs.Tiles.{Place, cell_at, place_cmp, place_of}

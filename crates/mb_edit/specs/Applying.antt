@@ -7,7 +7,7 @@ use Rattle.mb_load.specs.Committed.{is_set_table}
 use Rattle.mb_load.specs.Edits.{dates_for, id_for}
 use Rattle.mb_load.specs.State.{State, state_of}
 use Rattle.mb_tables.specs.Cell.{is_null}
-use Rattle.mb_tables.specs.Detection.{tile_table}
+use Rattle.mb_tables.specs.Kind.{tile_table}
 use Rattle.mb_tables.specs.Key.{has_key}
 use Rattle.mb_tables.specs.Table.{Tables}
 use Rattle.mb_tables.specs.Tiles.{Place, cell_at, place_cmp, place_of}

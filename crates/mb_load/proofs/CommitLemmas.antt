@@ -16,9 +16,9 @@ use Rattle.mb_load.proofs.PutRowLemmas.{content_put, fits_put, good_put, name_pu
 use Rattle.mb_store.specs.Committing.{Commits}
 use Rattle.mb_store.specs.declared.change.Change.{Change}
 use Rattle.mb_tables.specs.Cell.{cell_cmp}
-use Rattle.mb_tables.specs.Detection.{layout_of, patch_type_of, tile_table}
+use Rattle.mb_tables.specs.Detection.{layout_of, patch_type_of}
 use Rattle.mb_tables.specs.Key.{has_key, key_cells}
-use Rattle.mb_tables.specs.Kind.{is_normalized}
+use Rattle.mb_tables.specs.Kind.{is_normalized, tile_table}
 use Rattle.mb_tables.specs.Table.{Tables}
 use Rattle.mb_tables.specs.Tiles.{Place}
 use Rattle.mb_tables.specs.declared.cell.Cell.{Cell}

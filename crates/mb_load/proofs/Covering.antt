@@ -37,7 +37,7 @@ use Rattle.mb_tables.proofs.CellLemmas.{cell_cmp-IsAntisymmetric}
 use Rattle.mb_tables.proofs.TileLemmas.{places_total}
 use Rattle.mb_tables.specs.Cell.{cell_cmp, is_null}
 use Rattle.mb_tables.specs.CellOrder.{cells_total}
-use Rattle.mb_tables.specs.Detection.{tile_table}
+use Rattle.mb_tables.specs.Kind.{tile_table}
 use Rattle.mb_tables.specs.Table.{table_eq, table_number}
 use Rattle.mb_tables.specs.Tiles.{contents_of, place_cmp}
 use Rattle.mb_tables.specs.declared.cell.Cell.{Cell}

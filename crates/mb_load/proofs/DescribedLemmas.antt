@@ -10,7 +10,8 @@ use Rattle.mb_load.specs.State.{state_of, stated, unless_refused}
 use Rattle.std.proofs.lemmas.Bool.{false≢true}
 use Rattle.mb_tables.specs.declared.table.TableName.TheVariants.{Metadata}
 use Rattle.mb_tables.specs.Described.{is_keyed}
-use Rattle.mb_tables.specs.Detection.{detected, layout_of, tile_table}
+use Rattle.mb_tables.specs.Detection.{detected, layout_of}
+use Rattle.mb_tables.specs.Kind.{tile_table}
 use Rattle.mb_tables.specs.Table.{Tables}
 use Rattle.mb_tables.specs.declared.description.TableDesc.{TableDesc}
 use Rattle.mb_tables.specs.declared.error.MbtError.{MbtError}

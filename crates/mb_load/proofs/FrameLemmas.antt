@@ -20,9 +20,10 @@ use Rattle.mb_tables.proofs.CellLemmas.{cells_eq-Decides}
 use Rattle.mb_tables.proofs.TableLemmas.{same_table}
 use Rattle.mb_tables.specs.Cell.{is_null}
 use Rattle.mb_tables.specs.Described.{is_table, is_table_kind}
-use Rattle.mb_tables.specs.Detection.{fits, has_columns, has_table, layout_of, tile_table}
+use Rattle.mb_tables.specs.Columns.{fits}
+use Rattle.mb_tables.specs.Detection.{has_columns, has_table, layout_of}
 use Rattle.mb_tables.specs.Key.{has_key, key_cells}
-use Rattle.mb_tables.specs.Kind.{is_normalized}
+use Rattle.mb_tables.specs.Kind.{is_normalized, tile_table}
 use Rattle.mb_tables.specs.Schema.{columns_of}
 use Rattle.mb_tables.specs.Table.{Tables, key_of, key_width, table_eq, table_text}
 use Rattle.mb_tables.specs.Tiles.{cell_at}

@@ -19,7 +19,7 @@ use Rattle.mb_store.proofs.ListLemmas.{AllPairs-head, AllPairs-tail, filter_none
 use Rattle.mb_tables.proofs.CellLemmas.{cells_eq-Decides}
 use Rattle.mb_tables.proofs.TileLemmas.{places_total}
 use Rattle.mb_tables.specs.Cell.{cells_eq, is_null}
-use Rattle.mb_tables.specs.Detection.{tile_table}
+use Rattle.mb_tables.specs.Kind.{tile_table}
 use Rattle.mb_tables.specs.Key.{clash, has_key, key_cells}
 use Rattle.mb_tables.specs.Table.{key_of}
 use Rattle.mb_tables.specs.Tiles.{Place, cell_at, number_below, place_cmp, place_of}

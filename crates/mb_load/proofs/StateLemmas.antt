@@ -18,8 +18,8 @@ use Rattle.mb_store.specs.Errors.{of_store}
 use Rattle.mb_store.specs.declared.store.StoreError.{StoreError}
 use Rattle.mb_store.specs.declared.store.StoreError.TheVariants.{Fault, OutOfMemory}
 use Rattle.mb_tables.specs.Cell.{is_null}
-use Rattle.mb_tables.specs.Detection.{layout_of, patch_type_of, tile_table}
-use Rattle.mb_tables.specs.Kind.{is_normalized}
+use Rattle.mb_tables.specs.Detection.{layout_of, patch_type_of}
+use Rattle.mb_tables.specs.Kind.{is_normalized, tile_table}
 use Rattle.mb_tables.specs.Table.{Tables, table_eq}
 use Rattle.mb_tables.specs.Tiles.{cell_at, content_of, pairs_by_id, place_cmp, tile_of, tiles_of}
 use Rattle.mb_tables.specs.declared.cell.Cell.{Cell}

@@ -8,8 +8,7 @@ use Rattle.mb_lists.specs.Metadata.{Names}
 use Rattle.mb_load.specs.State.{State}
 use Rattle.mb_lists.specs.declared.dates.Dates.{Dates}
 use Rattle.mb_store.specs.declared.change.Change.{Change}
-use Rattle.mb_tables.specs.Detection.{tile_table}
-use Rattle.mb_tables.specs.Kind.{contents_of}
+use Rattle.mb_tables.specs.Kind.{contents_of, tile_table}
 use Rattle.mb_tables.specs.Table.{table_eq}
 use Rattle.mb_tables.specs.Tiles.{Place}
 use Rattle.mb_tables.specs.declared.cell.Cell.{Cell}

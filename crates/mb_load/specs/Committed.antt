@@ -6,9 +6,8 @@ use Rattle.mb_load.specs.Held.{Held, fresh}
 use Rattle.mb_load.specs.LoadedFrom.{IsLoadedFrom, NamesAlgorithm}
 use Rattle.mb_load.specs.State.{state_of}
 use Rattle.mb_tables.specs.Cell.{is_null}
-use Rattle.mb_tables.specs.Detection.{tile_table}
 use Rattle.mb_tables.specs.Key.{has_key, key_cells}
-use Rattle.mb_tables.specs.Kind.{is_normalized}
+use Rattle.mb_tables.specs.Kind.{is_normalized, tile_table}
 use Rattle.mb_tables.specs.Table.{Tables, table_eq}
 use Rattle.mb_tables.specs.Tiles.{Place, cell_at}
 use Rattle.mb_tables.specs.declared.cell.Cell.{Cell}

@@ -13,9 +13,9 @@ use Rattle.mb_load.specs.State.{State}
 use Rattle.mb_constraints.specs.TileRows.{bad_tile, dates_in, id_in, tile_in}
 use Rattle.mb_lists.specs.declared.dates.Dates.{Dates}
 use Rattle.mb_tables.specs.Cell.{is_null}
-use Rattle.mb_tables.specs.Detection.{layout_of, patch_type_of, tile_table}
+use Rattle.mb_tables.specs.Detection.{layout_of, patch_type_of}
 use Rattle.mb_tables.specs.Key.{has_key, key_cells}
-use Rattle.mb_tables.specs.Kind.{is_normalized}
+use Rattle.mb_tables.specs.Kind.{is_normalized, tile_table}
 use Rattle.mb_tables.specs.Table.{Tables}
 use Rattle.mb_tables.specs.Tiles.{Place, cell_at, contents_of, place_cmp, place_of}
 use Rattle.mb_tables.specs.declared.cell.Cell.{Cell}

@@ -8,7 +8,7 @@ use Rattle.mb_lists.specs.Kinds.{content_kind_wrong, name_kind_wrong, tile_kind_
 use Rattle.mb_lists.specs.Metadata.{name_twice}
 use Rattle.mb_constraints.specs.References.{reference_missing}
 use Rattle.mb_constraints.specs.TileRows.{place_twice, tile_bad}
-use Rattle.mb_tables.specs.Detection.{tile_table}
+use Rattle.mb_tables.specs.Kind.{tile_table}
 use Rattle.mb_tables.specs.Table.{Tables}
 use Rattle.mb_tables.specs.declared.cell.Cell.{Cell}
 use Rattle.mb_tables.specs.declared.error.MbtError.{MbtError}

@@ -11,7 +11,7 @@ use Rattle.mb_lists.specs.declared.entries.StoredName.{StoredName}
 use Rattle.mb_lists.specs.declared.entries.StoredTile.{StoredTile}
 use Rattle.mb_store.specs.Changes.{with_change}
 use Rattle.mb_store.specs.declared.change.Change.{Change}
-use Rattle.mb_tables.specs.Detection.{tile_table}
+use Rattle.mb_tables.specs.Kind.{tile_table}
 use Rattle.mb_tables.specs.declared.cell.Cell.{Cell}
 use Rattle.mb_tables.specs.declared.cell.Cell.TheVariants.{Null, Int, Text, Blob}
 use Rattle.mb_tables.specs.declared.key.RowKey.{RowKey}

@@ -8,7 +8,8 @@ use Rattle.mb_lists.specs.Metadata.{Names, names_of}
 use Rattle.mb_lists.specs.Refusals.{first_refusal}
 use Rattle.mb_constraints.specs.TileRows.{by_place, dates_in, id_in}
 use Rattle.mb_lists.specs.declared.dates.Dates.{Dates}
-use Rattle.mb_tables.specs.Detection.{layout_of, patch_type_of, tile_table}
+use Rattle.mb_tables.specs.Detection.{layout_of, patch_type_of}
+use Rattle.mb_tables.specs.Kind.{tile_table}
 use Rattle.mb_tables.specs.Table.{Tables}
 use Rattle.mb_tables.specs.Tiles.{TileSet, place_cmp, tiles_of}
 use Rattle.mb_tables.specs.declared.cell.Cell.{Cell}

@@ -13,7 +13,6 @@ ghost use Rattle.mb_tables.specs.declared.table.TableName.TheVariants.{Metadata}
 
 use crate::Loaded;
 use crate::put_rows::{content_row, contents_table, id_key, name_row, place_key, tile_row};
-use crate::reading::tile_table;
 use mb_lists::{Content, Dates, Standing, StoredName, StoredTile};
 use mb_store::{Changes, MbtType, RowKey, TableName};
 use std::alloc::Global;
@@ -37,9 +36,9 @@ fn add_tile(
         Standing::Kept => Ok(()),
         Standing::Put => {
             let row = tile_row(alloc, layout, algorithm, contents, dates, tile)?;
-            changes.put(tile_table(layout), place_key(tile.coord), row)
+            changes.put(layout.tile_table(), place_key(tile.coord), row)
         }
-        Standing::Removed => changes.delete(tile_table(layout), place_key(tile.coord)),
+        Standing::Removed => changes.delete(layout.tile_table(), place_key(tile.coord)),
     }
 }
 

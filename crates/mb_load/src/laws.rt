@@ -12,7 +12,7 @@ ghost use Rattle.mb_store.specs.Committing.{AreOfTables, Commits};
 ghost use Rattle.mb_store.specs.Store.{IsSound};
 ghost use Rattle.mb_store.specs.declared.change.Change.{Change};
 ghost use Rattle.mb_tables.specs.Described.{is_keyed};
-ghost use Rattle.mb_tables.specs.Detection.{tile_table};
+ghost use Rattle.mb_tables.specs.Kind.{tile_table};
 ghost use Rattle.mb_tables.specs.Table.{Tables};
 ghost use Rattle.mb_tables.specs.Tiles.{Place};
 ghost use Rattle.mb_tables.specs.declared.cell.Cell.{Cell};

@@ -5,7 +5,6 @@ ghost use Rattle.mb_load.specs.Edits.{no_dates};
 ghost use Rattle.mb_lists.specs.Entries.{IsTile, is_gone, place_at};
 ghost use Rattle.mb_load.specs.PutRows.{cells_kept, digest_cell, id_key, row_of_content, row_of_name, row_of_tile, times_cells};
 
-use mb_constraints::content_table;
 use mb_lists::{Content, Dates, StoredName, StoredTile};
 use mb_store::{Cell, MbtType, Row, RowKey, TableName};
 use std::alloc::Global;
@@ -17,7 +16,7 @@ pub(crate) fn contents_table(layout: MbtType) -> TableName
     ensures { result ≡ content_table layout }
 {
     match layout {
-        MbtType::Normalized { schema, .. } => content_table(schema),
+        MbtType::Normalized { schema, .. } => schema.contents(),
         _ => TableName::Images,
     }
 }

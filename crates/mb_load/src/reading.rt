@@ -2,13 +2,11 @@
 ghost use Rattle.std.specs.Prelude.{◌≡◌, ◌≤◌, All, [], false, true, IfOk, IsErrOf, length};
 ghost use Rattle.tile_ids.specs.Counts.{Rose};
 ghost use Rattle.mb_lists.specs.Contents.{content_rows};
-ghost use Rattle.mb_tables.specs.Detection.{tile_table};
-ghost use Rattle.mb_tables.specs.Kind.{is_normalized};
+ghost use Rattle.mb_tables.specs.Kind.{is_normalized, tile_table};
 ghost use Rattle.mb_tables.specs.Table.{width};
 ghost use Rattle.mb_tables.specs.declared.table.TableName.TheVariants.{Metadata};
 
-use mb_constraints::content_table;
-use mb_store::{MbtType, NormalizedSchema, Row, StoreError, TableName, TileStore};
+use mb_store::{MbtType, Row, StoreError, TableName, TileStore};
 use std::alloc::Global;
 
 /// All rows of a table in their order: as many as the store counts are asked for at once.
@@ -30,25 +28,6 @@ pub(crate) fn read_table<S: TileStore>(
     store.rows(alloc, table, 0, count)
 }
 
-/// The table that has the places of a layout's tiles.
-pub(crate) fn tile_table(layout: MbtType) -> TableName
-    ensures { result ≡ tile_table layout }
-{
-    match layout {
-        MbtType::Flat => TableName::Tiles,
-        MbtType::FlatWithHash => TableName::TilesWithHash,
-        MbtType::Normalized {
-            schema: NormalizedSchema::Hash,
-            ..
-        } => TableName::Map,
-        MbtType::Normalized {
-            schema: NormalizedSchema::DedupId,
-            ..
-        } => TableName::TilesShallow,
-        MbtType::Cache => TableName::TileCache,
-    }
-}
-
 // The rows of contents of a normalised set; the other layouts have none.
 fn read_contents<S: TileStore>(
     alloc: Global,
@@ -66,7 +45,7 @@ fn read_contents<S: TileStore>(
     ensures calm { S.steady store.old → S.faults store.new ≡ S.faults store.old }
 {
     match layout {
-        MbtType::Normalized { schema, .. } => read_table(alloc, store, content_table(schema)),
+        MbtType::Normalized { schema, .. } => read_table(alloc, store, schema.contents()),
         _ => Ok(Vec::new(alloc)),
     }
 }
@@ -98,7 +77,7 @@ pub(crate) fn read_all<S: TileStore>(
     ensures calm { S.steady store.old → S.faults store.new ≡ S.faults store.old }
 {
     let metadata = read_table(alloc, store, TableName::Metadata)?;
-    let tiles = read_table(alloc, store, tile_table(layout))?;
+    let tiles = read_table(alloc, store, layout.tile_table())?;
     let contents = read_contents(alloc, store, layout)?;
     Ok(AllRows {
         metadata,

@@ -1,6 +1,7 @@
 -- The layouts of a few lists of descriptions.
 use Rattle.std.specs.Prelude.{◌≡◌, refl, codes, true, false, [], ◌∷◌, Some, None, Ok, Err}
-use Rattle.mb_tables.specs.Detection.{detected, has_int, is_column, missing_index, patch_columns, patch_type_of}
+use Rattle.mb_tables.specs.Columns.{has_int, is_column, patch_columns}
+use Rattle.mb_tables.specs.Detection.{detected, missing_index, patch_type_of}
 use Rattle.mb_tables.specs.PatchType.{patch_text}
 use Rattle.mb_tables.specs.Schema.{column_of, columns_of, set_tables, view_of}
 use Rattle.mb_tables.specs.Table.{key_columns, table_text}

@@ -7,7 +7,7 @@ use Rattle.mb_tables.specs.declared.kind.MbtTypeCli.TheVariants as cli_layouts
 use Rattle.mb_tables.specs.declared.kind.NormalizedSchema.{NormalizedSchema}
 use Rattle.mb_tables.specs.declared.kind.NormalizedSchema.TheVariants.{Hash, DedupId}
 use Rattle.mb_tables.specs.declared.table.TableName.{TableName}
-use Rattle.mb_tables.specs.declared.table.TableName.TheVariants.{Map, Images, TilesShallow, TilesData}
+use Rattle.mb_tables.specs.declared.table.TableName.TheVariants.{Tiles, TilesWithHash, Map, Images, TilesShallow, TilesData, TileCache}
 
 abbrev pub layout_words : MbtType → List ℕ
 layout_words layouts.Flat = codes "flat"
@@ -41,6 +41,13 @@ places_of DedupId = TilesShallow
 abbrev pub contents_of : NormalizedSchema → TableName
 contents_of Hash = Images
 contents_of DedupId = TilesData
+
+-- the table that has the places of a layout's tiles
+abbrev pub tile_table : MbtType → TableName
+tile_table layouts.Flat = Tiles
+tile_table layouts.FlatWithHash = TilesWithHash
+tile_table (layouts.Normalized view schema) = places_of schema
+tile_table layouts.Cache = TileCache
 
 abbrev pub id_text : NormalizedSchema → List ℕ
 id_text Hash = codes "tile_id"

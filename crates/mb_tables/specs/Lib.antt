@@ -8,6 +8,7 @@ pub mod Schema
 pub mod SchemaExamples
 pub mod Kind
 pub mod PatchType
+pub mod Columns
 pub mod Detection
 pub mod DetectionExamples
 pub mod Tiles

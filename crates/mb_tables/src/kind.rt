@@ -1,8 +1,9 @@
 // The layouts of a tile set.
 ghost use Rattle.std.specs.Prelude.{◌≡◌};
 ghost use Rattle.mb_tables.specs.Table.{table_text};
-ghost use Rattle.mb_tables.specs.Kind.{cli_layout_words, contents_of, has_hash_view, has_number_ids, id_text, is_normalized, layout_words, places_of, schema_of};
+ghost use Rattle.mb_tables.specs.Kind.{cli_layout_words, contents_of, has_hash_view, has_number_ids, id_text, is_normalized, layout_words, places_of, schema_of, tile_table};
 
+use crate::TableName;
 use std::fmt;
 
 /// The metadata name of the digest over all tiles of a set.
@@ -66,6 +67,18 @@ impl MbtType {
         }
     }
 
+    /// The table that has the places of its tiles.
+    pub fn tile_table(self) -> TableName
+        ensures { result ≡ tile_table self }
+    {
+        match self {
+            MbtType::Flat => TableName::Tiles,
+            MbtType::FlatWithHash => TableName::TilesWithHash,
+            MbtType::Normalized { schema, .. } => schema.places(),
+            MbtType::Cache => TableName::TileCache,
+        }
+    }
+
     // Its words in lower case, without its fields.
     fn words(self) -> &'static str
         ensures { result.now ≡ layout_words self }
@@ -101,6 +114,16 @@ pub enum NormalizedSchema {
 }
 
 impl NormalizedSchema {
+    /// The table of places.
+    pub fn places(self) -> TableName
+        ensures { result ≡ places_of self }
+    {
+        match self {
+            NormalizedSchema::Hash => TableName::Map,
+            NormalizedSchema::DedupId => TableName::TilesShallow,
+        }
+    }
+
     /// The name of the table of places.
     pub fn map_table(self) -> &'static str
         ensures { result.now ≡ table_text (places_of self) }
@@ -108,6 +131,16 @@ impl NormalizedSchema {
         match self {
             NormalizedSchema::Hash => "map",
             NormalizedSchema::DedupId => "tiles_shallow",
+        }
+    }
+
+    /// The table of contents.
+    pub fn contents(self) -> TableName
+        ensures { result ≡ contents_of self }
+    {
+        match self {
+            NormalizedSchema::Hash => TableName::Images,
+            NormalizedSchema::DedupId => TableName::TilesData,
         }
     }
 

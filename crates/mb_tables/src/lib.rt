@@ -4,6 +4,7 @@
 mod cell;
 mod cell_order;
 mod column;
+mod columns;
 mod described;
 mod description;
 mod detection;

@@ -12,7 +12,7 @@ use Rattle.mb_load.specs.Held.{Held, fresh}
 use Rattle.mb_load.specs.LoadedFrom.{IsLoadedFrom, NamesAlgorithm}
 use Rattle.mb_load.specs.State.{State, state_of}
 use Rattle.mb_tables.specs.Cell.{is_null}
-use Rattle.mb_tables.specs.Detection.{tile_table}
+use Rattle.mb_tables.specs.Kind.{tile_table}
 use Rattle.mb_tables.specs.Table.{Tables}
 use Rattle.mb_tables.specs.Tiles.{Place, cell_at, place_of}
 use Rattle.mb_tables.specs.declared.cell.Cell.{Cell}

@@ -2,7 +2,8 @@
 use Rattle.std.specs.Prelude.{◌≡◌, ℕ, List, [], ◌∷◌, ◌++◌, true, false, if◌then◌else◌, Option, Some, None, Ok, Err, codes, refl}
 use Rattle.std.specs.Option.{option_map}
 use Rattle.std.specs.Str.{bytes_eq}
-use Rattle.mb_tables.specs.Detection.{detected, patch_columns, patch_type_of}
+use Rattle.mb_tables.specs.Columns.{patch_columns}
+use Rattle.mb_tables.specs.Detection.{detected, patch_type_of}
 use Rattle.mb_tables.specs.PatchType.{patch_text}
 use Rattle.mb_tables.specs.Schema.{set_tables, table_of}
 use Rattle.mb_tables.specs.declared.description.TableDesc.{TableDesc}

@@ -1,6 +1,6 @@
 use Rattle.std.proofs.Common.{◌≡◌, length}
-use Rattle.mb_tables.specs.Detection.{has_int}
-use Rattle.mb_tables.proofs.detection.has_int.Given as goal
+use Rattle.mb_tables.specs.Columns.{has_int}
+use Rattle.mb_tables.proofs.columns.has_int.Given as goal
 
 -- what is left has INT in it where the text has
 abbrev pub invariant-loop-rest : goal.invariant-loop-rest
