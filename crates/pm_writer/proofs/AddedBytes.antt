@@ -4,21 +4,27 @@ use Rattle.std.proofs.lemmas.List.{drop_at}
 use Rattle.std.specs.List.{list_any}
 use Rattle.std.specs.Str.{bytes_eq}
 use Rattle.byte_media.specs.Media.{IsWithin, written}
+use Rattle.tile_hash.specs.Xxh3.{xxh3_64}
 use Rattle.pm_format.specs.Options.{Options}
-use Rattle.pm_writer.specs.Adds.{contents_from, put_new}
-use Rattle.pm_writer.specs.Contents.{Finds, IsAlike, IsNew, IsTold, found_in, fresh, piece_sought, place_sought}
+use Rattle.pm_writer.specs.Adds.{contents_from}
+use Rattle.pm_contents.specs.Places.{put_new, IsNew, found_in, fresh}
+use Rattle.pm_contents.specs.Contents.{Finds, IsAlike, IsTold}
+use Rattle.pm_contents.specs.Sought.{piece_sought, place_sought}
+use Rattle.pm_contents.specs.Pieces.{BothTold, WroteFront}
+use Rattle.pm_contents.specs.declared.contents.Contents.{Contents}
+use Rattle.pm_contents.specs.declared.sought.Sought.{Sought}
+use Rattle.pm_contents.proofs.Told.{if_both, if_some_map}
+use Rattle.pm_contents.proofs.ContentLemmas.{finds_alike}
+use Rattle.pm_contents.proofs.PlaceLemmas.{flat_push, fresh_known, fresh_new}
 use Rattle.pm_writer.specs.Means.{Means}
-use Rattle.pm_writer.specs.Pieces.{BothTold, IsHidden, WroteFront}
+use Rattle.pm_writer.specs.Pieces.{IsHidden}
 use Rattle.pm_writer.specs.Took.{Took}
 use Rattle.pm_writer.specs.Writing.{FilledFits, IsStateOf, Writes, begun, data_end, data_of, has_failed, zeros}
 use Rattle.pm_writer.specs.declared.adds.Adds.{Adds}
-use Rattle.pm_writer.specs.declared.contents.Contents.{Contents}
-use Rattle.pm_writer.specs.declared.contents.Sought.{Sought}
-use Rattle.pm_writer.specs.declared.contents.Sought.TheVariants as sought
+use Rattle.pm_contents.specs.declared.sought.Sought.TheVariants as sought
 use Rattle.pm_writer.specs.declared.state.WriterState.{WriterState}
-use Rattle.pm_writer.proofs.Beginning.{begun_is_hidden, if_both, if_some_map, zeros_length}
+use Rattle.pm_writer.proofs.Beginning.{begun_is_hidden, zeros_length}
 use Rattle.pm_writer.proofs.ContentLemmas.{contents_push}
-use Rattle.pm_writer.proofs.ContentPlaces.{finds_alike, flat_push, fresh_known, fresh_new}
 use Rattle.pm_writer.proofs.MediumPieces.{both_now, both_tell, hidden_behind, written_behind}
 
 pub begun_length : (o : Options) (adds : List (ℕ × List ℕ)) → length (begun o adds) ≡ data_end o adds
@@ -67,10 +73,10 @@ left_taken cs at x bytes s (Some b) (Some c) t f h = h ∙ ap (written b at) (ap
 
 -- and is found there
 found_taken : (d : Contents) (adds : List (ℕ × List ℕ)) (id : ℕ) (x bytes : List ℕ) (s : Sought) (t0 t1 : Option (List ℕ)) → Took t0 bytes x → is_some t1 ≡ is_some t0 → found_in (contents_from [] adds) x ≡ place_sought s
-    → IfSome t0 (λ b. found_in (contents_from [] adds) bytes ≡ place_sought s → Finds d (contents_from [] (adds ++ (id, bytes) ∷ []))) → IfSome t1 (λ b. Finds d (contents_from [] (adds ++ (id, x) ∷ [])))
+    → IfSome t0 (λ b. found_in (contents_from [] adds) bytes ≡ place_sought s → Finds xxh3_64 d (contents_from [] (adds ++ (id, bytes) ∷ []))) → IfSome t1 (λ b. Finds xxh3_64 d (contents_from [] (adds ++ (id, x) ∷ [])))
 found_taken d adds id x bytes s t0 None t same f k = tt
 found_taken d adds id x bytes s None (Some c) t same f k = absurd (cc)
-found_taken d adds id x bytes s (Some b) (Some c) t same f k = subst (λ z. Finds d (contents_from [] (adds ++ (id, z) ∷ []))) (sym t) (k (ap (found_in (contents_from [] adds)) (sym t) ∙ f))
+found_taken d adds id x bytes s (Some b) (Some c) t same f k = subst (λ z. Finds xxh3_64 d (contents_from [] (adds ++ (id, z) ∷ []))) (sym t) (k (ap (found_in (contents_from [] adds)) (sym t) ∙ f))
 
 pub sought_fits : (o : Options) (adds : List (ℕ × List ℕ)) (id at : ℕ) (x bytes : List ℕ) (s : Sought) → at ≡ data_end o adds → length bytes < 2 ^ 32 → length x ≡ length bytes → found_in (contents_from [] adds) x ≡ place_sought s
     → at + length (piece_sought s bytes) < 2 ^ 64 → FilledFits o adds id x
@@ -83,7 +89,7 @@ new_long o adds id at size x e n new long fits = omega (arith, fits.1, end_more 
 -- the writer with one more add
 pub added_writes : (o : Options) (adds : List (ℕ × List ℕ)) (t0 t1 : Option (List ℕ)) (s : WriterState) (after : Adds) (id at : ℕ) (x bytes : List ℕ) (how : Sought) → Writes o t0 s adds → has_failed s ≡ false → at ≡ data_end o adds
     → FilledFits o adds id x → Took t0 bytes x → found_in (contents_from [] adds) x ≡ place_sought how → Means after (adds ++ (id, x) ∷ [])
-    → (Finds s.adds.contents (contents_from [] adds) → found_in (contents_from [] adds) bytes ≡ place_sought how → Finds after.contents (contents_from [] (adds ++ (id, bytes) ∷ [])))
+    → (Finds xxh3_64 s.adds.contents (contents_from [] adds) → found_in (contents_from [] adds) bytes ≡ place_sought how → Finds xxh3_64 after.contents (contents_from [] (adds ++ (id, bytes) ∷ [])))
     → BothTold (λ b c. c ≡ written b at (piece_sought how bytes)) t0 t1 → Writes o t1 (record s { adds = after }) (adds ++ (id, x) ∷ [])
 added_writes o adds t0 t1 s after id at x bytes how w alive e fits t f m k h =
     let more = data_more adds id x in
@@ -99,7 +105,7 @@ added_writes o adds t0 t1 s after id at x bytes how w alive e fits t f m k h =
         means = m;
         ends = fits.1;
         bytes = laid;
-        finds = found_taken after.contents adds id x bytes how t0 t1 t (both_tell (λ b c. c ≡ written b at piece) t0 t1 left) f (if_some_map (λ b. Finds s.adds.contents (contents_from [] adds)) _ t0 (λ b. k) ((w.held alive).finds));
+        finds = found_taken after.contents adds id x bytes how t0 t1 t (both_tell (λ b c. c ≡ written b at piece) t0 t1 left) f (if_some_map (λ b. Finds xxh3_64 s.adds.contents (contents_from [] adds)) _ t0 (λ b. k) ((w.held alive).finds));
       };
     }
   where
@@ -129,13 +135,13 @@ same_writes o adds t0 t1 s after w alive m a h = record {
     means = m;
     ends = (w.held alive).ends;
     bytes = both_now (λ b. b ≡ begun o adds) (λ b. b ≡ begun o adds) (λ b c. c ≡ b) t0 t1 (λ b c p q. q ∙ p) ((w.held alive).bytes) h;
-    finds = both_now (λ b. Finds s.adds.contents (contents_from [] adds)) (λ b. Finds after.contents (contents_from [] adds)) (λ b c. c ≡ b) t0 t1 (λ b c k q. finds_alike s.adds.contents after.contents (contents_from [] adds) a k) ((w.held alive).finds) h;
+    finds = both_now (λ b. Finds xxh3_64 s.adds.contents (contents_from [] adds)) (λ b. Finds xxh3_64 after.contents (contents_from [] adds)) (λ b c. c ≡ b) t0 t1 (λ b c k q. finds_alike xxh3_64 s.adds.contents after.contents (contents_from [] adds) a k) ((w.held alive).finds) h;
   };
 }
 
 -- what a medium tells of the contents
-pub told_contents : (o : Options) (told : Option (List ℕ)) (s : WriterState) (adds : List (ℕ × List ℕ)) → Writes o told s adds → has_failed s ≡ false → IfSome told (IsTold s.data_offset s.adds.contents (contents_from [] adds))
-told_contents o told s adds w alive = if_both (λ b. b ≡ begun o adds) (λ b. Finds s.adds.contents (contents_from [] adds)) (IsTold s.data_offset s.adds.contents (contents_from [] adds)) told
+pub told_contents : (o : Options) (told : Option (List ℕ)) (s : WriterState) (adds : List (ℕ × List ℕ)) → Writes o told s adds → has_failed s ≡ false → IfSome told (IsTold xxh3_64 s.data_offset s.adds.contents (contents_from [] adds))
+told_contents o told s adds w alive = if_both (λ b. b ≡ begun o adds) (λ b. Finds xxh3_64 s.adds.contents (contents_from [] adds)) (IsTold xxh3_64 s.data_offset s.adds.contents (contents_from [] adds)) told
     (λ b e k. record { lies = ap (drop s.data_offset) e ∙ behind; finds = k }) ((w.held alive).bytes) ((w.held alive).finds)
   where
     front : s.data_offset ≡ length (zeros 16384 ++ o.metadata)

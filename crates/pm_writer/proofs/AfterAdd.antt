@@ -2,18 +2,20 @@
 use Rattle.std.proofs.Common.{◌≡◌, ℕ, ◌<◌, ◌≤◌, ◌^◌, ◌&&◌, Bool, true, false, List, [], ◌∷◌, ◌++◌, length, flat_map, nat_lt, Some, refl, sym, ◌∙◌, ap, arith, subst, Vec, Global}
 use Rattle.std.specs.List.{list_any}
 use Rattle.std.specs.Str.{bytes_eq}
+use Rattle.tile_hash.specs.Xxh3.{xxh3_64}
 use Rattle.tile_ids.specs.declared.id.TheConstants.{MAX_TILE_ID}
 use Rattle.pm_format.specs.Directory.{Entry}
-use Rattle.pm_writer.specs.Adds.{contents_from, place_in, put_new, unsorted, longest_run}
+use Rattle.pm_writer.specs.Adds.{contents_from, unsorted, longest_run}
+use Rattle.pm_contents.specs.Places.{place_in, put_new, found_in}
+use Rattle.pm_contents.specs.Contents.{Holds}
+use Rattle.pm_contents.specs.declared.contents.Contents.{Contents}
+use Rattle.pm_contents.proofs.PlaceLemmas.{place_new, found_is}
 use Rattle.pm_writer.specs.Archive.{ids_of, rising}
 use Rattle.pm_writer.specs.Bounds.{AddsFilled, AllLow, AllSized}
-use Rattle.pm_writer.specs.Contents.{Holds, found_in}
 use Rattle.pm_writer.specs.Growing.{put}
 use Rattle.pm_writer.specs.Means.{HasEntries, Means, is_above, last_of}
 use Rattle.pm_writer.specs.declared.adds.Adds.{Adds}
-use Rattle.pm_writer.specs.declared.contents.Contents.{Contents}
-use Rattle.pm_writer.proofs.ContentLemmas.{add_known, add_new, contents_push, place_new}
-use Rattle.pm_writer.proofs.ContentPlaces.{found_is}
+use Rattle.pm_writer.proofs.ContentLemmas.{add_known, add_new, contents_push}
 
 filled_more : (adds : List (ℕ × List ℕ)) (a : ℕ × List ℕ) → AddsFilled adds → 0 < length a.1 → AddsFilled (adds ++ a ∷ [])
 filled_more [] a f h = (h, tt)
@@ -58,7 +60,7 @@ rest_after adds s t id bytes h e l r some low sized = record {
 
 -- the adds with one more, whose content is among the others or behind them
 pub more_after : (adds : List (ℕ × List ℕ)) (s : Adds) (more : Contents) (es : Vec Entry Global) (rises : Bool) (id place size : ℕ) (bytes : List ℕ) → Means s adds
-    → Holds more (put_new (contents_from [] adds) bytes) → found_in (put_new (contents_from [] adds) bytes) bytes ≡ Some place
+    → Holds xxh3_64 more (put_new (contents_from [] adds) bytes) → found_in (put_new (contents_from [] adds) bytes) bytes ≡ Some place
     → 0 < length bytes → size ≡ length bytes → size < 2 ^ 32 → id ≤ MAX_TILE_ID → es.items ≡ put longest_run id place size s.entries.items → rises ≡ (s.rises && is_above s.last id)
     → Means (record { contents = more; entries = es; last = Some id; rises = rises }) (adds ++ (id, bytes) ∷ [])
 more_after adds s more es rises id place size bytes m h f some z fits low e r = go (list_any (bytes_eq bytes) (contents_from [] adds)) refl
@@ -75,7 +77,7 @@ more_after adds s more es rises id place size bytes m h f some z fits low e r = 
         let at = (found_is bytes (put_new cs bytes) place f).1 in
         let there : place ≡ place_in cs bytes = at ∙ ap (λ ds. place_in ds bytes) (rw q refl) in
         record {
-          contents = subst (Holds more) (sym (contents_push [] adds (id, bytes))) h;
+          contents = subst (Holds xxh3_64 more) (sym (contents_push [] adds (id, bytes))) h;
           rest = rest_after adds s after id bytes m.rest (e ∙ (rw (there, z, m.rest.entries) (sym k.1))) refl r some low (omega (arith, z, fits));
         }
     go false q =
@@ -83,6 +85,6 @@ more_after adds s more es rises id place size bytes m h f some z fits low e r = 
         let at = (found_is bytes (put_new cs bytes) place f).1 in
         let there : place ≡ length (flat_map (λ c. c) cs) = at ∙ (ap (λ ds. place_in ds bytes) (rw q refl) ∙ place_new bytes cs q) in
         record {
-          contents = subst (Holds more) (sym (contents_push [] adds (id, bytes))) h;
+          contents = subst (Holds xxh3_64 more) (sym (contents_push [] adds (id, bytes))) h;
           rest = rest_after adds s after id bytes m.rest (e ∙ (rw (there, z, m.rest.entries) (sym k.1))) refl r some low (omega (arith, z, fits));
         }

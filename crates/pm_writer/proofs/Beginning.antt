@@ -4,18 +4,12 @@ use Rattle.std.proofs.Math.ListN.{get_or-append}
 use Rattle.std.proofs.lemmas.List.{get_or-replicate, length-replicate}
 use Rattle.byte_media.specs.Media.{IsWithin, written}
 use Rattle.pm_format.specs.Options.{Options}
-use Rattle.pm_writer.specs.Pieces.{BothTold, IsHidden, WroteFront}
+use Rattle.pm_contents.proofs.Told.{if_some_map}
+use Rattle.pm_writer.specs.Pieces.{IsHidden}
+use Rattle.pm_contents.specs.Pieces.{BothTold, WroteFront}
 use Rattle.pm_writer.specs.Writing.{begun, data_of, zeros}
 use Rattle.pm_writer.proofs.MediumPieces.{both_now, hidden_behind, hidden_front, written_behind}
 use Rattle.pm_writer.proofs.Runs.{le_or}
-
-pub if_some_map : (P Q : List ℕ → Type 0) (o : Option (List ℕ)) → ((b : List ℕ) → P b → Q b) → IfSome o P → IfSome o Q
-if_some_map P Q None f h = tt
-if_some_map P Q (Some b) f h = f b h
-
-pub if_both : (P Q R : List ℕ → Type 0) (o : Option (List ℕ)) → ((b : List ℕ) → P b → Q b → R b) → IfSome o P → IfSome o Q → IfSome o R
-if_both P Q R None f p q = tt
-if_both P Q R (Some b) f p q = f b p q
 
 pub zeros_length : (n : ℕ) → length (zeros n) ≡ n
 unfolding zeros

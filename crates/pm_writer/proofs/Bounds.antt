@@ -3,7 +3,9 @@ use Rattle.std.proofs.Common.{◌≡◌, ℕ, zero, suc, ◌+◌, ◌-◌, ◌/�
 use Rattle.std.proofs.lemmas.List.Sums.{sum_by-cons}
 use Rattle.pm_format.specs.Directory.{DirFits, Entry, entry}
 use Rattle.pm_format.specs.Header.{HeaderFits}
-use Rattle.pm_writer.specs.Adds.{Block, blocks, runs, entries_at, unsorted, longest_run, place_in, contents_from, entries_of_adds}
+use Rattle.pm_contents.proofs.PlaceLemmas.{content_between}
+use Rattle.pm_writer.specs.Adds.{Block, blocks, runs, entries_at, unsorted, longest_run, contents_from, entries_of_adds}
+use Rattle.pm_contents.specs.Places.{place_in}
 use Rattle.pm_format.specs.Options.{Options}
 use Rattle.pm_writer.specs.Archive.{archive, ids_of, parts_of, rising}
 use Rattle.pm_writer.proofs.Parted.{in_append}
@@ -19,7 +21,6 @@ use Rattle.pm_writer.proofs.ContentLemmas.{all_had, Filled, contents_filled}
 use Rattle.pm_writer.proofs.Ordered.{NotFalling, AllRun, Apart, falling_sorted}
 use Rattle.pm_writer.specs.Maps.{IsIn}
 use Rattle.pm_writer.proofs.Found.{IsAdd, unsorted_has, had_add, run_in, entries_apart}
-use Rattle.pm_writer.proofs.ContentRanges.{content_between}
 use Rattle.pm_writer.proofs.Reading.{all_run}
 use Rattle.pm_writer.proofs.Formed.{archive_directories, ends_low, entries_are, formed, of_entry}
 

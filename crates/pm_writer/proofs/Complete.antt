@@ -1,5 +1,5 @@
 -- What fits is refused by faults and want of memory alone.
-use Rattle.std.proofs.Common.{◌≡◌, ℕ, false, List, Err, refl, arith}
+use Rattle.std.proofs.Common.{◌≡◌, ℕ, ◌<◌, ◌^◌, false, List, Err, refl, arith}
 use Rattle.pm_format.specs.Options.{Options}
 use Rattle.pm_format.specs.declared.compression.Compression.{Compression}
 use Rattle.pm_format.specs.declared.compression.Compression.TheVariants as compression
@@ -18,19 +18,19 @@ start_refused A label before now errors.OutOfMemory plain c = tt
 start_refused A label before now _ plain c = absurd c
 
 -- an add that fits, to a writer whose medium didn't fail
-pub add_refused : (label : Compression) (fits : Type 0) (before now : ℕ) (e : PmtError) → label ≡ compression.None → fits → AddCauses label false fits before now (Err e) → PutCauses before now (Err e)
-add_refused label fits before now errors.Failed plain f c = absurd (cc)
-add_refused label fits before now (errors.UnsupportedCompression refused) plain f c = c.2 plain
-add_refused label fits before now errors.IndexEntryOverflow plain f c = c.2 f
-add_refused label fits before now (errors.Reading causes.Fault) plain f c = c.2
-add_refused label fits before now errors.OutOfMemory plain f c = tt
-add_refused label fits before now _ plain f c = absurd c
+pub add_refused : (label : Compression) (size : ℕ) (fits : Type 0) (before now : ℕ) (e : PmtError) → label ≡ compression.None → fits → AddCauses label false size fits before now (Err e) → PutCauses before now (Err e)
+add_refused label size fits before now errors.Failed plain f c = absurd (cc)
+add_refused label size fits before now (errors.UnsupportedCompression refused) plain f c = c.2 plain
+add_refused label size fits before now errors.IndexEntryOverflow plain f c = c.2 f
+add_refused label size fits before now (errors.Reading causes.Fault) plain f c = c.3
+add_refused label size fits before now errors.OutOfMemory plain f c = tt
+add_refused label size fits before now _ plain f c = absurd c
 
 -- and what a write or a read of the medium answers an add with
-pub put_refused : (fits : Type 0) (before now : ℕ) (e : PmtError) → PutCauses before now (Err e) → AddCauses compression.None false fits before now (Err e)
-put_refused fits before now (errors.Reading causes.Fault) c = (refl, refl, c)
-put_refused fits before now errors.OutOfMemory c = (refl, refl)
-put_refused fits before now _ c = absurd c
+pub put_refused : (size : ℕ) (fits : Type 0) (before now : ℕ) (e : PmtError) → size < 2 ^ 32 → PutCauses before now (Err e) → AddCauses compression.None false size fits before now (Err e)
+put_refused size fits before now (errors.Reading causes.Fault) low c = (refl, refl, low, c)
+put_refused size fits before now errors.OutOfMemory low c = (refl, refl, low)
+put_refused size fits before now _ low c = absurd c
 
 -- the end of an archive of adds with distinct ids that fit
 pub finish_refused : (A : Type 0) (o : Options) (adds : List (ℕ × List ℕ)) (before now : ℕ) (e : PmtError) → Distinct adds → ArchiveFits o adds → FinishCauses {A = A} o adds false before now (Err e) → PutCauses before now (Err e)

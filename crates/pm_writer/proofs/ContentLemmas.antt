@@ -5,76 +5,17 @@ use Rattle.std.proofs.lemmas.List.{take_at, drop_at, drop-drop}
 use Rattle.std.specs.Str.{bytes_eq}
 use Rattle.std.specs.List.{list_any}
 use Rattle.pm_format.specs.Directory.{Entry}
-use Rattle.pm_writer.specs.Adds.{Block, put_new, contents_from, place_in, onto, blocks, entries_at, unsorted, longest_run}
+use Rattle.pm_contents.proofs.PlaceLemmas.{Has, has_append, has_front, has_last, place_here, place_later, place_new, place_stays, put_new_had, put_new_keeps, same_or}
+use Rattle.pm_writer.specs.Adds.{Block, contents_from, onto, blocks, entries_at, unsorted, longest_run}
+use Rattle.pm_contents.specs.Places.{put_new, place_in}
 use Rattle.pm_writer.specs.Growing.{put, Separates}
 use Rattle.pm_writer.specs.Bounds.{AddsFilled}
 use Rattle.pm_writer.proofs.Blocks.{one_more, AllBlocks}
-
-pub same_or : (x y : List ℕ) → ((bytes_eq x y ≡ true) × (x ≡ y)) ⊎ ((bytes_eq x y ≡ false) × (x ≢ y))
-same_or x y = go (bytes_eq x y) refl
-  where
-    go : (b : Bool) → bytes_eq x y ≡ b → ((bytes_eq x y ≡ true) × (x ≡ y)) ⊎ ((bytes_eq x y ≡ false) × (x ≢ y))
-    go true e = inl (e, (bytes_eq-Decides x y).0 e)
-    go false e = inr (e, λ s. let t = (bytes_eq-Decides x y).1 s in cc)
-
--- a content is among the contents
-abbrev pub Has : List (List ℕ) → List ℕ → Type 0
-Has cs x = list_any (bytes_eq x) cs ≡ true
-
-pub has_front : (c x : List ℕ) (cs : List (List ℕ)) → Has (c ∷ cs) x → (x ≡ c) ⊎ Has cs x
-has_front c x cs h = elim (same_or x c) [ inl s ↦ inl s.1 | inr s ↦ inr (let e : list_any (bytes_eq x) (c ∷ cs) ≡ list_any (bytes_eq x) cs = rw (s.0) refl in sym e ∙ h) ]
-
-has_here : (x : List ℕ) (cs : List (List ℕ)) → Has (x ∷ cs) x
-has_here x cs = let s = (bytes_eq-Decides x x).1 refl in rw s refl
-
-pub has_equal : (c x : List ℕ) (cs : List (List ℕ)) → x ≡ c → Has (c ∷ cs) x
-has_equal c x cs e = let s = (bytes_eq-Decides x c).1 e in rw s refl
-
-pub has_later : (c x : List ℕ) (cs : List (List ℕ)) → Has cs x → Has (c ∷ cs) x
-has_later c x cs h = elim (same_or x c) [ inl s ↦ rw (s.0) refl | inr s ↦ rw (s.0) h ]
-
-pub has_append : (x : List ℕ) (cs ds : List (List ℕ)) → Has cs x → Has (cs ++ ds) x
-has_append x [] ds h = absurd (cc)
-has_append x (c ∷ cs) ds h = elim (has_front c x cs h) [ inl e ↦ has_equal c x (cs ++ ds) e | inr g ↦ has_later c x (cs ++ ds) (has_append x cs ds g) ]
-
-pub has_last : (x : List ℕ) (cs : List (List ℕ)) → Has (cs ++ x ∷ []) x
-has_last x [] = has_here x []
-has_last x (c ∷ cs) = has_later c x (cs ++ x ∷ []) (has_last x cs)
-
-not_front : (c x : List ℕ) (cs : List (List ℕ)) → list_any (bytes_eq x) (c ∷ cs) ≡ false → (x ≢ c) × (list_any (bytes_eq x) cs ≡ false)
-not_front c x cs h = elim (same_or x c) [
-  | inl s ↦ absurd (let e : list_any (bytes_eq x) (c ∷ cs) ≡ true = rw (s.0) refl in cc)
-  | inr s ↦ (s.1, let e : list_any (bytes_eq x) (c ∷ cs) ≡ list_any (bytes_eq x) cs = rw (s.0) refl in sym e ∙ h)
-]
 
 -- one more add
 pub contents_push : (seen : List (List ℕ)) (adds : List (ℕ × List ℕ)) (a : ℕ × List ℕ) → contents_from seen (adds ++ a ∷ []) ≡ put_new (contents_from seen adds) a.1
 contents_push seen [] a = refl
 contents_push seen (x ∷ adds) a = contents_push (put_new seen x.1) adds a
-
-pub place_here : (c x : List ℕ) (cs : List (List ℕ)) → c ≡ x → place_in (c ∷ cs) x ≡ 0
-place_here c x cs e = let s = (bytes_eq-Decides c x).1 e in rw s refl
-
-pub place_later : (c x : List ℕ) (cs : List (List ℕ)) → c ≢ x → place_in (c ∷ cs) x ≡ length c + place_in cs x
-place_later c x cs n = elim (same_or c x) [ inl s ↦ absurd (n s.1) | inr s ↦ rw (s.0) refl ]
-
--- a content that is there keeps its place
-pub place_stays : (x : List ℕ) (cs ds : List (List ℕ)) → Has cs x → place_in (cs ++ ds) x ≡ place_in cs x
-place_stays x [] ds h = absurd (cc)
-place_stays x (c ∷ cs) ds h = elim (same_or c x) [
-  | inl s ↦ place_here c x (cs ++ ds) s.1 ∙ sym (place_here c x cs s.1)
-  | inr s ↦ elim (has_front c x cs h) [
-    | inl e ↦ absurd (s.1 (sym e))
-    | inr g ↦ place_later c x (cs ++ ds) s.1 ∙ (ap (λ n. length c + n) (place_stays x cs ds g) ∙ sym (place_later c x cs s.1))
-  ]
-]
-
--- a new one lies behind all
-pub place_new : (x : List ℕ) (cs : List (List ℕ)) → list_any (bytes_eq x) cs ≡ false → place_in (cs ++ x ∷ []) x ≡ length (flat_map (λ c. c) cs)
-place_new x [] h = place_here x x [] refl
-place_new x (c ∷ cs) h =
-    let n = not_front c x cs h in
-    place_later c x (cs ++ x ∷ []) (λ e. n.0 (sym e)) ∙ (ap (λ k. length c + k) (place_new x cs n.1) ∙ sym (length-append c (flat_map (λ c. c) cs)))
 
 -- what lies at a place: the range of a content is the content
 pub at_place : (x : List ℕ) (cs : List (List ℕ)) (rest : List ℕ) → Has cs x → take (length x) (drop (place_in cs x) (flat_map (λ c. c) cs ++ rest)) ≡ x
@@ -118,20 +59,6 @@ place_apart x y (c ∷ cs) f h g e = elim (same_or c x) [
 abbrev pub AllHad : List (List ℕ) → List (ℕ × List ℕ) → Type 0
 AllHad cs [] = Unit {0}
 AllHad cs (a ∷ adds) = Has cs a.1 × AllHad cs adds
-
-put_new_had : (cs : List (List ℕ)) (x : List ℕ) → Has (put_new cs x) x
-put_new_had cs x = go (list_any (bytes_eq x) cs) refl
-  where
-    go : (b : Bool) → list_any (bytes_eq x) cs ≡ b → Has (put_new cs x) x
-    go true e = rw (e) e
-    go false e = rw (e) (has_last x cs)
-
-put_new_keeps : (cs : List (List ℕ)) (x y : List ℕ) → Has cs y → Has (put_new cs x) y
-put_new_keeps cs x y h = go (list_any (bytes_eq x) cs) refl
-  where
-    go : (b : Bool) → list_any (bytes_eq x) cs ≡ b → Has (put_new cs x) y
-    go true e = rw e h
-    go false e = rw e (has_append y cs (x ∷ []) h)
 
 contents_keep : (seen : List (List ℕ)) (adds : List (ℕ × List ℕ)) (y : List ℕ) → Has seen y → Has (contents_from seen adds) y
 contents_keep seen [] y h = h

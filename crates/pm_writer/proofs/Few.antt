@@ -10,13 +10,14 @@ use Rattle.pm_format.specs.Directory.{Entry, dir_bytes, spell_all, starts_from, 
 use Rattle.pm_format.specs.Options.{Options}
 use Rattle.pm_format.specs.Varint.{varint}
 use Rattle.pm_format.specs.WellFormed.{AllAtMost, AllSome, joined, root_of}
-use Rattle.pm_writer.specs.Adds.{contents_from, entries_of_adds, put_new}
+use Rattle.pm_writer.specs.Adds.{contents_from, entries_of_adds}
+use Rattle.pm_contents.specs.Places.{put_new}
+use Rattle.pm_contents.proofs.PlaceLemmas.{flat_push}
 use Rattle.pm_writer.specs.Bounds.{AllShort, AllSized, OptionsFit}
 use Rattle.pm_writer.specs.Causes.{ArchiveFits}
 use Rattle.pm_writer.specs.Few.{AreFew}
 use Rattle.pm_writer.specs.Leaves.{Layout, below_layout, cut, end_of, fits_root, laid, pieces, stands_in_root, uppers_by}
 use Rattle.pm_writer.specs.Writing.{AddFits, add_to, data_of}
-use Rattle.pm_writer.proofs.ContentPlaces.{flat_push}
 use Rattle.pm_writer.proofs.CuttingLemmas.{root_length, short_both}
 use Rattle.pm_writer.proofs.Formed.{addressed}
 use Rattle.pm_writer.proofs.Laying.{IsLaidAs, cut_most, laid_as, laid_flat, laid_leaves, laid_uppers}

@@ -7,11 +7,13 @@ use Rattle.pm_format.specs.Options.{Options}
 use Rattle.pm_format.specs.WellFormed.{archive_bytes, header_of, leaf_part}
 use Rattle.pm_writer.specs.Bounds.{OptionsFit}
 use Rattle.pm_writer.specs.Archive.{archive, ids_of, parts_of, rising}
-use Rattle.pm_writer.specs.Pieces.{BothTold, IsHidden, IsHiddenOr, IsOpenTo, finished}
+use Rattle.pm_writer.specs.Pieces.{IsHidden, IsHiddenOr, IsOpenTo, finished}
+use Rattle.pm_contents.specs.Pieces.{BothTold}
+use Rattle.pm_contents.proofs.Told.{if_some_map}
 use Rattle.pm_writer.specs.Writing.{IsStateOf, Writes, begun, data_end, data_of, has_failed, zeros}
 use Rattle.pm_writer.specs.declared.state.WriterState.{WriterState}
 use Rattle.pm_writer.proofs.AddedBytes.{begun_length}
-use Rattle.pm_writer.proofs.Beginning.{begun_hidden, if_some_map, zeros_length}
+use Rattle.pm_writer.proofs.Beginning.{begun_hidden, zeros_length}
 use Rattle.pm_writer.proofs.MediumPieces.{both_now}
 use Rattle.pm_writer.proofs.Parts.{root_fits}
 

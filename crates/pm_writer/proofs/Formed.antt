@@ -6,7 +6,9 @@ use Rattle.std.specs.Str.{bytes_eq}
 use Rattle.std.specs.List.{list_any}
 use Rattle.pm_format.specs.Directory.{DirFits, Entry, dir_bytes, entry}
 use Rattle.pm_format.specs.Header.{HeaderFits}
-use Rattle.pm_writer.specs.Adds.{put_new, Block, onto, blocks, runs, entries_at, longest_run, unsorted, place_in, contents_from, entries_of_adds}
+use Rattle.pm_writer.specs.Adds.{Block, onto, blocks, runs, entries_at, longest_run, unsorted, contents_from, entries_of_adds}
+use Rattle.pm_contents.specs.Places.{put_new, place_in}
+use Rattle.pm_contents.proofs.PlaceLemmas.{Has, same_or, has_front, has_equal, has_later, place_here, place_later}
 use Rattle.pm_writer.specs.Leaves.{Layout, below_layout, end_of}
 use Rattle.pm_format.specs.WellFormed.{AllAtMost, AllIn, AllLeaves, AllNamed, AllRead, AllSome, AllTiles, ConsistsOf, InContents, IsFlat, IsNamed, NamesLeaves, NamesUppers, joined, root_of, tile_entries}
 use Rattle.pm_format.specs.Options.{Options}
@@ -19,7 +21,7 @@ use Rattle.pm_writer.specs.Bounds.{AddsFilled, AllLow, AllShort, OptionsFit}
 use Rattle.pm_writer.specs.Twice.{Distinct}
 use Rattle.pm_writer.proofs.Runs.{le_or, runs_none, runs_short, runs_long}
 use Rattle.pm_writer.proofs.Blocks.{single, longer, enough}
-use Rattle.pm_writer.proofs.ContentLemmas.{Has, same_or, has_front, has_equal, has_later, place_here, place_later, contents_filled, Filled, all_had}
+use Rattle.pm_writer.proofs.ContentLemmas.{contents_filled, Filled, all_had}
 use Rattle.pm_writer.proofs.Ordered.{AllRun, same_sorted}
 use Rattle.pm_writer.proofs.SoundTiles.{run_left, run_right, tiles_sound}
 use Rattle.pm_writer.proofs.Levels.{tower_sound}

@@ -6,11 +6,13 @@ use Rattle.std.proofs.lemmas.Slice.Eq.{bytes_eq-Decides}
 use Rattle.std.specs.Str.{bytes_eq}
 use Rattle.pm_format.specs.Directory.{Entry, entry, ◌>>=◌}
 use Rattle.pm_format.specs.Scan.{last_below, covers, scan}
-use Rattle.pm_writer.specs.Adds.{Block, onto, blocks, runs, entries_at, unsorted, longest_run, place_in, contents_from, entries_of_adds, sorted, sorted_in}
+use Rattle.pm_writer.specs.Adds.{Block, onto, blocks, runs, entries_at, unsorted, longest_run, contents_from, entries_of_adds, sorted, sorted_in}
+use Rattle.pm_contents.specs.Places.{place_in}
+use Rattle.pm_contents.proofs.PlaceLemmas.{Has}
 use Rattle.pm_writer.specs.Twice.{adds_at, Distinct, covering, times}
 use Rattle.pm_writer.proofs.Runs.{eq_or, le_or, runs_none, runs_short, runs_long}
 use Rattle.pm_writer.proofs.Blocks.{AllBlocks, single, longer}
-use Rattle.pm_writer.proofs.ContentLemmas.{Has, AllHad, all_had}
+use Rattle.pm_writer.proofs.ContentLemmas.{AllHad, all_had}
 use Rattle.pm_writer.proofs.Times.{times_cons, times_adds, covering_yes, covering_low, covering_high}
 use Rattle.pm_writer.proofs.Ordered.{NotFalling, Apart, AllRun, falling_sorted, same_sorted}
 use Rattle.pm_writer.specs.Archive.{tile_in}

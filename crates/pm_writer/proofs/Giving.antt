@@ -4,7 +4,8 @@ use Rattle.std.proofs.lemmas.Bool.Decides.{nat_tests}
 use Rattle.pm_format.specs.Directory.{Entry, ◌>>=◌}
 use Rattle.pm_format.specs.Scan.{last_below, covers, scan}
 use Rattle.pm_format.specs.LookUp.{range_of}
-use Rattle.pm_writer.specs.Adds.{longest_run, unsorted, place_in, contents_from, entries_of_adds, blocks}
+use Rattle.pm_writer.specs.Adds.{longest_run, unsorted, contents_from, entries_of_adds, blocks}
+use Rattle.pm_contents.specs.Places.{place_in}
 use Rattle.pm_writer.specs.Maps.{Tiles, RisingAdds, given, Gives, Covers, IsIn}
 use Rattle.pm_writer.specs.Archive.{tile_in}
 use Rattle.pm_writer.proofs.Cuts.{Needed, SameFrom, one_beginning}

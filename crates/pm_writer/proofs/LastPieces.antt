@@ -3,7 +3,8 @@ use Rattle.std.proofs.Common.{◌≡◌, ℕ, zero, suc, append-nil, ◌+◌, �
 use Rattle.std.proofs.Math.ListN.{get_or-append}
 use Rattle.std.proofs.lemmas.List.{get_or-take, length-take-le, take-append-drop}
 use Rattle.byte_media.specs.Media.{written}
-use Rattle.pm_writer.specs.Pieces.{BothTold, IsHidden, IsHiddenOr, IsOpenTo, WroteFront, finished}
+use Rattle.pm_writer.specs.Pieces.{IsHidden, IsHiddenOr, IsOpenTo, finished}
+use Rattle.pm_contents.specs.Pieces.{BothTold, WroteFront}
 use Rattle.pm_writer.proofs.MediumPieces.{both_then, both_with, hidden_behind, hidden_front, header_written, label_written, root_written, written_behind, zeroed_hidden}
 
 -- the bytes with the root in front, and the leaves behind

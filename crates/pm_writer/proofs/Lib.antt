@@ -1,8 +1,6 @@
 pub mod Runs
 pub mod Blocks
 pub mod ContentLemmas
-pub mod ContentPlaces
-pub mod Seeking
 pub mod Putting
 pub mod AfterAdd
 pub mod Times

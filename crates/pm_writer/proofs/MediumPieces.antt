@@ -7,7 +7,8 @@ use Rattle.std.proofs.Math.ListN.{length-set}
 use Rattle.std.proofs.lemmas.List.{drop_more, get_or-set_same, take-set-le, drop-set-lt}
 use Rattle.byte_media.specs.declared.medium.WriteFault.TheVariants as writes
 use Rattle.byte_media.specs.Media.{WriteLeaves, written}
-use Rattle.pm_writer.specs.Pieces.{BothTold, IsHidden, WroteFront}
+use Rattle.pm_writer.specs.Pieces.{IsHidden}
+use Rattle.pm_contents.specs.Pieces.{BothTold, WroteFront}
 
 pub both_map : (R S : List ℕ → List ℕ → Type 0) (old new : Option (List ℕ)) → ((b c : List ℕ) → R b c → S b c) → BothTold R old new → BothTold S old new
 both_map R S None None f h = h

@@ -8,7 +8,8 @@ use Rattle.std.specs.List.{All}
 use Rattle.std.specs.List.Sorted.{IsPermutation, IsNonDecreasingBy}
 use Rattle.std.proofs.lemmas.Bool.Decides.{nat_tests}
 use Rattle.pm_format.specs.Directory.{Entry, entry}
-use Rattle.pm_writer.specs.Adds.{Block, blocks, runs, entries_at, unsorted, longest_run, contents_from, place_in, entries_of_adds, sorted, sorted_in}
+use Rattle.pm_writer.specs.Adds.{Block, blocks, runs, entries_at, unsorted, longest_run, contents_from, entries_of_adds, sorted, sorted_in}
+use Rattle.pm_contents.specs.Places.{place_in}
 use Rattle.pm_writer.specs.Twice.{adds_at, IsLeastTwice, Distinct, covering, times, first_within}
 use Rattle.pm_writer.proofs.Runs.{le_or, runs_none, runs_short, runs_long}
 use Rattle.pm_writer.proofs.Times.{times_adds, times_cons, covering_yes, covering_low, covering_high}

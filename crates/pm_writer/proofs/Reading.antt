@@ -10,7 +10,8 @@ use Rattle.pm_format.specs.declared.error.ReadCause.TheVariants as causes
 use Rattle.pm_format.specs.LookUp.{data_of, hops_by, range_of, tile_by}
 use Rattle.pm_format.specs.Options.{Options}
 use Rattle.pm_format.specs.WellFormed.{AllRead}
-use Rattle.pm_writer.specs.Adds.{blocks, contents_from, entries_of_adds, place_in, sorted, sorted_in, unsorted}
+use Rattle.pm_writer.specs.Adds.{blocks, contents_from, entries_of_adds, sorted, sorted_in, unsorted}
+use Rattle.pm_contents.specs.Places.{place_in}
 use Rattle.pm_writer.specs.Archive.{archive, tile_in}
 use Rattle.pm_writer.specs.Bounds.{OptionsFit}
 use Rattle.pm_writer.specs.Leaves.{below_layout}

@@ -1,27 +1,45 @@
 -- What adds are taken for: their ids and lengths stay, and all that follows from these.
-use Rattle.std.proofs.Common.{◌≡◌, ◌≢◌, ℕ, suc, ◌+◌, ◌<◌, ◌≤◌, ◌^◌, ◌&&◌, true, false, List, [], ◌∷◌, ◌++◌, length, sum_by, get_or, take, drop, All, Option, Some, None, IfSome, is_some, refl, sym, ◌∙◌, ap, arith, subst}
+use Rattle.std.proofs.Common.{◌≡◌, ◌≢◌, ℕ, suc, ◌+◌, ◌<◌, ◌≤◌, ◌&&◌, false, List, [], ◌∷◌, ◌++◌, length, sum_by, get_or, take, drop, All, Option, Some, None, Result, Ok, Err, IfSome, IfOk, is_some, refl, sym, ◌∙◌, ap, arith, subst}
 use Rattle.std.proofs.lemmas.List.{drop_more, take-append-drop}
-use Rattle.std.proofs.lemmas.List.Elements.{All-cons, All-head, All-nil, All-tail}
+use Rattle.std.proofs.lemmas.List.Elements.{All-cons, All-head, All-tail}
 use Rattle.std.proofs.lemmas.List.Sums.{sum_by-cons}
 use Rattle.std.specs.FinMap.{is_sorted}
 use Rattle.std.specs.FinMap.Entries.{below_all}
 use Rattle.std.specs.Ordering.{is_lt, nat_cmp}
+use Rattle.byte_media.specs.declared.medium.WriteFault.{WriteFault}
 use Rattle.tile_ids.specs.declared.id.TheConstants.{MAX_TILE_ID}
 use Rattle.pm_format.specs.Options.{Options}
 use Rattle.pm_writer.specs.Bounds.{AllSized}
 use Rattle.pm_writer.specs.Few.{AreFew}
-use Rattle.pm_writer.specs.Took.{Took, TookAll}
+use Rattle.tile_hash.specs.Xxh3.{xxh3_64}
+use Rattle.pm_contents.specs.Contents.{IsUnasked}
+use Rattle.pm_contents.specs.Places.{found_in}
+use Rattle.pm_contents.specs.Sought.{FoundAs, place_sought}
+use Rattle.pm_contents.specs.Span.{Stood}
+use Rattle.pm_contents.specs.declared.contents.Contents.{Contents}
+use Rattle.pm_contents.specs.declared.sought.Sought.{Sought}
+use Rattle.pm_contents.proofs.SeekLemmas.{found_itself}
+use Rattle.pm_writer.specs.Took.{Took, TookAll, TookBy}
 use Rattle.pm_writer.specs.Writing.{AddFits, Writes, add_to, has_failed}
 use Rattle.pm_writer.specs.declared.state.WriterState.{WriterState}
 use Rattle.pm_writer.proofs.Few.{add_fits}
 
 -- data may be taken for itself
 pub took_itself : (told : Option (List ℕ)) (bytes : List ℕ) → Took told bytes bytes
-took_itself None bytes = refl
+took_itself None bytes = (refl, λ b. refl)
 took_itself (Some b) bytes = refl
 
+pub itself_by : (told : Option (List ℕ)) (before now : ℕ) (bytes : List ℕ) → TookBy told before now bytes bytes
+itself_by told before now bytes = (took_itself told bytes, λ s. refl)
+
+-- what sought bytes are taken for, where the medium tells what they are found as
+took_of : (told : Option (List ℕ)) (before now : ℕ) (c : Contents) (cs : List (List ℕ)) (x : List ℕ) (s : Sought) → IfSome told (λ b. found_in cs x ≡ place_sought s) → (Stood before now → IsUnasked c (xxh3_64 x) (length x))
+    → (taken : List ℕ) × FoundAs xxh3_64 c cs x s taken → (taken : List ℕ) × TookBy told before now x taken × FoundAs xxh3_64 c cs x s taken
+took_of None before now c cs x s k u f = (f.0, ((f.1.size, f.1.like), λ stood. f.1.unread (u stood)), f.1)
+took_of (Some b) before now c cs x s k u f = (x, itself_by (Some b) before now x, found_itself xxh3_64 c cs x s k)
+
 pub took_length : (told : Option (List ℕ)) (given taken : List ℕ) → Took told given taken → length taken ≡ length given
-took_length None given taken t = t
+took_length None given taken t = t.0
 took_length (Some b) given taken t = ap length t
 
 -- what is told doesn't matter, but whether it is
@@ -30,6 +48,12 @@ took_as P None None same p = p
 took_as P None (Some b) same p = absurd (cc)
 took_as P (Some a) None same p = absurd (cc)
 took_as P (Some a) (Some b) same p = p
+
+-- and where it is sought
+pub sought_as : (told : Option (List ℕ)) (before now : ℕ) (c : Contents) (cs : List (List ℕ)) (x : List ℕ) (r : Result Sought WriteFault) → IfSome told (λ b. IfOk r (λ s. found_in cs x ≡ place_sought s)) → (Stood before now → IsUnasked c (xxh3_64 x) (length x))
+    → IfOk r (λ s. (taken : List ℕ) × FoundAs xxh3_64 c cs x s taken) → IfOk r (λ s. (taken : List ℕ) × TookBy told before now x taken × FoundAs xxh3_64 c cs x s taken)
+sought_as told before now c cs x (Ok s) k u f = took_of told before now c cs x s k u f
+sought_as told before now c cs x (Err e) k u f = tt
 
 module _ (told : Option (List ℕ)) where
   pub all_themselves : (adds : List (ℕ × List ℕ)) → TookAll told adds adds

@@ -2,20 +2,13 @@
 use Rattle.std.specs.Prelude.{◌≡◌, ℕ, zero, suc, ◌+◌, ◌-◌, ◌/◌, List, [], ◌∷◌, ◌++◌, length, flat_map, nat_le, nat_eq, ◌&&◌, if◌then◌else◌, refl}
 use Rattle.std.specs.Str.{bytes_eq}
 use Rattle.std.specs.List.{list_any}
+use Rattle.pm_contents.specs.Places.{place_in, put_new}
 use Rattle.pm_format.specs.Directory.{Entry, entry}
 
 -- the different byte strings in order of first add
-abbrev pub put_new : List (List ℕ) → List ℕ → List (List ℕ)
-put_new seen x = if list_any (bytes_eq x) seen then seen else seen ++ x ∷ []
-
 abbrev pub contents_from : List (List ℕ) → List (ℕ × List ℕ) → List (List ℕ)
 contents_from seen [] = seen
 contents_from seen (a ∷ adds) = contents_from (put_new seen a.1) adds
-
--- where a content begins, the contents lying one behind another
-abbrev pub place_in : List (List ℕ) → List ℕ → ℕ
-place_in [] x = 0
-place_in (c ∷ cs) x = if bytes_eq c x then 0 else (length c + place_in cs x)
 
 -- a block of equal bytes at ids in a row
 pub record Block : Type 0 where

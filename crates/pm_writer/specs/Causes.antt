@@ -29,16 +29,16 @@ CreateRefusals label (Err (errors.Reading causes.Fault)) = label ≡ compression
 CreateRefusals label (Err errors.OutOfMemory) = label ≡ compression.None
 CreateRefusals label (Err _) = ⊥
 
--- An add: by the label that its bytes would have to be plain under, by whether the writer failed before, and by whether what the data is taken for fits. Whether it does may be asked of the medium, so
--- that a fault or want of memory may come in the place of this answer.
-abbrev pub AddCauses : Compression → Bool → Type 0 → ℕ → ℕ → Result Unit PmtError → Type 0
-AddCauses label failed fits before now (Ok _) = (failed ≡ false) × (label ≡ compression.None) × fits
-AddCauses label failed fits before now (Err errors.Failed) = failed ≡ true
-AddCauses label failed fits before now (Err (errors.UnsupportedCompression refused)) = (failed ≡ false) × (refused ≡ label) × (label ≢ compression.None)
-AddCauses label failed fits before now (Err errors.IndexEntryOverflow) = (failed ≡ false) × (label ≡ compression.None) × (fits → ⊥)
-AddCauses label failed fits before now (Err (errors.Reading causes.Fault)) = (failed ≡ false) × (label ≡ compression.None) × Rose before now
-AddCauses label failed fits before now (Err errors.OutOfMemory) = (failed ≡ false) × (label ≡ compression.None)
-AddCauses label failed fits before now (Err _) = ⊥
+-- An add: by the label that its bytes would have to be plain under, by whether the writer failed before, by the data's length, and by whether what the data is taken for fits. A length of 2^32 is refused
+-- before anything is read; whether the data ends past u64 may be asked of the medium, so that a fault or want of memory may come in the place of this answer.
+abbrev pub AddCauses : Compression → Bool → ℕ → Type 0 → ℕ → ℕ → Result Unit PmtError → Type 0
+AddCauses label failed size fits before now (Ok _) = (failed ≡ false) × (label ≡ compression.None) × fits
+AddCauses label failed size fits before now (Err errors.Failed) = failed ≡ true
+AddCauses label failed size fits before now (Err (errors.UnsupportedCompression refused)) = (failed ≡ false) × (refused ≡ label) × (label ≢ compression.None)
+AddCauses label failed size fits before now (Err errors.IndexEntryOverflow) = (failed ≡ false) × (label ≡ compression.None) × (fits → ⊥)
+AddCauses label failed size fits before now (Err (errors.Reading causes.Fault)) = (failed ≡ false) × (label ≡ compression.None) × (size < 2 ^ 32) × Rose before now
+AddCauses label failed size fits before now (Err errors.OutOfMemory) = (failed ≡ false) × (label ≡ compression.None) × (size < 2 ^ 32)
+AddCauses label failed size fits before now (Err _) = ⊥
 
 -- whether the writer has failed after a call
 abbrev pub failed_after : Bool → Result Unit PmtError → Bool

@@ -2,7 +2,6 @@ pub mod Adds
 pub mod Archive
 pub mod Bounds
 pub mod Few
-pub mod Contents
 pub mod Growing
 pub mod Leaves
 pub mod Means

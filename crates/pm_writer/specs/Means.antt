@@ -1,9 +1,11 @@
 -- What the state of adds means.
 use Rattle.std.specs.Prelude.{◌≡◌, ℕ, Bool, true, List, [], ◌∷◌, nat_lt, Option, Some, None}
-use Rattle.pm_writer.specs.Adds.{contents_from, place_in, unsorted}
+use Rattle.pm_writer.specs.Adds.{contents_from, unsorted}
+use Rattle.pm_contents.specs.Places.{place_in}
+use Rattle.pm_contents.specs.Contents.{Holds}
+use Rattle.tile_hash.specs.Xxh3.{xxh3_64}
 use Rattle.pm_writer.specs.Archive.{ids_of, rising}
 use Rattle.pm_writer.specs.Bounds.{AddsFilled, AllLow, AllSized}
-use Rattle.pm_writer.specs.Contents.{Holds}
 use Rattle.pm_writer.specs.declared.adds.Adds.{Adds}
 
 -- the id of the last add, where there is one
@@ -28,5 +30,5 @@ pub record HasEntries (s : Adds) (adds : List (ℕ × List ℕ)) : Type 0 where
 
 -- the state after these adds, none of which is empty
 pub record Means (s : Adds) (adds : List (ℕ × List ℕ)) : Type 0 where
-  pub contents : Holds s.contents (contents_from [] adds)
+  pub contents : Holds xxh3_64 s.contents (contents_from [] adds)
   pub rest : HasEntries s adds

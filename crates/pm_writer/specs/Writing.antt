@@ -4,8 +4,9 @@ use Rattle.std.specs.Vec.{vec_capacity}
 use Rattle.pm_format.specs.Options.{Options}
 use Rattle.pm_format.specs.declared.compression.Compression.TheVariants as compression
 use Rattle.pm_writer.specs.Adds.{contents_from}
+use Rattle.tile_hash.specs.Xxh3.{xxh3_64}
 use Rattle.pm_writer.specs.Bounds.{OptionsFit}
-use Rattle.pm_writer.specs.Contents.{Finds}
+use Rattle.pm_contents.specs.Contents.{Finds}
 use Rattle.pm_writer.specs.Means.{Means}
 use Rattle.pm_writer.specs.Pieces.{IsHidden}
 use Rattle.pm_writer.specs.Settings.{options_with}
@@ -47,7 +48,7 @@ pub record Held (o : Options) (told : Option (List ℕ)) (s : WriterState) (adds
   pub means : Means s.adds adds
   pub ends : data_end o adds < 2 ^ 64
   pub bytes : IfSome told (λ b. b ≡ begun o adds)
-  pub finds : IfSome told (λ b. Finds s.adds.contents (contents_from [] adds))
+  pub finds : IfSome told (λ b. Finds xxh3_64 s.adds.contents (contents_from [] adds))
 
 -- whether the medium failed in an earlier call
 abbrev pub has_failed : WriterState → Bool

@@ -6,13 +6,14 @@ ghost use Rattle.pm_format.specs.Options.{Options};
 ghost use Rattle.pm_format.specs.declared.compression.Compression.TheVariants as compression;
 ghost use Rattle.pm_writer.specs.Causes.{AddCauses, failed_after};
 ghost use Rattle.pm_writer.specs.Adds.{contents_from};
-ghost use Rattle.pm_writer.specs.Contents.{IsSought, found_in, piece_sought, place_sought};
+ghost use Rattle.pm_contents.specs.Sought.{FoundAs, IsSought, piece_sought, place_sought};
 ghost use Rattle.pm_writer.specs.Pieces.{PutCauses};
-ghost use Rattle.pm_writer.specs.Took.{Took};
+ghost use Rattle.pm_writer.specs.Took.{AreUnlike, Took, TookBy};
+ghost use Rattle.tile_hash.specs.Xxh3.{xxh3_64};
 ghost use Rattle.pm_writer.specs.Writing.{AddFits, FilledFits, Writes, add_to, has_failed};
 
 use crate::WriterState;
-use crate::contents::Sought;
+use pm_contents::Sought;
 use pm_format::{Compression, Medium, PmtError, PmtResult, ReadCause, WriteFault};
 use tile_ids::{TileCoord, TileId};
 
@@ -33,8 +34,9 @@ impl WriterState {
         requires some { 0 < length bytes.now }
         requires writes { (o : Options) × (adds : List (ℕ × List ℕ)) × Writes o (M.told medium.old) self.old adds }
         ensures found { (o : Options) (adds : List (ℕ × List ℕ)) → Writes o (M.told medium.old) self.old adds
-            → IfOk result (λ s. (taken : List ℕ) × Took (M.told medium.old) bytes.now taken × (found_in (contents_from [] adds) taken ≡ place_sought s)) }
-        ensures sought { IfOk result (IsSought self.new.adds.contents bytes.now) }
+            → IfOk result (λ s. (taken : List ℕ) × TookBy (M.told medium.old) (M.reads medium.old) (M.reads medium.new) bytes.now taken × FoundAs xxh3_64 self.new.adds.contents (contents_from [] adds) bytes.now s taken) }
+        ensures sought { IfOk result (IsSought xxh3_64 self.new.adds.contents bytes.now) }
+        ensures quiet { (o : Options) (adds : List (ℕ × List ℕ)) → Writes o (M.told medium.old) self.old adds → AreUnlike (contents_from [] adds) bytes.now → M.reads medium.new ≡ M.reads medium.old }
         ensures kept { (o : Options) (adds : List (ℕ × List ℕ)) → Writes o (M.told medium.old) self.old adds → Writes o (M.told medium.new) self.new adds }
         ensures causes { IfErr result (λ e. PutCauses (M.faults medium.old) (M.faults medium.new) (Err e)) }
         ensures alive { OnOk result (has_failed self.new ≡ false) }
@@ -69,10 +71,10 @@ impl WriterState {
         requires id { id ≤ MAX_TILE_ID }
         requires some { 0 < length bytes.now }
         requires size { size ≡ length bytes.now }
-        requires sought { IsSought self.old.adds.contents bytes.now sought }
+        requires sought { IsSought xxh3_64 self.old.adds.contents bytes.now sought }
         requires fits { self.old.data_offset + self.old.adds.contents.total + length (piece_sought sought bytes.now) < 2 ^ 64 }
         requires writes { (o : Options) × (adds : List (ℕ × List ℕ)) × Writes o (M.told medium.old) self.old adds }
-        ensures added { (o : Options) (adds : List (ℕ × List ℕ)) (taken : List ℕ) → Writes o (M.told medium.old) self.old adds → Took (M.told medium.old) bytes.now taken → found_in (contents_from [] adds) taken ≡ place_sought sought
+        ensures added { (o : Options) (adds : List (ℕ × List ℕ)) (taken : List ℕ) → Writes o (M.told medium.old) self.old adds → Took (M.told medium.old) bytes.now taken → FoundAs xxh3_64 self.old.adds.contents (contents_from [] adds) bytes.now sought taken
             → OnOk result (FilledFits o adds id taken × Writes o (M.told medium.new) self.new (adds ++ (id, taken) ∷ [])) }
         ensures kept { (o : Options) (adds : List (ℕ × List ℕ)) → Writes o (M.told medium.old) self.old adds → OnErr result (Writes o (M.told medium.new) self.new adds) }
         ensures causes { PutCauses (M.faults medium.old) (M.faults medium.new) result }
@@ -102,16 +104,17 @@ impl WriterState {
         requires id { id ≤ MAX_TILE_ID }
         requires some { 0 < length bytes.now }
         requires writes { (o : Options) × (adds : List (ℕ × List ℕ)) × Writes o (M.told medium.old) self.old adds }
-        ensures added { (o : Options) (adds : List (ℕ × List ℕ)) → Writes o (M.told medium.old) self.old adds → OnOk result ((taken : List ℕ) × Took (M.told medium.old) bytes.now taken × Writes o (M.told medium.new) self.new (adds ++ (id, taken) ∷ [])) }
+        ensures added { (o : Options) (adds : List (ℕ × List ℕ)) → Writes o (M.told medium.old) self.old adds → OnOk result ((taken : List ℕ) × TookBy (M.told medium.old) (M.reads medium.old) (M.reads medium.new) bytes.now taken × Writes o (M.told medium.new) self.new (adds ++ (id, taken) ∷ [])) }
         ensures kept { (o : Options) (adds : List (ℕ × List ℕ)) → Writes o (M.told medium.old) self.old adds → OnErr result (Writes o (M.told medium.new) self.new adds) }
         ensures causes { (o : Options) (adds : List (ℕ × List ℕ)) → Writes o (M.told medium.old) self.old adds
-            → (taken : List ℕ) × Took (M.told medium.old) bytes.now taken × AddCauses compression.None false (FilledFits o adds id taken) (M.faults medium.old) (M.faults medium.new) result }
+            → (taken : List ℕ) × TookBy (M.told medium.old) (M.reads medium.old) (M.reads medium.new) bytes.now taken × AddCauses compression.None false (length bytes.now) (FilledFits o adds id taken) (M.faults medium.old) (M.faults medium.new) result }
         ensures failed { has_failed self.new ≡ failed_after false result }
         ensures tells { is_some (M.told medium.new) ≡ is_some (M.told medium.old) }
         ensures versions { is_some (M.versions medium.new) ≡ is_some (M.versions medium.old) }
         ensures faults { M.faults medium.old ≤ M.faults medium.new }
         ensures counted { M.reads medium.old ≤ M.reads medium.new }
         ensures reads { M.reads medium.new ≤ M.reads medium.old + 1 }
+        ensures quiet { (o : Options) (adds : List (ℕ × List ℕ)) → Writes o (M.told medium.old) self.old adds → AreUnlike (contents_from [] adds) bytes.now → M.reads medium.new ≡ M.reads medium.old }
         ensures calm { M.steady medium.old → M.steady medium.new × (M.faults medium.new ≡ M.faults medium.old) }
     {
         let Ok(size) = u32::try_from(bytes.len()) else {
@@ -140,16 +143,17 @@ impl WriterState {
     ) -> PmtResult<()>
         requires writes { (o : Options) × (adds : List (ℕ × List ℕ)) × Writes o (M.told medium.old) self.old adds }
         ensures writes { (o : Options) × (adds : List (ℕ × List ℕ)) × Writes o (M.told medium.new) self.new adds }
-        ensures added { (o : Options) (adds : List (ℕ × List ℕ)) → Writes o (M.told medium.old) self.old adds → OnOk result ((taken : List ℕ) × Took (M.told medium.old) bytes.now taken × Writes o (M.told medium.new) self.new (add_to adds id taken)) }
+        ensures added { (o : Options) (adds : List (ℕ × List ℕ)) → Writes o (M.told medium.old) self.old adds → OnOk result ((taken : List ℕ) × TookBy (M.told medium.old) (M.reads medium.old) (M.reads medium.new) bytes.now taken × Writes o (M.told medium.new) self.new (add_to adds id taken)) }
         ensures kept { (o : Options) (adds : List (ℕ × List ℕ)) → Writes o (M.told medium.old) self.old adds → OnErr result (Writes o (M.told medium.new) self.new adds) }
         ensures causes { (o : Options) (adds : List (ℕ × List ℕ)) → Writes o (M.told medium.old) self.old adds
-            → (taken : List ℕ) × Took (M.told medium.old) bytes.now taken × AddCauses compression.None (has_failed self.old) (AddFits o adds id taken) (M.faults medium.old) (M.faults medium.new) result }
+            → (taken : List ℕ) × TookBy (M.told medium.old) (M.reads medium.old) (M.reads medium.new) bytes.now taken × AddCauses compression.None (has_failed self.old) (length bytes.now) (AddFits o adds id taken) (M.faults medium.old) (M.faults medium.new) result }
         ensures failed { has_failed self.new ≡ failed_after (has_failed self.old) result }
         ensures tells { is_some (M.told medium.new) ≡ is_some (M.told medium.old) }
         ensures versions { is_some (M.versions medium.new) ≡ is_some (M.versions medium.old) }
         ensures faults { M.faults medium.old ≤ M.faults medium.new }
         ensures counted { M.reads medium.old ≤ M.reads medium.new }
         ensures reads { M.reads medium.new ≤ M.reads medium.old + 1 }
+        ensures quiet { (o : Options) (adds : List (ℕ × List ℕ)) → Writes o (M.told medium.old) self.old adds → AreUnlike (contents_from [] adds) bytes.now → M.reads medium.new ≡ M.reads medium.old }
         ensures calm { M.steady medium.old → M.steady medium.new × (M.faults medium.new ≡ M.faults medium.old) }
     {
         if self.failed {
@@ -170,16 +174,17 @@ impl WriterState {
     ) -> PmtResult<()>
         requires writes { (o : Options) × (adds : List (ℕ × List ℕ)) × Writes o (M.told medium.old) self.old adds }
         ensures writes { (o : Options) × (adds : List (ℕ × List ℕ)) × Writes o (M.told medium.new) self.new adds }
-        ensures added { (o : Options) (adds : List (ℕ × List ℕ)) → Writes o (M.told medium.old) self.old adds → OnOk result ((taken : List ℕ) × Took (M.told medium.old) bytes.now taken × Writes o (M.told medium.new) self.new (add_to adds (id_of coord) taken)) }
+        ensures added { (o : Options) (adds : List (ℕ × List ℕ)) → Writes o (M.told medium.old) self.old adds → OnOk result ((taken : List ℕ) × TookBy (M.told medium.old) (M.reads medium.old) (M.reads medium.new) bytes.now taken × Writes o (M.told medium.new) self.new (add_to adds (id_of coord) taken)) }
         ensures kept { (o : Options) (adds : List (ℕ × List ℕ)) → Writes o (M.told medium.old) self.old adds → OnErr result (Writes o (M.told medium.new) self.new adds) }
         ensures causes { (o : Options) (adds : List (ℕ × List ℕ)) → Writes o (M.told medium.old) self.old adds
-            → (taken : List ℕ) × Took (M.told medium.old) bytes.now taken × AddCauses compression.None (has_failed self.old) (AddFits o adds (id_of coord) taken) (M.faults medium.old) (M.faults medium.new) result }
+            → (taken : List ℕ) × TookBy (M.told medium.old) (M.reads medium.old) (M.reads medium.new) bytes.now taken × AddCauses compression.None (has_failed self.old) (length bytes.now) (AddFits o adds (id_of coord) taken) (M.faults medium.old) (M.faults medium.new) result }
         ensures failed { has_failed self.new ≡ failed_after (has_failed self.old) result }
         ensures tells { is_some (M.told medium.new) ≡ is_some (M.told medium.old) }
         ensures versions { is_some (M.versions medium.new) ≡ is_some (M.versions medium.old) }
         ensures faults { M.faults medium.old ≤ M.faults medium.new }
         ensures counted { M.reads medium.old ≤ M.reads medium.new }
         ensures reads { M.reads medium.new ≤ M.reads medium.old + 1 }
+        ensures quiet { (o : Options) (adds : List (ℕ × List ℕ)) → Writes o (M.told medium.old) self.old adds → AreUnlike (contents_from [] adds) bytes.now → M.reads medium.new ≡ M.reads medium.old }
         ensures calm { M.steady medium.old → M.steady medium.new × (M.faults medium.new ≡ M.faults medium.old) }
     {
         self.add_raw_tile_by_id(medium, TileId::from(coord), bytes)
@@ -194,16 +199,17 @@ impl WriterState {
     ) -> PmtResult<()>
         requires writes { (o : Options) × (adds : List (ℕ × List ℕ)) × Writes o (M.told medium.old) self.old adds }
         ensures writes { (o : Options) × (adds : List (ℕ × List ℕ)) × Writes o (M.told medium.new) self.new adds }
-        ensures added { (o : Options) (adds : List (ℕ × List ℕ)) → Writes o (M.told medium.old) self.old adds → OnOk result ((taken : List ℕ) × Took (M.told medium.old) bytes.now taken × Writes o (M.told medium.new) self.new (add_to adds (id_of coord) taken)) }
+        ensures added { (o : Options) (adds : List (ℕ × List ℕ)) → Writes o (M.told medium.old) self.old adds → OnOk result ((taken : List ℕ) × TookBy (M.told medium.old) (M.reads medium.old) (M.reads medium.new) bytes.now taken × Writes o (M.told medium.new) self.new (add_to adds (id_of coord) taken)) }
         ensures kept { (o : Options) (adds : List (ℕ × List ℕ)) → Writes o (M.told medium.old) self.old adds → OnErr result (Writes o (M.told medium.new) self.new adds) }
         ensures causes { (o : Options) (adds : List (ℕ × List ℕ)) → Writes o (M.told medium.old) self.old adds
-            → (taken : List ℕ) × Took (M.told medium.old) bytes.now taken × AddCauses o.tile_compression (has_failed self.old) (AddFits o adds (id_of coord) taken) (M.faults medium.old) (M.faults medium.new) result }
+            → (taken : List ℕ) × TookBy (M.told medium.old) (M.reads medium.old) (M.reads medium.new) bytes.now taken × AddCauses o.tile_compression (has_failed self.old) (length bytes.now) (AddFits o adds (id_of coord) taken) (M.faults medium.old) (M.faults medium.new) result }
         ensures failed { has_failed self.new ≡ failed_after (has_failed self.old) result }
         ensures tells { is_some (M.told medium.new) ≡ is_some (M.told medium.old) }
         ensures versions { is_some (M.versions medium.new) ≡ is_some (M.versions medium.old) }
         ensures faults { M.faults medium.old ≤ M.faults medium.new }
         ensures counted { M.reads medium.old ≤ M.reads medium.new }
         ensures reads { M.reads medium.new ≤ M.reads medium.old + 1 }
+        ensures quiet { (o : Options) (adds : List (ℕ × List ℕ)) → Writes o (M.told medium.old) self.old adds → AreUnlike (contents_from [] adds) bytes.now → M.reads medium.new ≡ M.reads medium.old }
         ensures calm { M.steady medium.old → M.steady medium.new × (M.faults medium.new ≡ M.faults medium.old) }
     {
         let label = self.settings.tile_compression;

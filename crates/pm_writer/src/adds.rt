@@ -7,15 +7,19 @@ ghost use Rattle.byte_media.specs.Media.{IsWithin};
 ghost use Rattle.pm_format.specs.Directory.{entry};
 ghost use Rattle.pm_writer.specs.Adds.{contents_from, longest_run};
 ghost use Rattle.pm_writer.specs.Archive.{ids_of, rising};
-ghost use Rattle.pm_writer.specs.Contents.{Finds, IsAlike, IsSought, IsTold, found_in, piece_sought, place_sought};
+ghost use Rattle.pm_contents.specs.Contents.{Finds, IsAlike, IsTold};
+ghost use Rattle.pm_contents.specs.Sought.{FoundAs, IsSought, piece_sought, place_sought};
+ghost use Rattle.pm_contents.specs.Places.{found_in};
+ghost use Rattle.pm_contents.specs.Pieces.{LeavesPiece};
 ghost use Rattle.pm_writer.specs.Growing.{grows, put};
 ghost use Rattle.pm_writer.specs.Means.{Means, is_above};
-ghost use Rattle.pm_writer.specs.Pieces.{LeavesPiece};
-ghost use Rattle.pm_writer.specs.Took.{Took};
+ghost use Rattle.pm_writer.specs.Took.{AreUnlike, TookBy};
+ghost use Rattle.tile_hash.specs.Xxh3.{xxh3_64};
 
-use crate::contents::{Contents, Sought};
+use pm_contents::{Contents, Sought};
 use pm_format::{DirEntry, Medium, WriteFault};
 use std::alloc::{AllocError, Global};
+use tile_hash::xxh3_64;
 use tile_ids::OutOfMemory;
 
 /// The contents and entries of the adds so far.
@@ -72,7 +76,7 @@ impl Adds {
     /// No add.
     pub(crate) fn new(alloc: Global) -> Adds
         ensures means { Means result [] }
-        ensures finds { Finds result.contents [] }
+        ensures finds { Finds xxh3_64 result.contents [] }
     {
         Adds {
             contents: Contents::new(alloc),
@@ -125,9 +129,10 @@ impl Adds {
         requires ends { from + self.now.contents.total < 2 ^ 64 }
         requires within { IfSome (M.told medium.old) (IsWithin (from + self.now.contents.total)) }
         requires means { (adds : List (ℕ × List ℕ)) × Means self.now adds }
-        ensures found { (adds : List (ℕ × List ℕ)) → Means self.now adds → IfSome (M.told medium.old) (IsTold from self.now.contents (contents_from [] adds))
-            → IfOk result (λ s. (taken : List ℕ) × Took (M.told medium.old) bytes.now taken × (found_in (contents_from [] adds) taken ≡ place_sought s)) }
-        ensures sought { IfOk result (IsSought self.now.contents bytes.now) }
+        ensures found { (adds : List (ℕ × List ℕ)) → Means self.now adds → IfSome (M.told medium.old) (IsTold xxh3_64 from self.now.contents (contents_from [] adds))
+            → IfOk result (λ s. (taken : List ℕ) × TookBy (M.told medium.old) (M.reads medium.old) (M.reads medium.new) bytes.now taken × FoundAs xxh3_64 self.now.contents (contents_from [] adds) bytes.now s taken) }
+        ensures sought { IfOk result (IsSought xxh3_64 self.now.contents bytes.now) }
+        ensures quiet { (adds : List (ℕ × List ℕ)) → Means self.now adds → AreUnlike (contents_from [] adds) bytes.now → M.reads medium.new ≡ M.reads medium.old }
         ensures cause { IsErrOf result WriteFault.Fault → Rose (M.faults medium.old) (M.faults medium.new) }
         ensures told { M.told medium.new ≡ M.told medium.old }
         ensures versions { M.versions medium.new ≡ M.versions medium.old }
@@ -136,7 +141,8 @@ impl Adds {
         ensures reads { M.reads medium.new ≤ M.reads medium.old + 1 }
         ensures calm { M.steady medium.old → M.steady medium.new × (M.faults medium.new ≡ M.faults medium.old) }
     {
-        self.contents.seek(alloc, medium, from, bytes)
+        self.contents
+            .seek(alloc, medium, from, xxh3_64(bytes), bytes)
     }
 
     /// Adds bytes that were sought. New ones are written behind the others on the medium. Memory is taken before anything is written. Refused, the adds are as before.
@@ -152,13 +158,13 @@ impl Adds {
         requires id { id ≤ MAX_TILE_ID }
         requires some { 0 < length bytes.now }
         requires size { size ≡ length bytes.now }
-        requires sought { IsSought self.old.contents bytes.now sought }
+        requires sought { IsSought xxh3_64 self.old.contents bytes.now sought }
         requires within { IfSome (M.told medium.old) (IsWithin (from + self.old.contents.total)) }
         requires fits { from + self.old.contents.total + length (piece_sought sought bytes.now) < 2 ^ 64 }
-        ensures added { (adds : List (ℕ × List ℕ)) (taken : List ℕ) → Means self.old adds → length taken ≡ length bytes.now → found_in (contents_from [] adds) taken ≡ place_sought sought
+        ensures added { (adds : List (ℕ × List ℕ)) (taken : List ℕ) → Means self.old adds → FoundAs xxh3_64 self.old.contents (contents_from [] adds) bytes.now sought taken
             → OnOk result (Means self.new (adds ++ (id, taken) ∷ [])) }
-        ensures finds { (adds : List (ℕ × List ℕ)) → Means self.old adds → Finds self.old.contents (contents_from [] adds) → found_in (contents_from [] adds) bytes.now ≡ place_sought sought
-            → OnOk result (Finds self.new.contents (contents_from [] (adds ++ (id, bytes.now) ∷ []))) }
+        ensures finds { (adds : List (ℕ × List ℕ)) → Means self.old adds → Finds xxh3_64 self.old.contents (contents_from [] adds) → found_in (contents_from [] adds) bytes.now ≡ place_sought sought
+            → OnOk result (Finds xxh3_64 self.new.contents (contents_from [] (adds ++ (id, bytes.now) ∷ []))) }
         ensures kept { (adds : List (ℕ × List ℕ)) → Means self.old adds → OnErr result (Means self.new adds) }
         ensures alike { OnErr result (IsAlike self.old.contents self.new.contents) }
         ensures leaves { LeavesPiece (from + self.old.contents.total) (piece_sought sought bytes.now) result (M.told medium.old) (M.told medium.new) }

@@ -159,6 +159,6 @@ pub fn places_are_read()
 pub fn only_faults_refuse_what_fits()
     ensures start { (label : Compression) (before now : ℕ) (e : PmtError) → label ≡ compression.None → CreateCauses {A = Unit {0}} label before now (Err e) → PutCauses before now (Err e) }
     ensures add { (o : Options) (adds : List (ℕ × List ℕ)) (id : ℕ) (bytes : List ℕ) (label : Compression) (before now : ℕ) (e : PmtError) → label ≡ compression.None → AddFits o adds id bytes
-        → AddCauses label false (AddFits o adds id bytes) before now (Err e) → PutCauses before now (Err e) }
+        → AddCauses label false (length bytes) (AddFits o adds id bytes) before now (Err e) → PutCauses before now (Err e) }
     ensures finish { (o : Options) (adds : List (ℕ × List ℕ)) (before now : ℕ) (e : PmtError) → Distinct adds → ArchiveFits o adds → FinishCauses {A = Unit {0}} o adds false before now (Err e) → PutCauses before now (Err e) }
 {}

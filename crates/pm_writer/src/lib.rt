@@ -4,8 +4,6 @@
 mod adding;
 mod adds;
 mod builder;
-mod content;
-mod contents;
 mod cutting;
 mod finishing;
 pub mod laws;
@@ -14,7 +12,6 @@ mod order;
 mod pieces;
 mod places;
 mod settings;
-mod span;
 mod state;
 mod stream;
 

@@ -2,7 +2,8 @@
 ghost use Rattle.std.specs.Prelude.{◌≡◌, ◌≤◌, ◌<◌, ◌+◌, ◌^◌, length, IfSome, OnOk, IsErrOf, is_some};
 ghost use Rattle.pm_format.specs.Header.{header_bytes};
 ghost use Rattle.byte_media.specs.Media.{EndsBelow, IsWithin, written};
-ghost use Rattle.pm_writer.specs.Pieces.{BothTold, IsHiddenOr, IsOpenTo, PutCauses, WroteFront, finished};
+ghost use Rattle.pm_writer.specs.Pieces.{IsHiddenOr, IsOpenTo, PutCauses, finished};
+ghost use Rattle.pm_contents.specs.Pieces.{BothTold, WroteFront};
 
 use pm_format::{Header, Medium, PmtError, PmtResult, ReadCause, WriteFault};
 

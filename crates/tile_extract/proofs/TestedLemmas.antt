@@ -1,7 +1,7 @@
 -- An extraction with the tests of the zoom and of the medium before it.
 use Rattle.std.proofs.Common.{◌≡◌, inl, ◌≤◌, ℕ, List, [], ◌∷◌, Option, None, Some, is_some, IfSome, Result, Ok, Err, refl, sym, subst, arith}
 use Rattle.tile_ids.specs.Coord.{Coord}
-use Rattle.pm_writer.specs.Pieces.{BothTold}
+use Rattle.pm_contents.specs.Pieces.{BothTold}
 use Rattle.pm_writer.specs.declared.places.ArchivePlaces.{ArchivePlaces}
 use Rattle.tile_extract.specs.Extract.{Answers, Causes, IntoBytes, IntoCauses, IntoLeaves, IsEmpty, IsValid, Leaves, LeavesBytes, LeavesPart, LeavesUnread}
 use Rattle.tile_extract.specs.Opening.{MediumTested}

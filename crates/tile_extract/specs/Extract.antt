@@ -19,7 +19,8 @@ use Rattle.pm_reader.specs.Opening.{IsOpenRefusal}
 use Rattle.pm_writer.specs.Archivable.{IsArchivable}
 use Rattle.pm_writer.specs.Archive.{canon}
 use Rattle.pm_writer.specs.Causes.{ArchiveFits}
-use Rattle.pm_writer.specs.Pieces.{BothTold, IsHidden}
+use Rattle.pm_writer.specs.Pieces.{IsHidden}
+use Rattle.pm_contents.specs.Pieces.{BothTold}
 use Rattle.pm_writer.specs.Places.{places_of, places_read}
 use Rattle.pm_writer.specs.declared.places.ArchivePlaces.{ArchivePlaces}
 use Rattle.tile_extract.specs.Cut.{cut, intervals, options_from, options_of}

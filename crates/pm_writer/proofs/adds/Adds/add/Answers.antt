@@ -1,29 +1,30 @@
 use Rattle.std.proofs.Common.{◌<◌, [], length, sym, subst, ap, ◌∙◌, arith}
 use Rattle.std.proofs.lemmas.Result.{err_from_is_err_and}
+use Rattle.tile_hash.specs.Xxh3.{xxh3_64}
 use Rattle.pm_writer.specs.Adds.{contents_from, longest_run}
-use Rattle.pm_writer.specs.Contents.{Finds}
+use Rattle.pm_contents.specs.Contents.{Finds}
+use Rattle.pm_contents.proofs.ContentLemmas.{holds_alike}
 use Rattle.pm_writer.specs.Growing.{put}
 use Rattle.pm_writer.proofs.AfterAdd.{more_after}
 use Rattle.pm_writer.proofs.ContentLemmas.{contents_push}
-use Rattle.pm_writer.proofs.ContentPlaces.{holds_alike}
 use Rattle.pm_writer.proofs.adds.Adds.add.Goals as goal
 
 pub returns-in_err-place-clause-kept : goal.returns-in_err-place-clause-kept
 returns-in_err-place-clause-kept g c = λ adds m.
     let p = err_from_is_err_and c.from_residual-in_err-place.result c.from_residual-in_err-place.ensures.1 in
     rw (p.1) (record {
-      contents = holds_alike c.args.self.now.contents c.put.new.self (contents_from [] adds) c.in_err-place.ensures.kept m.contents;
+      contents = holds_alike xxh3_64 c.args.self.now.contents c.put.new.self (contents_from [] adds) c.in_err-place.ensures.kept m.contents;
       rest = record { entries = c.in_ok-reserve.ensures.items ∙ m.rest.entries; last = m.rest.last; rises = m.rest.rises; filled = m.rest.filled; low = m.rest.low; sized = m.rest.sized };
     })
 
 pub returns-clause-added : goal.returns-clause-added
-returns-clause-added g c = λ adds taken m n f.
+returns-clause-added g c = λ adds taken m f.
     let cs = contents_from [] adds in
     let entries = c.in-Ok.ensures.ok ∙ ap (put longest_run c.args.id c.in_ok-place.place c.args.size) c.in_ok-reserve.ensures.items in
-    let some : 0 < length taken = omega arith in
+    let some : 0 < length taken = omega (arith, f.size, c.requires.some) in
     more_after adds c.args.self.now c.put.new.self c.put_entry.new.entries _ c.args.id c.in_ok-place.place c.args.size taken m
-    (c.in_ok-place.ensures.put cs taken m.contents n f) (c.in_ok-place.ensures.place cs taken m.contents f) some (c.requires.size ∙ sym n) c.ranges.size.fits c.requires.id entries c.still_rises-self.ensures
+    (c.in_ok-place.ensures.put xxh3_64 cs taken c.requires.sought m.contents f) (c.in_ok-place.ensures.place xxh3_64 cs taken m.contents f.found) some (c.requires.size ∙ sym f.size) c.ranges.size.fits c.requires.id entries c.still_rises-self.ensures
 
 pub returns-clause-finds : goal.returns-clause-finds
 returns-clause-finds g c = λ adds m k f.
-    subst (Finds c.put.new.self) (sym (contents_push [] adds (c.args.id, c.args.bytes.now))) (c.in_ok-place.ensures.finds (contents_from [] adds) m.contents k f)
+    subst (Finds xxh3_64 c.put.new.self) (sym (contents_push [] adds (c.args.id, c.args.bytes.now))) (c.in_ok-place.ensures.finds xxh3_64 (contents_from [] adds) c.requires.sought m.contents k f)

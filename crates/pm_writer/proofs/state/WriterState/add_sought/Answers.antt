@@ -1,6 +1,6 @@
 use Rattle.std.proofs.Common.{◌≡◌, ◌+◌, refl, arith}
-use Rattle.pm_writer.specs.Contents.{piece_sought}
-use Rattle.pm_writer.specs.Pieces.{BothTold, WroteFront}
+use Rattle.pm_contents.specs.Sought.{piece_sought}
+use Rattle.pm_contents.specs.Pieces.{BothTold, WroteFront}
 use Rattle.pm_writer.proofs.AddedBytes.{added_writes, ends_at, failed_writes, same_writes, sought_fits, within_end}
 use Rattle.pm_writer.proofs.Took.{took_length}
 use Rattle.pm_writer.proofs.state.WriterState.add_sought.Goals as goal
@@ -20,8 +20,8 @@ returns-in-Ok-clause-added g c = λ o adds taken w t f.
     let means = (w.held c.requires.alive).means in
     let end = ends_at o t0 s adds s.adds.contents.total w c.requires.alive refl in
     let same = took_length t0 x taken t in
-    let fits = sought_fits o adds c.args.id at taken x c.args.sought end (omega arith) same f c.requires.fits in
-    (fits, added_writes o adds t0 t1 s c.add.new.self c.args.id at taken x c.args.sought w c.requires.alive end fits t f (c.in-Ok.ensures.added adds taken means same f) (λ k q. c.in-Ok.ensures.finds adds means k q) c.in-Ok.ensures.leaves)
+    let fits = sought_fits o adds c.args.id at taken x c.args.sought end (omega arith) same f.found c.requires.fits in
+    (fits, added_writes o adds t0 t1 s c.add.new.self c.args.id at taken x c.args.sought w c.requires.alive end fits t f.found (c.in-Ok.ensures.added adds taken means f) (λ k q. c.in-Ok.ensures.finds adds means k q) c.in-Ok.ensures.leaves)
 
 pub returns-in-Err-OutOfMemory-clause-kept : goal.returns-in-Err-OutOfMemory-clause-kept
 returns-in-Err-OutOfMemory-clause-kept g c = λ o adds w.

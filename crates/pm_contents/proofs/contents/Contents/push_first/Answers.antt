@@ -1,9 +1,9 @@
 use Rattle.std.proofs.Common.{◌≡◌, ◌+◌, None, refl, ap, ◌∙◌, if◌then◌else◌}
 use Rattle.std.specs.HashMap.{hash_map_len}
 use Rattle.std.specs.Option.{is_some}
-use Rattle.pm_writer.specs.declared.contents.Contents.{Contents}
-use Rattle.pm_writer.proofs.ContentPlaces.{IsFirst, finds_first, holds_first}
-use Rattle.pm_writer.proofs.contents.Contents.push_first.Goals as goal
+use Rattle.pm_contents.specs.declared.contents.Contents.{Contents}
+use Rattle.pm_contents.proofs.ContentLemmas.{IsFirst, finds_first, holds_first}
+use Rattle.pm_contents.proofs.contents.Contents.push_first.Goals as goal
 
 abbrev after : goal.After-self-1 → Contents
 after c = record { firsts = c.insert.new.self; others = c.args.self.now.others; total = c.args.self.now.total + c.args.size }

@@ -1,49 +1,28 @@
 // The different contents so far, found by their digests and their bytes.
-ghost use Rattle.std.specs.Prelude.{◌≡◌, ◌≤◌, ◌<◌, ◌+◌, ◌^◌, ℕ, List, [], length, None, Some, IfSome, IfOk, OnOk, OnErr, IsErrOf, is_some, is_none};
+ghost use Rattle.std.specs.Prelude.{◌≡◌, ◌≤◌, ◌<◌, ◌+◌, ◌^◌, ℕ, List, [], length, None, Some, IfSome, IfOk, OnOk, OnErr, IsErrOf, is_some};
 ghost use Rattle.std.specs.BTreeMap.{get};
 ghost use Rattle.std.specs.HashMap as hashed;
-ghost use Rattle.tile_hash.specs.Xxh3.{xxh3_64};
 ghost use Rattle.tile_ids.specs.Counts.{Rose};
 ghost use Rattle.byte_media.specs.Media.{IsWithin};
-ghost use Rattle.pm_writer.specs.Adds.{put_new};
-ghost use Rattle.pm_writer.specs.Contents.{Finds, Holds, IsAlike, IsNew, IsSought, IsTold, content_cmp, first_of, found_in, piece_sought, place_sought};
-ghost use Rattle.pm_writer.specs.Pieces.{LeavesPiece};
-ghost use Rattle.pm_writer.specs.Took.{Took};
-ghost use Rattle.pm_writer.specs.declared.span.Span.{Span};
+ghost use Rattle.pm_contents.specs.Contents.{Finds, Holds, IsAlike, IsTold, IsUnasked, content_cmp, first_of};
+ghost use Rattle.pm_contents.specs.Pieces.{LeavesPiece};
+ghost use Rattle.pm_contents.specs.Places.{IsNew, found_in, put_new};
+ghost use Rattle.pm_contents.specs.Sought.{FoundAs, IsSought, piece_sought, place_sought};
+ghost use Rattle.pm_contents.specs.Span.{Stood};
+ghost use Rattle.pm_contents.specs.declared.sought.Sought.TheVariants as sought;
+ghost use Rattle.pm_contents.specs.declared.span.Span.{Span};
 
-use crate::content::Content;
 use crate::span::Span;
-use pm_format::{Medium, WriteFault};
+use crate::{Content, Sought};
+use byte_media::{Medium, WriteFault};
 use std::alloc::{AllocError, Global};
 use std::collections::btree_map::Entry;
 use std::collections::{BTreeMap, HashMap};
-use tile_hash::xxh3_64;
 
-/// What bytes were found as.
+/// The different contents, which lie on a medium one behind another in order of first add. The first content of each digest is found by it, and compared by reading it back. Others of its digest are found in an ordered map, so that among contents that were picked to share a digest one is found by as many comparisons as the logarithm of
+/// their number. Which digest it is is the caller's: contracts call it `name`.
 #[derive(Drop)]
-pub(crate) enum Sought {
-    /// A content that begins at this place.
-    Known(u64),
-    /// None of the contents, and none of them has this digest of theirs.
-    First(u64),
-    /// None of the contents, but another one has their digest.
-    Other(Content),
-}
-
-impl Sought {
-    /// Whether they are none of the contents.
-    pub(crate) fn is_new(&self) -> bool
-        ensures { result ≡ is_none (place_sought self.now) }
-    {
-        !matches!(self, Sought::Known(_))
-    }
-}
-
-/// The different contents, which lie on a medium one behind another in order of first add. The first content of each XXH3 digest is found by this digest, and compared by reading
-/// it back. Others of its digest are found in an ordered map, so that among contents that were picked to share a digest one is found by as many comparisons as the logarithm of
-/// their number.
-#[derive(Drop)]
-pub(crate) struct Contents {
+pub struct Contents {
     firsts: HashMap<u64, Span>,
     others: BTreeMap<Content, u64>,
     total: u64,
@@ -51,9 +30,9 @@ pub(crate) struct Contents {
 
 impl Contents {
     /// No content.
-    pub(crate) fn new(alloc: Global) -> Contents
-        ensures holds { Holds result [] }
-        ensures finds { Finds result [] }
+    pub fn new(alloc: Global) -> Contents
+        ensures holds { (name : List ℕ → ℕ) → Holds name result [] }
+        ensures finds { (name : List ℕ → ℕ) → Finds name result [] }
     {
         Contents {
             firsts: HashMap::new(alloc),
@@ -63,35 +42,39 @@ impl Contents {
     }
 
     /// How many bytes they have together.
-    pub(crate) fn total(&self) -> u64
+    pub fn total(&self) -> u64
         ensures { result ≡ self.now.total }
     {
         self.total
     }
 
     /// How many there are.
-    pub(crate) fn count(&self) -> u64
-        ensures { (cs : List (List ℕ)) → Holds self.now cs → result ≡ length cs }
+    pub fn count(&self) -> u64
+        ensures { (name : List ℕ → ℕ) (cs : List (List ℕ)) → Holds name self.now cs → result ≡ length cs }
     {
         self.firsts.len() as u64 + self.others.len() as u64
     }
 
-    /// What these bytes are found as. The first content of their digest is read back from the medium, on which the contents lie from a place on; a range that it doesn't have is
-    /// another content.
-    pub(crate) fn seek<M: Medium>(
+    /// What bytes are found as, that have this digest. The first content of it is read back from the medium, on which the contents lie from a place on, where it has as many bytes; a
+    /// range that the medium doesn't have is another content.
+    pub fn seek<M: Medium>(
         &self,
         alloc: Global,
         medium: &mut M,
         from: u64,
+        digest: u64,
         bytes: &[u8],
     ) -> Result<Sought, WriteFault>
         requires some { 0 < length bytes.now }
         requires ends { from + self.now.total < 2 ^ 64 }
         requires within { IfSome (M.told medium.old) (IsWithin (from + self.now.total)) }
-        requires holds { (cs : List (List ℕ)) × Holds self.now cs }
-        ensures found { (cs : List (List ℕ)) → Holds self.now cs → IfSome (M.told medium.old) (IsTold from self.now cs)
-            → IfOk result (λ s. (taken : List ℕ) × Took (M.told medium.old) bytes.now taken × (found_in cs taken ≡ place_sought s)) }
-        ensures sought { IfOk result (IsSought self.now bytes.now) }
+        requires holds { (name : List ℕ → ℕ) × (cs : List (List ℕ)) × Holds name self.now cs }
+        ensures found { (name : List ℕ → ℕ) (cs : List (List ℕ)) → digest ≡ name bytes.now → Holds name self.now cs → IfOk result (λ s. (taken : List ℕ) × FoundAs name self.now cs bytes.now s taken) }
+        ensures known { (name : List ℕ → ℕ) (cs : List (List ℕ)) → digest ≡ name bytes.now → Holds name self.now cs → IfSome (M.told medium.old) (IsTold name from self.now cs)
+            → IfSome (M.told medium.old) (λ b. IfOk result (λ s. found_in cs bytes.now ≡ place_sought s)) }
+        ensures sought { (name : List ℕ → ℕ) → digest ≡ name bytes.now → IfOk result (IsSought name self.now bytes.now) }
+        ensures asked { Stood (M.reads medium.old) (M.reads medium.new) → IsUnasked self.now digest (length bytes.now) }
+        ensures quiet { IsUnasked self.now digest (length bytes.now) → M.reads medium.new ≡ M.reads medium.old }
         ensures cause { IsErrOf result WriteFault.Fault → Rose (M.faults medium.old) (M.faults medium.new) }
         ensures told { M.told medium.new ≡ M.told medium.old }
         ensures versions { M.versions medium.new ≡ M.versions medium.old }
@@ -100,7 +83,6 @@ impl Contents {
         ensures reads { M.reads medium.new ≤ M.reads medium.old + 1 }
         ensures calm { M.steady medium.old → M.steady medium.new × (M.faults medium.new ≡ M.faults medium.old) }
     {
-        let digest = xxh3_64(bytes);
         let first = match self.firsts.get(&digest) {
             None => return Ok(Sought::First(digest)),
             Some(first) => *first,
@@ -128,8 +110,8 @@ impl Contents {
         requires none { first_of self.old digest ≡ None }
         requires room { 1 ≤ hashed.spare self.old.firsts }
         requires fits { self.old.total + size < 2 ^ 64 }
-        ensures put { (cs : List (List ℕ)) (taken : List ℕ) → Holds self.old cs → length taken ≡ size → IsNew cs taken → Holds self.new (put_new cs taken) }
-        ensures finds { (cs : List (List ℕ)) (x : List ℕ) → Holds self.old cs → Finds self.old cs → digest ≡ xxh3_64 x → length x ≡ size → IsNew cs x → Finds self.new (put_new cs x) }
+        ensures put { (name : List ℕ → ℕ) (cs : List (List ℕ)) (x : List ℕ) → Holds name self.old cs → digest ≡ name x → length x ≡ size → IsNew cs x → Holds name self.new (put_new cs x) }
+        ensures finds { (name : List ℕ → ℕ) (cs : List (List ℕ)) (x : List ℕ) → Holds name self.old cs → Finds name self.old cs → digest ≡ name x → length x ≡ size → IsNew cs x → Finds name self.new (put_new cs x) }
     {
         let span = Span {
             place: self.total,
@@ -149,12 +131,11 @@ impl Contents {
         digest: u64,
         bytes: &[u8],
     ) -> Result<u64, WriteFault>
-        requires digest { digest ≡ xxh3_64 bytes.now }
         requires none { first_of self.old digest ≡ None }
         requires within { IfSome (M.told medium.old) (IsWithin (from + self.old.total)) }
         requires fits { from + self.old.total + length bytes.now < 2 ^ 64 }
-        ensures put { (cs : List (List ℕ)) (taken : List ℕ) → Holds self.old cs → length taken ≡ length bytes.now → IsNew cs taken → OnOk result (Holds self.new (put_new cs taken)) }
-        ensures finds { (cs : List (List ℕ)) → Holds self.old cs → Finds self.old cs → IsNew cs bytes.now → OnOk result (Finds self.new (put_new cs bytes.now)) }
+        ensures put { (name : List ℕ → ℕ) (cs : List (List ℕ)) → Holds name self.old cs → digest ≡ name bytes.now → IsNew cs bytes.now → OnOk result (Holds name self.new (put_new cs bytes.now)) }
+        ensures finds { (name : List ℕ → ℕ) (cs : List (List ℕ)) → Holds name self.old cs → Finds name self.old cs → digest ≡ name bytes.now → IsNew cs bytes.now → OnOk result (Finds name self.new (put_new cs bytes.now)) }
         ensures place { IfOk result (λ place. place ≡ self.old.total) }
         ensures kept { OnErr result (IsAlike self.old self.new) }
         ensures leaves { LeavesPiece (from + self.old.total) bytes.now result (M.told medium.old) (M.told medium.new) }
@@ -180,11 +161,11 @@ impl Contents {
         content: Content,
     ) -> Result<u64, WriteFault>
         requires other { get content_cmp self.old.others content ≡ None }
-        requires first { (span : Span) × (first_of self.old (xxh3_64 content) ≡ Some span) }
         requires within { IfSome (M.told medium.old) (IsWithin (from + self.old.total)) }
         requires fits { from + self.old.total + length content < 2 ^ 64 }
-        ensures put { (cs : List (List ℕ)) (taken : List ℕ) → Holds self.old cs → length taken ≡ length content → IsNew cs taken → OnOk result (Holds self.new (put_new cs taken)) }
-        ensures finds { (cs : List (List ℕ)) → Holds self.old cs → Finds self.old cs → IsNew cs content → OnOk result (Finds self.new (put_new cs content)) }
+        ensures put { (name : List ℕ → ℕ) (cs : List (List ℕ)) (s : Span) (taken : List ℕ) → first_of self.old (name content) ≡ Some s → Holds name self.old cs → FoundAs name self.old cs content (sought.Other content) taken
+            → OnOk result (Holds name self.new (put_new cs taken)) }
+        ensures finds { (name : List ℕ → ℕ) (cs : List (List ℕ)) (s : Span) → first_of self.old (name content) ≡ Some s → Holds name self.old cs → Finds name self.old cs → IsNew cs content → OnOk result (Finds name self.new (put_new cs content)) }
         ensures place { IfOk result (λ place. place ≡ self.old.total) }
         ensures kept { OnErr result (IsAlike self.old self.new) }
         ensures leaves { LeavesPiece (from + self.old.total) content result (M.told medium.old) (M.told medium.new) }
@@ -219,19 +200,21 @@ impl Contents {
 
     /// Where bytes begin that were sought. New ones are written behind the contents on the medium, and put there. Memory is taken before anything is written. Refused, the contents
     /// are as before.
-    pub(crate) fn put<M: Medium>(
+    pub fn put<M: Medium>(
         &mut self,
         medium: &mut M,
         from: u64,
         bytes: &[u8],
         sought: Sought,
     ) -> Result<u64, WriteFault>
-        requires sought { IsSought self.old bytes.now sought }
+        requires sought { (name : List ℕ → ℕ) × IsSought name self.old bytes.now sought }
         requires within { IfSome (M.told medium.old) (IsWithin (from + self.old.total)) }
         requires fits { from + self.old.total + length (piece_sought sought bytes.now) < 2 ^ 64 }
-        ensures put { (cs : List (List ℕ)) (taken : List ℕ) → Holds self.old cs → length taken ≡ length bytes.now → found_in cs taken ≡ place_sought sought → OnOk result (Holds self.new (put_new cs taken)) }
-        ensures finds { (cs : List (List ℕ)) → Holds self.old cs → Finds self.old cs → found_in cs bytes.now ≡ place_sought sought → OnOk result (Finds self.new (put_new cs bytes.now)) }
-        ensures place { (cs : List (List ℕ)) (taken : List ℕ) → Holds self.old cs → found_in cs taken ≡ place_sought sought → IfOk result (λ place. found_in (put_new cs taken) taken ≡ Some place) }
+        ensures put { (name : List ℕ → ℕ) (cs : List (List ℕ)) (taken : List ℕ) → IsSought name self.old bytes.now sought → Holds name self.old cs → FoundAs name self.old cs bytes.now sought taken
+            → OnOk result (Holds name self.new (put_new cs taken)) }
+        ensures finds { (name : List ℕ → ℕ) (cs : List (List ℕ)) → IsSought name self.old bytes.now sought → Holds name self.old cs → Finds name self.old cs → found_in cs bytes.now ≡ place_sought sought
+            → OnOk result (Finds name self.new (put_new cs bytes.now)) }
+        ensures place { (name : List ℕ → ℕ) (cs : List (List ℕ)) (taken : List ℕ) → Holds name self.old cs → found_in cs taken ≡ place_sought sought → IfOk result (λ place. found_in (put_new cs taken) taken ≡ Some place) }
         ensures kept { OnErr result (IsAlike self.old self.new) }
         ensures leaves { LeavesPiece (from + self.old.total) (piece_sought sought bytes.now) result (M.told medium.old) (M.told medium.new) }
         ensures cause { IsErrOf result WriteFault.Fault → Rose (M.faults medium.old) (M.faults medium.new) }

@@ -7,7 +7,7 @@ use std::marker::Model;
 
 /// The bytes of a content, which are compared as lists of numbers.
 #[derive(Drop)]
-pub(crate) struct Content {
+pub struct Content {
     bytes: Vec<u8>,
 }
 
@@ -21,7 +21,7 @@ impl Model for Content {
 
 impl Content {
     /// A copy of these bytes.
-    pub(crate) fn new(alloc: Global, bytes: &[u8]) -> Result<Content, AllocError>
+    pub fn new(alloc: Global, bytes: &[u8]) -> Result<Content, AllocError>
         ensures { IfOk result (λ c. c ≡ bytes.now) }
     {
         Ok(Content {
@@ -30,7 +30,7 @@ impl Content {
     }
 
     /// The bytes themselves.
-    pub(crate) fn as_bytes(&self) -> &[u8]
+    pub fn as_bytes(&self) -> &[u8]
         ensures { result.now ≡ self.now }
     {
         self.bytes.as_slice()
@@ -60,7 +60,7 @@ impl Eq for Content {
 impl PartialOrd for Content {
     ghost use Rattle.std.specs.Prelude.{Some};
     ghost use Rattle.std.specs.Cmp.Lexicographic.{texts_po};
-    ghost use Rattle.pm_writer.specs.Contents.{content_cmp};
+    ghost use Rattle.pm_contents.specs.Contents.{content_cmp};
 
     ghost partial_cmp = { λ x y. Some (content_cmp x y) };
 
@@ -74,7 +74,7 @@ impl PartialOrd for Content {
 impl Ord for Content {
     ghost use Rattle.std.specs.Prelude.{refl};
     ghost use Rattle.std.specs.Cmp.Lexicographic.{nat_list_cmp_total, texts_ties};
-    ghost use Rattle.pm_writer.specs.Contents.{content_cmp};
+    ghost use Rattle.pm_contents.specs.Contents.{content_cmp};
 
     ghost cmp = { content_cmp };
 

@@ -1,0 +1,4 @@
+pub mod Told
+pub mod PlaceLemmas
+pub mod ContentLemmas
+pub mod SeekLemmas

@@ -1,0 +1,5 @@
+pub mod Places
+pub mod Pieces
+pub mod Span
+pub mod Contents
+pub mod Sought

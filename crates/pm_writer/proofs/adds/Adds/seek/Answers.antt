@@ -1,0 +1,20 @@
+use Rattle.std.proofs.Common.{[], length, subst, sym}
+use Rattle.tile_hash.specs.Xxh3.{xxh3_64}
+use Rattle.pm_contents.specs.Contents.{IsUnasked}
+use Rattle.pm_contents.proofs.SeekLemmas.{unasked_of}
+use Rattle.pm_writer.specs.Adds.{contents_from}
+use Rattle.pm_writer.proofs.Took.{sought_as}
+use Rattle.pm_writer.proofs.adds.Adds.seek.Goals as goal
+
+pub returns-clause-found : goal.returns-clause-found
+returns-clause-found g c = λ adds m t.
+    let cs = contents_from [] adds in
+    let x = c.args.bytes.now in
+    sought_as (g.M.Backend.told c.args.medium.now) (g.M.Backend.reads c.args.medium.now) (g.M.Backend.reads c.seek.new.medium) c.args.self.now.contents cs x c.seek.result
+    (c.seek.ensures.known xxh3_64 cs c.xxh3_64.ensures m.contents t) (λ s. subst (λ d. IsUnasked c.args.self.now.contents d (length x)) c.xxh3_64.ensures (c.seek.ensures.asked s))
+    (c.seek.ensures.found xxh3_64 cs c.xxh3_64.ensures m.contents)
+
+pub returns-clause-quiet : goal.returns-clause-quiet
+returns-clause-quiet g c = λ adds m u.
+    let x = c.args.bytes.now in
+    c.seek.ensures.quiet (subst (λ d. IsUnasked c.args.self.now.contents d (length x)) (sym c.xxh3_64.ensures) (unasked_of xxh3_64 c.args.self.now.contents (contents_from [] adds) x m.contents u))
