@@ -124,6 +124,46 @@ def one_digest():
             row('medium part 97 1', 'x00')
 
 
+def under_one_number(mode, number, pieces):
+    """Contents that share a digest: the first one is read back where it is as long, and the others are found by their bytes."""
+    first, others, data, reads, answers = None, {}, b'', 0, []
+    for d in pieces:
+        read = None
+        if first is not None and len(d) == len(first):
+            reads += 1
+            read = {'true': first, 'last': data[len(data) - len(d):]}.get(mode)
+        if read == d:
+            answers.append('known 0')
+        elif d in others:
+            answers.append(f'known {others[d]}')
+        else:
+            answers.append(f'new {len(data)}')
+            if first is None:
+                first = d
+            else:
+                others[d] = len(data)
+            data += d
+    row(f'contents {mode} {number} {len(pieces)}' + ''.join(f' {word(d)}' for d in pieces), *answers, sum(a.startswith('new') for a in answers), len(data), reads)
+
+
+def one_number():
+    """Two contents under one number find two places; over a medium that answers otherwise, they are new again, or the first one."""
+    for mode in ('true', 'last', 'past', 'short'):
+        for number in (0, 7, U64 - 1):
+            under_one_number(mode, number, [b'a', b'b', b'a', b'b'])
+        under_one_number(mode, 1, [])
+        under_one_number(mode, 1, [b'a'])
+        under_one_number(mode, 1, [b'ab', b'a', b'ab', b'a', b'b', b'abc', b'ab', b'b'])
+        under_one_number(mode, 1, [b'a', b'b', b'b', b'c', b'a', b'c', b'a'])
+        chance = random.Random(mode)
+        for _ in range(40):
+            under_one_number(mode, chance.randrange(U64), [bytes(chance.choice((0, 1, 255)) for _ in range(chance.randrange(1, 4))) for _ in range(chance.randrange(2, 24))])
+        refused(f'contents {mode} 7 2 x61', 'new 0')
+        refused(f'contents {mode} 7 1 x')
+        refused(f'contents {mode} -1 1 x61')
+    refused('contents none 7 1 x61')
+
+
 def labels():
     row('writer new 1')
     row('writer label', 'None')
@@ -715,7 +755,7 @@ def large():
 
 
 def main():
-    for rows in (few_tiles, one_digest, labels, options, faults, bulk, one_tile, versions, failing_reads, one_changed_field, hostile_table, leaf_cycle, checks, parts, documents, deep, random_archives,
+    for rows in (few_tiles, one_digest, one_number, labels, options, faults, bulk, one_tile, versions, failing_reads, one_changed_field, hostile_table, leaf_cycle, checks, parts, documents, deep, random_archives,
                  caches, large):
         rows()
     ROWS.write()

@@ -1,12 +1,14 @@
-//! Reads calls of pm_writer, pm_reader and tile_verify from standard input, one a line, and prints each line with its answer.
+//! Reads calls of pm_contents, pm_writer, pm_reader and tile_verify from standard input, one a line, and prints each line with its answer.
 #![tactic(auto)]
 
 mod adds;
 mod bulk;
 mod caches;
+mod contents;
 mod counted;
 mod kept;
 mod media;
+mod mute;
 mod options;
 mod reading;
 mod states;
@@ -46,6 +48,7 @@ fn answer(alloc: Global, out: &mut String, kept: &mut Kept, line: &str) -> Optio
         "medium" => media::answer(alloc, out, &mut kept.backend, &mut words),
         "writer" => options::answer(alloc, out, &mut kept.options, &mut words),
         "write" => writing::answer(alloc, out, kept, &mut words),
+        "contents" => contents::answer(alloc, out, &mut words),
         "bulk" => bulk::answer(alloc, out, &mut kept.backend, &mut words),
         "cache" => caches::answer(alloc, out, &mut kept.map, &mut kept.recent, &mut words),
         call => answer_held(alloc, out, &mut kept.backend, call, &mut words),

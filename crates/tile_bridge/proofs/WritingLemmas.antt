@@ -51,18 +51,18 @@ added_to tiles adds i a far at filled =
     ∙ added_at (shown tiles adds) i (a.id, bytes_at tiles a.index) (far_shown tiles adds i far) (filled i (a.id, bytes_at tiles a.index) (far_shown tiles adds i far))
 
 -- a refused add, whose data fits, is a fault or want of memory
-pub add_refused : {A : Type 0} (fits : Type 0) (start before now : ℕ) (failed : Bool) (e : PmtError) (r : Result A PmtError) → failed ≡ false → fits → start ≤ before → AddCauses compression.None failed fits before now (Err e) → IsErrAnd r (λ x. x ≡ e) → WriteCauses {A = A} start now r
-add_refused fits start before now failed e (Ok x) alive fit order cause is = tt
-add_refused fits start before now failed e (Err x) alive fit order cause is = subst IsWriteError (sym is) (by_case e cause)
+pub add_refused : {A : Type 0} (size : ℕ) (fits : Type 0) (start before now : ℕ) (failed : Bool) (e : PmtError) (r : Result A PmtError) → failed ≡ false → fits → start ≤ before → AddCauses compression.None failed size fits before now (Err e) → IsErrAnd r (λ x. x ≡ e) → WriteCauses {A = A} start now r
+add_refused size fits start before now failed e (Ok x) alive fit order cause is = tt
+add_refused size fits start before now failed e (Err x) alive fit order cause is = subst IsWriteError (sym is) (by_case e cause)
   where
     IsWriteError : PmtError → Type 0
     IsWriteError e = WriteCauses {A = Unit {0}} start now (Err e)
 
-    by_case : (e : PmtError) → AddCauses compression.None failed fits before now (Err e) → IsWriteError e
+    by_case : (e : PmtError) → AddCauses compression.None failed size fits before now (Err e) → IsWriteError e
     by_case errors.Failed c = absurd (cc)
     by_case (errors.UnsupportedCompression refused) c = absurd (c.2 refl)
     by_case errors.IndexEntryOverflow c = absurd (c.2 fit)
-    by_case (errors.Reading causes.Fault) c = omega (arith, order, c.2)
+    by_case (errors.Reading causes.Fault) c = omega (arith, order, c.3)
     by_case errors.OutOfMemory c = tt
     by_case _ c = absurd c
 

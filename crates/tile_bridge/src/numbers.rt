@@ -81,7 +81,7 @@ fn write_numbers<M: Medium>(
 }
 
 /// Writes the archive of the tiles of the first ids, at most 100,000 of them, to an empty medium. The contents of each are its id by a number, rounded down, in decimal.
-/// It answers as a conversion of a set of these tiles does, without a set: nothing is loaded, hashed or read back.
+/// It answers as a conversion of a set of these tiles does, without a set: no rows are loaded, no aggregate hash is made, and no answers are read back.
 pub fn convert_numbers<M: Medium>(
     alloc: Global,
     tiles: u64,

@@ -96,7 +96,7 @@ PutsOn takes o bytes done all mid ids = (r : Result (List (ℕ × List ℕ)) Ext
 
 -- an add that is refused
 pub add_refused : (o : Options) (bytes taken : List ℕ) (done : List (ℕ × List ℕ)) (all : List ℕ) (mid : List (ℕ × List ℕ)) (id : ℕ) (ids : List ℕ) (told : Option (List ℕ)) (s : WriterState) (failed : Bool) (before now : ℕ) (e : PmtError)
-    → failed ≡ false → PutsOn (Took told) o bytes done all mid (id ∷ ids) → Took told bytes taken → AddCauses compression.None failed (AddFits o mid id taken) before now (Err e) → Puts o bytes done all told s (Err (of_write_error e))
+    → failed ≡ false → PutsOn (Took told) o bytes done all mid (id ∷ ids) → Took told bytes taken → AddCauses compression.None failed (length bytes) (AddFits o mid id taken) before now (Err e) → Puts o bytes done all told s (Err (of_write_error e))
 add_refused o bytes taken done all mid id ids told s failed before now errors.Failed alive so take c = absurd (true≢false (sym c ∙ alive))
 add_refused o bytes taken done all mid id ids told s failed before now (errors.UnsupportedCompression label) alive so take c = absurd (c.2 refl)
 add_refused o bytes taken done all mid id ids told s failed before now errors.IndexEntryOverflow alive so take c = so (Err IndexEntryOverflow) (puts_over (Took told) o bytes taken mid id ids take c.2)
@@ -104,13 +104,13 @@ add_refused o bytes taken done all mid id ids told s failed before now (errors.R
 add_refused o bytes taken done all mid id ids told s failed before now errors.OutOfMemory alive so take c = tt
 add_refused o bytes taken done all mid id ids told s failed before now e alive so take c = absurd c
 
-pub add_faulted : (fits : Type 0) (failed : Bool) (start before now : ℕ) (e : PmtError) → failed ≡ false → start ≤ before → AddCauses compression.None failed fits before now (Err e) → of_write_error e ≡ MediumFault → Rose start now
-add_faulted fits failed start before now errors.Failed alive le c is = absurd (true≢false (sym c ∙ alive))
-add_faulted fits failed start before now (errors.UnsupportedCompression label) alive le c is = absurd (c.2 refl)
-add_faulted fits failed start before now errors.IndexEntryOverflow alive le c is = absurd (cc)
-add_faulted fits failed start before now (errors.Reading causes.Fault) alive le c is = omega (arith, le, c.2)
-add_faulted fits failed start before now errors.OutOfMemory alive le c is = absurd (cc)
-add_faulted fits failed start before now e alive le c is = absurd c
+pub add_faulted : (size : ℕ) (fits : Type 0) (failed : Bool) (start before now : ℕ) (e : PmtError) → failed ≡ false → start ≤ before → AddCauses compression.None failed size fits before now (Err e) → of_write_error e ≡ MediumFault → Rose start now
+add_faulted size fits failed start before now errors.Failed alive le c is = absurd (true≢false (sym c ∙ alive))
+add_faulted size fits failed start before now (errors.UnsupportedCompression label) alive le c is = absurd (c.2 refl)
+add_faulted size fits failed start before now errors.IndexEntryOverflow alive le c is = absurd (cc)
+add_faulted size fits failed start before now (errors.Reading causes.Fault) alive le c is = omega (arith, le, c.3)
+add_faulted size fits failed start before now errors.OutOfMemory alive le c is = absurd (cc)
+add_faulted size fits failed start before now e alive le c is = absurd c
 
 pub err_is : (x y : ExtractError) → ◌≡◌ {A = Result Unit ExtractError} (Err x) (Err y) → x ≡ y
 err_is x y e = cc

@@ -112,6 +112,14 @@ module _ (c : Coord) (m most : ℕ) (h : Header) (es : List Entry) (text : List 
   late_answers source told held first now old new OutOfMemory tells p cause is = one_told (Planned c m most h es text ps) (λ b. Answers held b c m most (Err OutOfMemory)) source (λ b l. tt) p
   late_answers source told held first now old new x tells p cause is = absurd cause
 
+  late_uncompared : (source told held : Option (List ℕ)) (first now old new before after : ℕ) (x : ExtractError) → is_some held ≡ is_some told → IfSome source (Planned c m most h es text ps) → WriteCauses {A = ArchivePlaces} first now old new (Err x)
+      → WritesParts opts h source ps told (Err x) → LeavesUncompared source held c m most before after (Err x)
+  late_uncompared source told held first now old new before after (Archive e) tells p cause is = inr (lates source told held e tells p is.0)
+  late_uncompared source told held first now old new before after IndexEntryOverflow tells p cause is = tt
+  late_uncompared source told held first now old new before after MediumFault tells p cause is = tt
+  late_uncompared source told held first now old new before after OutOfMemory tells p cause is = tt
+  late_uncompared source told held first now old new before after x tells p cause is = absurd cause
+
   no_part : (source : Option (List ℕ)) (b : List ℕ) → AreOrdered 0 ps None → IfSome source (Planned c m most h es text ps) → ShowsNone opts h source ps b → ShowsNoPart source c m b
   no_part source b order p (inl hidden) = inl hidden
   no_part source b order p (inr a) = inr (is_extract source a.adds b a.rises (told_of source a.adds order p a.are) a.one)
@@ -151,6 +159,11 @@ module _ (c : Coord) (m most : ℕ) (h : Header) (es : List Entry) (text : List 
       late_leaves source told first now old new x order plan cause (subst (λ s. WritesParts opts h s ps told (Err x)) kept (subst (λ q. WritesParts q h again ps told (Err x)) same w))
       (subst (λ s. IfSome told (ShowsNone opts h s ps)) kept (subst (λ q. IfSome told (ShowsNone q h again ps)) same shown))
 
+  pub err_uncompared : (source again told held : Option (List ℕ)) (first now old new before after : ℕ) (o : Options) (x : ExtractError) → o ≡ opts → again ≡ source → is_some held ≡ is_some told → IfSome source (Planned c m most h es text ps)
+      → WriteCauses {A = ArchivePlaces} first now old new (Err x) → WritesParts o h again ps told (Err x) → LeavesUncompared source held c m most before after (Err x)
+  err_uncompared source again told held first now old new before after o x same kept tells plan cause w =
+      late_uncompared source told held first now old new before after x tells plan cause (subst (λ s. WritesParts opts h s ps told (Err x)) kept (subst (λ q. WritesParts q h again ps told (Err x)) same w))
+
 -- why a later refusal comes
 pub late_causes : (most first before now old new : ℕ) (x : ExtractError) → first ≤ before → WriteCauses {A = ArchivePlaces} before now old new (Err x) → IntoCauses most first now old new (Err x)
 late_causes most first before now old new (Archive (errors.Reading causes.Fault)) le c = omega (arith, le, c)
@@ -162,16 +175,10 @@ late_causes most first before now old new OutOfMemory le c = tt
 late_causes most first before now old new x le c = absurd c
 
 -- the medium is read only once the archive is begun
-pub late_uncompared : (first now old new before after : ℕ) (x : ExtractError) → WriteCauses {A = ArchivePlaces} first now old new (Err x) → LeavesUncompared before after (Err x)
-late_uncompared first now old new before after (Archive e) c = tt
-late_uncompared first now old new before after IndexEntryOverflow c = tt
-late_uncompared first now old new before after MediumFault c = tt
-late_uncompared first now old new before after OutOfMemory c = tt
-late_uncompared first now old new before after x c = absurd c
-
-pub unread_uncompared : (before after : ℕ) (r : Result ArchivePlaces ExtractError) → after ≡ before → LeavesUncompared before after r
-unread_uncompared before after (Ok p) same = tt
-unread_uncompared before after (Err (InvalidZoom tile asked)) same = same
-unread_uncompared before after (Err (MediumNotEmpty n)) same = same
-unread_uncompared before after (Err (TooManyTiles n)) same = same
-unread_uncompared before after (Err e) same = tt
+pub unread_uncompared : (source held : Option (List ℕ)) (c : Coord) (m most before after : ℕ) (r : Result ArchivePlaces ExtractError) → after ≡ before → LeavesUncompared source held c m most before after r
+unread_uncompared source held c m most before after (Ok p) same = tt
+unread_uncompared source held c m most before after (Err (InvalidZoom tile asked)) same = same
+unread_uncompared source held c m most before after (Err (MediumNotEmpty n)) same = same
+unread_uncompared source held c m most before after (Err (TooManyTiles n)) same = same
+unread_uncompared source held c m most before after (Err (Archive e)) same = inl same
+unread_uncompared source held c m most before after (Err e) same = tt

@@ -210,8 +210,9 @@ LeavesUnread before now (Err (MediumNotEmpty n)) = now ≡ before
 LeavesUnread before now result = Unit {0}
 
 -- a refusal of the zoom, of the medium or of the number of tiles comes before the medium is read
-abbrev pub LeavesUncompared : ℕ → ℕ → Result ArchivePlaces ExtractError → Type 0
-LeavesUncompared before now (Err (InvalidZoom tile asked)) = now ≡ before
-LeavesUncompared before now (Err (MediumNotEmpty n)) = now ≡ before
-LeavesUncompared before now (Err (TooManyTiles n)) = now ≡ before
-LeavesUncompared before now result = Unit {0}
+abbrev pub LeavesUncompared : Option (List ℕ) → Option (List ℕ) → Coord → ℕ → ℕ → ℕ → ℕ → Result ArchivePlaces ExtractError → Type 0
+LeavesUncompared source held c m most before now (Err (InvalidZoom tile asked)) = now ≡ before
+LeavesUncompared source held c m most before now (Err (MediumNotEmpty n)) = now ≡ before
+LeavesUncompared source held c m most before now (Err (TooManyTiles n)) = now ≡ before
+LeavesUncompared source held c m most before now (Err (Archive e)) = (now ≡ before) ⊎ IfSome source (λ b. IsLate held b c m most e)
+LeavesUncompared source held c m most before now result = Unit {0}

@@ -32,7 +32,7 @@ fn extract_into<B: Backend, M: Medium>(
     ensures faults { M.faults medium.old ≤ M.faults medium.new }
     ensures counted { M.reads medium.old ≤ M.reads medium.new }
     ensures compared { IfSome (B.told source.old) (λ b. M.reads medium.new ≤ M.reads medium.old + max_tiles) }
-    ensures uncompared { LeavesUncompared (M.reads medium.old) (M.reads medium.new) result }
+    ensures uncompared { LeavesUncompared (B.told source.old) (M.told medium.old) root max_zoom max_tiles (M.reads medium.old) (M.reads medium.new) result }
     ensures calm { M.steady medium.old → M.steady medium.new × (M.faults medium.new ≡ M.faults medium.old) }
 {
     let (reader, metadata) = match read_source(alloc, source) {
@@ -77,7 +77,7 @@ pub fn extract<B: Backend, M: Medium>(
     ensures faults { M.faults medium.old ≤ M.faults medium.new }
     ensures counted { M.reads medium.old ≤ M.reads medium.new }
     ensures compared { IfSome (B.told source.old) (λ b. M.reads medium.new ≤ M.reads medium.old + max_tiles) }
-    ensures uncompared { LeavesUncompared (M.reads medium.old) (M.reads medium.new) result }
+    ensures uncompared { LeavesUncompared (B.told source.old) (M.told medium.old) root max_zoom max_tiles (M.reads medium.old) (M.reads medium.new) result }
     ensures calm { M.steady medium.old → M.steady medium.new × (M.faults medium.new ≡ M.faults medium.old) }
 {
     match test_zoom(root, max_zoom) {

@@ -23,9 +23,9 @@ returns-in_err-add_raw_tile_by_id-clause-causes g c =
     let m = i.0 o c.requires.begun.1 in
     let u = c.in_err-add_raw_tile_by_id.ensures.causes o m.0 m.2 in
     let text : c.as_bytes.result.now ≡ decimal (number / c.args.repeat) = search rules in
-    let took = subst (λ bytes. Took told bytes u.0) text (took_as (λ takes. takes c.as_bytes.result.now u.0) before told (sym i.2) u.1) in
+    let took = subst (λ bytes. Took told bytes u.0) text (took_as (λ takes. takes c.as_bytes.result.now u.0) before told (sym i.2) u.1.0) in
     let fits = number_fits told o number c.args.repeat m.0 u.0 c.requires.begun.2 (omega (arith, c.loop-number-test.true, c.requires.tiles)) m.1 took in
-    add_refused _ (g.M.Backend.faults c.args.medium.now) (g.M.Backend.faults c.loop-number.medium) (g.M.Backend.faults c.add_raw_tile_by_id.new.medium) _ _ _ i.1
+    add_refused _ _ (g.M.Backend.faults c.args.medium.now) (g.M.Backend.faults c.loop-number.medium) (g.M.Backend.faults c.add_raw_tile_by_id.new.medium) _ _ _ i.1
     (subst (λ id. AddFits o m.0 id u.0) (sym c.in-Ok.ensures.value) fits) i.3 u.2 c.from_residual.ensures.1
 
 pub loop-number-preserved : goal.loop-number-preserved
@@ -43,7 +43,7 @@ loop-number-preserved g c =
           let a = c.in_ok-add_raw_tile_by_id.ensures.added o m.0 m.2 in (
             add_to m.0 id a.0,
             subst (λ adds. TookAll told adds (add_to m.0 id a.0)) next
-                (took_more told (numbered number c.args.repeat) m.0 id bytes a.0 m.1 (took_as (λ takes. takes bytes a.0) before told (sym i.2) a.1)),
+                (took_more told (numbered number c.args.repeat) m.0 id bytes a.0 m.1 (took_as (λ takes. takes bytes a.0) before told (sym i.2) a.1.0)),
             a.2,
           ),
       search rules,

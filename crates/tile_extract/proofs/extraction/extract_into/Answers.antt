@@ -2,7 +2,7 @@ use Rattle.std.proofs.Common.{◌∙◌, IfSome, Ok, Err, ap, sym, subst}
 use Rattle.pm_reader.specs.Opening.{header_of, root_of}
 use Rattle.tile_extract.specs.Cut.{options_from}
 use Rattle.tile_extract.specs.Written.{ShowsNone, WritesParts}
-use Rattle.tile_extract.proofs.DoneLemmas.{err_answers, err_leaves, ok_answers, ok_leaves}
+use Rattle.tile_extract.proofs.DoneLemmas.{err_answers, err_leaves, err_uncompared, ok_answers, ok_leaves}
 use Rattle.tile_extract.proofs.PlanLemmas.{collect_causes, early_leaves}
 use Rattle.tile_extract.proofs.PlanToldLemmas.{answered, planned, uncollected}
 use Rattle.tile_extract.proofs.extraction.extract_into.Goals as goal
@@ -75,3 +75,16 @@ returns-clause-leaves g c =
     (planned c.args.root c.args.max_zoom c.args.max_tiles c.in-Ok.read.0 c.in-Ok.read.1 items told (g.B.Backend.told c.read_source.new.source) c.read_source.ensures.kept.told c.in-Ok.ensures.answer c.in-Ok-collect.ensures.collected) c.in-Err-write_parts.ensures.causes
     (subst (λ l. WritesParts c.options_from-options.result h again l held (Err c.in-Err-write_parts.error)) c.deref.ensures.value c.in-Err-write_parts.ensures.written)
     (subst (λ l. IfSome held (ShowsNone c.options_from-options.result h again l)) c.deref.ensures.value c.in-Err-write_parts.ensures.shown)
+
+pub returns-clause-uncompared : goal.returns-clause-uncompared
+returns-clause-uncompared g c =
+    let told = g.B.Backend.told c.args.source.now in
+    let again = g.B.Backend.told c.collect.new.source in
+    let h = header_of c.in-Ok.read.0 in
+    let held = g.M.Backend.told c.write_parts.new.medium in
+    let items = c.in-Ok-collect.parts.items in
+    err_uncompared c.args.root c.args.max_zoom c.args.max_tiles h (root_of c.in-Ok.read.0) c.in-Ok.read.1 items told again held (g.M.Backend.told c.args.medium.now) _ _ _ _
+    (g.M.Backend.reads c.args.medium.now) (g.M.Backend.reads c.write_parts.new.medium) c.options_from-options.result c.in-Err-write_parts.error
+    (c.options_from-options.ensures ∙ ap (λ k. options_from k c.in-Ok.read.1 c.args.root c.args.max_zoom) c.get_header.ensures) (c.collect.ensures.kept.told ∙ c.read_source.ensures.kept.told) (sym c.write_parts.ensures.tells)
+    (planned c.args.root c.args.max_zoom c.args.max_tiles c.in-Ok.read.0 c.in-Ok.read.1 items told (g.B.Backend.told c.read_source.new.source) c.read_source.ensures.kept.told c.in-Ok.ensures.answer c.in-Ok-collect.ensures.collected) c.in-Err-write_parts.ensures.causes
+    (subst (λ l. WritesParts c.options_from-options.result h again l held (Err c.in-Err-write_parts.error)) c.deref.ensures.value c.in-Err-write_parts.ensures.written)

@@ -34,10 +34,10 @@ loop-id-preserved g c =
           let m = i.0 o done w in
           let a = e.added o m.0 m.2 in
           let u = e.causes o m.0 m.2 in
-          let fits = written_fits before after o c.add_raw_tile_by_id.new.self m.0 id bytes a.0 u.0 a.2 (e.failed ∙ i.2) a.1 u.1 u.2.2 in
+          let fits = written_fits before after o c.add_raw_tile_by_id.new.self m.0 id bytes a.0 u.0 a.2 (e.failed ∙ i.2) a.1.0 u.1.0 u.2.2 in
           let so = took_as (λ takes. PutsOn takes o bytes done (ids_of c.args.part) m.0 c.loop-id.id-iterator) before after e.tells m.1 in (
             add_to m.0 id a.0,
-            λ r is. so r (subst (λ ids. PutsAll (Took after) o bytes m.0 ids r) (sym c.in-Some.ensures.steps) (puts_next (Took after) o bytes a.0 m.0 id c.next.new.self r (took_as (λ takes. takes bytes a.0) before after e.tells a.1) fits is)),
+            λ r is. so r (subst (λ ids. PutsAll (Took after) o bytes m.0 ids r) (sym c.in-Some.ensures.steps) (puts_next (Took after) o bytes a.0 m.0 id c.next.new.self r (took_as (λ takes. takes bytes a.0) before after e.tells a.1.0) fits is)),
             a.2,
           ),
       e.writes,
@@ -59,14 +59,14 @@ returns-in-Err-clause-added g c = λ o done w.
     let so = took_as (λ takes. PutsOn takes o bytes done (ids_of c.args.part) m.0 c.loop-id.id-iterator) before after c.in-Err.ensures.tells m.1 in
     subst (λ x. Puts o bytes done (ids_of c.args.part) after c.add_raw_tile_by_id.new.self (Err x)) (sym c.of_writer.ensures)
     (add_refused o bytes u.0 done (ids_of c.args.part) m.0 c.in-Some.id c.next.new.self after c.add_raw_tile_by_id.new.self _ (g.M.Backend.faults c.loop-id.medium) (g.M.Backend.faults c.add_raw_tile_by_id.new.medium) c.in-Err.error
-    c.loop-id.invariant.2 (λ r is. so r (subst (λ ids. PutsAll (Took after) o bytes m.0 ids r) (sym c.in-Some.ensures.steps) is)) (took_as (λ takes. takes bytes u.0) before after c.in-Err.ensures.tells u.1) u.2)
+    c.loop-id.invariant.2 (λ r is. so r (subst (λ ids. PutsAll (Took after) o bytes m.0 ids r) (sym c.in-Some.ensures.steps) is)) (took_as (λ takes. takes bytes u.0) before after c.in-Err.ensures.tells u.1.0) u.2)
 
 pub returns-in-Err-clause-fault : goal.returns-in-Err-clause-fault
 returns-in-Err-clause-fault g c = λ is.
     let o = c.requires.writes.0 in
     let m = c.loop-id.invariant.0 o c.requires.writes.1 c.requires.writes.2 in
     let u = c.in-Err.ensures.causes o m.0 m.2 in
-    add_faulted _ _ (g.M.Backend.faults c.args.medium.now) (g.M.Backend.faults c.loop-id.medium) (g.M.Backend.faults c.add_raw_tile_by_id.new.medium) c.in-Err.error c.loop-id.invariant.2 c.loop-id.invariant.4 u.2
+    add_faulted _ _ _ (g.M.Backend.faults c.args.medium.now) (g.M.Backend.faults c.loop-id.medium) (g.M.Backend.faults c.add_raw_tile_by_id.new.medium) c.in-Err.error c.loop-id.invariant.2 c.loop-id.invariant.4 u.2
     (sym c.of_writer.ensures ∙ err_is c.of_writer.result _ is)
 
 pub returns-clause-added : goal.returns-clause-added

@@ -1,0 +1,119 @@
+// A medium that tells nothing: a range is read as it was set up, whatever was written.
+ghost use Rattle.std.specs.Prelude.{◌≡◌, ◌≤◌, ℕ, None};
+ghost use Rattle.byte_media.specs.Media.{ReadExactCauses};
+
+use pm_format::{Backend, BackendResponse, MemMedium, Medium, MediumFault, ReadFault, WriteFault};
+use std::alloc::Global;
+
+// What a range is read as.
+#[derive(Clone, Copy)]
+pub enum Mode {
+    // What was written there.
+    True,
+    // What was written last.
+    Last,
+    // Nothing: it lies past the end.
+    Past,
+    // A byte less.
+    Short,
+}
+
+#[derive(Drop)]
+pub struct Mute {
+    medium: MemMedium,
+    mode: Mode,
+    pub reads: u64,
+}
+
+// An answer of a byte less than was asked.
+fn short(asked: u64) -> Result<BackendResponse, ReadFault>
+    ensures { ReadExactCauses 0 0 asked result }
+{
+    match asked.checked_sub(1) {
+        None => Err(ReadFault::PastEnd),
+        Some(got) => Err(ReadFault::Short { asked, got }),
+    }
+}
+
+impl Mute {
+    pub fn new(alloc: Global, mode: Mode) -> Mute {
+        let medium = MemMedium::new(alloc);
+        Mute {
+            medium,
+            mode,
+            reads: 0,
+        }
+    }
+
+    // What is written in a range.
+    fn kept(
+        &mut self,
+        alloc: Global,
+        offset: u64,
+        length: u64,
+    ) -> Result<BackendResponse, ReadFault>
+        ensures answer { ReadExactCauses 0 0 length result }
+        ensures reads { self.new.reads ≡ self.old.reads }
+    {
+        match self.medium.read_exact(alloc, offset, length) {
+            Ok(response) => Ok(response),
+            Err(_) => Err(ReadFault::OutOfMemory),
+        }
+    }
+}
+
+impl Backend for Mute {
+    ghost told = { λ _. None };
+
+    ghost versions = { λ _. None };
+
+    ghost faults = { λ _. 0 };
+
+    ghost reads = { λ m. m.reads };
+
+    ghost steady = { λ _. ⊥ };
+
+    fn read(
+        &mut self,
+        _alloc: Global,
+        _offset: u64,
+        _length: u64,
+    ) -> Result<BackendResponse, ReadFault> {
+        self.reads = self.reads.saturating_add(1);
+        Err(ReadFault::OutOfMemory)
+    }
+
+    fn read_exact(
+        &mut self,
+        alloc: Global,
+        offset: u64,
+        length: u64,
+    ) -> Result<BackendResponse, ReadFault> {
+        self.reads = self.reads.saturating_add(1);
+        match self.mode {
+            Mode::True => self.kept(alloc, offset, length),
+            Mode::Last => {
+                let end = self.medium.as_bytes().len() as u64;
+                self.kept(alloc, end.saturating_sub(length), length)
+            }
+            Mode::Past => Err(ReadFault::PastEnd),
+            Mode::Short => short(length),
+        }
+    }
+}
+
+impl Medium for Mute {
+    fn len(&mut self) -> Result<u64, MediumFault> {
+        Ok(0)
+    }
+
+    fn write_at(&mut self, offset: u64, piece: &[u8]) -> Result<(), WriteFault> {
+        if offset > self.medium.as_bytes().len() as u64 {
+            return Err(WriteFault::OutOfMemory);
+        }
+        match self.medium.write_at(offset, piece) {
+            Ok(()) => Ok(()),
+            Err(_) => Err(WriteFault::OutOfMemory),
+        }
+    }
+}
