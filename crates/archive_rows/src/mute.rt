@@ -1,5 +1,5 @@
 // A medium that tells nothing: a range is read as it was set up, whatever was written.
-ghost use Rattle.std.specs.Prelude.{◌≡◌, ◌≤◌, ℕ, None};
+ghost use Rattle.std.specs.Prelude.{◌≡◌, None};
 ghost use Rattle.byte_media.specs.Media.{ReadExactCauses};
 
 use pm_format::{Backend, BackendResponse, MemMedium, Medium, MediumFault, ReadFault, WriteFault};

@@ -1,5 +1,5 @@
 -- Ranges of bytes that are laid one behind another.
-use Rattle.std.proofs.Common.{◌≡◌, ℕ, ◌+◌, ◌<◌, ◌^◌, inl, inr, List, [], ◌∷◌, ◌++◌, length, flat_map, Some, sym, ◌∙◌, ap, arith, append_assoc, length-append}
+use Rattle.std.proofs.Common.{◌≡◌, ℕ, ◌+◌, ◌<◌, ◌^◌, List, ◌++◌, length, flat_map, Some, ◌∙◌, ap, arith, append_assoc, length-append}
 use Rattle.pm_contents.specs.Places.{place_in}
 use Rattle.pm_contents.proofs.PlaceLemmas.{Has, content_between}
 use Rattle.pm_format.specs.LookUp.{range_of}

@@ -1,7 +1,6 @@
 -- The contents and entries of a list of adds, each an id and bytes.
-use Rattle.std.specs.Prelude.{◌≡◌, ℕ, zero, suc, ◌+◌, ◌-◌, ◌/◌, List, [], ◌∷◌, ◌++◌, length, flat_map, nat_le, nat_eq, ◌&&◌, if◌then◌else◌, refl}
+use Rattle.std.specs.Prelude.{◌≡◌, ℕ, zero, suc, ◌+◌, ◌-◌, ◌/◌, List, [], ◌∷◌, length, flat_map, nat_le, nat_eq, ◌&&◌, if◌then◌else◌, refl}
 use Rattle.std.specs.Str.{bytes_eq}
-use Rattle.std.specs.List.{list_any}
 use Rattle.pm_contents.specs.Places.{place_in, put_new}
 use Rattle.pm_format.specs.Directory.{Entry, entry}
 

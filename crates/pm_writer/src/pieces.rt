@@ -1,6 +1,5 @@
 // Pieces that are written to a medium, and the order in which an archive is finished.
 ghost use Rattle.std.specs.Prelude.{◌≡◌, ◌≤◌, ◌<◌, ◌+◌, ◌^◌, length, IfSome, OnOk, IsErrOf, is_some};
-ghost use Rattle.pm_format.specs.Header.{header_bytes};
 ghost use Rattle.byte_media.specs.Media.{EndsBelow, IsWithin, written};
 ghost use Rattle.pm_writer.specs.Pieces.{IsHiddenOr, IsOpenTo, PutCauses, finished};
 ghost use Rattle.pm_contents.specs.Pieces.{BothTold, WroteFront};

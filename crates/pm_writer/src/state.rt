@@ -1,5 +1,5 @@
 // The state of a writer: all that it owns, beside the medium that it borrows.
-ghost use Rattle.std.specs.Prelude.{◌≡◌, ◌≢◌, ◌≤◌, ◌<◌, ◌+◌, ◌^◌, ℕ, List, [], ◌∷◌, ◌++◌, Option, false, length, IfSome, IfOk, OnOk, OnErr, is_some};
+ghost use Rattle.std.specs.Prelude.{◌≡◌, ◌≢◌, ◌≤◌, ◌<◌, ◌+◌, ℕ, List, [], Option, false, IfSome, IfOk, OnOk, is_some};
 ghost use Rattle.pm_format.specs.declared.compression.Compression.TheVariants as compression;
 ghost use Rattle.pm_format.specs.Options.{Options};
 ghost use Rattle.pm_writer.specs.Causes.{CreateCauses};

@@ -1,5 +1,5 @@
 -- What a base holds after its patches.
-use Rattle.std.proofs.Common.{◌≡◌, ◌∙◌, ap, sym, subst, refl, arith, ℕ, suc, nat_eq, length, Bool, true, false, cond, ◌&&◌, ◌||◌, not, List, [], ◌∷◌, filter, map, Option, Some, None, Result, Ok, Err, IfSome, ◌⊎◌, inl, inr, is_some}
+use Rattle.std.proofs.Common.{◌≡◌, ◌∙◌, ap, sym, subst, refl, arith, ℕ, suc, nat_eq, length, Bool, true, false, cond, ◌&&◌, ◌||◌, not, List, [], ◌∷◌, filter, map, Option, Some, None, Result, Ok, Err, IfSome, inr, is_some}
 use Rattle.std.proofs.lemmas.Bool.Decides.{nat_tests}
 use Rattle.std.proofs.lemmas.List.Folds.{list_all-map}
 use Rattle.std.specs.Prelude.{option_and_then}
@@ -13,7 +13,7 @@ use Rattle.mb_load.proofs.CommittedLemmas.{is_committed}
 use Rattle.mb_load.specs.Committed.{IsCommitted}
 use Rattle.mb_load.specs.Held.{Held, fresh}
 use Rattle.mb_load.specs.LoadedFrom.{IsLoadedFrom, NamesAlgorithm}
-use Rattle.mb_load.specs.State.{State, state_of}
+use Rattle.mb_load.specs.State.{State}
 use Rattle.mb_store.specs.Store.{IsSound}
 use Rattle.mb_tables.specs.Kind.{tile_table}
 use Rattle.mb_tables.specs.Table.{Tables}

@@ -1,5 +1,5 @@
 -- The rows of the places that patches have.
-use Rattle.std.proofs.Common.{◌≡◌, ◌∙◌, ap, sym, subst, refl, ℕ, Bool, true, false, ◌||◌, List, [], ◌∷◌, ◌++◌, map, Option, Some, None, Result, Ok, Err, ◌⊎◌, inl, inr, is_some}
+use Rattle.std.proofs.Common.{◌≡◌, ◌∙◌, ap, sym, subst, refl, ℕ, Bool, true, false, ◌||◌, List, [], ◌∷◌, ◌++◌, map, Option, Some, None, Ok, ◌⊎◌, inl, inr, is_some}
 use Rattle.std.proofs.lemmas.Bool.{false≢true}
 use Rattle.std.specs.Prelude.{option_map, option_to_list}
 use Rattle.std.specs.List.{list_any}
@@ -22,7 +22,6 @@ use Rattle.mb_lists.specs.declared.dates.Dates.{Dates}
 use Rattle.mb_tables.specs.Table.{Tables}
 use Rattle.mb_tables.specs.Tiles.{Place}
 use Rattle.mb_tables.specs.declared.cell.Cell.{Cell}
-use Rattle.mb_tables.specs.declared.error.MbtError.{MbtError}
 use Rattle.mb_tables.specs.declared.kind.MbtType.{MbtType}
 use Rattle.tile_bridge.specs.Patching.{AreStatesOf, all_held, has_place, is_patched_at, rows_put}
 use Rattle.tile_hash.specs.declared.algorithm.HashAlgorithm.{HashAlgorithm}

@@ -1,14 +1,14 @@
 -- What is due of a base and its patches.
-use Rattle.std.proofs.Common.{◌≡◌, ◌∙◌, ap, sym, subst, refl, ℕ, Bool, true, false, cond, ◌&&◌, List, map, Option, Some, None, Result, Ok, Err, IfErr, IfSome, IsErrAnd}
+use Rattle.std.proofs.Common.{◌≡◌, ◌∙◌, ap, sym, subst, refl, Bool, true, false, cond, ◌&&◌, List, map, Option, Some, None, Result, Ok, Err, IfErr, IfSome, IsErrAnd}
 use Rattle.std.proofs.lemmas.List.Folds.{list_all-map}
 use Rattle.std.specs.List.{list_all}
-use Rattle.mb_load.specs.Held.{Held, fresh, nothing_edited}
+use Rattle.mb_load.specs.Held.{Held, nothing_edited}
 use Rattle.mb_load.specs.LoadedFrom.{IsLoadedFrom, NamesAlgorithm}
 use Rattle.mb_load.specs.State.{State, state_of}
 use Rattle.mb_tables.specs.Table.{Tables}
 use Rattle.tile_bridge.specs.Outcome.{all_patched, at_place, due, outcome, tested, then}
 use Rattle.tile_bridge.specs.Patching.{AreStatesOf, IsHeldFrom, all_held}
-use Rattle.tile_bridge.specs.Stores.{IsDue, IsRefused, Refuses, due_patches}
+use Rattle.tile_bridge.specs.Stores.{IsDue, Refuses, due_patches}
 use Rattle.tile_bridge.specs.declared.error.ConvertError.{ConvertError}
 use Rattle.tile_bridge.specs.declared.options.ConvertOptions.{ConvertOptions}
 use Rattle.tile_bridge.proofs.FoldLemmas.{refuses_on}

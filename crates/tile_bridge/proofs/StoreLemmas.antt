@@ -1,5 +1,5 @@
 -- What is due of a store.
-use Rattle.std.proofs.Common.{◌≡◌, ℕ, Bool, true, false, Option, Some, None, Result, Ok, Err, refl, sym, subst, ◌∙◌, ap}
+use Rattle.std.proofs.Common.{◌≡◌, ℕ, Bool, true, false, Ok, Err, refl, sym, subst, ◌∙◌, ap}
 use Rattle.mb_edit.specs.Step.{step}
 use Rattle.mb_lists.specs.Refusals.{is_free}
 use Rattle.mb_load.specs.State.{State, state_of}

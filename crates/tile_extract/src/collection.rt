@@ -1,5 +1,5 @@
 // The parts of one subtree, and what its archive says beside its tiles.
-ghost use Rattle.std.specs.Prelude.{◌≡◌, ◌≤◌, ◌+◌, [], true, None, IfSome, IfOk, IfErr, is_some};
+ghost use Rattle.std.specs.Prelude.{◌≡◌, ◌≤◌, ◌+◌, true, None, IfSome, IfOk, IfErr, is_some};
 ghost use Rattle.pm_reader.specs.Opening.{header_of, root_of};
 ghost use Rattle.pm_reader.specs.Reads.{ReadsOnly};
 ghost use Rattle.tile_extract.specs.Collecting.{AreOrdered};

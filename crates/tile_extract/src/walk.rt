@@ -1,5 +1,5 @@
 // The walk along the directories that an interval meets, each read once.
-ghost use Rattle.std.specs.Prelude.{◌≡◌, ◌≢◌, ◌+◌, ◌≤◌, true, List, length, IfSome, IfOk, OnOk, Some};
+ghost use Rattle.std.specs.Prelude.{◌≡◌, ◌+◌, ◌≤◌, true, length, IfSome, IfOk, OnOk, Some};
 ghost use Rattle.pm_format.specs.Directory.{Entry};
 ghost use Rattle.pm_reader.specs.Answers.{LookUpCauses};
 ghost use Rattle.pm_reader.specs.Opening.{header_of};

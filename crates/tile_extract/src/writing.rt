@@ -6,7 +6,6 @@ ghost use Rattle.pm_format.specs.Options.{Options};
 ghost use Rattle.pm_format.specs.declared.compression.Compression.TheVariants as compression;
 ghost use Rattle.pm_reader.specs.Opening.{header_of};
 ghost use Rattle.pm_reader.specs.Reads.{ReadsOnly};
-ghost use Rattle.pm_writer.specs.Pieces.{IsHidden};
 ghost use Rattle.pm_writer.specs.Writing.{Writes, has_failed};
 ghost use Rattle.tile_extract.specs.Collecting.{AreOrdered};
 ghost use Rattle.tile_extract.specs.Parts.{tile_count};

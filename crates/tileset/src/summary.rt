@@ -1,5 +1,5 @@
 // The lines of a report before the bytes: the answers, the aggregate and the numbers.
-ghost use Rattle.std.specs.Prelude.{◌≡◌, ◌++◌, ◌<◌, length, slice_get, Some, IfOk, OnOk, string_bytes};
+ghost use Rattle.std.specs.Prelude.{◌≡◌, ◌++◌, ◌<◌, length, Some, IfOk, OnOk, string_bytes};
 ghost use Rattle.tileset.specs.Report.{number_lines, query_line, tile_text};
 ghost use Rattle.tileset.specs.Summary.{answer_lines, summary};
 

@@ -1,6 +1,6 @@
 // Runs over objects in memory.
 ghost use Rattle.std.specs.Prelude.{◌≡◌, ◌⊎◌, Some, []};
-ghost use Rattle.tileset.specs.Run.{Given, IsValid};
+ghost use Rattle.tileset.specs.Run.{IsValid};
 ghost use Rattle.tileset_script.specs.Script.{Script};
 
 use crate::answers::{say, say_bytes, say_outcome};

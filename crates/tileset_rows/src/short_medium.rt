@@ -1,5 +1,5 @@
 // A medium that keeps nothing of what is written, and tells nothing. It opens as the front of another one, and ranges are read one byte short.
-ghost use Rattle.std.specs.Prelude.{◌≤◌, ◌≡◌, ℕ, None};
+ghost use Rattle.std.specs.Prelude.{None};
 
 use bytes::Bytes;
 use pm_format::{Backend, BackendResponse, Medium, MediumFault, ReadFault, WriteFault};

@@ -1,5 +1,5 @@
 // A source that gives one byte at a time, and a sink that takes one. They tell nothing.
-ghost use Rattle.std.specs.Prelude.{◌≤◌, ◌≡◌, ℕ, None, vec_len};
+ghost use Rattle.std.specs.Prelude.{◌≤◌, None, vec_len};
 
 use std::alloc::Global;
 use tileset::{Sink, SinkFault, Source, SourceFault};

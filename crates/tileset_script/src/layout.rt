@@ -1,5 +1,5 @@
 // The layouts that a script names.
-ghost use Rattle.std.specs.Prelude.{◌≡◌, [], ◌∷◌, ◌++◌, IfOk, OnOk, codes};
+ghost use Rattle.std.specs.Prelude.{◌≡◌, [], ◌∷◌, ◌++◌, IfOk, OnOk};
 ghost use Rattle.mb_tables.specs.Described.{is_table};
 ghost use Rattle.mb_tables.specs.Columns.{patch_columns};
 ghost use Rattle.mb_tables.specs.Schema.{column_of, set_tables, table_of};

@@ -1,5 +1,5 @@
 // What one line of a script says.
-ghost use Rattle.std.specs.Prelude.{◌≡◌, ◌≤◌, ◌-◌, ◌++◌, length, IfOk, IfSome};
+ghost use Rattle.std.specs.Prelude.{◌≡◌, ◌-◌, length, IfOk, IfSome};
 ghost use Rattle.mb_tables.specs.Table.{width};
 ghost use Rattle.line_words.specs.Parting.{words_of};
 ghost use Rattle.tileset_script.specs.Reading.{IsWide};

@@ -1,5 +1,5 @@
 // Scripts, a line at a time.
-ghost use Rattle.std.specs.Prelude.{◌≡◌, ◌<◌, ◌^◌, length, IfOk, OnOk};
+ghost use Rattle.std.specs.Prelude.{◌<◌, ◌^◌, length, IfOk, OnOk};
 ghost use Rattle.std.specs.Option.{option_and_then};
 ghost use Rattle.tileset_script.specs.Reading.{ScriptNeverFails, DraftNeverFails, Reads, Takes, drafted};
 ghost use Rattle.tileset_script.specs.Script.{line_of, with_line};

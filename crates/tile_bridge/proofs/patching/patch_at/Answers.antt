@@ -1,9 +1,3 @@
-use Rattle.std.proofs.Common.{◌≡◌, subst, sym}
-use Rattle.mb_edit.specs.HeldPatched.{held_patched}
-use Rattle.mb_edit.proofs.ApplyLemmas.{named_after}
-use Rattle.mb_edit.proofs.LoadedLemmas.{patched_loaded}
-use Rattle.mb_load.specs.Held.{Held}
-use Rattle.mb_load.specs.LoadedFrom.{IsLoadedFrom, NamesAlgorithm}
 use Rattle.tile_bridge.proofs.StoreLemmas.{patch_refused}
 use Rattle.tile_bridge.proofs.patching.patch_at.Goals as goal
 

@@ -1,4 +1,4 @@
-use Rattle.std.proofs.Common.{◌≡◌, ◌≢◌, ℕ, List, length, Option, None, Some, IfSome, OnOk, sym, ◌∙◌, ap, subst}
+use Rattle.std.proofs.Common.{◌≡◌, ◌≢◌, length, Option, Some, IfSome, OnOk, sym, ◌∙◌, ap, subst}
 use Rattle.std.proofs.lemmas.Result.{IfOk-weaker}
 use Rattle.pm_contents.specs.Contents.{Finds, Holds, first_of}
 use Rattle.pm_contents.specs.Places.{IsNew, found_in, put_new}

@@ -1,4 +1,4 @@
-use Rattle.std.proofs.Common.{◌≡◌, ◌+◌, None, Some, refl, arith, rules}
+use Rattle.std.proofs.Common.{◌≡◌, ◌+◌, None, Some, arith, rules}
 use Rattle.std.specs.BTreeMap.{get}
 use Rattle.byte_media.specs.Media.{IsWithin}
 use Rattle.pm_contents.specs.Contents.{content_cmp, first_of}

@@ -1,4 +1,4 @@
-use Rattle.std.proofs.Common.{false, ℕ, List, ◌≡◌, ◌<◌, ◌^◌, length, sym, ap, rules, subst}
+use Rattle.std.proofs.Common.{false, ℕ, List, ◌≡◌, ◌<◌, ◌^◌, length, ap, rules, subst}
 use Rattle.std.proofs.lemmas.Result.{on_ok_weaker}
 use Rattle.pm_format.specs.declared.compression.Compression.TheVariants as compression
 use Rattle.pm_writer.specs.Causes.{AddCauses}
