@@ -50,7 +50,14 @@ pub fn answer(alloc: Global, out: &mut String, words: &mut Words) -> Option<()> 
     let digest = number::<u64>(words)?;
     for _turn in 0..number::<u32>(words)? {
         let content = bytes(alloc, words)?;
-        put(alloc, out, &mut contents, &mut medium, digest, content.as_slice())?;
+        put(
+            alloc,
+            out,
+            &mut contents,
+            &mut medium,
+            digest,
+            content.as_slice(),
+        )?;
     }
     let (count, total, reads) = (contents.count(), contents.total(), medium.reads);
     write!(out, "{count} {total} {reads} ").ok()

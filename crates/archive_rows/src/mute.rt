@@ -2,7 +2,7 @@
 ghost use Rattle.std.specs.Prelude.{◌≡◌, None};
 ghost use Rattle.byte_media.specs.Media.{ReadExactCauses};
 
-use pm_format::{Backend, BackendResponse, MemMedium, Medium, MediumFault, ReadFault, WriteFault};
+use pm_format::{Backend, BackendResponse, Medium, MediumFault, MemMedium, ReadFault, WriteFault};
 use std::alloc::Global;
 
 // What a range is read as.
