@@ -19,8 +19,9 @@ use std::alloc::{AllocError, Global};
 use std::collections::btree_map::Entry;
 use std::collections::{BTreeMap, HashMap};
 
-/// The different contents, which lie on a medium one behind another in order of first add. The first content of each digest is found by it, and compared by reading it back. Others of its digest are found in an ordered map, so that among contents that were picked to share a digest one is found by as many comparisons as the logarithm of
-/// their number. Which digest it is is the caller's: contracts call it `name`.
+/// The different contents, which lie on a medium one behind another in order of first add. The first content of each digest is found by it, and compared by reading it back. Others of its
+/// digest are found in an ordered map, so that among contents that were picked to share a digest one is found by as many comparisons as the logarithm of their number. The caller says what
+/// the digests are: in contracts they come from a function, `name`.
 #[derive(Drop)]
 pub struct Contents {
     firsts: HashMap<u64, Span>,
@@ -55,7 +56,7 @@ impl Contents {
         self.firsts.len() as u64 + self.others.len() as u64
     }
 
-    /// What bytes are found as, that have this digest. The first content of it is read back from the medium, on which the contents lie from a place on, where it has as many bytes; a
+    /// What bytes of this digest are found as. The first content of the digest, where it has as many bytes, is read back from the medium, on which the contents lie from a place on; a
     /// range that the medium doesn't have is another content.
     pub fn seek<M: Medium>(
         &self,

@@ -129,11 +129,11 @@ impl WriterState {
 
     /// Adds the bytes of the tile with this id as they are; empty data is no tile and changes nothing.
     ///
-    /// The data is compared with contents that the medium answers, by one read at most. A medium that tells its bytes answers what was written, and the data is taken for itself; one that doesn't may
-    /// answer other bytes, and the data is then taken for some data of the same length.
+    /// The data is compared with a content of its digest and length that the medium answers, where there is one, by one read. A medium that tells its bytes answers what was written, and the data is
+    /// taken for itself; one that doesn't may answer other bytes, and the data is then taken for the data of that content, or for a new content that no data is equal to.
     ///
     /// `Failed` comes exactly after an earlier fault of the medium in this writer, and `IndexEntryOverflow` only where what the data is taken for has 2^32 bytes or more, or its end would pass u64; then the answer
-    /// is never Ok. `Reading(Fault)`, only where the medium's count of faults rose, and `OutOfMemory` may come in the place of the last one.
+    /// is never Ok. `Reading(Fault)`, only where the medium's count of faults rose, and `OutOfMemory` may come in the place of the last one, for data of fewer than 2^32 bytes.
     /// After each of them the writer and its medium mean what they did, and no part of an archive is shown.
     pub fn add_raw_tile_by_id<M: Medium>(
         &mut self,
