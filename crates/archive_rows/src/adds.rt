@@ -4,9 +4,9 @@ ghost use Rattle.pm_format.specs.Options.{Options};
 ghost use Rattle.pm_writer.specs.Stream.{IsTied};
 ghost use Rattle.pm_writer.specs.Writing.{Writes};
 
-use crate::words::{Words, bytes, number, say};
 use pm_format::{Backend, MemMedium, PmtResult};
 use pm_writer::{PmTilesStreamWriter, WriterState};
+use rows_shared::{Words, bytes, number, say};
 use std::alloc::Global;
 use tile_ids::{TileCoord, TileId};
 

@@ -3,10 +3,9 @@ ghost use Rattle.std.specs.Prelude.{◌≡◌, ◌≤◌, ◌<◌, ℕ, List, If
 ghost use Rattle.pm_format.specs.Options.{Options};
 ghost use Rattle.pm_writer.specs.Stream.{IsTied};
 
-use crate::counted::Counted;
-use crate::words::{Words, number, say};
 use pm_format::{Backend, MemMedium, PmtResult, TileType};
 use pm_writer::{ArchivePlaces, PmTilesStreamWriter, PmTilesWriter};
+use rows_shared::{Counted, Words, number, say};
 use std::alloc::Global;
 use tile_ids::{TileCoord, TileId};
 

@@ -1,8 +1,8 @@
 // Calls of caches of directories, which are kept.
 use crate::reading::id;
-use crate::words::{Words, bytes, number, say};
 use pm_format::Directory;
 use pm_reader::{DirCacheResult, DirectoryCache, HashMapCache, LruDirCache, NoCache};
+use rows_shared::{Words, bytes, number, say};
 use std::alloc::Global;
 
 fn insert<C: DirectoryCache>(

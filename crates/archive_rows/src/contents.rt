@@ -3,8 +3,8 @@ ghost use Rattle.std.specs.Prelude.{ℕ, List};
 ghost use Rattle.pm_contents.specs.Contents.{Holds};
 
 use crate::mute::{Mode, Mute};
-use crate::words::{Words, bytes, number};
 use pm_contents::Contents;
+use rows_shared::{Words, bytes, number};
 use std::alloc::Global;
 use std::fmt::Write;
 

@@ -1,8 +1,8 @@
 // What is kept from line to line.
-use crate::counted::Counted;
 use pm_format::{MemMedium, TileType};
 use pm_reader::{HashMapCache, LruDirCache};
 use pm_writer::PmTilesWriter;
+use rows_shared::Counted;
 use std::alloc::Global;
 
 #[derive(Drop)]

@@ -5,7 +5,6 @@ mod adds;
 mod bulk;
 mod caches;
 mod contents;
-mod counted;
 mod kept;
 mod media;
 mod mute;
@@ -15,14 +14,12 @@ mod states;
 mod sweep;
 mod verifying;
 mod viewing;
-mod words;
 mod writing;
 
-use counted::Counted;
 use kept::Kept;
+use rows_shared::{Counted, Words};
 use std::alloc::Global;
 use std::io;
-use words::Words;
 
 // The same for a call that reads what is held.
 fn answer_held(

@@ -1,7 +1,7 @@
 // The options of a writer.
-use crate::words::{Words, number, owned, say};
 use pm_format::{Compression, TileType};
 use pm_writer::PmTilesWriter;
+use rows_shared::{Words, number, owned, say};
 use std::alloc::Global;
 use std::mem;
 

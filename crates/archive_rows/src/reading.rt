@@ -2,12 +2,11 @@
 ghost use Rattle.std.specs.Prelude.{◌≡◌, ℕ, None};
 ghost use Rattle.pm_reader.specs.Tied.{IsTied};
 
-use crate::counted::Counted;
 use crate::sweep::{say_tile, sweep_tiles, tiles};
-use crate::words::{Words, number, owned, say, say_bytes};
 use bytes::Bytes;
 use pm_format::{Backend, BytesBackend, Directory, PmtResult};
 use pm_reader::{DirectoryCache, HashMapCache, LruDirCache, NoCache, PmTilesReader, ReaderState};
+use rows_shared::{Counted, Words, number, owned, say, say_bytes};
 use std::alloc::Global;
 use tile_ids::{TextVal, TileId};
 

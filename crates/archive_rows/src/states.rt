@@ -1,12 +1,11 @@
 // Calls of the state of a reader, beside its backend.
 ghost use Rattle.pm_reader.specs.Opening.{IsOpen};
 
-use crate::counted::Counted;
 use crate::reading::{id, say_contents, say_directory, sources};
 use crate::sweep::say_tile;
-use crate::words::{Words, number, say, say_bytes};
 use pm_format::Backend;
 use pm_reader::ReaderState;
+use rows_shared::{Counted, Words, number, say, say_bytes};
 use std::alloc::Global;
 
 fn walk<B: Backend>(

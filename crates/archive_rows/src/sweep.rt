@@ -2,10 +2,10 @@
 ghost use Rattle.std.specs.Prelude.{◌≡◌};
 ghost use Rattle.pm_reader.specs.Tied.{IsTied};
 
-use crate::words::{Words, say, say_bytes};
 use bytes::Bytes;
 use pm_format::{Backend, PmtResult};
 use pm_reader::{DirectoryCache, PmTilesReader};
+use rows_shared::{Words, say, say_bytes};
 use std::alloc::Global;
 use tile_hash::{HashAlgorithm, HashStream};
 use tile_ids::TileId;

@@ -1,7 +1,6 @@
 // The check of the whole archive that is held.
-use crate::counted::Counted;
-use crate::words::{Words, number, say, texts};
 use pm_format::MemMedium;
+use rows_shared::{Counted, Words, number, say, texts};
 use std::alloc::Global;
 use tile_hash::{HashAlgorithm, HashStream};
 use tile_ids::TextVal;

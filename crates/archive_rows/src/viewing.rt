@@ -1,7 +1,7 @@
 // Calls of a view of the bytes that are held. Each slice that is printed has outlived its view.
-use crate::words::{Words, say, say_bytes};
 use pm_format::PmtResult;
 use pm_reader::ArchiveView;
+use rows_shared::{Words, say, say_bytes};
 use std::alloc::Global;
 use tile_ids::TileId;
 

@@ -1,10 +1,9 @@
 // Whole archives: the call of the medium that fails, 0 for none, and then how many adds and the adds themselves.
 use crate::adds::{all_stated, all_streamed};
-use crate::counted::Counted;
 use crate::kept::Kept;
-use crate::words::{Words, number, say};
 use pm_format::MemMedium;
 use pm_writer::{PmTilesStreamWriter, PmTilesWriter};
+use rows_shared::{Counted, Words, number, say};
 use std::alloc::Global;
 
 fn failing(alloc: Global, call: u64) -> Option<Vec<u64>> {

@@ -1,7 +1,7 @@
 // Extractions from what is held.
-use crate::counted::Counted;
 use crate::kept::Kept;
-use crate::words::{Words, number, rest_of, say};
+use crate::words::rest_of;
+use rows_shared::{Counted, Words, number, say};
 use std::alloc::Global;
 use tile_extract::{extract, extract_status, run_extract};
 use tile_ids::TileCoord;

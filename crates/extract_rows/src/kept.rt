@@ -1,7 +1,6 @@
 // What is kept from line to line.
-use crate::counted::Counted;
-use crate::words::{Words, number};
 use pm_format::MemMedium;
+use rows_shared::{Counted, Words, number};
 use std::alloc::Global;
 
 // The bytes of the source, those that each medium has at first, and the medium of the last extraction.

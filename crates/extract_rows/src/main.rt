@@ -1,16 +1,15 @@
 //! Reads calls of tile_extract from standard input, one a line, and prints each line with its answer.
 #![tactic(auto)]
 
-mod counted;
 mod extracting;
 mod kept;
 mod words;
 
 use kept::Kept;
+use rows_shared::{Words, bytes, number, say, say_bytes};
 use std::alloc::Global;
 use std::io;
 use tile_hash::md5_text;
-use words::{Words, bytes, number, say, say_bytes};
 
 // How many bytes the last medium holds, and their MD5 digest.
 fn digest(alloc: Global, out: &mut String, held: &[u8]) -> Option<()> {

@@ -1,9 +1,9 @@
 // Calls of backends over bytes and over a file.
 use crate::files;
 use crate::media::{Kept, exact, read, say_response};
-use crate::words::{Words, bytes, owned, say};
 use bytes::Bytes;
 use pm_format::{Backend, BackendResponse, BytesBackend, FileBackend};
+use rows_shared::{Words, bytes, owned, say};
 use std::alloc::Global;
 
 fn hold(alloc: Global, backend: &mut BytesBackend, words: &mut Words) -> Option<()> {

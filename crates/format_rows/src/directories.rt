@@ -2,8 +2,8 @@
 ghost use Rattle.std.specs.Prelude.{◌≡◌, ◌↔◌, ◌+◌, ◌<◌, ◌≤◌, All, IsTrue, length};
 ghost use Rattle.pm_format.specs.Directory.{IsPlaced};
 
-use crate::words::{Words, bytes, number, say, say_bytes};
 use pm_format::{DirEntry, Directory, Steps};
+use rows_shared::{Words, bytes, number, say, say_bytes};
 use std::alloc::Global;
 use std::marker::Brand;
 use std::sync::ledger::{Blank, Ledger};

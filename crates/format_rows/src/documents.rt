@@ -1,7 +1,7 @@
 // Calls of tile_json.
 use crate::fields;
-use crate::words::{Words, owned, say, text, texts};
 use pm_format::{Compression, Header, TileType};
+use rows_shared::{Words, owned, say, text, texts};
 use serde_json::Value;
 use std::alloc::Global;
 use tile_ids::TextList;

@@ -1,5 +1,5 @@
 // Maps from texts: the name that is sought, and then names with their values.
-use crate::words::{Words, owned, say, text};
+use rows_shared::{Words, owned, say, text};
 use serde_json::Value;
 use std::alloc::Global;
 use std::fmt::Debug;

@@ -1,7 +1,7 @@
 // Calls of a medium over a file.
 use crate::media::{exact, len, read};
-use crate::words::{Words, bytes, number, say};
 use pm_format::{FileMedium, Medium};
+use rows_shared::{Words, bytes, number, say};
 use std::alloc::Global;
 
 fn open(

@@ -1,5 +1,5 @@
 // Calls of tile_hash.
-use crate::words::{Words, bytes, say, say_bytes, say_text, text};
+use rows_shared::{Words, bytes, say, say_bytes, say_text, text};
 use std::alloc::Global;
 use tile_hash::{HashAlgorithm, HashStream, fnv1a, md5_text, xxh3_64, xxh64};
 

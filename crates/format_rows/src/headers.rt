@@ -1,6 +1,6 @@
 // Calls of the headers of pm_format.
-use crate::words::{Words, bytes, number, say, say_bytes, texts};
 use pm_format::{Compression, Header, TileType};
+use rows_shared::{Words, bytes, number, say, say_bytes, texts};
 use std::alloc::Global;
 
 fn given(alloc: Global, words: &mut Words) -> Option<Header> {

@@ -1,5 +1,5 @@
 // Calls of tile_ids.
-use crate::words::{Words, bytes, number, owned, say, say_bytes, say_text};
+use rows_shared::{Words, bytes, number, owned, say, say_bytes, say_text};
 use std::alloc::Global;
 use tile_ids::{
     BlobVal, MAX_TILE_ID, MAX_ZOOM, PYRAMID_SIZE_BY_ZOOM, TileCoord, TileId, invert_y_value,

@@ -1,9 +1,9 @@
 // Labels, types and errors of pm_format, and their texts.
-use crate::words::{Words, bytes, number, say, say_text};
 use pm_format::{
     Compression, Directory, Header, MediumFault, PmtError, ReadCause, ReadFault, TileType,
     WriteFault,
 };
+use rows_shared::{Words, bytes, number, say, say_text};
 use std::alloc::Global;
 use tile_ids::{OutOfMemory, TileCoord, TileId};
 

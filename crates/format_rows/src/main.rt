@@ -12,12 +12,11 @@ mod ids;
 mod labels;
 mod media;
 mod varints;
-mod words;
 
 use media::Kept;
+use rows_shared::Words;
 use std::alloc::Global;
 use std::io;
-use words::Words;
 
 // Appends the answer of a call, or fails where no handler takes the line.
 fn answer(

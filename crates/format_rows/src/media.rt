@@ -1,9 +1,9 @@
 // Calls of a medium in memory.
-use crate::words::{Words, bytes, number, say, say_bytes, texts};
 use bytes::Bytes;
 use pm_format::{
     Backend, BackendResponse, BytesBackend, FileBackend, FileMedium, Medium, MemMedium, ReadFault,
 };
+use rows_shared::{Words, bytes, number, say, say_bytes, texts};
 use std::alloc::Global;
 
 // What is kept from line to line.

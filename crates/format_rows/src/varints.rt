@@ -1,6 +1,6 @@
 // Calls of the varints of pm_format.
-use crate::words::{Words, bytes, number, say, say_bytes};
 use pm_format::{read_varint_u32, read_varint_u64, write_varint};
+use rows_shared::{Words, bytes, number, say, say_bytes};
 use std::alloc::Global;
 
 fn write(alloc: Global, out: &mut String, words: &mut Words) -> Option<()> {

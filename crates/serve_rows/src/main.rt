@@ -1,16 +1,15 @@
 //! Reads calls of tile_serve from standard input, one a line, and prints each line with its answer.
 #![tactic(auto)]
 
-mod counted;
 mod running;
 mod serving;
 mod words;
 
-use counted::Counted;
 use pm_format::MemMedium;
+use rows_shared::{Counted, Words, bytes, say, texts};
 use std::alloc::Global;
 use std::io;
-use words::{Words, bytes, numbers, say, texts};
+use words::numbers;
 
 // Appends the answer of a call, or fails where no handler takes the line.
 fn answer(alloc: Global, out: &mut String, backend: &mut Counted, line: &str) -> Option<()> {

@@ -1,7 +1,7 @@
 // Runs over an input and an output in memory.
-use crate::counted::Counted;
-use crate::words::{Words, number, say, show, spelled};
+use crate::words::{show, spelled};
 use byte_streams::{MemSink, MemSource};
+use rows_shared::{Counted, Words, number, say};
 use std::alloc::Global;
 use tile_ids::TextVal;
 use tile_serve::{run_serve, serve_status};

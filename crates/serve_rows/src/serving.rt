@@ -3,9 +3,9 @@ ghost use Rattle.std.specs.Prelude.{◌≡◌, IfSome};
 ghost use Rattle.tile_serve.specs.Limits.{IsLimits};
 ghost use Rattle.tile_serve.specs.Server.{IsTied};
 
-use crate::counted::Counted;
-use crate::words::{Words, number, say, show, spelled};
+use crate::words::{show, spelled};
 use pm_format::Backend;
+use rows_shared::{Counted, Words, number, say};
 use std::alloc::Global;
 use tile_serve::{ServeLimits, TileServer};
 

@@ -1,6 +1,7 @@
 // Tables by their names, rows by their cells, and keys.
-use crate::words::{Words, number, owned};
+use crate::words::owned;
 use mb_tables::{Cell, Row, RowKey, TableName};
+use rows_shared::{Words, number};
 use std::alloc::Global;
 use tile_ids::BlobVal;
 

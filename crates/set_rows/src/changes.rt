@@ -5,9 +5,9 @@ ghost use Rattle.mb_tables.specs.Described.{is_table};
 ghost use Rattle.mb_tables.specs.declared.description.TableDesc.{TableDesc};
 
 use crate::cells::{key, row_of, table};
-use crate::words::{Words, number, say};
 use mb_store::Changes;
 use mb_tables::{RowKey, TableDesc, TableKind, TableName};
+use rows_shared::{Words, number, say};
 use std::alloc::Global;
 
 // Whether a table, and not a view, is described by this name.

@@ -1,5 +1,4 @@
 // Checks of the store that is kept.
-use crate::words::{Words, say, say_text};
 use mb_check::{
     AggHashType, PatchFileInfo, Summary, assert_hashes, calc_agg_tiles_hash,
     check_agg_tiles_hashes, check_each_tile_hash, check_tiles_type_validity, examine_diff,
@@ -7,6 +6,7 @@ use mb_check::{
     validate_diff_info,
 };
 use mb_store::{MbtResult, MemStore};
+use rows_shared::{Words, say, say_text};
 use std::alloc::Global;
 use std::fmt::Debug;
 use tile_hash::HashAlgorithm;

@@ -1,13 +1,13 @@
 // Tables and views that are created in the store that is kept.
 use crate::described::{say_layout, say_tables};
 use crate::labels::layout;
-use crate::words::{Words, say};
 use mb_store::{
     MemStore, TileStore, create_cache_schema, create_cache_tables, create_flat_tables,
     create_flat_with_hash_tables, create_metadata_table, create_normalized_tables,
     create_tiles_with_hash_view, init_mbtiles_schema,
 };
 use mb_tables::{MbtResult, TableDesc};
+use rows_shared::{Words, say};
 use std::alloc::Global;
 
 fn create<S: TileStore>(alloc: Global, store: &mut S, words: &mut Words) -> Option<MbtResult<()>> {

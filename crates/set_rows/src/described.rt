@@ -1,10 +1,10 @@
 // What is said of descriptions.
-use crate::words::say;
 use mb_tables::{
     TableDesc, detect_type, get_patch_type, has_tiles_with_hash, is_cache_tables_type,
     is_dedup_id_normalized_tables_type, is_flat_tables_type, is_flat_with_hash_tables_type,
     is_normalized_tables_type, missing_tile_index,
 };
+use rows_shared::say;
 
 // The layout, the table without an index, and the kind of patch.
 pub fn say_layout(out: &mut String, tables: &[TableDesc]) -> Option<()> {

@@ -5,10 +5,11 @@ ghost use Rattle.mb_store.specs.Committing.{AreOfTables};
 use crate::cells::cell;
 use crate::changes::is_table;
 use crate::loads::say_set;
-use crate::words::{Words, number, owned, say};
+use crate::words::owned;
 use mb_load::{Loaded, load};
 use mb_store::{Changes, MemStore, TileStore};
 use mb_tables::{Cell, TableDesc};
+use rows_shared::{Words, number, say};
 use std::alloc::Global;
 use tile_ids::TileCoord;
 

@@ -1,11 +1,11 @@
 // Layouts, schemas, kinds of patches and tables, and their texts.
 use crate::cells::table;
-use crate::words::{Words, say, say_text};
 use mb_tables::{
     AGG_TILES_HASH, AGG_TILES_HASH_AFTER_APPLY, AGG_TILES_HASH_BEFORE_APPLY, HASH_ALGORITHM,
     MbtError, MbtType, MbtTypeCli, NormalizedSchema, PatchType, PatchTypeCli, TableName,
     get_bsdiff_tbl_name,
 };
+use rows_shared::{Words, say, say_text};
 
 fn normalized(hash_view: bool, schema: NormalizedSchema) -> Option<MbtType> {
     Some(MbtType::Normalized { hash_view, schema })

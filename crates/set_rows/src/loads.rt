@@ -1,7 +1,7 @@
 // Loading of the store that is kept.
-use crate::words::say;
 use mb_load::{Loaded, load};
 use mb_store::{MbtResult, MemStore};
+use rows_shared::say;
 use std::alloc::Global;
 use std::fmt::Write;
 

@@ -16,9 +16,9 @@ mod words;
 
 use mb_store::MemStore;
 use mb_tables::TableDesc;
+use rows_shared::Words;
 use std::alloc::Global;
 use std::io;
-use words::Words;
 
 // What is kept from line to line.
 #[derive(Drop)]

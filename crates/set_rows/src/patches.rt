@@ -1,9 +1,9 @@
 // Patches of a second store that is kept beside the store.
 use crate::loads::say_set;
-use crate::words::{Words, say};
 use mb_edit::{apply_patch, patch_loaded};
 use mb_load::load;
 use mb_store::MemStore;
+use rows_shared::{Words, say};
 use std::alloc::Global;
 use std::mem::swap;
 

@@ -2,8 +2,8 @@
 use crate::cells::{key, row, table};
 use crate::changes::{changes_of, is_table};
 use crate::labels::layout;
-use crate::words::{Words, number, say};
 use mb_store::{MemStore, TileStore, is_empty_database};
+use rows_shared::{Words, number, say};
 use std::alloc::Global;
 
 // Asks for the descriptions first.

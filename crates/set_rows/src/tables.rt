@@ -1,7 +1,8 @@
 // Descriptions that are kept: each a name, whether it is a table or a view, its columns with their types, and an index.
 use crate::described::{say_layout, say_tables};
-use crate::words::{Words, owned, say, spaced};
+use crate::words::{owned, spaced};
 use mb_tables::{ColumnDesc, ColumnList, IndexDesc, IndexList, TableDesc, TableKind};
+use rows_shared::{Words, say};
 use std::alloc::Global;
 use tile_ids::TextList;
 

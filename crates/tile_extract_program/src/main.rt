@@ -2,9 +2,7 @@
 #![tactic(auto)]
 
 use pm_format::{FileBackend, FileMedium};
-use std::alloc::{AllocError, Global};
-use std::env;
-use std::io::Write;
+use program_words::{print_for, text_of, words_of};
 use std::process::ExitCode;
 use tile_extract::{ExtractError, ExtractOutcome, extract_status, run_extract};
 use tile_ids::TextVal;
@@ -29,43 +27,6 @@ can't be opened, read or written, 7 out of memory
 
 const VERSION: &str = "tile_extract 0.1.0\n";
 
-// The status where a text can't be written.
-const OUTPUT_FAULT: u8 = 5;
-
-// The words after the program's name, where each of them is a text.
-fn words_of(rt: &HostRuntime, alloc: Global) -> Result<Option<Vec<TextVal>>, AllocError> {
-    let Ok(args) = env::args(rt) else {
-        return Ok(None);
-    };
-    let mut words = Vec::new(alloc);
-    for arg in args.skip(1) {
-        words.push(TextVal::new(arg))?;
-    }
-    Ok(Some(words))
-}
-
-// The text that a single word asks for in place of a run.
-fn text_of(words: &[TextVal]) -> Option<&'static str> {
-    match words {
-        [word] => match word.as_str() {
-            "--help" => Some(HELP),
-            "--version" => Some(VERSION),
-            _ => None,
-        },
-        _ => None,
-    }
-}
-
-// Prints a text, and gives the status where that is done.
-fn print(rt: &HostRuntime, text: &str, status: u8) -> u8 {
-    let mut out = rt.stdout();
-    if out.write_all(text.as_bytes()).is_ok() && out.flush().is_ok() {
-        status
-    } else {
-        OUTPUT_FAULT
-    }
-}
-
 fn medium_fault() -> ExtractOutcome {
     ExtractOutcome::Refused(ExtractError::MediumFault)
 }
@@ -88,10 +49,10 @@ fn extract_to(
 fn extract_files(rt: &HostRuntime, from: &str, to: &str, words: &[TextVal]) -> u8 {
     let fault = extract_status(&medium_fault());
     let Ok(mut source) = FileBackend::open(rt, from) else {
-        return print(rt, "source fault\n", fault);
+        return print_for(rt, "source fault\n", fault);
     };
     let Ok(mut medium) = FileMedium::open(rt, to) else {
-        return print(rt, "medium fault\n", fault);
+        return print_for(rt, "medium fault\n", fault);
     };
     extract_status(&extract_to(rt, words, &mut source, &mut medium))
 }
@@ -110,8 +71,8 @@ fn status_of(rt: &HostRuntime) -> u8 {
         Ok(None) => return extract_status(&ExtractOutcome::Usage),
         Ok(Some(words)) => words,
     };
-    match text_of(words.as_slice()) {
-        Some(text) => print(rt, text, 0),
+    match text_of(words.as_slice(), HELP, VERSION) {
+        Some(text) => print_for(rt, text, 0),
         None => run_words(rt, words.as_slice()),
     }
 }

@@ -3,9 +3,7 @@
 
 use byte_streams::{StdSink, StdSource};
 use pm_format::FileBackend;
-use std::alloc::{AllocError, Global};
-use std::env;
-use std::io::Write;
+use program_words::{print_for, text_of, words_of};
 use std::process::ExitCode;
 use tile_ids::TextVal;
 use tile_serve::{ServeError, ServeOutcome, run_serve, serve_status};
@@ -38,48 +36,11 @@ memory, 8 the input is too long
 
 const VERSION: &str = "tile_serve 0.1.0\n";
 
-// The status where a text can't be written.
-const OUTPUT_FAULT: u8 = 5;
-
-// The words after the program's name, where each of them is a text.
-fn words_of(rt: &HostRuntime, alloc: Global) -> Result<Option<Vec<TextVal>>, AllocError> {
-    let Ok(args) = env::args(rt) else {
-        return Ok(None);
-    };
-    let mut words = Vec::new(alloc);
-    for arg in args.skip(1) {
-        words.push(TextVal::new(arg))?;
-    }
-    Ok(Some(words))
-}
-
-// The text that a single word asks for in place of a run.
-fn text_of(words: &[TextVal]) -> Option<&'static str> {
-    match words {
-        [word] => match word.as_str() {
-            "--help" => Some(HELP),
-            "--version" => Some(VERSION),
-            _ => None,
-        },
-        _ => None,
-    }
-}
-
-// Prints a text, and gives the status where that is done.
-fn print(rt: &HostRuntime, text: &str, status: u8) -> u8 {
-    let mut out = rt.stdout();
-    if out.write_all(text.as_bytes()).is_ok() && out.flush().is_ok() {
-        status
-    } else {
-        OUTPUT_FAULT
-    }
-}
-
 // Serves a file, which is opened first.
 fn serve_file(rt: &HostRuntime, path: &str, words: &[TextVal]) -> u8 {
     let Ok(mut source) = FileBackend::open(rt, path) else {
         let fault = ServeOutcome::Refused(ServeError::Fault);
-        return print(rt, "source fault\n", serve_status(&fault));
+        return print_for(rt, "source fault\n", serve_status(&fault));
     };
     let mut input = StdSource::new(rt.stdin());
     let mut output = StdSink::new(rt.stdout());
@@ -101,8 +62,8 @@ fn status_of(rt: &HostRuntime) -> u8 {
         Ok(None) => return serve_status(&ServeOutcome::Usage),
         Ok(Some(words)) => words,
     };
-    match text_of(words.as_slice()) {
-        Some(text) => print(rt, text, 0),
+    match text_of(words.as_slice(), HELP, VERSION) {
+        Some(text) => print_for(rt, text, 0),
         None => run_words(rt, words.as_slice()),
     }
 }

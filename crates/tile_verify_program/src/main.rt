@@ -2,9 +2,7 @@
 #![tactic(auto)]
 
 use pm_format::FileBackend;
-use std::alloc::{AllocError, Global};
-use std::env;
-use std::io::Write;
+use program_words::{print_for, text_of, words_of};
 use std::process::ExitCode;
 use tile_ids::TextVal;
 use tile_verify::{VerifyError, VerifyOutcome, run_verify, verify_line, verify_status};
@@ -37,48 +35,11 @@ status: 0 sound, 1 refused, 2 no command, 5 the line can't be written,
 
 const VERSION: &str = "tile_verify 0.1.0\n";
 
-// The status where a line or a text can't be written.
-const OUTPUT_FAULT: u8 = 5;
-
-// The words after the program's name, where each of them is a text.
-fn words_of(rt: &HostRuntime, alloc: Global) -> Result<Option<Vec<TextVal>>, AllocError> {
-    let Ok(args) = env::args(rt) else {
-        return Ok(None);
-    };
-    let mut words = Vec::new(alloc);
-    for arg in args.skip(1) {
-        words.push(TextVal::new(arg))?;
-    }
-    Ok(Some(words))
-}
-
-// The text that a single word asks for in place of a run.
-fn text_of(words: &[TextVal]) -> Option<&'static str> {
-    match words {
-        [word] => match word.as_str() {
-            "--help" => Some(HELP),
-            "--version" => Some(VERSION),
-            _ => None,
-        },
-        _ => None,
-    }
-}
-
-// Prints a text, and gives the status where that is done.
-fn print(rt: &HostRuntime, text: &str, status: u8) -> u8 {
-    let mut out = rt.stdout();
-    if out.write_all(text.as_bytes()).is_ok() && out.flush().is_ok() {
-        status
-    } else {
-        OUTPUT_FAULT
-    }
-}
-
 // Prints the line of an outcome, or nothing where that finds no memory.
 fn tell(rt: &HostRuntime, outcome: &VerifyOutcome) -> u8 {
     let status = verify_status(outcome);
     match verify_line(rt.alloc(), outcome) {
-        Ok(line) => print(rt, line.as_str(), status),
+        Ok(line) => print_for(rt, line.as_str(), status),
         Err(_) => status,
     }
 }
@@ -105,8 +66,8 @@ fn status_of(rt: &HostRuntime) -> u8 {
         Ok(None) => return tell(rt, &VerifyOutcome::Usage),
         Ok(Some(words)) => words,
     };
-    match text_of(words.as_slice()) {
-        Some(text) => print(rt, text, 0),
+    match text_of(words.as_slice(), HELP, VERSION) {
+        Some(text) => print_for(rt, text, 0),
         None => run_words(rt, words.as_slice()),
     }
 }

@@ -2,9 +2,7 @@
 #![tactic(auto)]
 
 use pm_format::{FileMedium, Medium, MemMedium};
-use std::alloc::{AllocError, Global};
-use std::env;
-use std::io::Write;
+use program_words::{print, text_of, words_of};
 use std::process::ExitCode;
 use tile_ids::TextVal;
 use tileset::{
@@ -37,40 +35,12 @@ status: 0 done, 1 refused, 2 no command, 3 bad script, 4 input fault,
 
 const VERSION: &str = "tileset 0.1.0\n";
 
-// The words after the program's name, where each of them is a text.
-fn words_of(rt: &HostRuntime, alloc: Global) -> Result<Option<Vec<TextVal>>, AllocError> {
-    let Ok(args) = env::args(rt) else {
-        return Ok(None);
-    };
-    let mut words = Vec::new(alloc);
-    for arg in args.skip(1) {
-        words.push(TextVal::new(arg))?;
-    }
-    Ok(Some(words))
-}
-
-// The text that a single word asks for in place of a run.
-fn text_of(words: &[TextVal]) -> Option<&'static str> {
-    match words {
-        [word] => match word.as_str() {
-            "--help" => Some(HELP),
-            "--version" => Some(VERSION),
-            _ => None,
-        },
-        _ => None,
-    }
-}
-
-fn print<W: Write>(out: &mut W, text: &str) -> bool {
-    out.write_all(text.as_bytes()).is_ok() && out.flush().is_ok()
-}
-
 // Prints the line of an outcome. Where it can't be written, that is the outcome.
 fn tell(rt: &HostRuntime, outcome: Outcome) -> Outcome {
     let Ok(line) = outcome_line(rt.alloc(), &outcome) else {
         return outcome;
     };
-    if line.as_str().is_empty() || print(&mut rt.stdout(), line.as_str()) {
+    if line.as_str().is_empty() || print(rt, line.as_str()) {
         outcome
     } else {
         Outcome::OutputFault
@@ -110,9 +80,9 @@ fn outcome_of(rt: &HostRuntime) -> Outcome {
         Ok(None) => return tell(rt, Outcome::Usage),
         Ok(Some(words)) => words,
     };
-    match text_of(words.as_slice()) {
+    match text_of(words.as_slice(), HELP, VERSION) {
         Some(text) => {
-            if print(&mut rt.stdout(), text) {
+            if print(rt, text) {
                 Outcome::Done
             } else {
                 Outcome::OutputFault

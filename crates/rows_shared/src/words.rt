@@ -1,4 +1,4 @@
-// The words of a call, and the text of its answer.
+// The words of a line, and the text of its answer.
 use std::alloc::Global;
 use std::fmt::{Debug, Display, Write};
 use std::str;
@@ -7,7 +7,7 @@ use tile_ids::TextVal;
 
 pub type Words<'a> = SplitWhitespace<'a>;
 
-// The next word as a number. None also where it is none, so that `-` stands for a number that is absent.
+/// The next word as a number. None also where it is none, so that `-` stands for a number that is absent.
 pub fn number<T: FromStr + Drop>(words: &mut Words) -> Option<T>
 where
     T::Err: Drop,
@@ -44,7 +44,7 @@ fn add_piece(alloc: Global, bytes: &mut Vec<u8>, piece: &str) -> Option<()> {
     add_repeated(bytes, decoded.as_slice(), count.parse::<u32>().ok()?)
 }
 
-// The next word as bytes: pieces parted by commas, each `x` and hexadecimal digits, the same with `*` and how many times over, or `n` and how many counted bytes.
+/// The next word as bytes: pieces parted by commas, each `x` and hexadecimal digits, the same with `*` and how many times over, or `n` and how many counted bytes.
 pub fn bytes(alloc: Global, words: &mut Words) -> Option<Vec<u8>> {
     let mut bytes = Vec::new(alloc);
     for piece in words.next()?.split(',') {
@@ -53,7 +53,7 @@ pub fn bytes(alloc: Global, words: &mut Words) -> Option<Vec<u8>> {
     Some(bytes)
 }
 
-// The next word as a text: `t` and the text, or the bytes of it.
+/// The next word as a text: `t` and the text, or the bytes of it.
 pub fn text(alloc: Global, words: &mut Words) -> Option<String> {
     let word = words.next()?;
     if let Some(text) = word.strip_prefix('t') {
@@ -66,12 +66,12 @@ pub fn text(alloc: Global, words: &mut Words) -> Option<String> {
     String::from_str(alloc, str::from_utf8(bytes.as_slice()).ok()?).ok()
 }
 
-// The next word as an owned text.
+/// The next word as an owned text.
 pub fn owned(alloc: Global, words: &mut Words) -> Option<TextVal> {
     Some(TextVal::new(text(alloc, words)?))
 }
 
-// The words that are left, as texts.
+/// The words that are left, as texts.
 pub fn texts(alloc: Global, words: &mut Words) -> Option<Vec<TextVal>> {
     let mut texts = Vec::new(alloc);
     for word in words {
@@ -81,17 +81,17 @@ pub fn texts(alloc: Global, words: &mut Words) -> Option<Vec<TextVal>> {
     Some(texts)
 }
 
-// Appends a value and a space.
+/// Appends a value and a space.
 pub fn say<T: Debug>(out: &mut String, value: &T) -> Option<()> {
     write!(out, "{value:?} ").ok()
 }
 
-// Appends the text of a value and a bar.
+/// Appends the text of a value and a bar.
 pub fn say_text<T: Display>(out: &mut String, value: &T) -> Option<()> {
     write!(out, "{value}| ").ok()
 }
 
-// Appends bytes as `x` and hexadecimal digits, and a space.
+/// Appends bytes as `x` and hexadecimal digits, and a space.
 pub fn say_bytes(alloc: Global, out: &mut String, bytes: &[u8]) -> Option<()> {
     let digits = hex::encode(alloc, bytes).ok()?;
     write!(out, "x{digits} ").ok()

@@ -1,8 +1,8 @@
 // A backend that counts its calls.
-use pm_format::{Backend, BackendResponse, MemMedium, ReadFault};
+use byte_media::{Backend, BackendResponse, MemMedium, ReadFault};
 use std::alloc::Global;
 
-// A medium in memory, and how often it was read.
+/// A medium in memory, and how often it was read.
 #[derive(Drop)]
 pub struct Counted {
     pub medium: MemMedium,
@@ -10,7 +10,7 @@ pub struct Counted {
 }
 
 impl Counted {
-    // The backend over this medium, not read yet.
+    /// The backend over this medium, not read yet.
     pub fn new(medium: MemMedium) -> Counted {
         Counted { medium, calls: 0 }
     }

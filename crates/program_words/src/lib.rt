@@ -1,0 +1,55 @@
+//! What the programs share: the words of the command line, and the printing of texts.
+#![tactic(auto)]
+
+ghost use Rattle.std.specs.Prelude.{◌≡◌};
+ghost use Rattle.std.specs.Option.{option_copied};
+ghost use Rattle.program_words.specs.Text.{asked_text};
+
+use std::alloc::{AllocError, Global};
+use std::env;
+use std::io::Write;
+use tile_ids::TextVal;
+
+/// The status where a text can't be written.
+pub const OUTPUT_FAULT: u8 = 5;
+
+/// The words after the program's name, where each of them is a text.
+pub fn words_of(rt: &HostRuntime, alloc: Global) -> Result<Option<Vec<TextVal>>, AllocError> {
+    let Ok(args) = env::args(rt) else {
+        return Ok(None);
+    };
+    let mut words = Vec::new(alloc);
+    for arg in args.skip(1) {
+        words.push(TextVal::new(arg))?;
+    }
+    Ok(Some(words))
+}
+
+/// The text that a single word, `--help` or `--version`, asks for in place of a run.
+pub fn text_of(words: &[TextVal], help: &'static str, version: &'static str) -> Option<&'static str>
+    ensures { option_copied result ≡ asked_text words.now help.now version.now }
+{
+    match words {
+        [word] => match word.as_str() {
+            "--help" => Some(help),
+            "--version" => Some(version),
+            _ => None,
+        },
+        _ => None,
+    }
+}
+
+/// Prints a text on standard output. Whether all of it is out.
+pub fn print(rt: &HostRuntime, text: &str) -> bool {
+    let mut out = rt.stdout();
+    out.write_all(text.as_bytes()).is_ok() && out.flush().is_ok()
+}
+
+/// Prints a text on standard output, and gives the status, or `OUTPUT_FAULT` where it isn't all out.
+pub fn print_for(rt: &HostRuntime, text: &str, status: u8) -> u8 {
+    if print(rt, text) {
+        status
+    } else {
+        OUTPUT_FAULT
+    }
+}
