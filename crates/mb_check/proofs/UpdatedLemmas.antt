@@ -22,7 +22,7 @@ use Rattle.mb_load.specs.LoadedFrom.{IsLoadedFrom, NamesAlgorithm}
 use Rattle.mb_lists.specs.Metadata.{Names, text_at}
 use Rattle.mb_load.specs.State.{state_of}
 use Rattle.mb_store.proofs.Committed.{others_stay}
-use Rattle.mb_store.proofs.ListLemmas.{filter_every}
+use Rattle.mb_tables.proofs.ListLemmas.{filter_every}
 use Rattle.mb_store.specs.Committing.{Commits, is_changed}
 use Rattle.mb_store.specs.Store.{IsSound}
 use Rattle.mb_store.specs.declared.change.Change.{Change}

@@ -15,7 +15,7 @@ use Rattle.mb_lists.specs.Keyed.{are_distinct}
 use Rattle.mb_lists.specs.Kinds.{has_name_kinds, is_text}
 use Rattle.mb_lists.specs.Metadata.{name_entry, text_of}
 use Rattle.mb_lists.proofs.Items.{equal_of}
-use Rattle.mb_store.proofs.ListLemmas.{filter_none}
+use Rattle.mb_tables.proofs.ListLemmas.{filter_none}
 use Rattle.mb_tables.proofs.CellLemmas.{cell_cmp-IsAntisymmetric, cell_eq-Decides, cells_eq-Decides}
 use Rattle.mb_tables.specs.Cell.{cell_cmp, cell_eq, cells_eq, is_null}
 use Rattle.mb_tables.specs.CellOrder.{cells_total}

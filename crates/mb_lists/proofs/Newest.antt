@@ -19,8 +19,7 @@ use Rattle.std.proofs.lemmas.List.Sorted.{All-permutation, IsPermutation-reverse
 use Rattle.mb_lists.specs.Keyed.{Apart, StandsAs, at_key, firsts, newest}
 use Rattle.mb_lists.proofs.Finding.{find_none, found_in}
 use Rattle.mb_lists.proofs.Sorting.{found_permuted}
-use Rattle.mb_store.proofs.Committed.{find_same}
-use Rattle.mb_store.proofs.ListLemmas.{filter_within}
+use Rattle.mb_tables.proofs.ListLemmas.{filter_within, find_same}
 
 not_true : (b : Bool) → not b ≡ true → b ≡ false
 not_true false h = refl

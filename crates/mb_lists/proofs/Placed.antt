@@ -19,7 +19,7 @@ use Rattle.mb_lists.proofs.Finding.{find_none}
 use Rattle.mb_lists.proofs.Items.{same_test, equal_of}
 use Rattle.mb_lists.proofs.ListEdits.{find_insert_other, find_insert_new, find_push_other, find_push_new, find_remove_other, find_set_other, find_set_first, removed_from, inserted_from, came_in_order, came_below, came_above, came_within, came_apart}
 use Rattle.mb_lists.proofs.Ordered.{gap_apart}
-use Rattle.mb_store.proofs.ChangeLemmas.{none_passes}
+use Rattle.mb_tables.proofs.ListLemmas.{none_passes}
 
 -- an item under its key, and under each other key what was there
 pub record Puts {K X : Type 0} (R : K → K → Ordering) (key : X → K) (x : X) (old new : List X) : Type 0 where

@@ -11,7 +11,7 @@ ghost use Rattle.mb_tables.specs.Cell.{cell_cmp};
 ghost use Rattle.mb_tables.specs.Tiles.{place_cmp};
 
 use crate::entries::{Content, Standing, StoredName, StoredTile, compare_ids, compare_places};
-use mb_store::Cell;
+use mb_tables::Cell;
 use tile_ids::TileCoord;
 
 /// Puts an item at an index below `live`, in place of its mark if it has one, which is counted from `live` on.

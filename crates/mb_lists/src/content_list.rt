@@ -11,7 +11,7 @@ ghost use Rattle.mb_tables.specs.declared.cell.Cell.TheVariants.{Null};
 use crate::entries::{
     Content, Standing, compare_id, compare_ids, compare_ids_settled, is_content_mark,
 };
-use mb_store::{Cell, Row};
+use mb_tables::{Cell, Row};
 use std::alloc::Global;
 use tile_ids::OutOfMemory;
 

@@ -1,5 +1,5 @@
 // The times of a tile of a cache.
-use mb_store::Cell;
+use mb_tables::Cell;
 
 /// The times that a cache keeps for a tile, each as its row has it.
 #[derive(Debug, Drop)]

@@ -8,7 +8,7 @@ ghost use Rattle.mb_lists.specs.Keyed.{behind};
 ghost use Rattle.mb_tables.specs.Cell.{cell_cmp};
 
 use crate::entries::{Content, Standing, StoredTile, compare_id, compare_ids};
-use mb_store::Cell;
+use mb_tables::Cell;
 use std::cmp::Ordering;
 
 // The order of two tiles by the ids of their contents, marks behind the others.

@@ -7,7 +7,7 @@ ghost use Rattle.mb_lists.specs.Keyed.{behind};
 ghost use Rattle.mb_tables.specs.Cell.{cell_cmp};
 ghost use Rattle.mb_tables.specs.Tiles.{place_cmp};
 
-use mb_store::Cell;
+use mb_tables::Cell;
 use std::cmp::Ordering;
 use tile_ids::{TextVal, TileCoord, invert_y_value};
 

@@ -6,7 +6,7 @@ ghost use Rattle.mb_tables.specs.Tiles.{cell_at};
 ghost use Rattle.mb_tables.specs.declared.cell.Cell.TheVariants.{Null};
 
 use crate::entries::Content;
-use mb_store::{Cell, MbtType, NormalizedSchema, Row};
+use mb_tables::{Cell, MbtType, NormalizedSchema, Row};
 
 /// Whether a cell is a text or null.
 pub(crate) fn is_text(cell: &Cell) -> bool

@@ -14,7 +14,7 @@ ghost use Rattle.mb_lists.specs.declared.entries.Standing.TheVariants.{Kept};
 
 use crate::entries::{Standing, StoredName};
 use crate::kinds::have_name_kinds;
-use mb_store::{Cell, MbtError, MbtResult, Row};
+use mb_tables::{Cell, MbtError, MbtResult, Row};
 use std::alloc::Global;
 use tile_ids::OutOfMemory;
 

@@ -3,7 +3,7 @@ ghost use Rattle.std.specs.Prelude.{◌≡◌};
 ghost use Rattle.mb_lists.specs.FromRows.{coord_in, number_in};
 
 use crate::kinds::cell_at;
-use mb_store::{Cell, Row};
+use mb_tables::{Cell, Row};
 use tile_ids::{TileCoord, parse_tile_index};
 
 // The whole number in a cell.

@@ -8,7 +8,7 @@ use crate::dates::Dates;
 use crate::entries::{Content, Standing, StoredTile};
 use crate::kinds::cell_at;
 use crate::row_coord::coord_of;
-use mb_store::{Cell, Row};
+use mb_tables::{Cell, Row};
 use std::alloc::Global;
 use std::mem;
 use tile_ids::{OutOfMemory, TileCoord};

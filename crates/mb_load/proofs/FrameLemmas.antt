@@ -13,7 +13,7 @@ use Rattle.mb_load.specs.Held.{Edited, Held}
 use Rattle.mb_load.specs.LoadedFrom.{IsLoadedFrom}
 use Rattle.mb_lists.specs.Refusals.{unless}
 use Rattle.mb_store.proofs.Committed.{others_stay}
-use Rattle.mb_store.proofs.ListLemmas.{filter_every}
+use Rattle.mb_tables.proofs.ListLemmas.{filter_every}
 use Rattle.mb_store.specs.Committing.{AreOfTables, Commits, is_changed}
 use Rattle.mb_store.specs.declared.change.Change.{Change}
 use Rattle.mb_tables.proofs.CellLemmas.{cells_eq-Decides}

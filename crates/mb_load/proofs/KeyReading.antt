@@ -15,7 +15,7 @@ use Rattle.mb_constraints.proofs.ApartPlaces.{cells_of_place, key_is}
 use Rattle.mb_load.proofs.ChangeSteps.{front_same}
 use Rattle.mb_lists.proofs.Items.{equal_of}
 use Rattle.mb_lists.proofs.Places.{places_antisymmetric}
-use Rattle.mb_store.proofs.ListLemmas.{AllPairs-head, AllPairs-tail, filter_none}
+use Rattle.mb_tables.proofs.ListLemmas.{AllPairs-head, AllPairs-tail, filter_none}
 use Rattle.mb_tables.proofs.CellLemmas.{cells_eq-Decides}
 use Rattle.mb_tables.proofs.TileLemmas.{places_total}
 use Rattle.mb_tables.specs.Cell.{cells_eq, is_null}

@@ -32,7 +32,7 @@ use Rattle.mb_lists.proofs.Places.{places_antisymmetric}
 use Rattle.mb_load.proofs.PutRowLemmas.{id_known, tied}
 use Rattle.mb_load.proofs.RowsPass.{ArePassing, cell_under, holds, joins_row, pass_all}
 use Rattle.mb_load.proofs.StateLemmas.{state_is}
-use Rattle.mb_store.proofs.Committed.{find_only}
+use Rattle.mb_tables.proofs.ListLemmas.{find_only}
 use Rattle.mb_store.specs.Store.{IsSound}
 use Rattle.mb_tables.proofs.CellLemmas.{cell_cmp-IsAntisymmetric}
 use Rattle.mb_tables.proofs.TileLemmas.{places_total}

@@ -1,5 +1,5 @@
 // The rows that a set puts into its tables, and their keys.
-ghost use Rattle.std.specs.Prelude.{◌≡◌, ◌++◌, false, IfOk, OnOk, option_copied, slice_get, unwrap_or};
+ghost use Rattle.std.specs.Prelude.{◌≡◌, ◌++◌, ◌∷◌, [], false, IfOk, OnOk, option_copied, slice_get, unwrap_or};
 ghost use Rattle.mb_load.specs.Changing.{content_table, front, tile_key};
 ghost use Rattle.mb_load.specs.Edits.{no_dates};
 ghost use Rattle.mb_lists.specs.Entries.{IsTile, is_gone, place_at};
@@ -58,6 +58,14 @@ fn digest_cell(
     }
 }
 
+// Adds a copy of a cell.
+fn push_copy(alloc: Global, cells: &mut Vec<Cell>, cell: &Cell) -> Result<(), OutOfMemory>
+    ensures { OnOk result (cells.new.items ≡ cells.old.items ++ cell.now ∷ []) }
+{
+    cells.push(cell.try_clone(alloc)?)?;
+    Ok(())
+}
+
 // The cells of a place.
 fn place_cells(alloc: Global, coord: TileCoord) -> Result<Vec<Cell>, OutOfMemory>
     ensures { IfOk result (λ cells. cells.items ≡ front (place_at coord)) }
@@ -77,10 +85,9 @@ fn add_times(alloc: Global, cells: &mut Vec<Cell>, dates: Option<&Dates>) -> Res
 {
     match dates {
         Some(dates) => {
-            cells.push(dates.fetched.try_clone(alloc)?)?;
-            cells.push(dates.expires.try_clone(alloc)?)?;
-            cells.push(dates.etag.try_clone(alloc)?)?;
-            Ok(())
+            push_copy(alloc, cells, &dates.fetched)?;
+            push_copy(alloc, cells, &dates.expires)?;
+            push_copy(alloc, cells, &dates.etag)
         }
         None => {
             cells.push(Cell::Null)?;
@@ -89,6 +96,19 @@ fn add_times(alloc: Global, cells: &mut Vec<Cell>, dates: Option<&Dates>) -> Res
             Ok(())
         }
     }
+}
+
+// Adds the digest of contents.
+fn push_digest(
+    alloc: Global,
+    algorithm: HashAlgorithm,
+    cells: &mut Vec<Cell>,
+    contents: &Cell,
+) -> Result<(), OutOfMemory>
+    ensures { OnOk result (cells.new.items ≡ cells.old.items ++ digest_cell algorithm contents.now ∷ []) }
+{
+    cells.push(digest_cell(alloc, algorithm, contents)?)?;
+    Ok(())
 }
 
 // Adds the cells after the place.
@@ -103,23 +123,15 @@ fn add_cells(
     ensures { OnOk result (cells.new.items ≡ cells.old.items ++ cells_kept layout algorithm content.now (option_copied dates.entry)) }
 {
     match layout {
-        MbtType::Flat => {
-            cells.push(content.cell.try_clone(alloc)?)?;
-            Ok(())
-        }
+        MbtType::Flat => push_copy(alloc, cells, &content.cell),
         MbtType::FlatWithHash => {
-            cells.push(content.cell.try_clone(alloc)?)?;
-            cells.push(digest_cell(alloc, algorithm, &content.cell)?)?;
-            Ok(())
+            push_copy(alloc, cells, &content.cell)?;
+            push_digest(alloc, algorithm, cells, &content.cell)
         }
-        MbtType::Normalized { .. } => {
-            cells.push(content.id.try_clone(alloc)?)?;
-            Ok(())
-        }
+        MbtType::Normalized { .. } => push_copy(alloc, cells, &content.id),
         MbtType::Cache => {
             add_times(alloc, cells, dates)?;
-            cells.push(content.cell.try_clone(alloc)?)?;
-            Ok(())
+            push_copy(alloc, cells, &content.cell)
         }
     }
 }
@@ -149,8 +161,8 @@ pub(crate) fn content_row(alloc: Global, content: &Content) -> Result<Row, OutOf
     ensures { IfOk result (λ row. row ≡ row_of_content content.now) }
 {
     let mut cells = Vec::with_capacity(alloc, 2)?;
-    cells.push(content.id.try_clone(alloc)?)?;
-    cells.push(content.cell.try_clone(alloc)?)?;
+    push_copy(alloc, &mut cells, &content.id)?;
+    push_copy(alloc, &mut cells, &content.cell)?;
     Ok(Row::new(cells))
 }
 
@@ -160,6 +172,6 @@ pub(crate) fn name_row(alloc: Global, entry: &StoredName) -> Result<Row, OutOfMe
 {
     let mut cells = Vec::with_capacity(alloc, 2)?;
     cells.push(Cell::Text(entry.name.try_clone(alloc)?))?;
-    cells.push(entry.value.try_clone(alloc)?)?;
+    push_copy(alloc, &mut cells, &entry.value)?;
     Ok(Row::new(cells))
 }

@@ -3,13 +3,11 @@ use Rattle.std.proofs.Common.{◌≡◌, ℕ, ◌<◌, ◌++◌, ◌∙◌, Bool
 use Rattle.std.specs.Prelude.{AllPairs, OnOk, OnErr, position}
 use Rattle.std.specs.Ordering.{is_eq, nat_cmp}
 use Rattle.std.specs.Cmp.{IsEquivalence, eq_by_cmp_equiv, unsigned_ties, both_tied}
-use Rattle.std.proofs.lemmas.Bool.{cases_eq, ltb-false}
+use Rattle.std.proofs.lemmas.Bool.{cases_eq}
 use Rattle.std.proofs.lemmas.Cmp.{on_total}
 use Rattle.std.proofs.lemmas.List.{get_or-set_same, get_or-set_other, get_or_default}
 use Rattle.std.proofs.lemmas.List.Elements.{All-push, All-set}
 use Rattle.std.proofs.lemmas.List.Quantifiers.{all_pairs_push, position-Some}
-use Rattle.std.proofs.lemmas.List.Sums.{fails_before_first}
-use Rattle.std.specs.List.{position_or_len}
 use Rattle.mb_store.specs.Changes.{AreChanges, is_own, same_key, with_change}
 use Rattle.mb_store.specs.ChangeIndex.{table_key_of}
 use Rattle.mb_store.specs.Committing.{AreOfTables}
@@ -19,6 +17,7 @@ use Rattle.mb_tables.specs.Key.{key_cmp}
 use Rattle.mb_store.specs.TableKey.{table_key_cmp}
 use Rattle.mb_tables.specs.Table.{table_number}
 use Rattle.mb_tables.specs.declared.description.TableDesc.{TableDesc}
+use Rattle.mb_tables.proofs.ListLemmas.{none_passes}
 use Rattle.mb_store.specs.declared.change.Change.{Change}
 
 -- what holds of all pairs still does with an element replaced by one that stands as it did
@@ -60,14 +59,6 @@ replaced cs i c within same owned sound =
           sound.apart;
       own = All-set (λ d. is_own d ≡ true) cs i c owned sound.own;
     }
-
-no_place : (b : Bool) (i : ℕ) → cond b (Some i) None ≡ None → b ≡ false
-no_place true i h = cc
-no_place false i h = refl
-
--- where no place is found, no element passes
-pub none_passes : {X : Type 0} (p : X → Bool) (xs : List X) → position p xs ≡ None → (k : ℕ) (d : X) → k < length xs → p (get_or xs k d) ≡ false
-none_passes p xs none k d far = fails_before_first p xs k d (omega (arith, far, ltb-false (position_or_len p xs) (length xs) (no_place _ _ none)))
 
 -- a change at the end
 added : (cs : List Change) (c : Change) → position (λ d. same_key d c) cs ≡ None → is_own c ≡ true → AreChanges cs → AreChanges (cs ++ c ∷ [])

@@ -15,34 +15,7 @@ use Rattle.mb_tables.specs.declared.key.RowKey.{RowKey}
 use Rattle.mb_tables.specs.declared.table.TableName.{TableName}
 use Rattle.mb_tables.proofs.CellLemmas.{cells_eq-Decides}
 use Rattle.mb_store.proofs.EditLemmas.{of_passed}
-use Rattle.mb_store.proofs.ListLemmas.{filter_within}
-
-first_of : {X : Type 0} → List X → Option X
-first_of [] = None
-first_of (x ∷ xs) = Some x
-
-first_of-option : {X : Type 0} (o : Option X) → first_of (option_to_list o) ≡ o
-unfolding first_of
-first_of-option None = refl
-first_of-option (Some x) = refl
-
--- what is found is the first of all that passes
-find_is : {X : Type 0} (p : X → Bool) (xs : List X) → find p xs ≡ first_of (filter p xs)
-unfolding first_of
-find_is p [] = refl
-find_is p (x ∷ xs) = by (p x) (find_is p xs)
-  where
-    by : (b : Bool) → find p xs ≡ first_of (filter p xs) → cond b (Some x) (find p xs) ≡ first_of (cond b (x ∷ filter p xs) (filter p xs))
-    by true e = refl
-    by false e = e
-
--- where one alone passes, or none, that is what is found
-pub find_only : {X : Type 0} (p : X → Bool) (xs : List X) (o : Option X) → filter p xs ≡ option_to_list o → find p xs ≡ o
-find_only p xs o e = find_is p xs ∙ (ap first_of e ∙ first_of-option o)
-
--- equal lists of those that pass have one first
-pub find_same : {X : Type 0} (p : X → Bool) (xs ys : List X) → filter p xs ≡ filter p ys → find p xs ≡ find p ys
-find_same p xs ys e = find_is p xs ∙ (ap first_of e ∙ sym (find_is p ys))
+use Rattle.mb_tables.proofs.ListLemmas.{filter_within, find_only}
 
 not_both : (a b : Bool) → (a ≡ true → b ≡ true → ⊥) → (a && b) ≡ false
 not_both true true f = absurd (f refl refl)

@@ -13,7 +13,7 @@ use Rattle.mb_store.specs.Store.{with_tables}
 use Rattle.mb_tables.specs.Table.{table_text}
 use Rattle.mb_tables.specs.declared.description.TableDesc.{TableDesc}
 use Rattle.mb_tables.specs.declared.table.TableName.{TableName}
-use Rattle.mb_store.proofs.ListLemmas.{AllPairs-nil}
+use Rattle.mb_tables.proofs.ListLemmas.{AllPairs-nil}
 
 module _ (all added : List TableDesc) (i : ℕ) (item : TableDesc) (W : List TableDesc) (lt : i < length added) (at : item ≡ get_or added i item) (so_far : with_tables all (drop i added) ≡ W) where
   front : drop i added ≡ item ∷ drop (i + 1) added

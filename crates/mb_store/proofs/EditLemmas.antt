@@ -29,7 +29,7 @@ use Rattle.mb_store.specs.StoredRow.{Stored, is_early, own_key, rows_of, stored_
 use Rattle.mb_store.specs.TableRows.{AreStored, rows_in}
 use Rattle.mb_store.specs.declared.change.Change.{Change}
 use Rattle.mb_store.specs.declared.table_rows.TableRows.{TableRows}
-use Rattle.mb_store.proofs.ListLemmas.{filter_every, filter_none}
+use Rattle.mb_tables.proofs.ListLemmas.{filter_every, filter_none}
 use Rattle.mb_store.proofs.StoredLemmas.{All-remove_key, filter-insert_key-in, filter-insert_key-out, filter-remove_key, found_is, found_passes, has_key_is}
 
 -- tests in a row

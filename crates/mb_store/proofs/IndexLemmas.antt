@@ -15,7 +15,8 @@ use Rattle.mb_store.specs.TableKey.{table_keys_total}
 use Rattle.mb_store.specs.TableKey.{table_key_cmp}
 use Rattle.mb_store.specs.declared.change.Change.{Change}
 use Rattle.mb_store.specs.declared.table_key.TableKey.{TableKey}
-use Rattle.mb_store.proofs.ChangeLemmas.{none_passes, same_key-cmp, same_keys}
+use Rattle.mb_store.proofs.ChangeLemmas.{same_key-cmp, same_keys}
+use Rattle.mb_tables.proofs.ListLemmas.{none_passes}
 
 keys_equiv : IsEquivalence (eq_by_cmp table_key_cmp)
 keys_equiv = eq_by_cmp_equiv table_keys_total

@@ -19,7 +19,7 @@ use Rattle.mb_store.specs.ByTable.{at}
 use Rattle.mb_store.specs.Committing.{AreOfTables, CommitsTable, is_changed}
 use Rattle.mb_store.specs.MemTables.{AreAllStored, IsKept, MemTables, rows_at}
 use Rattle.mb_store.specs.declared.change.Change.{Change}
-use Rattle.mb_store.proofs.ListLemmas.{AllPairs-head, AllPairs-tail, filter_every}
+use Rattle.mb_tables.proofs.ListLemmas.{AllPairs-head, AllPairs-tail, filter_every}
 use Rattle.mb_store.proofs.EditLemmas.{of_passed}
 use Rattle.mb_store.proofs.Kept.{kept_same}
 use Rattle.mb_store.proofs.StoredLemmas.{stored_count, stored_widths}

@@ -4,7 +4,6 @@ pub mod Placed
 pub mod Kept
 pub mod ChangeLemmas
 pub mod IndexLemmas
-pub mod ListLemmas
 pub mod StoredLemmas
 pub mod EditLemmas
 pub mod KeptCommit

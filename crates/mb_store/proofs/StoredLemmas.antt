@@ -29,7 +29,7 @@ use Rattle.mb_store.specs.Store.{placed}
 use Rattle.mb_store.specs.StoredRow.{Stored, is_early, own_key, rows_of, stored_cmp}
 use Rattle.mb_store.specs.TableRows.{AreStored, rows_in}
 use Rattle.mb_store.specs.declared.table_rows.TableRows.{TableRows}
-use Rattle.mb_store.proofs.ListLemmas.{AllPairs-nil}
+use Rattle.mb_tables.proofs.ListLemmas.{AllPairs-nil}
 use Rattle.mb_store.proofs.Placed.{before_greater, behind_others}
 
 -- a row as wide as its table has its table's key

@@ -2,12 +2,12 @@
 ghost use Rattle.std.specs.Prelude.{◌≡◌, ◌<◌, ◌≤◌, ◌↔◌, ◌⊎◌, ◌&&◌, [], true, find, length, not, IfErr, IfOk, IsErrOf, OnErr, OnOk};
 ghost use Rattle.std.specs.BTreeSet.{insert_key};
 ghost use Rattle.std.specs.List.{list_any};
-ghost use Rattle.std.specs.Option.{option_copied};
+ghost use Rattle.std.specs.Option.{option_copied, option_map};
 ghost use Rattle.mb_tables.specs.Cell.{is_null};
 ghost use Rattle.mb_tables.specs.Key.{IsInOrder, clash, has_key};
 ghost use Rattle.mb_tables.specs.Table.{key_of, width};
 ghost use Rattle.mb_store.specs.Store.{placed};
-ghost use Rattle.mb_store.specs.StoredRow.{is_early, stored_cmp};
+ghost use Rattle.mb_store.specs.StoredRow.{Stored, is_early, stored_cmp};
 ghost use Rattle.mb_store.specs.TableRows.{AreStored, has_equal, rows_in};
 ghost use Rattle.mb_tables.specs.declared.table.TableName.{TableName};
 
@@ -75,6 +75,16 @@ pub(crate) fn first_early<'a>(
     }
 }
 
+// A copy of a row, if there is one.
+fn copy_of(alloc: Global, row: Option<&StoredRow>) -> Result<Option<Row>, OutOfMemory>
+    ensures { IfOk result (λ copy. copy ≡ option_map (λ (s : Stored). s.0) (option_copied row.entry)) }
+{
+    match row {
+        Some(row) => Ok(Some(row.to_row(alloc)?)),
+        None => Ok(None),
+    }
+}
+
 // A copy of the first row with a key.
 pub(crate) fn find_in(
     alloc: Global,
@@ -86,10 +96,7 @@ pub(crate) fn find_in(
     ensures { IfOk result (λ row. row ≡ find (has_key table key.now) (rows_in rows.now)) }
 {
     let key = StoredRow::of_key(alloc, key)?;
-    match first_early(&key, rows.next, &rows.stored) {
-        Some(found) => Ok(Some(found.to_row(alloc)?)),
-        None => Ok(None),
-    }
+    copy_of(alloc, first_early(&key, rows.next, &rows.stored))
 }
 
 // Whether a cell of the row's key is null.

@@ -1,3 +1,4 @@
+pub mod ListLemmas
 pub mod CellLemmas
 pub mod RowOrder
 pub mod TableLemmas
