@@ -1,0 +1,8 @@
+//! Calls that promise what other crates' public calls promise: an edit that makes one of them mean something else must be refused.
+#![tactic(auto)]
+
+mod archives;
+mod input;
+
+pub use archives::{decode, header_bytes, next_entry, put_content};
+pub use input::{place, read};
