@@ -20,12 +20,10 @@ use Rattle.pm_writer.specs.Archive.{archive}
 use Rattle.pm_writer.specs.Pieces.{IsHiddenOr}
 use Rattle.pm_writer.specs.Places.{places_of, places_read}
 use Rattle.pm_writer.specs.Took.{TookAll}
-use Rattle.pm_writer.specs.declared.places.ArchivePlaces.{ArchivePlaces}
 use Rattle.pm_format.specs.WellFormed.{WellFormed}
 use Rattle.pm_format.specs.declared.error.ReadCause.TheVariants as causes
 use Rattle.tile_bridge.specs.Adds.{AreAddsOf}
-use Rattle.tile_bridge.specs.Convert.{BothTold, IsArchiveOf, IsConverted, SetCauses, SetLeaves, ShowsNoPart}
-use Rattle.tile_bridge.specs.Numbers.{IsPlaced}
+use Rattle.tile_bridge.specs.Convert.{IsArchiveOf, IsConverted, SetCauses, SetLeaves, ShowsNoPart}
 use Rattle.tile_bridge.specs.Outcome.{overflows}
 use Rattle.tile_bridge.specs.ReadingBack.{IsHindered, ReadBackCauses, of_read_error}
 use Rattle.tile_bridge.specs.Writing.{CanBeWritten, of_write_error}
@@ -82,17 +80,6 @@ module _ (o : Options) (adds : List (ℕ × List ℕ)) (can : CanBeWritten o add
   leaves_all tiles coords r None (Some b) are places same is read = absurd (cc)
   leaves_all tiles coords r (Some a) None are places same is read = absurd (cc)
   leaves_all tiles coords r (Some a) (Some b) are places same is read = converted tiles coords r b are (places.2 ∙ ap (places_of o) (told_themselves a adds places.0 places.1)) is (read o (formed b is))
-
-  -- the archive and its places alone
-  pub placed_all : (tiles : TileSet) (p : ArchivePlaces) (old new : Option (List ℕ)) → AreAddsOf adds tiles → ((taken : List (ℕ × List ℕ)) × TookAll old adds taken × (p ≡ places_of o taken)) → is_some new ≡ is_some old → IfSome new (λ b. b ≡ archive o adds)
-      → BothTold old new (λ a b. IsPlaced o tiles p b)
-  placed_all tiles p None None are places same is = tt
-  placed_all tiles p None (Some b) are places same is = absurd (cc)
-  placed_all tiles p (Some a) None are places same is = absurd (cc)
-  placed_all tiles p (Some a) (Some b) are places same is = record {
-    archive = subst (λ b. IsArchiveOf b o tiles) (sym is) (archive_is tiles are);
-    places = ap places_read is ∙ places_are o adds archivable ∙ ap Some (sym (places.2 ∙ ap (places_of o) (told_themselves a adds places.0 places.1)));
-  }
 
   -- after a refusal
   no_part : (tiles : TileSet) (b : List ℕ) → AreAddsOf adds tiles → IsHiddenOr (archive o adds) b → ShowsNoPart o tiles b

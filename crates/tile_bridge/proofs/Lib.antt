@@ -5,7 +5,6 @@ pub mod FewAddLemmas
 pub mod FoldLemmas
 pub mod FillingLemmas
 pub mod Members
-pub mod NumberLemmas
 pub mod OutcomeLemmas
 pub mod PatchedRows
 pub mod PlaceLemmas

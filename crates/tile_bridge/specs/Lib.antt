@@ -1,6 +1,5 @@
 pub mod Adds
 pub mod Convert
-pub mod Numbers
 pub mod Outcome
 pub mod Patching
 pub mod ReadingBack

@@ -23,7 +23,7 @@ use std::alloc::Global;
 use tile_ids::{TextVal, TileCoord};
 
 // The conversion's word for the error of a writer that can only fail or find no memory.
-pub(crate) fn of_writer(error: PmtError) -> ConvertError
+fn of_writer(error: PmtError) -> ConvertError
     ensures { result ≡ of_write_error error }
 {
     match error {

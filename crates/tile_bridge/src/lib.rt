@@ -5,7 +5,6 @@ mod adds;
 mod conversion;
 mod error;
 mod loading;
-mod numbers;
 mod options;
 mod patching;
 mod reading_back;
@@ -15,6 +14,5 @@ mod writing;
 
 pub use conversion::convert;
 pub use error::ConvertError;
-pub use numbers::convert_numbers;
 pub use options::ConvertOptions;
 pub use report::{Answers, ConvertReport};

@@ -1,13 +1,12 @@
 -- The answer of a run, from what is known of its script.
-use Rattle.std.proofs.Common.{◌≡◌, ◌≤◌, ◌<◌, ◌⊎◌, ◌+◌, ℕ, inl, inr, true, false, List, [], length, nat_lt, if◌then◌else◌, Option, Some, None, Result, Ok, Err, refl, sym, subst, ◌∙◌, ap, arith}
+use Rattle.std.proofs.Common.{◌≡◌, ◌≤◌, ◌<◌, ◌⊎◌, ℕ, inl, inr, true, false, List, [], length, nat_lt, if◌then◌else◌, Option, Some, None, Result, Ok, Err, refl, sym, subst, ◌∙◌, ap, arith}
 use Rattle.std.specs.Result.{IsErrAnd}
 use Rattle.std.proofs.lemmas.Bool.Decides.{nat_tests}
 use Rattle.pm_format.specs.declared.compression.Compression.TheVariants as compression
 use Rattle.mb_load.specs.State.{State}
-use Rattle.tileset.specs.Run.{AnsweredBy, Causes, Given, Gives, IsReadFor, IsScript, IsScriptOf, IsShort, IsTold, IsUntaken, IsValid, LeavesMedium, LeavesOutput, LoadCauses, ReadsInput, Spells, Taken, TellsScript, Yields, answer, answer_command, answer_input, answer_label, answer_script, answer_set, converted, outcome_of}
+use Rattle.tileset.specs.Run.{Given, Gives, IsScript, IsScriptOf, IsShort, IsTold, IsValid, LoadCauses, ScriptCauses, Spells, TellsScript, Yields, answer, answer_command, answer_input, answer_label, answer_script, answer_set, converted, outcome_of}
 use Rattle.tileset_script.specs.Script.{Script, script_of}
 use Rattle.tileset_script.specs.Words.{command}
-use Rattle.byte_streams.specs.Streams.{IsAtEnd}
 use Rattle.byte_streams.specs.declared.input.TheConstants.{MAX_INPUT}
 use Rattle.tileset.specs.declared.outcome.Outcome.{Outcome}
 use Rattle.tileset.specs.declared.outcome.Outcome.TheVariants.{Done, Refused, Usage, BadScript, InputFault, OutputFault, MediumFault, OutOfMemory, InputTooLong, ReadBack}
@@ -65,77 +64,15 @@ load_answer (Some bytes) medium OutputFault c = absurd c
 load_answer (Some bytes) medium MediumFault c = absurd c
 load_answer (Some bytes) medium (ReadBack e) c = absurd c
 
-unread_answer : (asked : Command) (input medium : Option (List ℕ)) (e : Outcome) → ReadsInput (Some asked) → LoadCauses input e → Gives (answer_command (Some asked) input medium) e
-unread_answer ConvertHex input medium e reads c = load_answer input medium e c
-unread_answer ConvertFile input medium e reads c = load_answer input medium e c
-unread_answer (Bulk tiles repeat leaf) input medium e reads c = absurd reads
+unread_answer : (asked : Command) (input medium : Option (List ℕ)) (e : Outcome) → ScriptCauses asked input e → Gives (answer_command (Some asked) input medium) e
+unread_answer ConvertHex input medium e c = load_answer input medium e c
+unread_answer ConvertFile input medium e c = load_answer input medium e c
+unread_answer (Bulk tiles repeat leaf) input medium e c =
+    subst (Gives (answer_command (Some (Bulk tiles repeat leaf)) input medium)) (sym c) (yields (answer_command (Some (Bulk tiles repeat leaf)) input medium) OutOfMemory tt)
 
-pub exact_unread : (given : Given) (asked : Command) (e : Outcome) (r : Result Unit Outcome) → command given.words ≡ Some asked → ReadsInput (Some asked) → LoadCauses given.input e → IsErrAnd r (λ x. x ≡ e) → Gives (answer given) (outcome_of r)
-exact_unread given asked e r words reads c ended =
-    subst (Gives (answer given)) (sym (err_outcome r e ended)) (asked_answer given asked e words (unread_answer asked given.input given.medium e reads c))
-
--- a command that isn't bulk has its script in the input
-pub read_script : (asked : Command) (input : Option (List ℕ)) (s : Script) → ReadsInput (Some asked) → IsShort input → Spells input s → IsScriptOf asked input s
-read_script ConvertHex input s reads short spells = (short, spells)
-read_script ConvertFile input s reads short spells = (short, spells)
-read_script (Bulk tiles repeat leaf) input s reads short spells = absurd reads
-
-pub read_end : (asked : Command) (left : Option (List ℕ)) → ReadsInput (Some asked) → IsAtEnd left → IsReadFor (Some asked) left
-read_end ConvertHex left reads end = end
-read_end ConvertFile left reads end = end
-read_end (Bulk tiles repeat leaf) left reads end = absurd reads
-
-pub read_taken : (asked : Command) (old new : Option (List ℕ)) (before now : ℕ) → ReadsInput (Some asked) → IsUntaken (Some asked) old new before now
-read_taken ConvertHex old new before now reads = tt
-read_taken ConvertFile old new before now reads = tt
-read_taken (Bulk tiles repeat leaf) old new before now reads = absurd reads
-
--- a command is bulk, or reads its script
-pub not_bulk : (asked : Command) → ((tiles repeat : ℕ) (leaf : Option ℕ) → asked ≡ Bulk tiles repeat leaf → ⊥) → ReadsInput (Some asked)
-not_bulk ConvertHex none = tt
-not_bulk ConvertFile none = tt
-not_bulk (Bulk tiles repeat leaf) none = none tiles repeat leaf refl
-
--- what is known of a run that has no script
-pub load_causes : (given : Given) (e : Outcome) → ReadsInput (command given.words) → LoadCauses given.input e → Causes given e
-load_causes given (BadScript line) reads c = (reads, c.0, c.1)
-load_causes given InputTooLong reads c = (reads, c)
-load_causes given InputFault reads c = reads
-load_causes given OutOfMemory reads c = tt
-load_causes given _ reads c = absurd c
-
-pub load_medium : (given : Given) (e : Outcome) → LoadCauses given.input e → LeavesMedium given given.medium e
-load_medium given (BadScript line) c = refl
-load_medium given InputTooLong c = refl
-load_medium given InputFault c = refl
-load_medium given OutOfMemory c = inl refl
-load_medium given _ c = absurd c
-
-pub load_output : (given : Given) (left old : Option (List ℕ)) (e : Outcome) → LoadCauses given.input e → LeavesOutput given left old old e
-load_output given left old (BadScript line) c = refl
-load_output given left old InputTooLong c = refl
-load_output given left old InputFault c = refl
-load_output given left old OutOfMemory c = inl refl
-load_output given left old _ c = absurd c
-
-pub load_undone : (input : Option (List ℕ)) (e : Outcome) → LoadCauses input e → e ≡ Done → ⊥
-load_undone input Done c done = c
-load_undone input (BadScript line) c done = absurd (cc)
-load_undone input InputTooLong c done = absurd (cc)
-load_undone input InputFault c done = absurd (cc)
-load_undone input OutOfMemory c done = absurd (cc)
-load_undone input _ c done = absurd c
-
--- once there is a script, no more than the limit was taken
-pub script_taken : (s : Script) (medium : Option (List ℕ)) (before now : ℕ) (o : Outcome) → AnsweredBy s medium o → now ≤ before + MAX_INPUT → Taken before now o
-script_taken s medium before now InputTooLong c h = absurd c
-script_taken s medium before now Done c h = h
-script_taken s medium before now (Refused e) c h = h
-script_taken s medium before now OutputFault c h = h
-script_taken s medium before now MediumFault c h = h
-script_taken s medium before now (ReadBack e) c h = h
-script_taken s medium before now OutOfMemory c h = h
-script_taken s medium before now _ c h = absurd c
+pub exact_unread : (given : Given) (asked : Command) (e : Outcome) (r : Result Unit Outcome) → command given.words ≡ Some asked → ScriptCauses asked given.input e → IsErrAnd r (λ x. x ≡ e) → Gives (answer given) (outcome_of r)
+exact_unread given asked e r words c ended =
+    subst (Gives (answer given)) (sym (err_outcome r e ended)) (asked_answer given asked e words (unread_answer asked given.input given.medium e c))
 
 -- where all is valid
 plain_answer : (s : Script) (final : State) → s.options.writer.internal_compression ≡ compression.None → converted s ≡ Ok final → answer_script (Ok s) (Some []) ≡ Some Done

@@ -1,6 +1,5 @@
 pub mod ConvertingLemmas
 pub mod AnswerLemmas
-pub mod BulkLemmas
 pub mod DumpLemmas
 pub mod HexDumpLemmas
 pub mod ReportLemmas

@@ -131,7 +131,7 @@ pub archive_left : (s : Script) (coords : List Coord) (r : ConvertReport) (old t
 archive_left s coords r old told new h same = subst (HoldsArchive s old) (sym same) (both_archive s coords r old told h)
 
 -- an archive on a medium that was empty is no part
-pub no_part : (s : Script) (old new : Option (List ℕ)) → IsEmpty old → HoldsArchive s old new → BothTold old new (LeavesPart s.options.writer (Some (converted s)))
+no_part : (s : Script) (old new : Option (List ℕ)) → IsEmpty old → HoldsArchive s old new → BothTold old new (LeavesPart s.options.writer (Some (converted s)))
 no_part s None None empty h = tt
 no_part s None (Some b) empty h = absurd h
 no_part s (Some a) None empty h = absurd h

@@ -255,6 +255,11 @@ LoadCauses input InputFault = Unit {0}
 LoadCauses input OutOfMemory = Unit {0}
 LoadCauses input _ = ⊥
 
+abbrev pub ScriptCauses : Command → Option (List ℕ) → Outcome → Type 0
+ScriptCauses ConvertHex input e = LoadCauses input e
+ScriptCauses ConvertFile input e = LoadCauses input e
+ScriptCauses (Bulk tiles repeat leaf) input e = e ≡ OutOfMemory
+
 -- the input is read to its end where it has the script
 abbrev pub IsReadFor : Option Command → Option (List ℕ) → Type 0
 IsReadFor (Some ConvertHex) left = IsAtEnd left

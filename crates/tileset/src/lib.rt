@@ -1,7 +1,6 @@
 //! The whole converter as one call over streams and a medium, with its report and outcomes.
 #![tactic(auto)]
 
-mod bulk;
 mod converting;
 mod dump;
 mod hex_dump;

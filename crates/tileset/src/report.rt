@@ -64,8 +64,8 @@ fn write_hex_report<O: Sink, M: Medium>(
     Ok(())
 }
 
-/// Writes the lines of the places of an archive, with the number of upper directories where that is wanted.
-pub(crate) fn write_places<O: Sink>(
+// Writes the lines of the places of an archive, with the number of upper directories where that is wanted.
+fn write_places<O: Sink>(
     alloc: Global,
     places: &ArchivePlaces,
     uppers: bool,

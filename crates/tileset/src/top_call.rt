@@ -6,9 +6,8 @@ ghost use Rattle.tileset.specs.Run.{AnsweredBy, Causes, Gives, IsReadFor, IsUnta
 ghost use Rattle.tileset_script.specs.Script.{Script};
 ghost use Rattle.tileset_script.specs.Words.{command};
 
-use crate::bulk::convert_bulk;
 use crate::converting::convert_stores;
-use crate::load::load;
+use crate::load::script_for;
 use crate::report::write_report;
 use crate::{Command, Outcome, Sink, Source};
 use pm_format::Medium;
@@ -132,14 +131,6 @@ fn attempt<I: Source, O: Sink, M: Medium>(
     let Some(command) = command_of(words) else {
         return Err(Outcome::Usage);
     };
-    if let Command::Bulk {
-        tiles,
-        repeat,
-        leaf_entries,
-    } = command
-    {
-        return convert_bulk(alloc, tiles, repeat, leaf_entries, output, medium);
-    }
-    let mut script = load(alloc, input)?;
+    let mut script = script_for(alloc, command, input)?;
     convert_script(alloc, command, &mut script, output, medium)
 }

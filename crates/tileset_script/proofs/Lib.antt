@@ -1,11 +1,5 @@
-pub mod BulkOutcome
-pub mod BulkRows
-pub mod BulkSet
-pub mod BulkSizes
-pub mod BulkState
-pub mod BulkTiles
+pub mod BulkLemmas
 pub mod DraftLemmas
-pub mod IdPlaces
 pub mod RowLemmas
 pub mod ScriptLemmas
 pub mod SettingLemmas

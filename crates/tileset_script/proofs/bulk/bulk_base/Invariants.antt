@@ -1,0 +1,12 @@
+-- the rows of the ids so far
+use Rattle.std.proofs.Common.{◌≡◌}
+use Rattle.mb_store.specs.MemStore.{told_of}
+use Rattle.tileset_script.specs.Section.{NeverFails}
+use Rattle.tileset_script.specs.Bulk.{bulk_tables}
+use Rattle.tileset_script.proofs.bulk.bulk_base.Given as goal
+
+abbrev pub invariant-loop-id : goal.invariant-loop-id
+invariant-loop-id l = record {
+  told : told_of l.base.store ≡ bulk_tables l.id l.repeat;
+  unfailing : NeverFails l.base.store;
+}
