@@ -1,11 +1,10 @@
 -- What a base holds after its patches.
-use Rattle.std.proofs.Common.{◌≡◌, ◌∙◌, ap, sym, subst, refl, arith, ℕ, suc, nat_eq, length, Bool, true, false, cond, ◌&&◌, ◌||◌, not, List, [], ◌∷◌, filter, map, Option, Some, None, Result, Ok, Err, IfSome, inr, is_some}
+use Rattle.std.proofs.Common.{◌≡◌, ◌∙◌, ap, sym, subst, refl, arith, ℕ, suc, nat_eq, length, Bool, true, false, cond, ◌||◌, not, List, [], ◌∷◌, filter, Option, Some, None, Result, Ok, Err, IfSome, IfOk, inr, is_some}
 use Rattle.std.proofs.lemmas.Bool.Decides.{nat_tests}
-use Rattle.std.proofs.lemmas.List.Folds.{list_all-map}
 use Rattle.std.specs.Prelude.{option_and_then}
-use Rattle.std.specs.List.{list_all}
 use Rattle.std.specs.Option.{option_map_or}
 use Rattle.std.specs.FinMap.{contains_key, empty, get, get-empty}
+use Rattle.tile_ids.specs.Coord.{Coord}
 use Rattle.mb_edit.proofs.FrameLemmas.{null_names_stay, tile_rows_stay}
 use Rattle.mb_edit.specs.Applying.{stands_in}
 use Rattle.mb_edit.specs.Committing.{MakesChanges}
@@ -13,16 +12,17 @@ use Rattle.mb_load.proofs.CommittedLemmas.{is_committed}
 use Rattle.mb_load.specs.Committed.{IsCommitted}
 use Rattle.mb_load.specs.Held.{Held, fresh}
 use Rattle.mb_load.specs.LoadedFrom.{IsLoadedFrom, NamesAlgorithm}
-use Rattle.mb_load.specs.State.{State}
+use Rattle.mb_load.specs.Aggregate.{aggregate}
+use Rattle.mb_load.specs.State.{State, state_of}
 use Rattle.mb_store.specs.Store.{IsSound}
 use Rattle.mb_tables.specs.Kind.{tile_table}
 use Rattle.mb_tables.specs.Table.{Tables}
 use Rattle.mb_tables.specs.Tiles.{Place, place_cmp, place_of}
 use Rattle.mb_tables.specs.declared.cell.Cell.{Cell}
-use Rattle.tile_bridge.specs.Convert.{SetCauses}
-use Rattle.tile_bridge.specs.Outcome.{due, outcome}
-use Rattle.tile_bridge.specs.Patching.{AreStatesOf, BaseLeaves, IsBaseDue, IsBaseWith, IsHeldFrom, IsPatched, IsStored, all_held, is_patched_at, is_patched_row}
-use Rattle.tile_bridge.specs.Stores.{IsDue}
+use Rattle.tile_bridge.specs.Base.{BaseLeaves, IsBaseAfter}
+use Rattle.tile_bridge.specs.Convert.{IsConverted, SetCauses, SetLeaves}
+use Rattle.tile_bridge.specs.Outcome.{all_patched, at_place, outcome, tested, then}
+use Rattle.tile_bridge.specs.Patching.{AreStatesOf, AreToldBy, IsBaseWith, IsHeldFrom, IsPatched, IsStored, all_held, is_patched_at, is_patched_row}
 use Rattle.tile_bridge.specs.declared.error.ConvertError.{ConvertError}
 use Rattle.tile_bridge.specs.declared.error.ConvertError.TheVariants.{MediumFault, OutOfMemory, ReadBack}
 use Rattle.tile_bridge.specs.declared.options.ConvertOptions.{ConvertOptions}
@@ -70,29 +70,46 @@ some_there : (n k : ℕ) → n ≡ suc k → nat_eq n 0 ≡ false
 some_there n k is = grind (arith, nat_tests)
 
 -- the base with its patches, if there are any
-base_with : (ts : List Tables) (h : Held) (old new : Tables) (n : ℕ) (patched tells : Bool) (patch_tells : List Bool) → IsHeldFrom tells old patch_tells ts h → tells ≡ true → list_all (λ t. t) patch_tells ≡ true → n ≡ length ts → patched ≡ not (nat_eq n 0) → IsStored patched h old new → IsSound new → IsBaseWith ts h.state old new
-base_with [] h old new n patched tells patch_tells held told all count is stored sound = subst (λ b. IsStored b h old new) (is ∙ ap not (none_there n count)) stored
-base_with (t ∷ ts) h old new n patched tells patch_tells held told all count is stored sound = by held.states (held.patch_states all) held.held (subst (λ b. IsStored b h old new) (is ∙ ap not (some_there n (length ts) count)) stored)
-  where
-    by : (qs : List State) → AreStatesOf (t ∷ ts) qs → h ≡ all_held (fresh held.first) qs → IsStored true h old new → IsPatched (t ∷ ts) h.state old new
-    by [] are value stored = absurd (cc)
-    by (q ∷ qs) are value stored = is_patched t ts q qs held.first h old new are value (held.loaded told) (held.named told) stored sound
+base_with : (us : List Tables) (qs : List State) (first : State) (h : Held) (old new : Tables) (n : ℕ) (patched : Bool) → AreStatesOf us qs → h ≡ all_held (fresh first) qs → IsLoadedFrom old h → NamesAlgorithm h.state
+    → n ≡ length us → patched ≡ not (nat_eq n 0) → IsStored patched h old new → IsSound new → IsBaseWith us h.state old new
+base_with [] qs first h old new n patched are value from named count is stored sound = subst (λ b. IsStored b h old new) (is ∙ ap not (none_there n count)) stored
+base_with (t ∷ ts) [] first h old new n patched are value from named count is stored sound = absurd (cc)
+base_with (t ∷ ts) (q ∷ qs) first h old new n patched are value from named count is stored sound = is_patched t ts q qs first h old new are value from named (subst (λ b. IsStored b h old new) (is ∙ ap not (some_there n (length ts) count)) stored) sound
 
-module _ {S P : Type 0} (tells : S → Bool) (told : S → Tables) (patch_tells : P → Bool) (patch_told : P → Tables) (base after : S) (patches : List P) (options : ConvertOptions) (h : Held)
-    (is : IsDue (due tells told patch_tells patch_told base patches options) h.state) (held : IsHeldFrom (tells base) (told base) (map patch_tells patches) (map patch_told patches) h)
-    (n : ℕ) (patched : Bool) (count : n ≡ length (map patch_told patches)) (any : patched ≡ not (nat_eq n 0)) (stored : tells base ≡ true → IsStored patched h (told base) (told after)) (sound : tells base ≡ true → IsSound (told after)) where
-  base_due : IsBaseDue (due tells told patch_tells patch_told base patches options) (map patch_told patches) (told base) (told after)
-  base_due = by (tells base) (list_all patch_tells patches) refl refl is
-    where
-      by : (b c : Bool) → tells base ≡ b → list_all patch_tells patches ≡ c → IfSome (cond (b && c) (Some (outcome (told base) (map patch_told patches) options.force options.verify)) None) (λ d. d ≡ Ok h.state)
-          → IfSome (cond (b && c) (Some (outcome (told base) (map patch_told patches) options.force options.verify)) None) (λ d. (s : State) × (d ≡ Ok s) × IsBaseWith (map patch_told patches) s (told base) (told after))
-      by false c e f d = tt
-      by true false e f d = tt
-      by true true e f d = (h.state, d, base_with (map patch_told patches) h (told base) (told after) n patched (tells base) (map patch_tells patches) held e (list_all-map (λ t. t) patch_tells patches ∙ f) count any (stored e) (sound e))
+-- as many patches as are told
+as_many_told : (tells : List Bool) (told ts : List Tables) → AreToldBy tells told ts → length told ≡ length ts
+as_many_told [] [] [] are = refl
+as_many_told [] [] (t ∷ ts) are = absurd are
+as_many_told [] (u ∷ us) ts are = absurd are
+as_many_told (b ∷ bs) [] ts are = absurd are
+as_many_told (b ∷ bs) (u ∷ us) [] are = absurd are
+as_many_told (b ∷ bs) (u ∷ us) (t ∷ ts) are = ap suc (as_many_told bs us ts are.1)
 
-  pub base_leaves : (medium : Option (List ℕ)) (r : Result ConvertReport ConvertError) → SetCauses medium r → BaseLeaves (due tells told patch_tells patch_told base patches options) (map patch_told patches) r (told base) (told after)
-  base_leaves medium (Ok r) c = base_due
-  base_leaves medium (Err MediumFault) c = inr base_due
-  base_leaves medium (Err (ReadBack e)) c = inr base_due
-  base_leaves medium (Err OutOfMemory) c = inr base_due
-  base_leaves medium (Err _) c = absurd c
+-- what a base and its patches come to
+comes_to : (force verify : Bool) (base : Tables) (patches : List Tables) (first final : State) → state_of base ≡ Ok first → all_patched force 1 first patches ≡ Ok final → tested verify final ≡ Ok final → outcome base patches force verify ≡ Ok final
+comes_to force verify base patches first final loads made passes = ap (λ r. then (at_place 0 r) (λ s. then (all_patched force 1 s patches) (tested verify))) loads ∙ (ap (λ r. then r (tested verify)) made ∙ passes)
+
+module _ (o : ConvertOptions) (base_tells : Bool) (tells : List Bool) (told : List Tables) (old new : Tables) (h : Held) (held : IsHeldFrom o.force o.verify base_tells old tells told h)
+    (n : ℕ) (patched : Bool) (count : n ≡ length told) (any : patched ≡ not (nat_eq n 0)) (stored : base_tells ≡ true → IsStored patched h old new) (sound : base_tells ≡ true → IsSound new) where
+  abbrev base_after : base_tells ≡ true → IsBaseAfter o tells told old new
+  base_after t = record {
+    patches = held.patched.tables;
+    are_told = held.patched.are_told;
+    final = h.state;
+    due = comes_to o.force o.verify old held.patched.tables held.first h.state (held.base_state t) held.patched.made held.passes;
+    base = base_with held.patched.tables held.patched.states held.first h old new n patched held.patched.read held.patched.held (held.loaded t) (held.named t) (count ∙ as_many_told tells told held.patched.tables held.patched.are_told) any (stored t) (sound t);
+  }
+
+  -- what is said of both told contents is said of those that are told now
+  archive_now : (coords : List Coord) (r : ConvertReport) (before medium : Option (List ℕ)) → SetLeaves o.writer h.state.tiles coords (Ok r) before medium → IfSome medium (λ b. IsConverted b o.writer h.state.tiles coords r)
+  archive_now coords r before None leaves = tt
+  archive_now coords r None (Some b) leaves = absurd leaves
+  archive_now coords r (Some a) (Some b) leaves = leaves
+
+  pub base_leaves : (coords : List Coord) (r : Result ConvertReport ConvertError) (empty before medium : Option (List ℕ)) (aggregate_of : List ℕ) → SetCauses empty r → IfOk r (λ r. r.aggregate ≡ aggregate_of) → aggregate_of ≡ aggregate h.state.algorithm h.state.tiles → SetLeaves o.writer h.state.tiles coords r before medium
+      → BaseLeaves o base_tells tells told coords r medium old new
+  base_leaves coords (Ok r) empty before medium text causes is right leaves = λ t. record { after = base_after t; aggregate_is = is ∙ right; archive = archive_now coords r before medium leaves }
+  base_leaves coords (Err MediumFault) empty before medium text causes is right leaves = inr base_after
+  base_leaves coords (Err (ReadBack e)) empty before medium text causes is right leaves = inr base_after
+  base_leaves coords (Err OutOfMemory) empty before medium text causes is right leaves = inr base_after
+  base_leaves coords (Err _) empty before medium text causes is right leaves = absurd causes

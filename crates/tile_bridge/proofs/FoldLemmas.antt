@@ -8,12 +8,13 @@ use Rattle.std.specs.Prelude.{slice_index}
 use Rattle.std.specs.List.{list_all}
 use Rattle.tile_ids.specs.Counts.{Rose}
 use Rattle.mb_edit.specs.HeldPatched.{held_patched}
+use Rattle.mb_edit.specs.Step.{step}
 use Rattle.mb_load.specs.Held.{Held}
 use Rattle.mb_load.specs.LoadedFrom.{IsLoadedFrom, NamesAlgorithm}
 use Rattle.mb_load.specs.State.{State, state_of}
 use Rattle.mb_tables.specs.Table.{Tables}
-use Rattle.tile_bridge.specs.Outcome.{all_patched, one_patched, then}
-use Rattle.tile_bridge.specs.Patching.{AreStatesOf, all_held}
+use Rattle.tile_bridge.specs.Outcome.{all_patched, at_place, one_patched, then}
+use Rattle.tile_bridge.specs.Patching.{AreToldBy, IsPatchedBy, IsPatchedByAll, all_held}
 use Rattle.tile_bridge.specs.Stores.{AreOnlyRead, IsDue, IsRefused, NoneFell, Refuses, RoseAt, due_patch, due_patches}
 use Rattle.tile_bridge.specs.declared.error.ConvertError.{ConvertError}
 use Rattle.tile_bridge.specs.declared.error.ConvertError.TheVariants.{IndexEntryOverflow, OutOfMemory, Store, StoreFault}
@@ -26,8 +27,40 @@ AllTell tells = list_all (λ t. t) tells ≡ true
 pub record Folded {P : Type 0} (tell : P → Bool) (tables : P → Tables) (failed : P → ℕ) (calm : P → Type 0) (force : Bool) (base : Held) (old now : List P) (n : ℕ) (set : Held) : Type 0 where
   pub read : AreOnlyRead tell tables failed calm old now
   pub rest : AllTell (map tell old) → all_patched force 1 base.state (map tables old) ≡ all_patched force (n + 1) set.state (drop n (map tables old))
-  pub states : (qs : List State) × (AllTell (map tell old) → AreStatesOf (take n (map tables old)) qs) × (set ≡ all_held base qs)
+  pub some : IsPatchedByAll force (take n (map tell old)) (take n (map tables old)) base set
   pub loaded : (t : Tables) → IsLoadedFrom t base → NamesAlgorithm base.state → IsLoadedFrom t set × NamesAlgorithm set.state
+
+-- before the first
+pub folded_none : {P : Type 0} (tell : P → Bool) (tables : P → Tables) (failed : P → ℕ) (calm : P → Type 0) (force : Bool) (base : Held) (old : List P) → Folded tell tables failed calm force base old old 0 base
+folded_none tell tables failed calm force base old = record {
+  read = record { told = refl; tells = refl; faults = λ place. omega arith; steady = λ all. (all, refl) };
+  rest = λ all. refl;
+  some = record { tables = []; are_told = tt; states = []; read = refl; made = refl; held = refl };
+  loaded = λ t from named. (from, named);
+}
+
+-- one more patch whose tables have a state, wherever it stands
+one_made : (force : Bool) (place : ℕ) (s q next : State) (t : Tables) → state_of t ≡ Ok q → step force s q ≡ Ok next → one_patched force place s t ≡ Ok next
+one_made force place s q next t read made = ap (λ r. then (at_place place r) (λ q. at_place place (step force s q))) read ∙ ap (at_place place) made
+
+one_more : (force : Bool) (place : ℕ) (s : State) (ts : List Tables) (u q next : State) (t : Tables) → all_patched force place s ts ≡ Ok u → state_of t ≡ Ok q → step force u q ≡ Ok next → all_patched force place s (ts ++ t ∷ []) ≡ Ok next
+one_more force place s [] u q next t is read made =
+    let same : s ≡ u = cc in
+    ap (λ r. then r (λ n. all_patched force (suc place) n [])) (one_made force place s q next t read (ap (λ x. step force x q) same ∙ made))
+one_more force place s (p ∷ ts) u q next t is read made = by (one_patched force place s p) (λ n is. one_more force (suc place) n ts u q next t is read made) is
+  where
+    by : (r : Result State ConvertError) → ((n : State) → all_patched force (suc place) n ts ≡ Ok u → all_patched force (suc place) n (ts ++ t ∷ []) ≡ Ok next)
+        → then r (λ n. all_patched force (suc place) n ts) ≡ Ok u → then r (λ n. all_patched force (suc place) n (ts ++ t ∷ [])) ≡ Ok next
+    by (Ok n) rest is = rest n is
+    by (Err e) rest is = absurd (cc)
+
+told_more : (tells : List Bool) (told ts : List Tables) (b : Bool) (t u : Tables) → AreToldBy tells told ts → (b ≡ true → u ≡ t) → AreToldBy (tells ++ b ∷ []) (told ++ t ∷ []) (ts ++ u ∷ [])
+told_more [] [] [] b t u are is = (is, tt)
+told_more [] [] (v ∷ vs) b t u are is = absurd are
+told_more [] (w ∷ ws) vs b t u are is = absurd are
+told_more (c ∷ cs) [] vs b t u are is = absurd are
+told_more (c ∷ cs) (w ∷ ws) [] b t u are is = absurd are
+told_more (c ∷ cs) (w ∷ ws) (v ∷ vs) b t u are is = (are.0, told_more cs ws vs b t u are.1 is)
 
 all_held_more : (h : Held) (qs : List State) (q : State) → all_held h (qs ++ q ∷ []) ≡ held_patched (all_held h qs) q
 all_held_more h [] q = refl
@@ -137,19 +170,32 @@ module _ {P : Type 0} (tell : P → Bool) (tables : P → Tables) (failed : P �
   fault_after e (Ok z) fault is p at = absurd is
   fault_after e (Err z) fault is p at = let same : z ≡ StoreFault p = cc in let rose = fault p (sym is ∙ same) in (n, rose.0 ∙ sym (one_on n), rose_after rose.1)
 
-  states_more : AllTell (map tell old) → (q : State) → state_of (tables x) ≡ Ok q → AreStatesOf (take (n + 1) (map tables old)) (so.states.0 ++ q ∷ [])
-  states_more all q one =
-      let are = so.states.1 all in
-      ap (map state_of) front ∙ map-append state_of (take n (map tables old)) (tables x ∷ []) ∙ (λ i. are i ++ one i ∷ []) ∙ sym (map-append Ok so.states.0 (q ∷ []))
+  at_tell : get_or (map tell old) n (tell x) ≡ tell x
+  at_tell = ap (λ bs. get_or bs n (tell x)) (sym so.read.tells) ∙ get_or-map tell now n x (tell x) low ∙ ap tell (sym is)
 
-  pub folded_more : (next : Held) → IsDue (due_patch force (n + 1) h.state (tell x) (tables x)) next.state
-      → (q : State) × (tell x ≡ true → state_of (tables x) ≡ Ok q) × (next ≡ held_patched h q)
+  front_tells : take (n + 1) (map tell old) ≡ take n (map tell old) ++ tell x ∷ []
+  front_tells = take_more (map tell old) n (tell x) (omega (arith, low, length-map now tell, ap length so.read.tells)) ∙ ap (λ b. take n (map tell old) ++ b ∷ []) at_tell
+
+  some_more : (next : Held) → IsPatchedBy force (tell x) (tables x) h next → IsPatchedByAll force (take (n + 1) (map tell old)) (take (n + 1) (map tables old)) base next
+  some_more next one = record {
+    tables = so.some.tables ++ one.of.tables ∷ [];
+    are_told =
+        subst (λ bs. AreToldBy bs (take (n + 1) (map tables old)) (so.some.tables ++ one.of.tables ∷ [])) (sym front_tells)
+        (subst (λ ts. AreToldBy (take n (map tell old) ++ tell x ∷ []) ts (so.some.tables ++ one.of.tables ∷ [])) (sym front)
+        (told_more (take n (map tell old)) (take n (map tables old)) so.some.tables (tell x) (tables x) one.of.tables so.some.are_told one.of.are_told));
+    states = so.some.states ++ one.state ∷ [];
+    read = map-append state_of so.some.tables (one.of.tables ∷ []) ∙ (λ i. so.some.read i ++ one.of.state i ∷ []) ∙ sym (map-append Ok so.some.states (one.state ∷ []));
+    made = one_more force 1 base.state so.some.tables h.state one.state next.state one.of.tables so.some.made one.of.state one.made;
+    held = one.held ∙ ap (λ h. held_patched h one.state) so.some.held ∙ sym (all_held_more base so.some.states one.state);
+  }
+
+  pub folded_more : (next : Held) → IsDue (due_patch force (n + 1) h.state (tell x) (tables x)) next.state → IsPatchedBy force (tell x) (tables x) h next
       → ((t : Tables) → IsLoadedFrom t h → NamesAlgorithm h.state → IsLoadedFrom t next × NamesAlgorithm next.state)
       → Folded tell tables failed calm force base old after (n + 1) next
-  folded_more next due held loads = record {
+  folded_more next due one loads = record {
     read = read_after;
     rest = λ all. due_now all ∙ ap on_from (subst (λ b. one_due b (Ok next.state)) (tells_one all) due) ∙ ap (λ k. all_patched force k next.state (drop (n + 1) (map tables old))) (one_on (n + 1));
-    states = (so.states.0 ++ held.0 ∷ [], λ all. states_more all held.0 (held.1 (tells_one all)), held.2 ∙ ap (λ h. held_patched h held.0) so.states.2 ∙ sym (all_held_more base so.states.0 held.0));
+    some = some_more next one;
     loaded = λ t from named. let before = so.loaded t from named in loads t before.0 before.1;
   }
 
@@ -165,5 +211,8 @@ module _ {P : Type 0} (tell : P → Bool) (tables : P → Tables) (failed : P �
       by false all = tt
       by true all = so.rest all ∙ ap (all_patched force (n + 1) h.state) (drop_all n (map tables old) as_far)
 
-  pub states_all : (qs : List State) × (AllTell (map tell old) → AreStatesOf (map tables old) qs) × (h ≡ all_held base qs)
-  states_all = (so.states.0, λ all. ap (map state_of) (sym (take_all n (map tables old) as_far)) ∙ so.states.1 all, so.states.2)
+  pub some_all : IsPatchedByAll force (map tell old) (map tables old) base h
+  some_all =
+      let bound : length (map tell old) ≤ n = omega (arith, far, ap length so.read.tells, length-map now tell) in
+      subst (λ bs. IsPatchedByAll force bs (map tables old) base h) (take_all n (map tell old) bound)
+      (subst (λ ts. IsPatchedByAll force (take n (map tell old)) ts base h) (take_all n (map tables old) as_far) so.some)

@@ -76,9 +76,10 @@ tile_given b t found tile low is same =
     same ∙ sym (ap filled is) ∙ sym (ap (λ test. cond test (filled (archive_tile b t)) None) within)
 
 -- after so many coordinates
-pub record SoFar {B : Type 0} (told : B → Option (List ℕ)) (count failed : B → ℕ) (steady : B → Type 0) (s : ReaderState) (x y : B) (held : Held) (coords : List Coord) (n : ℕ) (tiles : List (Option (List ℕ))) : Type 0 where
+pub record SoFar {B V : Type 0} (told : B → Option (List ℕ)) (texts : B → V) (count failed : B → ℕ) (steady : B → Type 0) (s : ReaderState) (x y : B) (held : Held) (coords : List Coord) (n : ℕ) (tiles : List (Option (List ℕ))) : Type 0 where
   pub from : IfSome (told y) (λ b. ReadsFrom b s held ⊥)
   pub same : told y ≡ told x
+  pub versions : texts y ≡ texts x
   pub answers : IfSome (told x) (λ b. (o : Options) → WellFormed b o true → tiles ≡ map (λ c. archive_map b (id_of c)) (take n coords))
   pub faults : failed x ≤ failed y
   pub reads : GrewFrom (count x) (count y) (answered tiles + 1)

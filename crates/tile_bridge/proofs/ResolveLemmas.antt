@@ -7,7 +7,7 @@ use Rattle.mb_load.specs.LoadedFrom.{IsLoadedFrom, NamesAlgorithm}
 use Rattle.mb_load.specs.State.{State, state_of}
 use Rattle.mb_tables.specs.Table.{Tables}
 use Rattle.tile_bridge.specs.Outcome.{all_patched, at_place, due, outcome, tested, then}
-use Rattle.tile_bridge.specs.Patching.{AreStatesOf, IsHeldFrom, all_held}
+use Rattle.tile_bridge.specs.Patching.{IsHeldFrom, IsPatchedByAll}
 use Rattle.tile_bridge.specs.Stores.{IsDue, Refuses, due_patches}
 use Rattle.tile_bridge.specs.declared.error.ConvertError.{ConvertError}
 use Rattle.tile_bridge.specs.declared.options.ConvertOptions.{ConvertOptions}
@@ -52,14 +52,13 @@ module _ {S P : Type 0} (tells : S → Bool) (told : S → Tables) (patch_tells 
     state_due passed = from_tests (λ d. d ≡ Ok next) passed
 
 -- the set that is converted
-pub held_from : (tells : Bool) (base : Tables) (patch_tells : List Bool) (patches : List Tables) (first next : Held) → first.edited ≡ nothing_edited → (tells ≡ true → state_of base ≡ Ok first.state) → (tells ≡ true → IsLoadedFrom base first) → NamesAlgorithm first.state
-    → (qs : List State) × (list_all (λ t. t) patch_tells ≡ true → AreStatesOf patches qs) × (next ≡ all_held first qs) → ((t : Tables) → IsLoadedFrom t first → NamesAlgorithm first.state → IsLoadedFrom t next × NamesAlgorithm next.state) → IsHeldFrom tells base patch_tells patches next
-held_from tells base patch_tells patches first next clean is from named states loads = record {
+pub held_from : (force verify tells : Bool) (base : Tables) (patch_tells : List Bool) (patches : List Tables) (first next : Held) → first.edited ≡ nothing_edited → (tells ≡ true → state_of base ≡ Ok first.state) → (tells ≡ true → IsLoadedFrom base first) → NamesAlgorithm first.state
+    → IsPatchedByAll force patch_tells patches first next → tested verify next.state ≡ Ok next.state → ((t : Tables) → IsLoadedFrom t first → NamesAlgorithm first.state → IsLoadedFrom t next × NamesAlgorithm next.state) → IsHeldFrom force verify tells base patch_tells patches next
+held_from force verify tells base patch_tells patches first next clean is from named patched passes loads = record {
   first = first.state;
-  states = states.0;
   base_state = is;
-  patch_states = states.1;
-  held = states.2 ∙ ap (λ e. all_held (record { state = first.state; edited = e }) states.0) clean;
+  patched = subst (λ e. IsPatchedByAll force patch_tells patches (record { state = first.state; edited = e }) next) clean patched;
+  passes = passes;
   loaded = λ t. (loads base (from t) named).0;
   named = λ t. (loads base (from t) named).1;
 }

@@ -1,5 +1,6 @@
 -- What is due of a store.
 use Rattle.std.proofs.Common.{◌≡◌, ℕ, Bool, true, false, Ok, Err, refl, sym, subst, ◌∙◌, ap}
+use Rattle.std.proofs.lemmas.Bool.{false≢true}
 use Rattle.mb_edit.specs.Step.{step}
 use Rattle.mb_lists.specs.Refusals.{is_free}
 use Rattle.mb_load.specs.State.{State, state_of}
@@ -7,6 +8,7 @@ use Rattle.mb_tables.specs.Table.{Tables}
 use Rattle.mb_tables.specs.declared.error.MbtError.{MbtError}
 use Rattle.mb_tables.specs.declared.error.MbtError.TheVariants.{OutOfMemory, StoreFault}
 use Rattle.tile_bridge.specs.Outcome.{at_place, then}
+use Rattle.tile_bridge.specs.Patching.{HoldsState}
 use Rattle.tile_bridge.specs.Stores.{IsRefused, Refuses, due_at, due_patch, refusal_at}
 use Rattle.tile_bridge.specs.declared.error.ConvertError.{ConvertError}
 use Rattle.tile_bridge.specs.declared.error.ConvertError.TheVariants.{Store}
@@ -42,3 +44,8 @@ patch_refused force place s q tells t e x is loads answer = subst (Refuses (due_
     by_case StoreFault h = tt
     by_case OutOfMemory h = tt
     by_case e h = (stands e (h refl), refl)
+
+-- the tables of a state that was loaded
+pub holds_state : (tells : Bool) (told : Tables) (s : State) → (tells ≡ true → state_of told ≡ Ok s) → (t : Tables) × (state_of t ≡ Ok s) → HoldsState tells told s
+holds_state true told s is own = record { tables = told; are_told = λ _. refl; state = is refl }
+holds_state false told s is own = record { tables = own.0; are_told = λ e. absurd (false≢true e); state = own.1 }

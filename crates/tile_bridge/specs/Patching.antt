@@ -1,11 +1,12 @@
 -- What patches make of a base.
-use Rattle.std.specs.Prelude.{ℕ, ◌≡◌, ◌⊎◌, Bool, true, false, not, List, [], ◌∷◌, filter, map, Option, Some, Result, Ok, Err, IfSome}
-use Rattle.std.specs.List.{list_all, list_any}
+use Rattle.std.specs.Prelude.{ℕ, ◌≡◌, Bool, true, false, not, List, [], ◌∷◌, filter, map, Option, Some, Result, Ok, Err}
+use Rattle.std.specs.List.{list_any}
 use Rattle.std.specs.Option.{option_map_or}
 use Rattle.std.specs.FinMap.{contains_key, get}
 use Rattle.mb_edit.specs.Applying.{put_row}
 use Rattle.mb_edit.specs.Committing.{MakesChanges}
 use Rattle.mb_edit.specs.HeldPatched.{held_patched}
+use Rattle.mb_edit.specs.Step.{step}
 use Rattle.mb_load.specs.Changing.{content_table, tile_key}
 use Rattle.mb_load.specs.Committed.{is_set_table, rows_under}
 use Rattle.mb_load.specs.Held.{Held, fresh}
@@ -19,9 +20,7 @@ use Rattle.mb_tables.specs.declared.cell.Cell.{Cell}
 use Rattle.mb_tables.specs.declared.error.MbtError.{MbtError}
 use Rattle.mb_tables.specs.declared.table.TableName.{TableName}
 use Rattle.mb_tables.specs.declared.table.TableName.TheVariants.{Metadata}
-use Rattle.tile_bridge.specs.declared.error.ConvertError.{ConvertError}
-use Rattle.tile_bridge.specs.declared.error.ConvertError.TheVariants.{MediumFault, OutOfMemory, ReadBack}
-use Rattle.tile_bridge.specs.declared.report.ConvertReport.{ConvertReport}
+use Rattle.tile_bridge.specs.Outcome.{all_patched, tested}
 
 -- patches one after another on a loaded set
 abbrev pub all_held : Held → List State → Held
@@ -32,13 +31,40 @@ all_held h (q ∷ qs) = all_held (held_patched h q) qs
 abbrev pub AreStatesOf : List Tables → List State → Type 0
 AreStatesOf ts qs = map state_of ts ≡ map Ok qs
 
--- a set that was loaded from a base with patches since, where they tell
-pub record IsHeldFrom (tells : Bool) (base : Tables) (patch_tells : List Bool) (patches : List Tables) (h : Held) : Type 0 where
-  pub first : State
+-- a store's tables that hold a state: those that it tells, or where it tells nothing some that its answers could be of
+pub record HoldsState (tells : Bool) (told : Tables) (s : State) : Type 0 where
+  pub tables : Tables
+  pub are_told : tells ≡ true → tables ≡ told
+  pub state : state_of tables ≡ Ok s
+
+-- a set after a patch whose store tells its tables or not
+pub record IsPatchedBy (force : Bool) (tells : Bool) (told : Tables) (h next : Held) : Type 0 where
+  pub state : State
+  pub of : HoldsState tells told state
+  pub made : step force h.state state ≡ Ok next.state
+  pub held : next ≡ held_patched h state
+
+-- tables of patches: of each that tells, those that it tells
+abbrev pub AreToldBy : List Bool → List Tables → List Tables → Type 0
+AreToldBy [] [] [] = Unit {0}
+AreToldBy (tells ∷ all_tell) (told ∷ all_told) (t ∷ ts) = (tells ≡ true → t ≡ told) × AreToldBy all_tell all_told ts
+AreToldBy _ _ _ = ⊥
+
+-- a set after patches whose stores tell their tables or not
+pub record IsPatchedByAll (force : Bool) (tells : List Bool) (told : List Tables) (base h : Held) : Type 0 where
+  pub tables : List Tables
+  pub are_told : AreToldBy tells told tables
   pub states : List State
+  pub read : AreStatesOf tables states
+  pub made : all_patched force 1 base.state tables ≡ Ok h.state
+  pub held : h ≡ all_held base states
+
+-- a set that was loaded from a base with patches since, and passes the tests of the set that is converted
+pub record IsHeldFrom (force verify : Bool) (tells : Bool) (base : Tables) (patch_tells : List Bool) (patches : List Tables) (h : Held) : Type 0 where
+  pub first : State
   pub base_state : tells ≡ true → state_of base ≡ Ok first
-  pub patch_states : list_all (λ t. t) patch_tells ≡ true → AreStatesOf patches states
-  pub held : h ≡ all_held (fresh first) states
+  pub patched : IsPatchedByAll force patch_tells patches (fresh first) h
+  pub passes : tested verify h.state ≡ Ok h.state
   pub loaded : tells ≡ true → IsLoadedFrom base h
   pub named : tells ≡ true → NamesAlgorithm h.state
 
@@ -79,17 +105,6 @@ pub record IsPatched (patches : List Tables) (s : State) (old new : Tables) : Ty
 abbrev pub IsBaseWith : List Tables → State → Tables → Tables → Type 0
 IsBaseWith [] s old new = new ≡ old
 IsBaseWith (t ∷ ts) s old new = IsPatched (t ∷ ts) s old new
-
-abbrev pub IsBaseDue : Option (Result State ConvertError) → List Tables → Tables → Tables → Type 0
-IsBaseDue due patches old new = IfSome due (λ d. (s : State) × (d ≡ Ok s) × IsBaseWith patches s old new)
-
--- What the base holds afterwards, where it tells: all patches after Ok, none after a refusal and a store's fault, and all or none of them after the medium's fault and want of memory.
-abbrev pub BaseLeaves : Option (Result State ConvertError) → List Tables → Result ConvertReport ConvertError → Tables → Tables → Type 0
-BaseLeaves due patches (Ok r) old new = IsBaseDue due patches old new
-BaseLeaves due patches (Err MediumFault) old new = (new ≡ old) ⊎ IsBaseDue due patches old new
-BaseLeaves due patches (Err (ReadBack e)) old new = (new ≡ old) ⊎ IsBaseDue due patches old new
-BaseLeaves due patches (Err OutOfMemory) old new = (new ≡ old) ⊎ IsBaseDue due patches old new
-BaseLeaves due patches (Err _) old new = new ≡ old
 
 -- tables after the commit of a set's changes, where there is one
 abbrev pub IsStored : Bool → Held → Tables → Tables → Type 0

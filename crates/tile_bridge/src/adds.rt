@@ -69,7 +69,8 @@ fn id_of(coord: TileCoord) -> TileId
 // Adds the tile at an index, where it has a byte.
 fn take_tile(adds: &mut Vec<Add>, set: &Loaded, index: usize) -> Result<(), OutOfMemory>
     requires { index < len set.now.state.tiles }
-    ensures { AreFilled set.now.state.tiles adds.old.items index → OnOk result (AreFilled set.now.state.tiles adds.new.items (index + 1)) }
+    ensures { AreFilled set.now.state.tiles adds.old.items index
+        → OnOk result (AreFilled set.now.state.tiles adds.new.items (index + 1)) }
 {
     let (coord, cell) = set.tile_at(index);
     let id = id_of(coord);
@@ -82,7 +83,8 @@ fn take_tile(adds: &mut Vec<Add>, set: &Loaded, index: usize) -> Result<(), OutO
 
 // The tiles of at least one byte, in the order of the set.
 fn filled_tiles(alloc: Global, set: &Loaded) -> Result<Vec<Add>, OutOfMemory>
-    ensures { IfOk result (λ adds. AreFilled set.now.state.tiles adds.items (len set.now.state.tiles)) }
+    ensures { IfOk result (λ adds. AreFilled set.now.state.tiles adds.items
+        (len set.now.state.tiles)) }
 {
     let mut adds = Vec::with_capacity(alloc, set.tile_count())?;
     for index in 0..set.tile_count() {
@@ -100,9 +102,11 @@ fn sort_by_id(adds: &mut Vec<Add>)
 
 /// The tiles of at least one byte of a set, by rising id.
 pub(crate) fn make_adds(alloc: Global, set: &Loaded) -> Result<Vec<Add>, OutOfMemory>
-    ensures are { IfOk result (λ adds. AreAddsOf (shown set.now.state.tiles adds.items) set.now.state.tiles) }
+    ensures are { IfOk result (λ adds. AreAddsOf (shown set.now.state.tiles adds.items)
+        set.now.state.tiles) }
     ensures within { IfOk result (λ adds. AreWithin set.now.state.tiles adds.items) }
-    ensures few { IfOk result (λ adds. (o : Options) → length o.metadata < 2 ^ 63 → overflows set.now.state.tiles ≡ false → AreFew o (shown set.now.state.tiles adds.items)) }
+    ensures few { IfOk result (λ adds. (o : Options) → length o.metadata < 2 ^ 63
+        → overflows set.now.state.tiles ≡ false → AreFew o (shown set.now.state.tiles adds.items)) }
 {
     let mut adds = filled_tiles(alloc, set)?;
     sort_by_id(&mut adds);

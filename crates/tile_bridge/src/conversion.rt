@@ -2,9 +2,10 @@
 ghost use Rattle.std.specs.Prelude.{◌≡◌, ◌≤◌, ◌+◌, ◌∷◌, false, map, ℕ, IfOk, IsErrOf};
 ghost use Rattle.tile_ids.specs.Counts.{Rose};
 ghost use Rattle.mb_load.specs.Aggregate.{aggregate};
+ghost use Rattle.tile_bridge.specs.Base.{BaseLeaves};
 ghost use Rattle.tile_bridge.specs.Convert.{ConvertCauses, ConvertLeaves, HasAggregate, IsEmpty, IsPlain, SetCauses, SetLeaves};
+ghost use Rattle.tile_bridge.specs.Kept.{KeepsMedium};
 ghost use Rattle.tile_bridge.specs.Outcome.{due, overflows};
-ghost use Rattle.tile_bridge.specs.Patching.{BaseLeaves};
 ghost use Rattle.tile_bridge.specs.ReadingBack.{GrewFrom, answered, of_read_error};
 ghost use Rattle.tile_bridge.specs.Stores.{AreOnlyRead, RoseAt};
 ghost use Rattle.tile_bridge.specs.Writing.{of_write_error};
@@ -56,13 +57,14 @@ fn convert_set<M: Medium>(
     requires plain { IsPlain options.now }
     requires size { overflows set.now.state.tiles ≡ false }
     ensures causes { SetCauses (M.told medium.old) result }
-    ensures leaves { SetLeaves options.now set.now.state.tiles coords.now result (M.told medium.old) (M.told medium.new) }
+    ensures leaves { SetLeaves options.now set.now.state.tiles coords.now result (M.told medium.old)
+        (M.told medium.new) }
     ensures aggregate { IfOk result (λ report. report.aggregate ≡ aggregate) }
-    ensures reads { IfOk result (λ report. GrewFrom (M.reads medium.old) (M.reads medium.new) (answered report.answers + 1)) }
-    ensures counted { M.reads medium.old ≤ M.reads medium.new }
-    ensures fault { IsErrOf result ConvertError.MediumFault → Rose (M.faults medium.old) (M.faults medium.new) }
-    ensures faults { M.faults medium.old ≤ M.faults medium.new }
-    ensures calm { M.steady medium.old → M.steady medium.new × (M.faults medium.new ≡ M.faults medium.old) }
+    ensures reads { IfOk result (λ report. GrewFrom (M.reads medium.old) (M.reads medium.new)
+        (answered report.answers + 1)) }
+    ensures fault { IsErrOf result ConvertError.MediumFault
+        → Rose (M.faults medium.old) (M.faults medium.new) }
+    ensures kept { KeepsMedium M.told M.versions M.reads M.faults M.steady medium.old medium.new }
 {
     let adds = make_adds(alloc, set)?;
     options.fits();
@@ -89,20 +91,29 @@ pub fn convert<S: TileStore, P: TileStore, M: Medium>(
     options: &ConvertOptions,
     medium: &mut M,
 ) -> Result<ConvertReport, ConvertError>
-    ensures causes { ConvertCauses options.now.writer (due S.tells S.told P.tells P.told base.old patches.old.items options.now) (M.told medium.old) result }
-    ensures leaves { ConvertLeaves options.now.writer (due S.tells S.told P.tells P.told base.old patches.old.items options.now) coords.now result (M.told medium.old) (M.told medium.new) }
-    ensures aggregate { IfOk result (HasAggregate (due S.tells S.told P.tells P.told base.old patches.old.items options.now)) }
-    ensures base { BaseLeaves (due S.tells S.told P.tells P.told base.old patches.old.items options.now) (map P.told patches.old.items) result (S.told base.old) (S.told base.new) }
-    ensures patches { AreOnlyRead P.tells P.told P.faults P.steady patches.old.items patches.new.items }
+    ensures causes { ConvertCauses options.now.writer (due S.tells S.told P.tells P.told base.old
+        patches.old.items options.now) (M.told medium.old) result }
+    ensures leaves { ConvertLeaves options.now.writer (due S.tells S.told P.tells P.told base.old
+        patches.old.items options.now) coords.now result (M.told medium.old) (M.told medium.new) }
+    ensures aggregate { IfOk result (HasAggregate (due S.tells S.told P.tells P.told base.old
+        patches.old.items options.now)) }
+    ensures base { BaseLeaves options.now (S.tells base.old) (map P.tells patches.old.items)
+        (map P.told patches.old.items)
+        coords.now result (M.told medium.new) (S.told base.old) (S.told base.new) }
+    ensures patches { AreOnlyRead P.tells P.told P.faults P.steady
+        patches.old.items patches.new.items }
     ensures tells { S.tells base.new ≡ S.tells base.old }
-    ensures store_fault { (place : ℕ) → IsErrOf result (ConvertError.StoreFault place) → RoseAt place (S.faults base.old ∷ map P.faults patches.old.items) (S.faults base.new ∷ map P.faults patches.new.items) }
+    ensures store_fault { (place : ℕ) → IsErrOf result (ConvertError.StoreFault place)
+        → RoseAt place (S.faults base.old ∷ map P.faults patches.old.items)
+        (S.faults base.new ∷ map P.faults patches.new.items) }
     ensures base_faults { S.faults base.old ≤ S.faults base.new }
-    ensures base_calm { S.steady base.old → S.steady base.new × (S.faults base.new ≡ S.faults base.old) }
-    ensures reads { IfOk result (λ report. GrewFrom (M.reads medium.old) (M.reads medium.new) (answered report.answers + 1)) }
-    ensures counted { M.reads medium.old ≤ M.reads medium.new }
-    ensures fault { IsErrOf result ConvertError.MediumFault → Rose (M.faults medium.old) (M.faults medium.new) }
-    ensures faults { M.faults medium.old ≤ M.faults medium.new }
-    ensures calm { M.steady medium.old → M.steady medium.new × (M.faults medium.new ≡ M.faults medium.old) }
+    ensures base_calm { S.steady base.old
+        → S.steady base.new × (S.faults base.new ≡ S.faults base.old) }
+    ensures reads { IfOk result (λ report. GrewFrom (M.reads medium.old) (M.reads medium.new)
+        (answered report.answers + 1)) }
+    ensures fault { IsErrOf result ConvertError.MediumFault
+        → Rose (M.faults medium.old) (M.faults medium.new) }
+    ensures kept { KeepsMedium M.told M.versions M.reads M.faults M.steady medium.old medium.new }
 {
     let length = medium.len()?;
     if length != 0 {

@@ -4,6 +4,7 @@ ghost use Rattle.tile_ids.specs.Counts.{Rose};
 ghost use Rattle.mb_load.specs.Held.{nothing_edited};
 ghost use Rattle.mb_load.specs.State.{state_of};
 ghost use Rattle.mb_load.specs.LoadedFrom.{IsLoadable, IsLoadedFrom, NamesAlgorithm};
+ghost use Rattle.tile_bridge.specs.Patching.{HoldsState};
 ghost use Rattle.tile_bridge.specs.Stores.{Refuses, due_at, refusal_at};
 
 use crate::ConvertError;
@@ -30,15 +31,21 @@ pub(crate) fn load_at<S: TileStore>(
 ) -> Result<Loaded, ConvertError>
     ensures edited { IfOk result (λ set. set.edited ≡ nothing_edited) }
     ensures refused { IfErr result (Refuses (due_at place (S.tells store.old) (S.told store.old))) }
-    ensures state { IfOk result (λ set. S.tells store.old ≡ true → state_of (S.told store.old) ≡ Ok set.state) }
-    ensures loaded { S.tells store.old ≡ true → IfOk result (λ set. IsLoadedFrom (S.told store.old) set) }
+    ensures state { IfOk result (λ set. S.tells store.old ≡ true
+        → state_of (S.told store.old) ≡ Ok set.state) }
+    ensures holds { IfOk result (λ set. HoldsState (S.tells store.old) (S.told store.old)
+        set.state) }
+    ensures loaded { S.tells store.old ≡ true
+        → IfOk result (λ set. IsLoadedFrom (S.told store.old) set) }
     ensures whole { IfOk result (λ set. IsLoadable set.state) }
     ensures named { IfOk result (λ set. NamesAlgorithm set.state) }
     ensures told { S.told store.new ≡ S.told store.old }
     ensures tells { S.tells store.new ≡ S.tells store.old }
     ensures faults { S.faults store.old ≤ S.faults store.new }
-    ensures fault { (p : ℕ) → IsErrOf result (ConvertError.StoreFault p) → (p ≡ place) × Rose (S.faults store.old) (S.faults store.new) }
-    ensures calm { S.steady store.old → S.steady store.new × (S.faults store.new ≡ S.faults store.old) }
+    ensures fault { (p : ℕ) → IsErrOf result (ConvertError.StoreFault p)
+        → (p ≡ place) × Rose (S.faults store.old) (S.faults store.new) }
+    ensures calm { S.steady store.old
+        → S.steady store.new × (S.faults store.new ≡ S.faults store.old) }
 {
     match load(alloc, store) {
         Ok(set) => Ok(set),

@@ -1,12 +1,9 @@
 // Patches of a base, one after another.
-ghost use Rattle.std.specs.Prelude.{◌≡◌, ◌≤◌, ℕ, suc, map, true, IfErr, IfOk, IsErrOf, List, Ok, OnErr, OnOk};
-ghost use Rattle.std.specs.List.{list_all};
+ghost use Rattle.std.specs.Prelude.{◌≡◌, ◌≤◌, ℕ, suc, map, true, IfErr, IfOk, IsErrOf, OnErr, OnOk};
 ghost use Rattle.tile_ids.specs.Counts.{Rose};
-ghost use Rattle.mb_edit.specs.HeldPatched.{held_patched};
 ghost use Rattle.mb_load.specs.LoadedFrom.{IsLoadedFrom, NamesAlgorithm};
-ghost use Rattle.mb_load.specs.State.{State, state_of};
 ghost use Rattle.mb_tables.specs.Table.{Tables};
-ghost use Rattle.tile_bridge.specs.Patching.{AreStatesOf, IsStored, all_held};
+ghost use Rattle.tile_bridge.specs.Patching.{IsPatchedBy, IsPatchedByAll, IsStored};
 ghost use Rattle.tile_bridge.specs.Stores.{AreOnlyRead, IsDue, IsStoreError, Refuses, RoseAt, due_patch, due_patches};
 
 use crate::ConvertError;
@@ -24,15 +21,20 @@ fn patch_at<P: TileStore>(
     place: u64,
     force: bool,
 ) -> Result<Loaded, ConvertError>
-    ensures state { IfOk result (λ next. IsDue (due_patch force place set.state (P.tells patch.old) (P.told patch.old)) next.state) }
-    ensures refused { IfErr result (Refuses (due_patch force place set.state (P.tells patch.old) (P.told patch.old))) }
-    ensures held { IfOk result (λ next. (q : State) × (P.tells patch.old ≡ true → state_of (P.told patch.old) ≡ Ok q) × (next ≡ held_patched set q)) }
-    ensures loaded { (t : Tables) → IsLoadedFrom t set → NamesAlgorithm set.state → IfOk result (λ next. IsLoadedFrom t next × NamesAlgorithm next.state) }
+    ensures state { IfOk result (λ next. IsDue (due_patch force place set.state (P.tells patch.old)
+        (P.told patch.old)) next.state) }
+    ensures refused { IfErr result (Refuses (due_patch force place set.state (P.tells patch.old)
+        (P.told patch.old))) }
+    ensures held { IfOk result (IsPatchedBy force (P.tells patch.old) (P.told patch.old) set) }
+    ensures loaded { (t : Tables) → IsLoadedFrom t set → NamesAlgorithm set.state
+        → IfOk result (λ next. IsLoadedFrom t next × NamesAlgorithm next.state) }
     ensures told { P.told patch.new ≡ P.told patch.old }
     ensures tells { P.tells patch.new ≡ P.tells patch.old }
     ensures faults { P.faults patch.old ≤ P.faults patch.new }
-    ensures fault { (p : ℕ) → IsErrOf result (ConvertError.StoreFault p) → (p ≡ place) × Rose (P.faults patch.old) (P.faults patch.new) }
-    ensures calm { P.steady patch.old → P.steady patch.new × (P.faults patch.new ≡ P.faults patch.old) }
+    ensures fault { (p : ℕ) → IsErrOf result (ConvertError.StoreFault p)
+        → (p ≡ place) × Rose (P.faults patch.old) (P.faults patch.new) }
+    ensures calm { P.steady patch.old
+        → P.steady patch.new × (P.faults patch.new ≡ P.faults patch.old) }
 {
     let patch = load_at(alloc, patch, place)?;
     match patch_loaded(alloc, set, &patch, force) {
@@ -48,12 +50,19 @@ pub(crate) fn patch_all<P: TileStore>(
     patches: &mut Vec<P>,
     force: bool,
 ) -> Result<Loaded, ConvertError>
-    ensures state { IfOk result (λ set. IsDue (due_patches force 1 base.state (map P.tells patches.old.items) (map P.told patches.old.items)) set.state) }
-    ensures refused { IfErr result (Refuses (due_patches force 1 base.state (map P.tells patches.old.items) (map P.told patches.old.items))) }
-    ensures held { IfOk result (λ set. (qs : List State) × (list_all (λ t. t) (map P.tells patches.old.items) ≡ true → AreStatesOf (map P.told patches.old.items) qs) × (set ≡ all_held base qs)) }
-    ensures loaded { (t : Tables) → IsLoadedFrom t base → NamesAlgorithm base.state → IfOk result (λ set. IsLoadedFrom t set × NamesAlgorithm set.state) }
-    ensures read { AreOnlyRead P.tells P.told P.faults P.steady patches.old.items patches.new.items }
-    ensures fault { (p : ℕ) → IsErrOf result (ConvertError.StoreFault p) → (k : ℕ) × (p ≡ suc k) × RoseAt k (map P.faults patches.old.items) (map P.faults patches.new.items) }
+    ensures state { IfOk result (λ set. IsDue (due_patches force 1 base.state
+        (map P.tells patches.old.items) (map P.told patches.old.items)) set.state) }
+    ensures refused { IfErr result (Refuses (due_patches force 1 base.state
+        (map P.tells patches.old.items) (map P.told patches.old.items))) }
+    ensures held { IfOk result (IsPatchedByAll force (map P.tells patches.old.items)
+        (map P.told patches.old.items) base) }
+    ensures loaded { (t : Tables) → IsLoadedFrom t base → NamesAlgorithm base.state
+        → IfOk result (λ set. IsLoadedFrom t set × NamesAlgorithm set.state) }
+    ensures read { AreOnlyRead P.tells P.told P.faults P.steady
+        patches.old.items patches.new.items }
+    ensures fault { (p : ℕ) → IsErrOf result (ConvertError.StoreFault p)
+        → (k : ℕ) × (p ≡ suc k) × RoseAt k (map P.faults patches.old.items)
+        (map P.faults patches.new.items) }
 {
     let mut set = base;
     for index in 0..patches.len() {
@@ -71,12 +80,14 @@ pub(crate) fn store_patches<S: TileStore>(
     patched: bool,
 ) -> Result<(), ConvertError>
     requires loaded { S.tells base.old ≡ true → IsLoadedFrom (S.told base.old) set.now }
-    ensures stored { S.tells base.old ≡ true → OnOk result (IsStored patched set.now (S.told base.old) (S.told base.new)) }
+    ensures stored { S.tells base.old ≡ true
+        → OnOk result (IsStored patched set.now (S.told base.old) (S.told base.new)) }
     ensures refused { OnErr result (S.told base.new ≡ S.told base.old) }
     ensures causes { IfErr result IsStoreError }
     ensures tells { S.tells base.new ≡ S.tells base.old }
     ensures faults { S.faults base.old ≤ S.faults base.new }
-    ensures fault { (p : ℕ) → IsErrOf result (ConvertError.StoreFault p) → (p ≡ 0) × Rose (S.faults base.old) (S.faults base.new) }
+    ensures fault { (p : ℕ) → IsErrOf result (ConvertError.StoreFault p)
+        → (p ≡ 0) × Rose (S.faults base.old) (S.faults base.new) }
     ensures calm { S.steady base.old → S.steady base.new × (S.faults base.new ≡ S.faults base.old) }
 {
     if !patched {

@@ -40,15 +40,21 @@ fn read_answer<B: Backend>(
     cache: &mut HashMapCache,
     coord: TileCoord,
 ) -> PmtResult<Option<BlobVal>>
-    requires from { IfSome (B.told backend.old) (λ b. ReadsFrom b state.now (held_in_map cache.old) ⊥) }
-    ensures from { IfSome (B.told backend.new) (λ b. ReadsFrom b state.now (held_in_map cache.new) ⊥) }
-    ensures answer { IfSome (B.told backend.old) (λ b. UsesOneLength b → GivesTile b (id_of coord) result) }
+    requires from { IfSome (B.told backend.old)
+        (λ b. ReadsFrom b state.now (held_in_map cache.old) ⊥) }
+    ensures from { IfSome (B.told backend.new)
+        (λ b. ReadsFrom b state.now (held_in_map cache.new) ⊥) }
+    ensures answer { IfSome (B.told backend.old) (λ b. UsesOneLength b
+        → GivesTile b (id_of coord) result) }
     ensures causes { LookUpCauses (B.faults backend.old) (B.faults backend.new) result }
-    ensures reads { IfOk result (λ tile. GrewFrom (B.reads backend.old) (B.reads backend.new) (answered_by tile)) }
+    ensures reads { IfOk result (λ tile. GrewFrom (B.reads backend.old) (B.reads backend.new)
+        (answered_by tile)) }
     ensures counted { B.reads backend.old ≤ B.reads backend.new }
     ensures told { B.told backend.new ≡ B.told backend.old }
+    ensures versions { B.versions backend.new ≡ B.versions backend.old }
     ensures faults { B.faults backend.old ≤ B.faults backend.new }
-    ensures calm { B.steady backend.old → B.steady backend.new × (B.faults backend.new ≡ B.faults backend.old) }
+    ensures calm { B.steady backend.old
+        → B.steady backend.new × (B.faults backend.new ≡ B.faults backend.old) }
 {
     let found = state.get_cached_tile(backend, cache, TileId::from(coord))?;
     Ok(filled_tile(alloc, found)?)
@@ -63,13 +69,17 @@ pub(crate) fn read_answers<B: Backend>(
     backend: &mut B,
     coords: &[TileCoord],
 ) -> PmtResult<Answers>
-    ensures answers { IfSome (B.told backend.old) (λ b. (o : Options) → WellFormed b o true → ReadsAnswers b coords.now result) }
+    ensures answers { IfSome (B.told backend.old) (λ b. (o : Options) → WellFormed b o true
+        → ReadsAnswers b coords.now result) }
     ensures causes { ReadBackCauses (B.faults backend.old) (B.faults backend.new) result }
-    ensures reads { IfOk result (λ answers. GrewFrom (B.reads backend.old) (B.reads backend.new) (answered answers + 1)) }
+    ensures reads { IfOk result (λ answers. GrewFrom (B.reads backend.old) (B.reads backend.new)
+        (answered answers + 1)) }
     ensures counted { B.reads backend.old ≤ B.reads backend.new }
     ensures told { B.told backend.new ≡ B.told backend.old }
+    ensures versions { B.versions backend.new ≡ B.versions backend.old }
     ensures faults { B.faults backend.old ≤ B.faults backend.new }
-    ensures calm { B.steady backend.old → B.steady backend.new × (B.faults backend.new ≡ B.faults backend.old) }
+    ensures calm { B.steady backend.old
+        → B.steady backend.new × (B.faults backend.new ≡ B.faults backend.old) }
 {
     let state = ReaderState::open(alloc, backend)?;
     let mut cache = HashMapCache::new(alloc);

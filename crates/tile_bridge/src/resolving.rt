@@ -17,7 +17,8 @@ use tile_ids::TextVal;
 
 // The aggregate hash of a set, which has to be the stored one.
 fn verified_hash(alloc: Global, set: &Loaded) -> MbtResult<TextVal>
-    ensures aggregate { IfOk result (λ text. text ≡ aggregate set.now.state.algorithm set.now.state.tiles) }
+    ensures aggregate { IfOk result (λ text. text ≡ aggregate set.now.state.algorithm
+        set.now.state.tiles) }
     ensures right { IfOk result (λ text. unverified set.now.state ≡ None) }
     ensures refused { IfErr result (λ e. is_free e ≡ false → unverified set.now.state ≡ Some e) }
     ensures fault { result ≢ Err MbtError.StoreFault }
@@ -35,7 +36,8 @@ fn verified_hash(alloc: Global, set: &Loaded) -> MbtResult<TextVal>
 
 // The aggregate hash of a set; the stored one has to be that, where it is to be verified.
 fn hash_of(alloc: Global, set: &Loaded, verify: bool) -> Result<TextVal, ConvertError>
-    ensures aggregate { IfOk result (λ text. text ≡ aggregate set.now.state.algorithm set.now.state.tiles) }
+    ensures aggregate { IfOk result (λ text. text ≡ aggregate set.now.state.algorithm
+        set.now.state.tiles) }
     ensures right { IfOk result (λ text. cond verify (unverified set.now.state) None ≡ None) }
     ensures refused { IfErr result (λ e. Refuses (Some (tested verify set.now.state)) e) }
     ensures fault { (p : ℕ) → result ≢ Err (ConvertError.StoreFault p) }
@@ -52,7 +54,8 @@ fn hash_of(alloc: Global, set: &Loaded, verify: bool) -> Result<TextVal, Convert
 // What is tested of a set before it is converted: its stored aggregate hash, where that is to be verified, and its size. Gives the aggregate hash.
 fn test_set(alloc: Global, set: &Loaded, verify: bool) -> Result<TextVal, ConvertError>
     ensures state { IfOk result (λ text. tested verify set.now.state ≡ Ok set.now.state) }
-    ensures aggregate { IfOk result (λ text. text ≡ aggregate set.now.state.algorithm set.now.state.tiles) }
+    ensures aggregate { IfOk result (λ text. text ≡ aggregate set.now.state.algorithm
+        set.now.state.tiles) }
     ensures size { IfOk result (λ text. overflows set.now.state.tiles ≡ false) }
     ensures refused { IfErr result (Refuses (Some (tested verify set.now.state))) }
     ensures fault { (p : ℕ) → result ≢ Err (ConvertError.StoreFault p) }
@@ -71,16 +74,24 @@ pub(crate) fn resolve<S: TileStore, P: TileStore>(
     patches: &mut Vec<P>,
     options: &ConvertOptions,
 ) -> Result<(Loaded, TextVal), ConvertError>
-    ensures state { IfOk result (λ set. IsDue (due S.tells S.told P.tells P.told base.old patches.old.items options.now) set.0.state) }
-    ensures aggregate { IfOk result (λ set. set.1 ≡ aggregate set.0.state.algorithm set.0.state.tiles) }
+    ensures state { IfOk result (λ set. IsDue (due S.tells S.told P.tells P.told base.old
+        patches.old.items options.now) set.0.state) }
+    ensures aggregate { IfOk result (λ set. set.1 ≡ aggregate set.0.state.algorithm
+        set.0.state.tiles) }
     ensures size { IfOk result (λ set. overflows set.0.state.tiles ≡ false) }
-    ensures refused { IfErr result (Refuses (due S.tells S.told P.tells P.told base.old patches.old.items options.now)) }
-    ensures held { IfOk result (λ set. IsHeldFrom (S.tells base.old) (S.told base.old) (map P.tells patches.old.items) (map P.told patches.old.items) set.0) }
+    ensures refused { IfErr result (Refuses (due S.tells S.told P.tells P.told base.old
+        patches.old.items options.now)) }
+    ensures held { IfOk result (λ set. IsHeldFrom options.now.force options.now.verify
+        (S.tells base.old) (S.told base.old) (map P.tells patches.old.items)
+        (map P.told patches.old.items) set.0) }
     ensures base { S.told base.new ≡ S.told base.old }
     ensures tells { S.tells base.new ≡ S.tells base.old }
-    ensures patches { AreOnlyRead P.tells P.told P.faults P.steady patches.old.items patches.new.items }
+    ensures patches { AreOnlyRead P.tells P.told P.faults P.steady
+        patches.old.items patches.new.items }
     ensures faults { S.faults base.old ≤ S.faults base.new }
-    ensures fault { (p : ℕ) → IsErrOf result (ConvertError.StoreFault p) → RoseAt p (S.faults base.old ∷ map P.faults patches.old.items) (S.faults base.new ∷ map P.faults patches.new.items) }
+    ensures fault { (p : ℕ) → IsErrOf result (ConvertError.StoreFault p)
+        → RoseAt p (S.faults base.old ∷ map P.faults patches.old.items)
+        (S.faults base.new ∷ map P.faults patches.new.items) }
     ensures calm { S.steady base.old → S.steady base.new × (S.faults base.new ≡ S.faults base.old) }
 {
     let set = load_at(alloc, base, 0)?;

@@ -53,7 +53,8 @@ fn make_room(
 ) -> Result<(), OutOfMemory>
     requires index { index < length adds.now }
     requires within { AreWithin set.now.state.tiles adds.now }
-    ensures same { (o : Options) (told : Option (List ℕ)) (done : List (ℕ × List ℕ)) → Writes o told state.old done → Writes o told state.new done }
+    ensures same { (o : Options) (told : Option (List ℕ)) (done : List (ℕ × List ℕ))
+        → Writes o told state.old done → Writes o told state.new done }
     ensures alive { has_failed state.new ≡ has_failed state.old }
 {
     if index % BLOCK != 0 {
@@ -70,18 +71,23 @@ fn add_all<M: Medium>(
     set: &Loaded,
     adds: &[Add],
 ) -> PmtResult<()>
-    requires begun { (o : Options) × Writes o (M.told medium.old) state.old [] × CanBeWritten o (shown set.now.state.tiles adds.now) }
+    requires begun { (o : Options) × Writes o (M.told medium.old) state.old []
+        × CanBeWritten o (shown set.now.state.tiles adds.now) }
     requires within { AreWithin set.now.state.tiles adds.now }
     requires alive { has_failed state.old ≡ false }
     ensures tells { is_some (M.told medium.new) ≡ is_some (M.told medium.old) }
+    ensures versions { is_some (M.versions medium.new) ≡ is_some (M.versions medium.old) }
     ensures added { (o : Options) → Writes o (M.told medium.old) state.old []
-        → OnOk result ((taken : List (ℕ × List ℕ)) × TookAll (M.told medium.old) (shown set.now.state.tiles adds.now) taken × Writes o (M.told medium.new) state.new taken) }
+        → OnOk result ((taken : List (ℕ × List ℕ))
+        × TookAll (M.told medium.old) (shown set.now.state.tiles adds.now) taken
+        × Writes o (M.told medium.new) state.new taken) }
     ensures hidden { OnErr result (IfSome (M.told medium.new) IsHidden) }
     ensures alive { OnOk result (has_failed state.new ≡ false) }
     ensures causes { WriteCauses (M.faults medium.old) (M.faults medium.new) result }
     ensures faults { M.faults medium.old ≤ M.faults medium.new }
     ensures counted { M.reads medium.old ≤ M.reads medium.new }
-    ensures calm { M.steady medium.old → M.steady medium.new × (M.faults medium.new ≡ M.faults medium.old) }
+    ensures calm { M.steady medium.old
+        → M.steady medium.new × (M.faults medium.new ≡ M.faults medium.old) }
 {
     for (index, add) in adds.iter().enumerate() {
         make_room(state, set, adds, index)?;
@@ -106,13 +112,18 @@ pub(crate) fn write_archive<M: Medium>(
     requires fit { CanBeWritten options.now (shown set.now.state.tiles adds.now) }
     requires within { AreWithin set.now.state.tiles adds.now }
     ensures tells { is_some (M.told medium.new) ≡ is_some (M.told medium.old) }
-    ensures bytes { OnOk result (IfSome (M.told medium.new) (λ b. b ≡ archive options.now (shown set.now.state.tiles adds.now))) }
-    ensures places { IfOk result (λ p. (taken : List (ℕ × List ℕ)) × TookAll (M.told medium.old) (shown set.now.state.tiles adds.now) taken × (p ≡ places_of options.now taken)) }
-    ensures shown { IfSome (M.told medium.new) (IsHiddenOr (archive options.now (shown set.now.state.tiles adds.now))) }
+    ensures versions { is_some (M.versions medium.new) ≡ is_some (M.versions medium.old) }
+    ensures bytes { OnOk result (IfSome (M.told medium.new) (λ b. b ≡ archive options.now
+        (shown set.now.state.tiles adds.now))) }
+    ensures places { IfOk result (λ p. (taken : List (ℕ × List ℕ)) × TookAll (M.told medium.old)
+        (shown set.now.state.tiles adds.now) taken × (p ≡ places_of options.now taken)) }
+    ensures shown { IfSome (M.told medium.new) (IsHiddenOr (archive options.now
+        (shown set.now.state.tiles adds.now))) }
     ensures causes { WriteCauses (M.faults medium.old) (M.faults medium.new) result }
     ensures faults { M.faults medium.old ≤ M.faults medium.new }
     ensures counted { M.reads medium.old ≤ M.reads medium.new }
-    ensures calm { M.steady medium.old → M.steady medium.new × (M.faults medium.new ≡ M.faults medium.old) }
+    ensures calm { M.steady medium.old
+        → M.steady medium.new × (M.faults medium.new ≡ M.faults medium.old) }
 {
     let mut state = options.start(alloc, medium)?;
     add_all(&mut state, medium, set, adds)?;

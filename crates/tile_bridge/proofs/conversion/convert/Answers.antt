@@ -52,8 +52,9 @@ returns-clause-aggregate g c =
 pub returns-clause-base : goal.returns-clause-base
 returns-clause-base g c =
     let patches = c.args.patches.now.items in
-    base_leaves g.S.TileStore.tells g.S.TileStore.told g.P.TileStore.tells g.P.TileStore.told c.args.base.now c.store_patches.new.base patches c.args.options.now c.in_ok-set.set c.in_ok-set.ensures.state c.in_ok-set.ensures.held
+    base_leaves c.args.options.now (g.S.TileStore.tells c.args.base.now) _ _ (g.S.TileStore.told c.args.base.now) (g.S.TileStore.told c.store_patches.new.base) c.in_ok-set.set c.in_ok-set.ensures.held
     c.resolve.new.patches.len (not c.is_empty.result) (omega (arith, c.resolve.new.patches.ok.0, as_long g.P.TileStore.told patches c.resolve.new.patches.items c.in_ok-set.ensures.patches.told, length-map patches g.P.TileStore.told)) (ap not c.is_empty.ensures)
     (λ tells. subst (λ t. IsStored (not c.is_empty.result) c.in_ok-set.set t (g.S.TileStore.told c.store_patches.new.base)) c.in_ok-set.ensures.base (c.in_ok-store_patches.ensures.stored (c.in_ok-set.ensures.tells ∙ tells)))
     (λ tells. g.met.S.TileStore.sound c.store_patches.new.base (c.in_ok-store_patches.ensures.tells ∙ c.in_ok-set.ensures.tells ∙ tells))
-    (g.M.Backend.told c.len.new.self) c.convert_set.result c.convert_set.ensures.causes
+    c.args.coords.now c.convert_set.result (g.M.Backend.told c.len.new.self) (g.M.Backend.told c.len.new.self) (g.M.Backend.told c.convert_set.new.medium) c.in_ok-set.aggregate
+    c.convert_set.ensures.causes c.convert_set.ensures.aggregate c.in_ok-set.ensures.aggregate c.convert_set.ensures.leaves

@@ -3,3 +3,6 @@ use Rattle.tile_bridge.proofs.patching.patch_at.Goals as goal
 
 pub returns-clause-refused : goal.returns-clause-refused
 returns-clause-refused g c = patch_refused c.args.force c.args.place c.args.set.state c.in_ok-patch.patch.state (g.P.TileStore.tells c.args.patch.now) (g.P.TileStore.told c.args.patch.now) c.in-Err.error c.of_store.result c.of_store.ensures c.in_ok-patch.ensures.state c.in-Err.ensures.refused
+
+pub returns-in-Ok-clause-held : goal.returns-in-Ok-clause-held
+returns-in-Ok-clause-held g c = record { state = c.in_ok-patch.patch.state; of = c.in_ok-patch.ensures.holds; made = c.in-Ok.ensures.answer; held = c.in-Ok.ensures.value.1 }

@@ -15,6 +15,7 @@ loop-coord-preserved g c =
     record {
       from = c.in_ok-tile.ensures.from;
       same = c.in_ok-tile.ensures.told ∙ c.loop-coord.invariant.same;
+      versions = c.in_ok-tile.ensures.versions ∙ c.loop-coord.invariant.versions;
       answers = answer_more (g.B.Backend.told c.args.backend.now) (g.B.Backend.told c.loop-coord.backend) c.args.coords.now c.loop-coord.coord-index c.coord-item.result c.loop-coord.tiles.items c.push.new.self.items c.in_ok-tile.tile c.loop-coord.invariant.same c.loop-coord-test.true
           c.coord-item.is c.in_ok-push.ensures.items c.loop-coord.invariant.answers c.in_ok-tile.ensures.answer;
       faults = omega (arith, c.loop-coord.invariant.faults, c.in_ok-tile.ensures.faults);

@@ -18,5 +18,5 @@ returns-clause-state g c =
 
 pub returns-clause-held : goal.returns-clause-held
 returns-clause-held g c =
-    held_from (g.S.TileStore.tells c.args.base.now) (g.S.TileStore.told c.args.base.now) _ _ c.in_ok-set.set c.in_ok-set-2.set c.in_ok-set.ensures.edited c.in_ok-set.ensures.state c.in_ok-set.ensures.loaded c.in_ok-set.ensures.named
-    c.in_ok-set-2.ensures.held c.in_ok-set-2.ensures.loaded
+    held_from c.args.options.now.force c.args.options.now.verify (g.S.TileStore.tells c.args.base.now) (g.S.TileStore.told c.args.base.now) _ _ c.in_ok-set.set c.in_ok-set-2.set c.in_ok-set.ensures.edited c.in_ok-set.ensures.state c.in_ok-set.ensures.loaded c.in_ok-set.ensures.named
+    c.in_ok-set-2.ensures.held c.in_ok-aggregate.ensures.state c.in_ok-set-2.ensures.loaded

@@ -40,4 +40,5 @@ loop-index-preserved g c =
       search rules,
       search rules,
       search rules,
+      search rules,
     )

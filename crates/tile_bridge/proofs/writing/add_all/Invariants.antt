@@ -15,3 +15,4 @@ invariant-loop-index g l =
     × (g.M.Backend.faults l.fn.medium ≤ g.M.Backend.faults l.medium)
     × (g.M.Backend.reads l.fn.medium ≤ g.M.Backend.reads l.medium)
     × (g.M.Backend.steady l.fn.medium → g.M.Backend.steady l.medium × (g.M.Backend.faults l.medium ≡ g.M.Backend.faults l.fn.medium))
+    × (is_some (g.M.Backend.versions l.medium) ≡ is_some (g.M.Backend.versions l.fn.medium))
