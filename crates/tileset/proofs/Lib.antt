@@ -2,5 +2,6 @@ pub mod ConvertingLemmas
 pub mod AnswerLemmas
 pub mod DumpLemmas
 pub mod HexDumpLemmas
+pub mod KeptLemmas
 pub mod ReportLemmas
 pub mod RunLemmas

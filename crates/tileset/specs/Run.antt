@@ -33,6 +33,9 @@ pub record Given : Type 0 where
   pub input : Option (List ℕ)
   pub medium : Option (List ℕ)
 
+abbrev pub given_of : List (List ℕ) → Option (List ℕ) → Option (List ℕ) → Given
+given_of words input medium = record { words = words; input = input; medium = medium }
+
 -- the input is within the limit, where it tells
 abbrev pub IsShort : Option (List ℕ) → Type 0
 IsShort input = IfSome input (λ bytes. length bytes ≤ MAX_INPUT)

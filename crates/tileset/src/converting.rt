@@ -1,17 +1,30 @@
 // The conversion of a script's stores, which are tables in memory and don't fail.
-ghost use Rattle.std.specs.Prelude.{◌≡◌, ◌≤◌, All, Some, IfErr, IfOk, IsErrOf, map};
+ghost use Rattle.std.specs.Prelude.{◌≡◌, All, Some, IfErr, IfOk, IsErrOf, map};
 ghost use Rattle.tile_ids.specs.Counts.{Rose};
 ghost use Rattle.mb_store.specs.MemStore.{told_of};
 ghost use Rattle.tile_bridge.specs.Convert.{ConvertCauses, ConvertLeaves, HasAggregate};
 ghost use Rattle.tile_bridge.specs.Outcome.{outcome};
 ghost use Rattle.tileset_script.specs.Section.{NeverFails};
-ghost use Rattle.tileset.specs.Converting.{IsNoStoreFault};
+ghost use Rattle.tileset.specs.Converting.{IsNoStoreFault, options_for};
+ghost use Rattle.tile_bridge.specs.Kept.{KeepsMedium};
 
 use mb_store::MemStore;
 use pm_format::Medium;
 use std::alloc::Global;
 use tile_bridge::{ConvertError, ConvertOptions, ConvertReport, convert};
 use tile_ids::TileCoord;
+use tileset_script::ScriptOptions;
+
+// The options of a conversion that those of a script are.
+fn convert_options(options: ScriptOptions) -> ConvertOptions
+    ensures { result ≡ options_for options }
+{
+    ConvertOptions {
+        force: options.force,
+        verify: options.verify,
+        writer: options.writer,
+    }
+}
 
 /// Converts a base in memory after its patches, of which none fails: writes the archive to the medium, and answers the coordinates from it.
 pub(crate) fn convert_stores<M: Medium>(
@@ -19,19 +32,25 @@ pub(crate) fn convert_stores<M: Medium>(
     base: &mut MemStore,
     patches: &mut Vec<MemStore>,
     coords: &[TileCoord],
-    options: &ConvertOptions,
+    options: ScriptOptions,
     medium: &mut M,
 ) -> Result<ConvertReport, ConvertError>
     requires base { NeverFails base.old }
     requires patches { All NeverFails patches.old.items }
-    ensures causes { ConvertCauses options.now.writer (Some (outcome (told_of base.old) (map told_of patches.old.items) options.now.force options.now.verify)) (M.told medium.old) result }
-    ensures leaves { ConvertLeaves options.now.writer (Some (outcome (told_of base.old) (map told_of patches.old.items) options.now.force options.now.verify)) coords.now result (M.told medium.old) (M.told medium.new) }
-    ensures aggregate { IfOk result (HasAggregate (Some (outcome (told_of base.old) (map told_of patches.old.items) options.now.force options.now.verify))) }
+    ensures causes { ConvertCauses options.writer (Some (outcome (told_of base.old)
+        (map told_of patches.old.items) options.force options.verify)) (M.told medium.old)
+        result }
+    ensures leaves { ConvertLeaves options.writer (Some (outcome (told_of base.old)
+        (map told_of patches.old.items) options.force options.verify)) coords.now result
+        (M.told medium.old) (M.told medium.new) }
+    ensures aggregate { IfOk result (HasAggregate (Some (outcome (told_of base.old)
+        (map told_of patches.old.items) options.force options.verify))) }
     ensures stores { IfErr result IsNoStoreFault }
-    ensures counted { M.reads medium.old ≤ M.reads medium.new }
-    ensures fault { IsErrOf result ConvertError.MediumFault → Rose (M.faults medium.old) (M.faults medium.new) }
-    ensures faults { M.faults medium.old ≤ M.faults medium.new }
-    ensures calm { M.steady medium.old → M.steady medium.new × (M.faults medium.new ≡ M.faults medium.old) }
+    ensures fault { IsErrOf result ConvertError.MediumFault
+        → Rose (M.faults medium.old) (M.faults medium.new) }
+    ensures medium_kept { KeepsMedium M.told M.versions M.reads M.faults M.steady
+        medium.old medium.new }
 {
-    convert(alloc, base, patches, coords, options, medium)
+    let options = convert_options(options);
+    convert(alloc, base, patches, coords, &options, medium)
 }

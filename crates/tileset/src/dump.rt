@@ -1,9 +1,11 @@
 // The dump of a medium's bytes, read back and written piece by piece.
-ghost use Rattle.std.specs.Prelude.{◌≡◌, ◌≤◌, ◌<◌, ◌+◌, ◌^◌, length, take, drop, IfSome, OnOk, IsErrOf, is_some};
+ghost use Rattle.std.specs.Prelude.{◌≡◌, ◌≤◌, ◌<◌, ◌+◌, ◌^◌, length, take, drop, IfSome, OnOk, IsErrOf};
 ghost use Rattle.tile_ids.specs.Counts.{Rose};
 ghost use Rattle.tileset.specs.Dump.{DumpCauses, HasLength};
 ghost use Rattle.tileset.specs.HexDump.{hex_dump};
 ghost use Rattle.byte_streams.specs.Streams.{Gains, GainsFront};
+ghost use Rattle.tile_bridge.specs.Kept.{KeepsMedium};
+ghost use Rattle.tileset.specs.Kept.{KeepsSink};
 
 use crate::hex_dump::push_hex_dump;
 use crate::{Outcome, Sink, write_all};
@@ -23,18 +25,19 @@ fn write_piece<O: Sink, M: Medium>(
 ) -> Result<(), Outcome>
     requires small { at + size < 2 ^ 64 }
     requires within { IfSome (M.told medium.old) (λ b. at + size ≤ length b) }
-    ensures all { OnOk result (IfSome (M.told medium.old) (λ b. Gains (O.held output.old) (O.held output.new) (hex_dump at (take size (drop at b))))) }
-    ensures front { IfSome (M.told medium.old) (λ b. GainsFront (O.held output.old) (O.held output.new) (hex_dump at (take size (drop at b)))) }
+    ensures all { OnOk result (IfSome (M.told medium.old) (λ b. Gains (O.held output.old)
+        (O.held output.new) (hex_dump at (take size (drop at b))))) }
+    ensures front { IfSome (M.told medium.old) (λ b. GainsFront (O.held output.old)
+        (O.held output.new) (hex_dump at (take size (drop at b)))) }
     ensures told { M.told medium.new ≡ M.told medium.old }
     ensures causes { DumpCauses (M.told medium.old) result }
-    ensures output_fault { IsErrOf result Outcome.OutputFault → Rose (O.faults output.old) (O.faults output.new) }
-    ensures medium_fault { IsErrOf result Outcome.MediumFault → Rose (M.faults medium.old) (M.faults medium.new) }
-    ensures output_tells { is_some (O.held output.new) ≡ is_some (O.held output.old) }
-    ensures output_faults { O.faults output.old ≤ O.faults output.new }
-    ensures reads { M.reads medium.old ≤ M.reads medium.new }
-    ensures medium_faults { M.faults medium.old ≤ M.faults medium.new }
-    ensures output_calm { O.steady output.old → O.steady output.new × (O.faults output.new ≡ O.faults output.old) }
-    ensures medium_calm { M.steady medium.old → M.steady medium.new × (M.faults medium.new ≡ M.faults medium.old) }
+    ensures output_fault { IsErrOf result Outcome.OutputFault
+        → Rose (O.faults output.old) (O.faults output.new) }
+    ensures medium_fault { IsErrOf result Outcome.MediumFault
+        → Rose (M.faults medium.old) (M.faults medium.new) }
+    ensures output_kept { KeepsSink O.held O.faults O.steady output.old output.new }
+    ensures medium_kept { KeepsMedium M.told M.versions M.reads M.faults M.steady
+        medium.old medium.new }
 {
     let response = medium.read_exact(alloc, at, size)?;
     let mut text = Vec::new(alloc);
@@ -51,18 +54,19 @@ pub(crate) fn write_dump<O: Sink, M: Medium>(
     medium: &mut M,
 ) -> Result<(), Outcome>
     requires whole { IfSome (M.told medium.old) (HasLength length) }
-    ensures all { OnOk result (IfSome (M.told medium.old) (λ b. Gains (O.held output.old) (O.held output.new) (hex_dump 0 b))) }
-    ensures front { IfSome (M.told medium.old) (λ b. GainsFront (O.held output.old) (O.held output.new) (hex_dump 0 b)) }
+    ensures all { OnOk result (IfSome (M.told medium.old) (λ b. Gains (O.held output.old)
+        (O.held output.new) (hex_dump 0 b))) }
+    ensures front { IfSome (M.told medium.old) (λ b. GainsFront (O.held output.old)
+        (O.held output.new) (hex_dump 0 b)) }
     ensures told { M.told medium.new ≡ M.told medium.old }
     ensures causes { DumpCauses (M.told medium.old) result }
-    ensures output_fault { IsErrOf result Outcome.OutputFault → Rose (O.faults output.old) (O.faults output.new) }
-    ensures medium_fault { IsErrOf result Outcome.MediumFault → Rose (M.faults medium.old) (M.faults medium.new) }
-    ensures output_tells { is_some (O.held output.new) ≡ is_some (O.held output.old) }
-    ensures output_faults { O.faults output.old ≤ O.faults output.new }
-    ensures reads { M.reads medium.old ≤ M.reads medium.new }
-    ensures medium_faults { M.faults medium.old ≤ M.faults medium.new }
-    ensures output_calm { O.steady output.old → O.steady output.new × (O.faults output.new ≡ O.faults output.old) }
-    ensures medium_calm { M.steady medium.old → M.steady medium.new × (M.faults medium.new ≡ M.faults medium.old) }
+    ensures output_fault { IsErrOf result Outcome.OutputFault
+        → Rose (O.faults output.old) (O.faults output.new) }
+    ensures medium_fault { IsErrOf result Outcome.MediumFault
+        → Rose (M.faults medium.old) (M.faults medium.new) }
+    ensures output_kept { KeepsSink O.held O.faults O.steady output.old output.new }
+    ensures medium_kept { KeepsMedium M.told M.versions M.reads M.faults M.steady
+        medium.old medium.new }
 {
     let mut at = 0;
     while at < length {

@@ -1,5 +1,5 @@
 // The script that the input spells.
-ghost use Rattle.std.specs.Prelude.{◌≡◌, ◌≤◌, Some, IfOk, IfErr, IfSome, OnOk, IsErrOf, is_some, map};
+ghost use Rattle.std.specs.Prelude.{◌≡◌, Some, IfOk, IfErr, IfSome, OnOk, IsErrOf, map};
 ghost use Rattle.std.specs.Option.{option_to_list};
 ghost use Rattle.tile_ids.specs.Counts.{Rose};
 ghost use Rattle.tileset_script.specs.Bulk.{bulk_script};
@@ -11,14 +11,14 @@ ghost use Rattle.tileset_script.specs.Setting.{options_of};
 ghost use Rattle.tileset_script.specs.Words.{IsCommand};
 ghost use Rattle.tileset_script.specs.declared.script.setting.Setting.TheVariants.{MaxLeafEntries};
 ghost use Rattle.tileset_script.specs.declared.words.Command.TheVariants as commands;
+ghost use Rattle.tileset.specs.Kept.{KeepsSource};
 
 use crate::{Command, Outcome, Source, read_input};
 use pm_format::TileType;
 use pm_writer::PmTilesWriter;
 use std::alloc::Global;
-use tile_bridge::ConvertOptions;
 use tile_ids::OutOfMemory;
-use tileset_script::{ParsedScript, bulk_base, parse_script};
+use tileset_script::{ParsedScript, ScriptOptions, bulk_base, parse_script};
 
 // The script that the input spells, which is read to its end.
 fn load<I: Source>(alloc: Global, input: &mut I) -> Result<ParsedScript, Outcome>
@@ -28,11 +28,9 @@ fn load<I: Source>(alloc: Global, input: &mut I) -> Result<ParsedScript, Outcome
     ensures read { OnOk result (IsAtEnd (I.left input.new)) }
     ensures taken { LoadTakes (I.taken input.old) (I.taken input.new) result }
     ensures causes { IfErr result (LoadCauses (I.left input.old)) }
-    ensures fault { IsErrOf result Outcome.InputFault → Rose (I.faults input.old) (I.faults input.new) }
-    ensures tells { is_some (I.left input.new) ≡ is_some (I.left input.old) }
-    ensures counted { I.taken input.old ≤ I.taken input.new }
-    ensures faults { I.faults input.old ≤ I.faults input.new }
-    ensures calm { I.steady input.old → I.steady input.new × (I.faults input.new ≡ I.faults input.old) }
+    ensures fault { IsErrOf result Outcome.InputFault
+        → Rose (I.faults input.old) (I.faults input.new) }
+    ensures input_kept { KeepsSource I.left I.taken I.faults I.steady input.old input.new }
 {
     let bytes = read_input(alloc, input)?;
     Ok(parse_script(alloc, bytes.as_slice())?)
@@ -62,7 +60,7 @@ fn bulk(
     ensures unfailing { IfOk result ScriptNeverFails }
 {
     Ok(ParsedScript {
-        options: ConvertOptions {
+        options: ScriptOptions {
             force: false,
             verify: false,
             writer: bulk_writer(leaf_entries),
@@ -83,14 +81,13 @@ pub(crate) fn script_for<I: Source>(
     ensures script { IfOk result (λ s. IsScriptOf command (I.left input.old) (script_text s)) }
     ensures unfailing { IfOk result ScriptNeverFails }
     ensures read { OnOk result (IsReadFor (Some command) (I.left input.new)) }
-    ensures untaken { IsUntaken (Some command) (I.left input.old) (I.left input.new) (I.taken input.old) (I.taken input.new) }
+    ensures untaken { IsUntaken (Some command) (I.left input.old) (I.left input.new)
+        (I.taken input.old) (I.taken input.new) }
     ensures taken { LoadTakes (I.taken input.old) (I.taken input.new) result }
     ensures causes { IfErr result (ScriptCauses command (I.left input.old)) }
-    ensures fault { IsErrOf result Outcome.InputFault → Rose (I.faults input.old) (I.faults input.new) }
-    ensures tells { is_some (I.left input.new) ≡ is_some (I.left input.old) }
-    ensures counted { I.taken input.old ≤ I.taken input.new }
-    ensures faults { I.faults input.old ≤ I.faults input.new }
-    ensures calm { I.steady input.old → I.steady input.new × (I.faults input.new ≡ I.faults input.old) }
+    ensures fault { IsErrOf result Outcome.InputFault
+        → Rose (I.faults input.old) (I.faults input.new) }
+    ensures input_kept { KeepsSource I.left I.taken I.faults I.steady input.old input.new }
 {
     match command {
         Command::ConvertHex | Command::ConvertFile => load(alloc, input),

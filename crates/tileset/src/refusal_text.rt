@@ -21,7 +21,8 @@ fn push_spelled(alloc: Global, text: &mut String, byte: u8) -> Result<(), OutOfM
 
 // A text as a script spells it, `%` and two digits in place of each byte but 21 to 7E.
 fn spelled(alloc: Global, bytes: &[u8]) -> Result<String, OutOfMemory>
-    ensures { IfOk result (λ text. string_bytes text ≡ codes "t" ++ flat_map spelled_byte bytes.now) }
+    ensures { IfOk result (λ text. string_bytes text ≡ codes "t" ++ flat_map spelled_byte
+        bytes.now) }
 {
     let mut text = String::from_str(alloc, "t")?;
     for byte in bytes {
@@ -62,7 +63,8 @@ fn two_fields(alloc: Global, first: &str, second: &str) -> Result<String, OutOfM
 
 // Three cells, each after a space.
 fn three_cells(alloc: Global, zoom: &Cell, column: &Cell, row: &Cell) -> Result<String, OutOfMemory>
-    ensures { IfOk result (λ text. string_bytes text ≡ spaced (cell_text zoom.now ∷ cell_text column.now ∷ cell_text row.now ∷ [])) }
+    ensures { IfOk result (λ text. string_bytes text ≡ spaced (cell_text zoom.now ∷ cell_text
+        column.now ∷ cell_text row.now ∷ [])) }
 {
     let zoom = cell_text(alloc, zoom)?;
     let column = cell_text(alloc, column)?;

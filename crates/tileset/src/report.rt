@@ -1,11 +1,13 @@
 // The report on a written archive.
-ghost use Rattle.std.specs.Prelude.{◌≡◌, ◌≤◌, IfSome, IfErr, OnOk, IsErrOf, is_some};
+ghost use Rattle.std.specs.Prelude.{◌≡◌, IfSome, IfErr, OnOk, IsErrOf};
 ghost use Rattle.tile_ids.specs.Counts.{Rose};
 ghost use Rattle.tileset.specs.Places.{places_text};
 ghost use Rattle.tileset.specs.Report.{report_text};
 ghost use Rattle.tileset.specs.Run.{IsReported, LinesCauses, ReportCauses, command_text};
 ghost use Rattle.byte_streams.specs.Streams.{Gains, GainsFront};
 ghost use Rattle.tileset.specs.Summary.{summary};
+ghost use Rattle.tile_bridge.specs.Kept.{KeepsMedium};
+ghost use Rattle.tileset.specs.Kept.{KeepsSink};
 
 use crate::dump::write_dump;
 use crate::places::places_text;
@@ -24,13 +26,14 @@ fn write_summary<O: Sink>(
     report: &ConvertReport,
     output: &mut O,
 ) -> Result<(), Outcome>
-    ensures all { OnOk result (Gains (O.held output.old) (O.held output.new) (summary queries.now report.now)) }
-    ensures front { GainsFront (O.held output.old) (O.held output.new) (summary queries.now report.now) }
+    ensures all { OnOk result (Gains (O.held output.old) (O.held output.new)
+        (summary queries.now report.now)) }
+    ensures front { GainsFront (O.held output.old) (O.held output.new)
+        (summary queries.now report.now) }
     ensures causes { IfErr result LinesCauses }
-    ensures output_fault { IsErrOf result Outcome.OutputFault → Rose (O.faults output.old) (O.faults output.new) }
-    ensures output_tells { is_some (O.held output.new) ≡ is_some (O.held output.old) }
-    ensures output_faults { O.faults output.old ≤ O.faults output.new }
-    ensures output_calm { O.steady output.old → O.steady output.new × (O.faults output.new ≡ O.faults output.old) }
+    ensures output_fault { IsErrOf result Outcome.OutputFault
+        → Rose (O.faults output.old) (O.faults output.new) }
+    ensures output_kept { KeepsSink O.held O.faults O.steady output.old output.new }
 {
     let text = summary_of(alloc, queries, report)?;
     write_all(output, text.as_slice())?;
@@ -46,18 +49,19 @@ fn write_hex_report<O: Sink, M: Medium>(
     medium: &mut M,
 ) -> Result<(), Outcome>
     requires reported { IfSome (M.told medium.old) (IsReported queries.now report.now) }
-    ensures all { OnOk result (IfSome (M.told medium.old) (λ b. Gains (O.held output.old) (O.held output.new) (report_text queries.now report.now.aggregate b))) }
-    ensures front { IfSome (M.told medium.old) (λ b. GainsFront (O.held output.old) (O.held output.new) (report_text queries.now report.now.aggregate b)) }
+    ensures all { OnOk result (IfSome (M.told medium.old) (λ b. Gains (O.held output.old)
+        (O.held output.new) (report_text queries.now report.now.aggregate b))) }
+    ensures front { IfSome (M.told medium.old) (λ b. GainsFront (O.held output.old)
+        (O.held output.new) (report_text queries.now report.now.aggregate b)) }
     ensures told { M.told medium.new ≡ M.told medium.old }
     ensures causes { IfErr result (ReportCauses (M.told medium.old)) }
-    ensures output_fault { IsErrOf result Outcome.OutputFault → Rose (O.faults output.old) (O.faults output.new) }
-    ensures medium_fault { IsErrOf result Outcome.MediumFault → Rose (M.faults medium.old) (M.faults medium.new) }
-    ensures output_tells { is_some (O.held output.new) ≡ is_some (O.held output.old) }
-    ensures output_faults { O.faults output.old ≤ O.faults output.new }
-    ensures reads { M.reads medium.old ≤ M.reads medium.new }
-    ensures medium_faults { M.faults medium.old ≤ M.faults medium.new }
-    ensures output_calm { O.steady output.old → O.steady output.new × (O.faults output.new ≡ O.faults output.old) }
-    ensures medium_calm { M.steady medium.old → M.steady medium.new × (M.faults medium.new ≡ M.faults medium.old) }
+    ensures output_fault { IsErrOf result Outcome.OutputFault
+        → Rose (O.faults output.old) (O.faults output.new) }
+    ensures medium_fault { IsErrOf result Outcome.MediumFault
+        → Rose (M.faults medium.old) (M.faults medium.new) }
+    ensures output_kept { KeepsSink O.held O.faults O.steady output.old output.new }
+    ensures medium_kept { KeepsMedium M.told M.versions M.reads M.faults M.steady
+        medium.old medium.new }
 {
     write_summary(alloc, queries, report, output)?;
     write_dump(alloc, report.places.length, output, medium)?;
@@ -71,13 +75,14 @@ fn write_places<O: Sink>(
     uppers: bool,
     output: &mut O,
 ) -> Result<(), Outcome>
-    ensures all { OnOk result (Gains (O.held output.old) (O.held output.new) (places_text uppers places.now)) }
-    ensures front { GainsFront (O.held output.old) (O.held output.new) (places_text uppers places.now) }
+    ensures all { OnOk result (Gains (O.held output.old) (O.held output.new)
+        (places_text uppers places.now)) }
+    ensures front { GainsFront (O.held output.old) (O.held output.new)
+        (places_text uppers places.now) }
     ensures causes { IfErr result LinesCauses }
-    ensures output_fault { IsErrOf result Outcome.OutputFault → Rose (O.faults output.old) (O.faults output.new) }
-    ensures output_tells { is_some (O.held output.new) ≡ is_some (O.held output.old) }
-    ensures output_faults { O.faults output.old ≤ O.faults output.new }
-    ensures output_calm { O.steady output.old → O.steady output.new × (O.faults output.new ≡ O.faults output.old) }
+    ensures output_fault { IsErrOf result Outcome.OutputFault
+        → Rose (O.faults output.old) (O.faults output.new) }
+    ensures output_kept { KeepsSink O.held O.faults O.steady output.old output.new }
 {
     let text = places_text(alloc, places, uppers)?;
     write_all(output, text.as_bytes())?;
@@ -94,18 +99,19 @@ pub(crate) fn write_report<O: Sink, M: Medium>(
     medium: &mut M,
 ) -> Result<(), Outcome>
     requires reported { IfSome (M.told medium.old) (IsReported queries.now report.now) }
-    ensures all { OnOk result (IfSome (M.told medium.old) (λ b. Gains (O.held output.old) (O.held output.new) (command_text command queries.now report.now.aggregate b))) }
-    ensures front { IfSome (M.told medium.old) (λ b. GainsFront (O.held output.old) (O.held output.new) (command_text command queries.now report.now.aggregate b)) }
+    ensures all { OnOk result (IfSome (M.told medium.old) (λ b. Gains (O.held output.old)
+        (O.held output.new) (command_text command queries.now report.now.aggregate b))) }
+    ensures front { IfSome (M.told medium.old) (λ b. GainsFront (O.held output.old)
+        (O.held output.new) (command_text command queries.now report.now.aggregate b)) }
     ensures told { M.told medium.new ≡ M.told medium.old }
     ensures causes { IfErr result (ReportCauses (M.told medium.old)) }
-    ensures output_fault { IsErrOf result Outcome.OutputFault → Rose (O.faults output.old) (O.faults output.new) }
-    ensures medium_fault { IsErrOf result Outcome.MediumFault → Rose (M.faults medium.old) (M.faults medium.new) }
-    ensures output_tells { is_some (O.held output.new) ≡ is_some (O.held output.old) }
-    ensures output_faults { O.faults output.old ≤ O.faults output.new }
-    ensures reads { M.reads medium.old ≤ M.reads medium.new }
-    ensures medium_faults { M.faults medium.old ≤ M.faults medium.new }
-    ensures output_calm { O.steady output.old → O.steady output.new × (O.faults output.new ≡ O.faults output.old) }
-    ensures medium_calm { M.steady medium.old → M.steady medium.new × (M.faults medium.new ≡ M.faults medium.old) }
+    ensures output_fault { IsErrOf result Outcome.OutputFault
+        → Rose (O.faults output.old) (O.faults output.new) }
+    ensures medium_fault { IsErrOf result Outcome.MediumFault
+        → Rose (M.faults medium.old) (M.faults medium.new) }
+    ensures output_kept { KeepsSink O.held O.faults O.steady output.old output.new }
+    ensures medium_kept { KeepsMedium M.told M.versions M.reads M.faults M.steady
+        medium.old medium.new }
 {
     match command {
         Command::ConvertHex => write_hex_report(alloc, queries, report, output, medium),

@@ -55,7 +55,9 @@ fn push_numbers(
     text: &mut Vec<u8>,
     report: &ConvertReport,
 ) -> Result<(), OutOfMemory>
-    ensures { OnOk result (text.new.items ≡ text.old.items ++ number_lines report.now.aggregate report.now.places.addressed report.now.places.entries report.now.places.contents report.now.places.length) }
+    ensures { OnOk result (text.new.items ≡ text.old.items ++ number_lines report.now.aggregate
+        report.now.places.addressed report.now.places.entries report.now.places.contents
+        report.now.places.length) }
 {
     let hash = report.aggregate.as_str();
     let ArchivePlaces {

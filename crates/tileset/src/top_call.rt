@@ -1,10 +1,12 @@
 // The whole converter as one call.
-ghost use Rattle.std.specs.Prelude.{◌≡◌, ◌⊎◌, ◌≤◌, Ok, IsErrOf, is_some};
+ghost use Rattle.std.specs.Prelude.{◌≡◌, ◌⊎◌, Ok, IsErrOf};
 ghost use Rattle.tile_ids.specs.Counts.{Rose};
 ghost use Rattle.tileset_script.specs.Reading.{ScriptNeverFails, script_text};
-ghost use Rattle.tileset.specs.Run.{AnsweredBy, Causes, Gives, IsReadFor, IsUntaken, IsValid, LeavesMedium, LeavesOutput, LeftBy, Taken, WrittenBy, answer, answer_script, outcome_of};
+ghost use Rattle.tileset.specs.Run.{AnsweredBy, Causes, Gives, IsReadFor, IsUntaken, IsValid, LeavesMedium, LeavesOutput, LeftBy, Taken, WrittenBy, answer, answer_script, given_of, outcome_of};
 ghost use Rattle.tileset_script.specs.Script.{Script};
 ghost use Rattle.tileset_script.specs.Words.{command};
+ghost use Rattle.tile_bridge.specs.Kept.{KeepsMedium};
+ghost use Rattle.tileset.specs.Kept.{KeepsSink, KeepsSource};
 
 use crate::converting::convert_stores;
 use crate::load::script_for;
@@ -26,35 +28,37 @@ pub fn run<I: Source, O: Sink, M: Medium>(
     medium: &mut M,
 ) -> Outcome
     // The answer is that of the order of tests, or want of memory, or a fault whose count rose.
-    ensures exact { Gives (answer (record { words = words.now; input = I.left input.old; medium = M.told medium.old })) result }
+    ensures exact { Gives (answer (given_of words.now (I.left input.old) (M.told medium.old)))
+        result }
     // Where all is valid and no count rose, it is Done, or memory ran out.
-    ensures complete { (s : Script) → IsValid (record { words = words.now; input = I.left input.old; medium = M.told medium.old }) s
-        → ¬ Rose (I.faults input.old) (I.faults input.new) → ¬ Rose (O.faults output.old) (O.faults output.new) → ¬ Rose (M.faults medium.old) (M.faults medium.new)
+    ensures complete { (s : Script)
+        → IsValid (given_of words.now (I.left input.old) (M.told medium.old)) s
+        → ¬ Rose (I.faults input.old) (I.faults input.new)
+        → ¬ Rose (O.faults output.old) (O.faults output.new)
+        → ¬ Rose (M.faults medium.old) (M.faults medium.new)
         → (result ≡ Outcome.Done) ⊎ (result ≡ Outcome.OutOfMemory) }
     // When each answer comes, whatever tells.
-    ensures causes { Causes (record { words = words.now; input = I.left input.old; medium = M.told medium.old }) result }
+    ensures causes { Causes (given_of words.now (I.left input.old) (M.told medium.old)) result }
     // After Done the medium holds the archive of the script's set, and the output its report.
-    ensures medium { LeavesMedium (record { words = words.now; input = I.left input.old; medium = M.told medium.old }) (M.told medium.new) result }
-    ensures output { LeavesOutput (record { words = words.now; input = I.left input.old; medium = M.told medium.old }) (M.told medium.new) (O.held output.old) (O.held output.new) result }
+    ensures medium { LeavesMedium (given_of words.now (I.left input.old) (M.told medium.old))
+        (M.told medium.new) result }
+    ensures output { LeavesOutput (given_of words.now (I.left input.old) (M.told medium.old))
+        (M.told medium.new) (O.held output.old) (O.held output.new) result }
     ensures read { result ≡ Outcome.Done → IsReadFor (command words.now) (I.left input.new) }
-    ensures untaken { IsUntaken (command words.now) (I.left input.old) (I.left input.new) (I.taken input.old) (I.taken input.new) }
+    ensures untaken { IsUntaken (command words.now) (I.left input.old) (I.left input.new)
+        (I.taken input.old) (I.taken input.new) }
     ensures taken { Taken (I.taken input.old) (I.taken input.new) result }
-    ensures input_fault { result ≡ Outcome.InputFault → Rose (I.faults input.old) (I.faults input.new) }
-    ensures output_fault { result ≡ Outcome.OutputFault → Rose (O.faults output.old) (O.faults output.new) }
-    ensures medium_fault { result ≡ Outcome.MediumFault → Rose (M.faults medium.old) (M.faults medium.new) }
-    // Counts don't fall, and what tells goes on to tell.
-    ensures input_tells { is_some (I.left input.new) ≡ is_some (I.left input.old) }
-    ensures output_tells { is_some (O.held output.new) ≡ is_some (O.held output.old) }
-    ensures medium_tells { is_some (M.told medium.new) ≡ is_some (M.told medium.old) }
-    ensures counted { I.taken input.old ≤ I.taken input.new }
-    ensures reads { M.reads medium.old ≤ M.reads medium.new }
-    ensures input_faults { I.faults input.old ≤ I.faults input.new }
-    ensures output_faults { O.faults output.old ≤ O.faults output.new }
-    ensures medium_faults { M.faults medium.old ≤ M.faults medium.new }
-    // An object whose calls don't fail has no fault.
-    ensures input_calm { I.steady input.old → I.steady input.new × (I.faults input.new ≡ I.faults input.old) }
-    ensures output_calm { O.steady output.old → O.steady output.new × (O.faults output.new ≡ O.faults output.old) }
-    ensures medium_calm { M.steady medium.old → M.steady medium.new × (M.faults medium.new ≡ M.faults medium.old) }
+    ensures input_fault { result ≡ Outcome.InputFault
+        → Rose (I.faults input.old) (I.faults input.new) }
+    ensures output_fault { result ≡ Outcome.OutputFault
+        → Rose (O.faults output.old) (O.faults output.new) }
+    ensures medium_fault { result ≡ Outcome.MediumFault
+        → Rose (M.faults medium.old) (M.faults medium.new) }
+    // Counts don't fall, what tells goes on to tell, and an object whose calls don't fail has no fault.
+    ensures input_kept { KeepsSource I.left I.taken I.faults I.steady input.old input.new }
+    ensures output_kept { KeepsSink O.held O.faults O.steady output.old output.new }
+    ensures medium_kept { KeepsMedium M.told M.versions M.reads M.faults M.steady
+        medium.old medium.new }
 {
     match attempt(alloc, words, input, output, medium) {
         Ok(()) => Outcome::Done,
@@ -66,35 +70,34 @@ pub fn run<I: Source, O: Sink, M: Medium>(
 fn convert_script<O: Sink, M: Medium>(
     alloc: Global,
     command: Command,
-    script: &mut ParsedScript,
+    script: ParsedScript,
     output: &mut O,
     medium: &mut M,
 ) -> Result<(), Outcome>
-    requires stores { ScriptNeverFails script.old }
-    ensures exact { Gives (answer_script (Ok (script_text script.old)) (M.told medium.old)) (outcome_of result) }
-    ensures causes { AnsweredBy (script_text script.old) (M.told medium.old) (outcome_of result) }
-    ensures medium { LeftBy (script_text script.old) (M.told medium.old) (M.told medium.new) (outcome_of result) }
-    ensures output { WrittenBy command (script_text script.old) (M.told medium.old) (M.told medium.new) (O.held output.old) (O.held output.new) (outcome_of result) }
-    ensures output_fault { IsErrOf result Outcome.OutputFault → Rose (O.faults output.old) (O.faults output.new) }
-    ensures medium_fault { IsErrOf result Outcome.MediumFault → Rose (M.faults medium.old) (M.faults medium.new) }
-    ensures output_tells { is_some (O.held output.new) ≡ is_some (O.held output.old) }
-    ensures medium_tells { is_some (M.told medium.new) ≡ is_some (M.told medium.old) }
-    ensures reads { M.reads medium.old ≤ M.reads medium.new }
-    ensures output_faults { O.faults output.old ≤ O.faults output.new }
-    ensures medium_faults { M.faults medium.old ≤ M.faults medium.new }
-    ensures output_calm { O.steady output.old → O.steady output.new × (O.faults output.new ≡ O.faults output.old) }
-    ensures medium_calm { M.steady medium.old → M.steady medium.new × (M.faults medium.new ≡ M.faults medium.old) }
+    requires stores { ScriptNeverFails script }
+    ensures exact { Gives (answer_script (Ok (script_text script)) (M.told medium.old))
+        (outcome_of result) }
+    ensures causes { AnsweredBy (script_text script) (M.told medium.old) (outcome_of result) }
+    ensures medium { LeftBy (script_text script) (M.told medium.old) (M.told medium.new)
+        (outcome_of result) }
+    ensures output { WrittenBy command (script_text script) (M.told medium.old)
+        (M.told medium.new) (O.held output.old) (O.held output.new) (outcome_of result) }
+    ensures output_fault { IsErrOf result Outcome.OutputFault
+        → Rose (O.faults output.old) (O.faults output.new) }
+    ensures medium_fault { IsErrOf result Outcome.MediumFault
+        → Rose (M.faults medium.old) (M.faults medium.new) }
+    ensures output_kept { KeepsSink O.held O.faults O.steady output.old output.new }
+    ensures medium_kept { KeepsMedium M.told M.versions M.reads M.faults M.steady
+        medium.old medium.new }
 {
-    let queries = script.queries.as_slice();
-    let options = &script.options;
-    let report = convert_stores(
-        alloc,
-        &mut script.base,
-        &mut script.patches,
-        queries,
+    let ParsedScript {
         options,
-        medium,
-    )?;
+        mut base,
+        mut patches,
+        queries,
+    } = script;
+    let queries = queries.as_slice();
+    let report = convert_stores(alloc, &mut base, &mut patches, queries, options, medium)?;
     write_report(alloc, command, queries, &report, output, medium)?;
     Ok(())
 }
@@ -106,31 +109,33 @@ fn attempt<I: Source, O: Sink, M: Medium>(
     output: &mut O,
     medium: &mut M,
 ) -> Result<(), Outcome>
-    ensures exact { Gives (answer (record { words = words.now; input = I.left input.old; medium = M.told medium.old })) (outcome_of result) }
-    ensures causes { Causes (record { words = words.now; input = I.left input.old; medium = M.told medium.old }) (outcome_of result) }
-    ensures medium { LeavesMedium (record { words = words.now; input = I.left input.old; medium = M.told medium.old }) (M.told medium.new) (outcome_of result) }
-    ensures output { LeavesOutput (record { words = words.now; input = I.left input.old; medium = M.told medium.old }) (M.told medium.new) (O.held output.old) (O.held output.new) (outcome_of result) }
-    ensures read { outcome_of result ≡ Outcome.Done → IsReadFor (command words.now) (I.left input.new) }
-    ensures untaken { IsUntaken (command words.now) (I.left input.old) (I.left input.new) (I.taken input.old) (I.taken input.new) }
+    ensures exact { Gives (answer (given_of words.now (I.left input.old) (M.told medium.old)))
+        (outcome_of result) }
+    ensures causes { Causes (given_of words.now (I.left input.old) (M.told medium.old))
+        (outcome_of result) }
+    ensures medium { LeavesMedium (given_of words.now (I.left input.old) (M.told medium.old))
+        (M.told medium.new) (outcome_of result) }
+    ensures output { LeavesOutput (given_of words.now (I.left input.old) (M.told medium.old))
+        (M.told medium.new) (O.held output.old) (O.held output.new) (outcome_of result) }
+    ensures read { outcome_of result ≡ Outcome.Done
+        → IsReadFor (command words.now) (I.left input.new) }
+    ensures untaken { IsUntaken (command words.now) (I.left input.old) (I.left input.new)
+        (I.taken input.old) (I.taken input.new) }
     ensures taken { Taken (I.taken input.old) (I.taken input.new) (outcome_of result) }
-    ensures input_fault { outcome_of result ≡ Outcome.InputFault → Rose (I.faults input.old) (I.faults input.new) }
-    ensures output_fault { outcome_of result ≡ Outcome.OutputFault → Rose (O.faults output.old) (O.faults output.new) }
-    ensures medium_fault { outcome_of result ≡ Outcome.MediumFault → Rose (M.faults medium.old) (M.faults medium.new) }
-    ensures input_tells { is_some (I.left input.new) ≡ is_some (I.left input.old) }
-    ensures output_tells { is_some (O.held output.new) ≡ is_some (O.held output.old) }
-    ensures medium_tells { is_some (M.told medium.new) ≡ is_some (M.told medium.old) }
-    ensures counted { I.taken input.old ≤ I.taken input.new }
-    ensures reads { M.reads medium.old ≤ M.reads medium.new }
-    ensures input_faults { I.faults input.old ≤ I.faults input.new }
-    ensures output_faults { O.faults output.old ≤ O.faults output.new }
-    ensures medium_faults { M.faults medium.old ≤ M.faults medium.new }
-    ensures input_calm { I.steady input.old → I.steady input.new × (I.faults input.new ≡ I.faults input.old) }
-    ensures output_calm { O.steady output.old → O.steady output.new × (O.faults output.new ≡ O.faults output.old) }
-    ensures medium_calm { M.steady medium.old → M.steady medium.new × (M.faults medium.new ≡ M.faults medium.old) }
+    ensures input_fault { outcome_of result ≡ Outcome.InputFault
+        → Rose (I.faults input.old) (I.faults input.new) }
+    ensures output_fault { outcome_of result ≡ Outcome.OutputFault
+        → Rose (O.faults output.old) (O.faults output.new) }
+    ensures medium_fault { outcome_of result ≡ Outcome.MediumFault
+        → Rose (M.faults medium.old) (M.faults medium.new) }
+    ensures input_kept { KeepsSource I.left I.taken I.faults I.steady input.old input.new }
+    ensures output_kept { KeepsSink O.held O.faults O.steady output.old output.new }
+    ensures medium_kept { KeepsMedium M.told M.versions M.reads M.faults M.steady
+        medium.old medium.new }
 {
     let Some(command) = command_of(words) else {
         return Err(Outcome::Usage);
     };
-    let mut script = script_for(alloc, command, input)?;
-    convert_script(alloc, command, &mut script, output, medium)
+    let script = script_for(alloc, command, input)?;
+    convert_script(alloc, command, script, output, medium)
 }

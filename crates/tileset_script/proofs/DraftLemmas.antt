@@ -6,7 +6,7 @@ use Rattle.std.specs.Option.{option_map, option_to_list}
 use Rattle.mb_store.specs.MemStore.{told_of}
 use Rattle.tileset_script.specs.Section.{NeverFails}
 use Rattle.mb_store.specs.declared.mem_store.MemStore.{MemStore}
-use Rattle.tile_bridge.specs.declared.options.ConvertOptions.{ConvertOptions}
+use Rattle.tileset_script.specs.declared.script.options.ScriptOptions.{ScriptOptions}
 use Rattle.tile_ids.specs.Coord.{Coord}
 use Rattle.tileset_script.specs.Script.{Script, ended}
 use Rattle.tileset_script.specs.Setting.{options_of}
@@ -39,7 +39,7 @@ pub first_removed : (stores patches : List MemStore) (base : MemStore) → 0 < l
 first_removed [] patches base l v i = absurd (omega arith)
 first_removed (s ∷ stores) patches base l v i = let first : base ≡ s = v in let others : patches ≡ stores = i in sym (ap (λ b. b ∷ patches) first ∙ ap (λ ps. s ∷ ps) others)
 
-pub script_ended : (settings : List Setting) (queries : List Coord) (options : ConvertOptions) (earlier stores patches : List MemStore) (latest : Option Section) (base : MemStore) → stores ≡ all_stores earlier latest → stores ≡ base ∷ patches → options ≡ options_of settings
+pub script_ended : (settings : List Setting) (queries : List Coord) (options : ScriptOptions) (earlier stores patches : List MemStore) (latest : Option Section) (base : MemStore) → stores ≡ all_stores earlier latest → stores ≡ base ∷ patches → options ≡ options_of settings
     → Some (record { options = options; base = told_of base; patches = map told_of patches; queries = queries }) ≡ ended (record { settings = settings; earlier = map told_of earlier; latest = option_map (λ s. told_of s.store) latest; queries = queries })
 script_ended settings queries options earlier stores patches latest base all first o =
     ap (λ p. Some (record { options = p; base = told_of base; patches = map told_of patches; queries = queries })) o

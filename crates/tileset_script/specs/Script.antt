@@ -3,7 +3,7 @@ use Rattle.std.specs.Prelude.{ℕ, zero, suc, ◌+◌, is_some, not, ◌&&◌, L
 use Rattle.std.specs.List.{find}
 use Rattle.std.specs.Option.{option_and_then, option_map, option_to_list}
 use Rattle.std.specs.Str.{bytes_eq}
-use Rattle.tile_bridge.specs.declared.options.ConvertOptions.{ConvertOptions}
+use Rattle.tileset_script.specs.declared.script.options.ScriptOptions.{ScriptOptions}
 use Rattle.tile_ids.specs.Coord.{Coord}
 use Rattle.mb_store.specs.Sizes.{all_tables}
 use Rattle.mb_store.specs.Store.{is_duplicate, no_rows, with_row}
@@ -24,7 +24,7 @@ use Rattle.tileset_script.specs.declared.script.setting.Setting.{Setting}
 
 -- what a script says: options, the tables of the base and of each patch, and the coordinates that are asked for
 pub record Script : Type 0 where
-  pub options : ConvertOptions
+  pub options : ScriptOptions
   pub base : Tables
   pub patches : List Tables
   pub queries : List Coord

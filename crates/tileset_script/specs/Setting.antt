@@ -8,7 +8,7 @@ use Rattle.pm_format.specs.declared.compression.Compression.{Compression}
 use Rattle.pm_format.specs.declared.compression.Compression.TheVariants as compressions
 use Rattle.pm_format.specs.declared.tile_type.TileType.{TileType}
 use Rattle.pm_format.specs.declared.tile_type.TileType.TheVariants as types
-use Rattle.tile_bridge.specs.declared.options.ConvertOptions.{ConvertOptions}
+use Rattle.tileset_script.specs.declared.script.options.ScriptOptions.{ScriptOptions}
 use Rattle.line_words.specs.Number.{integer_below, number_to}
 use Rattle.tileset_script.specs.LeafEntries.{leaf_entries_of}
 use Rattle.tileset_script.specs.Text.{text_of}
@@ -112,7 +112,7 @@ abbrev pub writer_of : List Setting → Options
 writer_of settings = with_settings (default_options (type_in types.Unknown settings)) settings
 
 -- the options that settings give
-abbrev pub options_of : List Setting → ConvertOptions
+abbrev pub options_of : List Setting → ScriptOptions
 options_of settings = record { force = list_any is_force settings; verify = list_any is_verify settings; writer = writer_of settings }
 
 pub last_type_counts : writer_of (given.TileType types.Mvt ∷ MinZoom 3 ∷ given.TileType types.Png ∷ MinZoom 4 ∷ []) ≡ record (default_options types.Png) { min_zoom = 4 }

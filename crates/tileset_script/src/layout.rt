@@ -88,7 +88,8 @@ fn add_column(
     name: &str,
     type_name: &str,
 ) -> Result<(), OutOfMemory>
-    ensures { OnOk result (columns.new.items ≡ columns.old.items ++ column_of name.now type_name.now ∷ []) }
+    ensures { OnOk result (columns.new.items ≡ columns.old.items ++ column_of name.now
+        type_name.now ∷ []) }
 {
     let name = text_of(alloc, name)?;
     let type_name = text_of(alloc, type_name)?;
@@ -123,7 +124,8 @@ fn bsdiff_table(alloc: Global) -> Result<TableDesc, OutOfMemory>
 
 // The tables of a flat set, the table of tiles without its index.
 fn unindexed_tables(alloc: Global) -> Result<Vec<TableDesc>, OutOfMemory>
-    ensures { IfOk result (λ tables. tables.items ≡ table_of TableName.Metadata ∷ unindexed (table_of TableName.Tiles) ∷ []) }
+    ensures { IfOk result (λ tables. tables.items ≡ table_of TableName.Metadata ∷ unindexed
+        (table_of TableName.Tiles) ∷ []) }
 {
     let mut tiles = table_of(alloc, TableName::Tiles)?;
     tiles.indexes = IndexList::new(Vec::new(alloc));

@@ -3,6 +3,7 @@ mod cell;
 mod draft;
 mod error;
 mod line;
+mod options;
 mod reading;
 mod setting;
 mod text;
@@ -10,16 +11,16 @@ mod text;
 pub use error::ScriptError;
 pub use line::Line;
 use mb_store::MemStore;
+pub use options::ScriptOptions;
 pub use reading::parse_script;
 pub use setting::Setting;
-use tile_bridge::ConvertOptions;
 use tile_ids::TileCoord;
 
 /// A script that was read.
 #[derive(Drop)]
 pub struct ParsedScript {
     /// How the base is converted.
-    pub options: ConvertOptions,
+    pub options: ScriptOptions,
     /// The base.
     pub base: MemStore,
     /// The patches, in the order in which they are taken.

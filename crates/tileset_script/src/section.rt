@@ -42,7 +42,8 @@ impl Section {
     /// Adds a row to a table, and says whether the store has the table, and not yet a row of the same key.
     pub(crate) fn take_row(&mut self, table: TableName, row: Row) -> Result<bool, OutOfMemory>
         requires { length row ≡ width table }
-        ensures takes { IfOk result (λ taken. Takes (row_added table row (told_of self.old.store)) taken (told_of self.new.store)) }
+        ensures takes { IfOk result (λ taken. Takes (row_added table row (told_of self.old.store))
+            taken (told_of self.new.store)) }
         ensures unfailing { NeverFails self.old.store → NeverFails self.new.store }
     {
         if !has_table(self.layout, table) {

@@ -41,7 +41,8 @@ impl Draft {
     /// Takes a line, and says whether it stands in its section, and a row in a table that has no row of its key.
     pub(crate) fn take(&mut self, alloc: Global, line: Line) -> Result<bool, OutOfMemory>
         requires { IsWide line }
-        ensures takes { IfOk result (λ taken. Takes (with_line (drafted self.old) line) taken (drafted self.new)) }
+        ensures takes { IfOk result (λ taken. Takes (with_line (drafted self.old) line) taken
+            (drafted self.new)) }
         ensures unfailing { OnOk result (DraftNeverFails self.old → DraftNeverFails self.new) }
     {
         match line {
@@ -56,7 +57,8 @@ impl Draft {
 
     // An option stands before the base.
     fn take_setting(&mut self, setting: Setting) -> Result<bool, OutOfMemory>
-        ensures takes { IfOk result (λ taken. Takes (with_line (drafted self.old) (Line.Given setting)) taken (drafted self.new)) }
+        ensures takes { IfOk result (λ taken. Takes (with_line (drafted self.old)
+            (Line.Given setting)) taken (drafted self.new)) }
         ensures unfailing { OnOk result (DraftNeverFails self.old → DraftNeverFails self.new) }
     {
         if self.latest.is_some() {
@@ -80,7 +82,8 @@ impl Draft {
 
     // There is one base.
     fn take_base(&mut self, alloc: Global, layout: Layout) -> Result<bool, OutOfMemory>
-        ensures takes { IfOk result (λ taken. Takes (with_line (drafted self.old) (Line.Base layout)) taken (drafted self.new)) }
+        ensures takes { IfOk result (λ taken. Takes (with_line (drafted self.old)
+            (Line.Base layout)) taken (drafted self.new)) }
         ensures unfailing { OnOk result (DraftNeverFails self.old → DraftNeverFails self.new) }
     {
         if self.latest.is_some() {
@@ -92,7 +95,8 @@ impl Draft {
 
     // A patch stands behind the base and before the queries.
     fn take_patch(&mut self, alloc: Global, layout: Layout) -> Result<bool, OutOfMemory>
-        ensures takes { IfOk result (λ taken. Takes (with_line (drafted self.old) (Line.Patch layout)) taken (drafted self.new)) }
+        ensures takes { IfOk result (λ taken. Takes (with_line (drafted self.old)
+            (Line.Patch layout)) taken (drafted self.new)) }
         ensures unfailing { OnOk result (DraftNeverFails self.old → DraftNeverFails self.new) }
     {
         if self.latest.is_none() || !self.queries.is_empty() {
@@ -105,7 +109,8 @@ impl Draft {
     // A row stands behind the base or a patch and before the queries, and goes to the store that was begun last.
     fn take_row(&mut self, table: TableName, row: Row) -> Result<bool, OutOfMemory>
         requires { length row ≡ width table }
-        ensures takes { IfOk result (λ taken. Takes (with_line (drafted self.old) (Line.Row table row)) taken (drafted self.new)) }
+        ensures takes { IfOk result (λ taken. Takes (with_line (drafted self.old)
+            (Line.Row table row)) taken (drafted self.new)) }
         ensures unfailing { OnOk result (DraftNeverFails self.old → DraftNeverFails self.new) }
     {
         if !self.queries.is_empty() {
@@ -119,7 +124,8 @@ impl Draft {
 
     // A query stands behind the base.
     fn take_query(&mut self, coord: TileCoord) -> Result<bool, OutOfMemory>
-        ensures takes { IfOk result (λ taken. Takes (with_line (drafted self.old) (Line.Query coord)) taken (drafted self.new)) }
+        ensures takes { IfOk result (λ taken. Takes (with_line (drafted self.old)
+            (Line.Query coord)) taken (drafted self.new)) }
         ensures unfailing { OnOk result (DraftNeverFails self.old → DraftNeverFails self.new) }
     {
         if self.latest.is_none() {
@@ -131,8 +137,10 @@ impl Draft {
 
     /// The script, where there was a base line.
     pub(crate) fn finish(self) -> Result<Option<ParsedScript>, OutOfMemory>
-        ensures script { IfOk result (λ script. option_map script_text script ≡ ended (drafted self)) }
-        ensures unfailing { IfOk result (λ script. DraftNeverFails self → IfSome script ScriptNeverFails) }
+        ensures script { IfOk result (λ script. option_map script_text script ≡ ended
+            (drafted self)) }
+        ensures unfailing { IfOk result (λ script. DraftNeverFails self
+            → IfSome script ScriptNeverFails) }
     {
         let Draft {
             settings,
@@ -159,7 +167,8 @@ fn all_stores(
     mut earlier: Vec<MemStore>,
     latest: Option<Section>,
 ) -> Result<Vec<MemStore>, OutOfMemory>
-    ensures { IfOk result (λ stores. stores.items ≡ earlier.items ++ option_to_list (option_map (λ s. s.store) latest)) }
+    ensures { IfOk result (λ stores. stores.items ≡ earlier.items ++ option_to_list
+        (option_map (λ s. s.store) latest)) }
 {
     if let Some(section) = latest {
         earlier.push(section.into_store())?;

@@ -13,7 +13,8 @@ use tile_ids::OutOfMemory;
 
 // Takes a line, and says whether it is a good one in its place.
 fn take_line(alloc: Global, draft: &mut Draft, line: &[u8]) -> Result<bool, OutOfMemory>
-    ensures takes { IfOk result (λ taken. Takes (option_and_then (with_line (drafted draft.old)) (line_of line.now)) taken (drafted draft.new)) }
+    ensures takes { IfOk result (λ taken. Takes (option_and_then (with_line (drafted draft.old))
+        (line_of line.now)) taken (drafted draft.new)) }
     ensures unfailing { OnOk result (DraftNeverFails draft.old → DraftNeverFails draft.new) }
 {
     match parse_line(alloc, line)? {

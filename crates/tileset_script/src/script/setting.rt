@@ -5,13 +5,13 @@ ghost use Rattle.std.specs.Str.{bytes_eq};
 ghost use Rattle.line_words.specs.Parting.{words_of};
 ghost use Rattle.tileset_script.specs.Setting.{bounds_of, center_of, compression_named, degrees_of, is_force, is_verify, options_of, setting_of, type_in, type_named, with_setting, with_value, without_value, writer_of, zoom_of};
 
+use super::options::ScriptOptions;
 use super::text::parse_text;
 use crate::leaf_entries::LeafEntries;
 use line_words::{four_words, is_word, one_word, parse_integer, parse_number, two_words};
 use pm_format::{Compression, TileType};
 use pm_writer::PmTilesWriter;
 use std::alloc::Global;
-use tile_bridge::ConvertOptions;
 use tile_ids::{OutOfMemory, TextVal};
 
 /// An option: how the set is converted, how the archive is labelled, or what it says of its tiles.
@@ -245,12 +245,12 @@ fn is_verified(settings: &[Setting]) -> bool
 }
 
 /// The options that settings give in order, those of one kind by the last, upon the defaults of the last type.
-pub(crate) fn options_of(settings: Vec<Setting>) -> ConvertOptions
+pub(crate) fn options_of(settings: Vec<Setting>) -> ScriptOptions
     ensures { result ≡ options_of settings.items }
 {
     let force = is_forced(settings.as_slice());
     let verify = is_verified(settings.as_slice());
-    ConvertOptions {
+    ScriptOptions {
         force,
         verify,
         writer: writer_of(settings),

@@ -31,7 +31,8 @@ fn byte_of(high: u8, low: u8) -> Option<u8>
 // The byte that the two digits in front give, and what follows them.
 #[tactic(auto, using(crate::proofs::TextLemmas::escapes))]
 fn escaped_byte(digits: &[u8]) -> Option<(u8, &[u8])>
-    ensures value { MatchOption result (unescaped (37 ∷ digits.now) ≡ None) (λ r. unescaped (37 ∷ digits.now) ≡ option_map (λ bytes. r.0 ∷ bytes) (unescaped r.1.now)) }
+    ensures value { MatchOption result (unescaped (37 ∷ digits.now) ≡ None)
+        (λ r. unescaped (37 ∷ digits.now) ≡ option_map (λ bytes. r.0 ∷ bytes) (unescaped r.1.now)) }
     ensures shorter { IfSome result (λ r. length r.1.now ≤ length digits.now) }
 {
     match digits {
@@ -46,7 +47,9 @@ fn escaped_byte(digits: &[u8]) -> Option<(u8, &[u8])>
 // The byte that the first one of a word begins, and what follows it.
 #[tactic(auto, using(crate::proofs::TextLemmas::next_bytes))]
 fn next_byte(first: u8, tail: &[u8]) -> Option<(u8, &[u8])>
-    ensures value { MatchOption result (unescaped (first ∷ tail.now) ≡ None) (λ r. unescaped (first ∷ tail.now) ≡ option_map (λ bytes. r.0 ∷ bytes) (unescaped r.1.now)) }
+    ensures value { MatchOption result (unescaped (first ∷ tail.now) ≡ None)
+        (λ r. unescaped (first ∷ tail.now) ≡ option_map (λ bytes. r.0 ∷ bytes)
+        (unescaped r.1.now)) }
     ensures shorter { IfSome result (λ r. length r.1.now ≤ length tail.now) }
 {
     if first == b'%' {

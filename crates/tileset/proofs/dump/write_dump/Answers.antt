@@ -1,5 +1,6 @@
 use Rattle.std.proofs.Common.{rules}
 use Rattle.tileset.proofs.DumpLemmas.{gains_start, gains_piece, front_piece, moved}
+use Rattle.tileset.proofs.KeptLemmas.{medium_same, medium_then, sink_same, sink_then}
 use Rattle.tileset.proofs.dump.write_dump.Goals as goal
 
 pub loop-at-init : goal.loop-at-init
@@ -8,12 +9,8 @@ loop-at-init g c = record {
   told = search rules;
   aligned = search rules;
   within = search rules;
-  output_faults = search rules;
-  medium_faults = search rules;
-  output_tells = search rules;
-  reads = search rules;
-  output_calm = search rules;
-  medium_calm = search rules;
+  output_kept = sink_same g.O.Sink.held g.O.Sink.faults g.O.Sink.steady c.args.output.now;
+  medium_kept = medium_same g.M.Backend.told g.M.Backend.versions g.M.Backend.reads g.M.Backend.faults g.M.Backend.steady c.args.medium.now;
 }
 
 pub returns-in_err-write_piece-clause-front : goal.returns-in_err-write_piece-clause-front
@@ -25,10 +22,6 @@ loop-at-preserved g c = record {
   told = search rules;
   aligned = search rules;
   within = search rules;
-  output_faults = search rules;
-  medium_faults = search rules;
-  output_tells = search rules;
-  reads = search rules;
-  output_calm = search rules;
-  medium_calm = search rules;
+  output_kept = sink_then g.O.Sink.held g.O.Sink.faults g.O.Sink.steady c.args.output.now c.loop-at.output c.write_piece.new.output c.loop-at.invariant.output_kept c.in_ok-write_piece.ensures.output_kept;
+  medium_kept = medium_then g.M.Backend.told g.M.Backend.versions g.M.Backend.reads g.M.Backend.faults g.M.Backend.steady c.args.medium.now c.loop-at.medium c.write_piece.new.medium c.loop-at.invariant.medium_kept c.in_ok-write_piece.ensures.medium_kept;
 }

@@ -1,6 +1,8 @@
 -- the lines of what was written so far
-use Rattle.std.proofs.Common.{◌≡◌, ◌≤◌, ◌<◌, ◌-◌, ◌%◌, take, IfSome, is_some}
+use Rattle.std.proofs.Common.{◌≡◌, ◌≤◌, ◌<◌, ◌-◌, ◌%◌, take, IfSome}
+use Rattle.tile_bridge.specs.Kept.{KeepsMedium}
 use Rattle.tileset.specs.HexDump.{hex_dump}
+use Rattle.tileset.specs.Kept.{KeepsSink}
 use Rattle.byte_streams.specs.Streams.{Gains}
 use Rattle.tileset.proofs.dump.write_dump.Given as goal
 
@@ -13,12 +15,8 @@ invariant-loop-at g l =
       told : m.told l.medium ≡ m.told l.fn.medium;
       aligned : l.at < l.length → l.at % 32 ≡ 0;
       within : l.at ≤ l.length;
-      output_faults : o.faults l.fn.output ≤ o.faults l.output;
-      medium_faults : m.faults l.fn.medium ≤ m.faults l.medium;
-      output_tells : is_some (o.held l.output) ≡ is_some (o.held l.fn.output);
-      reads : m.reads l.fn.medium ≤ m.reads l.medium;
-      output_calm : o.steady l.fn.output → o.steady l.output × (o.faults l.output ≡ o.faults l.fn.output);
-      medium_calm : m.steady l.fn.medium → m.steady l.medium × (m.faults l.medium ≡ m.faults l.fn.medium);
+      output_kept : KeepsSink o.held o.faults o.steady l.fn.output l.output;
+      medium_kept : KeepsMedium m.told m.versions m.reads m.faults m.steady l.fn.medium l.medium;
     }
 
 abbrev pub decreases-loop-at : goal.decreases-loop-at

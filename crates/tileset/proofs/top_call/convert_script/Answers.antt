@@ -5,17 +5,17 @@ use Rattle.tileset.proofs.top_call.convert_script.Goals as goal
 
 pub returns-in_err-write_report-clause-causes : goal.returns-in_err-write_report-clause-causes
 returns-in_err-write_report-clause-causes g c =
-    reported_causes (script_text c.args.script.now) c.as_slice-queries.result.now c.in_ok-report.report (g.M.Backend.told c.args.medium.now) (g.M.Backend.told c.convert_stores.new.medium) c.in_err-write_report.field-0.0 c.from_residual-in_err-write_report.result c.in_ok-report.ensures.causes c.in_ok-report.ensures.leaves
+    reported_causes (script_text c.args.script) c.as_slice-queries.result.now c.in_ok-report.report (g.M.Backend.told c.args.medium.now) (g.M.Backend.told c.convert_stores.new.medium) c.in_err-write_report.field-0.0 c.from_residual-in_err-write_report.result c.in_ok-report.ensures.causes c.in_ok-report.ensures.leaves
     c.in_err-write_report.ensures.causes c.from_residual-in_err-write_report.ensures.1
 
 pub returns-in_err-write_report-clause-medium : goal.returns-in_err-write_report-clause-medium
 returns-in_err-write_report-clause-medium g c =
-    reported_medium c.args.command (script_text c.args.script.now) c.as_slice-queries.result.now c.in_ok-report.report (g.M.Backend.told c.args.medium.now) (g.M.Backend.told c.convert_stores.new.medium) (g.M.Backend.told c.write_report.new.medium) c.in_err-write_report.field-0.0 c.from_residual-in_err-write_report.result
+    reported_medium c.args.command (script_text c.args.script) c.as_slice-queries.result.now c.in_ok-report.report (g.M.Backend.told c.args.medium.now) (g.M.Backend.told c.convert_stores.new.medium) (g.M.Backend.told c.write_report.new.medium) c.in_err-write_report.field-0.0 c.from_residual-in_err-write_report.result
     c.in_ok-report.ensures.causes.0 c.in_ok-report.ensures.leaves c.in_err-write_report.ensures.told c.in_err-write_report.ensures.causes c.from_residual-in_err-write_report.ensures.1
 
 pub returns-in_err-write_report-clause-output : goal.returns-in_err-write_report-clause-output
 returns-in_err-write_report-clause-output g c =
-    let s = script_text c.args.script.now in
+    let s = script_text c.args.script in
     let told = g.M.Backend.told c.convert_stores.new.medium in
     let next = g.M.Backend.told c.write_report.new.medium in
     let old = g.O.Sink.held c.args.output.now in
@@ -26,11 +26,11 @@ returns-in_err-write_report-clause-output g c =
 
 pub returns-clause-medium : goal.returns-clause-medium
 returns-clause-medium g c =
-    archive_left (script_text c.args.script.now) c.as_slice-queries.result.now c.in_ok-report.report (g.M.Backend.told c.args.medium.now) (g.M.Backend.told c.convert_stores.new.medium) (g.M.Backend.told c.write_report.new.medium) c.in_ok-report.ensures.leaves c.in_ok-write_report.ensures.told
+    archive_left (script_text c.args.script) c.as_slice-queries.result.now c.in_ok-report.report (g.M.Backend.told c.args.medium.now) (g.M.Backend.told c.convert_stores.new.medium) (g.M.Backend.told c.write_report.new.medium) c.in_ok-report.ensures.leaves c.in_ok-write_report.ensures.told
 
 pub returns-clause-output : goal.returns-clause-output
 returns-clause-output g c =
-    let s = script_text c.args.script.now in
+    let s = script_text c.args.script in
     let told = g.M.Backend.told c.convert_stores.new.medium in
     let next = g.M.Backend.told c.write_report.new.medium in
     let old = g.O.Sink.held c.args.output.now in
