@@ -6,6 +6,11 @@ use Rattle.pm_format.specs.declared.error.PmtError.{PmtError}
 use Rattle.pm_reader.specs.declared.cache.DirCacheResult.{DirCacheResult}
 use Rattle.pm_reader.specs.declared.cache.DirCacheResult.TheVariants.{NotCached, NotFound, Found}
 
+-- how many directories may be held, and how many entries they may have together, where that is bounded
+pub record CacheLimits : Type 0 where
+  pub directories : ℕ
+  pub entries : Option ℕ
+
 -- directories by the places where they lie
 abbrev pub Held : Type 0
 Held = ℕ → Option (List Entry)

@@ -2,11 +2,11 @@
 use Rattle.std.specs.Prelude.{◌≡◌, ◌≢◌, ◌⊎◌, ℕ, List, length, true, Option, Some, None, Result, Ok, Err, nat_eq}
 use Rattle.std.specs.HashMap.{get}
 use Rattle.std.specs.Map.{lookup}
-use Rattle.bounded_lru.specs.Bounded.{Bounded, fits, used, with_pair}
+use Rattle.bounded_lru.specs.Bounded.{Bounded, IsWithin, fits, used, with_pair}
 use Rattle.pm_format.specs.Directory.{Entry}
 use Rattle.pm_format.specs.Scan.{scan}
 use Rattle.pm_format.specs.declared.error.PmtError.{PmtError}
-use Rattle.pm_reader.specs.Caches.{Held}
+use Rattle.pm_reader.specs.Caches.{CacheLimits, Held}
 use Rattle.pm_reader.specs.declared.cache.map.HashMapCache.{HashMapCache}
 use Rattle.pm_reader.specs.declared.cache.recent.LruDirCache.{LruDirCache}
 
@@ -31,6 +31,10 @@ HoldsAlso old new at d = (new at ≡ Some d) × ((o : ℕ) → o ≢ at → new 
 -- what was used last comes first, and the bounds stay
 abbrev pub IsUsed : Bounded (List Entry) → Bounded (List Entry) → ℕ → Type 0
 IsUsed old new at = new ≡ used old at
+
+-- these are the limits of a cache, and what it holds is within them
+abbrev pub IsLimited : LruDirCache → CacheLimits → Type 0
+IsLimited c l = ((uses_of c).capacity ≡ l.directories) × ((uses_of c).limit ≡ l.entries) × IsWithin length (uses_of c)
 
 -- a directory that fits is put in front of the others, and the last ones are given up until the bounds hold
 abbrev pub PutsRecent : Bounded (List Entry) → Bounded (List Entry) → ℕ → List Entry → Type 0

@@ -1,5 +1,8 @@
 -- How often a backend was read.
 use Rattle.std.specs.Prelude.{◌≡◌, ℕ, ◌+◌, ◌-◌, ◌^◌, ◌≤◌, List, [], ◌∷◌, min, Option, Some, None, Result, Ok, Err}
+use Rattle.pm_format.specs.declared.error.PmtError.{PmtError}
+use Rattle.pm_format.specs.declared.error.PmtError.TheVariants as errors
+use Rattle.pm_format.specs.declared.error.ReadCause.TheVariants as causes
 
 -- a count grew by at least low, as far as the end of u64 allows, and by at most high
 pub record GrewBetween (before now low high : ℕ) : Type 0 where
@@ -19,9 +22,11 @@ abbrev pub reads_refused : {A E : Type 0} → Result A E → ℕ
 reads_refused (Ok x) = 0
 reads_refused (Err e) = 1
 
--- what is read wholly takes one read
-abbrev pub reads_done : {A E : Type 0} → Result A E → ℕ
+-- what is read wholly takes one read, and so do a fault and a wrong number of bytes
+abbrev pub reads_done : {A : Type 0} → Result A PmtError → ℕ
 reads_done (Ok x) = 1
+reads_done (Err (errors.Reading causes.Fault)) = 1
+reads_done (Err (errors.UnexpectedNumberOfBytesReturned asked got)) = 1
 reads_done (Err e) = 0
 
 -- a call that only reads: what the backend tells stays, and its count of faults doesn't fall, nor rises where its calls don't fail

@@ -2,6 +2,7 @@
 ghost use Rattle.std.specs.Prelude.{◌≡◌, ◌≤◌, ◌-◌, IfSome};
 ghost use Rattle.pm_format.specs.LookUp.{leaf_of};
 ghost use Rattle.pm_reader.specs.Answers.{Gives, IsWhole, LookUpCauses};
+ghost use Rattle.pm_reader.specs.Caches.{CacheLimits};
 ghost use Rattle.pm_reader.specs.Levels.{IsAtLevel, IsLeafEntry, IsTrusted};
 ghost use Rattle.pm_reader.specs.Path.{entry_in_leaf};
 ghost use Rattle.pm_reader.specs.Way.{Follows};
@@ -43,6 +44,7 @@ impl ReaderState {
         ensures trusted { IfSome (B.told backend.old) (λ b. IsTrusted self.now.header b self.now.root (C.held cache.old) (C.idle cache.old)
             → IsLeafEntry self.now.header b self.now.root leaf → IsTrusted self.now.header b self.now.root (C.held cache.new) (C.idle cache.new)) }
         ensures idle { C.idle cache.old → C.idle cache.new }
+        ensures limits { (l : CacheLimits) → C.keeps_to cache.old l → C.keeps_to cache.new l }
         ensures causes { LookUpCauses (B.faults backend.old) (B.faults backend.new) result }
         ensures whole { IfSome (B.told backend.old) (λ _. IsWhole result) }
         ensures kept { ReadsOnly B.told B.versions B.faults B.steady backend.old backend.new }
@@ -77,6 +79,7 @@ impl ReaderState {
             → IsAtLevel self.now.header b self.now.root (6 - left) found
             → Follows self.now.header b self.now.root tile_id left found (B.reads backend.old) (B.reads backend.new) (C.held cache.new) (C.idle cache.new) result) }
         ensures idle { C.idle cache.old → C.idle cache.new }
+        ensures limits { (l : CacheLimits) → C.keeps_to cache.old l → C.keeps_to cache.new l }
         ensures causes { LookUpCauses (B.faults backend.old) (B.faults backend.new) result }
         ensures whole { IfSome (B.told backend.old) (λ _. IsWhole result) }
         ensures kept { ReadsOnly B.told B.versions B.faults B.steady backend.old backend.new }

@@ -3,6 +3,7 @@ ghost use Rattle.std.specs.Prelude.{◌≡◌, IfSome};
 ghost use Rattle.pm_format.specs.LookUp.{archive_tile};
 ghost use Rattle.pm_reader.specs.Answers.{FoundTextAt, Gives, IsWhole, LookUpCauses, contents_of, tile_of};
 ghost use Rattle.pm_reader.specs.Archives.{IsCacheable, ReadsByHops};
+ghost use Rattle.pm_reader.specs.Caches.{CacheLimits};
 ghost use Rattle.pm_reader.specs.Levels.{IsTrusted};
 ghost use Rattle.pm_reader.specs.Opening.{IsOpen};
 ghost use Rattle.pm_reader.specs.Reads.{GrewBetween, ReadsOnly, reads_for};
@@ -30,6 +31,7 @@ impl ReaderState {
             → Finds self.now.header b self.now.root tile_id (B.reads backend.old) (B.reads backend.new) (C.held cache.new) (C.idle cache.new) (tile_of result)) }
         ensures text { FoundTextAt (B.versions backend.new) (B.reads backend.new) result }
         ensures idle { C.idle cache.old → C.idle cache.new }
+        ensures limits { (l : CacheLimits) → C.keeps_to cache.old l → C.keeps_to cache.new l }
         ensures causes { LookUpCauses (B.faults backend.old) (B.faults backend.new) result }
         ensures whole { IfSome (B.told backend.old) (λ _. IsWhole result) }
         ensures kept { ReadsOnly B.told B.versions B.faults B.steady backend.old backend.new }
@@ -89,6 +91,7 @@ impl ReaderState {
         ensures answer { IfSome (B.told backend.old) (λ b. IsCacheable b (C.idle cache.old) → Gives (archive_tile b tile_id) result) }
         ensures hops { IfSome (B.told backend.old) (λ b. IsCacheable b (C.idle cache.old) → ReadsByHops b tile_id (B.reads backend.old) (B.reads backend.new)) }
         ensures idle { C.idle cache.old → C.idle cache.new }
+        ensures limits { (l : CacheLimits) → C.keeps_to cache.old l → C.keeps_to cache.new l }
         ensures causes { LookUpCauses (B.faults backend.old) (B.faults backend.new) result }
         ensures whole { IfSome (B.told backend.old) (λ _. IsWhole result) }
         ensures reads { GrewBetween (B.reads backend.old) (B.reads backend.new) (reads_for result) 7 }

@@ -6,6 +6,7 @@ ghost use Rattle.pm_format.specs.declared.error.PmtError.TheVariants as errors;
 ghost use Rattle.pm_format.specs.declared.error.ReadCause.TheVariants as causes;
 ghost use Rattle.pm_reader.specs.Answers.{Gives, IsWhole, LookUpCauses};
 ghost use Rattle.pm_reader.specs.Archives.{IsCacheable, ReadsByHops};
+ghost use Rattle.pm_reader.specs.Caches.{CacheLimits};
 ghost use Rattle.pm_reader.specs.Opening.{HasVersionOf, IsOpen, IsOpenFailure, OpenAnswers, header_of, root_of, version_of};
 ghost use Rattle.pm_reader.specs.Reads.{GrewBetween, ReadsOnly, reads_for};
 ghost use Rattle.pm_reader.specs.Tied.{IsTied};
@@ -133,6 +134,7 @@ impl<'a, B: Backend, C: DirectoryCache> PmTilesReader<'a, B, C> {
         ensures answer { IfSome (B.told self.old.backend.now) (λ b. IsCacheable b (C.idle self.old.cache) → Gives (archive_tile b tile_id) result) }
         ensures hops { IfSome (B.told self.old.backend.now) (λ b. IsCacheable b (C.idle self.old.cache) → ReadsByHops b tile_id (B.reads self.old.backend.now) (B.reads self.new.backend.now)) }
         ensures idle { C.idle self.old.cache → C.idle self.new.cache }
+        ensures limits { (l : CacheLimits) → C.keeps_to self.old.cache l → C.keeps_to self.new.cache l }
         ensures causes { LookUpCauses (B.faults self.old.backend.now) (B.faults self.new.backend.now) result }
         ensures whole { IfSome (B.told self.old.backend.now) (λ _. IsWhole result) }
         ensures kept { ReadsOnly B.told B.versions B.faults B.steady self.old.backend.now self.new.backend.now }
@@ -155,6 +157,7 @@ impl<'a, B: Backend, C: DirectoryCache> PmTilesReader<'a, B, C> {
         ensures whole { IfSome (B.told self.old.backend.now) (λ _. IsWhole result) }
         ensures hops { IfSome (B.told self.old.backend.now) (λ b. IsCacheable b (C.idle self.old.cache) → ReadsByHops b tile_id (B.reads self.old.backend.now) (B.reads self.new.backend.now)) }
         ensures idle { C.idle self.old.cache → C.idle self.new.cache }
+        ensures limits { (l : CacheLimits) → C.keeps_to self.old.cache l → C.keeps_to self.new.cache l }
         ensures kept { ReadsOnly B.told B.versions B.faults B.steady self.old.backend.now self.new.backend.now }
         ensures reads { GrewBetween (B.reads self.old.backend.now) (B.reads self.new.backend.now) (reads_for result) 7 }
     {
@@ -175,6 +178,7 @@ impl<'a, B: Backend, C: DirectoryCache> PmTilesReader<'a, B, C> {
         ensures whole { IfSome (B.told self.old.backend.now) (λ _. IsWhole result) }
         ensures hops { IfSome (B.told self.old.backend.now) (λ b. IsCacheable b (C.idle self.old.cache) → ReadsByHops b tile_id (B.reads self.old.backend.now) (B.reads self.new.backend.now)) }
         ensures idle { C.idle self.old.cache → C.idle self.new.cache }
+        ensures limits { (l : CacheLimits) → C.keeps_to self.old.cache l → C.keeps_to self.new.cache l }
         ensures kept { ReadsOnly B.told B.versions B.faults B.steady self.old.backend.now self.new.backend.now }
         ensures reads { GrewBetween (B.reads self.old.backend.now) (B.reads self.new.backend.now) (reads_for result) 7 }
     {

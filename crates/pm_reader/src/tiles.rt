@@ -3,6 +3,7 @@ ghost use Rattle.std.specs.Prelude.{◌≡◌, IfSome};
 ghost use Rattle.pm_format.specs.LookUp.{archive_tile};
 ghost use Rattle.pm_reader.specs.Answers.{IsWhole};
 ghost use Rattle.pm_reader.specs.Archives.{IsCacheable, ReadsByHops};
+ghost use Rattle.pm_reader.specs.Caches.{CacheLimits};
 ghost use Rattle.pm_reader.specs.Opening.{IsOpen, header_of, version_of};
 ghost use Rattle.pm_reader.specs.Reads.{GrewBetween, ReadsOnly, reads_for};
 ghost use Rattle.pm_reader.specs.ReadsFrom.{ReadsFrom};
@@ -46,6 +47,7 @@ impl ReaderState {
         ensures whole { IfSome (B.told backend.old) (λ _. IsWhole result) }
         ensures hops { IfSome (B.told backend.old) (λ b. IsCacheable b (C.idle cache.old) → ReadsByHops b tile_id (B.reads backend.old) (B.reads backend.new)) }
         ensures idle { C.idle cache.old → C.idle cache.new }
+        ensures limits { (l : CacheLimits) → C.keeps_to cache.old l → C.keeps_to cache.new l }
         ensures reads { GrewBetween (B.reads backend.old) (B.reads backend.new) (reads_for result) 7 }
         ensures kept { ReadsOnly B.told B.versions B.faults B.steady backend.old backend.new }
     {

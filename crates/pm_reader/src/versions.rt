@@ -1,6 +1,7 @@
 // Tiles whose version text is compared with that of the opening.
 ghost use Rattle.std.specs.Prelude.{◌≡◌, IfSome};
 ghost use Rattle.pm_reader.specs.Answers.{IsWhole};
+ghost use Rattle.pm_reader.specs.Caches.{CacheLimits};
 ghost use Rattle.pm_reader.specs.Levels.{IsTrusted};
 ghost use Rattle.pm_reader.specs.Opening.{version_of};
 ghost use Rattle.pm_reader.specs.Reads.{GrewBetween, ReadsOnly, reads_for};
@@ -44,6 +45,7 @@ impl ReaderState {
             → FindsUnmodified self.now.header b self.now.root tile_id (B.reads backend.old) (B.reads backend.new) (C.held cache.new) (C.idle cache.new) result) }
         ensures text { ComparesTexts (version_of self.now) (B.versions backend.new) (B.reads backend.new) result }
         ensures idle { C.idle cache.old → C.idle cache.new }
+        ensures limits { (l : CacheLimits) → C.keeps_to cache.old l → C.keeps_to cache.new l }
         ensures causes { UnmodifiedCauses (B.faults backend.old) (B.faults backend.new) result }
         ensures whole { IfSome (B.told backend.old) (λ _. IsWhole result) }
         ensures kept { ReadsOnly B.told B.versions B.faults B.steady backend.old backend.new }

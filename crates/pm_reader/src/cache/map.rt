@@ -33,6 +33,8 @@ impl DirectoryCache for HashMapCache {
 
     ghost idle = { λ _. ⊥ };
 
+    ghost keeps_to = { λ _ _. ⊥ };
+
     ghost idle_is_empty = { λ s o i. absurd i };
 
     fn get_dir_entry(&mut self, offset: u64, tile_id: TileId) -> DirCacheResult

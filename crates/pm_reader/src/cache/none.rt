@@ -16,6 +16,8 @@ impl DirectoryCache for NoCache {
 
     ghost idle = { λ _. Unit {0} };
 
+    ghost keeps_to = { λ _ _. Unit {0} };
+
     ghost idle_is_empty = { λ s o i. refl };
 
     fn get_dir_entry(&mut self, offset: u64, tile_id: TileId) -> DirCacheResult {

@@ -2,8 +2,8 @@
 ghost use Rattle.std.specs.Prelude.{◌≡◌, ◌≤◌, ℕ, [], Ok, None, Some, IfOk, IsTrue, length};
 ghost use Rattle.bounded_lru.specs.Bounded.{IsWithin, Puts, bounded};
 ghost use Rattle.pm_format.specs.Directory.{Entry};
-ghost use Rattle.pm_reader.specs.Caches.{AddsOnly, AnswersFetched, AnswersHeld, answer_of};
-ghost use Rattle.pm_reader.specs.MapCaches.{FetchLeaves, HoldsSame, IsUsed, PutsRecent, held_by_use, uses_of};
+ghost use Rattle.pm_reader.specs.Caches.{AddsOnly, AnswersFetched, AnswersHeld, CacheLimits, answer_of};
+ghost use Rattle.pm_reader.specs.MapCaches.{FetchLeaves, HoldsSame, IsLimited, IsUsed, PutsRecent, held_by_use, uses_of};
 
 use crate::cache::kept::KeptDirectory;
 use crate::{DirCacheResult, DirectoryCache};
@@ -61,11 +61,13 @@ impl LruDirCache {
 }
 
 impl DirectoryCache for LruDirCache {
-    ghost use Rattle.pm_reader.specs.MapCaches.{held_by_use};
+    ghost use Rattle.pm_reader.specs.MapCaches.{IsLimited, held_by_use};
 
     ghost held = { held_by_use };
 
     ghost idle = { λ _. ⊥ };
+
+    ghost keeps_to = { IsLimited };
 
     ghost idle_is_empty = { λ s o i. absurd i };
 
@@ -74,6 +76,7 @@ impl DirectoryCache for LruDirCache {
         ensures uses { IsUsed (uses_of self.old) (uses_of self.new) offset }
         ensures same { HoldsSame (held_by_use self.old) (held_by_use self.new) }
         ensures within { IsWithin length (uses_of self.new) }
+        ensures limits { (l : CacheLimits) → IsLimited self.old l → IsLimited self.new l }
     {
         self.find(offset, tile_id)
     }
@@ -81,6 +84,7 @@ impl DirectoryCache for LruDirCache {
     fn insert_dir(&mut self, offset: u64, directory: Directory) -> Result<bool, OutOfMemory>
         ensures puts { Puts length (uses_of self.old) (uses_of self.new) offset directory result }
         ensures within { IsWithin length (uses_of self.new) }
+        ensures limits { (l : CacheLimits) → IsLimited self.old l → IsLimited self.new l }
         ensures kept { IfOk result (λ kept. IsTrue kept → held_by_use self.new offset ≡ Some directory) }
         ensures adds { AddsOnly (held_by_use self.old) (held_by_use self.new) offset (λ d. d ≡ directory) }
     {
@@ -100,6 +104,7 @@ impl DirectoryCache for LruDirCache {
         ensures adds { AddsOnly (held_by_use self.old) (held_by_use self.new) offset (λ d. F.post fetcher (Ok d)) }
         ensures leaves { FetchLeaves (held_by_use self.old offset) (F.post fetcher) tile_id (IsUsed (uses_of self.old) (uses_of self.new) offset) (PutsRecent (uses_of self.old) (uses_of self.new) offset) result }
         ensures within { IsWithin length (uses_of self.new) }
+        ensures limits { (l : CacheLimits) → IsLimited self.old l → IsLimited self.new l }
     {
         match self.get_dir_entry(offset, tile_id) {
             DirCacheResult::Found(entry) => Ok(Some(entry)),
