@@ -1,6 +1,8 @@
 pub mod CompletingLemmas
+pub mod CourseLemmas
 pub mod HoldingLemmas
 pub mod LinesLemmas
+pub mod OpenedLemmas
 pub mod ReplyingLemmas
 pub mod RunLemmas
 pub mod ServingLemmas

@@ -1,8 +1,9 @@
 -- One line after another, and what the output gains by them.
-use Rattle.std.proofs.Common.{◌≡◌, ◌∙◌, ℕ, ◌+◌, ◌≤◌, List, [], ◌∷◌, ◌++◌, length, take, flat_map, Option, None, Some, Result, Ok, Err, IfErr, IfSome, IsErrAnd, refl, sym, ap, subst, arith, append_assoc, append-nil, length-append}
+use Rattle.std.proofs.Common.{◌≡◌, ◌∙◌, ℕ, ◌+◌, ◌≤◌, true, List, [], ◌∷◌, ◌++◌, length, take, flat_map, Option, None, Some, Result, Ok, Err, IfErr, IfSome, IsErrAnd, refl, sym, ap, subst, arith, append_assoc, append-nil, length-append}
 use Rattle.std.proofs.lemmas.Grind.{flat_map-append}
 use Rattle.std.proofs.Math.Seq.{take-append-add}
 use Rattle.std.proofs.lemmas.List.{take-append-le}
+use Rattle.bounded_lru.specs.Bounded.{Bounded}
 use Rattle.byte_streams.proofs.StreamsLemmas.{Gains-more, Gains-nil}
 use Rattle.byte_streams.specs.Streams.{Gains, GainsFront}
 use Rattle.byte_streams.specs.declared.sink.SinkFault.{SinkFault}
@@ -14,14 +15,21 @@ use Rattle.tile_ids.specs.Counts.{Rose}
 use Rattle.tile_serve.specs.Answers.{Answers, Causes, IsUniform, IsUnmodified}
 use Rattle.tile_serve.specs.Outcomes.{of_serve, of_sink, outcome_of}
 use Rattle.tile_serve.specs.Reply.{replies, reply}
-use Rattle.tile_serve.specs.Serving.{IsStop, IsUnmodifiedRun, LinesEnd, RefusalCauses, RefusedAt, Served, Writes, WritesLine}
+use Rattle.tile_serve.specs.Course.{AreAnswered, Course, Goes, IsAnswered, Texts, course}
+use Rattle.tile_serve.specs.Request.{request_of}
+use Rattle.tile_serve.specs.Serving.{IsStop, IsUnmodifiedRun, LinesEnd, RefusalCauses, RefusedAt, Served, WritesLine, WritesLines}
+use Rattle.tile_serve.specs.Tiles.{is_read, tiles_after}
 use Rattle.tile_serve.specs.declared.error.ServeError.{ServeError}
 use Rattle.tile_serve.specs.declared.error.ServeError.TheVariants as errors
 use Rattle.tile_serve.specs.declared.outcome.ServeOutcome.{ServeOutcome}
 use Rattle.tile_serve.specs.declared.outcome.ServeOutcome.TheVariants.{Done, Refused, Usage, InputFault, OutputFault, InputTooLong, OutOfMemory}
+use Rattle.tile_serve.proofs.CourseLemmas.{GoesTold, answered_more, tiles_more}
 
 abbrev Held : Type 0
 Held = Option (List ℕ)
+
+abbrev Tiles : Type 0
+Tiles = Bounded (List ℕ)
 
 -- the outcome of an error that is handed on
 pub outcome_is : {T : Type 0} (r : Result T ServeOutcome) (o : ServeOutcome) → IsErrAnd r (λ x. x ≡ o) → outcome_of r ≡ o
@@ -112,34 +120,41 @@ unmodified_stopped f o is = subst IsUnmodifiedRun (sym is) (unmodified_stop f)
 
 -- All lines.
 
-pub serving_begun : (told : Option (List ℕ)) (all : List ℕ) (held : Held) → IfSome told (λ b. UsesOneLength b → Served b all all held held)
-serving_begun None all held = tt
-serving_begun (Some b) all held = λ one. record { done = []; lines = refl; written = Gains-nil held }
+pub serving_begun : (told opened : Option (List ℕ)) (texts : Texts) (tiles : Tiles) (reads : ℕ) (all : List ℕ) (held : Held) → IfSome told (λ b. UsesOneLength b → Served b (course opened texts tiles reads) all all tiles reads held held)
+serving_begun None opened texts tiles reads all held = tt
+serving_begun (Some b) opened texts tiles reads all held = λ one. record { done = []; lines = refl; written = Gains-nil held; answered = refl; tiles = refl }
 
-served_more : (b all rest behind line : List ℕ) (old mid new : Held) → lines_of rest ≡ line ∷ lines_of behind → Gains mid new (reply b line) → Served b all rest old mid → Served b all behind old new
-served_more b all rest behind line old mid new parts gains s =
+served_more : (b : List ℕ) (c : Course) (all rest behind line : List ℕ) (held kept : Tiles) (before now : ℕ) (old mid new : Held) → lines_of rest ≡ line ∷ lines_of behind → Gains mid new (reply b line)
+    → Goes b c line held kept before now Done → Served b c all rest held before old mid → Served b c all behind kept now old new
+served_more b c all rest behind line held kept before now old mid new parts gains goes s =
     let joined : flat_map (reply b) (s.done ++ line ∷ []) ≡ flat_map (reply b) s.done ++ reply b line = flat_map-append (reply b) s.done (line ∷ []) ∙ ap (λ x. flat_map (reply b) s.done ++ x) (append-nil (reply b line)) in
     let P : List ℕ → Type 0 = λ x. Gains old new x in
+    let Q : Tiles → Type 0 = λ x. IsAnswered b c line x before now in
     record {
       done = s.done ++ line ∷ [];
       lines = s.lines ∙ (ap (λ x. s.done ++ x) parts ∙ sym (append_assoc s.done (line ∷ []) (lines_of behind)));
       written = subst P (sym joined) (Gains-more old mid new (flat_map (reply b) s.done) (reply b line) s.written gains);
+      answered = answered_more b c s.done line c.tiles c.reads before now s.answered (subst Q s.tiles goes.0);
+      tiles = goes.1 ∙ (ap (λ x. tiles_after b (request_of line) x) s.tiles ∙ sym (tiles_more b s.done line c.tiles));
     }
 
-pub serving_more : (told : Option (List ℕ)) (all rest behind line : List ℕ) (old mid new : Held) → lines_of rest ≡ line ∷ lines_of behind → IfSome told (λ b. UsesOneLength b → WritesLine b line mid new Done)
-    → IfSome told (λ b. UsesOneLength b → Served b all rest old mid) → IfSome told (λ b. UsesOneLength b → Served b all behind old new)
-serving_more None all rest behind line old mid new parts gains s = tt
-serving_more (Some b) all rest behind line old mid new parts gains s = λ one. served_more b all rest behind line old mid new parts (gains one) (s one)
+pub serving_more : (told opened : Option (List ℕ)) (texts : Texts) (tiles : Tiles) (reads : ℕ) (all rest behind line : List ℕ) (held kept : Tiles) (before now : ℕ) (old mid new : Held) → lines_of rest ≡ line ∷ lines_of behind
+    → IfSome told (λ b. UsesOneLength b → WritesLine b line mid new Done) → GoesTold told opened texts line held kept before now Done
+    → IfSome told (λ b. UsesOneLength b → Served b (course opened texts tiles reads) all rest held before old mid) → IfSome told (λ b. UsesOneLength b → Served b (course opened texts tiles reads) all behind kept now old new)
+serving_more None opened texts tiles reads all rest behind line held kept before now old mid new parts gains goes s = tt
+serving_more (Some b) opened texts tiles reads all rest behind line held kept before now old mid new parts gains goes s = λ one.
+    served_more b (course opened texts tiles reads) all rest behind line held kept before now old mid new parts (gains one) (goes one tiles reads) (s one)
 
-served_all : (b all rest : List ℕ) (old new : Held) → rest ≡ [] → Served b all rest old new → Gains old new (replies b all)
-served_all b all rest old new end s =
+served_all : (b : List ℕ) (c : Course) (all rest : List ℕ) (held : Tiles) (now : ℕ) (old new : Held) → rest ≡ [] → Served b c all rest held now old new → WritesLines b c all now old new Done
+served_all b c all rest held now old new end s =
     let whole : lines_of all ≡ s.done = s.lines ∙ (ap (λ x. s.done ++ x) (ap lines_of end ∙ no_byte) ∙ append-nil s.done) in
-    let P : List (List ℕ) → Type 0 = λ x. Gains old new (flat_map (reply b) x) in
-    subst P (sym whole) s.written
+    let P : List (List ℕ) → Type 0 = λ x. Gains old new (flat_map (reply b) x) × AreAnswered b c x c.tiles c.reads now in
+    subst P (sym whole) (s.written, s.answered)
 
-pub serving_done : (told : Option (List ℕ)) (all rest : List ℕ) (old new : Held) → rest ≡ [] → IfSome told (λ b. UsesOneLength b → Served b all rest old new) → IfSome told (λ b. UsesOneLength b → Writes b all old new Done)
-serving_done None all rest old new end s = tt
-serving_done (Some b) all rest old new end s = λ one. served_all b all rest old new end (s one)
+pub serving_done : (told opened : Option (List ℕ)) (texts : Texts) (tiles : Tiles) (reads : ℕ) (all rest : List ℕ) (held : Tiles) (now : ℕ) (old new : Held) → rest ≡ []
+    → IfSome told (λ b. UsesOneLength b → Served b (course opened texts tiles reads) all rest held now old new) → IfSome told (λ b. UsesOneLength b → WritesLines b (course opened texts tiles reads) all now old new Done)
+serving_done None opened texts tiles reads all rest held now old new end s = tt
+serving_done (Some b) opened texts tiles reads all rest held now old new end s = λ one. served_all b (course opened texts tiles reads) all rest held now old new end (s one)
 
 -- a front of what follows is a front of the whole
 front_more : (old mid new : Held) (done text behind whole : List ℕ) → whole ≡ done ++ (text ++ behind) → Gains old mid done → GainsFront mid new text → GainsFront old new whole
@@ -151,35 +166,47 @@ front_more old mid new done text behind whole is gains front =
       subst P (sym cut) (Gains-more old mid new done (take front.0 text) gains front.2),
     )
 
-served_front : (b all rest behind line : List ℕ) (old mid new : Held) → lines_of rest ≡ line ∷ lines_of behind → Served b all rest old mid → GainsFront mid new (reply b line) → GainsFront old new (replies b all)
-served_front b all rest behind line old mid new parts s front =
+served_front : (b : List ℕ) (c : Course) (all rest behind line : List ℕ) (held : Tiles) (before : ℕ) (old mid new : Held) → lines_of rest ≡ line ∷ lines_of behind → Served b c all rest held before old mid → GainsFront mid new (reply b line) → GainsFront old new (replies b all)
+served_front b c all rest behind line held before old mid new parts s front =
     let whole : replies b all ≡ flat_map (reply b) s.done ++ (reply b line ++ flat_map (reply b) (lines_of behind)) =
     ap (flat_map (reply b)) (s.lines ∙ ap (λ x. s.done ++ x) parts) ∙ flat_map-append (reply b) s.done (line ∷ lines_of behind) in
     front_more old mid new (flat_map (reply b) s.done) (reply b line) (flat_map (reply b) (lines_of behind)) (replies b all) whole s.written front
 
-refused_at : (b all rest behind line : List ℕ) (old mid new : Held) (e : ServeError) → lines_of rest ≡ line ∷ lines_of behind → Served b all rest old mid → (new ≡ mid) × Answers b line (Err e) → RefusedAt b all old new e
-refused_at b all rest behind line old mid new e parts s q =
+refused_at : (b : List ℕ) (c : Course) (all rest behind line : List ℕ) (held kept : Tiles) (before now : ℕ) (old mid new : Held) (e : ServeError) → lines_of rest ≡ line ∷ lines_of behind → Goes b c line held kept before now (Refused e)
+    → Served b c all rest held before old mid → (new ≡ mid) × Answers b line (Err e) → RefusedAt b c all now old new e
+refused_at b c all rest behind line held kept before now old mid new e parts goes s q =
     let P : Held → Type 0 = λ x. Gains old x (flat_map (reply b) s.done) in
-    record { before = s.done; line = line; behind = lines_of behind; lines = s.lines ∙ ap (λ x. s.done ++ x) parts; written = subst P (sym q.0) s.written; refused = q.1 }
+    let Q : Tiles → Type 0 = λ x. is_read (request_of line) x ≡ true in
+    record {
+      before = s.done;
+      line = line;
+      behind = lines_of behind;
+      lines = s.lines ∙ ap (λ x. s.done ++ x) parts;
+      written = subst P (sym q.0) s.written;
+      mid = before;
+      answered = s.answered;
+      reads = goes.0;
+      asked = subst Q s.tiles goes.1;
+      refused = q.1;
+    }
 
-stop_by : (b all rest behind line : List ℕ) (old mid new : Held) (o : ServeOutcome) → lines_of rest ≡ line ∷ lines_of behind → IsStop o → Served b all rest old mid → WritesLine b line mid new o → Writes b all old new o
-stop_by b all rest behind line old mid new Done parts not s q = absurd not
-stop_by b all rest behind line old mid new (Refused (errors.Opening e)) parts not s q = absurd q.1
-stop_by b all rest behind line old mid new (Refused errors.Fault) parts not s q = refused_at b all rest behind line old mid new errors.Fault parts s q
-stop_by b all rest behind line old mid new (Refused (errors.Modified x y)) parts not s q = refused_at b all rest behind line old mid new (errors.Modified x y) parts s q
-stop_by b all rest behind line old mid new (Refused (errors.Short x y)) parts not s q = refused_at b all rest behind line old mid new (errors.Short x y) parts s q
-stop_by b all rest behind line old mid new (Refused errors.OutOfMemory) parts not s q = refused_at b all rest behind line old mid new errors.OutOfMemory parts s q
-stop_by b all rest behind line old mid new OutputFault parts not s q = served_front b all rest behind line old mid new parts s q
-stop_by b all rest behind line old mid new OutOfMemory parts not s q = served_front b all rest behind line old mid new parts s q
-stop_by b all rest behind line old mid new Usage parts not s q = absurd q
-stop_by b all rest behind line old mid new InputFault parts not s q = absurd q
-stop_by b all rest behind line old mid new InputTooLong parts not s q = absurd q
+stop_by : (b : List ℕ) (c : Course) (all rest behind line : List ℕ) (held kept : Tiles) (before now : ℕ) (old mid new : Held) (o : ServeOutcome) → lines_of rest ≡ line ∷ lines_of behind → IsStop o → Goes b c line held kept before now o
+    → Served b c all rest held before old mid → WritesLine b line mid new o → WritesLines b c all now old new o
+stop_by b c all rest behind line held kept before now old mid new Done parts not goes s q = absurd not
+stop_by b c all rest behind line held kept before now old mid new (Refused e) parts not goes s q = refused_at b c all rest behind line held kept before now old mid new e parts goes s q
+stop_by b c all rest behind line held kept before now old mid new OutputFault parts not goes s q = served_front b c all rest behind line held before old mid new parts s q
+stop_by b c all rest behind line held kept before now old mid new OutOfMemory parts not goes s q = served_front b c all rest behind line held before old mid new parts s q
+stop_by b c all rest behind line held kept before now old mid new Usage parts not goes s q = absurd q
+stop_by b c all rest behind line held kept before now old mid new InputFault parts not goes s q = absurd q
+stop_by b c all rest behind line held kept before now old mid new InputTooLong parts not goes s q = absurd q
 
 -- a line at which it ends; a line that is Done doesn't
-pub serving_stopped : (told : Option (List ℕ)) (all rest behind line : List ℕ) (old mid new : Held) (o : ServeOutcome) → lines_of rest ≡ line ∷ lines_of behind → IsStop o → IfSome told (λ b. UsesOneLength b → WritesLine b line mid new o)
-    → IfSome told (λ b. UsesOneLength b → Served b all rest old mid) → IfSome told (λ b. UsesOneLength b → Writes b all old new o)
-serving_stopped None all rest behind line old mid new o parts not q s = tt
-serving_stopped (Some b) all rest behind line old mid new o parts not q s = λ one. stop_by b all rest behind line old mid new o parts not (s one) (q one)
+pub serving_stopped : (told opened : Option (List ℕ)) (texts : Texts) (tiles : Tiles) (reads : ℕ) (all rest behind line : List ℕ) (held kept : Tiles) (before now : ℕ) (old mid new : Held) (o : ServeOutcome) → lines_of rest ≡ line ∷ lines_of behind → IsStop o
+    → IfSome told (λ b. UsesOneLength b → WritesLine b line mid new o) → GoesTold told opened texts line held kept before now o
+    → IfSome told (λ b. UsesOneLength b → Served b (course opened texts tiles reads) all rest held before old mid) → IfSome told (λ b. UsesOneLength b → WritesLines b (course opened texts tiles reads) all now old new o)
+serving_stopped None opened texts tiles reads all rest behind line held kept before now old mid new o parts not q goes s = tt
+serving_stopped (Some b) opened texts tiles reads all rest behind line held kept before now old mid new o parts not q goes s = λ one.
+    stop_by b (course opened texts tiles reads) all rest behind line held kept before now old mid new o parts not (goes one tiles reads) (s one) (q one)
 
 stop_serve : (e : ServeError) → IsStop (of_serve e)
 stop_serve errors.OutOfMemory = tt
@@ -245,16 +272,3 @@ reads_then tells texts failed steady x y z p q = record {
 
 pub reads_nothing : {B V : Type 0} (tells : B → Option (List ℕ)) (texts : B → V) (failed : B → ℕ) (steady : B → Type 0) (x : B) → ReadsOnly tells texts failed steady x x
 reads_nothing tells texts failed steady x = record { told = refl; versions = refl; faults = omega arith; calm = λ s. (s, refl) }
-
-pub serving_stopped_as : (told again : Option (List ℕ)) (all rest behind line : List ℕ) (old mid new : Held) (o p : ServeOutcome) → again ≡ told → p ≡ o → lines_of rest ≡ line ∷ lines_of behind → IsStop o → IfSome again (λ b. UsesOneLength b → WritesLine b line mid new o)
-    → IfSome told (λ b. UsesOneLength b → Served b all rest old mid) → IfSome told (λ b. UsesOneLength b → Writes b all old new p)
-serving_stopped_as told again all rest behind line old mid new o p same is parts not q s =
-    let P : Option (List ℕ) → Type 0 = λ x. IfSome x (λ b. UsesOneLength b → WritesLine b line mid new o) in
-    let Q : ServeOutcome → Type 0 = λ x. IfSome told (λ b. UsesOneLength b → Writes b all old new x) in
-    subst Q (sym is) (serving_stopped told all rest behind line old mid new o parts not (subst P same q) s)
-
-pub serving_more_as : (told again : Option (List ℕ)) (all rest behind line : List ℕ) (old mid new : Held) → again ≡ told → lines_of rest ≡ line ∷ lines_of behind → IfSome again (λ b. UsesOneLength b → WritesLine b line mid new Done)
-    → IfSome told (λ b. UsesOneLength b → Served b all rest old mid) → IfSome told (λ b. UsesOneLength b → Served b all behind old new)
-serving_more_as told again all rest behind line old mid new same parts q s =
-    let P : Option (List ℕ) → Type 0 = λ x. IfSome x (λ b. UsesOneLength b → WritesLine b line mid new Done) in
-    serving_more told all rest behind line old mid new parts (subst P same q) s

@@ -5,10 +5,10 @@ use Rattle.bounded_lru.specs.Bounded.{Bounded, used}
 use Rattle.bounded_lru.proofs.HeldLemmas.{used-none}
 use Rattle.pm_format.specs.LookUp.{archive_tile}
 use Rattle.pm_reader.specs.Archives.{UsesOneLength}
-use Rattle.tile_serve.specs.Answers.{Compares, Finds, HasTexts, IsReadFor, IsThere, IsUniform, IsUnmodified, LeavesTiles}
+use Rattle.tile_serve.specs.Answers.{Compares, Finds, HasTexts, IsReadFor, IsThere, IsUniform, IsUnmodified, IsWanting, LeavesTiles}
 use Rattle.tile_serve.specs.Reply.{found_at}
 use Rattle.tile_serve.specs.Request.{Request, asked, request_of}
-use Rattle.tile_serve.specs.Tiles.{AreTiles, LeavesFound, is_held, tiles_after, tiles_asked, with_found}
+use Rattle.tile_serve.specs.Tiles.{AreTiles, LeavesFound, is_held, is_read, tiles_after, tiles_asked, with_found}
 use Rattle.tile_serve.specs.declared.error.ServeError.{ServeError}
 use Rattle.tile_serve.specs.declared.error.ServeError.TheVariants as errors
 use Rattle.tile_serve.specs.declared.found.Found.{Found}
@@ -108,3 +108,22 @@ pub unmodified_after : (A C : Type 0) (versions again : Option (ℕ → Option (
 unmodified_after A C versions again opened number e same first texts uniform =
     let P : Option (ℕ → Option (List ℕ)) → Type 0 = λ v. HasTexts {A = A} opened v number (Err e) in
     error_unmodified A C e (unmodified_by {A = A} opened versions number (Err e) first (subst P same texts) uniform)
+
+-- A line that isn't read for.
+
+was_held : (held : Bool) → (if held then false else true) ≡ false → held ≡ true
+was_held true q = refl
+was_held false q = absurd (cc)
+
+pub held_unread : (line tag : List ℕ) (old : Tiles) (t : ℕ) → request_of line ≡ Some (asked t tag) → is_read (request_of line) old ≡ false → is_held old t ≡ true
+held_unread line tag old t some unread = was_held (is_held old t) (sym (ap (λ r. is_read r old) some) ∙ unread)
+
+wanting_error : (e : ServeError) → IsWanting {A = Found} (Err e) → IsWanting {A = List ℕ} (Err e)
+wanting_error (errors.Opening e) q = q
+wanting_error errors.Fault q = q
+wanting_error (errors.Modified a b) q = q
+wanting_error (errors.Short a b) q = q
+wanting_error errors.OutOfMemory q = q
+
+pub wanting_asked : (line tag : List ℕ) (old : Tiles) (t : ℕ) (e : ServeError) → request_of line ≡ Some (asked t tag) → (is_held old t ≡ true → IsWanting {A = Found} (Err e)) → is_read (request_of line) old ≡ false → IsWanting {A = List ℕ} (Err e)
+wanting_asked line tag old t e some held unread = wanting_error e (held (held_unread line tag old t some unread))

@@ -1,6 +1,7 @@
 -- A run, from the opening to the last line.
-use Rattle.std.proofs.Common.{◌≡◌, ◌∙◌, ℕ, ◌≤◌, List, ◌++◌, append-nil, Option, None, Some, Result, Ok, Err, IsOk, IfSome, refl, sym, ap, subst, arith}
+use Rattle.std.proofs.Common.{◌≡◌, ◌∙◌, ℕ, ◌≤◌, List, [], ◌++◌, append-nil, Option, None, Some, Result, Ok, Err, IsOk, IfSome, refl, sym, ap, subst, arith}
 use Rattle.tile_ids.specs.Counts.{Grew}
+use Rattle.bounded_lru.specs.Bounded.{Bounded, bounded}
 use Rattle.byte_streams.specs.Input.{InputCounts}
 use Rattle.byte_streams.specs.Streams.{IsAtEnd, Loses}
 use Rattle.byte_streams.specs.declared.input.InputError.{InputError}
@@ -12,7 +13,8 @@ use Rattle.pm_reader.specs.Archives.{UsesOneLength}
 use Rattle.tile_serve.specs.Answers.{OpeningCauses, RefusesOpening}
 use Rattle.tile_serve.specs.Outcomes.{of_input, of_serve}
 use Rattle.tile_serve.specs.Reply.{replies}
-use Rattle.tile_serve.specs.Serving.{IsUnmodifiedRun, LinesEnd, RefusalCauses, Writes}
+use Rattle.tile_serve.specs.Course.{Course, IsBegun, Texts, course}
+use Rattle.tile_serve.specs.Serving.{IsUnmodifiedRun, LinesEnd, LinesTexts, RefusalCauses, RunTexts, Writes, WritesLines}
 use Rattle.tile_serve.specs.State.{IsServing}
 use Rattle.tile_serve.specs.TopCall.{IsFor, IsRead, IsSilent, IsUnopened, OpensFor, SourceCauses, Taken}
 use Rattle.tile_serve.specs.declared.error.ServeError.{ServeError}
@@ -29,16 +31,21 @@ Held = Option (List ℕ)
 -- An archive that doesn't open.
 
 pub record Unopened (told : Option (List ℕ)) (before now : ℕ) (o : ServeOutcome) : Type 0 where
-  pub writes : (held : Held) (requests : List ℕ) → IfSome told (λ b. UsesOneLength b → Writes b requests held held o)
+  pub writes : (limits : ServeLimits) (texts : Texts) (start end : ℕ) (held : Held) (requests : List ℕ) → IfSome told (λ b. UsesOneLength b → Writes limits texts start end b requests held held o)
+  pub texts : (texts : Texts) (start end : ℕ) → RunTexts texts start end o
   pub opens : IfSome told (λ b. OpensFor (opened b) o)
   pub read : IsRead o
   pub causes : SourceCauses told before now o
   pub unmodified : IsUnmodifiedRun o
   pub other : o ≡ OutputFault → ⊥
 
-told_writes : (told : Option (List ℕ)) (o : ServeOutcome) → ((b requests : List ℕ) (held : Held) → Writes b requests held held o) → (held : Held) (requests : List ℕ) → IfSome told (λ b. UsesOneLength b → Writes b requests held held o)
-told_writes None o is held requests = tt
-told_writes (Some b) o is held requests = λ one. is b requests held
+-- an outcome that leaves what is held, whatever the limits, the texts and the counts
+abbrev WritesNothing : ServeOutcome → Type 0
+WritesNothing o = (limits : ServeLimits) (texts : Texts) (start end : ℕ) (b requests : List ℕ) (held : Held) → Writes limits texts start end b requests held held o
+
+told_writes : (told : Option (List ℕ)) (o : ServeOutcome) → WritesNothing o → (limits : ServeLimits) (texts : Texts) (start end : ℕ) (held : Held) (requests : List ℕ) → IfSome told (λ b. UsesOneLength b → Writes limits texts start end b requests held held o)
+told_writes None o is limits texts start end held requests = tt
+told_writes (Some b) o is limits texts start end held requests = λ one. is limits texts start end b requests held
 
 told_opens : (told : Option (List ℕ)) (e : PmtError) → IfSome told (λ b. RefusesOpening (opened b) (errors.Opening e)) → IfSome told (λ b. OpensFor (opened b) (Refused (errors.Opening e)))
 told_opens None e q = tt
@@ -56,9 +63,9 @@ memory_fault q = absurd (cc)
 
 unopened_by : (told : Option (List ℕ)) (before now : ℕ) (e : ServeError) → IfSome told (λ b. RefusesOpening (opened b) e) → OpeningCauses before now e → Unopened told before now (of_serve e)
 unopened_by told before now (errors.Opening e) q c =
-    record { writes = told_writes told (Refused (errors.Opening e)) (λ b requests held. refl); opens = told_opens told e q; read = tt; causes = c; unmodified = tt; other = no_fault e }
+    record { writes = told_writes told (Refused (errors.Opening e)) (λ limits texts start end b requests held. refl); texts = λ texts start end. tt; opens = told_opens told e q; read = tt; causes = c; unmodified = tt; other = no_fault e }
 unopened_by told before now errors.OutOfMemory q c =
-    record { writes = told_writes told OutOfMemory (λ b requests held. front_none held (replies b requests)); opens = told_free told; read = tt; causes = tt; unmodified = tt; other = memory_fault }
+    record { writes = told_writes told OutOfMemory (λ limits texts start end b requests held. front_none held (replies b requests)); texts = λ texts start end. tt; opens = told_free told; read = tt; causes = tt; unmodified = tt; other = memory_fault }
 unopened_by told before now errors.Fault q c = absurd c
 unopened_by told before now (errors.Modified x y) q c = absurd c
 unopened_by told before now (errors.Short x y) q c = absurd c
@@ -138,9 +145,6 @@ lines_open (Some b) again versions before now s o same is q =
     let serving : IsServing (Some b) versions s = subst P same is in
     opens_by again before now b o q (ok_is (opened b) _ serving.archive.reads.opens)
 
-pub lines_write : (told again : Option (List ℕ)) (requests : List ℕ) (old new : Held) (o : ServeOutcome) → again ≡ told → IfSome again (λ b. UsesOneLength b → Writes b requests old new o) → IfSome told (λ b. UsesOneLength b → Writes b requests old new o)
-lines_write told again requests old new o same q = let P : Option (List ℕ) → Type 0 = λ x. IfSome x (λ b. UsesOneLength b → Writes b requests old new o) in subst P same q
-
 -- The words and the input.
 
 pub for_none : (words : Option ServeLimits) → words ≡ None → IsFor words Usage
@@ -176,20 +180,27 @@ read_opened Usage read u = read
 read_opened InputFault read u = read
 read_opened InputTooLong read u = read
 
+-- what is written, where the words are limits and the input is told
+abbrev pub WritesAsked : Option ServeLimits → Option (List ℕ) → Texts → ℕ → ℕ → Option (List ℕ) → Held → Held → ServeOutcome → Type 0
+WritesAsked words told texts start end input old new o =
+    IfSome words (λ limits. IfSome told (λ b. UsesOneLength b → IfSome input (λ requests. Writes limits texts start end b requests old new o)))
+
 -- what stands of the input's errors
 pub record Unread (told : Option (List ℕ)) (o : ServeOutcome) : Type 0 where
   pub words : o ≡ Usage → ⊥
-  pub writes : (held : Held) (input : Option (List ℕ)) → IfSome told (λ b. UsesOneLength b → IfSome input (λ requests. Writes b requests held held o))
+  pub writes : (words : Option ServeLimits) (texts : Texts) (start end : ℕ) (held : Held) (input : Option (List ℕ)) → WritesAsked words told texts start end input held held o
+  pub texts : (texts : Texts) (start end : ℕ) → RunTexts texts start end o
   pub opens : IfSome told (λ b. OpensFor (opened b) o)
   pub done : o ≡ Done → ⊥
   pub causes : (before now : ℕ) → SourceCauses told before now o
   pub unmodified : IsUnmodifiedRun o
   pub other : o ≡ OutputFault → ⊥
 
-input_writes : (o : ServeOutcome) → ((b requests : List ℕ) (held : Held) → Writes b requests held held o) → (told : Option (List ℕ)) (held : Held) (input : Option (List ℕ)) → IfSome told (λ b. UsesOneLength b → IfSome input (λ requests. Writes b requests held held o))
-input_writes o is None held input = tt
-input_writes o is (Some b) held None = λ one. tt
-input_writes o is (Some b) held (Some requests) = λ one. is b requests held
+input_writes : (o : ServeOutcome) → WritesNothing o → (told : Option (List ℕ)) (words : Option ServeLimits) (texts : Texts) (start end : ℕ) (held : Held) (input : Option (List ℕ)) → WritesAsked words told texts start end input held held o
+input_writes o is told None texts start end held input = tt
+input_writes o is None (Some limits) texts start end held input = tt
+input_writes o is (Some b) (Some limits) texts start end held None = λ one. tt
+input_writes o is (Some b) (Some limits) texts start end held (Some requests) = λ one. is limits texts start end b requests held
 
 input_opens : (told : Option (List ℕ)) (o : ServeOutcome) → ((b : List ℕ) → OpensFor (opened b) o) → IfSome told (λ b. OpensFor (opened b) o)
 input_opens None o is = tt
@@ -198,7 +209,8 @@ input_opens (Some b) o is = is b
 unread_by : (told : Option (List ℕ)) (e : InputError) → Unread told (of_input e)
 unread_by told input.Fault = record {
   words = λ q. absurd (cc);
-  writes = input_writes InputFault (λ b requests held. refl) told;
+  writes = input_writes InputFault (λ limits texts start end b requests held. refl) told;
+  texts = λ texts start end. tt;
   opens = input_opens told InputFault (λ b. tt);
   done = λ q. absurd (cc);
   causes = λ before now. tt;
@@ -207,7 +219,8 @@ unread_by told input.Fault = record {
 }
 unread_by told input.TooLong = record {
   words = λ q. absurd (cc);
-  writes = input_writes InputTooLong (λ b requests held. refl) told;
+  writes = input_writes InputTooLong (λ limits texts start end b requests held. refl) told;
+  texts = λ texts start end. tt;
   opens = input_opens told InputTooLong (λ b. tt);
   done = λ q. absurd (cc);
   causes = λ before now. tt;
@@ -216,7 +229,8 @@ unread_by told input.TooLong = record {
 }
 unread_by told input.OutOfMemory = record {
   words = λ q. absurd (cc);
-  writes = input_writes OutOfMemory (λ b requests held. front_none held (replies b requests)) told;
+  writes = input_writes OutOfMemory (λ limits texts start end b requests held. front_none held (replies b requests)) told;
+  texts = λ texts start end. tt;
   opens = input_opens told OutOfMemory (λ b. tt);
   done = λ q. absurd (cc);
   causes = λ before now. tt;
@@ -269,11 +283,22 @@ whole None behind bytes requests lost end q = absurd (cc)
 whole (Some old) None bytes requests lost end q = absurd lost
 whole (Some old) (Some new) bytes requests lost end q = let same : old ≡ requests = cc in sym (append-nil bytes) ∙ (ap (λ x. bytes ++ x) (sym end) ∙ (sym lost ∙ same))
 
-writes_by : (b : List ℕ) (left behind : Option (List ℕ)) (bytes : List ℕ) (old new : Held) (o : ServeOutcome) → Loses left behind bytes → IsAtEnd behind → Writes b bytes old new o → (seen : Option (List ℕ)) → left ≡ seen → IfSome seen (λ requests. Writes b requests old new o)
-writes_by b left behind bytes old new o lost end q None is = tt
-writes_by b left behind bytes old new o lost end q (Some requests) is = let P : List ℕ → Type 0 = λ x. Writes b x old new o in subst P (whole left behind bytes requests lost end is) q
+writes_by : (limits : ServeLimits) (texts : Texts) (start now : ℕ) (b : List ℕ) (left behind : Option (List ℕ)) (bytes : List ℕ) (old new : Held) (o : ServeOutcome) → Loses left behind bytes → IsAtEnd behind → Writes limits texts start now b bytes old new o
+    → (seen : Option (List ℕ)) → left ≡ seen → IfSome seen (λ requests. Writes limits texts start now b requests old new o)
+writes_by limits texts start now b left behind bytes old new o lost end q None is = tt
+writes_by limits texts start now b left behind bytes old new o lost end q (Some requests) is =
+    let P : List ℕ → Type 0 = λ x. Writes limits texts start now b x old new o in subst P (whole left behind bytes requests lost end is) q
 
-pub writes_input : (told left behind : Option (List ℕ)) (bytes : List ℕ) (old new : Held) (o : ServeOutcome) → Loses left behind bytes → IsAtEnd behind → IfSome told (λ b. UsesOneLength b → Writes b bytes old new o)
-    → IfSome told (λ b. UsesOneLength b → IfSome left (λ requests. Writes b requests old new o))
-writes_input None left behind bytes old new o lost end q = tt
-writes_input (Some b) left behind bytes old new o lost end q = λ one. writes_by b left behind bytes old new o lost end (q one) left refl
+told_input : (told left behind : Option (List ℕ)) (limits : ServeLimits) (texts : Texts) (start now : ℕ) (bytes : List ℕ) (old new : Held) (o : ServeOutcome) → Loses left behind bytes → IsAtEnd behind
+    → IfSome told (λ b. UsesOneLength b → Writes limits texts start now b bytes old new o) → IfSome told (λ b. UsesOneLength b → IfSome left (λ requests. Writes limits texts start now b requests old new o))
+told_input None left behind limits texts start now bytes old new o lost end q = tt
+told_input (Some b) left behind limits texts start now bytes old new o lost end q = λ one. writes_by limits texts start now b left behind bytes old new o lost end (q one) left refl
+
+pub writes_input : (words : Option ServeLimits) (limits : ServeLimits) (told left behind : Option (List ℕ)) (texts : Texts) (start now : ℕ) (bytes : List ℕ) (old new : Held) (o : ServeOutcome) → words ≡ Some limits → Loses left behind bytes → IsAtEnd behind
+    → IfSome told (λ b. UsesOneLength b → Writes limits texts start now b bytes old new o) → WritesAsked words told texts start now left old new o
+writes_input words limits told left behind texts start now bytes old new o is lost end q =
+    let P : Option ServeLimits → Type 0 = λ w. WritesAsked w told texts start now left old new o in
+    subst P (sym is) (told_input told left behind limits texts start now bytes old new o lost end q)
+
+pub writes_unasked : (words : Option ServeLimits) (told left : Option (List ℕ)) (texts : Texts) (start now : ℕ) (old new : Held) (o : ServeOutcome) → words ≡ None → WritesAsked words told texts start now left old new o
+writes_unasked words told left texts start now old new o is = let P : Option ServeLimits → Type 0 = λ w. WritesAsked w told texts start now left old new o in subst P (sym is) tt

@@ -1,8 +1,9 @@
 -- A state that serves, from one call to the next.
 use Rattle.std.proofs.Common.{◌≡◌, ◌∙◌, ℕ, List, length, Option, None, Some, Result, Ok, Err, IfSome, IsErrAnd, refl, sym, ap, subst}
-use Rattle.bounded_lru.specs.Bounded.{IsWithin}
+use Rattle.bounded_lru.specs.Bounded.{Bounded, IsWithin}
 use Rattle.pm_reader.specs.Archives.{UsesOneLength}
-use Rattle.pm_reader.specs.MapCaches.{held_by_use}
+use Rattle.pm_reader.specs.Caches.{CacheLimits}
+use Rattle.pm_reader.specs.MapCaches.{IsLimited, held_by_use, uses_of}
 use Rattle.pm_reader.specs.ReadsFrom.{ReadsFrom}
 use Rattle.pm_reader.specs.declared.cache.recent.LruDirCache.{LruDirCache}
 use Rattle.pm_reader.specs.declared.state.ReaderState.{ReaderState}
@@ -47,6 +48,25 @@ serves_by told versions old new reader directories within tiles is =
       archive = archive_on told told new refl (reads_same told old.reader new.reader old.directories new.directories reader directories (reads_told told versions old is)) tiles;
       opened = opened_on versions versions (opened_as old) (opened_as new) refl (ap (λ (r : ReaderState). r.version) reader) is.opened;
       within = within;
+      directories = let P : LruDirCache → Type 0 = λ c. IsWithin length (uses_of c) in subst P (sym directories) is.directories;
+    }
+
+-- what a call leaves of the directories: their bounds, and that they are within them
+pub limited : (old new : LruDirCache) → ((l : CacheLimits) → IsLimited old l → IsLimited new l) → IsWithin length (uses_of old)
+    → ((uses_of new).capacity ≡ (uses_of old).capacity) × ((uses_of new).limit ≡ (uses_of old).limit) × IsWithin length (uses_of new)
+limited old new keeps within = keeps (record { directories = (uses_of old).capacity; entries = (uses_of old).limit }) (refl, refl, within)
+
+-- where the directories alone change
+pub fetched : (told again : Option (List ℕ)) (versions others : Option (ℕ → Option (List ℕ))) (old new : ServerState) → again ≡ told → others ≡ versions → new.reader ≡ old.reader → new.tiles ≡ old.tiles
+    → ((l : CacheLimits) → IsLimited old.directories l → IsLimited new.directories l) → IfSome again (λ b. ReadsFrom b new.reader (held_by_use new.directories) ⊥) → IsServing told versions old → IsServing again others new
+fetched told again versions others old new same texts reader tiles limits reads is =
+    let P : Bounded (List ℕ) → Type 0 = λ x. IfSome told (λ b. UsesOneLength b → AreTiles b x.pairs) in
+    let Q : Bounded (List ℕ) → Type 0 = λ x. IsWithin length x in
+    record {
+      archive = archive_on told again new same reads (subst P (sym tiles) (tiles_told told versions old is));
+      opened = opened_on versions others (opened_as old) (opened_as new) texts (ap (λ (r : ReaderState). r.version) reader) is.opened;
+      within = subst Q (sym tiles) is.within;
+      directories = (limited old.directories new.directories limits is.directories).2;
     }
 
 -- the error that a call hands on

@@ -72,6 +72,12 @@ abbrev pub IsReadFor : List ℕ → Option Request → Bounded (List ℕ) → Ty
 IsReadFor b None tiles = ⊥
 IsReadFor b (Some r) tiles = (is_read (Some r) tiles ≡ true) × IsThere (archive_tile b r.id)
 
+-- no error but want of memory is answered
+abbrev pub IsWanting : {A : Type 0} → Result A ServeError → Type 0
+IsWanting (Ok x) = Unit {0}
+IsWanting (Err OutOfMemory) = Unit {0}
+IsWanting (Err e) = ⊥
+
 -- the texts are told, and each read gives one and the same text, or none
 abbrev pub IsUniform : Option (ℕ → Option (List ℕ)) → Type 0
 IsUniform None = ⊥

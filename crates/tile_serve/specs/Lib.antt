@@ -4,6 +4,7 @@ pub mod Outcomes
 pub mod Reply
 pub mod Request
 pub mod Server
+pub mod Course
 pub mod Serving
 pub mod State
 pub mod Tiles

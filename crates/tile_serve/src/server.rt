@@ -7,11 +7,11 @@ ghost use Rattle.pm_format.specs.declared.error.PmtError.TheVariants as errors;
 ghost use Rattle.pm_format.specs.declared.error.ReadCause.TheVariants as causes;
 ghost use Rattle.pm_reader.specs.Archives.{UsesOneLength};
 ghost use Rattle.pm_reader.specs.Reads.{GrewBetween, ReadsOnly};
-ghost use Rattle.tile_serve.specs.Answers.{Answers, Causes, Compares, HasTexts, IsOpeningError, IsReadFor, IsUniform, IsUnmodified, LeavesTiles, ReadsFor, RefusesOpening};
+ghost use Rattle.tile_serve.specs.Answers.{Answers, Causes, Compares, HasTexts, IsOpeningError, IsReadFor, IsUniform, IsUnmodified, IsWanting, LeavesTiles, ReadsFor, RefusesOpening};
 ghost use Rattle.tile_serve.specs.Limits.{IsLimits};
 ghost use Rattle.tile_serve.specs.Request.{request_of};
 ghost use Rattle.tile_serve.specs.Server.{IsTied};
-ghost use Rattle.tile_serve.specs.State.{KeepsBounds, opened_as, tiles_of};
+ghost use Rattle.tile_serve.specs.State.{KeepsBounds, KeepsDirectories, directories_of, opened_as, tiles_of};
 ghost use Rattle.tile_serve.specs.Tiles.{is_read};
 
 use crate::{ServeError, ServeLimits, ServerState};
@@ -54,6 +54,7 @@ impl<'a, B: Backend> TileServer<'a, B> {
         ensures same_reference { IfOk result (λ s. s.backend.ghost_name ≡ backend.entry.ghost_name) }
         ensures tied { IfOk result (λ s. IsTied B.told B.versions s) }
         ensures tiles { IfOk result (λ s. tiles_of s.state ≡ bounded [] limits.tiles (Some limits.tile_bytes)) }
+        ensures directories { IfOk result (λ s. directories_of s.state ≡ bounded [] limits.directories (Some limits.directory_entries)) }
         ensures version { IfOk result (λ s. IfSome (B.versions s.backend.now) (λ text. opened_as s.state ≡ text (B.reads s.backend.now))) }
         ensures kept { IfOk result (λ s. ReadsOnly B.told B.versions B.faults B.steady backend.old s.backend.now) }
         ensures reads { IfOk result (λ s. Grew (B.reads backend.old) (B.reads s.backend.now) 1) }
@@ -77,7 +78,9 @@ impl<'a, B: Backend> TileServer<'a, B> {
         ensures texts { HasTexts (opened_as self.old.state) (B.versions self.new.backend.now) (B.reads self.new.backend.now) result }
         ensures causes { Causes (B.told self.old.backend.now) (B.faults self.old.backend.now) (B.faults self.new.backend.now) result }
         ensures same { opened_as self.new.state ≡ opened_as self.old.state }
+        ensures asked { is_read (request_of line.now) (tiles_of self.old.state) ≡ false → IsWanting result }
         ensures bounds { KeepsBounds self.old.state self.new.state }
+        ensures directories { KeepsDirectories self.old.state self.new.state }
         ensures kept { ReadsOnly B.told B.versions B.faults B.steady self.old.backend.now self.new.backend.now }
         ensures reads { GrewBetween (B.reads self.old.backend.now) (B.reads self.new.backend.now) 0 7 }
     {

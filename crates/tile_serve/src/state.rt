@@ -5,13 +5,12 @@ ghost use Rattle.bounded_lru.specs.Bounded.{IsWithin, bounded, weight_of};
 ghost use Rattle.pm_format.specs.LookUp.{archive_tile};
 ghost use Rattle.pm_format.specs.Opened.{opened};
 ghost use Rattle.pm_reader.specs.Archives.{ReadsByHops, UsesOneLength};
-ghost use Rattle.pm_reader.specs.MapCaches.{uses_of};
 ghost use Rattle.pm_reader.specs.Opening.{HasVersionOf, IsOpen};
 ghost use Rattle.pm_reader.specs.Reads.{GrewBetween, ReadsOnly};
-ghost use Rattle.tile_serve.specs.Answers.{Answers, Causes, Compares, Finds, HasTexts, IsReadFor, IsThere, IsUniform, IsUnmodified, LeavesTiles, OpeningCauses, ReadsFor, RefusesOpening, opening_error};
+ghost use Rattle.tile_serve.specs.Answers.{Answers, Causes, Compares, Finds, HasTexts, IsReadFor, IsThere, IsUniform, IsUnmodified, IsWanting, LeavesTiles, OpeningCauses, ReadsFor, RefusesOpening, opening_error};
 ghost use Rattle.tile_serve.specs.Limits.{IsLimits};
 ghost use Rattle.tile_serve.specs.Request.{request_of};
-ghost use Rattle.tile_serve.specs.State.{IsServing, KeepsBounds, opened_as, tiles_of};
+ghost use Rattle.tile_serve.specs.State.{IsServing, KeepsBounds, KeepsDirectories, directories_of, opened_as, tiles_of};
 ghost use Rattle.tile_serve.specs.Tiles.{LeavesFound, is_held, is_read, with_found};
 
 use crate::found::{Found, found_of};
@@ -67,7 +66,7 @@ impl ServerState {
     ) -> Result<ServerState, OutOfMemory>
         requires { IsLimits limits }
         ensures reader { IfOk result (λ s. s.reader ≡ reader) }
-        ensures directories { IfOk result (λ s. uses_of s.directories ≡ bounded [] limits.directories (Some limits.directory_entries)) }
+        ensures directories { IfOk result (λ s. directories_of s ≡ bounded [] limits.directories (Some limits.directory_entries)) }
         ensures tiles { IfOk result (λ s. tiles_of s ≡ bounded [] limits.tiles (Some limits.tile_bytes)) }
     {
         let ServeLimits {
@@ -98,6 +97,7 @@ impl ServerState {
         ensures serving { IfOk result (λ s. IsServing (B.told backend.new) (B.versions backend.new) s) }
         ensures version { IfOk result (λ s. IfSome (B.versions backend.new) (λ text. opened_as s ≡ text (B.reads backend.new))) }
         ensures tiles { IfOk result (λ s. tiles_of s ≡ bounded [] limits.tiles (Some limits.tile_bytes)) }
+        ensures directories { IfOk result (λ s. directories_of s ≡ bounded [] limits.directories (Some limits.directory_entries)) }
         ensures kept { ReadsOnly B.told B.versions B.faults B.steady backend.old backend.new }
         ensures reads { Grew (B.reads backend.old) (B.reads backend.new) 1 }
     {
@@ -115,6 +115,7 @@ impl ServerState {
         ensures texts { HasTexts (opened_as self.old) (B.versions backend.new) (B.reads backend.new) result }
         ensures causes { Causes (B.told backend.old) (B.faults backend.old) (B.faults backend.new) result }
         ensures same { opened_as self.new ≡ opened_as self.old }
+        ensures directories { KeepsDirectories self.old self.new }
         ensures tiles { tiles_of self.new ≡ tiles_of self.old }
         ensures kept { ReadsOnly B.told B.versions B.faults B.steady backend.old backend.new }
         ensures reads { GrewBetween (B.reads backend.old) (B.reads backend.new) 0 7 }
@@ -139,6 +140,7 @@ impl ServerState {
         ensures texts { HasTexts (opened_as self.old) (B.versions backend.new) (B.reads backend.new) result }
         ensures causes { Causes (B.told backend.old) (B.faults backend.old) (B.faults backend.new) result }
         ensures same { opened_as self.new ≡ opened_as self.old }
+        ensures directories { KeepsDirectories self.old self.new }
         ensures tiles { IfOk result (λ found. tiles_of self.new ≡ with_found (tiles_of self.old) id found) }
         ensures err { OnErr result (tiles_of self.new ≡ tiles_of self.old) }
         ensures kept { ReadsOnly B.told B.versions B.faults B.steady backend.old backend.new }
@@ -175,6 +177,8 @@ impl ServerState {
         ensures texts { HasTexts (opened_as self.old) (B.versions backend.new) (B.reads backend.new) result }
         ensures causes { Causes (B.told backend.old) (B.faults backend.old) (B.faults backend.new) result }
         ensures same { opened_as self.new ≡ opened_as self.old }
+        ensures held { is_held (tiles_of self.old) id ≡ true → IsWanting result }
+        ensures directories { KeepsDirectories self.old self.new }
         ensures tiles { LeavesFound (tiles_of self.old) (tiles_of self.new) id result }
         ensures kept { ReadsOnly B.told B.versions B.faults B.steady backend.old backend.new }
         ensures reads { GrewBetween (B.reads backend.old) (B.reads backend.new) 0 7 }
@@ -188,8 +192,8 @@ impl ServerState {
     /// The reply to a line, which has no line feed: `400` for one that is no request; else `404` where there is no entry or no byte, `500` and `InvalidEntry` or `PastEnd` where a leaf
     /// doesn't decode or a range passes the end, `304` and the tag where the line has it, and `200`, the tag and the bytes in hexadecimal where not. The backend is to be the one that was opened.
     ///
-    /// `Fault` comes only where the backend's count of faults rose, `Modified` exactly where the opening and the read of the tile's range both gave version texts and they differ, and
-    /// `Short` only over a backend that tells no bytes. After an error later lines are answered as before.
+    /// `Fault` comes only where the backend's count of faults rose, `Modified` in place of a tile that is there, where the opening and the last read both gave version texts and they
+    /// differ, and `Short` only over a backend that tells no bytes. After an error later lines are answered as before.
     pub fn answer<B: Backend>(
         &mut self,
         backend: &mut B,
@@ -206,7 +210,9 @@ impl ServerState {
         ensures texts { HasTexts (opened_as self.old) (B.versions backend.new) (B.reads backend.new) result }
         ensures causes { Causes (B.told backend.old) (B.faults backend.old) (B.faults backend.new) result }
         ensures same { opened_as self.new ≡ opened_as self.old }
+        ensures asked { is_read (request_of line.now) (tiles_of self.old) ≡ false → IsWanting result }
         ensures bounds { KeepsBounds self.old self.new }
+        ensures directories { KeepsDirectories self.old self.new }
         ensures kept { ReadsOnly B.told B.versions B.faults B.steady backend.old backend.new }
         ensures reads { GrewBetween (B.reads backend.old) (B.reads backend.new) 0 7 }
     {

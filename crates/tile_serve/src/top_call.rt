@@ -9,7 +9,7 @@ ghost use Rattle.pm_reader.specs.Reads.{ReadsOnly};
 ghost use Rattle.tile_serve.specs.Answers.{IsUniform};
 ghost use Rattle.tile_serve.specs.Limits.{IsLimits, limits_in};
 ghost use Rattle.tile_serve.specs.Outcomes.{outcome_of};
-ghost use Rattle.tile_serve.specs.Serving.{IsUnmodifiedRun, Writes};
+ghost use Rattle.tile_serve.specs.Serving.{IsUnmodifiedRun, RunTexts, Writes};
 ghost use Rattle.tile_serve.specs.TopCall.{IsFor, IsRead, IsShort, IsSilent, IsUnopened, OpensFor, SourceCauses, Taken};
 
 use crate::limits::limits_of;
@@ -29,7 +29,9 @@ fn serve_requests<B: Backend, O: Sink>(
     requests: &[u8],
 ) -> Result<(), ServeOutcome>
     requires limits { IsLimits limits }
-    ensures writes { IfSome (B.told source.old) (λ b. UsesOneLength b → Writes b requests.now (O.held output.old) (O.held output.new) (outcome_of result)) }
+    ensures writes { IfSome (B.told source.old) (λ b. UsesOneLength b → Writes limits (B.versions source.old) (B.reads source.old) (B.reads source.new)
+        b requests.now (O.held output.old) (O.held output.new) (outcome_of result)) }
+    ensures texts { RunTexts (B.versions source.old) (B.reads source.old) (B.reads source.new) (outcome_of result) }
     ensures opens { IfSome (B.told source.old) (λ b. OpensFor (opened b) (outcome_of result)) }
     ensures read { IsRead (outcome_of result) }
     ensures silent { IsSilent (outcome_of result) → O.held output.new ≡ O.held output.old }
@@ -53,7 +55,9 @@ fn attempt<B: Backend, I: Source, O: Sink>(
     output: &mut O,
 ) -> Result<(), ServeOutcome>
     ensures words { IsFor (limits_in words.now) (outcome_of result) }
-    ensures writes { IfSome (B.told source.old) (λ b. UsesOneLength b → IfSome (I.left input.old) (λ requests. Writes b requests (O.held output.old) (O.held output.new) (outcome_of result))) }
+    ensures writes { IfSome (limits_in words.now) (λ limits. IfSome (B.told source.old) (λ b. UsesOneLength b → IfSome (I.left input.old) (λ requests.
+        Writes limits (B.versions source.old) (B.reads source.old) (B.reads source.new) b requests (O.held output.old) (O.held output.new) (outcome_of result)))) }
+    ensures texts { RunTexts (B.versions source.old) (B.reads source.old) (B.reads source.new) (outcome_of result) }
     ensures opens { IfSome (B.told source.old) (λ b. OpensFor (opened b) (outcome_of result)) }
     ensures silent { IsSilent (outcome_of result) → O.held output.new ≡ O.held output.old }
     ensures read { outcome_of result ≡ ServeOutcome.Done → IsAtEnd (I.left input.new) }
@@ -85,7 +89,7 @@ fn attempt<B: Backend, I: Source, O: Sink>(
 /// answers the next one.
 ///
 /// `Usage`, `InputFault`, `InputTooLong` and `Refused` with `Opening` come before anything is written. `Refused` has the first error of opening or answering other than want of memory, and
-/// then the replies to the lines before are written; after `OutputFault` and `OutOfMemory` a front of all replies is.
+/// then the replies to the lines before are written. `Modified` has the version texts of the first and of the last read. After `OutputFault` and `OutOfMemory` a front of all replies is written.
 pub fn run_serve<B: Backend, I: Source, O: Sink>(
     alloc: Global,
     words: &[TextVal],
@@ -95,7 +99,9 @@ pub fn run_serve<B: Backend, I: Source, O: Sink>(
 ) -> ServeOutcome
     ensures words { IsFor (limits_in words.now) result }
     // What is written are the replies of a server without caches.
-    ensures writes { IfSome (B.told source.old) (λ b. UsesOneLength b → IfSome (I.left input.old) (λ requests. Writes b requests (O.held output.old) (O.held output.new) result)) }
+    ensures writes { IfSome (limits_in words.now) (λ limits. IfSome (B.told source.old) (λ b. UsesOneLength b → IfSome (I.left input.old) (λ requests.
+        Writes limits (B.versions source.old) (B.reads source.old) (B.reads source.new) b requests (O.held output.old) (O.held output.new) result))) }
+    ensures texts { RunTexts (B.versions source.old) (B.reads source.old) (B.reads source.new) result }
     ensures opens { IfSome (B.told source.old) (λ b. OpensFor (opened b) result) }
     // Where the words are limits, the input is within its limit, the archive opens, its version texts don't differ and no count rose, it is Done, or memory ran out.
     ensures complete { is_some (limits_in words.now) ≡ true → IsShort (I.left input.old) → is_some (I.left input.old) ≡ true

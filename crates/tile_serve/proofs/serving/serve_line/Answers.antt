@@ -1,5 +1,7 @@
 use Rattle.std.proofs.Common.{ℕ, List}
 use Rattle.tile_serve.specs.Outcomes.{outcome_of}
+use Rattle.tile_serve.specs.State.{opened_as, tiles_of}
+use Rattle.tile_serve.proofs.CourseLemmas.{goes_done, goes_refused, goes_stopped, texts_refused, texts_stopped}
 use Rattle.tile_serve.proofs.LinesLemmas.{end_refused, end_stopped, line_refused, line_stopped, line_written, outcome_is, serve_no_fault, stops_serve, stops_sink, unmodified_refused, unmodified_stopped}
 use Rattle.tile_serve.proofs.serving.serve_line.Goals as goal
 
@@ -41,3 +43,28 @@ returns-in_err-text-clause-stops g c = stops_serve c.from_residual.result c.in_e
 
 pub returns-in_err-write_all-clause-stops : goal.returns-in_err-write_all-clause-stops
 returns-in_err-write_all-clause-stops g c = stops_sink c.from_residual-in_err-write_all.result c.in_err-write_all.field-0.0 c.from_residual-in_err-write_all.ensures.1
+
+pub returns-in_err-text-clause-goes : goal.returns-in_err-text-clause-goes
+returns-in_err-text-clause-goes g c =
+    goes_refused (g.B.Backend.told c.args.source.now) (opened_as c.args.state.now) (g.B.Backend.versions c.args.source.now) c.args.line.now (tiles_of c.args.state.now) (tiles_of c.answer.new.self) _ _ c.in_err-text.field-0.0
+    (outcome_of c.from_residual.result) (outcome_is c.from_residual.result _ c.from_residual.ensures.1) c.answer.ensures.hops c.in_err-text.ensures.asked
+
+pub returns-in_err-text-clause-texts : goal.returns-in_err-text-clause-texts
+returns-in_err-text-clause-texts g c =
+    texts_refused (List ℕ) (opened_as c.args.state.now) (g.B.Backend.versions c.args.source.now) (g.B.Backend.versions c.answer.new.backend) _ c.in_err-text.field-0.0
+    (outcome_of c.from_residual.result) c.in_err-text.ensures.kept.versions (outcome_is c.from_residual.result _ c.from_residual.ensures.1) c.in_err-text.ensures.texts
+
+pub returns-in_err-write_all-clause-goes : goal.returns-in_err-write_all-clause-goes
+returns-in_err-write_all-clause-goes g c =
+    goes_stopped (g.B.Backend.told c.args.source.now) (opened_as c.args.state.now) (g.B.Backend.versions c.args.source.now) c.args.line.now (tiles_of c.args.state.now) (tiles_of c.answer.new.self) _ _ c.in_err-write_all.field-0.0
+    (outcome_of c.from_residual-in_err-write_all.result) (outcome_is c.from_residual-in_err-write_all.result _ c.from_residual-in_err-write_all.ensures.1)
+
+pub returns-in_err-write_all-clause-texts : goal.returns-in_err-write_all-clause-texts
+returns-in_err-write_all-clause-texts g c =
+    texts_stopped (opened_as c.args.state.now) (g.B.Backend.versions c.args.source.now) _ c.in_err-write_all.field-0.0
+    (outcome_of c.from_residual-in_err-write_all.result) (outcome_is c.from_residual-in_err-write_all.result _ c.from_residual-in_err-write_all.ensures.1)
+
+pub returns-clause-goes : goal.returns-clause-goes
+returns-clause-goes g c =
+    goes_done (g.B.Backend.told c.args.source.now) (opened_as c.args.state.now) (g.B.Backend.versions c.args.source.now) (g.B.Backend.versions c.answer.new.backend) c.args.line.now c.in_ok-text.text (tiles_of c.args.state.now) (tiles_of c.answer.new.self) _ _
+    c.in_ok-text.ensures.kept.versions c.answer.ensures.hops c.in_ok-text.ensures.compares c.in_ok-text.ensures.tiles

@@ -1,13 +1,23 @@
-use Rattle.std.proofs.Common.{rules, arith, ◌≡◌, ◌∷◌, [], refl}
+use Rattle.std.proofs.Common.{rules, arith, ◌≡◌, ◌∙◌, ◌∷◌, [], refl, sym, subst, IfSome}
 use Rattle.line_words.specs.Lines.{lines_of}
+use Rattle.pm_reader.specs.Archives.{UsesOneLength}
+use Rattle.tile_serve.specs.Course.{course}
 use Rattle.tile_serve.specs.Outcomes.{outcome_of}
-use Rattle.tile_serve.proofs.LinesLemmas.{end_later, fault_later, outcome_is, reads_nothing, reads_then, serving_begun, serving_done, serving_more_as, serving_stopped_as, unmodified_again}
+use Rattle.tile_serve.specs.Serving.{WritesLine, WritesLines}
+use Rattle.tile_serve.specs.State.{opened_as, tiles_of}
+use Rattle.tile_serve.specs.declared.outcome.ServeOutcome.{ServeOutcome}
+use Rattle.tile_serve.specs.declared.outcome.ServeOutcome.TheVariants.{Done}
+use Rattle.tile_serve.proofs.CourseLemmas.{goes_later, texts_later}
+use Rattle.tile_serve.proofs.LinesLemmas.{end_later, fault_later, outcome_is, reads_nothing, reads_then, serving_begun, serving_done, serving_more, serving_stopped, unmodified_again}
+use Rattle.tile_serve.proofs.ServingLemmas.{told_again}
 use Rattle.tile_serve.proofs.serving.serve_lines.Goals as goal
 
 pub loop-line-init : goal.loop-line-init
 loop-line-init g c = record {
   serving = c.requires.serving;
-  served = serving_begun (g.B.Backend.told c.args.source.now) c.args.requests.now (g.O.Sink.held c.args.output.now);
+  served = serving_begun (g.B.Backend.told c.args.source.now) (opened_as c.args.state.now) (g.B.Backend.versions c.args.source.now) (tiles_of c.args.state.now) (g.B.Backend.reads c.args.source.now) c.args.requests.now (g.O.Sink.held c.args.output.now);
+  same = refl;
+  later = omega arith;
   kept = reads_nothing g.B.Backend.told g.B.Backend.versions g.B.Backend.faults g.B.Backend.steady c.args.source.now;
   tells = refl;
   faults = omega arith;
@@ -18,11 +28,19 @@ pub loop-line-preserved : goal.loop-line-preserved
 loop-line-preserved g c =
     let i = c.loop-line.invariant in
     let e = c.in_ok-serve_line.ensures in
+    let told = g.B.Backend.told c.args.source.now in
+    let again = g.B.Backend.told c.loop-line.source in
     let parts : lines_of c.loop-line.rest.now ≡ c.in-Some.line.now ∷ lines_of c.in-Some.behind.now = search rules in
     record {
       serving = e.serving;
-      served = serving_more_as (g.B.Backend.told c.args.source.now) (g.B.Backend.told c.loop-line.source) c.args.requests.now c.loop-line.rest.now c.in-Some.behind.now c.in-Some.line.now (g.O.Sink.held c.args.output.now) (g.O.Sink.held c.loop-line.output) (g.O.Sink.held c.serve_line.new.output)
-          i.kept.told parts e.writes i.served;
+      served = serving_more told (opened_as c.args.state.now) (g.B.Backend.versions c.args.source.now) (tiles_of c.args.state.now) (g.B.Backend.reads c.args.source.now) c.args.requests.now c.loop-line.rest.now c.in-Some.behind.now c.in-Some.line.now
+          (tiles_of c.loop-line.state) (tiles_of c.serve_line.new.state) _ _ (g.O.Sink.held c.args.output.now) (g.O.Sink.held c.loop-line.output) (g.O.Sink.held c.serve_line.new.output)
+          parts (told_again (λ b. UsesOneLength b → WritesLine b c.in-Some.line.now (g.O.Sink.held c.loop-line.output) (g.O.Sink.held c.serve_line.new.output) Done) again told (sym i.kept.told) e.writes)
+          (goes_later told again (opened_as c.args.state.now) (opened_as c.loop-line.state) (g.B.Backend.versions c.args.source.now) (g.B.Backend.versions c.loop-line.source) c.in-Some.line.now (tiles_of c.loop-line.state) (tiles_of c.serve_line.new.state) _ _ Done
+          i.kept.told i.same i.kept.versions e.goes)
+          i.served;
+      same = e.same ∙ i.same;
+      later = omega (arith, i.later, e.later);
       kept = reads_then g.B.Backend.told g.B.Backend.versions g.B.Backend.faults g.B.Backend.steady c.args.source.now c.loop-line.source c.serve_line.new.source i.kept e.kept;
       tells = search rules;
       faults = search rules;
@@ -31,9 +49,27 @@ loop-line-preserved g c =
 
 pub returns-in_err-serve_line-clause-writes : goal.returns-in_err-serve_line-clause-writes
 returns-in_err-serve_line-clause-writes g c =
+    let i = c.loop-line.invariant in
+    let e = c.in_err-serve_line.ensures in
+    let told = g.B.Backend.told c.args.source.now in
+    let again = g.B.Backend.told c.loop-line.source in
+    let o = c.in_err-serve_line.field-0.0 in
+    let start = course (opened_as c.args.state.now) (g.B.Backend.versions c.args.source.now) (tiles_of c.args.state.now) (g.B.Backend.reads c.args.source.now) in
     let parts : lines_of c.loop-line.rest.now ≡ c.in-Some.line.now ∷ lines_of c.in-Some.behind.now = search rules in
-    serving_stopped_as (g.B.Backend.told c.args.source.now) (g.B.Backend.told c.loop-line.source) c.args.requests.now c.loop-line.rest.now c.in-Some.behind.now c.in-Some.line.now (g.O.Sink.held c.args.output.now) (g.O.Sink.held c.loop-line.output) (g.O.Sink.held c.serve_line.new.output)
-    c.in_err-serve_line.field-0.0 (outcome_of c.from_residual.result) c.loop-line.invariant.kept.told (outcome_is c.from_residual.result _ c.from_residual.ensures.1) parts c.in_err-serve_line.ensures.stops c.in_err-serve_line.ensures.writes c.loop-line.invariant.served
+    let P : ServeOutcome → Type 0 = λ x. IfSome told (λ b. UsesOneLength b → WritesLines b start c.args.requests.now (g.B.Backend.reads c.serve_line.new.source) (g.O.Sink.held c.args.output.now) (g.O.Sink.held c.serve_line.new.output) x) in
+    subst P (sym (outcome_is c.from_residual.result _ c.from_residual.ensures.1))
+    (serving_stopped told (opened_as c.args.state.now) (g.B.Backend.versions c.args.source.now) (tiles_of c.args.state.now) (g.B.Backend.reads c.args.source.now) c.args.requests.now c.loop-line.rest.now c.in-Some.behind.now c.in-Some.line.now
+    (tiles_of c.loop-line.state) (tiles_of c.serve_line.new.state) _ _ (g.O.Sink.held c.args.output.now) (g.O.Sink.held c.loop-line.output) (g.O.Sink.held c.serve_line.new.output) o
+    parts e.stops (told_again (λ b. UsesOneLength b → WritesLine b c.in-Some.line.now (g.O.Sink.held c.loop-line.output) (g.O.Sink.held c.serve_line.new.output) o) again told (sym i.kept.told) e.writes)
+    (goes_later told again (opened_as c.args.state.now) (opened_as c.loop-line.state) (g.B.Backend.versions c.args.source.now) (g.B.Backend.versions c.loop-line.source) c.in-Some.line.now (tiles_of c.loop-line.state) (tiles_of c.serve_line.new.state) _ _ o
+    i.kept.told i.same i.kept.versions e.goes)
+    i.served)
+
+pub returns-in_err-serve_line-clause-texts : goal.returns-in_err-serve_line-clause-texts
+returns-in_err-serve_line-clause-texts g c =
+    let i = c.loop-line.invariant in
+    texts_later (opened_as c.args.state.now) (opened_as c.loop-line.state) (g.B.Backend.versions c.args.source.now) (g.B.Backend.versions c.loop-line.source) _ c.in_err-serve_line.field-0.0 (outcome_of c.from_residual.result)
+    i.same i.kept.versions (outcome_is c.from_residual.result _ c.from_residual.ensures.1) c.in_err-serve_line.ensures.texts
 
 pub returns-in_err-serve_line-clause-end : goal.returns-in_err-serve_line-clause-end
 returns-in_err-serve_line-clause-end g c =
@@ -56,4 +92,5 @@ returns-in_err-serve_line-clause-kept g c =
 pub returns-clause-writes : goal.returns-clause-writes
 returns-clause-writes g c =
     let end : c.loop-line.rest.now ≡ [] = search rules in
-    serving_done (g.B.Backend.told c.args.source.now) c.args.requests.now c.loop-line.rest.now (g.O.Sink.held c.args.output.now) (g.O.Sink.held c.loop-line.output) end c.loop-line.invariant.served
+    serving_done (g.B.Backend.told c.args.source.now) (opened_as c.args.state.now) (g.B.Backend.versions c.args.source.now) (tiles_of c.args.state.now) (g.B.Backend.reads c.args.source.now) c.args.requests.now c.loop-line.rest.now (tiles_of c.loop-line.state) _
+    (g.O.Sink.held c.args.output.now) (g.O.Sink.held c.loop-line.output) end c.loop-line.invariant.served

@@ -2,8 +2,9 @@
 use Rattle.std.proofs.Common.{◌≡◌, ◌≤◌, length, IfSome, is_some}
 use Rattle.pm_reader.specs.Archives.{UsesOneLength}
 use Rattle.pm_reader.specs.Reads.{ReadsOnly}
+use Rattle.tile_serve.specs.Course.{course}
 use Rattle.tile_serve.specs.Serving.{Served}
-use Rattle.tile_serve.specs.State.{IsServing}
+use Rattle.tile_serve.specs.State.{IsServing, opened_as, tiles_of}
 use Rattle.tile_serve.proofs.serving.serve_lines.Given as goal
 
 abbrev pub invariant-loop-line : goal.invariant-loop-line
@@ -12,7 +13,10 @@ invariant-loop-line g l =
     let k = g.O.Sink in
     record {
       serving : IsServing (b.told l.source) (b.versions l.source) l.state;
-      served : IfSome (b.told l.fn.source) (λ bytes. UsesOneLength bytes → Served bytes l.fn.requests l.rest (k.held l.fn.output) (k.held l.output));
+      served : IfSome (b.told l.fn.source) (λ bytes. UsesOneLength bytes → Served bytes (course (opened_as l.fn.state) (b.versions l.fn.source) (tiles_of l.fn.state) (b.reads l.fn.source))
+          l.fn.requests l.rest (tiles_of l.state) (b.reads l.source) (k.held l.fn.output) (k.held l.output));
+      same : opened_as l.state ≡ opened_as l.fn.state;
+      later : b.reads l.fn.source ≤ b.reads l.source;
       kept : ReadsOnly b.told b.versions b.faults b.steady l.fn.source l.source;
       tells : is_some (k.held l.output) ≡ is_some (k.held l.fn.output);
       faults : k.faults l.fn.output ≤ k.faults l.output;

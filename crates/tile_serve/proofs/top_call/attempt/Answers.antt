@@ -11,7 +11,10 @@ returns-in_err-requests-clause-words g c =
     for_some (limits_in c.args.words.now) c.in-Some.limits (outcome_of c.from_residual.result) some (unread (g.B.Backend.told c.args.source.now) c.in_err-requests.field-0.0 (outcome_of c.from_residual.result) (outcome_is c.from_residual.result _ c.from_residual.ensures.1)).words
 
 pub returns-in_err-requests-clause-writes : goal.returns-in_err-requests-clause-writes
-returns-in_err-requests-clause-writes g c = (unread (g.B.Backend.told c.args.source.now) c.in_err-requests.field-0.0 (outcome_of c.from_residual.result) (outcome_is c.from_residual.result _ c.from_residual.ensures.1)).writes (g.O.Sink.held c.args.output.now) (g.I.Source.left c.args.input.now)
+returns-in_err-requests-clause-writes g c = (unread (g.B.Backend.told c.args.source.now) c.in_err-requests.field-0.0 (outcome_of c.from_residual.result) (outcome_is c.from_residual.result _ c.from_residual.ensures.1)).writes (limits_in c.args.words.now) (g.B.Backend.versions c.args.source.now) _ _ (g.O.Sink.held c.args.output.now) (g.I.Source.left c.args.input.now)
+
+pub returns-in_err-requests-clause-texts : goal.returns-in_err-requests-clause-texts
+returns-in_err-requests-clause-texts g c = (unread (g.B.Backend.told c.args.source.now) c.in_err-requests.field-0.0 (outcome_of c.from_residual.result) (outcome_is c.from_residual.result _ c.from_residual.ensures.1)).texts _ _ _
 
 pub returns-in_err-requests-clause-opens : goal.returns-in_err-requests-clause-opens
 returns-in_err-requests-clause-opens g c = (unread (g.B.Backend.told c.args.source.now) c.in_err-requests.field-0.0 (outcome_of c.from_residual.result) (outcome_is c.from_residual.result _ c.from_residual.ensures.1)).opens
@@ -40,7 +43,10 @@ returns-clause-words g c =
     for_some (limits_in c.args.words.now) c.in-Some.limits (outcome_of c.serve_requests.result) some (read_usage (outcome_of c.serve_requests.result) c.serve_requests.ensures.read)
 
 pub returns-clause-writes : goal.returns-clause-writes
-returns-clause-writes g c = writes_input (g.B.Backend.told c.args.source.now) (g.I.Source.left c.args.input.now) (g.I.Source.left c.read_input.new.source) c.as_slice.result.now (g.O.Sink.held c.args.output.now) (g.O.Sink.held c.serve_requests.new.output) (outcome_of c.serve_requests.result) (search rules) c.in_ok-requests.ensures.end c.serve_requests.ensures.writes
+returns-clause-writes g c =
+    let some : limits_in c.args.words.now ≡ Some c.in-Some.limits = search rules in
+    writes_input (limits_in c.args.words.now) c.in-Some.limits (g.B.Backend.told c.args.source.now) (g.I.Source.left c.args.input.now) (g.I.Source.left c.read_input.new.source) (g.B.Backend.versions c.args.source.now) _ _ c.as_slice.result.now
+    (g.O.Sink.held c.args.output.now) (g.O.Sink.held c.serve_requests.new.output) (outcome_of c.serve_requests.result) some (search rules) c.in_ok-requests.ensures.end c.serve_requests.ensures.writes
 
 pub returns-clause-taken : goal.returns-clause-taken
 returns-clause-taken g c = taken_read _ _ _ (outcome_of c.serve_requests.result) c.in_ok-requests.ensures.counted c.serve_requests.ensures.read

@@ -1,11 +1,16 @@
 use Rattle.std.proofs.Common.{refl}
 use Rattle.tile_serve.specs.Outcomes.{outcome_of}
+use Rattle.tile_serve.specs.State.{opened_as, tiles_of}
 use Rattle.tile_serve.proofs.LinesLemmas.{outcome_is, reads_then, unmodified_again}
-use Rattle.tile_serve.proofs.RunLemmas.{lines_cause, lines_loud, lines_open, lines_read, lines_write, unopened}
+use Rattle.tile_serve.proofs.OpenedLemmas.{begun_by, lines_texts, lines_write}
+use Rattle.tile_serve.proofs.RunLemmas.{lines_cause, lines_loud, lines_open, lines_read, unopened}
 use Rattle.tile_serve.proofs.top_call.serve_requests.Goals as goal
 
 pub returns-in_err-state-clause-writes : goal.returns-in_err-state-clause-writes
-returns-in_err-state-clause-writes g c = (unopened (g.B.Backend.told c.args.source.now) _ _ c.in_err-state.field-0.0 (outcome_of c.from_residual.result) (outcome_is c.from_residual.result _ c.from_residual.ensures.1) c.in_err-state.ensures.refused c.in_err-state.ensures.causes).writes (g.O.Sink.held c.args.output.now) c.args.requests.now
+returns-in_err-state-clause-writes g c = (unopened (g.B.Backend.told c.args.source.now) _ _ c.in_err-state.field-0.0 (outcome_of c.from_residual.result) (outcome_is c.from_residual.result _ c.from_residual.ensures.1) c.in_err-state.ensures.refused c.in_err-state.ensures.causes).writes c.args.limits (g.B.Backend.versions c.args.source.now) _ _ (g.O.Sink.held c.args.output.now) c.args.requests.now
+
+pub returns-in_err-state-clause-texts : goal.returns-in_err-state-clause-texts
+returns-in_err-state-clause-texts g c = (unopened (g.B.Backend.told c.args.source.now) _ _ c.in_err-state.field-0.0 (outcome_of c.from_residual.result) (outcome_is c.from_residual.result _ c.from_residual.ensures.1) c.in_err-state.ensures.refused c.in_err-state.ensures.causes).texts _ _ _
 
 pub returns-in_err-state-clause-opens : goal.returns-in_err-state-clause-opens
 returns-in_err-state-clause-opens g c = (unopened (g.B.Backend.told c.args.source.now) _ _ c.in_err-state.field-0.0 (outcome_of c.from_residual.result) (outcome_is c.from_residual.result _ c.from_residual.ensures.1) c.in_err-state.ensures.refused c.in_err-state.ensures.causes).opens
@@ -23,7 +28,16 @@ pub returns-in_err-state-clause-fault : goal.returns-in_err-state-clause-fault
 returns-in_err-state-clause-fault g c = λ fault. absurd ((unopened (g.B.Backend.told c.args.source.now) _ _ c.in_err-state.field-0.0 (outcome_of c.from_residual.result) (outcome_is c.from_residual.result _ c.from_residual.ensures.1) c.in_err-state.ensures.refused c.in_err-state.ensures.causes).other fault)
 
 pub returns-clause-writes : goal.returns-clause-writes
-returns-clause-writes g c = lines_write (g.B.Backend.told c.args.source.now) (g.B.Backend.told c.open.new.backend) c.args.requests.now (g.O.Sink.held c.args.output.now) (g.O.Sink.held c.serve_lines.new.output) (outcome_of c.serve_lines.result) c.in_ok-state.ensures.kept.told c.serve_lines.ensures.writes
+returns-clause-writes g c =
+    lines_write (g.B.Backend.told c.args.source.now) (g.B.Backend.told c.open.new.backend) c.args.limits (g.B.Backend.versions c.args.source.now) _ _ _ c.args.requests.now (g.O.Sink.held c.args.output.now) (g.O.Sink.held c.serve_lines.new.output) (outcome_of c.serve_lines.result)
+    c.in_ok-state.ensures.kept.told
+    (begun_by c.args.limits (g.B.Backend.versions c.args.source.now) (g.B.Backend.versions c.open.new.backend) _ _ (opened_as c.in_ok-state.state) (tiles_of c.in_ok-state.state) c.in_ok-state.ensures.kept.versions c.open.ensures.reads c.in_ok-state.ensures.version c.in_ok-state.ensures.tiles)
+    c.serve_lines.ensures.writes
+
+pub returns-clause-texts : goal.returns-clause-texts
+returns-clause-texts g c =
+    lines_texts (g.B.Backend.versions c.args.source.now) (g.B.Backend.versions c.open.new.backend) _ _ _ (opened_as c.in_ok-state.state) (outcome_of c.serve_lines.result)
+    c.in_ok-state.ensures.kept.versions c.open.ensures.reads c.serve_lines.ensures.later c.in_ok-state.ensures.version c.serve_lines.ensures.texts
 
 pub returns-clause-opens : goal.returns-clause-opens
 returns-clause-opens g c = lines_open (g.B.Backend.told c.args.source.now) (g.B.Backend.told c.open.new.backend) (g.B.Backend.versions c.open.new.backend) _ _ c.in_ok-state.state (outcome_of c.serve_lines.result) c.in_ok-state.ensures.kept.told c.in_ok-state.ensures.serving c.serve_lines.ensures.end

@@ -1,12 +1,12 @@
 use Rattle.std.proofs.Common.{rules, ◌≡◌, ℕ, List, [], Some, Result, Ok, IfSome, sym, subst}
 use Rattle.pm_reader.specs.Archives.{UsesOneLength}
-use Rattle.tile_serve.specs.Answers.{IsUnmodified, LeavesTiles}
+use Rattle.tile_serve.specs.Answers.{IsUnmodified, IsWanting, LeavesTiles}
 use Rattle.tile_serve.specs.Request.{asked, request_of}
 use Rattle.tile_serve.specs.State.{opened_as, tiles_of}
 use Rattle.tile_serve.specs.declared.error.ServeError.{ServeError}
 use Rattle.tile_serve.specs.declared.found.Found.{Found}
 use Rattle.tile_serve.proofs.HoldingLemmas.{bounds_stay}
-use Rattle.tile_serve.proofs.ReplyingLemmas.{compares_found, tiles_error, unmodified_after}
+use Rattle.tile_serve.proofs.ReplyingLemmas.{compares_found, held_unread, tiles_error, unmodified_after, wanting_asked}
 use Rattle.tile_serve.proofs.ServingLemmas.{handed}
 use Rattle.tile_serve.proofs.state.ServerState.answer.Goals as goal
 
@@ -36,3 +36,15 @@ returns-clause-compares g c =
 
 pub returns-clause-bounds : goal.returns-clause-bounds
 returns-clause-bounds g c = bounds_stay (tiles_of c.args.self.now) (tiles_of c.find.new.self) c.in-Some.id-1-own.given.0.0.0 (Ok c.in_ok-found.found) c.in_ok-found.ensures.tiles
+
+pub returns-in_err-found-clause-asked : goal.returns-in_err-found-clause-asked
+returns-in_err-found-clause-asked g c = λ unread.
+    let some : request_of c.args.line.now ≡ Some (asked c.in-Some.id-1-own.given.0.0.0 c.in-Some.tag.now) = search rules in
+    let P : Result (List ℕ) ServeError → Type 0 = λ r. IsWanting r in
+    subst P (sym (handed c.from_residual-in_err-found.result c.in_err-found.field-0.0 c.from_residual-in_err-found.ensures.1))
+    (wanting_asked c.args.line.now c.in-Some.tag.now (tiles_of c.args.self.now) c.in-Some.id-1-own.given.0.0.0 c.in_err-found.field-0.0 some c.in_err-found.ensures.held unread)
+
+pub returns-in_err-found-clause-untouched : goal.returns-in_err-found-clause-untouched
+returns-in_err-found-clause-untouched g c = λ unread.
+    let some : request_of c.args.line.now ≡ Some (asked c.in-Some.id-1-own.given.0.0.0 c.in-Some.tag.now) = search rules in
+    c.in_err-found.ensures.untouched (held_unread c.args.line.now c.in-Some.tag.now (tiles_of c.args.self.now) c.in-Some.id-1-own.given.0.0.0 some unread)
