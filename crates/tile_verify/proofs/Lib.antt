@@ -1,5 +1,6 @@
 pub mod CheckingLemmas
 pub mod MeetingLemmas
+pub mod ReadsLemmas
 pub mod ReportLemmas
 pub mod SoundLemmas
 pub mod ToldLemmas

@@ -1,6 +1,6 @@
 -- What a check answers, and why.
-use Rattle.std.specs.Prelude.{◌≡◌, ◌≢◌, ◌+◌, ℕ, List, Some, Result, Ok, Err}
-use Rattle.tile_ids.specs.Counts.{Rose}
+use Rattle.std.specs.Prelude.{◌≡◌, ◌≢◌, ◌≤◌, ◌+◌, ◌-◌, ◌^◌, min, ℕ, List, Some, Result, Ok, Err}
+use Rattle.tile_ids.specs.Counts.{Grew, Rose}
 use Rattle.pm_format.specs.declared.error.PmtError.{PmtError}
 use Rattle.pm_format.specs.declared.error.PmtError.TheVariants as errors
 use Rattle.pm_format.specs.declared.error.ReadCause.TheVariants as causes
@@ -32,6 +32,13 @@ Causes before now (Err (Broken at why directories)) = Unit {0}
 Causes before now (Err Fault) = Rose before now
 Causes before now (Err (Short asked got)) = asked ≢ got
 Causes before now (Err OutOfMemory) = Unit {0}
+
+-- Told or not, how often it reads: opening once, and what is refused by opening no more. A fault or a wrong number of bytes behind it comes with another read.
+abbrev pub ReadsMade : {A : Type 0} → ℕ → ℕ → Result A VerifyError → Type 0
+ReadsMade before now (Err (Opening e)) = Grew before now 1
+ReadsMade before now (Err Fault) = min (before + 2) (2 ^ 64 - 1) ≤ now
+ReadsMade before now (Err (Short asked got)) = min (before + 2) (2 ^ 64 - 1) ≤ now
+ReadsMade before now result = Rose before now
 
 -- the reads: one opens, each leaf and each tile entry takes one, and one more may find a leaf past the end
 abbrev pub reads_at_most : List ℕ → Result Opened PmtError → ℕ

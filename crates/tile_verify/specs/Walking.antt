@@ -42,6 +42,12 @@ WalkCauses before now (Err Fault) = Rose before now
 WalkCauses before now (Err (Short asked got)) = asked ≢ got
 WalkCauses before now (Err OutOfMemory) = Unit {0}
 
+-- Told or not, the count of reads: it doesn't fall, and a fault or a wrong number of bytes comes with one more.
+abbrev pub WalkReads : {A : Type 0} → ℕ → ℕ → Result A VerifyError → Type 0
+WalkReads before now (Err Fault) = Rose before now
+WalkReads before now (Err (Short asked got)) = Rose before now
+WalkReads before now result = before ≤ now
+
 -- Over told bytes, an entry that is met: a tile whose contents lie in the bytes, a leaf, which may stand below and is still to be walked, or a break.
 abbrev pub Meets : Header → List ℕ → Spot → ℕ → Entry → ℕ → Met → Met → Result (Option (List Entry)) VerifyError → Type 0
 Meets h b at index e left old new (Ok None) = (e.run_length ≢ 0) × ((tile_walk h b (place at index) e).broken ≡ None) × Adds old 0 (e ∷ []) new

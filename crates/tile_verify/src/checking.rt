@@ -2,7 +2,7 @@
 ghost use Rattle.std.specs.Prelude.{◌+◌, ◌≤◌, IfSome};
 ghost use Rattle.pm_format.specs.Opened.{opened};
 ghost use Rattle.pm_reader.specs.Reads.{ReadsOnly};
-ghost use Rattle.tile_verify.specs.Checking.{Answers, Causes, reads_at_most};
+ghost use Rattle.tile_verify.specs.Checking.{Answers, Causes, ReadsMade, reads_at_most};
 
 use crate::walk::{MAX_DEPTH, Met, Spot, walk};
 use crate::{VerifyError, VerifyReport};
@@ -15,11 +15,12 @@ use tile_ids::MAX_TILE_ID;
 /// directory's range, and no run passes the next id, the end of that range or the last id of zoom 31; and each tile lies in it.
 ///
 /// `Opening` comes exactly where it doesn't open, `Broken` exactly where a part of it is broken, with the first such part. `Fault`, and a fault in `Opening`, come only where the
-/// source's count of faults rose, and `Short` only over a source that tells no bytes. Each directory is read once, and the end of each tile is tested by a read of no bytes.
+/// source's count of faults rose, and `Short` only over a source that tells no bytes. `Opening` comes after one read, `Fault` and `Short` after two at least. Each directory is read once, and the end of each tile is tested by a read of no bytes.
 pub fn verify<B: Backend>(alloc: Global, source: &mut B) -> Result<VerifyReport, VerifyError>
     ensures answer { IfSome (B.told source.old) (λ b. Answers b result) }
     ensures causes { Causes (B.faults source.old) (B.faults source.new) result }
     ensures kept { ReadsOnly B.told B.versions B.faults B.steady source.old source.new }
+    ensures made { ReadsMade (B.reads source.old) (B.reads source.new) result }
     ensures reads { IfSome (B.told source.old) (λ b. B.reads source.new ≤ B.reads source.old + reads_at_most b (opened b)) }
 {
     let state = match ReaderState::open(alloc, source) {

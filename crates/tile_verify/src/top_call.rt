@@ -2,7 +2,7 @@
 ghost use Rattle.std.specs.Prelude.{◌≡◌, ◌≢◌, ◌+◌, ◌≤◌, IfSome};
 ghost use Rattle.pm_format.specs.Opened.{opened};
 ghost use Rattle.pm_reader.specs.Reads.{ReadsOnly};
-ghost use Rattle.tile_verify.specs.Checking.{Answers, Causes, reads_at_most};
+ghost use Rattle.tile_verify.specs.Checking.{Answers, Causes, ReadsMade, reads_at_most};
 ghost use Rattle.tile_verify.specs.TopCall.{IsFor, OfCheck};
 
 use crate::{VerifyError, VerifyOutcome, verify};
@@ -20,6 +20,7 @@ pub fn run_verify<B: Backend>(alloc: Global, words: &[TextVal], source: &mut B) 
     ensures memory { result ≢ VerifyOutcome.Refused VerifyError.OutOfMemory }
     ensures untouched { result ≡ VerifyOutcome.Usage → source.new ≡ source.old }
     ensures kept { ReadsOnly B.told B.versions B.faults B.steady source.old source.new }
+    ensures made { OfCheck (ReadsMade (B.reads source.old) (B.reads source.new)) result }
     ensures reads { IfSome (B.told source.old) (λ b. B.reads source.new ≤ B.reads source.old + reads_at_most b (opened b)) }
 {
     if !words.is_empty() {

@@ -5,7 +5,7 @@ ghost use Rattle.pm_reader.specs.Opening.{header_of};
 ghost use Rattle.pm_reader.specs.Reads.{ReadsOnly};
 ghost use Rattle.tile_verify.specs.FirstBreak.{end_before, place, walked};
 ghost use Rattle.tile_verify.specs.Tiles.{tiles_below};
-ghost use Rattle.tile_verify.specs.Walking.{Adds, LeafRead, Meets, ReadsIn, TileRead, WalkCauses, Walks};
+ghost use Rattle.tile_verify.specs.Walking.{Adds, LeafRead, Meets, ReadsIn, TileRead, WalkCauses, WalkReads, Walks};
 
 use crate::tests_of_entries::limits_reason;
 use crate::{Place, Reason, VerifyError};
@@ -86,6 +86,7 @@ fn read_leaf<B: Backend>(
 ) -> Result<Directory, VerifyError>
     ensures answer { IfSome (B.told backend.old) (λ b. LeafRead (header_of state.now) b at index entry met.old met.new result) }
     ensures causes { WalkCauses (B.faults backend.old) (B.faults backend.new) result }
+    ensures made { WalkReads (B.reads backend.old) (B.reads backend.new) result }
     ensures kept { ReadsOnly B.told B.versions B.faults B.steady backend.old backend.new }
     ensures reads { B.reads backend.new ≤ B.reads backend.old + 1 }
 {
@@ -121,6 +122,7 @@ fn read_tile<B: Backend>(
 ) -> Result<(), VerifyError>
     ensures answer { IfSome (B.told backend.old) (λ b. TileRead (header_of state.now) b at index entry met.old met.new result) }
     ensures causes { WalkCauses (B.faults backend.old) (B.faults backend.new) result }
+    ensures made { WalkReads (B.reads backend.old) (B.reads backend.new) result }
     ensures kept { ReadsOnly B.told B.versions B.faults B.steady backend.old backend.new }
     ensures reads { B.reads backend.new ≤ B.reads backend.old + 1 }
 {
@@ -155,6 +157,7 @@ fn meet<B: Backend>(
     ensures answer { IfSome (B.told backend.old) (λ b. Meets (header_of state.now) b at index entry left met.old met.new result) }
     ensures deep { IfOk result (λ leaf. IfSome leaf (λ _. left ≢ 0)) }
     ensures causes { WalkCauses (B.faults backend.old) (B.faults backend.new) result }
+    ensures made { WalkReads (B.reads backend.old) (B.reads backend.new) result }
     ensures kept { ReadsOnly B.told B.versions B.faults B.steady backend.old backend.new }
     ensures reads { B.reads backend.new ≤ B.reads backend.old + 1 }
 {
@@ -185,6 +188,7 @@ pub(crate) fn walk<B: Backend>(
     requires { at.depth + left ≡ 6 }
     ensures answer { IfSome (B.told backend.old) (λ b. Walks (walked left (header_of state.now) b at low limit directory.now) (tiles_below left (header_of state.now) b directory.now) met.old met.new result) }
     ensures causes { WalkCauses (B.faults backend.old) (B.faults backend.new) result }
+    ensures made { WalkReads (B.reads backend.old) (B.reads backend.new) result }
     ensures kept { ReadsOnly B.told B.versions B.faults B.steady backend.old backend.new }
     ensures reads { IfSome (B.told backend.old) (λ b. ReadsIn (walked left (header_of state.now) b at low limit directory.now) (B.reads backend.old) (B.reads backend.new) result) }
 {

@@ -1,5 +1,6 @@
 use Rattle.std.proofs.Common.{◌∙◌, ◌≢◌, ◌+◌, ap, sym, subst, Ok, IfSome, refl, arith}
 use Rattle.pm_reader.specs.Opening.{header_of}
+use Rattle.tile_verify.proofs.ReadsLemmas.{made_later}
 use Rattle.tile_verify.proofs.ToldLemmas.{told_all_gone, told_begun, told_not_within, told_past_leaf, told_past_tile, told_stopped, told_stopped_below}
 use Rattle.tile_verify.proofs.walk.+walk.Goals as goal
 
@@ -15,6 +16,7 @@ loop-entry-init g t c = (
   c.entries-entries.ensures.value,
   record { told = refl; versions = refl; faults = omega arith; calm = λ s. (s, refl) },
   told_begun (g.B.Backend.told c.args.backend.now) (header_of c.args.state.now) c.args.at c.args.left c.args.limit c.entries-entries.result.now c.args.met.now (g.B.Backend.reads c.args.backend.now),
+  omega arith,
 )
 
 pub returns-in-Err-clause-answer : goal.returns-in-Err-clause-answer
@@ -101,6 +103,7 @@ loop-entry-preserved-in-Ok-None g t c =
       told_past_tile (g.B.Backend.told c.args.backend.now) (g.B.Backend.told c.loop-entry.backend) (header_of c.args.state.now) c.args.at c.args.left c.args.limit c.entries-entries.result.now c.loop-entry.rest.now c.in-Some-split_first.entry.now c.in-Some-split_first.others.now c.args.met.now c.loop-entry.met c.meet.new.met
           (g.B.Backend.reads c.args.backend.now) (g.B.Backend.reads c.loop-entry.backend) (g.B.Backend.reads c.meet.new.backend) _ c.meet.result
           i.3.told c.in-Some-split_first.ensures.cases.0 i.0 refl (c.in-Ok-None.is ∙ ap (λ o. Ok o) c.in-Ok-None.field-0-is) i.4 c.meet.ensures.answer c.meet.ensures.reads,
+      omega (arith, i.5, c.in-Ok-None.ensures.made),
     )
 
 pub loop-entry-preserved : goal.loop-entry-preserved
@@ -132,4 +135,11 @@ loop-entry-preserved g t c =
             walks = c.in_default-walk.ensures.answer;
             more = c.in_default-walk.ensures.reads;
           },
+      omega (arith, i.5, c.in-Ok-Some.ensures.made, c.in_default-walk.ensures.made),
     )
+
+pub returns-in-Err-clause-made : goal.returns-in-Err-clause-made
+returns-in-Err-clause-made g t c = made_later _ _ _ c.in-Err.error c.loop-entry.invariant.5 c.in-Err.ensures.made
+
+pub returns-in-Err-walk-clause-made : goal.returns-in-Err-walk-clause-made
+returns-in-Err-walk-clause-made g t c = made_later _ _ _ c.in-Err-walk.error (omega (arith, c.loop-entry.invariant.5, c.in-Ok-Some.ensures.made)) c.in-Err-walk.ensures.made
