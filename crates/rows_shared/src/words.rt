@@ -86,6 +86,11 @@ pub fn say<T: Debug>(out: &mut String, value: &T) -> Option<()> {
     write!(out, "{value:?} ").ok()
 }
 
+/// Appends a value that ends here, and a space.
+pub fn said<T: Debug + Drop>(out: &mut String, value: T) -> Option<()> {
+    say(out, &value)
+}
+
 /// Appends the text of a value and a bar.
 pub fn say_text<T: Display>(out: &mut String, value: &T) -> Option<()> {
     write!(out, "{value}| ").ok()

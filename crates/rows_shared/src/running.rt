@@ -1,0 +1,29 @@
+// The loop over the lines.
+use std::alloc::Global;
+use std::io;
+
+/// What answers the lines of a program of rows.
+pub trait Rows {
+    /// Appends the answer of a line, or fails where no call takes it.
+    fn answer(
+        &mut self,
+        rt: &HostRuntime,
+        alloc: Global,
+        out: &mut String,
+        line: &str,
+    ) -> Option<()>;
+}
+
+/// Answers each line of standard input, and prints it with its answer.
+pub fn run<R: Rows>(rt: &HostRuntime, rows: &mut R) -> io::Result<()> {
+    let alloc = rt.alloc();
+    for line in rt.lines(alloc) {
+        let line = line?;
+        let mut out = String::new(alloc);
+        if rows.answer(rt, alloc, &mut out, line.as_str()).is_none() {
+            out.push_str("refused")?;
+        }
+        println!(rt; "{line} = {out}")?;
+    }
+    Ok(())
+}
