@@ -12,9 +12,14 @@ pub trait Rows {
         out: &mut String,
         line: &str,
     ) -> Option<()>;
+
+    /// Whether each line is printed before its answer.
+    fn shows_lines(&self) -> bool {
+        true
+    }
 }
 
-/// Answers each line of standard input, and prints it with its answer.
+/// Answers each line of standard input, and prints the answer, after the line where lines are shown.
 pub fn run<R: Rows>(rt: &HostRuntime, rows: &mut R) -> io::Result<()> {
     let alloc = rt.alloc();
     for line in rt.lines(alloc) {
@@ -23,7 +28,11 @@ pub fn run<R: Rows>(rt: &HostRuntime, rows: &mut R) -> io::Result<()> {
         if rows.answer(rt, alloc, &mut out, line.as_str()).is_none() {
             out.push_str("refused")?;
         }
-        println!(rt; "{line} = {out}")?;
+        if rows.shows_lines() {
+            println!(rt; "{line} = {out}")?;
+        } else {
+            println!(rt; "{out}")?;
+        }
     }
     Ok(())
 }
