@@ -1,5 +1,6 @@
 # PMTiles version 3 by its definition, in plain python: ids, varints, directories, headers, and archives that are written and read.
 # The scripts beside it compute from it what the rows programs must print. Nothing here is taken from a program of this repository.
+# tools/tileset_rows.py lays ids and archives out a second time, and holds each archive against the one that is made here.
 import struct
 
 from hashes import xxh3
@@ -47,6 +48,9 @@ def varint(n):
         out += bytes([n % 128 + 128])
         n //= 128
     return out + bytes([n])
+
+
+SMALL = [varint(n) for n in range(128)]
 
 
 def read_varint(data, at, most, limit):
@@ -101,20 +105,12 @@ def read_directory(data):
 
 
 def directory(entries):
-    out = varint(len(entries))
-    last = 0
-    for e in entries:
-        out += varint(e[0] - last)
-        last = e[0]
-    for e in entries:
-        out += varint(e[3])
-    for e in entries:
-        out += varint(e[2])
-    end = None
-    for e in entries:
-        out += varint(0 if e[1] == end else e[1] + 1)
-        end = e[1] + e[2]
-    return out
+    """The count, and four columns: ids by their rises, runs, lengths, and offsets, of which one at the end of the last entry is 0."""
+    ids = [0] + [e[0] for e in entries]
+    ends = [None] + [e[1] + e[2] for e in entries]
+    numbers = [len(entries), *(one - last for last, one in zip(ids, ids[1:])), *(e[3] for e in entries), *(e[2] for e in entries),
+               *(0 if e[1] == end else e[1] + 1 for e, end in zip(entries, ends))]
+    return b''.join([SMALL[n] if 0 <= n < 128 else varint(n) for n in numbers])
 
 
 def scan(entries, t):

@@ -5,6 +5,9 @@
 
 It writes crates/tileset_rows/stdin and stdout. No answer comes from the converter: ids are by Hilbert's curve as the PMTiles
 specification has it, archives by version 3 of that specification and the rules of docs/ARCHITECTURE.md, digests by hashlib.
+
+Ids and archives are laid out here a second time, apart from tools/pmtiles.py, and each archive is held against the one that is
+made there: an error in one of the two alone fails.
 """
 import hashlib
 import os
@@ -12,6 +15,7 @@ import random
 import re
 import struct
 
+import pmtiles
 from scripts import LABELS, TYPES, defaults, parsed
 from set_scripts import bad_rows, four_ways, random_chains, refused_patches, refused_sets, removes_the_tile, verified_sets, worked_patches, worked_sets
 from sets import converted
@@ -63,6 +67,8 @@ def coord(number):
 # Archives.
 
 def varint(n):
+    if n < 128:
+        return n.to_bytes(1, "little")
     out = bytearray()
     while n >= 128:
         out.append(n % 128 + 128)
@@ -132,11 +138,20 @@ def archive(options, adds):
         options["min-zoom"], options["max-zoom"], *options["bounds"], options["center-zoom"], *options["center"])
     assert len(head) == 127
     whole = (head + root).ljust(16384, b"\0") + meta + data + leaf
+    assert whole == other_archive(options, label, adds)
     numbers = [
         ("addressed", len(adds)), ("entries", len(entries)), ("contents", len(offsets)), ("length", len(whole)),
         ("root", len(root)), ("leaves", len(leaves)), ("uppers", len(uppers)), ("leaf-offset", leaf_offset), ("leaf-length", len(leaf)),
         ("data-offset", data_offset), ("data-length", len(data))]
     return whole, numbers
+
+
+def other_archive(options, label, adds):
+    """The same by tools/pmtiles.py."""
+    names = ["min_lon", "min_lat", "max_lon", "max_lat", "center_lon", "center_lat"]
+    places = dict(zip(names, [*options["bounds"], *options["center"]]))
+    return pmtiles.archive(adds, options["metadata"], options["max-leaf-entries"], internal=options["internal-compression"], tile=label, type=options["type"],
+                           min_zoom=options["min-zoom"], max_zoom=options["max-zoom"], center_zoom=options["center-zoom"], **places)[0]
 
 
 # Reports.
