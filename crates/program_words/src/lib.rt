@@ -1,13 +1,20 @@
-//! What the programs share: the words of the command line, and the printing of texts.
+//! What the programs share: the words of the command line, the printing of texts, the standard streams and the file of an archive.
 #![tactic(auto)]
+
+mod destination;
+mod said;
+mod streams;
 
 ghost use Rattle.std.specs.Prelude.{◌≡◌};
 ghost use Rattle.std.specs.Option.{option_copied};
 ghost use Rattle.program_words.specs.Text.{asked_text};
 
+pub use destination::{Before, leave_destination, say_medium_fault, take_destination};
+pub use said::{say_opening, say_out_of_memory, say_output_fault, say_source_fault, say_usage};
 use std::alloc::{AllocError, Global};
 use std::env;
 use std::io::Write;
+pub use streams::{HeldStreams, hold_streams};
 use tile_ids::TextVal;
 
 /// The status where a text can't be written.

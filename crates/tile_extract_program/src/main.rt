@@ -2,7 +2,11 @@
 #![tactic(auto)]
 
 use pm_format::{FileBackend, FileMedium};
-use program_words::{print_for, text_of, words_of};
+use program_words::{
+    Before, OUTPUT_FAULT, hold_streams, leave_destination, print_for, say_medium_fault,
+    say_opening, say_out_of_memory, say_output_fault, say_source_fault, say_usage,
+    take_destination, text_of, words_of,
+};
 use std::process::ExitCode;
 use tile_extract::{ExtractError, ExtractOutcome, extract_status, run_extract};
 use tile_ids::TextVal;
@@ -15,9 +19,10 @@ tile_extract IN OUT Z X Y M T  writes to the file OUT, which is new or empty,
                 the archive of the tiles that the archive IN has among the
                 tile of zoom Z, column X and row Y and its descendants down
                 to zoom M, which are T at most. The file IN isn't changed.
-                Nothing is printed where both files can be opened
+                Nothing is printed where both files can be opened. A run
+                that ends with another status than 0 leaves OUT as it was
 source fault    the file IN can't be opened
-medium fault    the file OUT can't be opened
+medium fault    the file OUT can't be opened, or is no regular file
 --help          prints this text
 --version       prints the version
 
@@ -26,6 +31,8 @@ can't be opened, read or written, 7 out of memory
 ";
 
 const VERSION: &str = "tile_extract 0.1.0\n";
+
+const TOOL: &str = "tile_extract";
 
 fn medium_fault() -> ExtractOutcome {
     ExtractOutcome::Refused(ExtractError::MediumFault)
@@ -45,38 +52,113 @@ fn extract_to(
     outcome
 }
 
+// Extracts to a file that was taken, and leaves it as it was where that fails.
+fn extract_taken(
+    rt: &HostRuntime,
+    source: &mut FileBackend,
+    (from, to): (&str, &str),
+    words: &[TextVal],
+    before: Before,
+) -> ExtractOutcome {
+    let outcome = match FileMedium::open(rt, to) {
+        Ok(mut medium) => extract_to(rt, words, source, &mut medium),
+        Err(_) => medium_fault(),
+    };
+    if !matches!(outcome, ExtractOutcome::Done(_)) {
+        say_outcome(rt, (from, to), before, &outcome);
+        leave_destination(rt, TOOL, to, before);
+    }
+    outcome
+}
+
+// Says on standard error what a run on two files ended with.
+fn say_outcome(
+    rt: &HostRuntime,
+    (from, to): (&str, &str),
+    before: Before,
+    outcome: &ExtractOutcome,
+) {
+    match outcome {
+        ExtractOutcome::Done(_) => {}
+        ExtractOutcome::Refused(ExtractError::Archive(error)) => {
+            say_opening(rt, TOOL, from, error)
+        }
+        ExtractOutcome::Refused(ExtractError::MediumFault) => {
+            say_medium_fault(rt, TOOL, to, before)
+        }
+        ExtractOutcome::Refused(error) => say_refusal(rt, (from, to), error),
+        ExtractOutcome::Usage => say_usage(rt, TOOL),
+        ExtractOutcome::OutOfMemory => say_out_of_memory(rt, TOOL),
+    }
+}
+
+fn say_refusal(rt: &HostRuntime, (from, to): (&str, &str), error: &ExtractError) {
+    let _ = match error {
+        ExtractError::MediumNotEmpty { length } => {
+            eprintln!(rt;
+                "{TOOL}: {to}: the file has {length} bytes and stays as it is; give the name of a file that is new or empty"
+            )
+        }
+        ExtractError::TooManyTiles(limit) => {
+            eprintln!(rt;
+                "{TOOL}: {from}: the part has more than {limit} tiles; give a greater limit or a smaller part"
+            )
+        }
+        other => eprintln!(rt; "{TOOL}: {from}: {other}"),
+    };
+}
+
+// Says that a text can't be written, where that is the status.
+fn with_words(rt: &HostRuntime, status: u8) -> u8 {
+    if status == OUTPUT_FAULT {
+        say_output_fault(rt, TOOL);
+    }
+    status
+}
+
 // Extracts from a file to a file, which are opened first.
 fn extract_files(rt: &HostRuntime, from: &str, to: &str, words: &[TextVal]) -> u8 {
     let fault = extract_status(&medium_fault());
     let Ok(mut source) = FileBackend::open(rt, from) else {
-        return print_for(rt, "source fault\n", fault);
+        say_source_fault(rt, TOOL, from);
+        return with_words(rt, print_for(rt, "source fault\n", fault));
     };
-    let Ok(mut medium) = FileMedium::open(rt, to) else {
-        return print_for(rt, "medium fault\n", fault);
+    let Some(before) = take_destination(rt, TOOL, to) else {
+        return with_words(rt, print_for(rt, "medium fault\n", fault));
     };
-    extract_status(&extract_to(rt, words, &mut source, &mut medium))
+    extract_status(&extract_taken(rt, &mut source, (from, to), words, before))
 }
 
-// Without a word for each file nothing is opened and nothing is printed.
+// Without a word for each file nothing is opened, and nothing is printed on standard output.
 fn run_words(rt: &HostRuntime, words: &[TextVal]) -> u8 {
     match words {
         [from, to, rest @ ..] => extract_files(rt, from.as_str(), to.as_str(), rest),
-        _ => extract_status(&ExtractOutcome::Usage),
+        _ => {
+            say_usage(rt, TOOL);
+            extract_status(&ExtractOutcome::Usage)
+        }
     }
 }
 
 fn status_of(rt: &HostRuntime) -> u8 {
     let words = match words_of(rt, rt.alloc()) {
-        Err(_) => return extract_status(&ExtractOutcome::OutOfMemory),
-        Ok(None) => return extract_status(&ExtractOutcome::Usage),
+        Err(_) => {
+            say_out_of_memory(rt, TOOL);
+            return extract_status(&ExtractOutcome::OutOfMemory);
+        }
+        Ok(None) => {
+            say_usage(rt, TOOL);
+            return extract_status(&ExtractOutcome::Usage);
+        }
         Ok(Some(words)) => words,
     };
     match text_of(words.as_slice(), HELP, VERSION) {
-        Some(text) => print_for(rt, text, 0),
+        Some(text) => with_words(rt, print_for(rt, text, 0)),
         None => run_words(rt, words.as_slice()),
     }
 }
 
 fn main(rt: HostRuntime) -> ExitCode {
+    let _streams = hold_streams(&rt);
     ExitCode::from(status_of(&rt))
 }

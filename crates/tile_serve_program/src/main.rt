@@ -3,7 +3,10 @@
 
 use byte_streams::{StdSink, StdSource};
 use pm_format::FileBackend;
-use program_words::{print_for, text_of, words_of};
+use program_words::{
+    OUTPUT_FAULT, hold_streams, print_for, say_opening, say_out_of_memory, say_output_fault,
+    say_source_fault, say_usage, text_of, words_of,
+};
 use std::process::ExitCode;
 use tile_ids::TextVal;
 use tile_serve::{ServeError, ServeOutcome, run_serve, serve_status};
@@ -36,38 +39,86 @@ memory, 8 the input is too long
 
 const VERSION: &str = "tile_serve 0.1.0\n";
 
+const TOOL: &str = "tile_serve";
+
 // Serves a file, which is opened first.
 fn serve_file(rt: &HostRuntime, path: &str, words: &[TextVal]) -> u8 {
     let Ok(mut source) = FileBackend::open(rt, path) else {
+        say_source_fault(rt, TOOL, path);
         let fault = ServeOutcome::Refused(ServeError::Fault);
-        return print_for(rt, "source fault\n", serve_status(&fault));
+        return with_words(rt, print_for(rt, "source fault\n", serve_status(&fault)));
     };
     let mut input = StdSource::new(rt.stdin());
     let mut output = StdSink::new(rt.stdout());
     let outcome = run_serve(rt.alloc(), words, &mut source, &mut input, &mut output);
+    say_outcome(rt, path, &outcome);
     serve_status(&outcome)
 }
 
-// Without a word for the file nothing is printed.
+// Says on standard error what a run on a file ended with.
+fn say_outcome(rt: &HostRuntime, path: &str, outcome: &ServeOutcome) {
+    let _ = match outcome {
+        ServeOutcome::Done => Ok(()),
+        ServeOutcome::Refused(error) => return say_refusal(rt, path, error),
+        ServeOutcome::Usage => return say_usage(rt, TOOL),
+        ServeOutcome::InputFault => eprintln!(rt; "{TOOL}: standard input can't be read"),
+        ServeOutcome::OutputFault => return say_output_fault(rt, TOOL),
+        ServeOutcome::InputTooLong => {
+            eprintln!(rt;
+                "{TOOL}: standard input has more than 268,435,456 bytes of requests; ask in several runs"
+            )
+        }
+        ServeOutcome::OutOfMemory => return say_out_of_memory(rt, TOOL),
+    };
+}
+
+fn say_refusal(rt: &HostRuntime, path: &str, error: &ServeError) {
+    let _ = match error {
+        ServeError::Opening(error) => return say_opening(rt, TOOL, path, error),
+        ServeError::Fault => return say_source_fault(rt, TOOL, path),
+        ServeError::OutOfMemory => return say_out_of_memory(rt, TOOL),
+        other => eprintln!(rt; "{TOOL}: {path}: {other}"),
+    };
+}
+
+// Says that a text can't be written, where that is the status.
+fn with_words(rt: &HostRuntime, status: u8) -> u8 {
+    if status == OUTPUT_FAULT {
+        say_output_fault(rt, TOOL);
+    }
+    status
+}
+
+// Without a word for the file nothing is printed on standard output.
 fn run_words(rt: &HostRuntime, words: &[TextVal]) -> u8 {
     match words.split_first() {
         Some((path, rest)) => serve_file(rt, path.as_str(), rest),
-        None => serve_status(&ServeOutcome::Usage),
+        None => {
+            say_usage(rt, TOOL);
+            serve_status(&ServeOutcome::Usage)
+        }
     }
 }
 
 fn status_of(rt: &HostRuntime) -> u8 {
     let words = match words_of(rt, rt.alloc()) {
-        Err(_) => return serve_status(&ServeOutcome::OutOfMemory),
-        Ok(None) => return serve_status(&ServeOutcome::Usage),
+        Err(_) => {
+            say_out_of_memory(rt, TOOL);
+            return serve_status(&ServeOutcome::OutOfMemory);
+        }
+        Ok(None) => {
+            say_usage(rt, TOOL);
+            return serve_status(&ServeOutcome::Usage);
+        }
         Ok(Some(words)) => words,
     };
     match text_of(words.as_slice(), HELP, VERSION) {
-        Some(text) => print_for(rt, text, 0),
+        Some(text) => with_words(rt, print_for(rt, text, 0)),
         None => run_words(rt, words.as_slice()),
     }
 }
 
 fn main(rt: HostRuntime) -> ExitCode {
+    let _streams = hold_streams(&rt);
     ExitCode::from(status_of(&rt))
 }

@@ -2,7 +2,10 @@
 #![tactic(auto)]
 
 use pm_format::FileBackend;
-use program_words::{print_for, text_of, words_of};
+use program_words::{
+    OUTPUT_FAULT, hold_streams, print_for, say_opening, say_out_of_memory, say_output_fault,
+    say_source_fault, say_usage, text_of, words_of,
+};
 use std::process::ExitCode;
 use tile_ids::TextVal;
 use tile_verify::{VerifyError, VerifyOutcome, run_verify, verify_line, verify_status};
@@ -35,6 +38,8 @@ status: 0 sound, 1 refused, 2 no command, 5 the line can't be written,
 
 const VERSION: &str = "tile_verify 0.1.0\n";
 
+const TOOL: &str = "tile_verify";
+
 // Prints the line of an outcome, or nothing where that finds no memory.
 fn tell(rt: &HostRuntime, outcome: &VerifyOutcome) -> u8 {
     let status = verify_status(outcome);
@@ -52,26 +57,75 @@ fn verify_file(rt: &HostRuntime, path: &str, words: &[TextVal]) -> VerifyOutcome
     }
 }
 
-// Without a word for the file nothing is printed.
+// Says on standard error what a run on a file ended with.
+fn say_outcome(rt: &HostRuntime, path: &str, outcome: &VerifyOutcome) {
+    match outcome {
+        VerifyOutcome::Done(_) => {}
+        VerifyOutcome::Refused(error) => say_refusal(rt, path, error),
+        VerifyOutcome::Usage => say_usage(rt, TOOL),
+        VerifyOutcome::OutOfMemory => say_out_of_memory(rt, TOOL),
+    }
+}
+
+fn say_refusal(rt: &HostRuntime, path: &str, error: &VerifyError) {
+    let _ = match error {
+        VerifyError::Opening(error) => return say_opening(rt, TOOL, path, error),
+        VerifyError::Broken { place, reason, .. } => {
+            let (depth, offset, index) = (place.depth, place.offset, place.index);
+            eprintln!(rt;
+                "{TOOL}: {path}: the archive is broken at entry {index} of the directory at byte {offset} of the leaf part, {depth} leaves deep: {reason:?}"
+            )
+        }
+        VerifyError::Fault => return say_source_fault(rt, TOOL, path),
+        VerifyError::Short { asked, got } => {
+            eprintln!(rt; "{TOOL}: {path}: asked for {asked} bytes, the file gave {got}")
+        }
+        VerifyError::OutOfMemory => return say_out_of_memory(rt, TOOL),
+    };
+}
+
+// Says that a text can't be written, where that is the status.
+fn with_words(rt: &HostRuntime, status: u8) -> u8 {
+    if status == OUTPUT_FAULT {
+        say_output_fault(rt, TOOL);
+    }
+    status
+}
+
+// Without a word for the file nothing is printed on standard output.
 fn run_words(rt: &HostRuntime, words: &[TextVal]) -> u8 {
     match words.split_first() {
-        Some((path, rest)) => tell(rt, &verify_file(rt, path.as_str(), rest)),
-        None => verify_status(&VerifyOutcome::Usage),
+        Some((path, rest)) => {
+            let outcome = verify_file(rt, path.as_str(), rest);
+            say_outcome(rt, path.as_str(), &outcome);
+            with_words(rt, tell(rt, &outcome))
+        }
+        None => {
+            say_usage(rt, TOOL);
+            verify_status(&VerifyOutcome::Usage)
+        }
     }
 }
 
 fn status_of(rt: &HostRuntime) -> u8 {
     let words = match words_of(rt, rt.alloc()) {
-        Err(_) => return tell(rt, &VerifyOutcome::OutOfMemory),
-        Ok(None) => return tell(rt, &VerifyOutcome::Usage),
+        Err(_) => {
+            say_out_of_memory(rt, TOOL);
+            return tell(rt, &VerifyOutcome::OutOfMemory);
+        }
+        Ok(None) => {
+            say_usage(rt, TOOL);
+            return tell(rt, &VerifyOutcome::Usage);
+        }
         Ok(Some(words)) => words,
     };
     match text_of(words.as_slice(), HELP, VERSION) {
-        Some(text) => print_for(rt, text, 0),
+        Some(text) => with_words(rt, print_for(rt, text, 0)),
         None => run_words(rt, words.as_slice()),
     }
 }
 
 fn main(rt: HostRuntime) -> ExitCode {
+    let _streams = hold_streams(&rt);
     ExitCode::from(status_of(&rt))
 }

@@ -1,0 +1,47 @@
+# Runs the program of a tool, built once with checks in place of proofs: a quick look, which is much slower than the proved program.
+# shellcheck disable=SC2154
+tool=${tool%-unproved}
+. "$here/crates.sh"
+built=$out/unproved
+
+# `rt try` builds the program in a room of its own, runs it and removes it. The build is kept by a second name that it gets while it runs: the converter has
+# work for some seconds, and the others wait for a file that nobody writes.
+build() {
+    room=$(mktemp -d)
+    trap 'kill "$trying" 2>/dev/null || true; rm -rf "$room"' EXIT
+    trap 'exit 129' HUP
+    trap 'exit 130' INT
+    trap 'exit 143' TERM
+    say 'building without proofs, a minute or two'
+    mkfifo "$room/gate"
+    case $tool in
+    tileset) set -- bulk 100000 1 ;;
+    *) set -- "$room/gate" "$room/part" 0 0 0 0 0 ;;
+    esac
+    (cd "$top/crates/$program" && TMPDIR=$room exec rt try -- "$@") </dev/null >"$room/said" 2>&1 &
+    trying=$!
+    while kill -0 "$trying" 2>/dev/null; do
+        for made in "$room"/*/*/program; do
+            [ -e "${made%program}stdout" ] && ln -f "$made" "$room/kept" 2>/dev/null && break 2
+        done
+        sleep 0.1
+    done
+    if [ ! -e "$room/kept" ]; then
+        cat "$room/said" >&2
+        fail 70 "the program isn't built"
+    fi
+    kill "$trying" 2>/dev/null || true
+    wait "$trying" || true
+    cp "$room/kept" "$built.new"
+    mv "$built.new" "$built"
+    rm -rf "$room"
+    trap - EXIT HUP INT TERM
+}
+
+answer_text "$@"
+if ! is_fresh "$built"; then
+    test_build
+    build
+fi
+say "nothing is proved in this run; bin/$tool proves the program, and then runs it"
+exec "$built" "$@"

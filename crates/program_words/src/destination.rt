@@ -1,0 +1,92 @@
+// The file that a program writes an archive to.
+use std::fs;
+use std::fs::{File, Metadata};
+use std::io::{ErrorKind, Write};
+use std::os::unix::fs::MetadataExt;
+
+/// What stood at the path of an archive before the run.
+#[derive(Clone, Copy, Debug, PartialEq, Eq)]
+pub enum Before {
+    /// Nothing: the file was made for the run.
+    Nothing,
+    /// An empty file.
+    Empty,
+    /// A file of at least one byte.
+    Full,
+}
+
+/// Makes the file at a path, or takes a regular one that is there. Nothing is changed in one that is there.
+///
+/// Standard error says why a path isn't taken: one that leads to no file that can be made, to anything but a regular file, or to the
+/// file that standard input or output is.
+pub fn take_destination(rt: &HostRuntime, tool: &str, path: &str) -> Option<Before> {
+    match File::create_new(rt, path) {
+        Ok(_) => Some(Before::Nothing),
+        Err(error) if error.kind() == ErrorKind::AlreadyExists => take_file(rt, tool, path),
+        Err(error) => {
+            let _ = eprintln!(rt; "{tool}: {path}: the file can't be made: {error}");
+            None
+        }
+    }
+}
+
+fn take_file(rt: &HostRuntime, tool: &str, path: &str) -> Option<Before> {
+    let Ok(found) = fs::metadata(rt, path) else {
+        let _ = eprintln!(rt;
+            "{tool}: {path}: a link to nothing; give the name of a file that is new or empty"
+        );
+        return None;
+    };
+    if !found.is_file() {
+        let _ = eprintln!(rt;
+            "{tool}: {path}: no regular file; give the name of a file that is new or empty"
+        );
+        return None;
+    }
+    if is_stream(rt, "/proc/self/fd/0", &found) || is_stream(rt, "/proc/self/fd/1", &found) {
+        let _ = eprintln!(rt;
+            "{tool}: {path}: standard input or output is this file; give another name"
+        );
+        return None;
+    }
+    Some(if found.len() == 0 {
+        Before::Empty
+    } else {
+        Before::Full
+    })
+}
+
+// Whether a stream is the file of some metadata.
+fn is_stream(rt: &HostRuntime, stream: &str, found: &Metadata) -> bool {
+    match fs::metadata(rt, stream) {
+        Ok(other) => other.dev() == found.dev() && other.ino() == found.ino(),
+        Err(_) => false,
+    }
+}
+
+/// Leaves the path of a run that failed as it was before: a file that was made is removed, and one that was empty is emptied.
+pub fn leave_destination(rt: &HostRuntime, tool: &str, path: &str, before: Before) {
+    let left = match before {
+        Before::Nothing => fs::remove_file(rt, path),
+        Before::Empty => File::create(rt, path).map(|_| ()),
+        Before::Full => Ok(()),
+    };
+    if let Err(error) = left {
+        let _ = eprintln!(rt; "{tool}: {path}: what was written is still there: {error}");
+    }
+}
+
+/// Says on standard error why a file that was taken can't be written, as a further write to it tells. Bytes may be added to it.
+pub fn say_medium_fault(rt: &HostRuntime, tool: &str, path: &str, before: Before) {
+    let cause = match before {
+        Before::Full => Ok(()),
+        _ => File::options()
+            .append(true)
+            .open(rt, path)
+            .and_then(|mut file| file.write_all(&[0u8; 4096])),
+    };
+    let _ = match cause {
+        Err(error) => eprintln!(rt; "{tool}: {path}: the archive can't be written: {error}"),
+        Ok(()) => eprintln!(rt; "{tool}: {path}: the archive can't be written or read"),
+    };
+}

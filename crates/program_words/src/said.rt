@@ -1,0 +1,44 @@
+// What programs say on standard error. Where that can't be written, nothing is said.
+use pm_format::{PmtError, ReadCause};
+use std::fs::File;
+
+/// Says why a file can't be opened or read.
+pub fn say_source_fault(rt: &HostRuntime, tool: &str, path: &str) {
+    let _ = match File::open(rt, path).and_then(|file| file.metadata()) {
+        Err(error) => eprintln!(rt; "{tool}: {path}: {error}"),
+        Ok(found) if !found.is_file() => eprintln!(rt; "{tool}: {path}: no regular file"),
+        Ok(_) => eprintln!(rt; "{tool}: {path}: the file can't be read"),
+    };
+}
+
+/// Says why a file isn't taken as an archive.
+pub fn say_opening(rt: &HostRuntime, tool: &str, path: &str, error: &PmtError) {
+    let advice = match error {
+        PmtError::Reading(ReadCause::Fault) => return say_source_fault(rt, tool, path),
+        PmtError::InvalidMagicNumber | PmtError::InvalidHeader => {
+            "; it isn't an archive of the PMTiles format, or isn't whole"
+        }
+        PmtError::UnsupportedCompression(_) => {
+            "; archives whose directories and metadata are plain are read alone, as bin/tileset writes them"
+        }
+        _ => "",
+    };
+    let _ = eprintln!(rt; "{tool}: {path}: {error}{advice}");
+}
+
+/// Says that standard output can't be written.
+pub fn say_output_fault(rt: &HostRuntime, tool: &str) {
+    let _ = eprintln!(rt;
+        "{tool}: standard output can't be written: it is closed, or its disk is full"
+    );
+}
+
+/// Says that the words of the command line are none of the program's.
+pub fn say_usage(rt: &HostRuntime, tool: &str) {
+    let _ = eprintln!(rt; "{tool}: these words are no command; {tool} --help tells all");
+}
+
+/// Says that memory ran out.
+pub fn say_out_of_memory(rt: &HostRuntime, tool: &str) {
+    let _ = eprintln!(rt; "{tool}: out of memory; a smaller set needs less");
+}
