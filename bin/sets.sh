@@ -9,7 +9,7 @@
 #   plain NAME VALUE                       a row of the metadata
 #   row NAME JSON, json NAME JSON          what the archive's metadata gets from a row, and from an object in the row `json`
 # shellcheck disable=SC2154
-most=268435456
+most=${FATYNGU_MOST:-268435456}
 
 # an expression: the whole number in a column, or null
 whole() {
@@ -72,7 +72,7 @@ select 'warn ' || (n - grid) || ' rows outside the grid of zooms 0 to 30 are lef
 select 'refuse none of its ' || n || ' rows lies in the grid of zooms 0 to 30' from counted, total where n > 0 and grid = 0;
 select 'refuse tile ' || z || '/' || x || '/' || ((1 << z) - 1 - y) || ' (tile_row ' || y || ') is there twice, with different contents' from grid
     where (z, x, y) in (select z, x, y from twice) group by z, x, y having count(distinct coalesce(hex(d), '-')) > 1 limit 1;
-select 'warn ' || sum(n - 1) || ' rows repeat another one and count once' from twice having count(*) > 0;
+select 'warn ' || more || ' rows repeat another one and count once' from (select sum(n - 1) as more from twice) where more > 0;
 SQL
 }
 
@@ -131,10 +131,11 @@ own_layout() {
 sql_rows() {
     flat="'row tiles i' || z || ' i' || x || ' i' || y || ' ' || case when d is null then 'n' else 'x' || hex(d) end"
     map="select $(whole zoom_level) as z, $(whole tile_column) as x, $(whole tile_row) as y"
+    table=tiles
     case $1 in
-    normalized) own="select not exists (select 1 from map where tile_id is not null and not $(is_digest tile_id))
+    normalized) table=map own="select not exists (select 1 from map where tile_id is not null and not $(is_digest tile_id))
         and not exists (select 1 from images where not $(is_digest tile_id)) and not exists (select 1 from twice) as ok" ;;
-    flat-with-hash) own="select not exists (select 1 from tiles_with_hash where (tile_hash is null) <> (tile_data is null) or tile_hash is not null and not $(is_digest tile_hash))
+    flat-with-hash) table=tiles_with_hash own="select not exists (select 1 from tiles_with_hash where (tile_hash is null) <> (tile_data is null) or tile_hash is not null and not $(is_digest tile_hash))
         and not exists (select 1 from twice) as ok" ;;
     *) own='select 0 as ok' ;;
     esac
@@ -150,7 +151,8 @@ select 'row tiles_with_hash i' || z || ' i' || x || ' i' || y || ' ' || case whe
     from ($map, tile_data as d, tile_hash from tiles_with_hash) where $in_grid and '$1' = 'flat-with-hash' and (select ok from own);
 select $flat from grid where not (select ok from own) and (z, x, y) not in (select z, x, y from twice);
 select distinct $flat from grid where not (select ok from own) and (z, x, y) in (select z, x, y from twice);
-select '# rows ' || (grid - coalesce((select sum(n - 1) from twice), 0)) from counted;
+select '# rows ' || case when (select ok from own) then (select count(*) from ($map from $table) where $in_grid)
+    else grid - coalesce((select sum(n - 1) from twice), 0) end from counted;
 commit;
 SQL
 }
