@@ -56,8 +56,8 @@ impl Contents {
         self.firsts.len() as u64 + self.others.len() as u64
     }
 
-    /// What bytes of this digest are found as. The first content of the digest, where it has as many bytes, is read back from the medium, on which the contents lie from a place on; a
-    /// range that the medium doesn't have is another content.
+    /// What bytes of this digest are found as. The first content of the digest, where it has as many bytes, is read back from the medium, on which the contents lie from a place on. A range
+    /// that the medium doesn't have, and a read that ends early, are another content; of a medium that tells nothing this is tested only.
     pub fn seek<M: Medium>(
         &self,
         alloc: Global,
