@@ -5,6 +5,10 @@ import sqlite3
 
 TYPES = {'pbf': 'mvt', 'mvt': 'mvt', 'jpg': 'jpeg', 'jpeg': 'jpeg', 'png': 'png', 'webp': 'webp', 'avif': 'avif', 'mlt': 'mlt'}
 
+# the names that say nothing of an archive, or are said by other options
+LEFT_OUT = ('format', 'minzoom', 'maxzoom', 'bounds', 'center', 'json', 'scheme', 'hash_algorithm', 'agg_tiles_hash', 'agg_tiles_hash_before_apply',
+            'agg_tiles_hash_after_apply')
+
 
 def parsed(text):
     try:
@@ -36,8 +40,7 @@ def lines(rows, names):
     if kind == 'mvt' and first[:2] != b'\x1f\x8b':
         yield 'option tile-compression none'
     for end, of in ('min', min), ('max', max):
-        text = names.get(end + 'zoom', '')
-        yield f'option {end}-zoom ' + (str(int(text)) if re.fullmatch('[0-9]{1,3}', text) else str(of((r[0] for r in tiles), default=0)))
+        yield f'option {end}-zoom {of(r[0] for r in tiles)}'
     for name, count in ('bounds', 4), ('center', 2):
         found = numbers(names.get(name, ''), count)
         if found:
@@ -45,15 +48,15 @@ def lines(rows, names):
     center = numbers(names.get('center', ''), 3)
     if center and isinstance(center[2], int) and 0 <= center[2] <= 255:
         yield f'option center-zoom {center[2]}'
-    kept = {n: t for n, t in names.items() if n in ('name', 'description', 'attribution', 'version', 'type')}
-    layers = (parsed(names.get('json', '')) or {}).get('vector_layers')
-    if isinstance(layers, list):
-        kept['vector_layers'] = layers
+    kept = {n: t for n, t in names.items() if n not in LEFT_OUT}
+    for name, value in (parsed(names.get('json', '')) or {}).items():
+        kept.setdefault(name, value)
     text = json.dumps(kept, ensure_ascii=False, separators=(',', ':'))
     yield 'option metadata t' + ''.join(f'%{byte:02X}' for byte in text.encode())
     yield 'base flat'
     for z, x, y, data in sorted(tiles, key=lambda tile: tile[:3]):
-        yield f'row tiles i{z} i{x} i{y} ' + ('n' if data is None else 'x' + data.hex())
+        yield f'row tiles i{z} i{x} i{y} ' + ('n' if data is None else 'x' + data.hex().upper())
+    yield f'# rows {len(tiles)}'
 
 
 def script_of(path):
