@@ -80,6 +80,8 @@ SQL
 sql_metadata() {
     special="'format', 'minzoom', 'maxzoom', 'bounds', 'center', 'json', 'scheme', 'hash_algorithm', 'agg_tiles_hash', 'agg_tiles_hash_before_apply', 'agg_tiles_hash_after_apply'"
     cat <<SQL
+select 'refuse it needs a script of about ' || (3 * n) || ' bytes for its metadata, more than the $most that the converter takes' from
+    (select sum(length(cast(value as blob))) as n from metadata) where 3 * n > $most;
 create temp table given as select name, value, typeof(value) as kind from metadata where typeof(name) = 'text' and name <> '';
 create temp table named as select name, kind, case when kind in ('integer', 'real') then cast(value as text) else value end as value from given
     where rowid in (select min(rowid) from given group by name);

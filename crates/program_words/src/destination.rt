@@ -78,12 +78,10 @@ pub fn leave_destination(rt: &HostRuntime, tool: &str, path: &str, before: Befor
 
 /// Says on standard error why a file that was taken can't be written, as a further write to it tells. Bytes may be added to it.
 pub fn say_medium_fault(rt: &HostRuntime, tool: &str, path: &str, before: Before) {
+    let opened = File::options().append(true).open(rt, path);
     let cause = match before {
-        Before::Full => Ok(()),
-        _ => File::options()
-            .append(true)
-            .open(rt, path)
-            .and_then(|mut file| file.write_all(&[0u8; 4096])),
+        Before::Full => opened.map(|_| ()),
+        _ => opened.and_then(|mut file| file.write_all(&[0u8; 4096])),
     };
     let _ = match cause {
         Err(error) => eprintln!(rt; "{tool}: {path}: the archive can't be written: {error}"),
