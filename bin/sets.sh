@@ -223,7 +223,7 @@ only_utf8() {
         function byte(at) { return 16 * (index(digits, substr(text, at, 1)) - 1) + index(digits, substr(text, at + 1, 1)) - 1 }
         function is_utf8(given,   at, first, more, low, high, next_byte) {
             text = given
-            if (text !~ /[89A-F]./ && text !~ /00/) return 1
+            if (text ~ /^([1-7].|0[1-9A-F])*$/) return 1
             for (at = 1; at < length(text); at += 2) {
                 first = byte(at)
                 if (first == 0) return 0
