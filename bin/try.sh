@@ -8,7 +8,7 @@ built=$out/unproved
 # work for some seconds, and the others wait for a file that nobody writes.
 build() {
     room=$(mktemp -d)
-    trap 'kill "$trying" 2>/dev/null || true; rm -rf "$room"' EXIT
+    trap 'kill "${trying-}" 2>/dev/null || true; rm -rf "$room"' EXIT
     trap 'exit 129' HUP
     trap 'exit 130' INT
     trap 'exit 143' TERM
