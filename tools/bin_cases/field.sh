@@ -120,6 +120,8 @@ if [ "$(id -u)" = 0 ] && command -v setpriv >/dev/null; then
     run setpriv --reuid=65534 --regid=65534 --clear-groups env TMPDIR=/tmp "$bin/mbtiles-script" folder/a.mbtiles
     holds eval '[ $got = 0 ] && grep -q "# rows 1" out || { [ $got = 1 ] && grep -q "WAL mode" err; }'
     ends
+else
+    echo 'check_bin: no other user can be taken here, so WAL in a folder that is only read is not tried'
 fi
 
 fresh 'names and settings of a user'

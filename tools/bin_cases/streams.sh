@@ -71,6 +71,7 @@ for place in wrapper program; do
     feed "$top/examples/one_tile.script" bash -c 'exec "$0" convert file made >&-' "$tileset"
     status 5
     says "standard output can't be written"
+    holds [ "$(wc -l <err)" = 1 ]
     holds [ ! -e made ]
     ends
     fresh "a closed standard input, $place"
@@ -95,6 +96,12 @@ for place in wrapper program; do
     holds [ ! -e made ]
     ends
 done
+
+fresh 'a report that nobody reads'
+run bash -c '(sleep 1; cat "$1") | "$0" convert file made | true; exit ${PIPESTATUS[1]}' "$bin/tileset" "$top/examples/one_tile.script"
+status 5
+holds [ ! -e made ]
+ends
 
 fresh 'standard output as the archive'
 for path in /dev/stdout link; do

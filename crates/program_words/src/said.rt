@@ -29,7 +29,7 @@ pub fn say_opening(rt: &HostRuntime, tool: &str, path: &str, error: &PmtError) {
 /// Says that standard output can't be written.
 pub fn say_output_fault(rt: &HostRuntime, tool: &str) {
     let _ = eprintln!(rt;
-        "{tool}: standard output can't be written: it is closed, or its disk is full"
+        "{tool}: standard output can't be written: it is closed, nobody reads it, or its disk is full"
     );
 }
 

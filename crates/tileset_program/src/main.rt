@@ -51,7 +51,9 @@ fn tell(rt: &HostRuntime, outcome: Outcome) -> Outcome {
     if line.as_str().is_empty() || print(rt, line.as_str()) {
         outcome
     } else {
-        say_output_fault(rt, TOOL);
+        if !matches!(outcome, Outcome::OutputFault) {
+            say_output_fault(rt, TOOL);
+        }
         Outcome::OutputFault
     }
 }
