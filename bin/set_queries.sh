@@ -7,6 +7,11 @@ whole() {
         when 'text' then case when trim($1) <> '' and trim($1) not glob '*[^0-9]*' and length(trim($1)) < 10 then cast(trim($1) as integer) end end"
 }
 
+# an expression: a text for a line of words
+shown() {
+    echo "replace(replace(substr($1, 1, 80), char(10), ' '), char(13), ' ')"
+}
+
 in_grid='z between 0 and 30 and x between 0 and (1 << z) - 1 and y between 0 and (1 << z) - 1'
 first='(select value from metadata where name = '
 is_digest() {
@@ -74,8 +79,8 @@ select 'refuse it needs a script of about ' || (3 * n) || ' bytes for its metada
 create temp table given as select name, value, typeof(value) as kind from metadata where typeof(name) = 'text' and name <> '';
 create temp table named as select name, kind, case when kind in ('integer', 'real') then cast(value as text) else value end as value from given
     where rowid in (select min(rowid) from given group by name);
-select 'warn the name ' || name || ' stands in the metadata more than once; its first value counts' from given group by name having count(*) > 1;
-select 'warn the value of ' || name || ' in the metadata is no text, and is left out' from named where kind = 'blob';
+select 'warn the name ' || $(shown name) || ' stands in the metadata more than once; its first value counts' from given group by name having count(*) > 1;
+select 'warn the value of ' || $(shown name) || ' in the metadata is no text, and is left out' from named where kind = 'blob';
 delete from named where kind = 'blob';
 select 'plain ' || hex(name) || ' ' || case when value is null then '-' else hex(value) end from named;
 select 'row ' || hex(json_quote(name)) || ' ' || case when value is null then '-' else hex(json_quote(value)) end from named where name not in ($special);
@@ -93,11 +98,11 @@ create temp table good as select (select n = 4 and numbers = 4 and w between -18
     (select n = 3 and zoom between 0 and 30 and typeof(zoom) = 'integer' from middle) as zoom;
 select 'bounds ' || $(tenths w) || ' ' || $(tenths s) || ' ' || $(tenths e) || ' ' || $(tenths n4) from bound, good where bounds;
 select 'center ' || $(tenths lon) || ' ' || $(tenths lat) || case when good.zoom then ' ' || middle.zoom else '' end from middle, good where center;
-select 'warn the bounds of the metadata are out of range or form, and are left out: ' || value from named, good where name = 'bounds' and value is not null and not coalesce(bounds, 0);
-select 'warn the center of the metadata is out of range or form, and is left out: ' || value from named, good where name = 'center' and value is not null and not coalesce(center, 0);
-select 'warn the zoom of the center in the metadata is out of range or form, and is left out: ' || value from named, middle, good
+select 'warn the bounds of the metadata are out of range or form, and are left out: ' || $(shown value) from named, good where name = 'bounds' and value is not null and not coalesce(bounds, 0);
+select 'warn the center of the metadata is out of range or form, and is left out: ' || $(shown value) from named, good where name = 'center' and value is not null and not coalesce(center, 0);
+select 'warn the zoom of the center in the metadata is out of range or form, and is left out: ' || $(shown value) from named, middle, good
     where name = 'center' and center and n = 3 and not coalesce(good.zoom, 0);
-select 'warn ' || name || ' ' || value || ' of the metadata isn''t that of the tiles, ' || case name when 'minzoom' then low else high end || ', which counts' from named, counted
+select 'warn ' || name || ' ' || $(shown value) || ' of the metadata isn''t that of the tiles, ' || case name when 'minzoom' then low else high end || ', which counts' from named, counted
     where name in ('minzoom', 'maxzoom') and value is not null and low is not null and ($(whole value) is null or $(whole value) <> case name when 'minzoom' then low else high end);
 SQL
 }

@@ -42,6 +42,13 @@ prints '^option max-zoom 0$'
 holds eval '! grep -q "option bounds\|option center" out'
 ends
 
+field 'texts of several lines' "$one; insert into metadata values ('bounds', '1' || char(10) || 'rows'), ('a' || char(10) || 'zooms 5 6', x'01'), ('maxzoom', 'x' || char(10) || 'zooms 7 8')"
+status 0
+prints '^option max-zoom 0$'
+holds [ "$(tail -n 1 out)" = '# rows 1' ]
+holds [ "$(wc -l <err)" = 4 ]
+ends
+
 field 'numbers with leading zeros' "$one; insert into metadata values ('bounds', '-010, 0,10.5,1e1'), ('center', '010,5,07')"
 status 0
 prints '^option bounds -100000000 0 105000000 100000000$'
