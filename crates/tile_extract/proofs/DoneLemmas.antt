@@ -1,5 +1,5 @@
 -- The archive of the parts of a source, finished or refused.
-use Rattle.std.proofs.Common.{◌≡◌, ◌∙◌, inl, inr, ◌≤◌, ℕ, true, List, [], Option, None, Some, IfSome, is_some, Result, Ok, Err, refl, ap, sym, subst, arith}
+use Rattle.std.proofs.Common.{◌≡◌, ◌∙◌, inl, inr, ◌≤◌, ℕ, true, List, [], length, Option, None, Some, IfSome, is_some, Result, Ok, Err, refl, ap, sym, subst, arith}
 use Rattle.std.specs.Cmp.{nat_cmp_total}
 use Rattle.std.specs.FinMap.{find, from_entries, get, get-from_entries}
 use Rattle.std.specs.Ordering.{nat_cmp}
@@ -12,23 +12,23 @@ use Rattle.pm_format.specs.Directory.{Entry}
 use Rattle.pm_format.specs.LookUp.{archive_map}
 use Rattle.pm_format.specs.Options.{Options}
 use Rattle.pm_format.specs.WellFormed.{WellFormed}
-use Rattle.pm_writer.proofs.Canonical.{canon_is}
+use Rattle.pm_writer.proofs.Canonical.{canon_is, entries_sorted}
 use Rattle.pm_writer.proofs.PlacesRead.{places_are}
 use Rattle.pm_writer.proofs.Sorted.{sorted_formed, tile_found}
 use Rattle.pm_writer.specs.Archive.{archive, tile_in}
 use Rattle.pm_writer.specs.Pieces.{IsHidden}
 use Rattle.pm_writer.specs.Places.{places_read}
 use Rattle.pm_writer.specs.declared.places.ArchivePlaces.{ArchivePlaces}
-use Rattle.tile_extract.specs.Collecting.{AreOrdered}
 use Rattle.tile_extract.specs.Cut.{cut, intervals, options_from, options_of, options_opened, options_with}
-use Rattle.tile_extract.specs.Extract.{Added, Answers, Due, IntoBytes, IntoCauses, IntoLeaves, IsCollected, IsDone, IsExtract, IsLate, LeavesUncompared, Overflows, ShowsNoPart}
+use Rattle.tile_extract.specs.Extract.{Added, Answers, AreKept, Due, IntoBytes, IntoCauses, IntoLeaves, IsCollected, IsDone, IsExtract, IsLate, LeavesUncompared, MayBeTile, Overflows, ShowsNoPart}
 use Rattle.tile_extract.specs.Met.{walked}
-use Rattle.tile_extract.specs.Written.{Adds, ComesTo, IsWritten, PartsOverflow, PartsRefuse, Rises, ShowsNone, WriteCauses, WritesParts, put_parts}
+use Rattle.tile_extract.specs.Written.{Adds, AreAt, ComesTo, IsWritten, PartsOverflow, PartsRefuse, Rises, ShowsNone, WriteCauses, WritesParts, put_parts}
 use Rattle.tile_extract.specs.declared.error.ExtractError.{ExtractError}
 use Rattle.tile_extract.specs.declared.error.ExtractError.TheVariants.{Archive, IndexEntryOverflow, InvalidZoom, MediumFault, MediumNotEmpty, OutOfMemory, TooManyTiles}
 use Rattle.tile_extract.proofs.AddedLemmas.{sorted_by}
 use Rattle.tile_extract.proofs.CoveringLemmas.{covering}
 use Rattle.tile_extract.proofs.CutLemmas.{cut_held, held}
+use Rattle.tile_extract.proofs.LyingLemmas.{found_lies}
 use Rattle.tile_extract.proofs.PartsLemmas.{comes_as}
 use Rattle.tile_extract.proofs.PlanLemmas.{Found, source_of}
 use Rattle.tile_extract.proofs.TileLemmas.{all_held, put_is}
@@ -54,32 +54,34 @@ module _ (c : Coord) (m most : ℕ) (h : Header) (es : List Entry) (text : List 
   abbrev IsOf : Options → Adds → List ℕ → Type 0
   IsOf o adds s = (options_of s c m ≡ Some o) × ((id : ℕ) → find nat_cmp id adds ≡ cut (archive_map s) c m id)
 
-  is_of : (b : List ℕ) (adds : Adds) → AreOrdered 0 ps None → Planned c m most h es text ps b → put_parts opts h b ps [] ≡ Ok adds → IsOf opts adds b
+  is_of : (b : List ℕ) (adds : Adds) → AreKept (intervals c m) most ps → Planned c m most h es text ps b → put_parts opts h b ps [] ≡ Ok adds → IsOf opts adds b
   is_of b adds order p is = (
     ap (options_opened b c m) p.found.opens ∙ ap (options_with h c m) p.found.metadata,
-    λ id. sym (tile_found adds id) ∙ ap (λ l. tile_in l id) (put_is opts h b ps [] adds is) ∙ all_held h b ps id order ∙ ap (λ l. held h b (covering id l)) p.collected.are ∙ sym (cut_held b (h, es) c m id p.found.opens p.collected.fine),
+    λ id. sym (tile_found adds id) ∙ ap (λ l. tile_in l id) (put_is opts h b ps [] adds is) ∙ all_held h b ps id order.ordered ∙ ap (λ l. held h b (covering id l)) p.collected.are ∙ sym (cut_held b (h, es) c m id p.found.opens p.collected.fine),
   )
 
-  told_of : (source : Option (List ℕ)) (adds : Adds) → AreOrdered 0 ps None → IfSome source (Planned c m most h es text ps) → IfSome source (λ b. put_parts opts h b ps [] ≡ Ok adds) → IfSome source (IsOf opts adds)
+  told_of : (source : Option (List ℕ)) (adds : Adds) → AreKept (intervals c m) most ps → IfSome source (Planned c m most h es text ps) → IfSome source (λ b. put_parts opts h b ps [] ≡ Ok adds) → IfSome source (IsOf opts adds)
   told_of source adds order p is = both_told (Planned c m most h es text ps) (λ b. put_parts opts h b ps [] ≡ Ok adds) (IsOf opts adds) source source refl (λ b plan put. is_of b adds order plan put) p is
 
-  is_extract : (source : Option (List ℕ)) (adds : Adds) (w : List ℕ) → Rises 0 adds → IfSome source (IsOf opts adds) → w ≡ archive opts adds → IsExtract source c m w
-  is_extract source adds w rises of is =
+  is_extract : (source : Option (List ℕ)) (adds : Adds) (w : List ℕ) → AreKept (intervals c m) most ps → Rises 0 adds → AreAt ps adds → IfSome source (IsOf opts adds) → w ≡ archive opts adds → IsExtract source c m most w
+  is_extract source adds w kept rises at of is =
       let has : (id : ℕ) → get (from_entries {R = nat_cmp} adds) id ≡ find nat_cmp id adds = λ id. get-from_entries nat_cmp_total adds id in
       record {
         options = opts;
         least = refl;
         greatest = refl;
         tiles = from_entries adds;
+        few = omega (arith, at.few, kept.few, ap length (entries_sorted adds (sorted_by 0 adds rises)));
+        within = λ id bytes found. found_lies (intervals c m) adds id bytes (at.within (intervals c m) kept.within) (sym (has id) ∙ found);
         one = is ∙ canon_is opts adds (from_entries adds) (sorted_by 0 adds rises) has;
         of = one_told (IsOf opts adds) (λ s. (options_of s c m ≡ Some opts) × ((id : ℕ) → get (from_entries {R = nat_cmp} adds) id ≡ cut (archive_map s) c m id)) source (λ s p. (p.0, λ id. has id ∙ p.1 id)) of;
       }
 
   -- an archive that is finished
-  done_bytes : (source : Option (List ℕ)) (p : ArchivePlaces) (b : List ℕ) → AreOrdered 0 ps None → IfSome source (Planned c m most h es text ps) → (w : IsWritten opts h source ps (Some b) p) → b ≡ archive opts w.adds → IsDone source c m p b
+  done_bytes : (source : Option (List ℕ)) (p : ArchivePlaces) (b : List ℕ) → AreKept (intervals c m) most ps → IfSome source (Planned c m most h es text ps) → (w : IsWritten opts h source ps (Some b) p) → b ≡ archive opts w.adds → IsDone source c m most p b
   unfolding is_extract
   done_bytes source p b order plan w is = record {
-    extract = is_extract source w.adds b w.rises (told_of source w.adds order plan w.are) is;
+    extract = is_extract source w.adds b order w.rises w.ids (told_of source w.adds order plan w.are) is;
     formed = subst (λ x. WellFormed x opts true) (sym is) (sorted_formed opts w.adds w.fits (sorted_by 0 w.adds w.rises));
     places = ap places_read is ∙ places_are opts w.adds w.fits ∙ ap Some (sym w.places);
   }
@@ -112,25 +114,32 @@ module _ (c : Coord) (m most : ℕ) (h : Header) (es : List Entry) (text : List 
   late_answers source told held first now old new OutOfMemory tells p cause is = one_told (Planned c m most h es text ps) (λ b. Answers held b c m most (Err OutOfMemory)) source (λ b l. tt) p
   late_answers source told held first now old new x tells p cause is = absurd cause
 
+  -- what is refused once the archive is begun is a tile
+  tile_error : (first now old new : ℕ) (e : PmtError) → WriteCauses {A = ArchivePlaces} first now old new (Err (Archive e)) → MayBeTile e
+  tile_error first now old new (errors.Reading causes.Fault) cause = tt
+  tile_error first now old new (errors.Reading causes.PastEnd) cause = tt
+  tile_error first now old new (errors.UnexpectedNumberOfBytesReturned asked got) cause = tt
+  tile_error first now old new e cause = absurd cause
+
   late_uncompared : (source told held : Option (List ℕ)) (first now old new before after : ℕ) (x : ExtractError) → is_some held ≡ is_some told → IfSome source (Planned c m most h es text ps) → WriteCauses {A = ArchivePlaces} first now old new (Err x)
       → WritesParts opts h source ps told (Err x) → LeavesUncompared source held c m most before after (Err x)
-  late_uncompared source told held first now old new before after (Archive e) tells p cause is = inr (lates source told held e tells p is.0)
+  late_uncompared source told held first now old new before after (Archive e) tells p cause is = inr (tile_error first now old new e cause, lates source told held e tells p is.0)
   late_uncompared source told held first now old new before after IndexEntryOverflow tells p cause is = tt
   late_uncompared source told held first now old new before after MediumFault tells p cause is = tt
   late_uncompared source told held first now old new before after OutOfMemory tells p cause is = tt
   late_uncompared source told held first now old new before after x tells p cause is = absurd cause
 
-  no_part : (source : Option (List ℕ)) (b : List ℕ) → AreOrdered 0 ps None → IfSome source (Planned c m most h es text ps) → ShowsNone opts h source ps b → ShowsNoPart source c m b
+  no_part : (source : Option (List ℕ)) (b : List ℕ) → AreKept (intervals c m) most ps → IfSome source (Planned c m most h es text ps) → ShowsNone opts h source ps b → ShowsNoPart source c m most b
   no_part source b order p (inl hidden) = inl hidden
-  no_part source b order p (inr a) = inr (is_extract source a.adds b a.rises (told_of source a.adds order p a.are) a.one)
+  no_part source b order p (inr a) = inr (is_extract source a.adds b order a.rises a.ids (told_of source a.adds order p a.are) a.one)
 
-  late_hidden : (source told : Option (List ℕ)) (e : PmtError) → IfSome source (Planned c m most h es text ps) → IfSome source (λ b. PartsRefuse (ComesTo told opts h b ps) (Archive e)) → IfSome told IsHidden → IntoLeaves source c m most (Err (Archive e)) told
-  late_hidden source None e p is hidden = tt
-  late_hidden source (Some b) e p is hidden = inr (lates source (Some b) (Some b) e refl p is, hidden)
+  late_hidden : (source told : Option (List ℕ)) (e : PmtError) → MayBeTile e → IfSome source (Planned c m most h es text ps) → IfSome source (λ b. PartsRefuse (ComesTo told opts h b ps) (Archive e)) → IfSome told IsHidden → IntoLeaves source c m most (Err (Archive e)) told
+  late_hidden source None e tile p is hidden = tt
+  late_hidden source (Some b) e tile p is hidden = inr (tile, lates source (Some b) (Some b) e refl p is, hidden)
 
-  late_leaves : (source told : Option (List ℕ)) (first now old new : ℕ) (x : ExtractError) → AreOrdered 0 ps None → IfSome source (Planned c m most h es text ps) → WriteCauses {A = ArchivePlaces} first now old new (Err x) → WritesParts opts h source ps told (Err x)
+  late_leaves : (source told : Option (List ℕ)) (first now old new : ℕ) (x : ExtractError) → AreKept (intervals c m) most ps → IfSome source (Planned c m most h es text ps) → WriteCauses {A = ArchivePlaces} first now old new (Err x) → WritesParts opts h source ps told (Err x)
       → IfSome told (ShowsNone opts h source ps) → IntoLeaves source c m most (Err x) told
-  late_leaves source told first now old new (Archive e) order p cause is shown = late_hidden source told e p is.0 is.1
+  late_leaves source told first now old new (Archive e) order p cause is shown = late_hidden source told e (tile_error first now old new e cause) p is.0 is.1
   late_leaves source told first now old new IndexEntryOverflow order p cause is shown = one_told (ShowsNone opts h source ps) (IntoBytes source c m most (Err IndexEntryOverflow)) told (λ b s. no_part source b order p s) shown
   late_leaves source told first now old new MediumFault order p cause is shown = one_told (ShowsNone opts h source ps) (IntoBytes source c m most (Err MediumFault)) told (λ b s. no_part source b order p s) shown
   late_leaves source told first now old new OutOfMemory order p cause is shown = one_told (ShowsNone opts h source ps) (IntoBytes source c m most (Err OutOfMemory)) told (λ b s. no_part source b order p s) shown
@@ -140,7 +149,7 @@ module _ (c : Coord) (m most : ℕ) (h : Header) (es : List Entry) (text : List 
   pub ok_answers : (source again told held : Option (List ℕ)) (o : Options) (p : ArchivePlaces) → o ≡ opts → again ≡ source → is_some held ≡ is_some told → IfSome source (Planned c m most h es text ps) → WritesParts o h again ps told (Ok p) → IfSome source (λ b. Answers held b c m most (Ok p))
   ok_answers source again told held o p same kept tells plan w = done_answers source told held p tells plan (subst (λ s. IsWritten opts h s ps told p) kept (subst (λ q. IsWritten q h again ps told p) same w))
 
-  pub ok_leaves : (source again told : Option (List ℕ)) (o : Options) (p : ArchivePlaces) → o ≡ opts → again ≡ source → AreOrdered 0 ps None → IfSome source (Planned c m most h es text ps) → WritesParts o h again ps told (Ok p) → IntoLeaves source c m most (Ok p) told
+  pub ok_leaves : (source again told : Option (List ℕ)) (o : Options) (p : ArchivePlaces) → o ≡ opts → again ≡ source → AreKept (intervals c m) most ps → IfSome source (Planned c m most h es text ps) → WritesParts o h again ps told (Ok p) → IntoLeaves source c m most (Ok p) told
   ok_leaves source again told o p same kept order plan w =
       by_told told (subst (λ s. IsWritten opts h s ps told p) kept (subst (λ q. IsWritten q h again ps told p) same w))
     where
@@ -153,7 +162,7 @@ module _ (c : Coord) (m most : ℕ) (h : Header) (es : List Entry) (text : List 
   err_answers source again told held first now old new o x same kept tells plan cause w =
       late_answers source told held first now old new x tells plan cause (subst (λ s. WritesParts opts h s ps told (Err x)) kept (subst (λ q. WritesParts q h again ps told (Err x)) same w))
 
-  pub err_leaves : (source again told : Option (List ℕ)) (first now old new : ℕ) (o : Options) (x : ExtractError) → o ≡ opts → again ≡ source → AreOrdered 0 ps None → IfSome source (Planned c m most h es text ps) → WriteCauses {A = ArchivePlaces} first now old new (Err x)
+  pub err_leaves : (source again told : Option (List ℕ)) (first now old new : ℕ) (o : Options) (x : ExtractError) → o ≡ opts → again ≡ source → AreKept (intervals c m) most ps → IfSome source (Planned c m most h es text ps) → WriteCauses {A = ArchivePlaces} first now old new (Err x)
       → WritesParts o h again ps told (Err x) → IfSome told (ShowsNone o h again ps) → IntoLeaves source c m most (Err x) told
   err_leaves source again told first now old new o x same kept order plan cause w shown =
       late_leaves source told first now old new x order plan cause (subst (λ s. WritesParts opts h s ps told (Err x)) kept (subst (λ q. WritesParts q h again ps told (Err x)) same w))

@@ -66,6 +66,7 @@ pub finished : (o : Options) (h : Header) (source : Option (List ℕ)) (ps : Lis
 finished o h source ps mid told s failed before now p a same one places c = record {
   adds = a.more;
   rises = a.rises;
+  ids = a.ids;
   fits = c.1;
   one = one;
   places = places;
@@ -77,7 +78,7 @@ finish_shows o h source ps mid told s a same shown = by_told told (one_told (λ 
   where
     by_told : (told : Option (List ℕ)) → IfSome source (λ b. ComesTo told o h b ps (Ok a.more)) → IfSome told (IsHiddenOr (archive o a.more)) → IfSome told (ShowsNone o h source ps)
     by_told None are shown = tt
-    by_told (Some b) are shown = elim shown [ inl hidden ↦ inl hidden | inr whole ↦ inr (record { adds = a.more; rises = a.rises; one = whole; are = are }) ]
+    by_told (Some b) are shown = elim shown [ inl hidden ↦ inl hidden | inr whole ↦ inr (record { adds = a.more; rises = a.rises; ids = a.ids; one = whole; are = are }) ]
 
 pub finish_refused : (o : Options) (h : Header) (source : Option (List ℕ)) (ps : List Entry) (mid told : Option (List ℕ)) (s : WriterState) (failed : Bool) (before now : ℕ) (e : PmtError) (a : PartsAdded o h source ps mid s) → is_some told ≡ is_some mid → failed ≡ false
     → FinishCauses {A = ArchivePlaces} o a.more failed before now (Err e) → WritesParts o h source ps told (Err (of_write_error e))

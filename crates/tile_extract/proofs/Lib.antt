@@ -9,6 +9,7 @@ pub mod OrderLemmas
 pub mod LookUpLemmas
 pub mod CutLemmas
 pub mod AddedLemmas
+pub mod LyingLemmas
 pub mod PartsLemmas
 pub mod FinishLemmas
 pub mod CollectLemmas

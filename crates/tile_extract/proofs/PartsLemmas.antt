@@ -1,5 +1,5 @@
 -- Parts that are added one after another.
-use Rattle.std.proofs.Common.{◌≡◌, ◌∙◌, ◌+◌, ◌≤◌, ℕ, Bool, true, false, List, [], ◌∷◌, Option, None, Some, IfSome, is_some, Result, Ok, Err, refl, ap, sym, subst, arith}
+use Rattle.std.proofs.Common.{◌≡◌, ◌∙◌, ◌+◌, ◌≤◌, ℕ, Bool, true, false, List, [], ◌∷◌, length, Option, None, Some, IfSome, is_some, Result, Ok, Err, refl, ap, sym, subst, arith}
 use Rattle.tile_ids.specs.Counts.{Rose}
 use Rattle.tile_ids.specs.declared.id.TheConstants.{MAX_TILE_ID}
 use Rattle.pm_format.specs.declared.error.PmtError.{PmtError}
@@ -14,11 +14,13 @@ use Rattle.pm_writer.proofs.Took.{took_as}
 use Rattle.pm_writer.specs.Took.{Took}
 use Rattle.pm_writer.specs.Writing.{Writes, add_to}
 use Rattle.pm_writer.specs.declared.state.WriterState.{WriterState}
-use Rattle.tile_extract.specs.Collecting.{AreOrdered}
-use Rattle.tile_extract.specs.Written.{Adds, ByRoom, ComesTo, EndsBy, PartsPut, PartsRefuse, Puts, PutsAll, PutsFound, PutsNext, PutsParts, WriteCauses, has_room, ids_of, of_read_error, put_all, put_next, put_parts}
+use Rattle.tile_extract.specs.Collecting.{AllLieIn, AreOrdered}
+use Rattle.tile_extract.specs.Parts.{tile_count}
+use Rattle.tile_extract.specs.Written.{Adds, AddsLieIn, ByRoom, ComesTo, EndsBy, PartsPut, PartsRefuse, Puts, PutsAll, PutsFound, PutsNext, PutsParts, WriteCauses, has_room, ids_of, of_read_error, put_all, put_next, put_parts}
 use Rattle.tile_extract.specs.declared.error.ExtractError.{ExtractError}
 use Rattle.tile_extract.specs.declared.error.ExtractError.TheVariants.{Archive, IndexEntryOverflow, MediumFault, OutOfMemory}
 use Rattle.tile_extract.proofs.AddedLemmas.{ends_all, ends_later, ends_nothing, ends_rise}
+use Rattle.tile_extract.proofs.LyingLemmas.{puts_few, puts_lie}
 use Rattle.tile_extract.proofs.ToldLemmas.{any_told, both_told, one_told}
 
 -- a range that is read, and one that isn't there
@@ -100,10 +102,12 @@ pub record PutSoFar (o : Options) (h : Header) (source : Option (List ℕ)) (ps 
   pub low : ℕ
   pub ordered : AreOrdered low rest None
   pub ends : EndsBy mid low
+  pub few : length mid + tile_count rest ≤ tile_count ps
+  pub within : (is : List (ℕ × ℕ)) → AllLieIn is ps → AddsLieIn is mid × AllLieIn is rest
   pub so : IfSome source (λ b. (r : Result Adds ExtractError) → PutsParts (Took told) o h b rest mid r → PutsParts (Took told) o h b ps [] r)
 
 pub put_begun : (o : Options) (h : Header) (source : Option (List ℕ)) (ps : List Entry) (told : Option (List ℕ)) (s : WriterState) → Writes o told s [] → AreOrdered 0 ps None → PutSoFar o h source ps ps told s
-put_begun o h source ps told s w ordered = record { mid = []; writes = w; low = 0; ordered = ordered; ends = ends_nothing; so = any_told (PartsOn (Took told) o h ps ps []) source (λ b r is. is) }
+put_begun o h source ps told s w ordered = record { mid = []; writes = w; low = 0; ordered = ordered; ends = ends_nothing; few = omega arith; within = λ is l. (tt, l); so = any_told (PartsOn (Took told) o h ps ps []) source (λ b r is. is) }
 
 -- a part that is read and added
 pub put_more : (o : Options) (h : Header) (source again : Option (List ℕ)) (ps rest : List Entry) (p : Entry) (others : List Entry) (told now : Option (List ℕ)) (s new : WriterState) (bytes : List ℕ) (s1 : PutSoFar o h source ps rest told s)
@@ -116,6 +120,11 @@ put_more o h source again ps rest p others told now s new bytes s1 same tells fi
       low = p.tile_id + p.run_length;
       ordered = ordered.3;
       ends = ends_all (Took now) o bytes p.run_length p.tile_id s1.mid put.0 put.1 (ends_later s1.mid s1.low p.tile_id ordered.0 s1.ends);
+      few = let n = puts_few (Took now) o bytes p.run_length p.tile_id s1.mid put.0 put.1 in let m = s1.few in omega (arith, n, m, ap tile_count first);
+      within = λ is l.
+          let w = s1.within is l in
+          let lie : AllLieIn is (p ∷ others) = subst (AllLieIn is) first w.1 in
+          (puts_lie (Took now) o bytes is p.run_length p.tile_id s1.mid put.0 put.1 lie.0 w.0, lie.1);
       so = both_told (PartsOn (Took now) o h ps rest s1.mid) (λ b. Gives (range_read b (h.data_offset + p.offset) p.length) (Ok bytes)) (PartsOn (Took now) o h ps others put.0) source again same
           (λ b whole found r next. whole r (subst (λ l. PutsParts (Took now) o h b l s1.mid r) (sym first) (parts_put (Took now) o h b p others s1.mid bytes (Ok put.0) r found put.1 next)))
           (took_as (λ takes. IfSome source (PartsOn takes o h ps rest s1.mid)) told now tells s1.so) read;
@@ -127,6 +136,7 @@ put_all_parts o h source ps rest told s none s1 = record {
   more = s1.mid;
   writes = s1.writes;
   rises = ends_rise s1.mid s1.low s1.ends;
+  ids = record { few = let m = s1.few in omega (arith, m); within = λ is l. (s1.within is l).0 };
   are = one_told (PartsOn (Took told) o h ps rest s1.mid) (λ b. ComesTo told o h b ps (Ok s1.mid)) source (λ b whole. comes told o h b ps (Ok s1.mid) (whole (Ok s1.mid) (subst (λ l. PutsParts (Took told) o h b l s1.mid (Ok s1.mid)) (sym none) refl))) s1.so;
 }
 

@@ -42,7 +42,7 @@ pub medium_leaves : (source held again : Option (List ℕ)) (c : Coord) (m most 
 medium_leaves source held again c m most old new (MediumNotEmpty n) same is = both_same (LeavesBytes source c m most (Err (MediumNotEmpty n))) held again same (λ b. refl)
 medium_leaves source held again c m most old new MediumFault same is = both_same (LeavesBytes source c m most (Err MediumFault)) held again same (λ b. untouched b)
   where
-    untouched : (b : List ℕ) → LeavesPart source c m b b
+    untouched : (b : List ℕ) → LeavesPart source c m most b b
     untouched [] = inl refl
     untouched (byte ∷ bytes) = refl
 medium_leaves source held again c m most old new x same is = absurd is
@@ -80,7 +80,7 @@ into_bytes source c m most before now old new (Err (MediumNotEmpty n)) a b cause
 into_bytes source c m most before now old new (Err (Archive e)) a b cause empty is = is
 into_bytes source c m most before now old new (Err (TooManyTiles n)) a b cause empty is = is
 into_bytes source c m most before now old new (Err IndexEntryOverflow) a b cause empty is = is
-into_bytes source c m most before now old new (Err MediumFault) a b cause empty is = subst (λ l. LeavesPart source c m l b) (sym empty) is
+into_bytes source c m most before now old new (Err MediumFault) a b cause empty is = subst (λ l. LeavesPart source c m most l b) (sym empty) is
 into_bytes source c m most before now old new (Err OutOfMemory) a b cause empty is = is
 
 pub into_leaves : (source : Option (List ℕ)) (c : Coord) (m most before now old new : ℕ) (r : Result ArchivePlaces ExtractError) (held again : Option (List ℕ)) → IntoCauses most before now old new r → IsEmpty held → is_some again ≡ is_some held

@@ -1,5 +1,5 @@
 -- Parts that are collected while there is room for their tiles.
-use Rattle.std.specs.Prelude.{◌≡◌, ◌≢◌, ℕ, ◌+◌, ◌-◌, ◌≤◌, true, List, [], ◌∷◌, ◌++◌, nat_le, if◌then◌else◌, Option, Some, None, Result, Ok, Err, IfSome}
+use Rattle.std.specs.Prelude.{◌≡◌, ◌≢◌, ℕ, ◌+◌, ◌-◌, ◌≤◌, ◌<◌, true, List, [], ◌∷◌, ◌++◌, nat_le, if◌then◌else◌, Option, Some, None, Result, Ok, Err, IfSome}
 use Rattle.tile_ids.specs.declared.id.TheConstants.{MAX_TILE_ID}
 use Rattle.pm_format.specs.declared.error.PmtError.{PmtError}
 use Rattle.pm_format.specs.declared.error.PmtError.TheVariants as errors
@@ -7,8 +7,9 @@ use Rattle.pm_format.specs.declared.error.ReadCause.TheVariants as causes
 use Rattle.pm_format.specs.declared.header.Header.{Header}
 use Rattle.pm_format.specs.Directory.{Entry}
 use Rattle.pm_format.specs.LookUp.{leaf_of}
+use Rattle.tile_extract.specs.Cut.{in_intervals}
 use Rattle.tile_extract.specs.Met.{Walked, below, entry_walk, is_met, stays_within}
-use Rattle.tile_extract.specs.Parts.{parts}
+use Rattle.tile_extract.specs.Parts.{parts, tile_count}
 use Rattle.tile_extract.specs.declared.parts.Collected.{Collected}
 
 -- the room that is left behind so many tiles, where there is enough
@@ -34,6 +35,19 @@ AreApart low (i ∷ is) = (low ≤ i.0) × (i.0 ≤ i.1) × AreApart (i.1 + 1) i
 abbrev pub AreOrdered : ℕ → List Entry → Option ℕ → Type 0
 AreOrdered low [] end = stays_within end low ≡ true
 AreOrdered low (p ∷ ps) end = (low ≤ p.tile_id) × (1 ≤ p.run_length) × (p.tile_id + p.run_length ≤ MAX_TILE_ID + 1) × AreOrdered (p.tile_id + p.run_length) ps end
+
+-- each id of a run lies in one of the intervals
+abbrev pub LiesIn : List (ℕ × ℕ) → Entry → Type 0
+LiesIn is p = (t : ℕ) → p.tile_id ≤ t → t < p.tile_id + p.run_length → in_intervals t is ≡ true
+
+-- so do those of parts
+abbrev pub AllLieIn : List (ℕ × ℕ) → List Entry → Type 0
+AllLieIn is [] = Unit {0}
+AllLieIn is (p ∷ ps) = LiesIn is p × AllLieIn is ps
+
+-- As long as there is room, the parts lie in the intervals, and their tiles and those that there is room for are no more than these.
+abbrev pub KeepsTo : List (ℕ × ℕ) → ℕ → Collected → Type 0
+KeepsTo is most c = IfSome c.room (λ room. AllLieIn is c.parts.items × (tile_count c.parts.items + room ≤ most))
 
 -- Over told bytes: a walk's refusal is answered. A fault and want of memory may come in its place, and a wrong number of bytes never does.
 abbrev pub Refuses : Walked → PmtError → Type 0

@@ -1,6 +1,6 @@
 -- What an extraction answers, why, and what it leaves.
 use Rattle.std.specs.Prelude.{◌+◌, ◌≡◌, ◌≢◌, ◌⊎◌, ◌≤◌, ◌<◌, ℕ, true, List, [], ◌∷◌, length, Option, Some, None, Result, Ok, Err, IfSome}
-use Rattle.std.specs.FinMap.{FinMap, get}
+use Rattle.std.specs.FinMap.{FinMap, entries, get}
 use Rattle.std.specs.Ordering.{nat_cmp}
 use Rattle.std.specs.Str.{IsUtf8}
 use Rattle.tile_ids.specs.Coord.{Coord}
@@ -23,8 +23,8 @@ use Rattle.pm_writer.specs.Pieces.{IsHidden}
 use Rattle.pm_contents.specs.Pieces.{BothTold}
 use Rattle.pm_writer.specs.Places.{places_of, places_read}
 use Rattle.pm_writer.specs.declared.places.ArchivePlaces.{ArchivePlaces}
-use Rattle.tile_extract.specs.Cut.{cut, intervals, options_from, options_of}
-use Rattle.tile_extract.specs.Collecting.{Refuses}
+use Rattle.tile_extract.specs.Cut.{cut, in_intervals, intervals, options_from, options_of}
+use Rattle.tile_extract.specs.Collecting.{AllLieIn, AreOrdered, Refuses}
 use Rattle.tile_extract.specs.Met.{Walked, met_of}
 use Rattle.tile_extract.specs.Parts.{parts, tile_count}
 use Rattle.tile_extract.specs.Written.{ComesTo}
@@ -132,41 +132,50 @@ Causes c m most held before now old new (Err (MediumNotEmpty n)) = IsValid c m �
 Causes c m most held before now old new (Err MediumFault) = IsValid c m × Rose old new
 Causes c m most held before now old new result = IsValid c m × IsEmpty held × IntoCauses most before now old new result
 
--- The bytes are the one archive of some tiles and of options that have the zooms that were asked for; where the source tells its bytes, those of the part that was asked for.
-pub record IsExtract (source : Option (List ℕ)) (c : Coord) (m : ℕ) (b : List ℕ) : Type 0 where
+-- The bytes are the one archive of some tiles, no more than the limit and among the tile's descendants, and of options that have the zooms that were asked for; where the source tells its bytes, those of the part that was asked for.
+pub record IsExtract (source : Option (List ℕ)) (c : Coord) (m most : ℕ) (b : List ℕ) : Type 0 where
   pub options : Options
   pub least : options.min_zoom ≡ c.z
   pub greatest : options.max_zoom ≡ m
   pub tiles : FinMap nat_cmp (List ℕ)
+  pub few : length (entries tiles) ≤ most
+  pub within : (id : ℕ) (bytes : List ℕ) → get tiles id ≡ Some bytes → in_intervals id (intervals c m) ≡ true
   pub one : b ≡ canon options tiles
   pub of : IfSome source (λ s. (options_of s c m ≡ Some options) × ((id : ℕ) → get tiles id ≡ cut (archive_map s) c m id))
 
 -- no part of an archive is shown: the label of directories isn't written, or the whole archive stands
-abbrev pub ShowsNoPart : Option (List ℕ) → Coord → ℕ → List ℕ → Type 0
-ShowsNoPart source c m b = IsHidden b ⊎ IsExtract source c m b
+abbrev pub ShowsNoPart : Option (List ℕ) → Coord → ℕ → ℕ → List ℕ → Type 0
+ShowsNoPart source c m most b = IsHidden b ⊎ IsExtract source c m most b
 
 -- what a finished extraction leaves: that archive, well formed, and the places are its own
-pub record IsDone (source : Option (List ℕ)) (c : Coord) (m : ℕ) (p : ArchivePlaces) (b : List ℕ) : Type 0 where
-  pub extract : IsExtract source c m b
+pub record IsDone (source : Option (List ℕ)) (c : Coord) (m most : ℕ) (p : ArchivePlaces) (b : List ℕ) : Type 0 where
+  pub extract : IsExtract source c m most b
   pub formed : WellFormed b extract.options true
   pub places : places_read b ≡ Some p
 
+-- a refusal that a tile has, or may have as well as what is read before it: the end of the bytes, a fault, or a wrong number of bytes
+abbrev pub MayBeTile : PmtError → Type 0
+MayBeTile (errors.Reading cause) = Unit {0}
+MayBeTile (errors.UnexpectedNumberOfBytesReturned asked got) = Unit {0}
+MayBeTile e = ⊥
+
 -- What an empty medium holds afterwards: nothing, where the archive wasn't begun.
 abbrev pub IntoBytes : Option (List ℕ) → Coord → ℕ → ℕ → Result ArchivePlaces ExtractError → List ℕ → Type 0
-IntoBytes source c m most (Ok p) new = IsDone source c m p new
-IntoBytes source c m most (Err (Archive e)) new = (IfSome source (λ b. IsEarly b c m e) × (new ≡ [])) ⊎ (IfSome source (λ b. IsLate (Some new) b c m most e) × IsHidden new)
+IntoBytes source c m most (Ok p) new = IsDone source c m most p new
+IntoBytes source c m most (Err (Archive e)) new =
+    (IfSome source (λ b. IsEarly b c m e) × (new ≡ [])) ⊎ (MayBeTile e × IfSome source (λ b. IsLate (Some new) b c m most e) × IsHidden new)
 IntoBytes source c m most (Err (TooManyTiles n)) new = new ≡ []
-IntoBytes source c m most (Err e) new = ShowsNoPart source c m new
+IntoBytes source c m most (Err e) new = ShowsNoPart source c m most new
 
 -- the same of a medium that may hold bytes, which then stay
-abbrev pub LeavesPart : Option (List ℕ) → Coord → ℕ → List ℕ → List ℕ → Type 0
-LeavesPart source c m [] new = ShowsNoPart source c m new
-LeavesPart source c m (byte ∷ bytes) new = new ≡ byte ∷ bytes
+abbrev pub LeavesPart : Option (List ℕ) → Coord → ℕ → ℕ → List ℕ → List ℕ → Type 0
+LeavesPart source c m most [] new = ShowsNoPart source c m most new
+LeavesPart source c m most (byte ∷ bytes) new = new ≡ byte ∷ bytes
 
 abbrev pub LeavesBytes : Option (List ℕ) → Coord → ℕ → ℕ → Result ArchivePlaces ExtractError → List ℕ → List ℕ → Type 0
 LeavesBytes source c m most (Err (InvalidZoom tile asked)) old new = new ≡ old
 LeavesBytes source c m most (Err (MediumNotEmpty n)) old new = new ≡ old
-LeavesBytes source c m most (Err MediumFault) old new = LeavesPart source c m old new
+LeavesBytes source c m most (Err MediumFault) old new = LeavesPart source c m most old new
 LeavesBytes source c m most result old new = IntoBytes source c m most result new
 
 abbrev pub IntoLeaves : Option (List ℕ) → Coord → ℕ → ℕ → Result ArchivePlaces ExtractError → Option (List ℕ) → Type 0
@@ -195,6 +204,12 @@ pub record IsCollected (w : Walked) (is : List (ℕ × ℕ)) (most : ℕ) (ps : 
   pub are : ps ≡ parts is w.entries
   pub few : tile_count (parts is w.entries) ≤ most
 
+-- told or not, parts in order, no more tiles than the limit, in the intervals
+pub record AreKept (is : List (ℕ × ℕ)) (most : ℕ) (ps : List Entry) : Type 0 where
+  pub ordered : AreOrdered 0 ps None
+  pub few : tile_count ps ≤ most
+  pub within : AllLieIn is ps
+
 -- how often the source is read: once when it is opened, once for its metadata, once for each leaf that is met and once for each part
 abbrev pub reads_opened : List ℕ → Coord → ℕ → Result Opened PmtError → ℕ
 reads_opened b c m (Ok o) = 2 + (met_of b o c m).leaves + length (parts_met b o c m)
@@ -214,5 +229,5 @@ abbrev pub LeavesUncompared : Option (List ℕ) → Option (List ℕ) → Coord 
 LeavesUncompared source held c m most before now (Err (InvalidZoom tile asked)) = now ≡ before
 LeavesUncompared source held c m most before now (Err (MediumNotEmpty n)) = now ≡ before
 LeavesUncompared source held c m most before now (Err (TooManyTiles n)) = now ≡ before
-LeavesUncompared source held c m most before now (Err (Archive e)) = (now ≡ before) ⊎ IfSome source (λ b. IsLate held b c m most e)
+LeavesUncompared source held c m most before now (Err (Archive e)) = (now ≡ before) ⊎ (MayBeTile e × IfSome source (λ b. IsLate held b c m most e))
 LeavesUncompared source held c m most before now result = Unit {0}

@@ -18,6 +18,9 @@ use Rattle.pm_writer.specs.Took.{Took}
 use Rattle.pm_writer.specs.Writing.{Writes, add_to, data_end}
 use Rattle.pm_writer.specs.declared.places.ArchivePlaces.{ArchivePlaces}
 use Rattle.pm_writer.specs.declared.state.WriterState.{WriterState}
+use Rattle.tile_extract.specs.Collecting.{AllLieIn}
+use Rattle.tile_extract.specs.Cut.{in_intervals}
+use Rattle.tile_extract.specs.Parts.{tile_count}
 use Rattle.tile_extract.specs.declared.error.ExtractError.{ExtractError}
 use Rattle.tile_extract.specs.declared.error.ExtractError.TheVariants.{Archive, IndexEntryOverflow, MediumFault, OutOfMemory}
 
@@ -103,11 +106,22 @@ PartsRefuse comes MediumFault = Unit {0}
 PartsRefuse comes OutOfMemory = Unit {0}
 PartsRefuse comes e = ⊥
 
+-- the ids of adds lie in intervals
+abbrev pub AddsLieIn : List (ℕ × ℕ) → Adds → Type 0
+AddsLieIn is [] = Unit {0}
+AddsLieIn is (a ∷ adds) = (in_intervals a.0 is ≡ true) × AddsLieIn is adds
+
+-- adds at the ids of parts alone, no more than these have
+pub record AreAt (ps : List Entry) (adds : Adds) : Type 0 where
+  pub few : length adds ≤ tile_count ps
+  pub within : (is : List (ℕ × ℕ)) → AllLieIn is ps → AddsLieIn is adds
+
 -- what adding parts leaves: adds that they come to, where the source tells, and in any case such as rise
 pub record PartsAdded (o : Options) (h : Header) (source : Option (List ℕ)) (ps : List Entry) (told : Option (List ℕ)) (s : WriterState) : Type 0 where
   pub more : Adds
   pub writes : Writes o told s more
   pub rises : Rises 0 more
+  pub ids : AreAt ps more
   pub are : IfSome source (λ b. ComesTo told o h b ps (Ok more))
 
 abbrev pub PartsPut : Options → Header → Option (List ℕ) → List Entry → Option (List ℕ) → WriterState → Result Unit ExtractError → Type 0
@@ -128,6 +142,7 @@ of_read_error e = Archive e
 pub record IsArchiveOf (o : Options) (h : Header) (source : Option (List ℕ)) (ps : List Entry) (whole : List ℕ) : Type 0 where
   pub adds : Adds
   pub rises : Rises 0 adds
+  pub ids : AreAt ps adds
   pub one : whole ≡ archive o adds
   pub are : IfSome source (λ b. put_parts o h b ps [] ≡ Ok adds)
 
@@ -139,6 +154,7 @@ ShowsNone o h source ps b = IsHidden b ⊎ IsArchiveOf o h source ps b
 pub record IsWritten (o : Options) (h : Header) (source : Option (List ℕ)) (ps : List Entry) (told : Option (List ℕ)) (p : ArchivePlaces) : Type 0 where
   pub adds : Adds
   pub rises : Rises 0 adds
+  pub ids : AreAt ps adds
   pub fits : IsArchivable o adds
   pub one : IfSome told (λ b. b ≡ archive o adds)
   pub places : p ≡ places_of o adds

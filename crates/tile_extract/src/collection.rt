@@ -2,10 +2,11 @@
 ghost use Rattle.std.specs.Prelude.{◌≡◌, ◌≤◌, ◌+◌, true, None, IfSome, IfOk, IfErr, is_some};
 ghost use Rattle.pm_reader.specs.Opening.{header_of, root_of};
 ghost use Rattle.pm_reader.specs.Reads.{ReadsOnly};
-ghost use Rattle.tile_extract.specs.Collecting.{AreOrdered};
+ghost use Rattle.tile_extract.specs.Collecting.{AllLieIn, AreOrdered};
 ghost use Rattle.tile_extract.specs.Cut.{intervals, options_from};
 ghost use Rattle.tile_extract.specs.Extract.{CollectCauses, CollectRefuses, IsCollected};
 ghost use Rattle.tile_extract.specs.Met.{walked};
+ghost use Rattle.tile_extract.specs.Parts.{tile_count};
 
 use crate::ExtractError;
 use crate::intervals::intervals_of;
@@ -69,6 +70,8 @@ pub fn collect<B: Backend>(
     ensures collected { IfSome (B.told source.old) (λ b. IfOk result (λ parts. IsCollected (walked 6 (header_of state.now) b (intervals root max_zoom) 0 None (root_of state.now)) (intervals root max_zoom) max_tiles parts.items)) }
     ensures refused { IfSome (B.told source.old) (λ b. IfErr result (CollectRefuses (walked 6 (header_of state.now) b (intervals root max_zoom) 0 None (root_of state.now)) (intervals root max_zoom) max_tiles)) }
     ensures ordered { IfOk result (λ parts. AreOrdered 0 parts.items None) }
+    ensures few { IfOk result (λ parts. tile_count parts.items ≤ max_tiles) }
+    ensures within { IfOk result (λ parts. AllLieIn (intervals root max_zoom) parts.items) }
     ensures causes { IfErr result (CollectCauses max_tiles (B.faults source.old) (B.faults source.new)) }
     ensures kept { ReadsOnly B.told B.versions B.faults B.steady source.old source.new }
     ensures reads { IfSome (B.told source.old) (λ b. B.reads source.new ≤ B.reads source.old + (walked 6 (header_of state.now) b (intervals root max_zoom) 0 None (root_of state.now)).leaves) }

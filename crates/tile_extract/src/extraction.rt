@@ -31,7 +31,7 @@ fn extract_into<B: Backend, M: Medium>(
     ensures tells { is_some (M.told medium.new) ≡ is_some (M.told medium.old) }
     ensures faults { M.faults medium.old ≤ M.faults medium.new }
     ensures counted { M.reads medium.old ≤ M.reads medium.new }
-    ensures compared { IfSome (B.told source.old) (λ b. M.reads medium.new ≤ M.reads medium.old + max_tiles) }
+    ensures compared { M.reads medium.new ≤ M.reads medium.old + max_tiles }
     ensures uncompared { LeavesUncompared (B.told source.old) (M.told medium.old) root max_zoom max_tiles (M.reads medium.old) (M.reads medium.new) result }
     ensures calm { M.steady medium.old → M.steady medium.new × (M.faults medium.new ≡ M.faults medium.old) }
 {
@@ -76,7 +76,7 @@ pub fn extract<B: Backend, M: Medium>(
     ensures unread { LeavesUnread (B.reads source.old) (B.reads source.new) result }
     ensures faults { M.faults medium.old ≤ M.faults medium.new }
     ensures counted { M.reads medium.old ≤ M.reads medium.new }
-    ensures compared { IfSome (B.told source.old) (λ b. M.reads medium.new ≤ M.reads medium.old + max_tiles) }
+    ensures compared { M.reads medium.new ≤ M.reads medium.old + max_tiles }
     ensures uncompared { LeavesUncompared (B.told source.old) (M.told medium.old) root max_zoom max_tiles (M.reads medium.old) (M.reads medium.new) result }
     ensures calm { M.steady medium.old → M.steady medium.new × (M.faults medium.new ≡ M.faults medium.old) }
 {

@@ -36,7 +36,7 @@ pub fn run_extract<B: Backend, M: Medium>(
     ensures unread { OfExtract (LeavesUnread (B.reads source.old) (B.reads source.new)) result }
     ensures faults { M.faults medium.old ≤ M.faults medium.new }
     ensures counted { M.reads medium.old ≤ M.reads medium.new }
-    ensures compared { IfSome (asked_in words.now) (λ a. IfSome (B.told source.old) (λ b. M.reads medium.new ≤ M.reads medium.old + a.max_tiles)) }
+    ensures compared { IfSome (asked_in words.now) (λ a. M.reads medium.new ≤ M.reads medium.old + a.max_tiles) }
     ensures uncompared { IfSome (asked_in words.now) (λ a. OfExtract (LeavesUncompared (B.told source.old) (M.told medium.old) a.root a.max_zoom a.max_tiles (M.reads medium.old) (M.reads medium.new)) result) }
     ensures calm { M.steady medium.old → M.steady medium.new × (M.faults medium.new ≡ M.faults medium.old) }
 {

@@ -1,10 +1,10 @@
 // The walk along the directories that an interval meets, each read once.
-ghost use Rattle.std.specs.Prelude.{◌≡◌, ◌+◌, ◌≤◌, true, length, IfSome, IfOk, OnOk, Some};
+ghost use Rattle.std.specs.Prelude.{◌≡◌, ◌+◌, ◌≤◌, ℕ, true, length, IfSome, IfOk, OnOk, Some};
 ghost use Rattle.pm_format.specs.Directory.{Entry};
 ghost use Rattle.pm_reader.specs.Answers.{LookUpCauses};
 ghost use Rattle.pm_reader.specs.Opening.{header_of};
 ghost use Rattle.pm_reader.specs.Reads.{ReadsOnly};
-ghost use Rattle.tile_extract.specs.Collecting.{AreApart, AreOrdered, IsMetLeaf, MeetReads, Meets, Walks};
+ghost use Rattle.tile_extract.specs.Collecting.{AreApart, AreOrdered, IsMetLeaf, KeepsTo, MeetReads, Meets, Walks};
 ghost use Rattle.tile_extract.specs.Met.{below, end_before, entry_walk, fits_kind, rises, stands, stays_within, walked};
 
 use crate::intervals::{is_below, is_met};
@@ -91,6 +91,7 @@ fn meet<B: Backend>(
     ensures answer { IfSome (B.told backend.old) (λ b. Meets (header_of state.now) b intervals.now left entry end collected.old collected.new result) }
     ensures ordered { AreApart 0 intervals.now → AreOrdered 0 collected.old.parts.items (Some entry.tile_id) → stays_within end (entry.tile_id + entry.run_length) ≡ true
         → OnOk result (AreOrdered 0 collected.new.parts.items end) }
+    ensures keeps { (most : ℕ) → KeepsTo intervals.now most collected.old → OnOk result (KeepsTo intervals.now most collected.new) }
     ensures below { IfOk result (λ leaf. IfSome leaf (λ _. IsMetLeaf intervals.now left entry end collected.old collected.new)) }
     ensures causes { LookUpCauses (B.faults backend.old) (B.faults backend.new) result }
     ensures kept { ReadsOnly B.told B.versions B.faults B.steady backend.old backend.new }
@@ -123,6 +124,7 @@ pub(crate) fn walk<B: Backend>(
 ) -> PmtResult<()>
     ensures answer { IfSome (B.told backend.old) (λ b. Walks (walked left (header_of state.now) b intervals.now low limit directory.now) intervals.now collected.old collected.new result) }
     ensures ordered { AreApart 0 intervals.now → AreOrdered 0 collected.old.parts.items (Some low) → stays_within limit low ≡ true → OnOk result (AreOrdered 0 collected.new.parts.items limit) }
+    ensures keeps { (most : ℕ) → KeepsTo intervals.now most collected.old → OnOk result (KeepsTo intervals.now most collected.new) }
     ensures causes { LookUpCauses (B.faults backend.old) (B.faults backend.new) result }
     ensures kept { ReadsOnly B.told B.versions B.faults B.steady backend.old backend.new }
     ensures reads { IfSome (B.told backend.old) (λ b. B.reads backend.new ≤ B.reads backend.old + (walked left (header_of state.now) b intervals.now low limit directory.now).leaves) }

@@ -47,7 +47,7 @@ returns-in-Ok-write_parts-clause-leaves g c =
     let held = g.M.Backend.told c.write_parts.new.medium in
     let items = c.in-Ok-collect.parts.items in
     ok_leaves c.args.root c.args.max_zoom c.args.max_tiles h (root_of c.in-Ok.read.0) c.in-Ok.read.1 items told again held c.options_from-options.result c.in-Ok-write_parts.written
-    (c.options_from-options.ensures ∙ ap (λ k. options_from k c.in-Ok.read.1 c.args.root c.args.max_zoom) c.get_header.ensures) (c.collect.ensures.kept.told ∙ c.read_source.ensures.kept.told) c.in-Ok-collect.ensures.ordered
+    (c.options_from-options.ensures ∙ ap (λ k. options_from k c.in-Ok.read.1 c.args.root c.args.max_zoom) c.get_header.ensures) (c.collect.ensures.kept.told ∙ c.read_source.ensures.kept.told) (record { ordered = c.in-Ok-collect.ensures.ordered; few = c.in-Ok-collect.ensures.few; within = c.in-Ok-collect.ensures.within })
     (planned c.args.root c.args.max_zoom c.args.max_tiles c.in-Ok.read.0 c.in-Ok.read.1 items told (g.B.Backend.told c.read_source.new.source) c.read_source.ensures.kept.told c.in-Ok.ensures.answer c.in-Ok-collect.ensures.collected)
     (subst (λ l. WritesParts c.options_from-options.result h again l held (Ok c.in-Ok-write_parts.written)) c.deref.ensures.value c.in-Ok-write_parts.ensures.written)
 
@@ -71,7 +71,7 @@ returns-clause-leaves g c =
     let held = g.M.Backend.told c.write_parts.new.medium in
     let items = c.in-Ok-collect.parts.items in
     err_leaves c.args.root c.args.max_zoom c.args.max_tiles h (root_of c.in-Ok.read.0) c.in-Ok.read.1 items told again held _ _ _ _ c.options_from-options.result c.in-Err-write_parts.error
-    (c.options_from-options.ensures ∙ ap (λ k. options_from k c.in-Ok.read.1 c.args.root c.args.max_zoom) c.get_header.ensures) (c.collect.ensures.kept.told ∙ c.read_source.ensures.kept.told) c.in-Ok-collect.ensures.ordered
+    (c.options_from-options.ensures ∙ ap (λ k. options_from k c.in-Ok.read.1 c.args.root c.args.max_zoom) c.get_header.ensures) (c.collect.ensures.kept.told ∙ c.read_source.ensures.kept.told) (record { ordered = c.in-Ok-collect.ensures.ordered; few = c.in-Ok-collect.ensures.few; within = c.in-Ok-collect.ensures.within })
     (planned c.args.root c.args.max_zoom c.args.max_tiles c.in-Ok.read.0 c.in-Ok.read.1 items told (g.B.Backend.told c.read_source.new.source) c.read_source.ensures.kept.told c.in-Ok.ensures.answer c.in-Ok-collect.ensures.collected) c.in-Err-write_parts.ensures.causes
     (subst (λ l. WritesParts c.options_from-options.result h again l held (Err c.in-Err-write_parts.error)) c.deref.ensures.value c.in-Err-write_parts.ensures.written)
     (subst (λ l. IfSome held (ShowsNone c.options_from-options.result h again l)) c.deref.ensures.value c.in-Err-write_parts.ensures.shown)

@@ -12,6 +12,7 @@ loop-first-init g t c = (
   any_told (λ b. SoFar (header_of c.args.state.now) b c.args.intervals.now c.args.left c.args.low c.args.limit c.args.directory.now _ c.entries-rest.result.now c.args.collected.now c.args.collected.now (g.B.Backend.reads c.args.backend.now) (g.B.Backend.reads c.args.backend.now))
       (g.B.Backend.told c.args.backend.now) (λ b. begun_at (header_of c.args.state.now) b c.args.intervals.now c.args.left c.args.low c.args.limit c.args.directory.now c.entries-rest.result.now c.args.collected.now (g.B.Backend.reads c.args.backend.now) c.entries-rest.ensures.value),
   λ apart before. before,
+  λ most k. k,
 )
 
 pub returns-then-not-stands-clause-answer : goal.returns-then-not-stands-clause-answer
@@ -90,6 +91,7 @@ loop-first-preserved-in-Ok-None g t c =
           i.told record { first = c.in-Some.ensures.cases.0; end_is = c.end_of-end.ensures; tested = c.stands.ensures; is = c.if-not-stands.false } (c.in-Ok-None.is ∙ ap (λ o. Ok o) c.in-Ok-None.field-0-is) c.loop-first.invariant.1 c.meet.ensures.answer c.meet.ensures.reads,
       λ apart before. order_step c.args.left c.args.low c.args.limit c.loop-first.before c.loop-first.rest.now c.in-Some.first.now c.in-Some.others.now c.end_of-end.result c.stands.result c.loop-first.collected c.meet.new.collected record { first = c.in-Some.ensures.cases.0; end_is = c.end_of-end.ensures; tested = c.stands.ensures; is = c.if-not-stands.false }
           (c.loop-first.invariant.2 apart before) (λ ordered within. c.in-Ok-None.ensures.ordered apart ordered within),
+      λ most k. c.in-Ok-None.ensures.keeps most (c.loop-first.invariant.3 most k),
     )
 
 pub loop-first-preserved : goal.loop-first-preserved
@@ -116,4 +118,5 @@ loop-first-preserved g t c =
       λ apart before. order_leaf c.args.left c.args.low c.args.limit c.loop-first.before c.loop-first.rest.now c.in-Some.first.now c.in-Some.others.now c.end_of-end.result c.stands.result c.loop-first.collected c.meet.new.collected c.walk.new.collected c.tile_id-id.result record { first = c.in-Some.ensures.cases.0; end_is = c.end_of-end.ensures; tested = c.stands.ensures; is = c.if-not-stands.false }
           (c.loop-first.invariant.2 apart before) (subst (λ o. IfSome o (λ _. IsMetLeaf c.args.intervals.now c.args.left c.in-Some.first.now c.end_of-end.result c.loop-first.collected c.meet.new.collected)) c.in-Ok-Some.field-0-is c.in-Ok-Some.ensures.below).kept c.tile_id-id.ensures
           (λ ordered within. c.in_default-walk.ensures.ordered apart ordered within),
+      λ most k. c.in_default-walk.ensures.keeps most (c.in-Ok-Some.ensures.keeps most (c.loop-first.invariant.3 most k)),
     )
