@@ -1,5 +1,5 @@
 -- How lines go on, one after another: what the server reads and holds.
-use Rattle.std.proofs.Common.{◌≡◌, ◌∙◌, ℕ, Bool, true, false, List, [], ◌∷◌, ◌++◌, Option, None, Some, Result, Ok, Err, IfSome, refl, sym, ap, subst}
+use Rattle.std.proofs.Common.{◌≡◌, ℕ, Bool, true, false, List, [], ◌∷◌, ◌++◌, Option, None, Some, Ok, Err, IfSome, refl, sym, subst}
 use Rattle.bounded_lru.specs.Bounded.{Bounded}
 use Rattle.byte_streams.specs.declared.sink.SinkFault.{SinkFault}
 use Rattle.byte_streams.specs.declared.sink.SinkFault.TheVariants as sink
@@ -13,7 +13,7 @@ use Rattle.tile_serve.specs.Tiles.{is_read, tiles_after}
 use Rattle.tile_serve.specs.declared.error.ServeError.{ServeError}
 use Rattle.tile_serve.specs.declared.error.ServeError.TheVariants as errors
 use Rattle.tile_serve.specs.declared.outcome.ServeOutcome.{ServeOutcome}
-use Rattle.tile_serve.specs.declared.outcome.ServeOutcome.TheVariants.{Done, Refused}
+use Rattle.tile_serve.specs.declared.outcome.ServeOutcome.TheVariants.{Done}
 
 abbrev Tiles : Type 0
 Tiles = Bounded (List ℕ)

@@ -1,7 +1,6 @@
 -- A run, from the opening to the last line.
-use Rattle.std.proofs.Common.{◌≡◌, ◌∙◌, ℕ, ◌≤◌, List, [], ◌++◌, append-nil, Option, None, Some, Result, Ok, Err, IsOk, IfSome, refl, sym, ap, subst, arith}
+use Rattle.std.proofs.Common.{◌≡◌, ◌∙◌, ℕ, ◌≤◌, List, ◌++◌, append-nil, Option, None, Some, Result, Ok, Err, IsOk, IfSome, refl, sym, ap, subst, arith}
 use Rattle.tile_ids.specs.Counts.{Grew}
-use Rattle.bounded_lru.specs.Bounded.{Bounded, bounded}
 use Rattle.byte_streams.specs.Input.{InputCounts}
 use Rattle.byte_streams.specs.Streams.{IsAtEnd, Loses}
 use Rattle.byte_streams.specs.declared.input.InputError.{InputError}
@@ -13,8 +12,8 @@ use Rattle.pm_reader.specs.Archives.{UsesOneLength}
 use Rattle.tile_serve.specs.Answers.{OpeningCauses, RefusesOpening}
 use Rattle.tile_serve.specs.Outcomes.{of_input, of_serve}
 use Rattle.tile_serve.specs.Reply.{replies}
-use Rattle.tile_serve.specs.Course.{Course, IsBegun, Texts, course}
-use Rattle.tile_serve.specs.Serving.{IsUnmodifiedRun, LinesEnd, LinesTexts, RefusalCauses, RunTexts, Writes, WritesLines}
+use Rattle.tile_serve.specs.Course.{Texts}
+use Rattle.tile_serve.specs.Serving.{IsUnmodifiedRun, LinesEnd, RefusalCauses, RunTexts, Writes}
 use Rattle.tile_serve.specs.State.{IsServing}
 use Rattle.tile_serve.specs.TopCall.{IsFor, IsRead, IsSilent, IsUnopened, OpensFor, SourceCauses, Taken}
 use Rattle.tile_serve.specs.declared.error.ServeError.{ServeError}
