@@ -22,15 +22,15 @@ pub add_refused : (label : Compression) (size : ℕ) (fits : Type 0) (before now
 add_refused label size fits before now errors.Failed plain f c = absurd (cc)
 add_refused label size fits before now (errors.UnsupportedCompression refused) plain f c = c.2 plain
 add_refused label size fits before now errors.IndexEntryOverflow plain f c = c.2 f
-add_refused label size fits before now (errors.Reading causes.Fault) plain f c = c.3
+add_refused label size fits before now (errors.Reading causes.Fault) plain f c = c.4
 add_refused label size fits before now errors.OutOfMemory plain f c = tt
 add_refused label size fits before now _ plain f c = absurd c
 
 -- and what a write or a read of the medium answers an add with
-pub put_refused : (size : ℕ) (fits : Type 0) (before now : ℕ) (e : PmtError) → size < 2 ^ 32 → PutCauses before now (Err e) → AddCauses compression.None false size fits before now (Err e)
-put_refused size fits before now (errors.Reading causes.Fault) low c = (refl, refl, low, c)
-put_refused size fits before now errors.OutOfMemory low c = (refl, refl, low)
-put_refused size fits before now _ low c = absurd c
+pub put_refused : (size : ℕ) (fits : Type 0) (before now : ℕ) (e : PmtError) → 0 < size → size < 2 ^ 32 → PutCauses before now (Err e) → AddCauses compression.None false size fits before now (Err e)
+put_refused size fits before now (errors.Reading causes.Fault) some low c = (refl, refl, some, low, c)
+put_refused size fits before now errors.OutOfMemory some low c = (refl, refl, some, low)
+put_refused size fits before now _ some low c = absurd c
 
 -- the end of an archive of adds with distinct ids that fit
 pub finish_refused : (A : Type 0) (o : Options) (adds : List (ℕ × List ℕ)) (before now : ℕ) (e : PmtError) → Distinct adds → ArchiveFits o adds → FinishCauses {A = A} o adds false before now (Err e) → PutCauses before now (Err e)

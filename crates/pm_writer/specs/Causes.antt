@@ -36,8 +36,8 @@ AddCauses label failed size fits before now (Ok _) = (failed ≡ false) × (labe
 AddCauses label failed size fits before now (Err errors.Failed) = failed ≡ true
 AddCauses label failed size fits before now (Err (errors.UnsupportedCompression refused)) = (failed ≡ false) × (refused ≡ label) × (label ≢ compression.None)
 AddCauses label failed size fits before now (Err errors.IndexEntryOverflow) = (failed ≡ false) × (label ≡ compression.None) × (fits → ⊥)
-AddCauses label failed size fits before now (Err (errors.Reading causes.Fault)) = (failed ≡ false) × (label ≡ compression.None) × (size < 2 ^ 32) × Rose before now
-AddCauses label failed size fits before now (Err errors.OutOfMemory) = (failed ≡ false) × (label ≡ compression.None) × (size < 2 ^ 32)
+AddCauses label failed size fits before now (Err (errors.Reading causes.Fault)) = (failed ≡ false) × (label ≡ compression.None) × (0 < size) × (size < 2 ^ 32) × Rose before now
+AddCauses label failed size fits before now (Err errors.OutOfMemory) = (failed ≡ false) × (label ≡ compression.None) × (0 < size) × (size < 2 ^ 32)
 AddCauses label failed size fits before now (Err _) = ⊥
 
 -- whether the writer has failed after a call

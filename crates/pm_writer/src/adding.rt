@@ -127,7 +127,7 @@ impl WriterState {
         self.add_sought(medium, id, bytes, size, sought)
     }
 
-    /// Adds the bytes of the tile with this id as they are; empty data is no tile and changes nothing.
+    /// Adds the bytes of the tile with this id as they are. Empty data is no tile: it changes nothing, and neither a fault nor want of memory comes.
     ///
     /// The data is compared with a content of its digest and length that the medium answers, where there is one, by one read. A medium that tells its bytes answers what was written, and the data is
     /// taken for itself; one that doesn't may answer other bytes, and the data is then taken for the data of that content, or for a new content that no data is equal to.
@@ -147,6 +147,7 @@ impl WriterState {
         ensures kept { (o : Options) (adds : List (ℕ × List ℕ)) → Writes o (M.told medium.old) self.old adds → OnErr result (Writes o (M.told medium.new) self.new adds) }
         ensures causes { (o : Options) (adds : List (ℕ × List ℕ)) → Writes o (M.told medium.old) self.old adds
             → (taken : List ℕ) × TookBy (M.told medium.old) (M.reads medium.old) (M.reads medium.new) bytes.now taken × AddCauses compression.None (has_failed self.old) (length bytes.now) (AddFits o adds id taken) (M.faults medium.old) (M.faults medium.new) result }
+        ensures empty { length bytes.now ≡ 0 → (self.new ≡ self.old) × (medium.new ≡ medium.old) }
         ensures failed { has_failed self.new ≡ failed_after (has_failed self.old) result }
         ensures tells { is_some (M.told medium.new) ≡ is_some (M.told medium.old) }
         ensures versions { is_some (M.versions medium.new) ≡ is_some (M.versions medium.old) }
@@ -178,6 +179,7 @@ impl WriterState {
         ensures kept { (o : Options) (adds : List (ℕ × List ℕ)) → Writes o (M.told medium.old) self.old adds → OnErr result (Writes o (M.told medium.new) self.new adds) }
         ensures causes { (o : Options) (adds : List (ℕ × List ℕ)) → Writes o (M.told medium.old) self.old adds
             → (taken : List ℕ) × TookBy (M.told medium.old) (M.reads medium.old) (M.reads medium.new) bytes.now taken × AddCauses compression.None (has_failed self.old) (length bytes.now) (AddFits o adds (id_of coord) taken) (M.faults medium.old) (M.faults medium.new) result }
+        ensures empty { length bytes.now ≡ 0 → (self.new ≡ self.old) × (medium.new ≡ medium.old) }
         ensures failed { has_failed self.new ≡ failed_after (has_failed self.old) result }
         ensures tells { is_some (M.told medium.new) ≡ is_some (M.told medium.old) }
         ensures versions { is_some (M.versions medium.new) ≡ is_some (M.versions medium.old) }
@@ -203,6 +205,7 @@ impl WriterState {
         ensures kept { (o : Options) (adds : List (ℕ × List ℕ)) → Writes o (M.told medium.old) self.old adds → OnErr result (Writes o (M.told medium.new) self.new adds) }
         ensures causes { (o : Options) (adds : List (ℕ × List ℕ)) → Writes o (M.told medium.old) self.old adds
             → (taken : List ℕ) × TookBy (M.told medium.old) (M.reads medium.old) (M.reads medium.new) bytes.now taken × AddCauses o.tile_compression (has_failed self.old) (length bytes.now) (AddFits o adds (id_of coord) taken) (M.faults medium.old) (M.faults medium.new) result }
+        ensures empty { length bytes.now ≡ 0 → (self.new ≡ self.old) × (medium.new ≡ medium.old) }
         ensures failed { has_failed self.new ≡ failed_after (has_failed self.old) result }
         ensures tells { is_some (M.told medium.new) ≡ is_some (M.told medium.old) }
         ensures versions { is_some (M.versions medium.new) ≡ is_some (M.versions medium.old) }

@@ -62,7 +62,7 @@ add_refused size fits start before now failed e (Err x) alive fit order cause is
     by_case errors.Failed c = absurd (cc)
     by_case (errors.UnsupportedCompression refused) c = absurd (c.2 refl)
     by_case errors.IndexEntryOverflow c = absurd (c.2 fit)
-    by_case (errors.Reading causes.Fault) c = omega (arith, order, c.3)
+    by_case (errors.Reading causes.Fault) c = omega (arith, order, c.4)
     by_case errors.OutOfMemory c = tt
     by_case _ c = absurd c
 

@@ -108,7 +108,7 @@ pub add_faulted : (size : ℕ) (fits : Type 0) (failed : Bool) (start before now
 add_faulted size fits failed start before now errors.Failed alive le c is = absurd (true≢false (sym c ∙ alive))
 add_faulted size fits failed start before now (errors.UnsupportedCompression label) alive le c is = absurd (c.2 refl)
 add_faulted size fits failed start before now errors.IndexEntryOverflow alive le c is = absurd (cc)
-add_faulted size fits failed start before now (errors.Reading causes.Fault) alive le c is = omega (arith, le, c.3)
+add_faulted size fits failed start before now (errors.Reading causes.Fault) alive le c is = omega (arith, le, c.4)
 add_faulted size fits failed start before now errors.OutOfMemory alive le c is = absurd (cc)
 add_faulted size fits failed start before now e alive le c is = absurd c
 

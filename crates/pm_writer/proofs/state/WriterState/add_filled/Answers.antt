@@ -12,7 +12,7 @@ returns-in_err-sought-clause-causes g c = λ o adds w.
     let x = c.args.bytes.now in
     let p = err_from_is_err_and c.from_residual.result c.from_residual.ensures.1 in
     let low : length x < 2 ^ 32 = omega arith in
-    (x, itself_by (g.M.Backend.told c.args.medium.now) (g.M.Backend.reads c.args.medium.now) (g.M.Backend.reads c.seek.new.medium) x, rw (p.1, p.2) (put_refused (length x) (FilledFits o adds c.args.id x) _ _ c.in_err-sought.field-0.0 low c.in_err-sought.ensures.causes))
+    (x, itself_by (g.M.Backend.told c.args.medium.now) (g.M.Backend.reads c.args.medium.now) (g.M.Backend.reads c.seek.new.medium) x, rw (p.1, p.2) (put_refused (length x) (FilledFits o adds c.args.id x) _ _ c.in_err-sought.field-0.0 c.requires.some low c.in_err-sought.ensures.causes))
 
 pub returns-then-not-fits-clause-causes : goal.returns-then-not-fits-clause-causes
 returns-then-not-fits-clause-causes g c = λ o adds w.
