@@ -1,6 +1,10 @@
+mod AskingLemmas
 mod CommitLemmas
 mod PassingLemmas
 mod ReadingLemmas
 mod ReadyLemmas
+mod RestingLemmas
+mod RisingLemmas
+mod SizingLemmas
 mod StepLemmas
 mod WritingLemmas

@@ -1,4 +1,4 @@
--- Rows and cells that are read one after another.
+-- Cells and rows that are read one after another.
 use Rattle.std.proofs.Common.{◌≡◌, ℕ, ℤ, ◌+◌, ◌<◌, ◌≤◌, ◌++◌, List, [], ◌∷◌, length, get_or, take, zero, suc, add-one, arith, subst, sym, ◌∙◌}
 use Rattle.std.specs.List.{AllZip}
 use Rattle.std.proofs.lemmas.List.{take_all}
@@ -6,7 +6,6 @@ use Rattle.sqlite_value.specs.declared.value.Value.TheVariants.{Int}
 use Rattle.sqlite_value.specs.Order.{Row, column}
 use Rattle.mb_tables.specs.Table.{width}
 use Rattle.mb_tables.specs.declared.table.TableName.{TableName}
-use Rattle.mb_sqlite.specs.Reading.{EndsAt}
 
 module _ {A B : Type 0} (R : A → B → Type 0) where
   next_pair : (xs : List A) (ys : List B) (n : ℕ) (y : B) (d : A) → n < length xs → AllZip R (take n xs) ys → R (get_or xs n d) y → AllZip R (take (suc n) xs) (ys ++ y ∷ [])
@@ -23,16 +22,3 @@ module _ {A B : Type 0} (R : A → B → Type 0) where
   -- all of them, whatever the bound
   pub AllZip-enough : (xs : List A) (ys : List B) (n m : ℕ) → length xs ≤ n → length xs ≤ m → AllZip R (take n xs) ys → AllZip R (take m xs) ys
   AllZip-enough xs ys n m enough more all = subst (λ zs. AllZip R zs ys) (take_all n xs enough ∙ sym (take_all m xs more)) all
-
-next_end : (table : TableName) (xs : List Row) (n : ℕ) (last : ℤ) (d : Row) → n < length xs → column (get_or xs n d) (width table) ≡ Int last → EndsAt table (take (suc n) xs) last
-next_end table [] n last d far is = absurd (omega (arith, far))
-next_end table (x ∷ xs) zero last d far is = is
-next_end table (x ∷ []) (suc n) last d far is = absurd (omega (arith, far))
-next_end table (x ∷ y ∷ xs) (suc n) last d far is = next_end table (y ∷ xs) n last d (omega (arith, far)) is
-
--- one more of the first answers
-pub EndsAt-next : (table : TableName) (xs : List Row) (n : ℕ) (last : ℤ) (d : Row) → n < length xs → column (get_or xs n d) (width table) ≡ Int last → EndsAt table (take (n + 1) xs) last
-EndsAt-next table xs n last d far is = subst (λ m. EndsAt table (take m xs) last) (sym (add-one n)) (next_end table xs n last d far is)
-
-pub EndsAt-enough : (table : TableName) (xs : List Row) (n m : ℕ) (last : ℤ) → length xs ≤ n → length xs ≤ m → EndsAt table (take n xs) last → EndsAt table (take m xs) last
-EndsAt-enough table xs n m last enough more ends = subst (λ ys. EndsAt table ys last) (take_all n xs enough ∙ sym (take_all m xs more)) ends

@@ -1,13 +1,14 @@
 -- What comes of a call once the tables are made.
-use Rattle.std.proofs.Common.{◌≡◌, Bool, false, true, MatchBool, refl, subst, sym, Result, Ok, Err}
+use Rattle.std.proofs.Common.{◌≡◌, Bool, false, true, MatchBool, refl, subst, sym, Result, Ok, Err, ◌∙◌}
 use Rattle.std.specs.Prelude.{IfOk, OnErr, OnOk}
 use Rattle.sqlite.specs.Held.{Held, state}
 use Rattle.sqlite.specs.State.{HasCleanDisk}
 use Rattle.sqlite.specs.Store.{Ghosts}
 use Rattle.mb_tables.specs.declared.kind.MbtType.{MbtType}
-use Rattle.mb_sqlite.specs.Committing.{CommitsNothing, CommitsOnce, IsReady, OnceReady, Sees}
+use Rattle.mb_sqlite.specs.Committing.{CommitsNothing, CommitsOnce, Idles, IsReady, Leaves, OnceReady, Sees}
 use Rattle.mb_sqlite.specs.Making.{AreMade, ArePrepared, begun}
 use Rattle.mb_sqlite.specs.Reading.{Within}
+use Rattle.mb_sqlite.specs.Resting.{Rests}
 
 pub on_err : {X E : Type 0} (r : Result X E) (P : Type 0) → P → OnErr r P
 on_err (Ok x) P p = tt
@@ -28,14 +29,20 @@ refused_as (Ok x) a P is h = tt
 refused_as (Err e) (Ok y) P is h = absurd is
 refused_as (Err e) (Err f) P is h = h
 
+pub by_true : (b : Bool) (A B : Type 0) → b ≡ true → A → MatchBool b A B
+by_true b A B is a = subst (λ b. MatchBool b A B) (sym is) a
+
+pub by_false : (b : Bool) (A B : Type 0) → b ≡ false → B → MatchBool b A B
+by_false b A B is c = subst (λ b. MatchBool b A B) (sym is) c
+
 module _ {S : Type 0} (g : Ghosts S) (layout : MbtType) where
   pub ready_yet : (is_made : Bool) (h : Held S) → is_made ≡ true → IsReady g layout is_made h h
   unfolding IsReady
-  ready_yet is_made h is = subst (λ b. MatchBool b (h ≡ h) (HasCleanDisk (state g h) → ArePrepared g layout h h)) (sym is) refl
+  ready_yet is_made h is = rw is refl
 
-  pub ready_now : (is_made : Bool) (old new : Held S) → is_made ≡ false → (HasCleanDisk (state g new) → ArePrepared g layout old new) → IsReady g layout is_made old new
+  pub ready_now : (is_made : Bool) (old new : Held S) → is_made ≡ false → new.in_transaction ≡ false → (HasCleanDisk (state g new) → ArePrepared g layout old new) → IsReady g layout is_made old new
   unfolding IsReady
-  ready_now is_made old new is prepared = subst (λ b. MatchBool b (new ≡ old) (HasCleanDisk (state g new) → ArePrepared g layout old new)) (sym is) prepared
+  ready_now is_made old new is ended prepared = rw is (ended, prepared)
 
   -- an answer is seen of the database whose tables are made
   pub sees_ready : {X E : Type 0} (P : X → Held S → Held S → Type 0) (is_made : Bool) (old ready new : Held S) (r : Result X E) → IsReady g layout is_made old ready
@@ -43,3 +50,16 @@ module _ {S : Type 0} (g : Ghosts S) (layout : MbtType) where
       → IfOk r (λ x. OnceReady g layout is_made old (Sees g (P x) new))
   sees_ready P is_made old ready new (Ok x) is_ready once none seen = record { ready = ready; is_ready = is_ready; once = once; after = record { survives = none; seen = seen } }
   sees_ready P is_made old ready new (Err e) is_ready once none seen = tt
+
+  -- what a call leaves
+  pub leaves_inside : (was is : Bool) (old : Held S) → old.in_transaction ≡ true → is ≡ was → Leaves g layout was is old old
+  unfolding Leaves
+  leaves_inside was is old inside same = by_true _ _ _ inside (refl, same)
+
+  pub leaves_failed : (was is : Bool) (old new : Held S) → old.in_transaction ≡ false → was ≡ false → is ≡ was → Rests g old new → Leaves g layout was is old new
+  unfolding Leaves
+  leaves_failed was is old new outside unmade same rests = by_false _ _ _ outside (by_false _ _ _ (same ∙ unmade) (unmade, rests))
+
+  pub leaves_ready : (was is : Bool) (old ready new : Held S) → old.in_transaction ≡ false → is ≡ true → IsReady g layout was old ready → CommitsOnce g (AreMade g layout (begun old)) old ready → Idles g new ready → Leaves g layout was is old new
+  unfolding Leaves
+  leaves_ready was is old ready new outside made is_ready once idles = by_false _ _ _ outside (by_true _ _ _ made (record { ready = ready; is_ready = is_ready; once = once; after = idles }))

@@ -1,5 +1,5 @@
 -- Steps one after another.
-use Rattle.std.proofs.Common.{◌≡◌, ℕ, ◌+◌, ◌≤◌, List, [], ◌∷◌, length, take, zero, suc, add-one, refl, subst, sym, Some, slice_get}
+use Rattle.std.proofs.Common.{◌≡◌, ℕ, ◌+◌, ◌≤◌, ◌++◌, List, [], ◌∷◌, length, take, zero, suc, add-one, refl, subst, sym, Some, slice_get}
 use Rattle.std.proofs.lemmas.List.{take_all}
 use Rattle.mb_sqlite.specs.Making.{Steps}
 
@@ -23,3 +23,8 @@ module _ {A B : Type 0} (Step : A → B → B → Type 0) where
   -- all of them
   pub Steps-all : (xs : List A) (n : ℕ) (a b : B) → length xs ≤ n → Steps Step (take n xs) a b → Steps Step xs a b
   Steps-all xs n a b enough steps = subst (λ ys. Steps Step ys a b) (take_all n xs enough) steps
+
+  pub Steps-push : (xs : List A) (x : A) (a b c : B) → Steps Step xs a b → Step x b c → Steps Step (xs ++ x ∷ []) a c
+  unfolding Steps
+  Steps-push [] x a b c steps step = (c, subst (λ h. Step x h c) steps step, refl)
+  Steps-push (y ∷ ys) x a b c steps step = (steps.0, steps.1, Steps-push ys x steps.0 b c steps.2 step)

@@ -1,9 +1,12 @@
 -- The texts that make the tables and views of a layout, and the one that asks whether one is there.
-use Rattle.std.specs.Prelude.{codes, cond, true, ◌++◌, List, [], ◌∷◌, ℕ, map, Option, Some, None}
+use Rattle.std.specs.Prelude.{Bool, codes, cond, true, ◌++◌, List, [], ◌∷◌, ℕ, map, Option, Some, None}
+use Rattle.std.specs.List.{list_all, list_any}
+use Rattle.std.specs.Str.{bytes_eq}
 use Rattle.mb_tables.specs.Described.{is_table}
 use Rattle.mb_tables.specs.Schema.{columns_of, set_tables}
 use Rattle.mb_tables.specs.Table.{key_columns, table_text}
 use Rattle.mb_tables.specs.declared.column.ColumnDesc.{ColumnDesc}
+use Rattle.mb_tables.specs.declared.description.TableDesc.{TableDesc}
 use Rattle.mb_tables.specs.declared.kind.MbtType.{MbtType}
 use Rattle.mb_tables.specs.declared.kind.MbtType.TheVariants.{Flat, FlatWithHash, Normalized, Cache}
 use Rattle.mb_tables.specs.declared.kind.NormalizedSchema.TheVariants.{Hash, DedupId}
@@ -13,7 +16,7 @@ use Rattle.mb_sqlite.specs.Statements.{joined, names_of}
 
 -- how many tables and views have a name, in any ASCII case
 unfoldable pub there_text : List ℕ
-there_text = codes "SELECT count(*) FROM sqlite_master WHERE name = ?1 COLLATE NOCASE"
+there_text = codes "SELECT count(*) FROM sqlite_master WHERE name = ?1 COLLATE NOCASE AND type IN ('table', 'view')"
 
 -- a column with its type
 abbrev pub column_text : ColumnDesc → List ℕ
@@ -60,3 +63,7 @@ making_text layout table = cond (is_table (set_tables layout) table) (Some (crea
 -- all tables, each after those that a view of its name reads
 abbrev pub making_order : List TableName
 making_order = Metadata ∷ Map ∷ Images ∷ TilesShallow ∷ TilesData ∷ TileCache ∷ TilesWithHash ∷ Tiles ∷ []
+
+-- whether each of these descriptions has the name of one of those
+abbrev pub are_named : List TableDesc → List TableDesc → Bool
+are_named tables others = list_all (λ other. list_any (λ table. bytes_eq other.name table.name) tables) others

@@ -5,4 +5,6 @@ pub mod Creation
 pub mod Reading
 pub mod Making
 pub mod Cursor
+pub mod Resting
 pub mod Failing
+pub mod Sizing

@@ -16,6 +16,7 @@ use Rattle.mb_tables.specs.declared.table.TableName.{TableName}
 use Rattle.mb_store.specs.declared.change.Change.{Change}
 use Rattle.mb_sqlite.specs.Creation.{making_order, making_text, there_text}
 use Rattle.mb_sqlite.specs.Reading.{key_values}
+use Rattle.mb_sqlite.specs.Resting.{Rests}
 use Rattle.mb_sqlite.specs.Statements.{addition_text, removal_text}
 use Rattle.mb_sqlite.specs.Stored.{IsWrittenAs}
 
@@ -82,4 +83,4 @@ module _ {S : Type 0} (g : Ghosts S) where
   -- all tables and views of the layout were there, or those that weren't are committed
   unfoldable pub ArePrepared : MbtType → Held S → Held S → Type 0
   ArePrepared layout old new =
-      ((end : Held S) × Steps (Stays layout) making_order (begun old) end × IsRolledBack (state g end) (state g new)) ⊎ Commits (AreMade layout (begun old)) new
+      ((end : Held S) × Steps (Stays layout) making_order (begun old) end × IsRolledBack (state g end) (state g new) × Rests g old new) ⊎ Commits (AreMade layout (begun old)) new

@@ -24,10 +24,10 @@ abbrev pub values_from : ℕ → List (List ℕ) → List (List ℕ)
 values_from n [] = []
 values_from n (t ∷ ts) = numbered n ∷ values_from (n + 1) ts
 
--- columns are equal to the values from a number on
+-- columns are equal to the values from a number on, texts byte for byte
 abbrev pub equal_from : ℕ → List (List ℕ) → List (List ℕ)
 equal_from n [] = []
-equal_from n (t ∷ ts) = (t ++ codes " = " ++ numbered n) ∷ equal_from (n + 1) ts
+equal_from n (t ∷ ts) = (t ++ codes " = " ++ numbered n ++ codes " COLLATE BINARY") ∷ equal_from (n + 1) ts
 
 -- rows with the key of the first values
 abbrev pub with_key : TableName → List ℕ
@@ -37,9 +37,17 @@ with_key table = codes " WHERE " ++ joined (codes " AND ") (equal_from 1 (key_co
 abbrev pub count_text : TableName → List ℕ
 count_text table = codes "SELECT count(*) FROM " ++ table_text table
 
--- rows by their `rowid`, from the first value on, at most the second, after as many as the third
+-- rows by their `rowid`, where a condition holds, at most the first value, after as many as the second
+abbrev pub ordered_text : TableName → List ℕ → List ℕ
+ordered_text table condition = codes "SELECT " ++ joined (codes ", ") (names_of table) ++ codes ", rowid FROM " ++ table_text table ++ condition ++ codes " ORDER BY rowid LIMIT ?1 OFFSET ?2"
+
+-- rows from the first one on
+abbrev pub first_page_text : TableName → List ℕ
+first_page_text table = ordered_text table []
+
+-- rows with a `rowid` above the third value
 abbrev pub page_text : TableName → List ℕ
-page_text table = codes "SELECT " ++ joined (codes ", ") (names_of table) ++ codes ", rowid FROM " ++ table_text table ++ codes " WHERE rowid >= ?1 ORDER BY rowid LIMIT ?2 OFFSET ?3"
+page_text table = ordered_text table (codes " WHERE rowid > ?3")
 
 -- the first row of a key
 abbrev pub found_text : TableName → List ℕ

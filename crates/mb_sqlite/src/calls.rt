@@ -1,15 +1,17 @@
 // What each call does, with an answer whose fault isn't counted yet. The first one makes the tables that aren't there.
-ghost use Rattle.std.specs.Prelude.{◌≡◌, ◌⊎◌, ◌≤◌, false, true, [], All, IfOk, IfSome, OnErr, OnOk, length};
+ghost use Rattle.std.specs.Prelude.{◌≡◌, ◌≤◌, false, true, [], All, IfOk, IfSome, IsErrOf, OnErr, OnOk, length};
 ghost use Rattle.mb_tables.specs.Schema.{set_tables};
 ghost use Rattle.mb_tables.specs.Described.{is_table};
 ghost use Rattle.mb_tables.specs.Table.{width};
-ghost use Rattle.mb_sqlite.specs.Committing.{CommitsNothing, CommitsOnce, IsReady, KeepsCommitted, MakesChanges, OnceReady, RefusesChanges, Sees};
+ghost use Rattle.mb_sqlite.specs.Committing.{CommitsNothing, CommitsOnce, IsReady, KeepsCommitted, Leaves, MakesChanges, OnceReady, RefusesCommit, Sees};
+ghost use Rattle.mb_sqlite.specs.Creation.{are_named};
 ghost use Rattle.mb_sqlite.specs.Cursor.{MovesPast};
 ghost use Rattle.mb_sqlite.specs.Making.{AreChanged, AreMade, begun};
 ghost use Rattle.mb_sqlite.specs.Reading.{IsCounted, IsFound};
+ghost use Rattle.mb_sqlite.specs.Sizing.{IsLiveSize};
 
 use crate::failure::Failure;
-use crate::layout::has_table;
+use crate::layout::{are_named, has_table};
 use crate::store::SqliteStore;
 use crate::{making, reading, writing};
 use mb_store::Changes;
@@ -24,6 +26,10 @@ impl<S: Alter> SqliteStore<S> {
         ensures same { self.old.is_made ≡ true → self.new.connection ≡ self.old.connection }
         ensures once { CommitsOnce S.Store (AreMade S.Store self.old.layout (begun self.old.connection)) self.old.connection self.new.connection }
         ensures ready { OnOk result (IsReady S.Store self.old.layout self.old.is_made self.old.connection self.new.connection) }
+        ensures outside { OnOk result (self.old.connection.in_transaction ≡ false) }
+        ensures ended { OnOk result (self.new.connection.in_transaction ≡ false) }
+        ensures inside { self.old.connection.in_transaction ≡ true → IsErrOf result Failure.Fault }
+        ensures leaves { Leaves S.Store self.old.layout self.old.is_made self.new.is_made self.old.connection self.new.connection }
         ensures layout { self.new.layout ≡ self.old.layout }
         ensures cursor { self.new.cursor ≡ self.old.cursor }
         ensures faults { self.new.faults ≡ self.old.faults }
@@ -43,6 +49,8 @@ impl<S: Alter> SqliteStore<S> {
         ensures described { IfOk result (λ tables. tables.items ≡ set_tables self.old.layout) }
         ensures once { CommitsOnce S.Store (AreMade S.Store self.old.layout (begun self.old.connection)) self.old.connection self.new.connection }
         ensures ready { OnOk result (IsReady S.Store self.old.layout self.old.is_made self.old.connection self.new.connection) }
+        ensures inside { self.old.connection.in_transaction ≡ true → IsErrOf result Failure.Fault }
+        ensures leaves { Leaves S.Store self.old.layout self.old.is_made self.new.is_made self.old.connection self.new.connection }
         ensures layout { self.new.layout ≡ self.old.layout }
         ensures cursor { self.new.cursor ≡ self.old.cursor }
         ensures made { OnOk result (self.new.is_made ≡ true) }
@@ -52,11 +60,33 @@ impl<S: Alter> SqliteStore<S> {
         Ok(set_tables(alloc, self.layout)?)
     }
 
+    // Makes the tables that aren't there. One that the layout doesn't have can't be made.
+    pub(crate) fn created(&mut self, alloc: Global, tables: &[TableDesc]) -> Result<(), Failure>
+        ensures named { OnOk result (are_named (set_tables self.old.layout) tables.now ≡ true) }
+        ensures once { CommitsOnce S.Store (AreMade S.Store self.old.layout (begun self.old.connection)) self.old.connection self.new.connection }
+        ensures ready { OnOk result (IsReady S.Store self.old.layout self.old.is_made self.old.connection self.new.connection) }
+        ensures inside { self.old.connection.in_transaction ≡ true → IsErrOf result Failure.Fault }
+        ensures leaves { Leaves S.Store self.old.layout self.old.is_made self.new.is_made self.old.connection self.new.connection }
+        ensures layout { self.new.layout ≡ self.old.layout }
+        ensures cursor { self.new.cursor ≡ self.old.cursor }
+        ensures made { OnOk result (self.new.is_made ≡ true) }
+        ensures faults { self.new.faults ≡ self.old.faults }
+    {
+        self.begin()?;
+        let own = set_tables(alloc, self.layout)?;
+        if !are_named(own.as_slice(), tables) {
+            return Err(Failure::Fault);
+        }
+        Ok(())
+    }
+
     pub(crate) fn counted_rows(&mut self, table: TableName) -> Result<u64, Failure>
         ensures survives { self.old.is_made ≡ true → CommitsNothing S.Store self.old.connection self.new.connection }
         ensures once { CommitsOnce S.Store (AreMade S.Store self.old.layout (begun self.old.connection)) self.old.connection self.new.connection }
         ensures undescribed { is_table (set_tables self.old.layout) table ≡ false → IfOk result (λ count. count ≡ 0) }
         ensures counted { is_table (set_tables self.old.layout) table ≡ true → IfOk result (λ count. OnceReady S.Store self.old.layout self.old.is_made self.old.connection (Sees S.Store (λ old seen. IsCounted S.Store table old seen count) self.new.connection)) }
+        ensures inside { self.old.connection.in_transaction ≡ true → IsErrOf result Failure.Fault }
+        ensures leaves { Leaves S.Store self.old.layout self.old.is_made self.new.is_made self.old.connection self.new.connection }
         ensures layout { self.new.layout ≡ self.old.layout }
         ensures cursor { self.new.cursor ≡ self.old.cursor }
         ensures made { OnOk result (self.new.is_made ≡ true) }
@@ -84,6 +114,8 @@ impl<S: Alter> SqliteStore<S> {
         ensures survives { self.old.is_made ≡ true → CommitsNothing S.Store self.old.connection self.new.connection }
         ensures once { CommitsOnce S.Store (AreMade S.Store self.old.layout (begun self.old.connection)) self.old.connection self.new.connection }
         ensures paged { is_table (set_tables self.old.layout) table ≡ true → IfOk result (λ rows. OnceReady S.Store self.old.layout self.old.is_made self.old.connection (Sees S.Store (λ old seen. MovesPast S.Store table old seen from limit self.old.cursor self.new.cursor rows.items) self.new.connection)) }
+        ensures inside { self.old.connection.in_transaction ≡ true → IsErrOf result Failure.Fault }
+        ensures leaves { Leaves S.Store self.old.layout self.old.is_made self.new.is_made self.old.connection self.new.connection }
         ensures layout { self.new.layout ≡ self.old.layout }
         ensures made { OnOk result (self.new.is_made ≡ true) }
         ensures faults { self.new.faults ≡ self.old.faults }
@@ -113,6 +145,8 @@ impl<S: Alter> SqliteStore<S> {
         ensures once { CommitsOnce S.Store (AreMade S.Store self.old.layout (begun self.old.connection)) self.old.connection self.new.connection }
         ensures undescribed { is_table (set_tables self.old.layout) table ≡ false → IfOk result (λ row. row ≡ None) }
         ensures found { is_table (set_tables self.old.layout) table ≡ true → IfOk result (λ row. OnceReady S.Store self.old.layout self.old.is_made self.old.connection (Sees S.Store (λ old seen. IsFound S.Store table old seen key.now row) self.new.connection)) }
+        ensures inside { self.old.connection.in_transaction ≡ true → IsErrOf result Failure.Fault }
+        ensures leaves { Leaves S.Store self.old.layout self.old.is_made self.new.is_made self.old.connection self.new.connection }
         ensures layout { self.new.layout ≡ self.old.layout }
         ensures cursor { self.new.cursor ≡ self.old.cursor }
         ensures made { OnOk result (self.new.is_made ≡ true) }
@@ -128,9 +162,10 @@ impl<S: Alter> SqliteStore<S> {
     pub(crate) fn committed(&mut self, alloc: Global, changes: &Changes) -> Result<(), Failure>
         ensures once { self.old.is_made ≡ true → CommitsOnce S.Store (AreChanged S.Store self.old.layout changes.now (begun self.old.connection)) self.old.connection self.new.connection }
         ensures changed { OnOk result (OnceReady S.Store self.old.layout self.old.is_made self.old.connection (MakesChanges S.Store self.old.layout changes.now self.new.connection)) }
-        ensures unchanged { OnErr result (CommitsOnce S.Store (AreMade S.Store self.old.layout (begun self.old.connection)) self.old.connection self.new.connection ⊎ OnceReady S.Store self.old.layout self.old.is_made self.old.connection (RefusesChanges S.Store self.old.layout changes.now self.new.connection)) }
+        ensures unchanged { OnErr result (RefusesCommit S.Store self.old.layout changes.now self.old.is_made self.new.is_made self.old.connection self.new.connection self.old.cursor self.new.cursor) }
         ensures refused { self.old.is_made ≡ true → OnErr result (KeepsCommitted S.Store self.old.connection self.new.connection) }
         ensures cursor { OnOk result (self.new.cursor ≡ None) }
+        ensures inside { self.old.connection.in_transaction ≡ true → IsErrOf result Failure.Fault }
         ensures layout { self.new.layout ≡ self.old.layout }
         ensures made { OnOk result (self.new.is_made ≡ true) }
         ensures faults { self.new.faults ≡ self.old.faults }
@@ -144,6 +179,9 @@ impl<S: Alter> SqliteStore<S> {
     pub(crate) fn size(&mut self) -> Result<u64, Failure>
         ensures survives { self.old.is_made ≡ true → CommitsNothing S.Store self.old.connection self.new.connection }
         ensures once { CommitsOnce S.Store (AreMade S.Store self.old.layout (begun self.old.connection)) self.old.connection self.new.connection }
+        ensures sized { IfOk result (λ size. OnceReady S.Store self.old.layout self.old.is_made self.old.connection (Sees S.Store (λ old seen. IsLiveSize S.Store self.old.layout old seen size) self.new.connection)) }
+        ensures inside { self.old.connection.in_transaction ≡ true → IsErrOf result Failure.Fault }
+        ensures leaves { Leaves S.Store self.old.layout self.old.is_made self.new.is_made self.old.connection self.new.connection }
         ensures layout { self.new.layout ≡ self.old.layout }
         ensures cursor { self.new.cursor ≡ self.old.cursor }
         ensures made { OnOk result (self.new.is_made ≡ true) }

@@ -68,6 +68,7 @@ impl<T: Drop> From<AllocFailed<T>> for Failure {
 pub(crate) fn counted<T>(faults: &mut u64, answer: Result<T, Failure>) -> Result<T, StoreError>
     ensures answer { IfOk result (λ value. answer ≡ Ok value) }
     ensures refused { IfErr result (λ e. IfErr answer (λ failure. e ≡ answer_of failure)) }
+    ensures faulty { IsErrOf answer Failure.Fault → IsErrOf result StoreError.Fault }
     ensures refused_alone { OnErr result (OnOk answer ⊥) }
     ensures faults { faults.old ≤ faults.new }
     ensures fault { IsErrOf result StoreError.Fault → Rose faults.old faults.new }

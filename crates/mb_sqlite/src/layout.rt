@@ -1,12 +1,14 @@
 // The tables of a layout, and the text that makes them.
 ghost use Rattle.std.specs.Prelude.{◌≡◌};
+ghost use Rattle.std.specs.List.{list_any};
 ghost use Rattle.std.specs.Option.{option_copied};
+ghost use Rattle.std.specs.Str.{bytes_eq};
 ghost use Rattle.mb_tables.specs.Schema.{set_tables};
 ghost use Rattle.mb_tables.specs.Described.{is_table};
-ghost use Rattle.mb_sqlite.specs.Creation.{making_text};
+ghost use Rattle.mb_sqlite.specs.Creation.{are_named, making_text};
 
 use crate::statements;
-use mb_tables::{MbtType, NormalizedSchema, TableName};
+use mb_tables::{MbtType, NormalizedSchema, TableDesc, TableName};
 
 // Whether a set of the layout has the table, not only a view of this name.
 pub(crate) fn has_table(layout: MbtType, table: TableName) -> bool
@@ -59,4 +61,20 @@ pub(crate) fn making_of(layout: MbtType, table: TableName) -> Option<&'static st
         TableName::TilesWithHash => statements::hash_view(layout),
         _ => None,
     }
+}
+
+// Whether one of these descriptions has the name.
+fn has_name(tables: &[TableDesc], name: &str) -> bool
+    ensures { result ≡ list_any (λ table. bytes_eq name.now table.name) tables.now }
+{
+    tables.iter().any(|table| name == table.name.as_str())
+}
+
+// Whether each of these descriptions has the name of one of those.
+pub(crate) fn are_named(tables: &[TableDesc], others: &[TableDesc]) -> bool
+    ensures { result ≡ are_named tables.now others.now }
+{
+    others
+        .iter()
+        .all(|other| has_name(tables, other.name.as_str()))
 }

@@ -3,12 +3,17 @@
 
 mod calls;
 mod cursor;
+#[cfg(test)]
+mod database_tests;
 mod failure;
+pub mod laws;
 mod layout;
 mod making;
+mod paging;
 mod query;
 mod reading;
 mod rows;
+mod sizing;
 mod statements;
 mod store;
 #[cfg(test)]

@@ -1,13 +1,15 @@
 // Making the tables and views of a layout that aren't there.
-ghost use Rattle.std.specs.Prelude.{◌≡◌, Ok, IfOk, MatchBool, OnOk};
+ghost use Rattle.std.specs.Prelude.{◌≡◌, Ok, false, true, IfOk, IsErrOf, MatchBool, OnErr, OnOk};
 ghost use Rattle.sqlite.specs.Held.{state};
 ghost use Rattle.sqlite.specs.State.{HasCleanDisk};
 ghost use Rattle.mb_sqlite.specs.Committing.{CommitsNothing, CommitsOnce};
 ghost use Rattle.mb_sqlite.specs.Creation.{making_order};
 ghost use Rattle.mb_sqlite.specs.Making.{AreMade, ArePassed, ArePrepared, Arises, IsThere, Stays, begun};
+ghost use Rattle.mb_sqlite.specs.Resting.{KeepsInside, Rests, StaysInside};
 
 use crate::failure::Failure;
 use crate::layout::{TABLES, making_of};
+use crate::query::ask_row;
 use crate::statements;
 use crate::writing::run;
 use mb_tables::{MbtType, TableName};
@@ -21,9 +23,11 @@ fn is_there<S: Alter>(
 ) -> Result<bool, Failure>
     ensures same_reference { transaction.new.conn.ghost_name ≡ transaction.old.conn.ghost_name }
     ensures survives { CommitsNothing S.Store transaction.old.conn.now transaction.new.conn.now }
+    ensures kept { KeepsInside S.Store transaction.old.conn.now transaction.new.conn.now }
+    ensures inside { OnOk result (StaysInside S.Store transaction.old.conn.now transaction.new.conn.now) }
     ensures there { HasCleanDisk (state S.Store transaction.new.conn.now) → IfOk result (λ there. IsThere S.Store table there transaction.old.conn.now transaction.new.conn.now) }
 {
-    let row = transaction.query_row(statements::named(), params![table.name()])?;
+    let row = ask_row(transaction, statements::named(), params![table.name()])?;
     let count: u64 = row.get(0)?;
     Ok(count > 0)
 }
@@ -36,6 +40,8 @@ fn make_table<S: Alter>(
 ) -> Result<bool, Failure>
     ensures same_reference { transaction.new.conn.ghost_name ≡ transaction.old.conn.ghost_name }
     ensures survives { CommitsNothing S.Store transaction.old.conn.now transaction.new.conn.now }
+    ensures kept { KeepsInside S.Store transaction.old.conn.now transaction.new.conn.now }
+    ensures inside { OnOk result (StaysInside S.Store transaction.old.conn.now transaction.new.conn.now) }
     ensures passed { HasCleanDisk (state S.Store transaction.new.conn.now) → IfOk result (λ made. MatchBool made (Arises S.Store layout table transaction.old.conn.now transaction.new.conn.now) (Stays S.Store layout table transaction.old.conn.now transaction.new.conn.now)) }
 {
     match making_of(layout, table) {
@@ -57,6 +63,8 @@ fn make_missing<S: Alter>(
 ) -> Result<bool, Failure>
     ensures same_reference { transaction.new.conn.ghost_name ≡ transaction.old.conn.ghost_name }
     ensures survives { CommitsNothing S.Store transaction.old.conn.now transaction.new.conn.now }
+    ensures kept { KeepsInside S.Store transaction.old.conn.now transaction.new.conn.now }
+    ensures inside { OnOk result (StaysInside S.Store transaction.old.conn.now transaction.new.conn.now) }
     ensures passed { HasCleanDisk (state S.Store transaction.new.conn.now) → IfOk result (λ made. ArePassed S.Store layout making_order made transaction.old.conn.now transaction.new.conn.now) }
 {
     let mut made = false;
@@ -72,6 +80,9 @@ fn make_missing<S: Alter>(
 pub(crate) fn make<S: Alter>(connection: &mut Connection<S>, layout: MbtType) -> Result<(), Failure>
     ensures once { CommitsOnce S.Store (AreMade S.Store layout (begun connection.old)) connection.old connection.new }
     ensures prepared { HasCleanDisk (state S.Store connection.new) → OnOk result (ArePrepared S.Store layout connection.old connection.new) }
+    ensures inside { connection.old.in_transaction ≡ true → IsErrOf result Failure.Fault × (connection.new ≡ connection.old) }
+    ensures ended { connection.old.in_transaction ≡ false → connection.new.in_transaction ≡ false }
+    ensures rests { connection.old.in_transaction ≡ false → OnErr result (Rests S.Store connection.old connection.new) }
 {
     if !connection.is_autocommit() {
         return Err(Failure::Fault);

@@ -1,15 +1,17 @@
 // Reading the database. Each call reads in a transaction that is rolled back, so that it commits nothing.
-ghost use Rattle.std.specs.Prelude.{◌≡◌, ◌≤◌, All, IfOk, IfSome, OnErr, length};
+ghost use Rattle.std.specs.Prelude.{◌≡◌, ◌≤◌, false, true, All, IfOk, IfSome, IsErrOf, OnErr, length};
 ghost use Rattle.mb_tables.specs.Table.{width};
 ghost use Rattle.sqlite.specs.Held.{state};
 ghost use Rattle.sqlite.specs.State.{HasCleanDisk};
 ghost use Rattle.mb_sqlite.specs.Committing.{CommitsNothing};
+ghost use Rattle.mb_sqlite.specs.Resting.{Rests};
+ghost use Rattle.mb_sqlite.specs.Sizing.{IsLiveSize};
 ghost use Rattle.mb_sqlite.specs.Cursor.{MovesPast};
 ghost use Rattle.mb_sqlite.specs.Reading.{ArePaged, IsCounted, IsFound, Within};
 
 use crate::cursor::{Cursor, moved, start_of};
 use crate::failure::Failure;
-use crate::query;
+use crate::{paging, query, sizing};
 use mb_tables::{MbtType, Row, RowKey, TableName};
 use sqlite::{Alter, Connection};
 use std::alloc::Global;
@@ -20,6 +22,8 @@ pub(crate) fn count<S: Alter>(
     table: TableName,
 ) -> Result<u64, Failure>
     ensures survives { CommitsNothing S.Store connection.old connection.new }
+    ensures inside { connection.old.in_transaction ≡ true → IsErrOf result Failure.Fault × (connection.new ≡ connection.old) }
+    ensures rests { connection.old.in_transaction ≡ false → Rests S.Store connection.old connection.new }
     ensures counted { HasCleanDisk (state S.Store connection.new) → IfOk result (λ count. Within connection.old (λ old seen. IsCounted S.Store table old seen count)) }
 {
     if !connection.is_autocommit() {
@@ -42,35 +46,37 @@ pub(crate) fn page<S: Alter>(
     ensures widths { IfOk result (λ rows. All (λ row. length row ≡ width table) rows.items) }
     ensures limit { IfOk result (λ rows. length rows.items ≤ limit) }
     ensures survives { CommitsNothing S.Store connection.old connection.new }
+    ensures inside { connection.old.in_transaction ≡ true → IsErrOf result Failure.Fault × (connection.new ≡ connection.old) }
+    ensures rests { connection.old.in_transaction ≡ false → Rests S.Store connection.old connection.new }
     ensures paged { HasCleanDisk (state S.Store connection.new) → IfOk result (λ rows. Within connection.old (λ old seen. MovesPast S.Store table old seen from limit cursor.old cursor.new rows.items)) }
     ensures kept { OnErr result (cursor.new ≡ cursor.old) }
 {
     let start = start_of(*cursor, table, from);
-    let mut last = start.0;
-    let page = page_after(alloc, connection, table, start, limit, &mut last)?;
-    *cursor = moved(*cursor, table, from, page.len() as u64, last);
-    Ok(page)
+    let page = page_after(alloc, connection, table, start, limit)?;
+    *cursor = moved(*cursor, table, from, page.0.len() as u64, page.1);
+    Ok(page.0)
 }
 
-// The rows of a table from a start on, at most so many. The last one's `rowid` is noted.
+// The rows of a table from a start on, at most so many, and the last one's `rowid`.
 fn page_after<S: Alter>(
     alloc: Global,
     connection: &mut Connection<S>,
     table: TableName,
-    start: (i64, u64),
+    start: (Option<i64>, u64),
     limit: u64,
-    last: &mut i64,
-) -> Result<Vec<Row>, Failure>
-    ensures widths { IfOk result (λ rows. All (λ row. length row ≡ width table) rows.items) }
-    ensures limit { IfOk result (λ rows. length rows.items ≤ limit) }
+) -> Result<(Vec<Row>, Option<i64>), Failure>
+    ensures widths { IfOk result (λ page. All (λ row. length row ≡ width table) page.0.items) }
+    ensures limit { IfOk result (λ page. length page.0.items ≤ limit) }
     ensures survives { CommitsNothing S.Store connection.old connection.new }
-    ensures paged { HasCleanDisk (state S.Store connection.new) → IfOk result (λ rows. Within connection.old (λ old seen. ArePaged S.Store table old seen start limit rows.items last.new)) }
+    ensures inside { connection.old.in_transaction ≡ true → IsErrOf result Failure.Fault × (connection.new ≡ connection.old) }
+    ensures rests { connection.old.in_transaction ≡ false → Rests S.Store connection.old connection.new }
+    ensures paged { HasCleanDisk (state S.Store connection.new) → IfOk result (λ page. Within connection.old (λ old seen. ArePaged S.Store table old seen start limit page.0.items page.1)) }
 {
     if !connection.is_autocommit() {
         return Err(Failure::Fault);
     }
     let mut transaction = connection.transaction();
-    let page = query::page(alloc, &mut transaction, table, start, limit, last)?;
+    let page = paging::page(alloc, &mut transaction, table, start, limit)?;
     Ok(page)
 }
 
@@ -83,6 +89,8 @@ pub(crate) fn find<S: Alter>(
 ) -> Result<Option<Row>, Failure>
     ensures widths { IfOk result (λ row. IfSome row (λ row. length row ≡ width table)) }
     ensures survives { CommitsNothing S.Store connection.old connection.new }
+    ensures inside { connection.old.in_transaction ≡ true → IsErrOf result Failure.Fault × (connection.new ≡ connection.old) }
+    ensures rests { connection.old.in_transaction ≡ false → Rests S.Store connection.old connection.new }
     ensures found { HasCleanDisk (state S.Store connection.new) → IfOk result (λ row. Within connection.old (λ old seen. IsFound S.Store table old seen key.now row)) }
 {
     if !connection.is_autocommit() {
@@ -99,11 +107,14 @@ pub(crate) fn size<S: Alter>(
     layout: MbtType,
 ) -> Result<u64, Failure>
     ensures survives { CommitsNothing S.Store connection.old connection.new }
+    ensures sized { HasCleanDisk (state S.Store connection.new) → IfOk result (λ size. Within connection.old (λ old seen. IsLiveSize S.Store layout old seen size)) }
+    ensures inside { connection.old.in_transaction ≡ true → IsErrOf result Failure.Fault × (connection.new ≡ connection.old) }
+    ensures rests { connection.old.in_transaction ≡ false → Rests S.Store connection.old connection.new }
 {
     if !connection.is_autocommit() {
         return Err(Failure::Fault);
     }
     let mut transaction = connection.transaction();
-    let size = query::size(&mut transaction, layout)?;
+    let size = sizing::size(&mut transaction, layout)?;
     Ok(size)
 }

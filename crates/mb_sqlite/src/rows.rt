@@ -1,10 +1,11 @@
 // Cells of rows, and values of the database.
-ghost use Rattle.std.specs.Prelude.{◌≡◌, ◌≢◌, IfOk, IfSome, IsSome, ◌↔◌, length};
+ghost use Rattle.std.specs.Prelude.{◌≡◌, ◌≢◌, ◌+◌, ◌-◌, ◌^◌, IfOk, IfSome, IsSome, ◌↔◌, length, min};
 ghost use Rattle.mb_tables.specs.Table.{width};
 ghost use Rattle.sqlite_value.specs.Value.{owned};
 ghost use Rattle.mb_store.specs.Sizes.{cell_size};
 ghost use Rattle.mb_tables.specs.declared.cell.Cell as stored;
 ghost use Rattle.mb_sqlite.specs.Reading.{IsRowOf};
+ghost use Rattle.mb_sqlite.specs.Sizing.{answer_size, value_size};
 ghost use Rattle.mb_sqlite.specs.Stored.{IsReadAs, IsWrittenAs};
 
 use crate::failure::Failure;
@@ -58,7 +59,8 @@ pub(crate) fn row_of(alloc: Global, table: TableName, row: &sqlite::Row) -> Resu
 
 // The size of the cell that a value is read as.
 fn value_size(value: ValueRef<'_>) -> u64
-    ensures { (cell : stored.Cell) → IsReadAs (owned value.entry) cell → result ≡ cell_size cell }
+    ensures size { result ≡ value_size (owned value.entry) }
+    ensures same { (cell : stored.Cell) → IsReadAs (owned value.entry) cell → result ≡ cell_size cell }
 {
     match value {
         ValueRef::Text(bytes) => match std::str::from_utf8(bytes) {
@@ -71,10 +73,13 @@ fn value_size(value: ValueRef<'_>) -> u64
 }
 
 // A size and that of the values of a row of a table, at most the greatest count.
-pub(crate) fn with_row(size: u64, table: TableName, row: &sqlite::Row) -> Result<u64, Failure> {
+pub(crate) fn with_row(size: u64, table: TableName, row: &sqlite::Row) -> Result<u64, Failure>
+    ensures { IfOk result (λ sum. sum ≡ min (size + answer_size table row.now) (2 ^ 64 - 1)) }
+{
     let mut sum = size;
     for at in 0..table.width() {
-        sum = sum.saturating_add(value_size(row.get_ref(at)?));
+        let value = row.get_ref(at)?;
+        sum = sum.saturating_add(value_size(value));
     }
     Ok(sum)
 }

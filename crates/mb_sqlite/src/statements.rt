@@ -3,7 +3,7 @@ ghost use Rattle.std.specs.Prelude.{◌≡◌};
 ghost use Rattle.std.specs.Option.{option_copied};
 ghost use Rattle.mb_tables.specs.declared.table.TableName.TheVariants.{Tiles, TilesWithHash};
 ghost use Rattle.mb_sqlite.specs.Creation.{creation_text, there_text, view_text};
-ghost use Rattle.mb_sqlite.specs.Statements.{addition_text, count_text, found_text, page_text, removal_text};
+ghost use Rattle.mb_sqlite.specs.Statements.{addition_text, count_text, first_page_text, found_text, page_text, removal_text};
 
 use mb_tables::{MbtType, NormalizedSchema, TableName};
 
@@ -12,7 +12,7 @@ use mb_tables::{MbtType, NormalizedSchema, TableName};
 pub(crate) fn named() -> &'static str
     ensures { result.now ≡ there_text }
 {
-    "SELECT count(*) FROM sqlite_master WHERE name = ?1 COLLATE NOCASE"
+    "SELECT count(*) FROM sqlite_master WHERE name = ?1 COLLATE NOCASE AND type IN ('table', 'view')"
 }
 
 // Makes a table, with a unique index on its key.
@@ -98,27 +98,51 @@ pub(crate) fn count_of(table: TableName) -> &'static str
     }
 }
 
-// Rows in the order in which they are stored, each with its number in the table: from the first number on, at most the second, after as many as the third.
+// Rows in the order in which they are stored, each with its number in the table: at most the first value, after as many as the second.
+pub(crate) fn first_page_of(table: TableName) -> &'static str
+    ensures { result.now ≡ first_page_text table }
+{
+    match table {
+        TableName::Tiles =>
+            "SELECT zoom_level, tile_column, tile_row, tile_data, rowid FROM tiles ORDER BY rowid LIMIT ?1 OFFSET ?2",
+        TableName::TilesWithHash =>
+            "SELECT zoom_level, tile_column, tile_row, tile_data, tile_hash, rowid FROM tiles_with_hash ORDER BY rowid LIMIT ?1 OFFSET ?2",
+        TableName::Map =>
+            "SELECT zoom_level, tile_column, tile_row, tile_id, rowid FROM map ORDER BY rowid LIMIT ?1 OFFSET ?2",
+        TableName::Images =>
+            "SELECT tile_id, tile_data, rowid FROM images ORDER BY rowid LIMIT ?1 OFFSET ?2",
+        TableName::TilesShallow =>
+            "SELECT zoom_level, tile_column, tile_row, tile_data_id, rowid FROM tiles_shallow ORDER BY rowid LIMIT ?1 OFFSET ?2",
+        TableName::TilesData =>
+            "SELECT tile_data_id, tile_data, rowid FROM tiles_data ORDER BY rowid LIMIT ?1 OFFSET ?2",
+        TableName::TileCache =>
+            "SELECT zoom_level, tile_column, tile_row, fetched, expires, etag, tile_data, rowid FROM tile_cache ORDER BY rowid LIMIT ?1 OFFSET ?2",
+        TableName::Metadata =>
+            "SELECT name, value, rowid FROM metadata ORDER BY rowid LIMIT ?1 OFFSET ?2",
+    }
+}
+
+// Rows in the order in which they are stored, each with its number in the table: those with a number above the third value, at most the first, after as many as the second.
 pub(crate) fn page_of(table: TableName) -> &'static str
     ensures { result.now ≡ page_text table }
 {
     match table {
         TableName::Tiles =>
-            "SELECT zoom_level, tile_column, tile_row, tile_data, rowid FROM tiles WHERE rowid >= ?1 ORDER BY rowid LIMIT ?2 OFFSET ?3",
+            "SELECT zoom_level, tile_column, tile_row, tile_data, rowid FROM tiles WHERE rowid > ?3 ORDER BY rowid LIMIT ?1 OFFSET ?2",
         TableName::TilesWithHash =>
-            "SELECT zoom_level, tile_column, tile_row, tile_data, tile_hash, rowid FROM tiles_with_hash WHERE rowid >= ?1 ORDER BY rowid LIMIT ?2 OFFSET ?3",
+            "SELECT zoom_level, tile_column, tile_row, tile_data, tile_hash, rowid FROM tiles_with_hash WHERE rowid > ?3 ORDER BY rowid LIMIT ?1 OFFSET ?2",
         TableName::Map =>
-            "SELECT zoom_level, tile_column, tile_row, tile_id, rowid FROM map WHERE rowid >= ?1 ORDER BY rowid LIMIT ?2 OFFSET ?3",
+            "SELECT zoom_level, tile_column, tile_row, tile_id, rowid FROM map WHERE rowid > ?3 ORDER BY rowid LIMIT ?1 OFFSET ?2",
         TableName::Images =>
-            "SELECT tile_id, tile_data, rowid FROM images WHERE rowid >= ?1 ORDER BY rowid LIMIT ?2 OFFSET ?3",
+            "SELECT tile_id, tile_data, rowid FROM images WHERE rowid > ?3 ORDER BY rowid LIMIT ?1 OFFSET ?2",
         TableName::TilesShallow =>
-            "SELECT zoom_level, tile_column, tile_row, tile_data_id, rowid FROM tiles_shallow WHERE rowid >= ?1 ORDER BY rowid LIMIT ?2 OFFSET ?3",
+            "SELECT zoom_level, tile_column, tile_row, tile_data_id, rowid FROM tiles_shallow WHERE rowid > ?3 ORDER BY rowid LIMIT ?1 OFFSET ?2",
         TableName::TilesData =>
-            "SELECT tile_data_id, tile_data, rowid FROM tiles_data WHERE rowid >= ?1 ORDER BY rowid LIMIT ?2 OFFSET ?3",
+            "SELECT tile_data_id, tile_data, rowid FROM tiles_data WHERE rowid > ?3 ORDER BY rowid LIMIT ?1 OFFSET ?2",
         TableName::TileCache =>
-            "SELECT zoom_level, tile_column, tile_row, fetched, expires, etag, tile_data, rowid FROM tile_cache WHERE rowid >= ?1 ORDER BY rowid LIMIT ?2 OFFSET ?3",
+            "SELECT zoom_level, tile_column, tile_row, fetched, expires, etag, tile_data, rowid FROM tile_cache WHERE rowid > ?3 ORDER BY rowid LIMIT ?1 OFFSET ?2",
         TableName::Metadata =>
-            "SELECT name, value, rowid FROM metadata WHERE rowid >= ?1 ORDER BY rowid LIMIT ?2 OFFSET ?3",
+            "SELECT name, value, rowid FROM metadata WHERE rowid > ?3 ORDER BY rowid LIMIT ?1 OFFSET ?2",
     }
 }
 
@@ -128,21 +152,21 @@ pub(crate) fn found_in(table: TableName) -> &'static str
 {
     match table {
         TableName::Tiles =>
-            "SELECT zoom_level, tile_column, tile_row, tile_data FROM tiles WHERE zoom_level = ?1 AND tile_column = ?2 AND tile_row = ?3 ORDER BY rowid LIMIT 1",
+            "SELECT zoom_level, tile_column, tile_row, tile_data FROM tiles WHERE zoom_level = ?1 COLLATE BINARY AND tile_column = ?2 COLLATE BINARY AND tile_row = ?3 COLLATE BINARY ORDER BY rowid LIMIT 1",
         TableName::TilesWithHash =>
-            "SELECT zoom_level, tile_column, tile_row, tile_data, tile_hash FROM tiles_with_hash WHERE zoom_level = ?1 AND tile_column = ?2 AND tile_row = ?3 ORDER BY rowid LIMIT 1",
+            "SELECT zoom_level, tile_column, tile_row, tile_data, tile_hash FROM tiles_with_hash WHERE zoom_level = ?1 COLLATE BINARY AND tile_column = ?2 COLLATE BINARY AND tile_row = ?3 COLLATE BINARY ORDER BY rowid LIMIT 1",
         TableName::Map =>
-            "SELECT zoom_level, tile_column, tile_row, tile_id FROM map WHERE zoom_level = ?1 AND tile_column = ?2 AND tile_row = ?3 ORDER BY rowid LIMIT 1",
+            "SELECT zoom_level, tile_column, tile_row, tile_id FROM map WHERE zoom_level = ?1 COLLATE BINARY AND tile_column = ?2 COLLATE BINARY AND tile_row = ?3 COLLATE BINARY ORDER BY rowid LIMIT 1",
         TableName::Images =>
-            "SELECT tile_id, tile_data FROM images WHERE tile_id = ?1 ORDER BY rowid LIMIT 1",
+            "SELECT tile_id, tile_data FROM images WHERE tile_id = ?1 COLLATE BINARY ORDER BY rowid LIMIT 1",
         TableName::TilesShallow =>
-            "SELECT zoom_level, tile_column, tile_row, tile_data_id FROM tiles_shallow WHERE zoom_level = ?1 AND tile_column = ?2 AND tile_row = ?3 ORDER BY rowid LIMIT 1",
+            "SELECT zoom_level, tile_column, tile_row, tile_data_id FROM tiles_shallow WHERE zoom_level = ?1 COLLATE BINARY AND tile_column = ?2 COLLATE BINARY AND tile_row = ?3 COLLATE BINARY ORDER BY rowid LIMIT 1",
         TableName::TilesData =>
-            "SELECT tile_data_id, tile_data FROM tiles_data WHERE tile_data_id = ?1 ORDER BY rowid LIMIT 1",
+            "SELECT tile_data_id, tile_data FROM tiles_data WHERE tile_data_id = ?1 COLLATE BINARY ORDER BY rowid LIMIT 1",
         TableName::TileCache =>
-            "SELECT zoom_level, tile_column, tile_row, fetched, expires, etag, tile_data FROM tile_cache WHERE zoom_level = ?1 AND tile_column = ?2 AND tile_row = ?3 ORDER BY rowid LIMIT 1",
+            "SELECT zoom_level, tile_column, tile_row, fetched, expires, etag, tile_data FROM tile_cache WHERE zoom_level = ?1 COLLATE BINARY AND tile_column = ?2 COLLATE BINARY AND tile_row = ?3 COLLATE BINARY ORDER BY rowid LIMIT 1",
         TableName::Metadata =>
-            "SELECT name, value FROM metadata WHERE name = ?1 ORDER BY rowid LIMIT 1",
+            "SELECT name, value FROM metadata WHERE name = ?1 COLLATE BINARY ORDER BY rowid LIMIT 1",
     }
 }
 
@@ -153,18 +177,18 @@ pub(crate) fn removal_from(table: TableName) -> &'static str
 {
     match table {
         TableName::Tiles =>
-            "DELETE FROM tiles WHERE zoom_level = ?1 AND tile_column = ?2 AND tile_row = ?3",
+            "DELETE FROM tiles WHERE zoom_level = ?1 COLLATE BINARY AND tile_column = ?2 COLLATE BINARY AND tile_row = ?3 COLLATE BINARY",
         TableName::TilesWithHash =>
-            "DELETE FROM tiles_with_hash WHERE zoom_level = ?1 AND tile_column = ?2 AND tile_row = ?3",
+            "DELETE FROM tiles_with_hash WHERE zoom_level = ?1 COLLATE BINARY AND tile_column = ?2 COLLATE BINARY AND tile_row = ?3 COLLATE BINARY",
         TableName::Map =>
-            "DELETE FROM map WHERE zoom_level = ?1 AND tile_column = ?2 AND tile_row = ?3",
-        TableName::Images => "DELETE FROM images WHERE tile_id = ?1",
+            "DELETE FROM map WHERE zoom_level = ?1 COLLATE BINARY AND tile_column = ?2 COLLATE BINARY AND tile_row = ?3 COLLATE BINARY",
+        TableName::Images => "DELETE FROM images WHERE tile_id = ?1 COLLATE BINARY",
         TableName::TilesShallow =>
-            "DELETE FROM tiles_shallow WHERE zoom_level = ?1 AND tile_column = ?2 AND tile_row = ?3",
-        TableName::TilesData => "DELETE FROM tiles_data WHERE tile_data_id = ?1",
+            "DELETE FROM tiles_shallow WHERE zoom_level = ?1 COLLATE BINARY AND tile_column = ?2 COLLATE BINARY AND tile_row = ?3 COLLATE BINARY",
+        TableName::TilesData => "DELETE FROM tiles_data WHERE tile_data_id = ?1 COLLATE BINARY",
         TableName::TileCache =>
-            "DELETE FROM tile_cache WHERE zoom_level = ?1 AND tile_column = ?2 AND tile_row = ?3",
-        TableName::Metadata => "DELETE FROM metadata WHERE name = ?1",
+            "DELETE FROM tile_cache WHERE zoom_level = ?1 COLLATE BINARY AND tile_column = ?2 COLLATE BINARY AND tile_row = ?3 COLLATE BINARY",
+        TableName::Metadata => "DELETE FROM metadata WHERE name = ?1 COLLATE BINARY",
     }
 }
 

@@ -1,13 +1,15 @@
 // A store over a database.
-ghost use Rattle.std.specs.Prelude.{◌≡◌, ◌⊎◌, ◌≤◌, false, true, [], All, IfOk, IfSome, IsErrOf, OnErr, OnOk, length};
+ghost use Rattle.std.specs.Prelude.{◌≡◌, ◌≤◌, false, true, [], All, IfOk, IfSome, IsErrOf, OnErr, OnOk, length};
 ghost use Rattle.tile_ids.specs.Counts.{Rose};
 ghost use Rattle.mb_tables.specs.Schema.{set_tables};
 ghost use Rattle.mb_tables.specs.Described.{is_table};
 ghost use Rattle.mb_tables.specs.Table.{width};
-ghost use Rattle.mb_sqlite.specs.Committing.{CommitsNothing, CommitsOnce, IsReady, KeepsCommitted, MakesChanges, OnceReady, RefusesChanges, Sees};
+ghost use Rattle.mb_sqlite.specs.Committing.{CommitsNothing, CommitsOnce, IsReady, KeepsCommitted, Leaves, MakesChanges, OnceReady, RefusesCommit, Sees};
+ghost use Rattle.mb_sqlite.specs.Creation.{are_named};
 ghost use Rattle.mb_sqlite.specs.Cursor.{MovesPast};
 ghost use Rattle.mb_sqlite.specs.Making.{AreChanged, AreMade, begun};
 ghost use Rattle.mb_sqlite.specs.Reading.{IsCounted, IsFound};
+ghost use Rattle.mb_sqlite.specs.Sizing.{IsLiveSize};
 
 use crate::cursor::Cursor;
 use crate::failure::counted;
@@ -50,6 +52,8 @@ impl<S: Alter> SqliteStore<S> {
     pub fn adopt(alloc: Global, connection: Connection<S>, layout: MbtType) -> SqliteStore<S>
         ensures connection { result.connection ≡ connection }
         ensures layout { result.layout ≡ layout }
+        ensures unmade { result.is_made ≡ false }
+        ensures cursor { result.cursor ≡ None }
         ensures faults { result.faults ≡ 0 }
     {
         SqliteStore {
@@ -95,6 +99,8 @@ impl<S: Alter> TileStore for SqliteStore<S> {
         ensures described { IfOk result (λ tables. tables.items ≡ set_tables self.old.layout) }
         ensures once { CommitsOnce S.Store (AreMade S.Store self.old.layout (begun self.old.connection)) self.old.connection self.new.connection }
         ensures ready { OnOk result (IsReady S.Store self.old.layout self.old.is_made self.old.connection self.new.connection) }
+        ensures inside { self.old.connection.in_transaction ≡ true → IsErrOf result StoreError.Fault }
+        ensures leaves { Leaves S.Store self.old.layout self.old.is_made self.new.is_made self.old.connection self.new.connection }
         ensures layout { self.new.layout ≡ self.old.layout }
         ensures cursor { self.new.cursor ≡ self.old.cursor }
         ensures made { OnOk result (self.new.is_made ≡ true) }
@@ -110,6 +116,8 @@ impl<S: Alter> TileStore for SqliteStore<S> {
         ensures once { CommitsOnce S.Store (AreMade S.Store self.old.layout (begun self.old.connection)) self.old.connection self.new.connection }
         ensures undescribed { is_table (set_tables self.old.layout) table ≡ false → IfOk result (λ count. count ≡ 0) }
         ensures counted { is_table (set_tables self.old.layout) table ≡ true → IfOk result (λ count. OnceReady S.Store self.old.layout self.old.is_made self.old.connection (Sees S.Store (λ old seen. IsCounted S.Store table old seen count) self.new.connection)) }
+        ensures inside { self.old.connection.in_transaction ≡ true → IsErrOf result StoreError.Fault }
+        ensures leaves { Leaves S.Store self.old.layout self.old.is_made self.new.is_made self.old.connection self.new.connection }
         ensures layout { self.new.layout ≡ self.old.layout }
         ensures cursor { self.new.cursor ≡ self.old.cursor }
         ensures made { OnOk result (self.new.is_made ≡ true) }
@@ -136,6 +144,8 @@ impl<S: Alter> TileStore for SqliteStore<S> {
         ensures survives { self.old.is_made ≡ true → CommitsNothing S.Store self.old.connection self.new.connection }
         ensures once { CommitsOnce S.Store (AreMade S.Store self.old.layout (begun self.old.connection)) self.old.connection self.new.connection }
         ensures paged { is_table (set_tables self.old.layout) table ≡ true → IfOk result (λ rows. OnceReady S.Store self.old.layout self.old.is_made self.old.connection (Sees S.Store (λ old seen. MovesPast S.Store table old seen from limit self.old.cursor self.new.cursor rows.items) self.new.connection)) }
+        ensures inside { self.old.connection.in_transaction ≡ true → IsErrOf result StoreError.Fault }
+        ensures leaves { Leaves S.Store self.old.layout self.old.is_made self.new.is_made self.old.connection self.new.connection }
         ensures layout { self.new.layout ≡ self.old.layout }
         ensures made { OnOk result (self.new.is_made ≡ true) }
         ensures faults { self.old.faults ≤ self.new.faults }
@@ -157,6 +167,8 @@ impl<S: Alter> TileStore for SqliteStore<S> {
         ensures once { CommitsOnce S.Store (AreMade S.Store self.old.layout (begun self.old.connection)) self.old.connection self.new.connection }
         ensures undescribed { is_table (set_tables self.old.layout) table ≡ false → IfOk result (λ row. row ≡ None) }
         ensures found { is_table (set_tables self.old.layout) table ≡ true → IfOk result (λ row. OnceReady S.Store self.old.layout self.old.is_made self.old.connection (Sees S.Store (λ old seen. IsFound S.Store table old seen key.now row) self.new.connection)) }
+        ensures inside { self.old.connection.in_transaction ≡ true → IsErrOf result StoreError.Fault }
+        ensures leaves { Leaves S.Store self.old.layout self.old.is_made self.new.is_made self.old.connection self.new.connection }
         ensures layout { self.new.layout ≡ self.old.layout }
         ensures cursor { self.new.cursor ≡ self.old.cursor }
         ensures made { OnOk result (self.new.is_made ≡ true) }
@@ -167,17 +179,20 @@ impl<S: Alter> TileStore for SqliteStore<S> {
         counted(&mut self.faults, answer)
     }
 
-    /// Makes the tables of the layout that aren't there, whatever tables are asked for.
-    fn create(&mut self, _: Global, _: &[TableDesc]) -> Result<(), StoreError>
+    /// Makes the tables of the layout that aren't there, whichever of them are asked for. A name that the layout doesn't have is a fault.
+    fn create(&mut self, alloc: Global, tables: &[TableDesc]) -> Result<(), StoreError>
+        ensures named { OnOk result (are_named (set_tables self.old.layout) tables.now ≡ true) }
         ensures once { CommitsOnce S.Store (AreMade S.Store self.old.layout (begun self.old.connection)) self.old.connection self.new.connection }
         ensures ready { OnOk result (IsReady S.Store self.old.layout self.old.is_made self.old.connection self.new.connection) }
+        ensures inside { self.old.connection.in_transaction ≡ true → IsErrOf result StoreError.Fault }
+        ensures leaves { Leaves S.Store self.old.layout self.old.is_made self.new.is_made self.old.connection self.new.connection }
         ensures layout { self.new.layout ≡ self.old.layout }
         ensures cursor { self.new.cursor ≡ self.old.cursor }
         ensures made { OnOk result (self.new.is_made ≡ true) }
         ensures faults { self.old.faults ≤ self.new.faults }
         ensures fault { IsErrOf result StoreError.Fault → Rose self.old.faults self.new.faults }
     {
-        let answer = self.begin();
+        let answer = self.created(alloc, tables);
         counted(&mut self.faults, answer)
     }
 
@@ -185,9 +200,10 @@ impl<S: Alter> TileStore for SqliteStore<S> {
     fn commit(&mut self, alloc: Global, changes: &Changes) -> Result<(), StoreError>
         ensures once { self.old.is_made ≡ true → CommitsOnce S.Store (AreChanged S.Store self.old.layout changes.now (begun self.old.connection)) self.old.connection self.new.connection }
         ensures changed { OnOk result (OnceReady S.Store self.old.layout self.old.is_made self.old.connection (MakesChanges S.Store self.old.layout changes.now self.new.connection)) }
-        ensures unchanged { OnErr result (CommitsOnce S.Store (AreMade S.Store self.old.layout (begun self.old.connection)) self.old.connection self.new.connection ⊎ OnceReady S.Store self.old.layout self.old.is_made self.old.connection (RefusesChanges S.Store self.old.layout changes.now self.new.connection)) }
+        ensures unchanged { OnErr result (RefusesCommit S.Store self.old.layout changes.now self.old.is_made self.new.is_made self.old.connection self.new.connection self.old.cursor self.new.cursor) }
         ensures refused { self.old.is_made ≡ true → OnErr result (KeepsCommitted S.Store self.old.connection self.new.connection) }
         ensures cursor { OnOk result (self.new.cursor ≡ None) }
+        ensures inside { self.old.connection.in_transaction ≡ true → IsErrOf result StoreError.Fault }
         ensures layout { self.new.layout ≡ self.old.layout }
         ensures made { OnOk result (self.new.is_made ≡ true) }
         ensures faults { self.old.faults ≤ self.new.faults }
@@ -197,9 +213,13 @@ impl<S: Alter> TileStore for SqliteStore<S> {
         counted(&mut self.faults, answer)
     }
 
+    /// The bytes of all texts and blobs, and 8 for each other cell, over all rows of the layout's tables; at most the greatest `u64`.
     fn live_size(&mut self) -> Result<u64, StoreError>
         ensures survives { self.old.is_made ≡ true → CommitsNothing S.Store self.old.connection self.new.connection }
         ensures once { CommitsOnce S.Store (AreMade S.Store self.old.layout (begun self.old.connection)) self.old.connection self.new.connection }
+        ensures sized { IfOk result (λ size. OnceReady S.Store self.old.layout self.old.is_made self.old.connection (Sees S.Store (λ old seen. IsLiveSize S.Store self.old.layout old seen size) self.new.connection)) }
+        ensures inside { self.old.connection.in_transaction ≡ true → IsErrOf result StoreError.Fault }
+        ensures leaves { Leaves S.Store self.old.layout self.old.is_made self.new.is_made self.old.connection self.new.connection }
         ensures layout { self.new.layout ≡ self.old.layout }
         ensures cursor { self.new.cursor ≡ self.old.cursor }
         ensures made { OnOk result (self.new.is_made ≡ true) }

@@ -14,17 +14,17 @@ fn opened(alloc: Global, layout: MbtType) -> Result<SqliteStore<MemStore>, Alloc
 }
 
 // A store over a database in which these texts ran.
-fn made(alloc: Global, texts: &str) -> Result<SqliteStore<MemStore>, Fail> {
+pub(crate) fn made(alloc: Global, texts: &str) -> Result<SqliteStore<MemStore>, Fail> {
     let mut connection = Connection::open_in_memory(alloc)?;
     connection.execute_batch(texts)?;
     Ok(SqliteStore::adopt(alloc, connection, MbtType::Flat))
 }
 
-fn count(store: &mut SqliteStore<MemStore>, table: TableName) -> Option<u64> {
+pub(crate) fn count(store: &mut SqliteStore<MemStore>, table: TableName) -> Option<u64> {
     store.count_rows(table).ok()
 }
 
-fn size(store: &mut SqliteStore<MemStore>) -> Option<u64> {
+pub(crate) fn size(store: &mut SqliteStore<MemStore>) -> Option<u64> {
     store.live_size().ok()
 }
 
@@ -100,7 +100,12 @@ fn digit(row: &Row) -> u64 {
 }
 
 // The columns of a page of tiles as the digits of a number; None for a fault.
-fn page(alloc: Global, store: &mut SqliteStore<MemStore>, from: u64, limit: u64) -> Option<u64> {
+pub(crate) fn page(
+    alloc: Global,
+    store: &mut SqliteStore<MemStore>,
+    from: u64,
+    limit: u64,
+) -> Option<u64> {
     let rows = store.rows(alloc, TableName::Tiles, from, limit).ok()?;
     let mut number = 0u64;
     for row in &rows {
@@ -196,12 +201,12 @@ fn faults_change_nothing(rt: HostRuntime) -> Result<(), Fail> {
     Ok(())
 }
 
-fn named(alloc: Global, name: &str) -> Option<RowKey> {
+pub(crate) fn named(alloc: Global, name: &str) -> Option<RowKey> {
     Some(RowKey::TextId(TextVal::new(String::from_str(alloc, name).ok()?)))
 }
 
 // The kind of the value of the first row of a name: null, int, text, blob or other.
-fn kind(alloc: Global, store: &mut SqliteStore<MemStore>, name: &str) -> Option<u8> {
+pub(crate) fn kind(alloc: Global, store: &mut SqliteStore<MemStore>, name: &str) -> Option<u8> {
     let key = named(alloc, name)?;
     let row = store.find(alloc, TableName::Metadata, &key).ok()??;
     match row.cells() {

@@ -1,11 +1,12 @@
 // Writing the database. What a call changes is committed at once, or not at all.
-ghost use Rattle.std.specs.Prelude.{◌≡◌, IfOk, OnErr, OnOk, option_copied};
+ghost use Rattle.std.specs.Prelude.{◌≡◌, false, true, IfOk, IsErrOf, OnErr, OnOk, option_copied};
 ghost use Rattle.std.specs.List.{AllZip};
 ghost use Rattle.sqlite.specs.Held.{state};
 ghost use Rattle.sqlite.specs.State.{HasCleanDisk};
 ghost use Rattle.sqlite.specs.Values.{bound};
 ghost use Rattle.mb_sqlite.specs.Committing.{CommitsNothing, CommitsOnce, KeepsCommitted};
 ghost use Rattle.mb_sqlite.specs.Making.{Adds, AreChanged, Changed, Commits, IsRun, Removes, begun};
+ghost use Rattle.mb_sqlite.specs.Resting.{Rests, StaysInside};
 ghost use Rattle.mb_sqlite.specs.Statements.{removal_text};
 ghost use Rattle.mb_sqlite.specs.Stored.{IsWrittenAs};
 
@@ -28,6 +29,7 @@ pub(crate) fn run<S: Alter>(
     ensures same_reference { transaction.new.conn.ghost_name ≡ transaction.old.conn.ghost_name }
     ensures survives { CommitsNothing S.Store transaction.old.conn.now transaction.new.conn.now }
     ensures kept { KeepsCommitted S.Store transaction.old.conn.now transaction.new.conn.now }
+    ensures inside { OnOk result (StaysInside S.Store transaction.old.conn.now transaction.new.conn.now) }
     ensures runs { HasCleanDisk (state S.Store transaction.new.conn.now) → OnOk result (IsRun S.Store text.now (bound values.now) transaction.old.conn.now transaction.new.conn.now) }
 {
     transaction.execute(text, values)?;
@@ -43,6 +45,7 @@ fn remove_rows<S: Alter>(
     ensures same_reference { transaction.new.conn.ghost_name ≡ transaction.old.conn.ghost_name }
     ensures survives { CommitsNothing S.Store transaction.old.conn.now transaction.new.conn.now }
     ensures kept { KeepsCommitted S.Store transaction.old.conn.now transaction.new.conn.now }
+    ensures inside { OnOk result (StaysInside S.Store transaction.old.conn.now transaction.new.conn.now) }
     ensures removes { HasCleanDisk (state S.Store transaction.new.conn.now) → OnOk result (IsRun S.Store (removal_text table) (bound key.now) transaction.old.conn.now transaction.new.conn.now) }
 {
     run(transaction, statements::removal_from(table), key)
@@ -58,6 +61,7 @@ fn remove<S: Alter>(
     ensures same_reference { transaction.new.conn.ghost_name ≡ transaction.old.conn.ghost_name }
     ensures survives { CommitsNothing S.Store transaction.old.conn.now transaction.new.conn.now }
     ensures kept { KeepsCommitted S.Store transaction.old.conn.now transaction.new.conn.now }
+    ensures inside { OnOk result (StaysInside S.Store transaction.old.conn.now transaction.new.conn.now) }
     ensures removes { HasCleanDisk (state S.Store transaction.new.conn.now) → OnOk result (Removes S.Store table key.now transaction.old.conn.now transaction.new.conn.now) }
 {
     match (table, key) {
@@ -101,6 +105,7 @@ fn add<S: Alter>(
     ensures same_reference { transaction.new.conn.ghost_name ≡ transaction.old.conn.ghost_name }
     ensures survives { CommitsNothing S.Store transaction.old.conn.now transaction.new.conn.now }
     ensures kept { KeepsCommitted S.Store transaction.old.conn.now transaction.new.conn.now }
+    ensures inside { OnOk result (StaysInside S.Store transaction.old.conn.now transaction.new.conn.now) }
     ensures adds { HasCleanDisk (state S.Store transaction.new.conn.now) → OnOk result (Adds S.Store table cells.now transaction.old.conn.now transaction.new.conn.now) }
 {
     let values = values_of(alloc, cells)?;
@@ -124,6 +129,7 @@ fn change_one<S: Alter>(
     ensures same_reference { transaction.new.conn.ghost_name ≡ transaction.old.conn.ghost_name }
     ensures survives { CommitsNothing S.Store transaction.old.conn.now transaction.new.conn.now }
     ensures kept { KeepsCommitted S.Store transaction.old.conn.now transaction.new.conn.now }
+    ensures inside { OnOk result (StaysInside S.Store transaction.old.conn.now transaction.new.conn.now) }
     ensures changed { HasCleanDisk (state S.Store transaction.new.conn.now) → OnOk result (Changed S.Store layout (record { table = table; key = key.now; row = option_copied row.entry }) transaction.old.conn.now transaction.new.conn.now) }
 {
     if !has_table(layout, table) {
@@ -149,6 +155,7 @@ fn change<S: Alter>(
     ensures same_reference { transaction.new.conn.ghost_name ≡ transaction.old.conn.ghost_name }
     ensures survives { CommitsNothing S.Store transaction.old.conn.now transaction.new.conn.now }
     ensures kept { KeepsCommitted S.Store transaction.old.conn.now transaction.new.conn.now }
+    ensures inside { OnOk result (StaysInside S.Store transaction.old.conn.now transaction.new.conn.now) }
     ensures changed { HasCleanDisk (state S.Store transaction.new.conn.now) → OnOk result (AreChanged S.Store layout changes.now transaction.old.conn.now transaction.new.conn.now) }
 {
     for at in 0..changes.len() {
@@ -169,6 +176,9 @@ pub(crate) fn commit<S: Alter>(
     ensures once { CommitsOnce S.Store (AreChanged S.Store layout changes.now (begun connection.old)) connection.old connection.new }
     ensures changed { HasCleanDisk (state S.Store connection.new) → OnOk result (Commits S.Store (AreChanged S.Store layout changes.now (begun connection.old)) connection.new) }
     ensures refused { OnErr result (KeepsCommitted S.Store connection.old connection.new) }
+    ensures inside { connection.old.in_transaction ≡ true → IsErrOf result Failure.Fault × (connection.new ≡ connection.old) }
+    ensures ended { connection.old.in_transaction ≡ false → connection.new.in_transaction ≡ false }
+    ensures rests { connection.old.in_transaction ≡ false → OnErr result (Rests S.Store connection.old connection.new) }
 {
     if !connection.is_autocommit() {
         return Err(Failure::Fault);

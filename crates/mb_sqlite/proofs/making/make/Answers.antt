@@ -3,35 +3,53 @@ use Rattle.sqlite.specs.Held.{state}
 use Rattle.sqlite.specs.State.{HasCleanDisk}
 use Rattle.mb_sqlite.specs.Committing.{CommitsOnce}
 use Rattle.mb_sqlite.specs.Making.{AreMade, ArePrepared, Commits, begun}
+use Rattle.mb_sqlite.specs.Resting.{Rests}
 use Rattle.mb_sqlite.proofs.CommitLemmas.{commits_made, done_once}
+use Rattle.mb_sqlite.proofs.ReadyLemmas.{on_err}
+use Rattle.mb_sqlite.proofs.RestingLemmas.{rests_failed, rests_undone}
 use Rattle.mb_sqlite.proofs.making.make.Goals as goal
 
-pub returns-in_err-commit : goal.returns-in_err-commit
-returns-in_err-commit g c =
+pub returns-in_err-commit-clause-once : goal.returns-in_err-commit-clause-once
+returns-in_err-commit-clause-once g c =
     let old = c.args.connection.now in
     let Ends = AreMade g.S.Store c.args.layout (begun old) in
     let end = c.commit.new.self.0 in
     let began = c.transaction-transaction.ensures.begun in
     let whole = done_once g.S.Store Ends old c.make_missing.new.transaction.conn.now end (rw began at c.make_missing.ensures.survives) (λ clean. (rw began at c.in_ok-make_missing.ensures.passed clean).passed) c.commit.ensures.survives in
     let same : end ≡ c.connection-then-branch-1.given.0 = search rules in
-    record { once = subst (λ h. CommitsOnce g.S.Store Ends old h) same whole; prepared = search rules }
+    subst (λ h. CommitsOnce g.S.Store Ends old h) same whole
 
-pub returns-in_ok-commit : goal.returns-in_ok-commit
+pub returns-in_err-commit-clause-rests : goal.returns-in_err-commit-clause-rests
+returns-in_err-commit-clause-rests g c outside =
+    let old = c.args.connection.now in
+    let end = c.commit.new.self.0 in
+    let began = c.transaction-transaction.ensures.begun in
+    let same : end ≡ c.connection-then-branch-1.given.0 = search rules in
+    let kept = rw began at c.make_missing.ensures.kept in
+    let stays = rw began at c.in_ok-make_missing.ensures.inside in
+    on_err _ _ (subst (λ h. Rests g.S.Store old h) same (rests_failed g.S.Store old c.make_missing.new.transaction.conn.now end _ _ kept stays c.commit.ensures.survives c.in_err-commit.ensures.err c.commit.ensures.ended))
+
+pub returns-in_ok-commit-clause-once : goal.returns-in_ok-commit-clause-once
+returns-in_ok-commit-clause-once g c =
+    let old = c.args.connection.now in
+    let Ends = AreMade g.S.Store c.args.layout (begun old) in
+    let end = c.commit.new.self.0 in
+    let began = c.transaction-transaction.ensures.begun in
+    let whole = done_once g.S.Store Ends old c.make_missing.new.transaction.conn.now end (rw began at c.make_missing.ensures.survives) (λ clean. (rw began at c.in_ok-make_missing.ensures.passed clean).passed) c.commit.ensures.survives in
+    let same : end ≡ c.connection-then-branch-1.given.0 = search rules in
+    subst (λ h. CommitsOnce g.S.Store Ends old h) same whole
+
+pub returns-in_ok-commit-clause-prepared : goal.returns-in_ok-commit-clause-prepared
 unfolding ArePrepared
-returns-in_ok-commit g c =
+returns-in_ok-commit-clause-prepared g c clean =
     let old = c.args.connection.now in
     let Ends = AreMade g.S.Store c.args.layout (begun old) in
     let mid = c.make_missing.new.transaction.conn.now in
     let end = c.commit.new.self.0 in
     let began = c.transaction-transaction.ensures.begun in
-    let ends = λ (clean : HasCleanDisk (state g.S.Store mid)). (rw began at c.in_ok-make_missing.ensures.passed clean).passed in
-    let whole = done_once g.S.Store Ends old mid end (rw began at c.make_missing.ensures.survives) ends c.commit.ensures.survives in
-    let made = commits_made g.S.Store Ends mid end _ _ _ _ ends c.commit.ensures.survives c.in_ok-commit.ensures.ok in
+    let made = commits_made g.S.Store Ends mid end _ _ _ _ (λ (clean : HasCleanDisk (state g.S.Store mid)). (rw began at c.in_ok-make_missing.ensures.passed clean).passed) c.commit.ensures.survives c.in_ok-commit.ensures.ok in
     let same : end ≡ c.connection-then-branch-1.given.0 = search rules in
-    record {
-      once = subst (λ h. CommitsOnce g.S.Store Ends old h) same whole;
-      prepared = λ clean. inr (subst (λ h. HasCleanDisk (state g.S.Store h) → Commits g.S.Store Ends h) same made clean);
-    }
+    inr (subst (λ h. HasCleanDisk (state g.S.Store h) → Commits g.S.Store Ends h) same made clean)
 
 pub returns-else-branch-clause-prepared : goal.returns-else-branch-clause-prepared
 unfolding ArePrepared
@@ -42,6 +60,14 @@ returns-else-branch-clause-prepared g c =
     let began = c.transaction-transaction.ensures.begun in
     let passed = rw began at c.in_ok-make_missing.ensures.passed in
     let same : end ≡ c.connection-else-branch-1.given.0 = search rules in
+    let rests = rests_undone g.S.Store old mid end (rw began at c.make_missing.ensures.kept) c.drop-transaction-else-branch.ensures.survives c.drop-transaction-else-branch.ensures.undone c.drop-transaction-else-branch.ensures.ended in
     let whole : HasCleanDisk (state g.S.Store end) → ArePrepared g.S.Store c.args.layout old end =
-    λ clean. inl (mid, (passed (omega (arith, clean, c.drop-transaction-else-branch.ensures.survives.clean))).there c.if-branch.false, c.drop-transaction-else-branch.ensures.undone clean) in
+    λ clean. inl (mid, (passed (omega (arith, clean, c.drop-transaction-else-branch.ensures.survives.clean))).there c.if-branch.false, c.drop-transaction-else-branch.ensures.undone clean, rests) in
     subst (λ h. HasCleanDisk (state g.S.Store h) → ArePrepared g.S.Store c.args.layout old h) same whole
+
+pub returns-in_err-make_missing-clause-rests : goal.returns-in_err-make_missing-clause-rests
+returns-in_err-make_missing-clause-rests g c outside =
+    let old = c.args.connection.now in
+    let end = c.drop-transaction.new.self.0 in
+    let same : end ≡ c.connection-1.given.0 = search rules in
+    on_err _ _ (subst (λ h. Rests g.S.Store old h) same (rests_undone g.S.Store old c.make_missing.new.transaction.conn.now end (rw c.transaction-transaction.ensures.begun at c.make_missing.ensures.kept) c.drop-transaction.ensures.survives c.drop-transaction.ensures.undone c.drop-transaction.ensures.ended))

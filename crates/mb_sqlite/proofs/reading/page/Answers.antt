@@ -1,11 +1,11 @@
 use Rattle.std.proofs.Common.{rules, ◌≡◌, ◌∙◌, ap, length, subst}
-use Rattle.mb_sqlite.specs.Cursor.{MovesPast, cursor_past, held}
+use Rattle.mb_sqlite.specs.Cursor.{MovesPast, cursor_past}
 use Rattle.mb_sqlite.specs.Reading.{ArePaged, Within}
 use Rattle.mb_sqlite.proofs.reading.page.Goals as goal
 
 pub returns-clause-paged : goal.returns-clause-paged
 unfolding MovesPast
 returns-clause-paged g c clean =
-    let seen = subst (λ start. Within c.args.connection.now (λ old seen. ArePaged g.S.Store c.args.table old seen start c.args.limit c.in_ok-page.page.items c.page_after.new.last)) c.start_of-start.ensures (c.in_ok-page.ensures.paged clean) in
-    let count : c.len.result ≡ length c.in_ok-page.page.items = search rules in
-    (seen.0, (c.page_after.new.last, seen.1, c.moved.ensures ∙ ap (λ n. cursor_past c.args.cursor.now c.args.table c.args.from n (held c.page_after.new.last)) count))
+    let seen = subst (λ start. Within c.args.connection.now (λ old seen. ArePaged g.S.Store c.args.table old seen start c.args.limit c.in_ok-page.page.0.items c.in_ok-page.page.1)) c.start_of-start.ensures (c.in_ok-page.ensures.paged clean) in
+    let count : c.len.result ≡ length c.in_ok-page.page.0.items = search rules in
+    (seen.0, (c.in_ok-page.page.1, seen.1, c.moved.ensures ∙ ap (λ n. cursor_past c.args.cursor.now c.args.table c.args.from n c.in_ok-page.page.1) count))

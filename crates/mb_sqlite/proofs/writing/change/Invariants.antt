@@ -3,6 +3,7 @@ use Rattle.sqlite.specs.Held.{state}
 use Rattle.sqlite.specs.State.{HasCleanDisk}
 use Rattle.mb_sqlite.specs.Committing.{CommitsNothing, KeepsCommitted}
 use Rattle.mb_sqlite.specs.Making.{AreChanged}
+use Rattle.mb_sqlite.specs.Resting.{StaysInside}
 use Rattle.mb_sqlite.proofs.writing.change.Given as goal
 
 abbrev pub invariant-loop-at : goal.invariant-loop-at
@@ -10,4 +11,5 @@ invariant-loop-at g l =
     (l.transaction.conn.ghost_name ≡ l.fn.transaction.conn.ghost_name)
     × CommitsNothing g.S.Store l.fn.transaction.conn.now l.transaction.conn.now
     × KeepsCommitted g.S.Store l.fn.transaction.conn.now l.transaction.conn.now
+    × StaysInside g.S.Store l.fn.transaction.conn.now l.transaction.conn.now
     × (HasCleanDisk (state g.S.Store l.transaction.conn.now) → AreChanged g.S.Store l.layout (take l.at l.changes) l.fn.transaction.conn.now l.transaction.conn.now)

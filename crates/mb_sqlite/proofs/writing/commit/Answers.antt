@@ -3,7 +3,10 @@ use Rattle.sqlite.specs.Held.{state}
 use Rattle.sqlite.specs.State.{HasCleanDisk}
 use Rattle.mb_sqlite.specs.Committing.{CommitsOnce, KeepsCommitted}
 use Rattle.mb_sqlite.specs.Making.{AreChanged, Commits, begun}
+use Rattle.mb_sqlite.specs.Resting.{Rests}
 use Rattle.mb_sqlite.proofs.CommitLemmas.{commits_made, nothing_once, undone_nothing, undone_keeps, failed_keeps, done_once}
+use Rattle.mb_sqlite.proofs.ReadyLemmas.{on_err}
+use Rattle.mb_sqlite.proofs.RestingLemmas.{kept_inside, rests_failed, rests_undone}
 use Rattle.mb_sqlite.proofs.writing.commit.Goals as goal
 
 pub returns-in_err-change-clause-once : goal.returns-in_err-change-clause-once
@@ -66,3 +69,21 @@ returns-clause-changed g c clean =
     let same : end ≡ c.connection-2-1.given.0 = search rules in
     let whole = commits_made g.S.Store Ends c.change.new.transaction.conn.now end _ _ _ _ (rw began at c.in_ok-change.ensures.changed) c.commit.ensures.survives c.in_ok-commit.ensures.ok in
     subst (λ h. HasCleanDisk (state g.S.Store h) → Commits g.S.Store Ends h) same whole clean
+
+pub returns-in_err-change-clause-rests : goal.returns-in_err-change-clause-rests
+returns-in_err-change-clause-rests g c outside =
+    let old = c.args.connection.now in
+    let end = c.drop-transaction.new.self.0 in
+    let same : end ≡ c.connection-1.given.0 = search rules in
+    let kept = kept_inside g.S.Store (begun old) c.change.new.transaction.conn.now (rw c.transaction-transaction.ensures.begun at c.change.ensures.kept) in
+    on_err _ _ (subst (λ h. Rests g.S.Store old h) same (rests_undone g.S.Store old c.change.new.transaction.conn.now end kept c.drop-transaction.ensures.survives c.drop-transaction.ensures.undone c.drop-transaction.ensures.ended))
+
+pub returns-in_err-commit-clause-rests : goal.returns-in_err-commit-clause-rests
+returns-in_err-commit-clause-rests g c outside =
+    let old = c.args.connection.now in
+    let end = c.commit.new.self.0 in
+    let began = c.transaction-transaction.ensures.begun in
+    let same : end ≡ c.connection-2-1.given.0 = search rules in
+    let kept = kept_inside g.S.Store (begun old) c.change.new.transaction.conn.now (rw began at c.change.ensures.kept) in
+    let stays = rw began at c.in_ok-change.ensures.inside in
+    on_err _ _ (subst (λ h. Rests g.S.Store old h) same (rests_failed g.S.Store old c.change.new.transaction.conn.now end _ _ kept stays c.commit.ensures.survives c.in_err-commit.ensures.err c.commit.ensures.ended))

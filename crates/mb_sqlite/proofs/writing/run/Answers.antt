@@ -3,3 +3,6 @@ use Rattle.mb_sqlite.proofs.writing.run.Goals as goal
 
 pub returns-clause-runs : goal.returns-clause-runs
 returns-clause-runs g c = is_run g.S.Store _ _ _ _ c.in_ok-execute.field-0 _ c.in_ok-execute.ensures.ended c.in_ok-execute.ensures.runs
+
+pub returns-clause-inside : goal.returns-clause-inside
+returns-clause-inside g c clean inside = (c.in_ok-execute.ensures.runs clean inside).1.mode

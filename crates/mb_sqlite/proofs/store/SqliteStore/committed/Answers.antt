@@ -1,19 +1,23 @@
-use Rattle.std.proofs.Common.{subst, inl, inr}
+use Rattle.std.proofs.Common.{subst, inl, inr, refl}
 use Rattle.mb_sqlite.specs.Committing.{MakesChanges, RefusesChanges}
 use Rattle.mb_sqlite.proofs.ReadyLemmas.{on_err}
 use Rattle.mb_sqlite.proofs.store.SqliteStore.committed.Goals as goal
 
 pub returns-in_err-begin-clause-unchanged : goal.returns-in_err-begin-clause-unchanged
-returns-in_err-begin-clause-unchanged g c = on_err _ _ (inl c.begin.ensures.once)
+returns-in_err-begin-clause-unchanged g c = on_err _ _ (inl (c.begin.ensures.once, c.begin.ensures.leaves, c.begin.ensures.cursor))
 
 pub returns-in_err-commit-clause-unchanged : goal.returns-in_err-commit-clause-unchanged
-returns-in_err-commit-clause-unchanged g c = on_err _ _ (inr (record {
-  ready = c.begin.new.self.connection;
-  is_ready = c.in_ok-begin.ensures.ready;
-  once = c.begin.ensures.once;
-  after = subst (λ layout. RefusesChanges g.S.Store layout c.args.changes.now c.commit.new.connection c.begin.new.self.connection) c.in_ok-begin.ensures.layout
-      (record { once = c.commit.ensures.once; kept = c.in_err-commit.ensures.refused });
-}))
+returns-in_err-commit-clause-unchanged g c = on_err _ _ (inr (
+  record {
+    ready = c.begin.new.self.connection;
+    is_ready = c.in_ok-begin.ensures.ready;
+    once = c.begin.ensures.once;
+    after = subst (λ layout. RefusesChanges g.S.Store layout c.args.changes.now c.commit.new.connection c.begin.new.self.connection) c.in_ok-begin.ensures.layout
+        (record { once = c.commit.ensures.once; kept = c.in_err-commit.ensures.refused; rests = c.in_err-commit.ensures.rests c.in_ok-begin.ensures.ended });
+  },
+  c.in_ok-begin.ensures.made,
+  refl,
+))
 
 pub returns-clause-changed : goal.returns-clause-changed
 returns-clause-changed g c = record {
@@ -21,5 +25,5 @@ returns-clause-changed g c = record {
   is_ready = c.in_ok-begin.ensures.ready;
   once = c.begin.ensures.once;
   after = subst (λ layout. MakesChanges g.S.Store layout c.args.changes.now c.commit.new.connection c.begin.new.self.connection) c.in_ok-begin.ensures.layout
-      (record { once = c.commit.ensures.once; committed = c.in_ok-commit.ensures.changed });
+      (record { once = c.commit.ensures.once; ended = c.commit.ensures.ended c.in_ok-begin.ensures.ended; committed = c.in_ok-commit.ensures.changed });
 }

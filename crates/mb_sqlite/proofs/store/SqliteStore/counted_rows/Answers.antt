@@ -1,6 +1,7 @@
+use Rattle.std.proofs.Common.{inl, refl, inr}
 use Rattle.mb_sqlite.specs.Reading.{IsCounted}
 use Rattle.mb_sqlite.proofs.CommitLemmas.{once_then}
-use Rattle.mb_sqlite.proofs.ReadyLemmas.{sees_ready}
+use Rattle.mb_sqlite.proofs.ReadyLemmas.{leaves_ready, sees_ready}
 use Rattle.mb_sqlite.proofs.store.SqliteStore.counted_rows.Goals as goal
 
 pub returns-clause-counted : goal.returns-clause-counted
@@ -9,3 +10,13 @@ returns-clause-counted g c described =
 
 pub returns-clause-once : goal.returns-clause-once
 returns-clause-once g c = once_then g.S.Store _ _ _ _ c.begin.ensures.once c.count.ensures.survives
+
+pub returns-then-not-has_table-clause-leaves : goal.returns-then-not-has_table-clause-leaves
+returns-then-not-has_table-clause-leaves g c =
+    leaves_ready g.S.Store c.args.self.now.layout c.args.self.now.is_made c.begin.new.self.is_made c.args.self.now.connection c.begin.new.self.connection c.begin.new.self.connection c.in_ok-begin.ensures.outside c.in_ok-begin.ensures.made
+    c.in_ok-begin.ensures.ready c.begin.ensures.once (inl refl)
+
+pub returns-clause-leaves : goal.returns-clause-leaves
+returns-clause-leaves g c =
+    leaves_ready g.S.Store c.args.self.now.layout c.args.self.now.is_made c.begin.new.self.is_made c.args.self.now.connection c.begin.new.self.connection c.count.new.connection c.in_ok-begin.ensures.outside c.in_ok-begin.ensures.made
+    c.in_ok-begin.ensures.ready c.begin.ensures.once (inr (c.count.ensures.rests c.in_ok-begin.ensures.ended))

@@ -1,9 +1,9 @@
-use Rattle.std.proofs.Common.{subst}
+use Rattle.std.proofs.Common.{subst, inl, refl, inr}
 use Rattle.std.specs.Prelude.{IfOk}
 use Rattle.mb_sqlite.specs.Committing.{OnceReady, Sees}
 use Rattle.mb_sqlite.specs.Cursor.{MovesPast}
 use Rattle.mb_sqlite.proofs.CommitLemmas.{once_then}
-use Rattle.mb_sqlite.proofs.ReadyLemmas.{sees_ready}
+use Rattle.mb_sqlite.proofs.ReadyLemmas.{leaves_ready, sees_ready}
 use Rattle.mb_sqlite.proofs.store.SqliteStore.page.Goals as goal
 
 pub returns-clause-paged : goal.returns-clause-paged
@@ -13,3 +13,13 @@ returns-clause-paged g c described =
 
 pub returns-clause-once : goal.returns-clause-once
 returns-clause-once g c = once_then g.S.Store _ _ _ _ c.begin.ensures.once c.page.ensures.survives
+
+pub returns-then-not-has_table-clause-leaves : goal.returns-then-not-has_table-clause-leaves
+returns-then-not-has_table-clause-leaves g c =
+    leaves_ready g.S.Store c.args.self.now.layout c.args.self.now.is_made c.begin.new.self.is_made c.args.self.now.connection c.begin.new.self.connection c.begin.new.self.connection c.in_ok-begin.ensures.outside c.in_ok-begin.ensures.made
+    c.in_ok-begin.ensures.ready c.begin.ensures.once (inl refl)
+
+pub returns-clause-leaves : goal.returns-clause-leaves
+returns-clause-leaves g c =
+    leaves_ready g.S.Store c.args.self.now.layout c.args.self.now.is_made c.begin.new.self.is_made c.args.self.now.connection c.begin.new.self.connection c.page.new.connection c.in_ok-begin.ensures.outside c.in_ok-begin.ensures.made
+    c.in_ok-begin.ensures.ready c.begin.ensures.once (inr (c.page.ensures.rests c.in_ok-begin.ensures.ended))

@@ -1,8 +1,8 @@
 use Rattle.std.proofs.Common.{◌≡◌, ◌≤◌, All, length, take}
 use Rattle.std.specs.List.{AllZip}
 use Rattle.mb_tables.specs.Table.{width}
-use Rattle.mb_sqlite.specs.Reading.{EndsAt, IsRowOf}
-use Rattle.mb_sqlite.proofs.query.rows_of.Given as goal
+use Rattle.mb_sqlite.specs.Reading.{IsRowOf, RisesTo}
+use Rattle.mb_sqlite.proofs.paging.rows_of.Given as goal
 
 abbrev pub invariant-loop-answer : goal.invariant-loop-answer
 invariant-loop-answer l = record {
@@ -10,5 +10,5 @@ invariant-loop-answer l = record {
   limit : length l.rows.items ≤ l.limit;
   widths : All (λ row. length row ≡ width l.table) l.rows.items;
   read : AllZip (IsRowOf l.table) (take l.answer-index l.answers) l.rows.items;
-  last : EndsAt l.table (take l.answer-index l.answers) l.last;
+  rises : RisesTo l.table l.fn.from (take l.answer-index l.answers) l.last;
 }

@@ -1,0 +1,6 @@
+use Rattle.std.proofs.Common.{◌≡◌, ◌+◌, ◌-◌, ◌^◌, min, sum_by, take}
+use Rattle.mb_sqlite.specs.Sizing.{value_size}
+use Rattle.mb_sqlite.proofs.rows.with_row.Given as goal
+
+abbrev pub invariant-loop-at : goal.invariant-loop-at
+invariant-loop-at l = l.sum ≡ min (l.size + sum_by value_size (take l.at l.row)) (2 ^ 64 - 1)

@@ -1,0 +1,15 @@
+use Rattle.std.proofs.Common.{◌≡◌}
+use Rattle.sqlite.specs.Held.{state}
+use Rattle.sqlite.specs.State.{HasCleanDisk}
+use Rattle.mb_sqlite.specs.Committing.{CommitsNothing}
+use Rattle.mb_sqlite.specs.Resting.{KeepsInside, StaysInside}
+use Rattle.mb_sqlite.proofs.SizingLemmas.{ArePieces}
+use Rattle.mb_sqlite.proofs.sizing.with_table.Given as goal
+
+abbrev pub invariant-pieces : goal.invariant-pieces
+invariant-pieces g l =
+    (l.transaction.conn.ghost_name ≡ l.fn.transaction.conn.ghost_name)
+    × CommitsNothing g.S.Store l.fn.transaction.conn.now l.transaction.conn.now
+    × KeepsInside g.S.Store l.fn.transaction.conn.now l.transaction.conn.now
+    × StaysInside g.S.Store l.fn.transaction.conn.now l.transaction.conn.now
+    × (HasCleanDisk (state g.S.Store l.transaction.conn.now) → ArePieces g.S.Store l.table l.size l.fn.transaction.conn.now l.transaction.conn.now l.last l.sum)
