@@ -26,17 +26,34 @@ fn open(
     }
 }
 
-// The response of some bytes, and that with a version text too.
-fn response(alloc: Global, out: &mut String, words: &mut Words) -> Option<()> {
-    let plain = Bytes::from_vec(bytes(alloc, words)?).ok()?;
-    let versioned = Bytes::from_vec(bytes(alloc, words)?).ok()?;
+fn shared(alloc: Global, words: &mut Words) -> Option<Bytes> {
+    Bytes::from_vec(bytes(alloc, words)?).ok()
+}
+
+fn said_response(alloc: Global, out: &mut String, response: BackendResponse) -> Option<()> {
+    say_response(alloc, out, &response)
+}
+
+// The response of some bytes.
+fn plain(alloc: Global, out: &mut String, words: &mut Words) -> Option<()> {
+    let plain = shared(alloc, words)?;
+    said_response(alloc, out, BackendResponse::new(plain))
+}
+
+// The response of some bytes with a version text.
+fn versioned(alloc: Global, out: &mut String, words: &mut Words) -> Option<()> {
+    let versioned = shared(alloc, words)?;
     let version = owned(alloc, words)?;
-    say_response(alloc, out, &BackendResponse::new(plain))?;
-    say_response(
+    said_response(
         alloc,
         out,
-        &BackendResponse::new_with_version(versioned, version),
+        BackendResponse::new_with_version(versioned, version),
     )
+}
+
+fn response(alloc: Global, out: &mut String, words: &mut Words) -> Option<()> {
+    plain(alloc, out, words)?;
+    versioned(alloc, out, words)
 }
 
 fn reads<B: Backend>(

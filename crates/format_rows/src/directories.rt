@@ -3,7 +3,7 @@ ghost use Rattle.std.specs.Prelude.{◌≡◌, ◌↔◌, ◌+◌, ◌<◌, ◌�
 ghost use Rattle.pm_format.specs.Directory.{IsPlaced};
 
 use pm_format::{DirEntry, Directory, Steps};
-use rows_shared::{Words, bytes, number, say, say_bytes};
+use rows_shared::{Words, bytes, number, said, say, say_bytes};
 use std::alloc::Global;
 use std::marker::Brand;
 use std::sync::ledger::{Blank, Ledger};
@@ -23,7 +23,7 @@ fn all_placed(entries: &[DirEntry]) -> bool
 
 fn decode(alloc: Global, out: &mut String, words: &mut Words) -> Option<()> {
     let input = bytes(alloc, words)?;
-    say(out, &Directory::decode(alloc, input.as_slice()))
+    said(out, Directory::decode(alloc, input.as_slice()))
 }
 
 fn given(alloc: Global, words: &mut Words) -> Option<Directory> {
@@ -33,7 +33,7 @@ fn given(alloc: Global, words: &mut Words) -> Option<Directory> {
 
 fn entries(alloc: Global, out: &mut String, words: &mut Words) -> Option<()> {
     let directory = given(alloc, words)?;
-    say(out, &directory.get_approx_byte_size())?;
+    said(out, directory.get_approx_byte_size())?;
     say(out, &directory.entries())
 }
 
@@ -89,6 +89,16 @@ fn find(alloc: Global, out: &mut String, words: &mut Words) -> Option<()> {
     say(out, &directory.find_tile_id(id))
 }
 
+fn say_entry(out: &mut String, entry: &DirEntry) -> Option<()> {
+    say(out, &entry.tile_id())?;
+    say(out, &entry.offset())?;
+    say(out, &entry.length())?;
+    say(out, &entry.run_length())?;
+    say(out, &entry.is_leaf())?;
+    say(out, &entry.run_in_range())?;
+    say(out, &(*entry == DirEntry::default()))
+}
+
 fn entry(out: &mut String, words: &mut Words) -> Option<()> {
     let entry = DirEntry::new(
         number(words)?,
@@ -96,13 +106,7 @@ fn entry(out: &mut String, words: &mut Words) -> Option<()> {
         number(words)?,
         number(words)?,
     );
-    say(out, &entry.tile_id())?;
-    say(out, &entry.offset())?;
-    say(out, &entry.length())?;
-    say(out, &entry.run_length())?;
-    say(out, &entry.is_leaf())?;
-    say(out, &entry.run_in_range())?;
-    say(out, &(entry == DirEntry::default()))
+    say_entry(out, &entry)
 }
 
 fn run(out: &mut String, words: &mut Words) -> Option<()> {
@@ -111,7 +115,7 @@ fn run(out: &mut String, words: &mut Words) -> Option<()> {
         return None;
     }
     for id in entry.iter_coords() {
-        say(out, &TileCoord::from(id))?;
+        said(out, TileCoord::from(id))?;
     }
     Some(())
 }

@@ -1,7 +1,7 @@
 // Calls of tile_json.
 use crate::fields;
 use pm_format::{Compression, Header, TileType};
-use rows_shared::{Words, owned, say, text, texts};
+use rows_shared::{Words, owned, said, say, text, texts};
 use serde_json::Value;
 use std::alloc::Global;
 use tile_ids::TextList;
@@ -11,12 +11,12 @@ fn document(alloc: Global, out: &mut String, words: &mut Words) -> Option<()> {
     let metadata = text(alloc, words)?;
     let header = Header::new(Compression::None, TileType::Unknown);
     let document = header.get_tilejson(alloc, texts(alloc, words)?);
-    say(out, &document.with_metadata(alloc, metadata.as_str()))
+    said(out, document.with_metadata(alloc, metadata.as_str()))
 }
 
 fn layers(alloc: Global, out: &mut String, words: &mut Words) -> Option<()> {
     let value = Value::from_str(alloc, text(alloc, words)?.as_str()).ok()?;
-    say(out, &LayerList::from_json(alloc, value))
+    said(out, LayerList::from_json(alloc, value))
 }
 
 fn layer(alloc: Global, words: &mut Words) -> Option<VectorLayer> {

@@ -1,5 +1,5 @@
 // Maps from texts: the name that is sought, and then names with their values.
-use rows_shared::{Words, owned, say, text};
+use rows_shared::{Words, owned, said, say, text};
 use serde_json::Value;
 use std::alloc::Global;
 use std::fmt::Debug;
@@ -7,7 +7,7 @@ use tile_ids::TextVal;
 use tile_json::{JsonFields, JsonVal, TextFields, TextMap};
 
 fn say_map<V: Debug + Drop>(out: &mut String, map: &TextMap<V>, sought: &str) -> Option<()> {
-    say(out, &map.len())?;
+    said(out, map.len())?;
     say(out, &map.get(sought))?;
     for index in 0..map.len() {
         say(out, &map.at(index))?;

@@ -1,7 +1,7 @@
 // Calls of a medium over a file.
 use crate::media::{exact, len, read};
 use pm_format::{FileMedium, Medium};
-use rows_shared::{Words, bytes, number, say};
+use rows_shared::{Words, bytes, number, said, say};
 use std::alloc::Global;
 
 fn open(
@@ -23,7 +23,7 @@ fn write(alloc: Global, out: &mut String, file: &mut FileMedium, words: &mut Wor
     let offset = number::<u64>(words)?;
     let piece = bytes(alloc, words)?;
     offset.checked_add(piece.len() as u64)?;
-    say(out, &file.write_at(offset, piece.as_slice()))
+    said(out, file.write_at(offset, piece.as_slice()))
 }
 
 fn call(alloc: Global, out: &mut String, file: &mut FileMedium, words: &mut Words) -> Option<()> {
@@ -32,7 +32,7 @@ fn call(alloc: Global, out: &mut String, file: &mut FileMedium, words: &mut Word
         "read" => read(alloc, out, file, words),
         "exact" => exact(alloc, out, file, words),
         "len" => len(out, file),
-        "flush" => say(out, &file.flush()),
+        "flush" => said(out, file.flush()),
         _ => None,
     }
 }

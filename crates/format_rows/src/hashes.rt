@@ -1,5 +1,5 @@
 // Calls of tile_hash.
-use rows_shared::{Words, bytes, say, say_bytes, say_text, text};
+use rows_shared::{Words, bytes, said, say, say_bytes, say_text, text};
 use std::alloc::Global;
 use tile_hash::{HashAlgorithm, HashStream, fnv1a, md5_text, xxh3_64, xxh64};
 
@@ -10,7 +10,7 @@ fn given(alloc: Global, words: &mut Words) -> Option<HashAlgorithm> {
 fn digest(alloc: Global, out: &mut String, words: &mut Words) -> Option<()> {
     let algorithm = given(alloc, words)?;
     let input = bytes(alloc, words)?;
-    say(out, &algorithm.hash(alloc, input.as_slice()))?;
+    said(out, algorithm.hash(alloc, input.as_slice()))?;
     say_bytes(alloc, out, algorithm.hash_into(input.as_slice()).as_bytes())
 }
 
@@ -27,9 +27,9 @@ fn default(out: &mut String) -> Option<()> {
 
 fn numbers(alloc: Global, out: &mut String, words: &mut Words) -> Option<()> {
     let input = bytes(alloc, words)?;
-    say(out, &fnv1a(input.as_slice()))?;
-    say(out, &xxh64(input.as_slice()))?;
-    say(out, &xxh3_64(input.as_slice()))
+    said(out, fnv1a(input.as_slice()))?;
+    said(out, xxh64(input.as_slice()))?;
+    said(out, xxh3_64(input.as_slice()))
 }
 
 fn md5(alloc: Global, out: &mut String, words: &mut Words) -> Option<()> {
@@ -45,7 +45,7 @@ fn pieces(alloc: Global, out: &mut String, words: &mut Words) -> Option<()> {
         };
         stream.update(piece.as_slice());
     }
-    say(out, &stream.finish(alloc))
+    said(out, stream.finish(alloc))
 }
 
 pub fn answer(alloc: Global, out: &mut String, words: &mut Words) -> Option<()> {

@@ -1,6 +1,6 @@
 // Calls of the headers of pm_format.
 use pm_format::{Compression, Header, TileType};
-use rows_shared::{Words, bytes, number, say, say_bytes, texts};
+use rows_shared::{Words, bytes, number, said, say, say_bytes, texts};
 use std::alloc::Global;
 
 fn given(alloc: Global, words: &mut Words) -> Option<Header> {
@@ -10,7 +10,7 @@ fn given(alloc: Global, words: &mut Words) -> Option<Header> {
 
 fn refusal(alloc: Global, out: &mut String, words: &mut Words) -> Option<()> {
     let input = bytes(alloc, words)?;
-    say(out, &Header::try_from_bytes(input.as_slice()).err())
+    said(out, Header::try_from_bytes(input.as_slice()).err())
 }
 
 fn again(alloc: Global, out: &mut String, words: &mut Words) -> Option<()> {
@@ -29,18 +29,18 @@ fn say_places(out: &mut String, header: &Header) -> Option<()> {
 }
 
 fn say_counts(out: &mut String, header: &Header) -> Option<()> {
-    say(out, &header.n_addressed_tiles())?;
+    said(out, header.n_addressed_tiles())?;
     say(out, &header.n_tile_entries())?;
-    say(out, &header.n_tile_contents())?;
+    said(out, header.n_tile_contents())?;
     say(out, &header.n_addressed_tiles)?;
     say(out, &header.n_tile_entries)?;
     say(out, &header.n_tile_contents)
 }
 
 fn say_labels(out: &mut String, header: &Header) -> Option<()> {
-    say(out, &header.spec_version())?;
-    say(out, &header.clustered())?;
-    say(out, &header.internal_compression())?;
+    said(out, header.spec_version())?;
+    said(out, header.clustered())?;
+    said(out, header.internal_compression())?;
     say(out, &header.tile_compression)?;
     say(out, &header.tile_type)?;
     say(out, &header.min_zoom)?;
@@ -48,8 +48,8 @@ fn say_labels(out: &mut String, header: &Header) -> Option<()> {
 }
 
 fn say_extent(out: &mut String, header: &Header) -> Option<()> {
-    say(out, &header.get_bounds())?;
-    say(out, &header.get_center())
+    said(out, header.get_bounds())?;
+    said(out, header.get_center())
 }
 
 // All fields of a header.
@@ -78,7 +78,7 @@ fn written(alloc: Global, out: &mut String, words: &mut Words) -> Option<()> {
 
 fn document(alloc: Global, out: &mut String, words: &mut Words) -> Option<()> {
     let header = given(alloc, words)?;
-    say(out, &header.get_tilejson(alloc, texts(alloc, words)?))
+    said(out, header.get_tilejson(alloc, texts(alloc, words)?))
 }
 
 pub fn answer(alloc: Global, out: &mut String, words: &mut Words) -> Option<()> {

@@ -1,5 +1,5 @@
 // Calls of tile_ids.
-use rows_shared::{Words, bytes, number, owned, say, say_bytes, say_text};
+use rows_shared::{Words, bytes, number, owned, said, say, say_bytes, say_text};
 use std::alloc::Global;
 use tile_ids::{
     BlobVal, MAX_TILE_ID, MAX_ZOOM, PYRAMID_SIZE_BY_ZOOM, TileCoord, TileId, invert_y_value,
@@ -7,14 +7,14 @@ use tile_ids::{
 };
 
 fn coord(out: &mut String, words: &mut Words) -> Option<()> {
-    say(
+    said(
         out,
-        &TileCoord::new(number(words)?, number(words)?, number(words)?),
+        TileCoord::new(number(words)?, number(words)?, number(words)?),
     )
 }
 
 fn id(out: &mut String, words: &mut Words) -> Option<()> {
-    say(out, &TileId::new(number(words)?))
+    said(out, TileId::new(number(words)?))
 }
 
 fn given(words: &mut Words) -> Option<TileCoord> {
@@ -22,21 +22,21 @@ fn given(words: &mut Words) -> Option<TileCoord> {
 }
 
 fn id_of(out: &mut String, words: &mut Words) -> Option<()> {
-    say(out, &TileId::from(given(words)?))
+    said(out, TileId::from(given(words)?))
 }
 
 fn coord_of(out: &mut String, words: &mut Words) -> Option<()> {
-    say(out, &TileCoord::from(TileId::new(number(words)?).ok()?))
+    said(out, TileCoord::from(TileId::new(number(words)?).ok()?))
 }
 
 fn parts(out: &mut String, words: &mut Words) -> Option<()> {
     let coord = given(words)?;
     let id = TileId::from(coord);
-    say(out, &coord.z())?;
-    say(out, &coord.x())?;
-    say(out, &coord.y())?;
-    say(out, &id.value())?;
-    say(out, &u64::from(id))
+    said(out, coord.z())?;
+    said(out, coord.x())?;
+    said(out, coord.y())?;
+    said(out, id.value())?;
+    said(out, u64::from(id))
 }
 
 fn limits(out: &mut String) -> Option<()> {
@@ -47,30 +47,30 @@ fn limits(out: &mut String) -> Option<()> {
 
 fn inverted(out: &mut String, words: &mut Words) -> Option<()> {
     let coord = given(words)?;
-    say(out, &invert_y_value(coord.z(), coord.y()))
+    said(out, invert_y_value(coord.z(), coord.y()))
 }
 
 fn index(out: &mut String, words: &mut Words) -> Option<()> {
-    say(
+    said(
         out,
-        &parse_tile_index(number(words), number(words), number(words)),
+        parse_tile_index(number(words), number(words), number(words)),
     )
 }
 
 fn interval(out: &mut String, words: &mut Words) -> Option<()> {
-    say(out, &subtree_interval(given(words)?, number(words)?))
+    said(out, subtree_interval(given(words)?, number(words)?))
 }
 
 fn text(alloc: Global, out: &mut String, words: &mut Words) -> Option<()> {
     let text = owned(alloc, words)?;
-    say(out, &text.try_clone(alloc))?;
+    said(out, text.try_clone(alloc))?;
     say_text(out, &text)
 }
 
 fn order(alloc: Global, out: &mut String, words: &mut Words) -> Option<()> {
     let one = owned(alloc, words)?;
     let other = owned(alloc, words)?;
-    say(out, &one.cmp(&other))?;
+    said(out, one.cmp(&other))?;
     say(out, &(one == other))
 }
 

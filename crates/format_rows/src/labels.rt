@@ -3,14 +3,14 @@ use pm_format::{
     Compression, Directory, Header, MediumFault, PmtError, ReadCause, ReadFault, TileType,
     WriteFault,
 };
-use rows_shared::{Words, bytes, number, say, say_text};
+use rows_shared::{Words, bytes, number, said, say, say_text};
 use std::alloc::Global;
 use tile_ids::{OutOfMemory, TileCoord, TileId};
 
 fn say_compression(out: &mut String, label: Compression) -> Option<()> {
     say(out, &label)?;
-    say(out, &label.to_byte())?;
-    say(out, &label.content_encoding())
+    said(out, label.to_byte())?;
+    said(out, label.content_encoding())
 }
 
 fn compression(out: &mut String, words: &mut Words) -> Option<()> {
@@ -22,8 +22,8 @@ fn compression(out: &mut String, words: &mut Words) -> Option<()> {
 
 fn say_type(out: &mut String, label: TileType) -> Option<()> {
     say(out, &label)?;
-    say(out, &label.to_byte())?;
-    say(out, &label.content_type())
+    said(out, label.to_byte())?;
+    said(out, label.content_type())
 }
 
 fn tile_type(out: &mut String, words: &mut Words) -> Option<()> {

@@ -14,42 +14,34 @@ mod media;
 mod varints;
 
 use media::Kept;
-use rows_shared::Words;
+use rows_shared::{Rows, Words, run};
 use std::alloc::Global;
 use std::io;
 
-// Appends the answer of a call, or fails where no handler takes the line.
-fn answer(
-    rt: &HostRuntime,
-    alloc: Global,
-    out: &mut String,
-    kept: &mut Kept,
-    line: &str,
-) -> Option<()> {
-    let mut words: Words = line.split_whitespace();
-    match words.next()? {
-        "ids" => ids::answer(alloc, out, &mut words),
-        "hash" => hashes::answer(alloc, out, &mut words),
-        "json" => documents::answer(alloc, out, &mut words),
-        "varint" => varints::answer(alloc, out, &mut words),
-        "directory" => directories::answer(alloc, out, &mut words),
-        "header" => headers::answer(alloc, out, &mut words),
-        "label" => labels::answer(alloc, out, &mut words),
-        "medium" => media::answer(alloc, out, &mut kept.medium, &mut words),
-        _ => backends::answer(rt, alloc, out, kept, line),
+impl Rows for Kept {
+    fn answer(
+        &mut self,
+        rt: &HostRuntime,
+        alloc: Global,
+        out: &mut String,
+        line: &str,
+    ) -> Option<()> {
+        let mut words: Words = line.split_whitespace();
+        match words.next()? {
+            "ids" => ids::answer(alloc, out, &mut words),
+            "hash" => hashes::answer(alloc, out, &mut words),
+            "json" => documents::answer(alloc, out, &mut words),
+            "varint" => varints::answer(alloc, out, &mut words),
+            "directory" => directories::answer(alloc, out, &mut words),
+            "header" => headers::answer(alloc, out, &mut words),
+            "label" => labels::answer(alloc, out, &mut words),
+            "medium" => media::answer(alloc, out, &mut self.medium, &mut words),
+            _ => backends::answer(rt, alloc, out, self, line),
+        }
     }
 }
 
 fn main(rt: HostRuntime) -> io::Result<()> {
-    let alloc = rt.alloc();
-    let mut kept = Kept::new(alloc);
-    for line in rt.lines(alloc) {
-        let line = line?;
-        let mut out = String::new(alloc);
-        if answer(&rt, alloc, &mut out, &mut kept, line.as_str()).is_none() {
-            out.push_str("refused")?;
-        }
-        println!(rt; "{line} = {out}")?;
-    }
-    Ok(())
+    let mut kept = Kept::new(rt.alloc());
+    run(&rt, &mut kept)
 }

@@ -3,7 +3,7 @@ use bytes::Bytes;
 use pm_format::{
     Backend, BackendResponse, BytesBackend, FileBackend, FileMedium, Medium, MemMedium, ReadFault,
 };
-use rows_shared::{Words, bytes, number, say, say_bytes, texts};
+use rows_shared::{Words, bytes, number, said, say, say_bytes, texts};
 use std::alloc::Global;
 
 // What is kept from line to line.
@@ -53,7 +53,7 @@ fn write(alloc: Global, out: &mut String, medium: &mut MemMedium, words: &mut Wo
     if offset > medium.as_bytes().len() as u64 {
         return None;
     }
-    say(out, &medium.write_at(offset, piece.as_slice()))
+    said(out, medium.write_at(offset, piece.as_slice()))
 }
 
 fn held(alloc: Global, out: &mut String, medium: &MemMedium) -> Option<()> {
@@ -100,7 +100,7 @@ pub fn exact<B: Backend>(
 }
 
 pub fn len<M: Medium>(out: &mut String, medium: &mut M) -> Option<()> {
-    say(out, &medium.len())
+    said(out, medium.len())
 }
 
 pub fn answer(

@@ -1,6 +1,6 @@
 // Calls of the varints of pm_format.
 use pm_format::{read_varint_u32, read_varint_u64, write_varint};
-use rows_shared::{Words, bytes, number, say, say_bytes};
+use rows_shared::{Words, bytes, number, said, say_bytes};
 use std::alloc::Global;
 
 fn write(alloc: Global, out: &mut String, words: &mut Words) -> Option<()> {
@@ -15,7 +15,7 @@ fn read_u64(alloc: Global, out: &mut String, words: &mut Words) -> Option<()> {
     if at > input.len() {
         return None;
     }
-    say(out, &read_varint_u64(input.as_slice(), at))
+    said(out, read_varint_u64(input.as_slice(), at))
 }
 
 fn read_u32(alloc: Global, out: &mut String, words: &mut Words) -> Option<()> {
@@ -24,7 +24,7 @@ fn read_u32(alloc: Global, out: &mut String, words: &mut Words) -> Option<()> {
     if at > input.len() {
         return None;
     }
-    say(out, &read_varint_u32(input.as_slice(), at))
+    said(out, read_varint_u32(input.as_slice(), at))
 }
 
 pub fn answer(alloc: Global, out: &mut String, words: &mut Words) -> Option<()> {
