@@ -1,19 +1,18 @@
 -- Parts and adds in intervals, and how many they are.
-use Rattle.std.proofs.Common.{◌≡◌, ◌∙◌, ◌+◌, ◌-◌, ◌≤◌, ◌<◌, ℕ, zero, suc, Bool, true, false, ◌&&◌, ◌||◌, nat_le, nat_eq, max, min, cond, if◌then◌else◌, List, [], ◌∷◌, ◌++◌, length, Option, None, Some, IfSome, is_some, Result, Ok, Err, refl, ap, sym, subst, arith}
+use Rattle.std.proofs.Common.{◌≡◌, ◌∙◌, ◌+◌, ◌-◌, ◌≤◌, ◌<◌, ℕ, zero, suc, Bool, true, false, ◌||◌, nat_le, nat_eq, max, min, cond, if◌then◌else◌, List, [], ◌∷◌, ◌++◌, length, Option, None, Some, IfSome, is_some, Ok, Err, refl, ap, sym, subst, arith}
 use Rattle.std.proofs.lemmas.Bool.{and_from}
 use Rattle.std.proofs.lemmas.Bool.Decides.{nat_tests}
-use Rattle.std.proofs.lemmas.List.{append-nil, length-append}
+use Rattle.std.proofs.lemmas.List.{length-append}
 use Rattle.std.specs.FinMap.{find}
 use Rattle.std.specs.List.{range_with_len}
 use Rattle.std.specs.Ordering.{eq_by_cmp, nat_cmp}
 use Rattle.pm_format.specs.Directory.{Entry, entry}
 use Rattle.pm_format.specs.Options.{Options}
 use Rattle.pm_writer.specs.Writing.{add_to}
-use Rattle.tile_extract.specs.Collecting.{AllLieIn, Collects, KeepsTo, LiesIn, room_after}
+use Rattle.tile_extract.specs.Collecting.{AllLieIn, Collects, KeepsTo}
 use Rattle.tile_extract.specs.Cut.{in_intervals, lies_in}
 use Rattle.tile_extract.specs.Parts.{clip, clip_all, parts_of, tile_count}
 use Rattle.tile_extract.specs.Written.{Adds, AddsLieIn, ByRoom, PutsAll, has_room}
-use Rattle.tile_extract.specs.declared.error.ExtractError.{ExtractError}
 use Rattle.tile_extract.specs.declared.error.ExtractError.TheVariants.{IndexEntryOverflow}
 use Rattle.tile_extract.specs.declared.parts.Collected.{Collected}
 use Rattle.tile_extract.proofs.AddedLemmas.{ok_is}
