@@ -146,9 +146,6 @@ lines_open (Some b) again versions before now s o same is q =
 
 -- The words and the input.
 
-pub for_none : (words : Option ServeLimits) → words ≡ None → IsFor words Usage
-for_none words q = let P : Option ServeLimits → Type 0 = λ x. IsFor x Usage in subst P (sym q) tt
-
 for_by : (l : ServeLimits) (o : ServeOutcome) → (o ≡ Usage → ⊥) → IsFor (Some l) o
 for_by l Usage not = not refl
 for_by l Done not = tt
@@ -298,6 +295,3 @@ pub writes_input : (words : Option ServeLimits) (limits : ServeLimits) (told lef
 writes_input words limits told left behind texts start now bytes old new o is lost end q =
     let P : Option ServeLimits → Type 0 = λ w. WritesAsked w told texts start now left old new o in
     subst P (sym is) (told_input told left behind limits texts start now bytes old new o lost end q)
-
-pub writes_unasked : (words : Option ServeLimits) (told left : Option (List ℕ)) (texts : Texts) (start now : ℕ) (old new : Held) (o : ServeOutcome) → words ≡ None → WritesAsked words told texts start now left old new o
-writes_unasked words told left texts start now old new o is = let P : Option ServeLimits → Type 0 = λ w. WritesAsked w told texts start now left old new o in subst P (sym is) tt
