@@ -76,6 +76,12 @@ def tests(base, patch, force):
                 raise Refused(f'IdCollision {{ id: {text(ids[cell])} }}')
 
 
+def order(cell):
+    """The place of a cell among others: nothing, numbers, texts, bytes, other values."""
+    kind, value = cell[0], cell[1:]
+    return {'n': (0,), 'i': (1, int(value) if kind == 'i' else 0), 't': (2, value.encode()), 'x': (3, bytes.fromhex(value) if kind == 'x' else b''), 'o': (4,)}[kind]
+
+
 def put_row(rows, width, order, cells):
     """One row in place of those of its key."""
     rows[:] = [r for r in rows if list(r[:width]) != list(cells[:width])]

@@ -6,9 +6,11 @@ import random
 import sys
 
 import check_rows
+import database_cases
 import edit_cases
 import patch_cases
 import shown
+from patch_rows import order
 from rows import Rows, flag, option
 
 ROWS = Rows('set_rows')
@@ -231,11 +233,6 @@ def show(cell):
 
 def show_row(cells):
     return f"Row {{ cells: [{', '.join(map(show, cells))}] }}"
-
-
-def order(cell):
-    kind, value = cell[0], cell[1:]
-    return {'n': (0,), 'i': (1, int(value) if kind == 'i' else 0), 't': (2, value.encode()), 'x': (3, bytes.fromhex(value) if kind == 'x' else b''), 'o': (4,)}[kind]
 
 
 def size(cell):
@@ -610,6 +607,7 @@ def main():
     patch_cases.write(sys.modules[__name__])
     edit_cases.write(sys.modules[__name__])
     check_rows.write(sys.modules[__name__])
+    database_cases.write(sys.modules[__name__])
     ROWS.write()
 
 

@@ -5,10 +5,9 @@ use mb_check::{
     get_agg_tiles_hash, get_hash_algorithm, summary, update_agg_tiles_hash, validate,
     validate_diff_info,
 };
-use mb_store::{MbtResult, MemStore};
-use rows_shared::{Words, say, say_text};
+use mb_store::MemStore;
+use rows_shared::{Words, said, say, say_text};
 use std::alloc::Global;
-use std::fmt::Debug;
 use tile_hash::HashAlgorithm;
 
 // What a validation does with the hash, by its word.
@@ -20,11 +19,6 @@ fn hash_type(words: &mut Words) -> Option<AggHashType> {
         "default" => Some(AggHashType::default()),
         _ => None,
     }
-}
-
-// Appends an answer, which ends here.
-fn said<T: Debug + Drop>(out: &mut String, answer: MbtResult<T>) -> Option<()> {
-    say(out, &answer)
 }
 
 // The hash by an algorithm that is named.
@@ -62,10 +56,14 @@ fn say_info(out: &mut String, info: &PatchFileInfo) -> Option<()> {
     say_tests(out, info, true)
 }
 
+fn said_info(out: &mut String, info: PatchFileInfo) -> Option<()> {
+    say_info(out, &info)
+}
+
 fn examined(alloc: Global, out: &mut String, store: &mut MemStore) -> Option<()> {
     match examine_diff(alloc, store) {
-        Ok(info) => say_info(out, &info),
-        Err(error) => say(out, &error),
+        Ok(info) => said_info(out, info),
+        Err(error) => said(out, error),
     }
 }
 
@@ -81,10 +79,14 @@ fn say_summary(out: &mut String, summary: &Summary) -> Option<()> {
     say(out, &summary.zoom_info.as_slice())
 }
 
+fn said_summary(out: &mut String, summary: Summary) -> Option<()> {
+    say_summary(out, &summary)
+}
+
 fn summarized(alloc: Global, out: &mut String, store: &mut MemStore) -> Option<()> {
     match summary(alloc, store) {
-        Ok(summary) => say_summary(out, &summary),
-        Err(error) => say(out, &error),
+        Ok(summary) => said_summary(out, summary),
+        Err(error) => said(out, error),
     }
 }
 

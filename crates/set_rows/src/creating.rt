@@ -7,7 +7,7 @@ use mb_store::{
     create_tiles_with_hash_view, init_mbtiles_schema,
 };
 use mb_tables::{MbtResult, TableDesc};
-use rows_shared::{Words, say};
+use rows_shared::{Words, said, say};
 use std::alloc::Global;
 
 fn create<S: TileStore>(alloc: Global, store: &mut S, words: &mut Words) -> Option<MbtResult<()>> {
@@ -31,7 +31,7 @@ pub fn answer(
     store: &mut MemStore,
     words: &mut Words,
 ) -> Option<()> {
-    say(out, &create(alloc, store, words)?)?;
+    said(out, create(alloc, store, words)?)?;
     let tables = store.describe(alloc).ok()?;
     say(out, &tables.len())?;
     say_layout(out, tables.as_slice())?;
@@ -45,5 +45,5 @@ pub fn describe(
     store: &mut MemStore,
     tables: &[TableDesc],
 ) -> Option<()> {
-    say(out, &store.create(alloc, tables))
+    said(out, store.create(alloc, tables))
 }

@@ -9,7 +9,7 @@ use crate::words::owned;
 use mb_load::{Loaded, load};
 use mb_store::{Changes, MemStore, TileStore};
 use mb_tables::{Cell, TableDesc};
-use rows_shared::{Words, number, say};
+use rows_shared::{Words, number, said, say};
 use std::alloc::Global;
 use tile_ids::TileCoord;
 
@@ -80,22 +80,33 @@ fn commit(alloc: Global, out: &mut String, store: &mut MemStore, changes: &Chang
     if !are_described(tables.as_slice(), changes) {
         return None;
     }
-    say(out, &store.commit(alloc, changes))
+    said(out, store.commit(alloc, changes))
 }
 
-// As many edits as the first word says: the set after them, how many changes they make, and the commit.
+// The set after as many edits as the first word says.
+fn edited(alloc: Global, store: &mut MemStore, words: &mut Words) -> Option<Loaded> {
+    let mut set = load(alloc, store).ok()?;
+    for _ in 0..number::<u8>(words)? {
+        edit(alloc, &mut set, words)?;
+    }
+    Some(set)
+}
+
+// The set, and the changes that it makes.
+fn changes_said(alloc: Global, out: &mut String, set: Loaded) -> Option<Changes> {
+    say_set(out, &set)?;
+    set.changes(alloc).ok()
+}
+
+// The set after its edits, how many changes they make, and the commit.
 pub fn answer(
     alloc: Global,
     out: &mut String,
     store: &mut MemStore,
     words: &mut Words,
 ) -> Option<()> {
-    let mut set = load(alloc, store).ok()?;
-    for _ in 0..number::<u8>(words)? {
-        edit(alloc, &mut set, words)?;
-    }
-    say_set(out, &set)?;
-    let changes = set.changes(alloc).ok()?;
+    let set = edited(alloc, store, words)?;
+    let changes = changes_said(alloc, out, set)?;
     say(out, &changes.len())?;
     commit(alloc, out, store, &changes)
 }

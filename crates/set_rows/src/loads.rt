@@ -1,7 +1,7 @@
 // Loading of the store that is kept.
 use mb_load::{Loaded, load};
 use mb_store::{MbtResult, MemStore};
-use rows_shared::say;
+use rows_shared::{said, say};
 use std::alloc::Global;
 use std::fmt::Write;
 
@@ -34,10 +34,18 @@ pub fn say_set(out: &mut String, set: &Loaded) -> Option<()> {
     say_names(out, set)
 }
 
-pub fn answer(alloc: Global, out: &mut String, store: &mut MemStore) -> Option<()> {
-    let loaded: MbtResult<Loaded> = load(alloc, store);
+fn said_set(out: &mut String, set: Loaded) -> Option<()> {
+    say_set(out, &set)
+}
+
+// The set, or the error in its place.
+pub fn said_loaded(out: &mut String, loaded: MbtResult<Loaded>) -> Option<()> {
     match loaded {
-        Ok(set) => say_set(out, &set),
-        Err(error) => say(out, &error),
+        Ok(set) => said_set(out, set),
+        Err(error) => said(out, error),
     }
+}
+
+pub fn answer(alloc: Global, out: &mut String, store: &mut MemStore) -> Option<()> {
+    said_loaded(out, load(alloc, store))
 }

@@ -5,6 +5,7 @@ mod cells;
 mod changes;
 mod checks;
 mod creating;
+mod databases;
 mod described;
 mod edits;
 mod labels;
@@ -14,9 +15,10 @@ mod stores;
 mod tables;
 mod words;
 
+use databases::Database;
 use mb_store::MemStore;
 use mb_tables::TableDesc;
-use rows_shared::Words;
+use rows_shared::{Rows, Words, run};
 use std::alloc::Global;
 use std::io;
 
@@ -26,23 +28,32 @@ struct Kept {
     base: MemStore,
     store: MemStore,
     tables: Vec<TableDesc>,
+    database: Database,
 }
 
-// Appends the answer of a call, or fails where no handler takes the line.
-fn answer(alloc: Global, out: &mut String, kept: &mut Kept, line: &str) -> Option<()> {
-    let mut words: Words = line.split_whitespace();
-    match words.next()? {
-        "store" => stores::answer(alloc, out, &mut kept.store, &mut words),
-        "changes" => changes::answer(alloc, out, &mut words),
-        "create" => creating::answer(alloc, out, &mut kept.store, &mut words),
-        "table" => tables::answer(alloc, out, &mut kept.tables, &mut words),
-        "describe" => creating::describe(alloc, out, &mut kept.store, kept.tables.as_slice()),
-        "load" => loads::answer(alloc, out, &mut kept.store),
-        "edit" => edits::answer(alloc, out, &mut kept.store, &mut words),
-        "check" => checks::answer(alloc, out, &mut kept.store, &mut words),
-        "patch" => patches::answer(alloc, out, &mut kept.base, &mut kept.store, &mut words),
-        "label" => labels::answer(out, &mut words),
-        _ => None,
+impl Rows for Kept {
+    fn answer(
+        &mut self,
+        _rt: &HostRuntime,
+        alloc: Global,
+        out: &mut String,
+        line: &str,
+    ) -> Option<()> {
+        let mut words: Words = line.split_whitespace();
+        match words.next()? {
+            "store" => stores::answer(alloc, out, &mut self.store, &mut words),
+            "changes" => changes::answer(alloc, out, &mut words),
+            "create" => creating::answer(alloc, out, &mut self.store, &mut words),
+            "table" => tables::answer(alloc, out, &mut self.tables, &mut words),
+            "describe" => creating::describe(alloc, out, &mut self.store, self.tables.as_slice()),
+            "load" => loads::answer(alloc, out, &mut self.store),
+            "edit" => edits::answer(alloc, out, &mut self.store, &mut words),
+            "check" => checks::answer(alloc, out, &mut self.store, &mut words),
+            "patch" => patches::answer(alloc, out, &mut self.base, &mut self.store, &mut words),
+            "label" => labels::answer(out, &mut words),
+            "database" => databases::answer(alloc, out, &mut self.database, &mut words),
+            _ => None,
+        }
     }
 }
 
@@ -52,14 +63,7 @@ fn main(rt: HostRuntime) -> io::Result<()> {
         base: MemStore::new(alloc),
         store: MemStore::new(alloc),
         tables: Vec::new(alloc),
+        database: None,
     };
-    for line in rt.lines(alloc) {
-        let line = line?;
-        let mut out = String::new(alloc);
-        if answer(alloc, &mut out, &mut kept, line.as_str()).is_none() {
-            out.push_str("refused")?;
-        }
-        println!(rt; "{line} = {out}")?;
-    }
-    Ok(())
+    run(&rt, &mut kept)
 }

@@ -1,9 +1,9 @@
 // Patches of a second store that is kept beside the store.
-use crate::loads::say_set;
+use crate::loads::said_loaded;
 use mb_edit::{apply_patch, patch_loaded};
-use mb_load::load;
-use mb_store::MemStore;
-use rows_shared::{Words, say};
+use mb_load::{Loaded, load};
+use mb_store::{MbtResult, MemStore};
+use rows_shared::{Words, said};
 use std::alloc::Global;
 use std::mem::swap;
 
@@ -25,10 +25,21 @@ fn apply(
     words: &mut Words,
 ) -> Option<()> {
     let force = forced(words)?;
-    say(out, &apply_patch(alloc, base, store, force))
+    said(out, apply_patch(alloc, base, store, force))
 }
 
 // The base as it was loaded, after the store as a patch.
+fn patch_of(
+    alloc: Global,
+    base: &mut MemStore,
+    store: &mut MemStore,
+    force: bool,
+) -> Option<MbtResult<Loaded>> {
+    let set = load(alloc, base).ok()?;
+    let patch = load(alloc, store).ok()?;
+    Some(patch_loaded(alloc, set, &patch, force))
+}
+
 fn patched(
     alloc: Global,
     out: &mut String,
@@ -37,12 +48,7 @@ fn patched(
     words: &mut Words,
 ) -> Option<()> {
     let force = forced(words)?;
-    let set = load(alloc, base).ok()?;
-    let patch = load(alloc, store).ok()?;
-    match patch_loaded(alloc, set, &patch, force) {
-        Ok(set) => say_set(out, &set),
-        Err(error) => say(out, &error),
-    }
+    said_loaded(out, patch_of(alloc, base, store, force)?)
 }
 
 pub fn answer(

@@ -3,7 +3,7 @@ use crate::cells::{key, row, table};
 use crate::changes::{changes_of, is_table};
 use crate::labels::layout;
 use mb_store::{MemStore, TileStore, is_empty_database};
-use rows_shared::{Words, number, say};
+use rows_shared::{Words, number, said};
 use std::alloc::Global;
 
 // Asks for the descriptions first.
@@ -14,14 +14,19 @@ fn push(alloc: Global, out: &mut String, store: &mut MemStore, words: &mut Words
     if !is_table(tables.as_slice(), table) || row.cells().len() != table.width() {
         return None;
     }
-    say(out, &store.push_row(table, row))
+    said(out, store.push_row(table, row))
 }
 
 // All changes of a line at once. Asks for the descriptions first.
-fn commit(alloc: Global, out: &mut String, store: &mut MemStore, words: &mut Words) -> Option<()> {
+pub fn commit<S: TileStore>(
+    alloc: Global,
+    out: &mut String,
+    store: &mut S,
+    words: &mut Words,
+) -> Option<()> {
     let tables = store.describe(alloc).ok()?;
     let changes = changes_of(alloc, tables.as_slice(), words)?;
-    say(out, &store.commit(alloc, &changes))
+    said(out, store.commit(alloc, &changes))
 }
 
 fn rows<S: TileStore>(
@@ -30,9 +35,9 @@ fn rows<S: TileStore>(
     store: &mut S,
     words: &mut Words,
 ) -> Option<()> {
-    say(
+    said(
         out,
-        &store.rows(alloc, table(words)?, number(words)?, number(words)?),
+        store.rows(alloc, table(words)?, number(words)?, number(words)?),
     )
 }
 
@@ -44,7 +49,7 @@ fn find<S: TileStore>(
 ) -> Option<()> {
     let table = table(words)?;
     let key = key(alloc, words)?;
-    say(out, &store.find(alloc, table, &key))
+    said(out, store.find(alloc, table, &key))
 }
 
 fn fail(alloc: Global, store: &mut MemStore, words: &mut Words) -> Option<()> {
@@ -65,7 +70,8 @@ fn new(alloc: Global, store: &mut MemStore, words: &mut Words) -> Option<()> {
     Some(())
 }
 
-fn told<S: TileStore>(
+// What a store tells.
+pub fn told<S: TileStore>(
     alloc: Global,
     out: &mut String,
     store: &mut S,
@@ -75,10 +81,10 @@ fn told<S: TileStore>(
     match call {
         "rows" => rows(alloc, out, store, words),
         "find" => find(alloc, out, store, words),
-        "count" => say(out, &store.count_rows(table(words)?)),
-        "live" => say(out, &store.live_size()),
-        "describe" => say(out, &store.describe(alloc)),
-        "empty" => say(out, &is_empty_database(alloc, store)),
+        "count" => said(out, store.count_rows(table(words)?)),
+        "live" => said(out, store.live_size()),
+        "describe" => said(out, store.describe(alloc)),
+        "empty" => said(out, is_empty_database(alloc, store)),
         _ => None,
     }
 }

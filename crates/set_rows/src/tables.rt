@@ -48,18 +48,23 @@ fn kind(word: &str) -> Option<TableKind> {
     }
 }
 
-fn add(alloc: Global, tables: &mut Vec<TableDesc>, words: &mut Words) -> Option<()> {
-    let name = owned(alloc, words.next()?)?;
-    let kind = kind(words.next()?)?;
-    let columns = columns(alloc, words.next()?)?;
-    let indexes = indexes(alloc, words.next()?)?;
-    let table = TableDesc {
-        name,
-        kind,
-        columns,
-        indexes,
-    };
+fn table_of(alloc: Global, words: &mut Words) -> Option<TableDesc> {
+    Some(TableDesc {
+        name: owned(alloc, words.next()?)?,
+        kind: kind(words.next()?)?,
+        columns: columns(alloc, words.next()?)?,
+        indexes: indexes(alloc, words.next()?)?,
+    })
+}
+
+// Adds a copy of a description.
+fn push_copy(alloc: Global, tables: &mut Vec<TableDesc>, table: &TableDesc) -> Option<()> {
     tables.push(table.try_clone(alloc).ok()?).ok()
+}
+
+fn add(alloc: Global, tables: &mut Vec<TableDesc>, words: &mut Words) -> Option<()> {
+    let table = table_of(alloc, words)?;
+    push_copy(alloc, tables, &table)
 }
 
 pub fn answer(
