@@ -4,7 +4,7 @@ import random
 import sqlite3
 
 PLACE = 'zoom_level = ? AND tile_column = ? AND tile_row = ?'
-KEYS = {'images': 'tile_id = ?', 'tiles_data': 'tile_data_id = ?', 'metadata': 'name = ?'}
+KEYS = {'images': 'tile_id = ? COLLATE BINARY', 'tiles_data': 'tile_data_id = ?', 'metadata': 'name = ? COLLATE BINARY'}
 WORDS = {'images': 'text', 'tiles_data': 'number', 'metadata': 'text'}
 
 
@@ -41,7 +41,7 @@ class Database:
 
     def make(self):
         """Makes the tables that aren't there."""
-        there = [name.decode() for name, in self.base.execute('SELECT lower(name) FROM sqlite_master')]
+        there = [name.decode() for name, in self.base.execute("SELECT lower(name) FROM sqlite_master WHERE type IN ('table', 'view')")]
         for name in self.names():
             columns = self.rows.TABLES[name]
             if name not in there:
@@ -49,11 +49,17 @@ class Database:
                 self.base.execute(f"CREATE TABLE {name} ({', '.join(map(' '.join, columns))}, UNIQUE ({key}))")
 
     def call(self, words, answer):
-        """A line of a call that only reads. It is a fault within a transaction."""
-        if self.base.in_transaction:
+        """A line of a call that only reads. It is a fault within a transaction, and where a table can't be made."""
+        try:
+            if self.base.in_transaction:
+                raise sqlite3.Error
+            self.make()
+        except sqlite3.Error:
             return self.rows.row('database ' + words, 'Err(Fault)')
-        self.make()
-        self.rows.row('database ' + words, f'Ok({answer()})')
+        try:
+            self.rows.row('database ' + words, f'Ok({answer()})')
+        except sqlite3.Error:
+            self.rows.row('database ' + words, 'Err(Fault)')
 
     def asked(self, name, rest, values):
         columns = [column for column, _ in self.rows.TABLES[name]]
@@ -73,6 +79,12 @@ class Database:
         assert '~' not in text
         self.rows.row(f"database run {self.layout} {text.replace(' ', '~')}", answer)
 
+    def rises(self, name, most):
+        """Whether so many rows from the first on, and one more, have numbers that rise. A column of the name hides SQLite's."""
+        found = self.base.execute(f'SELECT typeof(rowid), rowid FROM {name} ORDER BY rowid LIMIT ?', [min(most, 2 ** 63 - 2) + 1]).fetchall()
+        numbers = [number for kind, number in found if kind == b'integer']
+        return len(numbers) == len(found) and all(a < b for a, b in zip(numbers, numbers[1:]))
+
     def count(self, name):
         self.call('count ' + name, lambda: self.base.execute(f'SELECT count(*) FROM {name}').fetchone()[0] if name in self.names() else 0)
 
@@ -81,6 +93,8 @@ class Database:
             if name not in self.names():
                 return '[]'
             most = 2 ** 63 - 1
+            if limit and not self.rises(name, first + limit):
+                raise sqlite3.Error
             return '[' + ', '.join(self.asked(name, 'ORDER BY rowid LIMIT ? OFFSET ?', [min(limit, most), min(first, most)])[0]) + ']'
         self.call(f'rows {name} {first} {limit}', answer)
 
@@ -93,7 +107,11 @@ class Database:
         self.call(f'find {name} {words}', answer)
 
     def live(self):
-        self.call('live', lambda: sum(self.rows.size(cell) for name in self.names() for row in self.asked(name, '', [])[1] for cell in row))
+        def answer():
+            if not all(self.rises(name, 2 ** 63) for name in self.names()):
+                raise sqlite3.Error
+            return sum(self.rows.size(cell) for name in self.names() for row in self.asked(name, '', [])[1] for cell in row)
+        self.call('live', answer)
 
     def describe(self):
         self.call('describe', lambda: self.rows.debug(self.tables()))
@@ -204,6 +222,57 @@ def kinds(rows):
     base.live()
 
 
+HIDDEN = 'CREATE TABLE tiles (zoom_level INTEGER, tile_column INTEGER, tile_row INTEGER, tile_data BLOB, rowid)'
+
+
+def hidden_numbers(rows):
+    """Numbers that rise are read, whoever gave them. Others are a fault, also where two equal ones stand in two pages."""
+    for numbers in (9, -5, 0), (1, 1, 1), (1, 'NULL', 3), (1, "'x'", 3), (1, 2, 2), (1, 1.5, 2):
+        base = Database(rows, 'flat')
+        base.run(HIDDEN + ';INSERT INTO tiles VALUES ' + ', '.join(f'(1, {column}, 1, NULL, {number})' for column, number in enumerate(numbers)))
+        for first, limit in [(0, 1), (0, 2), (0, 9)] + ([(2, 2), (4, 2)] if numbers == (9, -5, 0) else []):
+            base.page('tiles', first, limit)
+        base.live()
+        base.count('tiles')
+
+
+def greatest_numbers(rows):
+    """The least and the greatest number that a row can have are read."""
+    base = Database(rows, 'flat')
+    base.run('CREATE TABLE tiles (zoom_level INTEGER, tile_column INTEGER, tile_row INTEGER, tile_data BLOB);'
+             'INSERT INTO tiles (rowid, zoom_level, tile_column, tile_row) VALUES (-9223372036854775807 - 1, 1, 1, 1), (0, 1, 2, 1), (9223372036854775807, 1, 3, 1)')
+    for first, limit in [(0, 2), (2, 2), (4, 2), (0, 2 ** 64 - 1)]:
+        base.page('tiles', first, limit)
+    base.live()
+
+
+def keys_by_bytes(rows):
+    """Texts are equal by their bytes, however the column compares them."""
+    for collation, stored, other in ('NOCASE', 'NAME', 'name'), ('RTRIM', 'n', 'N'):
+        base = Database(rows, 'flat')
+        base.run(f"CREATE TABLE metadata (name TEXT COLLATE {collation}, value);INSERT INTO metadata VALUES ('{stored}', 7)")
+        for name in other, stored:
+            base.find('metadata', 'text ' + name)
+        for name in other, stored:
+            base.commit(('metadata', 'text ' + name, None))
+            base.count('metadata')
+    base = Database(rows, 'normalized')
+    base.run("CREATE TABLE images (tile_id TEXT COLLATE NOCASE UNIQUE, tile_data BLOB);INSERT INTO images VALUES ('AB', x'01')")
+    base.commit(('images', 'text ab', None))
+    base.count('images')
+    base.find('images', 'text AB')
+
+
+def names_of_tables(rows):
+    """An index isn't a table of its name, and a table is found in any case of letters."""
+    base = Database(rows, 'flat')
+    base.run('CREATE TABLE METADATA (name, value)')
+    base.count('metadata')
+    base.run('CREATE TABLE other (x);DROP TABLE METADATA;CREATE INDEX metadata ON other (x)')
+    base.count('tiles')
+    base.live()
+
+
 def random_commits(rows):
     chance = random.Random(21)
     for layout in rows.LAYOUTS:
@@ -225,5 +294,5 @@ def random_commits(rows):
 
 
 def write(rows):
-    for cases in (one_row, pages, layouts, faults, kinds, random_commits):
+    for cases in (one_row, pages, layouts, faults, kinds, hidden_numbers, greatest_numbers, keys_by_bytes, names_of_tables, random_commits):
         cases(rows)

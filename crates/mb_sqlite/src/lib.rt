@@ -3,8 +3,6 @@
 
 mod calls;
 mod cursor;
-#[cfg(test)]
-mod database_tests;
 mod failure;
 pub mod laws;
 mod layout;
@@ -16,8 +14,6 @@ mod rows;
 mod sizing;
 mod statements;
 mod store;
-#[cfg(test)]
-mod tests;
 mod writing;
 
 pub use store::SqliteStore;
