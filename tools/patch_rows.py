@@ -1,4 +1,5 @@
-# What patches make of the tables of a set, by the rules of patches, for tools/set_rows.py.
+# What patches make of the tables of a set, by the rules of patches, for tools/set_rows.py and tools/base_cases.py.
+# tools/sets.py has these rules a second time, on sets that are loaded; tools/base_cases.py holds one against the other.
 import hashlib
 
 import shown

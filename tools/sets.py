@@ -1,4 +1,5 @@
 # What the tables of tile sets hold, and what patches make of them, by the rules of loading and patching, for tools/tileset_rows.py.
+# tools/patch_rows.py has the rules of patching a second time, on the rows of tables; tools/base_cases.py holds one against the other.
 #
 # A cell is None for null, a number, bytes, a Text, or OTHER for a value of another kind.
 import hashlib

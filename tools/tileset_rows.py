@@ -7,7 +7,8 @@ It writes crates/tileset_rows/stdin and stdout. No answer comes from the convert
 specification has it, archives by version 3 of that specification and the rules of docs/ARCHITECTURE.md, digests by hashlib.
 
 Ids and archives are laid out here a second time, apart from tools/pmtiles.py, and each archive is held against the one that is
-made there: an error in one of the two alone fails.
+made there: an error in one of the two alone fails. The same holds of sets: tools/sets.py loads and patches them as they are
+converted, tools/patch_rows.py works on the rows of the tables, and tools/base_cases.py holds one against the other.
 """
 import hashlib
 import os
@@ -16,6 +17,7 @@ import re
 import struct
 
 import pmtiles
+from base_cases import base_after, spelled as rows_of
 from scripts import LABELS, TYPES, defaults, parsed
 from set_scripts import bad_rows, four_ways, random_chains, refused_patches, refused_sets, removes_the_tile, verified_sets, worked_patches, worked_sets
 from sets import converted
@@ -427,6 +429,51 @@ def sets():
         run(script)
 
 
+def bases():
+    """What the base holds after a conversion over stores of its own: for chains of patches, collisions of ids, and refusals."""
+    for scripts in [worked_sets, worked_patches, refused_patches, four_ways]:
+        for script in scripts():
+            base(script)
+    for script in random_chains(24, 80):
+        base(script)
+
+
+def base(script):
+    given = parsed(script.encode())
+    if isinstance(given, int) or given.options["internal-compression"] != 1:
+        return
+    refusal, tables = base_after(given)
+    line = "0|" if refusal is None else "1|" + shown(b"refused: " + refusal, 4000)
+    case(["stores", escaped(script.encode())], f"{line}|{rows_of(tables, escaped)}")
+
+
+def many_tiles():
+    """Sets of more than 65,000 tiles through leaves of 16 entries and the directories above them, each tile with its column and its row as contents."""
+    for zoom, columns, rows, head, tail in [
+        (8, 256, 256, "option max-leaf-entries 16\nbase flat\n", "query 8 0 0\nquery 8 255 0\nquery 8 128 127\nquery 8 37 201\nquery 8 0 255\nquery 9 0 0\n"),
+        (9, 300, 230, "option max-leaf-entries 16\noption force\nbase flat\n",
+         "patch flat\nrow tiles i9 i0 i511 x70\nrow tiles i9 i299 i229 n\nrow tiles i9 i511 i0 x71\nquery 9 0 0\nquery 9 299 282\nquery 9 298 282\nquery 9 511 511\nquery 9 150 400\nquery 9 300 400\n"),
+    ]:
+        script = head + "".join(f"row tiles i{zoom} i{x} i{y} x{x:04x}{y:04x}\n" for x in range(columns) for y in range(rows)) + tail
+        fields = ["many", " ".join(FILE), escaped(head.encode()), str(zoom), str(columns), str(rows), escaped(tail.encode())]
+        case(fields, outcome(FILE, script.encode()))
+
+
+def on_file():
+    """A file in the folder that the program runs in: it is made, written and opened again, and refused where it holds something."""
+    held = {}
+    for path, script in [("made.pmtiles", ONE_TILE), ("made.pmtiles", NO_TILE), ("bad.pmtiles", "base flat flat"), ("bad.pmtiles", NO_TILE), ("none.pmtiles", "base none"),
+                         ("chain.pmtiles", removes_the_tile())]:
+        before = held.get(path, b"")
+        given = parsed(script.encode())
+        if not before and not isinstance(given, int):
+            state = converted(given.stores, False, False)
+            held[path] = b"" if isinstance(state, bytes) else report(given, state)[2]
+        status, line, output, *_ = outcome(["convert", "file", path], script.encode(), before).split("|")
+        whole = held.get(path, b"")
+        case(["file", path, escaped(script.encode())], f"{status}|{line}|{output}|{len(whole)}|{shown(whole, 64)}")
+
+
 def random_scripts(seed):
     """Scripts of a few rows, options and queries, and such scripts with one change."""
     rng = random.Random(seed)
@@ -484,6 +531,9 @@ def main():
     random_scripts(20)
     sets()
     many_rows()
+    bases()
+    many_tiles()
+    on_file()
     folder = os.path.join(os.path.dirname(os.path.abspath(__file__)), "..", "crates", "tileset_rows")
     for name, index in [("stdin", 0), ("stdout", 1)]:
         with open(os.path.join(folder, name), "w", encoding="ascii") as file:

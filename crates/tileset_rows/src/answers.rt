@@ -44,6 +44,11 @@ pub fn say_outcome(alloc: Global, out: &mut String, outcome: &Outcome) -> Option
     say_bytes(alloc, out, line.as_bytes(), 4000)
 }
 
+/// The same for an outcome that ends here.
+pub fn said_outcome(alloc: Global, out: &mut String, outcome: Outcome) -> Option<()> {
+    say_outcome(alloc, out, &outcome)
+}
+
 /// Appends the status and the line of an outcome that no case of a few bytes ends in.
 pub fn named(alloc: Global, out: &mut String, name: &str) -> Option<()> {
     let outcome = match name {
@@ -52,5 +57,5 @@ pub fn named(alloc: Global, out: &mut String, name: &str) -> Option<()> {
         "IndexEntryOverflow" => Outcome::Refused(ConvertError::IndexEntryOverflow),
         _ => return None,
     };
-    say_outcome(alloc, out, &outcome)
+    said_outcome(alloc, out, outcome)
 }

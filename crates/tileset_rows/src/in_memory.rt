@@ -94,6 +94,11 @@ fn failing_of(alloc: Global, field: &str) -> Option<Failing> {
     Some(failing)
 }
 
+/// Appends how a run ended, what it wrote, and what the medium holds.
+pub fn said_ended(alloc: Global, out: &mut String, ended: Ended) -> Option<()> {
+    say_ended(alloc, out, &ended)
+}
+
 fn say_ended(alloc: Global, out: &mut String, ended: &Ended) -> Option<()> {
     say_outcome(alloc, out, &ended.outcome)?;
     say(out, "|")?;
@@ -103,16 +108,19 @@ fn say_ended(alloc: Global, out: &mut String, ended: &Ended) -> Option<()> {
     say_bytes(alloc, out, ended.medium.as_bytes(), 64)
 }
 
-/// A case of words, a script, calls that fail and what the medium holds at first.
-pub fn answer(alloc: Global, out: &mut String, fields: &mut Fields) -> Option<()> {
+fn ended_of(alloc: Global, fields: &mut Fields) -> Option<Ended> {
     let words = words_of(alloc, fields.next())?;
     let script = bytes_of(alloc, fields.next())?;
     let calls = fields.next();
     let held = hex::decode(alloc, fields.next()).ok()?;
-    let ended = if calls.is_empty() && held.is_empty() {
-        run_calm(alloc, &words, script)
-    } else {
-        run_failing(alloc, &words, script, failing_of(alloc, calls)?, held)
-    };
-    say_ended(alloc, out, &ended)
+    if calls.is_empty() && held.is_empty() {
+        return Some(run_calm(alloc, &words, script));
+    }
+    let failing = failing_of(alloc, calls)?;
+    Some(run_failing(alloc, &words, script, failing, held))
+}
+
+/// A case of words, a script, calls that fail and what the medium holds at first.
+pub fn answer(alloc: Global, out: &mut String, fields: &mut Fields) -> Option<()> {
+    said_ended(alloc, out, ended_of(alloc, fields)?)
 }

@@ -8,40 +8,65 @@ mod answers;
 mod counted;
 mod fields;
 mod in_memory;
+mod many;
+mod on_file;
 mod other;
 mod running;
 mod short_medium;
 mod single_bytes;
+mod stores;
 
 use fields::Fields;
+use rows_shared::{Rows, run};
 use std::alloc::Global;
 use std::io;
 
-// Appends what a case ends in, or fails where its line is none.
-fn answer(alloc: Global, out: &mut String, line: &str) -> Option<()> {
-    let mut fields = Fields::new(line);
-    match fields.next() {
-        "run" => in_memory::answer(alloc, out, &mut fields),
-        "each" => counted::each(alloc, out, &mut fields),
-        "reads" => counted::reads(alloc, out, &mut fields),
-        "short" => other::short(alloc, out, &mut fields),
-        "single" => other::single(alloc, out, &mut fields),
-        "streams" => other::streams(alloc, out, &mut fields),
-        "versions" => other::versions(alloc, out, &mut fields),
+fn other_case(
+    rt: &HostRuntime,
+    alloc: Global,
+    out: &mut String,
+    fields: &mut Fields,
+    call: &str,
+) -> Option<()> {
+    match call {
+        "stores" => stores::answer(alloc, out, fields),
+        "many" => many::answer(alloc, out, fields),
+        "file" => on_file::answer(rt, alloc, out, fields),
         "outcome" => answers::named(alloc, out, fields.next()),
         _ => None,
     }
 }
 
-fn main(rt: HostRuntime) -> io::Result<()> {
-    let alloc = rt.alloc();
-    for line in rt.lines(alloc) {
-        let line = line?;
-        let mut out = String::new(alloc);
-        if answer(alloc, &mut out, line.as_str()).is_none() {
-            out.push_str("no case")?;
+// The cases. Nothing is kept from line to line.
+#[derive(Drop)]
+struct Cases;
+
+impl Rows for Cases {
+    fn answer(
+        &mut self,
+        rt: &HostRuntime,
+        alloc: Global,
+        out: &mut String,
+        line: &str,
+    ) -> Option<()> {
+        let mut fields = Fields::new(line);
+        match fields.next() {
+            "run" => in_memory::answer(alloc, out, &mut fields),
+            "each" => counted::each(alloc, out, &mut fields),
+            "reads" => counted::reads(alloc, out, &mut fields),
+            "short" => other::short(alloc, out, &mut fields),
+            "single" => other::single(alloc, out, &mut fields),
+            "streams" => other::streams(alloc, out, &mut fields),
+            "versions" => other::versions(alloc, out, &mut fields),
+            call => other_case(rt, alloc, out, &mut fields, call),
         }
-        println!(rt; "{out}")?;
     }
-    Ok(())
+
+    fn shows_lines(&self) -> bool {
+        false
+    }
+}
+
+fn main(rt: HostRuntime) -> io::Result<()> {
+    run(&rt, &mut Cases)
 }

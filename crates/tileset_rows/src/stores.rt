@@ -1,0 +1,109 @@
+// A conversion over stores of its own, after which the base is shown.
+use crate::answers::{said_outcome, say, say_bytes};
+use crate::fields::{Fields, bytes_of};
+use mb_store::{Row, TileStore};
+use mb_tables::{Cell, TableName};
+use pm_format::{Medium, MemMedium};
+use std::alloc::Global;
+use std::fmt::Write;
+use tile_bridge::{ConvertOptions, convert};
+use tile_ids::TileCoord;
+use tileset::{MAX_INPUT, Outcome};
+use tileset_script::{ParsedScript, parse_script};
+
+const TABLES: [TableName; 8] = [
+    TableName::Tiles,
+    TableName::TilesWithHash,
+    TableName::Map,
+    TableName::Images,
+    TableName::TilesShallow,
+    TableName::TilesData,
+    TableName::TileCache,
+    TableName::Metadata,
+];
+
+fn say_blob(alloc: Global, out: &mut String, bytes: &[u8]) -> Option<()> {
+    let digits = hex::encode(alloc, bytes).ok()?;
+    write!(out, " x{digits}").ok()
+}
+
+fn say_cell(alloc: Global, out: &mut String, cell: &Cell) -> Option<()> {
+    match cell {
+        Cell::Null => say(out, " n"),
+        Cell::Other => say(out, " o"),
+        Cell::Int(number) => write!(out, " i{number}").ok(),
+        Cell::Text(text) => {
+            say(out, " t")?;
+            say_bytes(alloc, out, text.as_str().as_bytes(), 4000)
+        }
+        Cell::Blob(blob) => say_blob(alloc, out, blob.as_bytes()),
+    }
+}
+
+fn say_row(alloc: Global, out: &mut String, name: &str, row: &Row) -> Option<()> {
+    say(out, name)?;
+    for cell in row.cells() {
+        say_cell(alloc, out, cell)?;
+    }
+    say(out, "; ")
+}
+
+fn say_rows<S: TileStore>(
+    alloc: Global,
+    out: &mut String,
+    store: &mut S,
+    table: TableName,
+) -> Option<()> {
+    let rows = store.rows(alloc, table, 0, u64::MAX).ok()?;
+    for row in &rows {
+        say_row(alloc, out, table.name(), row)?;
+    }
+    Some(())
+}
+
+fn say_store<S: TileStore>(alloc: Global, out: &mut String, store: &mut S) -> Option<()> {
+    for table in TABLES {
+        say_rows(alloc, out, store, table)?;
+    }
+    Some(())
+}
+
+// `tile_bridge::convert` with nothing said of it.
+fn converted<S: TileStore, P: TileStore, M: Medium>(
+    alloc: Global,
+    base: &mut S,
+    patches: &mut Vec<P>,
+    coords: &[TileCoord],
+    options: &ConvertOptions,
+    medium: &mut M,
+) -> Outcome {
+    match convert(alloc, base, patches, coords, options, medium) {
+        Ok(_) => Outcome::Done,
+        Err(error) => Outcome::Refused(error),
+    }
+}
+
+fn shown(alloc: Global, out: &mut String, script: ParsedScript) -> Option<()> {
+    let mut script = script;
+    let mut medium = MemMedium::new(alloc);
+    let outcome = converted(
+        alloc,
+        &mut script.base,
+        &mut script.patches,
+        &script.queries,
+        &script.options,
+        &mut medium,
+    );
+    said_outcome(alloc, out, outcome)?;
+    say(out, "|")?;
+    say_store(alloc, out, &mut script.base)
+}
+
+/// A case of a script: how its conversion ends, and what the tables of the base then hold.
+pub fn answer(alloc: Global, out: &mut String, fields: &mut Fields) -> Option<()> {
+    let script = bytes_of(alloc, fields.next())?;
+    if script.len() > MAX_INPUT {
+        return None;
+    }
+    shown(alloc, out, parse_script(alloc, script.as_slice()).ok()?)
+}
