@@ -1,17 +1,20 @@
 #!/usr/bin/env python3
-# Writes the input and the wanted output of crates/archive_rows, and the archive that crates/tile_verify_program reads. The wanted answers are worked out by pmtiles.py and shown.py, from the definitions of the format alone.
+# Writes the input and the wanted output of crates/archive_rows, the archive that crates/tile_verify_program reads, and the runs that crates/tile_serve_program and crates/tile_extract_program store. The wanted answers are worked
+# out by pmtiles.py and shown.py, from the definitions of the format alone, and by serve_rows.py, extract_rows.py and short_rows.py beside this script.
 # Run it at the top of the repository: python3 tools/archive_rows.py
 import hashlib
 import random
 
+import extract_rows
 import pmtiles as pm
+import serve_rows
+import short_rows
 import shown
+from archive_program import ROWS, hold, refused, row
 from hashes import xxh3
 from rows import Rows, entry, extent, option, text_word, word
 
 U32, U64 = 2 ** 32, 2 ** 64
-ROWS = Rows('archive_rows')
-row, refused = ROWS.row, ROWS.refused
 FAULT, FAILED = 'Err(Reading(Fault))', 'Err(Failed)'
 
 
@@ -69,7 +72,7 @@ def written(way, adds, calls=None, metadata=b'{}', **options):
     row(f'medium part 127 {h["root_length"]}', 'x' + data[127:127 + h['root_length']].hex())
     ids = sorted({t for t, _ in real} | {0, 1, 7, pm.LAST})
     row('read none tiles ' + ' '.join(map(str, ids)), *(tile(data, t) for t in ids))
-    row('read bytes entries 9', *(f'Ok({entry(e)})' for e in pm.walk(data, 9)))
+    row('bytes entries 9', *(f'Ok({entry(e)})' for e in pm.walk(data, 9)))
 
 
 def tile(data, t):
@@ -244,10 +247,10 @@ def bulk():
         check(data)
         row(f'medium part 127 {h["root_length"]}', 'x' + data[127:127 + h['root_length']].hex())
         whole = md5(b''.join(d for _, d in adds))
-        for way in ('none', 'map', 'recent 1', 'recent 3', 'over', 'bytes'):
-            if n > 20000 and (way in ('none', 'bytes') or most and way != 'recent 3'):
+        for way in ('read none', 'read map', 'read recent 1', 'read recent 3', 'read over', 'bytes'):
+            if n > 20000 and (way in ('read none', 'bytes') or most and way != 'read recent 3'):
                 continue
-            row(f'read {way} sweep 0 {n + 100}', n, shown.text(whole))
+            row(f'{way} sweep 0 {n + 100}', n, shown.text(whole))
         row(f'read map tiles 0 {n - 1 if n else 0} {n} 1 {pm.LAST}', *(tile(data, t) for t in (0, max(n - 1, 0), n, 1, pm.LAST)))
         if h['leaves'] and not h['uppers']:
             row(f"state walk {h['leaves'] - 1} 1", *(f'Some(Err({i}))' for i in pm.walk(data, h['leaves'] - 1)[:1]))
@@ -298,7 +301,7 @@ def run(status, line):
 
 def changes(data, first, end, last):
     lines = ''.join(checked(changed(data, at, bytes([(data[at] + step) % 256])))[1] for at in range(first, end) for step in range(1, last + 1))
-    row(f'verify changes {first} {end} {last}', shown.text(md5(lines.encode())))
+    row(f'changes {first} {end} {last}', shown.text(md5(lines.encode())))
 
 
 def checks():
@@ -356,10 +359,6 @@ def root_of(entries_or_bytes, data=ONE, **fields):
     return front + bytes(max(0, pm.FRONT - len(front))) + data[max(pm.FRONT, len(front)):]
 
 
-def hold(data):
-    row('medium hold ' + word(data))
-
-
 def one_length(data):
     """Whether each offset of a leaf that is reached is used with one length."""
     try:
@@ -394,7 +393,7 @@ def ask(data, ids, budgets):
     try:
         pm.opened(data)
     except pm.Refused as refusal:
-        for call in ('view tiles 0', 'view header', 'view metadata', 'state open', 'read none part header', 'read bytes tiles 0', 'read map tiles 0', 'read over tiles 0', 'read idle tiles 0'):
+        for call in ('view tiles 0', 'view header', 'view metadata', 'state open', 'read none part header', 'bytes tiles 0', 'read map tiles 0', 'read over tiles 0', 'read idle tiles 0'):
             row(call, str(refusal))
         return
     h, root = pm.opened(data)
@@ -406,8 +405,8 @@ def ask(data, ids, budgets):
     words = ' '.join(map(str, ids))
     tiles = [tile(data, t) for t in ids]
     row('view tiles ' + words, *tiles)
-    for way in ('none', 'bytes', 'idle') + (('map', 'recent 1', 'over') if one_length(data) else ()):
-        row(f'read {way} tiles {words} {words}', *tiles, *tiles)
+    for way in ('read none', 'bytes', 'read idle') + (('read map', 'read recent 1', 'read over') if one_length(data) else ()):
+        row(f'{way} tiles {words} {words}', *tiles, *tiles)
     for t, found in zip(ids, tiles):
         row(f'state tile {t}', found)
         row(f'state unversioned {t}', found)
@@ -439,8 +438,8 @@ def one_tile():
     row('medium calls', 4)
     archive(ONE, (0, 1, 7, pm.LAST), (0, 1))
     read_documents(ONE)
-    for way in ('none', 'map', 'recent 1', 'over', 'bytes', 'idle'):
-        row(f'read {way} part header', 'x' + ONE[:127].hex())
+    for way in ('read none', 'read map', 'read recent 1', 'read over', 'bytes', 'read idle'):
+        row(f'{way} part header', 'x' + ONE[:127].hex())
 
 
 def versions():
@@ -487,7 +486,7 @@ def one_changed_field():
         cut = ONE[:n]
         if n < 132:
             row('state open', answered(lambda: pm.opened(cut)))
-            row('read bytes tiles 0', answered(lambda: pm.opened(cut)))
+            row('bytes tiles 0', answered(lambda: pm.opened(cut)))
             row('view tiles 0', answered(lambda: pm.opened(cut)))
         else:
             row('read none tiles 0 1', tile(cut, 0), tile(cut, 1))
@@ -758,6 +757,8 @@ def main():
     for rows in (few_tiles, one_digest, one_number, labels, options, faults, bulk, one_tile, versions, failing_reads, one_changed_field, hostile_table, leaf_cycle, checks, parts, documents, deep, random_archives,
                  caches, large):
         rows()
+    for others in (serve_rows, extract_rows, short_rows):
+        others.write()
     ROWS.write()
     Rows('tile_verify_program').write_data('one_tile.pmtiles', ONE)
 

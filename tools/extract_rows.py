@@ -1,16 +1,14 @@
-#!/usr/bin/env python3
-# Writes the input and the wanted output of crates/extract_rows, and the archive that crates/tile_extract_program reads. The wanted answers are worked out here from the definition of the part of an
-# archive below a tile, with the ids, directories and archives of pmtiles.py.
-# Run it at the top of the repository: python3 tools/extract_rows.py
+# Lines of extractions, and the archive that crates/tile_extract_program reads, for tools/archive_rows.py. The wanted answers are worked out here from the definition of the part of an archive below
+# a tile, with the ids, directories and archives of pmtiles.py.
 import hashlib
 import os
 import random
 
+import archive_program
 import pmtiles as pm
+from archive_program import row
 from rows import Rows, word
 
-ROWS = Rows('extract_rows')
-row = ROWS.row
 U32, U64 = 2 ** 32, 2 ** 64
 ALL = U64 - 1
 LABELS = {'tile', 'type', 'min_lon', 'min_lat', 'max_lon', 'max_lat', 'center_zoom', 'center_lon', 'center_lat'}
@@ -184,12 +182,12 @@ class Held:
 
 def hold(data):
     Held.data = data
-    row('hold ' + word(data))
+    archive_program.hold(data)
 
 
 def begin(data):
     Held.begun = data
-    row('begin ' + word(data))
+    row('extract begin ' + word(data))
 
 
 def label(held):
@@ -199,14 +197,14 @@ def label(held):
 
 def say_held(run):
     if run.held is not None:
-        row('digest', len(run.held), 'x' + hashlib.md5(run.held).hexdigest().upper().encode().hex())
+        row('extract digest', len(run.held), 'x' + hashlib.md5(run.held).hexdigest().upper().encode().hex())
 
 
 def run(words, medium_fails=0, source_fails=0):
-    """An extraction of what is held: its outcome, its status, how often the source was read, and byte 97 of the medium."""
+    """An extraction of what is held: its status, its outcome, byte 97 of the medium, and how often the source was read."""
     done = Run(Held.data, Held.begun, source_fails, medium_fails)
-    said = done.outcome(words.split())
-    row(f'run {medium_fails} {source_fails} {words}'.rstrip(), *said, done.source.calls, label(done.held))
+    said, status = done.outcome(words.split())
+    row(f'extract from {source_fails} run {medium_fails}' + ''.join(f' t{w}' for w in words.split()), status, said, label(done.held), done.source.calls)
     say_held(done)
     return done
 
@@ -218,12 +216,12 @@ def extract(words):
         said = f'Ok({done.extract(*asked(words.split()))})'
     except Ends as end:
         said = 'Err(' + end.args[0][len('Refused('):]
-    row(f'extract 0 0 {words}', said, done.source.calls, label(done.held))
+    row(f'extract from 0 tile 0 {words}', said, label(done.held), done.source.calls)
     say_held(done)
 
 
 def part(run, at, length):
-    row(f'part {at} {length}', 'x' + run.held[at:at + length].hex())
+    row(f'extract part {at} {length}', 'x' + run.held[at:at + length].hex())
 
 
 def faults(words):
@@ -500,15 +498,9 @@ def stored_run():
         file.write('two_tiles.pmtiles\npart.pmtiles\n1\n0\n0\n1\n10\n')
 
 
-def main():
+def write():
     for rows in (known_archives, wrong_words, hostile, runs, trees, broken_trees, ranges_of_leaves, many_tiles, failing, random_archives):
         rows()
-    ROWS.refused('run 0')
-    ROWS.refused('extract 0 0 0 1 0 0 10')
-    ROWS.refused('other')
-    ROWS.write()
+    for words in ('extract from 0', 'extract from 0 tile 0 0 1 0 0 10', 'extract other', 'other'):
+        archive_program.refused(words)
     stored_run()
-
-
-if __name__ == '__main__':
-    main()

@@ -213,8 +213,8 @@ def archive_tile(data, t):
     return look_up(data, t)[0]
 
 
-def walk(data, budget):
-    """Items of a walk along the levels: entries, or the text of a refusal as the last one."""
+def walk(data, budget, read=lambda length: None):
+    """Items of a walk along the levels: entries, or the text of a refusal as the last one. `read` is called before each read of a leaf, with its length."""
     h, level = opened(data)
     items, spent = [], 0
     while level:
@@ -227,6 +227,7 @@ def walk(data, budget):
                 return items + ['BudgetSpent']
             spent += 1
             try:
+                read(e[2])
                 following += leaf(data, h, e)
             except Refused as refusal:
                 return items + [str(refusal)]
@@ -267,7 +268,7 @@ def broken_id(entries, low, limit):
     return None
 
 
-def check_directory(data, h, entries, place, low, limit, met):
+def check_directory(data, h, entries, place, low, limit, met, read):
     depth, offset = place
     found = broken_id(entries, low, limit)
     if found:
@@ -275,6 +276,7 @@ def check_directory(data, h, entries, place, low, limit, met):
     for i, e in enumerate(entries):
         if e[3] > 0:
             met['tiles'].append(e)
+            read(0)
             try:
                 part(data, h['data_offset'], e[1], e[2])
             except Refused:
@@ -282,21 +284,23 @@ def check_directory(data, h, entries, place, low, limit, met):
             continue
         if depth == 6:
             raise Broken(depth, offset, i, 'TooDeep')
+        read(e[2])
         try:
             below = leaf(data, h, e)
         except Refused as refusal:
             met['leaves'] += str(refusal) == 'InvalidEntry'
             raise Broken(depth, offset, i, 'NotDecoded' if str(refusal) == 'InvalidEntry' else 'LeafPastEnd')
         met['leaves'] += 1
-        check_directory(data, h, below, (depth + 1, e[1]), e[0], entries[i + 1][0] if i + 1 < len(entries) else limit, met)
+        check_directory(data, h, below, (depth + 1, e[1]), e[0], entries[i + 1][0] if i + 1 < len(entries) else limit, met, read)
 
 
-def check(data):
-    """The numbers of a sound archive, its refusal or its first broken part, and how many leaves were read."""
+def check(data, read=lambda length: None):
+    """The numbers of a sound archive, its refusal or its first broken part, and how many leaves were read. `read` is called before each read of a range, with its length: a tile's end is tested by
+    a read of no bytes."""
     h, root = opened(data)
     met = {'leaves': 0, 'tiles': []}
     try:
-        check_directory(data, h, root, (0, 0), 0, LAST + 1, met)
+        check_directory(data, h, root, (0, 0), 0, LAST + 1, met, read)
     except Broken as broken:
         return broken.args, met['leaves']
     tiles = met['tiles']

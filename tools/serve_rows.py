@@ -1,17 +1,14 @@
-#!/usr/bin/env python3
-# Writes the input and the wanted output of crates/serve_rows, and the run that crates/tile_serve_program stores. The wanted answers are worked out from the definition of a reply, by a server
-# in plain python that keeps lists.
-# Run it at the top of the repository: python3 tools/serve_rows.py
+# Lines of a server of tiles, and the run that crates/tile_serve_program stores, for tools/archive_rows.py. The wanted answers are worked out from the definition of a reply, by a server in plain
+# python that keeps lists.
 import os
 import random
 
 import hashes
 import pmtiles as pm
 import shown
-from rows import Rows, word
+from archive_program import hold, row
+from rows import Rows
 
-ROWS = Rows('serve_rows')
-row = ROWS.row
 GREAT = 2 ** 32 - 1
 
 
@@ -78,7 +75,8 @@ class Server:
         self.read()
         self.header, self.root = pm.opened(data)
 
-    def read(self):
+    def read(self, length=None):
+        """A read of a range of so many bytes, or that of opening."""
         self.calls += 1
         if self.calls in self.fails:
             raise Fault
@@ -89,7 +87,7 @@ class Server:
             if held[0] == place:
                 self.directories.insert(0, self.directories.pop(i))
                 return held[1]
-        self.read()
+        self.read(e[2])
         entries = pm.leaf(self.data, self.header, e)
         if len(entries) <= self.most_entries:
             self.directories = [(place, entries)] + self.directories[:self.most_directories - 1]
@@ -108,7 +106,7 @@ class Server:
                 found = pm.scan(self.leaf(found), t)
         if not found or found[3] == 0:
             return None
-        self.read()
+        self.read(found[2])
         data = pm.part(self.data, self.header['data_offset'], found[1], found[2])
         if data and len(data) <= self.most_bytes:
             self.tiles = [(t, data)] + self.tiles[:self.most_tiles - 1]
@@ -129,16 +127,12 @@ class Server:
             return '500 ' + ('InvalidEntry' if str(refusal) == 'InvalidEntry' else 'PastEnd')
 
 
-def hold(data):
-    row('hold ' + word(data))
-
-
 def serve(data, limits, lines, fails=(), counted=True):
     """Lines that one server answers, each with the bytes held then, and how often it read."""
     hold(data)
     if fails:
-        row('fail ' + ' '.join(map(str, fails)))
-    call = 'serve ' + ' '.join(map(str, limits)) + ''.join(' ' + spelled(line) for line in lines)
+        row('medium fail ' + ' '.join(map(str, fails)))
+    call = 'serve lines ' + ' '.join(map(str, limits)) + ''.join(' ' + spelled(line) for line in lines)
     try:
         server = Server(data, limits, fails)
     except Fault:
@@ -157,14 +151,14 @@ def serve(data, limits, lines, fails=(), counted=True):
             answers += ['Fault', server.held()]
     row(call, *answers)
     if counted:
-        row('calls', server.calls)
+        row('medium calls', server.calls)
 
 
 def run(data, words, requests, outcome, status, written, input_fails=0, output_fails=0, fails=()):
     hold(data)
     if fails:
-        row('fail ' + ' '.join(map(str, fails)))
-    row(f'run {input_fails} {output_fails} {spelled(requests)} ' + ' '.join(map(str, words)), outcome, status, spelled(written))
+        row('medium fail ' + ' '.join(map(str, fails)))
+    row(f'serve run {output_fails} {input_fails} {spelled(requests)}' + ''.join(f' t{w}' for w in words), status, outcome, spelled(written))
 
 
 def replies(data, requests):
@@ -220,11 +214,11 @@ def table():
     a, b = shown.text('a'), shown.text('b')
     for first, then, answers in [('a', 'b', [f'Modified {{ opened: {a}, read: {b} }}', 0]), ('a', 'a', [spelled(reply(HELLO, TABLE[0]) + '\n'), 5])]:
         hold(HELLO)
-        row(f'versions t{first} t{then}')
-        row('serve 4 100 4 100 GET_0_0_0', *answers)
+        row(f'medium versions t{first} t{then}')
+        row('serve lines 4 100 4 100 GET_0_0_0', *answers)
     hold(HELLO)
-    row('versions ta tb')
-    row('run 0 0 GET_0_0_0/ 4 100 4 100', f'Refused(Modified {{ opened: {a}, read: {b} }})', 1, '')
+    row('medium versions ta tb')
+    row('serve run 0 0 GET_0_0_0/ t4 t100 t4 t100', 1, f'Refused(Modified {{ opened: {a}, read: {b} }})', '')
     serve(ONE[:-1], (4, 100, 4, 100), ['GET 0 0 0', 'GET 1 0 0'], counted=False)
     serve(ONE[:126], (4, 100, 4, 100), ['GET 0 0 0'])
 
@@ -310,16 +304,6 @@ def stored_run():
             file.write(text)
 
 
-def main():
-    table()
-    lines()
-    bounds()
-    faults()
-    runs()
-    random_requests()
-    ROWS.write()
-    stored_run()
-
-
-if __name__ == '__main__':
-    main()
+def write():
+    for rows in (table, lines, bounds, faults, runs, random_requests, stored_run):
+        rows()

@@ -6,7 +6,7 @@ ghost use Rattle.pm_writer.specs.Writing.{Writes};
 
 use pm_format::{Backend, MemMedium, PmtResult};
 use pm_writer::{PmTilesStreamWriter, WriterState};
-use rows_shared::{Words, bytes, number, say};
+use rows_shared::{Words, bytes, number, said};
 use std::alloc::Global;
 use tile_ids::{TileCoord, TileId};
 
@@ -46,8 +46,7 @@ pub fn all_streamed(
         let plain = words.next()? == "plain";
         let id = id(words)?;
         let tile = bytes(alloc, words)?;
-        let given = streamed(writer, plain, id, tile.as_slice());
-        say(out, &given)?;
+        said(out, streamed(writer, plain, id, tile.as_slice()))?;
     }
     Some(())
 }
@@ -85,8 +84,7 @@ pub fn all_stated(
         let call = words.next()?;
         let id = id(words)?;
         let tile = bytes(alloc, words)?;
-        let given = stated(state, medium, call, id, tile.as_slice());
-        say(out, &given)?;
+        said(out, stated(state, medium, call, id, tile.as_slice()))?;
     }
     Some(())
 }

@@ -5,7 +5,7 @@ ghost use Rattle.pm_writer.specs.Stream.{IsTied};
 
 use pm_format::{Backend, MemMedium, PmtResult, TileType};
 use pm_writer::{ArchivePlaces, PmTilesStreamWriter, PmTilesWriter};
-use rows_shared::{Counted, Words, number, say};
+use rows_shared::{Counted, Words, number, said};
 use std::alloc::Global;
 use tile_ids::{TileCoord, TileId};
 
@@ -72,5 +72,5 @@ pub fn answer(
     }
     let (medium, places) = numbered(alloc, ids, each, most).ok()?;
     *backend = Counted::new(medium);
-    say(out, &places)
+    said(out, places)
 }

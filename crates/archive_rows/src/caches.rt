@@ -2,7 +2,7 @@
 use crate::reading::id;
 use pm_format::Directory;
 use pm_reader::{DirCacheResult, DirectoryCache, HashMapCache, LruDirCache, NoCache};
-use rows_shared::{Words, bytes, number, say};
+use rows_shared::{Words, bytes, number, said};
 use std::alloc::Global;
 
 fn insert<C: DirectoryCache>(
@@ -14,11 +14,11 @@ fn insert<C: DirectoryCache>(
     let offset = number(words)?;
     let spelled = bytes(alloc, words)?;
     let directory = Directory::decode(alloc, spelled.as_slice()).ok()?;
-    say(out, &cache.insert_dir(offset, directory))
+    said(out, cache.insert_dir(offset, directory))
 }
 
 fn find<C: DirectoryCache>(out: &mut String, cache: &mut C, words: &mut Words) -> Option<()> {
-    say(out, &cache.get_dir_entry(number(words)?, id(words)?))
+    said(out, cache.get_dir_entry(number(words)?, id(words)?))
 }
 
 // The fetcher gives the directory of these bytes, or why it is none.
@@ -31,12 +31,10 @@ fn fetch<C: DirectoryCache>(
     let offset = number(words)?;
     let id = id(words)?;
     let spelled = bytes(alloc, words)?;
-    let given = cache.get_dir_entry_or_insert(
-        offset,
-        id,
-        || Directory::decode(alloc, spelled.as_slice()),
-    );
-    say(out, &given)
+    said(
+        out,
+        cache.get_dir_entry_or_insert(offset, id, || Directory::decode(alloc, spelled.as_slice())),
+    )
 }
 
 fn answer_of<C: DirectoryCache>(
@@ -83,9 +81,9 @@ fn limit(alloc: Global, recent: &mut Option<LruDirCache>, words: &mut Words) -> 
 fn from(alloc: Global, out: &mut String, words: &mut Words) -> Option<()> {
     let spelled = bytes(alloc, words)?;
     let directory = Directory::decode(alloc, spelled.as_slice()).ok()?;
-    say(
+    said(
         out,
-        &DirCacheResult::from(directory.find_tile_id(id(words)?)),
+        DirCacheResult::from(directory.find_tile_id(id(words)?)),
     )
 }
 

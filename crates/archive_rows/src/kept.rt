@@ -5,22 +5,27 @@ use pm_writer::PmTilesWriter;
 use rows_shared::Counted;
 use std::alloc::Global;
 
+// The medium of most calls, the options of a writer, two caches, what each medium of an extraction has at first, and the medium of the last one.
 #[derive(Drop)]
 pub struct Kept {
     pub backend: Counted,
     pub options: PmTilesWriter,
     pub map: HashMapCache,
     pub recent: Option<LruDirCache>,
+    pub begun: Vec<u8>,
+    pub extracted: MemMedium,
 }
 
 impl Kept {
-    // An empty medium, the options of a new writer, and empty caches.
+    // Empty media, the options of a new writer, and empty caches.
     pub fn new(alloc: Global) -> Kept {
         Kept {
             backend: Counted::new(MemMedium::new(alloc)),
             options: PmTilesWriter::new(TileType::Unknown),
             map: HashMapCache::new(alloc),
             recent: None,
+            begun: Vec::new(alloc),
+            extracted: MemMedium::new(alloc),
         }
     }
 }

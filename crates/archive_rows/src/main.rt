@@ -1,15 +1,21 @@
-//! Reads calls of pm_contents, pm_writer, pm_reader and tile_verify from standard input, one a line, and prints each line with its answer.
+//! Reads calls on archives from standard input, one a line, and prints each line with its answer: calls of pm_contents, pm_writer, pm_reader, tile_verify, tile_serve and tile_extract.
 #![tactic(auto)]
 
 mod adds;
+mod asking;
 mod bulk;
 mod caches;
 mod contents;
+mod extracting;
 mod kept;
+mod lines;
 mod media;
 mod mute;
 mod options;
 mod reading;
+mod serve_runs;
+mod serving;
+mod shorts;
 mod states;
 mod sweep;
 mod verifying;
@@ -17,51 +23,50 @@ mod viewing;
 mod writing;
 
 use kept::Kept;
-use rows_shared::{Counted, Words};
+use rows_shared::{Rows, Words, run};
 use std::alloc::Global;
 use std::io;
 
-// The same for a call that reads what is held.
+// A call over the bytes that are held.
 fn answer_held(
     alloc: Global,
     out: &mut String,
-    backend: &mut Counted,
+    kept: &mut Kept,
     call: &str,
     words: &mut Words,
 ) -> Option<()> {
     match call {
-        "read" => reading::answer(alloc, out, backend, words),
-        "state" => states::answer(alloc, out, backend, words),
-        "view" => viewing::answer(alloc, out, backend.medium.as_bytes(), words),
-        "verify" => verifying::answer(alloc, out, backend, words),
-        _ => None,
+        "bytes" => reading::shared(alloc, out, kept.backend.medium.as_bytes(), words),
+        "view" => viewing::answer(alloc, out, kept.backend.medium.as_bytes(), words),
+        "changes" => verifying::changes(alloc, out, kept.backend.medium.as_bytes(), words),
+        "short" => shorts::answer(alloc, out, kept, words),
+        "extract" => extracting::answer(alloc, out, kept, words),
+        call => asking::answer(alloc, out, &mut kept.backend, call, words),
     }
 }
 
-// Appends the answer of a call, or fails where no handler takes the line.
-fn answer(alloc: Global, out: &mut String, kept: &mut Kept, line: &str) -> Option<()> {
-    let mut words: Words = line.split_whitespace();
-    match words.next()? {
-        "medium" => media::answer(alloc, out, &mut kept.backend, &mut words),
-        "writer" => options::answer(alloc, out, &mut kept.options, &mut words),
-        "write" => writing::answer(alloc, out, kept, &mut words),
-        "contents" => contents::answer(alloc, out, &mut words),
-        "bulk" => bulk::answer(alloc, out, &mut kept.backend, &mut words),
-        "cache" => caches::answer(alloc, out, &mut kept.map, &mut kept.recent, &mut words),
-        call => answer_held(alloc, out, &mut kept.backend, call, &mut words),
+impl Rows for Kept {
+    fn answer(
+        &mut self,
+        _rt: &HostRuntime,
+        alloc: Global,
+        out: &mut String,
+        line: &str,
+    ) -> Option<()> {
+        let mut words: Words = line.split_whitespace();
+        match words.next()? {
+            "medium" => media::answer(alloc, out, &mut self.backend, &mut words),
+            "writer" => options::answer(alloc, out, &mut self.options, &mut words),
+            "write" => writing::answer(alloc, out, self, &mut words),
+            "contents" => contents::answer(alloc, out, &mut words),
+            "bulk" => bulk::answer(alloc, out, &mut self.backend, &mut words),
+            "cache" => caches::answer(alloc, out, &mut self.map, &mut self.recent, &mut words),
+            call => answer_held(alloc, out, self, call, &mut words),
+        }
     }
 }
 
 fn main(rt: HostRuntime) -> io::Result<()> {
-    let alloc = rt.alloc();
-    let mut kept = Kept::new(alloc);
-    for line in rt.lines(alloc) {
-        let line = line?;
-        let mut out = String::new(alloc);
-        if answer(alloc, &mut out, &mut kept, line.as_str()).is_none() {
-            out.push_str("refused")?;
-        }
-        println!(rt; "{line} = {out}")?;
-    }
-    Ok(())
+    let mut kept = Kept::new(rt.alloc());
+    run(&rt, &mut kept)
 }

@@ -49,14 +49,28 @@ fn versions(alloc: Global, medium: &mut MemMedium, words: &mut Words) -> Option<
     Some(())
 }
 
+// The calls that fail: one, or none where it is 0.
+pub fn failing(alloc: Global, call: u64) -> Option<Vec<u64>> {
+    let mut calls = Vec::new(alloc);
+    calls.push(call).ok()?;
+    Some(calls)
+}
+
+// A medium of these bytes, of which a call fails.
+pub fn holding(alloc: Global, bytes: &[u8], call: u64) -> Option<MemMedium> {
+    let mut medium = MemMedium::from_bytes(bytes.to_vec(alloc).ok()?);
+    medium.fail_at(failing(alloc, call)?);
+    Some(medium)
+}
+
 // A part of what is held.
-fn part(alloc: Global, out: &mut String, medium: &MemMedium, words: &mut Words) -> Option<()> {
+pub fn part(alloc: Global, out: &mut String, medium: &MemMedium, words: &mut Words) -> Option<()> {
     let rest = medium.as_bytes().get(number::<usize>(words)?..)?;
     say_bytes(alloc, out, rest.get(..number::<usize>(words)?)?)
 }
 
 // How many bytes are held, and their MD5 digest.
-fn digest(alloc: Global, out: &mut String, medium: &MemMedium) -> Option<()> {
+pub fn digest(alloc: Global, out: &mut String, medium: &MemMedium) -> Option<()> {
     say(out, &medium.as_bytes().len())?;
     say_bytes(alloc, out, md5_text(medium.as_bytes()).as_slice())
 }

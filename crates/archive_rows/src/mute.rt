@@ -1,5 +1,5 @@
 // A medium that tells nothing: a range is read as it was set up, whatever was written.
-ghost use Rattle.std.specs.Prelude.{◌≡◌, None};
+ghost use Rattle.std.specs.Prelude.{◌≡◌, ℕ, None};
 ghost use Rattle.byte_media.specs.Media.{ReadExactCauses};
 
 use pm_format::{Backend, BackendResponse, Medium, MediumFault, MemMedium, ReadFault, WriteFault};
@@ -16,6 +16,12 @@ pub enum Mode {
     Past,
     // A byte less.
     Short,
+    // What was written there, but for one read, which is answered by two numbers: how many bytes were asked for, or said to be, and how many came.
+    Numbers {
+        read: u64,
+        asked: Option<u64>,
+        got: u64,
+    },
 }
 
 #[derive(Drop)]
@@ -25,14 +31,14 @@ pub struct Mute {
     pub reads: u64,
 }
 
-// An answer of a byte less than was asked.
-fn short(asked: u64) -> Result<BackendResponse, ReadFault>
-    ensures { ReadExactCauses 0 0 asked result }
+// An answer of other bytes than were asked for.
+fn short(asked: u64, got: u64) -> Result<BackendResponse, ReadFault>
+    ensures { (n : ℕ) → ReadExactCauses 0 0 n result }
 {
-    match asked.checked_sub(1) {
-        None => Err(ReadFault::PastEnd),
-        Some(got) => Err(ReadFault::Short { asked, got }),
+    if asked == got {
+        return Err(ReadFault::PastEnd);
     }
+    Err(ReadFault::Short { asked, got })
 }
 
 impl Mute {
@@ -43,6 +49,16 @@ impl Mute {
             mode,
             reads: 0,
         }
+    }
+
+    // A medium in which these bytes were written.
+    pub fn holding(alloc: Global, bytes: &[u8], mode: Mode) -> Option<Mute> {
+        let medium = MemMedium::from_bytes(bytes.to_vec(alloc).ok()?);
+        Some(Mute {
+            medium,
+            mode,
+            reads: 0,
+        })
     }
 
     // What is written in a range.
@@ -57,8 +73,27 @@ impl Mute {
     {
         match self.medium.read_exact(alloc, offset, length) {
             Ok(response) => Ok(response),
+            Err(ReadFault::PastEnd) => Err(ReadFault::PastEnd),
             Err(_) => Err(ReadFault::OutOfMemory),
         }
+    }
+
+    // One that is answered by numbers, where it is this one.
+    fn numbered(
+        &mut self,
+        alloc: Global,
+        offset: u64,
+        length: u64,
+        read: u64,
+        numbers: (Option<u64>, u64),
+    ) -> Result<BackendResponse, ReadFault>
+        ensures answer { ReadExactCauses 0 0 length result }
+        ensures reads { self.new.reads ≡ self.old.reads }
+    {
+        if self.reads != read {
+            return self.kept(alloc, offset, length);
+        }
+        short(numbers.0.unwrap_or(length), numbers.1)
     }
 }
 
@@ -75,12 +110,15 @@ impl Backend for Mute {
 
     fn read(
         &mut self,
-        _alloc: Global,
-        _offset: u64,
-        _length: u64,
+        alloc: Global,
+        offset: u64,
+        length: u64,
     ) -> Result<BackendResponse, ReadFault> {
         self.reads = self.reads.saturating_add(1);
-        Err(ReadFault::OutOfMemory)
+        match self.medium.read(alloc, offset, length) {
+            Ok(response) => Ok(response),
+            Err(_) => Err(ReadFault::OutOfMemory),
+        }
     }
 
     fn read_exact(
@@ -97,7 +135,10 @@ impl Backend for Mute {
                 self.kept(alloc, end.saturating_sub(length), length)
             }
             Mode::Past => Err(ReadFault::PastEnd),
-            Mode::Short => short(length),
+            Mode::Short => short(length, length.saturating_sub(1)),
+            Mode::Numbers { read, asked, got } => {
+                self.numbered(alloc, offset, length, read, (asked, got))
+            }
         }
     }
 }

@@ -6,7 +6,7 @@ use crate::sweep::{say_tile, sweep_tiles, tiles};
 use bytes::Bytes;
 use pm_format::{Backend, BytesBackend, Directory, PmtResult};
 use pm_reader::{DirectoryCache, HashMapCache, LruDirCache, NoCache, PmTilesReader, ReaderState};
-use rows_shared::{Counted, Words, number, owned, say, say_bytes};
+use rows_shared::{Words, number, owned, said, say, say_bytes};
 use std::alloc::Global;
 use tile_ids::{TextVal, TileId};
 
@@ -29,7 +29,7 @@ fn entries<B: Backend, C: DirectoryCache + Drop>(
     requires { IsTied B.told C.held C.idle reader }
 {
     for item in reader.entries(number(words)?) {
-        say(out, &item)?;
+        said(out, item)?;
     }
     Some(())
 }
@@ -38,7 +38,7 @@ fn entries<B: Backend, C: DirectoryCache + Drop>(
 pub fn say_directory(out: &mut String, given: PmtResult<Directory>) -> Option<()> {
     match given {
         Ok(directory) => say(out, &directory.entries()),
-        Err(error) => say(out, &error),
+        Err(error) => said(out, error),
     }
 }
 
@@ -46,19 +46,18 @@ pub fn say_directory(out: &mut String, given: PmtResult<Directory>) -> Option<()
 pub fn say_contents(alloc: Global, out: &mut String, given: PmtResult<Bytes>) -> Option<()> {
     match given {
         Ok(bytes) => say_bytes(alloc, out, bytes.as_slice()),
-        Err(error) => say(out, &error),
+        Err(error) => said(out, error),
     }
 }
 
 fn part<B: Backend, C: DirectoryCache + Drop>(
     alloc: Global,
     out: &mut String,
-    reader: PmTilesReader<'_, B, C>,
+    reader: &mut PmTilesReader<'_, B, C>,
     words: &mut Words,
 ) -> Option<()>
-    requires { IsTied B.told C.held C.idle reader }
+    requires { IsTied B.told C.held C.idle reader.old }
 {
-    let mut reader = reader;
     match words.next()? {
         "header" => say_bytes(alloc, out, reader.get_header().write_bytes().as_slice()),
         "root" => say(out, &reader.root().entries()),
@@ -74,6 +73,27 @@ fn part<B: Backend, C: DirectoryCache + Drop>(
     }
 }
 
+fn call_of<B: Backend, C: DirectoryCache + Drop>(
+    alloc: Global,
+    out: &mut String,
+    reader: &mut PmTilesReader<'_, B, C>,
+    call: &str,
+    words: &mut Words,
+) -> Option<()>
+    requires { IsTied B.told C.held C.idle reader.old }
+{
+    match call {
+        "tiles" => tiles(alloc, out, reader, words),
+        "plain" => say_tile(alloc, out, reader.get_tile_decompressed(id(words)?)),
+        "unversioned" => say_tile(alloc, out, reader.get_tile_unversioned(id(words)?)),
+        "metadata" => said(out, reader.get_metadata()),
+        "document" => said(out, reader.parse_tilejson(sources(alloc, words)?)),
+        "part" => part(alloc, out, reader, words),
+        "sweep" => sweep_tiles(alloc, out, reader, number(words)?, number(words)?),
+        _ => None,
+    }
+}
+
 fn answer_of<B: Backend, C: DirectoryCache + Drop>(
     alloc: Global,
     out: &mut String,
@@ -84,15 +104,8 @@ fn answer_of<B: Backend, C: DirectoryCache + Drop>(
 {
     let mut reader = reader;
     match words.next()? {
-        "tiles" => tiles(alloc, out, &mut reader, words),
-        "plain" => say_tile(alloc, out, reader.get_tile_decompressed(id(words)?)),
-        "unversioned" => say_tile(alloc, out, reader.get_tile_unversioned(id(words)?)),
-        "metadata" => say(out, &reader.get_metadata()),
-        "document" => say(out, &reader.parse_tilejson(sources(alloc, words)?)),
-        "part" => part(alloc, out, reader, words),
         "entries" => entries(out, reader, words),
-        "sweep" => sweep_tiles(alloc, out, &mut reader, number(words)?, number(words)?),
-        _ => None,
+        call => call_of(alloc, out, &mut reader, call, words),
     }
 }
 
@@ -107,7 +120,7 @@ fn cached<B: Backend, C: DirectoryCache + Drop>(
 {
     match PmTilesReader::try_from_cached_source(alloc, backend, cache) {
         Ok(reader) => answer_of(alloc, out, reader, words),
-        Err(error) => say(out, &error),
+        Err(error) => said(out, error),
     }
 }
 
@@ -119,7 +132,7 @@ fn uncached<B: Backend>(
 ) -> Option<()> {
     match PmTilesReader::try_from_source(alloc, backend) {
         Ok(reader) => answer_of(alloc, out, reader, words),
-        Err(error) => say(out, &error),
+        Err(error) => said(out, error),
     }
 }
 
@@ -134,11 +147,16 @@ fn over<B: Backend>(
             let reader = PmTilesReader::over(backend, HashMapCache::new(alloc), state);
             answer_of(alloc, out, reader, words)
         }
-        Err(error) => say(out, &error),
+        Err(error) => said(out, error),
     }
 }
 
-fn recent(alloc: Global, out: &mut String, backend: &mut Counted, words: &mut Words) -> Option<()> {
+fn recent<B: Backend>(
+    alloc: Global,
+    out: &mut String,
+    backend: &mut B,
+    words: &mut Words,
+) -> Option<()> {
     let capacity = number::<usize>(words)?;
     if capacity == 0 {
         return None;
@@ -147,16 +165,16 @@ fn recent(alloc: Global, out: &mut String, backend: &mut Counted, words: &mut Wo
     cached(alloc, out, backend, cache, words)
 }
 
-// A reader over the same bytes by another backend.
-fn shared(alloc: Global, out: &mut String, held: &[u8], words: &mut Words) -> Option<()> {
+// A reader without a cache over a backend of these bytes.
+pub fn shared(alloc: Global, out: &mut String, held: &[u8], words: &mut Words) -> Option<()> {
     let mut backend = BytesBackend::new(Bytes::copy_from_slice(alloc, held).ok()?);
     uncached(alloc, out, &mut backend, words)
 }
 
-pub fn answer(
+pub fn answer<B: Backend>(
     alloc: Global,
     out: &mut String,
-    backend: &mut Counted,
+    backend: &mut B,
     words: &mut Words,
 ) -> Option<()> {
     match words.next()? {
@@ -165,7 +183,6 @@ pub fn answer(
         "idle" => cached(alloc, out, backend, NoCache, words),
         "recent" => recent(alloc, out, backend, words),
         "over" => over(alloc, out, backend, words),
-        "bytes" => shared(alloc, out, backend.medium.as_bytes(), words),
         _ => None,
     }
 }

@@ -5,7 +5,7 @@ use crate::reading::{id, say_contents, say_directory, sources};
 use crate::sweep::say_tile;
 use pm_format::Backend;
 use pm_reader::ReaderState;
-use rows_shared::{Counted, Words, number, say, say_bytes};
+use rows_shared::{Words, number, said, say, say_bytes};
 use std::alloc::Global;
 
 fn walk<B: Backend>(
@@ -16,7 +16,7 @@ fn walk<B: Backend>(
 ) -> Option<()> {
     let mut walk = state.entries(number(words)?);
     for _ in 0..number::<u32>(words)? {
-        say(out, &walk.next_item(backend))?;
+        said(out, walk.next_item(backend))?;
     }
     Some(())
 }
@@ -77,8 +77,8 @@ fn answer_of<B: Backend>(
         "tile" => say_tile(alloc, out, state.get_tile(backend, id(words)?)),
         "plain" => say_tile(alloc, out, state.get_tile_decompressed(backend, id(words)?)),
         "unversioned" => say_tile(alloc, out, state.get_tile_unversioned(backend, id(words)?)),
-        "metadata" => say(out, &state.get_metadata(backend)),
-        "document" => say(out, &state.parse_tilejson(backend, sources(alloc, words)?)),
+        "metadata" => said(out, state.get_metadata(backend)),
+        "document" => said(out, state.parse_tilejson(backend, sources(alloc, words)?)),
         "part" => part(alloc, out, &state, backend, words),
         "walk" => walk(out, state, backend, words),
         "open" => out.push_str("Ok ").ok(),
@@ -86,7 +86,7 @@ fn answer_of<B: Backend>(
     }
 }
 
-fn opened<B: Backend>(
+pub fn answer<B: Backend>(
     alloc: Global,
     out: &mut String,
     backend: &mut B,
@@ -94,15 +94,6 @@ fn opened<B: Backend>(
 ) -> Option<()> {
     match ReaderState::open(alloc, backend) {
         Ok(state) => answer_of(alloc, out, state, backend, words),
-        Err(error) => say(out, &error),
+        Err(error) => said(out, error),
     }
-}
-
-pub fn answer(
-    alloc: Global,
-    out: &mut String,
-    backend: &mut Counted,
-    words: &mut Words,
-) -> Option<()> {
-    opened(alloc, out, backend, words)
 }

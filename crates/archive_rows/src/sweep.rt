@@ -5,7 +5,7 @@ ghost use Rattle.pm_reader.specs.Tied.{IsTied};
 use bytes::Bytes;
 use pm_format::{Backend, PmtResult};
 use pm_reader::{DirectoryCache, PmTilesReader};
-use rows_shared::{Words, say, say_bytes};
+use rows_shared::{Words, said, say, say_bytes};
 use std::alloc::Global;
 use tile_hash::{HashAlgorithm, HashStream};
 use tile_ids::TileId;
@@ -15,7 +15,7 @@ pub fn say_tile(alloc: Global, out: &mut String, given: PmtResult<Option<Bytes>>
     match given {
         Ok(Some(bytes)) => say_bytes(alloc, out, bytes.as_slice()),
         Ok(None) => out.push_str("none ").ok(),
-        Err(error) => say(out, &error),
+        Err(error) => said(out, error),
     }
 }
 
@@ -78,13 +78,15 @@ fn gather<B: Backend, C: DirectoryCache>(
     Ok(swept)
 }
 
+fn said_digest(alloc: Global, out: &mut String, swept: Swept) -> Option<()> {
+    say(out, &swept.found)?;
+    said(out, swept.digest.finish(alloc).ok()?)
+}
+
 fn say_swept(alloc: Global, out: &mut String, given: PmtResult<Swept>) -> Option<()> {
     match given {
-        Ok(swept) => {
-            say(out, &swept.found)?;
-            say(out, &swept.digest.finish(alloc).ok()?)
-        }
-        Err(error) => say(out, &error),
+        Ok(swept) => said_digest(alloc, out, swept),
+        Err(error) => said(out, error),
     }
 }
 

@@ -1,17 +1,25 @@
 // The check of the whole archive that is held.
-use pm_format::MemMedium;
-use rows_shared::{Counted, Words, number, say, texts};
+use pm_format::{Backend, MemMedium};
+use rows_shared::{Words, number, said, say, texts};
 use std::alloc::Global;
 use tile_hash::{HashAlgorithm, HashStream};
 use tile_ids::TextVal;
 use tile_verify::{VerifyOutcome, run_verify, verify, verify_line, verify_status};
 
-// The status and the line of a run with these words.
-fn run(alloc: Global, out: &mut String, backend: &mut Counted, words: &mut Words) -> Option<()> {
-    let words = texts(alloc, words)?;
-    let outcome = run_verify(alloc, words.as_slice(), backend);
+fn said_outcome(alloc: Global, out: &mut String, outcome: VerifyOutcome) -> Option<()> {
     say(out, &verify_status(&outcome))?;
-    say(out, &verify_line(alloc, &outcome).ok()?)
+    said(out, verify_line(alloc, &outcome).ok()?)
+}
+
+// The status and the line of a run with these words.
+fn run<B: Backend>(
+    alloc: Global,
+    out: &mut String,
+    backend: &mut B,
+    words: &mut Words,
+) -> Option<()> {
+    let words = texts(alloc, words)?;
+    said_outcome(alloc, out, run_verify(alloc, words.as_slice(), backend))
 }
 
 // The line of a run over bytes of which one is raised.
@@ -25,7 +33,7 @@ fn raised(alloc: Global, bytes: &[u8], at: usize, step: u8) -> Option<TextVal> {
 }
 
 // Raises each byte from a place to before another by each number from 1 to a last one: the digest of the lines in a row.
-fn changes(alloc: Global, out: &mut String, bytes: &[u8], words: &mut Words) -> Option<()> {
+pub fn changes(alloc: Global, out: &mut String, bytes: &[u8], words: &mut Words) -> Option<()> {
     let first = number::<usize>(words)?;
     let end = number::<usize>(words)?;
     let last = number::<u8>(words)?;
@@ -36,19 +44,18 @@ fn changes(alloc: Global, out: &mut String, bytes: &[u8], words: &mut Words) -> 
             digest.update(line.as_str().as_bytes());
         }
     }
-    say(out, &digest.finish(alloc).ok()?)
+    said(out, digest.finish(alloc).ok()?)
 }
 
-pub fn answer(
+pub fn answer<B: Backend>(
     alloc: Global,
     out: &mut String,
-    backend: &mut Counted,
+    backend: &mut B,
     words: &mut Words,
 ) -> Option<()> {
     match words.next()? {
-        "report" => say(out, &verify(alloc, backend)),
+        "report" => said(out, verify(alloc, backend)),
         "run" => run(alloc, out, backend, words),
-        "changes" => changes(alloc, out, backend.medium.as_bytes(), words),
         _ => None,
     }
 }

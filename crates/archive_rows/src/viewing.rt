@@ -1,7 +1,7 @@
 // Calls of a view of the bytes that are held. Each slice that is printed has outlived its view.
 use pm_format::PmtResult;
 use pm_reader::ArchiveView;
-use rows_shared::{Words, say, say_bytes};
+use rows_shared::{Words, said, say, say_bytes};
 use std::alloc::Global;
 use tile_ids::TileId;
 
@@ -19,7 +19,7 @@ fn say_tile(alloc: Global, out: &mut String, given: PmtResult<Option<&[u8]>>) ->
     match given {
         Ok(Some(bytes)) => say_bytes(alloc, out, bytes),
         Ok(None) => out.push_str("none ").ok(),
-        Err(error) => say(out, &error),
+        Err(error) => said(out, error),
     }
 }
 
@@ -35,14 +35,14 @@ fn tiles(alloc: Global, out: &mut String, bytes: &[u8], words: &mut Words) -> Op
 fn header(alloc: Global, out: &mut String, bytes: &[u8]) -> Option<()> {
     match ArchiveView::open(bytes) {
         Ok(view) => say_bytes(alloc, out, view.header().write_bytes().as_slice()),
-        Err(error) => say(out, &error),
+        Err(error) => said(out, error),
     }
 }
 
-fn said(out: &mut String, given: PmtResult<&str>) -> Option<()> {
+fn said_text(out: &mut String, given: PmtResult<&str>) -> Option<()> {
     match given {
         Ok(text) => say(out, &text),
-        Err(error) => say(out, &error),
+        Err(error) => said(out, error),
     }
 }
 
@@ -50,7 +50,7 @@ pub fn answer(alloc: Global, out: &mut String, bytes: &[u8], words: &mut Words) 
     match words.next()? {
         "tiles" => tiles(alloc, out, bytes, words),
         "header" => header(alloc, out, bytes),
-        "metadata" => said(out, metadata(bytes)),
+        "metadata" => said_text(out, metadata(bytes)),
         _ => None,
     }
 }

@@ -1,16 +1,11 @@
 // Whole archives: the call of the medium that fails, 0 for none, and then how many adds and the adds themselves.
 use crate::adds::{all_stated, all_streamed};
 use crate::kept::Kept;
+use crate::media::failing;
 use pm_format::MemMedium;
 use pm_writer::{PmTilesStreamWriter, PmTilesWriter};
-use rows_shared::{Counted, Words, number, say};
+use rows_shared::{Counted, Words, number, said};
 use std::alloc::Global;
-
-fn failing(alloc: Global, call: u64) -> Option<Vec<u64>> {
-    let mut calls = Vec::new(alloc);
-    calls.push(call).ok()?;
-    Some(calls)
-}
 
 // A writer that borrows its medium from the beginning.
 fn create(
@@ -25,9 +20,9 @@ fn create(
         Ok(writer) => {
             let mut writer = writer;
             all_streamed(alloc, out, &mut writer, words)?;
-            say(out, &writer.finalize())?;
+            said(out, writer.finalize())?;
         }
-        Err(error) => say(out, &error)?,
+        Err(error) => said(out, error)?,
     }
     Some(medium)
 }
@@ -45,9 +40,9 @@ fn over(
         Ok(state) => {
             let mut writer = PmTilesStreamWriter::over(&mut medium, state);
             all_streamed(alloc, out, &mut writer, words)?;
-            say(out, &writer.finalize())?;
+            said(out, writer.finalize())?;
         }
-        Err(error) => say(out, &error)?,
+        Err(error) => said(out, error)?,
     }
     Some(medium)
 }
@@ -66,9 +61,9 @@ fn start(
             let mut state = state;
             state.reserve(number(words)?).ok()?;
             all_stated(alloc, out, &mut state, &mut medium, words)?;
-            say(out, &state.finalize(&mut medium))?;
+            said(out, state.finalize(&mut medium))?;
         }
-        Err(error) => say(out, &error)?,
+        Err(error) => said(out, error)?,
     }
     Some(medium)
 }

@@ -1,24 +1,5 @@
-// The words of a call, and lines as words.
-use rows_shared::Words;
+// Lines as words: `_` stands for a space and `/` for a line feed.
 use std::alloc::Global;
-
-// The words that are left, as numbers.
-pub fn numbers(alloc: Global, words: &mut Words) -> Option<Vec<u64>> {
-    let mut numbers = Vec::new(alloc);
-    for word in words {
-        numbers.push(word.parse::<u64>().ok()?).ok()?;
-    }
-    Some(numbers)
-}
-
-// A line or lines: `_` stands for a space and `/` for a line feed.
-pub fn spelled(alloc: Global, word: &str) -> Option<Vec<u8>> {
-    let mut line = Vec::new(alloc);
-    for byte in word.as_bytes() {
-        line.push(spelled_byte(*byte)).ok()?;
-    }
-    Some(line)
-}
 
 fn spelled_byte(byte: u8) -> u8 {
     match byte {
@@ -26,6 +7,15 @@ fn spelled_byte(byte: u8) -> u8 {
         b'/' => b'\n',
         other => other,
     }
+}
+
+// The line or lines of a word.
+pub fn spelled(alloc: Global, word: &str) -> Option<Vec<u8>> {
+    let mut line = Vec::new(alloc);
+    for byte in word.as_bytes() {
+        line.push(spelled_byte(*byte)).ok()?;
+    }
+    Some(line)
 }
 
 fn shown_byte(byte: u8) -> u8 {

@@ -1,7 +1,7 @@
 -- the server stays that of its backend
 use Rattle.std.proofs.Common.{◌≡◌}
 use Rattle.tile_serve.specs.Server.{IsTied}
-use Rattle.serve_rows.proofs.serving.answer_lines.Given as goal
+use Rattle.archive_rows.proofs.serving.answer_lines.Given as goal
 
 abbrev pub invariant-loop-word : goal.invariant-loop-word
 invariant-loop-word g l = IsTied g.B.Backend.told g.B.Backend.versions l.server × (l.server.backend.ghost_name ≡ l.initial.server.backend.ghost_name)

@@ -3,11 +3,12 @@ ghost use Rattle.std.specs.Prelude.{◌≡◌, IfSome};
 ghost use Rattle.tile_serve.specs.Limits.{IsLimits};
 ghost use Rattle.tile_serve.specs.Server.{IsTied};
 
-use crate::words::{show, spelled};
+use crate::lines::{show, spelled};
 use pm_format::Backend;
-use rows_shared::{Counted, Words, number, say};
+use rows_shared::{Words, number, said, say};
 use std::alloc::Global;
-use tile_serve::{ServeLimits, TileServer};
+use tile_ids::BlobVal;
+use tile_serve::{ServeError, ServeLimits, TileServer};
 
 // The four limits, where they allow a directory and a tile.
 fn limits_of(words: &mut Words) -> Option<ServeLimits>
@@ -28,6 +29,14 @@ fn limits_of(words: &mut Words) -> Option<ServeLimits>
     })
 }
 
+// A reply, or why there is none.
+fn said_reply(out: &mut String, reply: Result<BlobVal, ServeError>) -> Option<()> {
+    match reply {
+        Ok(text) => show(out, text.as_bytes()),
+        Err(error) => said(out, error),
+    }
+}
+
 // Answers a line: its reply or error, and how many bytes of tiles are held then.
 fn answer_line<B: Backend>(
     alloc: Global,
@@ -40,10 +49,7 @@ fn answer_line<B: Backend>(
     ensures same_reference { server.new.backend.ghost_name ≡ server.old.backend.ghost_name }
 {
     let line = spelled(alloc, word)?;
-    match server.answer(line.as_slice()) {
-        Ok(text) => show(out, text.as_bytes())?,
-        Err(error) => say(out, &error)?,
-    }
+    said_reply(out, server.answer(line.as_slice()))?;
     say(out, &server.held_tile_bytes())
 }
 
@@ -63,15 +69,15 @@ fn answer_lines<B: Backend>(
     Some(())
 }
 
-pub fn answer(
+pub fn answer<B: Backend>(
     alloc: Global,
     out: &mut String,
-    backend: &mut Counted,
+    backend: &mut B,
     words: &mut Words,
 ) -> Option<()> {
     let limits = limits_of(words)?;
     match TileServer::open(alloc, backend, limits) {
         Ok(mut server) => answer_lines(alloc, out, &mut server, words),
-        Err(error) => say(out, &error),
+        Err(error) => said(out, error),
     }
 }
