@@ -29,6 +29,7 @@ impl<S: Alter> SqliteStore<S> {
         ensures outside { OnOk result (self.old.connection.in_transaction ≡ false) }
         ensures ended { OnOk result (self.new.connection.in_transaction ≡ false) }
         ensures inside { self.old.connection.in_transaction ≡ true → IsErrOf result Failure.Fault }
+        ensures alone { self.old.connection.in_transaction ≡ true → self.new.connection ≡ self.old.connection }
         ensures leaves { Leaves S.Store self.old.layout self.old.is_made self.new.is_made self.old.connection self.new.connection }
         ensures layout { self.new.layout ≡ self.old.layout }
         ensures cursor { self.new.cursor ≡ self.old.cursor }
@@ -166,6 +167,7 @@ impl<S: Alter> SqliteStore<S> {
         ensures refused { self.old.is_made ≡ true → OnErr result (KeepsCommitted S.Store self.old.connection self.new.connection) }
         ensures cursor { OnOk result (self.new.cursor ≡ None) }
         ensures inside { self.old.connection.in_transaction ≡ true → IsErrOf result Failure.Fault }
+        ensures alone { self.old.connection.in_transaction ≡ true → self.new.connection ≡ self.old.connection }
         ensures layout { self.new.layout ≡ self.old.layout }
         ensures made { OnOk result (self.new.is_made ≡ true) }
         ensures faults { self.new.faults ≡ self.old.faults }

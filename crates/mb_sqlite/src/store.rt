@@ -204,6 +204,7 @@ impl<S: Alter> TileStore for SqliteStore<S> {
         ensures refused { self.old.is_made ≡ true → OnErr result (KeepsCommitted S.Store self.old.connection self.new.connection) }
         ensures cursor { OnOk result (self.new.cursor ≡ None) }
         ensures inside { self.old.connection.in_transaction ≡ true → IsErrOf result StoreError.Fault }
+        ensures alone { self.old.connection.in_transaction ≡ true → self.new.connection ≡ self.old.connection }
         ensures layout { self.new.layout ≡ self.old.layout }
         ensures made { OnOk result (self.new.is_made ≡ true) }
         ensures faults { self.old.faults ≤ self.new.faults }
