@@ -9,7 +9,7 @@ use std::fmt::Write;
 use tile_bridge::{ConvertOptions, convert};
 use tile_ids::TileCoord;
 use tileset::{MAX_INPUT, Outcome};
-use tileset_script::{ParsedScript, parse_script};
+use tileset_script::{ParsedScript, ScriptOptions, parse_script};
 
 const TABLES: [TableName; 8] = [
     TableName::Tiles,
@@ -74,29 +74,33 @@ fn converted<S: TileStore, P: TileStore, M: Medium>(
     base: &mut S,
     patches: &mut Vec<P>,
     coords: &[TileCoord],
-    options: &ConvertOptions,
+    options: ScriptOptions,
     medium: &mut M,
 ) -> Outcome {
-    match convert(alloc, base, patches, coords, options, medium) {
+    let options = ConvertOptions {
+        force: options.force,
+        verify: options.verify,
+        writer: options.writer,
+    };
+    match convert(alloc, base, patches, coords, &options, medium) {
         Ok(_) => Outcome::Done,
         Err(error) => Outcome::Refused(error),
     }
 }
 
 fn shown(alloc: Global, out: &mut String, script: ParsedScript) -> Option<()> {
-    let mut script = script;
+    let ParsedScript {
+        options,
+        mut base,
+        mut patches,
+        queries,
+    } = script;
     let mut medium = MemMedium::new(alloc);
-    let outcome = converted(
-        alloc,
-        &mut script.base,
-        &mut script.patches,
-        &script.queries,
-        &script.options,
-        &mut medium,
-    );
+    let coords = queries.as_slice();
+    let outcome = converted(alloc, &mut base, &mut patches, coords, options, &mut medium);
     said_outcome(alloc, out, outcome)?;
     say(out, "|")?;
-    say_store(alloc, out, &mut script.base)
+    say_store(alloc, out, &mut base)
 }
 
 /// A case of a script: how its conversion ends, and what the tables of the base then hold.
