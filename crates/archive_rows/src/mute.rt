@@ -1,5 +1,5 @@
 // A medium that tells nothing: a range is read as it was set up, whatever was written.
-ghost use Rattle.std.specs.Prelude.{◌≡◌, ℕ, None};
+ghost use Rattle.std.specs.Prelude.{◌≡◌, None};
 ghost use Rattle.byte_media.specs.Media.{ReadExactCauses};
 
 use pm_format::{Backend, BackendResponse, Medium, MediumFault, MemMedium, ReadFault, WriteFault};
@@ -31,9 +31,9 @@ pub struct Mute {
     pub reads: u64,
 }
 
-// An answer of other bytes than were asked for.
-fn short(asked: u64, got: u64) -> Result<BackendResponse, ReadFault>
-    ensures { (n : ℕ) → ReadExactCauses 0 0 n result }
+// An answer to a read of so many bytes, by two numbers that differ.
+fn short(length: u64, asked: u64, got: u64) -> Result<BackendResponse, ReadFault>
+    ensures { ReadExactCauses 0 0 length result }
 {
     if asked == got {
         return Err(ReadFault::PastEnd);
@@ -93,7 +93,7 @@ impl Mute {
         if self.reads != read {
             return self.kept(alloc, offset, length);
         }
-        short(numbers.0.unwrap_or(length), numbers.1)
+        short(length, numbers.0.unwrap_or(length), numbers.1)
     }
 }
 
@@ -135,7 +135,7 @@ impl Backend for Mute {
                 self.kept(alloc, end.saturating_sub(length), length)
             }
             Mode::Past => Err(ReadFault::PastEnd),
-            Mode::Short => short(length, length.saturating_sub(1)),
+            Mode::Short => short(length, length, length.saturating_sub(1)),
             Mode::Numbers { read, asked, got } => {
                 self.numbered(alloc, offset, length, read, (asked, got))
             }
