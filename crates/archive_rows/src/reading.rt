@@ -8,7 +8,8 @@ use pm_format::{Backend, BytesBackend, Directory, PmtResult};
 use pm_reader::{DirectoryCache, HashMapCache, LruDirCache, NoCache, PmTilesReader, ReaderState};
 use rows_shared::{Words, number, owned, said, say, say_bytes};
 use std::alloc::Global;
-use tile_ids::{TextVal, TileId};
+use base_values::TextVal;
+use tile_ids::TileId;
 
 pub fn id(words: &mut Words) -> Option<TileId> {
     TileId::new(number(words)?).ok()

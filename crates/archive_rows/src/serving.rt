@@ -7,7 +7,7 @@ use crate::lines::{show, spelled};
 use pm_format::Backend;
 use rows_shared::{Words, number, said, say};
 use std::alloc::Global;
-use tile_ids::BlobVal;
+use base_values::BlobVal;
 use tile_serve::{ServeError, ServeLimits, TileServer};
 
 // The four limits, where they allow a directory and a tile.

@@ -9,7 +9,7 @@ use lru::LruCache;
 use std::alloc::Global;
 use std::marker::Model;
 use std::num::NonZeroUsize;
-use tile_ids::OutOfMemory;
+use base_values::OutOfMemory;
 
 /// Values by numbers, of which those that were used last are kept: at most so many, and of at most so much weight together where there is a limit.
 #[derive(Drop)]

@@ -2,7 +2,7 @@
 use Rattle.std.specs.Prelude.{ℕ, ◌≡◌, ◌≢◌, ◌+◌, ◌-◌, ◌≤◌, ◌<◌, List, ◌++◌, length, take, drop, Some, None, Ok, Err, IfOk}
 use Rattle.std.specs.declared.option.Option.{Option}
 use Rattle.std.specs.declared.result.Result.{Result}
-use Rattle.tile_ids.specs.Counts.{Rose}
+use Rattle.base_values.specs.Counts.{Rose}
 use Rattle.byte_media.specs.declared.backend.BackendResponse.{BackendResponse}
 use Rattle.byte_media.specs.declared.backend.ReadFault.{ReadFault}
 use Rattle.byte_media.specs.declared.backend.ReadFault.TheVariants.{Fault, PastEnd, Short, OutOfMemory}

@@ -1,8 +1,8 @@
 -- a medium in memory
 use Rattle.std.specs.Prelude.{ℕ, ◌-◌, Bool, List, length, slice_get, min}
 use Rattle.std.specs.declared.option.Option.{Option}
-use Rattle.tile_ids.specs.Counts.{one_more}
-use Rattle.tile_ids.specs.FailingCalls as failing
+use Rattle.base_values.specs.Counts.{one_more}
+use Rattle.base_values.specs.FailingCalls as failing
 use Rattle.byte_media.specs.declared.mem_medium.MemMedium.{MemMedium}
 
 -- the text of the read with this number: the n-th, or the last one beyond

@@ -1,13 +1,13 @@
 // What is read from: bytes at places. An object may tell what it holds, and counts its faults and reads.
 ghost use Rattle.std.specs.Prelude.{◌≡◌, ℕ, List, ◌≤◌, IfSome, Some, None};
 ghost use Rattle.std.specs.declared.option.Option.{Option};
-ghost use Rattle.tile_ids.specs.Counts.{Grew};
+ghost use Rattle.base_values.specs.Counts.{Grew};
 ghost use Rattle.byte_media.specs.Media.{ReadAnswers, ReadExactAnswers, HasVersion, ReadCauses, ReadExactCauses};
 
 use bytes::Bytes;
 use std::alloc::{AllocError, AllocFailed, Global};
 use thiserror::Error;
-use tile_ids::{OutOfMemory, TextVal};
+use base_values::{OutOfMemory, TextVal};
 
 /// What a read gives: its bytes, and the version text of the data where the backend has one.
 #[derive(Drop)]

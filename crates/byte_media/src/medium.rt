@@ -1,6 +1,6 @@
 // What is written to, and read back from: bytes at places.
 ghost use Rattle.std.specs.Prelude.{◌≡◌, ◌≤◌, ◌<◌, ◌^◌, IfSome, OnErr, IsErrOf, is_some};
-ghost use Rattle.tile_ids.specs.Counts.{Rose};
+ghost use Rattle.base_values.specs.Counts.{Rose};
 ghost use Rattle.byte_media.specs.Media.{IsWithin, EndsBelow, WriteLeaves, IsLength};
 
 use crate::Backend;

@@ -1,13 +1,13 @@
 // A medium in memory. The calls that are listed fail.
 ghost use Rattle.std.specs.Prelude.{◌≡◌, [], ◌≤◌, ◌<◌, ◌+◌, ◌↔◌, IfOk, OnOk, OnErr, IsErrOf, IsTrue, is_err, Some, None, length};
-ghost use Rattle.tile_ids.specs.Counts.{Grew};
+ghost use Rattle.base_values.specs.Counts.{Grew};
 ghost use Rattle.byte_media.specs.Media.{written, WriteGives, IsLength, IsWithin, ReadAnswers, ReadExactAnswers, HasVersion};
 ghost use Rattle.byte_media.specs.MemMedium.{version_at, held, version_texts, call_count, fault_count, read_count, failing_calls, next_fails, called, read_called};
 
 use crate::{Backend, BackendResponse, Medium, MediumFault, ReadFault, WriteFault};
 use bytes::Bytes;
 use std::alloc::{AllocError, Global};
-use tile_ids::{FailingCalls, OutOfMemory, TextVal};
+use base_values::{FailingCalls, OutOfMemory, TextVal};
 
 /// A medium whose bytes lie in memory. It tells them, fails only where it is made to, and gives version texts where it has some.
 #[derive(Drop)]

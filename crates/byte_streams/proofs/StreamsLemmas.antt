@@ -3,7 +3,7 @@ use Rattle.std.proofs.Common.{ℕ, ◌≡◌, ◌+◌, ◌-◌, ◌≤◌, List,
 use Rattle.std.proofs.lemmas.Slice.{between_to_end}
 use Rattle.std.specs.declared.option.Option.{Option}
 use Rattle.byte_streams.specs.Streams.{Loses, Gains, IsAtEnd}
-use Rattle.tile_ids.specs.Counts.{Grew}
+use Rattle.base_values.specs.Counts.{Grew}
 
 pub Loses-nil : (a : Option (List ℕ)) → Loses a a []
 Loses-nil None = tt

@@ -2,7 +2,7 @@
 use Rattle.std.specs.Prelude.{ℕ, ◌+◌, ◌-◌, ◌^◌, ◌≤◌, ◌<◌, length, Vec, Ok, Err}
 use Rattle.std.specs.declared.alloc.Global.{Global}
 use Rattle.std.specs.declared.result.Result.{Result}
-use Rattle.tile_ids.specs.Counts.{Grew}
+use Rattle.base_values.specs.Counts.{Grew}
 use Rattle.byte_streams.specs.declared.input.InputError.{InputError}
 use Rattle.byte_streams.specs.declared.input.InputError.TheVariants.{Fault, TooLong, OutOfMemory}
 use Rattle.byte_streams.specs.declared.input.TheConstants.{MAX_INPUT}

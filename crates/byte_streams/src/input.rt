@@ -1,6 +1,6 @@
 // Reading all of the input.
 ghost use Rattle.std.specs.Prelude.{◌≡◌, ℕ, ◌≤◌, ◌<◌, length, OnOk, IfOk, IfSome, IsErrOf, is_some};
-ghost use Rattle.tile_ids.specs.Counts.{Rose};
+ghost use Rattle.base_values.specs.Counts.{Rose};
 ghost use Rattle.byte_streams.specs.Input.{InputCounts};
 ghost use Rattle.byte_streams.specs.Streams.{Loses, IsAtEnd};
 

@@ -1,12 +1,12 @@
 // A sink in memory. The calls that are listed fail.
 ghost use Rattle.std.specs.Prelude.{◌≡◌, ◌↔◌, ◌≤◌, [], IsErrOf, IsTrue, Some};
-ghost use Rattle.tile_ids.specs.FailingCalls.{called, next_fails};
+ghost use Rattle.base_values.specs.FailingCalls.{called, next_fails};
 ghost use Rattle.byte_streams.specs.MemSink.{failing_of};
 ghost use Rattle.byte_streams.specs.Streams.{WriteAppends};
 
 use crate::{Sink, SinkFault};
 use std::alloc::Global;
-use tile_ids::FailingCalls;
+use base_values::FailingCalls;
 
 /// A sink whose bytes lie in memory. It tells them, and fails only where it is made to.
 #[derive(Drop)]

@@ -1,10 +1,10 @@
 // A source in memory. The calls that are listed fail.
 ghost use Rattle.std.specs.Prelude.{◌≡◌, ◌↔◌, ◌≤◌, [], drop, is_err, Ok, Some, vec_len};
-ghost use Rattle.tile_ids.specs.FailingCalls.{called, next_fails};
+ghost use Rattle.base_values.specs.FailingCalls.{called, next_fails};
 ghost use Rattle.byte_streams.specs.Streams.{CountsRead, ReadTakes};
 
 use crate::{Source, SourceFault};
-use tile_ids::FailingCalls;
+use base_values::FailingCalls;
 
 /// A source whose bytes lie in memory. It tells them, and fails only where it is made to.
 #[derive(Drop)]

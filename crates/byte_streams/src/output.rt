@@ -1,6 +1,6 @@
 // Writing all of a text.
 ghost use Rattle.std.specs.Prelude.{◌≡◌, ◌≤◌, OnOk, IsErrOf, is_some};
-ghost use Rattle.tile_ids.specs.Counts.{Rose};
+ghost use Rattle.base_values.specs.Counts.{Rose};
 ghost use Rattle.byte_streams.specs.Streams.{Gains, GainsFront};
 
 use crate::{Sink, SinkFault};

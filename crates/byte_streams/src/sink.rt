@@ -1,7 +1,7 @@
 // Where bytes go.
 ghost use Rattle.std.specs.Prelude.{◌≡◌, ℕ, List, ◌≤◌, IsErrOf};
 ghost use Rattle.std.specs.declared.option.Option.{Option};
-ghost use Rattle.tile_ids.specs.Counts.{Rose};
+ghost use Rattle.base_values.specs.Counts.{Rose};
 ghost use Rattle.byte_streams.specs.Streams.{WriteAppends};
 
 use thiserror::Error;

@@ -4,7 +4,7 @@ use pm_format::{Compression, Header, TileType};
 use rows_shared::{Words, owned, said, say, text, texts};
 use serde_json::Value;
 use std::alloc::Global;
-use tile_ids::TextList;
+use base_values::TextList;
 use tile_json::{JsonFields, LayerList, TextFields, VectorLayer};
 
 fn document(alloc: Global, out: &mut String, words: &mut Words) -> Option<()> {

@@ -3,7 +3,7 @@ use rows_shared::{Words, owned, said, say, text};
 use serde_json::Value;
 use std::alloc::Global;
 use std::fmt::Debug;
-use tile_ids::TextVal;
+use base_values::TextVal;
 use tile_json::{JsonFields, JsonVal, TextFields, TextMap};
 
 fn say_map<V: Debug + Drop>(out: &mut String, map: &TextMap<V>, sought: &str) -> Option<()> {

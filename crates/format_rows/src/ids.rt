@@ -1,10 +1,8 @@
 // Calls of tile_ids.
 use rows_shared::{Words, bytes, number, owned, said, say, say_bytes, say_text};
 use std::alloc::Global;
-use tile_ids::{
-    BlobVal, MAX_TILE_ID, MAX_ZOOM, PYRAMID_SIZE_BY_ZOOM, TileCoord, TileId, invert_y_value,
-    parse_tile_index, subtree_interval,
-};
+use base_values::BlobVal;
+use tile_ids::{MAX_TILE_ID, MAX_ZOOM, PYRAMID_SIZE_BY_ZOOM, TileCoord, TileId, invert_y_value, parse_tile_index, subtree_interval};
 
 fn coord(out: &mut String, words: &mut Words) -> Option<()> {
     said(

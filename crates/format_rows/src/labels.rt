@@ -5,7 +5,8 @@ use pm_format::{
 };
 use rows_shared::{Words, bytes, number, said, say, say_text};
 use std::alloc::Global;
-use tile_ids::{OutOfMemory, TileCoord, TileId};
+use base_values::OutOfMemory;
+use tile_ids::{TileCoord, TileId};
 
 fn say_compression(out: &mut String, label: Compression) -> Option<()> {
     say(out, &label)?;

@@ -1,6 +1,6 @@
 // The hash of all tiles of a set: as it is stored, as it is computed, and whether these agree.
 ghost use Rattle.std.specs.Prelude.{◌≡◌, ◌≢◌, ◌≤◌, Err, IfOk, IsErrOf};
-ghost use Rattle.tile_ids.specs.Counts.{Rose};
+ghost use Rattle.base_values.specs.Counts.{Rose};
 ghost use Rattle.mb_check.specs.AggregateHash.{algorithm_answer, checked_answer, hash_answer, stored_answer};
 ghost use Rattle.mb_check.specs.Begun.{IsBegun};
 ghost use Rattle.mb_lists.specs.Metadata.{text_at};
@@ -10,7 +10,7 @@ use mb_load::{Loaded, load};
 use mb_store::{AGG_TILES_HASH, MbtError, MbtResult, TileStore};
 use std::alloc::Global;
 use tile_hash::HashAlgorithm;
-use tile_ids::{OutOfMemory, TextVal};
+use base_values::{OutOfMemory, TextVal};
 
 /// A copy of the text of a name of metadata, None where there is none, or null.
 pub(crate) fn text_of(

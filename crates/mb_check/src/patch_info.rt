@@ -1,6 +1,6 @@
 // What a set says of itself as a patch, or as the base of one.
 ghost use Rattle.std.specs.Prelude.{◌≡◌, ◌≢◌, ◌≤◌, Err, IsErrOf, is_some};
-ghost use Rattle.tile_ids.specs.Counts.{Rose};
+ghost use Rattle.base_values.specs.Counts.{Rose};
 ghost use Rattle.mb_check.specs.Begun.{IsBegun};
 ghost use Rattle.mb_check.specs.PatchInfo.{info_answer};
 ghost use Rattle.mb_constraints.specs.DiffHashes.{base_refused, patch_refused, refused_by, unless_forced};
@@ -13,7 +13,7 @@ use mb_store::{
     MbtType, PatchType, TileStore,
 };
 use std::alloc::Global;
-use tile_ids::TextVal;
+use base_values::TextVal;
 
 /// What a set says of itself as a patch, or as the base of one.
 #[derive(Debug, Drop)]

@@ -2,7 +2,7 @@
 ghost use Rattle.std.specs.Prelude.{◌≡◌, ◌≢◌, ◌≤◌, ◌<◌, ◌^◌, ◌++◌, [], ℕ, List, Option, Err, IfOk, IfSome, IsErrOf, OnOk, length, map, option_map, slice_get, slice_index_or};
 ghost use Rattle.std.specs.FinMap.{entries, len};
 ghost use Rattle.std.specs.List.{cons_option, filter_map};
-ghost use Rattle.tile_ids.specs.Counts.{Rose};
+ghost use Rattle.base_values.specs.Counts.{Rose};
 ghost use Rattle.mb_check.specs.Begun.{IsBegun};
 ghost use Rattle.mb_check.specs.Sizes.{info_by, no_sizes, with_sizes, with_tile};
 ghost use Rattle.mb_check.specs.Totals.{below, greatest, last_of, least, size_at, sizes_at, summary_answer, summary_of, total_of, zoom_infos};
@@ -15,7 +15,7 @@ use crate::{Summary, ZoomInfo, ZoomInfoList};
 use mb_load::{Loaded, load};
 use mb_store::{Cell, MbtError, MbtResult, TileStore};
 use std::alloc::Global;
-use tile_ids::OutOfMemory;
+use base_values::OutOfMemory;
 
 // The size of a tile, None for null.
 fn size_of(cell: &Cell) -> Option<u64>

@@ -1,6 +1,6 @@
 // Storing the computed hash of all tiles.
 ghost use Rattle.std.specs.Prelude.{◌≡◌, ◌≤◌, Some, true, IfOk, IsErrOf, OnErr, OnOk};
-ghost use Rattle.tile_ids.specs.Counts.{Rose};
+ghost use Rattle.base_values.specs.Counts.{Rose};
 ghost use Rattle.mb_check.specs.AggregateHash.{own_hash_answer};
 ghost use Rattle.mb_check.specs.Begun.{IsBegun};
 ghost use Rattle.mb_check.specs.Updated.{IsUpdated, held_hashed};
@@ -10,7 +10,7 @@ use mb_edit::commit_loaded;
 use mb_load::{Editing, Loaded, load};
 use mb_store::{AGG_TILES_HASH, Cell, HASH_ALGORITHM, MbtError, MbtResult, TileStore};
 use std::alloc::Global;
-use tile_ids::{OutOfMemory, TextVal};
+use base_values::{OutOfMemory, TextVal};
 
 // Puts a text under a name.
 fn put_text(alloc: Global, edits: &mut Editing, name: &str, value: &str) -> Result<(), OutOfMemory>

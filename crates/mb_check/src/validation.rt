@@ -1,6 +1,6 @@
 // Validation of a set.
 ghost use Rattle.std.specs.Prelude.{◌≡◌, ◌≢◌, ◌≤◌, true, IsErrOf, OnErr, OnOk};
-ghost use Rattle.tile_ids.specs.Counts.{Rose};
+ghost use Rattle.base_values.specs.Counts.{Rose};
 ghost use Rattle.mb_check.specs.Begun.{IsBegun};
 ghost use Rattle.mb_check.specs.Validation.{IsLeft, hash_type_words, validated};
 
@@ -9,7 +9,7 @@ use mb_load::load;
 use mb_store::{MbtError, MbtResult, TileStore};
 use std::alloc::Global;
 use std::fmt;
-use tile_ids::TextVal;
+use base_values::TextVal;
 
 /// What a validation does with the hash of all tiles in a set's metadata.
 #[derive(Clone, Copy, Debug, Default, PartialEq, Eq)]

@@ -7,7 +7,7 @@ ghost use Rattle.mb_lists.specs.Refusals.{Tests};
 use mb_store::{MbtError, MbtResult};
 use std::alloc::Global;
 use tile_hash::HashAlgorithm;
-use tile_ids::TextVal;
+use base_values::TextVal;
 
 // The algorithm of a name, ASCII case aside.
 fn algorithm_named(name: &str) -> Option<HashAlgorithm>

@@ -11,7 +11,7 @@ use mb_lists::{Content, cell_at};
 use mb_store::{Cell, MbtError, MbtResult, MbtType, NormalizedSchema, Row};
 use std::alloc::Global;
 use tile_hash::HashAlgorithm;
-use tile_ids::TextVal;
+use base_values::TextVal;
 
 // A text with ASCII letters in upper case.
 fn upper(alloc: Global, text: &str) -> MbtResult<TextVal>

@@ -11,7 +11,7 @@ ghost use Rattle.mb_tables.specs.Tiles.{cell_at};
 use mb_lists::{ContentList, cell_at};
 use mb_store::{Cell, MbtError, MbtResult, MbtType, NormalizedSchema, Row};
 use std::alloc::Global;
-use tile_ids::TextVal;
+use base_values::TextVal;
 
 // An id as text, a number in decimal.
 fn id_text(alloc: Global, id: &Cell) -> MbtResult<TextVal>

@@ -2,7 +2,7 @@
 ghost use Rattle.std.specs.Prelude.{◌≡◌, ◌≤◌, ◌⊎◌, true, false, OnOk, OnErr, IfErr, IsErrOf};
 ghost use Rattle.mb_edit.specs.Applying.{IsAppliedBy, IsRefusedBy};
 ghost use Rattle.mb_lists.specs.Refusals.{is_free};
-ghost use Rattle.tile_ids.specs.Counts.{Rose};
+ghost use Rattle.base_values.specs.Counts.{Rose};
 
 use crate::{commit_loaded, patch_loaded};
 use mb_load::load;

@@ -17,7 +17,7 @@ use mb_load::Loaded;
 use mb_store::{Cell, MbtError, MbtResult};
 use std::alloc::Global;
 use std::collections::BTreeMap;
-use tile_ids::{BlobVal, OutOfMemory};
+use base_values::{BlobVal, OutOfMemory};
 
 /// What is known of the contents that are put under an id: the index of a tile of the patch that has them, and whether they collide.
 #[derive(Clone, Copy, Debug, PartialEq, Eq)]

@@ -3,7 +3,7 @@ ghost use Rattle.std.specs.Prelude.{◌≡◌, ◌≤◌, true, OnOk, OnErr, IfE
 ghost use Rattle.mb_edit.specs.Committing.{MakesChanges};
 ghost use Rattle.mb_load.specs.LoadedFrom.{IsLoadedFrom};
 ghost use Rattle.mb_lists.specs.Refusals.{is_free};
-ghost use Rattle.tile_ids.specs.Counts.{Rose};
+ghost use Rattle.base_values.specs.Counts.{Rose};
 
 use mb_load::Loaded;
 use mb_store::{MbtError, MbtResult, TileStore};

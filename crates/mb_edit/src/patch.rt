@@ -19,7 +19,8 @@ use mb_store::{
     MbtResult,
 };
 use std::alloc::Global;
-use tile_ids::{OutOfMemory, TextVal, TileCoord};
+use base_values::{OutOfMemory, TextVal};
+use tile_ids::TileCoord;
 
 // The coordinate of the tile of a patch at an index.
 fn coord_at(patch: &Loaded, index: usize) -> TileCoord

@@ -13,7 +13,7 @@ use mb_store::{
 };
 use std::alloc::Global;
 use tile_hash::HashAlgorithm;
-use tile_ids::TextVal;
+use base_values::TextVal;
 
 // The test that a patch describes no table of binary differences.
 fn test_kind(patch: &Loaded) -> MbtResult<()>

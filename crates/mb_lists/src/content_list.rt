@@ -13,7 +13,7 @@ use crate::entries::{
 };
 use mb_tables::{Cell, Row};
 use std::alloc::Global;
-use tile_ids::OutOfMemory;
+use base_values::OutOfMemory;
 
 /// Contents in the order in which they came, and the indexes of those that have an id in the order of their ids.
 #[derive(Debug, Drop)]

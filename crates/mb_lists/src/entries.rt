@@ -9,7 +9,8 @@ ghost use Rattle.mb_tables.specs.Tiles.{place_cmp};
 
 use mb_tables::Cell;
 use std::cmp::Ordering;
-use tile_ids::{TextVal, TileCoord, invert_y_value};
+use base_values::TextVal;
+use tile_ids::{TileCoord, invert_y_value};
 
 /// What became of an entry since the set was loaded.
 #[derive(Clone, Copy, Debug, PartialEq, Eq)]

@@ -16,7 +16,7 @@ use crate::entries::{Standing, StoredName};
 use crate::kinds::have_name_kinds;
 use mb_tables::{Cell, MbtError, MbtResult, Row};
 use std::alloc::Global;
-use tile_ids::OutOfMemory;
+use base_values::OutOfMemory;
 
 /// Names in the order of their bytes, `live` of them, and behind them the marks.
 #[derive(Debug, Drop)]

@@ -11,7 +11,8 @@ use crate::row_coord::coord_of;
 use mb_tables::{Cell, Row};
 use std::alloc::Global;
 use std::mem;
-use tile_ids::{OutOfMemory, TileCoord};
+use base_values::OutOfMemory;
+use tile_ids::TileCoord;
 
 /// Contents, tiles in the order of their rows with the indexes of their contents, and in a cache the times of each tile.
 #[derive(Debug, Drop)]

@@ -6,7 +6,8 @@ ghost use Rattle.mb_lists.specs.Keyed.{IsAt, IsGap, are_distinct, live_at};
 ghost use Rattle.mb_tables.specs.Tiles.{place_cmp};
 
 use crate::entries::{StoredTile, compare_places};
-use tile_ids::{OutOfMemory, TileCoord};
+use base_values::OutOfMemory;
+use tile_ids::TileCoord;
 
 /// Tiles in the order of their places, `live` of them, and behind them the marks.
 #[derive(Debug, Drop)]

@@ -10,7 +10,7 @@ use mb_lists::{Content, Dates};
 use mb_store::{Cell, MbtType};
 use std::alloc::Global;
 use tile_hash::HashAlgorithm;
-use tile_ids::OutOfMemory;
+use base_values::OutOfMemory;
 
 /// The id that a layout gives bytes, null where it gives none.
 pub(crate) fn id_for(

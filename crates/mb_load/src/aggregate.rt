@@ -10,7 +10,8 @@ use itoa::Buffer;
 use mb_store::Cell;
 use std::alloc::Global;
 use tile_hash::{HashAlgorithm, HashStream};
-use tile_ids::{OutOfMemory, TextVal, TileCoord, invert_y_value};
+use base_values::{OutOfMemory, TextVal};
+use tile_ids::{TileCoord, invert_y_value};
 
 // The algorithm whose digests are the same number in hexadecimal.
 fn in_hexadecimal(algorithm: HashAlgorithm) -> HashAlgorithm

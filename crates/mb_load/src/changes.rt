@@ -17,7 +17,7 @@ use mb_lists::{Content, Dates, Standing, StoredName, StoredTile};
 use mb_store::{Changes, MbtType, RowKey, TableName};
 use std::alloc::Global;
 use tile_hash::HashAlgorithm;
-use tile_ids::OutOfMemory;
+use base_values::OutOfMemory;
 
 // The change of a tile, if it was edited.
 fn add_tile(

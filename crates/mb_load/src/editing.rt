@@ -11,7 +11,8 @@ use mb_lists::{Content, ContentList, Dates, NameList, Standing, StoredName, Stor
 use mb_store::{Cell, MbtType, PatchType};
 use std::marker::Model;
 use tile_hash::HashAlgorithm;
-use tile_ids::{BlobVal, OutOfMemory, TextVal, TileCoord};
+use base_values::{BlobVal, OutOfMemory, TextVal};
+use tile_ids::TileCoord;
 
 /// A loaded set that takes edits in any order, each in the time of a push: what was put last counts. `settle` puts all in order again.
 #[derive(Drop)]

@@ -28,7 +28,7 @@ use mb_lists::{ContentList, NameList, contents_from, have_id_kinds, have_tile_ki
 use mb_store::{Cell, HASH_ALGORITHM, MbtError, MbtResult, MbtType, PatchType, Row};
 use std::alloc::Global;
 use tile_hash::HashAlgorithm;
-use tile_ids::TextVal;
+use base_values::TextVal;
 
 // Whether the cells of tile rows and the ids of contents are of their kinds.
 fn have_kinds(layout: MbtType, contents: &ContentList, rows: &[Row]) -> bool

@@ -8,7 +8,8 @@ use mb_lists::{ContentList, Dates, NameList, TileList, kept_cell, kept_id};
 use mb_store::{Cell, MbtType, PatchType};
 use std::marker::Model;
 use tile_hash::HashAlgorithm;
-use tile_ids::{TextVal, TileCoord};
+use base_values::TextVal;
+use tile_ids::TileCoord;
 
 /// A set of tiles as it was loaded: its tiles in the order of their places, its metadata in the order of the names' bytes, and in a
 /// normalised set its contents by id.

@@ -9,7 +9,8 @@ use mb_lists::{Content, Dates, StoredName, StoredTile};
 use mb_store::{Cell, MbtType, Row, RowKey, TableName};
 use std::alloc::Global;
 use tile_hash::HashAlgorithm;
-use tile_ids::{OutOfMemory, TileCoord, invert_y_value};
+use base_values::OutOfMemory;
+use tile_ids::{TileCoord, invert_y_value};
 
 /// The table of the contents of a layout by id; one that a layout without ids has no row of.
 pub(crate) fn contents_table(layout: MbtType) -> TableName

@@ -1,6 +1,6 @@
 // All rows of a table.
 ghost use Rattle.std.specs.Prelude.{◌≡◌, ◌≤◌, All, [], false, true, IfOk, IsErrOf, length};
-ghost use Rattle.tile_ids.specs.Counts.{Rose};
+ghost use Rattle.base_values.specs.Counts.{Rose};
 ghost use Rattle.mb_lists.specs.Contents.{content_rows};
 ghost use Rattle.mb_tables.specs.Kind.{is_normalized, tile_table};
 ghost use Rattle.mb_tables.specs.Table.{width};

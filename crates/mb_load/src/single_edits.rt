@@ -11,7 +11,8 @@ use mb_lists::{
     Content, ContentList, Standing, StoredName, StoredTile, TileList, mark_all, sort_named,
 };
 use mb_store::Cell;
-use tile_ids::{BlobVal, OutOfMemory, TextVal, TileCoord};
+use base_values::{BlobVal, OutOfMemory, TextVal};
+use tile_ids::TileCoord;
 
 impl Loaded {
     /// Puts bytes at a coordinate: in a normalised set under their digest by the set's algorithm, in a cache without times. It takes the

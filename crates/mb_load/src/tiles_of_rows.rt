@@ -13,7 +13,7 @@ ghost use Rattle.mb_tables.specs.Kind.{is_normalized};
 use mb_lists::{ContentList, RowTiles, cache_tiles, flat_tiles, named_tiles};
 use mb_store::{MbtType, Row};
 use std::alloc::Global;
-use tile_ids::OutOfMemory;
+use base_values::OutOfMemory;
 
 /// The tiles of rows that passed their tests, with their contents.
 pub(crate) fn tiles_of(

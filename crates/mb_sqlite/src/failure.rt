@@ -1,12 +1,12 @@
 // Why a step on the database fails.
 ghost use Rattle.std.specs.Prelude.{◌≡◌, ◌≤◌, Ok, IfErr, IfOk, IsErrOf, OnErr, OnOk};
-ghost use Rattle.tile_ids.specs.Counts.{Rose};
+ghost use Rattle.base_values.specs.Counts.{Rose};
 ghost use Rattle.mb_sqlite.specs.Failing.{answer_of};
 
 use mb_store::StoreError;
 use sqlite::{Error, ErrorCode};
 use std::alloc::{AllocError, AllocFailed};
-use tile_ids::OutOfMemory;
+use base_values::OutOfMemory;
 
 // Why a step on the database fails.
 #[derive(Clone, Copy, Debug, PartialEq, Eq)]

@@ -12,7 +12,7 @@ use crate::failure::Failure;
 use mb_tables::{Cell, Row, TableName};
 use sqlite::types::ValueRef;
 use std::alloc::{AllocError, Global};
-use tile_ids::{BlobVal, TextVal};
+use base_values::{BlobVal, TextVal};
 
 // A value of the database as a cell. A floating point number, and a text that isn't UTF-8, is a value of another kind.
 pub(crate) fn cell_of(alloc: Global, value: ValueRef<'_>) -> Result<Cell, AllocError>

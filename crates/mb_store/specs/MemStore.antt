@@ -1,6 +1,6 @@
 -- What a store in memory tells.
 use Rattle.std.specs.Prelude.{ℕ, ◌≡◌, true, []}
-use Rattle.tile_ids.specs.declared.failing_calls.FailingCalls.{FailingCalls}
+use Rattle.base_values.specs.declared.failing_calls.FailingCalls.{FailingCalls}
 use Rattle.mb_tables.specs.Table.{Tables}
 use Rattle.mb_store.specs.Store.{IsSound}
 use Rattle.mb_store.specs.MemTables.{tables_of}

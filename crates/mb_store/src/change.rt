@@ -3,7 +3,7 @@ ghost use Rattle.std.specs.Prelude.{◌≡◌, IfOk};
 
 use crate::{Row, RowKey, TableName};
 use std::alloc::Global;
-use tile_ids::OutOfMemory;
+use base_values::OutOfMemory;
 
 /// One change of a store: the row that stands under a key afterwards, or none.
 #[derive(Debug, Drop)]

@@ -14,7 +14,7 @@ use crate::{Row, RowKey, TableName};
 use std::alloc::Global;
 use std::collections::BTreeMap;
 use std::marker::Model;
-use tile_ids::OutOfMemory;
+use base_values::OutOfMemory;
 
 /// The changes that one commit makes, in order of arrival: for each table and key at most one. A later change of a key takes the
 /// place of the earlier.

@@ -16,7 +16,7 @@ use crate::mem_tables::MemTables;
 use crate::stored_row::StoredRow;
 use crate::table_rows::TableRows;
 use std::alloc::Global;
-use tile_ids::OutOfMemory;
+use base_values::OutOfMemory;
 
 // What is looked for under the keys of a table's changes, and the number of the first row that is put.
 #[derive(Debug, Drop)]

@@ -1,6 +1,6 @@
 // The tables and views that the project itself creates in a store.
 ghost use Rattle.std.specs.Prelude.{◌≡◌, ◌≤◌, ◌⊎◌, ◌↔◌, [], ◌∷◌, true, false, IfErr, IfOk, IsErrOf, IsTrue, OnErr, OnOk};
-ghost use Rattle.tile_ids.specs.Counts.{Rose};
+ghost use Rattle.base_values.specs.Counts.{Rose};
 ghost use Rattle.mb_tables.specs.Schema.{layout_tables, set_tables, started_as, table_of, view_of};
 ghost use Rattle.mb_store.specs.Store.{created};
 ghost use Rattle.mb_tables.specs.declared.error.MbtError.{MbtError};

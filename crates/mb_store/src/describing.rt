@@ -6,7 +6,7 @@ ghost use Rattle.mb_store.specs.Store.{with_tables};
 
 use crate::TableDesc;
 use std::alloc::Global;
-use tile_ids::OutOfMemory;
+use base_values::OutOfMemory;
 
 // Whether a table or view of this name is described.
 fn is_named(tables: &[TableDesc], name: &str) -> bool

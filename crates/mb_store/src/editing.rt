@@ -11,7 +11,7 @@ use crate::change::Change;
 use crate::stored_row::StoredRow;
 use crate::table_rows::{TableRows, add, first_early};
 use std::alloc::Global;
-use tile_ids::OutOfMemory;
+use base_values::OutOfMemory;
 
 // What is looked for under the keys of a table's changes.
 pub(crate) fn keys_of(

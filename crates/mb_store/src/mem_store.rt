@@ -1,7 +1,7 @@
 // A store of tables in memory.
 ghost use Rattle.std.specs.Prelude.{◌≡◌, ◌↔◌, ◌⊎◌, ◌≤◌, true, [], All, drop, find, length, take, IfErr, IfOk, IfSome, IsErrOf, IsOkUnless, IsTrue, OnErr, OnOk};
-ghost use Rattle.tile_ids.specs.Counts.{Rose};
-ghost use Rattle.tile_ids.specs.FailingCalls.{called, next_fails};
+ghost use Rattle.base_values.specs.Counts.{Rose};
+ghost use Rattle.base_values.specs.FailingCalls.{called, next_fails};
 ghost use Rattle.mb_tables.specs.Described.{is_table, names_apart};
 ghost use Rattle.mb_tables.specs.Key.{IsInOrder, has_key};
 ghost use Rattle.mb_tables.specs.Schema.{set_tables};
@@ -18,7 +18,7 @@ use crate::{
     TileStore, committing, describing, mem_tables, reading, table_rows,
 };
 use std::alloc::Global;
-use tile_ids::FailingCalls;
+use base_values::FailingCalls;
 
 /// A store of tables in memory. The rows of a table stand in the order of their keys, rows of equal keys in order of arrival. A row
 /// goes to its place, and is found, by a number of comparisons that grows as the logarithm of the number of rows; so does each change of a commit.

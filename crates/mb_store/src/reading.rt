@@ -8,7 +8,7 @@ use crate::table_rows::TableRows;
 use crate::{Cell, Row};
 use std::alloc::Global;
 use std::collections::btree_set::Iter;
-use tile_ids::OutOfMemory;
+use base_values::OutOfMemory;
 
 // The rows behind the first ones.
 fn past(rows: Iter<'_, StoredRow>, count: u64) -> Iter<'_, StoredRow>

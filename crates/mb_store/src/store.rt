@@ -1,6 +1,6 @@
 // Stores of tables.
 ghost use Rattle.std.specs.Prelude.{◌≡◌, ℕ, ◌≤◌, Bool, true, All, IfOk, IfSome, IsErrOf, OnErr, OnOk, drop, find, length, take};
-ghost use Rattle.tile_ids.specs.Counts.{Rose};
+ghost use Rattle.base_values.specs.Counts.{Rose};
 ghost use Rattle.mb_store.specs.Committing.{AreOfTables, Commits};
 ghost use Rattle.mb_tables.specs.Key.{has_key};
 ghost use Rattle.mb_store.specs.Sizes.{live_size_of};
@@ -10,7 +10,7 @@ ghost use Rattle.mb_tables.specs.Table.{Tables, width};
 use crate::{Changes, MbtError, Row, RowKey, TableDesc, TableName};
 use std::alloc::{AllocError, AllocFailed, Global};
 use thiserror::Error;
-use tile_ids::OutOfMemory;
+use base_values::OutOfMemory;
 
 /// Why a call of a store is refused.
 #[derive(Clone, Copy, Debug, PartialEq, Eq, Error)]

@@ -11,7 +11,7 @@ use std::alloc::Global;
 use std::cmp::Ordering;
 use std::marker::Model;
 use std::slice;
-use tile_ids::OutOfMemory;
+use base_values::OutOfMemory;
 
 // The cells of a stored row: the one behind its numbers, or all.
 #[derive(Debug, Drop)]

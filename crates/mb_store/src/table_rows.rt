@@ -17,7 +17,7 @@ use mb_tables::key_of;
 use std::alloc::Global;
 use std::collections::BTreeSet;
 use std::collections::btree_set::Iter;
-use tile_ids::OutOfMemory;
+use base_values::OutOfMemory;
 
 // The rows of a table, and the number of the row that comes next.
 #[derive(Debug, Drop)]

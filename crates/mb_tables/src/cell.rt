@@ -3,7 +3,7 @@ ghost use Rattle.std.specs.Prelude.{◌≡◌, IfOk};
 ghost use Rattle.mb_tables.specs.Cell.{is_null};
 
 use std::alloc::Global;
-use tile_ids::{BlobVal, OutOfMemory, TextVal};
+use base_values::{BlobVal, OutOfMemory, TextVal};
 
 /// One value of a row, as a database of tables holds it.
 #[derive(Debug, Drop)]

@@ -6,7 +6,7 @@ ghost use Rattle.mb_tables.specs.CellOrder.{cells_total};
 
 use crate::Cell;
 use std::cmp::Ordering;
-use tile_ids::TextVal;
+use base_values::TextVal;
 
 impl Cell {
     // Its place among the kinds.

@@ -3,7 +3,7 @@ ghost use Rattle.std.specs.Prelude.{◌≡◌, IfOk};
 
 use std::alloc::Global;
 use std::marker::Model;
-use tile_ids::{OutOfMemory, TextVal};
+use base_values::{OutOfMemory, TextVal};
 
 /// A described column: its name, and the text of its type as the description spells it.
 #[derive(Debug, Drop)]

@@ -6,7 +6,7 @@ ghost use Rattle.mb_tables.specs.Described.{is_key_index, is_keyed};
 ghost use Rattle.mb_tables.specs.Table.{key_columns};
 
 use crate::{IndexDesc, TableDesc, TableName};
-use tile_ids::TextVal;
+use base_values::TextVal;
 
 // Whether texts have this one among them.
 pub(crate) fn has_text(texts: &[TextVal], text: &str) -> bool

@@ -3,7 +3,7 @@ ghost use Rattle.std.specs.Prelude.{◌≡◌, IfOk};
 
 use crate::{ColumnList, IndexList};
 use std::alloc::Global;
-use tile_ids::{OutOfMemory, TextVal};
+use base_values::{OutOfMemory, TextVal};
 
 /// Whether a description is of a table, which holds rows, or of a view.
 #[derive(Clone, Copy, Debug, PartialEq, Eq)]

@@ -4,7 +4,7 @@ ghost use Rattle.std.specs.Prelude.{◌≡◌};
 use crate::{Cell, TableName};
 use std::alloc::{AllocError, AllocFailed};
 use thiserror::Error;
-use tile_ids::{OutOfMemory, TextVal};
+use base_values::{OutOfMemory, TextVal};
 
 /// Why a call on a tile set is refused.
 #[derive(Debug, Drop, Error)]

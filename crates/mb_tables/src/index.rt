@@ -3,7 +3,7 @@ ghost use Rattle.std.specs.Prelude.{◌≡◌, IfOk};
 
 use std::alloc::Global;
 use std::marker::Model;
-use tile_ids::{OutOfMemory, TextList, TextVal};
+use base_values::{OutOfMemory, TextList, TextVal};
 
 /// A described index: the names of its columns, and whether it keeps equal rows out.
 #[derive(Debug, Drop)]

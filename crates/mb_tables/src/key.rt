@@ -6,7 +6,7 @@ ghost use Rattle.mb_tables.specs.Table.{key_of};
 use crate::{Cell, TableName};
 use std::alloc::Global;
 use std::cmp::Ordering;
-use tile_ids::{OutOfMemory, TextVal};
+use base_values::{OutOfMemory, TextVal};
 
 /// The key of a row: a place, a text id or a number. It is the key of a row whose key cells are these, whatever the table.
 #[derive(Debug, Drop)]

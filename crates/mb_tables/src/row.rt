@@ -4,7 +4,7 @@ ghost use Rattle.std.specs.Prelude.{◌≡◌, IfOk};
 use crate::Cell;
 use std::alloc::Global;
 use std::marker::Model;
-use tile_ids::OutOfMemory;
+use base_values::OutOfMemory;
 
 /// A row: its cells in the order of its table's columns.
 #[derive(Debug, Drop)]

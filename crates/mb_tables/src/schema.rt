@@ -8,7 +8,7 @@ use crate::{
     TableName,
 };
 use std::alloc::Global;
-use tile_ids::{OutOfMemory, TextList, TextVal};
+use base_values::{OutOfMemory, TextList, TextVal};
 
 fn text_of(alloc: Global, text: &str) -> Result<TextVal, OutOfMemory>
     ensures { IfOk result (λ own. own ≡ text.now) }

@@ -2,7 +2,7 @@
 ghost use Rattle.std.specs.Prelude.{◌≡◌, ◌≤◌, ◌<◌, ◌+◌, ◌^◌, ℕ, List, [], length, None, Some, IfSome, IfOk, OnOk, OnErr, IsErrOf, is_some};
 ghost use Rattle.std.specs.BTreeMap.{get};
 ghost use Rattle.std.specs.HashMap as hashed;
-ghost use Rattle.tile_ids.specs.Counts.{Rose};
+ghost use Rattle.base_values.specs.Counts.{Rose};
 ghost use Rattle.byte_media.specs.Media.{IsWithin};
 ghost use Rattle.pm_contents.specs.Contents.{Finds, Holds, IsAlike, IsTold, IsUnasked, content_cmp, first_of};
 ghost use Rattle.pm_contents.specs.Pieces.{LeavesPiece};

@@ -1,7 +1,7 @@
 // Where a content lies among the bytes of all contents, and what a medium answers there.
 ghost use Rattle.std.specs.Prelude.{◌≡◌, ◌≢◌, ◌≤◌, ◌<◌, ◌+◌, ◌^◌, true, drop, length, IfSome, IfOk, IsErrOf};
 ghost use Rattle.std.specs.Str.{bytes_eq};
-ghost use Rattle.tile_ids.specs.Counts.{Rose};
+ghost use Rattle.base_values.specs.Counts.{Rose};
 ghost use Rattle.byte_media.specs.Media.{IsWithin};
 ghost use Rattle.pm_contents.specs.Contents.{in_span};
 ghost use Rattle.pm_contents.specs.Span.{Stood, same_by};

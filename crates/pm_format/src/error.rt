@@ -4,7 +4,8 @@ ghost use Rattle.std.specs.Prelude.{◌≡◌};
 use crate::{Compression, ReadFault, WriteFault};
 use std::alloc::{AllocError, AllocFailed};
 use thiserror::Error;
-use tile_ids::{OutOfMemory, TextVal, TileError};
+use base_values::{OutOfMemory, TextVal};
+use tile_ids::TileError;
 
 /// The result of a call on archives.
 pub type PmtResult<T> = Result<T, PmtError>;

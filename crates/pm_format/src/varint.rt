@@ -3,7 +3,7 @@ ghost use Rattle.std.specs.Prelude.{◌≡◌, ◌≤◌, ◌<◌, ◌+◌, ◌*
 ghost use Rattle.pm_format.specs.Varint.{u32_at, u64_at, number_at, varint};
 
 use crate::PmtError;
-use tile_ids::OutOfMemory;
+use base_values::OutOfMemory;
 
 /// Appends the short spelling of a number. After `OutOfMemory` nothing has changed.
 pub fn write_varint(out: &mut Vec<u8>, value: u64) -> Result<(), OutOfMemory>

@@ -1,6 +1,6 @@
 -- What calls of a reader answer, and why.
 use Rattle.std.specs.Prelude.{◌≡◌, ◌≢◌, ℕ, List, Option, Some, None, Result, Ok, Err, IfSome, IfOk}
-use Rattle.tile_ids.specs.Counts.{Rose}
+use Rattle.base_values.specs.Counts.{Rose}
 use Rattle.pm_format.specs.LookUp.{range_of}
 use Rattle.byte_media.specs.declared.backend.BackendResponse.{BackendResponse}
 use Rattle.pm_format.specs.declared.error.PmtError.{PmtError}

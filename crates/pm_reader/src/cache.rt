@@ -12,7 +12,8 @@ pub use map::HashMapCache;
 pub use none::NoCache;
 use pm_format::{DirEntry, Directory, PmtResult};
 pub use recent::LruDirCache;
-use tile_ids::{OutOfMemory, TileId};
+use base_values::OutOfMemory;
+use tile_ids::TileId;
 
 /// What a cache knows of an id.
 #[derive(Clone, Copy, Debug, PartialEq, Eq)]

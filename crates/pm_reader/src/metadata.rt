@@ -10,7 +10,7 @@ use crate::{DirectoryCache, PmTilesReader, ReaderState};
 use pm_format::{Backend, PmtError, PmtResult};
 use std::alloc::Global;
 use std::str;
-use tile_ids::TextVal;
+use base_values::TextVal;
 
 impl ReaderState {
     /// The metadata of the archive, as it stands there. `InvalidMetadataUtf8Encoding` comes exactly where it isn't UTF-8, and `Reading(PastEnd)` where its range passes

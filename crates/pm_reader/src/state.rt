@@ -1,13 +1,13 @@
 // The state of a reader: all that it owns, beside the backend that it borrows.
 ghost use Rattle.std.specs.Prelude.{◌≡◌, IfSome, IfOk, take};
-ghost use Rattle.tile_ids.specs.Counts.{Grew};
+ghost use Rattle.base_values.specs.Counts.{Grew};
 ghost use Rattle.pm_reader.specs.Reads.{ReadsOnly};
 ghost use Rattle.pm_reader.specs.Opening.{FrontCauses, HasVersionOf, IsOpen, OpenAnswers, OpenCauses, header_of, root_of};
 
 use crate::front::open_front;
 use pm_format::{Backend, BackendResponse, Directory, Header, PmtError, PmtResult};
 use std::alloc::Global;
-use tile_ids::TextVal;
+use base_values::TextVal;
 
 /// How many bytes of an archive are read when it is opened: the header and the root lie in them.
 pub(crate) const FRONT: usize = 16_384;

@@ -10,7 +10,7 @@ ghost use Rattle.pm_reader.specs.TileJson.{DocumentAnswers, DocumentCauses, IsDo
 
 use crate::{DirectoryCache, PmTilesReader, ReaderState};
 use pm_format::{Backend, PmtError, PmtResult};
-use tile_ids::TextVal;
+use base_values::TextVal;
 use tile_json::{DocumentError, TileJson};
 
 impl ReaderState {

@@ -1,6 +1,6 @@
 -- Why a call of a writer ends as it does. Each answer that isn't named never comes.
 use Rattle.std.specs.Prelude.{◌≡◌, ◌≢◌, ℕ, ◌<◌, ◌^◌, Bool, true, false, List, length, Result, Ok, Err}
-use Rattle.tile_ids.specs.Counts.{Rose}
+use Rattle.base_values.specs.Counts.{Rose}
 use Rattle.pm_format.specs.Options.{Options}
 use Rattle.pm_format.specs.WellFormed.{below_root}
 use Rattle.pm_writer.specs.Archivable.{IsArchivable}

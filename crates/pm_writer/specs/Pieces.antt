@@ -1,6 +1,6 @@
 -- Pieces that are written to a medium.
 use Rattle.std.specs.Prelude.{◌≡◌, ◌⊎◌, ℕ, ◌+◌, List, ◌++◌, length, drop, slice_index, Result, Ok, Err}
-use Rattle.tile_ids.specs.Counts.{Rose}
+use Rattle.base_values.specs.Counts.{Rose}
 use Rattle.byte_media.specs.Media.{written}
 use Rattle.byte_media.specs.declared.medium.WriteFault.TheVariants as writes
 use Rattle.pm_format.specs.declared.error.PmtError.{PmtError}

@@ -1,7 +1,7 @@
 // The adds so far: their contents once each, and their entries.
 ghost use Rattle.std.specs.Prelude.{◌≡◌, ◌<◌, ◌≤◌, ◌&&◌, ◌+◌, ℕ, List, [], ◌∷◌, ◌++◌, ◌^◌, length, IfSome, IfOk, OnOk, OnErr, IsErrOf, is_some, vec_len};
 ghost use Rattle.std.specs.Vec.{vec_capacity};
-ghost use Rattle.tile_ids.specs.Counts.{Rose};
+ghost use Rattle.base_values.specs.Counts.{Rose};
 ghost use Rattle.tile_ids.specs.declared.id.TheConstants.{MAX_TILE_ID};
 ghost use Rattle.byte_media.specs.Media.{IsWithin};
 ghost use Rattle.pm_format.specs.Directory.{entry};
@@ -20,7 +20,7 @@ use pm_contents::{Contents, Sought};
 use pm_format::{DirEntry, Medium, WriteFault};
 use std::alloc::{AllocError, Global};
 use tile_hash::xxh3_64;
-use tile_ids::OutOfMemory;
+use base_values::OutOfMemory;
 
 /// The contents and entries of the adds so far.
 #[derive(Drop)]

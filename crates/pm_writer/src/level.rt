@@ -7,7 +7,7 @@ ghost use Rattle.pm_writer.specs.Leaves.{pieces};
 
 use pm_format::{AsWide, WideEntry, encode_entries};
 use std::alloc::Global;
-use tile_ids::OutOfMemory;
+use base_values::OutOfMemory;
 
 /// Directories of a level: their bytes one behind another, and the entries that name them, whose sizes may still be too long.
 #[derive(Drop)]

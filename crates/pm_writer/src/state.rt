@@ -12,7 +12,7 @@ use crate::pieces::put;
 use crate::settings::Settings;
 use pm_format::{Compression, Medium, PmtError, PmtResult};
 use std::alloc::{AllocError, Global};
-use tile_ids::OutOfMemory;
+use base_values::OutOfMemory;
 
 /// Where the root ends at the latest, and the metadata begins.
 pub(crate) const ROOT_END: u64 = 16_384;

@@ -15,7 +15,7 @@ use std::alloc::{AllocError, Global};
 use std::env;
 use std::io::Write;
 pub use streams::{HeldStreams, hold_streams};
-use tile_ids::TextVal;
+use base_values::TextVal;
 
 /// The status where a text can't be written.
 pub const OUTPUT_FAULT: u8 = 5;

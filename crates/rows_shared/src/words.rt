@@ -3,7 +3,7 @@ use std::alloc::Global;
 use std::fmt::{Debug, Display, Write};
 use std::str;
 use std::str::{FromStr, SplitWhitespace};
-use tile_ids::TextVal;
+use base_values::TextVal;
 
 pub type Words<'a> = SplitWhitespace<'a>;
 

@@ -3,7 +3,7 @@ use crate::words::owned;
 use mb_tables::{Cell, Row, RowKey, TableName};
 use rows_shared::{Words, number};
 use std::alloc::Global;
-use tile_ids::BlobVal;
+use base_values::BlobVal;
 
 pub fn table(words: &mut Words) -> Option<TableName> {
     match words.next()? {

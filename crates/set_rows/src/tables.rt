@@ -4,7 +4,7 @@ use crate::words::{owned, spaced};
 use mb_tables::{ColumnDesc, ColumnList, IndexDesc, IndexList, TableDesc, TableKind};
 use rows_shared::{Words, say};
 use std::alloc::Global;
-use tile_ids::TextList;
+use base_values::TextList;
 
 // Columns that are parted by commas, each a name, a colon and a type.
 fn columns(alloc: Global, word: &str) -> Option<ColumnList> {

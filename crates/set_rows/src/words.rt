@@ -1,6 +1,6 @@
 // Words as texts.
 use std::alloc::Global;
-use tile_ids::TextVal;
+use base_values::TextVal;
 
 // A text of its own.
 pub fn owned(alloc: Global, text: &str) -> Option<TextVal> {

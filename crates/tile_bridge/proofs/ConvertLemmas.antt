@@ -4,7 +4,7 @@ use Rattle.std.specs.Cmp.{nat_cmp_total}
 use Rattle.std.specs.Ordering.{nat_cmp}
 use Rattle.std.specs.FinMap.{find, from_entries, get, get-from_entries}
 use Rattle.tile_ids.specs.Coord.{Coord}
-use Rattle.tile_ids.specs.Counts.{Rose}
+use Rattle.base_values.specs.Counts.{Rose}
 use Rattle.tile_ids.specs.Hilbert.{id_of}
 use Rattle.mb_tables.specs.Tiles.{TileSet}
 use Rattle.pm_format.specs.LookUp.{archive_map}

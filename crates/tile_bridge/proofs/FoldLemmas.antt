@@ -6,7 +6,7 @@ use Rattle.std.proofs.lemmas.List.{drop_all, drop_more, get_or-map, get_or-set_s
 use Rattle.std.proofs.lemmas.List.Elements.{All-get_or, All-set}
 use Rattle.std.specs.Prelude.{slice_index}
 use Rattle.std.specs.List.{list_all}
-use Rattle.tile_ids.specs.Counts.{Rose}
+use Rattle.base_values.specs.Counts.{Rose}
 use Rattle.mb_edit.specs.HeldPatched.{held_patched}
 use Rattle.mb_edit.specs.Step.{step}
 use Rattle.mb_load.specs.Held.{Held}

@@ -1,7 +1,7 @@
 -- Reading the archive back that was written: what is answered, and why not.
 use Rattle.std.specs.Prelude.{◌≡◌, ◌≢◌, ℕ, ◌+◌, ◌-◌, ◌^◌, ◌≤◌, min, List, [], ◌∷◌, map, Option, Some, None, Result, Ok, Err}
 use Rattle.tile_ids.specs.Coord.{Coord}
-use Rattle.tile_ids.specs.Counts.{Rose}
+use Rattle.base_values.specs.Counts.{Rose}
 use Rattle.tile_ids.specs.Hilbert.{id_of}
 use Rattle.pm_format.specs.LookUp.{archive_map, archive_tile}
 use Rattle.pm_format.specs.declared.error.PmtError.{PmtError}

@@ -12,7 +12,8 @@ ghost use Rattle.tile_bridge.specs.Outcome.{overflows};
 use mb_load::Loaded;
 use mb_store::Cell;
 use std::alloc::Global;
-use tile_ids::{OutOfMemory, TileCoord, TileId};
+use base_values::OutOfMemory;
+use tile_ids::{TileCoord, TileId};
 
 /// A tile of a set by its id: its index in the set.
 #[derive(Clone, Copy, Debug)]

@@ -1,6 +1,6 @@
 // The conversion of a set.
 ghost use Rattle.std.specs.Prelude.{◌≡◌, ◌≤◌, ◌+◌, ◌∷◌, false, map, ℕ, IfOk, IsErrOf};
-ghost use Rattle.tile_ids.specs.Counts.{Rose};
+ghost use Rattle.base_values.specs.Counts.{Rose};
 ghost use Rattle.mb_load.specs.Aggregate.{aggregate};
 ghost use Rattle.tile_bridge.specs.Base.{BaseLeaves};
 ghost use Rattle.tile_bridge.specs.Convert.{ConvertCauses, ConvertLeaves, HasAggregate, IsEmpty, IsPlain, SetCauses, SetLeaves};
@@ -21,7 +21,8 @@ use mb_store::TileStore;
 use pm_format::{Compression, Medium, PmtError, ReadCause};
 use pm_writer::PmTilesWriter;
 use std::alloc::Global;
-use tile_ids::{TextVal, TileCoord};
+use base_values::TextVal;
+use tile_ids::TileCoord;
 
 // The conversion's word for the error of a writer that can only fail or find no memory.
 fn of_writer(error: PmtError) -> ConvertError

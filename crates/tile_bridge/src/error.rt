@@ -5,7 +5,7 @@ use mb_store::MbtError;
 use pm_format::{Compression, MediumFault, PmtError};
 use std::alloc::AllocError;
 use thiserror::Error;
-use tile_ids::OutOfMemory;
+use base_values::OutOfMemory;
 
 /// Why a conversion ends without an archive.
 #[derive(Debug, Drop, Error)]

@@ -1,6 +1,6 @@
 // The stores of a conversion are loaded.
 ghost use Rattle.std.specs.Prelude.{◌≡◌, ◌≤◌, ℕ, true, Err, IfErr, IfOk, IsErrOf, Ok};
-ghost use Rattle.tile_ids.specs.Counts.{Rose};
+ghost use Rattle.base_values.specs.Counts.{Rose};
 ghost use Rattle.mb_load.specs.Held.{nothing_edited};
 ghost use Rattle.mb_load.specs.State.{state_of};
 ghost use Rattle.mb_load.specs.LoadedFrom.{IsLoadable, IsLoadedFrom, NamesAlgorithm};

@@ -1,6 +1,6 @@
 // Patches of a base, one after another.
 ghost use Rattle.std.specs.Prelude.{◌≡◌, ◌≤◌, ℕ, suc, map, true, IfErr, IfOk, IsErrOf, OnErr, OnOk};
-ghost use Rattle.tile_ids.specs.Counts.{Rose};
+ghost use Rattle.base_values.specs.Counts.{Rose};
 ghost use Rattle.mb_load.specs.LoadedFrom.{IsLoadedFrom, NamesAlgorithm};
 ghost use Rattle.mb_tables.specs.Table.{Tables};
 ghost use Rattle.tile_bridge.specs.Patching.{IsPatchedBy, IsPatchedByAll, IsStored};

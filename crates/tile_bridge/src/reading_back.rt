@@ -15,7 +15,8 @@ use bytes::Bytes;
 use pm_format::{Backend, PmtResult};
 use pm_reader::{HashMapCache, ReaderState};
 use std::alloc::Global;
-use tile_ids::{BlobVal, OutOfMemory, TileCoord, TileId};
+use base_values::{BlobVal, OutOfMemory};
+use tile_ids::{TileCoord, TileId};
 
 // The bytes that were found, or None where there is none.
 fn filled_tile(alloc: Global, found: Option<Bytes>) -> Result<Option<BlobVal>, OutOfMemory>

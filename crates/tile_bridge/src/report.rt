@@ -3,7 +3,7 @@ ghost use Rattle.std.specs.Prelude.{◌≡◌};
 
 use pm_writer::ArchivePlaces;
 use std::marker::Model;
-use tile_ids::{BlobVal, TextVal};
+use base_values::{BlobVal, TextVal};
 
 /// The tiles at the coordinates that were asked for, in their order: None where there is no byte.
 #[derive(Debug, Drop)]

@@ -13,7 +13,7 @@ use crate::{ConvertError, ConvertOptions};
 use mb_load::Loaded;
 use mb_store::{AGG_TILES_HASH, MbtError, MbtResult, TileStore};
 use std::alloc::Global;
-use tile_ids::TextVal;
+use base_values::TextVal;
 
 // The aggregate hash of a set, which has to be the stored one.
 fn verified_hash(alloc: Global, set: &Loaded) -> MbtResult<TextVal>

@@ -16,7 +16,7 @@ use mb_load::Loaded;
 use pm_format::{Medium, PmtResult};
 use pm_writer::{ArchivePlaces, PmTilesWriter, WriterState};
 use std::alloc::Global;
-use tile_ids::OutOfMemory;
+use base_values::OutOfMemory;
 
 // How many adds are looked at together.
 const BLOCK: usize = 64;

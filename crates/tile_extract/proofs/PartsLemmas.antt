@@ -1,6 +1,6 @@
 -- Parts that are added one after another.
 use Rattle.std.proofs.Common.{◌≡◌, ◌∙◌, ◌+◌, ◌≤◌, ℕ, Bool, true, false, List, [], ◌∷◌, length, Option, None, Some, IfSome, is_some, Result, Ok, Err, refl, ap, sym, subst, arith}
-use Rattle.tile_ids.specs.Counts.{Rose}
+use Rattle.base_values.specs.Counts.{Rose}
 use Rattle.tile_ids.specs.declared.id.TheConstants.{MAX_TILE_ID}
 use Rattle.pm_format.specs.declared.error.PmtError.{PmtError}
 use Rattle.pm_format.specs.declared.error.PmtError.TheVariants as errors

@@ -1,7 +1,7 @@
 -- Where the words ask for what can be extracted and no count rose, a run is done, or memory ran out.
 use Rattle.std.proofs.Common.{◌≡◌, ℕ, List, [], Option, None, Some, Result, IfSome, sym, subst}
 use Rattle.tile_ids.specs.Coord.{Coord}
-use Rattle.tile_ids.specs.Counts.{Rose}
+use Rattle.base_values.specs.Counts.{Rose}
 use Rattle.pm_writer.specs.declared.places.ArchivePlaces.{ArchivePlaces}
 use Rattle.tile_extract.specs.Completeness.{CanExtract, IsDoneOrWanting}
 use Rattle.tile_extract.specs.Extract.{Answers, Causes}

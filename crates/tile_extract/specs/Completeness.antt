@@ -4,7 +4,7 @@ use Rattle.std.specs.FinMap.{FinMap, entries, get}
 use Rattle.std.specs.Ordering.{nat_cmp}
 use Rattle.std.specs.Str.{IsUtf8}
 use Rattle.tile_ids.specs.Coord.{Coord}
-use Rattle.tile_ids.specs.Counts.{Rose}
+use Rattle.base_values.specs.Counts.{Rose}
 use Rattle.pm_format.specs.LookUp.{archive_map}
 use Rattle.pm_format.specs.Sound.{Sound}
 use Rattle.pm_reader.specs.Metadata.{metadata_read}

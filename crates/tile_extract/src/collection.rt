@@ -17,7 +17,8 @@ use pm_format::{Backend, DirEntry, Header};
 use pm_reader::ReaderState;
 use pm_writer::PmTilesWriter;
 use std::alloc::Global;
-use tile_ids::{TextVal, TileCoord};
+use base_values::TextVal;
+use tile_ids::TileCoord;
 
 /// What the archive of a subtree says beside its tiles: its zooms are the tile's and the greatest one; the rest is as in the archive that it comes from.
 pub fn options_from(

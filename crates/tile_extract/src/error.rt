@@ -3,7 +3,7 @@ ghost use Rattle.std.specs.Prelude.{◌≡◌};
 
 use pm_format::{MediumFault, PmtError};
 use thiserror::Error;
-use tile_ids::OutOfMemory;
+use base_values::OutOfMemory;
 
 /// Why an extraction ends without an archive.
 #[derive(Debug, Drop, Error)]

@@ -6,7 +6,8 @@ ghost use Rattle.tile_extract.specs.Cut.{interval, intervals};
 ghost use Rattle.tile_extract.specs.Met.{is_below, is_met};
 
 use std::alloc::Global;
-use tile_ids::{OutOfMemory, TileCoord, subtree_interval};
+use base_values::OutOfMemory;
+use tile_ids::{TileCoord, subtree_interval};
 
 // The first and the last id of a tile's descendants at a zoom.
 fn interval_of(root: TileCoord, zoom: u8) -> (u64, u64)

@@ -10,7 +10,8 @@ use crate::writing::of_reader;
 use pm_format::{Backend, Medium};
 use pm_reader::ReaderState;
 use std::alloc::Global;
-use tile_ids::{TextVal, TileCoord};
+use base_values::TextVal;
+use tile_ids::TileCoord;
 
 /// Whether the greatest zoom is the tile's or a deeper one, up to 31.
 pub(crate) fn test_zoom(root: TileCoord, max_zoom: u8) -> Result<(), ExtractError>

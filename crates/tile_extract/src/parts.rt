@@ -6,7 +6,7 @@ ghost use Rattle.tile_extract.specs.Parts.{clip, parts_of};
 
 use pm_format::DirEntry;
 use std::alloc::Global;
-use tile_ids::OutOfMemory;
+use base_values::OutOfMemory;
 
 /// The parts that were met so far, as entries of their own, and for how many more tiles there is room. There is none once it didn't suffice; then parts are missing.
 #[derive(Drop)]

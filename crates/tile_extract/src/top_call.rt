@@ -1,6 +1,6 @@
 // The whole extractor as one call.
 ghost use Rattle.std.specs.Prelude.{◌≡◌, ◌≢◌, ◌+◌, ◌≤◌, [], Some, IfSome};
-ghost use Rattle.tile_ids.specs.Counts.{Rose};
+ghost use Rattle.base_values.specs.Counts.{Rose};
 ghost use Rattle.pm_reader.specs.Reads.{ReadsOnly};
 ghost use Rattle.tile_extract.specs.Completeness.{CanExtract, IsDoneOrWanting};
 ghost use Rattle.tile_extract.specs.Extract.{Answers, Causes, Leaves, LeavesUncompared, LeavesUnread, reads_at_most};
@@ -11,7 +11,7 @@ use crate::words::parse_words;
 use crate::{ExtractError, ExtractOutcome, extract};
 use pm_format::{Backend, Medium};
 use std::alloc::Global;
-use tile_ids::TextVal;
+use base_values::TextVal;
 
 /// Writes the archive of a tile and its descendants as `extract` does, for words that are the tile's zoom, column and row, the greatest zoom, and how many tiles there may be.
 ///

@@ -9,7 +9,7 @@ use program_words::{
 };
 use std::process::ExitCode;
 use tile_extract::{ExtractError, ExtractOutcome, extract_status, run_extract};
-use tile_ids::TextVal;
+use base_values::TextVal;
 
 const HELP: &str = "Extracts parts of archives of the PMTiles format.
 

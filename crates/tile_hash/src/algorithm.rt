@@ -8,7 +8,7 @@ use crate::md5_hex::{md5_bytes, write_upper_hex};
 use crate::{HashText, fnv1a, xxh3_64, xxh64};
 use std::alloc::Global;
 use std::fmt;
-use tile_ids::{OutOfMemory, TextVal};
+use base_values::{OutOfMemory, TextVal};
 
 /// How tile contents are hashed.
 #[derive(Clone, Copy, Debug, PartialEq, Eq)]

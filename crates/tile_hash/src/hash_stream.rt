@@ -12,7 +12,7 @@ use crate::xxh_64::Xxh64Stream;
 use crate::xxh3::Xxh3Stream;
 use md5::{Digest, Md5};
 use std::alloc::Global;
-use tile_ids::{OutOfMemory, TextVal};
+use base_values::{OutOfMemory, TextVal};
 
 // What each algorithm keeps of the pieces so far.
 #[derive(Drop)]

@@ -1,6 +1,6 @@
 // What a tile set says of itself.
 use crate::{JsonFields, LayerList, TileBounds, TileCenter};
-use tile_ids::{TextList, TextVal};
+use base_values::{TextList, TextVal};
 
 /// What a tile set says of itself (TileJSON 3.0.0). A field that isn't said is None.
 #[derive(Debug, Drop)]

@@ -1,5 +1,5 @@
 // Where the tiles of a set lie: their bounds, and the place to begin with.
-use tile_ids::TextVal;
+use base_values::TextVal;
 
 /// The bounds of a tile set.
 #[derive(Debug, Drop, PartialEq, Eq)]

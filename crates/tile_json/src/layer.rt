@@ -3,7 +3,7 @@ ghost use Rattle.std.specs.Prelude.{◌≡◌};
 
 use crate::{JsonFields, TextFields};
 use std::marker::Model;
-use tile_ids::TextVal;
+use base_values::TextVal;
 
 /// A layer of vector tiles (TileJSON 3.0.0, `vector_layers`).
 #[derive(Debug, Drop)]

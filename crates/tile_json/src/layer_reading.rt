@@ -11,7 +11,7 @@ use crate::members::{json_fields, take_member, text_fields};
 use crate::{DocumentError, LayerList, TextFields, VectorLayer};
 use serde_json::{Map, Value};
 use std::alloc::Global;
-use tile_ids::TextVal;
+use base_values::TextVal;
 
 impl LayerList {
     ghost use Rattle.serde_json.specs.View.{view};

@@ -8,7 +8,7 @@ use crate::floats::has_float;
 use crate::{DocumentError, JsonVal, LayerList, TileJson};
 use serde_json::{Map, Value};
 use std::alloc::Global;
-use tile_ids::TextVal;
+use base_values::TextVal;
 
 impl TileJson {
     /// The document with what the metadata of an archive says, a text of JSON. `Invalid` comes exactly where the text isn't an object of JSON, nested at most 127 deep, in

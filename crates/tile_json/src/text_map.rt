@@ -8,7 +8,7 @@ ghost use Rattle.tile_json.specs.Places.{IsAt, IsGap};
 use crate::JsonVal;
 use std::alloc::Global;
 use std::marker::Model;
-use tile_ids::{OutOfMemory, TextVal};
+use base_values::{OutOfMemory, TextVal};
 
 /// A map from texts to texts.
 pub type TextFields = TextMap<TextVal>;

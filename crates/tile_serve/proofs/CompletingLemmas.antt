@@ -1,6 +1,6 @@
 -- Where the words are limits, the input is short, the archive opens and no count rose, a run is done, or memory ran out.
 use Rattle.std.proofs.Common.{◌≡◌, ◌⊎◌, inl, inr, ℕ, ◌<◌, true, List, length, Option, None, Some, Result, Ok, Err, IsOk, IfSome, is_some, refl, arith}
-use Rattle.tile_ids.specs.Counts.{Rose}
+use Rattle.base_values.specs.Counts.{Rose}
 use Rattle.byte_streams.specs.declared.input.TheConstants.{MAX_INPUT}
 use Rattle.pm_format.specs.Opened.{opened}
 use Rattle.pm_format.specs.declared.error.PmtError.{PmtError}

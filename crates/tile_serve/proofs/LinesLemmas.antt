@@ -11,7 +11,7 @@ use Rattle.byte_streams.specs.declared.sink.SinkFault.TheVariants as sink
 use Rattle.line_words.specs.Lines.{lines_of, no_byte}
 use Rattle.pm_reader.specs.Archives.{UsesOneLength}
 use Rattle.pm_reader.specs.Reads.{ReadsOnly}
-use Rattle.tile_ids.specs.Counts.{Rose}
+use Rattle.base_values.specs.Counts.{Rose}
 use Rattle.tile_serve.specs.Answers.{Answers, Causes, IsUniform, IsUnmodified}
 use Rattle.tile_serve.specs.Outcomes.{of_serve, of_sink, outcome_of}
 use Rattle.tile_serve.specs.Reply.{replies, reply}

@@ -1,6 +1,6 @@
 -- Lines over an archive that one read opened.
 use Rattle.std.proofs.Common.{◌≡◌, ◌∙◌, ℕ, ◌≤◌, List, [], Option, None, Some, IfSome, sym, subst}
-use Rattle.tile_ids.specs.Counts.{Grew}
+use Rattle.base_values.specs.Counts.{Grew}
 use Rattle.bounded_lru.specs.Bounded.{Bounded, bounded}
 use Rattle.pm_reader.specs.Archives.{UsesOneLength}
 use Rattle.tile_serve.specs.Course.{Course, IsBegun, Texts, course}

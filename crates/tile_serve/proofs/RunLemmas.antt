@@ -1,6 +1,6 @@
 -- A run, from the opening to the last line.
 use Rattle.std.proofs.Common.{◌≡◌, ◌∙◌, ℕ, ◌≤◌, List, ◌++◌, append-nil, Option, None, Some, Result, Ok, Err, IsOk, IfSome, refl, sym, ap, subst, arith}
-use Rattle.tile_ids.specs.Counts.{Grew}
+use Rattle.base_values.specs.Counts.{Grew}
 use Rattle.byte_streams.specs.Input.{InputCounts}
 use Rattle.byte_streams.specs.Streams.{IsAtEnd, Loses}
 use Rattle.byte_streams.specs.declared.input.InputError.{InputError}

@@ -1,6 +1,6 @@
 -- What a server answers to a line, and why.
 use Rattle.std.specs.Prelude.{◌≡◌, ◌≢◌, ◌⊎◌, ◌≤◌, ℕ, true, List, Option, Some, None, Result, Ok, Err, IfSome}
-use Rattle.tile_ids.specs.Counts.{Rose}
+use Rattle.base_values.specs.Counts.{Rose}
 use Rattle.bounded_lru.specs.Bounded.{Bounded}
 use Rattle.pm_format.specs.LookUp.{archive_tile}
 use Rattle.pm_format.specs.declared.error.PmtError.{PmtError}

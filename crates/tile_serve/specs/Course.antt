@@ -2,7 +2,7 @@
 use Rattle.std.specs.Prelude.{◌≡◌, ℕ, true, List, [], ◌∷◌, Option, Some, IfSome}
 use Rattle.bounded_lru.specs.Bounded.{Bounded, bounded}
 use Rattle.pm_reader.specs.Versions.{Agree}
-use Rattle.tile_ids.specs.Counts.{Grew}
+use Rattle.base_values.specs.Counts.{Grew}
 use Rattle.tile_serve.specs.Answers.{IsReadFor, ReadsFor}
 use Rattle.tile_serve.specs.Request.{request_of}
 use Rattle.tile_serve.specs.Tiles.{is_read, tiles_after}

@@ -1,6 +1,6 @@
 -- What the output gains by lines.
 use Rattle.std.specs.Prelude.{◌≡◌, ◌≢◌, ◌≤◌, ℕ, true, ◌++◌, List, ◌∷◌, flat_map, Option, Some, IfSome, Err}
-use Rattle.tile_ids.specs.Counts.{Grew}
+use Rattle.base_values.specs.Counts.{Grew}
 use Rattle.bounded_lru.specs.Bounded.{Bounded}
 use Rattle.byte_streams.specs.Streams.{Gains, GainsFront}
 use Rattle.line_words.specs.Lines.{lines_of}

@@ -4,7 +4,7 @@ ghost use Rattle.std.specs.Prelude.{◌≡◌};
 use pm_format::PmtError;
 use std::alloc::{AllocError, AllocFailed};
 use thiserror::Error;
-use tile_ids::{OutOfMemory, TextVal};
+use base_values::{OutOfMemory, TextVal};
 
 /// Why a line isn't answered, or there is no server.
 #[derive(Debug, Drop, Error)]

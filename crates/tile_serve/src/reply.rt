@@ -6,7 +6,7 @@ ghost use Rattle.tile_serve.specs.Reply.{tag_of, text_for, tile_text, unchanged_
 use crate::found::Found;
 use std::alloc::Global;
 use tile_hash::HashAlgorithm;
-use tile_ids::{BlobVal, OutOfMemory, TextVal};
+use base_values::{BlobVal, OutOfMemory, TextVal};
 
 /// A text of its own.
 pub(crate) fn plain_text(alloc: Global, text: &str) -> Result<BlobVal, OutOfMemory>

@@ -1,6 +1,6 @@
 // A server that borrows its backend.
 ghost use Rattle.std.specs.Prelude.{◌≡◌, ◌≢◌, ◌<◌, ◌≤◌, ◌-◌, ◌^◌, [], false, length, Err, Some, IfErr, IfOk, IfSome};
-ghost use Rattle.tile_ids.specs.Counts.{Grew};
+ghost use Rattle.base_values.specs.Counts.{Grew};
 ghost use Rattle.bounded_lru.specs.Bounded.{IsWithin, bounded, weight_of};
 ghost use Rattle.pm_format.specs.Opened.{opened};
 ghost use Rattle.pm_format.specs.declared.error.PmtError.TheVariants as errors;
@@ -17,7 +17,7 @@ ghost use Rattle.tile_serve.specs.Tiles.{is_read};
 use crate::{ServeError, ServeLimits, ServerState};
 use pm_format::Backend;
 use std::alloc::Global;
-use tile_ids::BlobVal;
+use base_values::BlobVal;
 
 /// A server of the tiles of an archive, over a backend that it borrows.
 pub struct TileServer<'a, B: Backend, S = ServerState> {

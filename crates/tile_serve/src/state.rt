@@ -1,6 +1,6 @@
 // What a server owns, and how it answers a line.
 ghost use Rattle.std.specs.Prelude.{◌≡◌, ◌≤◌, ◌⊎◌, true, false, [], length, nat_eq, Some, None, IfOk, IfErr, IfSome, OnOk, OnErr};
-ghost use Rattle.tile_ids.specs.Counts.{Grew};
+ghost use Rattle.base_values.specs.Counts.{Grew};
 ghost use Rattle.bounded_lru.specs.Bounded.{IsWithin, bounded, weight_of};
 ghost use Rattle.pm_format.specs.LookUp.{archive_tile};
 ghost use Rattle.pm_format.specs.Opened.{opened};
@@ -21,7 +21,8 @@ use crate::{ServeError, ServeLimits};
 use pm_format::{Backend, PmtError};
 use pm_reader::{LruDirCache, ReaderState};
 use std::alloc::Global;
-use tile_ids::{BlobVal, OutOfMemory, TileId};
+use base_values::{BlobVal, OutOfMemory};
+use tile_ids::TileId;
 
 /// What a server owns beside the backend: the reader's state, and the directories and tiles that it holds.
 #[derive(Drop)]

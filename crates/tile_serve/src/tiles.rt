@@ -9,7 +9,8 @@ use bounded_lru::BoundedLru;
 use bytes::Bytes;
 use std::alloc::Global;
 use std::marker::Model;
-use tile_ids::{OutOfMemory, TileId};
+use base_values::OutOfMemory;
+use tile_ids::TileId;
 
 /// The tiles that were used last: at most so many, and of no more bytes together than a limit.
 #[derive(Drop)]

@@ -1,6 +1,6 @@
 // The whole server as one call.
 ghost use Rattle.std.specs.Prelude.{◌≡◌, ◌⊎◌, ◌≤◌, ◌<◌, true, IfSome, IsOk, is_some, length};
-ghost use Rattle.tile_ids.specs.Counts.{Rose};
+ghost use Rattle.base_values.specs.Counts.{Rose};
 ghost use Rattle.byte_streams.specs.Streams.{IsAtEnd};
 ghost use Rattle.byte_streams.specs.declared.input.TheConstants.{MAX_INPUT};
 ghost use Rattle.pm_format.specs.Opened.{opened};
@@ -18,7 +18,7 @@ use crate::{ServeLimits, ServeOutcome, ServerState};
 use byte_streams::{Sink, Source, read_input};
 use pm_format::Backend;
 use std::alloc::Global;
-use tile_ids::TextVal;
+use base_values::TextVal;
 
 // Opens an archive, and serves the lines of requests.
 fn serve_requests<B: Backend, O: Sink>(

@@ -8,7 +8,7 @@ use program_words::{
     say_source_fault, say_usage, text_of, words_of,
 };
 use std::process::ExitCode;
-use tile_ids::TextVal;
+use base_values::TextVal;
 use tile_serve::{ServeError, ServeOutcome, run_serve, serve_status};
 
 const HELP: &str = "Serves tiles of an archive of the PMTiles format.

@@ -1,7 +1,7 @@
 -- How often a check reads.
 use Rattle.std.proofs.Common.{◌≡◌, ◌⊎◌, inl, inr, ◌+◌, ◌-◌, ◌^◌, ◌≤◌, ℕ, Bool, true, false, min, nat_lt, Err, refl, arith}
 use Rattle.std.proofs.lemmas.Bool.Decides.{nat_tests}
-use Rattle.tile_ids.specs.Counts.{Grew, Rose}
+use Rattle.base_values.specs.Counts.{Grew, Rose}
 use Rattle.tile_verify.specs.Checking.{ReadsMade}
 use Rattle.tile_verify.specs.Walking.{WalkCauses, WalkReads}
 use Rattle.tile_verify.specs.declared.error.VerifyError.{VerifyError}

@@ -1,6 +1,6 @@
 -- What a check answers, and why.
 use Rattle.std.specs.Prelude.{◌≡◌, ◌≢◌, ◌≤◌, ◌+◌, ◌-◌, ◌^◌, min, ℕ, List, Some, Result, Ok, Err}
-use Rattle.tile_ids.specs.Counts.{Grew, Rose}
+use Rattle.base_values.specs.Counts.{Grew, Rose}
 use Rattle.pm_format.specs.declared.error.PmtError.{PmtError}
 use Rattle.pm_format.specs.declared.error.PmtError.TheVariants as errors
 use Rattle.pm_format.specs.declared.error.ReadCause.TheVariants as causes

@@ -1,6 +1,6 @@
 -- What one step of a walk leaves, and how often it reads.
 use Rattle.std.specs.Prelude.{◌≡◌, ◌≢◌, ◌+◌, ◌≤◌, ℕ, List, [], ◌∷◌, ◌++◌, map, Option, None, Some, Result, Ok, Err}
-use Rattle.tile_ids.specs.Counts.{Rose}
+use Rattle.base_values.specs.Counts.{Rose}
 use Rattle.pm_format.specs.declared.header.Header.{Header}
 use Rattle.pm_format.specs.Directory.{Entry}
 use Rattle.pm_format.specs.LookUp.{leaf_of}

@@ -5,7 +5,7 @@ ghost use Rattle.tile_verify.specs.OutcomeText.{line, reason_name, refusal, refu
 use crate::{Reason, VerifyError, VerifyOutcome};
 use pm_format::{PmtError, ReadCause};
 use std::alloc::Global;
-use tile_ids::{OutOfMemory, TextVal};
+use base_values::{OutOfMemory, TextVal};
 
 /// The status that a program ends with: 0 for `Done`, 1 or, where the source failed, 6 for `Refused`, 2 for `Usage` and 7 for `OutOfMemory`.
 pub fn verify_status(outcome: &VerifyOutcome) -> u8

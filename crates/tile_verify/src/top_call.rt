@@ -8,7 +8,7 @@ ghost use Rattle.tile_verify.specs.TopCall.{IsFor, OfCheck};
 use crate::{VerifyError, VerifyOutcome, verify};
 use pm_format::Backend;
 use std::alloc::Global;
-use tile_ids::TextVal;
+use base_values::TextVal;
 
 /// Checks an archive as `verify` does, where there are no words: the words after the archive's own.
 ///

@@ -7,7 +7,7 @@ use program_words::{
     say_source_fault, say_usage, text_of, words_of,
 };
 use std::process::ExitCode;
-use tile_ids::TextVal;
+use base_values::TextVal;
 use tile_verify::{VerifyError, VerifyOutcome, run_verify, verify_line, verify_status};
 
 const HELP: &str = "Checks archives of the PMTiles format.

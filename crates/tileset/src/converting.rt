@@ -1,6 +1,6 @@
 // The conversion of a script's stores, which are tables in memory and don't fail.
 ghost use Rattle.std.specs.Prelude.{◌≡◌, All, Some, IfErr, IfOk, IsErrOf, map};
-ghost use Rattle.tile_ids.specs.Counts.{Rose};
+ghost use Rattle.base_values.specs.Counts.{Rose};
 ghost use Rattle.mb_store.specs.MemStore.{told_of};
 ghost use Rattle.tile_bridge.specs.Convert.{ConvertCauses, ConvertLeaves, HasAggregate};
 ghost use Rattle.tile_bridge.specs.Outcome.{outcome};

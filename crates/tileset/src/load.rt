@@ -1,7 +1,7 @@
 // The script that the input spells.
 ghost use Rattle.std.specs.Prelude.{◌≡◌, Some, IfOk, IfErr, IfSome, OnOk, IsErrOf, map};
 ghost use Rattle.std.specs.Option.{option_to_list};
-ghost use Rattle.tile_ids.specs.Counts.{Rose};
+ghost use Rattle.base_values.specs.Counts.{Rose};
 ghost use Rattle.tileset_script.specs.Bulk.{bulk_script};
 ghost use Rattle.tileset_script.specs.LeafEntries.{IsLeafEntries};
 ghost use Rattle.tileset_script.specs.Reading.{ScriptNeverFails, script_text};
@@ -17,7 +17,7 @@ use crate::{Command, Outcome, Source, read_input};
 use pm_format::TileType;
 use pm_writer::PmTilesWriter;
 use std::alloc::Global;
-use tile_ids::OutOfMemory;
+use base_values::OutOfMemory;
 use tileset_script::{ParsedScript, ScriptOptions, bulk_base, parse_script};
 
 // The script that the input spells, which is read to its end.

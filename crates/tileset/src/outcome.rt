@@ -5,7 +5,7 @@ use crate::{InputError, SinkFault};
 use pm_format::{PmtError, ReadCause, ReadFault};
 use std::alloc::AllocError;
 use tile_bridge::ConvertError;
-use tile_ids::OutOfMemory;
+use base_values::OutOfMemory;
 use tileset_script::ScriptError;
 
 /// How a run ends.

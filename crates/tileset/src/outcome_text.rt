@@ -7,7 +7,7 @@ use crate::refusal_text::store_text;
 use pm_format::Compression;
 use std::alloc::Global;
 use tile_bridge::ConvertError;
-use tile_ids::{OutOfMemory, TextVal};
+use base_values::{OutOfMemory, TextVal};
 
 /// The status that a program ends with: 0 for `Done`, and 1 to 9 for the others in their order.
 pub fn outcome_status(outcome: &Outcome) -> u8

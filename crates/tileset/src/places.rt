@@ -4,7 +4,7 @@ ghost use Rattle.tileset.specs.Places.{count_lines, data_lines, directory_lines,
 
 use pm_writer::ArchivePlaces;
 use std::alloc::Global;
-use tile_ids::OutOfMemory;
+use base_values::OutOfMemory;
 
 // What an archive counts, and how long it is.
 fn count_lines(alloc: Global, places: &ArchivePlaces) -> Result<String, OutOfMemory>

@@ -4,7 +4,7 @@ ghost use Rattle.tileset.specs.RefusalText.{cell_text, spaced, spelled_byte, sto
 
 use mb_store::{Cell, MbtError};
 use std::alloc::Global;
-use tile_ids::OutOfMemory;
+use base_values::OutOfMemory;
 
 // Appends a byte of a text as a script spells it.
 fn push_spelled(alloc: Global, text: &mut String, byte: u8) -> Result<(), OutOfMemory>

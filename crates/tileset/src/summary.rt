@@ -6,7 +6,8 @@ ghost use Rattle.tileset.specs.Summary.{answer_lines, summary};
 use pm_writer::ArchivePlaces;
 use std::alloc::Global;
 use tile_bridge::ConvertReport;
-use tile_ids::{BlobVal, OutOfMemory, TileCoord};
+use base_values::{BlobVal, OutOfMemory};
+use tile_ids::TileCoord;
 
 // A tile in hexadecimal, or the word for none.
 fn shown(alloc: Global, tile: &Option<BlobVal>) -> Result<String, OutOfMemory>

@@ -1,6 +1,6 @@
 // The whole converter as one call.
 ghost use Rattle.std.specs.Prelude.{◌≡◌, ◌⊎◌, Ok, IsErrOf};
-ghost use Rattle.tile_ids.specs.Counts.{Rose};
+ghost use Rattle.base_values.specs.Counts.{Rose};
 ghost use Rattle.tileset_script.specs.Reading.{ScriptNeverFails, script_text};
 ghost use Rattle.tileset.specs.Run.{AnsweredBy, Causes, Gives, IsReadFor, IsUntaken, IsValid, LeavesMedium, LeavesOutput, LeftBy, Taken, WrittenBy, answer, answer_script, given_of, outcome_of};
 ghost use Rattle.tileset_script.specs.Script.{Script};
@@ -14,7 +14,7 @@ use crate::report::write_report;
 use crate::{Command, Outcome, Sink, Source};
 use pm_format::Medium;
 use std::alloc::Global;
-use tile_ids::TextVal;
+use base_values::TextVal;
 use tileset_script::{ParsedScript, command_of};
 
 /// Runs the command that the words are: reads a script from the input, writes the archive of its base after its patches to the medium, and the report to the

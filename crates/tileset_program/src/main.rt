@@ -9,7 +9,7 @@ use program_words::{
 };
 use std::process::ExitCode;
 use tile_bridge::ConvertError;
-use tile_ids::TextVal;
+use base_values::TextVal;
 use tileset::{
     Command, Outcome, StdSink, StdSource, command_of, outcome_line, outcome_status, run,
 };

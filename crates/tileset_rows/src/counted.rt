@@ -4,7 +4,7 @@ use crate::fields::{Fields, bytes_of, words_of};
 use crate::in_memory::{Ended, Failing, run_calm, run_failing};
 use std::alloc::Global;
 use std::fmt::Write;
-use tile_ids::TextVal;
+use base_values::TextVal;
 use tileset::Outcome;
 
 // More calls than any case here makes.

@@ -1,6 +1,6 @@
 // The fields of a line, and the bytes that they spell.
 use std::alloc::Global;
-use tile_ids::TextVal;
+use base_values::TextVal;
 
 /// What is left of a line.
 #[derive(Drop)]

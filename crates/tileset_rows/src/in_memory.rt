@@ -9,7 +9,7 @@ use crate::running::run;
 use pm_format::MemMedium;
 use std::alloc::Global;
 use std::fmt::Write;
-use tile_ids::TextVal;
+use base_values::TextVal;
 use tileset::{MemSink, MemSource, Outcome};
 
 /// What a run leaves.

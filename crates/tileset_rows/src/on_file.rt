@@ -5,7 +5,7 @@ use crate::running::run;
 use pm_format::{Backend, FileMedium, Medium};
 use std::alloc::Global;
 use std::fmt::Write;
-use tile_ids::TextVal;
+use base_values::TextVal;
 use tileset::{MemSink, MemSource, Outcome};
 
 fn words_with(alloc: Global, path: &str) -> Option<Vec<TextVal>> {

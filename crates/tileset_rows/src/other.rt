@@ -9,7 +9,7 @@ use bytes::Bytes;
 use pm_format::MemMedium;
 use std::alloc::Global;
 use std::io::Cursor;
-use tile_ids::TextVal;
+use base_values::TextVal;
 use tileset::{MemSink, MemSource, Outcome, StdSink, StdSource};
 
 fn said_output(alloc: Global, out: &mut String, outcome: Outcome, output: &[u8]) -> Option<()> {

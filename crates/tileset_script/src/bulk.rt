@@ -10,7 +10,8 @@ use crate::section::Section;
 use itoa::Buffer;
 use mb_store::{Cell, MbtType, MemStore, Row, TableName};
 use std::alloc::Global;
-use tile_ids::{BlobVal, OutOfMemory, TileCoord, TileId, invert_y_value};
+use base_values::{BlobVal, OutOfMemory};
+use tile_ids::{TileCoord, TileId, invert_y_value};
 
 // The coordinate of an id.
 #[tactic(auto, using(crate::proofs::BulkLemmas::is_coord_of))]

@@ -12,7 +12,7 @@ use mb_store::{
 };
 use mb_tables::{set_tables, table_of};
 use std::alloc::Global;
-use tile_ids::{OutOfMemory, TextVal};
+use base_values::{OutOfMemory, TextVal};
 
 /// What a store of a script describes.
 #[derive(Clone, Copy, Debug, PartialEq, Eq)]

@@ -6,7 +6,7 @@ ghost use Rattle.tileset_script.specs.Layout.{tables_of};
 use crate::layout::{Layout, has_table, tables_of};
 use mb_store::{MbtError, MemStore, Row, TableName, TileStore};
 use std::alloc::Global;
-use tile_ids::OutOfMemory;
+use base_values::OutOfMemory;
 
 /// A store of a script, while its rows come.
 #[derive(Drop)]

@@ -4,7 +4,7 @@ ghost use Rattle.pm_format.specs.TileJson.{bounds_of, center_of, tilejson_of};
 
 use crate::Header;
 use std::alloc::Global;
-use tile_ids::{TextList, TextVal};
+use base_values::{TextList, TextVal};
 use tile_json::{JsonFields, TileBounds, TileCenter, TileJson};
 
 impl Header {

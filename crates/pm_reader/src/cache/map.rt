@@ -7,7 +7,8 @@ use crate::{DirCacheResult, DirectoryCache};
 use pm_format::{DirEntry, Directory, PmtResult};
 use std::alloc::Global;
 use std::collections::HashMap;
-use tile_ids::{OutOfMemory, TileId};
+use base_values::OutOfMemory;
+use tile_ids::TileId;
 
 /// Keeps each directory that it is given, while there is memory.
 #[derive(Drop)]

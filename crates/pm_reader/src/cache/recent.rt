@@ -10,7 +10,8 @@ use crate::{DirCacheResult, DirectoryCache};
 use bounded_lru::BoundedLru;
 use pm_format::{DirEntry, Directory, PmtResult};
 use std::alloc::Global;
-use tile_ids::{OutOfMemory, TileId};
+use base_values::OutOfMemory;
+use tile_ids::TileId;
 
 /// Keeps the directories that were used last: as many as its capacity, and, where it has a limit of entries, of no more entries together than this. Each call makes the
 /// directory that it was asked for the last used.

@@ -11,7 +11,8 @@ use crate::layout::Layout;
 use crate::section::Section;
 use mb_store::{MemStore, Row, TableName};
 use std::alloc::Global;
-use tile_ids::{OutOfMemory, TileCoord};
+use base_values::OutOfMemory;
+use tile_ids::TileCoord;
 
 /// What the lines of a script said so far.
 #[derive(Drop)]

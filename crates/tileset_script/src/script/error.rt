@@ -2,7 +2,7 @@
 ghost use Rattle.std.specs.Prelude.{◌≡◌};
 
 use std::alloc::{AllocError, AllocFailed};
-use tile_ids::OutOfMemory;
+use base_values::OutOfMemory;
 
 /// Why a script isn't read.
 #[derive(Clone, Copy, Debug, PartialEq, Eq)]

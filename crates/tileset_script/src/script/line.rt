@@ -11,7 +11,8 @@ use crate::layout::{Layout, layout_of};
 use line_words::{first_word, is_word, one_word, parse_number, three_words};
 use mb_store::{Row, TableName};
 use std::alloc::Global;
-use tile_ids::{OutOfMemory, TileCoord};
+use base_values::OutOfMemory;
+use tile_ids::TileCoord;
 
 /// A line of a script.
 #[derive(Debug, Drop)]

@@ -9,7 +9,7 @@ use super::line::parse_line;
 use super::{ParsedScript, ScriptError};
 use line_words::next_line;
 use std::alloc::Global;
-use tile_ids::OutOfMemory;
+use base_values::OutOfMemory;
 
 // Takes a line, and says whether it is a good one in its place.
 fn take_line(alloc: Global, draft: &mut Draft, line: &[u8]) -> Result<bool, OutOfMemory>

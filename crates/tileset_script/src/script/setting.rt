@@ -12,7 +12,7 @@ use line_words::{four_words, is_word, one_word, parse_integer, parse_number, two
 use pm_format::{Compression, TileType};
 use pm_writer::PmTilesWriter;
 use std::alloc::Global;
-use tile_ids::{OutOfMemory, TextVal};
+use base_values::{OutOfMemory, TextVal};
 
 /// An option: how the set is converted, how the archive is labelled, or what it says of its tiles.
 #[derive(Debug, Drop)]

@@ -5,7 +5,7 @@ ghost use Rattle.hex.specs.Hex.{hex_digit_value};
 ghost use Rattle.tileset_script.specs.Text.{byte_of, if_utf8, text_of, unescaped};
 
 use std::alloc::Global;
-use tile_ids::{OutOfMemory, TextVal};
+use base_values::{OutOfMemory, TextVal};
 
 // The value of a hexadecimal digit of either case.
 fn digit_value(byte: u8) -> Option<u8>

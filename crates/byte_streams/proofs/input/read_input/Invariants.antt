@@ -1,7 +1,7 @@
 -- what was read so far is what the source lost
 use Rattle.std.proofs.Common.{◌≡◌, ◌≤◌, ◌-◌, length, vec_len, is_some}
 use Rattle.byte_streams.specs.Streams.{Loses}
-use Rattle.tile_ids.specs.Counts.{Grew}
+use Rattle.base_values.specs.Counts.{Grew}
 use Rattle.byte_streams.specs.declared.input.TheConstants.{MAX_INPUT}
 use Rattle.byte_streams.proofs.input.read_input.Given as goal
 

@@ -1,8 +1,8 @@
 -- Which calls of an object in memory fail, and what is counted.
 use Rattle.std.specs.Prelude.{◌==◌, Bool, if◌then◌else◌}
 use Rattle.std.specs.List.{list_any}
-use Rattle.tile_ids.specs.Counts.{one_more}
-use Rattle.tile_ids.specs.declared.failing_calls.FailingCalls.{FailingCalls}
+use Rattle.base_values.specs.Counts.{one_more}
+use Rattle.base_values.specs.declared.failing_calls.FailingCalls.{FailingCalls}
 
 -- whether the next call is listed
 abbrev pub next_fails : FailingCalls → Bool

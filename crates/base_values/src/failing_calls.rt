@@ -1,7 +1,7 @@
 // Which calls of an object in memory fail.
 ghost use Rattle.std.specs.Prelude.{◌≡◌, ◌≤◌, ◌↔◌, [], false, IsTrue, Contains};
-ghost use Rattle.tile_ids.specs.Counts.{one_more};
-ghost use Rattle.tile_ids.specs.FailingCalls.{next_fails, called};
+ghost use Rattle.base_values.specs.Counts.{one_more};
+ghost use Rattle.base_values.specs.FailingCalls.{next_fails, called};
 
 use std::alloc::Global;
 
