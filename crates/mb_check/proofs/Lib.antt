@@ -1,4 +1,3 @@
-pub mod BegunLemmas
 pub mod InfoLemmas
 pub mod SizesLemmas
 pub mod UpdatedLemmas

@@ -8,7 +8,7 @@ use Rattle.std.proofs.lemmas.Bool.{false≢true}
 use Rattle.std.proofs.lemmas.Cmp.{nat_list_cmp_total}
 use Rattle.std.proofs.lemmas.List.Folds.{list_any_none}
 use Rattle.mb_check.specs.Updated.{IsUpdated, held_hashed, is_hash_row, names_hashed}
-use Rattle.mb_edit.specs.Committing.{MakesChanges}
+use Rattle.mb_load.specs.Committing.{MakesChanges}
 use Rattle.mb_load.proofs.CommitLemmas.{committed, names_stand}
 use Rattle.mb_load.proofs.EditedFrom.{from_with_name}
 use Rattle.mb_load.proofs.StateAgain.{state_again}

@@ -1,7 +1,7 @@
 -- The stored hash of all tiles of a set, and the computed one.
 use Rattle.std.specs.Prelude.{ℕ, List, cond, Option, Some, None, Result, Ok, Err}
 use Rattle.std.specs.Str.{bytes_eq}
-use Rattle.mb_edit.specs.PatchingOrder.{agg_hash}
+use Rattle.mb_lists.specs.Metadata.{agg_hash}
 use Rattle.mb_load.specs.Aggregate.{aggregate}
 use Rattle.mb_load.specs.State.{State}
 use Rattle.mb_tables.specs.declared.error.MbtError.{MbtError}

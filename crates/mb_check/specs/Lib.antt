@@ -1,4 +1,3 @@
-pub mod Begun
 pub mod AggregateHash
 pub mod PatchInfo
 pub mod Updated

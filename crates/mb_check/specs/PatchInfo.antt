@@ -1,7 +1,7 @@
 -- What a set says of itself as a patch, or as the base of one.
 use Rattle.std.specs.Prelude.{Result, Ok}
 use Rattle.mb_check.specs.declared.patch_info.PatchFileInfo.{PatchFileInfo}
-use Rattle.mb_edit.specs.PatchingOrder.{after_hash, agg_hash, before_hash}
+use Rattle.mb_lists.specs.Metadata.{after_hash, agg_hash, before_hash}
 use Rattle.mb_load.specs.State.{State}
 use Rattle.mb_tables.specs.declared.error.MbtError.{MbtError}
 

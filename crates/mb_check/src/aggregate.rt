@@ -2,9 +2,9 @@
 ghost use Rattle.std.specs.Prelude.{◌≡◌, ◌≢◌, ◌≤◌, Err, IfOk, IsErrOf};
 ghost use Rattle.base_values.specs.Counts.{Rose};
 ghost use Rattle.mb_check.specs.AggregateHash.{algorithm_answer, checked_answer, hash_answer, stored_answer};
-ghost use Rattle.mb_check.specs.Begun.{IsBegun};
+ghost use Rattle.mb_load.specs.Begun.{IsBegun};
 ghost use Rattle.mb_lists.specs.Metadata.{text_at};
-ghost use Rattle.mb_lists.specs.Refusals.{Answers};
+ghost use Rattle.mb_tables.specs.Refusals.{Answers};
 
 use mb_load::{Loaded, load};
 use mb_store::{AGG_TILES_HASH, MbtError, MbtResult, TileStore};

@@ -1,10 +1,10 @@
 // What a set says of itself as a patch, or as the base of one.
 ghost use Rattle.std.specs.Prelude.{◌≡◌, ◌≢◌, ◌≤◌, Err, IsErrOf, is_some};
 ghost use Rattle.base_values.specs.Counts.{Rose};
-ghost use Rattle.mb_check.specs.Begun.{IsBegun};
+ghost use Rattle.mb_load.specs.Begun.{IsBegun};
 ghost use Rattle.mb_check.specs.PatchInfo.{info_answer};
 ghost use Rattle.mb_constraints.specs.DiffHashes.{base_refused, patch_refused, refused_by, unless_forced};
-ghost use Rattle.mb_lists.specs.Refusals.{Answers};
+ghost use Rattle.mb_tables.specs.Refusals.{Answers};
 
 use crate::aggregate::text_of;
 use mb_load::{Loaded, load, test_base_hashes, test_patch_hashes};

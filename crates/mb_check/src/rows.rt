@@ -1,7 +1,7 @@
 // The tests of a set's rows, which loading makes.
 ghost use Rattle.std.specs.Prelude.{◌≡◌, ◌≤◌, IsErrOf};
 ghost use Rattle.base_values.specs.Counts.{Rose};
-ghost use Rattle.mb_check.specs.Begun.{IsBegun};
+ghost use Rattle.mb_load.specs.Begun.{IsBegun};
 ghost use Rattle.mb_check.specs.Validation.{rows_answer};
 
 use mb_load::load;

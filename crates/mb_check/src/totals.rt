@@ -3,12 +3,12 @@ ghost use Rattle.std.specs.Prelude.{◌≡◌, ◌≢◌, ◌≤◌, ◌<◌, �
 ghost use Rattle.std.specs.FinMap.{entries, len};
 ghost use Rattle.std.specs.List.{cons_option, filter_map};
 ghost use Rattle.base_values.specs.Counts.{Rose};
-ghost use Rattle.mb_check.specs.Begun.{IsBegun};
+ghost use Rattle.mb_load.specs.Begun.{IsBegun};
 ghost use Rattle.mb_check.specs.Sizes.{info_by, no_sizes, with_sizes, with_tile};
 ghost use Rattle.mb_check.specs.Totals.{below, greatest, last_of, least, size_at, sizes_at, summary_answer, summary_of, total_of, zoom_infos};
 ghost use Rattle.mb_check.specs.declared.sizes.Sizes.{Sizes};
 ghost use Rattle.mb_lists.specs.Entries.{blob_cell};
-ghost use Rattle.mb_lists.specs.Refusals.{Answers};
+ghost use Rattle.mb_tables.specs.Refusals.{Answers};
 
 use crate::sizes::{Sizes, greatest_with, least_with};
 use crate::{Summary, ZoomInfo, ZoomInfoList};

@@ -2,12 +2,11 @@
 ghost use Rattle.std.specs.Prelude.{◌≡◌, ◌≤◌, Some, true, IfOk, IsErrOf, OnErr, OnOk};
 ghost use Rattle.base_values.specs.Counts.{Rose};
 ghost use Rattle.mb_check.specs.AggregateHash.{own_hash_answer};
-ghost use Rattle.mb_check.specs.Begun.{IsBegun};
+ghost use Rattle.mb_load.specs.Begun.{IsBegun};
 ghost use Rattle.mb_check.specs.Updated.{IsUpdated, held_hashed};
 ghost use Rattle.mb_load.specs.Edits.{with_name};
 
-use mb_edit::commit_loaded;
-use mb_load::{Editing, Loaded, load};
+use mb_load::{Editing, Loaded, commit_loaded, load};
 use mb_store::{AGG_TILES_HASH, Cell, HASH_ALGORITHM, MbtError, MbtResult, TileStore};
 use std::alloc::Global;
 use base_values::{OutOfMemory, TextVal};

@@ -1,7 +1,7 @@
 // Validation of a set.
 ghost use Rattle.std.specs.Prelude.{◌≡◌, ◌≢◌, ◌≤◌, true, IsErrOf, OnErr, OnOk};
 ghost use Rattle.base_values.specs.Counts.{Rose};
-ghost use Rattle.mb_check.specs.Begun.{IsBegun};
+ghost use Rattle.mb_load.specs.Begun.{IsBegun};
 ghost use Rattle.mb_check.specs.Validation.{IsLeft, hash_type_words, validated};
 
 use crate::{check_agg_tiles_hashes, update_agg_tiles_hash};

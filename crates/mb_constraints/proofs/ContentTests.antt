@@ -12,8 +12,8 @@ use Rattle.mb_lists.specs.Entries.{AreContentsInOrder, id_at, is_removed}
 use Rattle.mb_lists.specs.FromRows.{content_from, ids_from, row_kept, rows_kept}
 use Rattle.mb_constraints.specs.Hashes.{hash_wrong, wrong_content_hash, wrong_id, wrong_tile_hash}
 use Rattle.mb_lists.specs.Keyed.{are_distinct}
-use Rattle.mb_lists.specs.Kinds.{content_kind_wrong, has_tile_kinds, is_id, tile_kind_wrong}
-use Rattle.mb_lists.specs.Refusals.{first_refused, unless}
+use Rattle.mb_tables.specs.CellKinds.{content_kind_wrong, has_tile_kinds, is_id, tile_kind_wrong}
+use Rattle.mb_tables.specs.Refusals.{first_refused, unless}
 use Rattle.mb_lists.specs.declared.entries.Content.{Content}
 use Rattle.mb_lists.specs.declared.entries.Standing.TheVariants.{Kept}
 use Rattle.mb_lists.proofs.ContentLemmas.{ids_listed}

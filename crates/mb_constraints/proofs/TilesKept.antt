@@ -9,7 +9,7 @@ use Rattle.std.proofs.lemmas.Option.{slice_get-map}
 use Rattle.mb_lists.specs.Entries.{content_at, id_at, nothing, place_at, place_of, tile_dates, tile_id, tile_value}
 use Rattle.mb_lists.specs.FromRows.{AreIndexed, by_index, coord_in, index_by, own_content, own_tiles, rows_kept, stored, stored_by_id}
 use Rattle.mb_lists.specs.Keyed.{entries_by}
-use Rattle.mb_lists.specs.Refusals.{first_refused, unless}
+use Rattle.mb_tables.specs.Refusals.{first_refused, unless}
 use Rattle.mb_constraints.specs.References.{missing_reference}
 use Rattle.mb_constraints.specs.TileRows.{bad_tile, dates_in, id_in, tile_in}
 use Rattle.mb_lists.specs.declared.entries.Content.{Content}

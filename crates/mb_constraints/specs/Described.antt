@@ -2,7 +2,7 @@
 use Rattle.std.specs.Prelude.{ℕ, codes, ◌&&◌, Bool, List, Option}
 use Rattle.std.specs.List.{list_any}
 use Rattle.std.specs.Str.{bytes_eq}
-use Rattle.mb_lists.specs.Refusals.{unless}
+use Rattle.mb_tables.specs.Refusals.{unless}
 use Rattle.mb_tables.specs.Kind.{tile_table}
 use Rattle.mb_tables.specs.Described.{is_keyed, is_table_kind}
 use Rattle.mb_tables.specs.Table.{table_text}

@@ -1,6 +1,6 @@
 -- The tests of the digests of all tiles that a set, and a patch for it, have in their metadata.
 use Rattle.std.specs.Prelude.{Bool, cond, ◌||◌, Option, Some, None, Result, Ok, Err}
-use Rattle.mb_lists.specs.Refusals.{unless}
+use Rattle.mb_tables.specs.Refusals.{unless}
 use Rattle.mb_tables.specs.declared.error.MbtError.{MbtError}
 use Rattle.mb_tables.specs.declared.error.MbtError.TheVariants.{CannotDiffFileWithoutHash, DiffingDiffFile, PatchFileHasNoHashes, PatchFileHasNoBeforeHash}
 

@@ -3,7 +3,7 @@ use Rattle.std.specs.Prelude.{ℕ, List, Option, None, map}
 use Rattle.std.specs.Char.{to_ascii_uppercase}
 use Rattle.std.specs.Option.{option_or}
 use Rattle.std.specs.Str.{bytes_eq}
-use Rattle.mb_lists.specs.Refusals.{first_refused, unless}
+use Rattle.mb_tables.specs.Refusals.{first_refused, unless}
 use Rattle.mb_lists.specs.declared.entries.Content.{Content}
 use Rattle.mb_tables.specs.Tiles.{cell_at}
 use Rattle.mb_tables.specs.declared.cell.Cell.{Cell}

@@ -2,7 +2,7 @@
 use Rattle.std.specs.Prelude.{ℕ, ◌||◌, List, [], Option, None}
 use Rattle.std.specs.Fmt.{signed_decimal}
 use Rattle.std.specs.List.{list_any}
-use Rattle.mb_lists.specs.Refusals.{first_refused, unless}
+use Rattle.mb_tables.specs.Refusals.{first_refused, unless}
 use Rattle.mb_tables.specs.Cell.{cell_eq, is_null}
 use Rattle.mb_tables.specs.Tiles.{cell_at}
 use Rattle.mb_tables.specs.Kind.{contents_of}

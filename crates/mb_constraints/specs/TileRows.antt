@@ -2,7 +2,7 @@
 use Rattle.std.specs.Prelude.{ℕ, cond, List, Option, Some, None, filter_map, is_some, map, option_and_then, option_map}
 use Rattle.std.specs.FinMap.{FinMap, from_entries}
 use Rattle.mb_lists.specs.Keyed.{are_distinct}
-use Rattle.mb_lists.specs.Refusals.{first_refused, unless}
+use Rattle.mb_tables.specs.Refusals.{first_refused, unless}
 use Rattle.mb_lists.specs.declared.dates.Dates.{Dates}
 use Rattle.mb_tables.specs.Cell.{is_null}
 use Rattle.mb_tables.specs.Tiles.{Place, cell_at, content_of, place_cmp, place_of, tile_of}

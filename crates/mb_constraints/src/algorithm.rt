@@ -2,7 +2,7 @@
 ghost use Rattle.std.specs.Prelude.{◌≡◌, IfOk};
 ghost use Rattle.std.specs.Option.{option_copied};
 ghost use Rattle.mb_constraints.specs.Algorithm.{algorithm_by, algorithm_named, unknown_name};
-ghost use Rattle.mb_lists.specs.Refusals.{Tests};
+ghost use Rattle.mb_tables.specs.Refusals.{Tests};
 
 use mb_store::{MbtError, MbtResult};
 use std::alloc::Global;

@@ -2,7 +2,7 @@
 ghost use Rattle.std.specs.Prelude.{◌≡◌, ◌||◌, IfErr, IfOk};
 ghost use Rattle.mb_lists.specs.FromRows.{AreIndexed, rows_kept};
 ghost use Rattle.mb_constraints.specs.References.{id_text, missing_reference};
-ghost use Rattle.mb_lists.specs.Refusals.{Tests, first_refused, unless};
+ghost use Rattle.mb_tables.specs.Refusals.{Tests, first_refused, unless};
 ghost use Rattle.std.specs.List.{list_any};
 ghost use Rattle.mb_tables.specs.Cell.{cell_eq, is_null};
 ghost use Rattle.mb_tables.specs.Kind.{contents_of};

@@ -1,7 +1,7 @@
 // Rows of tiles: the tests of their places and of the contents that they name.
 ghost use Rattle.std.specs.Prelude.{◌≡◌, Bool, is_some};
 ghost use Rattle.mb_lists.specs.FromRows.{AreIndexed, rows_kept};
-ghost use Rattle.mb_lists.specs.Refusals.{Tests, first_refused, unless};
+ghost use Rattle.mb_tables.specs.Refusals.{Tests, first_refused, unless};
 ghost use Rattle.mb_constraints.specs.TileRows.{bad_tile};
 ghost use Rattle.mb_tables.specs.Tiles.{cell_at, contents_of, tile_of};
 ghost use Rattle.mb_tables.specs.declared.kind.NormalizedSchema.{NormalizedSchema};

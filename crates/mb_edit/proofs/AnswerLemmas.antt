@@ -1,7 +1,8 @@
 -- Answers over stores that tell their tables or not.
 use Rattle.std.proofs.Common.{◌≡◌, ◌∙◌, ap, Bool, true, false, Ok, Err, refl}
 use Rattle.std.proofs.lemmas.Bool.{false≢true}
-use Rattle.mb_edit.specs.Applying.{IsRefusedBy, then}
+use Rattle.mb_edit.specs.Applying.{IsRefusedBy}
+use Rattle.mb_tables.specs.Refusals.{then}
 use Rattle.mb_edit.specs.Step.{step}
 use Rattle.mb_load.specs.State.{State, state_of}
 use Rattle.mb_tables.specs.Table.{Tables}

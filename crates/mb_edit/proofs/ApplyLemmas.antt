@@ -3,7 +3,7 @@ use Rattle.std.proofs.Common.{◌≡◌, ◌∙◌, ap, sym, subst, ℕ, List, [
 use Rattle.std.specs.Prelude.{option_and_then, option_map, option_to_list}
 use Rattle.std.specs.FinMap.{contains_key, get, get-empty}
 use Rattle.mb_edit.specs.Applying.{IsApplied, put_row, stands_in}
-use Rattle.mb_edit.specs.Committing.{MakesChanges}
+use Rattle.mb_load.specs.Committing.{MakesChanges}
 use Rattle.mb_edit.specs.HeldPatched.{held_patched}
 use Rattle.mb_edit.specs.Patched.{patched_at}
 use Rattle.mb_edit.specs.PatchingOrder.{may_patch}

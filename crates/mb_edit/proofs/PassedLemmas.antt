@@ -4,11 +4,12 @@ use Rattle.std.specs.Prelude.{◌==◌, option_map}
 use Rattle.std.proofs.lemmas.Bool.{false≢true}
 use Rattle.std.proofs.lemmas.Bool.Decides.{Decides-eqb}
 use Rattle.mb_edit.specs.Collision.{collides}
-use Rattle.mb_edit.specs.PatchingOrder.{after_hash, agg_hash, before_hash, bytes_put, can_be_patched, id_collides, may_patch, wrong_algorithm, wrong_base}
+use Rattle.mb_edit.specs.PatchingOrder.{bytes_put, can_be_patched, id_collides, may_patch, wrong_algorithm, wrong_base}
+use Rattle.mb_lists.specs.Metadata.{after_hash, agg_hash, before_hash}
 use Rattle.mb_constraints.specs.DiffHashes.{base_refused, patch_refused, unless_forced}
 use Rattle.mb_load.specs.HeldCode.{algorithm_at, algorithm_back, algorithm_number}
 use Rattle.mb_load.specs.LoadedFrom.{is_editable}
-use Rattle.mb_lists.specs.Refusals.{first_refusal, unless}
+use Rattle.mb_tables.specs.Refusals.{first_refusal, unless}
 use Rattle.mb_load.specs.State.{State}
 use Rattle.mb_tables.specs.declared.error.MbtError.{MbtError}
 use Rattle.mb_tables.specs.declared.error.MbtError.TheVariants.{IdCollision, UnsupportedCopyOperation, UnsupportedHashAlgorithm, UnsupportedPatchType}

@@ -9,6 +9,7 @@ use Rattle.mb_load.specs.State.{State, state_of}
 use Rattle.mb_tables.specs.Cell.{is_null}
 use Rattle.mb_tables.specs.Kind.{tile_table}
 use Rattle.mb_tables.specs.Key.{has_key}
+use Rattle.mb_tables.specs.Refusals.{then}
 use Rattle.mb_tables.specs.Table.{Tables}
 use Rattle.mb_tables.specs.Tiles.{Place, cell_at, place_cmp, place_of}
 use Rattle.mb_tables.specs.declared.cell.Cell.{Cell}
@@ -17,11 +18,6 @@ use Rattle.mb_tables.specs.declared.kind.MbtType.{MbtType}
 use Rattle.mb_tables.specs.declared.table.TableName.{TableName}
 use Rattle.mb_tables.specs.declared.table.TableName.TheVariants.{Metadata}
 use Rattle.tile_hash.specs.declared.algorithm.HashAlgorithm.{HashAlgorithm}
-
--- what the first gives to the next, or its refusal
-abbrev pub then : {A B : Type 0} → Result A MbtError → (A → Result B MbtError) → Result B MbtError
-then (Ok x) next = next x
-then (Err e) next = Err e
 
 -- the first refusal: of loading the set, of loading the patch, of the patch; or the set after the patch
 abbrev pub applied : Bool → Tables → Tables → Result State MbtError

@@ -5,5 +5,4 @@ pub mod Marks
 pub mod Step
 pub mod HeldPatched
 pub mod PatchExamples
-pub mod Committing
 pub mod Applying

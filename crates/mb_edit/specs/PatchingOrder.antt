@@ -1,13 +1,13 @@
 -- The tests that a patch of a loaded set must pass, in their order.
-use Rattle.std.specs.Prelude.{◌==◌, ℕ, codes, Bool, true, false, not, List, [], ◌∷◌, Option, Some, None, filter_map, is_some}
+use Rattle.std.specs.Prelude.{◌==◌, ℕ, Bool, true, false, not, List, [], ◌∷◌, Option, Some, None, filter_map, is_some}
 use Rattle.std.specs.FinMap.{entries}
 use Rattle.std.specs.Str.{bytes_eq}
 use Rattle.mb_edit.specs.Collision.{collision}
 use Rattle.mb_lists.specs.Contents.{Contents}
 use Rattle.mb_constraints.specs.DiffHashes.{base_refused, patch_refused, unless_forced}
 use Rattle.mb_load.specs.HeldCode.{algorithm_number}
-use Rattle.mb_lists.specs.Metadata.{Names, text_at}
-use Rattle.mb_lists.specs.Refusals.{first_refusal, unless}
+use Rattle.mb_lists.specs.Metadata.{after_hash, agg_hash, before_hash}
+use Rattle.mb_tables.specs.Refusals.{first_refusal, unless}
 use Rattle.mb_load.specs.State.{State}
 use Rattle.mb_tables.specs.Tiles.{TileSet}
 use Rattle.mb_tables.specs.declared.error.MbtError.{MbtError}
@@ -17,16 +17,6 @@ use Rattle.mb_tables.specs.declared.kind.MbtType.TheVariants.{Flat, FlatWithHash
 use Rattle.mb_tables.specs.declared.kind.NormalizedSchema.TheVariants.{Hash, DedupId}
 use Rattle.tile_hash.specs.Digest.{digest, name_of}
 use Rattle.tile_hash.specs.declared.algorithm.HashAlgorithm.{HashAlgorithm}
-
--- the digest of all tiles that metadata has, and those of before and after a patch
-abbrev pub agg_hash : Names → Option (List ℕ)
-agg_hash names = text_at names (codes "agg_tiles_hash")
-
-abbrev pub before_hash : Names → Option (List ℕ)
-before_hash names = text_at names (codes "agg_tiles_hash_before_apply")
-
-abbrev pub after_hash : Names → Option (List ℕ)
-after_hash names = text_at names (codes "agg_tiles_hash_after_apply")
 
 -- whether a set of the layout can be patched
 abbrev pub can_be_patched : MbtType → Bool

@@ -1,11 +1,11 @@
 // Applying a patch to a store.
 ghost use Rattle.std.specs.Prelude.{◌≡◌, ◌≤◌, ◌⊎◌, true, false, OnOk, OnErr, IfErr, IsErrOf};
 ghost use Rattle.mb_edit.specs.Applying.{IsAppliedBy, IsRefusedBy};
-ghost use Rattle.mb_lists.specs.Refusals.{is_free};
+ghost use Rattle.mb_tables.specs.Refusals.{is_free};
 ghost use Rattle.base_values.specs.Counts.{Rose};
 
-use crate::{commit_loaded, patch_loaded};
-use mb_load::load;
+use crate::patch_loaded;
+use mb_load::{commit_loaded, load};
 use mb_store::{MbtError, MbtResult, TileStore};
 use std::alloc::Global;
 

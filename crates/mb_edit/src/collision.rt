@@ -8,7 +8,7 @@ ghost use Rattle.std.specs.Str.{bytes_eq};
 ghost use Rattle.mb_edit.specs.Collision.{collides, collision, is_other};
 ghost use Rattle.mb_edit.specs.Marks.{AreMarked, bytes_of};
 ghost use Rattle.mb_edit.specs.PatchingOrder.{bytes_put, id_collides};
-ghost use Rattle.mb_lists.specs.Refusals.{Tests};
+ghost use Rattle.mb_tables.specs.Refusals.{Tests};
 ghost use Rattle.mb_tables.specs.Cell.{cell_cmp};
 ghost use Rattle.mb_tables.specs.declared.cell.Cell.{Cell};
 ghost use Rattle.tile_hash.specs.Digest.{digest};

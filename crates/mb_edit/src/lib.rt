@@ -3,11 +3,10 @@
 
 mod apply;
 mod collision;
-mod commit;
 pub mod laws;
 mod patch;
 mod patching_order;
 
 pub use apply::apply_patch;
-pub use commit::commit_loaded;
+pub use mb_load::commit_loaded;
 pub use patch::patch_loaded;

@@ -8,7 +8,7 @@ ghost use Rattle.mb_edit.specs.PatchingOrder.{may_patch};
 ghost use Rattle.mb_edit.specs.Step.{step};
 ghost use Rattle.mb_lists.specs.Entries.{place_at};
 ghost use Rattle.mb_load.specs.LoadedFrom.{AllOnBoard, IsLoadedFrom, NamesAlgorithm};
-ghost use Rattle.mb_lists.specs.Refusals.{is_free};
+ghost use Rattle.mb_tables.specs.Refusals.{is_free};
 ghost use Rattle.mb_tables.specs.Table.{Tables};
 
 use crate::collision::bytes_at;

@@ -1,9 +1,10 @@
 // The tests that a patch of a loaded set must pass, in their order.
 ghost use Rattle.std.specs.Prelude.{◌≡◌, is_some, not};
-ghost use Rattle.mb_edit.specs.PatchingOrder.{after_hash, agg_hash, before_hash, can_be_patched, may_patch, wrong_algorithm, wrong_base};
+ghost use Rattle.mb_edit.specs.PatchingOrder.{can_be_patched, may_patch, wrong_algorithm, wrong_base};
+ghost use Rattle.mb_lists.specs.Metadata.{after_hash, agg_hash, before_hash};
 ghost use Rattle.mb_lists.specs.Metadata.{text_at};
 ghost use Rattle.mb_constraints.specs.DiffHashes.{base_refused, patch_refused, unless_forced};
-ghost use Rattle.mb_lists.specs.Refusals.{Tests, unless};
+ghost use Rattle.mb_tables.specs.Refusals.{Tests, unless};
 
 use crate::collision::test_ids;
 use mb_load::{Loaded, test_base_hashes, test_patch_hashes};

@@ -1,7 +1,7 @@
 -- The tests of rows in their order, in five parts.
 use Rattle.std.proofs.Common.{◌≡◌, ◌∙◌, ap, List, [], ◌∷◌, Option, Some, None, refl}
 use Rattle.std.specs.Option.{option_or}
-use Rattle.mb_lists.specs.Refusals.{first_refusal}
+use Rattle.mb_tables.specs.Refusals.{first_refusal}
 use Rattle.mb_tables.specs.declared.error.MbtError.{MbtError}
 
 of_three : (a b c : Option MbtError) (rest : List (Option MbtError)) → first_refusal (a ∷ b ∷ c ∷ rest) ≡ option_or (option_or a (option_or b c)) (first_refusal rest)

@@ -12,7 +12,7 @@ use Rattle.std.proofs.lemmas.List.Elements.{All-cons, All-head, All-tail}
 use Rattle.mb_lists.specs.Contents.{are_apart, content_entry, fronts}
 use Rattle.mb_lists.specs.Entries.{text_cell}
 use Rattle.mb_lists.specs.Keyed.{are_distinct}
-use Rattle.mb_lists.specs.Kinds.{has_name_kinds, is_text}
+use Rattle.mb_tables.specs.CellKinds.{has_name_kinds, is_text}
 use Rattle.mb_lists.specs.Metadata.{name_entry, text_of}
 use Rattle.mb_lists.proofs.Items.{equal_of}
 use Rattle.mb_tables.proofs.ListLemmas.{filter_none}

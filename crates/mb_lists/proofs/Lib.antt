@@ -1,4 +1,3 @@
-pub mod RowLemmas
 pub mod Finding
 pub mod Items
 pub mod Ordered

@@ -13,9 +13,9 @@ use Rattle.mb_lists.specs.FromRows.{name_from}
 use Rattle.mb_lists.specs.declared.entries.Standing.TheVariants.{Kept}
 use Rattle.mb_lists.specs.Keyed.{are_distinct, entries_by}
 use Rattle.std.specs.Option.{option_or}
-use Rattle.mb_lists.specs.Refusals.{unless}
+use Rattle.mb_tables.specs.Refusals.{unless}
 use Rattle.mb_tables.specs.declared.error.MbtError.TheVariants.{InvalidDataFormat}
-use Rattle.mb_lists.specs.Kinds.{has_name_kinds, is_text, name_kind_wrong}
+use Rattle.mb_tables.specs.CellKinds.{has_name_kinds, is_text, name_kind_wrong}
 use Rattle.mb_lists.specs.Metadata.{name_entry, name_twice, text_of}
 use Rattle.mb_tables.specs.Cell.{cell_cmp, is_null}
 use Rattle.mb_tables.specs.Tiles.{cell_at}

@@ -11,7 +11,7 @@ use Rattle.std.proofs.lemmas.List.Elements.{All-get_or}
 use Rattle.std.proofs.lemmas.Option.{get_or_from_slice_get, none-some, slice_get-get_or, slice_get_past, slice_get_within}
 use Rattle.mb_lists.specs.Entries.{AreContentsInOrder, AreInOrder, AreNamesInOrder, IsName, IsTile, blob_cell, content_at, content_value, contents_held, id_at, is_content_gone, is_gone, is_name_gone, is_removed, name_of, name_value, names_held, nothing, place_at, place_of, text_cell, tile_id, tile_value, tiles_held, unless_removed}
 use Rattle.mb_lists.specs.Keyed.{at_key, live_at}
-use Rattle.mb_lists.specs.Kinds.{is_text}
+use Rattle.mb_tables.specs.CellKinds.{is_text}
 use Rattle.mb_lists.specs.Metadata.{text_of}
 use Rattle.mb_lists.specs.declared.entries.Content.{Content}
 use Rattle.mb_lists.specs.declared.entries.Standing.{Standing}

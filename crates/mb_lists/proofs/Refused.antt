@@ -2,7 +2,7 @@
 use Rattle.std.proofs.Common.{◌≡◌, ◌∙◌, ap, sym, ℕ, ◌+◌, ◌<◌, List, ◌∷◌, Option, Some, None, length, get_or, drop, suc, arith}
 use Rattle.std.proofs.Math.Seq.{drop-cons}
 use Rattle.std.specs.Option.{option_or}
-use Rattle.mb_lists.specs.Refusals.{first_refused}
+use Rattle.mb_tables.specs.Refusals.{first_refused}
 use Rattle.mb_tables.specs.declared.error.MbtError.{MbtError}
 
 -- what is left begins with the item at an index

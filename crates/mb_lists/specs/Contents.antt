@@ -2,7 +2,7 @@
 use Rattle.std.specs.Prelude.{Bool, not, cond, List, [], Option, Some, None, map, filter, filter_map}
 use Rattle.std.specs.FinMap.{FinMap, from_entries}
 use Rattle.mb_lists.specs.Keyed.{are_distinct}
-use Rattle.mb_lists.specs.Refusals.{unless}
+use Rattle.mb_tables.specs.Refusals.{unless}
 use Rattle.mb_tables.specs.Cell.{cell_cmp, is_null}
 use Rattle.mb_tables.specs.Table.{Tables}
 use Rattle.mb_tables.specs.Tiles.{cell_at}

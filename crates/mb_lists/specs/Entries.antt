@@ -5,7 +5,7 @@ use Rattle.std.specs.Cmp.Lexicographic.{slice_cmp}
 use Rattle.std.specs.FinMap.{FinMap, from_entries}
 use Rattle.mb_lists.specs.Contents.{Contents}
 use Rattle.mb_lists.specs.Keyed.{IsInOrder, entries_by, newest}
-use Rattle.mb_lists.specs.Kinds.{is_text}
+use Rattle.mb_tables.specs.CellKinds.{is_text}
 use Rattle.mb_lists.specs.Metadata.{Names, text_of}
 use Rattle.mb_lists.specs.declared.dates.Dates.{Dates}
 use Rattle.mb_lists.specs.declared.entries.Content.{Content}

@@ -1,6 +1,4 @@
-pub mod Refusals
 pub mod Contents
-pub mod Kinds
 pub mod Metadata
 pub mod Keyed
 pub mod Entries

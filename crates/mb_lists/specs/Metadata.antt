@@ -1,10 +1,10 @@
 -- The metadata of a set: texts, or null, by name.
-use Rattle.std.specs.Prelude.{ℕ, List, Option, Some, None, filter_map, option_and_then}
+use Rattle.std.specs.Prelude.{ℕ, codes, List, Option, Some, None, filter_map, option_and_then}
 use Rattle.std.specs.Ordering.{nat_cmp}
 use Rattle.std.specs.Cmp.Lexicographic.{slice_cmp}
 use Rattle.std.specs.FinMap.{FinMap, find, from_entries, get}
 use Rattle.mb_lists.specs.Contents.{are_apart, fronts}
-use Rattle.mb_lists.specs.Refusals.{unless}
+use Rattle.mb_tables.specs.Refusals.{unless}
 use Rattle.mb_tables.specs.Tiles.{cell_at}
 use Rattle.mb_tables.specs.declared.cell.Cell.{Cell}
 use Rattle.mb_tables.specs.declared.cell.Cell.TheVariants.{Text}
@@ -42,3 +42,13 @@ stored_text name metadata = option_and_then (λ value. value) (find (slice_cmp n
 -- the text under a name of loaded metadata; none where the name isn't there, or null
 abbrev pub text_at : Names → List ℕ → Option (List ℕ)
 text_at metadata name = option_and_then (λ value. value) (get metadata name)
+
+-- the digest of all tiles that metadata has, and those of before and after a patch
+abbrev pub agg_hash : Names → Option (List ℕ)
+agg_hash names = text_at names (codes "agg_tiles_hash")
+
+abbrev pub before_hash : Names → Option (List ℕ)
+before_hash names = text_at names (codes "agg_tiles_hash_before_apply")
+
+abbrev pub after_hash : Names → Option (List ℕ)
+after_hash names = text_at names (codes "agg_tiles_hash_after_apply")

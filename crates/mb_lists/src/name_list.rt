@@ -7,13 +7,13 @@ ghost use Rattle.std.specs.Ordering.{nat_cmp};
 ghost use Rattle.mb_lists.specs.Entries.{AreNamesInOrder, IsName, is_name_gone, name_of, names_held, newest_names};
 ghost use Rattle.mb_lists.specs.FromRows.{name_from};
 ghost use Rattle.mb_lists.specs.Keyed.{Apart, IsAt, IsGap, StandsAs, are_distinct, live_at};
-ghost use Rattle.mb_lists.specs.Kinds.{name_kind_wrong};
+ghost use Rattle.mb_tables.specs.CellKinds.{name_kind_wrong};
 ghost use Rattle.mb_lists.specs.Metadata.{name_twice, names_of};
-ghost use Rattle.mb_lists.specs.Refusals.{Tests};
+ghost use Rattle.mb_tables.specs.Refusals.{Tests};
 ghost use Rattle.mb_lists.specs.declared.entries.Standing.TheVariants.{Kept};
 
 use crate::entries::{Standing, StoredName};
-use crate::kinds::have_name_kinds;
+use mb_tables::have_name_kinds;
 use mb_tables::{Cell, MbtError, MbtResult, Row};
 use std::alloc::Global;
 use base_values::OutOfMemory;

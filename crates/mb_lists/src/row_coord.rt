@@ -2,7 +2,7 @@
 ghost use Rattle.std.specs.Prelude.{◌≡◌};
 ghost use Rattle.mb_lists.specs.FromRows.{coord_in, number_in};
 
-use crate::kinds::cell_at;
+use mb_tables::cell_at;
 use mb_tables::{Cell, Row};
 use tile_ids::{TileCoord, parse_tile_index};
 

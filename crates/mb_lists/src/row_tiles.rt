@@ -6,7 +6,7 @@ ghost use Rattle.mb_tables.specs.Tiles.{cell_at};
 use crate::content_list::ContentList;
 use crate::dates::Dates;
 use crate::entries::{Content, Standing, StoredTile};
-use crate::kinds::cell_at;
+use mb_tables::cell_at;
 use crate::row_coord::coord_of;
 use mb_tables::{Cell, Row};
 use std::alloc::Global;

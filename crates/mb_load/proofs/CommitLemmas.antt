@@ -8,7 +8,7 @@ use Rattle.mb_load.specs.Changing.{AreChangesOf, content_row, content_row_by, co
 use Rattle.mb_lists.specs.Contents.{content_rows}
 use Rattle.mb_constraints.specs.Described.{index_missing, metadata_missing}
 use Rattle.mb_load.specs.Held.{Held, fresh}
-use Rattle.mb_lists.specs.Kinds.{has_name_kinds}
+use Rattle.mb_tables.specs.CellKinds.{has_name_kinds}
 use Rattle.mb_load.specs.LoadedFrom.{FitsPlace, IsGoodContent, IsGoodRow, IsLoadable, IsLoadedFrom}
 use Rattle.mb_load.specs.State.{State}
 use Rattle.mb_load.proofs.KeyedCommit.{all_then, edited_stand, fits_then, unedited_stay}

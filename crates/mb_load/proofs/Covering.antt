@@ -16,7 +16,7 @@ use Rattle.mb_lists.specs.Entries.{IsName, IsTile, blob_cell, content_at, conten
 use Rattle.mb_load.specs.HeldEntries.{held_of}
 use Rattle.mb_load.specs.Held.{Held}
 use Rattle.mb_lists.specs.Keyed.{Apart, at_key, entries_by}
-use Rattle.mb_lists.specs.Kinds.{is_text}
+use Rattle.mb_tables.specs.CellKinds.{is_text}
 use Rattle.mb_lists.specs.Metadata.{text_of}
 use Rattle.mb_load.specs.PutRows.{cells_kept, change_by, digest_cell, id_key, listed_change, name_change, row_of_content, row_of_name, row_of_tile, tile_change}
 use Rattle.mb_lists.specs.declared.dates.Dates.{Dates}

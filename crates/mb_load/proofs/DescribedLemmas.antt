@@ -5,7 +5,7 @@ use Rattle.std.specs.List.{list_any}
 use Rattle.mb_constraints.specs.Described.{index_missing, is_metadata}
 use Rattle.mb_lists.specs.Contents.{content_rows}
 use Rattle.mb_load.specs.LoadingOrder.{row_refusals}
-use Rattle.mb_lists.specs.Refusals.{first_refusal, unless}
+use Rattle.mb_tables.specs.Refusals.{first_refusal, unless}
 use Rattle.mb_load.specs.State.{state_of, stated, unless_refused}
 use Rattle.std.proofs.lemmas.Bool.{false≢true}
 use Rattle.mb_tables.specs.declared.table.TableName.TheVariants.{Metadata}

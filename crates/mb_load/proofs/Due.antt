@@ -4,7 +4,7 @@ use Rattle.std.specs.Option.{option_or}
 use Rattle.mb_constraints.specs.Algorithm.{algorithm_of, algorithm_unknown}
 use Rattle.mb_lists.specs.Contents.{id_twice}
 use Rattle.mb_constraints.specs.Hashes.{hash_wrong}
-use Rattle.mb_lists.specs.Kinds.{content_kind_wrong, name_kind_wrong, tile_kind_wrong}
+use Rattle.mb_tables.specs.CellKinds.{content_kind_wrong, name_kind_wrong, tile_kind_wrong}
 use Rattle.mb_load.specs.Loading.{due_by, held_by, rows_due}
 use Rattle.mb_lists.specs.Metadata.{name_twice}
 use Rattle.mb_constraints.specs.References.{reference_missing}

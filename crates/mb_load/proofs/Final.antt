@@ -10,7 +10,7 @@ use Rattle.mb_load.specs.Held.{Held, nothing_edited}
 use Rattle.mb_lists.specs.Keyed.{are_distinct}
 use Rattle.mb_load.specs.Loading.{due_by, held_by, rows_due}
 use Rattle.mb_lists.specs.Metadata.{names_of}
-use Rattle.mb_lists.specs.Refusals.{unless}
+use Rattle.mb_tables.specs.Refusals.{unless}
 use Rattle.mb_load.specs.RowTiles.{AreTilesOf}
 use Rattle.mb_constraints.specs.TileRows.{by_place, dates_in, id_in, place_twice, tile_in}
 use Rattle.mb_lists.specs.declared.dates.Dates.{Dates}

@@ -11,7 +11,7 @@ use Rattle.mb_load.specs.Committed.{is_set_table}
 use Rattle.mb_constraints.specs.Described.{is_metadata, metadata_missing}
 use Rattle.mb_load.specs.Held.{Edited, Held}
 use Rattle.mb_load.specs.LoadedFrom.{IsLoadedFrom}
-use Rattle.mb_lists.specs.Refusals.{unless}
+use Rattle.mb_tables.specs.Refusals.{unless}
 use Rattle.mb_store.proofs.Committed.{others_stay}
 use Rattle.mb_tables.proofs.ListLemmas.{filter_every}
 use Rattle.mb_store.specs.Committing.{AreOfTables, Commits, is_changed}

@@ -25,3 +25,4 @@ pub mod RowsPass
 pub mod LoadsFrom
 pub mod StateAgain
 pub mod CommittedLemmas
+pub mod BegunLemmas

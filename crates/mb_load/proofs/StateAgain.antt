@@ -14,12 +14,12 @@ use Rattle.mb_lists.specs.Contents.{are_apart, content_entry, content_rows, cont
 use Rattle.mb_lists.specs.Entries.{text_cell}
 use Rattle.mb_constraints.specs.Hashes.{wrong_content_hash, wrong_tile_hash}
 use Rattle.mb_load.specs.Held.{fresh}
-use Rattle.mb_lists.specs.Kinds.{is_id, is_number, is_text}
+use Rattle.mb_tables.specs.CellKinds.{is_id, is_number, is_text}
 use Rattle.mb_load.specs.Loading.{due_by, held_by}
 use Rattle.mb_load.specs.LoadedFrom.{FitsPlace, IsGoodContent, IsLoadedFrom, NamesAlgorithm, at_place, found}
 use Rattle.mb_lists.specs.Metadata.{name_entry, names_of}
 use Rattle.mb_constraints.specs.References.{id_text, missing_reference}
-use Rattle.mb_lists.specs.Refusals.{unless}
+use Rattle.mb_tables.specs.Refusals.{unless}
 use Rattle.mb_load.specs.State.{State, state_of}
 use Rattle.mb_constraints.specs.TileRows.{bad_tile, by_place, dates_in, id_in, tile_in}
 use Rattle.mb_constraints.proofs.ApartPlaces.{in_has_place, never_twice}

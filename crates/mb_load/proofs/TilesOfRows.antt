@@ -9,7 +9,7 @@ use Rattle.std.specs.FinMap.{from_entries}
 use Rattle.std.proofs.lemmas.Option.{slice_get-map}
 use Rattle.mb_lists.specs.Entries.{content_at, is_removed, tile_dates, tile_id, tile_value}
 use Rattle.mb_lists.specs.FromRows.{AreIndexed, dates_from, ids_from, own_content, own_tiles, rows_kept, stored_by_id}
-use Rattle.mb_lists.specs.Refusals.{first_refused, unless}
+use Rattle.mb_tables.specs.Refusals.{first_refused, unless}
 use Rattle.mb_constraints.specs.References.{missing_reference}
 use Rattle.mb_load.specs.RowTiles.{AreTilesOf}
 use Rattle.mb_constraints.specs.TileRows.{bad_tile, contents_in, dates_in, id_in, tile_in}

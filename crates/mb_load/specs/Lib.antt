@@ -13,3 +13,5 @@ pub mod LoadedFrom
 pub mod Committed
 pub mod Adding
 pub mod PutRows
+pub mod Committing
+pub mod Begun

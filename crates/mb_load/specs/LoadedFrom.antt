@@ -7,7 +7,7 @@ use Rattle.mb_lists.specs.Contents.{content_rows}
 use Rattle.mb_constraints.specs.Described.{index_missing, metadata_missing}
 use Rattle.mb_constraints.specs.Hashes.{wrong_content_hash, wrong_tile_hash}
 use Rattle.mb_load.specs.Held.{Held}
-use Rattle.mb_lists.specs.Kinds.{has_name_kinds, has_tile_kinds, is_id, is_number, is_text}
+use Rattle.mb_tables.specs.CellKinds.{has_name_kinds, has_tile_kinds, is_id, is_number, is_text}
 use Rattle.mb_lists.specs.Metadata.{text_at}
 use Rattle.mb_load.specs.State.{State}
 use Rattle.mb_constraints.specs.TileRows.{bad_tile, dates_in, id_in, tile_in}

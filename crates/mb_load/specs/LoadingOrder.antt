@@ -4,7 +4,7 @@ use Rattle.mb_constraints.specs.Algorithm.{algorithm_of, algorithm_unknown}
 use Rattle.mb_lists.specs.Contents.{content_rows, id_twice}
 use Rattle.mb_constraints.specs.Described.{index_missing, metadata_missing}
 use Rattle.mb_constraints.specs.Hashes.{hash_wrong}
-use Rattle.mb_lists.specs.Kinds.{content_kind_wrong, name_kind_wrong, tile_kind_wrong}
+use Rattle.mb_tables.specs.CellKinds.{content_kind_wrong, name_kind_wrong, tile_kind_wrong}
 use Rattle.mb_lists.specs.Metadata.{name_twice}
 use Rattle.mb_constraints.specs.References.{reference_missing}
 use Rattle.mb_constraints.specs.TileRows.{place_twice, tile_bad}

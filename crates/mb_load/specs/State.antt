@@ -5,7 +5,7 @@ use Rattle.mb_constraints.specs.Algorithm.{algorithm_of}
 use Rattle.mb_lists.specs.Contents.{Contents, content_rows, contents_by_id}
 use Rattle.mb_load.specs.LoadingOrder.{refusals}
 use Rattle.mb_lists.specs.Metadata.{Names, names_of}
-use Rattle.mb_lists.specs.Refusals.{first_refusal}
+use Rattle.mb_tables.specs.Refusals.{first_refusal}
 use Rattle.mb_constraints.specs.TileRows.{by_place, dates_in, id_in}
 use Rattle.mb_lists.specs.declared.dates.Dates.{Dates}
 use Rattle.mb_tables.specs.Detection.{layout_of, patch_type_of}

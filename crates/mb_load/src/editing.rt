@@ -2,7 +2,7 @@
 ghost use Rattle.std.specs.Prelude.{◌≡◌, IfOk, OnErr, OnOk, true};
 ghost use Rattle.mb_load.specs.Edits.{removed_name, removed_tile, with_name, with_tile};
 ghost use Rattle.mb_lists.specs.Entries.{place_at};
-ghost use Rattle.mb_lists.specs.Kinds.{is_text};
+ghost use Rattle.mb_tables.specs.CellKinds.{is_text};
 ghost use Rattle.mb_lists.specs.Metadata.{text_of};
 
 use crate::Loaded;

@@ -5,6 +5,7 @@ mod adding;
 mod aggregate;
 mod assembling;
 mod changes;
+mod commit;
 mod editing;
 mod from_rows;
 pub mod laws;
@@ -15,6 +16,7 @@ mod reading;
 mod single_edits;
 mod tiles_of_rows;
 
+pub use commit::commit_loaded;
 pub use editing::Editing;
 pub use loaded::Loaded;
 pub use loading::load;

@@ -2,7 +2,7 @@
 ghost use Rattle.std.specs.Prelude.{◌≡◌, OnErr, OnOk, true};
 ghost use Rattle.mb_load.specs.Edits.{only_referenced, with_name, with_tile, without_name, without_tile};
 ghost use Rattle.mb_lists.specs.Entries.{place_at};
-ghost use Rattle.mb_lists.specs.Kinds.{is_text};
+ghost use Rattle.mb_tables.specs.CellKinds.{is_text};
 ghost use Rattle.mb_lists.specs.Metadata.{text_of};
 
 use crate::Loaded;

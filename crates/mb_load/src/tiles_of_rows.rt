@@ -4,7 +4,7 @@ ghost use Rattle.mb_lists.specs.Contents.{contents_by_id};
 ghost use Rattle.mb_lists.specs.Entries.{AreDated, contents_held};
 ghost use Rattle.mb_lists.specs.FromRows.{AreIndexed, rows_kept};
 ghost use Rattle.mb_constraints.specs.References.{missing_reference};
-ghost use Rattle.mb_lists.specs.Refusals.{first_refused};
+ghost use Rattle.mb_tables.specs.Refusals.{first_refused};
 ghost use Rattle.mb_load.specs.RowTiles.{AreTilesOf};
 ghost use Rattle.mb_constraints.specs.TileRows.{bad_tile};
 ghost use Rattle.mb_lists.specs.declared.entries.Standing.TheVariants.{Kept};

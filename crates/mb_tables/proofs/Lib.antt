@@ -3,3 +3,4 @@ pub mod CellLemmas
 pub mod RowOrder
 pub mod TableLemmas
 pub mod TileLemmas
+pub mod RowLemmas

@@ -13,3 +13,5 @@ pub mod Detection
 pub mod DetectionExamples
 pub mod Tiles
 pub mod TileExamples
+pub mod Refusals
+pub mod CellKinds

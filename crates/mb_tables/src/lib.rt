@@ -2,6 +2,7 @@
 #![tactic(auto)]
 
 mod cell;
+mod cell_kinds;
 mod cell_order;
 mod column;
 mod columns;
@@ -19,6 +20,7 @@ mod schema;
 mod table;
 
 pub use cell::Cell;
+pub use cell_kinds::{cell_at, have_name_kinds, have_tile_kinds, is_id, is_text};
 pub use column::{ColumnDesc, ColumnList};
 pub use described::is_keyed;
 pub use description::{TableDesc, TableKind};

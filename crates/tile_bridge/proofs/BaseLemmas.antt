@@ -7,7 +7,7 @@ use Rattle.std.specs.FinMap.{contains_key, empty, get, get-empty}
 use Rattle.tile_ids.specs.Coord.{Coord}
 use Rattle.mb_edit.proofs.FrameLemmas.{null_names_stay, tile_rows_stay}
 use Rattle.mb_edit.specs.Applying.{stands_in}
-use Rattle.mb_edit.specs.Committing.{MakesChanges}
+use Rattle.mb_load.specs.Committing.{MakesChanges}
 use Rattle.mb_load.proofs.CommittedLemmas.{is_committed}
 use Rattle.mb_load.specs.Committed.{IsCommitted}
 use Rattle.mb_load.specs.Held.{Held, fresh}

@@ -5,7 +5,7 @@ use Rattle.std.specs.Str.{bytes_eq}
 use Rattle.std.specs.FinMap.{entries}
 use Rattle.mb_load.specs.Aggregate.{aggregate, bytes_of}
 use Rattle.mb_lists.specs.Metadata.{text_at}
-use Rattle.mb_lists.specs.Refusals.{unless}
+use Rattle.mb_tables.specs.Refusals.{unless}
 use Rattle.mb_load.specs.State.{State, state_of}
 use Rattle.mb_edit.specs.Step.{step}
 use Rattle.mb_tables.specs.Table.{Tables}

@@ -4,7 +4,7 @@ use Rattle.std.specs.List.{list_any}
 use Rattle.std.specs.Option.{option_map_or}
 use Rattle.std.specs.FinMap.{contains_key, get}
 use Rattle.mb_edit.specs.Applying.{put_row}
-use Rattle.mb_edit.specs.Committing.{MakesChanges}
+use Rattle.mb_load.specs.Committing.{MakesChanges}
 use Rattle.mb_edit.specs.HeldPatched.{held_patched}
 use Rattle.mb_edit.specs.Step.{step}
 use Rattle.mb_load.specs.Changing.{content_table, tile_key}

@@ -2,7 +2,7 @@
 use Rattle.std.specs.Prelude.{ℕ, ◌≡◌, ◌≤◌, Bool, false, cond, List, map, All, slice_index, Option, Some, None, Result, IfSome, Ok, Err}
 use Rattle.std.specs.List.{list_all}
 use Rattle.base_values.specs.Counts.{Rose}
-use Rattle.mb_lists.specs.Refusals.{is_free}
+use Rattle.mb_tables.specs.Refusals.{is_free}
 use Rattle.mb_load.specs.State.{State, state_of}
 use Rattle.mb_tables.specs.Table.{Tables}
 use Rattle.mb_tables.specs.declared.error.MbtError.{MbtError}

@@ -1,6 +1,6 @@
 // The set that is converted.
 ghost use Rattle.std.specs.Prelude.{◌≡◌, ◌≢◌, ◌≤◌, ◌∷◌, ℕ, cond, false, Err, IfErr, IfOk, IsErrOf, None, Ok, Some, map};
-ghost use Rattle.mb_lists.specs.Refusals.{is_free};
+ghost use Rattle.mb_tables.specs.Refusals.{is_free};
 ghost use Rattle.mb_load.specs.Aggregate.{aggregate};
 ghost use Rattle.tile_bridge.specs.Outcome.{due, overflows, tested, unverified};
 ghost use Rattle.tile_bridge.specs.Patching.{IsHeldFrom};

@@ -6,7 +6,7 @@ use Rattle.pm_format.specs.declared.compression.Compression.{Compression}
 use Rattle.pm_format.specs.declared.compression.Compression.TheVariants as compression
 use Rattle.pm_format.specs.LookUp.{archive_map}
 use Rattle.pm_writer.specs.Places.{places_read}
-use Rattle.mb_lists.specs.Refusals.{is_free}
+use Rattle.mb_tables.specs.Refusals.{is_free}
 use Rattle.mb_load.specs.State.{State}
 use Rattle.mb_load.specs.Aggregate.{aggregate}
 use Rattle.tile_bridge.specs.Convert.{BothTold, IsArchiveOf, IsEmpty, IsPlain, LeavesPart}

@@ -1,9 +1,9 @@
 use Rattle.std.proofs.Common.{◌≡◌, ◌∙◌, ap, sym, subst, refl, true, Ok}
 use Rattle.std.proofs.lemmas.Result.{err_from_is_err_and}
 use Rattle.mb_check.specs.AggregateHash.{own_hash_answer}
-use Rattle.mb_check.proofs.BegunLemmas.{begun_err, begun_free, begun_ok}
+use Rattle.mb_load.proofs.BegunLemmas.{begun_err, begun_free, begun_ok}
 use Rattle.mb_check.proofs.UpdatedLemmas.{hashed_loaded, hashed_updated}
-use Rattle.mb_edit.specs.Committing.{MakesChanges}
+use Rattle.mb_load.specs.Committing.{MakesChanges}
 use Rattle.mb_load.specs.Held.{Held}
 use Rattle.mb_load.specs.LoadedFrom.{IsLoadedFrom}
 use Rattle.mb_tables.specs.Table.{Tables}

@@ -1,7 +1,7 @@
 use Rattle.std.proofs.Common.{◌≡◌, ◌∙◌, sym, subst, true, Ok, Err}
 use Rattle.std.proofs.lemmas.Bool.{false≢true}
 use Rattle.std.proofs.lemmas.Result.{err_from_is_err_and}
-use Rattle.mb_edit.specs.Committing.{MakesChanges}
+use Rattle.mb_load.specs.Committing.{MakesChanges}
 use Rattle.mb_edit.proofs.AnswerLemmas.{base_refused, patch_refused, some_tables, step_refused}
 use Rattle.mb_edit.proofs.ApplyLemmas.{next_applied, next_loaded}
 use Rattle.mb_load.specs.LoadedFrom.{IsLoadedFrom}

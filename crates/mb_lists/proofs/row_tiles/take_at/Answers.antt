@@ -1,5 +1,5 @@
 use Rattle.std.proofs.Common.{◌<◌, ◌≤◌, ◌∙◌, sym, length, arith}
-use Rattle.mb_lists.proofs.RowLemmas.{cell_before, cell_past, cell_within}
+use Rattle.mb_tables.proofs.RowLemmas.{cell_before, cell_past, cell_within}
 use Rattle.mb_lists.proofs.row_tiles.take_at.Goals as goal
 
 pub returns-then-index-len-clause-taken : goal.returns-then-index-len-clause-taken

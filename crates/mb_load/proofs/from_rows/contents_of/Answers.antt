@@ -4,7 +4,7 @@ use Rattle.std.specs.List.Sorted.{IsPermutation}
 use Rattle.mb_lists.specs.Entries.{AreContentsInOrder, id_at}
 use Rattle.mb_lists.specs.FromRows.{content_from, ids_from}
 use Rattle.mb_lists.specs.Keyed.{are_distinct}
-use Rattle.mb_lists.specs.Kinds.{content_kind_wrong, tile_kind_wrong}
+use Rattle.mb_tables.specs.CellKinds.{content_kind_wrong, tile_kind_wrong}
 use Rattle.std.specs.Option.{option_or}
 use Rattle.mb_lists.specs.declared.content_list.ContentList.{ContentList}
 use Rattle.mb_lists.specs.declared.entries.Content.{Content}

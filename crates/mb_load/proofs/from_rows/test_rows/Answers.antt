@@ -3,7 +3,7 @@ use Rattle.std.proofs.lemmas.Result.{err_from_is_err_and}
 use Rattle.mb_lists.specs.FromRows.{rows_kept}
 use Rattle.mb_constraints.specs.Hashes.{wrong_id}
 use Rattle.mb_constraints.specs.References.{reference_missing}
-use Rattle.mb_lists.specs.Refusals.{first_refused}
+use Rattle.mb_tables.specs.Refusals.{first_refused}
 use Rattle.mb_constraints.specs.TileRows.{tile_bad}
 use Rattle.mb_constraints.proofs.ContentTests.{last_tested}
 use Rattle.mb_load.proofs.from_rows.test_rows.Goals as goal

@@ -7,7 +7,7 @@ use Rattle.std.specs.Ordering.{nat_cmp}
 use Rattle.std.proofs.lemmas.List.Sorted.{All-permutation, IsPermutation-sym}
 use Rattle.mb_lists.specs.Entries.{IsName, is_name_gone, name_of, name_value}
 use Rattle.mb_lists.specs.Keyed.{are_distinct, entries_by}
-use Rattle.mb_lists.specs.Kinds.{has_name_kinds}
+use Rattle.mb_tables.specs.CellKinds.{has_name_kinds}
 use Rattle.mb_lists.specs.declared.entries.Standing.TheVariants.{Kept}
 use Rattle.mb_lists.specs.declared.entries.StoredName.{StoredName}
 use Rattle.mb_lists.proofs.NameLemmas.{named_entries, names_alive, names_antisymmetric, name_texts, names_kept, names_pass, names_refused}

@@ -1,11 +1,11 @@
 // Committing the edits of a loaded set.
 ghost use Rattle.std.specs.Prelude.{◌≡◌, ◌≤◌, true, OnOk, OnErr, IfErr, IsErrOf};
-ghost use Rattle.mb_edit.specs.Committing.{MakesChanges};
+ghost use Rattle.mb_load.specs.Committing.{MakesChanges};
 ghost use Rattle.mb_load.specs.LoadedFrom.{IsLoadedFrom};
-ghost use Rattle.mb_lists.specs.Refusals.{is_free};
+ghost use Rattle.mb_tables.specs.Refusals.{is_free};
 ghost use Rattle.base_values.specs.Counts.{Rose};
 
-use mb_load::Loaded;
+use crate::Loaded;
 use mb_store::{MbtError, MbtResult, TileStore};
 use std::alloc::Global;
 

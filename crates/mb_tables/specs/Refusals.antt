@@ -32,3 +32,8 @@ Tests due (Err e) = (is_free e ≡ false → due ≡ Some e) × (e ≢ StoreFaul
 abbrev pub Answers : {A : Type 0} → Result A MbtError → Result A MbtError → Type 0
 Answers due (Ok x) = due ≡ Ok x
 Answers due (Err e) = is_free e ≡ false → due ≡ Err e
+
+-- what the first gives to the next, or its refusal
+abbrev pub then : {A B : Type 0} → Result A MbtError → (A → Result B MbtError) → Result B MbtError
+then (Ok x) next = next x
+then (Err e) next = Err e

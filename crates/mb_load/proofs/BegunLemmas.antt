@@ -1,11 +1,11 @@
 -- Answers of calls that begin with loading.
 use Rattle.std.proofs.Common.{◌≡◌, ◌∙◌, ap, sym, subst, Bool, true, false, Ok, Err, Result, refl}
 use Rattle.std.proofs.lemmas.Bool.{false≢true}
-use Rattle.mb_check.specs.Begun.{IsBegun, begun}
-use Rattle.mb_edit.specs.Applying.{then}
+use Rattle.mb_load.specs.Begun.{IsBegun, begun}
+use Rattle.mb_tables.specs.Refusals.{then}
 use Rattle.mb_load.specs.Held.{Held}
 use Rattle.mb_load.specs.Loading.{Loads}
-use Rattle.mb_lists.specs.Refusals.{Answers, is_free}
+use Rattle.mb_tables.specs.Refusals.{Answers, is_free}
 use Rattle.mb_load.specs.State.{State, state_of}
 use Rattle.mb_tables.specs.Table.{Tables}
 use Rattle.mb_tables.specs.declared.error.MbtError.{MbtError}
