@@ -3,12 +3,12 @@ ghost use Rattle.std.specs.Prelude.{◌≡◌, ℕ, None};
 ghost use Rattle.pm_reader.specs.Tied.{IsTied};
 
 use crate::sweep::{say_tile, sweep_tiles, tiles};
+use base_values::TextVal;
 use bytes::Bytes;
 use pm_format::{Backend, BytesBackend, Directory, PmtResult};
 use pm_reader::{DirectoryCache, HashMapCache, LruDirCache, NoCache, PmTilesReader, ReaderState};
 use rows_shared::{Words, number, owned, said, say, say_bytes};
 use std::alloc::Global;
-use base_values::TextVal;
 use tile_ids::TileId;
 
 pub fn id(words: &mut Words) -> Option<TileId> {

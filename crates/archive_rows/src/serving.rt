@@ -4,10 +4,10 @@ ghost use Rattle.tile_serve.specs.Limits.{IsLimits};
 ghost use Rattle.tile_serve.specs.Server.{IsTied};
 
 use crate::lines::{show, spelled};
+use base_values::BlobVal;
 use pm_format::Backend;
 use rows_shared::{Words, number, said, say};
 use std::alloc::Global;
-use base_values::BlobVal;
 use tile_serve::{ServeError, ServeLimits, TileServer};
 
 // The four limits, where they allow a directory and a tile.

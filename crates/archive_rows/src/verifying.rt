@@ -1,9 +1,9 @@
 // The check of the whole archive that is held.
+use base_values::TextVal;
 use pm_format::{Backend, MemMedium};
 use rows_shared::{Words, number, said, say, texts};
 use std::alloc::Global;
 use tile_hash::{HashAlgorithm, HashStream};
-use base_values::TextVal;
 use tile_verify::{VerifyOutcome, run_verify, verify, verify_line, verify_status};
 
 fn said_outcome(alloc: Global, out: &mut String, outcome: VerifyOutcome) -> Option<()> {

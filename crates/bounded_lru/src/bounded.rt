@@ -5,11 +5,11 @@ ghost use Rattle.bounded_lru.specs.Bounded.{IsWithin, Puts, bounded, used, weigh
 
 use crate::Weigh;
 use crate::lighten::{lighten, weight_of};
+use base_values::OutOfMemory;
 use lru::LruCache;
 use std::alloc::Global;
 use std::marker::Model;
 use std::num::NonZeroUsize;
-use base_values::OutOfMemory;
 
 /// Values by numbers, of which those that were used last are kept: at most so many, and of at most so much weight together where there is a limit.
 #[derive(Drop)]

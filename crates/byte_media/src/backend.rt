@@ -4,10 +4,10 @@ ghost use Rattle.std.specs.declared.option.Option.{Option};
 ghost use Rattle.base_values.specs.Counts.{Grew};
 ghost use Rattle.byte_media.specs.Media.{ReadAnswers, ReadExactAnswers, HasVersion, ReadCauses, ReadExactCauses};
 
+use base_values::{OutOfMemory, TextVal};
 use bytes::Bytes;
 use std::alloc::{AllocError, AllocFailed, Global};
 use thiserror::Error;
-use base_values::{OutOfMemory, TextVal};
 
 /// What a read gives: its bytes, and the version text of the data where the backend has one.
 #[derive(Drop)]

@@ -5,9 +5,9 @@ ghost use Rattle.byte_media.specs.Media.{written, WriteGives, IsLength, IsWithin
 ghost use Rattle.byte_media.specs.MemMedium.{version_at, held, version_texts, call_count, fault_count, read_count, failing_calls, next_fails, called, read_called};
 
 use crate::{Backend, BackendResponse, Medium, MediumFault, ReadFault, WriteFault};
+use base_values::{FailingCalls, OutOfMemory, TextVal};
 use bytes::Bytes;
 use std::alloc::{AllocError, Global};
-use base_values::{FailingCalls, OutOfMemory, TextVal};
 
 /// A medium whose bytes lie in memory. It tells them, fails only where it is made to, and gives version texts where it has some.
 #[derive(Drop)]

@@ -5,8 +5,8 @@ ghost use Rattle.byte_streams.specs.MemSink.{failing_of};
 ghost use Rattle.byte_streams.specs.Streams.{WriteAppends};
 
 use crate::{Sink, SinkFault};
-use std::alloc::Global;
 use base_values::FailingCalls;
+use std::alloc::Global;
 
 /// A sink whose bytes lie in memory. It tells them, and fails only where it is made to.
 #[derive(Drop)]

@@ -1,10 +1,10 @@
 // Calls of tile_json.
 use crate::fields;
+use base_values::TextList;
 use pm_format::{Compression, Header, TileType};
 use rows_shared::{Words, owned, said, say, text, texts};
 use serde_json::Value;
 use std::alloc::Global;
-use base_values::TextList;
 use tile_json::{JsonFields, LayerList, TextFields, VectorLayer};
 
 fn document(alloc: Global, out: &mut String, words: &mut Words) -> Option<()> {

@@ -1,9 +1,9 @@
 // Maps from texts: the name that is sought, and then names with their values.
+use base_values::TextVal;
 use rows_shared::{Words, owned, said, say, text};
 use serde_json::Value;
 use std::alloc::Global;
 use std::fmt::Debug;
-use base_values::TextVal;
 use tile_json::{JsonFields, JsonVal, TextFields, TextMap};
 
 fn say_map<V: Debug + Drop>(out: &mut String, map: &TextMap<V>, sought: &str) -> Option<()> {

@@ -1,8 +1,11 @@
 // Calls of tile_ids.
+use base_values::BlobVal;
 use rows_shared::{Words, bytes, number, owned, said, say, say_bytes, say_text};
 use std::alloc::Global;
-use base_values::BlobVal;
-use tile_ids::{MAX_TILE_ID, MAX_ZOOM, PYRAMID_SIZE_BY_ZOOM, TileCoord, TileId, invert_y_value, parse_tile_index, subtree_interval};
+use tile_ids::{
+    MAX_TILE_ID, MAX_ZOOM, PYRAMID_SIZE_BY_ZOOM, TileCoord, TileId, invert_y_value,
+    parse_tile_index, subtree_interval,
+};
 
 fn coord(out: &mut String, words: &mut Words) -> Option<()> {
     said(

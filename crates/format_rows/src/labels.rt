@@ -1,11 +1,11 @@
 // Labels, types and errors of pm_format, and their texts.
+use base_values::OutOfMemory;
 use pm_format::{
     Compression, Directory, Header, MediumFault, PmtError, ReadCause, ReadFault, TileType,
     WriteFault,
 };
 use rows_shared::{Words, bytes, number, said, say, say_text};
 use std::alloc::Global;
-use base_values::OutOfMemory;
 use tile_ids::{TileCoord, TileId};
 
 fn say_compression(out: &mut String, label: Compression) -> Option<()> {

@@ -1,4 +1,5 @@
 // The hash of all tiles of a set: as it is stored, as it is computed, and whether these agree.
+ghost use Rattle.mb_store.specs.Kept.{ReadsOnly};
 ghost use Rattle.std.specs.Prelude.{◌≡◌, ◌≢◌, ◌≤◌, Err, IfOk, IsErrOf};
 ghost use Rattle.base_values.specs.Counts.{Rose};
 ghost use Rattle.mb_check.specs.AggregateHash.{algorithm_answer, checked_answer, hash_answer, stored_answer};
@@ -6,11 +7,11 @@ ghost use Rattle.mb_load.specs.Begun.{IsBegun};
 ghost use Rattle.mb_lists.specs.Metadata.{text_at};
 ghost use Rattle.mb_tables.specs.Refusals.{Answers};
 
+use base_values::{OutOfMemory, TextVal};
 use mb_load::{Loaded, load};
 use mb_store::{AGG_TILES_HASH, MbtError, MbtResult, TileStore};
 use std::alloc::Global;
 use tile_hash::HashAlgorithm;
-use base_values::{OutOfMemory, TextVal};
 
 /// A copy of the text of a name of metadata, None where there is none, or null.
 pub(crate) fn text_of(
@@ -63,12 +64,8 @@ fn checked_hash(alloc: Global, set: &Loaded) -> MbtResult<TextVal>
 /// It answers the refusals of `load`. The store holds what it held, whatever the answer.
 pub fn get_hash_algorithm<S: TileStore>(alloc: Global, store: &mut S) -> MbtResult<HashAlgorithm>
     ensures answer { IsBegun algorithm_answer (S.tells store.old) (S.told store.old) result }
-    ensures told { S.told store.new ≡ S.told store.old }
-    ensures tells { S.tells store.new ≡ S.tells store.old }
-    ensures faults { S.faults store.old ≤ S.faults store.new }
+    ensures kept { ReadsOnly S.told S.tells S.faults S.steady store.old store.new }
     ensures fault { IsErrOf result MbtError.StoreFault → Rose (S.faults store.old) (S.faults store.new) }
-    ensures steady { S.steady store.old → S.steady store.new }
-    ensures calm { S.steady store.old → S.faults store.new ≡ S.faults store.old }
 {
     let set = load(alloc, store)?;
     Ok(set.algorithm())
@@ -79,12 +76,8 @@ pub fn get_hash_algorithm<S: TileStore>(alloc: Global, store: &mut S) -> MbtResu
 /// It answers the refusals of `load`. The store holds what it held, whatever the answer.
 pub fn get_agg_tiles_hash<S: TileStore>(alloc: Global, store: &mut S) -> MbtResult<Option<TextVal>>
     ensures answer { IsBegun stored_answer (S.tells store.old) (S.told store.old) result }
-    ensures told { S.told store.new ≡ S.told store.old }
-    ensures tells { S.tells store.new ≡ S.tells store.old }
-    ensures faults { S.faults store.old ≤ S.faults store.new }
+    ensures kept { ReadsOnly S.told S.tells S.faults S.steady store.old store.new }
     ensures fault { IsErrOf result MbtError.StoreFault → Rose (S.faults store.old) (S.faults store.new) }
-    ensures steady { S.steady store.old → S.steady store.new }
-    ensures calm { S.steady store.old → S.faults store.new ≡ S.faults store.old }
 {
     let set = load(alloc, store)?;
     stored_hash(alloc, &set)
@@ -101,12 +94,8 @@ pub fn calc_agg_tiles_hash<S: TileStore>(
     algorithm: HashAlgorithm,
 ) -> MbtResult<TextVal>
     ensures answer { IsBegun (hash_answer algorithm) (S.tells store.old) (S.told store.old) result }
-    ensures told { S.told store.new ≡ S.told store.old }
-    ensures tells { S.tells store.new ≡ S.tells store.old }
-    ensures faults { S.faults store.old ≤ S.faults store.new }
+    ensures kept { ReadsOnly S.told S.tells S.faults S.steady store.old store.new }
     ensures fault { IsErrOf result MbtError.StoreFault → Rose (S.faults store.old) (S.faults store.new) }
-    ensures steady { S.steady store.old → S.steady store.new }
-    ensures calm { S.steady store.old → S.faults store.new ≡ S.faults store.old }
 {
     let set = load(alloc, store)?;
     hash_by(alloc, &set, algorithm)
@@ -118,12 +107,8 @@ pub fn calc_agg_tiles_hash<S: TileStore>(
 /// holds what it held, whatever the answer.
 pub fn check_agg_tiles_hashes<S: TileStore>(alloc: Global, store: &mut S) -> MbtResult<TextVal>
     ensures answer { IsBegun checked_answer (S.tells store.old) (S.told store.old) result }
-    ensures told { S.told store.new ≡ S.told store.old }
-    ensures tells { S.tells store.new ≡ S.tells store.old }
-    ensures faults { S.faults store.old ≤ S.faults store.new }
+    ensures kept { ReadsOnly S.told S.tells S.faults S.steady store.old store.new }
     ensures fault { IsErrOf result MbtError.StoreFault → Rose (S.faults store.old) (S.faults store.new) }
-    ensures steady { S.steady store.old → S.steady store.new }
-    ensures calm { S.steady store.old → S.faults store.new ≡ S.faults store.old }
 {
     let set = load(alloc, store)?;
     checked_hash(alloc, &set)

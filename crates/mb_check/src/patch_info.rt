@@ -1,4 +1,5 @@
 // What a set says of itself as a patch, or as the base of one.
+ghost use Rattle.mb_store.specs.Kept.{ReadsOnly};
 ghost use Rattle.std.specs.Prelude.{◌≡◌, ◌≢◌, ◌≤◌, Err, IsErrOf, is_some};
 ghost use Rattle.base_values.specs.Counts.{Rose};
 ghost use Rattle.mb_load.specs.Begun.{IsBegun};
@@ -7,13 +8,13 @@ ghost use Rattle.mb_constraints.specs.DiffHashes.{base_refused, patch_refused, r
 ghost use Rattle.mb_tables.specs.Refusals.{Answers};
 
 use crate::aggregate::text_of;
+use base_values::TextVal;
 use mb_load::{Loaded, load, test_base_hashes, test_patch_hashes};
 use mb_store::{
     AGG_TILES_HASH, AGG_TILES_HASH_AFTER_APPLY, AGG_TILES_HASH_BEFORE_APPLY, MbtError, MbtResult,
     MbtType, PatchType, TileStore,
 };
 use std::alloc::Global;
-use base_values::TextVal;
 
 /// What a set says of itself as a patch, or as the base of one.
 #[derive(Debug, Drop)]
@@ -52,12 +53,8 @@ fn info_of(alloc: Global, set: &Loaded) -> MbtResult<PatchFileInfo>
 /// It answers the refusals of `load`. The store holds what it held, whatever the answer.
 pub fn examine_diff<S: TileStore>(alloc: Global, store: &mut S) -> MbtResult<PatchFileInfo>
     ensures answer { IsBegun info_answer (S.tells store.old) (S.told store.old) result }
-    ensures told { S.told store.new ≡ S.told store.old }
-    ensures tells { S.tells store.new ≡ S.tells store.old }
-    ensures faults { S.faults store.old ≤ S.faults store.new }
+    ensures kept { ReadsOnly S.told S.tells S.faults S.steady store.old store.new }
     ensures fault { IsErrOf result MbtError.StoreFault → Rose (S.faults store.old) (S.faults store.new) }
-    ensures steady { S.steady store.old → S.steady store.new }
-    ensures calm { S.steady store.old → S.faults store.new ≡ S.faults store.old }
 {
     let set = load(alloc, store)?;
     info_of(alloc, &set)

@@ -1,4 +1,5 @@
 // The tests of a set's rows, which loading makes.
+ghost use Rattle.mb_store.specs.Kept.{ReadsOnly};
 ghost use Rattle.std.specs.Prelude.{◌≡◌, ◌≤◌, IsErrOf};
 ghost use Rattle.base_values.specs.Counts.{Rose};
 ghost use Rattle.mb_load.specs.Begun.{IsBegun};
@@ -13,12 +14,8 @@ use std::alloc::Global;
 /// It answers the refusals of `load`, of which `InvalidTileIndex` is that of such a row. The store holds what it held, whatever the answer.
 pub fn check_tiles_type_validity<S: TileStore>(alloc: Global, store: &mut S) -> MbtResult<()>
     ensures answer { IsBegun rows_answer (S.tells store.old) (S.told store.old) result }
-    ensures told { S.told store.new ≡ S.told store.old }
-    ensures tells { S.tells store.new ≡ S.tells store.old }
-    ensures faults { S.faults store.old ≤ S.faults store.new }
+    ensures kept { ReadsOnly S.told S.tells S.faults S.steady store.old store.new }
     ensures fault { IsErrOf result MbtError.StoreFault → Rose (S.faults store.old) (S.faults store.new) }
-    ensures steady { S.steady store.old → S.steady store.new }
-    ensures calm { S.steady store.old → S.faults store.new ≡ S.faults store.old }
 {
     let _set = load(alloc, store)?;
     Ok(())
@@ -29,12 +26,8 @@ pub fn check_tiles_type_validity<S: TileStore>(alloc: Global, store: &mut S) -> 
 /// It answers the refusals of `load`, of which `IncorrectTileHash` is that of such a digest. The store holds what it held, whatever the answer.
 pub fn check_each_tile_hash<S: TileStore>(alloc: Global, store: &mut S) -> MbtResult<()>
     ensures answer { IsBegun rows_answer (S.tells store.old) (S.told store.old) result }
-    ensures told { S.told store.new ≡ S.told store.old }
-    ensures tells { S.tells store.new ≡ S.tells store.old }
-    ensures faults { S.faults store.old ≤ S.faults store.new }
+    ensures kept { ReadsOnly S.told S.tells S.faults S.steady store.old store.new }
     ensures fault { IsErrOf result MbtError.StoreFault → Rose (S.faults store.old) (S.faults store.new) }
-    ensures steady { S.steady store.old → S.steady store.new }
-    ensures calm { S.steady store.old → S.faults store.new ≡ S.faults store.old }
 {
     let _set = load(alloc, store)?;
     Ok(())

@@ -1,4 +1,5 @@
 // Counts and sizes of the tiles of a set.
+ghost use Rattle.mb_store.specs.Kept.{ReadsOnly};
 ghost use Rattle.std.specs.Prelude.{◌≡◌, ◌≢◌, ◌≤◌, ◌<◌, ◌^◌, ◌++◌, [], ℕ, List, Option, Err, IfOk, IfSome, IsErrOf, OnOk, length, map, option_map, slice_get, slice_index_or};
 ghost use Rattle.std.specs.FinMap.{entries, len};
 ghost use Rattle.std.specs.List.{cons_option, filter_map};
@@ -12,10 +13,10 @@ ghost use Rattle.mb_tables.specs.Refusals.{Answers};
 
 use crate::sizes::{Sizes, greatest_with, least_with};
 use crate::{Summary, ZoomInfo, ZoomInfoList};
+use base_values::OutOfMemory;
 use mb_load::{Loaded, load};
 use mb_store::{Cell, MbtError, MbtResult, TileStore};
 use std::alloc::Global;
-use base_values::OutOfMemory;
 
 // The size of a tile, None for null.
 fn size_of(cell: &Cell) -> Option<u64>
@@ -187,12 +188,8 @@ fn summary_of(alloc: Global, set: &Loaded) -> MbtResult<Summary>
 /// It answers the refusals of `load`. The store holds what it held, whatever the answer.
 pub fn summary<S: TileStore>(alloc: Global, store: &mut S) -> MbtResult<Summary>
     ensures answer { IsBegun summary_answer (S.tells store.old) (S.told store.old) result }
-    ensures told { S.told store.new ≡ S.told store.old }
-    ensures tells { S.tells store.new ≡ S.tells store.old }
-    ensures faults { S.faults store.old ≤ S.faults store.new }
+    ensures kept { ReadsOnly S.told S.tells S.faults S.steady store.old store.new }
     ensures fault { IsErrOf result MbtError.StoreFault → Rose (S.faults store.old) (S.faults store.new) }
-    ensures steady { S.steady store.old → S.steady store.new }
-    ensures calm { S.steady store.old → S.faults store.new ≡ S.faults store.old }
 {
     let set = load(alloc, store)?;
     summary_of(alloc, &set)

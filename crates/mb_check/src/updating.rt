@@ -1,4 +1,5 @@
 // Storing the computed hash of all tiles.
+ghost use Rattle.mb_store.specs.Kept.{Keeps};
 ghost use Rattle.std.specs.Prelude.{◌≡◌, ◌≤◌, Some, true, IfOk, IsErrOf, OnErr, OnOk};
 ghost use Rattle.base_values.specs.Counts.{Rose};
 ghost use Rattle.mb_check.specs.AggregateHash.{own_hash_answer};
@@ -6,10 +7,10 @@ ghost use Rattle.mb_load.specs.Begun.{IsBegun};
 ghost use Rattle.mb_check.specs.Updated.{IsUpdated, held_hashed};
 ghost use Rattle.mb_load.specs.Edits.{with_name};
 
+use base_values::{OutOfMemory, TextVal};
 use mb_load::{Editing, Loaded, commit_loaded, load};
 use mb_store::{AGG_TILES_HASH, Cell, HASH_ALGORITHM, MbtError, MbtResult, TileStore};
 use std::alloc::Global;
-use base_values::{OutOfMemory, TextVal};
 
 // Puts a text under a name.
 fn put_text(alloc: Global, edits: &mut Editing, name: &str, value: &str) -> Result<(), OutOfMemory>
@@ -40,11 +41,8 @@ pub fn update_agg_tiles_hash<S: TileStore>(alloc: Global, store: &mut S) -> MbtR
     ensures answer { IsBegun own_hash_answer (S.tells store.old) (S.told store.old) result }
     ensures updated { S.tells store.old ≡ true → OnOk result (IsUpdated (S.told store.old) (S.told store.new)) }
     ensures refused { OnErr result (S.told store.new ≡ S.told store.old) }
-    ensures tells { S.tells store.new ≡ S.tells store.old }
-    ensures faults { S.faults store.old ≤ S.faults store.new }
+    ensures kept { Keeps S.tells S.faults S.steady store.old store.new }
     ensures fault { IsErrOf result MbtError.StoreFault → Rose (S.faults store.old) (S.faults store.new) }
-    ensures steady { S.steady store.old → S.steady store.new }
-    ensures calm { S.steady store.old → S.faults store.new ≡ S.faults store.old }
 {
     let set = load(alloc, store)?;
     let hash = set.aggregate(alloc)?;

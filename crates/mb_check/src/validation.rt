@@ -1,15 +1,16 @@
 // Validation of a set.
+ghost use Rattle.mb_store.specs.Kept.{Keeps, ReadsOnly};
 ghost use Rattle.std.specs.Prelude.{◌≡◌, ◌≢◌, ◌≤◌, true, IsErrOf, OnErr, OnOk};
 ghost use Rattle.base_values.specs.Counts.{Rose};
 ghost use Rattle.mb_load.specs.Begun.{IsBegun};
 ghost use Rattle.mb_check.specs.Validation.{IsLeft, hash_type_words, validated};
 
 use crate::{check_agg_tiles_hashes, update_agg_tiles_hash};
+use base_values::TextVal;
 use mb_load::load;
 use mb_store::{MbtError, MbtResult, TileStore};
 use std::alloc::Global;
 use std::fmt;
-use base_values::TextVal;
 
 /// What a validation does with the hash of all tiles in a set's metadata.
 #[derive(Clone, Copy, Debug, Default, PartialEq, Eq)]
@@ -51,12 +52,8 @@ impl fmt::Display for AggHashType {
 // No text, of a set that loads.
 fn load_alone<S: TileStore>(alloc: Global, store: &mut S) -> MbtResult<TextVal>
     ensures answer { IsBegun (validated AggHashType.Off) (S.tells store.old) (S.told store.old) result }
-    ensures told { S.told store.new ≡ S.told store.old }
-    ensures tells { S.tells store.new ≡ S.tells store.old }
-    ensures faults { S.faults store.old ≤ S.faults store.new }
+    ensures kept { ReadsOnly S.told S.tells S.faults S.steady store.old store.new }
     ensures fault { IsErrOf result MbtError.StoreFault → Rose (S.faults store.old) (S.faults store.new) }
-    ensures steady { S.steady store.old → S.steady store.new }
-    ensures calm { S.steady store.old → S.faults store.new ≡ S.faults store.old }
 {
     let _set = load(alloc, store)?;
     Ok(TextVal::new(String::new(alloc)))
@@ -76,11 +73,8 @@ pub fn validate<S: TileStore>(
     ensures left { S.tells store.old ≡ true → OnOk result (IsLeft agg_hash (S.told store.old) (S.told store.new)) }
     ensures read { agg_hash ≢ AggHashType.Update → S.told store.new ≡ S.told store.old }
     ensures refused { OnErr result (S.told store.new ≡ S.told store.old) }
-    ensures tells { S.tells store.new ≡ S.tells store.old }
-    ensures faults { S.faults store.old ≤ S.faults store.new }
+    ensures kept { Keeps S.tells S.faults S.steady store.old store.new }
     ensures fault { IsErrOf result MbtError.StoreFault → Rose (S.faults store.old) (S.faults store.new) }
-    ensures steady { S.steady store.old → S.steady store.new }
-    ensures calm { S.steady store.old → S.faults store.new ≡ S.faults store.old }
 {
     match agg_hash {
         AggHashType::Verify => check_agg_tiles_hashes(alloc, store),

@@ -4,10 +4,10 @@ ghost use Rattle.std.specs.Option.{option_copied};
 ghost use Rattle.mb_constraints.specs.Algorithm.{algorithm_by, algorithm_named, unknown_name};
 ghost use Rattle.mb_tables.specs.Refusals.{Tests};
 
+use base_values::TextVal;
 use mb_store::{MbtError, MbtResult};
 use std::alloc::Global;
 use tile_hash::HashAlgorithm;
-use base_values::TextVal;
 
 // The algorithm of a name, ASCII case aside.
 fn algorithm_named(name: &str) -> Option<HashAlgorithm>

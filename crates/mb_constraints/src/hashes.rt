@@ -7,11 +7,11 @@ ghost use Rattle.mb_tables.specs.Tiles.{cell_at};
 ghost use Rattle.tile_hash.specs.Digest.{digest};
 ghost use Rattle.tile_hash.specs.declared.algorithm.HashAlgorithm.{HashAlgorithm};
 
+use base_values::TextVal;
 use mb_lists::{Content, cell_at};
 use mb_store::{Cell, MbtError, MbtResult, MbtType, NormalizedSchema, Row};
 use std::alloc::Global;
 use tile_hash::HashAlgorithm;
-use base_values::TextVal;
 
 // A text with ASCII letters in upper case.
 fn upper(alloc: Global, text: &str) -> MbtResult<TextVal>

@@ -8,10 +8,10 @@ ghost use Rattle.mb_tables.specs.Cell.{cell_eq, is_null};
 ghost use Rattle.mb_tables.specs.Kind.{contents_of};
 ghost use Rattle.mb_tables.specs.Tiles.{cell_at};
 
+use base_values::TextVal;
 use mb_lists::{ContentList, cell_at};
 use mb_store::{Cell, MbtError, MbtResult, MbtType, NormalizedSchema, Row};
 use std::alloc::Global;
-use base_values::TextVal;
 
 // An id as text, a number in decimal.
 fn id_text(alloc: Global, id: &Cell) -> MbtResult<TextVal>

@@ -1,4 +1,5 @@
 // Applying a patch to a store.
+ghost use Rattle.mb_store.specs.Kept.{Keeps, ReadsOnly};
 ghost use Rattle.std.specs.Prelude.{◌≡◌, ◌≤◌, ◌⊎◌, true, false, OnOk, OnErr, IfErr, IsErrOf};
 ghost use Rattle.mb_edit.specs.Applying.{IsAppliedBy, IsRefusedBy};
 ghost use Rattle.mb_tables.specs.Refusals.{is_free};
@@ -24,16 +25,9 @@ pub fn apply_patch<S: TileStore, P: TileStore>(
     ensures answer { IfErr result (λ e. is_free e ≡ false → IsRefusedBy force (S.tells base.old) (S.told base.old) (P.tells patch.old) (P.told patch.old) e) }
     ensures applied { S.tells base.old ≡ true → OnOk result (IsAppliedBy force (P.tells patch.old) (P.told patch.old) (S.told base.old) (S.told base.new)) }
     ensures refused { OnErr result (S.told base.new ≡ S.told base.old) }
-    ensures patch { P.told patch.new ≡ P.told patch.old }
-    ensures tells { S.tells base.new ≡ S.tells base.old }
-    ensures patch_tells { P.tells patch.new ≡ P.tells patch.old }
-    ensures faults { S.faults base.old ≤ S.faults base.new }
-    ensures patch_faults { P.faults patch.old ≤ P.faults patch.new }
+    ensures patch_kept { ReadsOnly P.told P.tells P.faults P.steady patch.old patch.new }
+    ensures kept { Keeps S.tells S.faults S.steady base.old base.new }
     ensures fault { IsErrOf result MbtError.StoreFault → Rose (S.faults base.old) (S.faults base.new) ⊎ Rose (P.faults patch.old) (P.faults patch.new) }
-    ensures steady { S.steady base.old → S.steady base.new }
-    ensures patch_steady { P.steady patch.old → P.steady patch.new }
-    ensures calm { S.steady base.old → S.faults base.new ≡ S.faults base.old }
-    ensures patch_calm { P.steady patch.old → P.faults patch.new ≡ P.faults patch.old }
 {
     let set = load(alloc, base)?;
     let other = load(alloc, patch)?;

@@ -13,11 +13,11 @@ ghost use Rattle.mb_tables.specs.Cell.{cell_cmp};
 ghost use Rattle.mb_tables.specs.declared.cell.Cell.{Cell};
 ghost use Rattle.tile_hash.specs.Digest.{digest};
 
+use base_values::{BlobVal, OutOfMemory};
 use mb_load::Loaded;
 use mb_store::{Cell, MbtError, MbtResult};
 use std::alloc::Global;
 use std::collections::BTreeMap;
-use base_values::{BlobVal, OutOfMemory};
 
 /// What is known of the contents that are put under an id: the index of a tile of the patch that has them, and whether they collide.
 #[derive(Clone, Copy, Debug, PartialEq, Eq)]

@@ -13,13 +13,13 @@ ghost use Rattle.mb_tables.specs.Table.{Tables};
 
 use crate::collision::bytes_at;
 use crate::patching_order::test_patching;
+use base_values::{OutOfMemory, TextVal};
 use mb_load::{Editing, Loaded};
 use mb_store::{
     AGG_TILES_HASH, AGG_TILES_HASH_AFTER_APPLY, AGG_TILES_HASH_BEFORE_APPLY, Cell, MbtError,
     MbtResult,
 };
 use std::alloc::Global;
-use base_values::{OutOfMemory, TextVal};
 use tile_ids::TileCoord;
 
 // The coordinate of the tile of a patch at an index.

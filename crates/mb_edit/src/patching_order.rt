@@ -7,6 +7,7 @@ ghost use Rattle.mb_constraints.specs.DiffHashes.{base_refused, patch_refused, u
 ghost use Rattle.mb_tables.specs.Refusals.{Tests, unless};
 
 use crate::collision::test_ids;
+use base_values::TextVal;
 use mb_load::{Loaded, test_base_hashes, test_patch_hashes};
 use mb_store::{
     AGG_TILES_HASH, AGG_TILES_HASH_AFTER_APPLY, AGG_TILES_HASH_BEFORE_APPLY, MbtError, MbtResult,
@@ -14,7 +15,6 @@ use mb_store::{
 };
 use std::alloc::Global;
 use tile_hash::HashAlgorithm;
-use base_values::TextVal;
 
 // The test that a patch describes no table of binary differences.
 fn test_kind(patch: &Loaded) -> MbtResult<()>

@@ -11,9 +11,9 @@ ghost use Rattle.mb_tables.specs.declared.cell.Cell.TheVariants.{Null};
 use crate::entries::{
     Content, Standing, compare_id, compare_ids, compare_ids_settled, is_content_mark,
 };
+use base_values::OutOfMemory;
 use mb_tables::{Cell, Row};
 use std::alloc::Global;
-use base_values::OutOfMemory;
 
 /// Contents in the order in which they came, and the indexes of those that have an id in the order of their ids.
 #[derive(Debug, Drop)]

@@ -7,9 +7,9 @@ ghost use Rattle.mb_lists.specs.Keyed.{behind};
 ghost use Rattle.mb_tables.specs.Cell.{cell_cmp};
 ghost use Rattle.mb_tables.specs.Tiles.{place_cmp};
 
+use base_values::TextVal;
 use mb_tables::Cell;
 use std::cmp::Ordering;
-use base_values::TextVal;
 use tile_ids::{TileCoord, invert_y_value};
 
 /// What became of an entry since the set was loaded.

@@ -13,10 +13,9 @@ ghost use Rattle.mb_tables.specs.Refusals.{Tests};
 ghost use Rattle.mb_lists.specs.declared.entries.Standing.TheVariants.{Kept};
 
 use crate::entries::{Standing, StoredName};
-use mb_tables::have_name_kinds;
-use mb_tables::{Cell, MbtError, MbtResult, Row};
-use std::alloc::Global;
 use base_values::OutOfMemory;
+use mb_tables::{Cell, MbtError, MbtResult, Row, have_name_kinds};
+use std::alloc::Global;
 
 /// Names in the order of their bytes, `live` of them, and behind them the marks.
 #[derive(Debug, Drop)]

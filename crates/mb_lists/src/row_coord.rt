@@ -2,8 +2,7 @@
 ghost use Rattle.std.specs.Prelude.{◌≡◌};
 ghost use Rattle.mb_lists.specs.FromRows.{coord_in, number_in};
 
-use mb_tables::cell_at;
-use mb_tables::{Cell, Row};
+use mb_tables::{Cell, Row, cell_at};
 use tile_ids::{TileCoord, parse_tile_index};
 
 // The whole number in a cell.

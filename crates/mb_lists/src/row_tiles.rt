@@ -6,12 +6,11 @@ ghost use Rattle.mb_tables.specs.Tiles.{cell_at};
 use crate::content_list::ContentList;
 use crate::dates::Dates;
 use crate::entries::{Content, Standing, StoredTile};
-use mb_tables::cell_at;
 use crate::row_coord::coord_of;
-use mb_tables::{Cell, Row};
+use base_values::OutOfMemory;
+use mb_tables::{Cell, Row, cell_at};
 use std::alloc::Global;
 use std::mem;
-use base_values::OutOfMemory;
 use tile_ids::TileCoord;
 
 /// Contents, tiles in the order of their rows with the indexes of their contents, and in a cache the times of each tile.

@@ -6,11 +6,11 @@ ghost use Rattle.mb_load.specs.Edits.{id_for};
 ghost use Rattle.mb_lists.specs.Entries.{AreDated};
 ghost use Rattle.mb_tables.specs.declared.cell.Cell.TheVariants.{Null};
 
+use base_values::OutOfMemory;
 use mb_lists::{Content, Dates};
 use mb_store::{Cell, MbtType};
 use std::alloc::Global;
 use tile_hash::HashAlgorithm;
-use base_values::OutOfMemory;
 
 /// The id that a layout gives bytes, null where it gives none.
 pub(crate) fn id_for(

@@ -6,11 +6,11 @@ ghost use Rattle.tile_hash.specs.HashStream.{HasTaken};
 ghost use Rattle.tile_hash.specs.declared.algorithm.HashAlgorithm.{HashAlgorithm};
 
 use crate::Loaded;
+use base_values::{OutOfMemory, TextVal};
 use itoa::Buffer;
 use mb_store::Cell;
 use std::alloc::Global;
 use tile_hash::{HashAlgorithm, HashStream};
-use base_values::{OutOfMemory, TextVal};
 use tile_ids::{TileCoord, invert_y_value};
 
 // The algorithm whose digests are the same number in hexadecimal.

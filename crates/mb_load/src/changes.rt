@@ -13,11 +13,11 @@ ghost use Rattle.mb_tables.specs.declared.table.TableName.TheVariants.{Metadata}
 
 use crate::Loaded;
 use crate::put_rows::{content_row, contents_table, id_key, name_row, place_key, tile_row};
+use base_values::OutOfMemory;
 use mb_lists::{Content, Dates, Standing, StoredName, StoredTile};
 use mb_store::{Changes, MbtType, RowKey, TableName};
 use std::alloc::Global;
 use tile_hash::HashAlgorithm;
-use base_values::OutOfMemory;
 
 // The change of a tile, if it was edited.
 fn add_tile(

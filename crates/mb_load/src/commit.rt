@@ -1,4 +1,5 @@
 // Committing the edits of a loaded set.
+ghost use Rattle.mb_store.specs.Kept.{Keeps};
 ghost use Rattle.std.specs.Prelude.{◌≡◌, ◌≤◌, true, OnOk, OnErr, IfErr, IsErrOf};
 ghost use Rattle.mb_load.specs.Committing.{MakesChanges};
 ghost use Rattle.mb_load.specs.LoadedFrom.{IsLoadedFrom};
@@ -16,11 +17,8 @@ pub fn commit_loaded<S: TileStore>(alloc: Global, store: &mut S, set: &Loaded) -
     ensures committed { S.tells store.old ≡ true → OnOk result (MakesChanges set.now (S.told store.old) (S.told store.new)) }
     ensures refused { OnErr result (S.told store.new ≡ S.told store.old) }
     ensures free { IfErr result (λ e. is_free e ≡ true) }
-    ensures tells { S.tells store.new ≡ S.tells store.old }
-    ensures faults { S.faults store.old ≤ S.faults store.new }
+    ensures kept { Keeps S.tells S.faults S.steady store.old store.new }
     ensures fault { IsErrOf result MbtError.StoreFault → Rose (S.faults store.old) (S.faults store.new) }
-    ensures steady { S.steady store.old → S.steady store.new }
-    ensures calm { S.steady store.old → S.faults store.new ≡ S.faults store.old }
 {
     let changes = set.changes(alloc)?;
     store.commit(alloc, &changes)?;

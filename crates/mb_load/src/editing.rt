@@ -7,11 +7,11 @@ ghost use Rattle.mb_lists.specs.Metadata.{text_of};
 
 use crate::Loaded;
 use crate::adding::{add_content, id_for, list_id};
+use base_values::{BlobVal, OutOfMemory, TextVal};
 use mb_lists::{Content, ContentList, Dates, NameList, Standing, StoredName, StoredTile, TileList};
 use mb_store::{Cell, MbtType, PatchType};
 use std::marker::Model;
 use tile_hash::HashAlgorithm;
-use base_values::{BlobVal, OutOfMemory, TextVal};
 use tile_ids::TileCoord;
 
 /// A loaded set that takes edits in any order, each in the time of a push: what was put last counts. `settle` puts all in order again.

@@ -21,6 +21,7 @@ ghost use Rattle.mb_tables.specs.declared.cell.Cell.{Cell};
 use crate::Loaded;
 use crate::assembling::set_of;
 use crate::tiles_of_rows::tiles_of;
+use base_values::TextVal;
 use mb_constraints::{
     algorithm_by, test_content_hashes, test_references, test_tile_hashes, test_tiles,
 };
@@ -28,7 +29,6 @@ use mb_lists::{ContentList, NameList, contents_from, have_id_kinds, have_tile_ki
 use mb_store::{Cell, HASH_ALGORITHM, MbtError, MbtResult, MbtType, PatchType, Row};
 use std::alloc::Global;
 use tile_hash::HashAlgorithm;
-use base_values::TextVal;
 
 // Whether the cells of tile rows and the ids of contents are of their kinds.
 fn have_kinds(layout: MbtType, contents: &ContentList, rows: &[Row]) -> bool

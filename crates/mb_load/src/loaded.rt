@@ -4,11 +4,11 @@ ghost use Rattle.std.specs.FinMap.{entries, get, len};
 ghost use Rattle.mb_lists.specs.Entries.{blob_cell, place_at, text_cell};
 ghost use Rattle.mb_lists.specs.Metadata.{text_at};
 
+use base_values::TextVal;
 use mb_lists::{ContentList, Dates, NameList, TileList, kept_cell, kept_id};
 use mb_store::{Cell, MbtType, PatchType};
 use std::marker::Model;
 use tile_hash::HashAlgorithm;
-use base_values::TextVal;
 use tile_ids::TileCoord;
 
 /// A set of tiles as it was loaded: its tiles in the order of their places, its metadata in the order of the names' bytes, and in a

@@ -1,4 +1,5 @@
 // Loading a set.
+ghost use Rattle.mb_store.specs.Kept.{ReadsOnly};
 ghost use Rattle.std.specs.Prelude.{◌≡◌, ◌≢◌, ◌≤◌, Err, None, Some, true, IfErr, IfOk, IsErrOf};
 ghost use Rattle.base_values.specs.Counts.{Rose};
 ghost use Rattle.mb_constraints.specs.Described.{index_missing, metadata_missing};
@@ -49,12 +50,8 @@ pub fn load<S: TileStore>(alloc: Global, store: &mut S) -> MbtResult<Loaded>
     ensures loaded { S.tells store.old ≡ true → IfOk result (IsLoadedFrom (S.told store.old)) }
     ensures whole { IfOk result (λ h. IsLoadable h.state) }
     ensures named { IfOk result (λ h. NamesAlgorithm h.state) }
-    ensures told { S.told store.new ≡ S.told store.old }
-    ensures tells { S.tells store.new ≡ S.tells store.old }
-    ensures faults { S.faults store.old ≤ S.faults store.new }
+    ensures kept { ReadsOnly S.told S.tells S.faults S.steady store.old store.new }
     ensures fault { IsErrOf result MbtError.StoreFault → Rose (S.faults store.old) (S.faults store.new) }
-    ensures steady { S.steady store.old → S.steady store.new }
-    ensures calm { S.steady store.old → S.faults store.new ≡ S.faults store.old }
 {
     let descriptions = store.describe(alloc)?;
     let layout = layout_in(&descriptions)?;

@@ -5,11 +5,11 @@ ghost use Rattle.mb_load.specs.Edits.{no_dates};
 ghost use Rattle.mb_lists.specs.Entries.{IsTile, is_gone, place_at};
 ghost use Rattle.mb_load.specs.PutRows.{cells_kept, digest_cell, id_key, row_of_content, row_of_name, row_of_tile, times_cells};
 
+use base_values::OutOfMemory;
 use mb_lists::{Content, Dates, StoredName, StoredTile};
 use mb_store::{Cell, MbtType, Row, RowKey, TableName};
 use std::alloc::Global;
 use tile_hash::HashAlgorithm;
-use base_values::OutOfMemory;
 use tile_ids::{TileCoord, invert_y_value};
 
 /// The table of the contents of a layout by id; one that a layout without ids has no row of.

@@ -1,4 +1,5 @@
 // All rows of a table.
+ghost use Rattle.mb_store.specs.Kept.{ReadsOnly};
 ghost use Rattle.std.specs.Prelude.{◌≡◌, ◌≤◌, All, [], false, true, IfOk, IsErrOf, length};
 ghost use Rattle.base_values.specs.Counts.{Rose};
 ghost use Rattle.mb_lists.specs.Contents.{content_rows};
@@ -17,12 +18,8 @@ pub(crate) fn read_table<S: TileStore>(
 ) -> Result<Vec<Row>, StoreError>
     ensures answer { S.tells store.old ≡ true → IfOk result (λ rows. rows.items ≡ (S.told store.old).rows table) }
     ensures widths { IfOk result (λ rows. All (λ row. length row ≡ width table) rows.items) }
-    ensures told { S.told store.new ≡ S.told store.old }
-    ensures tells { S.tells store.new ≡ S.tells store.old }
-    ensures faults { S.faults store.old ≤ S.faults store.new }
+    ensures kept { ReadsOnly S.told S.tells S.faults S.steady store.old store.new }
     ensures fault { IsErrOf result StoreError.Fault → Rose (S.faults store.old) (S.faults store.new) }
-    ensures steady { S.steady store.old → S.steady store.new }
-    ensures calm { S.steady store.old → S.faults store.new ≡ S.faults store.old }
 {
     let count = store.count_rows(table)?;
     store.rows(alloc, table, 0, count)
@@ -37,12 +34,8 @@ fn read_contents<S: TileStore>(
     ensures answer { S.tells store.old ≡ true → IfOk result (λ rows. rows.items ≡ content_rows layout (S.told store.old)) }
     ensures widths { IfOk result (λ rows. All (λ row. length row ≡ 2) rows.items) }
     ensures none { is_normalized layout ≡ false → IfOk result (λ rows. rows.items ≡ []) }
-    ensures told { S.told store.new ≡ S.told store.old }
-    ensures tells { S.tells store.new ≡ S.tells store.old }
-    ensures faults { S.faults store.old ≤ S.faults store.new }
+    ensures kept { ReadsOnly S.told S.tells S.faults S.steady store.old store.new }
     ensures fault { IsErrOf result StoreError.Fault → Rose (S.faults store.old) (S.faults store.new) }
-    ensures steady { S.steady store.old → S.steady store.new }
-    ensures calm { S.steady store.old → S.faults store.new ≡ S.faults store.old }
 {
     match layout {
         MbtType::Normalized { schema, .. } => read_table(alloc, store, schema.contents()),
@@ -69,12 +62,8 @@ pub(crate) fn read_all<S: TileStore>(
     ensures contents { S.tells store.old ≡ true → IfOk result (λ r. r.contents.items ≡ content_rows layout (S.told store.old)) }
     ensures widths { IfOk result (λ r. All (λ row. length row ≡ 2) r.contents.items) }
     ensures none { is_normalized layout ≡ false → IfOk result (λ r. r.contents.items ≡ []) }
-    ensures told { S.told store.new ≡ S.told store.old }
-    ensures tells { S.tells store.new ≡ S.tells store.old }
-    ensures faults { S.faults store.old ≤ S.faults store.new }
+    ensures kept { ReadsOnly S.told S.tells S.faults S.steady store.old store.new }
     ensures fault { IsErrOf result StoreError.Fault → Rose (S.faults store.old) (S.faults store.new) }
-    ensures steady { S.steady store.old → S.steady store.new }
-    ensures calm { S.steady store.old → S.faults store.new ≡ S.faults store.old }
 {
     let metadata = read_table(alloc, store, TableName::Metadata)?;
     let tiles = read_table(alloc, store, layout.tile_table())?;

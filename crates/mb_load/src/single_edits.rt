@@ -7,11 +7,11 @@ ghost use Rattle.mb_lists.specs.Metadata.{text_of};
 
 use crate::Loaded;
 use crate::adding::{add_content, id_for};
+use base_values::{BlobVal, OutOfMemory, TextVal};
 use mb_lists::{
     Content, ContentList, Standing, StoredName, StoredTile, TileList, mark_all, sort_named,
 };
 use mb_store::Cell;
-use base_values::{BlobVal, OutOfMemory, TextVal};
 use tile_ids::TileCoord;
 
 impl Loaded {

@@ -10,10 +10,10 @@ ghost use Rattle.mb_constraints.specs.TileRows.{bad_tile};
 ghost use Rattle.mb_lists.specs.declared.entries.Standing.TheVariants.{Kept};
 ghost use Rattle.mb_tables.specs.Kind.{is_normalized};
 
+use base_values::OutOfMemory;
 use mb_lists::{ContentList, RowTiles, cache_tiles, flat_tiles, named_tiles};
 use mb_store::{MbtType, Row};
 use std::alloc::Global;
-use base_values::OutOfMemory;
 
 /// The tiles of rows that passed their tests, with their contents.
 pub(crate) fn tiles_of(

@@ -3,10 +3,10 @@ ghost use Rattle.std.specs.Prelude.{◌≡◌, ◌≤◌, Ok, IfErr, IfOk, IsErr
 ghost use Rattle.base_values.specs.Counts.{Rose};
 ghost use Rattle.mb_sqlite.specs.Failing.{answer_of};
 
+use base_values::OutOfMemory;
 use mb_store::StoreError;
 use sqlite::{Error, ErrorCode};
 use std::alloc::{AllocError, AllocFailed};
-use base_values::OutOfMemory;
 
 // Why a step on the database fails.
 #[derive(Clone, Copy, Debug, PartialEq, Eq)]

@@ -9,10 +9,10 @@ ghost use Rattle.mb_sqlite.specs.Sizing.{answer_size, value_size};
 ghost use Rattle.mb_sqlite.specs.Stored.{IsReadAs, IsWrittenAs};
 
 use crate::failure::Failure;
+use base_values::{BlobVal, TextVal};
 use mb_tables::{Cell, Row, TableName};
 use sqlite::types::ValueRef;
 use std::alloc::{AllocError, Global};
-use base_values::{BlobVal, TextVal};
 
 // A value of the database as a cell. A floating point number, and a text that isn't UTF-8, is a value of another kind.
 pub(crate) fn cell_of(alloc: Global, value: ValueRef<'_>) -> Result<Cell, AllocError>

@@ -11,3 +11,4 @@ pub mod Sizes
 pub mod ByTable
 pub mod MemTables
 pub mod MemStore
+pub mod Kept

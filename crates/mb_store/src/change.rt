@@ -2,8 +2,8 @@
 ghost use Rattle.std.specs.Prelude.{◌≡◌, IfOk};
 
 use crate::{Row, RowKey, TableName};
-use std::alloc::Global;
 use base_values::OutOfMemory;
+use std::alloc::Global;
 
 /// One change of a store: the row that stands under a key afterwards, or none.
 #[derive(Debug, Drop)]

@@ -11,10 +11,10 @@ ghost use Rattle.mb_tables.specs.declared.description.TableDesc.{TableDesc};
 use crate::change::Change;
 use crate::table_key::TableKey;
 use crate::{Row, RowKey, TableName};
+use base_values::OutOfMemory;
 use std::alloc::Global;
 use std::collections::BTreeMap;
 use std::marker::Model;
-use base_values::OutOfMemory;
 
 /// The changes that one commit makes, in order of arrival: for each table and key at most one. A later change of a key takes the
 /// place of the earlier.

@@ -15,8 +15,8 @@ use crate::editing::{keys_of, put_all, remove_all, undo};
 use crate::mem_tables::MemTables;
 use crate::stored_row::StoredRow;
 use crate::table_rows::TableRows;
-use std::alloc::Global;
 use base_values::OutOfMemory;
+use std::alloc::Global;
 
 // What is looked for under the keys of a table's changes, and the number of the first row that is put.
 #[derive(Debug, Drop)]

@@ -1,4 +1,5 @@
 // The tables and views that the project itself creates in a store.
+ghost use Rattle.mb_store.specs.Kept.{Keeps, ReadsOnly};
 ghost use Rattle.std.specs.Prelude.{◌≡◌, ◌≤◌, ◌⊎◌, ◌↔◌, [], ◌∷◌, true, false, IfErr, IfOk, IsErrOf, IsTrue, OnErr, OnOk};
 ghost use Rattle.base_values.specs.Counts.{Rose};
 ghost use Rattle.mb_tables.specs.Schema.{layout_tables, set_tables, started_as, table_of, view_of};
@@ -14,11 +15,8 @@ pub fn create_flat_tables<S: TileStore>(alloc: Global, store: &mut S) -> MbtResu
     ensures ok { S.tells store.old ≡ true → OnOk result (S.told store.new ≡ created (S.told store.old) (layout_tables MbtType.Flat)) }
     ensures err { OnErr result (S.told store.new ≡ S.told store.old) }
     ensures errors { IfErr result (λ e. (e ≡ MbtError.StoreFault) ⊎ (e ≡ MbtError.OutOfMemory)) }
-    ensures tells { S.tells store.new ≡ S.tells store.old }
-    ensures faults { S.faults store.old ≤ S.faults store.new }
+    ensures kept { Keeps S.tells S.faults S.steady store.old store.new }
     ensures fault { IsErrOf result MbtError.StoreFault → Rose (S.faults store.old) (S.faults store.new) }
-    ensures steady { S.steady store.old → S.steady store.new }
-    ensures calm { S.steady store.old → S.faults store.new ≡ S.faults store.old }
 {
     let tables = layout_tables(alloc, MbtType::Flat)?;
     store.create(alloc, tables.as_slice())?;
@@ -30,11 +28,8 @@ pub fn create_flat_with_hash_tables<S: TileStore>(alloc: Global, store: &mut S) 
     ensures ok { S.tells store.old ≡ true → OnOk result (S.told store.new ≡ created (S.told store.old) (layout_tables MbtType.FlatWithHash)) }
     ensures err { OnErr result (S.told store.new ≡ S.told store.old) }
     ensures errors { IfErr result (λ e. (e ≡ MbtError.StoreFault) ⊎ (e ≡ MbtError.OutOfMemory)) }
-    ensures tells { S.tells store.new ≡ S.tells store.old }
-    ensures faults { S.faults store.old ≤ S.faults store.new }
+    ensures kept { Keeps S.tells S.faults S.steady store.old store.new }
     ensures fault { IsErrOf result MbtError.StoreFault → Rose (S.faults store.old) (S.faults store.new) }
-    ensures steady { S.steady store.old → S.steady store.new }
-    ensures calm { S.steady store.old → S.faults store.new ≡ S.faults store.old }
 {
     let tables = layout_tables(alloc, MbtType::FlatWithHash)?;
     store.create(alloc, tables.as_slice())?;
@@ -47,11 +42,8 @@ pub fn create_normalized_tables<S: TileStore>(alloc: Global, store: &mut S) -> M
     ensures ok { S.tells store.old ≡ true → OnOk result (S.told store.new ≡ created (S.told store.old) (layout_tables (MbtType.Normalized false NormalizedSchema.Hash))) }
     ensures err { OnErr result (S.told store.new ≡ S.told store.old) }
     ensures errors { IfErr result (λ e. (e ≡ MbtError.StoreFault) ⊎ (e ≡ MbtError.OutOfMemory)) }
-    ensures tells { S.tells store.new ≡ S.tells store.old }
-    ensures faults { S.faults store.old ≤ S.faults store.new }
+    ensures kept { Keeps S.tells S.faults S.steady store.old store.new }
     ensures fault { IsErrOf result MbtError.StoreFault → Rose (S.faults store.old) (S.faults store.new) }
-    ensures steady { S.steady store.old → S.steady store.new }
-    ensures calm { S.steady store.old → S.faults store.new ≡ S.faults store.old }
 {
     let layout = MbtType::Normalized {
         hash_view: false,
@@ -67,11 +59,8 @@ pub fn create_cache_tables<S: TileStore>(alloc: Global, store: &mut S) -> MbtRes
     ensures ok { S.tells store.old ≡ true → OnOk result (S.told store.new ≡ created (S.told store.old) (layout_tables MbtType.Cache)) }
     ensures err { OnErr result (S.told store.new ≡ S.told store.old) }
     ensures errors { IfErr result (λ e. (e ≡ MbtError.StoreFault) ⊎ (e ≡ MbtError.OutOfMemory)) }
-    ensures tells { S.tells store.new ≡ S.tells store.old }
-    ensures faults { S.faults store.old ≤ S.faults store.new }
+    ensures kept { Keeps S.tells S.faults S.steady store.old store.new }
     ensures fault { IsErrOf result MbtError.StoreFault → Rose (S.faults store.old) (S.faults store.new) }
-    ensures steady { S.steady store.old → S.steady store.new }
-    ensures calm { S.steady store.old → S.faults store.new ≡ S.faults store.old }
 {
     let tables = layout_tables(alloc, MbtType::Cache)?;
     store.create(alloc, tables.as_slice())?;
@@ -83,11 +72,8 @@ pub fn create_metadata_table<S: TileStore>(alloc: Global, store: &mut S) -> MbtR
     ensures ok { S.tells store.old ≡ true → OnOk result (S.told store.new ≡ created (S.told store.old) (table_of TableName.Metadata ∷ [])) }
     ensures err { OnErr result (S.told store.new ≡ S.told store.old) }
     ensures errors { IfErr result (λ e. (e ≡ MbtError.StoreFault) ⊎ (e ≡ MbtError.OutOfMemory)) }
-    ensures tells { S.tells store.new ≡ S.tells store.old }
-    ensures faults { S.faults store.old ≤ S.faults store.new }
+    ensures kept { Keeps S.tells S.faults S.steady store.old store.new }
     ensures fault { IsErrOf result MbtError.StoreFault → Rose (S.faults store.old) (S.faults store.new) }
-    ensures steady { S.steady store.old → S.steady store.new }
-    ensures calm { S.steady store.old → S.faults store.new ≡ S.faults store.old }
 {
     let mut tables = Vec::new(alloc);
     tables.push(table_of(alloc, TableName::Metadata)?)?;
@@ -100,11 +86,8 @@ pub fn create_tiles_with_hash_view<S: TileStore>(alloc: Global, store: &mut S) -
     ensures ok { S.tells store.old ≡ true → OnOk result (S.told store.new ≡ created (S.told store.old) (view_of TableName.TilesWithHash ∷ [])) }
     ensures err { OnErr result (S.told store.new ≡ S.told store.old) }
     ensures errors { IfErr result (λ e. (e ≡ MbtError.StoreFault) ⊎ (e ≡ MbtError.OutOfMemory)) }
-    ensures tells { S.tells store.new ≡ S.tells store.old }
-    ensures faults { S.faults store.old ≤ S.faults store.new }
+    ensures kept { Keeps S.tells S.faults S.steady store.old store.new }
     ensures fault { IsErrOf result MbtError.StoreFault → Rose (S.faults store.old) (S.faults store.new) }
-    ensures steady { S.steady store.old → S.steady store.new }
-    ensures calm { S.steady store.old → S.faults store.new ≡ S.faults store.old }
 {
     let mut tables = Vec::new(alloc);
     tables.push(view_of(alloc, TableName::TilesWithHash)?)?;
@@ -117,11 +100,8 @@ pub fn create_cache_schema<S: TileStore>(alloc: Global, store: &mut S) -> MbtRes
     ensures ok { S.tells store.old ≡ true → OnOk result (S.told store.new ≡ created (S.told store.old) (set_tables MbtType.Cache)) }
     ensures err { OnErr result (S.told store.new ≡ S.told store.old) }
     ensures errors { IfErr result (λ e. (e ≡ MbtError.StoreFault) ⊎ (e ≡ MbtError.OutOfMemory)) }
-    ensures tells { S.tells store.new ≡ S.tells store.old }
-    ensures faults { S.faults store.old ≤ S.faults store.new }
+    ensures kept { Keeps S.tells S.faults S.steady store.old store.new }
     ensures fault { IsErrOf result MbtError.StoreFault → Rose (S.faults store.old) (S.faults store.new) }
-    ensures steady { S.steady store.old → S.steady store.new }
-    ensures calm { S.steady store.old → S.faults store.new ≡ S.faults store.old }
 {
     let tables = set_tables(alloc, MbtType::Cache)?;
     store.create(alloc, tables.as_slice())?;
@@ -151,11 +131,8 @@ pub fn init_mbtiles_schema<S: TileStore>(
     ensures ok { S.tells store.old ≡ true → OnOk result (S.told store.new ≡ created (S.told store.old) (set_tables (started_as mbt_type))) }
     ensures err { OnErr result (S.told store.new ≡ S.told store.old) }
     ensures errors { IfErr result (λ e. (e ≡ MbtError.StoreFault) ⊎ (e ≡ MbtError.OutOfMemory)) }
-    ensures tells { S.tells store.new ≡ S.tells store.old }
-    ensures faults { S.faults store.old ≤ S.faults store.new }
+    ensures kept { Keeps S.tells S.faults S.steady store.old store.new }
     ensures fault { IsErrOf result MbtError.StoreFault → Rose (S.faults store.old) (S.faults store.new) }
-    ensures steady { S.steady store.old → S.steady store.new }
-    ensures calm { S.steady store.old → S.faults store.new ≡ S.faults store.old }
 {
     let tables = set_tables(alloc, started_as(mbt_type))?;
     store.create(alloc, tables.as_slice())?;
@@ -165,13 +142,9 @@ pub fn init_mbtiles_schema<S: TileStore>(
 /// Whether the store describes nothing.
 pub fn is_empty_database<S: TileStore>(alloc: Global, store: &mut S) -> MbtResult<bool>
     ensures answer { S.tells store.old ≡ true → IfOk result (λ empty. IsTrue empty ↔ ((S.told store.old).descriptions ≡ [])) }
-    ensures told { S.told store.new ≡ S.told store.old }
+    ensures kept { ReadsOnly S.told S.tells S.faults S.steady store.old store.new }
     ensures errors { IfErr result (λ e. (e ≡ MbtError.StoreFault) ⊎ (e ≡ MbtError.OutOfMemory)) }
-    ensures tells { S.tells store.new ≡ S.tells store.old }
-    ensures faults { S.faults store.old ≤ S.faults store.new }
     ensures fault { IsErrOf result MbtError.StoreFault → Rose (S.faults store.old) (S.faults store.new) }
-    ensures steady { S.steady store.old → S.steady store.new }
-    ensures calm { S.steady store.old → S.faults store.new ≡ S.faults store.old }
 {
     let tables = store.describe(alloc)?;
     Ok(tables.is_empty())

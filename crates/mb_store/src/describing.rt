@@ -5,8 +5,8 @@ ghost use Rattle.std.specs.Str.{bytes_eq};
 ghost use Rattle.mb_store.specs.Store.{with_tables};
 
 use crate::TableDesc;
-use std::alloc::Global;
 use base_values::OutOfMemory;
+use std::alloc::Global;
 
 // Whether a table or view of this name is described.
 fn is_named(tables: &[TableDesc], name: &str) -> bool

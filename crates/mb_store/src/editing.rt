@@ -10,8 +10,8 @@ use crate::TableName;
 use crate::change::Change;
 use crate::stored_row::StoredRow;
 use crate::table_rows::{TableRows, add, first_early};
-use std::alloc::Global;
 use base_values::OutOfMemory;
+use std::alloc::Global;
 
 // What is looked for under the keys of a table's changes.
 pub(crate) fn keys_of(

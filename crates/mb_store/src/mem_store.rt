@@ -17,8 +17,8 @@ use crate::{
     Changes, MbtError, MbtResult, MbtType, Row, RowKey, StoreError, TableDesc, TableName,
     TileStore, committing, describing, mem_tables, reading, table_rows,
 };
-use std::alloc::Global;
 use base_values::FailingCalls;
+use std::alloc::Global;
 
 /// A store of tables in memory. The rows of a table stand in the order of their keys, rows of equal keys in order of arrival. A row
 /// goes to its place, and is found, by a number of comparisons that grows as the logarithm of the number of rows; so does each change of a commit.

@@ -6,9 +6,9 @@ ghost use Rattle.mb_store.specs.TableRows.{rows_in};
 use crate::stored_row::StoredRow;
 use crate::table_rows::TableRows;
 use crate::{Cell, Row};
+use base_values::OutOfMemory;
 use std::alloc::Global;
 use std::collections::btree_set::Iter;
-use base_values::OutOfMemory;
 
 // The rows behind the first ones.
 fn past(rows: Iter<'_, StoredRow>, count: u64) -> Iter<'_, StoredRow>

@@ -1,4 +1,5 @@
 // Stores of tables.
+ghost use Rattle.mb_store.specs.Kept.{Keeps, ReadsOnly};
 ghost use Rattle.std.specs.Prelude.{◌≡◌, ℕ, ◌≤◌, Bool, true, All, IfOk, IfSome, IsErrOf, OnErr, OnOk, drop, find, length, take};
 ghost use Rattle.base_values.specs.Counts.{Rose};
 ghost use Rattle.mb_store.specs.Committing.{AreOfTables, Commits};
@@ -8,9 +9,9 @@ ghost use Rattle.mb_store.specs.Store.{IsSound, created};
 ghost use Rattle.mb_tables.specs.Table.{Tables, width};
 
 use crate::{Changes, MbtError, Row, RowKey, TableDesc, TableName};
+use base_values::OutOfMemory;
 use std::alloc::{AllocError, AllocFailed, Global};
 use thiserror::Error;
-use base_values::OutOfMemory;
 
 /// Why a call of a store is refused.
 #[derive(Clone, Copy, Debug, PartialEq, Eq, Error)]
@@ -85,22 +86,14 @@ pub trait TileStore {
     /// The descriptions of all tables and views.
     fn describe(&mut self, alloc: Global) -> Result<Vec<TableDesc>, StoreError>
         ensures answer { tells self.old ≡ true → IfOk result (λ tables. tables.items ≡ (told self.old).descriptions) }
-        ensures told { told self.new ≡ told self.old }
-        ensures tells { tells self.new ≡ tells self.old }
-        ensures faults { faults self.old ≤ faults self.new }
-        ensures fault { IsErrOf result StoreError.Fault → Rose (faults self.old) (faults self.new) }
-        ensures steady { steady self.old → steady self.new }
-        ensures calm { steady self.old → faults self.new ≡ faults self.old };
+        ensures kept { ReadsOnly told tells faults steady self.old self.new }
+        ensures fault { IsErrOf result StoreError.Fault → Rose (faults self.old) (faults self.new) };
 
     /// How many rows a table has.
     fn count_rows(&mut self, table: TableName) -> Result<u64, StoreError>
         ensures answer { tells self.old ≡ true → IfOk result (λ count. count ≡ length ((told self.old).rows table)) }
-        ensures told { told self.new ≡ told self.old }
-        ensures tells { tells self.new ≡ tells self.old }
-        ensures faults { faults self.old ≤ faults self.new }
-        ensures fault { IsErrOf result StoreError.Fault → Rose (faults self.old) (faults self.new) }
-        ensures steady { steady self.old → steady self.new }
-        ensures calm { steady self.old → faults self.new ≡ faults self.old };
+        ensures kept { ReadsOnly told tells faults steady self.old self.new }
+        ensures fault { IsErrOf result StoreError.Fault → Rose (faults self.old) (faults self.new) };
 
     /// The rows of a table from a place on, as many as there are, up to a limit. An undescribed table and a view have none.
     fn rows(
@@ -113,12 +106,8 @@ pub trait TileStore {
         ensures answer { tells self.old ≡ true → IfOk result (λ rows. rows.items ≡ take limit (drop from ((told self.old).rows table))) }
         ensures widths { IfOk result (λ rows. All (λ row. length row ≡ width table) rows.items) }
         ensures limit { IfOk result (λ rows. length rows.items ≤ limit) }
-        ensures told { told self.new ≡ told self.old }
-        ensures tells { tells self.new ≡ tells self.old }
-        ensures faults { faults self.old ≤ faults self.new }
-        ensures fault { IsErrOf result StoreError.Fault → Rose (faults self.old) (faults self.new) }
-        ensures steady { steady self.old → steady self.new }
-        ensures calm { steady self.old → faults self.new ≡ faults self.old };
+        ensures kept { ReadsOnly told tells faults steady self.old self.new }
+        ensures fault { IsErrOf result StoreError.Fault → Rose (faults self.old) (faults self.new) };
 
     /// The first row of a table with a key, None where there is none.
     fn find(
@@ -129,22 +118,15 @@ pub trait TileStore {
     ) -> Result<Option<Row>, StoreError>
         ensures answer { tells self.old ≡ true → IfOk result (λ row. row ≡ find (has_key table key.now) ((told self.old).rows table)) }
         ensures widths { IfOk result (λ row. IfSome row (λ row. length row ≡ width table)) }
-        ensures told { told self.new ≡ told self.old }
-        ensures tells { tells self.new ≡ tells self.old }
-        ensures faults { faults self.old ≤ faults self.new }
-        ensures fault { IsErrOf result StoreError.Fault → Rose (faults self.old) (faults self.new) }
-        ensures steady { steady self.old → steady self.new }
-        ensures calm { steady self.old → faults self.new ≡ faults self.old };
+        ensures kept { ReadsOnly told tells faults steady self.old self.new }
+        ensures fault { IsErrOf result StoreError.Fault → Rose (faults self.old) (faults self.new) };
 
     /// Adds each table whose name isn't described yet. Refused, the store stands as it was.
     fn create(&mut self, alloc: Global, tables: &[TableDesc]) -> Result<(), StoreError>
         ensures ok { tells self.old ≡ true → OnOk result (told self.new ≡ created (told self.old) tables.now) }
         ensures err { OnErr result (told self.new ≡ told self.old) }
-        ensures tells { tells self.new ≡ tells self.old }
-        ensures faults { faults self.old ≤ faults self.new }
-        ensures fault { IsErrOf result StoreError.Fault → Rose (faults self.old) (faults self.new) }
-        ensures steady { steady self.old → steady self.new }
-        ensures calm { steady self.old → faults self.new ≡ faults self.old };
+        ensures kept { Keeps tells faults steady self.old self.new }
+        ensures fault { IsErrOf result StoreError.Fault → Rose (faults self.old) (faults self.new) };
 
     /// Makes all changes at once: the rows of each key are removed, and the row that is put takes their place. The changed tables are
     /// described as tables, not views. Refused, the store stands as it was.
@@ -152,21 +134,14 @@ pub trait TileStore {
         requires { tells self.old ≡ true → AreOfTables (told self.old).descriptions changes.now }
         ensures ok { tells self.old ≡ true → OnOk result (Commits changes.now (told self.old) (told self.new)) }
         ensures err { OnErr result (told self.new ≡ told self.old) }
-        ensures tells { tells self.new ≡ tells self.old }
-        ensures faults { faults self.old ≤ faults self.new }
-        ensures fault { IsErrOf result StoreError.Fault → Rose (faults self.old) (faults self.new) }
-        ensures steady { steady self.old → steady self.new }
-        ensures calm { steady self.old → faults self.new ≡ faults self.old };
+        ensures kept { Keeps tells faults steady self.old self.new }
+        ensures fault { IsErrOf result StoreError.Fault → Rose (faults self.old) (faults self.new) };
 
     /// The bytes of all texts and blobs, and 8 for each other cell, over all rows; at most the greatest `u64`.
     fn live_size(&mut self) -> Result<u64, StoreError>
         ensures answer { tells self.old ≡ true → IfOk result (λ size. size ≡ live_size_of (told self.old)) }
-        ensures told { told self.new ≡ told self.old }
-        ensures tells { tells self.new ≡ tells self.old }
-        ensures faults { faults self.old ≤ faults self.new }
-        ensures fault { IsErrOf result StoreError.Fault → Rose (faults self.old) (faults self.new) }
-        ensures steady { steady self.old → steady self.new }
-        ensures calm { steady self.old → faults self.new ≡ faults self.old };
+        ensures kept { ReadsOnly told tells faults steady self.old self.new }
+        ensures fault { IsErrOf result StoreError.Fault → Rose (faults self.old) (faults self.new) };
 
     /// What is told has distinct names, rows of the tables' widths that meet the unique indexes of the keys, and none in a view.
     ghost sound: { (s : Self) → tells s ≡ true → IsSound (told s) };

@@ -7,11 +7,11 @@ ghost use Rattle.mb_tables.specs.Key.{key_cells};
 ghost use Rattle.mb_store.specs.StoredRow.{cells_in, in_front, is_early, numbers_cells, own_key, stored_cmp, stored_total};
 
 use crate::{Cell, Row, RowKey};
+use base_values::OutOfMemory;
 use std::alloc::Global;
 use std::cmp::Ordering;
 use std::marker::Model;
 use std::slice;
-use base_values::OutOfMemory;
 
 // The cells of a stored row: the one behind its numbers, or all.
 #[derive(Debug, Drop)]

@@ -13,11 +13,11 @@ ghost use Rattle.mb_tables.specs.declared.table.TableName.{TableName};
 
 use crate::stored_row::StoredRow;
 use crate::{Cell, MbtError, MbtResult, Row, RowKey, TableName};
+use base_values::OutOfMemory;
 use mb_tables::key_of;
 use std::alloc::Global;
 use std::collections::BTreeSet;
 use std::collections::btree_set::Iter;
-use base_values::OutOfMemory;
 
 // The rows of a table, and the number of the row that comes next.
 #[derive(Debug, Drop)]

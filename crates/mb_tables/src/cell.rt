@@ -2,8 +2,8 @@
 ghost use Rattle.std.specs.Prelude.{◌≡◌, IfOk};
 ghost use Rattle.mb_tables.specs.Cell.{is_null};
 
-use std::alloc::Global;
 use base_values::{BlobVal, OutOfMemory, TextVal};
+use std::alloc::Global;
 
 /// One value of a row, as a database of tables holds it.
 #[derive(Debug, Drop)]

@@ -5,8 +5,8 @@ ghost use Rattle.mb_tables.specs.Cell.{cell_cmp, cell_eq, kind_of};
 ghost use Rattle.mb_tables.specs.CellOrder.{cells_total};
 
 use crate::Cell;
-use std::cmp::Ordering;
 use base_values::TextVal;
+use std::cmp::Ordering;
 
 impl Cell {
     // Its place among the kinds.

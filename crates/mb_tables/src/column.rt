@@ -1,9 +1,9 @@
 // The columns of a described table.
 ghost use Rattle.std.specs.Prelude.{◌≡◌, IfOk};
 
+use base_values::{OutOfMemory, TextVal};
 use std::alloc::Global;
 use std::marker::Model;
-use base_values::{OutOfMemory, TextVal};
 
 /// A described column: its name, and the text of its type as the description spells it.
 #[derive(Debug, Drop)]

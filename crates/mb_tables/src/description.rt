@@ -2,8 +2,8 @@
 ghost use Rattle.std.specs.Prelude.{◌≡◌, IfOk};
 
 use crate::{ColumnList, IndexList};
-use std::alloc::Global;
 use base_values::{OutOfMemory, TextVal};
+use std::alloc::Global;
 
 /// Whether a description is of a table, which holds rows, or of a view.
 #[derive(Clone, Copy, Debug, PartialEq, Eq)]

@@ -2,9 +2,9 @@
 ghost use Rattle.std.specs.Prelude.{◌≡◌};
 
 use crate::{Cell, TableName};
+use base_values::{OutOfMemory, TextVal};
 use std::alloc::{AllocError, AllocFailed};
 use thiserror::Error;
-use base_values::{OutOfMemory, TextVal};
 
 /// Why a call on a tile set is refused.
 #[derive(Debug, Drop, Error)]

@@ -1,9 +1,9 @@
 // The indexes of a described table.
 ghost use Rattle.std.specs.Prelude.{◌≡◌, IfOk};
 
+use base_values::{OutOfMemory, TextList, TextVal};
 use std::alloc::Global;
 use std::marker::Model;
-use base_values::{OutOfMemory, TextList, TextVal};
 
 /// A described index: the names of its columns, and whether it keeps equal rows out.
 #[derive(Debug, Drop)]

@@ -4,9 +4,9 @@ ghost use Rattle.mb_tables.specs.Cell.{cells_cmp};
 ghost use Rattle.mb_tables.specs.Table.{key_of};
 
 use crate::{Cell, TableName};
+use base_values::{OutOfMemory, TextVal};
 use std::alloc::Global;
 use std::cmp::Ordering;
-use base_values::{OutOfMemory, TextVal};
 
 /// The key of a row: a place, a text id or a number. It is the key of a row whose key cells are these, whatever the table.
 #[derive(Debug, Drop)]

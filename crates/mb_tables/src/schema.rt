@@ -7,8 +7,8 @@ use crate::{
     ColumnDesc, ColumnList, IndexDesc, IndexList, MbtType, NormalizedSchema, TableDesc, TableKind,
     TableName,
 };
-use std::alloc::Global;
 use base_values::{OutOfMemory, TextList, TextVal};
+use std::alloc::Global;
 
 fn text_of(alloc: Global, text: &str) -> Result<TextVal, OutOfMemory>
     ensures { IfOk result (λ own. own ≡ text.now) }

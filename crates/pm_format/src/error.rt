@@ -2,9 +2,9 @@
 ghost use Rattle.std.specs.Prelude.{◌≡◌};
 
 use crate::{Compression, ReadFault, WriteFault};
+use base_values::{OutOfMemory, TextVal};
 use std::alloc::{AllocError, AllocFailed};
 use thiserror::Error;
-use base_values::{OutOfMemory, TextVal};
 use tile_ids::TileError;
 
 /// The result of a call on archives.

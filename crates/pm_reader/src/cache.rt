@@ -8,11 +8,11 @@ mod map;
 mod none;
 mod recent;
 
+use base_values::OutOfMemory;
 pub use map::HashMapCache;
 pub use none::NoCache;
 use pm_format::{DirEntry, Directory, PmtResult};
 pub use recent::LruDirCache;
-use base_values::OutOfMemory;
 use tile_ids::TileId;
 
 /// What a cache knows of an id.

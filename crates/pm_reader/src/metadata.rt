@@ -7,10 +7,10 @@ ghost use Rattle.pm_reader.specs.Tied.{IsTied};
 
 use crate::ranges::read_range;
 use crate::{DirectoryCache, PmTilesReader, ReaderState};
+use base_values::TextVal;
 use pm_format::{Backend, PmtError, PmtResult};
 use std::alloc::Global;
 use std::str;
-use base_values::TextVal;
 
 impl ReaderState {
     /// The metadata of the archive, as it stands there. `InvalidMetadataUtf8Encoding` comes exactly where it isn't UTF-8, and `Reading(PastEnd)` where its range passes

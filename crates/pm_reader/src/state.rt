@@ -5,9 +5,9 @@ ghost use Rattle.pm_reader.specs.Reads.{ReadsOnly};
 ghost use Rattle.pm_reader.specs.Opening.{FrontCauses, HasVersionOf, IsOpen, OpenAnswers, OpenCauses, header_of, root_of};
 
 use crate::front::open_front;
+use base_values::TextVal;
 use pm_format::{Backend, BackendResponse, Directory, Header, PmtError, PmtResult};
 use std::alloc::Global;
-use base_values::TextVal;
 
 /// How many bytes of an archive are read when it is opened: the header and the root lie in them.
 pub(crate) const FRONT: usize = 16_384;

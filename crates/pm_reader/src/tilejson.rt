@@ -9,8 +9,8 @@ ghost use Rattle.pm_reader.specs.Tied.{IsTied};
 ghost use Rattle.pm_reader.specs.TileJson.{DocumentAnswers, DocumentCauses, IsDocumentOf};
 
 use crate::{DirectoryCache, PmTilesReader, ReaderState};
-use pm_format::{Backend, PmtError, PmtResult};
 use base_values::TextVal;
+use pm_format::{Backend, PmtError, PmtResult};
 use tile_json::{DocumentError, TileJson};
 
 impl ReaderState {

@@ -16,11 +16,11 @@ ghost use Rattle.pm_writer.specs.Means.{Means, is_above};
 ghost use Rattle.pm_writer.specs.Took.{AreUnlike, TookBy};
 ghost use Rattle.tile_hash.specs.Xxh3.{xxh3_64};
 
+use base_values::OutOfMemory;
 use pm_contents::{Contents, Sought};
 use pm_format::{DirEntry, Medium, WriteFault};
 use std::alloc::{AllocError, Global};
 use tile_hash::xxh3_64;
-use base_values::OutOfMemory;
 
 /// The contents and entries of the adds so far.
 #[derive(Drop)]

@@ -5,9 +5,9 @@ ghost use Rattle.pm_writer.specs.Bounds.{OptionsFit};
 ghost use Rattle.pm_writer.specs.Settings.{options_with};
 
 use crate::settings::Settings;
+use base_values::TextVal;
 use pm_format::{Compression, TileType};
 use std::marker::Model;
-use base_values::TextVal;
 
 /// What is written beside the tiles: labels, type, zooms, degrees and metadata. Made by `new`, changed by the setters, and used by `create`.
 #[derive(Drop)]

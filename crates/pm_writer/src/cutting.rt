@@ -7,9 +7,9 @@ ghost use Rattle.pm_writer.specs.Cutting.{AreDirectories, IsLaid, IsRooted};
 ghost use Rattle.pm_writer.specs.Leaves.{Layout, below_layout, fits_root, found_uppers, laid, stands_in_root};
 
 use crate::level::{Level, cut_level};
+use base_values::OutOfMemory;
 use pm_format::{AsWide, DirEntry, MAX_ROOT, PmtError, PmtResult, WideEntry, encode_entries};
 use std::alloc::Global;
-use base_values::OutOfMemory;
 
 /// The bytes of the root, those of the directories below it one behind another, and how many of these have tile entries and how many don't.
 #[derive(Drop)]

@@ -5,9 +5,9 @@ ghost use Rattle.pm_writer.specs.Bounds.{AllShort};
 ghost use Rattle.pm_writer.specs.Cutting.{HasMore, IsCut, IsShort, named};
 ghost use Rattle.pm_writer.specs.Leaves.{pieces};
 
+use base_values::OutOfMemory;
 use pm_format::{AsWide, WideEntry, encode_entries};
 use std::alloc::Global;
-use base_values::OutOfMemory;
 
 /// Directories of a level: their bytes one behind another, and the entries that name them, whose sizes may still be too long.
 #[derive(Drop)]

@@ -10,9 +10,9 @@ use crate::PmTilesWriter;
 use crate::adds::Adds;
 use crate::pieces::put;
 use crate::settings::Settings;
+use base_values::OutOfMemory;
 use pm_format::{Compression, Medium, PmtError, PmtResult};
 use std::alloc::{AllocError, Global};
-use base_values::OutOfMemory;
 
 /// Where the root ends at the latest, and the metadata begins.
 pub(crate) const ROOT_END: u64 = 16_384;

@@ -9,13 +9,13 @@ ghost use Rattle.std.specs.Prelude.{◌≡◌};
 ghost use Rattle.std.specs.Option.{option_copied};
 ghost use Rattle.program_words.specs.Text.{asked_text};
 
+use base_values::TextVal;
 pub use destination::{Before, leave_destination, say_medium_fault, take_destination};
 pub use said::{say_opening, say_out_of_memory, say_output_fault, say_source_fault, say_usage};
 use std::alloc::{AllocError, Global};
 use std::env;
 use std::io::Write;
 pub use streams::{HeldStreams, hold_streams};
-use base_values::TextVal;
 
 /// The status where a text can't be written.
 pub const OUTPUT_FAULT: u8 = 5;

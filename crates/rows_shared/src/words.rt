@@ -1,9 +1,9 @@
 // The words of a line, and the text of its answer.
+use base_values::TextVal;
 use std::alloc::Global;
 use std::fmt::{Debug, Display, Write};
 use std::str;
 use std::str::{FromStr, SplitWhitespace};
-use base_values::TextVal;
 
 pub type Words<'a> = SplitWhitespace<'a>;
 

@@ -1,9 +1,9 @@
 // Tables by their names, rows by their cells, and keys.
 use crate::words::owned;
+use base_values::BlobVal;
 use mb_tables::{Cell, Row, RowKey, TableName};
 use rows_shared::{Words, number};
 use std::alloc::Global;
-use base_values::BlobVal;
 
 pub fn table(words: &mut Words) -> Option<TableName> {
     match words.next()? {

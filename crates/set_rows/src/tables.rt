@@ -1,10 +1,10 @@
 // Descriptions that are kept: each a name, whether it is a table or a view, its columns with their types, and an index.
 use crate::described::{say_layout, say_tables};
 use crate::words::{owned, spaced};
+use base_values::TextList;
 use mb_tables::{ColumnDesc, ColumnList, IndexDesc, IndexList, TableDesc, TableKind};
 use rows_shared::{Words, say};
 use std::alloc::Global;
-use base_values::TextList;
 
 // Columns that are parted by commas, each a name, a colon and a type.
 fn columns(alloc: Global, word: &str) -> Option<ColumnList> {

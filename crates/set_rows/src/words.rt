@@ -1,6 +1,6 @@
 // Words as texts.
-use std::alloc::Global;
 use base_values::TextVal;
+use std::alloc::Global;
 
 // A text of its own.
 pub fn owned(alloc: Global, text: &str) -> Option<TextVal> {

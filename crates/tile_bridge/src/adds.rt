@@ -9,10 +9,10 @@ ghost use Rattle.pm_writer.specs.Few.{AreFew};
 ghost use Rattle.tile_bridge.specs.Adds.{AreAddsOf, AreFilled, AreWithin, bytes_at, cell_bytes, shown};
 ghost use Rattle.tile_bridge.specs.Outcome.{overflows};
 
+use base_values::OutOfMemory;
 use mb_load::Loaded;
 use mb_store::Cell;
 use std::alloc::Global;
-use base_values::OutOfMemory;
 use tile_ids::{TileCoord, TileId};
 
 /// A tile of a set by its id: its index in the set.

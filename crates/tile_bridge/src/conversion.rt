@@ -16,12 +16,12 @@ use crate::reading_back::read_answers;
 use crate::resolving::resolve;
 use crate::writing::write_archive;
 use crate::{ConvertError, ConvertOptions, ConvertReport};
+use base_values::TextVal;
 use mb_load::Loaded;
 use mb_store::TileStore;
 use pm_format::{Compression, Medium, PmtError, ReadCause};
 use pm_writer::PmTilesWriter;
 use std::alloc::Global;
-use base_values::TextVal;
 use tile_ids::TileCoord;
 
 // The conversion's word for the error of a writer that can only fail or find no memory.

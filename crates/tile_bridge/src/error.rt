@@ -1,11 +1,11 @@
 // Why a conversion ends without an archive.
 ghost use Rattle.std.specs.Prelude.{◌≡◌};
 
+use base_values::OutOfMemory;
 use mb_store::MbtError;
 use pm_format::{Compression, MediumFault, PmtError};
 use std::alloc::AllocError;
 use thiserror::Error;
-use base_values::OutOfMemory;
 
 /// Why a conversion ends without an archive.
 #[derive(Debug, Drop, Error)]

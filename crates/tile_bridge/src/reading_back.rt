@@ -11,11 +11,11 @@ ghost use Rattle.pm_reader.specs.ReadsFrom.{ReadsFrom};
 ghost use Rattle.tile_bridge.specs.ReadingBack.{GivesTile, GrewFrom, ReadBackCauses, ReadsAnswers, answered, answered_by};
 
 use crate::Answers;
+use base_values::{BlobVal, OutOfMemory};
 use bytes::Bytes;
 use pm_format::{Backend, PmtResult};
 use pm_reader::{HashMapCache, ReaderState};
 use std::alloc::Global;
-use base_values::{BlobVal, OutOfMemory};
 use tile_ids::{TileCoord, TileId};
 
 // The bytes that were found, or None where there is none.

@@ -1,9 +1,9 @@
 // What a conversion reports.
 ghost use Rattle.std.specs.Prelude.{◌≡◌};
 
+use base_values::{BlobVal, TextVal};
 use pm_writer::ArchivePlaces;
 use std::marker::Model;
-use base_values::{BlobVal, TextVal};
 
 /// The tiles at the coordinates that were asked for, in their order: None where there is no byte.
 #[derive(Debug, Drop)]

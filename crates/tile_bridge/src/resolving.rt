@@ -10,10 +10,10 @@ use crate::adds::is_overflow;
 use crate::loading::{load_at, of_store};
 use crate::patching::patch_all;
 use crate::{ConvertError, ConvertOptions};
+use base_values::TextVal;
 use mb_load::Loaded;
 use mb_store::{AGG_TILES_HASH, MbtError, MbtResult, TileStore};
 use std::alloc::Global;
-use base_values::TextVal;
 
 // The aggregate hash of a set, which has to be the stored one.
 fn verified_hash(alloc: Global, set: &Loaded) -> MbtResult<TextVal>

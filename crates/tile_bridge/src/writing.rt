@@ -12,11 +12,11 @@ ghost use Rattle.tile_bridge.specs.Adds.{AreWithin, shown};
 ghost use Rattle.tile_bridge.specs.Writing.{CanBeWritten, WriteCauses};
 
 use crate::adds::{Add, tile_bytes};
+use base_values::OutOfMemory;
 use mb_load::Loaded;
 use pm_format::{Medium, PmtResult};
 use pm_writer::{ArchivePlaces, PmTilesWriter, WriterState};
 use std::alloc::Global;
-use base_values::OutOfMemory;
 
 // How many adds are looked at together.
 const BLOCK: usize = 64;

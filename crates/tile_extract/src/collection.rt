@@ -13,11 +13,11 @@ use crate::intervals::intervals_of;
 use crate::parts::Collected;
 use crate::walk::{MAX_DEPTH, walk};
 use crate::writing::of_reader;
+use base_values::TextVal;
 use pm_format::{Backend, DirEntry, Header};
 use pm_reader::ReaderState;
 use pm_writer::PmTilesWriter;
 use std::alloc::Global;
-use base_values::TextVal;
 use tile_ids::TileCoord;
 
 /// What the archive of a subtree says beside its tiles: its zooms are the tile's and the greatest one; the rest is as in the archive that it comes from.

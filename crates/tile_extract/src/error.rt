@@ -1,9 +1,9 @@
 // Why an extraction ends without an archive.
 ghost use Rattle.std.specs.Prelude.{◌≡◌};
 
+use base_values::OutOfMemory;
 use pm_format::{MediumFault, PmtError};
 use thiserror::Error;
-use base_values::OutOfMemory;
 
 /// Why an extraction ends without an archive.
 #[derive(Debug, Drop, Error)]

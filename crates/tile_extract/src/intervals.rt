@@ -5,8 +5,8 @@ ghost use Rattle.tile_extract.specs.Collecting.{AreApart};
 ghost use Rattle.tile_extract.specs.Cut.{interval, intervals};
 ghost use Rattle.tile_extract.specs.Met.{is_below, is_met};
 
-use std::alloc::Global;
 use base_values::OutOfMemory;
+use std::alloc::Global;
 use tile_ids::{TileCoord, subtree_interval};
 
 // The first and the last id of a tile's descendants at a zoom.

@@ -7,10 +7,10 @@ ghost use Rattle.tile_extract.specs.Opening.{MediumTested, SourceCauses, SourceR
 
 use crate::ExtractError;
 use crate::writing::of_reader;
+use base_values::TextVal;
 use pm_format::{Backend, Medium};
 use pm_reader::ReaderState;
 use std::alloc::Global;
-use base_values::TextVal;
 use tile_ids::TileCoord;
 
 /// Whether the greatest zoom is the tile's or a deeper one, up to 31.

@@ -4,9 +4,9 @@ ghost use Rattle.tile_ids.specs.declared.id.TheConstants.{MAX_TILE_ID};
 ghost use Rattle.tile_extract.specs.Collecting.{AreApart, AreOrdered, Collects};
 ghost use Rattle.tile_extract.specs.Parts.{clip, parts_of};
 
+use base_values::OutOfMemory;
 use pm_format::DirEntry;
 use std::alloc::Global;
-use base_values::OutOfMemory;
 
 /// The parts that were met so far, as entries of their own, and for how many more tiles there is room. There is none once it didn't suffice; then parts are missing.
 #[derive(Drop)]

@@ -9,9 +9,9 @@ ghost use Rattle.tile_extract.specs.Words.{asked_in};
 
 use crate::words::parse_words;
 use crate::{ExtractError, ExtractOutcome, extract};
+use base_values::TextVal;
 use pm_format::{Backend, Medium};
 use std::alloc::Global;
-use base_values::TextVal;
 
 /// Writes the archive of a tile and its descendants as `extract` does, for words that are the tile's zoom, column and row, the greatest zoom, and how many tiles there may be.
 ///

@@ -2,8 +2,8 @@
 ghost use Rattle.std.specs.Prelude.{◌≡◌, None, Some, MatchOption};
 ghost use Rattle.tile_extract.specs.Words.{asked, asked_by_five, asked_in, tile_at};
 
-use line_words::parse_number;
 use base_values::TextVal;
+use line_words::parse_number;
 use tile_ids::TileCoord;
 
 // The tile whose zoom, column and row words spell.

@@ -1,6 +1,7 @@
 //! Writes the archive of a part of the archive that the words of the command line name.
 #![tactic(auto)]
 
+use base_values::TextVal;
 use pm_format::{FileBackend, FileMedium};
 use program_words::{
     Before, OUTPUT_FAULT, hold_streams, leave_destination, print_for, say_medium_fault,
@@ -9,7 +10,6 @@ use program_words::{
 };
 use std::process::ExitCode;
 use tile_extract::{ExtractError, ExtractOutcome, extract_status, run_extract};
-use base_values::TextVal;
 
 const HELP: &str = "Extracts parts of archives of the PMTiles format.
 

@@ -6,9 +6,9 @@ ghost use Rattle.tile_hash.specs.declared.algorithm.HashAlgorithm.{HashAlgorithm
 
 use crate::md5_hex::{md5_bytes, write_upper_hex};
 use crate::{HashText, fnv1a, xxh3_64, xxh64};
+use base_values::{OutOfMemory, TextVal};
 use std::alloc::Global;
 use std::fmt;
-use base_values::{OutOfMemory, TextVal};
 
 /// How tile contents are hashed.
 #[derive(Clone, Copy, Debug, PartialEq, Eq)]

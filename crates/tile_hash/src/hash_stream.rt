@@ -10,9 +10,9 @@ use crate::HashAlgorithm;
 use crate::fnv::{OFFSET_BASIS, hashed_from};
 use crate::xxh_64::Xxh64Stream;
 use crate::xxh3::Xxh3Stream;
+use base_values::{OutOfMemory, TextVal};
 use md5::{Digest, Md5};
 use std::alloc::Global;
-use base_values::{OutOfMemory, TextVal};
 
 // What each algorithm keeps of the pieces so far.
 #[derive(Drop)]

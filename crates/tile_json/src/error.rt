@@ -1,7 +1,7 @@
 // Why a text isn't read as a document.
+use base_values::OutOfMemory;
 use std::alloc::{AllocError, AllocFailed};
 use thiserror::Error;
-use base_values::OutOfMemory;
 
 /// Why a text isn't read as a document.
 #[derive(Clone, Copy, Debug, PartialEq, Eq, Error)]

@@ -2,8 +2,8 @@
 ghost use Rattle.std.specs.Prelude.{◌≡◌};
 
 use crate::{JsonFields, TextFields};
-use std::marker::Model;
 use base_values::TextVal;
+use std::marker::Model;
 
 /// A layer of vector tiles (TileJSON 3.0.0, `vector_layers`).
 #[derive(Debug, Drop)]

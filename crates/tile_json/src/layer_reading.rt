@@ -9,9 +9,9 @@ ghost use Rattle.tile_json.specs.Members.{with_texts};
 
 use crate::members::{json_fields, take_member, text_fields};
 use crate::{DocumentError, LayerList, TextFields, VectorLayer};
+use base_values::TextVal;
 use serde_json::{Map, Value};
 use std::alloc::Global;
-use base_values::TextVal;
 
 impl LayerList {
     ghost use Rattle.serde_json.specs.View.{view};

@@ -7,9 +7,9 @@ ghost use Rattle.tile_json.specs.Errors.{Answers};
 ghost use Rattle.tile_json.specs.Members.{with_all, with_texts, without};
 
 use crate::{DocumentError, JsonFields, JsonVal, TextFields};
+use base_values::TextVal;
 use serde_json::{Map, Value};
 use std::alloc::Global;
-use base_values::TextVal;
 
 // Takes the value of a name out of an object.
 pub(crate) fn take_member(members: &mut Map<String, Value>, name: &str) -> Option<Value>

@@ -6,9 +6,9 @@ ghost use Rattle.tile_json.specs.Reading.{tilejson_in, whole_data, with_member, 
 
 use crate::floats::has_float;
 use crate::{DocumentError, JsonVal, LayerList, TileJson};
+use base_values::TextVal;
 use serde_json::{Map, Value};
 use std::alloc::Global;
-use base_values::TextVal;
 
 impl TileJson {
     /// The document with what the metadata of an archive says, a text of JSON. `Invalid` comes exactly where the text isn't an object of JSON, nested at most 127 deep, in

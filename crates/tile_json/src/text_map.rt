@@ -6,9 +6,9 @@ ghost use Rattle.std.specs.FinMap as map;
 ghost use Rattle.tile_json.specs.Places.{IsAt, IsGap};
 
 use crate::JsonVal;
+use base_values::{OutOfMemory, TextVal};
 use std::alloc::Global;
 use std::marker::Model;
-use base_values::{OutOfMemory, TextVal};
 
 /// A map from texts to texts.
 pub type TextFields = TextMap<TextVal>;

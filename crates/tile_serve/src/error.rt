@@ -1,10 +1,10 @@
 // Why a line isn't answered.
 ghost use Rattle.std.specs.Prelude.{◌≡◌};
 
+use base_values::{OutOfMemory, TextVal};
 use pm_format::PmtError;
 use std::alloc::{AllocError, AllocFailed};
 use thiserror::Error;
-use base_values::{OutOfMemory, TextVal};
 
 /// Why a line isn't answered, or there is no server.
 #[derive(Debug, Drop, Error)]

@@ -2,8 +2,8 @@
 ghost use Rattle.std.specs.Prelude.{◌≡◌, ◌≤◌, IfSome};
 ghost use Rattle.tile_serve.specs.Limits.{IsLimits, count_from_one, limits_in, limits_of_four};
 
-use line_words::parse_number;
 use base_values::TextVal;
+use line_words::parse_number;
 
 /// How much a server holds at most. Nothing is reserved for it.
 #[derive(Clone, Copy, Debug, PartialEq, Eq)]

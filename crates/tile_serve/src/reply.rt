@@ -4,9 +4,9 @@ ghost use Rattle.std.specs.Str.{bytes_eq};
 ghost use Rattle.tile_serve.specs.Reply.{tag_of, text_for, tile_text, unchanged_text, whole_text};
 
 use crate::found::Found;
+use base_values::{BlobVal, OutOfMemory, TextVal};
 use std::alloc::Global;
 use tile_hash::HashAlgorithm;
-use base_values::{BlobVal, OutOfMemory, TextVal};
 
 /// A text of its own.
 pub(crate) fn plain_text(alloc: Global, text: &str) -> Result<BlobVal, OutOfMemory>

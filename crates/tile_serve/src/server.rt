@@ -15,9 +15,9 @@ ghost use Rattle.tile_serve.specs.State.{KeepsBounds, KeepsDirectories, director
 ghost use Rattle.tile_serve.specs.Tiles.{is_read};
 
 use crate::{ServeError, ServeLimits, ServerState};
+use base_values::BlobVal;
 use pm_format::Backend;
 use std::alloc::Global;
-use base_values::BlobVal;
 
 /// A server of the tiles of an archive, over a backend that it borrows.
 pub struct TileServer<'a, B: Backend, S = ServerState> {

@@ -18,10 +18,10 @@ use crate::reply::{plain_text, text_for};
 use crate::request::parse_request;
 use crate::tiles::TileCache;
 use crate::{ServeError, ServeLimits};
+use base_values::{BlobVal, OutOfMemory};
 use pm_format::{Backend, PmtError};
 use pm_reader::{LruDirCache, ReaderState};
 use std::alloc::Global;
-use base_values::{BlobVal, OutOfMemory};
 use tile_ids::TileId;
 
 /// What a server owns beside the backend: the reader's state, and the directories and tiles that it holds.

@@ -5,11 +5,11 @@ ghost use Rattle.bounded_lru.specs.Bounded.{IsWithin, bounded, used, weight_of};
 ghost use Rattle.tile_serve.specs.Tiles.{with_tile};
 
 use crate::kept::KeptTile;
+use base_values::OutOfMemory;
 use bounded_lru::BoundedLru;
 use bytes::Bytes;
 use std::alloc::Global;
 use std::marker::Model;
-use base_values::OutOfMemory;
 use tile_ids::TileId;
 
 /// The tiles that were used last: at most so many, and of no more bytes together than a limit.

@@ -15,10 +15,10 @@ ghost use Rattle.tile_serve.specs.TopCall.{IsFor, IsRead, IsShort, IsSilent, IsU
 use crate::limits::limits_of;
 use crate::serving::serve_lines;
 use crate::{ServeLimits, ServeOutcome, ServerState};
+use base_values::TextVal;
 use byte_streams::{Sink, Source, read_input};
 use pm_format::Backend;
 use std::alloc::Global;
-use base_values::TextVal;
 
 // Opens an archive, and serves the lines of requests.
 fn serve_requests<B: Backend, O: Sink>(

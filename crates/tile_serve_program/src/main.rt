@@ -1,6 +1,7 @@
 //! Serves tiles of the archive that the words of the command line name.
 #![tactic(auto)]
 
+use base_values::TextVal;
 use byte_streams::{StdSink, StdSource};
 use pm_format::FileBackend;
 use program_words::{
@@ -8,7 +9,6 @@ use program_words::{
     say_source_fault, say_usage, text_of, words_of,
 };
 use std::process::ExitCode;
-use base_values::TextVal;
 use tile_serve::{ServeError, ServeOutcome, run_serve, serve_status};
 
 const HELP: &str = "Serves tiles of an archive of the PMTiles format.

@@ -3,9 +3,9 @@ ghost use Rattle.std.specs.Prelude.{◌≡◌, IfOk, string_bytes};
 ghost use Rattle.tile_verify.specs.OutcomeText.{line, reason_name, refusal, refused_status, status};
 
 use crate::{Reason, VerifyError, VerifyOutcome};
+use base_values::{OutOfMemory, TextVal};
 use pm_format::{PmtError, ReadCause};
 use std::alloc::Global;
-use base_values::{OutOfMemory, TextVal};
 
 /// The status that a program ends with: 0 for `Done`, 1 or, where the source failed, 6 for `Refused`, 2 for `Usage` and 7 for `OutOfMemory`.
 pub fn verify_status(outcome: &VerifyOutcome) -> u8

@@ -6,9 +6,9 @@ ghost use Rattle.tile_verify.specs.Checking.{Answers, Causes, ReadsMade, reads_a
 ghost use Rattle.tile_verify.specs.TopCall.{IsFor, OfCheck};
 
 use crate::{VerifyError, VerifyOutcome, verify};
+use base_values::TextVal;
 use pm_format::Backend;
 use std::alloc::Global;
-use base_values::TextVal;
 
 /// Checks an archive as `verify` does, where there are no words: the words after the archive's own.
 ///

@@ -1,13 +1,13 @@
 //! Runs the verifier on the file that the words of the command line name.
 #![tactic(auto)]
 
+use base_values::TextVal;
 use pm_format::FileBackend;
 use program_words::{
     OUTPUT_FAULT, hold_streams, print_for, say_opening, say_out_of_memory, say_output_fault,
     say_source_fault, say_usage, text_of, words_of,
 };
 use std::process::ExitCode;
-use base_values::TextVal;
 use tile_verify::{VerifyError, VerifyOutcome, run_verify, verify_line, verify_status};
 
 const HELP: &str = "Checks archives of the PMTiles format.

@@ -14,10 +14,10 @@ ghost use Rattle.tileset_script.specs.declared.words.Command.TheVariants as comm
 ghost use Rattle.tileset.specs.Kept.{KeepsSource};
 
 use crate::{Command, Outcome, Source, read_input};
+use base_values::OutOfMemory;
 use pm_format::TileType;
 use pm_writer::PmTilesWriter;
 use std::alloc::Global;
-use base_values::OutOfMemory;
 use tileset_script::{ParsedScript, ScriptOptions, bulk_base, parse_script};
 
 // The script that the input spells, which is read to its end.

@@ -2,10 +2,10 @@
 ghost use Rattle.std.specs.Prelude.{◌≡◌};
 
 use crate::{InputError, SinkFault};
+use base_values::OutOfMemory;
 use pm_format::{PmtError, ReadCause, ReadFault};
 use std::alloc::AllocError;
 use tile_bridge::ConvertError;
-use base_values::OutOfMemory;
 use tileset_script::ScriptError;
 
 /// How a run ends.

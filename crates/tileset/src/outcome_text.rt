@@ -4,10 +4,10 @@ ghost use Rattle.tileset.specs.OutcomeText.{label_name, line, refusal, status};
 
 use crate::Outcome;
 use crate::refusal_text::store_text;
+use base_values::{OutOfMemory, TextVal};
 use pm_format::Compression;
 use std::alloc::Global;
 use tile_bridge::ConvertError;
-use base_values::{OutOfMemory, TextVal};
 
 /// The status that a program ends with: 0 for `Done`, and 1 to 9 for the others in their order.
 pub fn outcome_status(outcome: &Outcome) -> u8

@@ -2,9 +2,9 @@
 ghost use Rattle.std.specs.Prelude.{◌≡◌, true, false, IfOk, string_bytes};
 ghost use Rattle.tileset.specs.Places.{count_lines, data_lines, directory_lines, places_text};
 
+use base_values::OutOfMemory;
 use pm_writer::ArchivePlaces;
 use std::alloc::Global;
-use base_values::OutOfMemory;
 
 // What an archive counts, and how long it is.
 fn count_lines(alloc: Global, places: &ArchivePlaces) -> Result<String, OutOfMemory>

@@ -2,9 +2,9 @@
 ghost use Rattle.std.specs.Prelude.{◌≡◌, ◌++◌, [], ◌∷◌, codes, flat_map, IfOk, OnOk, string_bytes};
 ghost use Rattle.tileset.specs.RefusalText.{cell_text, spaced, spelled_byte, store_fields, store_name, store_text};
 
+use base_values::OutOfMemory;
 use mb_store::{Cell, MbtError};
 use std::alloc::Global;
-use base_values::OutOfMemory;
 
 // Appends a byte of a text as a script spells it.
 fn push_spelled(alloc: Global, text: &mut String, byte: u8) -> Result<(), OutOfMemory>

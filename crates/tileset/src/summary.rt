@@ -3,10 +3,10 @@ ghost use Rattle.std.specs.Prelude.{◌≡◌, ◌++◌, ◌<◌, length, Some, 
 ghost use Rattle.tileset.specs.Report.{number_lines, query_line, tile_text};
 ghost use Rattle.tileset.specs.Summary.{answer_lines, summary};
 
+use base_values::{BlobVal, OutOfMemory};
 use pm_writer::ArchivePlaces;
 use std::alloc::Global;
 use tile_bridge::ConvertReport;
-use base_values::{BlobVal, OutOfMemory};
 use tile_ids::TileCoord;
 
 // A tile in hexadecimal, or the word for none.

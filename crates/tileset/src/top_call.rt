@@ -12,9 +12,9 @@ use crate::converting::convert_stores;
 use crate::load::script_for;
 use crate::report::write_report;
 use crate::{Command, Outcome, Sink, Source};
+use base_values::TextVal;
 use pm_format::Medium;
 use std::alloc::Global;
-use base_values::TextVal;
 use tileset_script::{ParsedScript, command_of};
 
 /// Runs the command that the words are: reads a script from the input, writes the archive of its base after its patches to the medium, and the report to the

@@ -1,6 +1,7 @@
 //! Runs the converter on the words of the command line, standard input and output.
 #![tactic(auto)]
 
+use base_values::TextVal;
 use mb_tables::MbtError;
 use pm_format::{FileMedium, Medium, MemMedium};
 use program_words::{
@@ -9,7 +10,6 @@ use program_words::{
 };
 use std::process::ExitCode;
 use tile_bridge::ConvertError;
-use base_values::TextVal;
 use tileset::{
     Command, Outcome, StdSink, StdSource, command_of, outcome_line, outcome_status, run,
 };

@@ -2,9 +2,9 @@
 use crate::answers::say;
 use crate::fields::{Fields, bytes_of, words_of};
 use crate::in_memory::{Ended, Failing, run_calm, run_failing};
+use base_values::TextVal;
 use std::alloc::Global;
 use std::fmt::Write;
-use base_values::TextVal;
 use tileset::Outcome;
 
 // More calls than any case here makes.

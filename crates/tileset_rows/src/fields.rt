@@ -1,6 +1,6 @@
 // The fields of a line, and the bytes that they spell.
-use std::alloc::Global;
 use base_values::TextVal;
+use std::alloc::Global;
 
 /// What is left of a line.
 #[derive(Drop)]

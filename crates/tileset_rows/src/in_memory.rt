@@ -6,10 +6,10 @@ ghost use Rattle.tileset_script.specs.Script.{Script};
 use crate::answers::{say, say_bytes, say_outcome};
 use crate::fields::{Fields, bytes_of, words_of};
 use crate::running::run;
+use base_values::TextVal;
 use pm_format::MemMedium;
 use std::alloc::Global;
 use std::fmt::Write;
-use base_values::TextVal;
 use tileset::{MemSink, MemSource, Outcome};
 
 /// What a run leaves.

@@ -2,10 +2,10 @@
 use crate::answers::{said_outcome, say, say_bytes};
 use crate::fields::{Fields, bytes_of, words_of};
 use crate::running::run;
+use base_values::TextVal;
 use pm_format::{Backend, FileMedium, Medium};
 use std::alloc::Global;
 use std::fmt::Write;
-use base_values::TextVal;
 use tileset::{MemSink, MemSource, Outcome};
 
 fn words_with(alloc: Global, path: &str) -> Option<Vec<TextVal>> {

@@ -5,11 +5,11 @@ use crate::in_memory::{Ended, run_calm};
 use crate::running::run;
 use crate::short_medium::ShortMedium;
 use crate::single_bytes::{SingleBytesSink, SingleBytesSource};
+use base_values::TextVal;
 use bytes::Bytes;
 use pm_format::MemMedium;
 use std::alloc::Global;
 use std::io::Cursor;
-use base_values::TextVal;
 use tileset::{MemSink, MemSource, Outcome, StdSink, StdSource};
 
 fn said_output(alloc: Global, out: &mut String, outcome: Outcome, output: &[u8]) -> Option<()> {

@@ -1,7 +1,7 @@
 // The top call with nothing said of it: a line here is a test, and a caller that takes no clause is proved in little time.
+use base_values::TextVal;
 use pm_format::Medium;
 use std::alloc::Global;
-use base_values::TextVal;
 use tileset::{Outcome, Sink, Source};
 
 /// `tileset::run`.

@@ -7,10 +7,10 @@ ghost use Rattle.tileset_script.specs.Section.{NeverFails};
 
 use crate::layout::Layout;
 use crate::section::Section;
+use base_values::{BlobVal, OutOfMemory};
 use itoa::Buffer;
 use mb_store::{Cell, MbtType, MemStore, Row, TableName};
 use std::alloc::Global;
-use base_values::{BlobVal, OutOfMemory};
 use tile_ids::{TileCoord, TileId, invert_y_value};
 
 // The coordinate of an id.

@@ -5,6 +5,7 @@ ghost use Rattle.mb_tables.specs.Columns.{patch_columns};
 ghost use Rattle.mb_tables.specs.Schema.{column_of, set_tables, table_of};
 ghost use Rattle.tileset_script.specs.Layout.{bsdiff_table, layout_named, set_named, tables_of, unindexed};
 
+use base_values::{OutOfMemory, TextVal};
 use line_words::is_word;
 use mb_store::{
     ColumnDesc, ColumnList, IndexList, MbtType, NormalizedSchema, PatchType, TableDesc, TableKind,
@@ -12,7 +13,6 @@ use mb_store::{
 };
 use mb_tables::{set_tables, table_of};
 use std::alloc::Global;
-use base_values::{OutOfMemory, TextVal};
 
 /// What a store of a script describes.
 #[derive(Clone, Copy, Debug, PartialEq, Eq)]

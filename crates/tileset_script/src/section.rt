@@ -4,9 +4,9 @@ ghost use Rattle.mb_store.specs.MemStore.{told_of};
 ghost use Rattle.tileset_script.specs.Layout.{tables_of};
 
 use crate::layout::{Layout, has_table, tables_of};
+use base_values::OutOfMemory;
 use mb_store::{MbtError, MemStore, Row, TableName, TileStore};
 use std::alloc::Global;
-use base_values::OutOfMemory;
 
 /// A store of a script, while its rows come.
 #[derive(Drop)]

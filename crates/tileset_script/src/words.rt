@@ -4,8 +4,8 @@ ghost use Rattle.tileset_script.specs.LeafEntries.{IsLeafEntries};
 ghost use Rattle.tileset_script.specs.Words.{IsCommand, bulk_command, command};
 
 use crate::leaf_entries::parse_leaf_entries;
-use line_words::parse_number;
 use base_values::TextVal;
+use line_words::parse_number;
 
 /// The greatest number of tiles of `bulk`.
 pub const MAX_BULK_TILES: u64 = 100_000;

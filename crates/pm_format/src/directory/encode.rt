@@ -4,8 +4,8 @@ ghost use Rattle.pm_format.specs.Directory.{IsPlaced, IsWritable, dir_bytes, spe
 
 use super::Directory;
 use crate::{AsWide, write_varint};
-use std::alloc::Global;
 use base_values::OutOfMemory;
+use std::alloc::Global;
 
 impl Directory {
     /// The bytes of the directory, each number by its short spelling. Every offset is to be below `u64::MAX`, and every offset plus length within u64.

@@ -3,8 +3,8 @@ ghost use Rattle.std.specs.Prelude.{◌≡◌};
 ghost use Rattle.pm_format.specs.TileJson.{bounds_of, center_of, tilejson_of};
 
 use crate::Header;
-use std::alloc::Global;
 use base_values::{TextList, TextVal};
+use std::alloc::Global;
 use tile_json::{JsonFields, TileBounds, TileCenter, TileJson};
 
 impl Header {

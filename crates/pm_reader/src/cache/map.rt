@@ -4,10 +4,10 @@ ghost use Rattle.pm_reader.specs.Caches.{AnswersFetched, AnswersHeld, answer_of}
 ghost use Rattle.pm_reader.specs.MapCaches.{FetchLeaves, HoldsAlso, HoldsSame, held_in_map};
 
 use crate::{DirCacheResult, DirectoryCache};
+use base_values::OutOfMemory;
 use pm_format::{DirEntry, Directory, PmtResult};
 use std::alloc::Global;
 use std::collections::HashMap;
-use base_values::OutOfMemory;
 use tile_ids::TileId;
 
 /// Keeps each directory that it is given, while there is memory.

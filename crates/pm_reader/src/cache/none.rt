@@ -2,8 +2,8 @@
 ghost use Rattle.std.specs.Prelude.{◌≡◌, Ok, false};
 
 use crate::{DirCacheResult, DirectoryCache};
-use pm_format::{DirEntry, Directory, PmtResult};
 use base_values::OutOfMemory;
+use pm_format::{DirEntry, Directory, PmtResult};
 use tile_ids::TileId;
 
 /// Holds no directory: each is read again where it is needed.

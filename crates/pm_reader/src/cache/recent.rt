@@ -7,10 +7,10 @@ ghost use Rattle.pm_reader.specs.MapCaches.{FetchLeaves, HoldsSame, IsLimited, I
 
 use crate::cache::kept::KeptDirectory;
 use crate::{DirCacheResult, DirectoryCache};
+use base_values::OutOfMemory;
 use bounded_lru::BoundedLru;
 use pm_format::{DirEntry, Directory, PmtResult};
 use std::alloc::Global;
-use base_values::OutOfMemory;
 use tile_ids::TileId;
 
 /// Keeps the directories that were used last: as many as its capacity, and, where it has a limit of entries, of no more entries together than this. Each call makes the

@@ -3,11 +3,11 @@ ghost use Rattle.std.specs.Prelude.{◌≡◌, IfOk};
 ghost use Rattle.tileset_script.specs.Cell.{cell_of};
 
 use super::text::parse_text;
+use base_values::{BlobVal, OutOfMemory};
 use hex::FromHexError;
 use line_words::parse_integer;
 use mb_store::Cell;
 use std::alloc::Global;
-use base_values::{BlobVal, OutOfMemory};
 
 /// The cell that a word spells, or None: `n` is Null, `o` a value of any other kind, `i` and a whole number of 64 bits an Int, `x` and an even number of hexadecimal
 /// digits a Blob, `t` and a text with `%` and two hexadecimal digits for other bytes a Text.

@@ -9,9 +9,9 @@ use super::line::Line;
 use super::setting::{Setting, options_of};
 use crate::layout::Layout;
 use crate::section::Section;
+use base_values::OutOfMemory;
 use mb_store::{MemStore, Row, TableName};
 use std::alloc::Global;
-use base_values::OutOfMemory;
 use tile_ids::TileCoord;
 
 /// What the lines of a script said so far.

@@ -1,8 +1,8 @@
 // Why a script isn't read.
 ghost use Rattle.std.specs.Prelude.{◌≡◌};
 
-use std::alloc::{AllocError, AllocFailed};
 use base_values::OutOfMemory;
+use std::alloc::{AllocError, AllocFailed};
 
 /// Why a script isn't read.
 #[derive(Clone, Copy, Debug, PartialEq, Eq)]

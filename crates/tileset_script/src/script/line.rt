@@ -8,10 +8,10 @@ ghost use Rattle.tileset_script.specs.Script.{layout_words, line_by, line_of, op
 use super::cell::parse_cell;
 use super::setting::{Setting, parse_flag, parse_setting};
 use crate::layout::{Layout, layout_of};
+use base_values::OutOfMemory;
 use line_words::{first_word, is_word, one_word, parse_number, three_words};
 use mb_store::{Row, TableName};
 use std::alloc::Global;
-use base_values::OutOfMemory;
 use tile_ids::TileCoord;
 
 /// A line of a script.

@@ -7,9 +7,9 @@ ghost use Rattle.tileset_script.specs.Script.{line_of, with_line};
 use super::draft::Draft;
 use super::line::parse_line;
 use super::{ParsedScript, ScriptError};
+use base_values::OutOfMemory;
 use line_words::next_line;
 use std::alloc::Global;
-use base_values::OutOfMemory;
 
 // Takes a line, and says whether it is a good one in its place.
 fn take_line(alloc: Global, draft: &mut Draft, line: &[u8]) -> Result<bool, OutOfMemory>

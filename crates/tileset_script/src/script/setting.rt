@@ -8,11 +8,11 @@ ghost use Rattle.tileset_script.specs.Setting.{bounds_of, center_of, compression
 use super::options::ScriptOptions;
 use super::text::parse_text;
 use crate::leaf_entries::LeafEntries;
+use base_values::{OutOfMemory, TextVal};
 use line_words::{four_words, is_word, one_word, parse_integer, parse_number, two_words};
 use pm_format::{Compression, TileType};
 use pm_writer::PmTilesWriter;
 use std::alloc::Global;
-use base_values::{OutOfMemory, TextVal};
 
 /// An option: how the set is converted, how the archive is labelled, or what it says of its tiles.
 #[derive(Debug, Drop)]

@@ -4,8 +4,8 @@ ghost use Rattle.std.specs.Option.{option_map};
 ghost use Rattle.hex.specs.Hex.{hex_digit_value};
 ghost use Rattle.tileset_script.specs.Text.{byte_of, if_utf8, text_of, unescaped};
 
-use std::alloc::Global;
 use base_values::{OutOfMemory, TextVal};
+use std::alloc::Global;
 
 // The value of a hexadecimal digit of either case.
 fn digit_value(byte: u8) -> Option<u8>

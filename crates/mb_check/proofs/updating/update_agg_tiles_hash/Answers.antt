@@ -11,8 +11,8 @@ use Rattle.mb_check.proofs.updating.update_agg_tiles_hash.Goals as goal
 
 pub commit_loaded-requires : goal.commit_loaded-requires
 commit_loaded-requires g c tells =
-    let told : g.S.TileStore.tells c.args.store.now ≡ true = sym c.load.ensures.tells ∙ tells in
-    subst (λ (t : Tables). IsLoadedFrom t c.in_ok-updated.updated) (sym c.load.ensures.told)
+    let told : g.S.TileStore.tells c.args.store.now ≡ true = sym c.load.ensures.kept.tells ∙ tells in
+    subst (λ (t : Tables). IsLoadedFrom t c.in_ok-updated.updated) (sym c.load.ensures.kept.told)
     (subst (λ (x : Held). IsLoadedFrom (g.S.TileStore.told c.args.store.now) x) (sym c.in_ok-updated.ensures) (hashed_loaded (g.S.TileStore.told c.args.store.now) c.in_ok-set.set c.in_ok-hash.hash (c.in_ok-set.ensures.loaded told)))
 
 pub returns-in_err-set-clause-answer : goal.returns-in_err-set-clause-answer
@@ -42,5 +42,5 @@ pub returns-clause-updated : goal.returns-clause-updated
 returns-clause-updated g c told =
     hashed_updated (g.S.TileStore.told c.args.store.now) (g.S.TileStore.told c.commit_loaded.new.store) c.in_ok-set.set c.in_ok-updated.updated c.in_ok-hash.hash c.in_ok-updated.ensures c.in_ok-hash.ensures
     (c.in_ok-set.ensures.answer told).1 (c.in_ok-set.ensures.answer told).0 (c.in_ok-set.ensures.loaded told)
-    (g.met.S.TileStore.sound c.commit_loaded.new.store (c.commit_loaded.ensures.tells ∙ (c.load.ensures.tells ∙ told)))
-    (subst (λ (t : Tables). MakesChanges c.in_ok-updated.updated t (g.S.TileStore.told c.commit_loaded.new.store)) c.load.ensures.told (c.in_ok-commit_loaded.ensures.committed (c.load.ensures.tells ∙ told)))
+    (g.met.S.TileStore.sound c.commit_loaded.new.store (c.commit_loaded.ensures.kept.tells ∙ (c.load.ensures.kept.tells ∙ told)))
+    (subst (λ (t : Tables). MakesChanges c.in_ok-updated.updated t (g.S.TileStore.told c.commit_loaded.new.store)) c.load.ensures.kept.told (c.in_ok-commit_loaded.ensures.committed (c.load.ensures.kept.tells ∙ told)))

@@ -11,8 +11,8 @@ use Rattle.mb_edit.proofs.apply.apply_patch.Goals as goal
 
 pub commit_loaded-requires : goal.commit_loaded-requires
 commit_loaded-requires g c tells =
-    let told : g.S.TileStore.tells c.args.base.now ≡ true = sym c.load.ensures.tells ∙ tells in
-    subst (λ (t : Tables). IsLoadedFrom t c.in_ok-patched.patched) (sym c.load.ensures.told)
+    let told : g.S.TileStore.tells c.args.base.now ≡ true = sym c.load.ensures.kept.tells ∙ tells in
+    subst (λ (t : Tables). IsLoadedFrom t c.in_ok-patched.patched) (sym c.load.ensures.kept.told)
     (next_loaded c.args.force c.in_ok-set.set c.in_ok-other.other.state c.in_ok-patched.patched c.in_ok-patched.ensures.value.0 c.in_ok-patched.ensures.value.1 c.in_ok-other.ensures.whole (g.S.TileStore.told c.args.base.now) (c.in_ok-set.ensures.loaded told))
 
 pub returns-in_err-set-clause-answer : goal.returns-in_err-set-clause-answer
@@ -48,8 +48,8 @@ returns-clause-applied g c told =
       patch = p.tables;
       is_told = p.is;
       applied = next_applied c.args.force c.in_ok-set.set c.in_ok-other.other.state c.in_ok-patched.patched c.in_ok-patched.ensures.value.0 c.in_ok-patched.ensures.value.1 c.in_ok-other.ensures.whole (g.S.TileStore.told c.args.base.now) p.tables (g.S.TileStore.told c.commit_loaded.new.store)
-          (g.met.S.TileStore.sound c.commit_loaded.new.store (c.commit_loaded.ensures.tells ∙ (c.load.ensures.tells ∙ told)))
+          (g.met.S.TileStore.sound c.commit_loaded.new.store (c.commit_loaded.ensures.kept.tells ∙ (c.load.ensures.kept.tells ∙ told)))
           (c.in_ok-set.ensures.answer told).1 (c.in_ok-set.ensures.answer told).0 (c.in_ok-set.ensures.loaded told) c.in_ok-set.ensures.named
           p.fact c.in_ok-other.ensures.named
-          (subst (λ (t : Tables). MakesChanges c.in_ok-patched.patched t (g.S.TileStore.told c.commit_loaded.new.store)) c.load.ensures.told (c.in_ok-commit_loaded.ensures.committed (c.load.ensures.tells ∙ told)));
+          (subst (λ (t : Tables). MakesChanges c.in_ok-patched.patched t (g.S.TileStore.told c.commit_loaded.new.store)) c.load.ensures.kept.told (c.in_ok-commit_loaded.ensures.committed (c.load.ensures.kept.tells ∙ told)));
     }

@@ -35,8 +35,8 @@ returns-in_err-rows-clause-own g c =
 pub returns-clause-answer : goal.returns-clause-answer
 returns-clause-answer g c = λ t.
     let told = g.S.TileStore.told c.args.store.now in
-    let tells = c.in_ok-descriptions.ensures.tells ∙ t in
-    let same = c.in_ok-descriptions.ensures.told in
+    let tells = c.in_ok-descriptions.ensures.kept.tells ∙ t in
+    let same = c.in_ok-descriptions.ensures.kept.told in
     answer_of told c.in_ok-layout.layout c.loaded_from.result c.in_ok-descriptions.descriptions.items c.get_patch_type-patch_type.result c.in_ok-rows.rows.metadata.items c.in_ok-rows.rows.contents.items c.in_ok-rows.rows.tiles.items
     (c.in_ok-descriptions.ensures.answer t)
     (c.get_patch_type-patch_type.ensures ∙ ap patch_type_of c.deref-2.ensures.value)

@@ -11,6 +11,6 @@ returns-clause-answer g c tells =
     let count = c.in_ok-count.count in
     let Are : List (List Cell) → Type 0 = λ rows. IfOk c.rows.result (λ page. page.items ≡ rows) in
     subst Are
-    (ap (λ (t : Tables). take count (drop 0 (t.rows c.args.table))) c.in_ok-count.ensures.told
+    (ap (λ (t : Tables). take count (drop 0 (t.rows c.args.table))) c.in_ok-count.ensures.kept.told
     ∙ take_all count all (omega (arith, c.in_ok-count.ensures.answer tells)))
-    (c.rows.ensures.answer (c.in_ok-count.ensures.tells ∙ tells))
+    (c.rows.ensures.answer (c.in_ok-count.ensures.kept.tells ∙ tells))
