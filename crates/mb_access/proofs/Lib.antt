@@ -1,0 +1,2 @@
+pub mod HashedLemmas
+pub mod ZoomLemmas

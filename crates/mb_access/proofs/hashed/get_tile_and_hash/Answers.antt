@@ -1,0 +1,24 @@
+use Rattle.std.proofs.Common.{◌∙◌, ap}
+use Rattle.std.proofs.lemmas.Result.{err_from_is_err_and}
+use Rattle.mb_access.proofs.HashedLemmas.{hashed_err, hashed_free, hashed_ok}
+use Rattle.mb_access.specs.Hashed.{row_by}
+use Rattle.mb_access.proofs.hashed.get_tile_and_hash.Goals as goal
+
+pub returns-in_err-set-clause-answer : goal.returns-in_err-set-clause-answer
+returns-in_err-set-clause-answer g c =
+    let p = err_from_is_err_and c.from_residual.result c.from_residual.ensures.1 in
+    rw (p.1, p.2) (hashed_err c.args.z c.args.x c.args.y (g.S.TileStore.tells c.args.store.now) (g.S.TileStore.told c.args.store.now) _ c.in_err-set.ensures.answer c.in_err-set.ensures.own)
+
+pub returns-in_err-row-clause-answer : goal.returns-in_err-row-clause-answer
+returns-in_err-row-clause-answer g c =
+    let p = err_from_is_err_and c.from_residual-in_err-row.result c.from_residual-in_err-row.ensures.1 in
+    rw (p.1, p.2) (hashed_free c.args.z c.args.x c.args.y (g.S.TileStore.tells c.args.store.now) (g.S.TileStore.told c.args.store.now) c.in_ok-set.set _ c.in_err-row.ensures.free c.in_ok-set.ensures.answer c.in_ok-set.ensures.own)
+
+pub returns-clause-answer : goal.returns-clause-answer
+returns-clause-answer g c =
+    let kept = c.in_ok-set.ensures.kept in
+    hashed_ok c.args.z c.args.x c.args.y (g.S.TileStore.tells c.args.store.now) (g.S.TileStore.told c.args.store.now) c.in_ok-set.set c.in_ok-row.row c.hashed.result c.in_ok-set.ensures.answer c.in_ok-set.ensures.own (λ t.
+    c.in_ok-row.ensures.answer (kept.tells ∙ t)
+    ∙ (ap (λ layout. row_by layout (g.S.TileStore.told c.load.new.store) c.coord_in.result) c.mbt_type.ensures
+    ∙ (ap (λ told. row_by c.in_ok-set.set.state.layout told c.coord_in.result) kept.told
+    ∙ ap (λ coord. row_by c.in_ok-set.set.state.layout (g.S.TileStore.told c.args.store.now) coord) c.coord_in.ensures))) c.hashed.ensures.answer
