@@ -1,2 +1,3 @@
+pub mod DescribedLemmas
 pub mod HashedLemmas
 pub mod ZoomLemmas

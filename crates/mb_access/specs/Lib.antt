@@ -1,3 +1,5 @@
 pub mod Reads
 pub mod Hashed
 pub mod Zooms
+pub mod Described
+pub mod FileName

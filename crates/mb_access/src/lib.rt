@@ -1,10 +1,13 @@
 //! A tile set by its calls: what stands at a coordinate, and between which zooms.
 #![tactic(auto)]
 
+mod described;
 mod hashed;
+mod mbtiles;
 mod reads;
 mod zooms;
 
 pub use hashed::get_tile_and_hash;
+pub use mbtiles::Mbtiles;
 pub use reads::{contains, get_tile};
 pub use zooms::compute_min_max_zoom;

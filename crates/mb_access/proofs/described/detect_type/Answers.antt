@@ -1,0 +1,13 @@
+use Rattle.std.proofs.Common.{◌∙◌}
+use Rattle.std.proofs.lemmas.Result.{err_from_is_err_and}
+use Rattle.mb_tables.specs.Detection.{detected}
+use Rattle.mb_access.proofs.DescribedLemmas.{described_err}
+use Rattle.mb_access.proofs.described.detect_type.Goals as goal
+
+pub returns-in_err-tables-clause-answer : goal.returns-in_err-tables-clause-answer
+returns-in_err-tables-clause-answer g c =
+    let p = err_from_is_err_and c.from_residual.result c.from_residual.ensures.1 in
+    rw (p.1, p.2) (described_err detected (g.S.TileStore.tells c.args.store.now) (g.S.TileStore.told c.args.store.now) _)
+
+pub returns-clause-answer : goal.returns-clause-answer
+returns-clause-answer g c = record { tables = c.deref.result.now; is_told = λ t. c.deref.ensures.value ∙ c.in_ok-tables.ensures.answer t; answers = c.detected_in.ensures.answer }

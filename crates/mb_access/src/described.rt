@@ -1,0 +1,49 @@
+// What the descriptions of a store's tables tell.
+ghost use Rattle.mb_store.specs.Kept.{ReadsOnly};
+ghost use Rattle.std.specs.Prelude.{◌≡◌, ◌≢◌, Err, IfErr, IsErrOf};
+ghost use Rattle.base_values.specs.Counts.{Rose};
+ghost use Rattle.mb_access.specs.Described.{IsDescribed, missing_answer, read_name};
+ghost use Rattle.mb_tables.specs.Detection.{detected};
+ghost use Rattle.mb_tables.specs.Refusals.{Answers};
+
+use mb_store::{MbtError, MbtResult, MbtType, TableDesc, TileStore};
+use std::alloc::Global;
+
+// The name of the table without an index on places, of these descriptions.
+fn missing_in(tables: &[TableDesc]) -> MbtResult<Option<&'static str>>
+    ensures answer { Answers (missing_answer tables.now) (read_name result) }
+    ensures error { IfErr result (λ e. e ≡ MbtError.InvalidDataFormat) }
+{
+    mb_store::missing_tile_index(tables)
+}
+
+// The layout of these descriptions.
+fn detected_in(tables: &[TableDesc]) -> MbtResult<MbtType>
+    ensures answer { Answers (detected tables.now) result }
+    ensures fault { result ≢ Err MbtError.StoreFault }
+{
+    mb_store::detect_type(tables)
+}
+
+/// The layout of a set by the descriptions of its tables.
+pub(crate) fn detect_type<S: TileStore>(alloc: Global, store: &mut S) -> MbtResult<MbtType>
+    ensures answer { IsDescribed detected (S.tells store.old) (S.told store.old) result }
+    ensures kept { ReadsOnly S.told S.tells S.faults S.steady store.old store.new }
+    ensures fault { IsErrOf result MbtError.StoreFault → Rose (S.faults store.old) (S.faults store.new) }
+{
+    let tables = store.describe(alloc)?;
+    detected_in(&tables)
+}
+
+/// The name of the table without an index on places, by the descriptions of a set's tables.
+pub(crate) fn missing_tile_index<S: TileStore>(
+    alloc: Global,
+    store: &mut S,
+) -> MbtResult<Option<&'static str>>
+    ensures answer { IsDescribed missing_answer (S.tells store.old) (S.told store.old) (read_name result) }
+    ensures kept { ReadsOnly S.told S.tells S.faults S.steady store.old store.new }
+    ensures fault { IsErrOf result MbtError.StoreFault → Rose (S.faults store.old) (S.faults store.new) }
+{
+    let tables = store.describe(alloc)?;
+    missing_in(&tables)
+}

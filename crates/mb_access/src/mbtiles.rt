@@ -1,0 +1,143 @@
+// A set by the path of its file.
+ghost use Rattle.mb_store.specs.Kept.{ReadsOnly};
+ghost use Rattle.std.specs.Prelude.{◌≡◌, IfErr, IfOk, IsErrOf};
+ghost use Rattle.base_values.specs.Counts.{Rose};
+ghost use Rattle.mb_access.specs.Described.{IsDescribed, missing_answer, read_name};
+ghost use Rattle.mb_access.specs.FileName.{file_name};
+ghost use Rattle.mb_access.specs.Hashed.{IsHashed};
+ghost use Rattle.mb_access.specs.Reads.{contains_answer, tile_answer};
+ghost use Rattle.mb_load.specs.Begun.{IsBegun};
+ghost use Rattle.mb_tables.specs.Detection.{detected};
+
+use crate::{described, hashed, reads};
+use base_values::{BlobVal, TextVal};
+use mb_store::{MbtError, MbtResult, MbtType, TileStore};
+use std::alloc::Global;
+use std::fmt;
+use std::marker::Model;
+use std::path::Path;
+
+/// A tile set by the path of its file. The calls on its tiles take the store that has them.
+#[derive(Debug, Drop)]
+pub struct Mbtiles {
+    path: TextVal,
+}
+
+impl Model for Mbtiles {
+    ghost use Rattle.std.specs.Prelude.{ℕ, List};
+
+    ghost Value = { List ℕ };
+
+    ghost view = { λ m. m.path };
+}
+
+impl fmt::Display for Mbtiles {
+    ghost use Rattle.std.specs.Prelude.{Some};
+
+    ghost output = { λ m. Some m };
+
+    fn fmt<W: fmt::Write>(&self, f: &mut fmt::Formatter<W>) -> fmt::Result {
+        let path = self.filepath();
+        write!(f, "{path}")
+    }
+}
+
+impl Mbtiles {
+    /// The set of a path, which is kept as it is.
+    pub fn new(alloc: Global, path: &str) -> MbtResult<Mbtiles>
+        ensures path { IfOk result (λ set. set ≡ path.now) }
+        ensures error { IfErr result (λ e. e ≡ MbtError.OutOfMemory) }
+    {
+        let path = TextVal::new(String::from_str(alloc, path)?);
+        Ok(Mbtiles { path })
+    }
+
+    /// The whole path.
+    pub fn filepath(&self) -> &str
+        ensures { result.now ≡ self.now }
+    {
+        self.path.as_str()
+    }
+
+    /// The name of the file: what stands after the last `/`, up to its last `.` where that isn't first. An ending `/` or `/.` is cut before, as long as there is
+    /// one. It is `unknown` where nothing, `.` or `..` stands there.
+    pub fn filename(&self) -> &str
+        ensures { result.now ≡ file_name self.now }
+    {
+        let path = Path::new(self.path.as_str());
+        match path.file_stem() {
+            Some(stem) => stem,
+            None => "unknown",
+        }
+    }
+
+    /// The layout of the set by the descriptions of its tables, or the refusal of `detect_type` of these.
+    pub fn detect_type<S: TileStore>(&self, alloc: Global, store: &mut S) -> MbtResult<MbtType>
+        ensures answer { IsDescribed detected (S.tells store.old) (S.told store.old) result }
+        ensures kept { ReadsOnly S.told S.tells S.faults S.steady store.old store.new }
+        ensures fault { IsErrOf result MbtError.StoreFault → Rose (S.faults store.old) (S.faults store.new) }
+    {
+        described::detect_type(alloc, store)
+    }
+
+    /// The name of the table of the set's places, where no index of it has the columns of a place among its own, by the descriptions of its tables.
+    pub fn missing_tile_index<S: TileStore>(
+        &self,
+        alloc: Global,
+        store: &mut S,
+    ) -> MbtResult<Option<&'static str>>
+        ensures answer { IsDescribed missing_answer (S.tells store.old) (S.told store.old) (read_name result) }
+        ensures kept { ReadsOnly S.told S.tells S.faults S.steady store.old store.new }
+        ensures fault { IsErrOf result MbtError.StoreFault → Rose (S.faults store.old) (S.faults store.new) }
+    {
+        described::missing_tile_index(alloc, store)
+    }
+
+    /// What `get_tile` answers.
+    pub fn get_tile<S: TileStore>(
+        &self,
+        alloc: Global,
+        store: &mut S,
+        z: u8,
+        x: u32,
+        y: u32,
+    ) -> MbtResult<Option<BlobVal>>
+        ensures answer { IsBegun (tile_answer z x y) (S.tells store.old) (S.told store.old) result }
+        ensures kept { ReadsOnly S.told S.tells S.faults S.steady store.old store.new }
+        ensures fault { IsErrOf result MbtError.StoreFault → Rose (S.faults store.old) (S.faults store.new) }
+    {
+        reads::get_tile(alloc, store, z, x, y)
+    }
+
+    /// What `get_tile_and_hash` answers.
+    pub fn get_tile_and_hash<S: TileStore>(
+        &self,
+        alloc: Global,
+        store: &mut S,
+        z: u8,
+        x: u32,
+        y: u32,
+    ) -> MbtResult<Option<(BlobVal, Option<TextVal>)>>
+        ensures answer { IsHashed z x y (S.tells store.old) (S.told store.old) result }
+        ensures kept { ReadsOnly S.told S.tells S.faults S.steady store.old store.new }
+        ensures fault { IsErrOf result MbtError.StoreFault → Rose (S.faults store.old) (S.faults store.new) }
+    {
+        hashed::get_tile_and_hash(alloc, store, z, x, y)
+    }
+
+    /// What `contains` answers.
+    pub fn contains<S: TileStore>(
+        &self,
+        alloc: Global,
+        store: &mut S,
+        z: u8,
+        x: u32,
+        y: u32,
+    ) -> MbtResult<bool>
+        ensures answer { IsBegun (contains_answer z x y) (S.tells store.old) (S.told store.old) result }
+        ensures kept { ReadsOnly S.told S.tells S.faults S.steady store.old store.new }
+        ensures fault { IsErrOf result MbtError.StoreFault → Rose (S.faults store.old) (S.faults store.new) }
+    {
+        reads::contains(alloc, store, z, x, y)
+    }
+}
