@@ -28,6 +28,10 @@ same_hash (Normalized view Hash) t c id = refl
 same_hash (Normalized view DedupId) t c id = refl
 same_hash Cache t c id = refl
 
+-- the row that was asked for, by what the layout, the tables and the coordinate are
+pub row_by_same : (row : Option (List Cell)) (l m : MbtType) (t u : Tables) (c d : Option Coord) → row ≡ row_by l t c → l ≡ m → t ≡ u → c ≡ d → row ≡ row_by m u d
+row_by_same row l m t u c d h lm tu cd = h ∙ (ap (λ layout. row_by layout t c) lm ∙ (ap (λ told. row_by m told c) tu ∙ ap (λ coord. row_by m u coord) cd))
+
 pub hashed_err : (z x y : ℕ) (tells : Bool) (told : Tables) (e : MbtError) → (tells ≡ true → Loads (state_of told) (Err e)) → ((t : Tables) × Loads (state_of t) (Err e)) → IsHashed z x y tells told (Err e)
 hashed_err z x y tells told e it own = record { row = row_at told (coord_in z x y); is_told = λ _. refl; begun = begun_err (hashed_answer z x y (row_at told (coord_in z x y))) tells told e it own }
 

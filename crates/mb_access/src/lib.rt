@@ -1,4 +1,4 @@
-//! A tile set by its calls: what stands at a coordinate, and between which zooms.
+//! A tile set by its calls: what stands at a coordinate, and between which zooms; and its name by the path of its file.
 #![tactic(auto)]
 
 mod described;

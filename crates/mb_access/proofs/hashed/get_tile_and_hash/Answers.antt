@@ -1,7 +1,7 @@
-use Rattle.std.proofs.Common.{◌∙◌, ap}
+use Rattle.std.proofs.Common.{◌∙◌}
 use Rattle.std.proofs.lemmas.Result.{err_from_is_err_and}
-use Rattle.mb_access.proofs.HashedLemmas.{hashed_err, hashed_free, hashed_ok}
-use Rattle.mb_access.specs.Hashed.{row_by}
+use Rattle.mb_access.proofs.HashedLemmas.{hashed_err, hashed_free, hashed_ok, row_by_same}
+use Rattle.mb_access.specs.Reads.{coord_in}
 use Rattle.mb_access.proofs.hashed.get_tile_and_hash.Goals as goal
 
 pub returns-in_err-set-clause-answer : goal.returns-in_err-set-clause-answer
@@ -17,8 +17,6 @@ returns-in_err-row-clause-answer g c =
 pub returns-clause-answer : goal.returns-clause-answer
 returns-clause-answer g c =
     let kept = c.in_ok-set.ensures.kept in
-    hashed_ok c.args.z c.args.x c.args.y (g.S.TileStore.tells c.args.store.now) (g.S.TileStore.told c.args.store.now) c.in_ok-set.set c.in_ok-row.row c.hashed.result c.in_ok-set.ensures.answer c.in_ok-set.ensures.own (λ t.
-    c.in_ok-row.ensures.answer (kept.tells ∙ t)
-    ∙ (ap (λ layout. row_by layout (g.S.TileStore.told c.load.new.store) c.coord_in.result) c.mbt_type.ensures
-    ∙ (ap (λ told. row_by c.in_ok-set.set.state.layout told c.coord_in.result) kept.told
-    ∙ ap (λ coord. row_by c.in_ok-set.set.state.layout (g.S.TileStore.told c.args.store.now) coord) c.coord_in.ensures))) c.hashed.ensures.answer
+    hashed_ok c.args.z c.args.x c.args.y (g.S.TileStore.tells c.args.store.now) (g.S.TileStore.told c.args.store.now) c.in_ok-set.set c.in_ok-row.row c.hashed.result c.in_ok-set.ensures.answer c.in_ok-set.ensures.own
+    (λ t. row_by_same c.in_ok-row.row c.mbt_type.result c.in_ok-set.set.state.layout (g.S.TileStore.told c.load.new.store) (g.S.TileStore.told c.args.store.now) c.coord_in.result (coord_in c.args.z c.args.x c.args.y) (c.in_ok-row.ensures.answer (kept.tells ∙ t)) c.mbt_type.ensures kept.told c.coord_in.ensures)
+    c.hashed.ensures.answer
