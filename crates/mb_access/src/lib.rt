@@ -5,6 +5,8 @@ mod described;
 mod hashed;
 mod mbtiles;
 mod reads;
+#[cfg(test)]
+mod tests;
 mod zooms;
 
 pub use hashed::get_tile_and_hash;
