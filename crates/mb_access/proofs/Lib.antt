@@ -1,3 +1,2 @@
 pub mod DescribedLemmas
 pub mod HashedLemmas
-pub mod ZoomLemmas

@@ -7,9 +7,8 @@ mod mbtiles;
 mod reads;
 #[cfg(test)]
 mod tests;
-mod zooms;
 
 pub use hashed::get_tile_and_hash;
 pub use mbtiles::Mbtiles;
 pub use reads::{contains, get_tile};
-pub use zooms::compute_min_max_zoom;
+pub use mb_metadata::compute_min_max_zoom;

@@ -1,8 +1,8 @@
 use Rattle.std.proofs.Common.{ap, sym, Ok}
 use Rattle.std.proofs.lemmas.Result.{err_from_is_err_and}
-use Rattle.mb_access.specs.Zooms.{zooms_answer}
+use Rattle.mb_metadata.specs.Zooms.{zooms_answer}
 use Rattle.mb_load.proofs.BegunLemmas.{begun_err, begun_ok}
-use Rattle.mb_access.proofs.zooms.compute_min_max_zoom.Goals as goal
+use Rattle.mb_metadata.proofs.zooms.compute_min_max_zoom.Goals as goal
 
 pub returns-in_err-set-clause-answer : goal.returns-in_err-set-clause-answer
 returns-in_err-set-clause-answer g c =

@@ -2,7 +2,7 @@
 ghost use Rattle.mb_store.specs.Kept.{ReadsOnly};
 ghost use Rattle.std.specs.Prelude.{◌≡◌, IsErrOf};
 ghost use Rattle.base_values.specs.Counts.{Rose};
-ghost use Rattle.mb_access.specs.Zooms.{span, with_zoom, zooms_answer, zooms_of};
+ghost use Rattle.mb_metadata.specs.Zooms.{span, with_zoom, zooms_answer, zooms_of};
 ghost use Rattle.mb_load.specs.Begun.{IsBegun};
 
 use mb_load::{Loaded, load};
