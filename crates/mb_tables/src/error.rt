@@ -1,7 +1,7 @@
 // Why a call on a tile set is refused.
 ghost use Rattle.std.specs.Prelude.{◌≡◌};
 
-use crate::{Cell, TableName};
+use crate::{Cell, MbtType, TableName};
 use base_values::{OutOfMemory, TextVal};
 use std::alloc::{AllocError, AllocFailed};
 use thiserror::Error;
@@ -96,6 +96,58 @@ pub enum MbtError {
         /// The id of the contents.
         id: TextVal,
     },
+    /// A coordinate or a name is in both of two sets, or twice in what is put.
+    #[error("duplicate values")]
+    DuplicateValues,
+    /// The destination of a copy has tables, and no mode says what becomes of them.
+    #[error("the destination has tables")]
+    DestinationFileExists,
+    /// The destination of a patching copy has tables.
+    #[error("the destination of a patch has tables")]
+    NonEmptyTargetFile,
+    /// The destination of a copy is of another kind than the one that is asked for.
+    #[error("the destination is {actual}, not {desired}")]
+    MismatchedTargetType {
+        /// The layout of the destination.
+        actual: MbtType,
+        /// The layout that is asked for.
+        desired: MbtType,
+    },
+    /// A patched copy has another digest of all tiles than the patch says, and the patch isn't forced.
+    #[error("aggregate hash mismatch after a patch: the patch says {after_apply_hash}, the tiles have {agg_hash}")]
+    AggHashMismatchAfterApply {
+        /// The digest that the patch says.
+        after_apply_hash: TextVal,
+        /// The digest of the tiles.
+        agg_hash: TextVal,
+    },
+    /// The metadata value of a zoom is no number from 0 to 255: the name and that value.
+    #[error("invalid zoom value {0}={1}")]
+    InvalidZoomValue(&'static str, TextVal),
+    /// The file of a tile has no extension of a known format: its path.
+    #[error("unsupported file extension of {0}")]
+    UnsupportedFileExtension(TextVal),
+    /// The file of a tile has another format than the first one: its path.
+    #[error("inconsistent tile formats at {path}")]
+    InconsistentTileFormats {
+        /// The path of the file.
+        path: TextVal,
+    },
+    /// The metadata says no format of the tiles.
+    #[error("no format in metadata")]
+    NoFormatInMetadata,
+    /// The metadata says a format of the tiles that isn't known.
+    #[error("unknown format {format} in metadata")]
+    UnknownFormatInMetadata {
+        /// The format as it is stored.
+        format: TextVal,
+    },
+    /// The tree of files failed.
+    #[error("tree fault")]
+    TreeFault,
+    /// The store has tables that aren't those of a cache.
+    #[error("not a cache file")]
+    NotACacheFile,
     /// The call found no memory.
     #[error("out of memory")]
     OutOfMemory,

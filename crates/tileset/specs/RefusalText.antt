@@ -3,6 +3,7 @@ use Rattle.std.specs.Prelude.{◌≡◌, ℕ, ◌&&◌, not, List, [], ◌∷◌
 use Rattle.std.specs.Char.{is_ascii_graphic}
 use Rattle.std.specs.Fmt.{signed_decimal}
 use Rattle.hex.specs.Hex.{encode_lower, encode_upper, encode_with}
+use Rattle.mb_tables.specs.Kind.{layout_words}
 use Rattle.mb_tables.specs.Table.{table_text}
 use Rattle.mb_tables.specs.declared.cell.Cell.{Cell}
 use Rattle.mb_tables.specs.declared.cell.Cell.TheVariants.{Null, Int, Text, Blob, Other}
@@ -41,6 +42,18 @@ store_name (errors.AggHashMismatchWithDiff before agg) = codes "AggHashMismatchW
 store_name errors.UnsupportedPatchType = codes "UnsupportedPatchType"
 store_name errors.UnsupportedCopyOperation = codes "UnsupportedCopyOperation"
 store_name (errors.IdCollision id) = codes "IdCollision"
+store_name errors.DuplicateValues = codes "DuplicateValues"
+store_name errors.DestinationFileExists = codes "DestinationFileExists"
+store_name errors.NonEmptyTargetFile = codes "NonEmptyTargetFile"
+store_name (errors.MismatchedTargetType actual desired) = codes "MismatchedTargetType"
+store_name (errors.AggHashMismatchAfterApply after agg) = codes "AggHashMismatchAfterApply"
+store_name (errors.InvalidZoomValue name value) = codes "InvalidZoomValue"
+store_name (errors.UnsupportedFileExtension path) = codes "UnsupportedFileExtension"
+store_name (errors.InconsistentTileFormats path) = codes "InconsistentTileFormats"
+store_name errors.NoFormatInMetadata = codes "NoFormatInMetadata"
+store_name (errors.UnknownFormatInMetadata format) = codes "UnknownFormatInMetadata"
+store_name errors.TreeFault = codes "TreeFault"
+store_name errors.NotACacheFile = codes "NotACacheFile"
 store_name errors.OutOfMemory = codes "OutOfMemory"
 
 -- its fields in their order. Texts are shown as they are
@@ -53,6 +66,12 @@ store_fields (errors.IncorrectTileHash stored computed) = stored ∷ computed �
 store_fields (errors.AggHashMismatch computed stored) = computed ∷ stored ∷ []
 store_fields (errors.AggHashMismatchWithDiff before agg) = before ∷ agg ∷ []
 store_fields (errors.IdCollision id) = id ∷ []
+store_fields (errors.MismatchedTargetType actual desired) = layout_words actual ∷ layout_words desired ∷ []
+store_fields (errors.AggHashMismatchAfterApply after agg) = after ∷ agg ∷ []
+store_fields (errors.InvalidZoomValue name value) = name.now ∷ value ∷ []
+store_fields (errors.UnsupportedFileExtension path) = path ∷ []
+store_fields (errors.InconsistentTileFormats path) = path ∷ []
+store_fields (errors.UnknownFormatInMetadata format) = format ∷ []
 store_fields _ = []
 
 -- each of some fields after a space

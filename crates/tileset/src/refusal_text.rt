@@ -1,9 +1,10 @@
 // The words in which the refusal of a store is shown.
 ghost use Rattle.std.specs.Prelude.{◌≡◌, ◌++◌, [], ◌∷◌, codes, flat_map, IfOk, OnOk, string_bytes};
+ghost use Rattle.mb_tables.specs.Kind.{layout_words};
 ghost use Rattle.tileset.specs.RefusalText.{cell_text, spaced, spelled_byte, store_fields, store_name, store_text};
 
 use base_values::OutOfMemory;
-use mb_store::{Cell, MbtError};
+use mb_store::{Cell, MbtError, MbtType};
 use std::alloc::Global;
 
 // Appends a byte of a text as a script spells it.
@@ -61,6 +62,13 @@ fn two_fields(alloc: Global, first: &str, second: &str) -> Result<String, OutOfM
     Ok(format!(in alloc; " {first} {second}")?)
 }
 
+// The words of two layouts, each after a space.
+fn two_layouts(alloc: Global, first: MbtType, second: MbtType) -> Result<String, OutOfMemory>
+    ensures { IfOk result (λ text. string_bytes text ≡ spaced (layout_words first ∷ layout_words second ∷ [])) }
+{
+    Ok(format!(in alloc; " {first} {second}")?)
+}
+
 // Three cells, each after a space.
 fn three_cells(alloc: Global, zoom: &Cell, column: &Cell, row: &Cell) -> Result<String, OutOfMemory>
     ensures { IfOk result (λ text. string_bytes text ≡ spaced (cell_text zoom.now ∷ cell_text
@@ -95,6 +103,18 @@ fn name_of(error: &MbtError) -> &'static str
         MbtError::AggHashMismatch { .. } => "AggHashMismatch",
         MbtError::AggHashMismatchWithDiff { .. } => "AggHashMismatchWithDiff",
         MbtError::IdCollision { .. } => "IdCollision",
+        MbtError::DuplicateValues => "DuplicateValues",
+        MbtError::DestinationFileExists => "DestinationFileExists",
+        MbtError::NonEmptyTargetFile => "NonEmptyTargetFile",
+        MbtError::MismatchedTargetType { .. } => "MismatchedTargetType",
+        MbtError::AggHashMismatchAfterApply { .. } => "AggHashMismatchAfterApply",
+        MbtError::InvalidZoomValue(..) => "InvalidZoomValue",
+        MbtError::UnsupportedFileExtension(_) => "UnsupportedFileExtension",
+        MbtError::InconsistentTileFormats { .. } => "InconsistentTileFormats",
+        MbtError::NoFormatInMetadata => "NoFormatInMetadata",
+        MbtError::UnknownFormatInMetadata { .. } => "UnknownFormatInMetadata",
+        MbtError::TreeFault => "TreeFault",
+        MbtError::NotACacheFile => "NotACacheFile",
         MbtError::OutOfMemory => "OutOfMemory",
     }
 }
@@ -125,6 +145,17 @@ fn fields_of(alloc: Global, error: &MbtError) -> Result<String, OutOfMemory>
             agg_hash,
         } => two_fields(alloc, before_apply_hash.as_str(), agg_hash.as_str()),
         MbtError::IdCollision { id } => one_field(alloc, id.as_str()),
+        MbtError::MismatchedTargetType { actual, desired } => {
+            two_layouts(alloc, *actual, *desired)
+        }
+        MbtError::AggHashMismatchAfterApply {
+            after_apply_hash,
+            agg_hash,
+        } => two_fields(alloc, after_apply_hash.as_str(), agg_hash.as_str()),
+        MbtError::InvalidZoomValue(name, value) => two_fields(alloc, name, value.as_str()),
+        MbtError::UnsupportedFileExtension(path) => one_field(alloc, path.as_str()),
+        MbtError::InconsistentTileFormats { path } => one_field(alloc, path.as_str()),
+        MbtError::UnknownFormatInMetadata { format } => one_field(alloc, format.as_str()),
         _ => Ok(String::new(alloc)),
     }
 }
