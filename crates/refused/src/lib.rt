@@ -3,6 +3,8 @@
 
 mod archives;
 mod input;
+mod top_call;
 
 pub use archives::{decode, header_bytes, next_entry, put_content};
 pub use input::{place, read};
+pub use top_call::outcome;
