@@ -12,6 +12,7 @@ use Rattle.mb_lists.specs.Keyed.{entries_by}
 use Rattle.mb_tables.specs.Refusals.{first_refused, unless}
 use Rattle.mb_constraints.specs.References.{missing_reference}
 use Rattle.mb_constraints.specs.TileRows.{bad_tile, dates_in, id_in, tile_in}
+use Rattle.mb_lists.specs.declared.dates.Dates.{Dates}
 use Rattle.mb_lists.specs.declared.entries.Content.{Content}
 use Rattle.mb_lists.specs.declared.entries.Standing.TheVariants.{Kept}
 use Rattle.mb_lists.specs.declared.entries.StoredTile.{StoredTile}
@@ -50,16 +51,16 @@ cons_all P None ts h k = k
 cons_all P (Some t) ts h k = All-cons P t ts h k
 
 -- entries of the tiles of rows are what each row has
-pub own_entries : {V : Type 0} (value : StoredTile → Option V) (f : List Cell → Option (Place × V)) (k : ℕ) (rows : List (List Cell)) → ((j i : ℕ) (row : List Cell) → slice_get rows j ≡ Some row → i ≡ k + j → option_and_then (entry value) (stored i row) ≡ f row) → entries_by place_of value (own_tiles k rows) ≡ filter_map f rows
-own_entries value f k [] h = refl
-own_entries value f k (r ∷ rs) h =
-    cons_entries value (stored k r) (own_tiles (suc k) rs)
-    ∙ (ap (λ o. cons_option o (entries_by place_of value (own_tiles (suc k) rs))) (h 0 k r refl (omega arith))
-    ∙ ap (cons_option (f r)) (own_entries value f (suc k) rs (λ j i row at e. h (suc j) i row at (omega arith))))
+pub own_entries : {V : Type 0} (value : StoredTile → Option V) (dates : List Cell → Option Dates) (f : List Cell → Option (Place × V)) (k : ℕ) (rows : List (List Cell)) → ((j i : ℕ) (row : List Cell) → slice_get rows j ≡ Some row → i ≡ k + j → option_and_then (entry value) (stored (dates row) i row) ≡ f row) → entries_by place_of value (own_tiles dates k rows) ≡ filter_map f rows
+own_entries value dates f k [] h = refl
+own_entries value dates f k (r ∷ rs) h =
+    cons_entries value (stored (dates r) k r) (own_tiles dates (suc k) rs)
+    ∙ (ap (λ o. cons_option o (entries_by place_of value (own_tiles dates (suc k) rs))) (h 0 k r refl (omega arith))
+    ∙ ap (cons_option (f r)) (own_entries value dates f (suc k) rs (λ j i row at e. h (suc j) i row at (omega arith))))
 
-pub own_all : (P : StoredTile → Type 0) (k : ℕ) (rows : List (List Cell)) → ((j i : ℕ) (row : List Cell) → slice_get rows j ≡ Some row → i ≡ k + j → IfSome (stored i row) P) → All P (own_tiles k rows)
-own_all P k [] h = λ i d lt. absurd (omega arith)
-own_all P k (r ∷ rs) h = cons_all P (stored k r) (own_tiles (suc k) rs) (h 0 k r refl (omega arith)) (own_all P (suc k) rs (λ j i row at e. h (suc j) i row at (omega arith)))
+pub own_all : (P : StoredTile → Type 0) (dates : List Cell → Option Dates) (k : ℕ) (rows : List (List Cell)) → ((j i : ℕ) (row : List Cell) → slice_get rows j ≡ Some row → i ≡ k + j → IfSome (stored (dates row) i row) P) → All P (own_tiles dates k rows)
+own_all P dates k [] h = λ i d lt. absurd (omega arith)
+own_all P dates k (r ∷ rs) h = cons_all P (stored (dates r) k r) (own_tiles dates (suc k) rs) (h 0 k r refl (omega arith)) (own_all P dates (suc k) rs (λ j i row at e. h (suc j) i row at (omega arith)))
 
 pub by_entries : {V : Type 0} (value : StoredTile → Option V) (g : List Cell → Option StoredTile) (f : List Cell → Option (Place × V)) (rows : List (List Cell)) → ((j : ℕ) (row : List Cell) → slice_get rows j ≡ Some row → option_and_then (entry value) (g row) ≡ f row) → entries_by place_of value (filter_map g rows) ≡ filter_map f rows
 by_entries value g f [] h = refl
@@ -73,17 +74,17 @@ by_all P g [] h = λ i d lt. absurd (omega arith)
 by_all P g (r ∷ rs) h = cons_all P (g r) (filter_map g rs) (h 0 r refl) (by_all P g rs (λ j row at. h (suc j) row at))
 
 -- what a stored tile has is at the place of its row
-pub placed_entry : {V : Type 0} (value : StoredTile → Option V) (i : ℕ) (row : List Cell) (d : Option V) → ((c : Coord) → value (record { coord = c; contents = i; standing = Kept }) ≡ d) → option_and_then (entry value) (stored i row) ≡ placed d row
-placed_entry {V = V} value i row d h = by (coord_in row) ∙ ap (option_and_then (λ place. option_map (λ v. (place, v)) d)) (place_is row)
+pub placed_entry : {V : Type 0} (value : StoredTile → Option V) (dates : Option Dates) (i : ℕ) (row : List Cell) (d : Option V) → ((c : Coord) → value (record { coord = c; contents = i; dates = dates; standing = Kept }) ≡ d) → option_and_then (entry value) (stored dates i row) ≡ placed d row
+placed_entry {V = V} value dates i row d h = by (coord_in row) ∙ ap (option_and_then (λ place. option_map (λ v. (place, v)) d)) (place_is row)
   where
-    by : (o : Option Coord) → option_and_then (entry value) (option_map (λ c. record { coord = c; contents = i; standing = Kept }) o) ≡ option_and_then (λ place. option_map (λ v. (place, v)) d) (option_map place_at o)
+    by : (o : Option Coord) → option_and_then (entry value) (option_map (λ c. record { coord = c; contents = i; dates = dates; standing = Kept }) o) ≡ option_and_then (λ place. option_map (λ v. (place, v)) d) (option_map place_at o)
     by None = refl
     by (Some c) = ap (option_map (λ v. (place_at c, v))) (h c)
 
-pub stored_if : (P : StoredTile → Type 0) (i : ℕ) (row : List Cell) → ((c : Coord) → P (record { coord = c; contents = i; standing = Kept })) → IfSome (stored i row) P
-stored_if P i row h = by (coord_in row)
+pub stored_if : (P : StoredTile → Type 0) (dates : Option Dates) (i : ℕ) (row : List Cell) → ((c : Coord) → P (record { coord = c; contents = i; dates = dates; standing = Kept })) → IfSome (stored dates i row) P
+stored_if P dates i row h = by (coord_in row)
   where
-    by : (o : Option Coord) → IfSome (option_map (λ c. record { coord = c; contents = i; standing = Kept }) o) P
+    by : (o : Option Coord) → IfSome (option_map (λ c. record { coord = c; contents = i; dates = dates; standing = Kept }) o) P
     by None = tt
     by (Some c) = h c
 
@@ -96,8 +97,8 @@ placed_tile row cell = go (tables.place_of row) (contents_of cell) refl refl
     go (Some p) None e f = simp (e, f)
     go (Some p) (Some c) e f = simp (e, f)
 
-pub tile_entry : (contents : List Content) (i : ℕ) (row : List Cell) (cell : Cell) → (content_at contents i).cell ≡ cell → option_and_then (entry (tile_value contents)) (stored i row) ≡ tile_of row cell
-tile_entry contents i row cell h = placed_entry (tile_value contents) i row (contents_of cell) (λ c. ap contents_of h) ∙ placed_tile row cell
+pub tile_entry : (contents : List Content) (dates : Option Dates) (i : ℕ) (row : List Cell) (cell : Cell) → (content_at contents i).cell ≡ cell → option_and_then (entry (tile_value contents)) (stored dates i row) ≡ tile_of row cell
+tile_entry contents dates i row cell h = placed_entry (tile_value contents) dates i row (contents_of cell) (λ c. ap contents_of h) ∙ placed_tile row cell
 
 none_placed : {V : Type 0} (row : List Cell) → None ≡ placed {V = V} None row
 none_placed {V = V} row = by (tables.place_of row)
@@ -139,7 +140,7 @@ index_is contents live order x view schema row h some =
     sym (id_present contents live order x (cell_at 3 row) some) ∙ (ap (λ b. b || list_any (λ c. cell_eq (cell_at 0 c) (cell_at 3 row)) (rows_kept contents)) (sym some) ∙ there)
 
 -- what a row by an id has
-pub by_id : {V : Type 0} (value : StoredTile → Option V) (f : Option (Place × V)) (contents : List Content) (order : List ℕ) (row : List Cell) → (is_null (cell_at 3 row) ≡ false → is_some (index_by contents order (cell_at 3 row)) ≡ true) → (is_null (cell_at 3 row) ≡ true → None ≡ f) → ((i : ℕ) → is_null (cell_at 3 row) ≡ false → index_by contents order (cell_at 3 row) ≡ Some i → option_and_then (entry value) (stored i row) ≡ f) → option_and_then (entry value) (stored_by_id contents order row) ≡ f
+pub by_id : {V : Type 0} (value : StoredTile → Option V) (f : Option (Place × V)) (contents : List Content) (order : List ℕ) (row : List Cell) → (is_null (cell_at 3 row) ≡ false → is_some (index_by contents order (cell_at 3 row)) ≡ true) → (is_null (cell_at 3 row) ≡ true → None ≡ f) → ((i : ℕ) → is_null (cell_at 3 row) ≡ false → index_by contents order (cell_at 3 row) ≡ Some i → option_and_then (entry value) (stored None i row) ≡ f) → option_and_then (entry value) (stored_by_id contents order row) ≡ f
 by_id {V = V} value f contents order row there null some = go (is_null (cell_at 3 row)) (index_by contents order (cell_at 3 row)) refl refl
   where
     go : (b : Bool) (o : Option ℕ) → is_null (cell_at 3 row) ≡ b → index_by contents order (cell_at 3 row) ≡ o → option_and_then (entry value) (cond b None (by_index row o)) ≡ f
@@ -147,7 +148,7 @@ by_id {V = V} value f contents order row there null some = go (is_null (cell_at 
     go false (Some i) e g = some i e g
     go false None e g = absurd (false≢true (ap is_some (sym g) ∙ there e))
 
-pub by_id_if : (P : StoredTile → Type 0) (contents : List Content) (order : List ℕ) (row : List Cell) → ((i : ℕ) → is_null (cell_at 3 row) ≡ false → index_by contents order (cell_at 3 row) ≡ Some i → IfSome (stored i row) P) → IfSome (stored_by_id contents order row) P
+pub by_id_if : (P : StoredTile → Type 0) (contents : List Content) (order : List ℕ) (row : List Cell) → ((i : ℕ) → is_null (cell_at 3 row) ≡ false → index_by contents order (cell_at 3 row) ≡ Some i → IfSome (stored None i row) P) → IfSome (stored_by_id contents order row) P
 by_id_if P contents order row some = go (is_null (cell_at 3 row)) (index_by contents order (cell_at 3 row)) refl refl
   where
     go : (b : Bool) (o : Option ℕ) → is_null (cell_at 3 row) ≡ b → index_by contents order (cell_at 3 row) ≡ o → IfSome (cond b None (by_index row o)) P
@@ -161,7 +162,7 @@ tile_by_id contents live order x view schema row h =
     by_id (tile_value contents) (tile_in (Normalized view schema) (rows_kept contents) row) contents order row
     (index_is contents live order x view schema row h)
     (λ e. ap (λ b. option_and_then (tile_of row) (cond b None (Some (content_of (rows_kept contents) (cell_at 3 row))))) (sym e))
-    (λ i some at. tile_entry contents i row (content_of (rows_kept contents) (cell_at 3 row)) (sym (cell_under contents live order x (cell_at 3 row) some i at)) ∙ ap (λ b. option_and_then (tile_of row) (cond b None (Some (content_of (rows_kept contents) (cell_at 3 row))))) (sym some))
+    (λ i some at. tile_entry contents None i row (content_of (rows_kept contents) (cell_at 3 row)) (sym (cell_under contents live order x (cell_at 3 row) some i at)) ∙ ap (λ b. option_and_then (tile_of row) (cond b None (Some (content_of (rows_kept contents) (cell_at 3 row))))) (sym some))
 
 id_value : (q id : Cell) → q ≡ id → is_null q ≡ false → cond (is_null id) None (Some id) ≡ Some q
 id_value q id h some = ap (λ c. cond (is_null c) None (Some c)) (sym h) ∙ ap (λ b. cond b None (Some q)) some
@@ -171,16 +172,16 @@ id_by_id contents live order x view schema row h =
     by_id (tile_id contents) (placed (id_in (Normalized view schema) row) row) contents order row
     (index_is contents live order x view schema row h)
     (λ e. none_placed row ∙ ap (λ d. placed d row) (ap (λ b. cond b None (Some (cell_at 3 row))) (sym e)))
-    (λ i some at. placed_entry (tile_id contents) i row (Some (cell_at 3 row)) (λ c. id_value (cell_at 3 row) (id_at contents i) ((cell_eq-Decides (cell_at 3 row) (id_at contents i)).0 (id_under contents order (cell_at 3 row) i at)) some) ∙ ap (λ d. placed d row) (ap (λ b. cond b None (Some (cell_at 3 row))) (sym some)))
+    (λ i some at. placed_entry (tile_id contents) None i row (Some (cell_at 3 row)) (λ c. id_value (cell_at 3 row) (id_at contents i) ((cell_eq-Decides (cell_at 3 row) (id_at contents i)).0 (id_under contents order (cell_at 3 row) i at)) some) ∙ ap (λ d. placed d row) (ap (λ b. cond b None (Some (cell_at 3 row))) (sym some)))
 
-pub dates_by_id : (contents : List Content) (live : ℕ) (order : List ℕ) → AreIndexed contents live order → (view : Bool) (schema : NormalizedSchema) (row : List Cell) → missing_reference (Normalized view schema) (rows_kept contents) row ≡ None → option_and_then (entry (tile_dates [])) (stored_by_id contents order row) ≡ placed (dates_in (Normalized view schema) row) row
+pub dates_by_id : (contents : List Content) (live : ℕ) (order : List ℕ) → AreIndexed contents live order → (view : Bool) (schema : NormalizedSchema) (row : List Cell) → missing_reference (Normalized view schema) (rows_kept contents) row ≡ None → option_and_then (entry tile_dates) (stored_by_id contents order row) ≡ placed (dates_in (Normalized view schema) row) row
 dates_by_id contents live order x view schema row h =
-    by_id (tile_dates []) (placed (dates_in (Normalized view schema) row) row) contents order row
+    by_id tile_dates (placed (dates_in (Normalized view schema) row) row) contents order row
     (index_is contents live order x view schema row h)
     (λ e. none_placed row)
-    (λ i some at. placed_entry (tile_dates []) i row None (λ c. refl))
+    (λ i some at. placed_entry tile_dates None i row None (λ c. refl))
 
 pub whole_by_id : (contents : List Content) (live : ℕ) (order : List ℕ) → AreIndexed contents live order → (view : Bool) (schema : NormalizedSchema) (row : List Cell) → bad_tile (Normalized view schema) (rows_kept contents) row ≡ None → IfSome (stored_by_id contents order row) (λ t. is_some (tile_value contents t) ≡ true)
 whole_by_id contents live order x view schema row h = by_id_if (λ t. is_some (tile_value contents t) ≡ true) contents order row (λ i some at.
     let passes : unless (is_some (tile_of row (content_of (rows_kept contents) (cell_at 3 row)))) (tables_error row) ≡ None = ap (λ b. option_and_then (λ c. unless (is_some (tile_of row c)) (tables_error row)) (cond b None (Some (content_of (rows_kept contents) (cell_at 3 row))))) (sym some) ∙ h in
-    stored_if (λ t. is_some (tile_value contents t) ≡ true) i row (λ c. ap (λ k. is_some (contents_of k)) (sym (cell_under contents live order x (cell_at 3 row) some i at)) ∙ whole_row row (content_of (rows_kept contents) (cell_at 3 row)) (tables_error row) passes))
+    stored_if (λ t. is_some (tile_value contents t) ≡ true) None i row (λ c. ap (λ k. is_some (contents_of k)) (sym (cell_under contents live order x (cell_at 3 row) some i at)) ∙ whole_row row (content_of (rows_kept contents) (cell_at 3 row)) (tables_error row) passes))

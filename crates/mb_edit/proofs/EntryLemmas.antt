@@ -1,19 +1,25 @@
 -- The entries of a patch as its readers give them.
-use Rattle.std.proofs.Common.{◌≡◌, ◌∙◌, ap, sym, ℕ, ◌<◌, ◌≤◌, List, [], ◌∷◌, Option, Some, None, Bool, true, false, not, length, suc, zero, refl, arith}
+use Rattle.std.proofs.Common.{◌≡◌, ◌∙◌, ap, sym, ℕ, ◌<◌, ◌≤◌, List, [], ◌∷◌, Option, Some, None, Bool, true, false, not, length, map, suc, zero, refl, arith}
 use Rattle.std.specs.Prelude.{IfSome, option_and_then, slice_get}
 use Rattle.std.specs.Str.{bytes_eq}
 use Rattle.std.proofs.lemmas.Bool.{false≢true}
-use Rattle.std.proofs.lemmas.Option.{slice_get_past}
+use Rattle.std.proofs.lemmas.Option.{same_Some, slice_get_past}
 use Rattle.std.proofs.lemmas.Slice.Eq.{bytes_eq-Decides}
 use Rattle.mb_edit.specs.Collision.{is_other}
 use Rattle.mb_edit.specs.Marks.{Entries, bytes_of}
 use Rattle.mb_lists.specs.Entries.{blob_cell, text_cell}
+use Rattle.mb_load.specs.GivenIds.{cell_id}
 use Rattle.mb_tables.specs.CellKinds.{is_text}
 use Rattle.mb_tables.proofs.CellLemmas.{cell_eq-Decides}
 use Rattle.mb_tables.specs.Cell.{cell_eq}
 use Rattle.mb_tables.specs.Tiles.{Place}
 use Rattle.mb_tables.specs.declared.cell.Cell.{Cell}
-use Rattle.mb_tables.specs.declared.cell.Cell.TheVariants.{Blob}
+use Rattle.mb_tables.specs.Kind.{is_normalized}
+use Rattle.mb_tables.specs.declared.cell.Cell.TheVariants.{Blob, Text}
+use Rattle.mb_tables.specs.declared.kind.MbtType.{MbtType}
+use Rattle.mb_tables.specs.declared.kind.MbtType.TheVariants.{Flat, FlatWithHash, Normalized, Cache}
+use Rattle.tile_hash.specs.Digest.{digest}
+use Rattle.tile_hash.specs.declared.algorithm.HashAlgorithm.{HashAlgorithm}
 
 abbrev bytes_in : Cell → List ℕ
 bytes_in (Blob bytes) = bytes
@@ -54,3 +60,19 @@ pub value_is_text : (es : List (List ℕ × Option (List ℕ))) (i : ℕ) (name 
 value_is_text [] i name c cell lt h is = absurd (omega arith)
 value_is_text (e ∷ es) zero name c cell lt h is = ap is_text (is ∙ sym h.1) ∙ is_text_or_null e.1
 value_is_text (e ∷ es) (suc i) name c cell lt h is = value_is_text es i name c cell (omega arith) h is
+
+-- the id of bytes in a normalised set is their digest
+digest_of : (l : MbtType) (a : HashAlgorithm) (bytes : List ℕ) → is_normalized l ≡ true → cell_id l a (Blob bytes) ≡ Text (digest a bytes)
+digest_of (Normalized view schema) a bytes n = refl
+digest_of Flat a bytes n = absurd (false≢true n)
+digest_of FlatWithHash a bytes n = absurd (false≢true n)
+digest_of Cache a bytes n = absurd (false≢true n)
+
+pub id_read : (l : MbtType) (a : HashAlgorithm) (es : Entries) (i : ℕ) (id : Cell) → is_normalized l ≡ true → slice_get (map (λ e. cell_id l a (blob_cell e.1)) es) i ≡ Some id → IfSome (bytes_of es i) (λ bytes. id ≡ Text (digest a bytes))
+id_read l a [] i id n h = tt
+id_read l a (e ∷ es) zero id n h = by e.1 h
+  where
+    by : (o : Option (List ℕ)) → Some (cell_id l a (blob_cell o)) ≡ Some id → IfSome o (λ bytes. id ≡ Text (digest a bytes))
+    by None h = tt
+    by (Some bytes) h = sym (same_Some (cell_id l a (Blob bytes)) id h) ∙ digest_of l a bytes n
+id_read l a (e ∷ es) (suc i) id n h = id_read l a es i id n h

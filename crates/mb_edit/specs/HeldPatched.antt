@@ -1,24 +1,11 @@
 -- A loaded set after one patch, by its edits.
-use Rattle.std.specs.Prelude.{ℕ, List, [], ◌∷◌, Option, Some, None}
+use Rattle.std.specs.Prelude.{ℕ, List, Option, Some, None}
 use Rattle.std.specs.FinMap.{entries}
 use Rattle.mb_edit.specs.Patched.{landed}
-use Rattle.mb_load.specs.Edits.{only_referenced, removed_name, removed_tile, with_name, with_tile}
+use Rattle.mb_load.specs.Edits.{only_referenced, removed_name, with_name}
+pub use Rattle.mb_load.specs.FromLast.{from_last, tile_patched, tiles_put}
 use Rattle.mb_load.specs.Held.{Held}
 use Rattle.mb_load.specs.State.{State}
-use Rattle.mb_tables.specs.Tiles.{Place}
-
--- an edit for each of a list, from the last to the first
-abbrev pub from_last : {A : Type 0} → (Held → A → Held) → Held → List A → Held
-from_last edit h [] = h
-from_last edit h (e ∷ es) = edit (from_last edit h es) e
-
--- a tile of a patch: bytes are put, and null clears the place
-abbrev pub tile_patched : Held → Place × Option (List ℕ) → Held
-tile_patched h e = by e.1
-  where
-    by : Option (List ℕ) → Held
-    by (Some bytes) = with_tile h e.0 bytes
-    by None = removed_tile h e.0
 
 -- a name of a patch: its value is put under its target
 abbrev pub name_patched : Held → List ℕ × Option (List ℕ) → Held
@@ -37,7 +24,7 @@ null_cleared h e = by e.1
     by None = removed_name h e.0
 
 abbrev pub tiles_patched : Held → State → Held
-tiles_patched h patch = from_last tile_patched h (entries patch.tiles)
+tiles_patched h patch = tiles_put h patch.tiles
 
 abbrev pub names_patched : Held → State → Held
 names_patched h patch = from_last name_patched h (entries patch.metadata)

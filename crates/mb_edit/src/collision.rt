@@ -1,5 +1,5 @@
 // The test that contents which a patch puts into a normalised set have ids of their own.
-ghost use Rattle.std.specs.Prelude.{◌≡◌, ◌∷◌, IfSome, OnOk, List, ℕ, Some, cond, not, option_copied};
+ghost use Rattle.std.specs.Prelude.{◌≡◌, ◌∷◌, IfOk, IfSome, OnOk, List, ℕ, Some, cond, not, option_copied, true};
 ghost use Rattle.std.specs.BTreeMap.{get as marked};
 ghost use Rattle.std.specs.Ordering.{is_eq};
 ghost use Rattle.std.specs.FinMap.{entries, get};
@@ -8,13 +8,15 @@ ghost use Rattle.std.specs.Str.{bytes_eq};
 ghost use Rattle.mb_edit.specs.Collision.{collides, collision, is_other};
 ghost use Rattle.mb_edit.specs.Marks.{AreMarked, bytes_of};
 ghost use Rattle.mb_edit.specs.PatchingOrder.{bytes_put, id_collides};
+ghost use Rattle.mb_load.specs.GivenIds.{ids_given};
+ghost use Rattle.mb_tables.specs.Kind.{is_normalized};
 ghost use Rattle.mb_tables.specs.Refusals.{Tests};
 ghost use Rattle.mb_tables.specs.Cell.{cell_cmp};
 ghost use Rattle.mb_tables.specs.declared.cell.Cell.{Cell};
 ghost use Rattle.tile_hash.specs.Digest.{digest};
 
 use base_values::{BlobVal, OutOfMemory};
-use mb_load::Loaded;
+use mb_load::{GivenIds, Loaded};
 use mb_store::{Cell, MbtError, MbtResult};
 use std::alloc::Global;
 use std::collections::BTreeMap;
@@ -85,21 +87,23 @@ fn put_mark(by_id: &mut BTreeMap<Cell, Mark>, id: Cell, mark: Mark) -> Result<()
     Ok(())
 }
 
-// Meets one more tile, in front of those that were met.
+// Meets one more tile, in front of those that were met, by the id of its bytes.
 fn meet(
     alloc: Global,
     base: &Loaded,
     patch: &Loaded,
     index: usize,
+    id: &Cell,
     marks: &mut Marks,
 ) -> Result<(), OutOfMemory>
+    requires { IfSome (bytes_of (entries patch.now.state.tiles) index) (λ bytes. id.now ≡ Cell.Text (digest base.now.state.algorithm bytes)) }
     ensures { OnOk result ((put : List (List ℕ)) → AreMarked (digest base.now.state.algorithm) base.now.state.contents (entries patch.now.state.tiles) put marks.old → AreMarked (digest base.now.state.algorithm) base.now.state.contents (entries patch.now.state.tiles) (cons_option (bytes_of (entries patch.now.state.tiles) index) put) marks.new) }
 {
     let Some(bytes) = bytes_at(patch, index) else {
         return Ok(());
     };
-    let id = Cell::Text(base.algorithm().hash(alloc, bytes.as_bytes())?);
-    let collides = collides_with(base, patch, marks, &id, bytes);
+    let collides = collides_with(base, patch, marks, id, bytes);
+    let id = id.try_clone(alloc)?;
     put_mark(&mut marks.by_id, id, Mark { index, collides })?;
     if collides {
         marks.first = index;
@@ -107,8 +111,10 @@ fn meet(
     Ok(())
 }
 
-// The test that no contents which a patch puts have the id of others.
-fn test_contents(alloc: Global, base: &Loaded, patch: &Loaded) -> MbtResult<()>
+// The test that no contents which a patch puts have the id of others, by the ids of its tiles.
+fn test_contents(alloc: Global, base: &Loaded, patch: &Loaded, ids: &GivenIds) -> MbtResult<()>
+    requires normalised { is_normalized base.now.state.layout ≡ true }
+    requires ids { ids.now ≡ ids_given base.now.state.layout base.now.state.algorithm patch.now.state.tiles }
     ensures { Tests (collision (digest base.now.state.algorithm) base.now.state.contents (bytes_put patch.now.state.tiles)) result }
 {
     let mut left = patch.tile_count();
@@ -118,7 +124,7 @@ fn test_contents(alloc: Global, base: &Loaded, patch: &Loaded) -> MbtResult<()>
     };
     while left > 0 {
         left -= 1;
-        meet(alloc, base, patch, left, &mut marks)?;
+        meet(alloc, base, patch, left, ids.at(left), &mut marks)?;
     }
     let Some(bytes) = bytes_at(patch, marks.first) else {
         return Ok(());
@@ -127,12 +133,23 @@ fn test_contents(alloc: Global, base: &Loaded, patch: &Loaded) -> MbtResult<()>
     Err(MbtError::IdCollision { id })
 }
 
-/// The test of the ids of contents that a patch puts, where the set has ids.
-pub(crate) fn test_ids(alloc: Global, base: &Loaded, patch: &Loaded) -> MbtResult<()>
+// The test of the ids that a set gives a patch's tiles, where the set has ids.
+fn test_given(alloc: Global, base: &Loaded, patch: &Loaded, ids: &GivenIds) -> MbtResult<()>
+    requires { ids.now ≡ ids_given base.now.state.layout base.now.state.algorithm patch.now.state.tiles }
     ensures { Tests (id_collides base.now.state.layout base.now.state.algorithm base.now.state.contents (bytes_put patch.now.state.tiles)) result }
 {
     if base.mbt_type().is_normalized() {
-        return test_contents(alloc, base, patch);
+        return test_contents(alloc, base, patch, ids);
     }
     Ok(())
+}
+
+/// The test of the ids of contents that a patch puts, where the set has ids, and the ids that the set gives the patch's tiles. Each of the patch's contents is digested once.
+pub(crate) fn test_ids(alloc: Global, base: &Loaded, patch: &Loaded) -> MbtResult<GivenIds>
+    ensures tests { Tests (id_collides base.now.state.layout base.now.state.algorithm base.now.state.contents (bytes_put patch.now.state.tiles)) result }
+    ensures ids { IfOk result (λ ids. ids ≡ ids_given base.now.state.layout base.now.state.algorithm patch.now.state.tiles) }
+{
+    let ids = patch.ids_for(alloc, base.mbt_type(), base.algorithm())?;
+    test_given(alloc, base, patch, &ids)?;
+    Ok(ids)
 }

@@ -2,63 +2,23 @@
 ghost use Rattle.std.specs.Prelude.{◌≡◌, ◌≢◌, ◌<◌, IfErr, IfOk, IfSome, None, Ok, Err, OnOk, false, slice_get};
 ghost use Rattle.std.specs.FinMap.{entries, len};
 ghost use Rattle.std.specs.Option.{option_copied};
-ghost use Rattle.mb_edit.specs.HeldPatched.{held_patched, name_patched, names_patched, null_cleared, nulls_cleared, tile_patched, tiles_patched};
+ghost use Rattle.mb_edit.specs.HeldPatched.{held_patched, name_patched, names_patched, null_cleared, nulls_cleared};
 ghost use Rattle.mb_edit.specs.Patched.{target_of};
 ghost use Rattle.mb_edit.specs.PatchingOrder.{may_patch};
 ghost use Rattle.mb_edit.specs.Step.{step};
-ghost use Rattle.mb_lists.specs.Entries.{place_at};
+ghost use Rattle.mb_load.specs.GivenIds.{ids_given};
 ghost use Rattle.mb_load.specs.LoadedFrom.{AllOnBoard, IsLoadedFrom, NamesAlgorithm};
 ghost use Rattle.mb_tables.specs.Refusals.{is_free};
 ghost use Rattle.mb_tables.specs.Table.{Tables};
 
-use crate::collision::bytes_at;
 use crate::patching_order::test_patching;
 use base_values::{OutOfMemory, TextVal};
-use mb_load::{Editing, Loaded};
+use mb_load::{Editing, GivenIds, Loaded};
 use mb_store::{
     AGG_TILES_HASH, AGG_TILES_HASH_AFTER_APPLY, AGG_TILES_HASH_BEFORE_APPLY, Cell, MbtError,
     MbtResult,
 };
 use std::alloc::Global;
-use tile_ids::TileCoord;
-
-// The coordinate of the tile of a patch at an index.
-fn coord_at(patch: &Loaded, index: usize) -> TileCoord
-    requires { index < len patch.now.state.tiles }
-    ensures { IfSome (slice_get (entries patch.now.state.tiles) index) (λ e. e.0 ≡ place_at result) }
-{
-    let (coord, _) = patch.tile_at(index);
-    coord
-}
-
-// Edits a set by the tile of a patch at an index.
-fn patch_tile(
-    alloc: Global,
-    set: &mut Editing,
-    patch: &Loaded,
-    index: usize,
-) -> Result<(), OutOfMemory>
-    requires { index < len patch.now.state.tiles }
-    ensures { OnOk result (IfSome (slice_get (entries patch.now.state.tiles) index) (λ e. set.new ≡ tile_patched set.old e)) }
-{
-    let coord = coord_at(patch, index);
-    match bytes_at(patch, index) {
-        Some(bytes) => set.set_tile(coord, bytes.try_clone(alloc)?),
-        None => set.clear_tile(coord),
-    }
-}
-
-// Edits a set by the tiles of a patch, from the last to the first.
-fn patch_tiles(alloc: Global, set: &mut Editing, patch: &Loaded) -> Result<(), OutOfMemory>
-    ensures { OnOk result (set.new ≡ tiles_patched set.old patch.now.state) }
-{
-    let mut left = patch.tile_count();
-    while left > 0 {
-        left -= 1;
-        patch_tile(alloc, set, patch, left)?;
-    }
-    Ok(())
-}
 
 // The name on which a name of a patch lands.
 fn target_of(name: &str) -> Option<&str>
@@ -126,12 +86,17 @@ fn clear_nulls(set: &mut Editing, patch: &Loaded) -> Result<(), OutOfMemory>
     Ok(())
 }
 
-// What a patch makes of a set that it may patch.
-fn patch_all(alloc: Global, base: Loaded, patch: &Loaded) -> Result<Loaded, OutOfMemory>
+// What a patch makes of a set that it may patch, with the ids that the set gives the patch's tiles.
+fn patch_all(
+    alloc: Global,
+    base: Loaded,
+    patch: &Loaded,
+    ids: &GivenIds,
+) -> Result<Loaded, OutOfMemory>
+    requires { ids.now ≡ ids_given base.state.layout base.state.algorithm patch.now.state.tiles }
     ensures { IfOk result (λ h. h ≡ held_patched base patch.now.state) }
 {
-    let mut set = base.edit();
-    patch_tiles(alloc, &mut set, patch)?;
+    let mut set = base.edit().put_tiles(patch, ids)?;
     patch_names(alloc, &mut set, patch)?;
     clear_nulls(&mut set, patch)?;
     let mut patched = set.settle()?;
@@ -162,7 +127,7 @@ pub fn patch_loaded(alloc: Global, base: Loaded, patch: &Loaded, force: bool) ->
     ensures loaded { (t : Tables) → IsLoadedFrom t base → AllOnBoard patch.now.state → IfOk result (IsLoadedFrom t) }
     ensures named { NamesAlgorithm base.state → NamesAlgorithm patch.now.state → IfOk result (λ h. NamesAlgorithm h.state) }
 {
-    test_patching(alloc, &base, patch, force)?;
-    let patched = patch_all(alloc, base, patch)?;
+    let ids = test_patching(alloc, &base, patch, force)?;
+    let patched = patch_all(alloc, base, patch, &ids)?;
     Ok(patched)
 }

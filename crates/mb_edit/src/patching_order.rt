@@ -1,14 +1,15 @@
 // The tests that a patch of a loaded set must pass, in their order.
-ghost use Rattle.std.specs.Prelude.{◌≡◌, is_some, not};
+ghost use Rattle.std.specs.Prelude.{◌≡◌, IfOk, is_some, not};
 ghost use Rattle.mb_edit.specs.PatchingOrder.{can_be_patched, may_patch, wrong_algorithm, wrong_base};
 ghost use Rattle.mb_lists.specs.Metadata.{after_hash, agg_hash, before_hash};
 ghost use Rattle.mb_lists.specs.Metadata.{text_at};
 ghost use Rattle.mb_constraints.specs.DiffHashes.{base_refused, patch_refused, unless_forced};
+ghost use Rattle.mb_load.specs.GivenIds.{ids_given};
 ghost use Rattle.mb_tables.specs.Refusals.{Tests, unless};
 
 use crate::collision::test_ids;
 use base_values::TextVal;
-use mb_load::{Loaded, test_base_hashes, test_patch_hashes};
+use mb_load::{GivenIds, Loaded, test_base_hashes, test_patch_hashes};
 use mb_store::{
     AGG_TILES_HASH, AGG_TILES_HASH_AFTER_APPLY, AGG_TILES_HASH_BEFORE_APPLY, MbtError, MbtResult,
     MbtType, NormalizedSchema,
@@ -111,14 +112,15 @@ fn test_algorithm(alloc: Global, base: HashAlgorithm, patch: HashAlgorithm) -> M
     })
 }
 
-/// The first refusal of a patch of a set.
+/// The first refusal of a patch of a set, or the ids that the set gives the patch's tiles.
 pub(crate) fn test_patching(
     alloc: Global,
     base: &Loaded,
     patch: &Loaded,
     force: bool,
-) -> MbtResult<()>
-    ensures { Tests (may_patch force base.now.state patch.now.state) result }
+) -> MbtResult<GivenIds>
+    ensures tests { Tests (may_patch force base.now.state patch.now.state) result }
+    ensures ids { IfOk result (λ ids. ids ≡ ids_given base.now.state.layout base.now.state.algorithm patch.now.state.tiles) }
 {
     test_kind(patch)?;
     test_patch(patch, force)?;

@@ -19,3 +19,4 @@ pub mod Placed
 pub mod StandsLemmas
 pub mod FrontLemmas
 pub mod Dropped
+pub mod DatingLemmas

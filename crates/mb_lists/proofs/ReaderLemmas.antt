@@ -9,7 +9,7 @@ use Rattle.std.specs.FinMap.{entries, get, len}
 use Rattle.std.proofs.lemmas.Bool.{cases_lt, false≢true}
 use Rattle.std.proofs.lemmas.List.Elements.{All-get_or}
 use Rattle.std.proofs.lemmas.Option.{get_or_from_slice_get, none-some, slice_get-get_or, slice_get_past, slice_get_within}
-use Rattle.mb_lists.specs.Entries.{AreContentsInOrder, AreInOrder, AreNamesInOrder, IsName, IsTile, blob_cell, content_at, content_value, contents_held, id_at, is_content_gone, is_gone, is_name_gone, is_removed, name_of, name_value, names_held, nothing, place_at, place_of, text_cell, tile_id, tile_value, tiles_held, unless_removed}
+use Rattle.mb_lists.specs.Entries.{AreContentsInOrder, AreInOrder, AreNamesInOrder, IsName, IsTile, blob_cell, content_at, content_value, contents_held, id_at, is_content_gone, is_gone, is_name_gone, is_removed, name_of, name_value, names_held, nothing, place_at, place_of, text_cell, tile_dates, tile_id, tile_value, tiles_held, unless_removed}
 use Rattle.mb_lists.specs.Keyed.{at_key, live_at}
 use Rattle.mb_tables.specs.CellKinds.{is_text}
 use Rattle.mb_lists.specs.Metadata.{text_of}
@@ -88,6 +88,9 @@ tiles_away contents t h = removed_none t.standing _ h
 ids_away : (contents : List Content) (t : StoredTile) → is_gone t ≡ true → tile_id contents t ≡ None
 ids_away contents t h = removed_none t.standing _ h
 
+dates_away : (t : StoredTile) → is_gone t ≡ true → tile_dates t ≡ None
+dates_away t h = removed_none t.standing t.dates h
+
 module _ (contents : List Content) (live : ℕ) (tiles : List StoredTile) (order : AreInOrder live tiles) where
   pub tile_some : (q : Place) (t : StoredTile) → All (IsTile contents) tiles → live_at place_cmp place_of is_gone q tiles ≡ Some t → option_map (λ (c : Content). c.cell) (slice_get contents t.contents) ≡ option_map blob_cell (get (tiles_held (tile_value contents) tiles) q)
   tile_some q t all h =
@@ -104,6 +107,14 @@ module _ (contents : List Content) (live : ℕ) (tiles : List StoredTile) (order
 
   pub id_none : (q : Place) → live_at place_cmp place_of is_gone q tiles ≡ None → None ≡ get (tiles_held (tile_id contents) tiles) q
   id_none q h = sym (found_at places_total places_antisymmetric place_of is_gone (tile_id contents) (ids_away contents) live tiles q order ∙ ap (option_and_then (tile_id contents)) h)
+
+  pub dates_found : (q : Place) (t : StoredTile) → live_at place_cmp place_of is_gone q tiles ≡ Some t → t.dates ≡ get (tiles_held tile_dates tiles) q
+  dates_found q t h =
+      let p = live_has place_cmp place_of is_gone (λ t. Unit {0}) q tiles t (λ i d lt. tt) h in
+      sym (found_at places_total places_antisymmetric place_of is_gone tile_dates dates_away live tiles q order ∙ (ap (option_and_then tile_dates) h ∙ standing_same t.standing t.dates p.1))
+
+  pub dates_missing : (q : Place) → live_at place_cmp place_of is_gone q tiles ≡ None → None ≡ get (tiles_held tile_dates tiles) q
+  dates_missing q h = sym (found_at places_total places_antisymmetric place_of is_gone tile_dates dates_away live tiles q order ∙ ap (option_and_then tile_dates) h)
 
 -- contents by id
 contents_away : (contents : List Content) (i : ℕ) → is_content_gone contents i ≡ true → content_value contents i ≡ None

@@ -21,7 +21,7 @@ Clears R key (Some x) mark old new = StandsAs R key (newest R key (old ++ mark �
 
 -- the mark of a tile, and of a name
 abbrev pub tile_mark : Coord → StoredTile
-tile_mark coord = record { coord = coord; contents = 0; standing = Removed }
+tile_mark coord = record { coord = coord; contents = 0; dates = None; standing = Removed }
 
 abbrev pub name_mark : List ℕ → StoredName
 name_mark name = record { name = name; value = Null; standing = Removed }

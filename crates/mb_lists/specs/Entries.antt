@@ -1,5 +1,5 @@
 -- What entries of lists mean.
-use Rattle.std.specs.Prelude.{ℕ, ◌≡◌, Bool, true, false, cond, List, Option, Some, None, option_and_then, slice_get, is_some, unwrap_or, length}
+use Rattle.std.specs.Prelude.{ℕ, ◌≡◌, Bool, true, false, cond, List, Option, Some, None, option_and_then, slice_get, is_some, unwrap_or}
 use Rattle.std.specs.Ordering.{nat_cmp}
 use Rattle.std.specs.Cmp.Lexicographic.{slice_cmp}
 use Rattle.std.specs.FinMap.{FinMap, from_entries}
@@ -74,8 +74,8 @@ tile_value contents t = unless_removed t.standing (contents_of (content_at conte
 abbrev pub tile_id : List Content → StoredTile → Option Cell
 tile_id contents t = unless_removed t.standing (cond (is_null (id_at contents t.contents)) None (Some (id_at contents t.contents)))
 
-abbrev pub tile_dates : List Dates → StoredTile → Option Dates
-tile_dates dates t = unless_removed t.standing (slice_get dates t.contents)
+abbrev pub tile_dates : StoredTile → Option Dates
+tile_dates t = unless_removed t.standing t.dates
 
 -- keys and values of names
 abbrev pub name_of : StoredName → List ℕ
@@ -91,7 +91,7 @@ content_value contents i = option_and_then (λ c. unless_removed c.standing (Som
 abbrev pub is_content_gone : List Content → ℕ → Bool
 is_content_gone contents i = is_removed (content_at contents i).standing
 
--- what the entries mean: tiles with the indexes of their contents, contents, the order of those that have an id, the times of a cache, and names
+-- what the entries mean: tiles with the indexes of their contents, contents, the order of those that have an id, and names
 abbrev pub names_held : List StoredName → Names
 names_held names = from_entries (entries_by name_of name_value names)
 
@@ -125,13 +125,13 @@ newest_names names = newest (slice_cmp nat_cmp) name_of names
 abbrev pub HasId : List Content → ℕ → Type 0
 HasId contents i = is_null (id_at contents i) ≡ false
 
--- in a cache there are times for each of the contents, and in the other layouts none
-abbrev pub dated_count : MbtType → ℕ → ℕ
-dated_count Cache n = n
-dated_count _ n = 0
+-- a tile that isn't removed has times in a cache, and in no other layout
+abbrev pub is_cache : MbtType → Bool
+is_cache Cache = true
+is_cache _ = false
 
-abbrev pub AreDated : MbtType → List Content → List Dates → Type 0
-AreDated layout contents dates = length dates ≡ dated_count layout (length contents)
+abbrev pub IsDated : MbtType → StoredTile → Type 0
+IsDated layout t = is_gone t ≡ false → is_some t.dates ≡ is_cache layout
 
 -- a tile that isn't removed has bytes or null, and a name a text or null
 abbrev pub IsTile : List Content → StoredTile → Type 0

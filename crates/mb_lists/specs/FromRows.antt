@@ -58,25 +58,28 @@ number_in _ = None
 abbrev pub coord_in : List Cell → Option Coord
 coord_in row = tile_index (number_in (cell_at 0 row)) (number_in (cell_at 1 row)) (number_in (cell_at 2 row))
 
--- what is kept of a row of a tile with the contents at an index
-abbrev pub stored : ℕ → List Cell → Option StoredTile
-stored i row = option_map (λ c. record { coord = c; contents = i; standing = Kept }) (coord_in row)
+-- what is kept of a row of a tile with these times and the contents at an index
+abbrev pub stored : Option Dates → ℕ → List Cell → Option StoredTile
+stored dates i row = option_map (λ c. record { coord = c; contents = i; dates = dates; standing = Kept }) (coord_in row)
 
--- the contents of a row that has its own, and the times of one of a cache
+-- the contents of a row that has its own, no times, and the times of a row of a cache
 abbrev pub own_content : ℕ → List Cell → Content
 own_content n row = record { id = Null; cell = cell_at n row; standing = Kept }
 
-abbrev pub dates_from : List Cell → Dates
-dates_from row = record { fetched = cell_at 3 row; expires = cell_at 4 row; etag = cell_at 5 row }
+abbrev pub undated : List Cell → Option Dates
+undated row = None
 
--- the tiles of rows that have their own contents, those of the first at an index
-abbrev pub own_tiles : ℕ → List (List Cell) → List StoredTile
-own_tiles k [] = []
-own_tiles k (row ∷ rows) = cons_option (stored k row) (own_tiles (suc k) rows)
+abbrev pub dates_from : List Cell → Option Dates
+dates_from row = Some (record { fetched = cell_at 3 row; expires = cell_at 4 row; etag = cell_at 5 row })
+
+-- the tiles of rows that have their own contents, those of the first at an index, each with the times of its row
+abbrev pub own_tiles : (List Cell → Option Dates) → ℕ → List (List Cell) → List StoredTile
+own_tiles dates k [] = []
+own_tiles dates k (row ∷ rows) = cons_option (stored (dates row) k row) (own_tiles dates (suc k) rows)
 
 -- what is kept of a row of a tile whose contents have an id
 abbrev pub by_index : List Cell → Option ℕ → Option StoredTile
-by_index row (Some i) = stored i row
+by_index row (Some i) = stored None i row
 by_index row None = None
 
 abbrev pub stored_by_id : List Content → List ℕ → List Cell → Option StoredTile

@@ -4,4 +4,6 @@ pub mod Keyed
 pub mod Entries
 pub mod FromRows
 pub mod Clearing
+pub mod CellCode
+pub mod Dating
 pub mod Dropping

@@ -3,7 +3,7 @@ ghost use Rattle.std.specs.Prelude.{◌≡◌, ◌<◌, ◌≤◌, ◌+◌, ◌+
 ghost use Rattle.std.specs.Cmp.Lexicographic.{slice_cmp};
 ghost use Rattle.std.specs.List.{insert, remove};
 ghost use Rattle.std.specs.Ordering.{nat_cmp};
-ghost use Rattle.mb_lists.specs.Clearing.{name_mark, unmarked};
+ghost use Rattle.mb_lists.specs.Clearing.{name_mark, tile_mark, unmarked};
 ghost use Rattle.mb_lists.specs.Entries.{id_at, name_of, place_at, place_of};
 ghost use Rattle.mb_lists.specs.Keyed.{at_key};
 ghost use Rattle.mb_lists.specs.declared.entries.StoredName.{StoredName};
@@ -36,13 +36,13 @@ pub(crate) fn put_at<T: Drop>(
     }
 }
 
-/// Takes a tile out, and puts its mark behind the others.
-pub(crate) fn mark_tile(items: &mut Vec<StoredTile>, at: usize, mark: StoredTile)
+/// Takes the tile at a coordinate out, and puts its mark behind the others.
+pub(crate) fn mark_tile(items: &mut Vec<StoredTile>, at: usize, coord: TileCoord)
     requires { at < length items.old.items }
-    ensures { items.new.items ≡ remove items.old.items at ++ mark ∷ [] }
+    ensures { items.new.items ≡ remove items.old.items at ++ tile_mark coord ∷ [] }
 {
     items.remove(at);
-    if items.push(mark).is_err() {
+    if items.push(StoredTile::mark(coord)).is_err() {
         prove!(false);
     }
 }

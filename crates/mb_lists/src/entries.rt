@@ -2,11 +2,13 @@
 ghost use Rattle.std.specs.Prelude.{◌≡◌};
 ghost use Rattle.std.specs.Cmp.Lexicographic.{slice_cmp};
 ghost use Rattle.std.specs.Ordering.{nat_cmp};
+ghost use Rattle.mb_lists.specs.Clearing.{tile_mark};
 ghost use Rattle.mb_lists.specs.Entries.{id_at, is_content_gone, is_gone, is_name_gone, is_removed, name_of, place_at, place_of};
 ghost use Rattle.mb_lists.specs.Keyed.{behind};
 ghost use Rattle.mb_tables.specs.Cell.{cell_cmp};
 ghost use Rattle.mb_tables.specs.Tiles.{place_cmp};
 
+use crate::tile_dates::TileDates;
 use base_values::TextVal;
 use mb_tables::Cell;
 use std::cmp::Ordering;
@@ -23,11 +25,12 @@ pub enum Standing {
     Removed,
 }
 
-/// A tile: its coordinate, and the index of its contents.
+/// A tile: its coordinate, the index of its contents, and in a cache its times.
 #[derive(Debug, Drop)]
 pub struct StoredTile {
     pub coord: TileCoord,
     pub contents: usize,
+    pub dates: TileDates,
     pub standing: Standing,
 }
 
@@ -109,6 +112,18 @@ impl Standing {
 }
 
 impl StoredTile {
+    /// The mark of a removed tile.
+    pub fn mark(coord: TileCoord) -> StoredTile
+        ensures { result ≡ tile_mark coord }
+    {
+        StoredTile {
+            coord,
+            contents: 0,
+            dates: TileDates::none(),
+            standing: Standing::Removed,
+        }
+    }
+
     /// Whether it is only a mark.
     pub(crate) fn is_mark(&self) -> bool
         ensures { result ≡ is_gone self.now }

@@ -11,7 +11,7 @@ ghost use Rattle.mb_tables.specs.Tiles.{place_cmp};
 
 use crate::clearing::{id_position, mark_name, mark_tile, name_position, put_at, tile_position};
 use crate::content_list::ContentList;
-use crate::entries::{Standing, StoredName, StoredTile};
+use crate::entries::{StoredName, StoredTile};
 use crate::name_list::NameList;
 use crate::tile_list::TileList;
 use tile_ids::TileCoord;
@@ -42,12 +42,7 @@ impl TileList {
         ensures cleared { Clears place_cmp place_of (live_at place_cmp place_of is_gone (place_at coord) self.old.items.items) (tile_mark coord) self.old.items.items self.new.items.items }
     {
         if let Ok(at) = self.search(coord) {
-            let mark = StoredTile {
-                coord,
-                contents: 0,
-                standing: Standing::Removed,
-            };
-            mark_tile(&mut self.items, at, mark);
+            mark_tile(&mut self.items, at, coord);
             self.live -= 1;
         }
     }

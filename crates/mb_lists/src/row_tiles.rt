@@ -1,34 +1,38 @@
 // The tiles of rows, and their contents.
-ghost use Rattle.std.specs.Prelude.{◌≡◌, ◌<◌, ℕ, IfOk, [], filter_map, map};
-ghost use Rattle.mb_lists.specs.FromRows.{AreIndexed, dates_from, own_content, own_tiles, stored_by_id};
+ghost use Rattle.std.specs.Prelude.{◌≡◌, ◌<◌, ℕ, IfOk, Some, [], filter_map, map, option_map};
+ghost use Rattle.mb_lists.specs.FromRows.{AreIndexed, dates_from, own_content, own_tiles, stored_by_id, undated};
 ghost use Rattle.mb_tables.specs.Tiles.{cell_at};
 
 use crate::content_list::ContentList;
 use crate::dates::Dates;
 use crate::entries::{Content, Standing, StoredTile};
 use crate::row_coord::coord_of;
+use crate::tile_dates::TileDates;
 use base_values::OutOfMemory;
 use mb_tables::{Cell, Row, cell_at};
 use std::alloc::Global;
 use std::mem;
 use tile_ids::TileCoord;
 
-/// Contents, tiles in the order of their rows with the indexes of their contents, and in a cache the times of each tile.
+/// Contents, and tiles in the order of their rows with the indexes of their contents, in a cache with their times.
 #[derive(Debug, Drop)]
 pub struct RowTiles {
     pub contents: ContentList,
     pub tiles: Vec<StoredTile>,
-    pub dates: Vec<Dates>,
 }
 
-// What is kept of a tile.
-fn stored(coord: TileCoord, contents: usize) -> StoredTile
-    ensures { result ≡ record { coord = coord; contents = contents; standing = Standing.Kept } }
+// What is kept of a tile, if it has a coordinate.
+fn stored(coord: Option<TileCoord>, contents: usize, dates: TileDates) -> Option<StoredTile>
+    ensures { result ≡ option_map (λ c. record { coord = c; contents = contents; dates = dates; standing = Standing.Kept }) coord }
 {
-    StoredTile {
-        coord,
-        contents,
-        standing: Standing::Kept,
+    match coord {
+        Some(coord) => Some(StoredTile {
+            coord,
+            contents,
+            dates,
+            standing: Standing::Kept,
+        }),
+        None => None,
     }
 }
 
@@ -80,7 +84,7 @@ fn own_content(row: Row, column: usize) -> Content
 
 // The times and the contents of a row of a cache.
 fn cached(row: Row) -> (Dates, Content)
-    ensures dates { result.0 ≡ dates_from row }
+    ensures dates { Some result.0 ≡ dates_from row }
     ensures content { result.1 ≡ own_content 6 row }
 {
     let mut cells = row.into_cells();
@@ -101,24 +105,18 @@ pub fn flat_tiles(alloc: Global, rows: Vec<Row>) -> Result<RowTiles, OutOfMemory
     ensures contents { IfOk result (λ r. r.contents.items.items ≡ map (own_content 3) rows.items) }
     ensures order { IfOk result (λ r. r.contents.order.items ≡ []) }
     ensures live { IfOk result (λ r. r.contents.live ≡ 0) }
-    ensures tiles { IfOk result (λ r. r.tiles.items ≡ own_tiles 0 rows.items) }
-    ensures dates { IfOk result (λ r. r.dates.items ≡ []) }
+    ensures tiles { IfOk result (λ r. r.tiles.items ≡ own_tiles undated 0 rows.items) }
 {
     let mut contents = Vec::with_capacity(alloc, rows.len())?;
     let mut tiles = Vec::with_capacity(alloc, rows.len())?;
     for row in rows {
-        if let Some(coord) = coord_of(&row) {
-            tiles.push(stored(coord, contents.len()))?;
+        if let Some(tile) = stored(coord_of(&row), contents.len(), TileDates::none()) {
+            tiles.push(tile)?;
         }
         contents.push(own_content(row, 3))?;
     }
-    let dates = Vec::new(alloc);
     let contents = without_ids(alloc, contents);
-    Ok(RowTiles {
-        contents,
-        tiles,
-        dates,
-    })
+    Ok(RowTiles { contents, tiles })
 }
 
 /// The tiles of rows of a cache.
@@ -126,26 +124,21 @@ pub fn cache_tiles(alloc: Global, rows: Vec<Row>) -> Result<RowTiles, OutOfMemor
     ensures contents { IfOk result (λ r. r.contents.items.items ≡ map (own_content 6) rows.items) }
     ensures order { IfOk result (λ r. r.contents.order.items ≡ []) }
     ensures live { IfOk result (λ r. r.contents.live ≡ 0) }
-    ensures tiles { IfOk result (λ r. r.tiles.items ≡ own_tiles 0 rows.items) }
-    ensures dates { IfOk result (λ r. r.dates.items ≡ map dates_from rows.items) }
+    ensures tiles { IfOk result (λ r. r.tiles.items ≡ own_tiles dates_from 0 rows.items) }
 {
     let mut contents = Vec::with_capacity(alloc, rows.len())?;
     let mut tiles = Vec::with_capacity(alloc, rows.len())?;
-    let mut dates = Vec::with_capacity(alloc, rows.len())?;
     for row in rows {
-        if let Some(coord) = coord_of(&row) {
-            tiles.push(stored(coord, contents.len()))?;
-        }
+        let coord = coord_of(&row);
         let (times, content) = cached(row);
-        dates.push(times)?;
+        let dates = TileDates::new(alloc, times)?;
+        if let Some(tile) = stored(coord, contents.len(), dates) {
+            tiles.push(tile)?;
+        }
         contents.push(content)?;
     }
     let contents = without_ids(alloc, contents);
-    Ok(RowTiles {
-        contents,
-        tiles,
-        dates,
-    })
+    Ok(RowTiles { contents, tiles })
 }
 
 // The tile of a row whose contents have an id.
@@ -159,8 +152,7 @@ fn tile_by_id(contents: &ContentList, row: &Row) -> Option<StoredTile>
         return None;
     }
     let index = contents.index_of(id)?;
-    let coord = coord_of(row)?;
-    Some(stored(coord, index))
+    stored(coord_of(row), index, TileDates::none())
 }
 
 // The tiles of rows whose contents have ids.
@@ -192,13 +184,7 @@ pub fn named_tiles(
     ensures order { IfOk result (λ r. r.contents.order.items ≡ contents.order.items) }
     ensures live { IfOk result (λ r. r.contents.live ≡ contents.live) }
     ensures tiles { IfOk result (λ r. r.tiles.items ≡ filter_map (stored_by_id contents.items.items contents.order.items) rows.items) }
-    ensures dates { IfOk result (λ r. r.dates.items ≡ []) }
 {
     let tiles = tiles_by_id(alloc, &contents, rows)?;
-    let dates = Vec::new(alloc);
-    Ok(RowTiles {
-        contents,
-        tiles,
-        dates,
-    })
+    Ok(RowTiles { contents, tiles })
 }

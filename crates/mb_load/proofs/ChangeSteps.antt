@@ -13,7 +13,6 @@ use Rattle.mb_load.specs.Changing.{content_table, front, tile_key}
 use Rattle.mb_lists.specs.Entries.{content_at, id_at, name_of, place_of}
 use Rattle.mb_lists.specs.Keyed.{Apart}
 use Rattle.mb_load.specs.PutRows.{change_by, content_change, id_key, listed_change, name_change, row_of_content, row_of_name, row_of_tile, tile_change, with_any}
-use Rattle.mb_lists.specs.declared.dates.Dates.{Dates}
 use Rattle.mb_lists.specs.declared.entries.Content.{Content}
 use Rattle.mb_lists.specs.declared.entries.Standing.{Standing}
 use Rattle.mb_lists.specs.declared.entries.Standing.TheVariants.{Kept, Put, Removed}
@@ -79,9 +78,9 @@ names_by : (a b : List ℕ) → Text a ∷ [] ≡ Text b ∷ [] → eq_by_cmp (s
 names_by a b h = let e : a ≡ b = cc in ap (eq_by_cmp (slice_cmp nat_cmp) a) (sym e) ∙ ap is_eq (tied_itself nat_list_cmp_total a)
 
 -- the changes of tiles, of contents and of names are of their tables and keys
-pub of_tile : (layout : MbtType) (a : HashAlgorithm) (contents : List Content) (dates : List Dates) (t : StoredTile) (c : Change) → tile_change layout a contents dates t ≡ Some c → (c.table ≡ tile_table layout) × (key_cells c.key ≡ front (place_of t))
-of_tile layout a contents dates t c h =
-    let m = change_cases t.standing (row_of_tile layout a contents dates t) (λ row. record { table = tile_table layout; key = tile_key (place_of t); row = row }) c h in
+pub of_tile : (layout : MbtType) (a : HashAlgorithm) (contents : List Content) (t : StoredTile) (c : Change) → tile_change layout a contents t ≡ Some c → (c.table ≡ tile_table layout) × (key_cells c.key ≡ front (place_of t))
+of_tile layout a contents t c h =
+    let m = change_cases t.standing (row_of_tile layout a contents t) (λ row. record { table = tile_table layout; key = tile_key (place_of t); row = row }) c h in
     (ap (λ (c : Change). c.table) (sym m.1), ap (λ (c : Change). key_cells c.key) (sym m.1))
 
 pub id_cells : (id : Cell) (key : RowKey) → id_key id ≡ Some key → key_cells key ≡ id ∷ []
@@ -106,8 +105,8 @@ of_name n c h =
     (ap (λ (c : Change). c.table) (sym m.1), ap (λ (c : Change). key_cells c.key) (sym m.1))
 
 -- one more tile, one more of the contents, one more name
-pub tile_step : (layout : MbtType) (a : HashAlgorithm) (contents : List Content) (dates : List Dates) (ts : List StoredTile) (i : ℕ) (t : StoredTile) (old new : List Change) → Apart place_cmp place_of ts → i < length ts → t ≡ get_or ts i t → old ≡ filter_map (tile_change layout a contents dates) (take i ts) → new ≡ with_any old (tile_change layout a contents dates t) → new ≡ filter_map (tile_change layout a contents dates) (take (i + 1) ts)
-tile_step layout a contents dates = step place_of front places_by (tile_table layout) (tile_change layout a contents dates) (of_tile layout a contents dates) [] (λ k d lt. absurd (omega arith))
+pub tile_step : (layout : MbtType) (a : HashAlgorithm) (contents : List Content) (ts : List StoredTile) (i : ℕ) (t : StoredTile) (old new : List Change) → Apart place_cmp place_of ts → i < length ts → t ≡ get_or ts i t → old ≡ filter_map (tile_change layout a contents) (take i ts) → new ≡ with_any old (tile_change layout a contents t) → new ≡ filter_map (tile_change layout a contents) (take (i + 1) ts)
+tile_step layout a contents = step place_of front places_by (tile_table layout) (tile_change layout a contents) (of_tile layout a contents) [] (λ k d lt. absurd (omega arith))
 
 content_step : (layout : MbtType) (contents : List Content) (base : List Change) → All (λ c. table_eq c.table (content_table layout) ≡ false) base → (order : List ℕ) (i : ℕ) (j : ℕ) (old new : List Change) → Apart cell_cmp (id_at contents) order → i < length order → j ≡ get_or order i j → old ≡ base ++ filter_map (listed_change layout contents) (take i order) → new ≡ with_any old (listed_change layout contents j) → new ≡ base ++ filter_map (listed_change layout contents) (take (i + 1) order)
 content_step layout contents = step (id_at contents) (λ id. id ∷ []) ids_by (content_table layout) (listed_change layout contents) (λ j c h. of_content layout (content_at contents j) c h)

@@ -127,16 +127,16 @@ there : {A : Type 0} (o : Option A) → is_some o ≡ true → (x : A) × (o ≡
 there (Some x) h = (x, refl)
 there None h = absurd (false≢true h)
 
-row_is : (layout : MbtType) (a : HashAlgorithm) (contents : List Content) (dates : List Dates) (t : StoredTile) → IsTile contents t → (r : Option (List Cell)) → ((t.standing ≡ Put) × (r ≡ Some (row_of_tile layout a contents dates t))) ⊎ ((t.standing ≡ Removed) × (r ≡ None)) → r ≡ option_map (λ o. front (place_of t) ++ cells_for layout a o (tile_id contents t) (tile_dates dates t)) (tile_value contents t)
-row_is layout a contents dates t whole r (inr (gone, none)) = none ∙ ap (option_map (λ o. front (place_of t) ++ cells_for layout a o (tile_id contents t) (tile_dates dates t))) (sym (ap (λ s. unless_removed s (contents_of (content_at contents t.contents).cell)) gone))
-row_is layout a contents dates t whole r (inl (put, some)) =
+row_is : (layout : MbtType) (a : HashAlgorithm) (contents : List Content) (t : StoredTile) → IsTile contents t → (r : Option (List Cell)) → ((t.standing ≡ Put) × (r ≡ Some (row_of_tile layout a contents t))) ⊎ ((t.standing ≡ Removed) × (r ≡ None)) → r ≡ option_map (λ o. front (place_of t) ++ cells_for layout a o (tile_id contents t) (tile_dates t)) (tile_value contents t)
+row_is layout a contents t whole r (inr (gone, none)) = none ∙ ap (option_map (λ o. front (place_of t) ++ cells_for layout a o (tile_id contents t) (tile_dates t))) (sym (ap (λ s. unless_removed s (contents_of (content_at contents t.contents).cell)) gone))
+row_is layout a contents t whole r (inl (put, some)) =
     let c = content_at contents t.contents in
     let o = there (contents_of c.cell) (whole (ap is_removed put)) in
     let value : tile_value contents t ≡ Some o.0 = ap (λ s. unless_removed s (contents_of c.cell)) put ∙ o.1 in
     let id : tile_id contents t ≡ cond (is_null c.id) None (Some c.id) = ap (λ s. unless_removed s (cond (is_null c.id) None (Some c.id))) put in
-    let times : tile_dates dates t ≡ slice_get dates t.contents = ap (λ s. unless_removed s (slice_get dates t.contents)) put in
-    some ∙ sym (ap (option_map (λ o. front (place_of t) ++ cells_for layout a o (tile_id contents t) (tile_dates dates t))) value
-    ∙ ap (λ cells. Some (front (place_of t) ++ cells)) (ap (λ x. cells_for layout a o.0 x (tile_dates dates t)) id ∙ (ap (cells_for layout a o.0 (cond (is_null c.id) None (Some c.id))) times ∙ same_cells layout a c (slice_get dates t.contents) o.0 o.1)))
+    let times : tile_dates t ≡ t.dates = ap (λ s. unless_removed s t.dates) put in
+    some ∙ sym (ap (option_map (λ o. front (place_of t) ++ cells_for layout a o (tile_id contents t) (tile_dates t))) value
+    ∙ ap (λ cells. Some (front (place_of t) ++ cells)) (ap (λ x. cells_for layout a o.0 x (tile_dates t)) id ∙ (ap (cells_for layout a o.0 (cond (is_null c.id) None (Some c.id))) times ∙ same_cells layout a c t.dates o.0 o.1)))
 
 own_text : (value : Cell) → is_text value ≡ true → text_cell (text_of value) ≡ value
 own_text (Text text) h = refl
@@ -155,12 +155,12 @@ in_three a b c k x h = elim (in_append (a ++ b) c k x h) [
 each : (P : Change → Type 0) (cs : List Change) → ((k : ℕ) (c : Change) → slice_get cs k ≡ Some c → P c) → All P cs
 each P cs f = λ k d lt. f k (get_or cs k d) (slice_get-get_or cs k d lt)
 
-module _ (layout : MbtType) (a : HashAlgorithm) (p : Option PatchType) (contents : List Content) (order : List ℕ) (dates : List Dates) (tiles : List StoredTile) (names : List StoredName) (ta : Apart place_cmp place_of tiles) (oa : Apart cell_cmp (id_at contents) order) (na : Apart (slice_cmp nat_cmp) name_of names) (whole : All (IsTile contents) tiles) (texts : All IsName names) where
+module _ (layout : MbtType) (a : HashAlgorithm) (p : Option PatchType) (contents : List Content) (order : List ℕ) (tiles : List StoredTile) (names : List StoredName) (ta : Apart place_cmp place_of tiles) (oa : Apart cell_cmp (id_at contents) order) (na : Apart (slice_cmp nat_cmp) name_of names) (whole : All (IsTile contents) tiles) (texts : All IsName names) where
   abbrev held : Held
-  held = held_of layout a p contents order dates tiles names
+  held = held_of layout a p contents order tiles names
 
   abbrev of_tiles : List Change
-  of_tiles = filter_map (tile_change layout a contents dates) tiles
+  of_tiles = filter_map (tile_change layout a contents) tiles
 
   abbrev of_ids : List Change
   of_ids = filter_map (listed_change layout contents) order
@@ -173,7 +173,7 @@ module _ (layout : MbtType) (a : HashAlgorithm) (p : Option PatchType) (contents
 
   -- the table of each part
   tile_tables : (k : ℕ) (c : Change) → slice_get of_tiles k ≡ Some c → c.table ≡ tile_table layout
-  tile_tables k c h = let m = in_mapped (tile_change layout a contents dates) tiles k c h in (of_tile layout a contents dates m.1 c m.3).0
+  tile_tables k c h = let m = in_mapped (tile_change layout a contents) tiles k c h in (of_tile layout a contents m.1 c m.3).0
 
   id_tables : (k : ℕ) (c : Change) → slice_get of_ids k ≡ Some c → c.table ≡ content_table layout
   id_tables k c h = let m = in_mapped (listed_change layout contents) order k c h in (of_content layout (content_at contents m.1) c m.3).0
@@ -200,8 +200,8 @@ module _ (layout : MbtType) (a : HashAlgorithm) (p : Option PatchType) (contents
       let e = edited_item places_total places_antisymmetric place_of tiles ta (λ t. t.standing) (record { zoom = zoom; column = column; row = row }) h in
       let t = e.1 in
       let change : Option (List Cell) → Change = λ r. record { table = tile_table layout; key = tile_key (place_of t); row = r } in
-      let m = made_by t.standing (row_of_tile layout a contents dates t) change e.4 in
-      let k = keeps_mapped (tile_change layout a contents dates) tiles e.0 t (change m.0) e.2 m.1 in
+      let m = made_by t.standing (row_of_tile layout a contents t) change e.4 in
+      let k = keeps_mapped (tile_change layout a contents) tiles e.0 t (change m.0) e.2 m.1 in
       (k.0, change m.0, at_left (of_tiles ++ of_ids) of_names k.0 _ (at_left of_tiles of_ids k.0 _ k.1), table_itself (tile_table layout) (tile_table layout) refl, ap tile_key (sym e.3))
   tile_made (TextId text) h = absurd (false≢true h)
   tile_made (IntId n) h = absurd (false≢true h)
@@ -209,18 +209,18 @@ module _ (layout : MbtType) (a : HashAlgorithm) (p : Option PatchType) (contents
   tile_has : {V : Type 0} (f : StoredTile → Option V) (t : StoredTile) (i : ℕ) → slice_get tiles i ≡ Some t → get (tiles_held f tiles) (place_of t) ≡ f t
   tile_has f t i at = item_value places_total places_antisymmetric place_of tiles ta f i t at
 
-  tile_only : (t : StoredTile) (i : ℕ) (c : Change) → slice_get tiles i ≡ Some t → tile_change layout a contents dates t ≡ Some c → (place_edited held.edited c.key ≡ true) × (c.row ≡ tile_row_by held.state c.key)
+  tile_only : (t : StoredTile) (i : ℕ) (c : Change) → slice_get tiles i ≡ Some t → tile_change layout a contents t ≡ Some c → (place_edited held.edited c.key ≡ true) × (c.row ≡ tile_row_by held.state c.key)
   tile_only t i c at is =
       let change : Option (List Cell) → Change = λ r. record { table = tile_table layout; key = tile_key (place_of t); row = r } in
-      let m = change_cases t.standing (row_of_tile layout a contents dates t) change c is in
+      let m = change_cases t.standing (row_of_tile layout a contents t) change c is in
       let key : c.key ≡ tile_key (place_of t) = ap (λ (c : Change). c.key) (sym m.1) in
       let here : t ≡ get_or tiles i t = sym (get_or_from_slice_get tiles i t t at) in
       let ok : IsTile contents t = subst (IsTile contents) (sym here) (whole i t (slice_get_within tiles i t at)) in
-      let row : c.row ≡ option_map (λ o. front (place_of t) ++ cells_for layout a o (tile_id contents t) (tile_dates dates t)) (tile_value contents t) = ap (λ (c : Change). c.row) (sym m.1) ∙ row_is layout a contents dates t ok m.0 m.2 in (
-        ap (place_edited held.edited) key ∙ (ap is_some (tile_has (λ t. if_edited t.standing) t i at) ∙ was_edited t.standing (row_of_tile layout a contents dates t) change c is),
+      let row : c.row ≡ option_map (λ o. front (place_of t) ++ cells_for layout a o (tile_id contents t) (tile_dates t)) (tile_value contents t) = ap (λ (c : Change). c.row) (sym m.1) ∙ row_is layout a contents t ok m.0 m.2 in (
+        ap (place_edited held.edited) key ∙ (ap is_some (tile_has (λ t. if_edited t.standing) t i at) ∙ was_edited t.standing (row_of_tile layout a contents t) change c is),
         row ∙ (sym (ap (λ x. option_map (λ o. front (place_of t) ++ cells_for layout a o x (get held.state.dates (place_of t))) (get held.state.tiles (place_of t))) (tile_has (tile_id contents) t i at)
-            ∙ (ap (λ x. option_map (λ o. front (place_of t) ++ cells_for layout a o (tile_id contents t) x) (get held.state.tiles (place_of t))) (tile_has (tile_dates dates) t i at)
-            ∙ ap (option_map (λ o. front (place_of t) ++ cells_for layout a o (tile_id contents t) (tile_dates dates t))) (tile_has (tile_value contents) t i at)))
+            ∙ (ap (λ x. option_map (λ o. front (place_of t) ++ cells_for layout a o (tile_id contents t) x) (get held.state.tiles (place_of t))) (tile_has tile_dates t i at)
+            ∙ ap (option_map (λ o. front (place_of t) ++ cells_for layout a o (tile_id contents t) (tile_dates t))) (tile_has (tile_value contents) t i at)))
             ∙ ap (tile_row_by held.state) (sym key)),
       )
 
@@ -317,7 +317,7 @@ module _ (layout : MbtType) (a : HashAlgorithm) (p : Option PatchType) (contents
     tiles = record {
       made = tile_made;
       only = each (λ c. table_eq c.table (tile_table layout) ≡ true → (place_edited held.edited c.key ≡ true) × (c.row ≡ tile_row_by held.state c.key)) all (λ k c h same. elim (in_three of_tiles of_ids of_names k c h) [
-        | inl q ↦ let m = in_mapped (tile_change layout a contents dates) tiles q.0 c q.1 in tile_only m.1 m.0 c m.2 m.3
+        | inl q ↦ let m = in_mapped (tile_change layout a contents) tiles q.0 c q.1 in tile_only m.1 m.0 c m.2 m.3
         | inr q ↦ elim q [
           | inl r ↦ not_here c (content_table layout) (tile_table layout) (id_tables r.0 c r.1) (other (tile_table layout) (content_table layout) (contents_apart layout)) same
           | inr r ↦ not_here c Metadata (tile_table layout) (name_tables r.0 c r.1) (other (tile_table layout) Metadata (names_apart layout).0) same

@@ -1,17 +1,17 @@
--- Contents that are listed have an id, and those of a cache have times.
-use Rattle.std.proofs.Common.{◌≡◌, ◌∙◌, ap, sym, subst, ℕ, List, [], ◌∷◌, ◌++◌, Bool, true, false, cond, map, length, refl, suc, append_assoc}
-use Rattle.std.specs.Prelude.{All, unwrap_or}
+-- Contents that are listed have an id, and tiles of a cache have times.
+use Rattle.std.proofs.Common.{◌≡◌, ◌∙◌, ap, subst, ℕ, List, [], ◌∷◌, ◌++◌, Option, Some, None, Bool, true, false, cond, length, refl, suc, append_assoc, is_some}
+use Rattle.std.specs.Prelude.{All, option_map, unwrap_or}
 use Rattle.std.proofs.lemmas.Bool.{false≢true}
 use Rattle.std.proofs.lemmas.List.Elements.{All-cons, All-nil}
 use Rattle.std.proofs.lemmas.List.Sorted.{All-permutation}
-use Rattle.mb_lists.specs.Entries.{AreDated, HasId, nothing}
-use Rattle.mb_lists.specs.FromRows.{AreIndexed, dates_from, ids_from, own_content}
-use Rattle.mb_load.specs.LoadedFrom.{is_cache}
+use Rattle.mb_load.specs.Edits.{dates_for, no_dates}
+use Rattle.mb_load.specs.LoadedFrom.{AreTimes}
+use Rattle.mb_lists.specs.Entries.{HasId, is_cache, nothing}
+use Rattle.mb_lists.specs.FromRows.{AreIndexed, ids_from}
 use Rattle.mb_lists.specs.declared.dates.Dates.{Dates}
 use Rattle.mb_lists.specs.declared.entries.Content.{Content}
 use Rattle.mb_lists.proofs.ContentLemmas.{at_middle, longer}
 use Rattle.mb_tables.specs.Cell.{is_null}
-use Rattle.mb_tables.specs.declared.cell.Cell.{Cell}
 use Rattle.mb_tables.specs.declared.kind.MbtType.{MbtType}
 use Rattle.mb_tables.specs.declared.kind.MbtType.TheVariants.{Flat, FlatWithHash, Normalized, Cache}
 
@@ -29,15 +29,24 @@ ids_after pre (c ∷ cs) = by (is_null c.id) refl (ids_after (pre ++ c ∷ []) c
 pub listed_have_ids : (contents : List Content) (live : ℕ) (order : List ℕ) → AreIndexed contents live order → All (HasId contents) order
 listed_have_ids contents live order h = All-permutation (HasId contents) (ids_from 0 contents) order h.listed (ids_after [] contents)
 
-pub none_dated : (layout : MbtType) (contents : List Content) (dates : List Dates) → is_cache layout ≡ false → dates ≡ [] → AreDated layout contents dates
-none_dated Flat contents dates h e = ap length e
-none_dated FlatWithHash contents dates h e = ap length e
-none_dated (Normalized view schema) contents dates h e = ap length e
-none_dated Cache contents dates h e = absurd (false≢true (sym h))
+-- a layout gives times to a tile that is put exactly where it has any, of their kinds
+pub dates_some : (l : MbtType) → is_some (dates_for l) ≡ is_cache l
+dates_some Cache = refl
+dates_some (Normalized view schema) = refl
+dates_some Flat = refl
+dates_some FlatWithHash = refl
 
-same_count : {A B C : Type 0} (f : A → B) (g : A → C) (xs : List A) → length (map f xs) ≡ length (map g xs)
-same_count f g [] = refl
-same_count f g (x ∷ xs) = ap suc (same_count f g xs)
+pub dates_are : (l : MbtType) (d : Dates) → dates_for l ≡ Some d → AreTimes d
+dates_are Cache d h = let e : no_dates ≡ d = cc in subst AreTimes e (record { fetched = refl; expires = refl; etag = refl })
+dates_are (Normalized view schema) d h = cc
+dates_are Flat d h = cc
+dates_are FlatWithHash d h = cc
 
-pub cached_dated : (layout : MbtType) (rows : List (List Cell)) (contents : List Content) (dates : List Dates) → layout ≡ Cache → contents ≡ map (own_content 6) rows → dates ≡ map dates_from rows → AreDated layout contents dates
-cached_dated layout rows contents dates l c d = subst (λ k. AreDated k contents dates) (sym l) (ap length d ∙ (same_count dates_from (own_content 6) rows ∙ ap length (sym c)))
+-- other times are there exactly where times were
+pub times_stay : (d : Dates) (o : Option Dates) → is_some (option_map (λ old. d) o) ≡ is_some o
+times_stay d None = refl
+times_stay d (Some old) = refl
+
+pub times_are : (d : Dates) (o : Option Dates) → is_some o ≡ true → option_map (λ old. d) o ≡ Some d
+times_are d (Some old) h = refl
+times_are d None h = absurd (false≢true h)

@@ -14,10 +14,9 @@ use Rattle.std.proofs.lemmas.Option.{slice_get_within, get_or_from_slice_get}
 use Rattle.mb_lists.specs.Contents.{Contents}
 use Rattle.mb_lists.specs.Dropping.{is_unnamed, marked_unnamed}
 use Rattle.mb_load.specs.Edits.{is_named, only_referenced, unnamed_ids}
-use Rattle.mb_lists.specs.Entries.{AreDated, HasId, IsTile, content_at, content_value, contents_held, dated_count, id_at, if_edited, is_gone, nothing, place_of, tile_dates, tile_id, tile_value, tiles_held, unless_removed}
+use Rattle.mb_lists.specs.Entries.{HasId, IsDated, IsTile, content_at, content_value, contents_held, id_at, if_edited, is_gone, nothing, place_of, tile_dates, tile_id, tile_value, tiles_held, unless_removed}
 use Rattle.mb_load.specs.HeldEntries.{held_of}
 use Rattle.mb_lists.specs.Keyed.{Apart, at_key, entries_by}
-use Rattle.mb_lists.specs.declared.dates.Dates.{Dates}
 use Rattle.mb_lists.specs.declared.entries.Content.{Content}
 use Rattle.mb_lists.specs.declared.entries.Standing.{Standing}
 use Rattle.mb_lists.specs.declared.entries.Standing.TheVariants.{Kept, Put, Removed}
@@ -203,13 +202,13 @@ module _ (contents : List Content) (order : List ℕ) (tiles sorted : List Store
                 ∙ (edited_of (named q) (content_at contents i).standing (content_at contents i).cell
                 ∙ ap (λ o. option_or (any_unit (cond (not (named q)) o None)) (if_edited (content_at contents i).standing)) (sym (value_at contents i x.0 x.1))))
 
-    pub held_dropped : (layout : MbtType) (a : HashAlgorithm) (p : Option PatchType) (dates : List Dates) (names : List StoredName) (tiles' : List StoredTile) → IsPermutation tiles tiles' → held_of layout a p left order' dates tiles' names ≡ only_referenced (held_of layout a p contents order dates tiles names)
-    held_dropped layout a p dates names tiles' again =
+    pub held_dropped : (layout : MbtType) (a : HashAlgorithm) (p : Option PatchType) (names : List StoredName) (tiles' : List StoredTile) → IsPermutation tiles tiles' → held_of layout a p left order' tiles' names ≡ only_referenced (held_of layout a p contents order tiles names)
+    held_dropped layout a p names tiles' again =
         parts_same layout a p _ _ _ _ _ _ _ _ _ _ _ _ _ _ _ _
         ((λ k. tiles_held (λ t. unless_removed t.standing (contents_of (like.cells t.contents k))) tiles') ∙ moved (tile_value contents))
         refl
         ((λ k. tiles_held (λ t. unless_removed t.standing (cond (is_null (like.ids t.contents k)) None (Some (like.ids t.contents k)))) tiles') ∙ moved (tile_id contents))
-        contents_left (moved (tile_dates dates)) (moved (λ t. if_edited t.standing)) edited_left refl
+        contents_left (moved tile_dates) (moved (λ t. if_edited t.standing)) edited_left refl
       where
         moved : {V : Type 0} (value : StoredTile → Option V) → tiles_held value tiles' ≡ tiles_held value tiles
         moved value = map_permuted places_total places_antisymmetric place_of value tiles tiles' places (apart_permuted places_total place_of tiles tiles' again places) again
@@ -220,5 +219,5 @@ module _ (contents : List Content) (order : List ℕ) (tiles sorted : List Store
   pub tiles_left : (tiles' : List StoredTile) → IsPermutation tiles tiles' → All (IsTile contents) tiles → All (IsTile left) tiles'
   tiles_left tiles' again whole = All-weaker (IsTile contents) (IsTile left) (λ t h live. ap (λ c. is_some (contents_of c)) (like.cells t.contents) ∙ h live) tiles' (All-permutation (IsTile contents) tiles tiles' again whole)
 
-  pub dated_left : (layout : MbtType) (dates : List Dates) → AreDated layout contents dates → AreDated layout left dates
-  dated_left layout dates h = h ∙ ap (dated_count layout) (sym like.len)
+  pub dated_left : (layout : MbtType) (tiles' : List StoredTile) → IsPermutation tiles tiles' → All (IsDated layout) tiles → All (IsDated layout) tiles'
+  dated_left layout tiles' again dated = All-permutation (IsDated layout) tiles tiles' again dated

@@ -9,7 +9,7 @@ use Rattle.std.proofs.lemmas.List.Elements.{All-head, All-tail}
 use Rattle.std.proofs.lemmas.List.Sorted.{All-permutation, IsPermutation-reverse}
 use Rattle.mb_load.specs.Edits.{with_value}
 use Rattle.mb_lists.specs.Keyed.{Apart, StandsAs, at_key, entries_by, newest}
-use Rattle.mb_lists.proofs.Items.{look_up}
+use Rattle.mb_lists.proofs.Items.{equal_of, look_up}
 use Rattle.mb_lists.proofs.Newest.{find_newest, newest_apart}
 use Rattle.mb_lists.proofs.Sorting.{apart_permuted, found_permuted}
 use Rattle.std.proofs.lemmas.List.{reverse-append}
@@ -28,7 +28,7 @@ get-with_value total m k None q = get-remove total m k q
 get-with_value total m k (Some v) q = get-insert total m k v q
 
 module _ {K X V : Type 0} {R : K → K → Ordering} (total : IsTotalOrder R) (anti : IsAntisymmetric R) where
-  get_newest : (key : X → K) (value : X → Option V) (xs : List X) (q : K) → get (from_entries {R = R} (entries_by key value (newest R key xs))) q ≡ option_and_then value (find (at_key R key q) (reverse xs))
+  pub get_newest : (key : X → K) (value : X → Option V) (xs : List X) (q : K) → get (from_entries {R = R} (entries_by key value (newest R key xs))) q ≡ option_and_then value (find (at_key R key q) (reverse xs))
   get_newest key value xs q = look_up total key value q (newest R key xs) (newest_apart total key xs) ∙ ap (option_and_then value) (find_newest total key q xs)
 
   module _ (key key' : X → K) (value value' : X → Option V) (xs : List X) (keys : All (λ x. key' x ≡ key x) xs) (values : All (λ x. value' x ≡ value x) xs) where
@@ -53,6 +53,14 @@ module _ {K X V : Type 0} {R : K → K → Ordering} (total : IsTotalOrder R) (a
         through : (b : Bool) (o : Option X) → option_and_then value' (cond b (Some x) o) ≡ cond b (value' x) (option_and_then value' o)
         through true o = refl
         through false o = refl
+
+-- a value that is there already
+pub with_value_same : {K V : Type 0} {R : K → K → Ordering} (total : IsTotalOrder R) (anti : IsAntisymmetric R) (m : FinMap R V) (k : K) (o : Option V) → o ≡ get m k → with_value m k o ≡ m
+with_value_same {K = K} {V = V} {R = R} total anti m k o h = same_map total anti _ _ (λ q. get-with_value total m k o q ∙ by q (eq_by_cmp R q k) refl)
+  where
+    by : (q : K) (b : Bool) → eq_by_cmp R q k ≡ b → cond b o (get m q) ≡ get m q
+    by q true e = h ∙ ap (get m) (sym (anti q k (equal_of (R q k) e)))
+    by q false e = refl
 
 -- where the same items stand under each key the maps are the same
 module _ {K X : Type 0} {R : K → K → Ordering} (total : IsTotalOrder R) (anti : IsAntisymmetric R) (key : X → K) where

@@ -7,11 +7,10 @@ use Rattle.std.specs.FinMap.{FinMap, from_entries}
 use Rattle.std.proofs.lemmas.Cmp.{nat_list_cmp_total}
 use Rattle.std.proofs.lemmas.Bool.{false≢true}
 use Rattle.std.proofs.lemmas.List.Elements.{All-contains, All-push, All-weaker}
-use Rattle.mb_load.specs.Adding.{added_dates}
 use Rattle.mb_lists.specs.Clearing.{listed}
 use Rattle.mb_lists.specs.Contents.{Contents}
-use Rattle.mb_load.specs.Edits.{id_for, removed_name, removed_tile, with_content, with_key, with_name, with_tile, with_value}
-use Rattle.mb_lists.specs.Entries.{AreDated, HasId, IsName, IsTile, content_at, content_value, contents_held, id_at, if_edited, name_of, name_value, newest_ids, newest_names, newest_tiles, nothing, place_at, place_of, tile_dates, tile_id, tile_value, tiles_held, unless_removed}
+use Rattle.mb_load.specs.Edits.{dates_for, id_for, removed_name, removed_tile, with_content, with_key, with_name, with_null, with_tile, with_value}
+use Rattle.mb_lists.specs.Entries.{HasId, IsDated, IsName, IsTile, content_at, content_value, contents_held, id_at, if_edited, name_of, name_value, newest_ids, newest_names, newest_tiles, nothing, place_at, place_of, tile_dates, tile_id, tile_value, tiles_held, unless_removed}
 use Rattle.mb_load.specs.HeldEntries.{held_of}
 use Rattle.mb_load.specs.Held.{Held}
 use Rattle.mb_lists.specs.Keyed.{Apart, StandsAs, entries_by}
@@ -21,8 +20,9 @@ use Rattle.mb_lists.specs.declared.entries.Content.{Content}
 use Rattle.mb_lists.specs.declared.entries.Standing.TheVariants.{Put, Removed}
 use Rattle.mb_lists.specs.declared.entries.StoredName.{StoredName}
 use Rattle.mb_lists.specs.declared.entries.StoredTile.{StoredTile}
+use Rattle.mb_load.proofs.DatedLemmas.{dates_some}
 use Rattle.mb_load.proofs.EditMaps.{newest_of_apart, newest_put, newest_same, stands_map}
-use Rattle.mb_load.proofs.MoreContents.{at_end, dated_more, dates_added, dates_same, id_kept, listed_same, tile_kept, tile_same}
+use Rattle.mb_load.proofs.MoreContents.{at_end, id_kept, listed_same, tile_kept, tile_same}
 use Rattle.mb_lists.proofs.NameLemmas.{names_antisymmetric}
 use Rattle.mb_lists.proofs.Newest.{newest_apart}
 use Rattle.mb_lists.proofs.Places.{places_antisymmetric}
@@ -55,12 +55,12 @@ parts_same layout a p tiles tiles' metadata metadata' ids ids' contents contents
 agrees : {X A : Type 0} (P : X → Type 0) (f g : X → A) (xs : List X) → ((x : X) → P x → f x ≡ g x) → All P xs → All (λ x. f x ≡ g x) xs
 agrees P f g xs h all = All-weaker P (λ x. f x ≡ g x) h xs all
 
-always : {X A : Type 0} (f g : X → A) (xs : List X) → ((x : X) → f x ≡ g x) → All (λ x. f x ≡ g x) xs
+pub always : {X A : Type 0} (f g : X → A) (xs : List X) → ((x : X) → f x ≡ g x) → All (λ x. f x ≡ g x) xs
 always f g xs h = λ k d lt. h _
 
-module _ (layout : MbtType) (a : HashAlgorithm) (p : Option PatchType) (contents : List Content) (order : List ℕ) (dates : List Dates) (tiles : List StoredTile) (names : List StoredName) (whole : All (IsTile contents) tiles) (ids : All (HasId contents) order) (dated : AreDated layout contents dates) where
+module _ (layout : MbtType) (a : HashAlgorithm) (p : Option PatchType) (contents : List Content) (order : List ℕ) (tiles : List StoredTile) (names : List StoredName) (whole : All (IsTile contents) tiles) (ids : All (HasId contents) order) where
   abbrev held : Held
-  held = held_of layout a p contents (newest_ids contents order) dates (newest_tiles tiles) (newest_names names)
+  held = held_of layout a p contents (newest_ids contents order) (newest_tiles tiles) (newest_names names)
 
   module _ (c : Content) where
     abbrev more : List Content
@@ -72,9 +72,6 @@ module _ (layout : MbtType) (a : HashAlgorithm) (p : Option PatchType) (contents
     named : All (λ t. tile_id more t ≡ tile_id contents t) tiles
     named = agrees (IsTile contents) (tile_id more) (tile_id contents) tiles (tile_same contents c (λ o. cond (is_null (unwrap_or o nothing).id) None (Some (unwrap_or o nothing).id))) whole
 
-    times : All (λ t. tile_dates (dates ++ added_dates layout) t ≡ tile_dates dates t) tiles
-    times = agrees (IsTile contents) (tile_dates (dates ++ added_dates layout)) (tile_dates dates) tiles (dates_same contents c dates layout dated) whole
-
     keys : All (λ i. id_at more i ≡ id_at contents i) order
     keys = agrees (HasId contents) (id_at more) (id_at contents) order (listed_same contents c (λ o. (unwrap_or o nothing).id)) ids
 
@@ -84,12 +81,36 @@ module _ (layout : MbtType) (a : HashAlgorithm) (p : Option PatchType) (contents
     standings : All (λ i. if_edited (content_at more i).standing ≡ if_edited (content_at contents i).standing) order
     standings = agrees (HasId contents) (λ i. if_edited (content_at more i).standing) (λ i. if_edited (content_at contents i).standing) order (listed_same contents c (λ o. if_edited (unwrap_or o nothing).standing)) ids
 
+    -- contents that no tile has change nothing
+    pub held_more : held_of layout a p more (newest_ids more order) (newest_tiles tiles) (newest_names names) ≡ held
+    held_more =
+        let k = always place_of place_of tiles (λ x. refl) in
+        parts_same layout a p _ _ _ _ _ _ _ _ _ _ _ _ _ _ _ _
+        (newest_same places_total places_antisymmetric place_of place_of (tile_value contents) (tile_value more) tiles k values)
+        refl
+        (newest_same places_total places_antisymmetric place_of place_of (tile_id contents) (tile_id more) tiles k named)
+        (newest_same cells_total cell_cmp-IsAntisymmetric (id_at contents) (id_at more) (content_value contents) (content_value more) order keys cells)
+        refl
+        refl
+        (newest_same cells_total cell_cmp-IsAntisymmetric (id_at contents) (id_at more) (λ i. if_edited (content_at contents i).standing) (λ i. if_edited (content_at more i).standing) order keys standings)
+        refl
+
+  abbrev standing_in : List Content → ℕ → Option (Unit {0})
+  standing_in contents i = if_edited (content_at contents i).standing
+
+  -- contents that aren't listed
+  same_contents : (c : Content) → contents_held (contents ++ c ∷ []) (newest_ids (contents ++ c ∷ []) order) ≡ contents_held contents (newest_ids contents order)
+  same_contents c = newest_same cells_total cell_cmp-IsAntisymmetric (id_at contents) (id_at (contents ++ c ∷ [])) (content_value contents) (content_value (contents ++ c ∷ [])) order (keys c) (cells c)
+
+  same_edited : (c : Content) → from_entries {R = cell_cmp} (entries_by (id_at (contents ++ c ∷ [])) (standing_in (contents ++ c ∷ [])) (newest_ids (contents ++ c ∷ []) order)) ≡ from_entries (entries_by (id_at contents) (standing_in contents) (newest_ids contents order))
+  same_edited c = newest_same cells_total cell_cmp-IsAntisymmetric (id_at contents) (id_at (contents ++ c ∷ [])) (standing_in contents) (standing_in (contents ++ c ∷ [])) order (keys c) (standings c)
+
   -- new contents of an id, or of none
   abbrev new : Option Cell → List ℕ → Content
   new o bytes = record { id = unwrap_or o Null; cell = Blob bytes; standing = Put }
 
   abbrev put : Coord → StoredTile
-  put coord = record { coord = coord; contents = length contents; standing = Put }
+  put coord = record { coord = coord; contents = length contents; dates = dates_for layout; standing = Put }
 
   last_at : (c : Content) → content_at (contents ++ c ∷ []) (length contents) ≡ c
   last_at c = ap (λ o. unwrap_or o nothing) (at_end contents c)
@@ -98,7 +119,7 @@ module _ (layout : MbtType) (a : HashAlgorithm) (p : Option PatchType) (contents
   new_contents : (o : Option Cell) (bytes : List ℕ) → ((id : Cell) → o ≡ Some id → is_null id ≡ false) → contents_held (contents ++ new o bytes ∷ []) (newest_ids (contents ++ new o bytes ∷ []) (order ++ listed (is_null (unwrap_or o Null)) (length contents))) ≡ with_content (contents_held contents (newest_ids contents order)) o bytes
   new_contents None bytes present =
       ap (λ l. contents_held (contents ++ new None bytes ∷ []) (newest_ids (contents ++ new None bytes ∷ []) l)) (append-nil order)
-      ∙ newest_same cells_total cell_cmp-IsAntisymmetric (id_at contents) (id_at (contents ++ new None bytes ∷ [])) (content_value contents) (content_value (contents ++ new None bytes ∷ [])) order (keys (new None bytes)) (cells (new None bytes))
+      ∙ same_contents (new None bytes)
   new_contents (Some id) bytes present =
       let c = new (Some id) bytes in
       ap (λ b. contents_held (contents ++ c ∷ []) (newest_ids (contents ++ c ∷ []) (order ++ cond b [] (length contents ∷ [])))) (present id refl)
@@ -106,13 +127,10 @@ module _ (layout : MbtType) (a : HashAlgorithm) (p : Option PatchType) (contents
       ∙ (ap (λ k. with_value (contents_held contents (newest_ids contents order)) k (content_value (contents ++ c ∷ []) (length contents))) (ap (λ (x : Content). x.id) (last_at c))
       ∙ ap (with_value (contents_held contents (newest_ids contents order)) id) (ap (option_and_then (λ (c : Content). unless_removed c.standing (Some c.cell))) (at_end contents c))))
 
-  abbrev standing_in : List Content → ℕ → Option (Unit {0})
-  standing_in contents i = if_edited (content_at contents i).standing
-
   new_ids : (o : Option Cell) (bytes : List ℕ) → ((id : Cell) → o ≡ Some id → is_null id ≡ false) → from_entries {R = cell_cmp} (entries_by (id_at (contents ++ new o bytes ∷ [])) (standing_in (contents ++ new o bytes ∷ [])) (newest_ids (contents ++ new o bytes ∷ []) (order ++ listed (is_null (unwrap_or o Null)) (length contents)))) ≡ with_key (from_entries (entries_by (id_at contents) (standing_in contents) (newest_ids contents order))) o
   new_ids None bytes present =
       ap (λ l. from_entries {R = cell_cmp} (entries_by (id_at (contents ++ new None bytes ∷ [])) (standing_in (contents ++ new None bytes ∷ [])) (newest_ids (contents ++ new None bytes ∷ []) l))) (append-nil order)
-      ∙ newest_same cells_total cell_cmp-IsAntisymmetric (id_at contents) (id_at (contents ++ new None bytes ∷ [])) (standing_in contents) (standing_in (contents ++ new None bytes ∷ [])) order (keys (new None bytes)) (standings (new None bytes))
+      ∙ same_edited (new None bytes)
   new_ids (Some id) bytes present =
       let c = new (Some id) bytes in
       ap (λ b. from_entries {R = cell_cmp} (entries_by (id_at (contents ++ c ∷ [])) (standing_in (contents ++ c ∷ [])) (newest_ids (contents ++ c ∷ []) (order ++ cond b [] (length contents ∷ []))))) (present id refl)
@@ -139,35 +157,68 @@ module _ (layout : MbtType) (a : HashAlgorithm) (p : Option PatchType) (contents
           text (Blob b) h = refl
           text Other h = refl
 
+  -- the parts of a tile that is put with new contents
+  abbrev same_keys : All (λ t. place_of t ≡ place_of t) tiles
+  same_keys = always place_of place_of tiles (λ x. refl)
+
+  value_put : (c : Content) (coord : Coord) → tiles_held (tile_value (contents ++ c ∷ [])) (newest_tiles (tiles ++ put coord ∷ [])) ≡ with_value (tiles_held (tile_value contents) (newest_tiles tiles)) (place_at coord) (contents_of c.cell)
+  value_put c coord =
+      newest_put places_total places_antisymmetric place_of place_of (tile_value contents) (tile_value (contents ++ c ∷ [])) tiles same_keys (values c) (put coord)
+      ∙ ap (λ (x : Content). with_value (tiles_held (tile_value contents) (newest_tiles tiles)) (place_at coord) (contents_of x.cell)) (last_at c)
+
+  id_put : (c : Content) (coord : Coord) → tiles_held (tile_id (contents ++ c ∷ [])) (newest_tiles (tiles ++ put coord ∷ [])) ≡ with_value (tiles_held (tile_id contents) (newest_tiles tiles)) (place_at coord) (cond (is_null c.id) None (Some c.id))
+  id_put c coord =
+      newest_put places_total places_antisymmetric place_of place_of (tile_id contents) (tile_id (contents ++ c ∷ [])) tiles same_keys (named c) (put coord)
+      ∙ ap (λ (x : Content). with_value (tiles_held (tile_id contents) (newest_tiles tiles)) (place_at coord) (cond (is_null x.id) None (Some x.id))) (last_at c)
+
+  other_put : {V : Type 0} (value : StoredTile → Option V) (coord : Coord) → tiles_held value (newest_tiles (tiles ++ put coord ∷ [])) ≡ with_value (tiles_held value (newest_tiles tiles)) (place_at coord) (value (put coord))
+  other_put value coord = newest_put places_total places_antisymmetric place_of place_of value value tiles same_keys (always value value tiles (λ x. refl)) (put coord)
+
   -- bytes that are put at a coordinate
-  pub held_put : (coord : Coord) (bytes : List ℕ) → held_of layout a p (contents ++ new (id_for layout a bytes) bytes ∷ []) (newest_ids (contents ++ new (id_for layout a bytes) bytes ∷ []) (order ++ listed (is_null (unwrap_or (id_for layout a bytes) Null)) (length contents))) (dates ++ added_dates layout) (newest_tiles (tiles ++ put coord ∷ [])) (newest_names names) ≡ with_tile held (place_at coord) bytes
+  pub held_put : (coord : Coord) (bytes : List ℕ) → held_of layout a p (contents ++ new (id_for layout a bytes) bytes ∷ []) (newest_ids (contents ++ new (id_for layout a bytes) bytes ∷ []) (order ++ listed (is_null (unwrap_or (id_for layout a bytes) Null)) (length contents))) (newest_tiles (tiles ++ put coord ∷ [])) (newest_names names) ≡ with_tile held (place_at coord) bytes
   held_put coord bytes =
       let o = id_for layout a bytes in
       let c = new o bytes in
-      let k = always place_of place_of tiles (λ x. refl) in
       parts_same layout a p _ _ _ _ _ _ _ _ _ _ _ _ _ _ _ _
-      (newest_put places_total places_antisymmetric place_of place_of (tile_value contents) (tile_value (contents ++ c ∷ [])) tiles k (values c) (put coord)
-      ∙ ap (λ (x : Content). with_value (tiles_held (tile_value contents) (newest_tiles tiles)) (place_at coord) (contents_of x.cell)) (last_at c))
+      (value_put c coord)
       refl
-      (newest_put places_total places_antisymmetric place_of place_of (tile_id contents) (tile_id (contents ++ c ∷ [])) tiles k (named c) (put coord)
-      ∙ (ap (λ (x : Content). with_value (tiles_held (tile_id contents) (newest_tiles tiles)) (place_at coord) (cond (is_null x.id) None (Some x.id))) (last_at c)
-      ∙ ap (with_value (tiles_held (tile_id contents) (newest_tiles tiles)) (place_at coord)) (new_id o (present_for bytes))))
+      (id_put c coord ∙ ap (with_value (tiles_held (tile_id contents) (newest_tiles tiles)) (place_at coord)) (new_id o (present_for bytes)))
       (new_contents o bytes (present_for bytes))
-      (newest_put places_total places_antisymmetric place_of place_of (tile_dates dates) (tile_dates (dates ++ added_dates layout)) tiles k (times c) (put coord)
-      ∙ ap (with_value (tiles_held (tile_dates dates) (newest_tiles tiles)) (place_at coord)) (dates_added contents c dates layout dated))
-      (newest_put places_total places_antisymmetric place_of place_of (λ t. if_edited t.standing) (λ t. if_edited t.standing) tiles k (always (λ t. if_edited t.standing) (λ t. if_edited t.standing) tiles (λ x. refl)) (put coord))
+      (other_put tile_dates coord)
+      (other_put (λ t. if_edited t.standing) coord)
       (new_ids o bytes (present_for bytes))
       refl
 
-  -- the same of what a call leaves
-  pub put_view : (coord : Coord) (bytes given : List ℕ) (id : Cell) (null : Bool) (index : ℕ) (contents' : List Content) (order' : List ℕ) (dates' : List Dates) (tiles' : List StoredTile) → given ≡ bytes → id ≡ unwrap_or (id_for layout a given) Null → null ≡ is_null id → index ≡ length contents → contents' ≡ contents ++ record { id = id; cell = Blob bytes; standing = Put } ∷ [] → order' ≡ order ++ listed null index → dates' ≡ dates ++ added_dates layout → tiles' ≡ tiles ++ record { coord = coord; contents = index; standing = Put } ∷ [] → held_of layout a p contents' (newest_ids contents' order') dates' (newest_tiles tiles') (newest_names names) ≡ with_tile held (place_at coord) bytes
-  put_view coord bytes given id null index contents' order' dates' tiles' g i n k c o d t = rw (c, o, d, t, n, k, i, g) (held_put coord bytes)
+  -- null that is put at a coordinate
+  abbrev null : Content
+  null = record { id = Null; cell = Null; standing = Put }
 
-  pub put_whole : (coord : Coord) (bytes : List ℕ) (id : Cell) (index : ℕ) (contents' : List Content) (tiles' : List StoredTile) → index ≡ length contents → contents' ≡ contents ++ record { id = id; cell = Blob bytes; standing = Put } ∷ [] → tiles' ≡ tiles ++ record { coord = coord; contents = index; standing = Put } ∷ [] → All (IsTile contents') tiles'
-  put_whole coord bytes id index contents' tiles' k c t =
-      let x : Content = record { id = id; cell = Blob bytes; standing = Put } in
-      rw (c, t) (All-push (IsTile (contents ++ x ∷ [])) tiles (record { coord = coord; contents = index; standing = Put }) (All-weaker (IsTile contents) (IsTile (contents ++ x ∷ [])) (tile_kept contents x) tiles whole)
-      (λ live. ap (λ i. is_some (contents_of (content_at (contents ++ x ∷ []) i).cell)) k ∙ ap (λ (x : Content). is_some (contents_of x.cell)) (last_at x)))
+  pub held_null : (coord : Coord) → held_of layout a p (contents ++ null ∷ []) (newest_ids (contents ++ null ∷ []) order) (newest_tiles (tiles ++ put coord ∷ [])) (newest_names names) ≡ with_null held (place_at coord)
+  held_null coord =
+      parts_same layout a p _ _ _ _ _ _ _ _ _ _ _ _ _ _ _ _
+      (value_put null coord)
+      refl
+      (id_put null coord)
+      (same_contents null)
+      (other_put tile_dates coord)
+      (other_put (λ t. if_edited t.standing) coord)
+      (same_edited null)
+      refl
+
+  -- the same of what a call leaves
+  pub put_view : (coord : Coord) (bytes given : List ℕ) (id : Cell) (null : Bool) (index : ℕ) (d : Option Dates) (contents' : List Content) (order' : List ℕ) (tiles' : List StoredTile) → given ≡ bytes → id ≡ unwrap_or (id_for layout a given) Null → null ≡ is_null id → index ≡ length contents → d ≡ dates_for layout → contents' ≡ contents ++ record { id = id; cell = Blob bytes; standing = Put } ∷ [] → order' ≡ order ++ listed null index → tiles' ≡ tiles ++ record { coord = coord; contents = index; dates = d; standing = Put } ∷ [] → held_of layout a p contents' (newest_ids contents' order') (newest_tiles tiles') (newest_names names) ≡ with_tile held (place_at coord) bytes
+  put_view coord bytes given id null index d contents' order' tiles' g i n k e c o t = rw (c, o, t, e, n, k, i, g) (held_put coord bytes)
+
+  pub null_view : (coord : Coord) (c : Content) (index : ℕ) (d : Option Dates) (contents' : List Content) (tiles' : List StoredTile) → c ≡ null → index ≡ length contents → d ≡ dates_for layout → contents' ≡ contents ++ c ∷ [] → tiles' ≡ tiles ++ record { coord = coord; contents = index; dates = d; standing = Put } ∷ [] → held_of layout a p contents' (newest_ids contents' order) (newest_tiles tiles') (newest_names names) ≡ with_null held (place_at coord)
+  null_view coord c index d contents' tiles' n k e m t = rw (m, t, e, k, n) (held_null coord)
+
+  pub put_whole : (t : StoredTile) (c : Content) (contents' : List Content) (tiles' : List StoredTile) → is_some (contents_of c.cell) ≡ true → t.contents ≡ length contents → contents' ≡ contents ++ c ∷ [] → tiles' ≡ tiles ++ t ∷ [] → All (IsTile contents') tiles'
+  put_whole t c contents' tiles' whole_one k m e =
+      rw (m, e) (All-push (IsTile (contents ++ c ∷ [])) tiles t (All-weaker (IsTile contents) (IsTile (contents ++ c ∷ [])) (tile_kept contents c) tiles whole)
+      (λ live. ap (λ i. is_some (contents_of (content_at (contents ++ c ∷ []) i).cell)) k ∙ (ap (λ (x : Content). is_some (contents_of x.cell)) (last_at c) ∙ whole_one)))
+
+  pub kept_ids : (c : Content) (contents' : List Content) → contents' ≡ contents ++ c ∷ [] → All (HasId contents') order
+  kept_ids c contents' m = rw m (All-weaker (HasId contents) (HasId (contents ++ c ∷ [])) (id_kept contents c) order ids)
 
   pub put_ids : (bytes : List ℕ) (id : Cell) (null : Bool) (index : ℕ) (contents' : List Content) (order' : List ℕ) → null ≡ is_null id → index ≡ length contents → contents' ≡ contents ++ record { id = id; cell = Blob bytes; standing = Put } ∷ [] → order' ≡ order ++ listed null index → All (HasId contents') order'
   put_ids bytes id null index contents' order' n k c o = rw (c, o) (by null n)
@@ -182,38 +233,41 @@ module _ (layout : MbtType) (a : HashAlgorithm) (p : Option PatchType) (contents
       by true e = subst (All (HasId (contents ++ x ∷ []))) (sym (append-nil order)) kept
       by false e = All-push (HasId (contents ++ x ∷ [])) order index kept (ap (λ i. is_null (id_at (contents ++ x ∷ []) i)) k ∙ (ap (λ (x : Content). is_null x.id) (last_at x) ∙ sym e))
 
-  pub put_dated : (bytes : List ℕ) (id : Cell) (contents' : List Content) (dates' : List Dates) → contents' ≡ contents ++ record { id = id; cell = Blob bytes; standing = Put } ∷ [] → dates' ≡ dates ++ added_dates layout → AreDated layout contents' dates'
-  put_dated bytes id contents' dates' c d = rw (c, d) (dated_more contents (record { id = id; cell = Blob bytes; standing = Put }) dates layout dated)
+  pub put_dated : (t : StoredTile) (tiles' : List StoredTile) → All (IsDated layout) tiles → t.dates ≡ dates_for layout → tiles' ≡ tiles ++ t ∷ [] → All (IsDated layout) tiles'
+  put_dated t tiles' dated d e = rw e (All-push (IsDated layout) tiles t dated (λ live. ap is_some d ∙ dates_some layout))
 
 -- marks and names
-module _ (layout : MbtType) (a : HashAlgorithm) (p : Option PatchType) (contents : List Content) (order : List ℕ) (dates : List Dates) (tiles : List StoredTile) (names : List StoredName) where
+module _ (layout : MbtType) (a : HashAlgorithm) (p : Option PatchType) (contents : List Content) (order : List ℕ) (tiles : List StoredTile) (names : List StoredName) where
   abbrev kept : Held
-  kept = held_of layout a p contents (newest_ids contents order) dates (newest_tiles tiles) (newest_names names)
+  kept = held_of layout a p contents (newest_ids contents order) (newest_tiles tiles) (newest_names names)
 
-  one_more : {V : Type 0} (value : StoredTile → Option V) (t : StoredTile) → tiles_held value (newest_tiles (tiles ++ t ∷ [])) ≡ with_value (tiles_held value (newest_tiles tiles)) (place_of t) (value t)
+  pub one_more : {V : Type 0} (value : StoredTile → Option V) (t : StoredTile) → tiles_held value (newest_tiles (tiles ++ t ∷ [])) ≡ with_value (tiles_held value (newest_tiles tiles)) (place_of t) (value t)
   one_more value t = newest_put places_total places_antisymmetric place_of place_of value value tiles (always place_of place_of tiles (λ x. refl)) (always value value tiles (λ x. refl)) t
 
   -- a mark at a coordinate
-  pub held_gone : (coord : Coord) (tiles' : List StoredTile) → tiles' ≡ tiles ++ record { coord = coord; contents = 0; standing = Removed } ∷ [] → held_of layout a p contents (newest_ids contents order) dates (newest_tiles tiles') (newest_names names) ≡ removed_tile kept (place_at coord)
+  pub held_gone : (coord : Coord) (tiles' : List StoredTile) → tiles' ≡ tiles ++ record { coord = coord; contents = 0; dates = None; standing = Removed } ∷ [] → held_of layout a p contents (newest_ids contents order) (newest_tiles tiles') (newest_names names) ≡ removed_tile kept (place_at coord)
   held_gone coord tiles' e =
-      let t : StoredTile = record { coord = coord; contents = 0; standing = Removed } in
+      let t : StoredTile = record { coord = coord; contents = 0; dates = None; standing = Removed } in
       rw e (parts_same layout a p _ _ _ _ _ _ _ _ _ _ _ _ _ _ _ _
-      (one_more (tile_value contents) t) refl (one_more (tile_id contents) t) refl (one_more (tile_dates dates) t) (one_more (λ t. if_edited t.standing) t) refl refl)
+      (one_more (tile_value contents) t) refl (one_more (tile_id contents) t) refl (one_more tile_dates t) (one_more (λ t. if_edited t.standing) t) refl refl)
 
-  pub gone_whole : (coord : Coord) (tiles' : List StoredTile) → All (IsTile contents) tiles → tiles' ≡ tiles ++ record { coord = coord; contents = 0; standing = Removed } ∷ [] → All (IsTile contents) tiles'
-  gone_whole coord tiles' whole e = rw e (All-push (IsTile contents) tiles (record { coord = coord; contents = 0; standing = Removed }) whole (λ live. absurd (false≢true (sym live))))
+  pub gone_whole : (coord : Coord) (tiles' : List StoredTile) → All (IsTile contents) tiles → tiles' ≡ tiles ++ record { coord = coord; contents = 0; dates = None; standing = Removed } ∷ [] → All (IsTile contents) tiles'
+  gone_whole coord tiles' whole e = rw e (All-push (IsTile contents) tiles (record { coord = coord; contents = 0; dates = None; standing = Removed }) whole (λ live. absurd (false≢true (sym live))))
+
+  pub gone_dated : (coord : Coord) (tiles' : List StoredTile) → All (IsDated layout) tiles → tiles' ≡ tiles ++ record { coord = coord; contents = 0; dates = None; standing = Removed } ∷ [] → All (IsDated layout) tiles'
+  gone_dated coord tiles' dated e = rw e (All-push (IsDated layout) tiles (record { coord = coord; contents = 0; dates = None; standing = Removed }) dated (λ live. absurd (false≢true (sym live))))
 
   one_name : {V : Type 0} (value : StoredName → Option V) (n : StoredName) → from_entries {R = slice_cmp nat_cmp} (entries_by name_of value (newest_names (names ++ n ∷ []))) ≡ with_value (from_entries (entries_by name_of value (newest_names names))) n.name (value n)
   one_name value n = newest_put nat_list_cmp_total names_antisymmetric name_of name_of value value names (always name_of name_of names (λ x. refl)) (always value value names (λ x. refl)) n
 
   -- a value under a name, or a mark
-  pub held_named : (name : List ℕ) (value : Cell) (names' : List StoredName) → names' ≡ names ++ record { name = name; value = value; standing = Put } ∷ [] → held_of layout a p contents (newest_ids contents order) dates (newest_tiles tiles) (newest_names names') ≡ with_name kept name (text_of value)
+  pub held_named : (name : List ℕ) (value : Cell) (names' : List StoredName) → names' ≡ names ++ record { name = name; value = value; standing = Put } ∷ [] → held_of layout a p contents (newest_ids contents order) (newest_tiles tiles) (newest_names names') ≡ with_name kept name (text_of value)
   held_named name value names' e =
       let n : StoredName = record { name = name; value = value; standing = Put } in
       rw e (parts_same layout a p _ _ _ _ _ _ _ _ _ _ _ _ _ _ _ _
       refl (one_name name_value n) refl refl refl refl refl (one_name (λ n. if_edited n.standing) n))
 
-  pub held_unnamed : (name given : List ℕ) (names' : List StoredName) → given ≡ name → names' ≡ names ++ record { name = given; value = Null; standing = Removed } ∷ [] → held_of layout a p contents (newest_ids contents order) dates (newest_tiles tiles) (newest_names names') ≡ removed_name kept name
+  pub held_unnamed : (name given : List ℕ) (names' : List StoredName) → given ≡ name → names' ≡ names ++ record { name = given; value = Null; standing = Removed } ∷ [] → held_of layout a p contents (newest_ids contents order) (newest_tiles tiles) (newest_names names') ≡ removed_name kept name
   held_unnamed name given names' same e =
       let n : StoredName = record { name = name; value = Null; standing = Removed } in
       rw (e, same) (parts_same layout a p _ _ _ _ _ _ _ _ _ _ _ _ _ _ _ _
@@ -227,11 +281,11 @@ module _ (layout : MbtType) (a : HashAlgorithm) (p : Option PatchType) (contents
       → StandsAs cell_cmp (id_at contents) (newest_ids contents order) order' → Apart cell_cmp (id_at contents) order'
       → StandsAs place_cmp place_of (newest_tiles tiles) tiles' → Apart place_cmp place_of tiles'
       → StandsAs (slice_cmp nat_cmp) name_of (newest_names names) names' → Apart (slice_cmp nat_cmp) name_of names'
-      → held_of layout a p contents' order' dates tiles' names' ≡ kept
+      → held_of layout a p contents' order' tiles' names' ≡ kept
   held_settled contents' order' tiles' names' same o oa t ta n na =
-      ap (λ l. held_of layout a p l order' dates tiles' names') same
+      ap (λ l. held_of layout a p l order' tiles' names') same
       ∙ parts_same layout a p _ _ _ _ _ _ _ _ _ _ _ _ _ _ _ _
-      (by_tile (tile_value contents)) (by_name name_value) (by_tile (tile_id contents)) (by_id (content_value contents)) (by_tile (tile_dates dates)) (by_tile (λ t. if_edited t.standing)) (by_id (λ i. if_edited (content_at contents i).standing)) (by_name (λ n. if_edited n.standing))
+      (by_tile (tile_value contents)) (by_name name_value) (by_tile (tile_id contents)) (by_id (content_value contents)) (by_tile tile_dates) (by_tile (λ t. if_edited t.standing)) (by_id (λ i. if_edited (content_at contents i).standing)) (by_name (λ n. if_edited n.standing))
     where
       by_tile : {V : Type 0} (value : StoredTile → Option V) → tiles_held value tiles' ≡ tiles_held value (newest_tiles tiles)
       by_tile value = stands_map places_total places_antisymmetric place_of value (newest_tiles tiles) tiles' t (newest_apart places_total place_of tiles) ta
@@ -243,14 +297,14 @@ module _ (layout : MbtType) (a : HashAlgorithm) (p : Option PatchType) (contents
       by_name value = stands_map nat_list_cmp_total names_antisymmetric name_of value (newest_names names) names' n (newest_apart nat_list_cmp_total name_of names) na
 
   -- a set in order, opened
-  pub held_opened : Apart cell_cmp (id_at contents) order → Apart place_cmp place_of tiles → Apart (slice_cmp nat_cmp) name_of names → kept ≡ held_of layout a p contents order dates tiles names
+  pub held_opened : Apart cell_cmp (id_at contents) order → Apart place_cmp place_of tiles → Apart (slice_cmp nat_cmp) name_of names → kept ≡ held_of layout a p contents order tiles names
   held_opened o t n =
       parts_same layout a p _ _ _ _ _ _ _ _ _ _ _ _ _ _ _ _
       (newest_of_apart places_total places_antisymmetric place_of (tile_value contents) tiles t)
       (newest_of_apart nat_list_cmp_total names_antisymmetric name_of name_value names n)
       (newest_of_apart places_total places_antisymmetric place_of (tile_id contents) tiles t)
       (newest_of_apart cells_total cell_cmp-IsAntisymmetric (id_at contents) (content_value contents) order o)
-      (newest_of_apart places_total places_antisymmetric place_of (tile_dates dates) tiles t)
+      (newest_of_apart places_total places_antisymmetric place_of tile_dates tiles t)
       (newest_of_apart places_total places_antisymmetric place_of (λ t. if_edited t.standing) tiles t)
       (newest_of_apart cells_total cell_cmp-IsAntisymmetric (id_at contents) (λ i. if_edited (content_at contents i).standing) order o)
       (newest_of_apart nat_list_cmp_total names_antisymmetric name_of (λ n. if_edited n.standing) names n)

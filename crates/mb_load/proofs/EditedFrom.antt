@@ -14,13 +14,14 @@ use Rattle.std.specs.FinMap.{FinMap, contains_key, entries, entries_sorted, get,
 use Rattle.std.proofs.lemmas.Bool.{false≢true}
 use Rattle.std.proofs.lemmas.Cmp.{nat_list_cmp_total}
 use Rattle.mb_lists.specs.Contents.{Contents}
-use Rattle.mb_load.specs.Edits.{dates_for, id_for, is_named, no_dates, only_referenced, removed_name, removed_tile, with_content, with_key, with_name, with_tile, with_value, without_name, without_tile}
-use Rattle.mb_lists.specs.Entries.{text_cell}
+use Rattle.mb_load.specs.Edits.{dates_for, id_for, is_named, only_referenced, removed_name, removed_tile, with_content, with_key, with_name, with_tile, with_value, without_name, without_tile}
+use Rattle.mb_lists.specs.Entries.{is_cache, text_cell}
 use Rattle.mb_load.specs.Held.{Held}
-use Rattle.mb_load.specs.LoadedFrom.{AreTimes, FitsPlace, IsContentOf, IsFree, IsLoadable, IsLoadedFrom, IsOnBoard, at_place, found, is_cache, is_editable}
+use Rattle.mb_load.specs.LoadedFrom.{AreTimes, FitsPlace, IsContentOf, IsFree, IsLoadable, IsLoadedFrom, IsOnBoard, at_place, found, is_editable}
 use Rattle.mb_load.specs.State.{State}
 use Rattle.mb_constraints.specs.TileRows.{dates_in, id_in, tile_in}
 use Rattle.mb_lists.specs.declared.dates.Dates.{Dates}
+use Rattle.mb_load.proofs.DatedLemmas.{dates_are, dates_some}
 use Rattle.mb_load.proofs.DroppedHeld.{any_unit, contents_with, edited_with}
 use Rattle.mb_load.proofs.EditMaps.{get-with_value}
 use Rattle.mb_lists.proofs.Items.{equal_of}
@@ -46,14 +47,14 @@ left_by : (b : Bool) (o : Option (Unit {0})) → is_some (cond b (Some tt) o) �
 left_by true o h = absurd (false≢true (sym h))
 left_by false o h = (refl, h)
 
-at_other : {A : Type 0} (b : Bool) (x y : A) → b ≡ false → cond b x y ≡ y
+pub at_other : {A : Type 0} (b : Bool) (x y : A) → b ≡ false → cond b x y ≡ y
 at_other b x y h = ap (λ b. cond b x y) h
 
-unedited : {K : Type 0} {R : K → K → Ordering} (total : IsTotalOrder R) (m : FinMap R (Unit {0})) (k q : K) → contains_key (insert m k tt) q ≡ false → (eq_by_cmp R q k ≡ false) × (contains_key m q ≡ false)
+pub unedited : {K : Type 0} {R : K → K → Ordering} (total : IsTotalOrder R) (m : FinMap R (Unit {0})) (k q : K) → contains_key (insert m k tt) q ≡ false → (eq_by_cmp R q k ≡ false) × (contains_key m q ≡ false)
 unedited {R = R} total m k q h = left_by (eq_by_cmp R q k) (get m q) (ap is_some (sym (get-insert total m k tt q)) ∙ h)
 
 -- rows that fit a state fit another that has the same at the place
-fits_same : (s s' : State) (p : Place) (rows : List (List Cell)) → s'.layout ≡ s.layout → get s'.tiles p ≡ get s.tiles p → get s'.ids p ≡ get s.ids p → get s'.dates p ≡ get s.dates p → FitsPlace s p rows → FitsPlace s' p rows
+pub fits_same : (s s' : State) (p : Place) (rows : List (List Cell)) → s'.layout ≡ s.layout → get s'.tiles p ≡ get s.tiles p → get s'.ids p ≡ get s.ids p → get s'.dates p ≡ get s.dates p → FitsPlace s p rows → FitsPlace s' p rows
 fits_same s s' p rows l t i d fits = record {
   alone = fits.alone;
   tile = λ flat. ap (λ l. found (tile_in l []) p rows) l ∙ (fits.tile (ap is_normalized (sym l) ∙ flat) ∙ sym t);
@@ -61,11 +62,11 @@ fits_same s s' p rows l t i d fits = record {
   dates = ap (λ l. found (at_place (dates_in l)) p rows) l ∙ (fits.dates ∙ sym d);
 }
 
-by_test : {A : Type 0} (b : Bool) → (b ≡ true → A) → (b ≡ false → A) → A
+pub by_test : {A : Type 0} (b : Bool) → (b ≡ true → A) → (b ≡ false → A) → A
 by_test true f g = f refl
 by_test false f g = g refl
 
-same_place : (p q : Place) → eq_by_cmp place_cmp p q ≡ true → p ≡ q
+pub same_place : (p q : Place) → eq_by_cmp place_cmp p q ≡ true → p ≡ q
 same_place p q h = places_antisymmetric p q (equal_of (place_cmp p q) h)
 
 -- names
@@ -180,18 +181,6 @@ id_is (Normalized view schema) a bytes id h = let e : Text (digest a bytes) ≡ 
 id_is Flat a bytes id h = cc
 id_is FlatWithHash a bytes id h = cc
 id_is Cache a bytes id h = cc
-
-dates_some : (l : MbtType) → is_some (dates_for l) ≡ is_cache l
-dates_some Cache = refl
-dates_some (Normalized view schema) = refl
-dates_some Flat = refl
-dates_some FlatWithHash = refl
-
-dates_are : (l : MbtType) (d : Dates) → dates_for l ≡ Some d → AreTimes d
-dates_are Cache d h = let e : no_dates ≡ d = cc in subst AreTimes e (record { fetched = refl; expires = refl; etag = refl })
-dates_are (Normalized view schema) d h = cc
-dates_are Flat d h = cc
-dates_are FlatWithHash d h = cc
 
 stored_under : (l : MbtType) (a : HashAlgorithm) (bytes : List ℕ) → is_editable l ≡ true → is_normalized l ≡ true → IsContentOf l a (Text (digest a bytes)) (Blob bytes)
 stored_under (Normalized view Hash) a bytes e n = record { normalised = refl; present = refl; kind = refl; digest = digest_right a bytes }

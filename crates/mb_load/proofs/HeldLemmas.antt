@@ -33,8 +33,8 @@ use Rattle.mb_tables.specs.declared.patch_type.PatchType.{PatchType}
 use Rattle.tile_hash.specs.declared.algorithm.HashAlgorithm.{HashAlgorithm}
 
 -- the order of tiles changes nothing that a set holds
-pub held_permuted : (layout : MbtType) (algorithm : HashAlgorithm) (patch_type : Option PatchType) (contents : List Content) (order : List ℕ) (dates : List Dates) (xs ys : List StoredTile) (names : List StoredName) → IsPermutation xs ys → Apart place_cmp place_of ys → held_of layout algorithm patch_type contents order dates ys names ≡ held_of layout algorithm patch_type contents order dates xs names
-held_permuted layout algorithm patch_type contents order dates xs ys names p a = λ i. record {
+pub held_permuted : (layout : MbtType) (algorithm : HashAlgorithm) (patch_type : Option PatchType) (contents : List Content) (order : List ℕ) (xs ys : List StoredTile) (names : List StoredName) → IsPermutation xs ys → Apart place_cmp place_of ys → held_of layout algorithm patch_type contents order ys names ≡ held_of layout algorithm patch_type contents order xs names
+held_permuted layout algorithm patch_type contents order xs ys names p a = λ i. record {
   state = record {
     layout = layout;
     algorithm = algorithm;
@@ -43,7 +43,7 @@ held_permuted layout algorithm patch_type contents order dates xs ys names p a =
     metadata = names_held names;
     ids = same (tile_id contents) i;
     contents = contents_held contents order;
-    dates = same (tile_dates dates) i;
+    dates = same tile_dates i;
   };
   edited = record {
     places = same (λ t. if_edited t.standing) i;
@@ -74,8 +74,8 @@ no_ids contents order h = none_by (id_at contents) (λ i. if_edited (content_at 
 no_names : (names : List StoredName) → All (λ n. n.standing ≡ Kept) names → entries_by name_of (λ n. if_edited n.standing) names ≡ []
 no_names names h = none_by name_of (λ n. if_edited n.standing) names (λ i d lt. ap if_edited (h i d lt))
 
-pub edited_none : (layout : MbtType) (algorithm : HashAlgorithm) (patch_type : Option PatchType) (contents : List Content) (order : List ℕ) (dates : List Dates) (tiles : List StoredTile) (names : List StoredName) → All (λ c. c.standing ≡ Kept) contents → All (λ t. t.standing ≡ Kept) tiles → All (λ n. n.standing ≡ Kept) names → (held_of layout algorithm patch_type contents order dates tiles names).edited ≡ nothing_edited
-edited_none layout algorithm patch_type contents order dates tiles names c t n = λ i. record {
+pub edited_none : (layout : MbtType) (algorithm : HashAlgorithm) (patch_type : Option PatchType) (contents : List Content) (order : List ℕ) (tiles : List StoredTile) (names : List StoredName) → All (λ c. c.standing ≡ Kept) contents → All (λ t. t.standing ≡ Kept) tiles → All (λ n. n.standing ≡ Kept) names → (held_of layout algorithm patch_type contents order tiles names).edited ≡ nothing_edited
+edited_none layout algorithm patch_type contents order tiles names c t n = λ i. record {
   places = no_places tiles t i;
   ids = from_entries {R = cell_cmp} (no_ids contents order c i);
   names = from_entries {R = slice_cmp nat_cmp} (no_names names n i);

@@ -10,6 +10,7 @@ pub mod DatedLemmas
 pub mod EditMaps
 pub mod MoreContents
 pub mod EditViews
+pub mod DatedViews
 pub mod PlacedViews
 pub mod Listed
 pub mod ChangeSteps
@@ -20,9 +21,13 @@ pub mod PutRowLemmas
 pub mod CommitLemmas
 pub mod FrameLemmas
 pub mod EditedFrom
+pub mod NullFrom
 pub mod KeyReading
 pub mod RowsPass
 pub mod LoadsFrom
 pub mod StateAgain
 pub mod CommittedLemmas
 pub mod BegunLemmas
+pub mod CopyViews
+pub mod CopyLemmas
+pub mod GivenLemmas

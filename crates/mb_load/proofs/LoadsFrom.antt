@@ -13,12 +13,12 @@ use Rattle.mb_constraints.specs.Algorithm.{algorithm_by, unknown_name}
 use Rattle.mb_load.specs.Changing.{content_table, tile_key}
 use Rattle.mb_lists.specs.Contents.{content_entry, content_rows}
 use Rattle.mb_constraints.specs.Described.{index_missing, metadata_missing}
-use Rattle.mb_lists.specs.Entries.{text_cell}
+use Rattle.mb_lists.specs.Entries.{is_cache, text_cell}
 use Rattle.mb_constraints.specs.Hashes.{wrong_content_hash, wrong_hash}
 use Rattle.mb_load.specs.Held.{Held, fresh}
 use Rattle.mb_tables.specs.CellKinds.{has_tile_kinds, is_id, is_number, is_text}
 use Rattle.mb_load.specs.Loading.{Loads, due_by, held_by}
-use Rattle.mb_load.specs.LoadedFrom.{AllOnBoard, AreTimes, FitsPlace, IsContentOf, IsLoadable, IsLoadedFrom, IsOnBoard, NamesAlgorithm, at_place, found, is_cache}
+use Rattle.mb_load.specs.LoadedFrom.{AllOnBoard, AreTimes, FitsPlace, IsContentOf, IsLoadable, IsLoadedFrom, IsOnBoard, NamesAlgorithm, at_place, found}
 use Rattle.mb_load.specs.LoadingOrder.{refusals, row_refusals}
 use Rattle.mb_lists.specs.Metadata.{name_entry}
 use Rattle.mb_tables.specs.Refusals.{first_refusal}

@@ -11,7 +11,8 @@ use Rattle.mb_constraints.specs.Algorithm.{algorithm_of, algorithm_unknown}
 use Rattle.mb_lists.specs.Contents.{are_apart, content_entry, fronts}
 use Rattle.mb_constraints.specs.Hashes.{hash_wrong, wrong_content_hash, wrong_tile_hash}
 use Rattle.mb_tables.specs.CellKinds.{has_name_kinds, has_tile_kinds, is_id}
-use Rattle.mb_load.specs.LoadedFrom.{at_place, is_cache}
+use Rattle.mb_lists.specs.Entries.{is_cache}
+use Rattle.mb_load.specs.LoadedFrom.{at_place}
 use Rattle.mb_load.specs.LoadingOrder.{row_refusals}
 use Rattle.mb_constraints.specs.References.{id_text, missing_reference}
 use Rattle.mb_tables.specs.Refusals.{first_refusal, first_refused, unless}

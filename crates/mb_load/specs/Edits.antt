@@ -58,6 +58,24 @@ with_tile h p bytes = record {
   };
 }
 
+-- null at a place of a set without ids: in a cache without times
+abbrev pub with_null : Held → Place → Held
+with_null h p = record {
+  state = record h.state {
+    tiles = insert h.state.tiles p None;
+    ids = remove h.state.ids p;
+    dates = with_value h.state.dates p (dates_for h.state.layout);
+  };
+  edited = record h.edited { places = insert h.edited.places p tt };
+}
+
+-- other times of the tile at a place
+abbrev pub with_dates : Held → Place → Dates → Held
+with_dates h p dates = record {
+  state = record h.state { dates = insert h.state.dates p dates };
+  edited = record h.edited { places = insert h.edited.places p tt };
+}
+
 -- no tile at a place, which counts as edited
 abbrev pub removed_tile : Held → Place → Held
 removed_tile h p = record {

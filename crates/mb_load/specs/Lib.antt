@@ -11,7 +11,9 @@ pub mod Edits
 pub mod Changing
 pub mod LoadedFrom
 pub mod Committed
-pub mod Adding
 pub mod PutRows
 pub mod Committing
 pub mod Begun
+pub mod FromLast
+pub mod GivenIds
+pub mod Copying

@@ -4,6 +4,7 @@ use Rattle.std.specs.FinMap.{contains_key, find, get}
 use Rattle.mb_constraints.specs.Algorithm.{algorithm_by, unknown_name}
 use Rattle.mb_load.specs.Changing.{content_row, content_table, name_row, tile_key}
 use Rattle.mb_lists.specs.Contents.{content_rows}
+use Rattle.mb_lists.specs.Entries.{is_cache}
 use Rattle.mb_constraints.specs.Described.{index_missing, metadata_missing}
 use Rattle.mb_constraints.specs.Hashes.{wrong_content_hash, wrong_tile_hash}
 use Rattle.mb_load.specs.Held.{Held}
@@ -23,7 +24,7 @@ use Rattle.mb_tables.specs.declared.cell.Cell.TheVariants.{Text, Blob}
 use Rattle.mb_tables.specs.declared.key.RowKey.{RowKey}
 use Rattle.mb_tables.specs.declared.key.RowKey.TheVariants.{TextId}
 use Rattle.mb_tables.specs.declared.kind.MbtType.{MbtType}
-use Rattle.mb_tables.specs.declared.kind.MbtType.TheVariants.{Normalized, Cache}
+use Rattle.mb_tables.specs.declared.kind.MbtType.TheVariants.{Normalized}
 use Rattle.mb_tables.specs.declared.kind.NormalizedSchema.TheVariants.{DedupId}
 use Rattle.mb_tables.specs.declared.table.TableName.TheVariants.{Metadata}
 use Rattle.tile_hash.specs.Digest.{digest}
@@ -38,10 +39,6 @@ pub record IsOnBoard (p : Place) : Type 0 where
 -- all tiles of a set stand at such places
 abbrev pub AllOnBoard : State → Type 0
 AllOnBoard s = (p : Place) → contains_key s.tiles p ≡ true → IsOnBoard p
-
-abbrev pub is_cache : MbtType → Bool
-is_cache Cache = true
-is_cache _ = false
 
 -- an id that contents of a layout can have, and that is their digest where the layout wants that
 pub record IsContentOf (layout : MbtType) (a : HashAlgorithm) (id cell : Cell) : Type 0 where

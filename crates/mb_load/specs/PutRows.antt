@@ -1,5 +1,5 @@
 -- The rows that entries of a set ask for, and the changes that put or remove them.
-use Rattle.std.specs.Prelude.{ℕ, List, [], ◌∷◌, ◌++◌, Option, Some, None, option_and_then, slice_get, unwrap_or}
+use Rattle.std.specs.Prelude.{ℕ, List, [], ◌∷◌, ◌++◌, Option, Some, None, option_and_then, unwrap_or}
 use Rattle.mb_load.specs.Changing.{content_table, front, tile_key}
 use Rattle.mb_load.specs.Edits.{no_dates}
 use Rattle.mb_lists.specs.Entries.{content_at, place_of}
@@ -38,8 +38,8 @@ cells_kept FlatWithHash a c dates = c.cell ∷ digest_cell a c.cell ∷ []
 cells_kept (Normalized view schema) a c dates = c.id ∷ []
 cells_kept Cache a c dates = times_cells (unwrap_or dates no_dates) ++ c.cell ∷ []
 
-abbrev pub row_of_tile : MbtType → HashAlgorithm → List Content → List Dates → StoredTile → List Cell
-row_of_tile layout a contents dates t = front (place_of t) ++ cells_kept layout a (content_at contents t.contents) (slice_get dates t.contents)
+abbrev pub row_of_tile : MbtType → HashAlgorithm → List Content → StoredTile → List Cell
+row_of_tile layout a contents t = front (place_of t) ++ cells_kept layout a (content_at contents t.contents) t.dates
 
 abbrev pub row_of_content : Content → List Cell
 row_of_content c = c.id ∷ c.cell ∷ []
@@ -59,8 +59,8 @@ change_by Kept row change = None
 change_by Put row change = Some (change (Some row))
 change_by Removed row change = Some (change None)
 
-abbrev pub tile_change : MbtType → HashAlgorithm → List Content → List Dates → StoredTile → Option Change
-tile_change layout a contents dates t = change_by t.standing (row_of_tile layout a contents dates t) (λ row. record { table = tile_table layout; key = tile_key (place_of t); row = row })
+abbrev pub tile_change : MbtType → HashAlgorithm → List Content → StoredTile → Option Change
+tile_change layout a contents t = change_by t.standing (row_of_tile layout a contents t) (λ row. record { table = tile_table layout; key = tile_key (place_of t); row = row })
 
 abbrev pub content_change : MbtType → Content → Option Change
 content_change layout c = option_and_then (λ key. change_by c.standing (row_of_content c) (λ row. record { table = content_table layout; key = key; row = row })) (id_key c.id)

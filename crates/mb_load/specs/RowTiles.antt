@@ -1,9 +1,8 @@
 -- What is kept of the rows of tiles means what the rows do.
 use Rattle.std.specs.Prelude.{◌≡◌, true, List, All, filter_map, is_some}
-use Rattle.mb_lists.specs.Entries.{place_of, tile_dates, tile_id, tile_value, tiles_held}
+use Rattle.mb_lists.specs.Entries.{IsDated, place_of, tile_dates, tile_id, tile_value, tiles_held}
 use Rattle.mb_lists.specs.Keyed.{entries_by}
 use Rattle.mb_constraints.specs.TileRows.{by_place, dates_in, id_in, tile_in}
-use Rattle.mb_lists.specs.declared.dates.Dates.{Dates}
 use Rattle.mb_lists.specs.declared.entries.Content.{Content}
 use Rattle.mb_lists.specs.declared.entries.Standing.TheVariants.{Kept}
 use Rattle.mb_lists.specs.declared.entries.StoredTile.{StoredTile}
@@ -11,9 +10,10 @@ use Rattle.mb_tables.specs.declared.cell.Cell.{Cell}
 use Rattle.mb_tables.specs.declared.kind.MbtType.{MbtType}
 
 -- tiles in the order of their rows, as loaded, each with bytes or null
-pub record AreTilesOf (layout : MbtType) (ids_rows rows : List (List Cell)) (contents : List Content) (dates : List Dates) (tiles : List StoredTile) : Type 0 where
+pub record AreTilesOf (layout : MbtType) (ids_rows rows : List (List Cell)) (contents : List Content) (tiles : List StoredTile) : Type 0 where
   pub values : entries_by place_of (tile_value contents) tiles ≡ filter_map (tile_in layout ids_rows) rows
   pub ids : tiles_held (tile_id contents) tiles ≡ by_place (id_in layout) rows
-  pub times : tiles_held (tile_dates dates) tiles ≡ by_place (dates_in layout) rows
+  pub times : tiles_held tile_dates tiles ≡ by_place (dates_in layout) rows
   pub whole : All (λ t. is_some (tile_value contents t) ≡ true) tiles
   pub kept : All (λ t. t.standing ≡ Kept) tiles
+  pub dated : All (IsDated layout) tiles

@@ -1,13 +1,11 @@
 // New contents behind those that are kept.
 ghost use Rattle.std.specs.Prelude.{◌≡◌, ◌++◌, ◌∷◌, ◌<◌, [], IfOk, OnOk, OnErr, length, unwrap_or, vec_capacity, vec_len};
-ghost use Rattle.mb_load.specs.Adding.{added_dates};
 ghost use Rattle.mb_lists.specs.Clearing.{listed};
-ghost use Rattle.mb_load.specs.Edits.{id_for};
-ghost use Rattle.mb_lists.specs.Entries.{AreDated};
+ghost use Rattle.mb_load.specs.Edits.{dates_for, id_for};
 ghost use Rattle.mb_tables.specs.declared.cell.Cell.TheVariants.{Null};
 
 use base_values::OutOfMemory;
-use mb_lists::{Content, Dates};
+use mb_lists::{Content, Dates, Standing, TileDates};
 use mb_store::{Cell, MbtType};
 use std::alloc::Global;
 use tile_hash::HashAlgorithm;
@@ -27,41 +25,45 @@ pub(crate) fn id_for(
     }
 }
 
-// The times of a new tile of a layout, if it has any.
-fn add_dates(layout: MbtType, dates: &mut Vec<Dates>) -> Result<(), OutOfMemory>
-    ensures ok { OnOk result (dates.new.items ≡ dates.old.items ++ added_dates layout) }
-    ensures err { OnErr result (dates.new.items ≡ dates.old.items) }
+/// The times that a layout gives a tile that is put: none are known.
+pub(crate) fn dates_for(alloc: Global, layout: MbtType) -> Result<TileDates, OutOfMemory>
+    ensures { IfOk result (λ dates. dates ≡ dates_for layout) }
 {
     match layout {
-        MbtType::Cache => {
-            dates.push(Dates {
+        MbtType::Cache => TileDates::new(
+            alloc,
+            Dates {
                 fetched: Cell::Null,
                 expires: Cell::Null,
                 etag: Cell::Null,
-            })?;
-            Ok(())
-        }
-        _ => Ok(()),
+            },
+        ),
+        _ => Ok(TileDates::none()),
     }
 }
 
-/// Adds contents, in a cache with times that aren't known, and answers their index. Refused, all is as it was.
+/// Null without an id, as it is put.
+pub(crate) fn null_content() -> Content
+    ensures { result ≡ record { id = Null; cell = Null; standing = Standing.Put } }
+{
+    Content {
+        id: Cell::Null,
+        cell: Cell::Null,
+        standing: Standing::Put,
+    }
+}
+
+/// Adds contents, and answers their index. Refused, all is as it was.
 pub(crate) fn add_content(
-    layout: MbtType,
     contents: &mut Vec<Content>,
-    dates: &mut Vec<Dates>,
     content: Content,
 ) -> Result<usize, OutOfMemory>
     ensures index { IfOk result (λ i. i ≡ length contents.old.items) }
     ensures contents { OnOk result (contents.new.items ≡ contents.old.items ++ content ∷ []) }
-    ensures dates { OnOk result (dates.new.items ≡ dates.old.items ++ added_dates layout) }
     ensures same { OnErr result (contents.new.items ≡ contents.old.items) }
-    ensures times { OnErr result (dates.new.items ≡ dates.old.items) }
 {
     let index = contents.len();
-    contents.reserve(1)?;
-    add_dates(layout, dates)?;
-    contents.push_reserved(content);
+    contents.push(content)?;
     Ok(index)
 }
 

@@ -1,6 +1,6 @@
 // A set from the tiles and names that are kept of its rows.
 ghost use Rattle.std.specs.Prelude.{◌≡◌, All, IfNone, IfSome, false, is_some, map, true};
-ghost use Rattle.mb_lists.specs.Entries.{AreDated, AreNamesInOrder, IsName, place_of, tile_value};
+ghost use Rattle.mb_lists.specs.Entries.{AreNamesInOrder, IsDated, IsName, place_of, tile_value};
 ghost use Rattle.mb_load.specs.HeldEntries.{held_of};
 ghost use Rattle.mb_lists.specs.FromRows.{AreIndexed};
 ghost use Rattle.mb_lists.specs.Keyed.{are_distinct};
@@ -23,25 +23,20 @@ pub(crate) fn set_of(
     requires indexed { AreIndexed rows.contents.items.items rows.contents.live rows.contents.order.items }
     requires whole { All (λ t. is_some (tile_value rows.contents.items.items t) ≡ true) rows.tiles.items }
     requires kept { All (λ t. t.standing ≡ Kept) rows.tiles.items }
-    requires dated { AreDated layout rows.contents.items.items rows.dates.items }
+    requires dated { All (IsDated layout) rows.tiles.items }
     requires names { AreNamesInOrder names.live names.items.items }
     requires texts { All IsName names.items.items }
-    ensures held { IfSome result (λ l. l ≡ held_of layout algorithm patch_type rows.contents.items.items rows.contents.order.items rows.dates.items rows.tiles.items names.items.items) }
+    ensures held { IfSome result (λ l. l ≡ held_of layout algorithm patch_type rows.contents.items.items rows.contents.order.items rows.tiles.items names.items.items) }
     ensures apart { IfSome result (λ l. are_distinct place_cmp (map place_of rows.tiles.items) ≡ true) }
     ensures twice { IfNone result (are_distinct place_cmp (map place_of rows.tiles.items) ≡ false) }
 {
-    let RowTiles {
-        contents,
-        tiles,
-        dates,
-    } = rows;
+    let RowTiles { contents, tiles } = rows;
     match TileList::in_order(tiles) {
         Some(tiles) => Some(Loaded {
             layout,
             algorithm,
             patch_type,
             contents,
-            dates,
             tiles,
             names,
         }),

@@ -14,7 +14,7 @@ ghost use Rattle.mb_tables.specs.declared.table.TableName.TheVariants.{Metadata}
 use crate::Loaded;
 use crate::put_rows::{content_row, contents_table, id_key, name_row, place_key, tile_row};
 use base_values::OutOfMemory;
-use mb_lists::{Content, Dates, Standing, StoredName, StoredTile};
+use mb_lists::{Content, Standing, StoredName, StoredTile};
 use mb_store::{Changes, MbtType, RowKey, TableName};
 use std::alloc::Global;
 use tile_hash::HashAlgorithm;
@@ -26,16 +26,15 @@ fn add_tile(
     layout: MbtType,
     algorithm: HashAlgorithm,
     contents: &[Content],
-    dates: &[Dates],
     tile: &StoredTile,
 ) -> Result<(), OutOfMemory>
     requires { IsTile contents.now tile.now }
-    ensures { OnOk result (changes.new ≡ with_any changes.old (tile_change layout algorithm contents.now dates.now tile.now)) }
+    ensures { OnOk result (changes.new ≡ with_any changes.old (tile_change layout algorithm contents.now tile.now)) }
 {
     match tile.standing {
         Standing::Kept => Ok(()),
         Standing::Put => {
-            let row = tile_row(alloc, layout, algorithm, contents, dates, tile)?;
+            let row = tile_row(alloc, layout, algorithm, contents, tile)?;
             changes.put(layout.tile_table(), place_key(tile.coord), row)
         }
         Standing::Removed => changes.delete(layout.tile_table(), place_key(tile.coord)),
@@ -121,16 +120,15 @@ fn add_tiles(
     layout: MbtType,
     algorithm: HashAlgorithm,
     contents: &[Content],
-    dates: &[Dates],
     tiles: &[StoredTile],
 ) -> Result<(), OutOfMemory>
     requires none { changes.old ≡ [] }
     requires apart { Apart place_cmp place_of tiles.now }
     requires whole { All (IsTile contents.now) tiles.now }
-    ensures { OnOk result (changes.new ≡ filter_map (tile_change layout algorithm contents.now dates.now) tiles.now) }
+    ensures { OnOk result (changes.new ≡ filter_map (tile_change layout algorithm contents.now) tiles.now) }
 {
     for tile in tiles {
-        add_tile(alloc, changes, layout, algorithm, contents, dates, tile)?;
+        add_tile(alloc, changes, layout, algorithm, contents, tile)?;
     }
     Ok(())
 }
@@ -178,7 +176,6 @@ impl Loaded {
             self.layout,
             self.algorithm,
             &self.contents.items,
-            &self.dates,
             &self.tiles.items,
         )?;
         add_contents(

@@ -1,14 +1,19 @@
 // A loaded set that takes many edits.
 ghost use Rattle.std.specs.Prelude.{◌≡◌, IfOk, OnErr, OnOk, true};
-ghost use Rattle.mb_load.specs.Edits.{removed_name, removed_tile, with_name, with_tile};
+ghost use Rattle.std.specs.FinMap.{contains_key};
+ghost use Rattle.mb_load.specs.Edits.{removed_name, removed_tile, with_dates, with_name, with_null, with_tile};
 ghost use Rattle.mb_lists.specs.Entries.{place_at};
 ghost use Rattle.mb_tables.specs.CellKinds.{is_text};
 ghost use Rattle.mb_lists.specs.Metadata.{text_of};
+ghost use Rattle.mb_tables.specs.declared.kind.MbtType.TheVariants.{Cache};
 
 use crate::Loaded;
-use crate::adding::{add_content, id_for, list_id};
+use crate::adding::{add_content, dates_for, id_for, list_id, null_content};
 use base_values::{BlobVal, OutOfMemory, TextVal};
-use mb_lists::{Content, ContentList, Dates, NameList, Standing, StoredName, StoredTile, TileList};
+use mb_lists::{
+    Content, ContentList, Dates, NameList, Standing, StoredName, StoredTile, TileDates, TileList,
+    push_dated,
+};
 use mb_store::{Cell, MbtType, PatchType};
 use std::marker::Model;
 use tile_hash::HashAlgorithm;
@@ -17,30 +22,29 @@ use tile_ids::TileCoord;
 /// A loaded set that takes edits in any order, each in the time of a push: what was put last counts. `settle` puts all in order again.
 #[derive(Drop)]
 pub struct Editing {
-    layout: MbtType,
-    algorithm: HashAlgorithm,
-    patch_type: Option<PatchType>,
-    contents: Vec<Content>,
-    order: Vec<usize>,
-    dates: Vec<Dates>,
-    tiles: Vec<StoredTile>,
-    names: Vec<StoredName>,
+    pub(crate) layout: MbtType,
+    pub(crate) algorithm: HashAlgorithm,
+    pub(crate) patch_type: Option<PatchType>,
+    pub(crate) contents: Vec<Content>,
+    pub(crate) order: Vec<usize>,
+    pub(crate) tiles: Vec<StoredTile>,
+    pub(crate) names: Vec<StoredName>,
 }
 
 impl Model for Editing {
     ghost use Rattle.std.specs.Prelude.{All};
     ghost use Rattle.mb_load.specs.Held.{Held};
     ghost use Rattle.mb_load.specs.HeldCode.{held_code};
-    ghost use Rattle.mb_lists.specs.Entries.{AreDated, HasId, IsName, IsTile, newest_ids, newest_names, newest_tiles};
+    ghost use Rattle.mb_lists.specs.Entries.{HasId, IsDated, IsName, IsTile, newest_ids, newest_names, newest_tiles};
     ghost use Rattle.mb_load.specs.HeldEntries.{held_of};
 
     ghost Value = { Held };
 
     ghost coded = { held_code };
 
-    ghost view = { λ l. held_of l.layout l.algorithm l.patch_type l.contents.items (newest_ids l.contents.items l.order.items) l.dates.items (newest_tiles l.tiles.items) (newest_names l.names.items) };
+    ghost view = { λ l. held_of l.layout l.algorithm l.patch_type l.contents.items (newest_ids l.contents.items l.order.items) (newest_tiles l.tiles.items) (newest_names l.names.items) };
 
-    ghost invariant = { λ l. All (IsTile l.contents.items) l.tiles.items × All (HasId l.contents.items) l.order.items × AreDated l.layout l.contents.items l.dates.items × All IsName l.names.items };
+    ghost invariant = { λ l. All (IsTile l.contents.items) l.tiles.items × All (HasId l.contents.items) l.order.items × All (IsDated l.layout) l.tiles.items × All IsName l.names.items };
 }
 
 impl Loaded {
@@ -53,7 +57,6 @@ impl Loaded {
             algorithm,
             patch_type,
             contents,
-            dates,
             tiles,
             names,
         } = self;
@@ -63,7 +66,6 @@ impl Loaded {
             patch_type,
             contents: contents.items,
             order: contents.order,
-            dates,
             tiles: tiles.items,
             names: names.items,
         }
@@ -78,6 +80,7 @@ impl Editing {
     {
         let alloc = *self.contents.allocator();
         let id = id_for(alloc, self.layout, self.algorithm, bytes.as_bytes())?;
+        let dates = dates_for(alloc, self.layout)?;
         self.order.reserve(1)?;
         self.tiles.reserve(1)?;
         let is_null = id.is_null();
@@ -86,13 +89,57 @@ impl Editing {
             cell: Cell::Blob(bytes),
             standing: Standing::Put,
         };
-        let contents = add_content(self.layout, &mut self.contents, &mut self.dates, content)?;
+        let contents = add_content(&mut self.contents, content)?;
         list_id(&mut self.order, is_null, contents);
         self.tiles.push_reserved(StoredTile {
             coord,
             contents,
+            dates,
             standing: Standing::Put,
         });
+        Ok(())
+    }
+
+    /// Puts null at a coordinate of a set without ids, in a cache without times.
+    pub fn set_null(&mut self, coord: TileCoord) -> Result<(), OutOfMemory>
+        ensures ok { OnOk result (self.new ≡ with_null self.old (place_at coord)) }
+        ensures err { OnErr result (self.new ≡ self.old) }
+    {
+        let alloc = *self.contents.allocator();
+        let dates = dates_for(alloc, self.layout)?;
+        self.tiles.reserve(1)?;
+        let contents = add_content(&mut self.contents, null_content())?;
+        self.tiles.push_reserved(StoredTile {
+            coord,
+            contents,
+            dates,
+            standing: Standing::Put,
+        });
+        Ok(())
+    }
+
+    /// Gives the tile at a coordinate of a cache other times: when it was fetched and when it expires, numbers or null, and its version, a text or
+    /// null. It looks back from the last edit to the latest one at the coordinate, so that the tile that was put last is found at once.
+    pub fn set_cache_fields(
+        &mut self,
+        coord: TileCoord,
+        fetched: Cell,
+        expires: Cell,
+        etag: Cell,
+    ) -> Result<(), OutOfMemory>
+        requires layout { self.old.state.layout ≡ Cache }
+        requires there { contains_key self.old.state.tiles (place_at coord) ≡ true }
+        ensures ok { OnOk result (self.new ≡ with_dates self.old (place_at coord) (record { fetched = fetched; expires = expires; etag = etag })) }
+        ensures err { OnErr result (self.new ≡ self.old) }
+    {
+        let alloc = *self.tiles.allocator();
+        let dates = Dates {
+            fetched,
+            expires,
+            etag,
+        };
+        let dates = TileDates::new(alloc, dates)?;
+        push_dated(&mut self.tiles, coord, dates)?;
         Ok(())
     }
 
@@ -101,11 +148,7 @@ impl Editing {
         ensures ok { OnOk result (self.new ≡ removed_tile self.old (place_at coord)) }
         ensures err { OnErr result (self.new ≡ self.old) }
     {
-        self.tiles.push(StoredTile {
-            coord,
-            contents: 0,
-            standing: Standing::Removed,
-        })?;
+        self.tiles.push(StoredTile::mark(coord))?;
         Ok(())
     }
 
@@ -148,7 +191,6 @@ impl Editing {
             patch_type,
             contents,
             order,
-            dates,
             tiles,
             names,
         } = self;
@@ -160,7 +202,6 @@ impl Editing {
             algorithm,
             patch_type,
             contents,
-            dates,
             tiles,
             names,
         })

@@ -1,22 +1,24 @@
 //! Laws of loading, and of commits of a loaded set's changes.
-ghost use Rattle.std.specs.Prelude.{◌≡◌, ℕ, List, Ok, Option, None, Some, true};
-ghost use Rattle.std.specs.FinMap.{get};
+ghost use Rattle.std.specs.Prelude.{◌≡◌, ℕ, List, Ok, Option, None, Some, false, true};
+ghost use Rattle.std.specs.FinMap.{contains_key, get};
 ghost use Rattle.mb_load.specs.Changing.{AreChangesOf};
 ghost use Rattle.mb_load.specs.Committed.{IsCommitted};
-ghost use Rattle.mb_load.specs.Edits.{only_referenced, removed_name, removed_tile, with_name, with_tile, without_name, without_tile};
+ghost use Rattle.mb_load.specs.Edits.{only_referenced, removed_name, removed_tile, with_dates, with_name, with_null, with_tile, without_name, without_tile};
 ghost use Rattle.mb_load.specs.Held.{Held, fresh};
-ghost use Rattle.mb_load.specs.LoadedFrom.{IsFree, IsLoadable, IsLoadedFrom, IsOnBoard, NamesAlgorithm, is_editable};
+ghost use Rattle.mb_load.specs.LoadedFrom.{AreTimes, IsFree, IsLoadable, IsLoadedFrom, IsOnBoard, NamesAlgorithm, is_editable};
 ghost use Rattle.mb_load.specs.State.{State, state_of};
 ghost use Rattle.mb_constraints.specs.TileRows.{place_twice};
+ghost use Rattle.mb_lists.specs.declared.dates.Dates.{Dates};
 ghost use Rattle.mb_store.specs.Committing.{AreOfTables, Commits};
 ghost use Rattle.mb_store.specs.Store.{IsSound};
 ghost use Rattle.mb_store.specs.declared.change.Change.{Change};
 ghost use Rattle.mb_tables.specs.Described.{is_keyed};
-ghost use Rattle.mb_tables.specs.Kind.{tile_table};
+ghost use Rattle.mb_tables.specs.Kind.{is_normalized, tile_table};
 ghost use Rattle.mb_tables.specs.Table.{Tables};
 ghost use Rattle.mb_tables.specs.Tiles.{Place};
 ghost use Rattle.mb_tables.specs.declared.cell.Cell.{Cell};
 ghost use Rattle.mb_tables.specs.declared.kind.MbtType.{MbtType};
+ghost use Rattle.mb_tables.specs.declared.kind.MbtType.TheVariants.{Cache};
 
 /// No place stands twice in what a store tells, so that its state never hangs on the last test of loading.
 pub fn told_places_apart()
@@ -34,9 +36,12 @@ pub fn changes_of_tables()
 {}
 
 /// Tables that a set was loaded from are so of the edited set, too: after bytes were put at a place of zoom 0 to 30 of a layout that can be
-/// edited, where no other contents stand under their digest, and after each other edit.
+/// edited, where no other contents stand under their digest; after null was put at one of a layout without ids; after a tile of a cache got times of
+/// their kinds; and after each other edit.
 pub fn edits_stay_loaded()
     ensures put { (t : Tables) (h : Held) (p : Place) (bytes : List ℕ) → IsOnBoard p → is_editable h.state.layout ≡ true → IsFree h.state bytes → IsLoadedFrom t h → IsLoadedFrom t (with_tile h p bytes) }
+    ensures nulled { (t : Tables) (h : Held) (p : Place) → IsOnBoard p → is_normalized h.state.layout ≡ false → IsLoadedFrom t h → IsLoadedFrom t (with_null h p) }
+    ensures dated { (t : Tables) (h : Held) (p : Place) (dates : Dates) → h.state.layout ≡ Cache → contains_key h.state.tiles p ≡ true → AreTimes dates → IsLoadedFrom t h → IsLoadedFrom t (with_dates h p dates) }
     ensures removed { (t : Tables) (h : Held) (p : Place) → IsLoadedFrom t h → IsLoadedFrom t (removed_tile h p) × IsLoadedFrom t (without_tile h p) }
     ensures named { (t : Tables) (h : Held) (name : List ℕ) (value : Option (List ℕ)) → IsLoadedFrom t h → IsLoadedFrom t (with_name h name value) }
     ensures dropped { (t : Tables) (h : Held) → IsLoadedFrom t h → IsLoadedFrom t (only_referenced h) }

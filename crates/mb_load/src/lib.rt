@@ -6,8 +6,10 @@ mod aggregate;
 mod assembling;
 mod changes;
 mod commit;
+mod copying;
 mod editing;
 mod from_rows;
+mod given_ids;
 pub mod laws;
 mod loaded;
 mod loading;
@@ -18,6 +20,7 @@ mod tiles_of_rows;
 
 pub use commit::commit_loaded;
 pub use editing::Editing;
+pub use given_ids::GivenIds;
 pub use loaded::Loaded;
 pub use loading::load;
 pub use mb_constraints::{test_base_hashes, test_patch_hashes};

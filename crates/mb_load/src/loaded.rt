@@ -5,7 +5,7 @@ ghost use Rattle.mb_lists.specs.Entries.{blob_cell, place_at, text_cell};
 ghost use Rattle.mb_lists.specs.Metadata.{text_at};
 
 use base_values::TextVal;
-use mb_lists::{ContentList, Dates, NameList, TileList, kept_cell, kept_id};
+use mb_lists::{ContentList, NameList, TileDates, TileList, kept_cell, kept_id};
 use mb_store::{Cell, MbtType, PatchType};
 use std::marker::Model;
 use tile_hash::HashAlgorithm;
@@ -19,7 +19,6 @@ pub struct Loaded {
     pub(crate) algorithm: HashAlgorithm,
     pub(crate) patch_type: Option<PatchType>,
     pub(crate) contents: ContentList,
-    pub(crate) dates: Vec<Dates>,
     pub(crate) tiles: TileList,
     pub(crate) names: NameList,
 }
@@ -28,16 +27,26 @@ impl Model for Loaded {
     ghost use Rattle.std.specs.Prelude.{All};
     ghost use Rattle.mb_load.specs.Held.{Held};
     ghost use Rattle.mb_load.specs.HeldCode.{held_code};
-    ghost use Rattle.mb_lists.specs.Entries.{AreContentsInOrder, AreDated, AreInOrder, AreNamesInOrder, HasId, IsName, IsTile};
+    ghost use Rattle.mb_lists.specs.Entries.{AreContentsInOrder, AreInOrder, AreNamesInOrder, HasId, IsDated, IsName, IsTile};
     ghost use Rattle.mb_load.specs.HeldEntries.{held_of};
 
     ghost Value = { Held };
 
     ghost coded = { held_code };
 
-    ghost view = { λ l. held_of l.layout l.algorithm l.patch_type l.contents.items.items l.contents.order.items l.dates.items l.tiles.items.items l.names.items.items };
+    ghost view = { λ l. held_of l.layout l.algorithm l.patch_type l.contents.items.items l.contents.order.items l.tiles.items.items l.names.items.items };
 
-    ghost invariant = { λ l. AreInOrder l.tiles.live l.tiles.items.items × All (IsTile l.contents.items.items) l.tiles.items.items × AreContentsInOrder l.contents.items.items l.contents.live l.contents.order.items × AreNamesInOrder l.names.live l.names.items.items × All IsName l.names.items.items × All (HasId l.contents.items.items) l.contents.order.items × AreDated l.layout l.contents.items.items l.dates.items };
+    ghost invariant = { λ l. AreInOrder l.tiles.live l.tiles.items.items × All (IsTile l.contents.items.items) l.tiles.items.items × AreContentsInOrder l.contents.items.items l.contents.live l.contents.order.items × AreNamesInOrder l.names.live l.names.items.items × All IsName l.names.items.items × All (HasId l.contents.items.items) l.contents.order.items × All (IsDated l.layout) l.tiles.items.items };
+}
+
+// The three times, if there are any.
+fn fields_of(dates: &TileDates) -> Option<(&Cell, &Cell, &Cell)>
+    ensures { option_map (λ cells. record { fetched = cells.0.now; expires = cells.1.now; etag = cells.2.now }) result ≡ dates.now }
+{
+    match dates.get() {
+        Some(dates) => Some((&dates.fetched, &dates.expires, &dates.etag)),
+        None => None,
+    }
 }
 
 impl Loaded {
@@ -94,6 +103,17 @@ impl Loaded {
     {
         match self.tiles.get(coord) {
             Some(tile) => kept_id(&self.contents.items, tile.contents),
+            None => None,
+        }
+    }
+
+    /// When the tile of a row of a cache was fetched, when it expires, and its version: numbers or null, and a text or null. None where there is no tile, and in the
+    /// other layouts.
+    pub fn cache_fields(&self, coord: TileCoord) -> Option<(&Cell, &Cell, &Cell)>
+        ensures { option_map (λ cells. record { fetched = cells.0.now; expires = cells.1.now; etag = cells.2.now }) result ≡ get self.now.state.dates (place_at coord) }
+    {
+        match self.tiles.get(coord) {
+            Some(tile) => fields_of(&tile.dates),
             None => None,
         }
     }

@@ -1,5 +1,5 @@
 // The rows that a set puts into its tables, and their keys.
-ghost use Rattle.std.specs.Prelude.{◌≡◌, ◌++◌, ◌∷◌, [], false, IfOk, OnOk, option_copied, slice_get, unwrap_or};
+ghost use Rattle.std.specs.Prelude.{◌≡◌, ◌++◌, ◌∷◌, [], false, IfOk, OnOk, option_copied, unwrap_or};
 ghost use Rattle.mb_load.specs.Changing.{content_table, front, tile_key};
 ghost use Rattle.mb_load.specs.Edits.{no_dates};
 ghost use Rattle.mb_lists.specs.Entries.{IsTile, is_gone, place_at};
@@ -143,16 +143,15 @@ pub(crate) fn tile_row(
     layout: MbtType,
     algorithm: HashAlgorithm,
     contents: &[Content],
-    dates: &[Dates],
     tile: &StoredTile,
 ) -> Result<Row, OutOfMemory>
     requires whole { IsTile contents.now tile.now }
     requires live { is_gone tile.now ≡ false }
-    ensures { IfOk result (λ row. row ≡ row_of_tile layout algorithm contents.now dates.now tile.now) }
+    ensures { IfOk result (λ row. row ≡ row_of_tile layout algorithm contents.now tile.now) }
 {
     let mut cells = place_cells(alloc, tile.coord)?;
     let content = &contents[tile.contents];
-    let dates = dates.get(tile.contents);
+    let dates = tile.dates.get();
     add_cells(alloc, layout, algorithm, content, dates, &mut cells)?;
     Ok(Row::new(cells))
 }

@@ -1,15 +1,17 @@
 // Edits of a loaded set, one at a time.
 ghost use Rattle.std.specs.Prelude.{◌≡◌, OnErr, OnOk, true};
-ghost use Rattle.mb_load.specs.Edits.{only_referenced, with_name, with_tile, without_name, without_tile};
+ghost use Rattle.std.specs.FinMap.{contains_key};
+ghost use Rattle.mb_load.specs.Edits.{only_referenced, with_dates, with_name, with_null, with_tile, without_name, without_tile};
 ghost use Rattle.mb_lists.specs.Entries.{place_at};
 ghost use Rattle.mb_tables.specs.CellKinds.{is_text};
 ghost use Rattle.mb_lists.specs.Metadata.{text_of};
+ghost use Rattle.mb_tables.specs.declared.kind.MbtType.TheVariants.{Cache};
 
 use crate::Loaded;
-use crate::adding::{add_content, id_for};
+use crate::adding::{add_content, dates_for, id_for, null_content};
 use base_values::{BlobVal, OutOfMemory, TextVal};
 use mb_lists::{
-    Content, ContentList, Standing, StoredName, StoredTile, TileList, mark_all, sort_named,
+    Content, ContentList, Dates, Standing, StoredName, StoredTile, TileList, mark_all, sort_named,
 };
 use mb_store::Cell;
 use tile_ids::TileCoord;
@@ -23,6 +25,7 @@ impl Loaded {
     {
         let alloc = *self.contents.items.allocator();
         let id = id_for(alloc, self.layout, self.algorithm, bytes.as_bytes())?;
+        let dates = dates_for(alloc, self.layout)?;
         self.contents.order.reserve(1)?;
         self.tiles.items.reserve(1)?;
         let is_null = id.is_null();
@@ -31,19 +34,49 @@ impl Loaded {
             cell: Cell::Blob(bytes),
             standing: Standing::Put,
         };
-        let contents = add_content(
-            self.layout,
-            &mut self.contents.items,
-            &mut self.dates,
-            content,
-        )?;
+        let contents = add_content(&mut self.contents.items, content)?;
         self.contents.list(is_null, contents);
         self.tiles.put(StoredTile {
             coord,
             contents,
+            dates,
             standing: Standing::Put,
         });
         Ok(())
+    }
+
+    /// Puts null at a coordinate of a set without ids, in a cache without times. It takes the time of a walk over what stands behind the
+    /// place; for many edits there is `edit`.
+    pub fn set_null(&mut self, coord: TileCoord) -> Result<(), OutOfMemory>
+        ensures ok { OnOk result (self.new ≡ with_null self.old (place_at coord)) }
+        ensures err { OnErr result (self.new ≡ self.old) }
+    {
+        let alloc = *self.contents.items.allocator();
+        let dates = dates_for(alloc, self.layout)?;
+        self.tiles.items.reserve(1)?;
+        let contents = add_content(&mut self.contents.items, null_content())?;
+        self.tiles.put(StoredTile {
+            coord,
+            contents,
+            dates,
+            standing: Standing::Put,
+        });
+        Ok(())
+    }
+
+    /// Gives the tile at a coordinate of a cache other times: when it was fetched and when it expires, numbers or null, and its version, a text or
+    /// null. It takes no memory.
+    pub fn set_cache_fields(&mut self, coord: TileCoord, fetched: Cell, expires: Cell, etag: Cell)
+        requires layout { self.old.state.layout ≡ Cache }
+        requires there { contains_key self.old.state.tiles (place_at coord) ≡ true }
+        ensures { self.new ≡ with_dates self.old (place_at coord) (record { fetched = fetched; expires = expires; etag = etag }) }
+    {
+        let dates = Dates {
+            fetched,
+            expires,
+            etag,
+        };
+        self.tiles.redate(coord, dates);
     }
 
     /// Removes the tile at a coordinate, which then counts as edited. Where there is none nothing changes.

@@ -1,7 +1,7 @@
 // The tiles of the rows of each layout.
 ghost use Rattle.std.specs.Prelude.{◌≡◌, All, IfOk, None, [], false};
 ghost use Rattle.mb_lists.specs.Contents.{contents_by_id};
-ghost use Rattle.mb_lists.specs.Entries.{AreDated, contents_held};
+ghost use Rattle.mb_lists.specs.Entries.{contents_held};
 ghost use Rattle.mb_lists.specs.FromRows.{AreIndexed, rows_kept};
 ghost use Rattle.mb_constraints.specs.References.{missing_reference};
 ghost use Rattle.mb_tables.specs.Refusals.{first_refused};
@@ -27,10 +27,9 @@ pub(crate) fn tiles_of(
     requires none { is_normalized layout ≡ false → contents.items.items ≡ [] }
     requires pass { first_refused (bad_tile layout (rows_kept contents.items.items)) rows.items ≡ None }
     requires there { first_refused (missing_reference layout (rows_kept contents.items.items)) rows.items ≡ None }
-    ensures tiles { IfOk result (λ t. AreTilesOf layout (rows_kept contents.items.items) rows.items t.contents.items.items t.dates.items t.tiles.items) }
+    ensures tiles { IfOk result (λ t. AreTilesOf layout (rows_kept contents.items.items) rows.items t.contents.items.items t.tiles.items) }
     ensures indexed { IfOk result (λ t. AreIndexed t.contents.items.items t.contents.live t.contents.order.items) }
     ensures fresh { IfOk result (λ t. All (λ c. c.standing ≡ Kept) t.contents.items.items) }
-    ensures dated { IfOk result (λ t. AreDated layout t.contents.items.items t.dates.items) }
     ensures held { IfOk result (λ t. contents_held t.contents.items.items t.contents.order.items ≡ contents_by_id (rows_kept contents.items.items)) }
 {
     match layout {

@@ -1,22 +1,35 @@
-use Rattle.std.proofs.Common.{◌≡◌, ◌∙◌, ap, sym, Some, cond}
+use Rattle.std.proofs.Common.{◌≡◌, ◌∙◌, ap, sym, subst, List, ℕ, Option, Some, cond, refl}
+use Rattle.std.specs.BTreeMap as tree
+use Rattle.std.specs.Ordering.{is_eq}
+use Rattle.std.specs.Prelude.{IfSome}
 use Rattle.std.specs.FinMap.{entries}
 use Rattle.mb_edit.specs.Marks.{bytes_of}
+use Rattle.mb_edit.specs.declared.collision.Mark.{Mark}
 use Rattle.mb_edit.proofs.MarkLemmas.{met_more}
+use Rattle.mb_tables.specs.Cell.{cell_cmp}
+use Rattle.mb_tables.specs.declared.cell.Cell.{Cell}
 use Rattle.mb_tables.specs.declared.cell.Cell.TheVariants.{Text}
 use Rattle.tile_hash.specs.Digest.{digest}
-use Rattle.mb_edit.proofs.OrderLemmas.{same_two}
 use Rattle.mb_edit.proofs.collision.meet.Goals as goal
 
 pub returns-then-collides : goal.returns-then-collides
 returns-then-collides c put marked =
-    let id : c.in_ok-hash.field-0 ≡ digest c.args.base.now.state.algorithm c.in-Some.bytes.now = c.in_ok-hash.ensures ∙ same_two digest c.algorithm.result c.args.base.now.state.algorithm c.as_bytes.result.now c.in-Some.bytes.now c.algorithm.ensures c.as_bytes.ensures in
-    let says = c.collides_with-collides.ensures put (ap Text id) marked in
-    met_more (digest c.args.base.now.state.algorithm) c.args.base.now.state.contents (entries c.args.patch.now.state.tiles) put c.in-Some.bytes.now c.args.marks.now (record { by_id = c.put_mark.new.by_id; first = c.args.index }) c.args.index c.collides_with-collides.result c.in_ok-hash.field-0 marked c.in-Some.ensures id c.in_ok-put_mark.ensures says
-    (sym c.in-Some.ensures ∙ ap (λ b. cond b (Some c.in-Some.bytes.now) (bytes_of (entries c.args.patch.now.state.tiles) c.args.marks.now.first)) (sym c.if-collides.true))
+    let a = c.args.base.now.state.algorithm in
+    let bytes = c.in-Some.bytes.now in
+    let mark : Mark = record { index = c.args.index; collides = c.collides_with-collides.result } in
+    let is : c.args.id.now ≡ Text (digest a bytes) = subst (λ (o : Option (List ℕ)). IfSome o (λ bytes. c.args.id.now ≡ Text (digest a bytes))) (sym c.in-Some.ensures) c.requires in
+    let says = c.collides_with-collides.ensures put is marked in
+    met_more (digest a) c.args.base.now.state.contents (entries c.args.patch.now.state.tiles) put bytes c.args.marks.now (record { by_id = c.put_mark.new.by_id; first = c.args.index }) c.args.index c.collides_with-collides.result (digest a bytes) marked c.in-Some.ensures refl
+    (λ q. c.in_ok-put_mark.ensures q ∙ ap (λ (i : Cell). cond (is_eq (cell_cmp i q)) (Some mark) (tree.get cell_cmp c.args.marks.now.by_id q)) (c.in_ok-id.ensures ∙ is)) says
+    (sym c.in-Some.ensures ∙ ap (λ b. cond b (Some bytes) (bytes_of (entries c.args.patch.now.state.tiles) c.args.marks.now.first)) (sym c.if-collides.true))
 
 pub returns-else-collides : goal.returns-else-collides
 returns-else-collides c put marked =
-    let id : c.in_ok-hash.field-0 ≡ digest c.args.base.now.state.algorithm c.in-Some.bytes.now = c.in_ok-hash.ensures ∙ same_two digest c.algorithm.result c.args.base.now.state.algorithm c.as_bytes.result.now c.in-Some.bytes.now c.algorithm.ensures c.as_bytes.ensures in
-    let says = c.collides_with-collides.ensures put (ap Text id) marked in
-    met_more (digest c.args.base.now.state.algorithm) c.args.base.now.state.contents (entries c.args.patch.now.state.tiles) put c.in-Some.bytes.now c.args.marks.now (record { by_id = c.put_mark.new.by_id; first = c.args.marks.now.first }) c.args.index c.collides_with-collides.result c.in_ok-hash.field-0 marked c.in-Some.ensures id c.in_ok-put_mark.ensures says
-    (ap (λ b. cond b (Some c.in-Some.bytes.now) (bytes_of (entries c.args.patch.now.state.tiles) c.args.marks.now.first)) (sym c.if-collides.false))
+    let a = c.args.base.now.state.algorithm in
+    let bytes = c.in-Some.bytes.now in
+    let mark : Mark = record { index = c.args.index; collides = c.collides_with-collides.result } in
+    let is : c.args.id.now ≡ Text (digest a bytes) = subst (λ (o : Option (List ℕ)). IfSome o (λ bytes. c.args.id.now ≡ Text (digest a bytes))) (sym c.in-Some.ensures) c.requires in
+    let says = c.collides_with-collides.ensures put is marked in
+    met_more (digest a) c.args.base.now.state.contents (entries c.args.patch.now.state.tiles) put bytes c.args.marks.now (record { by_id = c.put_mark.new.by_id; first = c.args.marks.now.first }) c.args.index c.collides_with-collides.result (digest a bytes) marked c.in-Some.ensures refl
+    (λ q. c.in_ok-put_mark.ensures q ∙ ap (λ (i : Cell). cond (is_eq (cell_cmp i q)) (Some mark) (tree.get cell_cmp c.args.marks.now.by_id q)) (c.in_ok-id.ensures ∙ is)) says
+    (ap (λ b. cond b (Some bytes) (bytes_of (entries c.args.patch.now.state.tiles) c.args.marks.now.first)) (sym c.if-collides.false))

@@ -1,7 +1,12 @@
-use Rattle.std.proofs.Common.{◌≡◌, ◌∙◌, sym, subst, arith, drop, filter_map, length}
+use Rattle.std.proofs.Common.{◌≡◌, ◌∙◌, ◌-◌, ap, sym, subst, List, arith, drop, filter_map, length}
 use Rattle.std.specs.FinMap.{entries, len-entries}
 use Rattle.mb_edit.specs.Marks.{AreMarked}
-use Rattle.mb_edit.proofs.EntryLemmas.{past_end}
+use Rattle.std.specs.Prelude.{slice_get}
+use Rattle.std.proofs.lemmas.List.{length-map}
+use Rattle.mb_lists.specs.Entries.{blob_cell}
+use Rattle.mb_load.specs.GivenIds.{cell_id}
+use Rattle.mb_tables.specs.declared.cell.Cell.{Cell}
+use Rattle.mb_edit.proofs.EntryLemmas.{id_read, past_end}
 use Rattle.mb_edit.proofs.MarkLemmas.{none_marked, none_put, put_before}
 use Rattle.tile_hash.specs.Digest.{digest}
 use Rattle.mb_edit.proofs.collision.test_contents.Goals as goal
@@ -21,3 +26,12 @@ loop-left-preserved c = record {
   marked = subst (λ put. AreMarked (digest c.args.base.now.state.algorithm) c.args.base.now.state.contents (entries c.args.patch.now.state.tiles) put c.meet.new.marks) (sym (put_before (entries c.args.patch.now.state.tiles) c.loop-left.left c.loop-left-test.true c.loop-left.invariant.within))
       (c.in_ok-meet.ensures (filter_map (λ e. e.1) (drop c.loop-left.left (entries c.args.patch.now.state.tiles))) c.loop-left.invariant.marked);
 }
+
+pub at-requires : goal.at-requires
+at-requires c =
+    let es = entries c.args.patch.now.state.tiles in
+    let all : length c.args.ids.now ≡ length es = ap length c.requires.ids ∙ length-map es (λ e. cell_id c.args.base.now.state.layout c.args.base.now.state.algorithm (blob_cell e.1)) in
+    omega (arith, all, c.loop-left-test.true, c.loop-left.invariant.within)
+
+pub meet-requires : goal.meet-requires
+meet-requires c = id_read c.args.base.now.state.layout c.args.base.now.state.algorithm (entries c.args.patch.now.state.tiles) (c.loop-left.left - 1) c.at.result.now c.requires.normalised (ap (λ (xs : List Cell). slice_get xs (c.loop-left.left - 1)) (sym c.requires.ids) ∙ c.at.ensures)

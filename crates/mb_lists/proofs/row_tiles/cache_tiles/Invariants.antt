@@ -1,4 +1,4 @@
--- the contents, tiles and times so far, and those of the rows that are left
+-- the contents and tiles so far, and those of the rows that are left
 use Rattle.std.proofs.Common.{◌≡◌, ◌++◌, length, map}
 use Rattle.std.specs.Vec.Iter.{into_iter_items}
 use Rattle.mb_lists.specs.FromRows.{dates_from, own_content, own_tiles}
@@ -7,6 +7,5 @@ use Rattle.mb_lists.proofs.row_tiles.cache_tiles.Given as goal
 abbrev pub invariant-loop-row : goal.invariant-loop-row
 invariant-loop-row l = record {
   contents : l.contents.items ++ map (own_content 6) (into_iter_items l.row-iterator) ≡ map (own_content 6) l.fn.rows.items;
-  tiles : l.tiles.items ++ own_tiles (length l.contents.items) (into_iter_items l.row-iterator) ≡ own_tiles 0 l.fn.rows.items;
-  dates : l.dates.items ++ map dates_from (into_iter_items l.row-iterator) ≡ map dates_from l.fn.rows.items;
+  tiles : l.tiles.items ++ own_tiles dates_from (length l.contents.items) (into_iter_items l.row-iterator) ≡ own_tiles dates_from 0 l.fn.rows.items;
 }

@@ -1,11 +1,11 @@
 -- the contents and tiles so far, and those of the rows that are left
 use Rattle.std.proofs.Common.{◌≡◌, ◌++◌, length, map}
 use Rattle.std.specs.Vec.Iter.{into_iter_items}
-use Rattle.mb_lists.specs.FromRows.{own_content, own_tiles}
+use Rattle.mb_lists.specs.FromRows.{own_content, own_tiles, undated}
 use Rattle.mb_lists.proofs.row_tiles.flat_tiles.Given as goal
 
 abbrev pub invariant-loop-row : goal.invariant-loop-row
 invariant-loop-row l = record {
   contents : l.contents.items ++ map (own_content 3) (into_iter_items l.row-iterator) ≡ map (own_content 3) l.fn.rows.items;
-  tiles : l.tiles.items ++ own_tiles (length l.contents.items) (into_iter_items l.row-iterator) ≡ own_tiles 0 l.fn.rows.items;
+  tiles : l.tiles.items ++ own_tiles undated (length l.contents.items) (into_iter_items l.row-iterator) ≡ own_tiles undated 0 l.fn.rows.items;
 }

@@ -35,7 +35,7 @@ returns-in-Some-clause-loads c =
     let ids : ids_due c.args.layout c.args.contents.items c.args.rows.items ≡ None = ap (ids_due c.args.layout c.args.contents.items) (sym c.deref.ensures.value) ∙ c.in_ok-contents.ensures.tests in
     let tests : tests_due c.args.layout c.in_ok-algorithm.algorithm (rows_kept c.in_ok-contents.contents.items.items) c.args.rows.items ≡ None = ap (tests_due c.args.layout c.in_ok-algorithm.algorithm (rows_kept c.in_ok-contents.contents.items.items)) (sym c.deref-2.ensures.value) ∙ c.in_ok-test_rows.ensures in
     let a : c.in_ok-algorithm.algorithm ≡ algorithm_of c.args.metadata.items = c.in_ok-algorithm.ensures.algorithm c.args.metadata.items c.in_ok-names.ensures.names in
-    let passed : ArePassed c.args.layout c.args.patch_type c.args.metadata.items c.args.contents.items c.args.rows.items c.in_ok-algorithm.algorithm (rows_kept c.in_ok-contents.contents.items.items) c.in_ok-tiles.tiles.contents.items.items c.in_ok-tiles.tiles.contents.order.items c.in_ok-tiles.tiles.dates.items c.in_ok-tiles.tiles.tiles.items c.in_ok-names.names.items.items = record {
+    let passed : ArePassed c.args.layout c.args.patch_type c.args.metadata.items c.args.contents.items c.args.rows.items c.in_ok-algorithm.algorithm (rows_kept c.in_ok-contents.contents.items.items) c.in_ok-tiles.tiles.contents.items.items c.in_ok-tiles.tiles.contents.order.items c.in_ok-tiles.tiles.tiles.items c.in_ok-names.names.items.items = record {
       due = due_places c.args.layout c.args.patch_type c.args.metadata.items c.args.contents.items c.args.rows.items c.in_ok-algorithm.algorithm (rows_kept c.in_ok-contents.contents.items.items) a c.in_ok-contents.ensures.kept ids c.in_ok-names.ensures.tests (c.in_ok-algorithm.ensures.tests c.args.metadata.items c.in_ok-names.ensures.names) tests;
       same = c.in_ok-contents.ensures.kept;
       algorithm_is = a;
@@ -45,14 +45,14 @@ returns-in-Some-clause-loads c =
       contents_kept = c.in_ok-tiles.ensures.fresh;
       names_kept = c.in_ok-names.ensures.kept;
     } in
-    set_due c.args.layout c.args.patch_type c.args.metadata.items c.args.contents.items c.args.rows.items c.in_ok-algorithm.algorithm (rows_kept c.in_ok-contents.contents.items.items) c.in_ok-tiles.tiles.contents.items.items c.in_ok-tiles.tiles.contents.order.items c.in_ok-tiles.tiles.dates.items c.in_ok-tiles.tiles.tiles.items c.in_ok-names.names.items.items passed c.in-Some.ensures.apart c.in-Some.set c.in-Some.ensures.held
+    set_due c.args.layout c.args.patch_type c.args.metadata.items c.args.contents.items c.args.rows.items c.in_ok-algorithm.algorithm (rows_kept c.in_ok-contents.contents.items.items) c.in_ok-tiles.tiles.contents.items.items c.in_ok-tiles.tiles.contents.order.items c.in_ok-tiles.tiles.tiles.items c.in_ok-names.names.items.items passed c.in-Some.ensures.apart c.in-Some.set c.in-Some.ensures.held
 
 pub returns-in-None-clause-loads : goal.returns-in-None-clause-loads
 returns-in-None-clause-loads c =
     let ids : ids_due c.args.layout c.args.contents.items c.args.rows.items ≡ None = ap (ids_due c.args.layout c.args.contents.items) (sym c.deref.ensures.value) ∙ c.in_ok-contents.ensures.tests in
     let tests : tests_due c.args.layout c.in_ok-algorithm.algorithm (rows_kept c.in_ok-contents.contents.items.items) c.args.rows.items ≡ None = ap (tests_due c.args.layout c.in_ok-algorithm.algorithm (rows_kept c.in_ok-contents.contents.items.items)) (sym c.deref-2.ensures.value) ∙ c.in_ok-test_rows.ensures in
     let a : c.in_ok-algorithm.algorithm ≡ algorithm_of c.args.metadata.items = c.in_ok-algorithm.ensures.algorithm c.args.metadata.items c.in_ok-names.ensures.names in
-    let passed : ArePassed c.args.layout c.args.patch_type c.args.metadata.items c.args.contents.items c.args.rows.items c.in_ok-algorithm.algorithm (rows_kept c.in_ok-contents.contents.items.items) c.in_ok-tiles.tiles.contents.items.items c.in_ok-tiles.tiles.contents.order.items c.in_ok-tiles.tiles.dates.items c.in_ok-tiles.tiles.tiles.items c.in_ok-names.names.items.items = record {
+    let passed : ArePassed c.args.layout c.args.patch_type c.args.metadata.items c.args.contents.items c.args.rows.items c.in_ok-algorithm.algorithm (rows_kept c.in_ok-contents.contents.items.items) c.in_ok-tiles.tiles.contents.items.items c.in_ok-tiles.tiles.contents.order.items c.in_ok-tiles.tiles.tiles.items c.in_ok-names.names.items.items = record {
       due = due_places c.args.layout c.args.patch_type c.args.metadata.items c.args.contents.items c.args.rows.items c.in_ok-algorithm.algorithm (rows_kept c.in_ok-contents.contents.items.items) a c.in_ok-contents.ensures.kept ids c.in_ok-names.ensures.tests (c.in_ok-algorithm.ensures.tests c.args.metadata.items c.in_ok-names.ensures.names) tests;
       same = c.in_ok-contents.ensures.kept;
       algorithm_is = a;
@@ -62,4 +62,4 @@ returns-in-None-clause-loads c =
       contents_kept = c.in_ok-tiles.ensures.fresh;
       names_kept = c.in_ok-names.ensures.kept;
     } in
-    λ h. twice_due c.args.layout c.args.patch_type c.args.metadata.items c.args.contents.items c.args.rows.items c.in_ok-algorithm.algorithm (rows_kept c.in_ok-contents.contents.items.items) c.in_ok-tiles.tiles.contents.items.items c.in_ok-tiles.tiles.contents.order.items c.in_ok-tiles.tiles.dates.items c.in_ok-tiles.tiles.tiles.items c.in_ok-names.names.items.items passed c.in-None.ensures.twice
+    λ h. twice_due c.args.layout c.args.patch_type c.args.metadata.items c.args.contents.items c.args.rows.items c.in_ok-algorithm.algorithm (rows_kept c.in_ok-contents.contents.items.items) c.in_ok-tiles.tiles.contents.items.items c.in_ok-tiles.tiles.contents.order.items c.in_ok-tiles.tiles.tiles.items c.in_ok-names.names.items.items passed c.in-None.ensures.twice

@@ -1,8 +1,15 @@
 use Rattle.mb_load.proofs.EditedFrom.{from_only_referenced, from_removed_name, from_removed_tile, from_with_name, from_with_tile, from_without_name, from_without_tile}
+use Rattle.mb_load.proofs.NullFrom.{from_with_dates, from_with_null}
 use Rattle.mb_load.proofs.laws.edits_stay_loaded.Goals as goal
 
 pub returns-clause-put : goal.returns-clause-put
 returns-clause-put c = from_with_tile
+
+pub returns-clause-nulled : goal.returns-clause-nulled
+returns-clause-nulled c = λ t h p on flat loaded. from_with_null t h p loaded on flat
+
+pub returns-clause-dated : goal.returns-clause-dated
+returns-clause-dated c = λ t h p dates cache there are loaded. from_with_dates t h p loaded dates cache there are
 
 pub returns-clause-removed : goal.returns-clause-removed
 returns-clause-removed c = λ t h p loaded. (from_removed_tile t h p loaded, from_without_tile t h p loaded)

@@ -12,7 +12,7 @@ invariant_of-self c =
       i.1,
       i.2,
       c.clear.ensures.order,
-      cleared_texts l.layout l.algorithm l.patch_type l.contents.items.items l.contents.order.items l.dates.items l.tiles.items.items l.names.items.items i.2.apart i.0.apart i.3.apart l.names.live i.3 c.args.name.now c.clear.new.self.items.items i.4 c.clear.ensures.order.apart c.clear.ensures.cleared,
+      cleared_texts l.layout l.algorithm l.patch_type l.contents.items.items l.contents.order.items l.tiles.items.items l.names.items.items i.2.apart i.0.apart i.3.apart l.names.live i.3 c.args.name.now c.clear.new.self.items.items i.4 c.clear.ensures.order.apart c.clear.ensures.cleared,
       i.5,
       i.6,
     )
@@ -21,5 +21,5 @@ pub returns : goal.returns
 returns c =
     let l = c.self.inside in
     let i = c.self.invariant in
-    name_cleared l.layout l.algorithm l.patch_type l.contents.items.items l.contents.order.items l.dates.items l.tiles.items.items l.names.items.items i.2.apart i.0.apart i.3.apart l.names.live i.3 c.args.name.now c.clear.new.self.items.items c.clear.ensures.order.apart c.clear.ensures.cleared
+    name_cleared l.layout l.algorithm l.patch_type l.contents.items.items l.contents.order.items l.tiles.items.items l.names.items.items i.2.apart i.0.apart i.3.apart l.names.live i.3 c.args.name.now c.clear.new.self.items.items c.clear.ensures.order.apart c.clear.ensures.cleared
     ∙ ap (λ (h : Held). without_name h c.args.name.now) c.self.view_is

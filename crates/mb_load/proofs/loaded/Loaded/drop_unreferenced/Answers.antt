@@ -4,7 +4,7 @@ use Rattle.std.specs.Vec.{with_items}
 use Rattle.std.proofs.lemmas.List.{with_items_is}
 use Rattle.std.proofs.lemmas.List.Sorted.{IsPermutation-trans}
 use Rattle.mb_lists.specs.Dropping.{marked_unnamed}
-use Rattle.mb_lists.specs.Entries.{AreContentsInOrder, AreDated, HasId, IsTile, id_at, place_of}
+use Rattle.mb_lists.specs.Entries.{AreContentsInOrder, HasId, IsTile, id_at, place_of}
 use Rattle.mb_load.specs.HeldEntries.{held_of}
 use Rattle.mb_lists.specs.Keyed.{Apart}
 use Rattle.mb_load.specs.Edits.{only_referenced}
@@ -44,7 +44,7 @@ invariant_of-self c =
       i.3,
       i.4,
       subst (λ (cs : List Content). All (HasId cs) c.settle-contents.new.order.items) (sym stored) (ids_left l.contents.items.items l.contents.order.items l.tiles.items.items s.new.tiles.items s.result i.5 i.2.apart i.0.apart s.ensures.same s.ensures.bound s.ensures.point c.settle-contents.new.order.items c.settle-contents.ensures.same),
-      subst (λ (cs : List Content). AreDated l.layout cs l.dates.items) (sym stored) (dated_left l.contents.items.items l.contents.order.items l.tiles.items.items s.new.tiles.items s.result i.5 i.2.apart i.0.apart s.ensures.same s.ensures.bound s.ensures.point l.layout l.dates.items i.6),
+      dated_left l.contents.items.items l.contents.order.items l.tiles.items.items s.new.tiles.items s.result i.5 i.2.apart i.0.apart s.ensures.same s.ensures.bound s.ensures.point l.layout c.settle-tiles.new.items.items again i.6,
     )
 
 pub returns : goal.returns
@@ -56,6 +56,6 @@ returns c =
     let len : length c.mark_all.new.contents ≡ l.contents.items.len = ap length made ∙ ((like_all (take s.result s.new.tiles.items) l.contents.items.items l.contents.order.items).len ∙ sym l.contents.items.ok.0) in
     let stored : (with_items l.contents.items c.mark_all.new.contents).items ≡ marked_unnamed (take s.result s.new.tiles.items) l.contents.items.items l.contents.order.items = with_items_is l.contents.items c.mark_all.new.contents len ∙ made in
     let again = IsPermutation-trans l.tiles.items.items s.new.tiles.items c.settle-tiles.new.items.items s.ensures.same c.settle-tiles.ensures.same in
-    ap (λ (cs : List Content). held_of l.layout l.algorithm l.patch_type cs c.settle-contents.new.order.items l.dates.items c.settle-tiles.new.items.items l.names.items.items) stored
-    ∙ (held_dropped l.contents.items.items l.contents.order.items l.tiles.items.items s.new.tiles.items s.result i.5 i.2.apart i.0.apart s.ensures.same s.ensures.bound s.ensures.point c.settle-contents.new.order.items c.settle-contents.ensures.same l.layout l.algorithm l.patch_type l.dates.items l.names.items.items c.settle-tiles.new.items.items again
+    ap (λ (cs : List Content). held_of l.layout l.algorithm l.patch_type cs c.settle-contents.new.order.items c.settle-tiles.new.items.items l.names.items.items) stored
+    ∙ (held_dropped l.contents.items.items l.contents.order.items l.tiles.items.items s.new.tiles.items s.result i.5 i.2.apart i.0.apart s.ensures.same s.ensures.bound s.ensures.point c.settle-contents.new.order.items c.settle-contents.ensures.same l.layout l.algorithm l.patch_type l.names.items.items c.settle-tiles.new.items.items again
     ∙ ap only_referenced c.self.view_is)

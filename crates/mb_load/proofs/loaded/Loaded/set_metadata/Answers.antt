@@ -26,7 +26,7 @@ invariant_of-self-2 c =
       i.1,
       i.2,
       c.put.ensures.order,
-      all_from IsName more c.put.new.self.items.items (named_texts l.layout l.algorithm l.patch_type l.contents.items.items l.contents.order.items l.dates.items l.tiles.items.items l.names.items.items n more i.4 c.requires refl) (stands_from nat_list_cmp_total names_antisymmetric name_of more c.put.new.self.items.items same c.put.ensures.order.apart),
+      all_from IsName more c.put.new.self.items.items (named_texts l.layout l.algorithm l.patch_type l.contents.items.items l.contents.order.items l.tiles.items.items l.names.items.items n more i.4 c.requires refl) (stands_from nat_list_cmp_total names_antisymmetric name_of more c.put.new.self.items.items same c.put.ensures.order.apart),
       i.5,
       i.6,
     )
@@ -37,5 +37,5 @@ returns-clause-ok c =
     let i = c.self.invariant in
     let n : StoredName = record { name = c.args.name; value = c.args.value; standing = Put } in
     let same = subst (λ (ns : List StoredName). StandsAs (slice_cmp nat_cmp) name_of (newest_names (ns ++ n ∷ [])) c.put.new.self.items.items) c.reserve.ensures.items c.put.ensures.same in
-    name_placed l.layout l.algorithm l.patch_type l.contents.items.items l.contents.order.items l.dates.items l.tiles.items.items l.names.items.items i.2.apart i.0.apart i.3.apart c.args.name c.args.value c.put.new.self.items.items same c.put.ensures.order.apart
+    name_placed l.layout l.algorithm l.patch_type l.contents.items.items l.contents.order.items l.tiles.items.items l.names.items.items i.2.apart i.0.apart i.3.apart c.args.name c.args.value c.put.new.self.items.items same c.put.ensures.order.apart
     ∙ ap (λ (h : Held). with_name h c.args.name (text_of c.args.value)) c.self.view_is

@@ -1,0 +1,105 @@
+-- Tables that a set was loaded from are so after null was put, and after a tile of a cache got other times.
+use Rattle.std.proofs.Common.{◌≡◌, ◌∙◌, ap, sym, subst, Option, Some, None, Bool, true, false, ◌&&◌, cond, refl, is_some}
+use Rattle.std.specs.Ordering.{eq_by_cmp}
+use Rattle.std.specs.FinMap.{FinMap, contains_key, get, insert}
+use Rattle.std.proofs.lemmas.Bool.{false≢true}
+use Rattle.mb_load.specs.Edits.{dates_for, with_dates, with_null, with_value}
+use Rattle.mb_lists.specs.Entries.{is_cache}
+use Rattle.mb_load.specs.Held.{Held}
+use Rattle.mb_load.specs.LoadedFrom.{AreTimes, IsLoadable, IsLoadedFrom, IsOnBoard}
+use Rattle.mb_lists.specs.declared.dates.Dates.{Dates}
+use Rattle.mb_load.proofs.DatedLemmas.{dates_are, dates_some}
+use Rattle.mb_load.proofs.EditMaps.{get-with_value}
+use Rattle.mb_load.proofs.EditedFrom.{at_other, by_test, fits_same, same_place, unedited}
+use Rattle.mb_tables.proofs.TileLemmas.{places_total}
+use Rattle.mb_tables.specs.Kind.{is_normalized}
+use Rattle.mb_tables.specs.Table.{Tables}
+use Rattle.mb_tables.specs.Tiles.{Place, place_cmp}
+use Rattle.mb_tables.specs.declared.kind.MbtType.TheVariants.{Cache}
+
+module _ (t : Tables) (h : Held) (p : Place) (loaded : IsLoadedFrom t h) where
+  at_place_of : {V : Type 0} (m : FinMap place_cmp V) (o : Option V) (q : Place) → get (with_value m p o) q ≡ cond (eq_by_cmp place_cmp q p) o (get m q)
+  at_place_of m o q = get-with_value places_total m p o q
+
+  key_at : {V : Type 0} (m : FinMap place_cmp V) (o : Option V) (q : Place) → contains_key (with_value m p o) q ≡ cond (eq_by_cmp place_cmp q p) (is_some o) (contains_key m q)
+  key_at m o q = ap is_some (at_place_of m o q) ∙ by (eq_by_cmp place_cmp q p)
+    where
+      by : (b : Bool) → is_some (cond b o (get m q)) ≡ cond b (is_some o) (contains_key m q)
+      by true = refl
+      by false = refl
+
+  -- what stays elsewhere
+  elsewhere : {V : Type 0} (m : FinMap place_cmp V) (o : Option V) (q : Place) → contains_key (insert h.edited.places p tt) q ≡ false → get (with_value m p o) q ≡ get m q
+  elsewhere m o q left = at_place_of m o q ∙ at_other _ o (get m q) (unedited places_total h.edited.places p q left).0
+
+  -- of two tests that agree in a set, and at a place
+  agree_put : (b l c x y : Bool) → l ≡ c → x ≡ (c && y) → cond b l x ≡ (c && cond b true y)
+  agree_put true l true x y e f = e
+  agree_put true l false x y e f = e
+  agree_put false l c x y e f = f
+
+  null_state : IsOnBoard p → is_normalized h.state.layout ≡ false → IsLoadable (with_null h p).state
+  null_state on flat = record {
+    on_board = λ q k. by_test (eq_by_cmp place_cmp q p)
+        (λ e. subst IsOnBoard (sym (same_place q p e)) on)
+        (λ e. loaded.state.on_board q (sym (key_at h.state.tiles (Some None) q ∙ at_other (eq_by_cmp place_cmp q p) true (contains_key h.state.tiles q) e) ∙ k));
+    placed = λ q. key_at h.state.ids None q ∙ (agree_put (eq_by_cmp place_cmp q p) false (is_normalized h.state.layout) (contains_key h.state.ids q) (contains_key h.state.tiles q) (sym flat) (loaded.state.placed q) ∙ ap (λ b. is_normalized h.state.layout && b) (sym (key_at h.state.tiles (Some None) q)));
+    joined = λ n q. absurd (false≢true (sym flat ∙ n));
+    stored = loaded.state.stored;
+    dated = λ q. key_at h.state.dates (dates_for h.state.layout) q ∙ (agree_put (eq_by_cmp place_cmp q p) (is_some (dates_for h.state.layout)) (is_cache h.state.layout) (contains_key h.state.dates q) (contains_key h.state.tiles q) (dates_some h.state.layout) (loaded.state.dated q) ∙ ap (λ b. is_cache h.state.layout && b) (sym (key_at h.state.tiles (Some None) q)));
+    times = λ q d e. times_at (eq_by_cmp place_cmp q p) q d (sym (at_place_of h.state.dates (dates_for h.state.layout) q) ∙ e);
+  }
+    where
+      times_at : (b : Bool) (q : Place) (d : Dates) → cond b (dates_for h.state.layout) (get h.state.dates q) ≡ Some d → AreTimes d
+      times_at true q d e = dates_are h.state.layout d e
+      times_at false q d e = loaded.state.times q d e
+
+  pub from_with_null : IsOnBoard p → is_normalized h.state.layout ≡ false → IsLoadedFrom t (with_null h p)
+  from_with_null on flat = record {
+    layout = loaded.layout;
+    patch_type = loaded.patch_type;
+    described = loaded.described;
+    indexed = loaded.indexed;
+    state = null_state on flat;
+    with_ids = loaded.with_ids;
+    tiles = λ q left. fits_same h.state (with_null h p).state q _ refl (elsewhere h.state.tiles (Some None) q left) (elsewhere h.state.ids None q left) (elsewhere h.state.dates (dates_for h.state.layout) q left) (loaded.tiles q (unedited places_total h.edited.places p q left).1);
+    contents = loaded.contents;
+    names = loaded.names;
+    tile_rows = loaded.tile_rows;
+    content_rows = loaded.content_rows;
+    name_rows = loaded.name_rows;
+  }
+
+  dates_state : (dates : Dates) → h.state.layout ≡ Cache → contains_key h.state.tiles p ≡ true → AreTimes dates → IsLoadable (with_dates h p dates).state
+  dates_state dates cache there are = record {
+    on_board = loaded.state.on_board;
+    placed = loaded.state.placed;
+    joined = loaded.state.joined;
+    stored = loaded.state.stored;
+    dated = λ q. key_at h.state.dates (Some dates) q ∙ by q (eq_by_cmp place_cmp q p) refl;
+    times = λ q d e. times_at (eq_by_cmp place_cmp q p) q d (sym (at_place_of h.state.dates (Some dates) q) ∙ e);
+  }
+    where
+      by : (q : Place) (b : Bool) → eq_by_cmp place_cmp q p ≡ b → cond b true (contains_key h.state.dates q) ≡ (is_cache h.state.layout && contains_key h.state.tiles q)
+      by q true e = sym (ap (λ l. is_cache l && contains_key h.state.tiles q) cache ∙ (ap (contains_key h.state.tiles) (same_place q p e) ∙ there))
+      by q false e = loaded.state.dated q
+
+      times_at : (b : Bool) (q : Place) (d : Dates) → cond b (Some dates) (get h.state.dates q) ≡ Some d → AreTimes d
+      times_at true q d e = let same : dates ≡ d = cc in subst AreTimes same are
+      times_at false q d e = loaded.state.times q d e
+
+  pub from_with_dates : (dates : Dates) → h.state.layout ≡ Cache → contains_key h.state.tiles p ≡ true → AreTimes dates → IsLoadedFrom t (with_dates h p dates)
+  from_with_dates dates cache there are = record {
+    layout = loaded.layout;
+    patch_type = loaded.patch_type;
+    described = loaded.described;
+    indexed = loaded.indexed;
+    state = dates_state dates cache there are;
+    with_ids = loaded.with_ids;
+    tiles = λ q left. fits_same h.state (with_dates h p dates).state q _ refl refl refl (elsewhere h.state.dates (Some dates) q left) (loaded.tiles q (unedited places_total h.edited.places p q left).1);
+    contents = loaded.contents;
+    names = loaded.names;
+    tile_rows = loaded.tile_rows;
+    content_rows = loaded.content_rows;
+    name_rows = loaded.name_rows;
+  }
