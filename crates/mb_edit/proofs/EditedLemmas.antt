@@ -20,7 +20,7 @@ tile_edited : (h : Held) (p : Place) (o : Option (List ℕ)) → (tile_patched h
 tile_edited h p (Some bytes) = refl
 tile_edited h p None = refl
 
-tiles_edited : (h : Held) (q : Place) (es : List (Place × Option (List ℕ))) → contains_key (from_last tile_patched h es).edited.places q ≡ (contains_key h.edited.places q || is_some (find place_cmp q es))
+pub tiles_edited : (h : Held) (q : Place) (es : List (Place × Option (List ℕ))) → contains_key (from_last tile_patched h es).edited.places q ≡ (contains_key h.edited.places q || is_some (find place_cmp q es))
 tiles_edited h q [] = sym (or_none (contains_key h.edited.places q))
   where
     or_none : (b : Bool) → (b || false) ≡ b

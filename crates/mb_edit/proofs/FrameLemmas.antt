@@ -33,7 +33,7 @@ none_of true b h = h refl
 none_of false b h = refl
 
 -- the rows that a test keeps stay, where no change of the table is of them
-frame : (t t' : Tables) (changes : List Change) → Commits changes t t' → (table : TableName) (q : List Cell → Bool) → ((row : List Cell) → q row ≡ true → (k : ℕ) (d : Change) → k < length changes → table_eq (get_or changes k d).table table ≡ true → has_key table (get_or changes k d).key row ≡ false) → filter q (t'.rows table) ≡ filter q (t.rows table)
+pub frame : (t t' : Tables) (changes : List Change) → Commits changes t t' → (table : TableName) (q : List Cell → Bool) → ((row : List Cell) → q row ≡ true → (k : ℕ) (d : Change) → k < length changes → table_eq (get_or changes k d).table table ≡ true → has_key table (get_or changes k d).key row ≡ false) → filter q (t'.rows table) ≡ filter q (t.rows table)
 frame t t' changes made table q apart = others_stay changes table (t.rows table) (t'.rows table) (made.tables table) q (λ row kept.
     list_any_none (λ c. table_eq c.table table && has_key table c.key row) changes (λ k d lt. none_of (table_eq (get_or changes k d).table table) (has_key table (get_or changes k d).key row) (apart row kept k d lt)))
 

@@ -14,3 +14,5 @@ pub mod StepLemmas
 pub mod FrameLemmas
 pub mod ApplyLemmas
 pub mod AnswerLemmas
+pub mod PutLemmas
+pub mod PutTableLemmas

@@ -30,8 +30,8 @@ use Rattle.mb_tables.specs.declared.kind.MbtType.TheVariants.{Flat, FlatWithHash
 use Rattle.tile_hash.specs.Digest.{digest}
 
 -- the places of a list of tiles are on the board
-record AreOnBoard (es : List (Place × Option (List ℕ))) : Type 0 where
-  within : (p : Place) → is_some (fin.find place_cmp p es) ≡ true → IsOnBoard p
+pub record AreOnBoard (es : List (Place × Option (List ℕ))) : Type 0 where
+  pub within : (p : Place) → is_some (fin.find place_cmp p es) ≡ true → IsOnBoard p
 
 here : {A : Type 0} (b : Bool) (x : A) (o : Option A) → b ≡ true → is_some (cond b (Some x) o) ≡ true
 here true x o h = refl
@@ -42,8 +42,8 @@ later true x o h = refl
 later false x o h = h
 
 -- the bytes that are put don't collide, where the set has ids
-record AreApart (s : State) (put : List (List ℕ)) : Type 0 where
-  none : is_normalized s.layout ≡ true → find (collides (digest s.algorithm) s.contents put) put ≡ None
+pub record AreApart (s : State) (put : List (List ℕ)) : Type 0 where
+  pub none : is_normalized s.layout ≡ true → find (collides (digest s.algorithm) s.contents put) put ≡ None
 
 apart_rest : (s : State) (bytes : List ℕ) (put : List (List ℕ)) → AreApart s (bytes ∷ put) → AreApart s put
 apart_rest s bytes put a = record { none = λ n. (rest_apart (digest s.algorithm) s.contents bytes put (a.none n)).1 }
@@ -79,7 +79,7 @@ module _ (t : Tables) where
       by true n = subst (λ (s : State). IsFree s bytes) (sym same) (free_in h.state es bytes n a)
       by false n = free_without t (from_last tile_patched h es) bytes (ap (λ (s : State). is_normalized s.layout) same ∙ n) l
 
-  tiles_loaded : (h : Held) (es : List (Place × Option (List ℕ))) → AreOnBoard es → is_editable h.state.layout ≡ true → AreApart h.state (filter_map (λ e. e.1) es) → IsLoadedFrom t h → IsLoadedFrom t (from_last tile_patched h es)
+  pub tiles_loaded : (h : Held) (es : List (Place × Option (List ℕ))) → AreOnBoard es → is_editable h.state.layout ≡ true → AreApart h.state (filter_map (λ e. e.1) es) → IsLoadedFrom t h → IsLoadedFrom t (from_last tile_patched h es)
   tiles_loaded h [] on edit a l = l
   tiles_loaded h (e ∷ es) on edit a l =
       by e.1 a (tiles_loaded h es (record { within = λ p f. on.within p (later (eq_by_cmp place_cmp p e.0) e.1 (fin.find place_cmp p es) f) }) edit (apart_tail h.state e.1 (filter_map (λ e. e.1) es) a) l)

@@ -21,15 +21,15 @@ use Rattle.tile_hash.specs.Digest.{digest, name_of}
 use Rattle.tile_hash.specs.declared.algorithm.HashAlgorithm.{HashAlgorithm}
 
 -- where no test of a list refuses, none of the rest does, nor the first
-pass_first : (o : Option MbtError) (rest : List (Option MbtError)) → first_refusal (o ∷ rest) ≡ None → o ≡ None
+pub pass_first : (o : Option MbtError) (rest : List (Option MbtError)) → first_refusal (o ∷ rest) ≡ None → o ≡ None
 pass_first None rest h = refl
 pass_first (Some e) rest h = cc
 
-pass_rest : (o : Option MbtError) (rest : List (Option MbtError)) → first_refusal (o ∷ rest) ≡ None → first_refusal rest ≡ None
+pub pass_rest : (o : Option MbtError) (rest : List (Option MbtError)) → first_refusal (o ∷ rest) ≡ None → first_refusal rest ≡ None
 pass_rest None rest h = h
 pass_rest (Some e) rest h = cc
 
-holds : (b : Bool) (e : MbtError) → unless b e ≡ None → b ≡ true
+pub holds : (b : Bool) (e : MbtError) → unless b e ≡ None → b ≡ true
 holds true e h = refl
 holds false e h = cc
 

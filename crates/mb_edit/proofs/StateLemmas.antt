@@ -129,7 +129,7 @@ module _ {A : Type 0} (given : List ℕ → Option A) (q : Place) where
       by true None rest = refl
       by false o rest = rest
 
-steps_patched : {A : Type 0} (given : List ℕ → Option A) (m : FinMap place_cmp A) (p : TileSet) → steps given m (entries p) ≡ patched_by given p m
+pub steps_patched : {A : Type 0} (given : List ℕ → Option A) (m : FinMap place_cmp A) (p : TileSet) → steps given m (entries p) ≡ patched_by given p m
 steps_patched given m p = same_map places_total places_antisymmetric _ _ (λ q. steps_at given q m (entries p) ∙ (ap (λ o. patched_at given o (get m q)) (sym (get-entries p q)) ∙ sym (get-patched_by given q p m)))
 
 over_none : {K V : Type 0} {R : K → K → Ordering} → IsTotalOrder R → IsAntisymmetric R → (m : FinMap R V) → over [] m ≡ m

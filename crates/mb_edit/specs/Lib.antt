@@ -6,3 +6,5 @@ pub mod Step
 pub mod HeldPatched
 pub mod PatchExamples
 pub mod Applying
+pub mod Put
+pub mod PutTables

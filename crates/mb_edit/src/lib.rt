@@ -1,4 +1,4 @@
-//! Edits of tile sets: patches of whole tiles.
+//! Edits of tile sets: patches of whole tiles, and tiles that are put.
 #![tactic(auto)]
 
 mod apply;
@@ -6,7 +6,9 @@ mod collision;
 pub mod laws;
 mod patch;
 mod patching_order;
+mod put;
 
 pub use apply::apply_patch;
 pub use mb_load::commit_loaded;
 pub use patch::patch_loaded;
+pub use put::{put_tiles, test_editable};

@@ -31,3 +31,4 @@ pub mod BegunLemmas
 pub mod CopyViews
 pub mod CopyLemmas
 pub mod GivenLemmas
+pub mod EmptyLemmas

@@ -17,3 +17,4 @@ pub mod Begun
 pub mod FromLast
 pub mod GivenIds
 pub mod Copying
+pub mod Empty

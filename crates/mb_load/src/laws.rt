@@ -4,6 +4,7 @@ ghost use Rattle.std.specs.FinMap.{contains_key, get};
 ghost use Rattle.mb_load.specs.Changing.{AreChangesOf};
 ghost use Rattle.mb_load.specs.Committed.{IsCommitted};
 ghost use Rattle.mb_load.specs.Edits.{only_referenced, removed_name, removed_tile, with_dates, with_name, with_null, with_tile, without_name, without_tile};
+ghost use Rattle.mb_load.specs.Empty.{AreEmpty, empty_state};
 ghost use Rattle.mb_load.specs.Held.{Held, fresh};
 ghost use Rattle.mb_load.specs.LoadedFrom.{AreTimes, IsFree, IsLoadable, IsLoadedFrom, IsOnBoard, NamesAlgorithm, is_editable};
 ghost use Rattle.mb_load.specs.State.{State, state_of};
@@ -19,6 +20,7 @@ ghost use Rattle.mb_tables.specs.Tiles.{Place};
 ghost use Rattle.mb_tables.specs.declared.cell.Cell.{Cell};
 ghost use Rattle.mb_tables.specs.declared.kind.MbtType.{MbtType};
 ghost use Rattle.mb_tables.specs.declared.kind.MbtType.TheVariants.{Cache};
+ghost use Rattle.tile_hash.specs.declared.algorithm.HashAlgorithm.{HashAlgorithm};
 
 /// No place stands twice in what a store tells, so that its state never hangs on the last test of loading.
 pub fn told_places_apart()
@@ -63,4 +65,9 @@ pub fn loads_from_tables()
 /// Tables that a set was loaded from, with nothing edited since, load to the same state, where its metadata names its algorithm.
 pub fn loads_again()
     ensures { (t : Tables) (s : State) → IsSound t → IsLoadedFrom t (fresh s) → NamesAlgorithm s → state_of t ≡ Ok s }
+{}
+
+/// Tables without rows are tables that the empty set was loaded from, by whatever algorithm, so that its changes put each row that it gets.
+pub fn empty_from_tables()
+    ensures { (t : Tables) (layout : MbtType) (a : HashAlgorithm) → AreEmpty layout t → IsLoadedFrom t (fresh (empty_state layout a)) }
 {}

@@ -8,6 +8,7 @@ mod changes;
 mod commit;
 mod copying;
 mod editing;
+mod empty;
 mod from_rows;
 mod given_ids;
 pub mod laws;

@@ -1,0 +1,5 @@
+pub mod CoordLemmas
+pub mod ChosenLemmas
+pub mod CountLemmas
+pub mod PlacedLemmas
+pub mod InsertedLemmas

@@ -1,0 +1,47 @@
+-- A set with a batch of tiles, or the first refusal.
+use Rattle.std.specs.Prelude.{pos, not, List, [], ◌∷◌, Option, None, Result}
+use Rattle.mb_constraints.specs.DiffHashes.{refused_by}
+use Rattle.mb_edit.specs.PatchingOrder.{bytes_put, id_collides}
+use Rattle.mb_edit.specs.Put.{state_put}
+use Rattle.mb_insert.specs.Batch.{has_duplicates, is_coord, put_of}
+use Rattle.mb_insert.specs.declared.mode.CopyDuplicateMode.{CopyDuplicateMode}
+use Rattle.mb_insert.specs.declared.mode.CopyDuplicateMode.TheVariants.{Override, Ignore, Abort}
+use Rattle.mb_insert.specs.declared.new_tile.NewTile.{NewTile}
+use Rattle.mb_load.specs.LoadedFrom.{is_editable}
+use Rattle.mb_load.specs.State.{State}
+use Rattle.mb_tables.specs.Refusals.{first_refusal, first_refused, unless}
+use Rattle.mb_tables.specs.Tiles.{TileSet}
+use Rattle.mb_tables.specs.declared.cell.Cell.TheVariants.{Int}
+use Rattle.mb_tables.specs.declared.error.MbtError.{MbtError}
+use Rattle.mb_tables.specs.declared.error.MbtError.TheVariants.{DuplicateValues, InvalidTileIndex, UnsupportedCopyOperation}
+
+-- a tile whose numbers are no coordinate of a set: these numbers, the row as it is given
+abbrev pub bad_coord : NewTile → Option MbtError
+bad_coord t = unless (is_coord t) (InvalidTileIndex (Int (pos t.z)) (Int (pos t.x)) (Int (pos t.y)))
+
+-- a place that is there already, or comes twice, where the mode forbids that
+abbrev pub duplicates : CopyDuplicateMode → TileSet → List NewTile → Option MbtError
+duplicates Override tiles batch = None
+duplicates Ignore tiles batch = None
+duplicates Abort tiles batch = unless (not (has_duplicates tiles batch)) DuplicateValues
+
+-- the refusal of each test, in the order of the tests
+abbrev pub insert_refusals : CopyDuplicateMode → List NewTile → State → List (Option MbtError)
+insert_refusals mode batch s =
+    unless (is_editable s.layout) UnsupportedCopyOperation
+    ∷ first_refused bad_coord batch
+    ∷ duplicates mode s.tiles batch
+    ∷ id_collides s.layout s.algorithm s.contents (bytes_put (put_of mode s.tiles batch))
+    ∷ []
+
+-- the first refusal, if there is one
+abbrev pub may_insert : CopyDuplicateMode → List NewTile → State → Option MbtError
+may_insert mode batch s = first_refusal (insert_refusals mode batch s)
+
+-- the answer that is due of a loaded set
+abbrev pub insertion : CopyDuplicateMode → List NewTile → State → Result (Unit {0}) MbtError
+insertion mode batch s = refused_by (may_insert mode batch s)
+
+-- the set with the batch
+abbrev pub inserted : CopyDuplicateMode → List NewTile → State → State
+inserted mode batch s = state_put s (put_of mode s.tiles batch)

@@ -1,0 +1,5 @@
+pub mod Mode
+pub mod Batch
+pub mod Insertion
+pub mod Inserted
+pub mod BatchExamples
