@@ -10,7 +10,7 @@ use Rattle.mb_tables.specs.Table.{Tables}
 use Rattle.mb_tables.specs.declared.description.TableDesc.{TableDesc}
 use Rattle.mb_tables.specs.declared.error.MbtError.{MbtError}
 
-store_free : (s : StoreError) → is_free (of_store s) ≡ true
+pub store_free : (s : StoreError) → is_free (of_store s) ≡ true
 store_free Fault = refl
 store_free OutOfMemory = refl
 

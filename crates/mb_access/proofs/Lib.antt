@@ -1,2 +1,6 @@
 pub mod DescribedLemmas
 pub mod HashedLemmas
+pub mod StreamRows
+pub mod StreamPages
+pub mod StreamLoop
+pub mod StreamRunLemmas

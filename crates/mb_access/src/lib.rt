@@ -3,12 +3,17 @@
 
 mod described;
 mod hashed;
+pub mod laws;
 mod mbtiles;
 mod reads;
+mod stream_state;
+mod streams;
 #[cfg(test)]
 mod tests;
 
 pub use hashed::get_tile_and_hash;
+pub use mb_metadata::compute_min_max_zoom;
 pub use mbtiles::Mbtiles;
 pub use reads::{contains, get_tile};
-pub use mb_metadata::compute_min_max_zoom;
+pub use stream_state::StreamState;
+pub use streams::{Coords, Tiles, stream_coords, stream_tiles};

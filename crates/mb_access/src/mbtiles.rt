@@ -1,15 +1,19 @@
 // A set by the path of its file.
 ghost use Rattle.mb_store.specs.Kept.{ReadsOnly};
-ghost use Rattle.std.specs.Prelude.{◌≡◌, IfErr, IfOk, IsErrOf};
+ghost use Rattle.std.specs.Prelude.{◌≡◌, ◌≢◌, ◌<◌, ◌-◌, ◌^◌, Err, IfErr, IfOk, IsErrOf, Ok, true};
+ghost use Rattle.std.specs.FinMap.{len};
 ghost use Rattle.base_values.specs.Counts.{Rose};
 ghost use Rattle.mb_access.specs.Described.{IsDescribed, missing_answer, read_name};
 ghost use Rattle.mb_access.specs.FileName.{file_name};
 ghost use Rattle.mb_access.specs.Hashed.{IsHashed};
 ghost use Rattle.mb_access.specs.Reads.{contains_answer, tile_answer};
+ghost use Rattle.mb_access.specs.Streams.{coords_loaded, tiles_loaded};
+ghost use Rattle.mb_access.specs.StreamSteps.{left_at_most, left_of, set_of};
 ghost use Rattle.mb_load.specs.Begun.{IsBegun};
 ghost use Rattle.mb_tables.specs.Detection.{detected};
+ghost use Rattle.mb_tables.specs.Tiles.{pairs_of};
 
-use crate::{described, hashed, reads};
+use crate::{Coords, Tiles, described, hashed, reads, streams};
 use base_values::{BlobVal, TextVal};
 use mb_store::{MbtError, MbtResult, MbtType, TileStore};
 use std::alloc::Global;
@@ -139,5 +143,37 @@ impl Mbtiles {
         ensures fault { IsErrOf result MbtError.StoreFault → Rose (S.faults store.old) (S.faults store.new) }
     {
         reads::contains(alloc, store, z, x, y)
+    }
+
+    /// What `stream_coords` answers.
+    pub fn stream_coords<'s, S: TileStore>(
+        &self,
+        alloc: Global,
+        store: &'s mut S,
+    ) -> MbtResult<Coords<'s, S>>
+        ensures answer { IsBegun Ok (S.tells store.old) (S.told store.old) (coords_loaded result) }
+        ensures unfailing { S.steady store.old → S.faults store.old < 2 ^ 64 - 1 → result ≢ Err MbtError.StoreFault }
+        ensures same_reference { IfOk result (λ c. c.store.ghost_name ≡ store.entry.ghost_name) }
+        ensures items { S.tells store.old ≡ true → IfOk result (λ c. left_of (S.told c.store.now) c.state ≡ pairs_of (set_of c.state).layout (S.told store.old)) }
+        ensures most { IfOk result (λ c. left_at_most c.state ≡ len (set_of c.state).tiles) }
+        ensures kept { IfOk result (λ c. ReadsOnly S.told S.tells S.faults S.steady store.old c.store.now) }
+    {
+        streams::stream_coords(alloc, store)
+    }
+
+    /// What `stream_tiles` answers.
+    pub fn stream_tiles<'s, S: TileStore>(
+        &self,
+        alloc: Global,
+        store: &'s mut S,
+    ) -> MbtResult<Tiles<'s, S>>
+        ensures answer { IsBegun Ok (S.tells store.old) (S.told store.old) (tiles_loaded result) }
+        ensures unfailing { S.steady store.old → S.faults store.old < 2 ^ 64 - 1 → result ≢ Err MbtError.StoreFault }
+        ensures same_reference { IfOk result (λ c. c.store.ghost_name ≡ store.entry.ghost_name) }
+        ensures items { S.tells store.old ≡ true → IfOk result (λ c. left_of (S.told c.store.now) c.state ≡ pairs_of (set_of c.state).layout (S.told store.old)) }
+        ensures most { IfOk result (λ c. left_at_most c.state ≡ len (set_of c.state).tiles) }
+        ensures kept { IfOk result (λ c. ReadsOnly S.told S.tells S.faults S.steady store.old c.store.now) }
+    {
+        streams::stream_tiles(alloc, store)
     }
 }

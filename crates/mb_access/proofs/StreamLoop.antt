@@ -1,0 +1,54 @@
+-- The tiles that are still to come, step by step.
+use Rattle.std.proofs.Common.{◌≡◌, ◌∙◌, ap, sym, subst, ℕ, suc, ◌≤◌, Bool, true, List, ◌∷◌, Option, Some, Ok, arith, filter_map, take}
+use Rattle.std.specs.List.{cons_option}
+use Rattle.mb_access.specs.StreamSteps.{GivesCoord, IsTileOf, Tile, left_of, rows_left, set_of, tile_at, tile_by_row}
+use Rattle.mb_access.specs.declared.stream_state.StreamState.{StreamState}
+use Rattle.mb_load.specs.Held.{Held}
+use Rattle.mb_store.specs.Kept.{ReadsOnly}
+use Rattle.mb_tables.specs.Table.{Tables}
+use Rattle.mb_tables.specs.declared.cell.Cell.{Cell}
+use Rattle.tile_ids.specs.Coord.{Coord}
+
+left_same : (t : Tables) (s u : StreamState) → rows_left t u ≡ rows_left t s → u.set ≡ s.set → u.left ≡ s.left → left_of t u ≡ left_of t s
+left_same t s u rows set left = λ i. take (left i) (filter_map (tile_by_row (set i).state) (rows i))
+
+-- the first row has a tile
+left_given : (t : Tables) (s u : StreamState) (row : List Cell) (e : Tile) → rows_left t s ≡ row ∷ rows_left t u → tile_by_row s.set.state row ≡ Some e → u.set ≡ s.set → s.left ≡ suc u.left → left_of t s ≡ e ∷ left_of t u
+left_given t s u row e rows some set left =
+    ap (λ (l : List (List Cell)). take s.left (filter_map (tile_by_row s.set.state) l)) rows
+    ∙ (ap (λ (o : Option Tile). take s.left (cons_option o (filter_map (tile_by_row s.set.state) (rows_left t u)))) some
+    ∙ (ap (λ n. take n (e ∷ filter_map (tile_by_row s.set.state) (rows_left t u))) left
+    ∙ ap (λ (h : Held). e ∷ take u.left (filter_map (tile_by_row h.state) (rows_left t u))) (sym set)))
+
+module _ {S : Type 0} (holds : S → Tables) (shows : S → Bool) (failed : S → ℕ) (unfailing : S → Type 0) where
+  pub reads_then : (x y z : S) → ReadsOnly holds shows failed unfailing x y → ReadsOnly holds shows failed unfailing y z → ReadsOnly holds shows failed unfailing x z
+  reads_then x y z a b = record {
+    told = b.told ∙ a.told;
+    tells = b.tells ∙ a.tells;
+    faults = omega (arith, a.faults, b.faults);
+    steady = λ h. b.steady (a.steady h);
+    calm = λ h. b.calm (a.steady h) ∙ a.calm h;
+  }
+
+  -- a stream on its way to the next tile
+  pub record Streaming (first now : StreamState) (before after : S) : Type 0 where
+    pub items : shows before ≡ true → left_of (holds before) now ≡ left_of (holds before) first
+    pub set : now.set ≡ first.set
+    pub left : now.left ≤ first.left
+    pub kept : ReadsOnly holds shows failed unfailing before after
+
+  -- the page has a row again
+  pub refilled : (first s u : StreamState) (before mid after : S) → Streaming first s before mid → (shows mid ≡ true → rows_left (holds mid) u ≡ rows_left (holds mid) s) → u.set ≡ s.set → u.left ≡ s.left → ReadsOnly holds shows failed unfailing mid after → Streaming first u before after
+  refilled first s u before mid after w rows set left kept = record {
+    items = λ t. left_same (holds before) s u (subst (λ (x : Tables). rows_left x u ≡ rows_left x s) w.kept.told (rows (w.kept.tells ∙ t))) set left ∙ w.items t;
+    set = set ∙ w.set;
+    left = omega (arith, left, w.left);
+    kept = reads_then before mid after w.kept kept;
+  }
+
+  -- the next tile
+  pub coord_given : (first s u : StreamState) (row : List Cell) (c : Coord) (before after : S) → Streaming first s before after → ((t : Tables) → rows_left t s ≡ row ∷ rows_left t u) → IsTileOf (set_of s) row (Some c) → u.set ≡ s.set → s.left ≡ suc u.left → shows before ≡ true → GivesCoord (set_of first).tiles (left_of (holds before) first) (Some (Ok c)) (left_of (holds before) u)
+  coord_given first s u row c before after w rows is set left t =
+      sym (w.items t)
+      ∙ (left_given (holds before) s u row (tile_at s.set.state.tiles c) (rows (holds before)) is.0 set left
+      ∙ ap (λ (h : Held). tile_at h.state.tiles c ∷ left_of (holds before) u) w.set)

@@ -1,0 +1,13 @@
+use Rattle.std.proofs.Common.{◌≡◌, ◌-◌, suc, arith}
+use Rattle.mb_access.proofs.StreamLoop.{coord_given, refilled}
+use Rattle.mb_access.specs.StreamSteps.{next_row}
+use Rattle.mb_access.proofs.stream_state.StreamState.next_coord.Goals as goal
+
+pub returns-in-Some-clause-items : goal.returns-in-Some-clause-items
+returns-in-Some-clause-items g c = λ t.
+    let m = g.S.TileStore in
+    let s = c.has_row.new.self in
+    let u = record c.take_row.new.self { left = c.take_row.new.self.left - 1 } in
+    let w = refilled m.told m.tells m.faults m.steady c.args.self.now c.loop-self.self s c.args.store.now c.loop-self.store c.has_row.new.store c.loop-self.invariant c.in-Ok-true.ensures.rows c.has_row.ensures.set c.has_row.ensures.left c.has_row.ensures.kept in
+    let more : s.left ≡ suc (c.take_row.new.self.left - 1) = omega (arith, c.loop-self-test.true, c.has_row.ensures.left, c.take_row.ensures.left) in
+    coord_given m.told m.tells m.faults m.steady c.args.self.now s u (next_row s) c.in-Some.coord c.args.store.now c.has_row.new.store w c.take_row.ensures.rows c.in-Some.ensures.coord c.take_row.ensures.set more t

@@ -1,0 +1,132 @@
+// Streams of the tiles of a set in the order of their rows.
+ghost use Rattle.std.specs.Prelude.{◌≡◌, ◌≢◌, ◌<◌, ◌-◌, ◌^◌, Err, IfOk, Ok, true};
+ghost use Rattle.std.specs.FinMap.{len};
+ghost use Rattle.mb_access.specs.Streams.{coords_loaded, tiles_loaded};
+ghost use Rattle.mb_access.specs.StreamSteps.{left_at_most, left_of, set_of};
+ghost use Rattle.mb_load.specs.Begun.{IsBegun};
+ghost use Rattle.mb_store.specs.Kept.{ReadsOnly};
+ghost use Rattle.mb_tables.specs.Tiles.{pairs_of};
+
+use crate::StreamState;
+use base_values::BlobVal;
+use mb_store::{MbtError, MbtResult, TileStore};
+use std::alloc::Global;
+use tile_ids::TileCoord;
+
+/// The coordinates of a set's tiles, null ones included, in the order of their rows. An error ends them: want of memory, or `StoreFault` where the store's count of
+/// faults rose.
+pub struct Coords<'s, S: TileStore, T = StreamState> {
+    pub(crate) store: &'s mut S,
+    pub(crate) state: T,
+}
+
+// What is let go leaves the store as it is.
+impl<S: TileStore, T: Drop> Drop for Coords<'_, S, T> {
+    fn drop(self)
+        ensures same { self.exit.0.now ≡ self.entry.store.now }
+    {
+        let Coords { store: _, state: _ } = self;
+    }
+}
+
+/// The tiles of a set, each its coordinate with its bytes or null, in the order of their rows. An error ends them: want of memory, or `StoreFault` where the store's
+/// count of faults rose.
+pub struct Tiles<'s, S: TileStore, T = StreamState> {
+    pub(crate) store: &'s mut S,
+    pub(crate) state: T,
+}
+
+// What is let go leaves the store as it is.
+impl<S: TileStore, T: Drop> Drop for Tiles<'_, S, T> {
+    fn drop(self)
+        ensures same { self.exit.0.now ≡ self.entry.store.now }
+    {
+        let Tiles { store: _, state: _ } = self;
+    }
+}
+
+impl<'s, S: TileStore> Coords<'s, S> {
+    /// The stream with this state over this store, from which the state was loaded.
+    pub fn over(store: &'s mut S, state: StreamState) -> Coords<'s, S>
+        ensures same_reference { result.store.ghost_name ≡ store.entry.ghost_name }
+        ensures same { result.store.now ≡ store.old }
+        ensures state { result.state ≡ state }
+    {
+        Coords { store, state }
+    }
+}
+
+impl<'s, S: TileStore> Tiles<'s, S> {
+    /// The stream with this state over this store, from which the state was loaded.
+    pub fn over(store: &'s mut S, state: StreamState) -> Tiles<'s, S>
+        ensures same_reference { result.store.ghost_name ≡ store.entry.ghost_name }
+        ensures same { result.store.now ≡ store.old }
+        ensures state { result.state ≡ state }
+    {
+        Tiles { store, state }
+    }
+}
+
+impl<'s, S: TileStore> Iterator for Coords<'s, S> {
+    type Item = MbtResult<TileCoord>;
+
+    ghost use Rattle.std.specs.Iterator.{at_most};
+    ghost use Rattle.mb_access.specs.StreamSteps.{left_at_most};
+    ghost use Rattle.mb_access.specs.Streams.{StreamsCoord};
+
+    ghost next_gives = { λ s item t. StreamsCoord S.told S.tells S.faults S.steady s item t };
+
+    ghost remaining = { λ s. at_most (left_at_most s.state) };
+
+    fn next(&mut self) -> Option<MbtResult<TileCoord>> {
+        self.state.next_coord(self.store)
+    }
+}
+
+impl<'s, S: TileStore> Iterator for Tiles<'s, S> {
+    type Item = MbtResult<(TileCoord, Option<BlobVal>)>;
+
+    ghost use Rattle.std.specs.Iterator.{at_most};
+    ghost use Rattle.mb_access.specs.StreamSteps.{left_at_most};
+    ghost use Rattle.mb_access.specs.Streams.{StreamsTile};
+
+    ghost next_gives = { λ s item t. StreamsTile S.told S.tells S.faults S.steady s item t };
+
+    ghost remaining = { λ s. at_most (left_at_most s.state) };
+
+    fn next(&mut self) -> Option<MbtResult<(TileCoord, Option<BlobVal>)>> {
+        self.state.next_tile(self.store)
+    }
+}
+
+/// The coordinates of a set's tiles in the order of their rows: `StreamState::start`, and then `Coords::over`.
+///
+/// An error is one that `start` answers: a refusal of `load`, want of memory, or a fault, which doesn't come over a store whose calls don't fail. What stands of the
+/// store after an error is promised by `start`.
+pub fn stream_coords<'s, S: TileStore>(alloc: Global, store: &'s mut S) -> MbtResult<Coords<'s, S>>
+    ensures answer { IsBegun Ok (S.tells store.old) (S.told store.old) (coords_loaded result) }
+    ensures unfailing { S.steady store.old → S.faults store.old < 2 ^ 64 - 1 → result ≢ Err MbtError.StoreFault }
+    ensures same_reference { IfOk result (λ c. c.store.ghost_name ≡ store.entry.ghost_name) }
+    ensures items { S.tells store.old ≡ true → IfOk result (λ c. left_of (S.told c.store.now) c.state ≡ pairs_of (set_of c.state).layout (S.told store.old)) }
+    ensures most { IfOk result (λ c. left_at_most c.state ≡ len (set_of c.state).tiles) }
+    ensures kept { IfOk result (λ c. ReadsOnly S.told S.tells S.faults S.steady store.old c.store.now) }
+{
+    let state = StreamState::start(alloc, store)?;
+    Ok(Coords { store, state })
+}
+
+/// The tiles of a set in the order of their rows: `StreamState::start`, and then `Tiles::over`.
+///
+/// An error is one that `start` answers: a refusal of `load`, want of memory, or a fault, which doesn't come over a store whose calls don't fail. What stands of the
+/// store after an error is promised by `start`.
+pub fn stream_tiles<'s, S: TileStore>(alloc: Global, store: &'s mut S) -> MbtResult<Tiles<'s, S>>
+    ensures answer { IsBegun Ok (S.tells store.old) (S.told store.old) (tiles_loaded result) }
+    ensures unfailing { S.steady store.old → S.faults store.old < 2 ^ 64 - 1 → result ≢ Err MbtError.StoreFault }
+    ensures same_reference { IfOk result (λ c. c.store.ghost_name ≡ store.entry.ghost_name) }
+    ensures items { S.tells store.old ≡ true → IfOk result (λ c. left_of (S.told c.store.now) c.state ≡ pairs_of (set_of c.state).layout (S.told store.old)) }
+    ensures most { IfOk result (λ c. left_at_most c.state ≡ len (set_of c.state).tiles) }
+    ensures kept { IfOk result (λ c. ReadsOnly S.told S.tells S.faults S.steady store.old c.store.now) }
+{
+    let state = StreamState::start(alloc, store)?;
+    Ok(Tiles { store, state })
+}
