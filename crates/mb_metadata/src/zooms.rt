@@ -20,7 +20,7 @@ fn with_zoom(span: Option<(u8, u8)>, zoom: u8) -> Option<(u8, u8)>
 }
 
 // The least and the greatest zoom of the tiles of a loaded set.
-fn zooms_in(set: &Loaded) -> Option<(u8, u8)>
+pub(crate) fn zooms_in(set: &Loaded) -> Option<(u8, u8)>
     ensures { result ≡ span (zooms_of set.now.state.tiles) }
 {
     let mut span = None;

@@ -1,5 +1,6 @@
 pub mod Errors
 pub mod JsonCode
+pub mod JsonReading
 pub mod LayerReading
 pub mod Members
 pub mod Places

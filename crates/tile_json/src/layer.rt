@@ -55,4 +55,11 @@ impl LayerList {
     {
         self.layers.as_slice()
     }
+
+    /// The layers in order, taken out.
+    pub fn into_vec(self) -> Vec<VectorLayer>
+        ensures { result.items ≡ self }
+    {
+        self.layers
+    }
 }

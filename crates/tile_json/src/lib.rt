@@ -5,6 +5,7 @@ mod document;
 mod error;
 mod extent;
 mod floats;
+mod json_reading;
 mod json_value;
 mod layer;
 mod layer_reading;

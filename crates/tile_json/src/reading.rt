@@ -94,7 +94,7 @@ impl TileJson {
 }
 
 // The value that a text of JSON is, in which no number is held as a float.
-fn whole_value(alloc: Global, text: &str) -> Result<JsonVal, DocumentError>
+pub(crate) fn whole_value(alloc: Global, text: &str) -> Result<JsonVal, DocumentError>
     ensures { Answers (whole_data text.now) result }
 {
     match Value::from_str(alloc, text) {
