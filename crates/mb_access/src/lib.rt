@@ -8,8 +8,6 @@ mod mbtiles;
 mod reads;
 mod stream_state;
 mod streams;
-#[cfg(test)]
-mod tests;
 
 pub use hashed::get_tile_and_hash;
 pub use mb_metadata::compute_min_max_zoom;
