@@ -5,11 +5,13 @@ mod described;
 mod hashed;
 pub mod laws;
 mod mbtiles;
+mod mbtiles_tiles;
 mod reads;
 mod stream_state;
 mod streams;
 
 pub use hashed::get_tile_and_hash;
+pub use mb_insert::{CopyDuplicateMode, NewTile, insert_tiles};
 pub use mb_metadata::compute_min_max_zoom;
 pub use mbtiles::Mbtiles;
 pub use reads::{contains, get_tile};

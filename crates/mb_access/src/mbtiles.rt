@@ -1,21 +1,9 @@
 // A set by the path of its file.
-ghost use Rattle.mb_store.specs.Kept.{ReadsOnly};
-ghost use Rattle.std.specs.Prelude.{◌≡◌, ◌≢◌, ◌<◌, ◌-◌, ◌^◌, Err, IfErr, IfOk, IsErrOf, Ok, true};
-ghost use Rattle.std.specs.FinMap.{len};
-ghost use Rattle.base_values.specs.Counts.{Rose};
-ghost use Rattle.mb_access.specs.Described.{IsDescribed, missing_answer, read_name};
+ghost use Rattle.std.specs.Prelude.{◌≡◌, IfErr, IfOk};
 ghost use Rattle.mb_access.specs.FileName.{file_name};
-ghost use Rattle.mb_access.specs.Hashed.{IsHashed};
-ghost use Rattle.mb_access.specs.Reads.{contains_answer, tile_answer};
-ghost use Rattle.mb_access.specs.Streams.{coords_loaded, tiles_loaded};
-ghost use Rattle.mb_access.specs.StreamSteps.{left_at_most, left_of, set_of};
-ghost use Rattle.mb_load.specs.Begun.{IsBegun};
-ghost use Rattle.mb_tables.specs.Detection.{detected};
-ghost use Rattle.mb_tables.specs.Tiles.{pairs_of};
 
-use crate::{Coords, Tiles, described, hashed, reads, streams};
-use base_values::{BlobVal, TextVal};
-use mb_store::{MbtError, MbtResult, MbtType, TileStore};
+use base_values::TextVal;
+use mb_store::{MbtError, MbtResult};
 use std::alloc::Global;
 use std::fmt;
 use std::marker::Model;
@@ -73,107 +61,5 @@ impl Mbtiles {
             Some(stem) => stem,
             None => "unknown",
         }
-    }
-
-    /// The layout of the set by the descriptions of its tables, or the refusal of `detect_type` of these.
-    pub fn detect_type<S: TileStore>(&self, alloc: Global, store: &mut S) -> MbtResult<MbtType>
-        ensures answer { IsDescribed detected (S.tells store.old) (S.told store.old) result }
-        ensures kept { ReadsOnly S.told S.tells S.faults S.steady store.old store.new }
-        ensures fault { IsErrOf result MbtError.StoreFault → Rose (S.faults store.old) (S.faults store.new) }
-    {
-        described::detect_type(alloc, store)
-    }
-
-    /// The name of the table of the set's places, where no index of it has the columns of a place among its own, by the descriptions of its tables.
-    pub fn missing_tile_index<S: TileStore>(
-        &self,
-        alloc: Global,
-        store: &mut S,
-    ) -> MbtResult<Option<&'static str>>
-        ensures answer { IsDescribed missing_answer (S.tells store.old) (S.told store.old) (read_name result) }
-        ensures kept { ReadsOnly S.told S.tells S.faults S.steady store.old store.new }
-        ensures fault { IsErrOf result MbtError.StoreFault → Rose (S.faults store.old) (S.faults store.new) }
-    {
-        described::missing_tile_index(alloc, store)
-    }
-
-    /// What `get_tile` answers.
-    pub fn get_tile<S: TileStore>(
-        &self,
-        alloc: Global,
-        store: &mut S,
-        z: u8,
-        x: u32,
-        y: u32,
-    ) -> MbtResult<Option<BlobVal>>
-        ensures answer { IsBegun (tile_answer z x y) (S.tells store.old) (S.told store.old) result }
-        ensures kept { ReadsOnly S.told S.tells S.faults S.steady store.old store.new }
-        ensures fault { IsErrOf result MbtError.StoreFault → Rose (S.faults store.old) (S.faults store.new) }
-    {
-        reads::get_tile(alloc, store, z, x, y)
-    }
-
-    /// What `get_tile_and_hash` answers.
-    pub fn get_tile_and_hash<S: TileStore>(
-        &self,
-        alloc: Global,
-        store: &mut S,
-        z: u8,
-        x: u32,
-        y: u32,
-    ) -> MbtResult<Option<(BlobVal, Option<TextVal>)>>
-        ensures answer { IsHashed z x y (S.tells store.old) (S.told store.old) result }
-        ensures kept { ReadsOnly S.told S.tells S.faults S.steady store.old store.new }
-        ensures fault { IsErrOf result MbtError.StoreFault → Rose (S.faults store.old) (S.faults store.new) }
-    {
-        hashed::get_tile_and_hash(alloc, store, z, x, y)
-    }
-
-    /// What `contains` answers.
-    pub fn contains<S: TileStore>(
-        &self,
-        alloc: Global,
-        store: &mut S,
-        z: u8,
-        x: u32,
-        y: u32,
-    ) -> MbtResult<bool>
-        ensures answer { IsBegun (contains_answer z x y) (S.tells store.old) (S.told store.old) result }
-        ensures kept { ReadsOnly S.told S.tells S.faults S.steady store.old store.new }
-        ensures fault { IsErrOf result MbtError.StoreFault → Rose (S.faults store.old) (S.faults store.new) }
-    {
-        reads::contains(alloc, store, z, x, y)
-    }
-
-    /// What `stream_coords` answers.
-    pub fn stream_coords<'s, S: TileStore>(
-        &self,
-        alloc: Global,
-        store: &'s mut S,
-    ) -> MbtResult<Coords<'s, S>>
-        ensures answer { IsBegun Ok (S.tells store.old) (S.told store.old) (coords_loaded result) }
-        ensures unfailing { S.steady store.old → S.faults store.old < 2 ^ 64 - 1 → result ≢ Err MbtError.StoreFault }
-        ensures same_reference { IfOk result (λ c. c.store.ghost_name ≡ store.entry.ghost_name) }
-        ensures items { S.tells store.old ≡ true → IfOk result (λ c. left_of (S.told c.store.now) c.state ≡ pairs_of (set_of c.state).layout (S.told store.old)) }
-        ensures most { IfOk result (λ c. left_at_most c.state ≡ len (set_of c.state).tiles) }
-        ensures kept { IfOk result (λ c. ReadsOnly S.told S.tells S.faults S.steady store.old c.store.now) }
-    {
-        streams::stream_coords(alloc, store)
-    }
-
-    /// What `stream_tiles` answers.
-    pub fn stream_tiles<'s, S: TileStore>(
-        &self,
-        alloc: Global,
-        store: &'s mut S,
-    ) -> MbtResult<Tiles<'s, S>>
-        ensures answer { IsBegun Ok (S.tells store.old) (S.told store.old) (tiles_loaded result) }
-        ensures unfailing { S.steady store.old → S.faults store.old < 2 ^ 64 - 1 → result ≢ Err MbtError.StoreFault }
-        ensures same_reference { IfOk result (λ c. c.store.ghost_name ≡ store.entry.ghost_name) }
-        ensures items { S.tells store.old ≡ true → IfOk result (λ c. left_of (S.told c.store.now) c.state ≡ pairs_of (set_of c.state).layout (S.told store.old)) }
-        ensures most { IfOk result (λ c. left_at_most c.state ≡ len (set_of c.state).tiles) }
-        ensures kept { IfOk result (λ c. ReadsOnly S.told S.tells S.faults S.steady store.old c.store.now) }
-    {
-        streams::stream_tiles(alloc, store)
     }
 }
