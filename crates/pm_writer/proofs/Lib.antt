@@ -39,3 +39,8 @@ pub mod Labelled
 pub mod PlacesRead
 pub mod Complete
 pub mod Took
+pub mod Bodies
+pub mod Values
+pub mod Rests
+pub mod Lending
+pub mod Creating

@@ -15,6 +15,7 @@ pub mod Archivable
 pub mod Settings
 pub mod Pieces
 pub mod Causes
+pub mod Refused
 pub mod Writing
 pub mod Places
 pub mod Finishing
