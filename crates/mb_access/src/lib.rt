@@ -5,6 +5,7 @@ mod described;
 mod hashed;
 pub mod laws;
 mod mbtiles;
+mod mbtiles_metadata;
 mod mbtiles_tiles;
 mod reads;
 mod stream_state;
@@ -12,7 +13,7 @@ mod streams;
 
 pub use hashed::get_tile_and_hash;
 pub use mb_insert::{CopyDuplicateMode, NewTile, insert_tiles};
-pub use mb_metadata::compute_min_max_zoom;
+pub use mb_metadata::{Metadata, UpdateZoomType, compute_min_max_zoom};
 pub use mbtiles::Mbtiles;
 pub use reads::{contains, get_tile};
 pub use stream_state::StreamState;

@@ -1,5 +1,9 @@
 pub mod BareLemmas
 pub mod OthersLemmas
 pub mod ReadingLemmas
+pub mod InsertLemmas
+pub mod JsonLemmas
+pub mod NameEditLemmas
+pub mod UpdateLemmas
 pub mod ZoomLemmas
 pub mod ZoomTextLemmas

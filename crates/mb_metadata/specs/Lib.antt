@@ -3,5 +3,10 @@ pub mod Others
 pub mod Reading
 pub mod Said
 pub mod SaidJson
+pub mod Inserting
+pub mod LayerJson
+pub mod NameEdits
+pub mod Updating
+pub mod Values
 pub mod ZoomText
 pub mod Zooms

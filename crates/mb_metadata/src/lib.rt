@@ -1,15 +1,29 @@
-//! The metadata of a tile set: what it says of itself, and between which zooms its tiles lie.
+//! The metadata of a tile set: what it says of itself, how that is written, and between which zooms its tiles lie.
 #![tactic(auto)]
 
 mod clamping;
+mod document_text;
+mod inserting;
+mod json_object;
+mod layer_json;
 mod metadata;
+mod name_edits;
 mod others;
 mod reading;
 mod said;
 mod said_json;
+mod updating;
+mod values;
+mod zoom_choice;
 mod zoom_text;
 mod zooms;
 
+pub use inserting::insert_metadata;
 pub use metadata::Metadata;
 pub use reading::get_metadata;
+pub use updating::update_metadata;
+pub use values::{
+    delete_metadata_value, get_metadata_value, get_metadata_zoom_value, set_metadata_value,
+};
+pub use zoom_choice::UpdateZoomType;
 pub use zooms::compute_min_max_zoom;

@@ -1,0 +1,9 @@
+-- The edits of the entries so far.
+use Rattle.std.proofs.Common.{◌≡◌, map, take}
+use Rattle.std.specs.FinMap.{entries}
+use Rattle.mb_metadata.specs.Inserting.{data_text}
+use Rattle.mb_metadata.specs.NameEdits.{put_of}
+use Rattle.mb_metadata.proofs.inserting.other_edits.Given as goal
+
+abbrev pub invariant-loop-index : goal.invariant-loop-index
+invariant-loop-index l = l.edits.items ≡ map (λ e. put_of e.0 (data_text e.1)) (take l.index (entries l.other))

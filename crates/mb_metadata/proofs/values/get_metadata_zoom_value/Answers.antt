@@ -1,0 +1,12 @@
+use Rattle.std.proofs.lemmas.Result.{err_from_is_err_and}
+use Rattle.mb_metadata.specs.Values.{zoom_value_answer}
+use Rattle.mb_load.proofs.BegunLemmas.{begun_err, begun_ok}
+use Rattle.mb_metadata.proofs.values.get_metadata_zoom_value.Goals as goal
+
+pub returns-in_err-set-clause-answer : goal.returns-in_err-set-clause-answer
+returns-in_err-set-clause-answer g c =
+    let p = err_from_is_err_and c.from_residual.result c.from_residual.ensures.1 in
+    rw (p.1, p.2) (begun_err (zoom_value_answer c.args.zoom_name) (g.S.TileStore.tells c.args.store.now) (g.S.TileStore.told c.args.store.now) _ c.in_err-set.ensures.answer c.in_err-set.ensures.own)
+
+pub returns-clause-answer : goal.returns-clause-answer
+returns-clause-answer g c = begun_ok (zoom_value_answer c.args.zoom_name) (g.S.TileStore.tells c.args.store.now) (g.S.TileStore.told c.args.store.now) c.in_ok-set.set c.zoom_value_in.result c.in_ok-set.ensures.answer c.in_ok-set.ensures.own c.zoom_value_in.ensures.answer
