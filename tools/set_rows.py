@@ -611,4 +611,5 @@ def main():
     ROWS.write()
 
 
-main()
+if __name__ == '__main__':
+    main()

@@ -49,7 +49,7 @@ impl Mbtiles {
         store: &mut S,
         zoom_name: &'static str,
     ) -> MbtResult<Option<u8>>
-        ensures answer { IsBegun (zoom_value_answer zoom_name) (S.tells store.old) (S.told store.old) result }
+        ensures answer { IsBegun (zoom_value_answer zoom_name.entry) (S.tells store.old) (S.told store.old) result }
         ensures kept { ReadsOnly S.told S.tells S.faults S.steady store.old store.new }
         ensures fault { IsErrOf result MbtError.StoreFault → Rose (S.faults store.old) (S.faults store.new) }
     {

@@ -14,6 +14,7 @@ mod said;
 mod said_json;
 mod updating;
 mod values;
+mod whole_documents;
 mod zoom_choice;
 mod zoom_text;
 mod zooms;
@@ -25,5 +26,6 @@ pub use updating::update_metadata;
 pub use values::{
     delete_metadata_value, get_metadata_value, get_metadata_zoom_value, set_metadata_value,
 };
+pub use whole_documents::is_without_float;
 pub use zoom_choice::UpdateZoomType;
 pub use zooms::compute_min_max_zoom;

@@ -36,7 +36,7 @@ fn value_in(alloc: Global, set: &Loaded, key: &str) -> MbtResult<Option<TextVal>
 
 // The zoom that a text spells, or the refusal of one that spells none.
 fn zoom_in(alloc: Global, name: &'static str, text: &TextVal) -> MbtResult<Option<u8>>
-    ensures answer { Answers (zoom_or_refused name text.now (zoom_of text.now)) result }
+    ensures answer { Answers (zoom_or_refused name.entry text.now (zoom_of text.now)) result }
     ensures fault { result ≢ Err MbtError.StoreFault }
 {
     match zoom_of(text.as_str()) {
@@ -47,7 +47,7 @@ fn zoom_in(alloc: Global, name: &'static str, text: &TextVal) -> MbtResult<Optio
 
 // The zoom under a name of a loaded set.
 fn zoom_value_in(alloc: Global, set: &Loaded, name: &'static str) -> MbtResult<Option<u8>>
-    ensures answer { Answers (zoom_value_answer name set.now.state) result }
+    ensures answer { Answers (zoom_value_answer name.entry set.now.state) result }
     ensures fault { result ≢ Err MbtError.StoreFault }
 {
     match set.text(name) {
@@ -100,7 +100,7 @@ pub fn get_metadata_zoom_value<S: TileStore>(
     store: &mut S,
     zoom_name: &'static str,
 ) -> MbtResult<Option<u8>>
-    ensures answer { IsBegun (zoom_value_answer zoom_name) (S.tells store.old) (S.told store.old) result }
+    ensures answer { IsBegun (zoom_value_answer zoom_name.entry) (S.tells store.old) (S.told store.old) result }
     ensures kept { ReadsOnly S.told S.tells S.faults S.steady store.old store.new }
     ensures fault { IsErrOf result MbtError.StoreFault → Rose (S.faults store.old) (S.faults store.new) }
 {

@@ -4,19 +4,11 @@ ghost use Rattle.mb_store.specs.Committing.{AreOfTables};
 ghost use Rattle.mb_tables.specs.Described.{is_table};
 ghost use Rattle.mb_tables.specs.declared.description.TableDesc.{TableDesc};
 
-use crate::cells::{key, row_of, table};
 use mb_store::Changes;
-use mb_tables::{RowKey, TableDesc, TableKind, TableName};
+use mb_tables::{RowKey, TableDesc, TableName};
 use rows_shared::{Words, number, say};
+use set_words::{is_table, key, row_of, table};
 use std::alloc::Global;
-
-// Whether a table, and not a view, is described by this name.
-pub fn is_table(tables: &[TableDesc], table: TableName) -> bool
-    ensures { result ≡ is_table tables.now table }
-{
-    let name = table.name();
-    tables.iter().any(|d| d.name.as_str() == name && matches!(d.kind, TableKind::Table))
-}
 
 fn put(
     alloc: Global,

@@ -1,6 +1,5 @@
 // Tables and views that are created in the store that is kept.
 use crate::described::{say_layout, say_tables};
-use crate::labels::layout;
 use mb_store::{
     MemStore, TileStore, create_cache_schema, create_cache_tables, create_flat_tables,
     create_flat_with_hash_tables, create_metadata_table, create_normalized_tables,
@@ -8,6 +7,7 @@ use mb_store::{
 };
 use mb_tables::{MbtResult, TableDesc};
 use rows_shared::{Words, said, say};
+use set_words::layout;
 use std::alloc::Global;
 
 fn create<S: TileStore>(alloc: Global, store: &mut S, words: &mut Words) -> Option<MbtResult<()>> {

@@ -1,12 +1,11 @@
 // A store over a database in memory, which is kept.
 use crate::described::say_layout;
-use crate::labels::layout;
 use crate::stores::{commit, told};
-use crate::words::spaced;
 use mb_sqlite::SqliteStore;
 use mb_store::TileStore;
 use mb_tables::MbtType;
 use rows_shared::{Words, said};
+use set_words::{layout, spaced};
 use sqlite::{Connection, MemStore};
 use std::alloc::Global;
 

@@ -1,15 +1,10 @@
 // Edits of the set that the kept store holds, one at a time, and the commit of their changes.
-ghost use Rattle.std.specs.Prelude.{IsTrue};
-ghost use Rattle.mb_store.specs.Committing.{AreOfTables};
-
-use crate::cells::cell;
-use crate::changes::is_table;
 use crate::loads::say_set;
-use crate::words::owned;
 use mb_load::{Loaded, load};
-use mb_store::{Changes, MemStore, TileStore};
-use mb_tables::{Cell, TableDesc};
-use rows_shared::{Words, number, said, say};
+use mb_store::{Changes, MemStore};
+use mb_tables::Cell;
+use rows_shared::{Words, number, say};
+use set_words::{cell, commit, owned};
 use std::alloc::Global;
 use tile_ids::TileCoord;
 
@@ -60,27 +55,6 @@ fn edit(alloc: Global, set: &mut Loaded, words: &mut Words) -> Option<()> {
         }
         _ => None,
     }
-}
-
-// Whether all changes are of described tables.
-fn are_described(tables: &[TableDesc], changes: &Changes) -> bool
-    ensures { IsTrue result → AreOfTables tables.now changes.now }
-{
-    for index in 0..changes.len() {
-        if !is_table(tables, changes.change_at(index).0) {
-            return false;
-        }
-    }
-    true
-}
-
-// Asks for the descriptions first.
-fn commit(alloc: Global, out: &mut String, store: &mut MemStore, changes: &Changes) -> Option<()> {
-    let tables = store.describe(alloc).ok()?;
-    if !are_described(tables.as_slice(), changes) {
-        return None;
-    }
-    said(out, store.commit(alloc, changes))
 }
 
 // The set after as many edits as the first word says.

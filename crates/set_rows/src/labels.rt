@@ -1,29 +1,11 @@
 // Layouts, schemas, kinds of patches and tables, and their texts.
-use crate::cells::table;
 use mb_tables::{
     AGG_TILES_HASH, AGG_TILES_HASH_AFTER_APPLY, AGG_TILES_HASH_BEFORE_APPLY, HASH_ALGORITHM,
-    MbtError, MbtType, MbtTypeCli, NormalizedSchema, PatchType, PatchTypeCli, TableName,
+    MbtError, MbtTypeCli, NormalizedSchema, PatchType, PatchTypeCli, TableName,
     get_bsdiff_tbl_name,
 };
 use rows_shared::{Words, say, say_text};
-
-fn normalized(hash_view: bool, schema: NormalizedSchema) -> Option<MbtType> {
-    Some(MbtType::Normalized { hash_view, schema })
-}
-
-// A layout by its word.
-pub fn layout(words: &mut Words) -> Option<MbtType> {
-    match words.next()? {
-        "flat" => Some(MbtType::Flat),
-        "flat-with-hash" => Some(MbtType::FlatWithHash),
-        "normalized" => normalized(false, NormalizedSchema::Hash),
-        "normalized-with-view" => normalized(true, NormalizedSchema::Hash),
-        "dedup-id" => normalized(false, NormalizedSchema::DedupId),
-        "dedup-id-with-view" => normalized(true, NormalizedSchema::DedupId),
-        "cache" => Some(MbtType::Cache),
-        _ => None,
-    }
-}
+use set_words::{layout, table};
 
 fn say_schema(out: &mut String, schema: NormalizedSchema) -> Option<()> {
     say(out, &schema)?;

@@ -1,7 +1,6 @@
 //! Reads calls of mb_tables, mb_store, mb_load, mb_edit and mb_check from standard input, one a line, and prints each line with its answer.
 #![tactic(auto)]
 
-mod cells;
 mod changes;
 mod checks;
 mod creating;
@@ -13,7 +12,6 @@ mod loads;
 mod patches;
 mod stores;
 mod tables;
-mod words;
 
 use databases::Database;
 use mb_store::MemStore;

@@ -1,20 +1,14 @@
 // Calls of the store that is kept.
-use crate::cells::{key, row, table};
-use crate::changes::{changes_of, is_table};
-use crate::labels::layout;
+use crate::changes::changes_of;
 use mb_store::{MemStore, TileStore, is_empty_database};
 use rows_shared::{Words, number, said};
+use set_words::{key, layout, push, row, table};
 use std::alloc::Global;
 
-// Asks for the descriptions first.
-fn push(alloc: Global, out: &mut String, store: &mut MemStore, words: &mut Words) -> Option<()> {
+fn pushed(alloc: Global, out: &mut String, store: &mut MemStore, words: &mut Words) -> Option<()> {
     let table = table(words)?;
     let row = row(alloc, words)?;
-    let tables = store.describe(alloc).ok()?;
-    if !is_table(tables.as_slice(), table) || row.cells().len() != table.width() {
-        return None;
-    }
-    said(out, store.push_row(table, row))
+    said(out, push(alloc, store, table, row)?)
 }
 
 // All changes of a line at once. Asks for the descriptions first.
@@ -97,7 +91,7 @@ pub fn answer(
 ) -> Option<()> {
     match words.next()? {
         "new" => new(alloc, store, words),
-        "push" => push(alloc, out, store, words),
+        "push" => pushed(alloc, out, store, words),
         "commit" => commit(alloc, out, store, words),
         "fail" => fail(alloc, store, words),
         call => told(alloc, out, store, call, words),

@@ -1,9 +1,9 @@
 // Descriptions that are kept: each a name, whether it is a table or a view, its columns with their types, and an index.
 use crate::described::{say_layout, say_tables};
-use crate::words::{owned, spaced};
 use base_values::TextList;
 use mb_tables::{ColumnDesc, ColumnList, IndexDesc, IndexList, TableDesc, TableKind};
 use rows_shared::{Words, say};
+use set_words::{owned, spaced};
 use std::alloc::Global;
 
 // Columns that are parted by commas, each a name, a colon and a type.

@@ -5,9 +5,9 @@ ghost use Rattle.serde_json.specs.Written.{has_float, items_have_float, members_
 
 use serde_json::{Map, Value};
 
-// Whether a number of the value is held as a float: one with a fraction or an exponent, or one that no integer of 64 bits holds.
+/// Whether a number of the value is held as a float: one with a fraction or an exponent, or one that no integer of 64 bits holds.
 #[cycle(floats)]
-pub(crate) fn has_float(value: &Value) -> bool
+pub fn has_float(value: &Value) -> bool
     ensures { result ≡ has_float (view value.now) }
 {
     match value {

@@ -16,6 +16,7 @@ mod text_map;
 pub use document::TileJson;
 pub use error::DocumentError;
 pub use extent::{TileBounds, TileCenter};
+pub use floats::has_float;
 pub use json_value::JsonVal;
 pub use layer::{LayerList, VectorLayer};
 pub use text_map::{JsonFields, TextFields, TextMap};

@@ -1,0 +1,9 @@
+-- the values so far have no float
+use Rattle.std.proofs.Common.{◌≡◌, ◌<◌, ℕ, List, get_or, false}
+use Rattle.std.specs.FinMap.{entries}
+use Rattle.serde_json.specs.Data.{Data}
+use Rattle.serde_json.specs.Written.{has_float}
+use Rattle.mb_metadata.proofs.whole_documents.has_no_float.Given as goal
+
+abbrev pub invariant-loop-index : goal.invariant-loop-index
+invariant-loop-index l = (k : ℕ) (e : List ℕ × Data) → k < l.index → has_float (get_or (entries l.fields) k e).1 ≡ false

@@ -1,0 +1,78 @@
+//! Reads calls of tile sets from standard input, one a line, and prints each line with its answer: calls of mb_access, mb_insert, mb_metadata and mb_load, and patches of mb_edit.
+#![tactic(auto)]
+
+mod databases;
+mod documents;
+mod editing;
+mod fills;
+mod inserts;
+mod loaded;
+mod metadata;
+mod names;
+mod patches;
+mod printed;
+mod reads;
+mod said;
+mod sets;
+mod streams;
+mod values;
+mod zoom_values;
+
+use databases::Database;
+use mb_store::MemStore;
+use rows_shared::{Rows, Words, run};
+use std::alloc::Global;
+use std::io;
+
+// What is kept from line to line.
+#[derive(Drop)]
+struct Kept {
+    store: MemStore,
+    database: Database,
+}
+
+// A call that changes the store, or is one of a database.
+fn answer_further(
+    alloc: Global,
+    out: &mut String,
+    kept: &mut Kept,
+    call: &str,
+    words: &mut Words,
+) -> Option<()> {
+    match call {
+        "insert" => inserts::answer(alloc, out, &mut kept.store, words),
+        "meta" => metadata::answer(alloc, out, &mut kept.store, words),
+        "loaded" => loaded::answer(alloc, out, &mut kept.store, words),
+        "patch" => patches::answer(alloc, out, &mut kept.store, words),
+        "database" => databases::answer(alloc, out, &mut kept.database, words),
+        _ => None,
+    }
+}
+
+impl Rows for Kept {
+    fn answer(
+        &mut self,
+        _rt: &HostRuntime,
+        alloc: Global,
+        out: &mut String,
+        line: &str,
+    ) -> Option<()> {
+        let mut words: Words = line.split_whitespace();
+        match words.next()? {
+            "set" => sets::answer(alloc, out, &mut self.store, &mut words),
+            "read" => reads::answer(alloc, out, &mut self.store, &mut words),
+            "name" => names::answer(alloc, out, &mut self.store, &mut words),
+            "stream" => streams::answer(alloc, out, &mut self.store, &mut words),
+            call => answer_further(alloc, out, self, call, &mut words),
+        }
+    }
+}
+
+fn main(rt: HostRuntime) -> io::Result<()> {
+    let alloc = rt.alloc();
+    let mut kept = Kept {
+        store: MemStore::new(alloc),
+        database: None,
+    };
+    run(&rt, &mut kept)
+}
