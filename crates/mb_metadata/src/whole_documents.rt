@@ -1,5 +1,5 @@
 // Documents in which no number is held as a float.
-ghost use Rattle.std.specs.Prelude.{IfSome, IsTrue, option_copied};
+ghost use Rattle.std.specs.Prelude.{IfSome, IsTrue};
 ghost use Rattle.mb_metadata.specs.Inserting.{HasNoFloat, IsWithoutFloat, LayersHaveNoFloat};
 
 use tile_json::{JsonFields, LayerList, TileJson, VectorLayer, has_float};
@@ -21,8 +21,8 @@ fn layers_have_no_float(layers: &[VectorLayer]) -> bool
     layers.iter().all(|layer| has_no_float(&layer.other))
 }
 
-fn any_have_no_float(layers: Option<&LayerList>) -> bool
-    ensures { IsTrue result → IfSome (option_copied layers) LayersHaveNoFloat }
+fn any_have_no_float(layers: &Option<LayerList>) -> bool
+    ensures { IsTrue result → IfSome layers.now LayersHaveNoFloat }
 {
     match layers {
         Some(layers) => layers_have_no_float(layers.as_slice()),
@@ -34,5 +34,8 @@ fn any_have_no_float(layers: Option<&LayerList>) -> bool
 pub fn is_without_float(document: &TileJson) -> bool
     ensures { IsTrue result → IsWithoutFloat document.now }
 {
-    has_no_float(&document.other) && any_have_no_float(document.vector_layers.as_ref())
+    if !has_no_float(&document.other) {
+        return false;
+    }
+    any_have_no_float(&document.vector_layers)
 }

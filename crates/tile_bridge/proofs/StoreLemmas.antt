@@ -9,7 +9,7 @@ use Rattle.mb_tables.specs.declared.error.MbtError.{MbtError}
 use Rattle.mb_tables.specs.declared.error.MbtError.TheVariants.{OutOfMemory, StoreFault}
 use Rattle.tile_bridge.specs.Outcome.{at_place, then}
 use Rattle.tile_bridge.specs.Patching.{HoldsState}
-use Rattle.tile_bridge.specs.Stores.{IsRefused, Refuses, due_at, due_patch, refusal_at}
+use Rattle.tile_bridge.specs.Stores.{IsDue, IsRefused, Refuses, due_at, due_patch, refusal_at}
 use Rattle.tile_bridge.specs.declared.error.ConvertError.{ConvertError}
 use Rattle.tile_bridge.specs.declared.error.ConvertError.TheVariants.{Store}
 
@@ -44,6 +44,14 @@ patch_refused force place s q tells t e x is loads answer = subst (Refuses (due_
     by_case StoreFault h = tt
     by_case OutOfMemory h = tt
     by_case e h = (stands e (h refl), refl)
+
+-- the state after a patch
+pub patch_due : (force : Bool) (place : ℕ) (s q next : State) (tells : Bool) (t : Tables) → (tells ≡ true → state_of t ≡ Ok q) → step force s q ≡ Ok next → IsDue (due_patch force place s tells t) next
+patch_due force place s q next tells t loads answer = by tells loads
+  where
+    by : (b : Bool) → (b ≡ true → state_of t ≡ Ok q) → IsDue (due_patch force place s b t) next
+    by true l = ap (λ r. then (at_place place r) (λ q. at_place place (step force s q))) (l refl) ∙ ap (at_place place) answer
+    by false l = tt
 
 -- the tables of a state that was loaded
 pub holds_state : (tells : Bool) (told : Tables) (s : State) → (tells ≡ true → state_of told ≡ Ok s) → (t : Tables) × (state_of t ≡ Ok s) → HoldsState tells told s
