@@ -17,7 +17,7 @@ use Rattle.pm_writer.specs.Causes.{AddCauses}
 use Rattle.pm_writer.specs.Took.{Took}
 use Rattle.pm_writer.specs.Writing.{AddFits, add_to, data_end}
 use Rattle.pm_writer.specs.declared.state.WriterState.{WriterState}
-use Rattle.tile_extract.proofs.CoveringLemmas.{lt_by, never, to_lt}
+use Rattle.pm_walk.proofs.CoveringLemmas.{lt_by, never, to_lt}
 use Rattle.tile_extract.specs.Written.{ByRoom, EndsBy, Puts, PutsAll, Rises, has_room, of_write_error}
 use Rattle.tile_extract.specs.declared.error.ExtractError.{ExtractError}
 use Rattle.tile_extract.specs.declared.error.ExtractError.TheVariants.{IndexEntryOverflow, MediumFault}

@@ -23,7 +23,8 @@ use Rattle.pm_writer.proofs.Sorted.{tile_found}
 use Rattle.pm_writer.specs.Causes.{ArchiveFits}
 use Rattle.pm_writer.specs.Writing.{add_to, data_end}
 use Rattle.pm_writer.specs.declared.places.ArchivePlaces.{ArchivePlaces}
-use Rattle.tile_extract.specs.Collecting.{AreOrdered}
+use Rattle.pm_walk.specs.Collecting.{AreOrdered}
+use Rattle.pm_walk.specs.declared.error.WalkError.TheVariants as walk
 use Rattle.tile_extract.specs.Completeness.{CanExtract, EndsWell, IsDoneOrWanting}
 use Rattle.tile_extract.specs.Cut.{intervals, options_from}
 use Rattle.tile_extract.specs.Extract.{Answers, Causes, Added, Due, IsEarly, IsLate, IsMetadataRefused, ReadCauses, Source, count_met, parts_met}
@@ -32,7 +33,7 @@ use Rattle.tile_extract.specs.Written.{Adds, has_room, ids_of, put_all, put_next
 use Rattle.tile_extract.specs.declared.error.ExtractError.{ExtractError}
 use Rattle.tile_extract.specs.declared.error.ExtractError.TheVariants.{Archive, IndexEntryOverflow, InvalidZoom, MediumFault, MediumNotEmpty, OutOfMemory, TooManyTiles}
 use Rattle.tile_extract.proofs.AddedLemmas.{ends_nothing, ok_is, sorted_by}
-use Rattle.tile_extract.proofs.CoveringLemmas.{to_lt}
+use Rattle.pm_walk.proofs.CoveringLemmas.{to_lt}
 use Rattle.tile_extract.proofs.CutLemmas.{cut_held, parts_in_order}
 use Rattle.tile_extract.proofs.SoundLemmas.{AreThere, GoesWell, archive_well, parts_there}
 use Rattle.tile_extract.proofs.TileLemmas.{add_all, add_each, bytes_at, all_held, all_rise}
@@ -136,7 +137,7 @@ module _ (b : List ℕ) (c : Coord) (m most : ℕ) (can : CanExtract b c m most)
   no_early e fault (inl is) = let bad : Ok can.sound.found ≡ Err e = sym can.sound.opens ∙ is in absurd (cc)
   no_early e fault (inr (inl is)) = no_metadata (metadata_read b is.0.0) e (ap (λ p. metadata_read b p.0) (same_found is.0 is.1) ∙ can.metadata) is.2
   no_early e fault (inr (inr is)) =
-      none-some e (sym (ap (λ o. (met_of b o c m).refusal) (same_found is.0.found is.0.opens) ∙ well.fine) ∙ is.1)
+      none-some (walk.Archive e) (sym (ap (λ o. (met_of b o c m).refusal) (same_found is.0.found is.0.opens) ∙ well.fine) ∙ is.1)
 
   no_late : (e : PmtError) → (e ≡ errors.Reading causes.Fault → ⊥) → IsLate (Some []) b c m most e → ⊥
   no_late (errors.Reading causes.Fault) fault is = fault refl

@@ -1,5 +1,5 @@
 -- The tiles of the part that is extracted, by the parts of the tile entries that are met.
-use Rattle.std.proofs.Common.{◌≡◌, ◌∙◌, ◌+◌, ◌^◌, ◌≤◌, ◌<◌, ◌⊎◌, inl, inr, ℕ, Bool, true, false, nat_le, nat_lt, nat_eq, ◌&&◌, if◌then◌else◌, List, [], ◌∷◌, ◌++◌, length, take, drop, Option, None, Some, Result, Ok, Err, refl, ap, sym, arith}
+use Rattle.std.proofs.Common.{◌≡◌, ◌∙◌, ◌+◌, ◌^◌, ◌≤◌, ◌<◌, ◌⊎◌, inl, inr, ℕ, Bool, true, false, nat_le, nat_lt, nat_eq, ◌&&◌, if◌then◌else◌, List, [], ◌∷◌, ◌++◌, length, Option, None, Some, Result, Ok, Err, refl, ap, sym, arith}
 use Rattle.std.proofs.lemmas.Bool.{and_parts}
 use Rattle.std.proofs.lemmas.Bool.Decides.{nat_tests}
 use Rattle.tile_ids.specs.Coord.{Coord}
@@ -9,30 +9,19 @@ use Rattle.pm_format.specs.declared.error.PmtError.TheVariants as errors
 use Rattle.pm_format.specs.declared.error.ReadCause.TheVariants as causes
 use Rattle.pm_format.specs.declared.header.Header.{Header}
 use Rattle.pm_format.specs.Directory.{Entry}
-use Rattle.pm_format.specs.LookUp.{archive_map, archive_tile, data_behind, filled, range_of, tile_by, tile_opened}
+use Rattle.pm_format.specs.LookUp.{archive_map, archive_tile, filled, range_of}
 use Rattle.pm_format.specs.Opened.{Opened, opened}
-use Rattle.tile_extract.specs.Collecting.{AreOrdered}
-use Rattle.tile_extract.specs.Cut.{cut, in_intervals, intervals}
+use Rattle.pm_walk.specs.Collecting.{AreOrdered}
+use Rattle.pm_walk.specs.Intervals.{in_intervals}
+use Rattle.tile_extract.specs.Cut.{cut, intervals}
 use Rattle.tile_extract.specs.Met.{met_of}
-use Rattle.tile_extract.specs.Parts.{clip_all, parts, parts_of}
-use Rattle.tile_extract.proofs.CoveringLemmas.{IsPartOf, clips_inside, clips_none, covering, covering_behind, covers_here, covers_later, has_id, none_below, parts_none, parts_outside}
-use Rattle.tile_extract.proofs.ClippingLemmas.{parts_ordered}
+use Rattle.pm_walk.specs.Parts.{clip_all, parts, parts_of}
+use Rattle.pm_walk.specs.declared.extent.Extent.TheVariants.{Within}
+use Rattle.pm_walk.proofs.CoveringLemmas.{IsPartOf, clips_inside, clips_none, covering, covering_behind, covers_here, covers_later, has_id, none_below, parts_none, parts_outside}
+use Rattle.pm_walk.proofs.ClippingLemmas.{parts_ordered}
 use Rattle.tile_extract.proofs.IntervalLemmas.{apart}
-use Rattle.tile_extract.proofs.LookUpLemmas.{walked_looked}
-use Rattle.tile_extract.proofs.OrderLemmas.{walked_ordered}
-
--- the bytes that an entry leads to, at least one, or nothing
-abbrev pub held : Header → List ℕ → Option Entry → Option (List ℕ)
-held h b found = filled (data_behind h b (Ok found))
-
--- an entry without a byte leads to nothing
-empty_held : (h : Header) (b : List ℕ) (e : Entry) → e.length ≡ 0 → held h b (Some e) ≡ None
-empty_held h b e none = ap (λ n. filled (elim (range_of b (h.data_offset + e.offset) n) as (λ _. Result (Option (List ℕ)) PmtError) [ None ↦ Err (errors.Reading causes.PastEnd) | Some bytes ↦ Ok (Some bytes) ])) none
-    ∙ by_test (nat_le (h.data_offset + e.offset + 0) (length b) && nat_lt (h.data_offset + e.offset + 0) (2 ^ 64))
-  where
-    by_test : (t : Bool) → filled (elim (if t then Some (take 0 (drop (h.data_offset + e.offset) b)) else None) as (λ _. Result (Option (List ℕ)) PmtError) [ None ↦ Err (errors.Reading causes.PastEnd) | Some bytes ↦ Ok (Some bytes) ]) ≡ None
-    by_test true = refl
-    by_test false = refl
+use Rattle.pm_walk.proofs.OrderLemmas.{walked_ordered}
+use Rattle.pm_walk.proofs.WholeLemmas.{empty_held, held, le_or, none_past, tile_found}
 
 -- a part of an entry leads to the same bytes
 part_held : (h : Header) (b : List ℕ) (e p : Entry) → IsPartOf e p → held h b (Some p) ≡ held h b (Some e)
@@ -64,42 +53,26 @@ parts_held h b t is low (e ∷ es) end o lies = by_test (has_id t e) refl (nat_e
     by_test false has y empty rest =
         ap (held h b) (covering_behind t (parts_of is e) (parts is es) (none_of (nat_eq e.length 0) has)) ∙ rest ∙ sym (ap (held h b) (covers_later t e es has))
 
--- no tile entry in order has an id past those of tiles
-none_past : (t low : ℕ) (es : List Entry) (end : Option ℕ) → AreOrdered low es end → MAX_TILE_ID < t → covering t es ≡ None
-none_past t low [] end o past = refl
-none_past t low (e ∷ es) end o past =
-    let not_in : has_id t e ≡ false = let m : e.tile_id + e.run_length ≤ MAX_TILE_ID + 1 = o.2 in grind (arith, nat_tests) in
-    covers_later t e es not_in ∙ none_past t (e.tile_id + e.run_length) es end o.3 past
-
--- the tile of an archive at an id in the intervals
-tile_is : (b : List ℕ) (o : Opened) (c : Coord) (m t : ℕ) → opened b ≡ Ok o → (met_of b o c m).refusal ≡ None → in_intervals t (intervals c m) ≡ true → filled (archive_tile b t) ≡ held o.0 b (covering t (met_of b o c m).entries)
-unfolding tile_by
-tile_is b o c m t opens fine lies =
-    ap (λ x. filled (tile_opened b t x)) opens ∙ ap (λ x. filled (data_behind o.0 b x)) (walked_looked 6 o.0 b (intervals c m) t lies 0 None o.1 fine refl)
-
-le_or : (m n : ℕ) → (m ≤ n) ⊎ (n < m)
-le_or m n = grind arith
-
 -- the part that is cut out of an archive is what the parts lead to
 pub cut_held : (b : List ℕ) (o : Opened) (c : Coord) (m t : ℕ) → opened b ≡ Ok o → (met_of b o c m).refusal ≡ None
     → cut (archive_map b) c m t ≡ held o.0 b (covering t (parts (intervals c m) (met_of b o c m).entries))
 cut_held b o c m t opens fine = by_test (in_intervals t (intervals c m)) refl
   where
     by_test : (x : Bool) → in_intervals t (intervals c m) ≡ x → (if x then archive_map b t else None) ≡ held o.0 b (covering t (parts (intervals c m) (met_of b o c m).entries))
-    by_test false lies = sym (ap (held o.0 b) (parts_outside t (intervals c m) 0 (met_of b o c m).entries None (walked_ordered 6 o.0 b (intervals c m) 0 None o.1 fine refl) lies))
+    by_test false lies = sym (ap (held o.0 b) (parts_outside t (intervals c m) 0 (met_of b o c m).entries None (walked_ordered Within 6 o.0 b (intervals c m) 0 None o.1 fine refl) lies))
     by_test true lies =
         elim (le_or t MAX_TILE_ID) [
           | inl le ↦
               let test : nat_le t MAX_TILE_ID ≡ true = grind (arith, nat_tests) in
-              ap (λ y. if y then filled (archive_tile b t) else None) test ∙ tile_is b o c m t opens fine lies
-              ∙ sym (parts_held o.0 b t (intervals c m) 0 (met_of b o c m).entries None (walked_ordered 6 o.0 b (intervals c m) 0 None o.1 fine refl) lies)
+              ap (λ y. if y then filled (archive_tile b t) else None) test ∙ tile_found Within (intervals c m) b o t opens fine lies
+              ∙ sym (parts_held o.0 b t (intervals c m) 0 (met_of b o c m).entries None (walked_ordered Within 6 o.0 b (intervals c m) 0 None o.1 fine refl) lies)
           | inr past ↦
               let test : nat_le t MAX_TILE_ID ≡ false = grind (arith, nat_tests) in
               ap (λ y. if y then filled (archive_tile b t) else None) test
-              ∙ sym (parts_held o.0 b t (intervals c m) 0 (met_of b o c m).entries None (walked_ordered 6 o.0 b (intervals c m) 0 None o.1 fine refl) lies
-              ∙ ap (held o.0 b) (none_past t 0 (met_of b o c m).entries None (walked_ordered 6 o.0 b (intervals c m) 0 None o.1 fine refl) past))
+              ∙ sym (parts_held o.0 b t (intervals c m) 0 (met_of b o c m).entries None (walked_ordered Within 6 o.0 b (intervals c m) 0 None o.1 fine refl) lies
+              ∙ ap (held o.0 b) (none_past t 0 (met_of b o c m).entries None (walked_ordered Within 6 o.0 b (intervals c m) 0 None o.1 fine refl) past))
         ]
 
 -- the parts that are met are in order
 pub parts_in_order : (b : List ℕ) (o : Opened) (c : Coord) (m : ℕ) → (met_of b o c m).refusal ≡ None → AreOrdered 0 (parts (intervals c m) (met_of b o c m).entries) None
-parts_in_order b o c m fine = parts_ordered (intervals c m) 0 (met_of b o c m).entries None (apart c m) (walked_ordered 6 o.0 b (intervals c m) 0 None o.1 fine refl)
+parts_in_order b o c m fine = parts_ordered (intervals c m) 0 (met_of b o c m).entries None (apart c m) (walked_ordered Within 6 o.0 b (intervals c m) 0 None o.1 fine refl)

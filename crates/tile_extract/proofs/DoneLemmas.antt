@@ -21,23 +21,25 @@ use Rattle.pm_writer.specs.Places.{places_read}
 use Rattle.pm_writer.specs.declared.places.ArchivePlaces.{ArchivePlaces}
 use Rattle.tile_extract.specs.Cut.{cut, intervals, options_from, options_of, options_opened, options_with}
 use Rattle.tile_extract.specs.Extract.{Added, Answers, AreKept, Due, IntoBytes, IntoCauses, IntoLeaves, IsCollected, IsDone, IsExtract, IsLate, LeavesUncompared, MayBeTile, Overflows, ShowsNoPart}
-use Rattle.tile_extract.specs.Met.{walked}
+use Rattle.pm_walk.specs.Walk.{walked}
+use Rattle.pm_walk.specs.declared.extent.Extent.TheVariants.{Within}
 use Rattle.tile_extract.specs.Written.{Adds, AreAt, ComesTo, IsWritten, PartsOverflow, PartsRefuse, Rises, ShowsNone, WriteCauses, WritesParts, put_parts}
 use Rattle.tile_extract.specs.declared.error.ExtractError.{ExtractError}
 use Rattle.tile_extract.specs.declared.error.ExtractError.TheVariants.{Archive, IndexEntryOverflow, InvalidZoom, MediumFault, MediumNotEmpty, OutOfMemory, TooManyTiles}
 use Rattle.tile_extract.proofs.AddedLemmas.{sorted_by}
-use Rattle.tile_extract.proofs.CoveringLemmas.{covering}
-use Rattle.tile_extract.proofs.CutLemmas.{cut_held, held}
+use Rattle.pm_walk.proofs.CoveringLemmas.{covering}
+use Rattle.pm_walk.proofs.WholeLemmas.{held}
+use Rattle.tile_extract.proofs.CutLemmas.{cut_held}
 use Rattle.tile_extract.proofs.LyingLemmas.{found_lies}
 use Rattle.tile_extract.proofs.PartsLemmas.{comes_as}
 use Rattle.tile_extract.proofs.PlanLemmas.{Found, source_of}
 use Rattle.tile_extract.proofs.TileLemmas.{all_held, put_is}
-use Rattle.tile_extract.proofs.ToldLemmas.{both_told, one_told}
+use Rattle.pm_walk.proofs.ToldLemmas.{both_told, one_told}
 
 -- what is found of a source, and the parts of its tiles
 pub record Planned (c : Coord) (m most : ℕ) (h : Header) (es : List Entry) (text : List ℕ) (ps : List Entry) (b : List ℕ) : Type 0 where
   pub found : Found b h es text
-  pub collected : IsCollected (walked 6 h b (intervals c m) 0 None es) (intervals c m) most ps
+  pub collected : IsCollected (walked Within 6 h b (intervals c m) 0 None es) (intervals c m) most ps
 
 module _ (c : Coord) (m most : ℕ) (h : Header) (es : List Entry) (text : List ℕ) (ps : List Entry) where
   -- the options of the new archive

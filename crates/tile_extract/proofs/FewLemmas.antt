@@ -19,12 +19,12 @@ use Rattle.pm_writer.specs.Bounds.{AllSized}
 use Rattle.pm_writer.specs.Causes.{ArchiveFits}
 use Rattle.pm_writer.specs.Few.{AreFew}
 use Rattle.pm_writer.specs.Writing.{add_to, data_end}
-use Rattle.tile_extract.specs.Collecting.{AreOrdered}
+use Rattle.pm_walk.specs.Collecting.{AreOrdered}
 use Rattle.tile_extract.specs.Completeness.{CanExtract}
 use Rattle.tile_extract.specs.Cut.{intervals, options_from}
 use Rattle.tile_extract.specs.Extract.{IsValid, count_met, parts_met}
 use Rattle.tile_extract.specs.Met.{met_of}
-use Rattle.tile_extract.specs.Parts.{tile_count}
+use Rattle.pm_walk.specs.Parts.{tile_count}
 use Rattle.tile_extract.specs.Written.{Adds, ids_of}
 use Rattle.tile_extract.proofs.AddedLemmas.{ends_nothing, sorted_by}
 use Rattle.tile_extract.proofs.CutLemmas.{cut_held, parts_in_order}

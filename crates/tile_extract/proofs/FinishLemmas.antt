@@ -20,7 +20,7 @@ use Rattle.tile_extract.specs.declared.error.ExtractError.{ExtractError}
 use Rattle.tile_extract.specs.declared.error.ExtractError.TheVariants.{Archive, IndexEntryOverflow, MediumFault, OutOfMemory}
 use Rattle.tile_extract.proofs.AddedLemmas.{sorted_by}
 use Rattle.tile_extract.proofs.PartsLemmas.{comes_as}
-use Rattle.tile_extract.proofs.ToldLemmas.{one_told}
+use Rattle.pm_walk.proofs.ToldLemmas.{one_told}
 
 -- a writer that isn't begun
 pub start_refused : (o : Options) (h : Header) (source : Option (List ℕ)) (ps : List Entry) (told : Option (List ℕ)) (before now : ℕ) (e : PmtError) → o.internal_compression ≡ compression.None → CreateCauses {A = WriterState} o.internal_compression before now (Err e)

@@ -6,7 +6,7 @@ use Rattle.tile_ids.specs.Hilbert.{number_of, pyramid}
 use Rattle.tile_ids.specs.Interval.{IsInterval}
 use Rattle.tile_ids.proofs.Curve.{four_pos, hilbert_below, pyramid_next}
 use Rattle.tile_ids.proofs.SubtreeLemmas.{block_below, ends_of_interval}
-use Rattle.tile_extract.specs.Collecting.{AreApart}
+use Rattle.pm_walk.specs.Intervals.{AreApart}
 use Rattle.tile_extract.specs.Cut.{interval, intervals, intervals_from}
 
 -- the interval of a zoom lies within its ids

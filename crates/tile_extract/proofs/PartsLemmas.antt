@@ -14,14 +14,14 @@ use Rattle.pm_writer.proofs.Took.{took_as}
 use Rattle.pm_writer.specs.Took.{Took}
 use Rattle.pm_writer.specs.Writing.{Writes, add_to}
 use Rattle.pm_writer.specs.declared.state.WriterState.{WriterState}
-use Rattle.tile_extract.specs.Collecting.{AllLieIn, AreOrdered}
-use Rattle.tile_extract.specs.Parts.{tile_count}
+use Rattle.pm_walk.specs.Collecting.{AllLieIn, AreOrdered}
+use Rattle.pm_walk.specs.Parts.{tile_count}
 use Rattle.tile_extract.specs.Written.{Adds, AddsLieIn, ByRoom, ComesTo, EndsBy, PartsPut, PartsRefuse, Puts, PutsAll, PutsFound, PutsNext, PutsParts, WriteCauses, has_room, ids_of, of_read_error, put_all, put_next, put_parts}
 use Rattle.tile_extract.specs.declared.error.ExtractError.{ExtractError}
 use Rattle.tile_extract.specs.declared.error.ExtractError.TheVariants.{Archive, IndexEntryOverflow, MediumFault, OutOfMemory}
 use Rattle.tile_extract.proofs.AddedLemmas.{ends_all, ends_later, ends_nothing, ends_rise}
 use Rattle.tile_extract.proofs.LyingLemmas.{puts_few, puts_lie}
-use Rattle.tile_extract.proofs.ToldLemmas.{any_told, both_told, one_told}
+use Rattle.pm_walk.proofs.ToldLemmas.{any_told, both_told, one_told}
 
 -- a range that is read, and one that isn't there
 range_found : (b : List ℕ) (at len : ℕ) (bytes : List ℕ) → range_read b at len ≡ Ok bytes → range_of b at len ≡ Some bytes

@@ -10,15 +10,15 @@ use Rattle.pm_format.specs.Directory.{Entry}
 use Rattle.pm_format.specs.Opened.{Opened, opened}
 use Rattle.pm_reader.specs.Metadata.{metadata_read}
 use Rattle.pm_reader.specs.declared.state.ReaderState.{ReaderState}
-use Rattle.tile_extract.specs.Collecting.{Refuses}
 use Rattle.tile_extract.specs.Cut.{intervals}
-use Rattle.tile_extract.specs.Extract.{Answers, CollectCauses, CollectRefuses, IntoBytes, IntoCauses, IntoLeaves, IsEarly, IsEmpty, ReadCauses, Source, reads_at_most, reads_opened}
-use Rattle.tile_extract.specs.Met.{walked}
+use Rattle.tile_extract.specs.Extract.{Answers, CollectCauses, CollectRefuses, IntoBytes, IntoCauses, IntoLeaves, IsEarly, IsEmpty, ReadCauses, Refuses, Source, reads_at_most, reads_opened}
+use Rattle.pm_walk.specs.Walk.{walked}
+use Rattle.pm_walk.specs.declared.extent.Extent.TheVariants.{Within}
 use Rattle.tile_extract.specs.Opening.{IsUnread, SourceCauses, SourceRead, opening_reads}
-use Rattle.tile_extract.specs.Parts.{parts}
+use Rattle.pm_walk.specs.Parts.{parts}
 use Rattle.tile_extract.specs.declared.error.ExtractError.{ExtractError}
 use Rattle.tile_extract.specs.declared.error.ExtractError.TheVariants.{Archive, InvalidZoom, MediumNotEmpty, OutOfMemory, TooManyTiles}
-use Rattle.tile_extract.proofs.ToldLemmas.{one_told}
+use Rattle.pm_walk.proofs.ToldLemmas.{one_told}
 
 -- an error that comes before the archive is begun
 abbrev pub ComesEarly : List ℕ → Coord → ℕ → ℕ → ExtractError → Type 0
@@ -54,11 +54,11 @@ abbrev pub source_of : (b : List ℕ) (h : Header) (es : List Entry) (text : Lis
 source_of b h es text f = record { found = (h, es); opens = f.opens; text = text; metadata = f.metadata; utf8 = f.utf8 }
 
 pub collect_early : (b : List ℕ) (c : Coord) (m most before now : ℕ) (h : Header) (es : List Entry) (text : List ℕ) (x : ExtractError) → Found b h es text → CollectCauses most before now x
-    → CollectRefuses (walked 6 h b (intervals c m) 0 None es) (intervals c m) most x → ComesEarly b c m most x
+    → CollectRefuses (walked Within 6 h b (intervals c m) 0 None es) (intervals c m) most x → ComesEarly b c m most x
 collect_early b c m most before now h es text (Archive errors.OutOfMemory) f cause is = absurd cause
 collect_early b c m most before now h es text (Archive e) f cause is = walk_early e cause is
   where
-    walk_early : (e : PmtError) → CollectCauses most before now (Archive e) → Refuses (walked 6 h b (intervals c m) 0 None es) e → IsEarly b c m e
+    walk_early : (e : PmtError) → CollectCauses most before now (Archive e) → Refuses (walked Within 6 h b (intervals c m) 0 None es) e → IsEarly b c m e
     walk_early (errors.Reading causes.Fault) cause is = tt
     walk_early (errors.UnexpectedNumberOfBytesReturned asked got) cause is = is
     walk_early errors.OutOfMemory cause is = absurd cause
@@ -106,12 +106,12 @@ opening_most b c m = most (opened b)
     most (Ok o) = omega arith
     most (Err e) = omega arith
 
-pub reads_are : (b : List ℕ) (c : Coord) (m : ℕ) (h : Header) (es : List Entry) → opened b ≡ Ok (h, es) → reads_at_most b c m ≡ 2 + (walked 6 h b (intervals c m) 0 None es).leaves + length (parts (intervals c m) (walked 6 h b (intervals c m) 0 None es).entries)
+pub reads_are : (b : List ℕ) (c : Coord) (m : ℕ) (h : Header) (es : List Entry) → opened b ≡ Ok (h, es) → reads_at_most b c m ≡ 2 + (walked Within 6 h b (intervals c m) 0 None es).reads + length (parts (intervals c m) (walked Within 6 h b (intervals c m) 0 None es).entries)
 reads_are b c m h es opens = ap (reads_opened b c m) opens
 
-pub collect_most : (b : List ℕ) (c : Coord) (m first mid now : ℕ) (h : Header) (es : List Entry) → opened b ≡ Ok (h, es) → mid ≤ first + opening_reads (opened b) → now ≤ mid + (walked 6 h b (intervals c m) 0 None es).leaves → now ≤ first + reads_at_most b c m
+pub collect_most : (b : List ℕ) (c : Coord) (m first mid now : ℕ) (h : Header) (es : List Entry) → opened b ≡ Ok (h, es) → mid ≤ first + opening_reads (opened b) → now ≤ mid + (walked Within 6 h b (intervals c m) 0 None es).reads → now ≤ first + reads_at_most b c m
 collect_most b c m first mid now h es opens one more = omega (arith, one, more, reads_are b c m h es opens, ap opening_reads opens)
 
-pub all_most : (b : List ℕ) (c : Coord) (m first mid between now : ℕ) (h : Header) (es ps : List Entry) → opened b ≡ Ok (h, es) → mid ≤ first + opening_reads (opened b) → between ≤ mid + (walked 6 h b (intervals c m) 0 None es).leaves
-    → ps ≡ parts (intervals c m) (walked 6 h b (intervals c m) 0 None es).entries → now ≤ between + length ps → now ≤ first + reads_at_most b c m
+pub all_most : (b : List ℕ) (c : Coord) (m first mid between now : ℕ) (h : Header) (es ps : List Entry) → opened b ≡ Ok (h, es) → mid ≤ first + opening_reads (opened b) → between ≤ mid + (walked Within 6 h b (intervals c m) 0 None es).reads
+    → ps ≡ parts (intervals c m) (walked Within 6 h b (intervals c m) 0 None es).entries → now ≤ between + length ps → now ≤ first + reads_at_most b c m
 all_most b c m first mid between now h es ps opens one more are last = omega (arith, one, more, last, ap length are, reads_are b c m h es opens, ap opening_reads opens)

@@ -14,7 +14,7 @@ use Rattle.pm_format.specs.LookUp.{leaf_of, range_of}
 use Rattle.pm_format.specs.Opened.{Opened, opened, root_decoded, root_labelled, root_placed}
 use Rattle.pm_format.specs.Varint.{below, number_at, spelled, u64_at}
 use Rattle.pm_format.proofs.OptionLemmas.{bind_some, map_some}
-use Rattle.tile_extract.proofs.CoveringLemmas.{lt_by}
+use Rattle.pm_walk.proofs.CoveringLemmas.{lt_by}
 
 -- each length fits u32
 abbrev pub AreShort : List Entry → Type 0

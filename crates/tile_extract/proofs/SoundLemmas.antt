@@ -3,18 +3,23 @@ use Rattle.std.proofs.Common.{◌≡◌, ◌∙◌, ◌≢◌, ◌+◌, ◌^◌,
 use Rattle.std.proofs.lemmas.Bool.{and_from}
 use Rattle.std.proofs.lemmas.Bool.Decides.{nat_tests}
 use Rattle.tile_ids.specs.declared.id.TheConstants.{MAX_TILE_ID}
+use Rattle.pm_format.specs.declared.error.PmtError.TheVariants as errors
 use Rattle.pm_format.specs.declared.header.Header.{Header}
 use Rattle.pm_format.specs.Directory.{Entry, entry}
 use Rattle.pm_format.specs.LookUp.{leaf_of}
 use Rattle.pm_format.specs.Sound.{EachEntry, HasData, Sound, SoundDirectory}
 use Rattle.tile_ids.specs.Coord.{Coord}
 use Rattle.tile_extract.specs.Cut.{intervals}
-use Rattle.tile_extract.specs.Met.{Walked, below, entry_walk, fits_kind, is_below, is_met, met_of, nothing_met, rises, stands, stays_within, then_walk, walk_each, walked}
-use Rattle.tile_extract.specs.Parts.{clip, clip_all, parts, parts_of}
-use Rattle.tile_extract.proofs.CoveringLemmas.{to_le, to_lt}
-use Rattle.tile_extract.proofs.OrderLemmas.{is_zero}
+use Rattle.pm_walk.specs.Intervals.{is_below, is_met, stays_within}
+use Rattle.pm_walk.specs.Walk.{Walked, below, entry_walk, fits_depth, nothing_met, rises, stands, then_walk, tile_by, walk_each, walked}
+use Rattle.pm_walk.specs.declared.error.WalkError.TheVariants.{Archive}
+use Rattle.pm_walk.specs.declared.extent.Extent.TheVariants.{Within}
+use Rattle.tile_extract.specs.Met.{met_of}
+use Rattle.pm_walk.specs.Parts.{clip, clip_all, parts, parts_of}
+use Rattle.pm_walk.proofs.CoveringLemmas.{to_le, to_lt}
+use Rattle.pm_walk.proofs.OrderLemmas.{is_zero}
 use Rattle.tile_extract.proofs.ShortLemmas.{AreShort, leaf_short, root_short}
-use Rattle.tile_extract.proofs.WalkingLemmas.{leaf_goes, stood, then_on, tile_goes, unmet_goes, walked_is}
+use Rattle.pm_walk.proofs.WalkingLemmas.{leaf_goes, stood, then_on, tile_goes, unmet_goes, walked_is}
 
 -- tile entries whose contents are there, and shorter than 2^32 bytes
 abbrev pub AreThere : Header → List ℕ → List Entry → Type 0
@@ -48,16 +53,16 @@ ends_within : (end : Option ℕ) (last n : ℕ) → EndsAt end last → n ≤ la
 ends_within None last n at le = refl
 ends_within (Some end) last n at le = to_le n end (omega (arith, at, le))
 
-stands_by : (left : ℕ) (before : Option Entry) (low : ℕ) (limit end : Option ℕ) (e : Entry) → rises before e.tile_id ≡ true → nat_le low e.tile_id ≡ true → is_below limit e.tile_id ≡ true → stays_within end (e.tile_id + e.run_length) ≡ true → fits_kind left e ≡ true
+stands_by : (left : ℕ) (before : Option Entry) (low : ℕ) (limit end : Option ℕ) (e : Entry) → rises before e.tile_id ≡ true → nat_le low e.tile_id ≡ true → is_below limit e.tile_id ≡ true → stays_within end (e.tile_id + e.run_length) ≡ true → fits_depth left e ≡ true
     → stands left before low limit end e ≡ true
 stands_by left before low limit end e a b c d f =
-    and_from (rises before e.tile_id && nat_le low e.tile_id && is_below limit e.tile_id && stays_within end (e.tile_id + e.run_length)) (fits_kind left e)
+    and_from (rises before e.tile_id && nat_le low e.tile_id && is_below limit e.tile_id && stays_within end (e.tile_id + e.run_length)) (fits_depth left e)
     (and_from (rises before e.tile_id && nat_le low e.tile_id && is_below limit e.tile_id) (stays_within end (e.tile_id + e.run_length))
     (and_from (rises before e.tile_id && nat_le low e.tile_id) (is_below limit e.tile_id) (and_from (rises before e.tile_id) (nat_le low e.tile_id) a b) c) d) f
 
 -- what is known of an entry of a sound directory makes its walk go well
 abbrev pub GoesOn : ℕ → Header → List ℕ → (Entry → Option ℕ → Walked) → (Entry → ℕ → Type 0) → Type 0
-GoesOn n h b f P = (e : Entry) (end : Option ℕ) (last : ℕ) → EndsAt end last → last ≤ MAX_TILE_ID + 1 → e.tile_id + e.run_length ≤ last → P e last → e.length < 2 ^ 32 → (fits_kind n e ≡ true) × GoesWell h b (f e end)
+GoesOn n h b f P = (e : Entry) (end : Option ℕ) (last : ℕ) → EndsAt end last → last ≤ MAX_TILE_ID + 1 → e.tile_id + e.run_length ≤ last → P e last → e.length < 2 ^ 32 → (fits_depth n e ≡ true) × GoesWell h b (f e end)
 
 -- an entry among others lies below the limit, and so does its run
 head_below : (P : Entry → ℕ → Type 0) (lo limit : ℕ) (e : Entry) (es : List Entry) → EachEntry P lo limit (e ∷ es) → (lo ≤ e.tile_id) × (e.tile_id < limit) × (e.tile_id + e.run_length ≤ limit)
@@ -86,49 +91,51 @@ all_well n h b f P step low limit last (e ∷ es) at most s short = each_well n 
 no_leaf : (n : ℕ) → n ≢ 0 → nat_eq n 0 ≡ false
 no_leaf n some = grind (arith, nat_tests)
 
-tile_kind : (n : ℕ) (e : Entry) (last : ℕ) → last ≤ MAX_TILE_ID + 1 → e.tile_id + e.run_length ≤ last → nat_eq e.run_length 0 ≡ false → fits_kind n e ≡ true
-tile_kind n e last most within tile =
-    let le : nat_le (e.tile_id + e.run_length) (MAX_TILE_ID + 1) ≡ true = to_le (e.tile_id + e.run_length) (MAX_TILE_ID + 1) (omega (arith, most, within)) in
-    ap (λ t. if t then not (nat_eq n 0) else nat_le (e.tile_id + e.run_length) (MAX_TILE_ID + 1)) tile ∙ le
+tile_depth : (n : ℕ) (e : Entry) → nat_eq e.run_length 0 ≡ false → fits_depth n e ≡ true
+tile_depth n e tile = ap (λ t. if t then not (nat_eq n 0) else true) tile
 
-tile_well : (n : ℕ) (h : Header) (b : List ℕ) (is : List (ℕ × ℕ)) (e : Entry) (end : Option ℕ) → nat_eq e.run_length 0 ≡ false → HasData h b e → e.length < 2 ^ 32 → GoesWell h b (entry_walk (below n h b is) h b is e end)
-tile_well n h b is e end tile lies short = subst (GoesWell h b) (sym (tile_goes h b is n e end tile)) (record { fine = refl; there = (lies, short, tt) })
+tile_well : (n : ℕ) (h : Header) (b : List ℕ) (is : List (ℕ × ℕ)) (e : Entry) (end : Option ℕ) → nat_eq e.run_length 0 ≡ false → e.tile_id + e.run_length ≤ MAX_TILE_ID + 1 → HasData h b e → e.length < 2 ^ 32
+    → GoesWell h b (entry_walk Within (below Within n h b is) h b is e end)
+tile_well n h b is e end tile within lies short =
+    let fits : nat_le (e.tile_id + e.run_length) (MAX_TILE_ID + 1) ≡ true = to_le (e.tile_id + e.run_length) (MAX_TILE_ID + 1) within in
+    let same = tile_goes Within h b is n e end tile ∙ ap (λ t. tile_by 0 e (if t then None else Some (Archive errors.InvalidEntry))) fits in
+    subst (GoesWell h b) (sym same) (record { fine = refl; there = (lies, short, tt) })
 
 -- what is known of the directories one level below
 abbrev Deeper : ℕ → Header → List ℕ → List (ℕ × ℕ) → Type 0
-Deeper n h b is = (low : ℕ) (limit : Option ℕ) (last : ℕ) (es : List Entry) → EndsAt limit last → last ≤ MAX_TILE_ID + 1 → SoundDirectory n h b low last es → AreShort es → GoesWell h b (walked n h b is low limit es)
+Deeper n h b is = (low : ℕ) (limit : Option ℕ) (last : ℕ) (es : List Entry) → EndsAt limit last → last ≤ MAX_TILE_ID + 1 → SoundDirectory n h b low last es → AreShort es → GoesWell h b (walked Within n h b is low limit es)
 
 -- the walk of a sound directory
 pub sound_well : (n : ℕ) (h : Header) (b : List ℕ) (is : List (ℕ × ℕ)) (low : ℕ) (limit : Option ℕ) (last : ℕ) (es : List Entry) → EndsAt limit last → last ≤ MAX_TILE_ID + 1 → SoundDirectory n h b low last es → AreShort es
-    → GoesWell h b (walked n h b is low limit es)
+    → GoesWell h b (walked Within n h b is low limit es)
 sound_well zero h b is low limit last es at most s short =
-    subst (GoesWell h b) (sym (walked_is zero h b is low limit es))
-    (all_well zero h b (entry_walk None h b is) (λ e end. (e.run_length ≢ 0) × HasData h b e)
-    (λ e end m ends top within p few. (tile_kind zero e m top within (no_leaf e.run_length p.0), tile_well zero h b is e end (no_leaf e.run_length p.0) p.1 few))
+    subst (GoesWell h b) (sym (walked_is Within zero h b is low limit es))
+    (all_well zero h b (entry_walk Within None h b is) (λ e end. (e.run_length ≢ 0) × HasData h b e)
+    (λ e end m ends top within p few. (tile_depth zero e (no_leaf e.run_length p.0), tile_well zero h b is e end (no_leaf e.run_length p.0) (omega (arith, top, within)) p.1 few))
     low limit last es at most s short)
 sound_well (suc n) h b is low limit last es at most s short =
-    subst (GoesWell h b) (sym (walked_is (suc n) h b is low limit es))
-    (all_well (suc n) h b (entry_walk (Some (walked n h b is)) h b is) (λ e end. (e.run_length ≢ 0 → HasData h b e) × (e.run_length ≡ 0 → (leaf : List Entry) × (leaf_of h b e ≡ Ok leaf) × SoundDirectory n h b e.tile_id end leaf))
+    subst (GoesWell h b) (sym (walked_is Within (suc n) h b is low limit es))
+    (all_well (suc n) h b (entry_walk Within (Some (walked Within n h b is)) h b is) (λ e end. (e.run_length ≢ 0 → HasData h b e) × (e.run_length ≡ 0 → (leaf : List Entry) × (leaf_of h b e ≡ Ok leaf) × SoundDirectory n h b e.tile_id end leaf))
     (λ e end m ends top within p few. by_run (λ lo limit last leaf. sound_well n h b is lo limit last leaf) e end m ends top within p few (nat_eq e.run_length 0) refl)
     low limit last es at most s short)
   where
     by_met : Deeper n h b is → (e : Entry) (end : Option ℕ) (m : ℕ) → EndsAt end m → m ≤ MAX_TILE_ID + 1 → (leaf : List Entry) → e.run_length ≡ 0 → leaf_of h b e ≡ Ok leaf → SoundDirectory n h b e.tile_id m leaf
-        → (x : Bool) → is_met is e.tile_id end ≡ x → GoesWell h b (entry_walk (Some (walked n h b is)) h b is e end)
-    by_met deeper e end m ends top leaf run found inner false met = subst (GoesWell h b) (sym (unmet_goes h b is (suc n) e end run met)) (record { fine = refl; there = tt })
+        → (x : Bool) → is_met is e.tile_id end ≡ x → GoesWell h b (entry_walk Within (Some (walked Within n h b is)) h b is e end)
+    by_met deeper e end m ends top leaf run found inner false met = subst (GoesWell h b) (sym (unmet_goes Within h b is (suc n) e end run met)) (record { fine = refl; there = tt })
     by_met deeper e end m ends top leaf run found inner true met =
         let w = deeper e.tile_id end m leaf ends top inner (leaf_short h b e leaf found) in
-        subst (GoesWell h b) (sym (leaf_goes h b is n e end leaf run met found)) (record { fine = w.fine; there = w.there })
+        subst (GoesWell h b) (sym (leaf_goes Within h b is n e end leaf run met found)) (record { fine = w.fine; there = w.there })
 
     by_run : Deeper n h b is → (e : Entry) (end : Option ℕ) (m : ℕ) → EndsAt end m → m ≤ MAX_TILE_ID + 1 → e.tile_id + e.run_length ≤ m
         → (e.run_length ≢ 0 → HasData h b e) × (e.run_length ≡ 0 → (leaf : List Entry) × (leaf_of h b e ≡ Ok leaf) × SoundDirectory n h b e.tile_id m leaf) → e.length < 2 ^ 32
-        → (x : Bool) → nat_eq e.run_length 0 ≡ x → (fits_kind (suc n) e ≡ true) × GoesWell h b (entry_walk (Some (walked n h b is)) h b is e end)
+        → (x : Bool) → nat_eq e.run_length 0 ≡ x → (fits_depth (suc n) e ≡ true) × GoesWell h b (entry_walk Within (Some (walked Within n h b is)) h b is e end)
     by_run deeper e end m ends top within p few false tile =
         let some : e.run_length ≢ 0 = λ z. let bad : nat_eq e.run_length 0 ≡ true = grind (arith, nat_tests) in absurd (cc) in
-        (tile_kind (suc n) e m top within tile, tile_well (suc n) h b is e end tile (p.0 some) few)
+        (tile_depth (suc n) e tile, tile_well (suc n) h b is e end tile (omega (arith, top, within)) (p.0 some) few)
     by_run deeper e end m ends top within p few true zero_run =
         let run : e.run_length ≡ 0 = is_zero e.run_length zero_run in
         let leaf = p.1 run in
-        (ap (λ t. if t then not (nat_eq (suc n) 0) else nat_le (e.tile_id + e.run_length) (MAX_TILE_ID + 1)) zero_run ∙ ap not (no_leaf (suc n) (λ z. absurd (omega (arith, z)))), by_met deeper e end m ends top leaf.0 run leaf.1 leaf.2 (is_met is e.tile_id end) refl)
+        (ap (λ t. if t then not (nat_eq (suc n) 0) else true) zero_run ∙ ap not (no_leaf (suc n) (λ z. absurd (omega (arith, z)))), by_met deeper e end m ends top leaf.0 run leaf.1 leaf.2 (is_met is e.tile_id end) refl)
 
 -- that of a sound archive
 pub archive_well : (b : List ℕ) (s : Sound b) (c : Coord) (m : ℕ) → GoesWell s.found.0 b (met_of b s.found c m)

@@ -7,7 +7,7 @@ use Rattle.tile_extract.specs.Extract.{Answers, Causes, IntoBytes, IntoCauses, I
 use Rattle.tile_extract.specs.Opening.{MediumTested}
 use Rattle.tile_extract.specs.declared.error.ExtractError.{ExtractError}
 use Rattle.tile_extract.specs.declared.error.ExtractError.TheVariants.{Archive, IndexEntryOverflow, InvalidZoom, MediumFault, MediumNotEmpty, OutOfMemory, TooManyTiles}
-use Rattle.tile_extract.proofs.ToldLemmas.{any_told}
+use Rattle.pm_walk.proofs.ToldLemmas.{any_told}
 
 -- a medium that stands as it was
 both_same : (R : List ℕ → List ℕ → Type 0) (old new : Option (List ℕ)) → new ≡ old → ((b : List ℕ) → R b b) → BothTold R old new

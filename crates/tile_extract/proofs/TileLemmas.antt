@@ -12,14 +12,14 @@ use Rattle.pm_format.specs.Directory.{Entry}
 use Rattle.pm_format.specs.LookUp.{filled, range_of}
 use Rattle.pm_format.specs.Options.{Options}
 use Rattle.pm_writer.specs.Archive.{tile_in}
-use Rattle.tile_extract.specs.Collecting.{AreOrdered}
+use Rattle.pm_walk.specs.Collecting.{AreOrdered}
 use Rattle.pm_writer.specs.Writing.{add_to}
 use Rattle.tile_extract.specs.Written.{Adds, EndsBy, Rises, has_room, ids_of, put_all, put_next, put_parts}
 use Rattle.tile_extract.specs.declared.error.ExtractError.{ExtractError}
 use Rattle.tile_extract.specs.declared.error.ExtractError.TheVariants.{Archive, IndexEntryOverflow}
 use Rattle.tile_extract.proofs.AddedLemmas.{at_each, ends_add, ends_later, ends_rise, ok_is}
-use Rattle.tile_extract.proofs.CoveringLemmas.{covering, has_id, lt_by, none_below}
-use Rattle.tile_extract.proofs.CutLemmas.{held}
+use Rattle.pm_walk.proofs.CoveringLemmas.{covering, has_id, lt_by, none_below}
+use Rattle.pm_walk.proofs.WholeLemmas.{held}
 
 -- the bytes that an entry leads to, none where they aren't there
 abbrev pub bytes_at : Header → List ℕ → Entry → List ℕ

@@ -1,5 +1,5 @@
 -- The part of an archive that is extracted, and what the new archive says beside its tiles.
-use Rattle.std.specs.Prelude.{◌≡◌, ℕ, zero, suc, ◌+◌, ◌-◌, ◌*◌, ◌^◌, Bool, false, List, [], ◌∷◌, nat_le, ◌&&◌, ◌||◌, if◌then◌else◌, Option, Some, None, Result, Ok, Err, refl}
+use Rattle.std.specs.Prelude.{◌≡◌, ℕ, zero, suc, ◌+◌, ◌-◌, ◌*◌, ◌^◌, List, [], ◌∷◌, if◌then◌else◌, Option, Some, None, Result, Ok, Err, refl}
 use Rattle.tile_ids.specs.Coord.{Coord}
 use Rattle.tile_ids.specs.Hilbert.{number_of, pyramid}
 use Rattle.pm_format.specs.declared.compression.Compression.TheVariants as compression
@@ -8,6 +8,7 @@ use Rattle.pm_format.specs.declared.header.Header.{Header}
 use Rattle.pm_format.specs.Opened.{Opened, opened}
 use Rattle.pm_format.specs.Options.{Options}
 use Rattle.pm_reader.specs.Metadata.{metadata_read}
+use Rattle.pm_walk.specs.Intervals.{in_intervals}
 
 -- the first and the last id of the descendants of a tile at a zoom
 abbrev pub interval : Coord → ℕ → ℕ × ℕ
@@ -21,14 +22,6 @@ intervals_from c z (suc n) = interval c z ∷ intervals_from c (z + 1) n
 -- those at each zoom from the tile's own to another
 unfoldable pub intervals : Coord → ℕ → List (ℕ × ℕ)
 intervals c m = intervals_from c c.z (m + 1 - c.z)
-
--- whether an id lies in one of them
-abbrev pub lies_in : ℕ → ℕ × ℕ → Bool
-lies_in t i = nat_le i.0 t && nat_le t i.1
-
-abbrev pub in_intervals : ℕ → List (ℕ × ℕ) → Bool
-in_intervals t [] = false
-in_intervals t (i ∷ is) = lies_in t i || in_intervals t is
 
 -- the part of a map whose ids lie in the intervals of a tile down to a zoom
 abbrev pub cut : (ℕ → Option (List ℕ)) → Coord → ℕ → ℕ → Option (List ℕ)

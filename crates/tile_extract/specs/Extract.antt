@@ -23,10 +23,13 @@ use Rattle.pm_writer.specs.Pieces.{IsHidden}
 use Rattle.pm_contents.specs.Pieces.{BothTold}
 use Rattle.pm_writer.specs.Places.{places_of, places_read}
 use Rattle.pm_writer.specs.declared.places.ArchivePlaces.{ArchivePlaces}
-use Rattle.tile_extract.specs.Cut.{cut, in_intervals, intervals, options_from, options_of}
-use Rattle.tile_extract.specs.Collecting.{AllLieIn, AreOrdered, Refuses}
-use Rattle.tile_extract.specs.Met.{Walked, met_of}
-use Rattle.tile_extract.specs.Parts.{parts, tile_count}
+use Rattle.pm_walk.specs.Intervals.{in_intervals}
+use Rattle.tile_extract.specs.Cut.{cut, intervals, options_from, options_of}
+use Rattle.pm_walk.specs.Collecting.{AllLieIn, AreOrdered}
+use Rattle.pm_walk.specs.Walk.{Walked}
+use Rattle.pm_walk.specs.declared.error.WalkError.TheVariants as walk
+use Rattle.tile_extract.specs.Met.{met_of}
+use Rattle.pm_walk.specs.Parts.{parts, tile_count}
 use Rattle.tile_extract.specs.Written.{ComesTo}
 use Rattle.tile_extract.specs.declared.error.ExtractError.{ExtractError}
 use Rattle.tile_extract.specs.declared.error.ExtractError.TheVariants.{InvalidZoom, MediumNotEmpty, Archive, TooManyTiles, IndexEntryOverflow, MediumFault, OutOfMemory}
@@ -56,7 +59,7 @@ IsEarly b c m errors.OutOfMemory = ⊥
 IsEarly b c m e =
     (opened b ≡ Err e)
     ⊎ ((found : Opened) × (opened b ≡ Ok found) × IsMetadataRefused (metadata_read b found.0) e)
-    ⊎ ((s : Source b) × ((met_of b s.found c m).refusal ≡ Some e))
+    ⊎ ((s : Source b) × ((met_of b s.found c m).refusal ≡ Some (walk.Archive e)))
 
 -- the tiles among those that are met: their parts, and how many there are
 abbrev pub parts_met : List ℕ → Opened → Coord → ℕ → List Entry
@@ -184,6 +187,13 @@ IntoLeaves source c m most result new = IfSome new (IntoBytes source c m most re
 abbrev pub Leaves : Option (List ℕ) → Coord → ℕ → ℕ → Result ArchivePlaces ExtractError → Option (List ℕ) → Option (List ℕ) → Type 0
 Leaves source c m most result old new = BothTold (LeavesBytes source c m most result) old new
 
+-- Over told bytes: a walk's refusal is answered. A fault and want of memory may come in its place, and a wrong number of bytes never does.
+abbrev pub Refuses : Walked → PmtError → Type 0
+Refuses w errors.OutOfMemory = Unit {0}
+Refuses w (errors.Reading causes.Fault) = Unit {0}
+Refuses w (errors.UnexpectedNumberOfBytesReturned asked got) = ⊥
+Refuses w e = w.refusal ≡ Some (walk.Archive e)
+
 -- what collecting the parts is refused for
 abbrev pub CollectRefuses : Walked → List (ℕ × ℕ) → ℕ → ExtractError → Type 0
 CollectRefuses w is most (Archive e) = Refuses w e
@@ -212,7 +222,7 @@ pub record AreKept (is : List (ℕ × ℕ)) (most : ℕ) (ps : List Entry) : Typ
 
 -- how often the source is read: once when it is opened, once for its metadata, once for each leaf that is met and once for each part
 abbrev pub reads_opened : List ℕ → Coord → ℕ → Result Opened PmtError → ℕ
-reads_opened b c m (Ok o) = 2 + (met_of b o c m).leaves + length (parts_met b o c m)
+reads_opened b c m (Ok o) = 2 + (met_of b o c m).reads + length (parts_met b o c m)
 reads_opened b c m (Err e) = 1
 
 abbrev pub reads_at_most : List ℕ → Coord → ℕ → ℕ

@@ -18,11 +18,13 @@ use Rattle.pm_writer.specs.Took.{Took}
 use Rattle.pm_writer.specs.Writing.{Writes, add_to, data_end}
 use Rattle.pm_writer.specs.declared.places.ArchivePlaces.{ArchivePlaces}
 use Rattle.pm_writer.specs.declared.state.WriterState.{WriterState}
-use Rattle.tile_extract.specs.Collecting.{AllLieIn}
-use Rattle.tile_extract.specs.Cut.{in_intervals}
-use Rattle.tile_extract.specs.Parts.{tile_count}
+use Rattle.pm_walk.specs.Collecting.{AllLieIn}
+use Rattle.pm_walk.specs.Intervals.{in_intervals}
+use Rattle.pm_walk.specs.Parts.{tile_count}
+use Rattle.pm_walk.specs.declared.error.WalkError.{WalkError}
+use Rattle.pm_walk.specs.declared.error.WalkError.TheVariants as walk
 use Rattle.tile_extract.specs.declared.error.ExtractError.{ExtractError}
-use Rattle.tile_extract.specs.declared.error.ExtractError.TheVariants.{Archive, IndexEntryOverflow, MediumFault, OutOfMemory}
+use Rattle.tile_extract.specs.declared.error.ExtractError.TheVariants.{Archive, IndexEntryOverflow, MediumFault, OutOfMemory, TooManyTiles}
 
 -- an add is an id and bytes
 abbrev pub Adds : Type 0
@@ -137,6 +139,13 @@ of_write_error e = MediumFault
 abbrev pub of_read_error : PmtError → ExtractError
 of_read_error errors.OutOfMemory = OutOfMemory
 of_read_error e = Archive e
+
+-- and of a walk that may come to so many tiles
+abbrev pub of_walk_error : ℕ → WalkError → ExtractError
+of_walk_error most (walk.Archive e) = of_read_error e
+of_walk_error most (walk.InvalidTileId id) = Archive (errors.InvalidTileId id)
+of_walk_error most (walk.TooDeep id) = Archive (errors.InvalidTileId id)
+of_walk_error most walk.TooManyTiles = TooManyTiles most
 
 -- bytes that are the archive of the adds of parts
 pub record IsArchiveOf (o : Options) (h : Header) (source : Option (List ℕ)) (ps : List Entry) (whole : List ℕ) : Type 0 where

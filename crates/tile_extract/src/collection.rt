@@ -1,21 +1,22 @@
 // The parts of one subtree, and what its archive says beside its tiles.
-ghost use Rattle.std.specs.Prelude.{◌≡◌, ◌≤◌, ◌+◌, true, None, IfSome, IfOk, IfErr, is_some};
+ghost use Rattle.std.specs.Prelude.{◌≡◌, ◌≤◌, ◌+◌, None, IfSome, IfOk, IfErr};
 ghost use Rattle.pm_reader.specs.Opening.{header_of, root_of};
 ghost use Rattle.pm_reader.specs.Reads.{ReadsOnly};
-ghost use Rattle.tile_extract.specs.Collecting.{AllLieIn, AreOrdered};
+ghost use Rattle.pm_walk.specs.Collecting.{AllLieIn, AreOrdered};
+ghost use Rattle.pm_walk.specs.Walk.{walked};
+ghost use Rattle.pm_walk.specs.declared.extent.Extent.TheVariants as extents;
+ghost use Rattle.pm_walk.specs.Parts.{tile_count};
 ghost use Rattle.tile_extract.specs.Cut.{intervals, options_from};
 ghost use Rattle.tile_extract.specs.Extract.{CollectCauses, CollectRefuses, IsCollected};
-ghost use Rattle.tile_extract.specs.Met.{walked};
-ghost use Rattle.tile_extract.specs.Parts.{tile_count};
+ghost use Rattle.tile_extract.specs.Written.{of_walk_error};
 
 use crate::ExtractError;
 use crate::intervals::intervals_of;
-use crate::parts::Collected;
-use crate::walk::{MAX_DEPTH, walk};
 use crate::writing::of_reader;
 use base_values::TextVal;
-use pm_format::{Backend, DirEntry, Header};
+use pm_format::{Backend, DirEntry, Header, PmtError};
 use pm_reader::ReaderState;
+use pm_walk::{Extent, WalkError};
 use pm_writer::PmTilesWriter;
 use std::alloc::Global;
 use tile_ids::TileCoord;
@@ -44,15 +45,16 @@ pub fn options_from(
         .metadata(metadata)
 }
 
-// The parts that were collected, where there was room for all of them.
-fn parts_within(collected: Collected, max_tiles: u64) -> Result<Vec<DirEntry>, ExtractError>
-    ensures ok { IfOk result (λ parts. (parts.items ≡ collected.parts.items) × (is_some collected.room ≡ true)) }
-    ensures err { IfErr result (λ e. (e ≡ ExtractError.TooManyTiles max_tiles) × (collected.room ≡ None)) }
+/// The extraction's word for the error of a walk that may come to so many tiles.
+fn of_walk(error: WalkError, max_tiles: u64) -> ExtractError
+    ensures { result ≡ of_walk_error max_tiles error }
 {
-    let Collected { parts, room } = collected;
-    match room {
-        Some(_) => Ok(parts),
-        None => Err(ExtractError::TooManyTiles(max_tiles)),
+    match error {
+        WalkError::Archive(error) => of_reader(error),
+        WalkError::InvalidTileId(id) | WalkError::TooDeep(id) => {
+            ExtractError::Archive(PmtError::InvalidTileId(id))
+        }
+        WalkError::TooManyTiles => ExtractError::TooManyTiles(max_tiles),
     }
 }
 
@@ -68,33 +70,21 @@ pub fn collect<B: Backend>(
 ) -> Result<Vec<DirEntry>, ExtractError>
     requires least { root.z ≤ max_zoom }
     requires most { max_zoom ≤ 31 }
-    ensures collected { IfSome (B.told source.old) (λ b. IfOk result (λ parts. IsCollected (walked 6 (header_of state.now) b (intervals root max_zoom) 0 None (root_of state.now)) (intervals root max_zoom) max_tiles parts.items)) }
-    ensures refused { IfSome (B.told source.old) (λ b. IfErr result (CollectRefuses (walked 6 (header_of state.now) b (intervals root max_zoom) 0 None (root_of state.now)) (intervals root max_zoom) max_tiles)) }
+    ensures collected { IfSome (B.told source.old) (λ b. IfOk result (λ parts. IsCollected
+        (walked extents.Within 6 (header_of state.now) b (intervals root max_zoom) 0 None (root_of state.now)) (intervals root max_zoom) max_tiles parts.items)) }
+    ensures refused { IfSome (B.told source.old) (λ b. IfErr result (CollectRefuses
+        (walked extents.Within 6 (header_of state.now) b (intervals root max_zoom) 0 None (root_of state.now)) (intervals root max_zoom) max_tiles)) }
     ensures ordered { IfOk result (λ parts. AreOrdered 0 parts.items None) }
     ensures few { IfOk result (λ parts. tile_count parts.items ≤ max_tiles) }
     ensures within { IfOk result (λ parts. AllLieIn (intervals root max_zoom) parts.items) }
     ensures causes { IfErr result (CollectCauses max_tiles (B.faults source.old) (B.faults source.new)) }
     ensures kept { ReadsOnly B.told B.versions B.faults B.steady source.old source.new }
-    ensures reads { IfSome (B.told source.old) (λ b. B.reads source.new ≤ B.reads source.old + (walked 6 (header_of state.now) b (intervals root max_zoom) 0 None (root_of state.now)).leaves) }
+    ensures reads { IfSome (B.told source.old) (λ b. B.reads source.new ≤ B.reads source.old
+        + (walked extents.Within 6 (header_of state.now) b (intervals root max_zoom) 0 None (root_of state.now)).reads) }
 {
     let intervals = intervals_of(alloc, root, max_zoom)?;
-    let mut collected = Collected::new(alloc, max_tiles);
-    let root = state.root();
-    match walk(
-        state,
-        &intervals,
-        &mut collected,
-        source,
-        0,
-        None,
-        MAX_DEPTH,
-        root,
-    ) {
-        Ok(()) => {}
-        Err(error) => return Err(of_reader(error)),
-    }
-    match parts_within(collected, max_tiles) {
+    match pm_walk::collect(alloc, Extent::Within, state, source, &intervals, max_tiles) {
         Ok(parts) => Ok(parts),
-        Err(error) => Err(error),
+        Err(error) => Err(of_walk(error, max_tiles)),
     }
 }

@@ -1,9 +1,8 @@
 // The ids of what lies below a tile, zoom by zoom.
 ghost use Rattle.std.specs.Prelude.{◌≡◌, ◌≤◌, IfOk};
 ghost use Rattle.tile_ids.specs.Coord.{IsCoord};
-ghost use Rattle.tile_extract.specs.Collecting.{AreApart};
+ghost use Rattle.pm_walk.specs.Intervals.{AreApart};
 ghost use Rattle.tile_extract.specs.Cut.{interval, intervals};
-ghost use Rattle.tile_extract.specs.Met.{is_below, is_met};
 
 use base_values::OutOfMemory;
 use std::alloc::Global;
@@ -38,31 +37,4 @@ pub(crate) fn intervals_of(
         found.push(interval_of(root, zoom))?;
     }
     Ok(found)
-}
-
-/// Whether some id from the first one on and below an end, where there is one, lies in an interval.
-pub(crate) fn is_met(intervals: &[(u64, u64)], first: u64, end: Option<u64>) -> bool
-    ensures { result ≡ is_met intervals.now first end }
-{
-    if !is_below(end, first) {
-        return false;
-    }
-    let mut rest = intervals;
-    while let Some((interval, others)) = rest.split_first() {
-        if first <= interval.1 && is_below(end, interval.0) {
-            return true;
-        }
-        rest = others;
-    }
-    false
-}
-
-/// Whether an id lies below an end, where there is one.
-pub(crate) fn is_below(end: Option<u64>, id: u64) -> bool
-    ensures { result ≡ is_below end id }
-{
-    match end {
-        None => true,
-        Some(end) => id < end,
-    }
 }

@@ -8,9 +8,7 @@ mod intervals;
 pub mod laws;
 mod opening;
 mod outcome;
-mod parts;
 mod top_call;
-mod walk;
 mod words;
 mod writing;
 

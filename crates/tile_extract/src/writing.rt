@@ -7,8 +7,8 @@ ghost use Rattle.pm_format.specs.declared.compression.Compression.TheVariants as
 ghost use Rattle.pm_reader.specs.Opening.{header_of};
 ghost use Rattle.pm_reader.specs.Reads.{ReadsOnly};
 ghost use Rattle.pm_writer.specs.Writing.{Writes, has_failed};
-ghost use Rattle.tile_extract.specs.Collecting.{AreOrdered};
-ghost use Rattle.tile_extract.specs.Parts.{tile_count};
+ghost use Rattle.pm_walk.specs.Collecting.{AreOrdered};
+ghost use Rattle.pm_walk.specs.Parts.{tile_count};
 ghost use Rattle.tile_extract.specs.Written.{PartsPut, Puts, ShowsNone, WriteCauses, WritesParts, ids_of, of_read_error, of_write_error};
 
 use crate::ExtractError;

@@ -1,26 +1,29 @@
-use Rattle.std.proofs.Common.{◌∙◌}
+use Rattle.std.proofs.Common.{◌∙◌, sym, subst}
 use Rattle.pm_reader.specs.Opening.{header_of, root_of}
+use Rattle.pm_walk.specs.Collecting.{AllLieIn}
+use Rattle.pm_walk.specs.Intervals.{AreApart}
 use Rattle.tile_extract.specs.Cut.{intervals}
-use Rattle.tile_extract.proofs.ExtractLemmas.{told_collected, told_too_many}
-use Rattle.tile_extract.proofs.LyingLemmas.{kept_all}
+use Rattle.tile_extract.specs.Extract.{CollectCauses}
+use Rattle.tile_extract.proofs.ExtractLemmas.{told_collected, told_refused, walk_causes}
 use Rattle.tile_extract.proofs.collection.collect.Goals as goal
 
-pub returns-in-Ok-parts_within-clause-collected : goal.returns-in-Ok-parts_within-clause-collected
-returns-in-Ok-parts_within-clause-collected g c =
-    told_collected (g.B.Backend.told c.args.source.now) (header_of c.args.state.now) (intervals c.args.root c.args.max_zoom) c.deref.result.now c.root-root.result.now (root_of c.args.state.now) c.args.max_tiles c.new-collected.result c.walk.new.collected c.in-Ok-parts_within.parts.items
-    (c.deref.ensures.value ∙ c.in_ok-intervals.ensures.are) c.root-root.ensures c.new-collected.ensures c.in-Ok.ensures.answer c.in-Ok-parts_within.ensures.ok
+pub returns-in-Ok-clause-collected : goal.returns-in-Ok-clause-collected
+returns-in-Ok-clause-collected g c =
+    told_collected (g.B.Backend.told c.args.source.now) (header_of c.args.state.now) (intervals c.args.root c.args.max_zoom) c.deref.result.now (root_of c.args.state.now) c.args.max_tiles c.in-Ok.parts.items
+    (c.deref.ensures.value ∙ c.in_ok-intervals.ensures.are) c.in-Ok.ensures.gathered
 
 pub returns-clause-refused : goal.returns-clause-refused
 returns-clause-refused g c =
-    told_too_many (g.B.Backend.told c.args.source.now) (header_of c.args.state.now) (intervals c.args.root c.args.max_zoom) c.deref.result.now c.root-root.result.now (root_of c.args.state.now) c.args.max_tiles c.new-collected.result c.walk.new.collected c.in-Err-parts_within.error
-    (c.deref.ensures.value ∙ c.in_ok-intervals.ensures.are) c.root-root.ensures c.new-collected.ensures c.in-Ok.ensures.answer c.in-Err-parts_within.ensures.err
+    told_refused (g.B.Backend.told c.args.source.now) (header_of c.args.state.now) (intervals c.args.root c.args.max_zoom) c.deref.result.now (root_of c.args.state.now) c.args.max_tiles (g.B.Backend.faults c.args.source.now) (g.B.Backend.faults c.collect.new.backend) c.in-Err.error c.of_walk.result
+    (c.deref.ensures.value ∙ c.in_ok-intervals.ensures.are) c.of_walk.ensures c.in-Err.ensures.causes c.in-Err.ensures.refused
 
-pub returns-in-Ok-parts_within-clause-few : goal.returns-in-Ok-parts_within-clause-few
-returns-in-Ok-parts_within-clause-few g c =
-    (kept_all (intervals c.args.root c.args.max_zoom) c.deref.result.now c.args.max_tiles c.new-collected.result c.walk.new.collected c.in-Ok-parts_within.parts.items
-    (c.deref.ensures.value ∙ c.in_ok-intervals.ensures.are) c.new-collected.ensures (λ n k. c.in-Ok.ensures.keeps n k) c.in-Ok-parts_within.ensures.ok).0
+pub returns-in-Ok-clause-ordered : goal.returns-in-Ok-clause-ordered
+returns-in-Ok-clause-ordered g c = c.in-Ok.ensures.ordered (subst (AreApart 0) (sym c.deref.ensures.value) c.in_ok-intervals.ensures.apart)
 
-pub returns-in-Ok-parts_within-clause-within : goal.returns-in-Ok-parts_within-clause-within
-returns-in-Ok-parts_within-clause-within g c =
-    (kept_all (intervals c.args.root c.args.max_zoom) c.deref.result.now c.args.max_tiles c.new-collected.result c.walk.new.collected c.in-Ok-parts_within.parts.items
-    (c.deref.ensures.value ∙ c.in_ok-intervals.ensures.are) c.new-collected.ensures (λ n k. c.in-Ok.ensures.keeps n k) c.in-Ok-parts_within.ensures.ok).1
+pub returns-in-Ok-clause-within : goal.returns-in-Ok-clause-within
+returns-in-Ok-clause-within g c = subst (λ l. AllLieIn l c.in-Ok.parts.items) (c.deref.ensures.value ∙ c.in_ok-intervals.ensures.are) c.in-Ok.ensures.within
+
+pub returns-clause-causes : goal.returns-clause-causes
+returns-clause-causes g c =
+    subst (CollectCauses c.args.max_tiles (g.B.Backend.faults c.args.source.now) (g.B.Backend.faults c.collect.new.backend)) (sym c.of_walk.ensures)
+    (walk_causes c.args.max_tiles (g.B.Backend.faults c.args.source.now) (g.B.Backend.faults c.collect.new.backend) c.in-Err.error c.in-Err.ensures.causes)

@@ -1,9 +1,9 @@
 use Rattle.std.proofs.Common.{◌≡◌, ◌∙◌, ◌+◌, ◌∷◌, length, Err, Ok, IfSome, ap, sym, subst, arith}
 use Rattle.pm_reader.specs.Answers.{Gives, range_read}
 use Rattle.pm_reader.specs.Opening.{header_of}
-use Rattle.tile_extract.specs.Parts.{tile_count}
+use Rattle.pm_walk.specs.Parts.{tile_count}
 use Rattle.tile_extract.specs.Written.{PartsPut}
-use Rattle.tile_extract.proofs.ClippingLemmas.{no_items}
+use Rattle.pm_walk.proofs.ClippingLemmas.{no_items}
 use Rattle.tile_extract.proofs.PartsLemmas.{put_all_parts, put_more, put_refused, read_at, read_refused, rest_ordered}
 use Rattle.tile_extract.proofs.writing.add_parts.Goals as goal
 

@@ -3,8 +3,8 @@ use Rattle.pm_format.specs.Options.{Options}
 use Rattle.pm_reader.specs.Opening.{header_of}
 use Rattle.pm_reader.specs.Reads.{ReadsOnly}
 use Rattle.pm_writer.specs.Writing.{Writes, has_failed}
-use Rattle.tile_extract.specs.Collecting.{AreOrdered}
-use Rattle.tile_extract.specs.Parts.{tile_count}
+use Rattle.pm_walk.specs.Collecting.{AreOrdered}
+use Rattle.pm_walk.specs.Parts.{tile_count}
 use Rattle.tile_extract.proofs.PartsLemmas.{PutSoFar}
 use Rattle.tile_extract.proofs.writing.add_parts.Given as goal
 

@@ -1,0 +1,14 @@
+pub mod ToldLemmas
+pub mod CollectingLemmas
+pub mod ClippingLemmas
+pub mod CoveringLemmas
+pub mod CollectLemmas
+pub mod LyingLemmas
+pub mod TestingLemmas
+pub mod WalkingLemmas
+pub mod WalkToldLemmas
+pub mod OrderLemmas
+pub mod LookUpLemmas
+pub mod WholeLemmas
+pub mod ThereLemmas
+pub mod GatheringLemmas

@@ -1,0 +1,103 @@
+-- Parts in intervals, and how many tiles they have.
+use Rattle.std.proofs.Common.{◌≡◌, ◌∙◌, ◌+◌, ◌-◌, ◌≤◌, ◌<◌, ℕ, Bool, true, false, ◌||◌, nat_le, nat_eq, max, min, if◌then◌else◌, List, [], ◌∷◌, ◌++◌, Option, None, Some, IfSome, is_some, refl, ap, sym, subst, arith}
+use Rattle.std.proofs.lemmas.Bool.{and_from}
+use Rattle.std.proofs.lemmas.Bool.Decides.{nat_tests}
+use Rattle.pm_format.specs.Directory.{Entry, entry}
+use Rattle.pm_walk.specs.Collecting.{AllLieIn, Collects, KeepWithin, KeepsTo}
+use Rattle.pm_walk.specs.Intervals.{in_intervals, lies_in}
+use Rattle.pm_walk.specs.Parts.{clip, clip_all, parts_of, pieces_of, tile_count}
+use Rattle.pm_walk.specs.declared.extent.Extent.{Extent}
+use Rattle.pm_walk.specs.declared.extent.Extent.TheVariants.{Within, Whole}
+use Rattle.pm_walk.specs.declared.parts.Collected.{Collected}
+use Rattle.pm_walk.proofs.CollectLemmas.{room_taken}
+
+-- The parts of an entry.
+
+pub lie_append : (is : List (ℕ × ℕ)) (ps qs : List Entry) → AllLieIn is ps → AllLieIn is qs → AllLieIn is (ps ++ qs)
+lie_append is [] qs p q = q
+lie_append is (x ∷ ps) qs p q = (p.0, lie_append is ps qs p.1 q)
+
+or_first : (a b : Bool) → a ≡ true → (a || b) ≡ true
+or_first true b is = refl
+or_first false b is = absurd (cc)
+
+or_second : (a b : Bool) → b ≡ true → (a || b) ≡ true
+or_second true b is = refl
+or_second false b is = is
+
+lies_between : (t : ℕ) (i : ℕ × ℕ) → i.0 ≤ t → t ≤ i.1 → lies_in t i ≡ true
+lies_between t i low high =
+    let a : nat_le i.0 t ≡ true = grind (arith, nat_tests) in
+    let b : nat_le t i.1 ≡ true = grind (arith, nat_tests) in
+    and_from (nat_le i.0 t) (nat_le t i.1) a b
+
+clip_lies : (is : List (ℕ × ℕ)) (e : Entry) (i : ℕ × ℕ) → ((t : ℕ) → lies_in t i ≡ true → in_intervals t is ≡ true) → AllLieIn is (clip e i)
+clip_lies is e i inside = by_test (nat_le (max e.tile_id i.0) (min (e.tile_id + (e.run_length - 1)) i.1)) refl
+  where
+    by_test : (b : Bool) → nat_le (max e.tile_id i.0) (min (e.tile_id + (e.run_length - 1)) i.1) ≡ b
+        → AllLieIn is (if b then entry (max e.tile_id i.0) e.offset e.length (min (e.tile_id + (e.run_length - 1)) i.1 - max e.tile_id i.0 + 1) ∷ [] else [])
+    by_test false is = tt
+    by_test true test =
+        let some : max e.tile_id i.0 ≤ min (e.tile_id + (e.run_length - 1)) i.1 = grind (arith, nat_tests) in
+        ((λ t low high. inside t (lies_between t i (omega (arith, low)) (omega (arith, high, some)))), tt)
+
+clips_lie : (is rest : List (ℕ × ℕ)) (e : Entry) → ((t : ℕ) → in_intervals t rest ≡ true → in_intervals t is ≡ true) → AllLieIn is (clip_all e rest)
+clips_lie is [] e inside = tt
+clips_lie is (i ∷ rest) e inside =
+    lie_append is (clip e i) (clip_all e rest) (clip_lies is e i (λ t at. inside t (or_first (lies_in t i) (in_intervals t rest) at))) (clips_lie is rest e (λ t at. inside t (or_second (lies_in t i) (in_intervals t rest) at)))
+
+pub parts_lie : (is : List (ℕ × ℕ)) (e : Entry) → AllLieIn is (parts_of is e)
+parts_lie is e = by_length (nat_eq e.length 0)
+  where
+    by_length : (b : Bool) → AllLieIn is (if b then [] else clip_all e is)
+    by_length true = tt
+    by_length false = clips_lie is is e (λ t at. at)
+
+-- the same of what is collected of an entry, where a part is walked
+pub pieces_lie : (ext : Extent) (is : List (ℕ × ℕ)) (e : Entry) → KeepWithin ext is (pieces_of ext is e)
+pieces_lie Within is e = parts_lie is e
+pieces_lie Whole is e = tt
+
+keep_append : (ext : Extent) (is : List (ℕ × ℕ)) (ps qs : List Entry) → KeepWithin ext is ps → KeepWithin ext is qs → KeepWithin ext is (ps ++ qs)
+keep_append Within is ps qs p q = lie_append is ps qs p q
+keep_append Whole is ps qs p q = tt
+
+keep_none : (ext : Extent) (is : List (ℕ × ℕ)) → KeepWithin ext is []
+keep_none Within is = tt
+keep_none Whole is = tt
+
+count_append : (ps qs : List Entry) → tile_count (ps ++ qs) ≡ tile_count ps + tile_count qs
+count_append [] qs = omega arith
+count_append (p ∷ ps) qs = let n = count_append ps qs in omega (arith, n)
+
+-- what is collected keeps to the intervals and the room
+pub keeps_more : (ext : Extent) (is : List (ℕ × ℕ)) (most : ℕ) (old new : Collected) (ps : List Entry) → KeepWithin ext is ps → Collects old ps new → KeepsTo ext is most old → KeepsTo ext is most new
+keeps_more ext is most old new ps lie c k = by_room new.room refl c.parts
+  where
+    after : (room : ℕ) → new.room ≡ Some room → new.parts.items ≡ old.parts.items ++ ps → KeepWithin ext is new.parts.items × (tile_count new.parts.items + room ≤ most)
+    after room at items =
+        let before = room_taken old.room ps room (sym c.room ∙ at) in
+        let w : KeepWithin ext is old.parts.items × (tile_count old.parts.items + before.0 ≤ most) = subst (λ r. IfSome r (λ n. KeepWithin ext is old.parts.items × (tile_count old.parts.items + n ≤ most))) before.1 k in
+        let n = count_append old.parts.items ps in (
+          subst (KeepWithin ext is) (sym items) (keep_append ext is old.parts.items ps w.0 lie),
+          omega (arith, w.1, before.2, n, ap tile_count items),
+        )
+
+    by_room : (r : Option ℕ) → new.room ≡ r → IfSome r (λ _. new.parts.items ≡ old.parts.items ++ ps) → IfSome r (λ room. KeepWithin ext is new.parts.items × (tile_count new.parts.items + room ≤ most))
+    by_room None at items = tt
+    by_room (Some room) at items = after room at items
+
+-- all that was collected, where there was room for it
+pub kept_all : (ext : Extent) (is : List (ℕ × ℕ)) (most : ℕ) (old new : Collected) (ps : List Entry) → (old.parts.items ≡ []) × (old.room ≡ Some most) → ((n : ℕ) → KeepsTo ext is n old → KeepsTo ext is n new)
+    → (ps ≡ new.parts.items) × (is_some new.room ≡ true) → (tile_count ps ≤ most) × KeepWithin ext is ps
+kept_all ext is most old new ps begun keeps all =
+    let none : tile_count old.parts.items ≡ 0 = ap tile_count begun.0 in
+    let first : KeepsTo ext is most old =
+    subst (λ r. IfSome r (λ room. KeepWithin ext is old.parts.items × (tile_count old.parts.items + room ≤ most))) (sym begun.1) (subst (KeepWithin ext is) (sym begun.0) (keep_none ext is), omega (arith, none)) in
+    by_room new.room all.1 (keeps most first)
+  where
+    by_room : (r : Option ℕ) → is_some r ≡ true → IfSome r (λ room. KeepWithin ext is new.parts.items × (tile_count new.parts.items + room ≤ most)) → (tile_count ps ≤ most) × KeepWithin ext is ps
+    by_room None some k = absurd (cc)
+    by_room (Some room) some k =
+        let n = ap tile_count all.0 in
+        (omega (arith, k.1, n), subst (KeepWithin ext is) (sym all.0) k.0)

@@ -1,0 +1,46 @@
+-- The tests of a tile entry.
+use Rattle.std.proofs.Common.{◌≡◌, ◌+◌, ◌≤◌, ℕ, Bool, true, false, nat_eq, nat_le, if◌then◌else◌, max, List, [], ◌∷◌, Option, None, Some, refl, sym}
+use Rattle.std.proofs.lemmas.Option.{none-some}
+use Rattle.tile_ids.specs.declared.id.TheConstants.{MAX_TILE_ID}
+use Rattle.pm_format.specs.declared.error.PmtError.TheVariants as errors
+use Rattle.pm_format.specs.declared.error.ReadCause.TheVariants as causes
+use Rattle.pm_format.specs.declared.header.Header.{Header}
+use Rattle.pm_format.specs.Directory.{Entry}
+use Rattle.pm_format.specs.LookUp.{range_of}
+use Rattle.pm_walk.specs.Walk.{range_refusal, run_refusal, tile_by, tile_reads, tile_refusal, tile_walk}
+use Rattle.pm_walk.specs.declared.error.WalkError.{WalkError}
+use Rattle.pm_walk.specs.declared.error.WalkError.TheVariants.{Archive, InvalidTileId, TooDeep}
+use Rattle.pm_walk.specs.declared.extent.Extent.{Extent}
+use Rattle.pm_walk.specs.declared.extent.Extent.TheVariants.{Within, Whole}
+use Rattle.pm_walk.specs.declared.extent.TheConstants.{FIRST_TOO_DEEP}
+use Rattle.pm_walk.proofs.CoveringLemmas.{le_by}
+
+-- a run that passes the tests is one of tiles
+pub run_fits : (e : Entry) → run_refusal e ≡ None → e.tile_id + e.run_length ≤ MAX_TILE_ID + 1
+run_fits e fine = by_test (nat_le (e.tile_id + e.run_length) (MAX_TILE_ID + 1)) refl fine
+  where
+    by_test : (t : Bool) → nat_le (e.tile_id + e.run_length) (MAX_TILE_ID + 1) ≡ t
+        → (if t then (if nat_eq e.length 0 then None else (if nat_le (e.tile_id + e.run_length) FIRST_TOO_DEEP then None else Some (TooDeep (max e.tile_id FIRST_TOO_DEEP)))) else Some (InvalidTileId (max e.tile_id (MAX_TILE_ID + 1)))) ≡ None
+        → e.tile_id + e.run_length ≤ MAX_TILE_ID + 1
+    by_test true is fine = le_by (e.tile_id + e.run_length) (MAX_TILE_ID + 1) is
+    by_test false is fine = absurd (none-some (InvalidTileId (max e.tile_id (MAX_TILE_ID + 1))) (sym fine))
+
+pub tile_fits : (ext : Extent) (h : Header) (b : List ℕ) (e : Entry) → tile_refusal ext h b e ≡ None → e.tile_id + e.run_length ≤ MAX_TILE_ID + 1
+tile_fits Within h b e fine = by_test (nat_le (e.tile_id + e.run_length) (MAX_TILE_ID + 1)) refl fine
+  where
+    by_test : (t : Bool) → nat_le (e.tile_id + e.run_length) (MAX_TILE_ID + 1) ≡ t → (if t then None else Some (Archive errors.InvalidEntry)) ≡ None → e.tile_id + e.run_length ≤ MAX_TILE_ID + 1
+    by_test true is fine = le_by (e.tile_id + e.run_length) (MAX_TILE_ID + 1) is
+    by_test false is fine = absurd (none-some (Archive errors.InvalidEntry) (sym fine))
+tile_fits Whole h b e fine = by_range (range_of b (h.data_offset + e.offset) e.length) fine
+  where
+    by_range : (r : Option (List ℕ)) → range_refusal r e ≡ None → e.tile_id + e.run_length ≤ MAX_TILE_ID + 1
+    by_range None fine = absurd (none-some (Archive (errors.Reading causes.PastEnd)) (sym fine))
+    by_range (Some bytes) fine = run_fits e fine
+
+-- a tile entry that isn't refused is come to
+pub tile_stands : (ext : Extent) (h : Header) (b : List ℕ) (e : Entry) → (tile_walk ext h b e).refusal ≡ None → (tile_refusal ext h b e ≡ None) × ((tile_walk ext h b e).entries ≡ e ∷ [])
+tile_stands ext h b e fine = by_refusal (tile_refusal ext h b e) fine
+  where
+    by_refusal : (o : Option WalkError) → (tile_by (tile_reads ext) e o).refusal ≡ None → (o ≡ None) × ((tile_by (tile_reads ext) e o).entries ≡ e ∷ [])
+    by_refusal None fine = (refl, refl)
+    by_refusal (Some x) fine = absurd (none-some x (sym fine))

@@ -1,0 +1,6 @@
+pub mod Intervals
+pub mod Walk
+pub mod Parts
+pub mod Testing
+pub mod Collecting
+pub mod Gathering

@@ -1,0 +1,14 @@
+//! Walks along the directories of an archive, which collect its tile entries.
+#![tactic(auto)]
+
+mod collection;
+mod error;
+mod extent;
+mod intervals;
+mod parts;
+mod testing;
+mod walk;
+
+pub use collection::collect;
+pub use error::WalkError;
+pub use extent::{Extent, FIRST_TOO_DEEP};

@@ -1,9 +1,0 @@
-use Rattle.std.proofs.Common.{◌≡◌, true, length}
-use Rattle.tile_extract.specs.Met.{is_below, meets_any}
-use Rattle.tile_extract.proofs.intervals.is_met.Given as goal
-
-abbrev pub invariant-loop-interval : goal.invariant-loop-interval
-invariant-loop-interval l = (is_below l.end l.first ≡ true) × (meets_any l.first l.end l.rest ≡ meets_any l.first l.end l.intervals)
-
-abbrev pub decreases-loop-interval : goal.decreases-loop-interval
-decreases-loop-interval l = length l.rest
