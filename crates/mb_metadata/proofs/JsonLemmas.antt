@@ -1,5 +1,5 @@
 -- Objects of JSON that are put together member by member, and have no float.
-use Rattle.std.proofs.Common.{◌≡◌, ◌∙◌, ap, sym, subst, ℕ, suc, zero, ◌+◌, ◌<◌, ◌≤◌, List, [], ◌∷◌, ◌++◌, Option, Some, None, Bool, true, false, ◌||◌, Ordering, Less, Equal, Greater, refl, length, drop, take, map, get_or, arith}
+use Rattle.std.proofs.Common.{◌≡◌, ◌∙◌, ap, sym, ℕ, suc, ◌+◌, ◌<◌, ◌≤◌, List, [], ◌∷◌, ◌++◌, Option, Some, None, Bool, true, false, ◌||◌, Ordering, Less, Equal, Greater, refl, length, drop, take, map, get_or, arith}
 use Rattle.std.specs.Prelude.{All, IfSome, codes, option_map, slice_get}
 use Rattle.std.specs.FinMap.{entries}
 use Rattle.std.specs.Ordering.{match_ordering, nat_cmp}
@@ -10,8 +10,8 @@ use Rattle.std.proofs.lemmas.List.Elements.{All-head, All-tail}
 use Rattle.std.proofs.lemmas.Option.{get_or_from_slice_get}
 use Rattle.std.proofs.Math.Seq.{drop-cons}
 use Rattle.mb_metadata.specs.Inserting.{HasNoFloat, LayersHaveNoFloat}
-use Rattle.mb_metadata.specs.LayerJson.{as_it_is, layer_data, layer_members, layers_data, put_some, texts_data, with_entries, zoom_data}
-use Rattle.serde_json.specs.Data.{Data, number, string, array, object, Members, no_members, member, put, unsigned}
+use Rattle.mb_metadata.specs.LayerJson.{as_it_is, layer_data, layers_data, put_some, texts_data, with_entries, zoom_data}
+use Rattle.serde_json.specs.Data.{Data, string, Members, no_members, member, put}
 use Rattle.serde_json.specs.View.{items_of, view}
 use Rattle.serde_json.specs.Written.{has_float, items_have_float, members_have_float}
 use Rattle.serde_json.specs.declared.value.Value.{Value}

@@ -1,5 +1,6 @@
 pub mod BareLemmas
 pub mod OthersLemmas
+pub mod ReadBackLemmas
 pub mod ReadingLemmas
 pub mod InsertLemmas
 pub mod JsonLemmas

@@ -1,7 +1,7 @@
 -- A set after edits of its metadata, and its tables after their commit.
 use Rattle.std.proofs.Common.{◌≡◌, ◌∙◌, ap, sym, subst, ℕ, List, [], ◌∷◌, Option, Some, None, Bool, true, false, ◌&&◌, ◌||◌, cond, not, filter, refl, is_some, get_or, length, take, Ok}
-use Rattle.std.specs.Prelude.{◌==◌, codes, option_and_then, option_map, option_to_list}
-use Rattle.std.specs.FinMap.{FinMap, contains_key, get, get-empty, get-insert, get-remove, insert, remove}
+use Rattle.std.specs.Prelude.{◌==◌, codes, option_and_then, option_map}
+use Rattle.std.specs.FinMap.{FinMap, contains_key, get, get-empty, get-insert, get-remove, insert}
 use Rattle.std.specs.Ordering.{nat_cmp}
 use Rattle.std.specs.Cmp.Lexicographic.{slice_cmp}
 use Rattle.std.proofs.lemmas.Bool.{false≢true}
@@ -14,21 +14,20 @@ use Rattle.mb_load.proofs.CommitLemmas.{committed, names_stand}
 use Rattle.mb_load.proofs.EditedFrom.{from_removed_name, from_with_name}
 use Rattle.mb_load.proofs.LoadsFrom.{state_whole}
 use Rattle.mb_load.proofs.StateAgain.{state_again}
-use Rattle.mb_load.specs.Changing.{AreChangesOf, content_table, id_edited, is_own_table, name_edited, name_row, place_edited}
-use Rattle.mb_load.specs.Committed.{rows_under}
+use Rattle.mb_load.specs.Changing.{AreChangesOf, content_table, id_edited, is_own_table, name_edited, place_edited}
 use Rattle.mb_load.specs.Committing.{MakesChanges}
 use Rattle.mb_load.specs.Edits.{removed_name, with_name}
 use Rattle.mb_load.specs.Held.{Edited, Held, fresh, nothing_edited}
 use Rattle.mb_load.specs.LoadedFrom.{IsLoadedFrom, NamesAlgorithm}
 use Rattle.mb_load.specs.Loading.{Loads}
 use Rattle.mb_load.specs.State.{State, state_of}
-use Rattle.mb_metadata.specs.NameEdits.{AreEdited, EditsNames, IsFresh, held_edited, is_edited, names_edited, removal, removal_of, state_edited, with_text, with_touched}
+use Rattle.mb_metadata.specs.NameEdits.{AreEdited, EditsNames, IsFresh, held_edited, is_edited, names_edited, state_edited, with_text, with_touched}
 use Rattle.mb_metadata.specs.declared.name_edits.NameEdit.{NameEdit}
 use Rattle.mb_store.proofs.Committed.{others_stay}
 use Rattle.mb_store.specs.Committing.{Commits, is_changed}
 use Rattle.mb_store.specs.Store.{IsSound}
 use Rattle.mb_store.specs.declared.change.Change.{Change}
-use Rattle.mb_tables.proofs.CellLemmas.{cell_eq-Decides, cells_eq-Decides}
+use Rattle.mb_tables.proofs.CellLemmas.{cells_eq-Decides}
 use Rattle.mb_tables.proofs.ListLemmas.{filter_every}
 use Rattle.mb_tables.proofs.TableLemmas.{same_table}
 use Rattle.mb_tables.specs.Cell.{cell_cmp, cell_eq}
@@ -38,7 +37,6 @@ use Rattle.mb_tables.specs.Table.{Tables, key_of, table_eq}
 use Rattle.mb_tables.specs.Tiles.{cell_at, place_cmp}
 use Rattle.mb_tables.specs.declared.cell.Cell.{Cell}
 use Rattle.mb_tables.specs.declared.cell.Cell.TheVariants.{Int, Text}
-use Rattle.mb_tables.specs.declared.error.MbtError.{MbtError}
 use Rattle.mb_tables.specs.declared.key.RowKey.{RowKey}
 use Rattle.mb_tables.specs.declared.key.RowKey.TheVariants.{Tile, TextId, IntId}
 use Rattle.mb_tables.specs.declared.table.TableName.{TableName}

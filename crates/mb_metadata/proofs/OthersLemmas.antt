@@ -17,17 +17,17 @@ use Rattle.mb_metadata.specs.Said.{unless_empty}
 use Rattle.mb_tables.specs.declared.cell.Cell.{Cell}
 use Rattle.serde_json.specs.Data.{Data, string}
 
-abbrev Entry : Type 0
+abbrev pub Entry : Type 0
 Entry = List ℕ × Option (List ℕ)
 
 abbrev Fields : Type 0
 Fields = FinMap (slice_cmp nat_cmp) Data
 
-abbrev R : List ℕ → List ℕ → Ordering
+abbrev pub R : List ℕ → List ℕ → Ordering
 R = slice_cmp nat_cmp
 
 -- another name keeps its name
-other_name : (e : Entry) (x : List ℕ × Data) → other_entry e ≡ Some x → x.0 ≡ e.0
+pub other_name : (e : Entry) (x : List ℕ × Data) → other_entry e ≡ Some x → x.0 ≡ e.0
 other_name e x h = by (has_field e.0) (option_and_then unless_empty e.1) h
   where
     by : (b : Bool) (o : Option (List ℕ)) → cond b None (option_map (λ text. (e.0, string text)) o) ≡ Some x → x.0 ≡ e.0
@@ -35,7 +35,7 @@ other_name e x h = by (has_field e.0) (option_and_then unless_empty e.1) h
     by false None h = absurd (none-some x h)
     by false (Some text) h = sym (ap (λ q. (unwrap_or q x).0) h)
 
-is_less : (o : Ordering) → is_lt o ≡ true → o ≡ Less
+pub is_less : (o : Ordering) → is_lt o ≡ true → o ≡ Less
 is_less Less h = refl
 is_less Equal h = absurd (true≢false (sym h))
 is_less Greater h = absurd (true≢false (sym h))
@@ -68,7 +68,7 @@ pushed es e none = by (other_entry e) refl ∙ ap (from_entries {R = R}) (sym (f
         let fresh : find R x.0 (filter_map other_entry es) ≡ None = ap (λ n. find R n (filter_map other_entry es)) (other_name e x k) ∙ none in
         sym (from_entries_push nat_list_cmp_total (slice_cmp-IsAntisymmetric nat_cmp-IsAntisymmetric) (filter_map other_entry es) x.0 x.1 fresh)
 
-is_true : (b : Bool) → T b → b ≡ true
+pub is_true : (b : Bool) → T b → b ≡ true
 is_true true h = refl
 is_true false h = absurd h
 

@@ -1,11 +1,11 @@
 -- An update of zooms edits no other names.
-use Rattle.std.proofs.Common.{◌≡◌, ◌∙◌, ap, sym, subst, ℕ, List, [], ◌∷◌, ◌++◌, Option, Some, None, Bool, true, false, cond, refl, Result, Ok}
+use Rattle.std.proofs.Common.{◌≡◌, ◌∙◌, sym, subst, ℕ, List, ◌++◌, Option, Some, None, Bool, true, false, cond, refl, Result, Ok}
 use Rattle.std.specs.Prelude.{codes, option_to_list}
 use Rattle.std.specs.FinMap.{contains_key}
 use Rattle.std.specs.Fmt.{decimal}
 use Rattle.mb_lists.specs.Metadata.{Names}
 use Rattle.mb_load.specs.State.{State, state_of}
-use Rattle.mb_metadata.specs.NameEdits.{AreEdited, is_edited, put_of, removal_of}
+use Rattle.mb_metadata.specs.NameEdits.{AreEdited, is_edited}
 use Rattle.mb_metadata.specs.Updating.{is_set, state_updated, update_edits, zoom_edits}
 use Rattle.mb_metadata.specs.ZoomText.{zoom_at}
 use Rattle.mb_metadata.specs.Zooms.{span, zooms_of}
@@ -29,7 +29,7 @@ unnamed Reset names None = two_names (contains_key names (codes "minzoom")) (con
 unnamed GrowOnly names None = refl
 unnamed Skip names None = refl
 
-ok_same : (s r : State) → ◌≡◌ {A = Result State MbtError} (Ok s) (Ok r) → s ≡ r
+pub ok_same : (s r : State) → ◌≡◌ {A = Result State MbtError} (Ok s) (Ok r) → s ≡ r
 ok_same s r e = cc
 
 -- the tables load again

@@ -1,5 +1,5 @@
 -- What the names of metadata are to have by a document.
-use Rattle.std.specs.Prelude.{◌≡◌, ℕ, ℤ, pos, negsuc, codes, false, ◌++◌, List, [], ◌∷◌, Option, Some, None, All, IfSome, map, option_map, option_to_list, unwrap_or, refl}
+use Rattle.std.specs.Prelude.{◌≡◌, ℕ, codes, false, ◌++◌, List, Option, All, IfSome, map, option_map, option_to_list, unwrap_or}
 use Rattle.std.specs.FinMap.{FinMap, entries}
 use Rattle.std.specs.Fmt.{decimal, signed_decimal}
 use Rattle.std.specs.Ordering.{nat_cmp}

@@ -1,5 +1,6 @@
 pub mod Clamping
 pub mod Others
+pub mod ReadBack
 pub mod Reading
 pub mod Said
 pub mod SaidJson

@@ -1,6 +1,5 @@
 -- The zooms that metadata is to name.
-use Rattle.std.specs.Prelude.{◌≡◌, ℕ, codes, Bool, true, false, not, ◌++◌, List, [], ◌∷◌, Option, Some, None, cond, nat_eq, nat_lt, option_to_list, refl}
-use Rattle.std.specs.FinMap.{empty}
+use Rattle.std.specs.Prelude.{◌≡◌, ℕ, codes, Bool, true, false, not, ◌++◌, List, [], Option, Some, None, cond, nat_eq, nat_lt, option_to_list, refl}
 use Rattle.std.specs.Fmt.{decimal}
 use Rattle.mb_lists.specs.Metadata.{Names}
 use Rattle.mb_load.specs.State.{State}

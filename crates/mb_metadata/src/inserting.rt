@@ -36,7 +36,8 @@ fn then_copy(
     name: &str,
     text: Option<&TextVal>,
 ) -> Result<(), OutOfMemory>
-    ensures { OnOk result (edits.new.items ≡ then_put edits.old.items name.now (option_copied text.entry)) }
+    ensures { OnOk result
+        (edits.new.items ≡ then_put edits.old.items name.now (option_copied text.entry)) }
 {
     match text {
         Some(text) => then_put(alloc, edits, name, Some(text.try_clone(alloc)?)),
@@ -119,10 +120,12 @@ pub fn insert_metadata<S: TileStore>(
 ) -> MbtResult<()>
     requires { IsWithoutFloat tile_json.now }
     ensures answer { IsBegun done_answer (S.tells store.old) (S.told store.old) result }
-    ensures committed { S.tells store.old ≡ true → OnOk result (EditsNames (insert_edits tile_json.now) (S.told store.old) (S.told store.new)) }
+    ensures committed { S.tells store.old ≡ true → OnOk result
+        (EditsNames (insert_edits tile_json.now) (S.told store.old) (S.told store.new)) }
     ensures refused { OnErr result (S.told store.new ≡ S.told store.old) }
     ensures kept { Keeps S.tells S.faults S.steady store.old store.new }
-    ensures fault { IsErrOf result MbtError.StoreFault → Rose (S.faults store.old) (S.faults store.new) }
+    ensures fault { IsErrOf result MbtError.StoreFault
+        → Rose (S.faults store.old) (S.faults store.new) }
 {
     let set = load(alloc, store)?;
     let edits = document_edits(alloc, tile_json)?;

@@ -15,7 +15,8 @@ pub(crate) fn json_members(
     alloc: Global,
     fields: &JsonFields,
 ) -> Result<Map<String, Value>, OutOfMemory>
-    ensures { IfOk result (λ m. members_view m.entries ≡ with_entries as_it_is no_members (entries fields.now)) }
+    ensures { IfOk result
+        (λ m. members_view m.entries ≡ with_entries as_it_is no_members (entries fields.now)) }
 {
     let mut members = Map::new(alloc);
     for index in 0..fields.len() {
@@ -31,7 +32,8 @@ pub(crate) fn text_members(
     alloc: Global,
     fields: &TextFields,
 ) -> Result<Map<String, Value>, OutOfMemory>
-    ensures { IfOk result (λ m. members_view m.entries ≡ with_entries string no_members (entries fields.now)) }
+    ensures { IfOk result
+        (λ m. members_view m.entries ≡ with_entries string no_members (entries fields.now)) }
 {
     let mut members = Map::new(alloc);
     for index in 0..fields.len() {

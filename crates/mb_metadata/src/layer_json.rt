@@ -17,7 +17,8 @@ fn put_value(
     name: &str,
     value: Value,
 ) -> Result<(), OutOfMemory>
-    ensures { OnOk result (members_view members.new.entries ≡ with_member name.now (view value) (members_view members.old.entries)) }
+    ensures { OnOk result (members_view members.new.entries
+        ≡ with_member name.now (view value) (members_view members.old.entries)) }
 {
     Ok(serde_json::put(members, alloc, name, value)?)
 }
@@ -29,7 +30,8 @@ fn put_text(
     name: &str,
     text: &TextVal,
 ) -> Result<(), OutOfMemory>
-    ensures { OnOk result (members_view members.new.entries ≡ with_member name.now (string text.now) (members_view members.old.entries)) }
+    ensures { OnOk result (members_view members.new.entries
+        ≡ with_member name.now (string text.now) (members_view members.old.entries)) }
 {
     let value = Value::try_from_str(alloc, text.as_str())?;
     put_value(alloc, members, name, value)
@@ -42,7 +44,9 @@ fn put_any_text(
     name: &str,
     text: Option<&TextVal>,
 ) -> Result<(), OutOfMemory>
-    ensures { OnOk result (members_view members.new.entries ≡ put_some name.now (option_map string (option_copied text.entry)) (members_view members.old.entries)) }
+    ensures { OnOk result (members_view members.new.entries
+        ≡ put_some name.now (option_map string (option_copied text.entry))
+        (members_view members.old.entries)) }
 {
     match text {
         Some(text) => put_text(alloc, members, name, text),
@@ -57,7 +61,8 @@ fn put_any_zoom(
     name: &str,
     zoom: Option<u8>,
 ) -> Result<(), OutOfMemory>
-    ensures { OnOk result (members_view members.new.entries ≡ put_some name.now (option_map zoom_data zoom) (members_view members.old.entries)) }
+    ensures { OnOk result (members_view members.new.entries
+        ≡ put_some name.now (option_map zoom_data zoom) (members_view members.old.entries)) }
 {
     match zoom {
         Some(zoom) => put_value(alloc, members, name, Value::from(zoom)),

@@ -5,6 +5,7 @@ mod clamping;
 mod document_text;
 mod inserting;
 mod json_object;
+pub mod laws;
 mod layer_json;
 mod metadata;
 mod name_edits;

@@ -58,7 +58,8 @@ pub(crate) fn push_any(edits: &mut Vec<NameEdit>, edit: Option<NameEdit>) -> Res
 
 // Makes one edit of a set. Whatever edits follow, the set after all of them is the same.
 fn make(set: &mut Editing, edit: NameEdit) -> Result<(), OutOfMemory>
-    ensures { OnOk result ((rest : List NameEdit) → held_edited set.new rest ≡ held_edited set.old (edit ∷ rest)) }
+    ensures { OnOk result ((rest : List NameEdit)
+        → held_edited set.new rest ≡ held_edited set.old (edit ∷ rest)) }
 {
     let NameEdit { name, text } = edit;
     match text {
@@ -87,13 +88,15 @@ pub(crate) fn commit_edits<S: TileStore>(
     edits: Vec<NameEdit>,
 ) -> MbtResult<()>
     requires { S.tells store.old ≡ true → IsFresh (S.told store.old) set }
-    ensures committed { S.tells store.old ≡ true → OnOk result (AreEdited set.state edits.items (S.told store.old) (S.told store.new)) }
+    ensures committed { S.tells store.old ≡ true → OnOk result
+        (AreEdited set.state edits.items (S.told store.old) (S.told store.new)) }
     ensures untouched { edits.items ≡ [] → store.new ≡ store.old }
     ensures idle { edits.items ≡ [] → IsOk result }
     ensures refused { OnErr result (S.told store.new ≡ S.told store.old) }
     ensures free { IfErr result (λ e. is_free e ≡ true) }
     ensures kept { Keeps S.tells S.faults S.steady store.old store.new }
-    ensures fault { IsErrOf result MbtError.StoreFault → Rose (S.faults store.old) (S.faults store.new) }
+    ensures fault { IsErrOf result MbtError.StoreFault
+        → Rose (S.faults store.old) (S.faults store.new) }
 {
     if edits.is_empty() {
         return Ok(());

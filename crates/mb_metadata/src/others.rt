@@ -60,7 +60,8 @@ fn add_other(
     name: &str,
     value: &Cell,
 ) -> Result<(), OutOfMemory>
-    ensures { OnOk result (fields.new ≡ with_entry fields.old (other_entry (name.now, text_of value.now))) }
+    ensures { OnOk result
+        (fields.new ≡ with_entry fields.old (other_entry (name.now, text_of value.now))) }
 {
     match value {
         Cell::Text(text) if !has_field(name) && !text.as_str().is_empty() => {

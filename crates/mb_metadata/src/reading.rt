@@ -94,9 +94,11 @@ fn answer_of(alloc: Global, set: &Loaded, id: &str) -> MbtResult<Metadata>
 ///
 /// It answers the refusals of `load`. The store holds what it held, whatever the answer.
 pub fn get_metadata<S: TileStore>(alloc: Global, store: &mut S, id: &str) -> MbtResult<Metadata>
-    ensures answer { IsBegun (metadata_answer id.now) (S.tells store.old) (S.told store.old) result }
+    ensures answer { IsBegun (metadata_answer id.now) (S.tells store.old) (S.told store.old)
+        result }
     ensures kept { ReadsOnly S.told S.tells S.faults S.steady store.old store.new }
-    ensures fault { IsErrOf result MbtError.StoreFault → Rose (S.faults store.old) (S.faults store.new) }
+    ensures fault { IsErrOf result MbtError.StoreFault
+        → Rose (S.faults store.old) (S.faults store.new) }
 {
     let set = load(alloc, store)?;
     answer_of(alloc, &set, id)

@@ -40,7 +40,8 @@ fn zoom_edit(
     name: &str,
     computed: u8,
 ) -> Result<Option<NameEdit>, OutOfMemory>
-    ensures { IfOk result (λ e. e ≡ zoom_edit mode is_max set.now.state.metadata name.now computed) }
+    ensures { IfOk result (λ e. e
+        ≡ zoom_edit mode is_max set.now.state.metadata name.now computed) }
 {
     if !is_set(mode, is_max, zoom_at(set, name), computed) {
         return Ok(None);
@@ -113,11 +114,15 @@ pub fn update_metadata<S: TileStore>(
     update_zoom: UpdateZoomType,
 ) -> MbtResult<()>
     ensures answer { IsBegun done_answer (S.tells store.old) (S.told store.old) result }
-    ensures committed { S.tells store.old ≡ true → OnOk result (EditsNames (update_edits update_zoom) (S.told store.old) (S.told store.new)) }
-    ensures again { S.tells store.old ≡ true → OnOk result ((s : State) → state_of (S.told store.old) ≡ Ok s → state_of (S.told store.new) ≡ Ok (state_updated update_zoom s)) }
+    ensures committed { S.tells store.old ≡ true → OnOk result
+        (EditsNames (update_edits update_zoom) (S.told store.old) (S.told store.new)) }
+    ensures again { S.tells store.old ≡ true → OnOk result ((s : State)
+        → state_of (S.told store.old) ≡ Ok s
+        → state_of (S.told store.new) ≡ Ok (state_updated update_zoom s)) }
     ensures refused { OnErr result (S.told store.new ≡ S.told store.old) }
     ensures kept { Keeps S.tells S.faults S.steady store.old store.new }
-    ensures fault { IsErrOf result MbtError.StoreFault → Rose (S.faults store.old) (S.faults store.new) }
+    ensures fault { IsErrOf result MbtError.StoreFault
+        → Rose (S.faults store.old) (S.faults store.new) }
 {
     let set = load(alloc, store)?;
     let edits = update_edits(alloc, &set, update_zoom)?;

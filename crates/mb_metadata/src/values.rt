@@ -85,7 +85,8 @@ pub fn get_metadata_value<S: TileStore>(
 ) -> MbtResult<Option<TextVal>>
     ensures answer { IsBegun (value_answer key.now) (S.tells store.old) (S.told store.old) result }
     ensures kept { ReadsOnly S.told S.tells S.faults S.steady store.old store.new }
-    ensures fault { IsErrOf result MbtError.StoreFault → Rose (S.faults store.old) (S.faults store.new) }
+    ensures fault { IsErrOf result MbtError.StoreFault
+        → Rose (S.faults store.old) (S.faults store.new) }
 {
     let set = load(alloc, store)?;
     value_in(alloc, &set, key)
@@ -100,9 +101,11 @@ pub fn get_metadata_zoom_value<S: TileStore>(
     store: &mut S,
     zoom_name: &'static str,
 ) -> MbtResult<Option<u8>>
-    ensures answer { IsBegun (zoom_value_answer zoom_name.entry) (S.tells store.old) (S.told store.old) result }
+    ensures answer { IsBegun (zoom_value_answer zoom_name.entry) (S.tells store.old)
+        (S.told store.old) result }
     ensures kept { ReadsOnly S.told S.tells S.faults S.steady store.old store.new }
-    ensures fault { IsErrOf result MbtError.StoreFault → Rose (S.faults store.old) (S.faults store.new) }
+    ensures fault { IsErrOf result MbtError.StoreFault
+        → Rose (S.faults store.old) (S.faults store.new) }
 {
     let set = load(alloc, store)?;
     zoom_value_in(alloc, &set, zoom_name)
@@ -119,10 +122,12 @@ pub fn set_metadata_value<S: TileStore>(
     value: &str,
 ) -> MbtResult<()>
     ensures answer { IsBegun done_answer (S.tells store.old) (S.told store.old) result }
-    ensures committed { S.tells store.old ≡ true → OnOk result (EditsNames (set_edits key.now value.now) (S.told store.old) (S.told store.new)) }
+    ensures committed { S.tells store.old ≡ true → OnOk result
+        (EditsNames (set_edits key.now value.now) (S.told store.old) (S.told store.new)) }
     ensures refused { OnErr result (S.told store.new ≡ S.told store.old) }
     ensures kept { Keeps S.tells S.faults S.steady store.old store.new }
-    ensures fault { IsErrOf result MbtError.StoreFault → Rose (S.faults store.old) (S.faults store.new) }
+    ensures fault { IsErrOf result MbtError.StoreFault
+        → Rose (S.faults store.old) (S.faults store.new) }
 {
     let set = load(alloc, store)?;
     let edits = set_edits(alloc, key, value)?;
@@ -135,10 +140,12 @@ pub fn set_metadata_value<S: TileStore>(
 /// It answers the refusals of `load`; refused, the store holds what it held. All other rows stay as they were.
 pub fn delete_metadata_value<S: TileStore>(alloc: Global, store: &mut S, key: &str) -> MbtResult<()>
     ensures answer { IsBegun done_answer (S.tells store.old) (S.told store.old) result }
-    ensures committed { S.tells store.old ≡ true → OnOk result (EditsNames (delete_edits key.now) (S.told store.old) (S.told store.new)) }
+    ensures committed { S.tells store.old ≡ true → OnOk result
+        (EditsNames (delete_edits key.now) (S.told store.old) (S.told store.new)) }
     ensures refused { OnErr result (S.told store.new ≡ S.told store.old) }
     ensures kept { Keeps S.tells S.faults S.steady store.old store.new }
-    ensures fault { IsErrOf result MbtError.StoreFault → Rose (S.faults store.old) (S.faults store.new) }
+    ensures fault { IsErrOf result MbtError.StoreFault
+        → Rose (S.faults store.old) (S.faults store.new) }
 {
     let set = load(alloc, store)?;
     let edits = delete_edits(alloc, &set, key)?;

@@ -41,7 +41,8 @@ pub fn compute_min_max_zoom<S: TileStore>(
 ) -> MbtResult<Option<(u8, u8)>>
     ensures answer { IsBegun zooms_answer (S.tells store.old) (S.told store.old) result }
     ensures kept { ReadsOnly S.told S.tells S.faults S.steady store.old store.new }
-    ensures fault { IsErrOf result MbtError.StoreFault → Rose (S.faults store.old) (S.faults store.new) }
+    ensures fault { IsErrOf result MbtError.StoreFault
+        → Rose (S.faults store.old) (S.faults store.new) }
 {
     let set = load(alloc, store)?;
     Ok(zooms_in(&set))

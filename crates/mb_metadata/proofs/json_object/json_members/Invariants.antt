@@ -2,7 +2,7 @@
 use Rattle.std.proofs.Common.{◌≡◌, drop}
 use Rattle.std.specs.FinMap.{entries}
 use Rattle.mb_metadata.specs.LayerJson.{as_it_is, with_entries}
-use Rattle.serde_json.specs.Data.{no_members, string}
+use Rattle.serde_json.specs.Data.{no_members}
 use Rattle.serde_json.specs.View.{members_view}
 use Rattle.mb_metadata.proofs.json_object.json_members.Given as goal
 
