@@ -1,4 +1,5 @@
 pub mod DescribedLemmas
+pub mod FindingLemmas
 pub mod HashedLemmas
 pub mod StreamRows
 pub mod StreamPages

@@ -1,13 +1,14 @@
 -- The tiles that are still to come, step by step.
-use Rattle.std.proofs.Common.{◌≡◌, ◌∙◌, ap, sym, subst, ℕ, suc, ◌≤◌, Bool, true, List, ◌∷◌, Option, Some, Ok, arith, filter_map, take}
+use Rattle.std.proofs.Common.{◌≡◌, ◌∙◌, ap, sym, subst, ℕ, suc, ◌<◌, ◌≤◌, Bool, true, List, ◌∷◌, Option, Some, None, Ok, arith, filter_map, refl, take}
+use Rattle.std.specs.Prelude.{IfSome, slice_get}
+use Rattle.std.specs.FinMap.{entries, len}
 use Rattle.std.specs.List.{cons_option}
-use Rattle.mb_access.specs.StreamSteps.{GivesCoord, IsTileOf, Tile, left_of, rows_left, set_of, tile_at, tile_by_row}
+use Rattle.mb_access.specs.StreamSteps.{GivesIndex, IsRowOf, Tile, left_of, rows_left, set_of, tile_by_row}
 use Rattle.mb_access.specs.declared.stream_state.StreamState.{StreamState}
 use Rattle.mb_load.specs.Held.{Held}
 use Rattle.mb_store.specs.Kept.{ReadsOnly}
 use Rattle.mb_tables.specs.Table.{Tables}
 use Rattle.mb_tables.specs.declared.cell.Cell.{Cell}
-use Rattle.tile_ids.specs.Coord.{Coord}
 
 left_same : (t : Tables) (s u : StreamState) → rows_left t u ≡ rows_left t s → u.set ≡ s.set → u.left ≡ s.left → left_of t u ≡ left_of t s
 left_same t s u rows set left = λ i. take (left i) (filter_map (tile_by_row (set i).state) (rows i))
@@ -47,8 +48,14 @@ module _ {S : Type 0} (holds : S → Tables) (shows : S → Bool) (failed : S �
   }
 
   -- the next tile
-  pub coord_given : (first s u : StreamState) (row : List Cell) (c : Coord) (before after : S) → Streaming first s before after → ((t : Tables) → rows_left t s ≡ row ∷ rows_left t u) → IsTileOf (set_of s) row (Some c) → u.set ≡ s.set → s.left ≡ suc u.left → shows before ≡ true → GivesCoord (set_of first).tiles (left_of (holds before) first) (Some (Ok c)) (left_of (holds before) u)
-  coord_given first s u row c before after w rows is set left t =
-      sym (w.items t)
-      ∙ (left_given (holds before) s u row (tile_at s.set.state.tiles c) (rows (holds before)) is.0 set left
-      ∙ ap (λ (h : Held). tile_at h.state.tiles c ∷ left_of (holds before) u) w.set)
+  pub index_given : (first s u : StreamState) (row : List Cell) (i : ℕ) (before after : S) → Streaming first s before after → ((t : Tables) → rows_left t s ≡ row ∷ rows_left t u) → IsRowOf (set_of s) row (Some i) → u.set ≡ s.set → s.left ≡ suc u.left → shows before ≡ true → GivesIndex (set_of first).tiles (left_of (holds before) first) (Some (Ok i)) (left_of (holds before) u)
+  index_given first s u row i before after w rows is set left t =
+      subst (λ (h : Held). IfSome (slice_get (entries h.state.tiles) i) (λ (e : Tile). left_of (holds before) first ≡ e ∷ left_of (holds before) u)) w.set (by (slice_get (entries s.set.state.tiles) i) refl)
+    where
+      by : (o : Option Tile) → slice_get (entries s.set.state.tiles) i ≡ o → IfSome o (λ (e : Tile). left_of (holds before) first ≡ e ∷ left_of (holds before) u)
+      by None at = tt
+      by (Some e) at = sym (w.items t) ∙ left_given (holds before) s u row e (rows (holds before)) (is.1 ∙ at) set left
+
+  -- its index is one of the set
+  pub index_own : (first s : StreamState) (row : List Cell) (i : ℕ) (before after : S) → Streaming first s before after → IsRowOf (set_of s) row (Some i) → i < len (set_of first).tiles
+  index_own first s row i before after w is = subst (λ (h : Held). i < len h.state.tiles) w.set is.0

@@ -2,6 +2,7 @@ pub mod Reads
 pub mod Hashed
 pub mod Described
 pub mod FileName
+pub mod Finding
 pub mod StreamSteps
 pub mod Streams
 pub mod StreamRuns

@@ -1,6 +1,6 @@
 -- The tiles that a stream still gives, and one call for the next of them.
-use Rattle.std.specs.Prelude.{◌≡◌, ℕ, ◌/◌, ◌-◌, ◌++◌, Bool, true, cond, drop, max, not, take, List, [], ◌∷◌, Option, Some, None, Result, Ok, Err, filter_map, option_and_then, option_map, slice_index_or}
-use Rattle.std.specs.FinMap.{contains_key, get}
+use Rattle.std.specs.Prelude.{◌≡◌, ℕ, ◌<◌, ◌/◌, ◌-◌, ◌++◌, Bool, IfSome, true, cond, drop, max, not, take, List, [], ◌∷◌, Option, Some, None, Result, Ok, Err, filter_map, option_and_then, option_map, slice_get, slice_index_or}
+use Rattle.std.specs.FinMap.{entries, get, len}
 use Rattle.std.specs.Option.{option_flatten}
 use Rattle.base_values.specs.Counts.{Rose}
 use Rattle.mb_access.specs.declared.stream_state.StreamState.{StreamState}
@@ -34,10 +34,10 @@ tile_by_row s row = cond (is_tile_row s.layout row) (option_and_then (λ place. 
 abbrev pub tile_at : TileSet → Coord → Tile
 tile_at tiles c = (place_at c, option_flatten (get tiles (place_at c)))
 
--- the coordinate is that of a row's tile, or the row has none
-abbrev pub IsTileOf : State → List Cell → Option Coord → Type 0
-IsTileOf s row None = tile_by_row s row ≡ None
-IsTileOf s row (Some c) = (tile_by_row s row ≡ Some (tile_at s.tiles c)) × (contains_key s.tiles (place_at c) ≡ true)
+-- the index is that of a row's tile among those of the set, in the order of their places; or the row has no tile
+abbrev pub IsRowOf : State → List Cell → Option ℕ → Type 0
+IsRowOf s row None = tile_by_row s row ≡ None
+IsRowOf s row (Some i) = (i < len s.tiles) × (tile_by_row s row ≡ slice_get (entries s.tiles) i)
 
 -- a page after so many rows: 1024, or an eighth of these where that is more, so that a store that walks to a page from the front walks nine times the table at most
 abbrev pub page_size : ℕ → ℕ
@@ -63,7 +63,12 @@ rows_left t s = drop s.at s.page.items ++ take (s.rows - s.from) (drop s.from (t
 abbrev pub left_of : Tables → StreamState → List Tile
 left_of t s = take s.left (filter_map (tile_by_row s.set.state) (rows_left t s))
 
--- Of the tiles that were still to come the first is given, and the others are still to come; nothing is given where there was none. An error ends the stream.
+-- Of the tiles that were still to come the first is given, by its index among those of the set, by its coordinate, or whole, and the others are still to come; nothing is given where there was none. An error ends the stream.
+abbrev pub GivesIndex : TileSet → List Tile → Option (Result ℕ MbtError) → List Tile → Type 0
+GivesIndex tiles items None rest = (items ≡ []) × (rest ≡ [])
+GivesIndex tiles items (Some (Ok i)) rest = IfSome (slice_get (entries tiles) i) (λ e. items ≡ e ∷ rest)
+GivesIndex tiles items (Some (Err e)) rest = rest ≡ []
+
 abbrev pub GivesCoord : TileSet → List Tile → Option (Result Coord MbtError) → List Tile → Type 0
 GivesCoord tiles items None rest = (items ≡ []) × (rest ≡ [])
 GivesCoord tiles items (Some (Ok c)) rest = items ≡ tile_at tiles c ∷ rest

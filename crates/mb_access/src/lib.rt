@@ -2,6 +2,7 @@
 #![tactic(auto)]
 
 mod described;
+mod finding;
 mod hashed;
 pub mod laws;
 mod mbtiles;

@@ -1,16 +1,16 @@
 // A stream along the rows of a set: what it owns beside the store that it reads.
 ghost use Rattle.std.specs.Prelude.{◌≡◌, ◌<◌, ◌≤◌, ◌+◌, ◌-◌, ◌∷◌, [], IfOk, IfSome, IsErrOf, None, OnErr, OnOk, Ok, false, length, max, true};
 ghost use Rattle.std.specs.FinMap.{contains_key, get, len};
-ghost use Rattle.std.specs.Option.{option_flatten};
 ghost use Rattle.base_values.specs.Counts.{Rose};
-ghost use Rattle.mb_access.specs.StreamSteps.{GivesCoord, GivesTile, IsTileOf, StreamCauses, is_tile_row, left_at_most, left_of, loaded_by, next_row, page_size, rows_left, set_of};
+ghost use Rattle.mb_access.specs.StreamSteps.{GivesCoord, GivesIndex, GivesTile, IsRowOf, StreamCauses, is_tile_row, left_at_most, left_of, loaded_by, next_row, page_size, rows_left, set_of};
 ghost use Rattle.mb_load.specs.Begun.{IsBegun};
 ghost use Rattle.mb_lists.specs.Entries.{place_at};
 ghost use Rattle.mb_store.specs.Kept.{ReadsOnly};
 ghost use Rattle.mb_tables.specs.Table.{Tables};
 ghost use Rattle.mb_tables.specs.Tiles.{pairs_of};
 
-use base_values::{BlobVal, OutOfMemory};
+use crate::finding::{coord_at, index_of, tile_copy};
+use base_values::BlobVal;
 use mb_lists::{cell_at, coord_of};
 use mb_load::{Loaded, load};
 use mb_store::{Cell, MbtError, MbtResult, MbtType, Row, StoreError, TileStore};
@@ -27,6 +27,7 @@ pub struct StreamState {
     pub(crate) from: u64,
     pub(crate) rows: u64,
     pub(crate) left: usize,
+    pub(crate) likely: usize,
 }
 
 // Whether a row of the table of places is one of a tile.
@@ -40,39 +41,22 @@ fn is_tile_row(layout: MbtType, row: &Row) -> bool
     }
 }
 
-// Whether a loaded set has a tile at a coordinate.
-fn has_tile(set: &Loaded, coord: TileCoord) -> bool
-    ensures { result ≡ contains_key set.now.state.tiles (place_at coord) }
-{
-    set.tile(coord).is_some()
-}
-
-// The coordinate of a row, where the row is one of a tile, and a loaded set has a tile there.
-fn coord_by_row(set: &Loaded, row: &Row) -> Option<TileCoord>
-    ensures { IsTileOf set.now.state row.now result }
+// The index of the tile of a row among those of a loaded set, where the row is one of a tile, and the set has a tile there. It is tried first at `likely`.
+fn index_by_row(set: &Loaded, likely: usize, row: &Row) -> Option<usize>
+    ensures { IsRowOf set.now.state row.now result }
 {
     if !is_tile_row(set.mbt_type(), row) {
         return None;
     }
     let coord = coord_of(row)?;
-    if has_tile(set, coord) {
-        Some(coord)
-    } else {
-        None
-    }
+    index_of(set, likely, coord)
 }
 
-// A copy of the bytes of the tile at a coordinate; None for null.
-fn contents_at(
-    alloc: Global,
-    set: &Loaded,
-    coord: TileCoord,
-) -> Result<Option<BlobVal>, OutOfMemory>
-    ensures { IfOk result (λ contents. contents ≡ option_flatten (get set.now.state.tiles (place_at coord))) }
-{
-    match set.tile(coord) {
-        Some(Cell::Blob(bytes)) => Ok(Some(bytes.try_clone(alloc)?)),
-        _ => Ok(None),
+// The index at which the tile of the next row is tried first: the one behind that of this row, so that rows in the order of their places need no search.
+fn likely_after(index: Option<usize>, likely: usize) -> usize {
+    match index {
+        Some(index) => index.saturating_add(1),
+        None => likely,
     }
 }
 
@@ -106,6 +90,7 @@ impl StreamState {
             from: 0,
             rows,
             left,
+            likely: 0,
         })
     }
 
@@ -136,19 +121,52 @@ impl StreamState {
         Ok(count > 0)
     }
 
-    // Takes the next row of the page: the coordinate of its tile, if it has one.
-    fn take_row(&mut self) -> Option<TileCoord>
+    // Takes the next row of the page: the index of its tile, if it has one.
+    fn take_row(&mut self) -> Option<usize>
         requires { self.old.at < length self.old.page.items }
         ensures rows { (t : Tables) → rows_left t self.old ≡ next_row self.old ∷ rows_left t self.new }
-        ensures coord { IsTileOf (set_of self.old) (next_row self.old) result }
+        ensures index { IsRowOf (set_of self.old) (next_row self.old) result }
         ensures most { length self.new.page.items - self.new.at + 1 ≡ length self.old.page.items - self.old.at }
         ensures set { self.new.set ≡ self.old.set }
         ensures left { self.new.left ≡ self.old.left }
         ensures rest { self.new.rows - self.new.from ≡ self.old.rows - self.old.from }
     {
-        let coord = coord_by_row(&self.set, &self.page[self.at]);
+        let index = index_by_row(&self.set, self.likely, &self.page[self.at]);
         self.at += 1;
-        coord
+        self.likely = likely_after(index, self.likely);
+        index
+    }
+
+    // The index of the next tile, null ones included, or an error, after which none comes.
+    fn next_index<S: TileStore>(&mut self, store: &mut S) -> Option<MbtResult<usize>>
+        ensures items { S.tells store.old ≡ true → GivesIndex (set_of self.old).tiles
+            (left_of (S.told store.old) self.old) result (left_of (S.told store.old) self.new) }
+        ensures own { IfSome result (λ item. IfOk item (λ i. i < len (set_of self.old).tiles)) }
+        ensures set { set_of self.new ≡ set_of self.old }
+        ensures fewer { IfSome result (λ _. left_at_most self.new < left_at_most self.old) }
+        ensures err { IfSome result (λ item. OnErr item (left_at_most self.new ≡ 0)) }
+        ensures end { result ≡ None → left_at_most self.new ≡ 0 }
+        ensures causes { StreamCauses (S.faults store.old) (S.faults store.new) result }
+        ensures kept { ReadsOnly S.told S.tells S.faults S.steady store.old store.new }
+    {
+        while self.left > 0 {
+            match self.has_row(store) {
+                Ok(true) => {
+                    if let Some(index) = self.take_row() {
+                        self.left -= 1;
+                        return Some(Ok(index));
+                    }
+                }
+                Ok(false) => {
+                    self.left = 0;
+                }
+                Err(error) => {
+                    self.left = 0;
+                    return Some(Err(error.into()));
+                }
+            }
+        }
+        None
     }
 
     /// The coordinate of the next tile, null ones included, or an error, after which none comes: want of memory, or `StoreFault` where the store's count of faults rose.
@@ -164,24 +182,11 @@ impl StreamState {
         ensures causes { StreamCauses (S.faults store.old) (S.faults store.new) result }
         ensures kept { ReadsOnly S.told S.tells S.faults S.steady store.old store.new }
     {
-        while self.left > 0 {
-            match self.has_row(store) {
-                Ok(true) => {
-                    if let Some(coord) = self.take_row() {
-                        self.left -= 1;
-                        return Some(Ok(coord));
-                    }
-                }
-                Ok(false) => {
-                    self.left = 0;
-                }
-                Err(error) => {
-                    self.left = 0;
-                    return Some(Err(error.into()));
-                }
-            }
+        match self.next_index(store) {
+            None => None,
+            Some(Err(error)) => Some(Err(error)),
+            Some(Ok(index)) => Some(Ok(coord_at(&self.set, index))),
         }
-        None
     }
 
     /// The next tile, its coordinate with its bytes or null, or an error, as `next_coord` answers it.
@@ -198,11 +203,11 @@ impl StreamState {
         ensures causes { StreamCauses (S.faults store.old) (S.faults store.new) result }
         ensures kept { ReadsOnly S.told S.tells S.faults S.steady store.old store.new }
     {
-        match self.next_coord(store) {
+        match self.next_index(store) {
             None => None,
             Some(Err(error)) => Some(Err(error)),
-            Some(Ok(coord)) => match contents_at(self.alloc, &self.set, coord) {
-                Ok(contents) => Some(Ok((coord, contents))),
+            Some(Ok(index)) => match tile_copy(self.alloc, &self.set, index) {
+                Ok(tile) => Some(Ok(tile)),
                 Err(error) => {
                     self.left = 0;
                     Some(Err(error.into()))

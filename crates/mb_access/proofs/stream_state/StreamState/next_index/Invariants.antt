@@ -1,6 +1,6 @@
 use Rattle.std.proofs.Common.{◌+◌, ◌-◌, length}
 use Rattle.mb_access.proofs.StreamLoop.{Streaming}
-use Rattle.mb_access.proofs.stream_state.StreamState.next_coord.Given as goal
+use Rattle.mb_access.proofs.stream_state.StreamState.next_index.Given as goal
 
 abbrev pub invariant-loop-self : goal.invariant-loop-self
 invariant-loop-self g l = Streaming g.S.TileStore.told g.S.TileStore.tells g.S.TileStore.faults g.S.TileStore.steady l.fn.self l.self l.fn.store l.store
