@@ -1,0 +1,11 @@
+// Copies.
+use crate::Kept;
+use crate::copiers::copier;
+use rows_shared::{Words, said};
+use std::alloc::Global;
+
+/// Copies the source into the destination.
+pub fn run(alloc: Global, out: &mut String, kept: &mut Kept, words: &mut Words) -> Option<()> {
+    let copier = copier(alloc, words)?;
+    said(out, copier.run(alloc, &mut kept.src, &mut kept.dst))
+}

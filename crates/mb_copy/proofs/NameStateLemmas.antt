@@ -1,0 +1,156 @@
+-- The state of a set after names were put.
+use Rattle.std.proofs.Common.{◌≡◌, ◌∙◌, ap, sym, subst, ℕ, ◌++◌, List, [], ◌∷◌, Option, Some, None, Bool, true, false, ◌&&◌, ◌||◌, cond, not, refl, append_assoc}
+use Rattle.std.specs.Prelude.{codes, option_and_then}
+use Rattle.std.specs.Option.{option_or}
+use Rattle.std.specs.Ordering.{nat_cmp}
+use Rattle.std.specs.Cmp.Lexicographic.{slice_cmp}
+use Rattle.std.specs.FinMap.{FinMap, contains_key, entries, find, get, get-entries, get-from_entries, insert, same_map}
+use Rattle.std.proofs.lemmas.Cmp.{nat_list_cmp_total}
+use Rattle.mb_constraints.specs.Algorithm.{algorithm_by, unknown_name}
+use Rattle.mb_copy.proofs.TileStateLemmas.{tiles_edited_with, tiles_with, with_tiles}
+use Rattle.mb_copy.specs.Chosen.{names_to_put, tiles_to_put, times_to_put}
+use Rattle.mb_copy.specs.Copied.{copied, copied_metadata, entries_put, stored_aggregate, stored_algorithm, stores_aggregate, text_entries, with_copies}
+use Rattle.mb_copy.specs.CopyWords.{copies_metadata}
+use Rattle.mb_copy.specs.HeldCopied.{all_times_put, held_copied, held_with, held_with_names, name_put, nulls_put}
+use Rattle.mb_copy.specs.declared.copier.MbtilesCopier.{MbtilesCopier}
+use Rattle.mb_edit.proofs.PatchedLemmas.{find-join, get-over}
+use Rattle.mb_edit.specs.Patched.{over}
+use Rattle.mb_edit.specs.Put.{tiles_put}
+use Rattle.mb_lists.proofs.NameLemmas.{names_antisymmetric}
+use Rattle.mb_lists.specs.Metadata.{Names, text_at}
+use Rattle.mb_lists.specs.declared.dates.Dates.{Dates}
+use Rattle.mb_load.specs.Aggregate.{aggregate}
+use Rattle.mb_load.specs.FromLast.{from_last}
+use Rattle.mb_load.specs.Held.{Held, nothing_edited}
+use Rattle.mb_load.specs.LoadedFrom.{NamesAlgorithm}
+use Rattle.mb_load.specs.State.{State}
+use Rattle.mb_tables.specs.Tiles.{Place, TileSet, place_cmp}
+use Rattle.tile_hash.specs.Digest.{name_of}
+use Rattle.tile_hash.specs.declared.algorithm.HashAlgorithm.{HashAlgorithm}
+use Rattle.tile_hash.specs.declared.algorithm.HashAlgorithm.TheVariants.{Md5, Fnv1a, Fnv1aDecimal, Xxh64, Xxh3}
+
+abbrev pub Named : Type 0
+Named = List ℕ × Option (List ℕ)
+
+-- names one after another, from the last to the first
+abbrev names_in : Names → List Named → Names
+names_in m [] = m
+names_in m (e ∷ es) = insert (names_in m es) e.0 e.1
+
+abbrev with_names : State → Names → State
+with_names s names = record s { metadata = names }
+
+names_state : (h : Held) (es : List Named) → (from_last name_put h es).state ≡ with_names h.state (names_in h.state.metadata es)
+names_state h [] = refl
+names_state h (e ∷ es) = ap (λ (s : State). with_names s (insert s.metadata e.0 e.1)) (names_state h es)
+
+names_over : (m : Names) (es : List Named) → names_in m es ≡ over es m
+names_over m [] = same_map nat_list_cmp_total names_antisymmetric _ _ (λ q. get-entries m q ∙ sym (get-from_entries nat_list_cmp_total (entries m) q))
+names_over m (e ∷ es) = ap (λ (n : Names). insert n e.0 e.1) (names_over m es)
+
+pub names_put_state : (h : Held) (es : List Named) → (from_last name_put h es).state ≡ with_names h.state (over es h.state.metadata)
+names_put_state h es = names_state h es ∙ ap (with_names h.state) (names_over h.state.metadata es)
+
+-- names aren't places
+pub names_unplaced : (h : Held) (es : List Named) → (from_last name_put h es).edited.places ≡ h.edited.places
+names_unplaced h [] = refl
+names_unplaced h (e ∷ es) = names_unplaced h es
+
+-- names in two parts
+pub in_parts : (h : Held) (xs ys : List Named) → from_last name_put h (xs ++ ys) ≡ from_last name_put (from_last name_put h ys) xs
+in_parts h [] ys = refl
+in_parts h (x ∷ xs) ys = ap (λ (h : Held). name_put h x) (in_parts h xs ys)
+
+-- the whole state
+pub state_with : (c : MbtilesCopier) (made : Bool) (h : Held) (put : TileSet) (times : FinMap place_cmp Dates) (names : Names) → (held_with c made h put times names).state ≡ with_copies c made h.state put times names
+state_with c made h put times names =
+    names_put_state (all_times_put times (nulls_put (tiles_put h put) put) put) (entries_put c made (all_times_put times (nulls_put (tiles_put h put) put) put).state.algorithm (all_times_put times (nulls_put (tiles_put h put) put) put).state.tiles names)
+    ∙ ap (λ (s : State). with_names s (copied_metadata c made s.algorithm s.tiles names s.metadata)) (tiles_with h put times)
+
+-- the places that count as edited
+pub edited_with : (c : MbtilesCopier) (made : Bool) (h : Held) (put : TileSet) (times : FinMap place_cmp Dates) (names : Names) → h.edited ≡ nothing_edited → (q : Place) → contains_key (held_with c made h put times names).edited.places q ≡ contains_key put q
+edited_with c made h put times names clean q =
+    ap (λ m. contains_key m q) (names_unplaced (all_times_put times (nulls_put (tiles_put h put) put) put) (entries_put c made (all_times_put times (nulls_put (tiles_put h put) put) put).state.algorithm (all_times_put times (nulls_put (tiles_put h put) put) put).state.tiles names))
+    ∙ tiles_edited_with h put times clean q
+
+pub copied_state : (c : MbtilesCopier) (made : Bool) (source : State) (h : Held) → (held_copied c made source h).state ≡ copied c made source h.state
+copied_state c made source h = state_with c made h (tiles_to_put c source.tiles h.state) (times_to_put c source h.state) (names_to_put c source.metadata h.state.metadata)
+
+-- each algorithm is that of its name
+name_known : (a : HashAlgorithm) → unknown_name (Some (name_of a)) ≡ None
+name_known Md5 = refl
+name_known Fnv1a = refl
+name_known Fnv1aDecimal = refl
+name_known Xxh64 = refl
+name_known Xxh3 = refl
+
+name_back : (a : HashAlgorithm) → algorithm_by (Some (name_of a)) ≡ a
+name_back Md5 = refl
+name_back Fnv1a = refl
+name_back Fnv1aDecimal = refl
+name_back Xxh64 = refl
+name_back Xxh3 = refl
+
+abbrev algorithm_name : List ℕ
+algorithm_name = codes "hash_algorithm"
+
+abbrev find_name : List Named → Option (Option (List ℕ))
+find_name es = find (slice_cmp nat_cmp) algorithm_name es
+
+abbrev text_in : Option (Option (List ℕ)) → Option (List ℕ)
+text_in o = option_and_then (λ value. value) o
+
+-- the hash is no name of an algorithm
+no_hash : (o : Option (List ℕ)) → find_name (text_entries (codes "agg_tiles_hash") o) ≡ None
+no_hash None = refl
+no_hash (Some text) = refl
+
+module _ (c : MbtilesCopier) (made : Bool) (s : State) (tiles : TileSet) (names : Names) (none : get names algorithm_name ≡ None) where
+  rest_none : find_name (stored_aggregate c s.algorithm tiles ++ entries names) ≡ None
+  rest_none = find-join (slice_cmp nat_cmp) algorithm_name (stored_aggregate c s.algorithm tiles) (entries names) ∙ (ap (λ o. option_or o (find_name (entries names))) (no_hash _) ∙ (sym (get-entries names algorithm_name) ∙ none))
+
+  name_found : (b : Bool) → find_name (text_entries algorithm_name (cond b (Some (name_of s.algorithm)) None) ++ stored_aggregate c s.algorithm tiles ++ entries names) ≡ cond b (Some (Some (name_of s.algorithm))) None
+  name_found true = refl
+  name_found false = rest_none
+
+  text_is : text_at (copied_metadata c made s.algorithm tiles names s.metadata) algorithm_name ≡ text_in (option_or (cond (copies_metadata c.copy || made || stores_aggregate c) (Some (Some (name_of s.algorithm))) None) (get s.metadata algorithm_name))
+  text_is = ap text_in (get-over nat_list_cmp_total (entries_put c made s.algorithm tiles names) s.metadata algorithm_name ∙ ap (λ o. option_or o (get s.metadata algorithm_name)) (name_found (copies_metadata c.copy || made || stores_aggregate c)))
+
+  not_made : (a b d : Bool) → (a || b || d) ≡ false → b ≡ false
+  not_made false false d h = refl
+  not_made false true d h = cc
+  not_made true b d h = cc
+
+  pub named_by : (made ≡ false → NamesAlgorithm s) → (unknown_name (text_at (copied_metadata c made s.algorithm tiles names s.metadata) algorithm_name) ≡ None) × (algorithm_by (text_at (copied_metadata c made s.algorithm tiles names s.metadata) algorithm_name) ≡ s.algorithm)
+  named_by had = by (copies_metadata c.copy || made || stores_aggregate c) refl
+    where
+      at : (b : Bool) → (copies_metadata c.copy || made || stores_aggregate c) ≡ b → text_at (copied_metadata c made s.algorithm tiles names s.metadata) algorithm_name ≡ text_in (option_or (cond b (Some (Some (name_of s.algorithm))) None) (get s.metadata algorithm_name))
+      at b e = text_is ∙ ap (λ b. text_in (option_or (cond b (Some (Some (name_of s.algorithm))) None) (get s.metadata algorithm_name))) e
+
+      by : (b : Bool) → (copies_metadata c.copy || made || stores_aggregate c) ≡ b → (unknown_name (text_at (copied_metadata c made s.algorithm tiles names s.metadata) algorithm_name) ≡ None) × (algorithm_by (text_at (copied_metadata c made s.algorithm tiles names s.metadata) algorithm_name) ≡ s.algorithm)
+      by true e = (ap unknown_name (at true e) ∙ name_known s.algorithm, ap algorithm_by (at true e) ∙ name_back s.algorithm)
+      by false e =
+          let was : NamesAlgorithm s = had (not_made (copies_metadata c.copy) made (stores_aggregate c) e) in
+          (ap unknown_name (at false e) ∙ was.known, ap algorithm_by (at false e) ∙ was.named)
+
+pub named_with : (c : MbtilesCopier) (made : Bool) (h : Held) (put : TileSet) (times : FinMap place_cmp Dates) (names : Names) → get names (codes "hash_algorithm") ≡ None → (made ≡ false → NamesAlgorithm h.state) → NamesAlgorithm (held_with c made h put times names).state
+named_with c made h put times names none had =
+    let two = named_by c made h.state (with_tiles h.state put times).tiles names none had in
+    subst NamesAlgorithm (sym (state_with c made h put times names)) (record { known = two.0; named = two.1 })
+
+-- names, the hash and the algorithm, one after another
+in_turn : (h a b d e : Held) (xs : List Named) (hash algorithm : Option (List ℕ)) → a ≡ h → b ≡ from_last name_put a xs → d ≡ from_last name_put b (text_entries (codes "agg_tiles_hash") hash) → e ≡ from_last name_put d (text_entries algorithm_name algorithm) → e ≡ from_last name_put h (text_entries algorithm_name algorithm ++ (text_entries (codes "agg_tiles_hash") hash ++ xs))
+in_turn h a b d e xs hash algorithm opened named hashed last =
+    last
+    ∙ (ap (λ (x : Held). from_last name_put x (text_entries algorithm_name algorithm)) (hashed
+    ∙ (ap (λ (x : Held). from_last name_put x (text_entries (codes "agg_tiles_hash") hash)) (named ∙ ap (λ (x : Held). from_last name_put x xs) opened)
+    ∙ sym (in_parts h (text_entries (codes "agg_tiles_hash") hash) xs)))
+    ∙ sym (in_parts h (text_entries algorithm_name algorithm) (text_entries (codes "agg_tiles_hash") hash ++ xs)))
+
+pub names_are : (c : MbtilesCopier) (made : Bool) (h a b d e : Held) (names : Names) (hash algorithm : Option (List ℕ)) (by : HashAlgorithm) → a ≡ h → b ≡ from_last name_put a (entries names) → d ≡ from_last name_put b (text_entries (codes "agg_tiles_hash") hash) → e ≡ from_last name_put d (text_entries (codes "hash_algorithm") algorithm)
+    → hash ≡ cond (stores_aggregate c) (Some (aggregate h.state.algorithm h.state.tiles)) None → algorithm ≡ cond (copies_metadata c.copy || made || stores_aggregate c) (Some (name_of by)) None → by ≡ h.state.algorithm → e ≡ held_with_names c made h names
+names_are c made h a b d e names hash algorithm by opened named hashed last is_hash is_algorithm same =
+    in_turn h a b d e (entries names) hash algorithm opened named hashed last
+    ∙ (ap (λ (es : List Named). from_last name_put h es) (sym (append_assoc (text_entries algorithm_name algorithm) (text_entries (codes "agg_tiles_hash") hash) (entries names)))
+    ∙ (ap (λ (o : Option (List ℕ)). from_last name_put h (text_entries algorithm_name o ++ text_entries (codes "agg_tiles_hash") hash ++ entries names)) (is_algorithm ∙ ap (λ (a : HashAlgorithm). cond (copies_metadata c.copy || made || stores_aggregate c) (Some (name_of a)) None) same)
+    ∙ ap (λ (o : Option (List ℕ)). from_last name_put h (stored_algorithm c made h.state.algorithm ++ text_entries (codes "agg_tiles_hash") o ++ entries names)) is_hash))

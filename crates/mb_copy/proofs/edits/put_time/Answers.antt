@@ -1,0 +1,10 @@
+use Rattle.std.proofs.Common.{◌≡◌, arith}
+use Rattle.std.specs.FinMap.{entries, len-entries}
+use Rattle.mb_copy.proofs.EntryLemmas.{entry_there}
+use Rattle.mb_lists.specs.Entries.{blob_cell, place_at}
+use Rattle.mb_copy.proofs.edits.put_time.Goals as goal
+
+pub put_times_at-requires-clause-there : goal.put_times_at-requires-clause-there
+put_times_at-requires-clause-there c =
+    c.requires.there (place_at c.tile_at-coord.result.0)
+    (entry_there (λ v. blob_cell v ≡ c.tile_at-coord.result.1.now) c.args.put.now.state.tiles c.args.index (place_at c.tile_at-coord.result.0) (omega (arith, c.requires.index, len-entries c.args.put.now.state.tiles)) c.tile_at-coord.ensures)

@@ -1,0 +1,18 @@
+use Rattle.std.proofs.Common.{◌∙◌, arith}
+use Rattle.std.specs.FinMap.{entries, len-entries}
+use Rattle.mb_copy.specs.HeldCopied.{name_put}
+use Rattle.mb_edit.proofs.FromLast.{none_made, one_before}
+use Rattle.mb_copy.proofs.names.put_names.Goals as goal
+
+pub loop-left-init : goal.loop-left-init
+loop-left-init c =
+    let start = none_made name_put (entries c.args.put.now.state.metadata) c.metadata_count-left.result c.args.set.now (c.metadata_count-left.ensures ∙ len-entries c.args.put.now.state.metadata) in
+    record { within = start.0; made = start.1 }
+
+pub loop-left-preserved : goal.loop-left-preserved
+loop-left-preserved c =
+    let next = one_before name_put (entries c.args.put.now.state.metadata) c.loop-left.left c.args.set.now c.loop-left.set c.put_name.new.set c.loop-left-test.true c.loop-left.invariant.within c.loop-left.invariant.made c.in_ok-put_name.ensures in
+    record { within = next.0; made = next.1 }
+
+pub put_name-requires : goal.put_name-requires
+put_name-requires c = omega (arith, c.loop-left-test.true, c.loop-left.invariant.within, len-entries c.args.put.now.state.metadata)

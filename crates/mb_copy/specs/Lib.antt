@@ -1,0 +1,9 @@
+pub mod CopyWords
+pub mod Wanted
+pub mod Target
+pub mod Chosen
+pub mod Clearing
+pub mod Copied
+pub mod CopyOrder
+pub mod HeldCopied
+pub mod Copying

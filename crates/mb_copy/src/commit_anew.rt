@@ -1,0 +1,32 @@
+// Committing a set to a store that describes nothing.
+ghost use Rattle.std.specs.Prelude.{◌≡◌, ◌⊎◌, [], IfErr, IsErrOf, OnErr, OnOk, true};
+ghost use Rattle.base_values.specs.Counts.{Rose};
+ghost use Rattle.mb_load.specs.Committing.{MakesChanges};
+ghost use Rattle.mb_load.specs.Empty.{AreEmpty};
+ghost use Rattle.mb_load.specs.LoadedFrom.{IsLoadedFrom};
+ghost use Rattle.mb_store.specs.Kept.{Keeps};
+ghost use Rattle.mb_store.specs.Store.{created};
+ghost use Rattle.mb_tables.specs.Refusals.{is_free};
+ghost use Rattle.mb_tables.specs.Schema.{set_tables, started_as};
+ghost use Rattle.mb_tables.specs.Table.{Tables};
+
+use mb_load::{Loaded, commit_loaded};
+use mb_store::{MbtError, MbtResult, TileStore, init_mbtiles_schema};
+use std::alloc::Global;
+
+/// Makes the tables of a set's layout in a store that describes nothing, and commits the set to them, which is one that tables without rows could have been loaded as. Refused, the
+/// store describes nothing still, or has the tables alone.
+pub(crate) fn commit_anew<D: TileStore>(alloc: Global, dst: &mut D, next: &Loaded) -> MbtResult<()>
+    requires none { D.tells dst.old ≡ true → (D.told dst.old).descriptions ≡ [] }
+    requires layout { started_as next.now.state.layout ≡ next.now.state.layout }
+    requires loaded { (t : Tables) → AreEmpty next.now.state.layout t → IsLoadedFrom t next.now }
+    ensures committed { D.tells dst.old ≡ true → OnOk result (MakesChanges next.now (created (D.told dst.old) (set_tables next.now.state.layout)) (D.told dst.new)) }
+    ensures left { D.tells dst.old ≡ true → OnErr result ((D.told dst.new ≡ D.told dst.old) ⊎ (D.told dst.new ≡ created (D.told dst.old) (set_tables next.now.state.layout))) }
+    ensures free { IfErr result (λ e. is_free e ≡ true) }
+    ensures kept { Keeps D.tells D.faults D.steady dst.old dst.new }
+    ensures fault { IsErrOf result MbtError.StoreFault → Rose (D.faults dst.old) (D.faults dst.new) }
+{
+    init_mbtiles_schema(alloc, dst, next.mbt_type())?;
+    commit_loaded(alloc, dst, next)?;
+    Ok(())
+}
