@@ -1,0 +1,64 @@
+//! Reads imports of archives into tile sets from standard input, one a line, and prints each line with its answer: calls of tile_import, and of a reader and a view of the same bytes.
+#![tactic(auto)]
+
+mod archives;
+mod exports;
+mod imports;
+mod mute;
+mod sets;
+
+use mb_store::MemStore;
+use rows_shared::{Rows, Words, bytes, run};
+use std::alloc::Global;
+use std::io;
+
+// What is kept from line to line: a store, and the bytes of an archive.
+#[derive(Drop)]
+struct Kept {
+    store: MemStore,
+    held: Vec<u8>,
+}
+
+// Keeps the bytes of the next word.
+fn hold(alloc: Global, held: &mut Vec<u8>, words: &mut Words) -> Option<()> {
+    *held = bytes(alloc, words)?;
+    Some(())
+}
+
+impl Rows for Kept {
+    fn answer(
+        &mut self,
+        _rt: &HostRuntime,
+        alloc: Global,
+        out: &mut String,
+        line: &str,
+    ) -> Option<()> {
+        let mut words: Words = line.split_whitespace();
+        match words.next()? {
+            "hold" => hold(alloc, &mut self.held, &mut words),
+            "set" => sets::answer(alloc, out, &mut self.store, &mut words),
+            "import" => {
+                imports::answer(
+                    alloc,
+                    out,
+                    self.held.as_slice(),
+                    &mut self.store,
+                    &mut words,
+                )
+            }
+            "fresh" => imports::fresh(alloc, out, &mut words),
+            "tiles" => archives::answer(alloc, out, self.held.as_slice(), &mut words),
+            "export" => exports::answer(alloc, out, &mut self.store),
+            _ => None,
+        }
+    }
+}
+
+fn main(rt: HostRuntime) -> io::Result<()> {
+    let alloc = rt.alloc();
+    let mut kept = Kept {
+        store: MemStore::new(alloc),
+        held: Vec::new(alloc),
+    };
+    run(&rt, &mut kept)
+}

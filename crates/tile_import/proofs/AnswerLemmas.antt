@@ -1,0 +1,145 @@
+-- What an import answers, by what loading, reading and storing do.
+use Rattle.std.proofs.Common.{◌≡◌, ◌∙◌, ℕ, Bool, true, false, List, Option, Some, None, IfSome, Result, Ok, Err, refl, ap, sym, subst}
+use Rattle.std.proofs.lemmas.Bool.{true≢false}
+use Rattle.std.specs.FinMap.{len}
+use Rattle.base_values.specs.Counts.{Rose}
+use Rattle.mb_edit.specs.Put.{may_put}
+use Rattle.mb_load.specs.Begun.{IsBegun, begun}
+use Rattle.mb_load.specs.LoadedFrom.{is_editable}
+use Rattle.mb_load.specs.State.{State, state_of}
+use Rattle.mb_tables.specs.Refusals.{then}
+use Rattle.mb_tables.specs.Refusals as tests
+use Rattle.mb_tables.specs.Table.{Tables}
+use Rattle.mb_tables.specs.Tiles.{TileSet}
+use Rattle.mb_tables.specs.declared.error.MbtError.{MbtError}
+use Rattle.mb_tables.specs.declared.error.MbtError.TheVariants as stores
+use Rattle.tile_import.proofs.RefusalLemmas.{something_read}
+use Rattle.tile_import.specs.Import.{ImportCauses, IsAnswered, ReadCauses, editable_due, found_due, import_due, of_store_error, put_due}
+use Rattle.tile_import.specs.Refusals.{IsRead, Reads, is_free}
+use Rattle.tile_import.specs.Tiles.{HasTilesOf}
+use Rattle.tile_import.specs.Storing.{editable, unless_numbered}
+use Rattle.tile_import.specs.declared.error.ImportError.{ImportError}
+use Rattle.tile_import.specs.declared.error.ImportError.TheVariants.{Store, OutOfMemory}
+
+-- what told bytes give, or anything
+pub anything : (told : Option (List ℕ)) (most : ℕ) → (found : Result TileSet ImportError) × IfSome told (λ b. IsRead most b found)
+anything None most = (Err OutOfMemory, tt)
+anything (Some b) most = something_read most b
+
+-- an error of a store that isn't free is refused by it
+store_error : (e : MbtError) → is_free (of_store_error e) ≡ false → (tests.is_free e ≡ false) × (of_store_error e ≡ Store e)
+store_error stores.OutOfMemory free = absurd (true≢false free)
+store_error stores.StoreFault free = absurd (true≢false free)
+store_error e free = (refl, refl)
+
+-- a set that was loaded, or the refusal
+abbrev DueOf : State → MbtError → Bool → Type 0
+DueOf s e b = (x : Result TileSet ImportError) → editable_due s x b ≡ Err (Store e)
+
+editable_refused : (s : State) (e : MbtError) (b : Bool) → unless_numbered s b ≡ Err e → DueOf s e b
+editable_refused s e true is = absurd (cc)
+editable_refused s e false is = λ x. cc
+
+begun_refused : (t : Tables) (e : MbtError) (found : Result TileSet ImportError) → begun editable t ≡ Err e → import_due (state_of t) found ≡ Err (Store e)
+unfolding begun
+begun_refused t e found is = by (state_of t) is
+  where
+    by : (r : Result State MbtError) → then r editable ≡ Err e → import_due r found ≡ Err (Store e)
+    by (Err x) is = cc
+    by (Ok s) is = editable_refused s e (is_editable s.layout) is found
+
+-- the state of a set that was loaded
+editable_taken : (s base : State) (b : Bool) → unless_numbered s b ≡ Ok base → (s ≡ base) × (b ≡ true)
+editable_taken s base true is = (cc, refl)
+editable_taken s base false is = absurd (cc)
+
+begun_taken : (t : Tables) (base : State) (found : Result TileSet ImportError) → begun editable t ≡ Ok base → import_due (state_of t) found ≡ found_due base found
+unfolding begun
+begun_taken t base found is = by (state_of t) is
+  where
+    by : (r : Result State MbtError) → then r editable ≡ Ok base → import_due r found ≡ found_due base found
+    by (Err x) is = absurd (cc)
+    by (Ok s) is =
+        let p = editable_taken s base (is_editable s.layout) is in
+        ap (editable_due s found) p.1 ∙ ap (λ z. found_due z found) p.0
+
+pub begun_state : (t : Tables) (base : State) → begun editable t ≡ Ok base → state_of t ≡ Ok base
+unfolding begun
+begun_state t base is = by (state_of t) is
+  where
+    by : (r : Result State MbtError) → then r editable ≡ Ok base → r ≡ Ok base
+    by (Err x) is = absurd (cc)
+    by (Ok s) is = ap Ok (editable_taken s base (is_editable s.layout) is).0
+
+module _ (most : ℕ) (told : Option (List ℕ)) (tells : Bool) (store : Tables) where
+  -- loading refuses
+  pub load_answered : (e : MbtError) → IsBegun editable tells store (Err e) → IsAnswered most told tells store (Err (of_store_error e))
+  load_answered e began =
+      let any = anything told most in
+      record {
+        tables = began.tables;
+        is_store = began.is_told;
+        found = any.0;
+        is_archive = any.1;
+        answers = λ free. let s = store_error e free in begun_refused began.tables e any.0 (began.answers s.0) ∙ ap Err (sym s.1);
+      }
+
+  -- the archive is refused
+  pub read_answered : (base : State) (e : ImportError) → IsBegun editable tells store (Ok base) → IfSome told (λ b. Reads most b (Err e)) → IsAnswered most told tells store (Err e)
+  read_answered base e began is = by (is_free e) refl
+    where
+      read : (o : Option (List ℕ)) → is_free e ≡ false → IfSome o (λ b. Reads most b (Err e)) → IfSome o (λ b. IsRead most b (Err e))
+      read None free is = tt
+      read (Some b) free is = is free
+
+      by : (b : Bool) → is_free e ≡ b → IsAnswered most told tells store (Err e)
+      by true at =
+          let any = anything told most in
+          record { tables = began.tables; is_store = began.is_told; found = any.0; is_archive = any.1; answers = λ free. absurd (true≢false (sym at ∙ free)) }
+      by false at = record {
+        tables = began.tables;
+        is_store = began.is_told;
+        found = Err e;
+        is_archive = read told at is;
+        answers = λ free. begun_taken began.tables base (Err e) began.answers;
+      }
+
+  -- the set doesn't take its tiles
+  pub put_answered : (base : State) (tiles : TileSet) (e : MbtError) → IsBegun editable tells store (Ok base) → IfSome told (λ b. Reads most b (Ok tiles)) → (tests.is_free e ≡ false → may_put base tiles ≡ Some e) → IsAnswered most told tells store (Err (of_store_error e))
+  put_answered base tiles e began is due = record {
+    tables = began.tables;
+    is_store = began.is_told;
+    found = Ok tiles;
+    is_archive = is;
+    answers = λ free.
+        let s = store_error e free in
+        begun_taken began.tables base (Ok tiles) began.answers ∙ (ap (put_due tiles) (due s.0) ∙ ap Err (sym s.1));
+  }
+
+  -- or it does
+  pub all_answered : (base : State) (tiles : TileSet) (n : ℕ) → IsBegun editable tells store (Ok base) → IfSome told (λ b. Reads most b (Ok tiles)) → may_put base tiles ≡ None → n ≡ len tiles → IsAnswered most told tells store (Ok n)
+  all_answered base tiles n began is fine count = record {
+    tables = began.tables;
+    is_store = began.is_told;
+    found = Ok tiles;
+    is_archive = is;
+    answers = begun_taken began.tables base (Ok tiles) began.answers ∙ (ap (put_due tiles) fine ∙ ap Ok (sym count));
+  }
+
+-- the state of a store that tells its tables
+pub loaded_state : (tells : Bool) (store : Tables) (base : State) → IsBegun editable tells store (Ok base) → tells ≡ true → state_of store ≡ Ok base
+loaded_state tells store base began is = subst (λ (t : Tables). state_of t ≡ Ok base) (began.is_told is) (begun_state began.tables base began.answers)
+
+pub are_tiles : (told : Option (List ℕ)) (most : ℕ) (tiles : TileSet) → IfSome told (λ b. Reads most b (Ok tiles)) → IfSome told (λ b. HasTilesOf b tiles)
+are_tiles None most tiles is = tt
+are_tiles (Some b) most tiles is = is.1
+
+-- why: of the store, and of the archive
+pub store_causes : (most before now old new : ℕ) (e : MbtError) → (e ≡ stores.StoreFault → Rose old new) → ImportCauses most before now old new (Err (of_store_error e))
+store_causes most before now old new stores.OutOfMemory fault = tt
+store_causes most before now old new stores.StoreFault fault = fault refl
+store_causes most before now old new e fault = tt
+
+pub read_causes : (most before now old new : ℕ) (e : ImportError) → ReadCauses most before now e → ImportCauses most before now old new (Err e)
+read_causes most before now old new (Store e) c = absurd c
+read_causes most before now old new e c = c

@@ -1,0 +1,8 @@
+pub mod PlacingLemmas
+pub mod EntryLemmas
+pub mod PassedLemmas
+pub mod TilesLemmas
+pub mod RefusalLemmas
+pub mod StoringLemmas
+pub mod AnswerLemmas
+pub mod RoundTripLemmas

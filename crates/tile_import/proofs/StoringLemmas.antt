@@ -1,0 +1,24 @@
+-- Sets into which tiles can be put.
+use Rattle.std.proofs.Common.{◌≡◌, ◌∙◌, ap, sym, Bool, true, false, Some, None, Ok, Err, refl}
+use Rattle.std.proofs.lemmas.Option.{none-some}
+use Rattle.mb_load.specs.LoadedFrom.{is_editable}
+use Rattle.mb_load.specs.State.{State}
+use Rattle.mb_tables.specs.Refusals.{unless}
+use Rattle.mb_tables.specs.declared.error.MbtError.{MbtError}
+use Rattle.mb_tables.specs.declared.error.MbtError.TheVariants.{UnsupportedCopyOperation}
+use Rattle.mb_tables.specs.declared.kind.MbtType.{MbtType}
+use Rattle.tile_import.specs.Storing.{editable, unless_numbered}
+
+pub refused_as : (s : State) (layout : MbtType) (e : MbtError) → layout ≡ s.layout → unless (is_editable layout) UnsupportedCopyOperation ≡ Some e → editable s ≡ Err e
+refused_as s layout e same is = ap (λ l. unless_numbered s (is_editable l)) (sym same) ∙ by (is_editable layout) is
+  where
+    by : (b : Bool) → unless b UnsupportedCopyOperation ≡ Some e → unless_numbered s b ≡ Err e
+    by true is = absurd (none-some e is)
+    by false is = cc
+
+pub taken_as : (s : State) (layout : MbtType) → layout ≡ s.layout → unless (is_editable layout) UnsupportedCopyOperation ≡ None → editable s ≡ Ok s
+taken_as s layout same is = ap (λ l. unless_numbered s (is_editable l)) (sym same) ∙ by (is_editable layout) is
+  where
+    by : (b : Bool) → unless b UnsupportedCopyOperation ≡ None → unless_numbered s b ≡ Ok s
+    by true is = refl
+    by false is = absurd (none-some UnsupportedCopyOperation (sym is))

@@ -1,0 +1,9 @@
+use Rattle.std.proofs.Common.{◌∙◌, sym}
+use Rattle.tile_import.proofs.RoundTripLemmas.{canonical}
+use Rattle.tile_import.proofs.laws.exported_as_it_was.Goals as goal
+
+pub returns-clause-map : goal.returns-clause-map
+returns-clause-map c = canonical
+
+pub returns-clause-same : goal.returns-clause-same
+returns-clause-same c = λ b d s tiles o by_id none has is map own. canonical b d s tiles o by_id none has is map ∙ sym own

@@ -1,0 +1,6 @@
+pub mod Putting
+pub mod Tiles
+pub mod Refusals
+pub mod Reading
+pub mod Storing
+pub mod Import

@@ -1,0 +1,15 @@
+-- The tiles of an archive by their places.
+use Rattle.std.specs.Prelude.{◌≡◌, ◌<◌, ℕ, true, List, Some}
+use Rattle.std.specs.Option.{option_map}
+use Rattle.std.specs.FinMap.{contains_key, get}
+use Rattle.tile_ids.specs.Hilbert.{pyramid}
+use Rattle.pm_format.specs.LookUp.{archive_map}
+use Rattle.mb_load.specs.LoadedFrom.{IsOnBoard}
+use Rattle.mb_tables.specs.Tiles.{Place, TileSet}
+use Rattle.tile_bridge.specs.Convert.{address}
+
+-- A set has exactly the tiles of at least one byte of an archive, each at the place of its id, and the archive has none of zoom 31.
+pub record HasTilesOf (b : List ℕ) (tiles : TileSet) : Type 0 where
+  pub at : (p : Place) → IsOnBoard p → get tiles p ≡ option_map (λ bytes. Some bytes) (archive_map b (address p))
+  pub within : (p : Place) → contains_key tiles p ≡ true → IsOnBoard p
+  pub shallow : (t : ℕ) (bytes : List ℕ) → archive_map b t ≡ Some bytes → t < pyramid 31

@@ -1,0 +1,13 @@
+//! Archives that are imported into tile sets.
+#![tactic(auto)]
+
+mod deep;
+mod error;
+mod importing;
+pub mod laws;
+mod reading;
+mod storing;
+mod tiles;
+
+pub use error::ImportError;
+pub use importing::import;

@@ -1,0 +1,114 @@
+// The tiles of an archive.
+ghost use Rattle.std.specs.Prelude.{◌≡◌, ◌≤◌, ◌+◌, IfErr, IfOk, IfSome, Some};
+ghost use Rattle.std.specs.FinMap.{len};
+ghost use Rattle.tile_ids.specs.Hilbert.{coord_of};
+ghost use Rattle.tile_ids.specs.declared.id.TheConstants.{MAX_TILE_ID};
+ghost use Rattle.mb_load.specs.LoadedFrom.{AllOnBoard};
+ghost use Rattle.pm_reader.specs.Opening.{IsOpen, OpensAs, header_of, root_of};
+ghost use Rattle.pm_reader.specs.Reads.{ReadsOnly};
+ghost use Rattle.pm_walk.specs.Walk.{all_walked};
+ghost use Rattle.tile_import.specs.Import.{ReadCauses, reads_at_most, reads_walked};
+ghost use Rattle.tile_import.specs.Reading.{IsTileId, tiles_of};
+ghost use Rattle.tile_import.specs.Refusals.{Reads, of_read_error, of_walk_error};
+
+use crate::ImportError;
+use crate::deep::first_deep;
+use crate::tiles::read_tiles;
+use mb_load::Loaded;
+use pm_format::{Backend, PmtError};
+use pm_reader::ReaderState;
+use pm_walk::{Extent, WalkError, collect};
+use std::alloc::Global;
+use tile_ids::{TileCoord, TileId};
+
+// The import's word for an error of the reader.
+fn of_reader(error: PmtError) -> ImportError
+    ensures { result ≡ of_read_error error }
+{
+    match error {
+        PmtError::OutOfMemory => ImportError::OutOfMemory,
+        error => ImportError::Archive(error),
+    }
+}
+
+// The coordinate of an id.
+fn coord_at(id: u64) -> TileCoord
+    requires { id ≤ MAX_TILE_ID }
+    ensures { result ≡ coord_of id }
+{
+    let Ok(tile_id) = TileId::new(id) else {
+        unreachable!();
+    };
+    TileCoord::from(tile_id)
+}
+
+// The import's word for an error of the walk.
+fn of_walk(error: WalkError, max_tiles: u64) -> ImportError
+    requires { IsTileId error }
+    ensures { result ≡ of_walk_error max_tiles error }
+{
+    match error {
+        WalkError::Archive(error) => of_reader(error),
+        WalkError::InvalidTileId(id) => ImportError::InvalidTileId(id),
+        WalkError::TooDeep(id) => ImportError::InvalidTileIndex(coord_at(id)),
+        WalkError::TooManyTiles => ImportError::TooManyTiles(max_tiles),
+    }
+}
+
+// The tiles of an archive that is open.
+fn read_opened<B: Backend>(
+    alloc: Global,
+    reader: &ReaderState,
+    backend: &mut B,
+    max_tiles: u64,
+) -> Result<Loaded, ImportError>
+    requires { IsOpen (B.told backend.old) reader.now }
+    ensures answer { IfSome (B.told backend.old) (λ b. Reads max_tiles b (tiles_of result)) }
+    ensures board { IfOk result (λ set. AllOnBoard set.state) }
+    ensures few { IfOk result (λ set. len set.state.tiles ≤ max_tiles) }
+    ensures causes { IfErr result (ReadCauses max_tiles (B.faults backend.old)
+        (B.faults backend.new)) }
+    ensures kept { ReadsOnly B.told B.versions B.faults B.steady backend.old backend.new }
+    ensures reads { IfSome (B.told backend.old) (λ b. B.reads backend.new ≤ B.reads backend.old
+        + reads_walked max_tiles (all_walked b (header_of reader.now, root_of reader.now))) }
+{
+    let entries = match collect(alloc, Extent::Whole, reader, backend, &[], max_tiles) {
+        Ok(entries) => entries,
+        Err(error) => return Err(of_walk(error, max_tiles)),
+    };
+    if let Some(id) = first_deep(&entries) {
+        return Err(ImportError::InvalidTileIndex(coord_at(id)));
+    }
+    match read_tiles(alloc, reader, backend, &entries) {
+        Ok(tiles) => Ok(tiles),
+        Err(error) => Err(of_reader(error)),
+    }
+}
+
+/// Opens an archive, walks all of it and reads its tiles of at least one byte, as a flat set of their own. No tile is made before the walk ends.
+///
+/// The first of these that holds is answered: the refusal of opening; at the first entry that fails a test, in order of the directories, the refusal of that test, `TooManyTiles` where the non-empty
+/// entries up to this one have more tiles than the limit.
+pub(crate) fn read_archive<B: Backend>(
+    alloc: Global,
+    backend: &mut B,
+    max_tiles: u64,
+) -> Result<Loaded, ImportError>
+    ensures answer { IfSome (B.told backend.old) (λ b. Reads max_tiles b (tiles_of result)) }
+    ensures board { IfOk result (λ set. AllOnBoard set.state) }
+    ensures few { IfOk result (λ set. len set.state.tiles ≤ max_tiles) }
+    ensures causes { IfErr result (ReadCauses max_tiles (B.faults backend.old)
+        (B.faults backend.new)) }
+    ensures kept { ReadsOnly B.told B.versions B.faults B.steady backend.old backend.new }
+    ensures reads { IfSome (B.told backend.old) (λ b. B.reads backend.new
+        ≤ B.reads backend.old + reads_at_most max_tiles b) }
+{
+    let reader = match ReaderState::open(alloc, backend) {
+        Ok(reader) => reader,
+        Err(error) => return Err(of_reader(error)),
+    };
+    match read_opened(alloc, &reader, backend, max_tiles) {
+        Ok(tiles) => Ok(tiles),
+        Err(error) => Err(error),
+    }
+}
