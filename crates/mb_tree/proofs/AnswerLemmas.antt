@@ -1,0 +1,60 @@
+-- What packing answers.
+use Rattle.std.proofs.Common.{◌≡◌, ◌∙◌, ap, sym, subst, Bool, true, refl, Ok, Err, Result}
+use Rattle.std.proofs.lemmas.Bool.{false≢true}
+use Rattle.mb_constraints.specs.DiffHashes.{refused_by}
+use Rattle.mb_load.specs.Held.{Held}
+use Rattle.mb_load.specs.State.{State}
+use Rattle.mb_tables.specs.Refusals.{then}
+use Rattle.mb_tables.specs.Table.{Tables}
+use Rattle.mb_tables.specs.declared.error.MbtError.{MbtError}
+use Rattle.mb_tree.specs.Base.{IsBaseOf, base_of}
+use Rattle.mb_tree.specs.Files.{Files, paths_in, paths_of}
+use Rattle.mb_tree.specs.PackSteps.{Packs, RefusesPaths}
+use Rattle.mb_tree.specs.Packed.{IsPacking}
+use Rattle.mb_tree.specs.Packing.{packing}
+use Rattle.mb_tree.specs.Wanting.{is_wanting}
+use Rattle.mb_tree.specs.declared.base.Base.{Base}
+use Rattle.mb_tree.specs.declared.scheme.TileScheme.{TileScheme}
+
+module _ (scheme : TileScheme) (shows : Bool) (files : Files) (tells : Bool) (told : Tables) where
+  pub base_refused : (e : MbtError) → IsBaseOf tells told (Err e) → IsPacking scheme shows files tells told (Err e)
+  base_refused e b = record {
+    paths = paths_of files;
+    listed = λ _. refl;
+    tables = b.tables;
+    is_told = b.is_told;
+    answers = λ w. ap (λ (d : Result State MbtError). then d (packing scheme (paths_of files))) (b.refused w);
+  }
+
+  module _ (base : Base) (b : IsBaseOf tells told (Ok base)) where
+    pub packing_refused : (e : MbtError) → RefusesPaths scheme shows files base.set.state e → IsPacking scheme shows files tells told (Err e)
+    packing_refused e r = record {
+      paths = r.paths;
+      listed = r.listed;
+      tables = b.tables;
+      is_told = b.is_told;
+      answers = λ w. ap (λ (d : Result State MbtError). then d (packing scheme r.paths)) b.state ∙ ap refused_by (r.due w);
+    }
+
+    -- want of memory, and a fault
+    pub ended : (e : MbtError) → is_wanting e ≡ true → IsPacking scheme shows files tells told (Err e)
+    ended e wants = record {
+      paths = paths_of files;
+      listed = λ _. refl;
+      tables = b.tables;
+      is_told = b.is_told;
+      answers = λ w. absurd (false≢true (sym w ∙ wants));
+    }
+
+    pub all_packed : (h : Held) → Packs scheme shows files base.set h → IsPacking scheme shows files tells told (Ok tt)
+    all_packed h p = record {
+      paths = paths_in p.files;
+      listed = λ s. ap paths_in (p.read s);
+      tables = b.tables;
+      is_told = b.is_told;
+      answers = ap (λ (d : Result State MbtError). then d (packing scheme (paths_in p.files))) b.state ∙ ap refused_by p.tested;
+    }
+
+-- what a store that tells its tables is packed into
+pub base_told : (tells : Bool) (told : Tables) (b : Base) → IsBaseOf tells told (Ok b) → tells ≡ true → base_of told ≡ Ok b.set.state
+base_told tells told b i t = subst (λ (u : Tables). base_of u ≡ Ok b.set.state) (i.is_told t) i.state

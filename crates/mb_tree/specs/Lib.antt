@@ -1,0 +1,14 @@
+pub mod Errors
+pub mod Files
+pub mod Format
+pub mod MemTree
+pub mod Scheme
+pub mod TilePath
+pub mod Wanting
+pub mod Packing
+pub mod Base
+pub mod Packed
+pub mod PackSteps
+pub mod ZoomSteps
+pub mod Unpacked
+pub mod UnpackSteps

@@ -1,0 +1,73 @@
+// A tree of files below a folder of the system.
+ghost use Rattle.std.specs.Prelude.{◌≡◌, IfOk};
+ghost use Rattle.std.specs.FinMap.{empty};
+
+use crate::folder_files::{list_all, read_file, write_file};
+use crate::{TileTree, TreeError};
+use base_values::{BlobVal, OutOfMemory, TextVal};
+use std::alloc::Global;
+
+/// A tree of the files below a folder, its root. It tells nothing, and counts its faults.
+///
+/// Files are listed in all folders below the root. A symbolic link to a file counts as that file, and one to a folder isn't followed, so that there are no cycles. Names that
+/// aren't UTF-8, links to nothing, and what is neither a file nor a folder are passed over. A root that is missing or no folder is a fault of `list`, and an entry that is gone
+/// when it is read is a fault too.
+///
+/// A file that is written is whole or not there: its bytes go to a file beside it, whose name has a dot in front and `.part` behind, and that is renamed. Folders
+/// that are missing are made, the root too. Nothing is written outside the root: a path with a part that is empty, `.` or `..` is a fault, and so is one through a symbolic link.
+#[derive(Drop)]
+pub struct FolderTree {
+    runtime: HostRuntime,
+    root: TextVal,
+    faults: u64,
+}
+
+impl FolderTree {
+    /// The tree below a folder, which needn't be there. The empty text is the folder in which the program runs.
+    pub fn new(rt: &HostRuntime, alloc: Global, root: &str) -> Result<FolderTree, OutOfMemory>
+        ensures faults { IfOk result (λ tree. ⟦<FolderTree as TileTree>⟧.faults tree ≡ 0) }
+    {
+        Ok(FolderTree {
+            runtime: *rt,
+            root: TextVal::new(String::from_str(alloc, root)?),
+            faults: 0,
+        })
+    }
+}
+
+impl TileTree for FolderTree {
+    ghost use Rattle.std.specs.Prelude.{false};
+    ghost use Rattle.std.specs.FinMap.{empty};
+
+    ghost tells = { λ _. false };
+
+    ghost told = { λ _. empty };
+
+    ghost faults = { λ t. t.faults };
+
+    ghost steady = { λ _. ⊥ };
+
+    fn list(&mut self, alloc: Global) -> Result<Vec<TextVal>, TreeError> {
+        let done = list_all(&self.runtime, alloc, self.root.as_str());
+        if matches!(done, Err(TreeError::Fault)) {
+            self.faults = self.faults.saturating_add(1);
+        }
+        done
+    }
+
+    fn read(&mut self, alloc: Global, path: &str) -> Result<BlobVal, TreeError> {
+        let done = read_file(&self.runtime, alloc, self.root.as_str(), path);
+        if matches!(done, Err(TreeError::Fault)) {
+            self.faults = self.faults.saturating_add(1);
+        }
+        done
+    }
+
+    fn write(&mut self, alloc: Global, path: &str, bytes: &[u8]) -> Result<(), TreeError> {
+        let done = write_file(&self.runtime, alloc, self.root.as_str(), path, bytes);
+        if matches!(done, Err(TreeError::Fault)) {
+            self.faults = self.faults.saturating_add(1);
+        }
+        done
+    }
+}

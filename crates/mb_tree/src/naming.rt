@@ -1,0 +1,46 @@
+// The names that packing puts.
+ghost use Rattle.std.specs.Prelude.{◌≡◌, IfOk, OnOk};
+ghost use Rattle.mb_tree.specs.Packed.{with_format, with_zooms};
+
+use crate::format::FileFormat;
+use crate::zooms::reset_zooms;
+use base_values::{OutOfMemory, TextVal};
+use mb_load::Loaded;
+use mb_store::Cell;
+use std::alloc::Global;
+
+// A text of its own.
+fn owned(alloc: Global, text: &str) -> Result<TextVal, OutOfMemory>
+    ensures { IfOk result (λ copy. copy ≡ text.now) }
+{
+    Ok(TextVal::new(String::from_str(alloc, text)?))
+}
+
+// Names a format, if there is one.
+fn put_format(
+    alloc: Global,
+    set: &mut Loaded,
+    format: Option<FileFormat>,
+) -> Result<(), OutOfMemory>
+    ensures { OnOk result (set.new ≡ with_format set.old format) }
+{
+    match format {
+        Some(format) => {
+            let word = owned(alloc, format.word())?;
+            set.set_metadata(owned(alloc, "format")?, Cell::Text(word))
+        }
+        None => Ok(()),
+    }
+}
+
+/// Names the format of the tiles of a set, if there is one, and then the zooms.
+pub(crate) fn put_names(
+    alloc: Global,
+    set: &mut Loaded,
+    format: Option<FileFormat>,
+) -> Result<(), OutOfMemory>
+    ensures { OnOk result (set.new ≡ with_zooms (with_format set.old format)) }
+{
+    put_format(alloc, set, format)?;
+    reset_zooms(alloc, set)
+}
