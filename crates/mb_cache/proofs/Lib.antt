@@ -1,0 +1,9 @@
+pub mod ListLemmas
+pub mod EntryLemmas
+pub mod RowLemmas
+pub mod PutLemmas
+pub mod EvictLemmas
+pub mod PurgeLemmas
+pub mod OpenLemmas
+pub mod StillLemmas
+pub mod ReadLemmas

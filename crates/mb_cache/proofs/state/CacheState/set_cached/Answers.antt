@@ -1,0 +1,26 @@
+use Rattle.std.proofs.Common.{◌≡◌, ◌∙◌, List, ap, sym, true}
+use Rattle.std.specs.Prelude.{option_map}
+use Rattle.mb_cache.proofs.PutLemmas.{found_entry, sets}
+use Rattle.mb_cache.specs.Entries.{entry_at, entry_of}
+use Rattle.mb_cache.specs.Finding.{coord_in}
+use Rattle.mb_cache.specs.State.{row_at}
+use Rattle.mb_lists.specs.Entries.{place_at}
+use Rattle.mb_tables.specs.Table.{Tables}
+use Rattle.mb_tables.specs.Tiles.{cell_at}
+use Rattle.mb_tables.specs.declared.cell.Cell.{Cell}
+use Rattle.mb_cache.proofs.state.CacheState.set_cached.Goals as goal
+
+pub put-requires-clause-found : goal.put-requires-clause-found
+put-requires-clause-found g c t =
+    let kept = c.in_ok-found.ensures.kept in
+    let told : g.S.TileStore.tells c.args.store.now ≡ true = sym kept.tells ∙ t in
+    let p = place_at c.in-Some.coord in
+    c.entry_of_found-old.ensures ∙ (ap (option_map (λ (row : List Cell). entry_at p (cell_at 4 row))) c.as_ref.ensures.value
+    ∙ (found_entry (g.S.TileStore.told c.args.store.now) c.args.self.now (c.requires told) (g.met.S.TileStore.sound c.args.store.now told) p c.in_ok-found.found (c.in_ok-found.ensures.answer told)
+    ∙ ap (λ (x : Tables). option_map entry_of (row_at x p)) (sym kept.told)))
+
+pub returns-clause-set : goal.returns-clause-set
+returns-clause-set g c t =
+    let kept = c.in_ok-found.ensures.kept in
+    sets (coord_in c.args.z c.args.x c.args.y) c.in-Some.coord c.args.meta (g.S.TileStore.told c.args.store.now) (g.S.TileStore.told c.find_row.new.store) (g.S.TileStore.told c.put.new.store) c.args.bytes.now c.new.result c.put.result
+    (sym c.coord_in.ensures ∙ c.in-Some.is) kept.told (c.new.ensures ∙ c.in_ok-from_slice.ensures.items) (c.put.ensures.put (kept.tells ∙ t))

@@ -1,0 +1,9 @@
+pub mod EntryOrder
+pub mod Entries
+pub mod State
+pub mod Finding
+pub mod Reading
+pub mod Setting
+pub mod Evicting
+pub mod Purging
+pub mod Opening

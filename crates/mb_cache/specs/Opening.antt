@@ -1,0 +1,56 @@
+-- What opening a cache answers, and what it leaves.
+use Rattle.std.specs.Prelude.{◌||◌, ◌≡◌, ◌⊎◌, Bool, true, false, cond, List, [], ◌∷◌, Option, Some, Result, Ok, Err, option_map, unwrap_or}
+use Rattle.std.specs.FinMap.{get}
+use Rattle.mb_cache.specs.Entries.{entry_at}
+use Rattle.mb_cache.specs.declared.entries.Entry.{Entry}
+use Rattle.mb_load.specs.State.{State, state_of}
+use Rattle.mb_store.specs.Store.{created}
+use Rattle.mb_tables.specs.Detection.{layout_of}
+use Rattle.mb_tables.specs.Refusals.{then}
+use Rattle.mb_tables.specs.Schema.{set_tables}
+use Rattle.mb_tables.specs.Table.{Tables}
+use Rattle.mb_tables.specs.Tiles.{Place}
+use Rattle.mb_tables.specs.declared.cell.Cell.TheVariants.{Null}
+use Rattle.mb_tables.specs.declared.description.TableDesc.{TableDesc}
+use Rattle.mb_tables.specs.declared.error.MbtError.{MbtError}
+use Rattle.mb_tables.specs.declared.error.MbtError.TheVariants.{NotACacheFile}
+use Rattle.mb_tables.specs.declared.kind.MbtType.{MbtType}
+use Rattle.mb_tables.specs.declared.kind.MbtType.TheVariants.{Cache}
+
+-- whether the first layout whose tables are described is the cache
+abbrev pub is_cache_layout : Option MbtType → Bool
+is_cache_layout (Some Cache) = true
+is_cache_layout _ = false
+
+-- whether nothing is described
+abbrev pub is_bare : List TableDesc → Bool
+is_bare [] = true
+is_bare (d ∷ ds) = false
+
+-- whether a cache can be opened by the descriptions
+abbrev pub may_begin : List TableDesc → Bool
+may_begin ds = is_bare ds || is_cache_layout (layout_of ds)
+
+abbrev pub begin_answer : List TableDesc → Result (Unit {0}) MbtError
+begin_answer ds = cond (may_begin ds) (Ok tt) (Err NotACacheFile)
+
+-- with the tables of a cache, where nothing is described
+abbrev pub begun_with : Tables → Tables
+begun_with t = cond (is_bare t.descriptions) (created t (set_tables Cache)) t
+
+-- the first refusal of opening the cache of tables, if there is one
+abbrev pub open_answer : Tables → Result (Unit {0}) MbtError
+open_answer t = then (begin_answer t.descriptions) (λ _. then (state_of (begun_with t)) (λ _. Ok tt))
+
+-- an answer without its value
+abbrev pub done : {A : Type 0} → Result A MbtError → Result (Unit {0}) MbtError
+done (Ok x) = Ok tt
+done (Err e) = Err e
+
+-- a refused opening has left the tables, or made those of a cache
+abbrev pub LeftOrBegun : Tables → Tables → Type 0
+LeftOrBegun old new = (new ≡ old) ⊎ (new ≡ begun_with old)
+
+-- the entry of a place of a loaded cache
+abbrev pub entry_in : State → Place → Entry
+entry_in s p = entry_at p (unwrap_or (option_map (λ d. d.expires) (get s.dates p)) Null)

@@ -1,0 +1,67 @@
+-- What is put into a cache.
+use Rattle.std.specs.Prelude.{ℕ, ◌≡◌, ◌++◌, pos, ◌&&◌, Bool, true, false, cond, not, List, [], ◌∷◌, Option, Some, None, Result, Ok, Err, option_copied}
+use Rattle.std.specs.BTreeMap.{is_at}
+use Rattle.std.specs.Ordering.{eq_by_cmp}
+use Rattle.std.specs.Set.{remove_key}
+use Rattle.mb_cache.specs.EntryOrder.{entry_cmp}
+use Rattle.mb_cache.specs.declared.entries.Entry.{Entry}
+use Rattle.mb_cache.specs.Finding.{coord_in}
+use Rattle.mb_cache.specs.State.{row_at}
+use Rattle.mb_cache.specs.declared.moments.CacheEntryMeta.{CacheEntryMeta}
+use Rattle.mb_cache.specs.declared.moments.UnixSeconds.{UnixSeconds}
+use Rattle.mb_lists.specs.Entries.{place_at, text_cell}
+use Rattle.mb_load.specs.Changing.{front, tile_key}
+use Rattle.mb_store.specs.Committing.{Commits}
+use Rattle.mb_store.specs.declared.change.Change.{Change}
+use Rattle.mb_tables.specs.Table.{Tables}
+use Rattle.mb_tables.specs.Tiles.{Place, cell_at}
+use Rattle.mb_tables.specs.declared.cell.Cell.{Cell}
+use Rattle.mb_tables.specs.declared.cell.Cell.TheVariants.{Null, Int, Blob}
+use Rattle.mb_tables.specs.declared.error.MbtError.{MbtError}
+use Rattle.mb_tables.specs.declared.error.MbtError.TheVariants.{InvalidTileIndex}
+use Rattle.mb_tables.specs.declared.table.TableName.TheVariants.{TileCache}
+use Rattle.tile_ids.specs.Coord.{Coord}
+
+-- a moment as a cell, null where there is none
+abbrev pub moment_cell : Option UnixSeconds → Cell
+moment_cell None = Null
+moment_cell (Some moment) = Int moment.0
+
+-- the row of a tile: its place, what is kept beside its contents, and these
+abbrev pub meta_row : Place → CacheEntryMeta → Cell → List Cell
+meta_row p m contents = front p ++ moment_cell m.fetched ∷ moment_cell m.expires ∷ text_cell (option_copied m.etag) ∷ contents ∷ []
+
+-- the one change that puts the row of a place
+abbrev pub put_row : Place → List Cell → List Change
+put_row p row = record { table = TileCache; key = tile_key p; row = Some row } ∷ []
+
+-- of the place of a coordinate a row of these bytes stands alone, and all other rows stand as they stood
+abbrev pub SetsTile : Option Coord → CacheEntryMeta → List ℕ → Tables → Tables → Type 0
+SetsTile None m bytes old new = ⊥
+SetsTile (Some c) m bytes old new = Commits (put_row (place_at c) (meta_row (place_at c) m (Blob bytes))) old new
+
+-- where there is a row of the place, its contents stay, and all else of it is new; else nothing is changed. The answer says whether there is
+abbrev pub SetsMeta : Place → CacheEntryMeta → Option (List Cell) → Bool → Tables → Tables → Type 0
+SetsMeta p m None is old new = (is ≡ false) × (new ≡ old)
+SetsMeta p m (Some row) is old new = (is ≡ true) × Commits (put_row p (meta_row p m (cell_at 6 row))) old new
+
+abbrev pub UpdatesMeta : Option Coord → CacheEntryMeta → Bool → Tables → Tables → Type 0
+UpdatesMeta None m is old new = (is ≡ false) × (new ≡ old)
+UpdatesMeta (Some c) m is old new = SetsMeta (place_at c) m (row_at old (place_at c)) is old new
+
+-- three numbers that are no coordinate are refused with these numbers
+abbrev pub answer_at : ℕ → ℕ → ℕ → Option Coord → Result (Unit {0}) MbtError
+answer_at z x y None = Err (InvalidTileIndex (Int (pos z)) (Int (pos x)) (Int (pos y)))
+answer_at z x y (Some c) = Ok tt
+
+abbrev pub set_answer : ℕ → ℕ → ℕ → Result (Unit {0}) MbtError
+set_answer z x y = answer_at z x y (coord_in z x y)
+
+-- whether an entry is the old one of a place, and not also the new one
+abbrev pub is_replaced : Option Entry → Entry → Entry → Bool
+is_replaced None new e = false
+is_replaced (Some old) new e = not (eq_by_cmp entry_cmp old new) && eq_by_cmp entry_cmp old e
+
+-- entries without one that was added
+abbrev pub taken_back : Bool → Entry → List Entry → List Entry
+taken_back added e es = cond added (remove_key (is_at (entry_cmp e)) es) es

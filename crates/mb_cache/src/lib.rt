@@ -1,0 +1,19 @@
+//! A cache of tiles in a set of the layout Cache: each with the moment when it came, the moment when it expires and a tag, thrown out by age and by size.
+#![tactic(auto)]
+
+mod cache;
+mod entries;
+mod evicting;
+mod finding;
+mod meta_rows;
+mod moments;
+mod opening;
+mod purging;
+mod reading;
+mod setting;
+mod state;
+
+pub use cache::MbtilesCache;
+pub use mb_metadata::Metadata;
+pub use moments::{CacheEntryMeta, CachedTile, UnixSeconds};
+pub use state::CacheState;
