@@ -1,7 +1,8 @@
 // What is read from: bytes at places. An object may tell what it holds, and counts its faults and reads.
-ghost use Rattle.std.specs.Prelude.{◌≡◌, ℕ, List, ◌≤◌, IfSome, Some, None};
+ghost use Rattle.std.specs.Prelude.{◌≡◌, ℕ, List, IfSome, Some, None};
 ghost use Rattle.std.specs.declared.option.Option.{Option};
 ghost use Rattle.base_values.specs.Counts.{Grew};
+ghost use Rattle.byte_media.specs.Kept.{ReadsOnly};
 ghost use Rattle.byte_media.specs.Media.{ReadAnswers, ReadExactAnswers, HasVersion, ReadCauses, ReadExactCauses};
 
 use base_values::{OutOfMemory, TextVal};
@@ -86,12 +87,8 @@ pub trait Backend {
         ensures answer { IfSome (told self.old) (λ bytes. ReadAnswers bytes offset length result) }
         ensures causes { ReadCauses (faults self.old) (faults self.new) offset length result }
         ensures version { IfSome (versions self.old) (HasVersion result (reads self.new)) }
-        ensures told { told self.new ≡ told self.old }
-        ensures versions { versions self.new ≡ versions self.old }
-        ensures faults { faults self.old ≤ faults self.new }
         ensures reads { Grew (reads self.old) (reads self.new) 1 }
-        ensures steady { steady self.old → steady self.new }
-        ensures none { steady self.old → faults self.new ≡ faults self.old };
+        ensures kept { ReadsOnly told versions faults steady self.old self.new };
 
     /// Exactly the range that is asked.
     fn read_exact(
@@ -100,15 +97,12 @@ pub trait Backend {
         offset: u64,
         length: u64,
     ) -> Result<BackendResponse, ReadFault>
-        ensures answer { IfSome (told self.old) (λ bytes. ReadExactAnswers bytes offset length result) }
+        ensures answer { IfSome (told self.old)
+            (λ bytes. ReadExactAnswers bytes offset length result) }
         ensures causes { ReadExactCauses (faults self.old) (faults self.new) length result }
         ensures version { IfSome (versions self.old) (HasVersion result (reads self.new)) }
-        ensures told { told self.new ≡ told self.old }
-        ensures versions { versions self.new ≡ versions self.old }
-        ensures faults { faults self.old ≤ faults self.new }
         ensures reads { Grew (reads self.old) (reads self.new) 1 }
-        ensures steady { steady self.old → steady self.new }
-        ensures none { steady self.old → faults self.new ≡ faults self.old };
+        ensures kept { ReadsOnly told versions faults steady self.old self.new };
 }
 
 impl From<AllocError> for ReadFault {

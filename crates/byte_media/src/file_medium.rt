@@ -1,5 +1,5 @@
 // A medium over a file of the system.
-ghost use Rattle.std.specs.Prelude.{◌≡◌, ◌≤◌, ◌+◌, ◌<◌, ◌^◌, IfOk, IfErr, IfSome, OnOk, OnErr, IsErrOf, MatchOption, None, length, vec_len};
+ghost use Rattle.std.specs.Prelude.{◌≡◌, ◌≤◌, ◌+◌, ◌<◌, ◌^◌, IfOk, IfErr, IfSome, OnOk, OnErr, MatchOption, None, length, vec_len};
 ghost use Rattle.std.specs.Io.KnownBytes.{Appends};
 ghost use Rattle.base_values.specs.Counts.{Grew, Rose};
 ghost use Rattle.byte_media.specs.Media.{EndsBelow, IsPart};
@@ -51,9 +51,13 @@ impl FileMedium {
 
     /// Writes what is gathered.
     pub fn flush(&mut self) -> Result<(), MediumFault>
-        ensures cause { OnErr result (Rose (⟦<FileMedium as Backend>⟧.faults self.old) (⟦<FileMedium as Backend>⟧.faults self.new)) }
-        ensures faults { ⟦<FileMedium as Backend>⟧.faults self.old ≤ ⟦<FileMedium as Backend>⟧.faults self.new }
-        ensures reads { ⟦<FileMedium as Backend>⟧.reads self.new ≡ ⟦<FileMedium as Backend>⟧.reads self.old }
+        ensures cause { OnErr result
+            (Rose (⟦<FileMedium as Backend>⟧.faults self.old)
+            (⟦<FileMedium as Backend>⟧.faults self.new)) }
+        ensures faults { ⟦<FileMedium as Backend>⟧.faults self.old
+            ≤ ⟦<FileMedium as Backend>⟧.faults self.new }
+        ensures reads { ⟦<FileMedium as Backend>⟧.reads self.new
+            ≡ ⟦<FileMedium as Backend>⟧.reads self.old }
     {
         let done = self.write_gathered();
         if done.is_err() {
@@ -109,8 +113,11 @@ impl FileMedium {
         offset: u64,
         count: u64,
     ) -> Result<Option<BackendResponse>, AllocError>
-        ensures found { IfOk result (λ found. IfSome found (λ response. IsPart self.old.gathered.items self.old.from offset count response.bytes)) }
-        ensures counted { IfOk result (λ found. MatchOption found (self.new.backend.reads ≡ self.old.backend.reads) (λ _. Grew self.old.backend.reads self.new.backend.reads 1)) }
+        ensures found { IfOk result (λ found. IfSome found (λ response.
+            IsPart self.old.gathered.items self.old.from offset count response.bytes)) }
+        ensures counted { IfOk result (λ found. MatchOption found
+            (self.new.backend.reads ≡ self.old.backend.reads)
+            (λ _. Grew self.old.backend.reads self.new.backend.reads 1)) }
         ensures hindered { OnErr result (Grew self.old.backend.reads self.new.backend.reads 1) }
         ensures faults { self.new.backend.faults ≡ self.old.backend.faults }
     {

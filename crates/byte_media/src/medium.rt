@@ -1,6 +1,7 @@
 // What is written to, and read back from: bytes at places.
-ghost use Rattle.std.specs.Prelude.{◌≡◌, ◌≤◌, ◌<◌, ◌^◌, IfSome, OnErr, IsErrOf, is_some};
+ghost use Rattle.std.specs.Prelude.{◌≡◌, ◌<◌, ◌^◌, IfSome, OnErr, IsErrOf};
 ghost use Rattle.base_values.specs.Counts.{Rose};
+ghost use Rattle.byte_media.specs.Kept.{KeepsMedium, ReadsOnly};
 ghost use Rattle.byte_media.specs.Media.{IsWithin, EndsBelow, WriteLeaves, IsLength};
 
 use crate::Backend;
@@ -29,24 +30,21 @@ pub trait Medium: Backend {
     fn len(&mut self) -> Result<u64, MediumFault>
         ensures answer { IfSome (Self.told self.old) (λ bytes. IsLength bytes result) }
         ensures cause { OnErr result (Rose (Self.faults self.old) (Self.faults self.new)) }
-        ensures told { Self.told self.new ≡ Self.told self.old }
-        ensures versions { Self.versions self.new ≡ Self.versions self.old }
-        ensures faults { Self.faults self.old ≤ Self.faults self.new }
         ensures reads { Self.reads self.new ≡ Self.reads self.old }
-        ensures steady { Self.steady self.old → Self.steady self.new }
-        ensures none { Self.steady self.old → Self.faults self.new ≡ Self.faults self.old };
+        ensures kept { ReadsOnly Self.told Self.versions Self.faults Self.steady
+            self.old self.new };
 
     /// Writes over what is there, and past the end.
     fn write_at(&mut self, offset: u64, piece: &[u8]) -> Result<(), WriteFault>
         requires within { IfSome (Self.told self.old) (IsWithin offset) }
         requires fits { EndsBelow offset piece.now (2 ^ 64) }
-        ensures leaves { WriteLeaves offset piece.now result (Self.told self.old) (Self.told self.new) }
-        ensures cause { IsErrOf result WriteFault.Fault → Rose (Self.faults self.old) (Self.faults self.new) }
-        ensures versions { is_some (Self.versions self.new) ≡ is_some (Self.versions self.old) }
-        ensures faults { Self.faults self.old ≤ Self.faults self.new }
+        ensures leaves { WriteLeaves offset piece.now result
+            (Self.told self.old) (Self.told self.new) }
+        ensures cause { IsErrOf result WriteFault.Fault
+            → Rose (Self.faults self.old) (Self.faults self.new) }
         ensures reads { Self.reads self.new ≡ Self.reads self.old }
-        ensures steady { Self.steady self.old → Self.steady self.new }
-        ensures none { Self.steady self.old → Self.faults self.new ≡ Self.faults self.old };
+        ensures kept { KeepsMedium Self.told Self.versions Self.reads Self.faults Self.steady
+            self.old self.new };
 }
 
 impl From<AllocError> for WriteFault {

@@ -60,10 +60,10 @@ impl MemMedium {
 
     /// Makes the calls of these numbers fail, counted from 1 over all calls of this medium.
     pub fn fail_at(&mut self, calls: Vec<u64>)
-        ensures told { ⟦<MemMedium as Backend>⟧.told self.new ≡ ⟦<MemMedium as Backend>⟧.told self.old }
-        ensures versions { ⟦<MemMedium as Backend>⟧.versions self.new ≡ ⟦<MemMedium as Backend>⟧.versions self.old }
-        ensures faults { ⟦<MemMedium as Backend>⟧.faults self.new ≡ ⟦<MemMedium as Backend>⟧.faults self.old }
-        ensures reads { ⟦<MemMedium as Backend>⟧.reads self.new ≡ ⟦<MemMedium as Backend>⟧.reads self.old }
+        ensures told { held self.new ≡ held self.old }
+        ensures versions { version_texts self.new ≡ version_texts self.old }
+        ensures faults { fault_count self.new ≡ fault_count self.old }
+        ensures reads { read_count self.new ≡ read_count self.old }
         ensures calls { call_count self.new ≡ call_count self.old }
         ensures failing { failing_calls self.new ≡ calls.items }
     {
@@ -73,10 +73,10 @@ impl MemMedium {
     /// Gives read number n, counted from 1 over all reads of this medium, the n-th of these version texts, or the last one beyond
     /// them. With none a read has no version text.
     pub fn set_versions(&mut self, versions: Vec<TextVal>)
-        ensures told { ⟦<MemMedium as Backend>⟧.told self.new ≡ ⟦<MemMedium as Backend>⟧.told self.old }
-        ensures versions { ⟦<MemMedium as Backend>⟧.versions self.new ≡ Some (version_at versions.items) }
-        ensures faults { ⟦<MemMedium as Backend>⟧.faults self.new ≡ ⟦<MemMedium as Backend>⟧.faults self.old }
-        ensures reads { ⟦<MemMedium as Backend>⟧.reads self.new ≡ ⟦<MemMedium as Backend>⟧.reads self.old }
+        ensures told { held self.new ≡ held self.old }
+        ensures versions { version_texts self.new ≡ versions.items }
+        ensures faults { fault_count self.new ≡ fault_count self.old }
+        ensures reads { read_count self.new ≡ read_count self.old }
         ensures calls { call_count self.new ≡ call_count self.old }
         ensures failing { failing_calls self.new ≡ failing_calls self.old }
     {
@@ -140,7 +140,8 @@ impl Backend for MemMedium {
         length: u64,
     ) -> Result<BackendResponse, ReadFault>
         ensures answer { ReadAnswers (held self.old) offset length result }
-        ensures text { HasVersion result (read_count self.new) (version_at (version_texts self.old)) }
+        ensures text { HasVersion result (read_count self.new)
+            (version_at (version_texts self.old)) }
         ensures fails { IsErrOf result ReadFault.Fault ↔ IsTrue (next_fails self.old) }
         ensures after { self.new ≡ read_called self.old }
         ensures faults { fault_count self.old ≤ fault_count self.new }
@@ -167,7 +168,8 @@ impl Backend for MemMedium {
         length: u64,
     ) -> Result<BackendResponse, ReadFault>
         ensures answer { ReadExactAnswers (held self.old) offset length result }
-        ensures text { HasVersion result (read_count self.new) (version_at (version_texts self.old)) }
+        ensures text { HasVersion result (read_count self.new)
+            (version_at (version_texts self.old)) }
         ensures fails { IsErrOf result ReadFault.Fault ↔ IsTrue (next_fails self.old) }
         ensures after { self.new ≡ read_called self.old }
         ensures faults { fault_count self.old ≤ fault_count self.new }

@@ -1,4 +1,5 @@
 pub mod Input
+pub mod Kept
 pub mod MemSink
 pub mod MemSource
 pub mod Streams

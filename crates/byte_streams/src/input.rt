@@ -1,7 +1,8 @@
 // Reading all of the input.
-ghost use Rattle.std.specs.Prelude.{◌≡◌, ℕ, ◌≤◌, ◌<◌, length, OnOk, IfOk, IfSome, IsErrOf, is_some};
+ghost use Rattle.std.specs.Prelude.{◌<◌, length, OnOk, IfOk, IfSome, IsErrOf};
 ghost use Rattle.base_values.specs.Counts.{Rose};
 ghost use Rattle.byte_streams.specs.Input.{InputCounts};
+ghost use Rattle.byte_streams.specs.Kept.{KeepsSource};
 ghost use Rattle.byte_streams.specs.Streams.{Loses, IsAtEnd};
 
 use crate::Source;
@@ -46,12 +47,11 @@ pub fn read_input<S: Source>(alloc: Global, source: &mut S) -> Result<Vec<u8>, I
     ensures end { OnOk result (IsAtEnd (S.left source.new)) }
     // Too much was taken exactly where the answer is TooLong.
     ensures counted { InputCounts (S.taken source.old) (S.taken source.new) result }
-    ensures too_long_told { IsErrOf result InputError.TooLong → IfSome (S.left source.old) (λ left. MAX_INPUT < length left) }
-    ensures fault { IsErrOf result InputError.Fault → Rose (S.faults source.old) (S.faults source.new) }
-    ensures tells { is_some (S.left source.new) ≡ is_some (S.left source.old) }
-    ensures grows { S.taken source.old ≤ S.taken source.new }
-    ensures faults { S.faults source.old ≤ S.faults source.new }
-    ensures calm { S.steady source.old → S.steady source.new × (S.faults source.new ≡ S.faults source.old) }
+    ensures too_long_told { IsErrOf result InputError.TooLong
+        → IfSome (S.left source.old) (λ left. MAX_INPUT < length left) }
+    ensures fault { IsErrOf result InputError.Fault
+        → Rose (S.faults source.old) (S.faults source.new) }
+    ensures kept { KeepsSource S.left S.taken S.faults S.steady source.old source.new }
 {
     let mut bytes = Vec::new(alloc);
     let mut buffer = [0u8; CHUNK];

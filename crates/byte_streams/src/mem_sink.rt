@@ -56,7 +56,9 @@ impl Sink for MemSink {
     ghost steady = { λ s. s.failing.listed.items ≡ [] };
 
     fn write(&mut self, piece: &[u8]) -> Result<usize, SinkFault>
-        ensures appends { WriteAppends (⟦<MemSink as Sink>⟧.held self.old) (⟦<MemSink as Sink>⟧.held self.new) result piece.now }
+        ensures appends { WriteAppends
+            (⟦<MemSink as Sink>⟧.held self.old)
+            (⟦<MemSink as Sink>⟧.held self.new) result piece.now }
         ensures fails { IsErrOf result SinkFault.Fault ↔ IsTrue (next_fails (failing_of self.old)) }
         ensures after { failing_of self.new ≡ called (failing_of self.old) }
         ensures faults { (failing_of self.old).faults ≤ (failing_of self.new).faults }

@@ -39,9 +39,12 @@ impl MemSource {
 
     /// Makes the calls of these numbers fail, counted from 1 over all calls of this source.
     pub fn fail_at(&mut self, calls: Vec<u64>)
-        ensures left { ⟦<MemSource as Source>⟧.left self.new ≡ ⟦<MemSource as Source>⟧.left self.old }
-        ensures faults { ⟦<MemSource as Source>⟧.faults self.new ≡ ⟦<MemSource as Source>⟧.faults self.old }
-        ensures taken { ⟦<MemSource as Source>⟧.taken self.new ≡ ⟦<MemSource as Source>⟧.taken self.old }
+        ensures left { ⟦<MemSource as Source>⟧.left self.new
+            ≡ ⟦<MemSource as Source>⟧.left self.old }
+        ensures faults { ⟦<MemSource as Source>⟧.faults self.new
+            ≡ ⟦<MemSource as Source>⟧.faults self.old }
+        ensures taken { ⟦<MemSource as Source>⟧.taken self.new
+            ≡ ⟦<MemSource as Source>⟧.taken self.old }
         ensures steady { ⟦<MemSource as Source>⟧.steady self.new ↔ (calls.items ≡ []) }
         ensures failing { failing_of self.new ≡ record (failing_of self.old) { listed = calls } }
     {
@@ -50,8 +53,12 @@ impl MemSource {
 
     // Takes the next bytes, as many as there are and the buffer has.
     fn take(&mut self, buffer: &mut [u8]) -> usize
-        ensures takes { ReadTakes (⟦<MemSource as Source>⟧.left self.old) (⟦<MemSource as Source>⟧.left self.new) (Ok result) buffer.new }
-        ensures counts { CountsRead (⟦<MemSource as Source>⟧.taken self.old) (⟦<MemSource as Source>⟧.taken self.new) (Ok result) }
+        ensures takes { ReadTakes
+            (⟦<MemSource as Source>⟧.left self.old)
+            (⟦<MemSource as Source>⟧.left self.new) (Ok result) buffer.new }
+        ensures counts { CountsRead
+            (⟦<MemSource as Source>⟧.taken self.old)
+            (⟦<MemSource as Source>⟧.taken self.new) (Ok result) }
         ensures failing { failing_of self.new ≡ failing_of self.old }
     {
         let count = buffer.len().min(self.bytes.len() - self.place);
@@ -74,8 +81,12 @@ impl Source for MemSource {
     ghost steady = { λ s. s.failing.listed.items ≡ [] };
 
     fn read(&mut self, buffer: &mut [u8]) -> Result<usize, SourceFault>
-        ensures takes { ReadTakes (⟦<MemSource as Source>⟧.left self.old) (⟦<MemSource as Source>⟧.left self.new) result buffer.new }
-        ensures counts { CountsRead (⟦<MemSource as Source>⟧.taken self.old) (⟦<MemSource as Source>⟧.taken self.new) result }
+        ensures takes { ReadTakes
+            (⟦<MemSource as Source>⟧.left self.old)
+            (⟦<MemSource as Source>⟧.left self.new) result buffer.new }
+        ensures counts { CountsRead
+            (⟦<MemSource as Source>⟧.taken self.old)
+            (⟦<MemSource as Source>⟧.taken self.new) result }
         ensures fails { is_err result ≡ next_fails (failing_of self.old) }
         ensures after { failing_of self.new ≡ called (failing_of self.old) }
         ensures faults { (failing_of self.old).faults ≤ (failing_of self.new).faults }

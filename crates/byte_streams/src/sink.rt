@@ -1,7 +1,8 @@
 // Where bytes go.
-ghost use Rattle.std.specs.Prelude.{◌≡◌, ℕ, List, ◌≤◌, IsErrOf};
+ghost use Rattle.std.specs.Prelude.{ℕ, List, IsErrOf};
 ghost use Rattle.std.specs.declared.option.Option.{Option};
 ghost use Rattle.base_values.specs.Counts.{Rose};
+ghost use Rattle.byte_streams.specs.Kept.{KeepsSink};
 ghost use Rattle.byte_streams.specs.Streams.{WriteAppends};
 
 use thiserror::Error;
@@ -32,7 +33,5 @@ pub trait Sink {
     fn write(&mut self, piece: &[u8]) -> Result<usize, SinkFault>
         ensures appends { WriteAppends (held self.old) (held self.new) result piece.now }
         ensures cause { IsErrOf result SinkFault.Fault → Rose (faults self.old) (faults self.new) }
-        ensures faults { faults self.old ≤ faults self.new }
-        ensures steady { steady self.old → steady self.new }
-        ensures none { steady self.old → faults self.new ≡ faults self.old };
+        ensures kept { KeepsSink held faults steady self.old self.new };
 }

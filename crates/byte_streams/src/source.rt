@@ -1,7 +1,8 @@
 // Where bytes come from.
-ghost use Rattle.std.specs.Prelude.{◌≡◌, ℕ, List, ◌≤◌, OnErr};
+ghost use Rattle.std.specs.Prelude.{ℕ, List, OnErr};
 ghost use Rattle.std.specs.declared.option.Option.{Option};
 ghost use Rattle.base_values.specs.Counts.{Rose};
+ghost use Rattle.byte_streams.specs.Kept.{KeepsSource};
 ghost use Rattle.byte_streams.specs.Streams.{ReadTakes, CountsRead};
 
 use thiserror::Error;
@@ -29,8 +30,6 @@ pub trait Source {
     fn read(&mut self, buffer: &mut [u8]) -> Result<usize, SourceFault>
         ensures takes { ReadTakes (left self.old) (left self.new) result buffer.new }
         ensures cause { OnErr result (Rose (faults self.old) (faults self.new)) }
-        ensures faults { faults self.old ≤ faults self.new }
         ensures counts { CountsRead (taken self.old) (taken self.new) result }
-        ensures steady { steady self.old → steady self.new }
-        ensures none { steady self.old → faults self.new ≡ faults self.old };
+        ensures kept { KeepsSource left taken faults steady self.old self.new };
 }

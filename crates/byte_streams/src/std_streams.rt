@@ -1,5 +1,5 @@
 // Any reader and writer of std. They tell nothing, and count their faults.
-ghost use Rattle.std.specs.Prelude.{◌≡◌, ◌≤◌, ◌<◌, ℕ, List, None, length, IfSome};
+ghost use Rattle.std.specs.Prelude.{◌≡◌, ◌≤◌, ◌<◌, None, length, IfSome};
 
 use crate::{Sink, SinkFault, Source, SourceFault};
 use std::io::{ErrorKind, Read, Write};

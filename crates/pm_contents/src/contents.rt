@@ -1,8 +1,9 @@
 // The different contents so far, found by their digests and their bytes.
-ghost use Rattle.std.specs.Prelude.{◌≡◌, ◌≤◌, ◌<◌, ◌+◌, ◌^◌, ℕ, List, [], length, None, Some, IfSome, IfOk, OnOk, OnErr, IsErrOf, is_some};
+ghost use Rattle.std.specs.Prelude.{◌≡◌, ◌≤◌, ◌<◌, ◌+◌, ◌^◌, ℕ, List, [], length, None, Some, IfSome, IfOk, OnOk, OnErr, IsErrOf};
 ghost use Rattle.std.specs.BTreeMap.{get};
 ghost use Rattle.std.specs.HashMap as hashed;
 ghost use Rattle.base_values.specs.Counts.{Rose};
+ghost use Rattle.byte_media.specs.Kept.{KeepsMedium, ReadsOnly};
 ghost use Rattle.byte_media.specs.Media.{IsWithin};
 ghost use Rattle.pm_contents.specs.Contents.{Finds, Holds, IsAlike, IsTold, IsUnasked, content_cmp, first_of};
 ghost use Rattle.pm_contents.specs.Pieces.{LeavesPiece};
@@ -51,7 +52,8 @@ impl Contents {
 
     /// How many there are.
     pub fn count(&self) -> u64
-        ensures { (name : List ℕ → ℕ) (cs : List (List ℕ)) → Holds name self.now cs → result ≡ length cs }
+        ensures { (name : List ℕ → ℕ) (cs : List (List ℕ)) → Holds name self.now cs
+            → result ≡ length cs }
     {
         self.firsts.len() as u64 + self.others.len() as u64
     }
@@ -70,19 +72,24 @@ impl Contents {
         requires ends { from + self.now.total < 2 ^ 64 }
         requires within { IfSome (M.told medium.old) (IsWithin (from + self.now.total)) }
         requires holds { (name : List ℕ → ℕ) × (cs : List (List ℕ)) × Holds name self.now cs }
-        ensures found { (name : List ℕ → ℕ) (cs : List (List ℕ)) → digest ≡ name bytes.now → Holds name self.now cs → IfOk result (λ s. (taken : List ℕ) × FoundAs name self.now cs bytes.now s taken) }
-        ensures known { (name : List ℕ → ℕ) (cs : List (List ℕ)) → digest ≡ name bytes.now → Holds name self.now cs → IfSome (M.told medium.old) (IsTold name from self.now cs)
-            → IfSome (M.told medium.old) (λ b. IfOk result (λ s. found_in cs bytes.now ≡ place_sought s)) }
-        ensures sought { (name : List ℕ → ℕ) → digest ≡ name bytes.now → IfOk result (IsSought name self.now bytes.now) }
-        ensures asked { Stood (M.reads medium.old) (M.reads medium.new) → IsUnasked self.now digest (length bytes.now) }
-        ensures quiet { IsUnasked self.now digest (length bytes.now) → M.reads medium.new ≡ M.reads medium.old }
-        ensures cause { IsErrOf result WriteFault.Fault → Rose (M.faults medium.old) (M.faults medium.new) }
-        ensures told { M.told medium.new ≡ M.told medium.old }
-        ensures versions { M.versions medium.new ≡ M.versions medium.old }
-        ensures faults { M.faults medium.old ≤ M.faults medium.new }
+        ensures found { (name : List ℕ → ℕ) (cs : List (List ℕ)) → digest ≡ name bytes.now
+            → Holds name self.now cs
+            → IfOk result (λ s. (taken : List ℕ) × FoundAs name self.now cs bytes.now s taken) }
+        ensures known { (name : List ℕ → ℕ) (cs : List (List ℕ)) → digest ≡ name bytes.now
+            → Holds name self.now cs → IfSome (M.told medium.old) (IsTold name from self.now cs)
+            → IfSome (M.told medium.old) (λ b. IfOk result
+            (λ s. found_in cs bytes.now ≡ place_sought s)) }
+        ensures sought { (name : List ℕ → ℕ) → digest ≡ name bytes.now
+            → IfOk result (IsSought name self.now bytes.now) }
+        ensures asked { Stood (M.reads medium.old) (M.reads medium.new)
+            → IsUnasked self.now digest (length bytes.now) }
+        ensures quiet { IsUnasked self.now digest (length bytes.now)
+            → M.reads medium.new ≡ M.reads medium.old }
+        ensures cause { IsErrOf result WriteFault.Fault
+            → Rose (M.faults medium.old) (M.faults medium.new) }
         ensures counted { M.reads medium.old ≤ M.reads medium.new }
         ensures reads { M.reads medium.new ≤ M.reads medium.old + 1 }
-        ensures calm { M.steady medium.old → M.steady medium.new × (M.faults medium.new ≡ M.faults medium.old) }
+        ensures kept { ReadsOnly M.told M.versions M.faults M.steady medium.old medium.new }
     {
         let first = match self.firsts.get(&digest) {
             None => return Ok(Sought::First(digest)),
@@ -111,8 +118,12 @@ impl Contents {
         requires none { first_of self.old digest ≡ None }
         requires room { 1 ≤ hashed.spare self.old.firsts }
         requires fits { self.old.total + size < 2 ^ 64 }
-        ensures put { (name : List ℕ → ℕ) (cs : List (List ℕ)) (x : List ℕ) → Holds name self.old cs → digest ≡ name x → length x ≡ size → IsNew cs x → Holds name self.new (put_new cs x) }
-        ensures finds { (name : List ℕ → ℕ) (cs : List (List ℕ)) (x : List ℕ) → Holds name self.old cs → Finds name self.old cs → digest ≡ name x → length x ≡ size → IsNew cs x → Finds name self.new (put_new cs x) }
+        ensures put { (name : List ℕ → ℕ) (cs : List (List ℕ)) (x : List ℕ)
+            → Holds name self.old cs → digest ≡ name x → length x ≡ size → IsNew cs x
+            → Holds name self.new (put_new cs x) }
+        ensures finds { (name : List ℕ → ℕ) (cs : List (List ℕ)) (x : List ℕ)
+            → Holds name self.old cs → Finds name self.old cs → digest ≡ name x → length x ≡ size
+            → IsNew cs x → Finds name self.new (put_new cs x) }
     {
         let span = Span {
             place: self.total,
@@ -135,17 +146,21 @@ impl Contents {
         requires none { first_of self.old digest ≡ None }
         requires within { IfSome (M.told medium.old) (IsWithin (from + self.old.total)) }
         requires fits { from + self.old.total + length bytes.now < 2 ^ 64 }
-        ensures put { (name : List ℕ → ℕ) (cs : List (List ℕ)) → Holds name self.old cs → digest ≡ name bytes.now → IsNew cs bytes.now → OnOk result (Holds name self.new (put_new cs bytes.now)) }
-        ensures finds { (name : List ℕ → ℕ) (cs : List (List ℕ)) → Holds name self.old cs → Finds name self.old cs → digest ≡ name bytes.now → IsNew cs bytes.now → OnOk result (Finds name self.new (put_new cs bytes.now)) }
+        ensures put { (name : List ℕ → ℕ) (cs : List (List ℕ)) → Holds name self.old cs
+            → digest ≡ name bytes.now → IsNew cs bytes.now
+            → OnOk result (Holds name self.new (put_new cs bytes.now)) }
+        ensures finds { (name : List ℕ → ℕ) (cs : List (List ℕ)) → Holds name self.old cs
+            → Finds name self.old cs → digest ≡ name bytes.now → IsNew cs bytes.now
+            → OnOk result (Finds name self.new (put_new cs bytes.now)) }
         ensures place { IfOk result (λ place. place ≡ self.old.total) }
-        ensures kept { OnErr result (IsAlike self.old self.new) }
-        ensures leaves { LeavesPiece (from + self.old.total) bytes.now result (M.told medium.old) (M.told medium.new) }
-        ensures cause { IsErrOf result WriteFault.Fault → Rose (M.faults medium.old) (M.faults medium.new) }
-        ensures tells { is_some (M.told medium.new) ≡ is_some (M.told medium.old) }
-        ensures versions { is_some (M.versions medium.new) ≡ is_some (M.versions medium.old) }
-        ensures faults { M.faults medium.old ≤ M.faults medium.new }
+        ensures refused { OnErr result (IsAlike self.old self.new) }
+        ensures leaves { LeavesPiece (from + self.old.total) bytes.now result
+            (M.told medium.old) (M.told medium.new) }
+        ensures cause { IsErrOf result WriteFault.Fault
+            → Rose (M.faults medium.old) (M.faults medium.new) }
         ensures reads { M.reads medium.new ≡ M.reads medium.old }
-        ensures calm { M.steady medium.old → M.steady medium.new × (M.faults medium.new ≡ M.faults medium.old) }
+        ensures kept { KeepsMedium M.told M.versions M.reads M.faults M.steady
+            medium.old medium.new }
     {
         let place = self.total;
         self.reserve()?;
@@ -164,18 +179,23 @@ impl Contents {
         requires other { get content_cmp self.old.others content ≡ None }
         requires within { IfSome (M.told medium.old) (IsWithin (from + self.old.total)) }
         requires fits { from + self.old.total + length content < 2 ^ 64 }
-        ensures put { (name : List ℕ → ℕ) (cs : List (List ℕ)) (s : Span) (taken : List ℕ) → first_of self.old (name content) ≡ Some s → Holds name self.old cs → FoundAs name self.old cs content (sought.Other content) taken
+        ensures put { (name : List ℕ → ℕ) (cs : List (List ℕ)) (s : Span) (taken : List ℕ)
+            → first_of self.old (name content) ≡ Some s → Holds name self.old cs
+            → FoundAs name self.old cs content (sought.Other content) taken
             → OnOk result (Holds name self.new (put_new cs taken)) }
-        ensures finds { (name : List ℕ → ℕ) (cs : List (List ℕ)) (s : Span) → first_of self.old (name content) ≡ Some s → Holds name self.old cs → Finds name self.old cs → IsNew cs content → OnOk result (Finds name self.new (put_new cs content)) }
+        ensures finds { (name : List ℕ → ℕ) (cs : List (List ℕ)) (s : Span)
+            → first_of self.old (name content) ≡ Some s → Holds name self.old cs
+            → Finds name self.old cs → IsNew cs content
+            → OnOk result (Finds name self.new (put_new cs content)) }
         ensures place { IfOk result (λ place. place ≡ self.old.total) }
-        ensures kept { OnErr result (IsAlike self.old self.new) }
-        ensures leaves { LeavesPiece (from + self.old.total) content result (M.told medium.old) (M.told medium.new) }
-        ensures cause { IsErrOf result WriteFault.Fault → Rose (M.faults medium.old) (M.faults medium.new) }
-        ensures tells { is_some (M.told medium.new) ≡ is_some (M.told medium.old) }
-        ensures versions { is_some (M.versions medium.new) ≡ is_some (M.versions medium.old) }
-        ensures faults { M.faults medium.old ≤ M.faults medium.new }
+        ensures refused { OnErr result (IsAlike self.old self.new) }
+        ensures leaves { LeavesPiece (from + self.old.total) content result
+            (M.told medium.old) (M.told medium.new) }
+        ensures cause { IsErrOf result WriteFault.Fault
+            → Rose (M.faults medium.old) (M.faults medium.new) }
         ensures reads { M.reads medium.new ≡ M.reads medium.old }
-        ensures calm { M.steady medium.old → M.steady medium.new × (M.faults medium.new ≡ M.faults medium.old) }
+        ensures kept { KeepsMedium M.told M.versions M.reads M.faults M.steady
+            medium.old medium.new }
     {
         let place = self.total;
         match self.others.entry(content) {
@@ -211,19 +231,25 @@ impl Contents {
         requires sought { (name : List ℕ → ℕ) × IsSought name self.old bytes.now sought }
         requires within { IfSome (M.told medium.old) (IsWithin (from + self.old.total)) }
         requires fits { from + self.old.total + length (piece_sought sought bytes.now) < 2 ^ 64 }
-        ensures put { (name : List ℕ → ℕ) (cs : List (List ℕ)) (taken : List ℕ) → IsSought name self.old bytes.now sought → Holds name self.old cs → FoundAs name self.old cs bytes.now sought taken
+        ensures put { (name : List ℕ → ℕ) (cs : List (List ℕ)) (taken : List ℕ)
+            → IsSought name self.old bytes.now sought → Holds name self.old cs
+            → FoundAs name self.old cs bytes.now sought taken
             → OnOk result (Holds name self.new (put_new cs taken)) }
-        ensures finds { (name : List ℕ → ℕ) (cs : List (List ℕ)) → IsSought name self.old bytes.now sought → Holds name self.old cs → Finds name self.old cs → found_in cs bytes.now ≡ place_sought sought
+        ensures finds { (name : List ℕ → ℕ) (cs : List (List ℕ))
+            → IsSought name self.old bytes.now sought → Holds name self.old cs
+            → Finds name self.old cs → found_in cs bytes.now ≡ place_sought sought
             → OnOk result (Finds name self.new (put_new cs bytes.now)) }
-        ensures place { (name : List ℕ → ℕ) (cs : List (List ℕ)) (taken : List ℕ) → Holds name self.old cs → found_in cs taken ≡ place_sought sought → IfOk result (λ place. found_in (put_new cs taken) taken ≡ Some place) }
-        ensures kept { OnErr result (IsAlike self.old self.new) }
-        ensures leaves { LeavesPiece (from + self.old.total) (piece_sought sought bytes.now) result (M.told medium.old) (M.told medium.new) }
-        ensures cause { IsErrOf result WriteFault.Fault → Rose (M.faults medium.old) (M.faults medium.new) }
-        ensures tells { is_some (M.told medium.new) ≡ is_some (M.told medium.old) }
-        ensures versions { is_some (M.versions medium.new) ≡ is_some (M.versions medium.old) }
-        ensures faults { M.faults medium.old ≤ M.faults medium.new }
+        ensures place { (name : List ℕ → ℕ) (cs : List (List ℕ)) (taken : List ℕ)
+            → Holds name self.old cs → found_in cs taken ≡ place_sought sought
+            → IfOk result (λ place. found_in (put_new cs taken) taken ≡ Some place) }
+        ensures refused { OnErr result (IsAlike self.old self.new) }
+        ensures leaves { LeavesPiece (from + self.old.total) (piece_sought sought bytes.now) result
+            (M.told medium.old) (M.told medium.new) }
+        ensures cause { IsErrOf result WriteFault.Fault
+            → Rose (M.faults medium.old) (M.faults medium.new) }
         ensures reads { M.reads medium.new ≡ M.reads medium.old }
-        ensures calm { M.steady medium.old → M.steady medium.new × (M.faults medium.new ≡ M.faults medium.old) }
+        ensures kept { KeepsMedium M.told M.versions M.reads M.faults M.steady
+            medium.old medium.new }
     {
         match sought {
             Sought::Known(place) => Ok(place),

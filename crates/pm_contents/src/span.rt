@@ -2,6 +2,7 @@
 ghost use Rattle.std.specs.Prelude.{◌≡◌, ◌≢◌, ◌≤◌, ◌<◌, ◌+◌, ◌^◌, true, drop, length, IfSome, IfOk, IsErrOf};
 ghost use Rattle.std.specs.Str.{bytes_eq};
 ghost use Rattle.base_values.specs.Counts.{Rose};
+ghost use Rattle.byte_media.specs.Kept.{ReadsOnly};
 ghost use Rattle.byte_media.specs.Media.{IsWithin};
 ghost use Rattle.pm_contents.specs.Contents.{in_span};
 ghost use Rattle.pm_contents.specs.Span.{Stood, same_by};
@@ -38,18 +39,20 @@ impl Span {
         bytes: &[u8],
     ) -> Result<bool, WriteFault>
         requires fits { from + self.place < 2 ^ 64 }
-        requires within { IfSome (M.told medium.old) (IsWithin (from + (self.place + self.length))) }
-        ensures same { IfSome (M.told medium.old) (λ b. IfOk result (λ same. same ≡ bytes_eq (in_span (drop from b) self) bytes.now)) }
+        requires within { IfSome
+            (M.told medium.old) (IsWithin (from + (self.place + self.length))) }
+        ensures same { IfSome
+            (M.told medium.old) (λ b. IfOk result
+            (λ same. same ≡ bytes_eq (in_span (drop from b) self) bytes.now)) }
         ensures size { IfOk result (λ same. same ≡ true → self.length ≡ length bytes.now) }
-        ensures asked { Stood (M.reads medium.old) (M.reads medium.new) → self.length ≢ length bytes.now }
+        ensures asked { Stood (M.reads medium.old) (M.reads medium.new)
+            → self.length ≢ length bytes.now }
         ensures quiet { self.length ≢ length bytes.now → M.reads medium.new ≡ M.reads medium.old }
-        ensures cause { IsErrOf result WriteFault.Fault → Rose (M.faults medium.old) (M.faults medium.new) }
-        ensures told { M.told medium.new ≡ M.told medium.old }
-        ensures versions { M.versions medium.new ≡ M.versions medium.old }
-        ensures faults { M.faults medium.old ≤ M.faults medium.new }
+        ensures cause { IsErrOf result WriteFault.Fault
+            → Rose (M.faults medium.old) (M.faults medium.new) }
         ensures counted { M.reads medium.old ≤ M.reads medium.new }
         ensures reads { M.reads medium.new ≤ M.reads medium.old + 1 }
-        ensures calm { M.steady medium.old → M.steady medium.new × (M.faults medium.new ≡ M.faults medium.old) }
+        ensures kept { ReadsOnly M.told M.versions M.faults M.steady medium.old medium.new }
     {
         if self.length != bytes.len() as u64 {
             return Ok(false);

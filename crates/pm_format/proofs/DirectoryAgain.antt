@@ -60,11 +60,11 @@ starts_fit last (Some end) (e ∷ es) h = (start_low (nat_eq e.offset end) e.off
     start_low true o h = lit< tt
     start_low false o h = h
 
-length_steps : (last : ℕ) (es : List Entry) → length (steps_from last es) ≡ length es
+pub length_steps : (last : ℕ) (es : List Entry) → length (steps_from last es) ≡ length es
 length_steps last [] = refl
 length_steps last (e ∷ es) = ap suc (length_steps e.tile_id es)
 
-length_starts : (end : Option ℕ) (es : List Entry) → length (starts_from end es) ≡ length es
+pub length_starts : (end : Option ℕ) (es : List Entry) → length (starts_from end es) ≡ length es
 length_starts None [] = refl
 length_starts (Some end) [] = refl
 length_starts None (e ∷ es) = ap suc (length_starts (Some (e.offset + e.length)) es)

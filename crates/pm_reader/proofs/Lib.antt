@@ -6,10 +6,12 @@ pub mod LevelLemmas
 pub mod MetadataLemmas
 pub mod OneLengthLemmas
 pub mod OpeningLemmas
+pub mod PairLemmas
 pub mod PlainLemmas
 pub mod PoppingLemmas
 pub mod QueueLemmas
 pub mod ReadsFromLemmas
+pub mod RefusedLemmas
 pub mod RecentLemmas
 pub mod RowColumnLemmas
 pub mod RowReadLemmas

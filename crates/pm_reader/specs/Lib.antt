@@ -11,6 +11,7 @@ pub mod Queue
 pub mod Reads
 pub mod Rows
 pub mod ReadsFrom
+pub mod Refused
 pub mod Tied
 pub mod TileJson
 pub mod Versions

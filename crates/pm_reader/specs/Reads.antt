@@ -1,5 +1,6 @@
 -- How often a backend was read.
-use Rattle.std.specs.Prelude.{◌≡◌, ℕ, ◌+◌, ◌-◌, ◌^◌, ◌≤◌, List, [], ◌∷◌, min, Option, Some, None, Result, Ok, Err}
+use Rattle.std.specs.Prelude.{ℕ, ◌+◌, ◌-◌, ◌^◌, ◌≤◌, List, [], ◌∷◌, min, Option, Some, None, Result, Ok, Err}
+pub use Rattle.byte_media.specs.Kept.{ReadsOnly}
 use Rattle.pm_format.specs.declared.error.PmtError.{PmtError}
 use Rattle.pm_format.specs.declared.error.PmtError.TheVariants as errors
 use Rattle.pm_format.specs.declared.error.ReadCause.TheVariants as causes
@@ -28,10 +29,3 @@ reads_done (Ok x) = 1
 reads_done (Err (errors.Reading causes.Fault)) = 1
 reads_done (Err (errors.UnexpectedNumberOfBytesReturned asked got)) = 1
 reads_done (Err e) = 0
-
--- a call that only reads: what the backend tells stays, and its count of faults doesn't fall, nor rises where its calls don't fail
-pub record ReadsOnly {B V : Type 0} (tells : B → Option (List ℕ)) (texts : B → V) (failed : B → ℕ) (steady : B → Type 0) (before now : B) : Type 0 where
-  pub told : tells now ≡ tells before
-  pub versions : texts now ≡ texts before
-  pub faults : failed before ≤ failed now
-  pub calm : steady before → steady now × (failed now ≡ failed before)

@@ -1,5 +1,6 @@
 // A reader that borrows its backend, and holds a cache of directories.
 ghost use Rattle.std.specs.Prelude.{◌≡◌, ◌≢◌, ◌<◌, ◌-◌, ◌^◌, ℕ, None, Err, false, IfSome, IfOk, IfErr};
+ghost use Rattle.std.specs.Borrow.{sem, RestsIfErr};
 ghost use Rattle.base_values.specs.Counts.{Grew};
 ghost use Rattle.pm_format.specs.LookUp.{archive_tile};
 ghost use Rattle.pm_format.specs.declared.error.PmtError.TheVariants as errors;
@@ -7,8 +8,9 @@ ghost use Rattle.pm_format.specs.declared.error.ReadCause.TheVariants as causes;
 ghost use Rattle.pm_reader.specs.Answers.{Gives, IsWhole, LookUpCauses};
 ghost use Rattle.pm_reader.specs.Archives.{IsCacheable, ReadsByHops};
 ghost use Rattle.pm_reader.specs.Caches.{CacheLimits};
-ghost use Rattle.pm_reader.specs.Opening.{HasVersionOf, IsOpen, IsOpenFailure, OpenAnswers, header_of, root_of, version_of};
+ghost use Rattle.pm_reader.specs.Opening.{HasVersionOf, IsOpen, IsOpenFailure, OpenAnswers, OpenCauses, header_of, root_of, version_of};
 ghost use Rattle.pm_reader.specs.Reads.{GrewBetween, ReadsOnly, reads_for};
+ghost use Rattle.pm_reader.specs.Refused.{LeftByOpening};
 ghost use Rattle.pm_reader.specs.Tied.{IsTied};
 ghost use Rattle.pm_reader.specs.Walk.{walk};
 ghost use Rattle.pm_reader.specs.WalkSteps.{budget_of, has_ended, left_of};
@@ -45,8 +47,10 @@ impl<'a, B: Backend> PmTilesReader<'a, B, NoCache> {
     /// Opens the archive of a backend, to be read without a cache: `ReaderState::open`, and then `PmTilesReader::over`.
     ///
     /// An error is one that `open` answers: over told bytes exactly their first refusal, want of memory, or `Reading(Fault)`, which doesn't come over a backend whose
-    /// calls don't fail. What stands of the backend after an error is promised by `open`, whose callers keep it.
+    /// calls don't fail. After an error the backend was read once, and tells the bytes and version texts that it told; its count of faults didn't fall, and rose where
+    /// `Reading(Fault)` came (`rests`). Whoever needs this for a proof calls `open`.
     pub fn try_from_source(alloc: Global, backend: &'a mut B) -> PmtResult<Self>
+        ensures* rests { sem 𝓛 (RestsIfErr B.row backend.entry (λ r. r.backend.ghost_name) result (LeftByOpening B.told B.versions B.faults B.reads B.steady backend.old result)) }
         ensures refused { IfErr result (λ e. IfSome (B.told backend.old) (λ b. OpenAnswers b (Err e))) }
         ensures causes { IfErr result IsOpenFailure }
         ensures unfailing { B.steady backend.old → B.faults backend.old < 2 ^ 64 - 1 → result ≢ Err (errors.Reading causes.Fault) }
@@ -57,12 +61,14 @@ impl<'a, B: Backend> PmTilesReader<'a, B, NoCache> {
         ensures kept { IfOk result (λ r. ReadsOnly B.told B.versions B.faults B.steady backend.old r.backend.now) }
         ensures reads { IfOk result (λ r. Grew (B.reads backend.old) (B.reads r.backend.now) 1) }
     {
-        let state = ReaderState::open(alloc, backend)?;
-        Ok(PmTilesReader {
-            backend,
-            cache: NoCache,
-            state,
-        })
+        match ReaderState::open(alloc, backend) {
+            Ok(state) => Ok(PmTilesReader {
+                backend,
+                cache: NoCache,
+                state,
+            }),
+            Err(error) => Err(error),
+        }
     }
 }
 
@@ -87,11 +93,13 @@ impl<'a, B: Backend, C: DirectoryCache> PmTilesReader<'a, B, C> {
     /// Opens the archive of a backend, to be read with this cache, which is to hold nothing: `ReaderState::open`, and then `over`.
     ///
     /// An error is one that `open` answers: over told bytes exactly their first refusal, want of memory, or `Reading(Fault)`, which doesn't come over a backend whose
-    /// calls don't fail. What stands of the backend after an error is promised by `open`, whose callers keep it.
+    /// calls don't fail. After an error the backend was read once, and tells the bytes and version texts that it told; its count of faults didn't fall, and rose where
+    /// `Reading(Fault)` came (`rests`). Whoever needs this for a proof calls `open`.
     pub fn try_from_cached_source(alloc: Global, backend: &'a mut B, cache: C) -> PmtResult<Self>
     where
         C: Drop,
         requires empty { (o : ℕ) → C.held cache o ≡ None }
+        ensures* rests { sem 𝓛 (RestsIfErr B.row backend.entry (λ r. r.backend.ghost_name) result (LeftByOpening B.told B.versions B.faults B.reads B.steady backend.old result)) }
         ensures refused { IfErr result (λ e. IfSome (B.told backend.old) (λ b. OpenAnswers b (Err e))) }
         ensures causes { IfErr result IsOpenFailure }
         ensures unfailing { B.steady backend.old → B.faults backend.old < 2 ^ 64 - 1 → result ≢ Err (errors.Reading causes.Fault) }
@@ -103,12 +111,14 @@ impl<'a, B: Backend, C: DirectoryCache> PmTilesReader<'a, B, C> {
         ensures kept { IfOk result (λ r. ReadsOnly B.told B.versions B.faults B.steady backend.old r.backend.now) }
         ensures reads { IfOk result (λ r. Grew (B.reads backend.old) (B.reads r.backend.now) 1) }
     {
-        let opened = ReaderState::open(alloc, backend)?;
-        Ok(PmTilesReader {
-            backend,
-            cache,
-            state: opened,
-        })
+        match open_with(alloc, backend, cache) {
+            Ok(opened) => Ok(PmTilesReader {
+                backend,
+                cache: opened.0,
+                state: opened.1,
+            }),
+            Err(error) => Err(error),
+        }
     }
 
     /// The header of the archive.
@@ -206,4 +216,22 @@ impl<'a, B: Backend, C: DirectoryCache> PmTilesReader<'a, B, C> {
             state: state.entries(budget),
         }
     }
+}
+
+// The opened state beside the cache that it is read with, which is let go where opening is refused.
+fn open_with<B: Backend, C: DirectoryCache + Drop>(
+    alloc: Global,
+    backend: &mut B,
+    cache: C,
+) -> PmtResult<(C, ReaderState)>
+    ensures refused { IfErr result (λ e. IfSome (B.told backend.old) (λ b. OpenAnswers b (Err e))) }
+    ensures causes { OpenCauses (B.faults backend.old) (B.faults backend.new) result }
+    ensures open { IfOk result (λ p. IsOpen (B.told backend.new) p.1) }
+    ensures cache { IfOk result (λ p. p.0 ≡ cache) }
+    ensures version { IfOk result (λ p. HasVersionOf (B.versions backend.new) (B.reads backend.new) p.1) }
+    ensures kept { ReadsOnly B.told B.versions B.faults B.steady backend.old backend.new }
+    ensures reads { Grew (B.reads backend.old) (B.reads backend.new) 1 }
+{
+    let state = ReaderState::open(alloc, backend)?;
+    Ok((cache, state))
 }

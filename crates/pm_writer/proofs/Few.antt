@@ -1,11 +1,12 @@
 -- Few and short adds have an archive that can be written.
-use Rattle.std.proofs.Common.{◌≡◌, ℕ, zero, suc, ◌+◌, ◌*◌, ◌/◌, ◌<◌, ◌≤◌, ◌^◌, inl, inr, Bool, true, false, List, [], ◌∷◌, ◌++◌, length, map, flat_map, sum_by, drop, Option, Some, None, refl, sym, ◌∙◌, ap, arith, subst, length-append}
+use Rattle.std.proofs.Common.{◌≡◌, ℕ, zero, suc, ◌+◌, ◌*◌, ◌/◌, ◌<◌, ◌≤◌, ◌^◌, inl, inr, Bool, true, false, List, [], ◌∷◌, ◌++◌, length, map, flat_map, sum_by, drop, None, refl, sym, ◌∙◌, ap, arith, subst, length-append}
 use Rattle.std.proofs.Math.Nat.{mul-le-mul_right}
 use Rattle.std.proofs.lemmas.Bool.Decides.{nat_tests}
 use Rattle.std.proofs.lemmas.List.{drop_all, length-drop, length-map}
 use Rattle.std.proofs.lemmas.List.Sums.{sum_by-cons, sum_by-append}
 use Rattle.std.specs.List.{list_any}
 use Rattle.std.specs.Str.{bytes_eq}
+use Rattle.pm_format.proofs.DirectoryAgain.{length_starts, length_steps}
 use Rattle.pm_format.specs.Directory.{Entry, dir_bytes, spell_all, starts_from, steps_from}
 use Rattle.pm_format.specs.Options.{Options}
 use Rattle.pm_format.specs.Varint.{varint}
@@ -34,15 +35,6 @@ unfolding varint
 spelled_length [] = omega arith
 spelled_length (n ∷ ns) = omega (arith, short_length 10 n, spelled_length ns, length-append (varint n) (spell_all ns))
 
-steps_count : (last : ℕ) (es : List Entry) → length (steps_from last es) ≡ length es
-steps_count last [] = refl
-steps_count last (e ∷ es) = ap suc (steps_count e.tile_id es)
-
-starts_count : (end : Option ℕ) (es : List Entry) → length (starts_from end es) ≡ length es
-starts_count end [] = refl
-starts_count None (e ∷ es) = ap suc (starts_count (Some (e.offset + e.length)) es)
-starts_count (Some end) (e ∷ es) = ap suc (starts_count (Some (e.offset + e.length)) es)
-
 -- no number takes more than ten bytes
 pub dir_length : (es : List Entry) → length (dir_bytes es) ≤ 10 + 40 * length es
 unfolding dir_bytes varint
@@ -59,8 +51,8 @@ dir_length es =
       spelled_length (map (λ e. e.run_length) es),
       spelled_length (map (λ e. e.length) es),
       spelled_length (starts_from None es),
-      steps_count 0 es,
-      starts_count None es,
+      length_steps 0 es,
+      length_starts None es,
       length-map es (λ (e : Entry). e.run_length),
       length-map es (λ (e : Entry). e.length),
       length-append n (a ++ (b ++ (c ++ d))),

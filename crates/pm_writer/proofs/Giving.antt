@@ -4,7 +4,7 @@ use Rattle.std.proofs.lemmas.Bool.Decides.{nat_tests}
 use Rattle.pm_format.specs.Directory.{Entry, ◌>>=◌}
 use Rattle.pm_format.specs.Scan.{last_below, covers, scan}
 use Rattle.pm_format.specs.LookUp.{range_of}
-use Rattle.pm_writer.specs.Adds.{longest_run, unsorted, contents_from, entries_of_adds, blocks}
+use Rattle.pm_writer.specs.Adds.{longest_run, contents_from, entries_of_adds, blocks}
 use Rattle.pm_contents.specs.Places.{place_in}
 use Rattle.pm_writer.specs.Maps.{Tiles, RisingAdds, given, Gives, Covers, IsIn}
 use Rattle.pm_writer.specs.Archive.{tile_in}
@@ -53,9 +53,6 @@ run_fits f (e ∷ []) w (inl s) = subst (λ z. z.run_length ≤ longest_run) (sy
 run_fits f (e ∷ []) w (inr i) = absurd i
 run_fits f (e ∷ g ∷ es) w (inl s) = subst (λ z. z.run_length ≤ longest_run) (sym s) w.1
 run_fits f (e ∷ g ∷ es) w (inr i) = run_fits f (g ∷ es) w.3 i
-
-placed : List (ℕ × List ℕ) → List Entry
-placed adds = unsorted (place_in (contents_from [] adds)) adds
 
 -- the archive's entries of rising adds: needed, and each begins at a tile
 pub archive_needed : (adds : List (ℕ × List ℕ)) → RisingAdds adds → Needed (tile_in adds) (entries_of_adds adds)

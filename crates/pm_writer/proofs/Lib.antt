@@ -39,8 +39,4 @@ pub mod Labelled
 pub mod PlacesRead
 pub mod Complete
 pub mod Took
-pub mod Bodies
-pub mod Values
-pub mod Rests
-pub mod Lending
 pub mod Creating

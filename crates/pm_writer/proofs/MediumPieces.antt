@@ -5,6 +5,7 @@ use Rattle.std.proofs.Math.ListN.{get_or-append}
 use Rattle.std.proofs.lemmas.List.{drop_all, drop-append-le, get_or-append_right, get_or-drop, get_or-take, length-take-le, take-append-drop, take-append-le, take_all, drop_at}
 use Rattle.std.proofs.Math.ListN.{length-set}
 use Rattle.std.proofs.lemmas.List.{drop_more, get_or-set_same, take-set-le, drop-set-lt}
+use Rattle.byte_media.proofs.WriteLemmas.{written_nothing}
 use Rattle.byte_media.specs.declared.medium.WriteFault.TheVariants as writes
 use Rattle.byte_media.specs.Media.{WriteLeaves, written}
 use Rattle.pm_writer.specs.Pieces.{IsHidden}
@@ -76,9 +77,6 @@ written_behind b piece at e =
     rw (front, none) (ap (λ z. b ++ z) (append-nil piece))
 
 -- a piece of no bytes changes nothing
-pub written_nothing : (b : List ℕ) (at : ℕ) → written b at [] ≡ b
-written_nothing b at = let e : at + 0 ≡ at = omega arith in rw e (take-append-drop at b)
-
 pub left_nothing : (at : ℕ) (t : Option (List ℕ)) → BothTold (λ b c. c ≡ written b at []) t t
 left_nothing at None = tt
 left_nothing at (Some b) = sym (written_nothing b at)

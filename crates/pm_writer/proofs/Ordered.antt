@@ -10,6 +10,7 @@ use Rattle.std.proofs.lemmas.Bool.Decides.{nat_tests}
 use Rattle.pm_format.specs.Directory.{Entry, entry}
 use Rattle.pm_writer.specs.Adds.{Block, blocks, runs, entries_at, unsorted, longest_run, contents_from, entries_of_adds, sorted, sorted_in}
 use Rattle.pm_contents.specs.Places.{place_in}
+use Rattle.pm_writer.specs.Through.{Rising}
 use Rattle.pm_writer.specs.Twice.{adds_at, IsLeastTwice, Distinct, covering, times, first_within}
 use Rattle.pm_writer.proofs.Runs.{le_or, runs_none, runs_short, runs_long}
 use Rattle.pm_writer.proofs.Times.{times_adds, times_cons, covering_yes, covering_low, covering_high}
@@ -90,17 +91,12 @@ least_first a b xs ys n s = elim (le_or b.tile_id a.tile_id) [
       absurd (omega (arith, s (at_id a.tile_id g), none_behind a.tile_id g b ys n h, sum_by-cons (at_id a.tile_id g) a xs, at_yes a.tile_id g a refl))
 ]
 
-abbrev pub RisingIds : List Entry → Type 0
-RisingIds [] = Unit {0}
-RisingIds (e ∷ []) = Unit {0}
-RisingIds (e ∷ f ∷ es) = (e.tile_id < f.tile_id) × RisingIds (f ∷ es)
-
-rising_falls : (es : List Entry) → RisingIds es → NotFalling es
+rising_falls : (es : List Entry) → Rising es → NotFalling es
 rising_falls [] r = tt
 rising_falls (e ∷ []) r = tt
 rising_falls (e ∷ f ∷ es) r = (omega (arith, r.0), rising_falls (f ∷ es) r.1)
 
-none_at_first : (g : Entry → ℕ) (e : Entry) (es : List Entry) → RisingIds (e ∷ es) → sum_by (at_id e.tile_id g) es ≡ 0
+none_at_first : (g : Entry → ℕ) (e : Entry) (es : List Entry) → Rising (e ∷ es) → sum_by (at_id e.tile_id g) es ≡ 0
 none_at_first g e [] r = refl
 none_at_first g e (f ∷ es) r = none_behind e.tile_id g f es (rising_falls (f ∷ es) r.1) r.0
 
@@ -117,7 +113,7 @@ none_of_none t g (e ∷ es) h = go (nat_eq e.tile_id t) refl (none_of_none t g e
     go false q r = let y : at_id t (λ e. 1) e ≡ 0 = rw q refl in let z : at_id t g e ≡ 0 = rw q refl in
         sum_by-cons (at_id t g) e es ∙ omega (arith, z, r (omega (arith, y, h, sum_by-cons (at_id t (λ e. 1)) e es)))
 
-same_field : (g : Entry → ℕ) (a b : Entry) (xs ys : List Entry) → a.tile_id ≡ b.tile_id → RisingIds (b ∷ ys) → Same (a ∷ xs) (b ∷ ys) → g a ≡ g b
+same_field : (g : Entry → ℕ) (a b : Entry) (xs ys : List Entry) → a.tile_id ≡ b.tile_id → Rising (b ∷ ys) → Same (a ∷ xs) (b ∷ ys) → g a ≡ g b
 same_field g a b xs ys i r s =
     let one : Entry → ℕ = λ e. 1 in
     let count = s (at_id b.tile_id (λ e. 1)) in
@@ -131,12 +127,12 @@ same_entry a b p q r s =
     ∙ (ap (λ z. entry b.tile_id b.offset z a.run_length) r
     ∙ ap (λ z. entry b.tile_id b.offset b.length z) s))
 
-rising_rest : (e : Entry) (es : List Entry) → RisingIds (e ∷ es) → RisingIds es
+rising_rest : (e : Entry) (es : List Entry) → Rising (e ∷ es) → Rising es
 rising_rest e [] r = tt
 rising_rest e (f ∷ es) r = r.1
 
 -- one order only
-pub one_order : (xs ys : List Entry) → NotFalling xs → RisingIds ys → Same xs ys → xs ≡ ys
+pub one_order : (xs ys : List Entry) → NotFalling xs → Rising ys → Same xs ys → xs ≡ ys
 one_order [] [] n r s = refl
 one_order [] (b ∷ ys) n r s = absurd (omega (arith, s (λ e. 1), sum_by-cons (λ e. 1) b ys))
 one_order (a ∷ xs) [] n r s = absurd (omega (arith, s (λ e. 1), sum_by-cons (λ e. 1) a xs))
@@ -147,7 +143,7 @@ one_order (a ∷ xs) (b ∷ ys) n r s =
     cc
 
 -- a sorted list whose ids rise is the sorted list of the definition
-pub sorted_is : (xs ys : List Entry) → IsPermutation xs ys → RisingIds ys → ys ≡ sorted xs
+pub sorted_is : (xs ys : List Entry) → IsPermutation xs ys → Rising ys → ys ≡ sorted xs
 sorted_is xs ys p r = sym (one_order (sorted xs) ys (falling_sorted xs) r (λ g. same_sorted g xs ∙ sym (sum_by-IsPermutation g xs ys p)))
 
 -- the first overlap
@@ -164,7 +160,7 @@ pub record Overlap (es : List Entry) (t : ℕ) : Type 0 where
 
 pub record NoOverlap (es : List Entry) : Type 0 where
   pub once : (s : ℕ) → times es s ≤ 1
-  pub rising : RisingIds es
+  pub rising : Rising es
 
 pub overlap_is : (es : List Entry) → NotFalling es → AllRun es → MatchOption (first_within es) (NoOverlap es) (Overlap es)
 overlap_is [] n a = record { once = λ s. omega arith; rising = tt }

@@ -1,9 +1,10 @@
 -- A directory of tile entries is sound.
-use Rattle.std.proofs.Common.{◌≡◌, ◌≢◌, ℕ, zero, suc, ◌+◌, ◌≤◌, inl, inr, List, [], ◌∷◌, ◌++◌, Ok, IsSome, refl, sym, ap, arith, subst}
+use Rattle.std.proofs.Common.{◌≡◌, ◌≢◌, ℕ, zero, suc, ◌+◌, ◌≤◌, inl, inr, List, [], ◌∷◌, ◌++◌, Ok, IsSome, refl, ap, arith}
 use Rattle.pm_format.specs.Directory.{Entry}
 use Rattle.pm_format.specs.declared.header.Header.{Header}
 use Rattle.pm_format.specs.LookUp.{range_of, leaf_of}
 use Rattle.pm_format.specs.Sound.{EachEntry, SoundDirectory}
+use Rattle.pm_writer.proofs.Found.{run_in}
 use Rattle.pm_writer.proofs.Ordered.{AllRun, Apart}
 use Rattle.pm_writer.specs.Maps.{IsIn}
 
@@ -28,18 +29,13 @@ each_tile P low limit (e ∷ f ∷ es) w a l u p = (
     later d (inl s) = omega (arith, ap (λ z. z.tile_id) s)
     later d (inr i) = omega (arith, after f d es w.1 i)
 
-run_of : (e : Entry) (es : List Entry) → AllRun es → IsIn e es → 1 ≤ e.run_length
-run_of e [] a i = absurd i
-run_of e (f ∷ es) a (inl s) = subst (λ z. 1 ≤ z.run_length) (sym s) a.0
-run_of e (f ∷ es) a (inr i) = run_of e es a.1 i
-
 -- a directory of tile entries is sound where their ranges are there
 pub tiles_sound : (n : ℕ) (h : Header) (b : List ℕ) (low limit : ℕ) (es : List Entry) → Apart es → AllRun es → ((e : Entry) → IsIn e es → low ≤ e.tile_id) → ((e : Entry) → IsIn e es → e.tile_id + e.run_length ≤ limit)
     → ((e : Entry) → IsIn e es → IsSome (range_of b (h.data_offset + e.offset) e.length)) → SoundDirectory n h b low limit es
-tiles_sound zero h b low limit es w a l u r = each_tile (λ e end. (e.run_length ≢ 0) × IsSome (range_of b (h.data_offset + e.offset) e.length)) low limit es w a l u (λ e end i. ((λ z. let k = run_of e es a i in omega (arith, k, z)), r e i))
+tiles_sound zero h b low limit es w a l u r = each_tile (λ e end. (e.run_length ≢ 0) × IsSome (range_of b (h.data_offset + e.offset) e.length)) low limit es w a l u (λ e end i. ((λ z. let k = run_in e es a i in omega (arith, k, z)), r e i))
 tiles_sound (suc n) h b low limit es w a l u r =
     each_tile (λ e end. (e.run_length ≢ 0 → IsSome (range_of b (h.data_offset + e.offset) e.length)) × (e.run_length ≡ 0 → (leaf : List Entry) × (leaf_of h b e ≡ Ok leaf) × SoundDirectory n h b e.tile_id end leaf)) low limit es w a l u
-    (λ e end i. ((λ z. r e i), (λ z. absurd (let k = run_of e es a i in omega (arith, k, z)))))
+    (λ e end i. ((λ z. r e i), (λ z. absurd (let k = run_in e es a i in omega (arith, k, z)))))
 
 pub run_left : (es fs : List Entry) → AllRun (es ++ fs) → AllRun es
 run_left [] fs a = tt

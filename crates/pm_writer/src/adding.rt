@@ -1,5 +1,7 @@
 // Adds to an archive that is begun.
-ghost use Rattle.std.specs.Prelude.{◌≡◌, ◌≤◌, ◌<◌, ◌+◌, ◌^◌, ℕ, List, [], ◌∷◌, ◌++◌, false, length, None, Err, IfOk, IfErr, OnOk, OnErr, IsTrue, IsFalse, is_some};
+ghost use Rattle.std.specs.Prelude.{◌≡◌, ◌≤◌, ◌<◌, ◌+◌, ◌^◌, ℕ, List, [], ◌∷◌, ◌++◌, false, length, None, Err, IfOk, IfErr, OnOk, IsTrue, IsFalse};
+ghost use Rattle.byte_media.specs.Kept.{KeepsMedium, ReadsOnly};
+ghost use Rattle.pm_writer.specs.Adding.{IsAdded, IsCaused, IsQuiet, IsUnadded, TakenFor, WhereWrites, WritesSome};
 ghost use Rattle.tile_ids.specs.declared.id.TheConstants.{MAX_TILE_ID};
 ghost use Rattle.tile_ids.specs.Hilbert.{id_of};
 ghost use Rattle.pm_format.specs.Options.{Options};
@@ -8,9 +10,9 @@ ghost use Rattle.pm_writer.specs.Causes.{AddCauses, failed_after};
 ghost use Rattle.pm_writer.specs.Adds.{contents_from};
 ghost use Rattle.pm_contents.specs.Sought.{FoundAs, IsSought, piece_sought, place_sought};
 ghost use Rattle.pm_writer.specs.Pieces.{PutCauses};
-ghost use Rattle.pm_writer.specs.Took.{AreUnlike, Took, TookBy};
+ghost use Rattle.pm_writer.specs.Took.{Took};
 ghost use Rattle.tile_hash.specs.Xxh3.{xxh3_64};
-ghost use Rattle.pm_writer.specs.Writing.{AddFits, FilledFits, Writes, add_to, has_failed};
+ghost use Rattle.pm_writer.specs.Writing.{FilledFits, Writes, has_failed};
 
 use crate::WriterState;
 use pm_contents::Sought;
@@ -21,8 +23,12 @@ impl WriterState {
     // Whether sought bytes can be added: known ones, and new ones that don't end past u64.
     fn fits(&self, size: u32, sought: &Sought) -> bool
         requires { self.now.data_offset + self.now.adds.contents.total < 2 ^ 64 }
-        ensures yes { IsTrue result → (x : List ℕ) → length x ≡ size → self.now.data_offset + self.now.adds.contents.total + length (piece_sought sought.now x) < 2 ^ 64 }
-        ensures no { IsFalse result → (place_sought sought.now ≡ None) × (2 ^ 64 ≤ self.now.data_offset + self.now.adds.contents.total + size) }
+        ensures yes { IsTrue result → (x : List ℕ) → length x ≡ size
+            → self.now.data_offset + self.now.adds.contents.total
+            + length (piece_sought sought.now x) < 2 ^ 64 }
+        ensures no { IsFalse result
+            → (place_sought sought.now ≡ None)
+            × (2 ^ 64 ≤ self.now.data_offset + self.now.adds.contents.total + size) }
     {
         let end = self.data_offset + self.adds.total();
         !sought.is_new() || u64::from(size) <= u64::MAX - end
@@ -32,21 +38,21 @@ impl WriterState {
     fn seek<M: Medium>(&mut self, medium: &mut M, bytes: &[u8]) -> PmtResult<Sought>
         requires alive { has_failed self.old ≡ false }
         requires some { 0 < length bytes.now }
-        requires writes { (o : Options) × (adds : List (ℕ × List ℕ)) × Writes o (M.told medium.old) self.old adds }
-        ensures found { (o : Options) (adds : List (ℕ × List ℕ)) → Writes o (M.told medium.old) self.old adds
-            → IfOk result (λ s. (taken : List ℕ) × TookBy (M.told medium.old) (M.reads medium.old) (M.reads medium.new) bytes.now taken × FoundAs xxh3_64 self.new.adds.contents (contents_from [] adds) bytes.now s taken) }
+        requires writes { WritesSome (M.told medium.old) self.old }
+        ensures found { WhereWrites (M.told medium.old) self.old (λ o adds. IfOk result
+            (λ s. TakenFor M.told M.reads medium.old medium.new bytes.now
+            (FoundAs xxh3_64 self.new.adds.contents (contents_from [] adds) bytes.now s))) }
         ensures sought { IfOk result (IsSought xxh3_64 self.new.adds.contents bytes.now) }
-        ensures quiet { (o : Options) (adds : List (ℕ × List ℕ)) → Writes o (M.told medium.old) self.old adds → AreUnlike (contents_from [] adds) bytes.now → M.reads medium.new ≡ M.reads medium.old }
-        ensures kept { (o : Options) (adds : List (ℕ × List ℕ)) → Writes o (M.told medium.old) self.old adds → Writes o (M.told medium.new) self.new adds }
-        ensures causes { IfErr result (λ e. PutCauses (M.faults medium.old) (M.faults medium.new) (Err e)) }
+        ensures quiet { IsQuiet M.told M.reads medium.old medium.new self.old bytes.now }
+        ensures same { WhereWrites (M.told medium.old) self.old
+            (λ o adds. Writes o (M.told medium.new) self.new adds) }
+        ensures causes { IfErr result
+            (λ e. PutCauses (M.faults medium.old) (M.faults medium.new) (Err e)) }
         ensures alive { OnOk result (has_failed self.new ≡ false) }
         ensures failed { IfErr result (λ e. has_failed self.new ≡ failed_after false (Err e)) }
-        ensures told { M.told medium.new ≡ M.told medium.old }
-        ensures versions { M.versions medium.new ≡ M.versions medium.old }
-        ensures faults { M.faults medium.old ≤ M.faults medium.new }
         ensures counted { M.reads medium.old ≤ M.reads medium.new }
         ensures reads { M.reads medium.new ≤ M.reads medium.old + 1 }
-        ensures calm { M.steady medium.old → M.steady medium.new × (M.faults medium.new ≡ M.faults medium.old) }
+        ensures kept { ReadsOnly M.told M.versions M.faults M.steady medium.old medium.new }
     {
         match self.adds.seek(self.alloc, medium, self.data_offset, bytes) {
             Ok(sought) => Ok(sought),
@@ -72,18 +78,21 @@ impl WriterState {
         requires some { 0 < length bytes.now }
         requires size { size ≡ length bytes.now }
         requires sought { IsSought xxh3_64 self.old.adds.contents bytes.now sought }
-        requires fits { self.old.data_offset + self.old.adds.contents.total + length (piece_sought sought bytes.now) < 2 ^ 64 }
-        requires writes { (o : Options) × (adds : List (ℕ × List ℕ)) × Writes o (M.told medium.old) self.old adds }
-        ensures added { (o : Options) (adds : List (ℕ × List ℕ)) (taken : List ℕ) → Writes o (M.told medium.old) self.old adds → Took (M.told medium.old) bytes.now taken → FoundAs xxh3_64 self.old.adds.contents (contents_from [] adds) bytes.now sought taken
-            → OnOk result (FilledFits o adds id taken × Writes o (M.told medium.new) self.new (adds ++ (id, taken) ∷ [])) }
-        ensures kept { (o : Options) (adds : List (ℕ × List ℕ)) → Writes o (M.told medium.old) self.old adds → OnErr result (Writes o (M.told medium.new) self.new adds) }
+        requires fits { self.old.data_offset + self.old.adds.contents.total
+            + length (piece_sought sought bytes.now) < 2 ^ 64 }
+        requires writes { WritesSome (M.told medium.old) self.old }
+        ensures added { (o : Options) (adds : List (ℕ × List ℕ)) (taken : List ℕ)
+            → Writes o (M.told medium.old) self.old adds → Took (M.told medium.old) bytes.now taken
+            → FoundAs xxh3_64 self.old.adds.contents (contents_from [] adds) bytes.now sought taken
+            → OnOk result
+            (FilledFits o adds id taken
+            × Writes o (M.told medium.new) self.new (adds ++ (id, taken) ∷ [])) }
+        ensures refused { IsUnadded M.told medium.old medium.new self.old self.new result }
         ensures causes { PutCauses (M.faults medium.old) (M.faults medium.new) result }
         ensures failed { has_failed self.new ≡ failed_after false result }
-        ensures tells { is_some (M.told medium.new) ≡ is_some (M.told medium.old) }
-        ensures versions { is_some (M.versions medium.new) ≡ is_some (M.versions medium.old) }
-        ensures faults { M.faults medium.old ≤ M.faults medium.new }
         ensures reads { M.reads medium.new ≡ M.reads medium.old }
-        ensures calm { M.steady medium.old → M.steady medium.new × (M.faults medium.new ≡ M.faults medium.old) }
+        ensures kept { KeepsMedium M.told M.versions M.reads M.faults M.steady
+            medium.old medium.new }
     {
         match self
             .adds
@@ -103,19 +112,20 @@ impl WriterState {
         requires alive { has_failed self.old ≡ false }
         requires id { id ≤ MAX_TILE_ID }
         requires some { 0 < length bytes.now }
-        requires writes { (o : Options) × (adds : List (ℕ × List ℕ)) × Writes o (M.told medium.old) self.old adds }
-        ensures added { (o : Options) (adds : List (ℕ × List ℕ)) → Writes o (M.told medium.old) self.old adds → OnOk result ((taken : List ℕ) × TookBy (M.told medium.old) (M.reads medium.old) (M.reads medium.new) bytes.now taken × Writes o (M.told medium.new) self.new (adds ++ (id, taken) ∷ [])) }
-        ensures kept { (o : Options) (adds : List (ℕ × List ℕ)) → Writes o (M.told medium.old) self.old adds → OnErr result (Writes o (M.told medium.new) self.new adds) }
-        ensures causes { (o : Options) (adds : List (ℕ × List ℕ)) → Writes o (M.told medium.old) self.old adds
-            → (taken : List ℕ) × TookBy (M.told medium.old) (M.reads medium.old) (M.reads medium.new) bytes.now taken × AddCauses compression.None false (length bytes.now) (FilledFits o adds id taken) (M.faults medium.old) (M.faults medium.new) result }
+        requires writes { WritesSome (M.told medium.old) self.old }
+        ensures added { WhereWrites (M.told medium.old) self.old (λ o adds. OnOk result
+            (TakenFor M.told M.reads medium.old medium.new bytes.now
+            (λ taken. Writes o (M.told medium.new) self.new (adds ++ (id, taken) ∷ [])))) }
+        ensures refused { IsUnadded M.told medium.old medium.new self.old self.new result }
+        ensures causes { WhereWrites (M.told medium.old) self.old (λ o adds.
+            TakenFor M.told M.reads medium.old medium.new bytes.now
+            (λ taken. AddCauses compression.None false (length bytes.now)
+            (FilledFits o adds id taken) (M.faults medium.old) (M.faults medium.new) result)) }
         ensures failed { has_failed self.new ≡ failed_after false result }
-        ensures tells { is_some (M.told medium.new) ≡ is_some (M.told medium.old) }
-        ensures versions { is_some (M.versions medium.new) ≡ is_some (M.versions medium.old) }
-        ensures faults { M.faults medium.old ≤ M.faults medium.new }
-        ensures counted { M.reads medium.old ≤ M.reads medium.new }
         ensures reads { M.reads medium.new ≤ M.reads medium.old + 1 }
-        ensures quiet { (o : Options) (adds : List (ℕ × List ℕ)) → Writes o (M.told medium.old) self.old adds → AreUnlike (contents_from [] adds) bytes.now → M.reads medium.new ≡ M.reads medium.old }
-        ensures calm { M.steady medium.old → M.steady medium.new × (M.faults medium.new ≡ M.faults medium.old) }
+        ensures quiet { IsQuiet M.told M.reads medium.old medium.new self.old bytes.now }
+        ensures kept { KeepsMedium M.told M.versions M.reads M.faults M.steady
+            medium.old medium.new }
     {
         let Ok(size) = u32::try_from(bytes.len()) else {
             return Err(PmtError::IndexEntryOverflow);
@@ -141,21 +151,19 @@ impl WriterState {
         id: TileId,
         bytes: &[u8],
     ) -> PmtResult<()>
-        requires writes { (o : Options) × (adds : List (ℕ × List ℕ)) × Writes o (M.told medium.old) self.old adds }
-        ensures writes { (o : Options) × (adds : List (ℕ × List ℕ)) × Writes o (M.told medium.new) self.new adds }
-        ensures added { (o : Options) (adds : List (ℕ × List ℕ)) → Writes o (M.told medium.old) self.old adds → OnOk result ((taken : List ℕ) × TookBy (M.told medium.old) (M.reads medium.old) (M.reads medium.new) bytes.now taken × Writes o (M.told medium.new) self.new (add_to adds id taken)) }
-        ensures kept { (o : Options) (adds : List (ℕ × List ℕ)) → Writes o (M.told medium.old) self.old adds → OnErr result (Writes o (M.told medium.new) self.new adds) }
-        ensures causes { (o : Options) (adds : List (ℕ × List ℕ)) → Writes o (M.told medium.old) self.old adds
-            → (taken : List ℕ) × TookBy (M.told medium.old) (M.reads medium.old) (M.reads medium.new) bytes.now taken × AddCauses compression.None (has_failed self.old) (length bytes.now) (AddFits o adds id taken) (M.faults medium.old) (M.faults medium.new) result }
+        requires writes { WritesSome (M.told medium.old) self.old }
+        ensures writes { WritesSome (M.told medium.new) self.new }
+        ensures added { IsAdded M.told M.reads medium.old medium.new self.old self.new
+            id bytes.now result }
+        ensures refused { IsUnadded M.told medium.old medium.new self.old self.new result }
+        ensures causes { IsCaused (λ _. compression.None) M.told M.reads M.faults
+            medium.old medium.new self.old id bytes.now result }
         ensures empty { length bytes.now ≡ 0 → (self.new ≡ self.old) × (medium.new ≡ medium.old) }
         ensures failed { has_failed self.new ≡ failed_after (has_failed self.old) result }
-        ensures tells { is_some (M.told medium.new) ≡ is_some (M.told medium.old) }
-        ensures versions { is_some (M.versions medium.new) ≡ is_some (M.versions medium.old) }
-        ensures faults { M.faults medium.old ≤ M.faults medium.new }
-        ensures counted { M.reads medium.old ≤ M.reads medium.new }
         ensures reads { M.reads medium.new ≤ M.reads medium.old + 1 }
-        ensures quiet { (o : Options) (adds : List (ℕ × List ℕ)) → Writes o (M.told medium.old) self.old adds → AreUnlike (contents_from [] adds) bytes.now → M.reads medium.new ≡ M.reads medium.old }
-        ensures calm { M.steady medium.old → M.steady medium.new × (M.faults medium.new ≡ M.faults medium.old) }
+        ensures quiet { IsQuiet M.told M.reads medium.old medium.new self.old bytes.now }
+        ensures kept { KeepsMedium M.told M.versions M.reads M.faults M.steady
+            medium.old medium.new }
     {
         if self.failed {
             return Err(PmtError::Failed);
@@ -173,21 +181,19 @@ impl WriterState {
         coord: TileCoord,
         bytes: &[u8],
     ) -> PmtResult<()>
-        requires writes { (o : Options) × (adds : List (ℕ × List ℕ)) × Writes o (M.told medium.old) self.old adds }
-        ensures writes { (o : Options) × (adds : List (ℕ × List ℕ)) × Writes o (M.told medium.new) self.new adds }
-        ensures added { (o : Options) (adds : List (ℕ × List ℕ)) → Writes o (M.told medium.old) self.old adds → OnOk result ((taken : List ℕ) × TookBy (M.told medium.old) (M.reads medium.old) (M.reads medium.new) bytes.now taken × Writes o (M.told medium.new) self.new (add_to adds (id_of coord) taken)) }
-        ensures kept { (o : Options) (adds : List (ℕ × List ℕ)) → Writes o (M.told medium.old) self.old adds → OnErr result (Writes o (M.told medium.new) self.new adds) }
-        ensures causes { (o : Options) (adds : List (ℕ × List ℕ)) → Writes o (M.told medium.old) self.old adds
-            → (taken : List ℕ) × TookBy (M.told medium.old) (M.reads medium.old) (M.reads medium.new) bytes.now taken × AddCauses compression.None (has_failed self.old) (length bytes.now) (AddFits o adds (id_of coord) taken) (M.faults medium.old) (M.faults medium.new) result }
+        requires writes { WritesSome (M.told medium.old) self.old }
+        ensures writes { WritesSome (M.told medium.new) self.new }
+        ensures added { IsAdded M.told M.reads medium.old medium.new self.old self.new
+            (id_of coord) bytes.now result }
+        ensures refused { IsUnadded M.told medium.old medium.new self.old self.new result }
+        ensures causes { IsCaused (λ _. compression.None) M.told M.reads M.faults
+            medium.old medium.new self.old (id_of coord) bytes.now result }
         ensures empty { length bytes.now ≡ 0 → (self.new ≡ self.old) × (medium.new ≡ medium.old) }
         ensures failed { has_failed self.new ≡ failed_after (has_failed self.old) result }
-        ensures tells { is_some (M.told medium.new) ≡ is_some (M.told medium.old) }
-        ensures versions { is_some (M.versions medium.new) ≡ is_some (M.versions medium.old) }
-        ensures faults { M.faults medium.old ≤ M.faults medium.new }
-        ensures counted { M.reads medium.old ≤ M.reads medium.new }
         ensures reads { M.reads medium.new ≤ M.reads medium.old + 1 }
-        ensures quiet { (o : Options) (adds : List (ℕ × List ℕ)) → Writes o (M.told medium.old) self.old adds → AreUnlike (contents_from [] adds) bytes.now → M.reads medium.new ≡ M.reads medium.old }
-        ensures calm { M.steady medium.old → M.steady medium.new × (M.faults medium.new ≡ M.faults medium.old) }
+        ensures quiet { IsQuiet M.told M.reads medium.old medium.new self.old bytes.now }
+        ensures kept { KeepsMedium M.told M.versions M.reads M.faults M.steady
+            medium.old medium.new }
     {
         self.add_raw_tile_by_id(medium, TileId::from(coord), bytes)
     }
@@ -199,21 +205,19 @@ impl WriterState {
         coord: TileCoord,
         bytes: &[u8],
     ) -> PmtResult<()>
-        requires writes { (o : Options) × (adds : List (ℕ × List ℕ)) × Writes o (M.told medium.old) self.old adds }
-        ensures writes { (o : Options) × (adds : List (ℕ × List ℕ)) × Writes o (M.told medium.new) self.new adds }
-        ensures added { (o : Options) (adds : List (ℕ × List ℕ)) → Writes o (M.told medium.old) self.old adds → OnOk result ((taken : List ℕ) × TookBy (M.told medium.old) (M.reads medium.old) (M.reads medium.new) bytes.now taken × Writes o (M.told medium.new) self.new (add_to adds (id_of coord) taken)) }
-        ensures kept { (o : Options) (adds : List (ℕ × List ℕ)) → Writes o (M.told medium.old) self.old adds → OnErr result (Writes o (M.told medium.new) self.new adds) }
-        ensures causes { (o : Options) (adds : List (ℕ × List ℕ)) → Writes o (M.told medium.old) self.old adds
-            → (taken : List ℕ) × TookBy (M.told medium.old) (M.reads medium.old) (M.reads medium.new) bytes.now taken × AddCauses o.tile_compression (has_failed self.old) (length bytes.now) (AddFits o adds (id_of coord) taken) (M.faults medium.old) (M.faults medium.new) result }
+        requires writes { WritesSome (M.told medium.old) self.old }
+        ensures writes { WritesSome (M.told medium.new) self.new }
+        ensures added { IsAdded M.told M.reads medium.old medium.new self.old self.new
+            (id_of coord) bytes.now result }
+        ensures refused { IsUnadded M.told medium.old medium.new self.old self.new result }
+        ensures causes { IsCaused (λ o. o.tile_compression) M.told M.reads M.faults
+            medium.old medium.new self.old (id_of coord) bytes.now result }
         ensures empty { length bytes.now ≡ 0 → (self.new ≡ self.old) × (medium.new ≡ medium.old) }
         ensures failed { has_failed self.new ≡ failed_after (has_failed self.old) result }
-        ensures tells { is_some (M.told medium.new) ≡ is_some (M.told medium.old) }
-        ensures versions { is_some (M.versions medium.new) ≡ is_some (M.versions medium.old) }
-        ensures faults { M.faults medium.old ≤ M.faults medium.new }
-        ensures counted { M.reads medium.old ≤ M.reads medium.new }
         ensures reads { M.reads medium.new ≤ M.reads medium.old + 1 }
-        ensures quiet { (o : Options) (adds : List (ℕ × List ℕ)) → Writes o (M.told medium.old) self.old adds → AreUnlike (contents_from [] adds) bytes.now → M.reads medium.new ≡ M.reads medium.old }
-        ensures calm { M.steady medium.old → M.steady medium.new × (M.faults medium.new ≡ M.faults medium.old) }
+        ensures quiet { IsQuiet M.told M.reads medium.old medium.new self.old bytes.now }
+        ensures kept { KeepsMedium M.told M.versions M.reads M.faults M.steady
+            medium.old medium.new }
     {
         let label = self.settings.tile_compression;
         if self.failed {

@@ -1,10 +1,11 @@
 // The adds so far: their contents once each, and their entries.
-ghost use Rattle.std.specs.Prelude.{◌≡◌, ◌<◌, ◌≤◌, ◌&&◌, ◌+◌, ℕ, List, [], ◌∷◌, ◌++◌, ◌^◌, length, IfSome, IfOk, OnOk, OnErr, IsErrOf, is_some, vec_len};
+ghost use Rattle.std.specs.Prelude.{◌≡◌, ◌<◌, ◌≤◌, ◌&&◌, ◌+◌, ℕ, List, [], ◌∷◌, ◌++◌, ◌^◌, length, IfSome, IfOk, OnOk, OnErr, IsErrOf, vec_len};
 ghost use Rattle.std.specs.Vec.{vec_capacity};
+ghost use Rattle.byte_media.specs.Kept.{KeepsMedium, ReadsOnly};
+ghost use Rattle.pm_writer.specs.Adding.{TakenFor};
 ghost use Rattle.base_values.specs.Counts.{Rose};
 ghost use Rattle.tile_ids.specs.declared.id.TheConstants.{MAX_TILE_ID};
 ghost use Rattle.byte_media.specs.Media.{IsWithin};
-ghost use Rattle.pm_format.specs.Directory.{entry};
 ghost use Rattle.pm_writer.specs.Adds.{contents_from, longest_run};
 ghost use Rattle.pm_writer.specs.Archive.{ids_of, rising};
 ghost use Rattle.pm_contents.specs.Contents.{Finds, IsAlike, IsTold};
@@ -13,7 +14,7 @@ ghost use Rattle.pm_contents.specs.Places.{found_in};
 ghost use Rattle.pm_contents.specs.Pieces.{LeavesPiece};
 ghost use Rattle.pm_writer.specs.Growing.{grows, put};
 ghost use Rattle.pm_writer.specs.Means.{Means, is_above};
-ghost use Rattle.pm_writer.specs.Took.{AreUnlike, TookBy};
+ghost use Rattle.pm_writer.specs.Took.{AreUnlike};
 ghost use Rattle.tile_hash.specs.Xxh3.{xxh3_64};
 
 use base_values::OutOfMemory;
@@ -95,7 +96,8 @@ impl Adds {
 
     /// How many contents there are.
     pub(crate) fn count(&self) -> u64
-        ensures { (adds : List (ℕ × List ℕ)) → Means self.now adds → result ≡ length (contents_from [] adds) }
+        ensures { (adds : List (ℕ × List ℕ)) → Means self.now adds
+            → result ≡ length (contents_from [] adds) }
     {
         self.contents.count()
     }
@@ -111,7 +113,8 @@ impl Adds {
     pub(crate) fn reserve(&mut self, additional: usize) -> Result<(), OutOfMemory>
         ensures same { (adds : List (ℕ × List ℕ)) → Means self.old adds → Means self.new adds }
         ensures contents { self.new.contents ≡ self.old.contents }
-        ensures room { OnOk result (vec_len self.new.entries + additional ≤ vec_capacity self.new.entries) }
+        ensures room { OnOk result
+            (vec_len self.new.entries + additional ≤ vec_capacity self.new.entries) }
     {
         self.entries.reserve(additional)?;
         Ok(())
@@ -129,17 +132,20 @@ impl Adds {
         requires ends { from + self.now.contents.total < 2 ^ 64 }
         requires within { IfSome (M.told medium.old) (IsWithin (from + self.now.contents.total)) }
         requires means { (adds : List (ℕ × List ℕ)) × Means self.now adds }
-        ensures found { (adds : List (ℕ × List ℕ)) → Means self.now adds → IfSome (M.told medium.old) (IsTold xxh3_64 from self.now.contents (contents_from [] adds))
-            → IfOk result (λ s. (taken : List ℕ) × TookBy (M.told medium.old) (M.reads medium.old) (M.reads medium.new) bytes.now taken × FoundAs xxh3_64 self.now.contents (contents_from [] adds) bytes.now s taken) }
+        ensures found { (adds : List (ℕ × List ℕ)) → Means self.now adds
+            → IfSome (M.told medium.old) (IsTold xxh3_64 from self.now.contents
+            (contents_from [] adds))
+            → IfOk result (λ s. TakenFor M.told M.reads medium.old medium.new bytes.now
+            (FoundAs xxh3_64 self.now.contents (contents_from [] adds) bytes.now s)) }
         ensures sought { IfOk result (IsSought xxh3_64 self.now.contents bytes.now) }
-        ensures quiet { (adds : List (ℕ × List ℕ)) → Means self.now adds → AreUnlike (contents_from [] adds) bytes.now → M.reads medium.new ≡ M.reads medium.old }
-        ensures cause { IsErrOf result WriteFault.Fault → Rose (M.faults medium.old) (M.faults medium.new) }
-        ensures told { M.told medium.new ≡ M.told medium.old }
-        ensures versions { M.versions medium.new ≡ M.versions medium.old }
-        ensures faults { M.faults medium.old ≤ M.faults medium.new }
+        ensures quiet { (adds : List (ℕ × List ℕ)) → Means self.now adds
+            → AreUnlike (contents_from [] adds) bytes.now
+            → M.reads medium.new ≡ M.reads medium.old }
+        ensures cause { IsErrOf result WriteFault.Fault
+            → Rose (M.faults medium.old) (M.faults medium.new) }
         ensures counted { M.reads medium.old ≤ M.reads medium.new }
         ensures reads { M.reads medium.new ≤ M.reads medium.old + 1 }
-        ensures calm { M.steady medium.old → M.steady medium.new × (M.faults medium.new ≡ M.faults medium.old) }
+        ensures kept { ReadsOnly M.told M.versions M.faults M.steady medium.old medium.new }
     {
         self.contents
             .seek(alloc, medium, from, xxh3_64(bytes), bytes)
@@ -160,20 +166,26 @@ impl Adds {
         requires size { size ≡ length bytes.now }
         requires sought { IsSought xxh3_64 self.old.contents bytes.now sought }
         requires within { IfSome (M.told medium.old) (IsWithin (from + self.old.contents.total)) }
-        requires fits { from + self.old.contents.total + length (piece_sought sought bytes.now) < 2 ^ 64 }
-        ensures added { (adds : List (ℕ × List ℕ)) (taken : List ℕ) → Means self.old adds → FoundAs xxh3_64 self.old.contents (contents_from [] adds) bytes.now sought taken
+        requires fits { from + self.old.contents.total + length (piece_sought sought bytes.now)
+            < 2 ^ 64 }
+        ensures added { (adds : List (ℕ × List ℕ)) (taken : List ℕ) → Means self.old adds
+            → FoundAs xxh3_64 self.old.contents (contents_from [] adds) bytes.now sought taken
             → OnOk result (Means self.new (adds ++ (id, taken) ∷ [])) }
-        ensures finds { (adds : List (ℕ × List ℕ)) → Means self.old adds → Finds xxh3_64 self.old.contents (contents_from [] adds) → found_in (contents_from [] adds) bytes.now ≡ place_sought sought
-            → OnOk result (Finds xxh3_64 self.new.contents (contents_from [] (adds ++ (id, bytes.now) ∷ []))) }
-        ensures kept { (adds : List (ℕ × List ℕ)) → Means self.old adds → OnErr result (Means self.new adds) }
+        ensures finds { (adds : List (ℕ × List ℕ)) → Means self.old adds
+            → Finds xxh3_64 self.old.contents (contents_from [] adds)
+            → found_in (contents_from [] adds) bytes.now ≡ place_sought sought
+            → OnOk result
+            (Finds xxh3_64 self.new.contents (contents_from [] (adds ++ (id, bytes.now) ∷ []))) }
+        ensures refused { (adds : List (ℕ × List ℕ)) → Means self.old adds
+            → OnErr result (Means self.new adds) }
         ensures alike { OnErr result (IsAlike self.old.contents self.new.contents) }
-        ensures leaves { LeavesPiece (from + self.old.contents.total) (piece_sought sought bytes.now) result (M.told medium.old) (M.told medium.new) }
-        ensures cause { IsErrOf result WriteFault.Fault → Rose (M.faults medium.old) (M.faults medium.new) }
-        ensures tells { is_some (M.told medium.new) ≡ is_some (M.told medium.old) }
-        ensures versions { is_some (M.versions medium.new) ≡ is_some (M.versions medium.old) }
-        ensures faults { M.faults medium.old ≤ M.faults medium.new }
+        ensures leaves { LeavesPiece (from + self.old.contents.total)
+            (piece_sought sought bytes.now) result (M.told medium.old) (M.told medium.new) }
+        ensures cause { IsErrOf result WriteFault.Fault
+            → Rose (M.faults medium.old) (M.faults medium.new) }
         ensures reads { M.reads medium.new ≡ M.reads medium.old }
-        ensures calm { M.steady medium.old → M.steady medium.new × (M.faults medium.new ≡ M.faults medium.old) }
+        ensures kept { KeepsMedium M.told M.versions M.reads M.faults M.steady
+            medium.old medium.new }
     {
         self.entries.reserve(1)?;
         let place = self.contents.put(medium, from, bytes, sought)?;

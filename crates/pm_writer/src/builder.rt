@@ -76,7 +76,12 @@ impl PmTilesWriter {
 
     /// With these bounds, in ten millionths of a degree.
     pub fn bounds(mut self, min_lon: i32, min_lat: i32, max_lon: i32, max_lat: i32) -> Self
-        ensures { result ≡ record self { min_longitude = min_lon; min_latitude = min_lat; max_longitude = max_lon; max_latitude = max_lat } }
+        ensures { result ≡ record self {
+          min_longitude = min_lon;
+          min_latitude = min_lat;
+          max_longitude = max_lon;
+          max_latitude = max_lat;
+        } }
     {
         self.settings.min_longitude = min_lon;
         self.settings.min_latitude = min_lat;

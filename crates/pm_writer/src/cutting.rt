@@ -23,7 +23,10 @@ pub(crate) struct Directories {
 // The bytes of a root of these entries, where they fit it.
 fn root_bytes<E: AsWide>(alloc: Global, entries: &[E]) -> Result<Option<Vec<u8>>, OutOfMemory>
     requires { IsWritable 0 (map E.entry entries.now) }
-    ensures { IfOk result (λ r. MatchOption r (fits_root (map E.entry entries.now) ≡ false) (λ v. (fits_root (map E.entry entries.now) ≡ true) × (v.items ≡ dir_bytes (map E.entry entries.now)))) }
+    ensures { IfOk result
+        (λ r. MatchOption r (fits_root (map E.entry entries.now) ≡ false)
+        (λ v. (fits_root (map E.entry entries.now) ≡ true)
+        × (v.items ≡ dir_bytes (map E.entry entries.now)))) }
 {
     let bytes = encode_entries(alloc, entries)?;
     if bytes.len() > MAX_ROOT {
@@ -35,7 +38,9 @@ fn root_bytes<E: AsWide>(alloc: Global, entries: &[E]) -> Result<Option<Vec<u8>>
 // The bytes of a root of all entries, where they can stand in it themselves.
 fn flat_root(alloc: Global, entries: &[DirEntry]) -> Result<Option<Vec<u8>>, OutOfMemory>
     requires { DirFits 0 entries.now }
-    ensures { IfOk result (λ r. MatchOption r (stands_in_root entries.now ≡ false) (λ v. (stands_in_root entries.now ≡ true) × (v.items ≡ dir_bytes entries.now))) }
+    ensures { IfOk result
+        (λ r. MatchOption r (stands_in_root entries.now ≡ false)
+        (λ v. (stands_in_root entries.now ≡ true) × (v.items ≡ dir_bytes entries.now))) }
 {
     if entries.len() >= 16_384 {
         return Ok(None);
@@ -55,7 +60,8 @@ fn best_uppers(
     requires room { length names.now < 2 ^ 62 }
     requires place { place < 2 ^ 63 }
     requires some { 5 ≤ first }
-    ensures { IfOk result (λ r. IsRooted r.0 r.1.items place (found_uppers place first (map wide_as names.now))) }
+    ensures { IfOk result
+        (λ r. IsRooted r.0 r.1.items place (found_uppers place first (map wide_as names.now))) }
 {
     let mut size = first;
     loop {
@@ -71,8 +77,10 @@ fn best_uppers(
 impl Directories {
     // The bytes of the root with those of two levels. `IndexEntryOverflow` exactly where a directory has 2^32 bytes or more.
     fn join(root: Vec<u8>, leaves: Level, uppers: Level) -> PmtResult<Directories>
-        ensures are { (l : Layout) → IsLaid root.items leaves uppers l → IfOk result (λ d. AreDirectories d l) }
-        ensures causes { (l : Layout) → IsLaid root.items leaves uppers l → SizeCauses (AllShort (below_layout l)) result }
+        ensures are { (l : Layout) → IsLaid root.items leaves uppers l
+            → IfOk result (λ d. AreDirectories d l) }
+        ensures causes { (l : Layout) → IsLaid root.items leaves uppers l
+            → SizeCauses (AllShort (below_layout l)) result }
     {
         if !leaves.is_short() {
             return Err(PmtError::IndexEntryOverflow);
@@ -97,8 +105,10 @@ impl Directories {
     fn build_below(alloc: Global, entries: &[DirEntry], most: u32) -> PmtResult<Directories>
         requires fits { DirFits 0 entries.now }
         requires some { 5 ≤ most }
-        ensures are { stands_in_root entries.now ≡ false → IfOk result (λ d. AreDirectories d (laid most entries.now)) }
-        ensures causes { stands_in_root entries.now ≡ false → SizeCauses (AllShort (below_layout (laid most entries.now))) result }
+        ensures are { stands_in_root entries.now ≡ false
+            → IfOk result (λ d. AreDirectories d (laid most entries.now)) }
+        ensures causes { stands_in_root entries.now ≡ false
+            → SizeCauses (AllShort (below_layout (laid most entries.now))) result }
     {
         let leaves = cut_level(alloc, entries, most as usize, 0)?;
         let root = root_bytes(alloc, &leaves.names)?;

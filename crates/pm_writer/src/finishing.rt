@@ -1,12 +1,14 @@
 // The end of an archive: its directories and its header.
-ghost use Rattle.std.specs.Prelude.{◌≡◌, ◌≤◌, ◌<◌, ◌^◌, ℕ, List, sum_by, IfSome, IfOk, OnOk, is_some};
+ghost use Rattle.std.specs.Prelude.{◌≡◌, ◌<◌, ◌^◌, ℕ, List, sum_by, IfSome, IfOk, OnOk};
+ghost use Rattle.byte_media.specs.Kept.{KeepsMedium};
+ghost use Rattle.pm_writer.specs.Adding.{WhereWrites, WritesSome};
 ghost use Rattle.pm_format.specs.Options.{Options};
 ghost use Rattle.pm_writer.specs.Archive.{archive};
 ghost use Rattle.pm_writer.specs.Causes.{AssembleCauses, FinishCauses};
 ghost use Rattle.pm_writer.specs.Finishing.{IsAssembled};
 ghost use Rattle.pm_writer.specs.Pieces.{IsHiddenOr};
 ghost use Rattle.pm_writer.specs.Places.{places_of};
-ghost use Rattle.pm_writer.specs.Writing.{IsStateOf, Writes, has_failed};
+ghost use Rattle.pm_writer.specs.Writing.{IsStateOf, has_failed};
 
 use crate::cutting::Directories;
 use crate::pieces::write_parts;
@@ -40,8 +42,10 @@ impl WriterState {
     // there is one; `IndexEntryOverflow` exactly where a directory has 2^32 bytes or more, or the archive would end past u64; `OutOfMemory`.
     fn assemble(self) -> PmtResult<Assembled>
         requires { (o : Options) × (adds : List (ℕ × List ℕ)) × IsStateOf o self adds }
-        ensures is { (o : Options) (adds : List (ℕ × List ℕ)) → IsStateOf o self adds → IfOk result (λ a. IsAssembled o adds a) }
-        ensures causes { (o : Options) (adds : List (ℕ × List ℕ)) → IsStateOf o self adds → AssembleCauses o adds result }
+        ensures is { (o : Options) (adds : List (ℕ × List ℕ)) → IsStateOf o self adds
+            → IfOk result (λ a. IsAssembled o adds a) }
+        ensures causes { (o : Options) (adds : List (ℕ × List ℕ)) → IsStateOf o self adds
+            → AssembleCauses o adds result }
     {
         let data_length = self.adds.total();
         let contents = self.adds.count();
@@ -92,16 +96,18 @@ impl WriterState {
     /// `Reading(Fault)` only where the medium's count of faults rose; `OutOfMemory`. After each of them byte 97 of the medium, the label of directories, is 0, or the
     /// whole archive stands.
     pub fn finalize<M: Medium>(self, medium: &mut M) -> PmtResult<ArchivePlaces>
-        requires writes { (o : Options) × (adds : List (ℕ × List ℕ)) × Writes o (M.told medium.old) self adds }
-        ensures bytes { (o : Options) (adds : List (ℕ × List ℕ)) → Writes o (M.told medium.old) self adds → OnOk result (IfSome (M.told medium.new) (λ b. b ≡ archive o adds)) }
-        ensures places { (o : Options) (adds : List (ℕ × List ℕ)) → Writes o (M.told medium.old) self adds → IfOk result (λ p. p ≡ places_of o adds) }
-        ensures shown { (o : Options) (adds : List (ℕ × List ℕ)) → Writes o (M.told medium.old) self adds → IfSome (M.told medium.new) (IsHiddenOr (archive o adds)) }
-        ensures causes { (o : Options) (adds : List (ℕ × List ℕ)) → Writes o (M.told medium.old) self adds → FinishCauses o adds (has_failed self) (M.faults medium.old) (M.faults medium.new) result }
-        ensures tells { is_some (M.told medium.new) ≡ is_some (M.told medium.old) }
-        ensures versions { is_some (M.versions medium.new) ≡ is_some (M.versions medium.old) }
-        ensures faults { M.faults medium.old ≤ M.faults medium.new }
+        requires writes { WritesSome (M.told medium.old) self }
+        ensures bytes { WhereWrites (M.told medium.old) self
+            (λ o adds. OnOk result (IfSome (M.told medium.new) (λ b. b ≡ archive o adds))) }
+        ensures places { WhereWrites (M.told medium.old) self
+            (λ o adds. IfOk result (λ p. p ≡ places_of o adds)) }
+        ensures shown { WhereWrites (M.told medium.old) self
+            (λ o adds. IfSome (M.told medium.new) (IsHiddenOr (archive o adds))) }
+        ensures causes { WhereWrites (M.told medium.old) self (λ o adds. FinishCauses o adds
+            (has_failed self) (M.faults medium.old) (M.faults medium.new) result) }
         ensures reads { M.reads medium.new ≡ M.reads medium.old }
-        ensures calm { M.steady medium.old → M.steady medium.new × (M.faults medium.new ≡ M.faults medium.old) }
+        ensures kept { KeepsMedium M.told M.versions M.reads M.faults M.steady
+            medium.old medium.new }
     {
         if self.failed {
             return Err(PmtError::Failed);

@@ -29,7 +29,8 @@ impl Level {
 
     /// Whether each directory's size fits an entry.
     pub(crate) fn is_short(&self) -> bool
-        ensures { (place : ℕ) (ls : List (List Entry)) → IsCut self.now place ls → (IsTrue result ↔ AllShort ls) }
+        ensures { (place : ℕ) (ls : List (List Entry)) → IsCut self.now place ls
+            → (IsTrue result ↔ AllShort ls) }
     {
         are_short(&self.names)
     }

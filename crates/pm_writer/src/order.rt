@@ -32,7 +32,9 @@ fn sort_by_id(entries: &mut Vec<DirEntry>)
 impl Adds {
     /// The entries by rising id, or the least id that was added twice.
     pub(crate) fn into_entries(self) -> Result<Vec<DirEntry>, u64>
-        ensures { (adds : List (ℕ × List ℕ)) → Means self adds → MatchResult result (λ v. (v.items ≡ entries_of_adds adds) × Distinct adds) (IsLeastTwice adds) }
+        ensures { (adds : List (ℕ × List ℕ)) → Means self adds
+            → MatchResult result (λ v. (v.items ≡ entries_of_adds adds) × Distinct adds)
+            (IsLeastTwice adds) }
     {
         let mut entries = self.into_unsorted();
         sort_by_id(&mut entries);

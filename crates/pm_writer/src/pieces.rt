@@ -1,5 +1,6 @@
 // Pieces that are written to a medium, and the order in which an archive is finished.
-ghost use Rattle.std.specs.Prelude.{◌≡◌, ◌≤◌, ◌<◌, ◌+◌, ◌^◌, length, IfSome, OnOk, IsErrOf, is_some};
+ghost use Rattle.std.specs.Prelude.{◌≡◌, ◌≤◌, ◌<◌, ◌+◌, ◌^◌, length, IfSome, OnOk, IsErrOf};
+ghost use Rattle.byte_media.specs.Kept.{KeepsMedium};
 ghost use Rattle.byte_media.specs.Media.{EndsBelow, IsWithin, written};
 ghost use Rattle.pm_writer.specs.Pieces.{IsHiddenOr, IsOpenTo, PutCauses, finished};
 ghost use Rattle.pm_contents.specs.Pieces.{BothTold, WroteFront};
@@ -10,15 +11,14 @@ use pm_format::{Header, Medium, PmtError, PmtResult, ReadCause, WriteFault};
 pub(crate) fn put<M: Medium>(medium: &mut M, offset: u64, piece: &[u8]) -> PmtResult<()>
     requires within { IfSome (M.told medium.old) (IsWithin offset) }
     requires fits { EndsBelow offset piece.now (2 ^ 64) }
-    ensures done { OnOk result (BothTold (λ b c. c ≡ written b offset piece.now) (M.told medium.old) (M.told medium.new)) }
+    ensures done { OnOk result
+        (BothTold (λ b c. c ≡ written b offset piece.now) (M.told medium.old) (M.told medium.new)) }
     ensures part { BothTold (WroteFront offset piece.now) (M.told medium.old) (M.told medium.new) }
-    ensures memory { IsErrOf result PmtError.OutOfMemory → BothTold (λ b c. c ≡ b) (M.told medium.old) (M.told medium.new) }
+    ensures memory { IsErrOf result PmtError.OutOfMemory
+        → BothTold (λ b c. c ≡ b) (M.told medium.old) (M.told medium.new) }
     ensures causes { PutCauses (M.faults medium.old) (M.faults medium.new) result }
-    ensures tells { is_some (M.told medium.new) ≡ is_some (M.told medium.old) }
-    ensures versions { is_some (M.versions medium.new) ≡ is_some (M.versions medium.old) }
-    ensures faults { M.faults medium.old ≤ M.faults medium.new }
     ensures reads { M.reads medium.new ≡ M.reads medium.old }
-    ensures calm { M.steady medium.old → M.steady medium.new × (M.faults medium.new ≡ M.faults medium.old) }
+    ensures kept { KeepsMedium M.told M.versions M.reads M.faults M.steady medium.old medium.new }
 {
     match medium.write_at(offset, piece) {
         Ok(()) => Ok(()),
@@ -40,14 +40,14 @@ pub(crate) fn write_parts<M: Medium>(
     requires small { length root.now ≤ 16257 }
     requires fits { end + length below.now < 2 ^ 64 }
     requires open { IfSome (M.told medium.old) (IsOpenTo end) }
-    ensures done { OnOk result (BothTold (λ b c. c ≡ finished b below.now root.now header.now) (M.told medium.old) (M.told medium.new)) }
-    ensures shown { BothTold (λ b c. IsHiddenOr (finished b below.now root.now header.now) c) (M.told medium.old) (M.told medium.new) }
+    ensures done { OnOk result
+        (BothTold (λ b c. c ≡ finished b below.now root.now header.now)
+        (M.told medium.old) (M.told medium.new)) }
+    ensures shown { BothTold (λ b c. IsHiddenOr (finished b below.now root.now header.now) c)
+        (M.told medium.old) (M.told medium.new) }
     ensures causes { PutCauses (M.faults medium.old) (M.faults medium.new) result }
-    ensures tells { is_some (M.told medium.new) ≡ is_some (M.told medium.old) }
-    ensures versions { is_some (M.versions medium.new) ≡ is_some (M.versions medium.old) }
-    ensures faults { M.faults medium.old ≤ M.faults medium.new }
     ensures reads { M.reads medium.new ≡ M.reads medium.old }
-    ensures calm { M.steady medium.old → M.steady medium.new × (M.faults medium.new ≡ M.faults medium.old) }
+    ensures kept { KeepsMedium M.told M.versions M.reads M.faults M.steady medium.old medium.new }
 {
     let label = header[97];
     let mut front = *header;

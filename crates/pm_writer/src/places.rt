@@ -44,7 +44,8 @@ impl ArchivePlaces {
         contents: u64,
     ) -> ArchivePlaces
         requires { data_offset + data_length + length directories.now.below.items < 2 ^ 64 }
-        ensures { result ≡ places_with directories.now data_offset data_length addressed entries contents }
+        ensures { result ≡ places_with directories.now data_offset data_length addressed entries
+            contents }
     {
         let end = data_offset + data_length;
         let leaf_length = directories.below.len() as u64;

@@ -30,7 +30,8 @@ pub struct WriterState {
 impl WriterState {
     /// Makes room for the entries of so many more adds, so that entries aren't moved as they come. After Ok there is room for them; what the writer means stays, also after `OutOfMemory`.
     pub fn reserve(&mut self, additional: usize) -> Result<(), OutOfMemory>
-        ensures same { (o : Options) (told : Option (List ℕ)) (adds : List (ℕ × List ℕ)) → Writes o told self.old adds → Writes o told self.new adds }
+        ensures same { (o : Options) (told : Option (List ℕ)) (adds : List (ℕ × List ℕ))
+            → Writes o told self.old adds → Writes o told self.new adds }
         ensures failed { has_failed self.new ≡ has_failed self.old }
         ensures room { OnOk result (additional ≤ room self.new) }
     {
@@ -54,14 +55,17 @@ impl PmTilesWriter {
         requires empty { IfSome (M.told medium.old) (λ b. b ≡ []) }
         ensures begun { IfOk result (λ s. Writes self.now (M.told medium.new) s []) }
         ensures alive { IfOk result (λ s. has_failed s ≡ false) }
-        ensures causes { CreateCauses self.now.internal_compression (M.faults medium.old) (M.faults medium.new) result }
+        ensures causes { CreateCauses self.now.internal_compression
+            (M.faults medium.old) (M.faults medium.new) result }
         ensures hidden { IfSome (M.told medium.new) IsHidden }
-        ensures refused { self.now.internal_compression ≢ compression.None → medium.new ≡ medium.old }
+        ensures refused { self.now.internal_compression ≢ compression.None
+            → medium.new ≡ medium.old }
         ensures tells { is_some (M.told medium.new) ≡ is_some (M.told medium.old) }
         ensures versions { is_some (M.versions medium.new) ≡ is_some (M.versions medium.old) }
         ensures faults { M.faults medium.old ≤ M.faults medium.new }
         ensures reads { M.reads medium.new ≡ M.reads medium.old }
-        ensures calm { M.steady medium.old → M.steady medium.new × (M.faults medium.new ≡ M.faults medium.old) }
+        ensures calm { M.steady medium.old
+            → M.steady medium.new × (M.faults medium.new ≡ M.faults medium.old) }
     {
         let label = self.directory_label();
         if label != Compression::None {

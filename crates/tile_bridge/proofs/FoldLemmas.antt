@@ -1,5 +1,5 @@
 -- Patches one after another.
-use Rattle.std.proofs.Common.{◌≡◌, ◌∙◌, ap, sym, subst, refl, arith, ℕ, suc, zero, ◌+◌, ◌<◌, ◌≤◌, Bool, true, false, cond, List, [], ◌∷◌, ◌++◌, drop, get_or, length, map, set, take, All, Option, Some, None, Result, Ok, Err, IfErr, IfSome, IsErrAnd}
+use Rattle.std.proofs.Common.{◌≡◌, ◌∙◌, ap, sym, subst, refl, arith, ℕ, suc, zero, ◌+◌, ◌<◌, ◌≤◌, Bool, true, false, cond, List, [], ◌∷◌, ◌++◌, drop, get_or, length, map, set, take, Option, Some, None, Result, Ok, Err, IfErr, IfSome, IsErrAnd}
 use Rattle.std.proofs.Math.Seq.{map-set_same}
 use Rattle.std.proofs.lemmas.Bool.{and_parts}
 use Rattle.std.proofs.lemmas.List.{drop_all, drop_more, get_or-map, get_or-set_same, length-map, length-set, map-append, map-set, take_all, take_more}
@@ -13,6 +13,7 @@ use Rattle.mb_load.specs.Held.{Held}
 use Rattle.mb_load.specs.LoadedFrom.{IsLoadedFrom, NamesAlgorithm}
 use Rattle.mb_load.specs.State.{State, state_of}
 use Rattle.mb_tables.specs.Table.{Tables}
+use Rattle.mb_store.specs.Kept.{ReadsOnly}
 use Rattle.tile_bridge.specs.Outcome.{all_patched, at_place, one_patched, then}
 use Rattle.tile_bridge.specs.Patching.{AreToldBy, IsPatchedBy, IsPatchedByAll, all_held}
 use Rattle.tile_bridge.specs.Stores.{AreOnlyRead, IsDue, IsRefused, NoneFell, Refuses, RoseAt, due_patch, due_patches}
@@ -99,7 +100,7 @@ as_long tables old now same = omega (arith, ap length same, length-map now table
 
 -- one more patch
 module _ {P : Type 0} (tell : P → Bool) (tables : P → Tables) (failed : P → ℕ) (calm : P → Type 0) (force : Bool) (base : Held) (old now : List P) (n : ℕ) (h : Held) (so : Folded tell tables failed calm force base old now n h)
-    (x y : P) (low : n < length now) (is : x ≡ get_or now n x) (same : tables y ≡ tables x) (also : tell y ≡ tell x) (up : failed x ≤ failed y) (still : calm x → calm y × (failed y ≡ failed x)) where
+    (x y : P) (low : n < length now) (is : x ≡ get_or now n x) (kept : ReadsOnly tables tell failed calm x y) where
   abbrev pub after : List P
   after = set now n y
 
@@ -111,16 +112,15 @@ module _ {P : Type 0} (tell : P → Bool) (tables : P → Tables) (failed : P �
 
   pub read_after : AreOnlyRead tell tables failed calm old after
   read_after = record {
-    told = map-set_same tables now n y x (same ∙ ap tables is) ∙ so.read.told;
-    tells = map-set_same tell now n y x (also ∙ ap tell is) ∙ so.read.tells;
+    told = map-set_same tables now n y x (kept.told ∙ ap tables is) ∙ so.read.told;
+    tells = map-set_same tell now n y x (kept.tells ∙ ap tell is) ∙ so.read.tells;
     faults = λ place.
-        let up : slice_index (map failed now) n ≤ failed y = omega (arith, failed_at, up) in
+        let up : slice_index (map failed now) n ≤ failed y = omega (arith, failed_at, kept.faults) in
         omega (arith, so.read.faults place, none_fell (map failed now) n (failed y) up place, ap (λ xs. slice_index xs place) failed_after);
     steady = λ all.
         let before = so.read.steady all in
         let one : calm x = subst calm (sym is) (All-get_or calm now n x low before.0) in
-        let next = still one in
-        (All-set calm now n y next.0 before.0, map-set_same failed now n y x (next.1 ∙ ap failed is) ∙ before.1);
+        (All-set calm now n y (kept.steady one) before.0, map-set_same failed now n y x (kept.calm one ∙ ap failed is) ∙ before.1);
   }
 
   pub rose_after : Rose (failed x) (failed y) → RoseAt n (map failed old) (map failed after)

@@ -3,6 +3,7 @@ use Rattle.std.proofs.Common.{◌≡◌, ℕ, ◌+◌, ◌<◌, ◌≤◌, Bool,
 use Rattle.std.specs.Prelude.{IsOk}
 use Rattle.std.proofs.lemmas.Bool.Decides.{nat_tests}
 use Rattle.std.proofs.lemmas.List.{map-append, take_all, take_more}
+use Rattle.byte_media.specs.Kept.{ReadsOnly}
 use Rattle.tile_ids.specs.declared.id.TheConstants.{MAX_TILE_ID}
 use Rattle.tile_ids.specs.Coord.{Coord}
 use Rattle.tile_ids.specs.Hilbert.{id_of}
@@ -78,13 +79,10 @@ tile_given b t found tile low is same =
 -- after so many coordinates
 pub record SoFar {B V : Type 0} (told : B → Option (List ℕ)) (texts : B → V) (count failed : B → ℕ) (steady : B → Type 0) (s : ReaderState) (x y : B) (held : Held) (coords : List Coord) (n : ℕ) (tiles : List (Option (List ℕ))) : Type 0 where
   pub from : IfSome (told y) (λ b. ReadsFrom b s held ⊥)
-  pub same : told y ≡ told x
-  pub versions : texts y ≡ texts x
   pub answers : IfSome (told x) (λ b. (o : Options) → WellFormed b o true → tiles ≡ map (λ c. archive_map b (id_of c)) (take n coords))
-  pub faults : failed x ≤ failed y
   pub reads : GrewFrom (count x) (count y) (answered tiles + 1)
   pub counted : count x ≤ count y
-  pub calm : steady x → steady y × (failed y ≡ failed x)
+  pub kept : ReadsOnly told texts failed steady x y
 
 answered_more : (tiles : List (Option (List ℕ))) (tile : Option (List ℕ)) → answered (tiles ++ tile ∷ []) ≡ answered tiles + answered_by tile
 answered_more [] tile = omega arith

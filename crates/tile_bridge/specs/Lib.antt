@@ -1,7 +1,6 @@
 pub mod Adds
 pub mod Base
 pub mod Convert
-pub mod Kept
 pub mod Outcome
 pub mod Patching
 pub mod ReadingBack

@@ -1,10 +1,11 @@
 // The conversion of a set.
-ghost use Rattle.std.specs.Prelude.{◌≡◌, ◌≤◌, ◌+◌, ◌∷◌, false, map, ℕ, IfOk, IsErrOf};
+ghost use Rattle.std.specs.Prelude.{◌≡◌, ◌+◌, ◌∷◌, false, map, ℕ, IfOk, IsErrOf};
 ghost use Rattle.base_values.specs.Counts.{Rose};
+ghost use Rattle.byte_media.specs.Kept.{KeepsMedium};
 ghost use Rattle.mb_load.specs.Aggregate.{aggregate};
+ghost use Rattle.mb_store.specs.Kept.{Keeps};
 ghost use Rattle.tile_bridge.specs.Base.{BaseLeaves};
 ghost use Rattle.tile_bridge.specs.Convert.{ConvertCauses, ConvertLeaves, HasAggregate, IsEmpty, IsPlain, SetCauses, SetLeaves};
-ghost use Rattle.tile_bridge.specs.Kept.{KeepsMedium};
 ghost use Rattle.tile_bridge.specs.Outcome.{due, overflows};
 ghost use Rattle.tile_bridge.specs.ReadingBack.{GrewFrom, answered, of_read_error};
 ghost use Rattle.tile_bridge.specs.Stores.{AreOnlyRead, RoseAt};
@@ -103,18 +104,16 @@ pub fn convert<S: TileStore, P: TileStore, M: Medium>(
         coords.now result (M.told medium.new) (S.told base.old) (S.told base.new) }
     ensures patches { AreOnlyRead P.tells P.told P.faults P.steady
         patches.old.items patches.new.items }
-    ensures tells { S.tells base.new ≡ S.tells base.old }
     ensures store_fault { (place : ℕ) → IsErrOf result (ConvertError.StoreFault place)
         → RoseAt place (S.faults base.old ∷ map P.faults patches.old.items)
         (S.faults base.new ∷ map P.faults patches.new.items) }
-    ensures base_faults { S.faults base.old ≤ S.faults base.new }
-    ensures base_calm { S.steady base.old
-        → S.steady base.new × (S.faults base.new ≡ S.faults base.old) }
     ensures reads { IfOk result (λ report. GrewFrom (M.reads medium.old) (M.reads medium.new)
         (answered report.answers + 1)) }
     ensures fault { IsErrOf result ConvertError.MediumFault
         → Rose (M.faults medium.old) (M.faults medium.new) }
-    ensures kept { KeepsMedium M.told M.versions M.reads M.faults M.steady medium.old medium.new }
+    ensures base_kept { Keeps S.tells S.faults S.steady base.old base.new }
+    ensures medium_kept { KeepsMedium M.told M.versions M.reads M.faults M.steady
+        medium.old medium.new }
 {
     let length = medium.len()?;
     if length != 0 {

@@ -1,9 +1,10 @@
 // The stores of a conversion are loaded.
-ghost use Rattle.std.specs.Prelude.{◌≡◌, ◌≤◌, ℕ, true, Err, IfErr, IfOk, IsErrOf, Ok};
+ghost use Rattle.std.specs.Prelude.{◌≡◌, ℕ, true, Err, IfErr, IfOk, IsErrOf, Ok};
 ghost use Rattle.base_values.specs.Counts.{Rose};
 ghost use Rattle.mb_load.specs.Held.{nothing_edited};
 ghost use Rattle.mb_load.specs.State.{state_of};
 ghost use Rattle.mb_load.specs.LoadedFrom.{IsLoadable, IsLoadedFrom, NamesAlgorithm};
+ghost use Rattle.mb_store.specs.Kept.{ReadsOnly};
 ghost use Rattle.tile_bridge.specs.Patching.{HoldsState};
 ghost use Rattle.tile_bridge.specs.Stores.{Refuses, due_at, refusal_at};
 
@@ -39,13 +40,9 @@ pub(crate) fn load_at<S: TileStore>(
         → IfOk result (λ set. IsLoadedFrom (S.told store.old) set) }
     ensures whole { IfOk result (λ set. IsLoadable set.state) }
     ensures named { IfOk result (λ set. NamesAlgorithm set.state) }
-    ensures told { S.told store.new ≡ S.told store.old }
-    ensures tells { S.tells store.new ≡ S.tells store.old }
-    ensures faults { S.faults store.old ≤ S.faults store.new }
+    ensures kept { ReadsOnly S.told S.tells S.faults S.steady store.old store.new }
     ensures fault { (p : ℕ) → IsErrOf result (ConvertError.StoreFault p)
         → (p ≡ place) × Rose (S.faults store.old) (S.faults store.new) }
-    ensures calm { S.steady store.old
-        → S.steady store.new × (S.faults store.new ≡ S.faults store.old) }
 {
     match load(alloc, store) {
         Ok(set) => Ok(set),

@@ -1,8 +1,9 @@
 // Patches of a base, one after another.
-ghost use Rattle.std.specs.Prelude.{◌≡◌, ◌≤◌, ℕ, suc, map, true, IfErr, IfOk, IsErrOf, OnErr, OnOk};
+ghost use Rattle.std.specs.Prelude.{◌≡◌, ℕ, suc, map, true, IfErr, IfOk, IsErrOf, OnErr, OnOk};
 ghost use Rattle.base_values.specs.Counts.{Rose};
 ghost use Rattle.mb_load.specs.LoadedFrom.{IsLoadedFrom, NamesAlgorithm};
 ghost use Rattle.mb_tables.specs.Table.{Tables};
+ghost use Rattle.mb_store.specs.Kept.{Keeps, ReadsOnly};
 ghost use Rattle.tile_bridge.specs.Patching.{IsPatchedBy, IsPatchedByAll, IsStored};
 ghost use Rattle.tile_bridge.specs.Stores.{AreOnlyRead, IsDue, IsStoreError, Refuses, RoseAt, due_patch, due_patches};
 
@@ -28,13 +29,9 @@ fn patch_at<P: TileStore>(
     ensures held { IfOk result (IsPatchedBy force (P.tells patch.old) (P.told patch.old) set) }
     ensures loaded { (t : Tables) → IsLoadedFrom t set → NamesAlgorithm set.state
         → IfOk result (λ next. IsLoadedFrom t next × NamesAlgorithm next.state) }
-    ensures told { P.told patch.new ≡ P.told patch.old }
-    ensures tells { P.tells patch.new ≡ P.tells patch.old }
-    ensures faults { P.faults patch.old ≤ P.faults patch.new }
+    ensures kept { ReadsOnly P.told P.tells P.faults P.steady patch.old patch.new }
     ensures fault { (p : ℕ) → IsErrOf result (ConvertError.StoreFault p)
         → (p ≡ place) × Rose (P.faults patch.old) (P.faults patch.new) }
-    ensures calm { P.steady patch.old
-        → P.steady patch.new × (P.faults patch.new ≡ P.faults patch.old) }
 {
     let patch = load_at(alloc, patch, place)?;
     match patch_loaded(alloc, set, &patch, force) {
@@ -84,11 +81,9 @@ pub(crate) fn store_patches<S: TileStore>(
         → OnOk result (IsStored patched set.now (S.told base.old) (S.told base.new)) }
     ensures refused { OnErr result (S.told base.new ≡ S.told base.old) }
     ensures causes { IfErr result IsStoreError }
-    ensures tells { S.tells base.new ≡ S.tells base.old }
-    ensures faults { S.faults base.old ≤ S.faults base.new }
+    ensures kept { Keeps S.tells S.faults S.steady base.old base.new }
     ensures fault { (p : ℕ) → IsErrOf result (ConvertError.StoreFault p)
         → (p ≡ 0) × Rose (S.faults base.old) (S.faults base.new) }
-    ensures calm { S.steady base.old → S.steady base.new × (S.faults base.new ≡ S.faults base.old) }
 {
     if !patched {
         return Ok(());

@@ -1,5 +1,6 @@
 // The tiles at coordinates, read from the archive that was written.
 ghost use Rattle.std.specs.Prelude.{◌≡◌, ◌≤◌, ◌+◌, true, IfSome, IfOk};
+ghost use Rattle.byte_media.specs.Kept.{ReadsOnly};
 ghost use Rattle.tile_ids.specs.Hilbert.{id_of};
 ghost use Rattle.pm_format.specs.LookUp.{filled};
 ghost use Rattle.pm_format.specs.Options.{Options};
@@ -51,11 +52,7 @@ fn read_answer<B: Backend>(
     ensures reads { IfOk result (λ tile. GrewFrom (B.reads backend.old) (B.reads backend.new)
         (answered_by tile)) }
     ensures counted { B.reads backend.old ≤ B.reads backend.new }
-    ensures told { B.told backend.new ≡ B.told backend.old }
-    ensures versions { B.versions backend.new ≡ B.versions backend.old }
-    ensures faults { B.faults backend.old ≤ B.faults backend.new }
-    ensures calm { B.steady backend.old
-        → B.steady backend.new × (B.faults backend.new ≡ B.faults backend.old) }
+    ensures kept { ReadsOnly B.told B.versions B.faults B.steady backend.old backend.new }
 {
     let found = state.get_cached_tile(backend, cache, TileId::from(coord))?;
     Ok(filled_tile(alloc, found)?)
@@ -76,11 +73,7 @@ pub(crate) fn read_answers<B: Backend>(
     ensures reads { IfOk result (λ answers. GrewFrom (B.reads backend.old) (B.reads backend.new)
         (answered answers + 1)) }
     ensures counted { B.reads backend.old ≤ B.reads backend.new }
-    ensures told { B.told backend.new ≡ B.told backend.old }
-    ensures versions { B.versions backend.new ≡ B.versions backend.old }
-    ensures faults { B.faults backend.old ≤ B.faults backend.new }
-    ensures calm { B.steady backend.old
-        → B.steady backend.new × (B.faults backend.new ≡ B.faults backend.old) }
+    ensures kept { ReadsOnly B.told B.versions B.faults B.steady backend.old backend.new }
 {
     let state = ReaderState::open(alloc, backend)?;
     let mut cache = HashMapCache::new(alloc);

@@ -1,7 +1,8 @@
 // The set that is converted.
-ghost use Rattle.std.specs.Prelude.{◌≡◌, ◌≢◌, ◌≤◌, ◌∷◌, ℕ, cond, false, Err, IfErr, IfOk, IsErrOf, None, Ok, Some, map};
+ghost use Rattle.std.specs.Prelude.{◌≡◌, ◌≢◌, ◌∷◌, ℕ, cond, false, Err, IfErr, IfOk, IsErrOf, None, Ok, Some, map};
 ghost use Rattle.mb_tables.specs.Refusals.{is_free};
 ghost use Rattle.mb_load.specs.Aggregate.{aggregate};
+ghost use Rattle.mb_store.specs.Kept.{ReadsOnly};
 ghost use Rattle.tile_bridge.specs.Outcome.{due, overflows, tested, unverified};
 ghost use Rattle.tile_bridge.specs.Patching.{IsHeldFrom};
 ghost use Rattle.tile_bridge.specs.Stores.{AreOnlyRead, IsDue, Refuses, RoseAt};
@@ -84,15 +85,12 @@ pub(crate) fn resolve<S: TileStore, P: TileStore>(
     ensures held { IfOk result (λ set. IsHeldFrom options.now.force options.now.verify
         (S.tells base.old) (S.told base.old) (map P.tells patches.old.items)
         (map P.told patches.old.items) set.0) }
-    ensures base { S.told base.new ≡ S.told base.old }
-    ensures tells { S.tells base.new ≡ S.tells base.old }
     ensures patches { AreOnlyRead P.tells P.told P.faults P.steady
         patches.old.items patches.new.items }
-    ensures faults { S.faults base.old ≤ S.faults base.new }
+    ensures base_kept { ReadsOnly S.told S.tells S.faults S.steady base.old base.new }
     ensures fault { (p : ℕ) → IsErrOf result (ConvertError.StoreFault p)
         → RoseAt p (S.faults base.old ∷ map P.faults patches.old.items)
         (S.faults base.new ∷ map P.faults patches.new.items) }
-    ensures calm { S.steady base.old → S.steady base.new × (S.faults base.new ≡ S.faults base.old) }
 {
     let set = load_at(alloc, base, 0)?;
     let set = patch_all(alloc, set, patches, options.force)?;

@@ -1,6 +1,7 @@
 // The archive of a set, written to a medium.
-ghost use Rattle.std.specs.Prelude.{◌≡◌, ◌<◌, ◌≤◌, ℕ, List, [], Option, false, length, IfSome, IfOk, OnOk, OnErr, is_some};
+ghost use Rattle.std.specs.Prelude.{◌≡◌, ◌<◌, ℕ, List, [], Option, false, length, IfSome, IfOk, OnOk, OnErr};
 ghost use Rattle.std.specs.FinMap.{len};
+ghost use Rattle.byte_media.specs.Kept.{KeepsMedium};
 ghost use Rattle.pm_format.specs.Options.{Options};
 ghost use Rattle.pm_format.specs.declared.compression.Compression.TheVariants as compression;
 ghost use Rattle.pm_writer.specs.Archive.{archive};
@@ -75,8 +76,6 @@ fn add_all<M: Medium>(
         × CanBeWritten o (shown set.now.state.tiles adds.now) }
     requires within { AreWithin set.now.state.tiles adds.now }
     requires alive { has_failed state.old ≡ false }
-    ensures tells { is_some (M.told medium.new) ≡ is_some (M.told medium.old) }
-    ensures versions { is_some (M.versions medium.new) ≡ is_some (M.versions medium.old) }
     ensures added { (o : Options) → Writes o (M.told medium.old) state.old []
         → OnOk result ((taken : List (ℕ × List ℕ))
         × TookAll (M.told medium.old) (shown set.now.state.tiles adds.now) taken
@@ -84,10 +83,7 @@ fn add_all<M: Medium>(
     ensures hidden { OnErr result (IfSome (M.told medium.new) IsHidden) }
     ensures alive { OnOk result (has_failed state.new ≡ false) }
     ensures causes { WriteCauses (M.faults medium.old) (M.faults medium.new) result }
-    ensures faults { M.faults medium.old ≤ M.faults medium.new }
-    ensures counted { M.reads medium.old ≤ M.reads medium.new }
-    ensures calm { M.steady medium.old
-        → M.steady medium.new × (M.faults medium.new ≡ M.faults medium.old) }
+    ensures kept { KeepsMedium M.told M.versions M.reads M.faults M.steady medium.old medium.new }
 {
     for (index, add) in adds.iter().enumerate() {
         make_room(state, set, adds, index)?;
@@ -111,8 +107,6 @@ pub(crate) fn write_archive<M: Medium>(
     requires plain { options.now.internal_compression ≡ compression.None }
     requires fit { CanBeWritten options.now (shown set.now.state.tiles adds.now) }
     requires within { AreWithin set.now.state.tiles adds.now }
-    ensures tells { is_some (M.told medium.new) ≡ is_some (M.told medium.old) }
-    ensures versions { is_some (M.versions medium.new) ≡ is_some (M.versions medium.old) }
     ensures bytes { OnOk result (IfSome (M.told medium.new) (λ b. b ≡ archive options.now
         (shown set.now.state.tiles adds.now))) }
     ensures places { IfOk result (λ p. (taken : List (ℕ × List ℕ)) × TookAll (M.told medium.old)
@@ -120,10 +114,7 @@ pub(crate) fn write_archive<M: Medium>(
     ensures shown { IfSome (M.told medium.new) (IsHiddenOr (archive options.now
         (shown set.now.state.tiles adds.now))) }
     ensures causes { WriteCauses (M.faults medium.old) (M.faults medium.new) result }
-    ensures faults { M.faults medium.old ≤ M.faults medium.new }
-    ensures counted { M.reads medium.old ≤ M.reads medium.new }
-    ensures calm { M.steady medium.old
-        → M.steady medium.new × (M.faults medium.new ≡ M.faults medium.old) }
+    ensures kept { KeepsMedium M.told M.versions M.reads M.faults M.steady medium.old medium.new }
 {
     let mut state = options.start(alloc, medium)?;
     add_all(&mut state, medium, set, adds)?;

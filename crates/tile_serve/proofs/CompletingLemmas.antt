@@ -2,13 +2,14 @@
 use Rattle.std.proofs.Common.{◌≡◌, ◌⊎◌, inl, inr, ℕ, ◌<◌, true, List, length, Option, None, Some, Result, Ok, Err, IsOk, IfSome, is_some, refl, arith}
 use Rattle.base_values.specs.Counts.{Rose}
 use Rattle.byte_streams.specs.declared.input.TheConstants.{MAX_INPUT}
+use Rattle.byte_streams.specs.Input.{IsShort}
 use Rattle.pm_format.specs.Opened.{opened}
 use Rattle.pm_format.specs.declared.error.PmtError.{PmtError}
 use Rattle.pm_format.specs.declared.error.PmtError.TheVariants as pm
 use Rattle.pm_format.specs.declared.error.ReadCause.TheVariants as causes
 use Rattle.tile_serve.specs.Answers.{IsUniform, OpeningCauses, RefusesOpening}
 use Rattle.tile_serve.specs.Serving.{IsUnmodifiedRun}
-use Rattle.tile_serve.specs.TopCall.{IsFor, IsShort, OpensFor, SourceCauses}
+use Rattle.tile_serve.specs.TopCall.{IsFor, OpensFor, SourceCauses}
 use Rattle.tile_serve.specs.declared.error.ServeError.{ServeError}
 use Rattle.tile_serve.specs.declared.error.ServeError.TheVariants as errors
 use Rattle.tile_serve.specs.declared.limits.ServeLimits.{ServeLimits}

@@ -10,7 +10,6 @@ use Rattle.byte_streams.specs.declared.sink.SinkFault.{SinkFault}
 use Rattle.byte_streams.specs.declared.sink.SinkFault.TheVariants as sink
 use Rattle.line_words.specs.Lines.{lines_of, no_byte}
 use Rattle.pm_reader.specs.Archives.{UsesOneLength}
-use Rattle.pm_reader.specs.Reads.{ReadsOnly}
 use Rattle.base_values.specs.Counts.{Rose}
 use Rattle.tile_serve.specs.Answers.{Answers, Causes, IsUniform, IsUnmodified}
 use Rattle.tile_serve.specs.Outcomes.{of_serve, of_sink, outcome_of}
@@ -260,15 +259,3 @@ fault_later start before now o p is low q fault = rose_before start before now l
 
 pub unmodified_again : (versions again : Option (ℕ → Option (List ℕ))) (o p : ServeOutcome) → again ≡ versions → p ≡ o → (IsUniform again → IsUnmodifiedRun o) → IsUniform versions → IsUnmodifiedRun p
 unmodified_again versions again o p same is q uniform = subst IsUnmodifiedRun (sym is) (q (subst IsUniform (sym same) uniform))
-
--- one call that reads after another
-pub reads_then : {B V : Type 0} (tells : B → Option (List ℕ)) (texts : B → V) (failed : B → ℕ) (steady : B → Type 0) (x y z : B) → ReadsOnly tells texts failed steady x y → ReadsOnly tells texts failed steady y z → ReadsOnly tells texts failed steady x z
-reads_then tells texts failed steady x y z p q = record {
-  told = q.told ∙ p.told;
-  versions = q.versions ∙ p.versions;
-  faults = omega (arith, p.faults, q.faults);
-  calm = λ s. let w = p.calm s in let v = q.calm w.0 in (v.0, v.1 ∙ w.1);
-}
-
-pub reads_nothing : {B V : Type 0} (tells : B → Option (List ℕ)) (texts : B → V) (failed : B → ℕ) (steady : B → Type 0) (x : B) → ReadsOnly tells texts failed steady x x
-reads_nothing tells texts failed steady x = record { told = refl; versions = refl; faults = omega arith; calm = λ s. (s, refl) }

@@ -6,7 +6,7 @@ use Rattle.pm_format.specs.LookUp.{archive_tile}
 use Rattle.pm_format.specs.declared.error.PmtError.{PmtError}
 use Rattle.pm_format.specs.declared.error.PmtError.TheVariants as errors
 use Rattle.pm_format.specs.declared.error.ReadCause.TheVariants as causes
-use Rattle.pm_reader.specs.Archives.{ReadsByHops}
+use Rattle.pm_reader.specs.Archives.{ReadsByHops, UsesOneLength}
 use Rattle.pm_reader.specs.Opening.{IsOpenFailure, IsOpenRefusal}
 use Rattle.pm_reader.specs.Versions.{Agree}
 use Rattle.tile_serve.specs.Reply.{found_in, reply}
@@ -15,6 +15,10 @@ use Rattle.tile_serve.specs.Tiles.{is_read, tiles_after}
 use Rattle.tile_serve.specs.declared.error.ServeError.{ServeError}
 use Rattle.tile_serve.specs.declared.error.ServeError.TheVariants.{Opening, Fault, Modified, Short, OutOfMemory}
 use Rattle.tile_serve.specs.declared.found.Found.{Found}
+
+-- what holds over told bytes, where each leaf offset of the archive is used with one length
+abbrev pub OverOneLength : Option (List ℕ) → (List ℕ → Type 0) → Type 0
+OverOneLength told holds = IfSome told (λ b. UsesOneLength b → holds b)
 
 -- a range of bytes is there for an id
 abbrev pub IsThere : Result (Option (List ℕ)) PmtError → Type 0

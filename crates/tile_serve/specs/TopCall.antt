@@ -1,5 +1,5 @@
 -- What a run of the server ends in, and why.
-use Rattle.std.specs.Prelude.{◌≤◌, ◌<◌, ℕ, ◌+◌, ◌-◌, ◌^◌, List, Option, Some, None, Result, IsOk, IfSome, length}
+use Rattle.std.specs.Prelude.{◌≤◌, ◌<◌, ℕ, ◌+◌, ◌-◌, ◌^◌, List, Option, Some, None, Result, IsOk}
 use Rattle.byte_streams.specs.declared.input.TheConstants.{MAX_INPUT}
 use Rattle.pm_format.specs.declared.error.PmtError.{PmtError}
 use Rattle.tile_serve.specs.Answers.{OpeningCauses, RefusesOpening}
@@ -46,10 +46,6 @@ IsUnopened _ = ⊥
 abbrev pub IsSilent : ServeOutcome → Type 0
 IsSilent (Refused (serve.Opening e)) = Unit {0}
 IsSilent outcome = IsUnopened outcome
-
--- the input is within its limit
-abbrev pub IsShort : Option (List ℕ) → Type 0
-IsShort input = IfSome input (λ bytes. length bytes ≤ MAX_INPUT)
 
 -- what a run of requests that were read ends in
 abbrev pub IsRead : ServeOutcome → Type 0

@@ -1,7 +1,6 @@
 // The texts of replies.
 ghost use Rattle.std.specs.Prelude.{◌≡◌, IfOk};
-ghost use Rattle.std.specs.Str.{bytes_eq};
-ghost use Rattle.tile_serve.specs.Reply.{tag_of, text_for, tile_text, unchanged_text, whole_text};
+ghost use Rattle.tile_serve.specs.Reply.{text_for, tile_text, unchanged_text, whole_text};
 
 use crate::found::Found;
 use base_values::{BlobVal, OutOfMemory, TextVal};

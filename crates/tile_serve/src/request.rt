@@ -47,7 +47,8 @@ fn parse_id(zoom: &[u8], column: &[u8], row: &[u8]) -> Option<TileId>
 
 // What the words behind `GET` ask for.
 fn parse_words(words: &[u8]) -> Option<(TileId, &[u8])>
-    ensures { MatchOption result (request_by (words_of words.now) ≡ None) (λ r. request_by (words_of words.now) ≡ Some (asked r.0 r.1.now)) }
+    ensures { MatchOption result (request_by (words_of words.now) ≡ None)
+        (λ r. request_by (words_of words.now) ≡ Some (asked r.0 r.1.now)) }
 {
     if let Some((zoom, column, row, tag)) = four_words(words) {
         if !is_tag(tag) {
@@ -61,7 +62,8 @@ fn parse_words(words: &[u8]) -> Option<(TileId, &[u8])>
 
 /// The id that a line asks for, and the tag that it has, which is empty where it has none. None for a line that is no request.
 pub(crate) fn parse_request(line: &[u8]) -> Option<(TileId, &[u8])>
-    ensures { MatchOption result (request_of line.now ≡ None) (λ r. request_of line.now ≡ Some (asked r.0 r.1.now)) }
+    ensures { MatchOption result (request_of line.now ≡ None)
+        (λ r. request_of line.now ≡ Some (asked r.0 r.1.now)) }
 {
     let (word, Some(words)) = first_word(line) else {
         return None;

@@ -1,13 +1,12 @@
 // A server that borrows its backend.
-ghost use Rattle.std.specs.Prelude.{◌≡◌, ◌≢◌, ◌<◌, ◌≤◌, ◌-◌, ◌^◌, [], false, length, Err, Some, IfErr, IfOk, IfSome};
+ghost use Rattle.std.specs.Prelude.{◌≡◌, ◌≢◌, ◌<◌, ◌-◌, ◌^◌, [], false, length, Err, Some, IfErr, IfOk, IfSome};
 ghost use Rattle.base_values.specs.Counts.{Grew};
 ghost use Rattle.bounded_lru.specs.Bounded.{IsWithin, bounded, weight_of};
 ghost use Rattle.pm_format.specs.Opened.{opened};
 ghost use Rattle.pm_format.specs.declared.error.PmtError.TheVariants as errors;
 ghost use Rattle.pm_format.specs.declared.error.ReadCause.TheVariants as causes;
-ghost use Rattle.pm_reader.specs.Archives.{UsesOneLength};
 ghost use Rattle.pm_reader.specs.Reads.{GrewBetween, ReadsOnly};
-ghost use Rattle.tile_serve.specs.Answers.{Answers, Causes, Compares, HasTexts, IsOpeningError, IsReadFor, IsUniform, IsUnmodified, IsWanting, LeavesTiles, ReadsFor, RefusesOpening};
+ghost use Rattle.tile_serve.specs.Answers.{Answers, Causes, Compares, HasTexts, IsOpeningError, IsReadFor, IsUniform, IsUnmodified, IsWanting, LeavesTiles, OverOneLength, ReadsFor, RefusesOpening};
 ghost use Rattle.tile_serve.specs.Limits.{IsLimits};
 ghost use Rattle.tile_serve.specs.Request.{request_of};
 ghost use Rattle.tile_serve.specs.Server.{IsTied};
@@ -48,15 +47,24 @@ impl<'a, B: Backend> TileServer<'a, B> {
         limits: ServeLimits,
     ) -> Result<TileServer<'a, B>, ServeError>
         requires limits { IsLimits limits }
-        ensures refused { IfErr result (λ e. IfSome (B.told backend.old) (λ b. RefusesOpening (opened b) e)) }
+        ensures refused { IfErr result
+            (λ e. IfSome (B.told backend.old) (λ b. RefusesOpening (opened b) e)) }
         ensures causes { IfErr result IsOpeningError }
-        ensures unfailing { B.steady backend.old → B.faults backend.old < 2 ^ 64 - 1 → result ≢ Err (ServeError.Opening (errors.Reading causes.Fault)) }
-        ensures same_reference { IfOk result (λ s. s.backend.ghost_name ≡ backend.entry.ghost_name) }
+        ensures unfailing { B.steady backend.old → B.faults backend.old < 2 ^ 64 - 1
+            → result ≢ Err (ServeError.Opening (errors.Reading causes.Fault)) }
+        ensures same_reference { IfOk result
+            (λ s. s.backend.ghost_name ≡ backend.entry.ghost_name) }
         ensures tied { IfOk result (λ s. IsTied B.told B.versions s) }
-        ensures tiles { IfOk result (λ s. tiles_of s.state ≡ bounded [] limits.tiles (Some limits.tile_bytes)) }
-        ensures directories { IfOk result (λ s. directories_of s.state ≡ bounded [] limits.directories (Some limits.directory_entries)) }
-        ensures version { IfOk result (λ s. IfSome (B.versions s.backend.now) (λ text. opened_as s.state ≡ text (B.reads s.backend.now))) }
-        ensures kept { IfOk result (λ s. ReadsOnly B.told B.versions B.faults B.steady backend.old s.backend.now) }
+        ensures tiles { IfOk result
+            (λ s. tiles_of s.state ≡ bounded [] limits.tiles (Some limits.tile_bytes)) }
+        ensures directories { IfOk result
+            (λ s. directories_of s.state
+            ≡ bounded [] limits.directories (Some limits.directory_entries)) }
+        ensures version { IfOk result
+            (λ s. IfSome (B.versions s.backend.now)
+            (λ text. opened_as s.state ≡ text (B.reads s.backend.now))) }
+        ensures kept { IfOk result
+            (λ s. ReadsOnly B.told B.versions B.faults B.steady backend.old s.backend.now) }
         ensures reads { IfOk result (λ s. Grew (B.reads backend.old) (B.reads s.backend.now) 1) }
     {
         let state = ServerState::open(alloc, backend, limits)?;
@@ -68,21 +76,34 @@ impl<'a, B: Backend> TileServer<'a, B> {
         requires tied { IsTied B.told B.versions self.old }
         ensures tied { IsTied B.told B.versions self.new }
         ensures same_reference { self.new.backend.ghost_name ≡ self.old.backend.ghost_name }
-        ensures answer { IfSome (B.told self.old.backend.now) (λ b. UsesOneLength b → Answers b line.now result) }
-        ensures compares { IfSome (B.told self.old.backend.now) (λ b. UsesOneLength b
-            → Compares (opened_as self.old.state) (B.versions self.new.backend.now) (B.reads self.new.backend.now) (IsReadFor b (request_of line.now) (tiles_of self.old.state)) result) }
-        ensures hops { IfSome (B.told self.old.backend.now) (λ b. UsesOneLength b → ReadsFor b (request_of line.now) (B.reads self.old.backend.now) (B.reads self.new.backend.now)) }
-        ensures tiles { IfSome (B.told self.old.backend.now) (λ b. UsesOneLength b → LeavesTiles b (request_of line.now) (tiles_of self.old.state) (tiles_of self.new.state) result) }
-        ensures untouched { is_read (request_of line.now) (tiles_of self.old.state) ≡ false → self.new.backend.now ≡ self.old.backend.now }
+        ensures answer { OverOneLength (B.told self.old.backend.now)
+            (λ b. Answers b line.now result) }
+        ensures compares { OverOneLength (B.told self.old.backend.now)
+            (λ b. Compares (opened_as self.old.state) (B.versions self.new.backend.now)
+            (B.reads self.new.backend.now)
+            (IsReadFor b (request_of line.now) (tiles_of self.old.state)) result) }
+        ensures hops { OverOneLength (B.told self.old.backend.now)
+            (λ b. ReadsFor b (request_of line.now)
+            (B.reads self.old.backend.now) (B.reads self.new.backend.now)) }
+        ensures tiles { OverOneLength (B.told self.old.backend.now)
+            (λ b. LeavesTiles b (request_of line.now)
+            (tiles_of self.old.state) (tiles_of self.new.state) result) }
+        ensures untouched { is_read (request_of line.now) (tiles_of self.old.state) ≡ false
+            → self.new.backend.now ≡ self.old.backend.now }
         ensures unmodified { IsUniform (B.versions self.old.backend.now) → IsUnmodified result }
-        ensures texts { HasTexts (opened_as self.old.state) (B.versions self.new.backend.now) (B.reads self.new.backend.now) result }
-        ensures causes { Causes (B.told self.old.backend.now) (B.faults self.old.backend.now) (B.faults self.new.backend.now) result }
+        ensures texts { HasTexts (opened_as self.old.state) (B.versions self.new.backend.now)
+            (B.reads self.new.backend.now) result }
+        ensures causes { Causes (B.told self.old.backend.now)
+            (B.faults self.old.backend.now) (B.faults self.new.backend.now) result }
         ensures same { opened_as self.new.state ≡ opened_as self.old.state }
-        ensures asked { is_read (request_of line.now) (tiles_of self.old.state) ≡ false → IsWanting result }
+        ensures asked { is_read (request_of line.now) (tiles_of self.old.state) ≡ false
+            → IsWanting result }
         ensures bounds { KeepsBounds self.old.state self.new.state }
         ensures directories { KeepsDirectories self.old.state self.new.state }
-        ensures kept { ReadsOnly B.told B.versions B.faults B.steady self.old.backend.now self.new.backend.now }
-        ensures reads { GrewBetween (B.reads self.old.backend.now) (B.reads self.new.backend.now) 0 7 }
+        ensures kept { ReadsOnly B.told B.versions B.faults B.steady
+            self.old.backend.now self.new.backend.now }
+        ensures reads { GrewBetween
+            (B.reads self.old.backend.now) (B.reads self.new.backend.now) 0 7 }
     {
         self.state.answer(self.backend, line)
     }

@@ -1,13 +1,13 @@
 // What a server owns, and how it answers a line.
-ghost use Rattle.std.specs.Prelude.{◌≡◌, ◌≤◌, ◌⊎◌, true, false, [], length, nat_eq, Some, None, IfOk, IfErr, IfSome, OnOk, OnErr};
+ghost use Rattle.std.specs.Prelude.{◌≡◌, true, false, [], length, Some, None, IfOk, IfErr, IfSome, OnOk, OnErr};
 ghost use Rattle.base_values.specs.Counts.{Grew};
 ghost use Rattle.bounded_lru.specs.Bounded.{IsWithin, bounded, weight_of};
 ghost use Rattle.pm_format.specs.LookUp.{archive_tile};
 ghost use Rattle.pm_format.specs.Opened.{opened};
-ghost use Rattle.pm_reader.specs.Archives.{ReadsByHops, UsesOneLength};
+ghost use Rattle.pm_reader.specs.Archives.{ReadsByHops};
 ghost use Rattle.pm_reader.specs.Opening.{HasVersionOf, IsOpen};
 ghost use Rattle.pm_reader.specs.Reads.{GrewBetween, ReadsOnly};
-ghost use Rattle.tile_serve.specs.Answers.{Answers, Causes, Compares, Finds, HasTexts, IsReadFor, IsThere, IsUniform, IsUnmodified, IsWanting, LeavesTiles, OpeningCauses, ReadsFor, RefusesOpening, opening_error};
+ghost use Rattle.tile_serve.specs.Answers.{Answers, Causes, Compares, Finds, HasTexts, IsReadFor, IsThere, IsUniform, IsUnmodified, IsWanting, LeavesTiles, OpeningCauses, OverOneLength, ReadsFor, RefusesOpening, opening_error};
 ghost use Rattle.tile_serve.specs.Limits.{IsLimits};
 ghost use Rattle.tile_serve.specs.Request.{request_of};
 ghost use Rattle.tile_serve.specs.State.{IsServing, KeepsBounds, KeepsDirectories, directories_of, opened_as, tiles_of};
@@ -35,10 +35,12 @@ pub struct ServerState {
 
 // The reader of an archive, which is opened by one read.
 fn open_reader<B: Backend>(alloc: Global, backend: &mut B) -> Result<ReaderState, ServeError>
-    ensures refused { IfErr result (λ e. IfSome (B.told backend.old) (λ b. RefusesOpening (opened b) e)) }
+    ensures refused { IfErr result
+        (λ e. IfSome (B.told backend.old) (λ b. RefusesOpening (opened b) e)) }
     ensures open { IfOk result (λ s. IsOpen (B.told backend.new) s) }
     ensures causes { IfErr result (OpeningCauses (B.faults backend.old) (B.faults backend.new)) }
-    ensures version { IfOk result (λ s. HasVersionOf (B.versions backend.new) (B.reads backend.new) s) }
+    ensures version { IfOk result
+        (λ s. HasVersionOf (B.versions backend.new) (B.reads backend.new) s) }
     ensures kept { ReadsOnly B.told B.versions B.faults B.steady backend.old backend.new }
     ensures reads { Grew (B.reads backend.old) (B.reads backend.new) 1 }
 {
@@ -67,8 +69,11 @@ impl ServerState {
     ) -> Result<ServerState, OutOfMemory>
         requires { IsLimits limits }
         ensures reader { IfOk result (λ s. s.reader ≡ reader) }
-        ensures directories { IfOk result (λ s. directories_of s ≡ bounded [] limits.directories (Some limits.directory_entries)) }
-        ensures tiles { IfOk result (λ s. tiles_of s ≡ bounded [] limits.tiles (Some limits.tile_bytes)) }
+        ensures directories { IfOk result
+            (λ s. directories_of s
+            ≡ bounded [] limits.directories (Some limits.directory_entries)) }
+        ensures tiles { IfOk result
+            (λ s. tiles_of s ≡ bounded [] limits.tiles (Some limits.tile_bytes)) }
     {
         let ServeLimits {
             directories,
@@ -93,12 +98,20 @@ impl ServerState {
         limits: ServeLimits,
     ) -> Result<ServerState, ServeError>
         requires limits { IsLimits limits }
-        ensures refused { IfErr result (λ e. IfSome (B.told backend.old) (λ b. RefusesOpening (opened b) e)) }
-        ensures causes { IfErr result (OpeningCauses (B.faults backend.old) (B.faults backend.new)) }
-        ensures serving { IfOk result (λ s. IsServing (B.told backend.new) (B.versions backend.new) s) }
-        ensures version { IfOk result (λ s. IfSome (B.versions backend.new) (λ text. opened_as s ≡ text (B.reads backend.new))) }
-        ensures tiles { IfOk result (λ s. tiles_of s ≡ bounded [] limits.tiles (Some limits.tile_bytes)) }
-        ensures directories { IfOk result (λ s. directories_of s ≡ bounded [] limits.directories (Some limits.directory_entries)) }
+        ensures refused { IfErr result
+            (λ e. IfSome (B.told backend.old) (λ b. RefusesOpening (opened b) e)) }
+        ensures causes { IfErr result
+            (OpeningCauses (B.faults backend.old) (B.faults backend.new)) }
+        ensures serving { IfOk result
+            (λ s. IsServing (B.told backend.new) (B.versions backend.new) s) }
+        ensures version { IfOk result
+            (λ s. IfSome (B.versions backend.new)
+            (λ text. opened_as s ≡ text (B.reads backend.new))) }
+        ensures tiles { IfOk result
+            (λ s. tiles_of s ≡ bounded [] limits.tiles (Some limits.tile_bytes)) }
+        ensures directories { IfOk result
+            (λ s. directories_of s
+            ≡ bounded [] limits.directories (Some limits.directory_entries)) }
         ensures kept { ReadsOnly B.told B.versions B.faults B.steady backend.old backend.new }
         ensures reads { Grew (B.reads backend.old) (B.reads backend.new) 1 }
     {
@@ -110,11 +123,16 @@ impl ServerState {
     fn fetch<B: Backend>(&mut self, backend: &mut B, id: TileId) -> Result<Found, ServeError>
         requires serving { IsServing (B.told backend.old) (B.versions backend.old) self.old }
         ensures serving { IsServing (B.told backend.new) (B.versions backend.new) self.new }
-        ensures finds { IfSome (B.told backend.old) (λ b. UsesOneLength b → Finds (archive_tile b id) result) }
-        ensures compares { IfSome (B.told backend.old) (λ b. UsesOneLength b → Compares (opened_as self.old) (B.versions backend.new) (B.reads backend.new) (IsThere (archive_tile b id)) result) }
-        ensures hops { IfSome (B.told backend.old) (λ b. UsesOneLength b → ReadsByHops b id (B.reads backend.old) (B.reads backend.new)) }
-        ensures texts { HasTexts (opened_as self.old) (B.versions backend.new) (B.reads backend.new) result }
-        ensures causes { Causes (B.told backend.old) (B.faults backend.old) (B.faults backend.new) result }
+        ensures finds { OverOneLength (B.told backend.old) (λ b. Finds (archive_tile b id) result) }
+        ensures compares { OverOneLength (B.told backend.old)
+            (λ b. Compares (opened_as self.old) (B.versions backend.new) (B.reads backend.new)
+            (IsThere (archive_tile b id)) result) }
+        ensures hops { OverOneLength (B.told backend.old)
+            (λ b. ReadsByHops b id (B.reads backend.old) (B.reads backend.new)) }
+        ensures texts { HasTexts (opened_as self.old) (B.versions backend.new)
+            (B.reads backend.new) result }
+        ensures causes { Causes (B.told backend.old) (B.faults backend.old) (B.faults backend.new)
+            result }
         ensures same { opened_as self.new ≡ opened_as self.old }
         ensures directories { KeepsDirectories self.old self.new }
         ensures tiles { tiles_of self.new ≡ tiles_of self.old }
@@ -135,14 +153,20 @@ impl ServerState {
     ) -> Result<Found, ServeError>
         requires serving { IsServing (B.told backend.old) (B.versions backend.old) self.old }
         ensures serving { IsServing (B.told backend.new) (B.versions backend.new) self.new }
-        ensures finds { IfSome (B.told backend.old) (λ b. UsesOneLength b → Finds (archive_tile b id) result) }
-        ensures compares { IfSome (B.told backend.old) (λ b. UsesOneLength b → Compares (opened_as self.old) (B.versions backend.new) (B.reads backend.new) (IsThere (archive_tile b id)) result) }
-        ensures hops { IfSome (B.told backend.old) (λ b. UsesOneLength b → ReadsByHops b id (B.reads backend.old) (B.reads backend.new)) }
-        ensures texts { HasTexts (opened_as self.old) (B.versions backend.new) (B.reads backend.new) result }
-        ensures causes { Causes (B.told backend.old) (B.faults backend.old) (B.faults backend.new) result }
+        ensures finds { OverOneLength (B.told backend.old) (λ b. Finds (archive_tile b id) result) }
+        ensures compares { OverOneLength (B.told backend.old)
+            (λ b. Compares (opened_as self.old) (B.versions backend.new) (B.reads backend.new)
+            (IsThere (archive_tile b id)) result) }
+        ensures hops { OverOneLength (B.told backend.old)
+            (λ b. ReadsByHops b id (B.reads backend.old) (B.reads backend.new)) }
+        ensures texts { HasTexts (opened_as self.old) (B.versions backend.new)
+            (B.reads backend.new) result }
+        ensures causes { Causes (B.told backend.old) (B.faults backend.old) (B.faults backend.new)
+            result }
         ensures same { opened_as self.new ≡ opened_as self.old }
         ensures directories { KeepsDirectories self.old self.new }
-        ensures tiles { IfOk result (λ found. tiles_of self.new ≡ with_found (tiles_of self.old) id found) }
+        ensures tiles { IfOk result
+            (λ found. tiles_of self.new ≡ with_found (tiles_of self.old) id found) }
         ensures err { OnErr result (tiles_of self.new ≡ tiles_of self.old) }
         ensures kept { ReadsOnly B.told B.versions B.faults B.steady backend.old backend.new }
         ensures reads { GrewBetween (B.reads backend.old) (B.reads backend.new) 0 7 }
@@ -171,12 +195,17 @@ impl ServerState {
     fn find<B: Backend>(&mut self, backend: &mut B, id: TileId) -> Result<Found, ServeError>
         requires serving { IsServing (B.told backend.old) (B.versions backend.old) self.old }
         ensures serving { IsServing (B.told backend.new) (B.versions backend.new) self.new }
-        ensures finds { IfSome (B.told backend.old) (λ b. UsesOneLength b → Finds (archive_tile b id) result) }
-        ensures compares { IfSome (B.told backend.old) (λ b. UsesOneLength b → Compares (opened_as self.old) (B.versions backend.new) (B.reads backend.new) ((is_held (tiles_of self.old) id ≡ false) × IsThere (archive_tile b id)) result) }
-        ensures hops { IfSome (B.told backend.old) (λ b. UsesOneLength b → ReadsByHops b id (B.reads backend.old) (B.reads backend.new)) }
+        ensures finds { OverOneLength (B.told backend.old) (λ b. Finds (archive_tile b id) result) }
+        ensures compares { OverOneLength (B.told backend.old)
+            (λ b. Compares (opened_as self.old) (B.versions backend.new) (B.reads backend.new)
+            ((is_held (tiles_of self.old) id ≡ false) × IsThere (archive_tile b id)) result) }
+        ensures hops { OverOneLength (B.told backend.old)
+            (λ b. ReadsByHops b id (B.reads backend.old) (B.reads backend.new)) }
         ensures untouched { is_held (tiles_of self.old) id ≡ true → backend.new ≡ backend.old }
-        ensures texts { HasTexts (opened_as self.old) (B.versions backend.new) (B.reads backend.new) result }
-        ensures causes { Causes (B.told backend.old) (B.faults backend.old) (B.faults backend.new) result }
+        ensures texts { HasTexts (opened_as self.old) (B.versions backend.new)
+            (B.reads backend.new) result }
+        ensures causes { Causes (B.told backend.old) (B.faults backend.old) (B.faults backend.new)
+            result }
         ensures same { opened_as self.new ≡ opened_as self.old }
         ensures held { is_held (tiles_of self.old) id ≡ true → IsWanting result }
         ensures directories { KeepsDirectories self.old self.new }
@@ -202,16 +231,25 @@ impl ServerState {
     ) -> Result<BlobVal, ServeError>
         requires serving { IsServing (B.told backend.old) (B.versions backend.old) self.old }
         ensures serving { IsServing (B.told backend.new) (B.versions backend.new) self.new }
-        ensures answer { IfSome (B.told backend.old) (λ b. UsesOneLength b → Answers b line.now result) }
-        ensures compares { IfSome (B.told backend.old) (λ b. UsesOneLength b → Compares (opened_as self.old) (B.versions backend.new) (B.reads backend.new) (IsReadFor b (request_of line.now) (tiles_of self.old)) result) }
-        ensures hops { IfSome (B.told backend.old) (λ b. UsesOneLength b → ReadsFor b (request_of line.now) (B.reads backend.old) (B.reads backend.new)) }
-        ensures tiles { IfSome (B.told backend.old) (λ b. UsesOneLength b → LeavesTiles b (request_of line.now) (tiles_of self.old) (tiles_of self.new) result) }
-        ensures untouched { is_read (request_of line.now) (tiles_of self.old) ≡ false → backend.new ≡ backend.old }
+        ensures answer { OverOneLength (B.told backend.old) (λ b. Answers b line.now result) }
+        ensures compares { OverOneLength (B.told backend.old)
+            (λ b. Compares (opened_as self.old) (B.versions backend.new) (B.reads backend.new)
+            (IsReadFor b (request_of line.now) (tiles_of self.old)) result) }
+        ensures hops { OverOneLength (B.told backend.old)
+            (λ b. ReadsFor b (request_of line.now) (B.reads backend.old) (B.reads backend.new)) }
+        ensures tiles { OverOneLength (B.told backend.old)
+            (λ b. LeavesTiles b (request_of line.now) (tiles_of self.old) (tiles_of self.new)
+            result) }
+        ensures untouched { is_read (request_of line.now) (tiles_of self.old) ≡ false
+            → backend.new ≡ backend.old }
         ensures unmodified { IsUniform (B.versions backend.old) → IsUnmodified result }
-        ensures texts { HasTexts (opened_as self.old) (B.versions backend.new) (B.reads backend.new) result }
-        ensures causes { Causes (B.told backend.old) (B.faults backend.old) (B.faults backend.new) result }
+        ensures texts { HasTexts (opened_as self.old) (B.versions backend.new)
+            (B.reads backend.new) result }
+        ensures causes { Causes (B.told backend.old) (B.faults backend.old) (B.faults backend.new)
+            result }
         ensures same { opened_as self.new ≡ opened_as self.old }
-        ensures asked { is_read (request_of line.now) (tiles_of self.old) ≡ false → IsWanting result }
+        ensures asked { is_read (request_of line.now) (tiles_of self.old) ≡ false
+            → IsWanting result }
         ensures bounds { KeepsBounds self.old self.new }
         ensures directories { KeepsDirectories self.old self.new }
         ensures kept { ReadsOnly B.told B.versions B.faults B.steady backend.old backend.new }

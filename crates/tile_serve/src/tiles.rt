@@ -62,7 +62,8 @@ impl TileCache {
 
     // The latest used tile.
     fn copy_latest(&self) -> Result<Option<Bytes>, OutOfMemory>
-        ensures { IfOk result (λ latest. latest ≡ option_map (λ e. e.1) (slice_get self.now.pairs 0)) }
+        ensures { IfOk result
+            (λ latest. latest ≡ option_map (λ e. e.1) (slice_get self.now.pairs 0)) }
     {
         let Some(kept) = self.tiles.latest() else {
             return Ok(None);

@@ -1,16 +1,17 @@
 // The whole server as one call.
-ghost use Rattle.std.specs.Prelude.{◌≡◌, ◌⊎◌, ◌≤◌, ◌<◌, true, IfSome, IsOk, is_some, length};
+ghost use Rattle.std.specs.Prelude.{◌≡◌, ◌⊎◌, ◌<◌, true, IfSome, IsOk, is_some, length};
 ghost use Rattle.base_values.specs.Counts.{Rose};
+ghost use Rattle.byte_streams.specs.Input.{IsShort};
+ghost use Rattle.byte_streams.specs.Kept.{KeepsSink, KeepsSource};
 ghost use Rattle.byte_streams.specs.Streams.{IsAtEnd};
 ghost use Rattle.byte_streams.specs.declared.input.TheConstants.{MAX_INPUT};
 ghost use Rattle.pm_format.specs.Opened.{opened};
-ghost use Rattle.pm_reader.specs.Archives.{UsesOneLength};
 ghost use Rattle.pm_reader.specs.Reads.{ReadsOnly};
-ghost use Rattle.tile_serve.specs.Answers.{IsUniform};
+ghost use Rattle.tile_serve.specs.Answers.{IsUniform, OverOneLength};
 ghost use Rattle.tile_serve.specs.Limits.{IsLimits, limits_in};
 ghost use Rattle.tile_serve.specs.Outcomes.{outcome_of};
 ghost use Rattle.tile_serve.specs.Serving.{IsUnmodifiedRun, RunTexts, Writes};
-ghost use Rattle.tile_serve.specs.TopCall.{IsFor, IsRead, IsShort, IsSilent, IsUnopened, OpensFor, SourceCauses, Taken};
+ghost use Rattle.tile_serve.specs.TopCall.{IsFor, IsRead, IsSilent, IsUnopened, OpensFor, SourceCauses, Taken};
 
 use crate::limits::limits_of;
 use crate::serving::serve_lines;
@@ -29,19 +30,21 @@ fn serve_requests<B: Backend, O: Sink>(
     requests: &[u8],
 ) -> Result<(), ServeOutcome>
     requires limits { IsLimits limits }
-    ensures writes { IfSome (B.told source.old) (λ b. UsesOneLength b → Writes limits (B.versions source.old) (B.reads source.old) (B.reads source.new)
+    ensures writes { OverOneLength (B.told source.old)
+        (λ b. Writes limits (B.versions source.old) (B.reads source.old) (B.reads source.new)
         b requests.now (O.held output.old) (O.held output.new) (outcome_of result)) }
-    ensures texts { RunTexts (B.versions source.old) (B.reads source.old) (B.reads source.new) (outcome_of result) }
+    ensures texts { RunTexts (B.versions source.old) (B.reads source.old) (B.reads source.new)
+        (outcome_of result) }
     ensures opens { IfSome (B.told source.old) (λ b. OpensFor (opened b) (outcome_of result)) }
     ensures read { IsRead (outcome_of result) }
     ensures silent { IsSilent (outcome_of result) → O.held output.new ≡ O.held output.old }
-    ensures causes { SourceCauses (B.told source.old) (B.faults source.old) (B.faults source.new) (outcome_of result) }
+    ensures causes { SourceCauses (B.told source.old) (B.faults source.old) (B.faults source.new)
+        (outcome_of result) }
     ensures unmodified { IsUniform (B.versions source.old) → IsUnmodifiedRun (outcome_of result) }
-    ensures fault { outcome_of result ≡ ServeOutcome.OutputFault → Rose (O.faults output.old) (O.faults output.new) }
-    ensures kept { ReadsOnly B.told B.versions B.faults B.steady source.old source.new }
-    ensures tells { is_some (O.held output.new) ≡ is_some (O.held output.old) }
-    ensures faults { O.faults output.old ≤ O.faults output.new }
-    ensures calm { O.steady output.old → O.steady output.new × (O.faults output.new ≡ O.faults output.old) }
+    ensures fault { outcome_of result ≡ ServeOutcome.OutputFault
+        → Rose (O.faults output.old) (O.faults output.new) }
+    ensures source_kept { ReadsOnly B.told B.versions B.faults B.steady source.old source.new }
+    ensures output_kept { KeepsSink O.held O.faults O.steady output.old output.new }
 {
     let mut state = ServerState::open(alloc, source, limits)?;
     serve_lines(&mut state, source, output, requests)
@@ -55,28 +58,30 @@ fn attempt<B: Backend, I: Source, O: Sink>(
     output: &mut O,
 ) -> Result<(), ServeOutcome>
     ensures words { IsFor (limits_in words.now) (outcome_of result) }
-    ensures writes { IfSome (limits_in words.now) (λ limits. IfSome (B.told source.old) (λ b. UsesOneLength b → IfSome (I.left input.old) (λ requests.
-        Writes limits (B.versions source.old) (B.reads source.old) (B.reads source.new) b requests (O.held output.old) (O.held output.new) (outcome_of result)))) }
-    ensures texts { RunTexts (B.versions source.old) (B.reads source.old) (B.reads source.new) (outcome_of result) }
+    ensures writes { IfSome (limits_in words.now)
+        (λ limits. OverOneLength (B.told source.old) (λ b. IfSome (I.left input.old) (λ requests.
+        Writes limits (B.versions source.old) (B.reads source.old) (B.reads source.new) b requests
+        (O.held output.old) (O.held output.new) (outcome_of result)))) }
+    ensures texts { RunTexts (B.versions source.old) (B.reads source.old) (B.reads source.new)
+        (outcome_of result) }
     ensures opens { IfSome (B.told source.old) (λ b. OpensFor (opened b) (outcome_of result)) }
     ensures silent { IsSilent (outcome_of result) → O.held output.new ≡ O.held output.old }
     ensures read { outcome_of result ≡ ServeOutcome.Done → IsAtEnd (I.left input.new) }
     ensures taken { Taken (I.taken input.old) (I.taken input.new) (outcome_of result) }
-    ensures too_long { outcome_of result ≡ ServeOutcome.InputTooLong → IfSome (I.left input.old) (λ requests. MAX_INPUT < length requests) }
+    ensures too_long { outcome_of result ≡ ServeOutcome.InputTooLong
+        → IfSome (I.left input.old) (λ requests. MAX_INPUT < length requests) }
     ensures untaken { outcome_of result ≡ ServeOutcome.Usage → input.new ≡ input.old }
     ensures unread { IsUnopened (outcome_of result) → source.new ≡ source.old }
-    ensures causes { SourceCauses (B.told source.old) (B.faults source.old) (B.faults source.new) (outcome_of result) }
+    ensures causes { SourceCauses (B.told source.old) (B.faults source.old) (B.faults source.new)
+        (outcome_of result) }
     ensures unmodified { IsUniform (B.versions source.old) → IsUnmodifiedRun (outcome_of result) }
-    ensures input_fault { outcome_of result ≡ ServeOutcome.InputFault → Rose (I.faults input.old) (I.faults input.new) }
-    ensures output_fault { outcome_of result ≡ ServeOutcome.OutputFault → Rose (O.faults output.old) (O.faults output.new) }
-    ensures kept { ReadsOnly B.told B.versions B.faults B.steady source.old source.new }
-    ensures input_tells { is_some (I.left input.new) ≡ is_some (I.left input.old) }
-    ensures output_tells { is_some (O.held output.new) ≡ is_some (O.held output.old) }
-    ensures counted { I.taken input.old ≤ I.taken input.new }
-    ensures input_faults { I.faults input.old ≤ I.faults input.new }
-    ensures output_faults { O.faults output.old ≤ O.faults output.new }
-    ensures input_calm { I.steady input.old → I.steady input.new × (I.faults input.new ≡ I.faults input.old) }
-    ensures output_calm { O.steady output.old → O.steady output.new × (O.faults output.new ≡ O.faults output.old) }
+    ensures input_fault { outcome_of result ≡ ServeOutcome.InputFault
+        → Rose (I.faults input.old) (I.faults input.new) }
+    ensures output_fault { outcome_of result ≡ ServeOutcome.OutputFault
+        → Rose (O.faults output.old) (O.faults output.new) }
+    ensures source_kept { ReadsOnly B.told B.versions B.faults B.steady source.old source.new }
+    ensures input_kept { KeepsSource I.left I.taken I.faults I.steady input.old input.new }
+    ensures output_kept { KeepsSink O.held O.faults O.steady output.old output.new }
 {
     let Some(limits) = limits_of(words) else {
         return Err(ServeOutcome::Usage);
@@ -99,34 +104,40 @@ pub fn run_serve<B: Backend, I: Source, O: Sink>(
 ) -> ServeOutcome
     ensures words { IsFor (limits_in words.now) result }
     // What is written are the replies of a server without caches.
-    ensures writes { IfSome (limits_in words.now) (λ limits. IfSome (B.told source.old) (λ b. UsesOneLength b → IfSome (I.left input.old) (λ requests.
-        Writes limits (B.versions source.old) (B.reads source.old) (B.reads source.new) b requests (O.held output.old) (O.held output.new) result))) }
-    ensures texts { RunTexts (B.versions source.old) (B.reads source.old) (B.reads source.new) result }
+    ensures writes { IfSome (limits_in words.now)
+        (λ limits. OverOneLength (B.told source.old) (λ b. IfSome (I.left input.old) (λ requests.
+        Writes limits (B.versions source.old) (B.reads source.old) (B.reads source.new) b requests
+        (O.held output.old) (O.held output.new) result))) }
+    ensures texts { RunTexts (B.versions source.old) (B.reads source.old) (B.reads source.new)
+        result }
     ensures opens { IfSome (B.told source.old) (λ b. OpensFor (opened b) result) }
     // Where the words are limits, the input is within its limit, the archive opens, its version texts don't differ and no count rose, it is Done, or memory ran out.
-    ensures complete { is_some (limits_in words.now) ≡ true → IsShort (I.left input.old) → is_some (I.left input.old) ≡ true
-        → is_some (B.told source.old) ≡ true → IfSome (B.told source.old) (λ b. IsOk (opened b)) → IsUniform (B.versions source.old)
-        → ¬ Rose (I.faults input.old) (I.faults input.new) → ¬ Rose (O.faults output.old) (O.faults output.new) → ¬ Rose (B.faults source.old) (B.faults source.new)
+    ensures complete { is_some (limits_in words.now) ≡ true → IsShort (I.left input.old)
+        → is_some (I.left input.old) ≡ true
+        → is_some (B.told source.old) ≡ true → IfSome (B.told source.old) (λ b. IsOk (opened b))
+        → IsUniform (B.versions source.old)
+        → ¬ Rose (I.faults input.old) (I.faults input.new)
+        → ¬ Rose (O.faults output.old) (O.faults output.new)
+        → ¬ Rose (B.faults source.old) (B.faults source.new)
         → (result ≡ ServeOutcome.Done) ⊎ (result ≡ ServeOutcome.OutOfMemory) }
     ensures silent { IsSilent result → O.held output.new ≡ O.held output.old }
     ensures read { result ≡ ServeOutcome.Done → IsAtEnd (I.left input.new) }
     ensures taken { Taken (I.taken input.old) (I.taken input.new) result }
-    ensures too_long { result ≡ ServeOutcome.InputTooLong → IfSome (I.left input.old) (λ requests. MAX_INPUT < length requests) }
+    ensures too_long { result ≡ ServeOutcome.InputTooLong
+        → IfSome (I.left input.old) (λ requests. MAX_INPUT < length requests) }
     ensures untaken { result ≡ ServeOutcome.Usage → input.new ≡ input.old }
     ensures unread { IsUnopened result → source.new ≡ source.old }
-    ensures causes { SourceCauses (B.told source.old) (B.faults source.old) (B.faults source.new) result }
+    ensures causes { SourceCauses (B.told source.old) (B.faults source.old) (B.faults source.new)
+        result }
     ensures unmodified { IsUniform (B.versions source.old) → IsUnmodifiedRun result }
-    ensures input_fault { result ≡ ServeOutcome.InputFault → Rose (I.faults input.old) (I.faults input.new) }
-    ensures output_fault { result ≡ ServeOutcome.OutputFault → Rose (O.faults output.old) (O.faults output.new) }
+    ensures input_fault { result ≡ ServeOutcome.InputFault
+        → Rose (I.faults input.old) (I.faults input.new) }
+    ensures output_fault { result ≡ ServeOutcome.OutputFault
+        → Rose (O.faults output.old) (O.faults output.new) }
     // Counts don't fall, what tells goes on to tell, and an object whose calls don't fail has no fault.
-    ensures kept { ReadsOnly B.told B.versions B.faults B.steady source.old source.new }
-    ensures input_tells { is_some (I.left input.new) ≡ is_some (I.left input.old) }
-    ensures output_tells { is_some (O.held output.new) ≡ is_some (O.held output.old) }
-    ensures counted { I.taken input.old ≤ I.taken input.new }
-    ensures input_faults { I.faults input.old ≤ I.faults input.new }
-    ensures output_faults { O.faults output.old ≤ O.faults output.new }
-    ensures input_calm { I.steady input.old → I.steady input.new × (I.faults input.new ≡ I.faults input.old) }
-    ensures output_calm { O.steady output.old → O.steady output.new × (O.faults output.new ≡ O.faults output.old) }
+    ensures source_kept { ReadsOnly B.told B.versions B.faults B.steady source.old source.new }
+    ensures input_kept { KeepsSource I.left I.taken I.faults I.steady input.old input.new }
+    ensures output_kept { KeepsSink O.held O.faults O.steady output.old output.new }
 {
     match attempt(alloc, words, source, input, output) {
         Ok(()) => ServeOutcome::Done,

@@ -21,7 +21,8 @@ pub fn verify<B: Backend>(alloc: Global, source: &mut B) -> Result<VerifyReport,
     ensures causes { Causes (B.faults source.old) (B.faults source.new) result }
     ensures kept { ReadsOnly B.told B.versions B.faults B.steady source.old source.new }
     ensures made { ReadsMade (B.reads source.old) (B.reads source.new) result }
-    ensures reads { IfSome (B.told source.old) (λ b. B.reads source.new ≤ B.reads source.old + reads_at_most b (opened b)) }
+    ensures reads { IfSome (B.told source.old)
+        (λ b. B.reads source.new ≤ B.reads source.old + reads_at_most b (opened b)) }
 {
     let state = match ReaderState::open(alloc, source) {
         Ok(state) => state,

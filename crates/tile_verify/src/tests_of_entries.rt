@@ -1,5 +1,5 @@
 // The tests of a directory's ids and runs, in the order of its entries.
-ghost use Rattle.std.specs.Prelude.{◌≡◌, ◌+◌, None, drop, option_map};
+ghost use Rattle.std.specs.Prelude.{◌≡◌, ◌+◌, None};
 ghost use Rattle.tile_verify.specs.FirstBreak.{entry_break, limits_break};
 
 use crate::Reason;

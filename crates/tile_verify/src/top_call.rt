@@ -21,7 +21,8 @@ pub fn run_verify<B: Backend>(alloc: Global, words: &[TextVal], source: &mut B) 
     ensures untouched { result ≡ VerifyOutcome.Usage → source.new ≡ source.old }
     ensures kept { ReadsOnly B.told B.versions B.faults B.steady source.old source.new }
     ensures made { OfCheck (ReadsMade (B.reads source.old) (B.reads source.new)) result }
-    ensures reads { IfSome (B.told source.old) (λ b. B.reads source.new ≤ B.reads source.old + reads_at_most b (opened b)) }
+    ensures reads { IfSome (B.told source.old)
+        (λ b. B.reads source.new ≤ B.reads source.old + reads_at_most b (opened b)) }
 {
     if !words.is_empty() {
         return VerifyOutcome::Usage;

@@ -1,6 +1,5 @@
 // The walk along all directories of an archive, each read once.
-ghost use Rattle.std.specs.Prelude.{◌≡◌, ◌≢◌, ◌<◌, ◌+◌, ◌≤◌, List, [], ◌∷◌, length, drop, IfSome, IfOk, IfErr, OnOk};
-ghost use Rattle.pm_format.specs.Directory.{Entry};
+ghost use Rattle.std.specs.Prelude.{◌≡◌, ◌≢◌, ◌<◌, ◌+◌, ◌≤◌, [], ◌∷◌, length, IfSome, IfOk, IfErr, OnOk};
 ghost use Rattle.pm_reader.specs.Opening.{header_of};
 ghost use Rattle.pm_reader.specs.Reads.{ReadsOnly};
 ghost use Rattle.tile_verify.specs.FirstBreak.{end_before, place, walked};
@@ -84,7 +83,8 @@ fn read_leaf<B: Backend>(
     index: u64,
     entry: DirEntry,
 ) -> Result<Directory, VerifyError>
-    ensures answer { IfSome (B.told backend.old) (λ b. LeafRead (header_of state.now) b at index entry met.old met.new result) }
+    ensures answer { IfSome (B.told backend.old)
+        (λ b. LeafRead (header_of state.now) b at index entry met.old met.new result) }
     ensures causes { WalkCauses (B.faults backend.old) (B.faults backend.new) result }
     ensures made { WalkReads (B.reads backend.old) (B.reads backend.new) result }
     ensures kept { ReadsOnly B.told B.versions B.faults B.steady backend.old backend.new }
@@ -120,7 +120,8 @@ fn read_tile<B: Backend>(
     index: u64,
     entry: DirEntry,
 ) -> Result<(), VerifyError>
-    ensures answer { IfSome (B.told backend.old) (λ b. TileRead (header_of state.now) b at index entry met.old met.new result) }
+    ensures answer { IfSome (B.told backend.old)
+        (λ b. TileRead (header_of state.now) b at index entry met.old met.new result) }
     ensures causes { WalkCauses (B.faults backend.old) (B.faults backend.new) result }
     ensures made { WalkReads (B.reads backend.old) (B.reads backend.new) result }
     ensures kept { ReadsOnly B.told B.versions B.faults B.steady backend.old backend.new }
@@ -154,7 +155,8 @@ fn meet<B: Backend>(
     entry: DirEntry,
     left: u8,
 ) -> Result<Option<Directory>, VerifyError>
-    ensures answer { IfSome (B.told backend.old) (λ b. Meets (header_of state.now) b at index entry left met.old met.new result) }
+    ensures answer { IfSome (B.told backend.old)
+        (λ b. Meets (header_of state.now) b at index entry left met.old met.new result) }
     ensures deep { IfOk result (λ leaf. IfSome leaf (λ _. left ≢ 0)) }
     ensures causes { WalkCauses (B.faults backend.old) (B.faults backend.new) result }
     ensures made { WalkReads (B.reads backend.old) (B.reads backend.new) result }
@@ -186,11 +188,15 @@ pub(crate) fn walk<B: Backend>(
     directory: &Directory,
 ) -> Result<(), VerifyError>
     requires { at.depth + left ≡ 6 }
-    ensures answer { IfSome (B.told backend.old) (λ b. Walks (walked left (header_of state.now) b at low limit directory.now) (tiles_below left (header_of state.now) b directory.now) met.old met.new result) }
+    ensures answer { IfSome (B.told backend.old)
+        (λ b. Walks (walked left (header_of state.now) b at low limit directory.now)
+        (tiles_below left (header_of state.now) b directory.now) met.old met.new result) }
     ensures causes { WalkCauses (B.faults backend.old) (B.faults backend.new) result }
     ensures made { WalkReads (B.reads backend.old) (B.reads backend.new) result }
     ensures kept { ReadsOnly B.told B.versions B.faults B.steady backend.old backend.new }
-    ensures reads { IfSome (B.told backend.old) (λ b. ReadsIn (walked left (header_of state.now) b at low limit directory.now) (B.reads backend.old) (B.reads backend.new) result) }
+    ensures reads { IfSome (B.told backend.old)
+        (λ b. ReadsIn (walked left (header_of state.now) b at low limit directory.now)
+        (B.reads backend.old) (B.reads backend.new) result) }
 {
     let entries = directory.entries();
     if let Some((index, reason)) = limits_reason(entries, low, limit) {

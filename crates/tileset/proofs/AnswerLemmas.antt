@@ -2,9 +2,10 @@
 use Rattle.std.proofs.Common.{◌≡◌, ◌≤◌, ◌<◌, ◌⊎◌, ℕ, inl, inr, true, false, List, [], length, nat_lt, if◌then◌else◌, Option, Some, None, Result, Ok, Err, refl, sym, subst, ◌∙◌, ap, arith}
 use Rattle.std.specs.Result.{IsErrAnd}
 use Rattle.std.proofs.lemmas.Bool.Decides.{nat_tests}
+use Rattle.byte_streams.specs.Input.{IsShort}
 use Rattle.pm_format.specs.declared.compression.Compression.TheVariants as compression
 use Rattle.mb_load.specs.State.{State}
-use Rattle.tileset.specs.Run.{Given, Gives, IsScript, IsScriptOf, IsShort, IsTold, IsValid, LoadCauses, ScriptCauses, Spells, TellsScript, Yields, answer, answer_command, answer_input, answer_label, answer_script, answer_set, converted, outcome_of}
+use Rattle.tileset.specs.Run.{Given, Gives, IsScript, IsScriptOf, IsTold, IsValid, LoadCauses, ScriptCauses, Spells, TellsScript, Yields, answer, answer_command, answer_input, answer_label, answer_script, answer_set, converted, outcome_of}
 use Rattle.tileset_script.specs.Script.{Script, script_of}
 use Rattle.tileset_script.specs.Words.{command}
 use Rattle.byte_streams.specs.declared.input.TheConstants.{MAX_INPUT}

@@ -2,6 +2,5 @@ pub mod ConvertingLemmas
 pub mod AnswerLemmas
 pub mod DumpLemmas
 pub mod HexDumpLemmas
-pub mod KeptLemmas
 pub mod ReportLemmas
 pub mod RunLemmas

@@ -1,7 +1,6 @@
 pub mod Converting
 pub mod Dump
 pub mod HexDump
-pub mod Kept
 pub mod OutcomeText
 pub mod Outcomes
 pub mod Places

@@ -19,6 +19,7 @@ use Rattle.tileset_script.specs.Bulk.{bulk_script}
 use Rattle.tileset.specs.Dump.{IsOtherRange}
 use Rattle.tileset.specs.Report.{bulk_text, file_text, report_text}
 use Rattle.tileset_script.specs.Script.{Script, script_of}
+use Rattle.byte_streams.specs.Input.{IsShort}
 use Rattle.byte_streams.specs.Streams.{Gains, GainsFront, IsAtEnd}
 use Rattle.tileset_script.specs.Words.{command}
 use Rattle.byte_streams.specs.declared.input.TheConstants.{MAX_INPUT}
@@ -35,10 +36,6 @@ pub record Given : Type 0 where
 
 abbrev pub given_of : List (List ℕ) → Option (List ℕ) → Option (List ℕ) → Given
 given_of words input medium = record { words = words; input = input; medium = medium }
-
--- the input is within the limit, where it tells
-abbrev pub IsShort : Option (List ℕ) → Type 0
-IsShort input = IfSome input (λ bytes. length bytes ≤ MAX_INPUT)
 
 -- the input spells this script, where it tells
 abbrev pub Spells : Option (List ℕ) → Script → Type 0

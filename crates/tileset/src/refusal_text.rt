@@ -64,7 +64,8 @@ fn two_fields(alloc: Global, first: &str, second: &str) -> Result<String, OutOfM
 
 // The words of two layouts, each after a space.
 fn two_layouts(alloc: Global, first: MbtType, second: MbtType) -> Result<String, OutOfMemory>
-    ensures { IfOk result (λ text. string_bytes text ≡ spaced (layout_words first ∷ layout_words second ∷ [])) }
+    ensures { IfOk result
+        (λ text. string_bytes text ≡ spaced (layout_words first ∷ layout_words second ∷ [])) }
 {
     Ok(format!(in alloc; " {first} {second}")?)
 }

@@ -1,13 +1,13 @@
 // The report on a written archive.
 ghost use Rattle.std.specs.Prelude.{◌≡◌, IfSome, IfErr, OnOk, IsErrOf};
 ghost use Rattle.base_values.specs.Counts.{Rose};
+ghost use Rattle.byte_streams.specs.Kept.{KeepsSink};
+ghost use Rattle.byte_media.specs.Kept.{KeepsMedium};
 ghost use Rattle.tileset.specs.Places.{places_text};
 ghost use Rattle.tileset.specs.Report.{report_text};
 ghost use Rattle.tileset.specs.Run.{IsReported, LinesCauses, ReportCauses, command_text};
 ghost use Rattle.byte_streams.specs.Streams.{Gains, GainsFront};
 ghost use Rattle.tileset.specs.Summary.{summary};
-ghost use Rattle.tile_bridge.specs.Kept.{KeepsMedium};
-ghost use Rattle.tileset.specs.Kept.{KeepsSink};
 
 use crate::dump::write_dump;
 use crate::places::places_text;

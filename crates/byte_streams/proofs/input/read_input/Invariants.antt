@@ -1,5 +1,6 @@
 -- what was read so far is what the source lost
-use Rattle.std.proofs.Common.{◌≡◌, ◌≤◌, ◌-◌, length, vec_len, is_some}
+use Rattle.std.proofs.Common.{◌≤◌, ◌-◌, length, vec_len}
+use Rattle.byte_streams.specs.Kept.{KeepsSource}
 use Rattle.byte_streams.specs.Streams.{Loses}
 use Rattle.base_values.specs.Counts.{Grew}
 use Rattle.byte_streams.specs.declared.input.TheConstants.{MAX_INPUT}
@@ -12,9 +13,7 @@ invariant-loop-count g l =
       moved : Loses (s.left l.fn.source) (s.left l.source) l.bytes.items;
       few : vec_len l.bytes ≤ MAX_INPUT;
       counted : Grew (s.taken l.fn.source) (s.taken l.source) (length l.bytes.items);
-      tells : is_some (s.left l.source) ≡ is_some (s.left l.fn.source);
-      faults : s.faults l.fn.source ≤ s.faults l.source;
-      calm : s.steady l.fn.source → s.steady l.source × (s.faults l.source ≡ s.faults l.fn.source);
+      kept : KeepsSource s.left s.taken s.faults s.steady l.fn.source l.source;
     }
 
 abbrev pub decreases-loop-count : goal.decreases-loop-count

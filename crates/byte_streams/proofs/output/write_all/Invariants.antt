@@ -1,5 +1,6 @@
 -- what the sink gained is the front that was written
-use Rattle.std.proofs.Common.{◌≡◌, ◌≤◌, ◌-◌, length, take, is_some}
+use Rattle.std.proofs.Common.{◌≤◌, ◌-◌, length, take}
+use Rattle.byte_streams.specs.Kept.{KeepsSink}
 use Rattle.byte_streams.specs.Streams.{Gains}
 use Rattle.byte_streams.proofs.output.write_all.Given as goal
 
@@ -9,9 +10,7 @@ invariant-loop-done g l =
     record {
       moved : Gains (k.held l.fn.sink) (k.held l.sink) (take l.done l.text);
       within : l.done ≤ length l.text;
-      faults : k.faults l.fn.sink ≤ k.faults l.sink;
-      tells : is_some (k.held l.sink) ≡ is_some (k.held l.fn.sink);
-      calm : k.steady l.fn.sink → k.steady l.sink × (k.faults l.sink ≡ k.faults l.fn.sink);
+      kept : KeepsSink k.held k.faults k.steady l.fn.sink l.sink;
     }
 
 abbrev pub decreases-loop-done : goal.decreases-loop-done

@@ -12,7 +12,7 @@ returns-in-Err-clause-leaves g c =
     let tiles = c.args.set.now.state.tiles in
     let adds = shown tiles c.in_ok-adds.adds.items in
     let can = ready c.args.options.now tiles adds c.in_ok-adds.ensures.are c.in_ok-adds.ensures.few c.fits.ensures.options c.fits.ensures.metadata c.requires.size in
-    leaves_part c.args.options.now adds can tiles c.args.coords.now c.of_writer.result (g.M.Backend.told c.args.medium.now) (g.M.Backend.told c.write_archive.new.medium) c.in_ok-adds.ensures.are c.write_archive.ensures.tells
+    leaves_part c.args.options.now adds can tiles c.args.coords.now c.of_writer.result (g.M.Backend.told c.args.medium.now) (g.M.Backend.told c.write_archive.new.medium) c.in_ok-adds.ensures.are c.write_archive.ensures.kept.tells
     (subst (λ xs. IfSome (g.M.Backend.told c.write_archive.new.medium) (IsHiddenOr (archive c.args.options.now (shown tiles xs)))) c.deref.ensures.value c.write_archive.ensures.shown)
 
 pub returns-in-Ok-read_answers-clause-leaves : goal.returns-in-Ok-read_answers-clause-leaves
@@ -22,10 +22,10 @@ returns-in-Ok-read_answers-clause-leaves g c =
     let can = ready c.args.options.now tiles adds c.in_ok-adds.ensures.are c.in_ok-adds.ensures.few c.fits.ensures.options c.fits.ensures.metadata c.requires.size in
     let before = g.M.Backend.told c.write_archive.new.medium in
     let after = g.M.Backend.told c.read_answers.new.backend in
-    let written : IfSome after (λ b. b ≡ archive c.args.options.now adds) = told_same (λ b. b ≡ archive c.args.options.now adds) before after c.read_answers.ensures.told (subst (λ xs. IfSome before (λ b. b ≡ archive c.args.options.now (shown tiles xs))) c.deref.ensures.value c.in-Ok.ensures.bytes) in
+    let written : IfSome after (λ b. b ≡ archive c.args.options.now adds) = told_same (λ b. b ≡ archive c.args.options.now adds) before after c.read_answers.ensures.kept.told (subst (λ xs. IfSome before (λ b. b ≡ archive c.args.options.now (shown tiles xs))) c.deref.ensures.value c.in-Ok.ensures.bytes) in
     leaves_all c.args.options.now adds can tiles c.args.coords.now _ (g.M.Backend.told c.args.medium.now) after c.in_ok-adds.ensures.are
-    (subst (λ xs. (taken : List (ℕ × List ℕ)) × TookAll (g.M.Backend.told c.args.medium.now) (shown tiles xs) taken × (c.in-Ok.places ≡ places_of c.args.options.now taken)) c.deref.ensures.value c.in-Ok.ensures.places) (ap is_some c.read_answers.ensures.told ∙ c.write_archive.ensures.tells) written
-    (told_same (λ b. _) before after c.read_answers.ensures.told c.in-Ok-read_answers.ensures.answers)
+    (subst (λ xs. (taken : List (ℕ × List ℕ)) × TookAll (g.M.Backend.told c.args.medium.now) (shown tiles xs) taken × (c.in-Ok.places ≡ places_of c.args.options.now taken)) c.deref.ensures.value c.in-Ok.ensures.places) (ap is_some c.read_answers.ensures.kept.told ∙ c.write_archive.ensures.kept.tells) written
+    (told_same (λ b. _) before after c.read_answers.ensures.kept.told c.in-Ok-read_answers.ensures.answers)
 
 pub returns-in-Err-read_answers-clause-causes : goal.returns-in-Err-read_answers-clause-causes
 returns-in-Err-read_answers-clause-causes g c =
@@ -34,9 +34,9 @@ returns-in-Err-read_answers-clause-causes g c =
     let can = ready c.args.options.now tiles adds c.in_ok-adds.ensures.are c.in_ok-adds.ensures.few c.fits.ensures.options c.fits.ensures.metadata c.requires.size in
     let before = g.M.Backend.told c.write_archive.new.medium in
     let after = g.M.Backend.told c.read_answers.new.backend in
-    let written : IfSome after (λ b. b ≡ archive c.args.options.now adds) = told_same (λ b. b ≡ archive c.args.options.now adds) before after c.read_answers.ensures.told (subst (λ xs. IfSome before (λ b. b ≡ archive c.args.options.now (shown tiles xs))) c.deref.ensures.value c.in-Ok.ensures.bytes) in
+    let written : IfSome after (λ b. b ≡ archive c.args.options.now adds) = told_same (λ b. b ≡ archive c.args.options.now adds) before after c.read_answers.ensures.kept.told (subst (λ xs. IfSome before (λ b. b ≡ archive c.args.options.now (shown tiles xs))) c.deref.ensures.value c.in-Ok.ensures.bytes) in
     read_refused c.args.options.now adds can (g.M.Backend.faults c.write_archive.new.medium) (g.M.Backend.faults c.read_answers.new.backend) c.in-Err-read_answers.error c.of_reader.result (g.M.Backend.told c.args.medium.now) after c.of_reader.ensures
-    (ap is_some c.read_answers.ensures.told ∙ c.write_archive.ensures.tells) written (told_same (λ b. _) before after c.read_answers.ensures.told c.in-Err-read_answers.ensures.answers) c.in-Err-read_answers.ensures.causes
+    (ap is_some c.read_answers.ensures.kept.told ∙ c.write_archive.ensures.kept.tells) written (told_same (λ b. _) before after c.read_answers.ensures.kept.told c.in-Err-read_answers.ensures.answers) c.in-Err-read_answers.ensures.causes
 
 pub returns-in-Err-read_answers-clause-leaves : goal.returns-in-Err-read_answers-clause-leaves
 returns-in-Err-read_answers-clause-leaves g c =
@@ -45,5 +45,5 @@ returns-in-Err-read_answers-clause-leaves g c =
     let can = ready c.args.options.now tiles adds c.in_ok-adds.ensures.are c.in_ok-adds.ensures.few c.fits.ensures.options c.fits.ensures.metadata c.requires.size in
     let before = g.M.Backend.told c.write_archive.new.medium in
     let after = g.M.Backend.told c.read_answers.new.backend in
-    leaves_whole c.args.options.now adds can tiles c.args.coords.now c.of_reader.result (g.M.Backend.told c.args.medium.now) after c.in_ok-adds.ensures.are (ap is_some c.read_answers.ensures.told ∙ c.write_archive.ensures.tells)
-    (told_same (λ b. b ≡ archive c.args.options.now adds) before after c.read_answers.ensures.told (subst (λ xs. IfSome before (λ b. b ≡ archive c.args.options.now (shown tiles xs))) c.deref.ensures.value c.in-Ok.ensures.bytes))
+    leaves_whole c.args.options.now adds can tiles c.args.coords.now c.of_reader.result (g.M.Backend.told c.args.medium.now) after c.in_ok-adds.ensures.are (ap is_some c.read_answers.ensures.kept.told ∙ c.write_archive.ensures.kept.tells)
+    (told_same (λ b. b ≡ archive c.args.options.now adds) before after c.read_answers.ensures.kept.told (subst (λ xs. IfSome before (λ b. b ≡ archive c.args.options.now (shown tiles xs))) c.deref.ensures.value c.in-Ok.ensures.bytes))

@@ -1,5 +1,6 @@
 -- the archive of what the adds so far are taken for is begun
-use Rattle.std.proofs.Common.{◌≡◌, ◌≤◌, ℕ, false, List, [], take, is_some}
+use Rattle.std.proofs.Common.{◌≡◌, ℕ, false, List, [], take}
+use Rattle.byte_media.specs.Kept.{KeepsMedium}
 use Rattle.pm_format.specs.Options.{Options}
 use Rattle.pm_writer.specs.Took.{TookAll}
 use Rattle.pm_writer.specs.Writing.{Writes, has_failed}
@@ -11,8 +12,4 @@ invariant-loop-index g l =
     ((o : Options) → Writes o (g.M.Backend.told l.fn.medium) l.fn.state []
     → (taken : List (ℕ × List ℕ)) × TookAll (g.M.Backend.told l.fn.medium) (take l.index (shown l.set.state.tiles l.adds)) taken × Writes o (g.M.Backend.told l.medium) l.state taken)
     × (has_failed l.state ≡ false)
-    × (is_some (g.M.Backend.told l.medium) ≡ is_some (g.M.Backend.told l.fn.medium))
-    × (g.M.Backend.faults l.fn.medium ≤ g.M.Backend.faults l.medium)
-    × (g.M.Backend.reads l.fn.medium ≤ g.M.Backend.reads l.medium)
-    × (g.M.Backend.steady l.fn.medium → g.M.Backend.steady l.medium × (g.M.Backend.faults l.medium ≡ g.M.Backend.faults l.fn.medium))
-    × (is_some (g.M.Backend.versions l.medium) ≡ is_some (g.M.Backend.versions l.fn.medium))
+    × KeepsMedium g.M.Backend.told g.M.Backend.versions g.M.Backend.reads g.M.Backend.faults g.M.Backend.steady l.fn.medium l.medium

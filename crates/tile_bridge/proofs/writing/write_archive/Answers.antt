@@ -25,7 +25,7 @@ returns-clause-bytes g c =
     let o = c.args.options.now in
     let adds = shown c.args.set.now.state.tiles c.args.adds.now in
     let t = c.in_ok-add_all.ensures.added o c.in_ok-state.ensures.begun in
-    on_ok_weaker c.finalize.result (told_as_given (λ adds b. b ≡ archive o adds) _ (g.M.Backend.told c.finalize.new.medium) adds t.0 (c.finalize.ensures.tells ∙ c.add_all.ensures.tells) t.1) (c.finalize.ensures.bytes o t.0 t.2)
+    on_ok_weaker c.finalize.result (told_as_given (λ adds b. b ≡ archive o adds) _ (g.M.Backend.told c.finalize.new.medium) adds t.0 (c.finalize.ensures.kept.tells ∙ c.add_all.ensures.kept.tells) t.1) (c.finalize.ensures.bytes o t.0 t.2)
 
 pub returns-clause-places : goal.returns-clause-places
 returns-clause-places g c =
@@ -39,4 +39,4 @@ returns-clause-shown g c =
     let o = c.args.options.now in
     let adds = shown c.args.set.now.state.tiles c.args.adds.now in
     let t = c.in_ok-add_all.ensures.added o c.in_ok-state.ensures.begun in
-    told_as_given (λ adds. IsHiddenOr (archive o adds)) _ (g.M.Backend.told c.finalize.new.medium) adds t.0 (c.finalize.ensures.tells ∙ c.add_all.ensures.tells) t.1 (c.finalize.ensures.shown o t.0 t.2)
+    told_as_given (λ adds. IsHiddenOr (archive o adds)) _ (g.M.Backend.told c.finalize.new.medium) adds t.0 (c.finalize.ensures.kept.tells ∙ c.add_all.ensures.kept.tells) t.1 (c.finalize.ensures.shown o t.0 t.2)

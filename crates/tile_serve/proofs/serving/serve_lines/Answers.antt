@@ -1,4 +1,6 @@
 use Rattle.std.proofs.Common.{rules, arith, ◌≡◌, ◌∙◌, ◌∷◌, [], refl, sym, subst, IfSome}
+use Rattle.byte_media.proofs.KeptLemmas.{reads_same, reads_then}
+use Rattle.byte_streams.proofs.KeptLemmas.{sink_same, sink_then}
 use Rattle.line_words.specs.Lines.{lines_of}
 use Rattle.pm_reader.specs.Archives.{UsesOneLength}
 use Rattle.tile_serve.specs.Course.{course}
@@ -8,7 +10,7 @@ use Rattle.tile_serve.specs.State.{opened_as, tiles_of}
 use Rattle.tile_serve.specs.declared.outcome.ServeOutcome.{ServeOutcome}
 use Rattle.tile_serve.specs.declared.outcome.ServeOutcome.TheVariants.{Done}
 use Rattle.tile_serve.proofs.CourseLemmas.{goes_later, texts_later}
-use Rattle.tile_serve.proofs.LinesLemmas.{end_later, fault_later, outcome_is, reads_nothing, reads_then, serving_begun, serving_done, serving_more, serving_stopped, unmodified_again}
+use Rattle.tile_serve.proofs.LinesLemmas.{end_later, fault_later, outcome_is, serving_begun, serving_done, serving_more, serving_stopped, unmodified_again}
 use Rattle.tile_serve.proofs.ServingLemmas.{told_again}
 use Rattle.tile_serve.proofs.serving.serve_lines.Goals as goal
 
@@ -18,10 +20,8 @@ loop-line-init g c = record {
   served = serving_begun (g.B.Backend.told c.args.source.now) (opened_as c.args.state.now) (g.B.Backend.versions c.args.source.now) (tiles_of c.args.state.now) (g.B.Backend.reads c.args.source.now) c.args.requests.now (g.O.Sink.held c.args.output.now);
   same = refl;
   later = omega arith;
-  kept = reads_nothing g.B.Backend.told g.B.Backend.versions g.B.Backend.faults g.B.Backend.steady c.args.source.now;
-  tells = refl;
-  faults = omega arith;
-  calm = λ s. (s, refl);
+  source_kept = reads_same g.B.Backend.told g.B.Backend.versions g.B.Backend.faults g.B.Backend.steady c.args.source.now;
+  output_kept = sink_same g.O.Sink.held g.O.Sink.faults g.O.Sink.steady c.args.output.now;
 }
 
 pub loop-line-preserved : goal.loop-line-preserved
@@ -35,16 +35,14 @@ loop-line-preserved g c =
       serving = e.serving;
       served = serving_more told (opened_as c.args.state.now) (g.B.Backend.versions c.args.source.now) (tiles_of c.args.state.now) (g.B.Backend.reads c.args.source.now) c.args.requests.now c.loop-line.rest.now c.in-Some.behind.now c.in-Some.line.now
           (tiles_of c.loop-line.state) (tiles_of c.serve_line.new.state) _ _ (g.O.Sink.held c.args.output.now) (g.O.Sink.held c.loop-line.output) (g.O.Sink.held c.serve_line.new.output)
-          parts (told_again (λ b. UsesOneLength b → WritesLine b c.in-Some.line.now (g.O.Sink.held c.loop-line.output) (g.O.Sink.held c.serve_line.new.output) Done) again told (sym i.kept.told) e.writes)
+          parts (told_again (λ b. UsesOneLength b → WritesLine b c.in-Some.line.now (g.O.Sink.held c.loop-line.output) (g.O.Sink.held c.serve_line.new.output) Done) again told (sym i.source_kept.told) e.writes)
           (goes_later told again (opened_as c.args.state.now) (opened_as c.loop-line.state) (g.B.Backend.versions c.args.source.now) (g.B.Backend.versions c.loop-line.source) c.in-Some.line.now (tiles_of c.loop-line.state) (tiles_of c.serve_line.new.state) _ _ Done
-          i.kept.told i.same i.kept.versions e.goes)
+          i.source_kept.told i.same i.source_kept.versions e.goes)
           i.served;
       same = e.same ∙ i.same;
       later = omega (arith, i.later, e.later);
-      kept = reads_then g.B.Backend.told g.B.Backend.versions g.B.Backend.faults g.B.Backend.steady c.args.source.now c.loop-line.source c.serve_line.new.source i.kept e.kept;
-      tells = search rules;
-      faults = search rules;
-      calm = search rules;
+      source_kept = reads_then g.B.Backend.told g.B.Backend.versions g.B.Backend.faults g.B.Backend.steady c.args.source.now c.loop-line.source c.serve_line.new.source i.source_kept e.source_kept;
+      output_kept = sink_then g.O.Sink.held g.O.Sink.faults g.O.Sink.steady c.args.output.now c.loop-line.output c.serve_line.new.output i.output_kept e.output_kept;
     }
 
 pub returns-in_err-serve_line-clause-writes : goal.returns-in_err-serve_line-clause-writes
@@ -60,34 +58,34 @@ returns-in_err-serve_line-clause-writes g c =
     subst P (sym (outcome_is c.from_residual.result _ c.from_residual.ensures.1))
     (serving_stopped told (opened_as c.args.state.now) (g.B.Backend.versions c.args.source.now) (tiles_of c.args.state.now) (g.B.Backend.reads c.args.source.now) c.args.requests.now c.loop-line.rest.now c.in-Some.behind.now c.in-Some.line.now
     (tiles_of c.loop-line.state) (tiles_of c.serve_line.new.state) _ _ (g.O.Sink.held c.args.output.now) (g.O.Sink.held c.loop-line.output) (g.O.Sink.held c.serve_line.new.output) o
-    parts e.stops (told_again (λ b. UsesOneLength b → WritesLine b c.in-Some.line.now (g.O.Sink.held c.loop-line.output) (g.O.Sink.held c.serve_line.new.output) o) again told (sym i.kept.told) e.writes)
+    parts e.stops (told_again (λ b. UsesOneLength b → WritesLine b c.in-Some.line.now (g.O.Sink.held c.loop-line.output) (g.O.Sink.held c.serve_line.new.output) o) again told (sym i.source_kept.told) e.writes)
     (goes_later told again (opened_as c.args.state.now) (opened_as c.loop-line.state) (g.B.Backend.versions c.args.source.now) (g.B.Backend.versions c.loop-line.source) c.in-Some.line.now (tiles_of c.loop-line.state) (tiles_of c.serve_line.new.state) _ _ o
-    i.kept.told i.same i.kept.versions e.goes)
+    i.source_kept.told i.same i.source_kept.versions e.goes)
     i.served)
 
 pub returns-in_err-serve_line-clause-texts : goal.returns-in_err-serve_line-clause-texts
 returns-in_err-serve_line-clause-texts g c =
     let i = c.loop-line.invariant in
     texts_later (opened_as c.args.state.now) (opened_as c.loop-line.state) (g.B.Backend.versions c.args.source.now) (g.B.Backend.versions c.loop-line.source) _ c.in_err-serve_line.field-0.0 (outcome_of c.from_residual.result)
-    i.same i.kept.versions (outcome_is c.from_residual.result _ c.from_residual.ensures.1) c.in_err-serve_line.ensures.texts
+    i.same i.source_kept.versions (outcome_is c.from_residual.result _ c.from_residual.ensures.1) c.in_err-serve_line.ensures.texts
 
 pub returns-in_err-serve_line-clause-end : goal.returns-in_err-serve_line-clause-end
 returns-in_err-serve_line-clause-end g c =
-    end_later (g.B.Backend.told c.args.source.now) (g.B.Backend.told c.loop-line.source) _ _ _ c.in_err-serve_line.field-0.0 (outcome_of c.from_residual.result) c.loop-line.invariant.kept.told (outcome_is c.from_residual.result _ c.from_residual.ensures.1) c.loop-line.invariant.kept.faults
+    end_later (g.B.Backend.told c.args.source.now) (g.B.Backend.told c.loop-line.source) _ _ _ c.in_err-serve_line.field-0.0 (outcome_of c.from_residual.result) c.loop-line.invariant.source_kept.told (outcome_is c.from_residual.result _ c.from_residual.ensures.1) c.loop-line.invariant.source_kept.faults
     c.in_err-serve_line.ensures.end
 
 pub returns-in_err-serve_line-clause-unmodified : goal.returns-in_err-serve_line-clause-unmodified
 returns-in_err-serve_line-clause-unmodified g c =
-    unmodified_again (g.B.Backend.versions c.args.source.now) (g.B.Backend.versions c.loop-line.source) c.in_err-serve_line.field-0.0 (outcome_of c.from_residual.result) c.loop-line.invariant.kept.versions (outcome_is c.from_residual.result _ c.from_residual.ensures.1)
+    unmodified_again (g.B.Backend.versions c.args.source.now) (g.B.Backend.versions c.loop-line.source) c.in_err-serve_line.field-0.0 (outcome_of c.from_residual.result) c.loop-line.invariant.source_kept.versions (outcome_is c.from_residual.result _ c.from_residual.ensures.1)
     c.in_err-serve_line.ensures.unmodified
 
 pub returns-in_err-serve_line-clause-fault : goal.returns-in_err-serve_line-clause-fault
 returns-in_err-serve_line-clause-fault g c =
-    fault_later _ _ _ c.in_err-serve_line.field-0.0 (outcome_of c.from_residual.result) (outcome_is c.from_residual.result _ c.from_residual.ensures.1) c.loop-line.invariant.faults c.in_err-serve_line.ensures.fault
+    fault_later _ _ _ c.in_err-serve_line.field-0.0 (outcome_of c.from_residual.result) (outcome_is c.from_residual.result _ c.from_residual.ensures.1) c.loop-line.invariant.output_kept.faults c.in_err-serve_line.ensures.fault
 
-pub returns-in_err-serve_line-clause-kept : goal.returns-in_err-serve_line-clause-kept
-returns-in_err-serve_line-clause-kept g c =
-    reads_then g.B.Backend.told g.B.Backend.versions g.B.Backend.faults g.B.Backend.steady c.args.source.now c.loop-line.source c.serve_line.new.source c.loop-line.invariant.kept c.in_err-serve_line.ensures.kept
+pub returns-in_err-serve_line-clause-source_kept : goal.returns-in_err-serve_line-clause-source_kept
+returns-in_err-serve_line-clause-source_kept g c =
+    reads_then g.B.Backend.told g.B.Backend.versions g.B.Backend.faults g.B.Backend.steady c.args.source.now c.loop-line.source c.serve_line.new.source c.loop-line.invariant.source_kept c.in_err-serve_line.ensures.source_kept
 
 pub returns-clause-writes : goal.returns-clause-writes
 returns-clause-writes g c =

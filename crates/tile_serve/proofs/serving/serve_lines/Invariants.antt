@@ -1,5 +1,6 @@
 -- the lines so far were answered, and their replies written
-use Rattle.std.proofs.Common.{◌≡◌, ◌≤◌, length, IfSome, is_some}
+use Rattle.std.proofs.Common.{◌≡◌, ◌≤◌, length, IfSome}
+use Rattle.byte_streams.specs.Kept.{KeepsSink}
 use Rattle.pm_reader.specs.Archives.{UsesOneLength}
 use Rattle.pm_reader.specs.Reads.{ReadsOnly}
 use Rattle.tile_serve.specs.Course.{course}
@@ -17,10 +18,8 @@ invariant-loop-line g l =
           l.fn.requests l.rest (tiles_of l.state) (b.reads l.source) (k.held l.fn.output) (k.held l.output));
       same : opened_as l.state ≡ opened_as l.fn.state;
       later : b.reads l.fn.source ≤ b.reads l.source;
-      kept : ReadsOnly b.told b.versions b.faults b.steady l.fn.source l.source;
-      tells : is_some (k.held l.output) ≡ is_some (k.held l.fn.output);
-      faults : k.faults l.fn.output ≤ k.faults l.output;
-      calm : k.steady l.fn.output → k.steady l.output × (k.faults l.output ≡ k.faults l.fn.output);
+      source_kept : ReadsOnly b.told b.versions b.faults b.steady l.fn.source l.source;
+      output_kept : KeepsSink k.held k.faults k.steady l.fn.output l.output;
     }
 
 abbrev pub decreases-loop-line : goal.decreases-loop-line

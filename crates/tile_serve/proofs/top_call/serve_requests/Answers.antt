@@ -1,7 +1,8 @@
 use Rattle.std.proofs.Common.{refl}
+use Rattle.byte_media.proofs.KeptLemmas.{reads_then}
 use Rattle.tile_serve.specs.Outcomes.{outcome_of}
 use Rattle.tile_serve.specs.State.{opened_as, tiles_of}
-use Rattle.tile_serve.proofs.LinesLemmas.{outcome_is, reads_then, unmodified_again}
+use Rattle.tile_serve.proofs.LinesLemmas.{outcome_is, unmodified_again}
 use Rattle.tile_serve.proofs.OpenedLemmas.{begun_by, lines_texts, lines_write}
 use Rattle.tile_serve.proofs.RunLemmas.{lines_cause, lines_loud, lines_open, lines_read, unopened}
 use Rattle.tile_serve.proofs.top_call.serve_requests.Goals as goal
@@ -54,5 +55,5 @@ returns-clause-causes g c = lines_cause (g.B.Backend.told c.args.source.now) (g.
 pub returns-clause-unmodified : goal.returns-clause-unmodified
 returns-clause-unmodified g c = unmodified_again (g.B.Backend.versions c.args.source.now) (g.B.Backend.versions c.open.new.backend) (outcome_of c.serve_lines.result) (outcome_of c.serve_lines.result) c.in_ok-state.ensures.kept.versions refl c.serve_lines.ensures.unmodified
 
-pub returns-clause-kept : goal.returns-clause-kept
-returns-clause-kept g c = reads_then g.B.Backend.told g.B.Backend.versions g.B.Backend.faults g.B.Backend.steady c.args.source.now c.open.new.backend c.serve_lines.new.source c.in_ok-state.ensures.kept c.serve_lines.ensures.kept
+pub returns-clause-source_kept : goal.returns-clause-source_kept
+returns-clause-source_kept g c = reads_then g.B.Backend.told g.B.Backend.versions g.B.Backend.faults g.B.Backend.steady c.args.source.now c.open.new.backend c.serve_lines.new.source c.in_ok-state.ensures.kept c.serve_lines.ensures.source_kept

@@ -1,4 +1,5 @@
 use Rattle.std.proofs.Common.{◌∙◌, ◌≢◌, ◌+◌, ap, sym, subst, Ok, IfSome, refl, arith}
+use Rattle.byte_media.proofs.KeptLemmas.{reads_same, reads_then}
 use Rattle.pm_reader.specs.Opening.{header_of}
 use Rattle.tile_verify.proofs.ReadsLemmas.{made_later}
 use Rattle.tile_verify.proofs.ToldLemmas.{told_all_gone, told_begun, told_not_within, told_past_leaf, told_past_tile, told_stopped, told_stopped_below}
@@ -14,7 +15,7 @@ loop-entry-init g t c = (
   omega arith,
   sym c.limits_reason.ensures ∙ c.in_default.is,
   c.entries-entries.ensures.value,
-  record { told = refl; versions = refl; faults = omega arith; calm = λ s. (s, refl) },
+  reads_same _ _ _ _ _,
   told_begun (g.B.Backend.told c.args.backend.now) (header_of c.args.state.now) c.args.at c.args.left c.args.limit c.entries-entries.result.now c.args.met.now (g.B.Backend.reads c.args.backend.now),
   omega arith,
 )
@@ -99,7 +100,7 @@ loop-entry-preserved-in-Ok-None g t c =
       omega (arith, i.0, c.in-Some-split_first.ensures.cases.1),
       i.1,
       i.2,
-      record { told = c.meet.ensures.kept.told ∙ i.3.told; versions = c.meet.ensures.kept.versions ∙ i.3.versions; faults = omega (arith, c.meet.ensures.kept.faults, i.3.faults); calm = λ s. let p = i.3.calm s in let q = c.meet.ensures.kept.calm p.0 in (q.0, q.1 ∙ p.1) },
+      reads_then _ _ _ _ _ _ _ i.3 c.meet.ensures.kept,
       told_past_tile (g.B.Backend.told c.args.backend.now) (g.B.Backend.told c.loop-entry.backend) (header_of c.args.state.now) c.args.at c.args.left c.args.limit c.entries-entries.result.now c.loop-entry.rest.now c.in-Some-split_first.entry.now c.in-Some-split_first.others.now c.args.met.now c.loop-entry.met c.meet.new.met
           (g.B.Backend.reads c.args.backend.now) (g.B.Backend.reads c.loop-entry.backend) (g.B.Backend.reads c.meet.new.backend) _ c.meet.result
           i.3.told c.in-Some-split_first.ensures.cases.0 i.0 refl (c.in-Ok-None.is ∙ ap (λ o. Ok o) c.in-Ok-None.field-0-is) i.4 c.meet.ensures.answer c.meet.ensures.reads,
@@ -114,7 +115,7 @@ loop-entry-preserved g t c =
       omega (arith, i.0, c.in-Some-split_first.ensures.cases.1),
       i.1,
       i.2,
-      record { told = m.told ∙ k.told ∙ i.3.told; versions = m.versions ∙ k.versions ∙ i.3.versions; faults = omega (arith, m.faults, k.faults, i.3.faults); calm = λ s. let p = i.3.calm s in let q = k.calm p.0 in let r = m.calm q.0 in (r.0, r.1 ∙ q.1 ∙ p.1) },
+      reads_then _ _ _ _ _ _ _ (reads_then _ _ _ _ _ _ _ i.3 k) m,
       told_past_leaf (g.B.Backend.told c.args.backend.now) (g.B.Backend.told c.loop-entry.backend) (g.B.Backend.told c.meet.new.backend) (header_of c.args.state.now) c.args.at c.args.left c.args.limit c.entries-entries.result.now c.loop-entry.rest.now
           c.in-Some-split_first.entry.now c.in-Some-split_first.others.now c.in-Ok-Some.leaf c.args.met.now c.loop-entry.met c.meet.new.met c.walk.new.met
           (g.B.Backend.reads c.args.backend.now) (g.B.Backend.reads c.loop-entry.backend) (g.B.Backend.reads c.meet.new.backend) (g.B.Backend.reads c.walk.new.backend) _ _ _ _ _ c.meet.result record {

@@ -30,4 +30,4 @@ returns-clause-aggregate g c =
 pub returns-clause-stores : goal.returns-clause-stores
 returns-clause-stores g c =
     no_store_fault c.convert.result c.args.base.now c.args.patches.now.items (faults_of c.convert.new.base) (map faults_of c.convert.new.patches.items) c.requires.base c.requires.patches
-    (c.convert.ensures.base_calm c.requires.base.steady).1 (c.convert.ensures.patches.steady (all_steady c.args.patches.now.items c.requires.patches)).1 c.convert.ensures.store_fault
+    (c.convert.ensures.base_kept.calm c.requires.base.steady) (c.convert.ensures.patches.steady (all_steady c.args.patches.now.items c.requires.patches)).1 c.convert.ensures.store_fault

@@ -1,6 +1,7 @@
 use Rattle.std.proofs.Common.{rules}
 use Rattle.tileset.proofs.DumpLemmas.{gains_start, gains_piece, front_piece, moved}
-use Rattle.tileset.proofs.KeptLemmas.{medium_same, medium_then, sink_same, sink_then}
+use Rattle.byte_media.proofs.KeptLemmas.{medium_same, medium_then}
+use Rattle.byte_streams.proofs.KeptLemmas.{sink_same, sink_then}
 use Rattle.tileset.proofs.dump.write_dump.Goals as goal
 
 pub loop-at-init : goal.loop-at-init

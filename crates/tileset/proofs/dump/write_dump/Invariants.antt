@@ -1,8 +1,8 @@
 -- the lines of what was written so far
 use Rattle.std.proofs.Common.{◌≡◌, ◌≤◌, ◌<◌, ◌-◌, ◌%◌, take, IfSome}
-use Rattle.tile_bridge.specs.Kept.{KeepsMedium}
+use Rattle.byte_streams.specs.Kept.{KeepsSink}
+use Rattle.byte_media.specs.Kept.{KeepsMedium}
 use Rattle.tileset.specs.HexDump.{hex_dump}
-use Rattle.tileset.specs.Kept.{KeepsSink}
 use Rattle.byte_streams.specs.Streams.{Gains}
 use Rattle.tileset.proofs.dump.write_dump.Given as goal
 

@@ -23,8 +23,8 @@ returns-in-Ok-clause-put g c = λ name cs s taken is h f. holds_other c.args.sel
 pub returns-in-Ok-clause-finds : goal.returns-in-Ok-clause-finds
 returns-in-Ok-clause-finds g c = λ name cs s is h k new. finds_other c.args.self.now (after g c) c.args.content (other g c) name cs s is h k new
 
-pub returns-in-Ok-Vacant-clause-kept : goal.returns-in-Ok-Vacant-clause-kept
-returns-in-Ok-Vacant-clause-kept g c =
+pub returns-in-Ok-Vacant-clause-refused : goal.returns-in-Ok-Vacant-clause-refused
+returns-in-Ok-Vacant-clause-refused g c =
     let old = c.args.self.now in
     let update : Updates content_cmp old.others c.self-in-Err-write_at-1.given.0 c.args.content None = search rules in
     let length : btree_map_len c.self-in-Err-write_at-1.given.0 ≡ btree_map_len old.others = search rules in

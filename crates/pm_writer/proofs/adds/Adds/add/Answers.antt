@@ -9,11 +9,11 @@ use Rattle.pm_writer.proofs.AfterAdd.{more_after}
 use Rattle.pm_writer.proofs.ContentLemmas.{contents_push}
 use Rattle.pm_writer.proofs.adds.Adds.add.Goals as goal
 
-pub returns-in_err-place-clause-kept : goal.returns-in_err-place-clause-kept
-returns-in_err-place-clause-kept g c = λ adds m.
+pub returns-in_err-place-clause-refused : goal.returns-in_err-place-clause-refused
+returns-in_err-place-clause-refused g c = λ adds m.
     let p = err_from_is_err_and c.from_residual-in_err-place.result c.from_residual-in_err-place.ensures.1 in
     rw (p.1) (record {
-      contents = holds_alike xxh3_64 c.args.self.now.contents c.put.new.self (contents_from [] adds) c.in_err-place.ensures.kept m.contents;
+      contents = holds_alike xxh3_64 c.args.self.now.contents c.put.new.self (contents_from [] adds) c.in_err-place.ensures.refused m.contents;
       rest = record { entries = c.in_ok-reserve.ensures.items ∙ m.rest.entries; last = m.rest.last; rises = m.rest.rises; filled = m.rest.filled; low = m.rest.low; sized = m.rest.sized };
     })
 

@@ -19,7 +19,7 @@ returns-then-not-fits-clause-causes g c = λ o adds w.
     let s = c.seek.new.self in
     let found = c.in_ok-sought.ensures.found o adds w in
     let no = c.if-not-fits.ensures.no refl in
-    let end = ends_at o _ s adds s.adds.contents.total (c.in_ok-sought.ensures.kept o adds w) c.in_ok-sought.ensures.alive refl in
+    let end = ends_at o _ s adds s.adds.contents.total (c.in_ok-sought.ensures.same o adds w) c.in_ok-sought.ensures.alive refl in
     let whole : length c.args.bytes.now ≡ c.in-Ok.size = omega arith in
     let same = took_length (g.M.Backend.told c.args.medium.now) c.args.bytes.now found.0 found.1.0 ∙ whole in
     (found.0, found.1, (refl, refl, new_long o adds c.args.id (s.data_offset + s.adds.contents.total) c.in-Ok.size found.0 end same (found.2.found ∙ no.0) no.1))
@@ -29,6 +29,6 @@ returns-clause-added g c = λ o adds w.
     let x = c.args.bytes.now in
     let told = g.M.Backend.told c.args.medium.now in
     let found = c.in_ok-sought.ensures.found o adds w in
-    let took = subst (λ t. Took t x found.0) (sym c.in_ok-sought.ensures.told) found.1.0 in
+    let took = subst (λ t. Took t x found.0) (sym c.in_ok-sought.ensures.kept.told) found.1.0 in
     let by = subst (λ n. TookBy told (g.M.Backend.reads c.args.medium.now) n x found.0) (sym c.add_sought.ensures.reads) found.1 in
-    on_ok_weaker c.add_sought.result (λ both. (found.0, by, both.1)) (c.add_sought.ensures.added o adds found.0 (c.in_ok-sought.ensures.kept o adds w) took found.2)
+    on_ok_weaker c.add_sought.result (λ both. (found.0, by, both.1)) (c.add_sought.ensures.added o adds found.0 (c.in_ok-sought.ensures.same o adds w) took found.2)

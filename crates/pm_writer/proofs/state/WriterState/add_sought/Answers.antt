@@ -23,15 +23,15 @@ returns-in-Ok-clause-added g c = λ o adds taken w t f.
     let fits = sought_fits o adds c.args.id at taken x c.args.sought end (omega arith) same f.found c.requires.fits in
     (fits, added_writes o adds t0 t1 s c.add.new.self c.args.id at taken x c.args.sought w c.requires.alive end fits t f.found (c.in-Ok.ensures.added adds taken means f) (λ k q. c.in-Ok.ensures.finds adds means k q) c.in-Ok.ensures.leaves)
 
-pub returns-in-Err-OutOfMemory-clause-kept : goal.returns-in-Err-OutOfMemory-clause-kept
-returns-in-Err-OutOfMemory-clause-kept g c = λ o adds w.
+pub returns-in-Err-OutOfMemory-clause-refused : goal.returns-in-Err-OutOfMemory-clause-refused
+returns-in-Err-OutOfMemory-clause-refused g c = λ o adds w.
     let t0 = g.M.Backend.told c.args.medium.now in
     let t1 = g.M.Backend.told c.add.new.medium in
     let same : BothTold (λ b d. d ≡ b) t0 t1 = rw c.in-Err-OutOfMemory.field-0-is at c.in-Err-OutOfMemory.ensures.leaves in
-    same_writes o adds t0 t1 c.args.self.now c.add.new.self w c.requires.alive (c.in-Err-OutOfMemory.ensures.kept adds ((w.held c.requires.alive).means)) c.in-Err-OutOfMemory.ensures.alike same
+    same_writes o adds t0 t1 c.args.self.now c.add.new.self w c.requires.alive (c.in-Err-OutOfMemory.ensures.refused adds ((w.held c.requires.alive).means)) c.in-Err-OutOfMemory.ensures.alike same
 
-pub returns-in-Err-Fault-clause-kept : goal.returns-in-Err-Fault-clause-kept
-returns-in-Err-Fault-clause-kept g c = λ o adds w.
+pub returns-in-Err-Fault-clause-refused : goal.returns-in-Err-Fault-clause-refused
+returns-in-Err-Fault-clause-refused g c = λ o adds w.
     let s = c.args.self.now in
     let t0 = g.M.Backend.told c.args.medium.now in
     let t1 = g.M.Backend.told c.add.new.medium in

@@ -1,15 +1,15 @@
 -- What calls in turn keep.
 use Rattle.std.proofs.Common.{◌∙◌, ℕ, List, Option, refl, arith}
-use Rattle.tile_bridge.specs.Kept.{KeepsMedium}
-use Rattle.tileset.specs.Kept.{KeepsSink}
+use Rattle.byte_media.specs.Kept.{KeepsMedium, ReadsOnly}
 
-module _ {O : Type 0} (held : O → Option (List ℕ)) (failed : O → ℕ) (steady : O → Type 0) where
-  pub sink_same : (x : O) → KeepsSink held failed steady x x
-  sink_same x = record { tells = refl; faults = omega arith; calm = λ s. (s, refl) }
+module _ {B V : Type 0} (tells : B → Option (List ℕ)) (texts : B → V) (failed : B → ℕ) (steady : B → Type 0) where
+  pub reads_same : (x : B) → ReadsOnly tells texts failed steady x x
+  reads_same x = record { told = refl; versions = refl; faults = omega arith; calm = λ s. (s, refl) }
 
-  pub sink_then : (x y z : O) → KeepsSink held failed steady x y → KeepsSink held failed steady y z → KeepsSink held failed steady x z
-  sink_then x y z a b = record {
-    tells = b.tells ∙ a.tells;
+  pub reads_then : (x y z : B) → ReadsOnly tells texts failed steady x y → ReadsOnly tells texts failed steady y z → ReadsOnly tells texts failed steady x z
+  reads_then x y z a b = record {
+    told = b.told ∙ a.told;
+    versions = b.versions ∙ a.versions;
     faults = omega (arith, a.faults, b.faults);
     calm = λ s. let p = a.calm s in let q = b.calm p.0 in (q.0, q.1 ∙ p.1);
   }

@@ -1,0 +1,4 @@
+pub mod Bodies
+pub mod Values
+pub mod Rests
+pub mod Lending
