@@ -61,7 +61,7 @@ def coord(t):
 
 
 class Walk:
-    """The walk along the directories of an archive: the tile entries that have bytes, and how many tiles they have."""
+    """The walk along the directories of an archive: the tile entries that have bytes, with their contents, and how many tiles they have."""
 
     def __init__(self, data, header, most, reads):
         self.data, self.header, self.most, self.reads = data, header, most, reads
@@ -83,18 +83,29 @@ class Walk:
                 self.tile(*e)
 
     def tile(self, first, offset, length, run):
-        self.reads.part(self.data, self.header['data_offset'], offset + length, 0)
-        if first + run - 1 > pm.LAST:
-            raise Ends(f'InvalidTileId({max(first, pm.LAST + 1)})')
-        if length == 0:
+        """A tile entry: one read, of its contents where nothing else is against it, and of no bytes at their end where something is, or where it has none."""
+        refusal = self.refusal(first, length, run)
+        if refusal is None and length > 0:
+            content = self.reads.part(self.data, self.header['data_offset'], offset, length)
+            self.tiles += run
+            self.entries.append((first, run, content))
             return
+        self.reads.part(self.data, self.header['data_offset'], offset + length, 0)
+        if refusal is not None:
+            raise Ends(refusal)
+
+    def refusal(self, first, length, run):
+        """Why an entry whose contents lie in the archive is refused, if it is."""
+        if first + run - 1 > pm.LAST:
+            return f'InvalidTileId({max(first, pm.LAST + 1)})'
+        if length == 0:
+            return None
         if first + run > DEEP:
             z, x, y = coord(max(first, DEEP))
-            raise Ends(f'InvalidTileIndex(TileCoord {{ z: {z}, x: {x}, y: {y} }})')
-        self.tiles += run
-        if self.tiles > self.most:
-            raise Ends(f'TooManyTiles({self.most})')
-        self.entries.append((first, offset, length, run))
+            return f'InvalidTileIndex(TileCoord {{ z: {z}, x: {x}, y: {y} }})'
+        if self.tiles + run > self.most:
+            return f'TooManyTiles({self.most})'
+        return None
 
 
 def tiles_of(data, most, reads):
@@ -104,8 +115,7 @@ def tiles_of(data, most, reads):
     walk = Walk(data, header, most, reads)
     walk.directory(root, 0, None, 0)
     tiles = {}
-    for first, offset, length, run in walk.entries:
-        content = reads.part(data, header['data_offset'], offset, length)
+    for first, run, content in walk.entries:
         for t in range(first, first + run):
             z, x, y = coord(t)
             tiles[z, x, 2 ** z - 1 - y] = content

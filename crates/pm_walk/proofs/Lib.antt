@@ -1,4 +1,5 @@
 pub mod ToldLemmas
+pub mod ContentsLemmas
 pub mod CollectingLemmas
 pub mod ClippingLemmas
 pub mod CoveringLemmas
@@ -10,5 +11,5 @@ pub mod WalkToldLemmas
 pub mod OrderLemmas
 pub mod LookUpLemmas
 pub mod WholeLemmas
-pub mod ThereLemmas
+pub mod PassedLemmas
 pub mod GatheringLemmas

@@ -1,11 +1,11 @@
 -- Parts in intervals, and how many tiles they have.
-use Rattle.std.proofs.Common.{◌≡◌, ◌∙◌, ◌+◌, ◌-◌, ◌≤◌, ◌<◌, ℕ, Bool, true, false, ◌||◌, nat_le, nat_eq, max, min, if◌then◌else◌, List, [], ◌∷◌, ◌++◌, Option, None, Some, IfSome, is_some, refl, ap, sym, subst, arith}
+use Rattle.std.proofs.Common.{◌≡◌, ◌∙◌, ◌+◌, ◌-◌, ◌≤◌, ℕ, Bool, true, false, ◌||◌, nat_le, nat_eq, max, min, if◌then◌else◌, List, [], ◌∷◌, ◌++◌, Option, None, Some, IfSome, is_some, refl, ap, sym, subst, arith}
 use Rattle.std.proofs.lemmas.Bool.{and_from}
 use Rattle.std.proofs.lemmas.Bool.Decides.{nat_tests}
 use Rattle.pm_format.specs.Directory.{Entry, entry}
-use Rattle.pm_walk.specs.Collecting.{AllLieIn, Collects, KeepWithin, KeepsTo}
+use Rattle.pm_walk.specs.Collecting.{AllLieIn, AllShallow, Collects, KeepWithin, KeepsTo}
 use Rattle.pm_walk.specs.Intervals.{in_intervals, lies_in}
-use Rattle.pm_walk.specs.Parts.{clip, clip_all, parts_of, pieces_of, tile_count}
+use Rattle.pm_walk.specs.Parts.{clip, clip_all, parts_of, tile_count}
 use Rattle.pm_walk.specs.declared.extent.Extent.{Extent}
 use Rattle.pm_walk.specs.declared.extent.Extent.TheVariants.{Within, Whole}
 use Rattle.pm_walk.specs.declared.parts.Collected.{Collected}
@@ -53,14 +53,14 @@ parts_lie is e = by_length (nat_eq e.length 0)
     by_length true = tt
     by_length false = clips_lie is is e (λ t at. at)
 
--- the same of what is collected of an entry, where a part is walked
-pub pieces_lie : (ext : Extent) (is : List (ℕ × ℕ)) (e : Entry) → KeepWithin ext is (pieces_of ext is e)
-pieces_lie Within is e = parts_lie is e
-pieces_lie Whole is e = tt
+-- the same of runs without a tile of zoom 31, where the whole is walked
+shallow_append : (ps qs : List Entry) → AllShallow ps → AllShallow qs → AllShallow (ps ++ qs)
+shallow_append [] qs p q = q
+shallow_append (x ∷ ps) qs p q = (p.0, shallow_append ps qs p.1 q)
 
 keep_append : (ext : Extent) (is : List (ℕ × ℕ)) (ps qs : List Entry) → KeepWithin ext is ps → KeepWithin ext is qs → KeepWithin ext is (ps ++ qs)
 keep_append Within is ps qs p q = lie_append is ps qs p q
-keep_append Whole is ps qs p q = tt
+keep_append Whole is ps qs p q = shallow_append ps qs p q
 
 keep_none : (ext : Extent) (is : List (ℕ × ℕ)) → KeepWithin ext is []
 keep_none Within is = tt

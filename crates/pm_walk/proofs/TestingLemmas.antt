@@ -1,5 +1,7 @@
 -- The tests of a tile entry.
-use Rattle.std.proofs.Common.{◌≡◌, ◌+◌, ◌≤◌, ℕ, Bool, true, false, nat_eq, nat_le, if◌then◌else◌, max, List, [], ◌∷◌, Option, None, Some, refl, sym}
+use Rattle.std.proofs.Common.{◌≡◌, ◌+◌, ◌≤◌, ℕ, Bool, true, false, nat_eq, nat_le, if◌then◌else◌, max, List, [], ◌∷◌, Option, None, Some, refl, sym, ◌∙◌}
+use Rattle.std.proofs.lemmas.Bool.{true≢false}
+use Rattle.pm_walk.specs.Collecting.{IsShallow}
 use Rattle.std.proofs.lemmas.Option.{none-some}
 use Rattle.tile_ids.specs.declared.id.TheConstants.{MAX_TILE_ID}
 use Rattle.pm_format.specs.declared.error.PmtError.TheVariants as errors
@@ -44,3 +46,21 @@ tile_stands ext h b e fine = by_refusal (tile_refusal ext h b e) fine
     by_refusal : (o : Option WalkError) → (tile_by (tile_reads ext) e o).refusal ≡ None → (o ≡ None) × ((tile_by (tile_reads ext) e o).entries ≡ e ∷ [])
     by_refusal None fine = (refl, refl)
     by_refusal (Some x) fine = absurd (none-some x (sym fine))
+
+-- what the tests of a run that has bytes say
+pub run_shallow : (e : Entry) → nat_eq e.length 0 ≡ false → run_refusal e ≡ None → IsShallow e
+run_shallow e some fine = by_end (nat_le (e.tile_id + e.run_length) (MAX_TILE_ID + 1)) fine
+  where
+    by_deep : (t : Bool) → nat_le (e.tile_id + e.run_length) FIRST_TOO_DEEP ≡ t → (if t then None else Some (TooDeep (max e.tile_id FIRST_TOO_DEEP))) ≡ None → IsShallow e
+    by_deep true at fine = le_by (e.tile_id + e.run_length) FIRST_TOO_DEEP at
+    by_deep false at fine = absurd (none-some (TooDeep (max e.tile_id FIRST_TOO_DEEP)) (sym fine))
+
+    by_empty : (t : Bool) → nat_eq e.length 0 ≡ t → (if t then None else (if nat_le (e.tile_id + e.run_length) FIRST_TOO_DEEP then None else Some (TooDeep (max e.tile_id FIRST_TOO_DEEP)))) ≡ None → IsShallow e
+    by_empty true at fine = absurd (true≢false (sym at ∙ some))
+    by_empty false at fine = by_deep (nat_le (e.tile_id + e.run_length) FIRST_TOO_DEEP) refl fine
+
+    by_end : (t : Bool)
+        → (if t then (if nat_eq e.length 0 then None else (if nat_le (e.tile_id + e.run_length) FIRST_TOO_DEEP then None else Some (TooDeep (max e.tile_id FIRST_TOO_DEEP)))) else Some (InvalidTileId (max e.tile_id (MAX_TILE_ID + 1)))) ≡ None
+        → IsShallow e
+    by_end true fine = by_empty (nat_eq e.length 0) refl fine
+    by_end false fine = absurd (none-some (InvalidTileId (max e.tile_id (MAX_TILE_ID + 1))) (sym fine))

@@ -1,11 +1,11 @@
 -- Parts that are collected while there is room for their tiles.
-use Rattle.std.specs.Prelude.{◌≡◌, ◌≢◌, ℕ, ◌+◌, ◌-◌, ◌≤◌, ◌<◌, true, List, [], ◌∷◌, ◌++◌, nat_le, if◌then◌else◌, Option, Some, None, is_some, Result, Ok, Err, IfSome}
+use Rattle.std.specs.Prelude.{◌≡◌, ◌≢◌, ℕ, ◌+◌, ◌-◌, ◌≤◌, ◌<◌, true, List, [], ◌∷◌, ◌++◌, nat_le, if◌then◌else◌, Option, Some, None, is_some, Result, Ok, Err, IfSome, length, map, unwrap_or}
 use Rattle.tile_ids.specs.declared.id.TheConstants.{MAX_TILE_ID}
 use Rattle.pm_format.specs.declared.error.PmtError.TheVariants as errors
 use Rattle.pm_format.specs.declared.error.ReadCause.TheVariants as causes
 use Rattle.pm_format.specs.declared.header.Header.{Header}
 use Rattle.pm_format.specs.Directory.{Entry}
-use Rattle.pm_format.specs.LookUp.{leaf_of}
+use Rattle.pm_format.specs.LookUp.{leaf_of, range_of}
 use Rattle.pm_reader.specs.Answers.{LookUpCauses}
 use Rattle.pm_walk.specs.Intervals.{in_intervals, stays_within}
 use Rattle.pm_walk.specs.Parts.{pieces, tile_count}
@@ -15,6 +15,7 @@ use Rattle.pm_walk.specs.declared.error.WalkError.{WalkError}
 use Rattle.pm_walk.specs.declared.error.WalkError.TheVariants.{Archive, TooManyTiles}
 use Rattle.pm_walk.specs.declared.extent.Extent.{Extent}
 use Rattle.pm_walk.specs.declared.extent.Extent.TheVariants.{Within, Whole}
+use Rattle.pm_walk.specs.declared.extent.TheConstants.{FIRST_TOO_DEEP}
 use Rattle.pm_walk.specs.declared.parts.Collected.{Collected}
 
 -- the room that is left behind so many tiles, where there is enough
@@ -45,10 +46,31 @@ abbrev pub AllLieIn : List (ℕ × ℕ) → List Entry → Type 0
 AllLieIn is [] = Unit {0}
 AllLieIn is (p ∷ ps) = LiesIn is p × AllLieIn is ps
 
--- where a part is walked
+-- runs without a tile of zoom 31
+abbrev pub IsShallow : Entry → Type 0
+IsShallow e = e.tile_id + e.run_length ≤ FIRST_TOO_DEEP
+
+abbrev pub AllShallow : List Entry → Type 0
+AllShallow [] = Unit {0}
+AllShallow (e ∷ es) = IsShallow e × AllShallow es
+
+-- the first where a part is walked, the second where the whole is
 abbrev pub KeepWithin : Extent → List (ℕ × ℕ) → List Entry → Type 0
 KeepWithin Within is ps = AllLieIn is ps
-KeepWithin Whole is ps = Unit {0}
+KeepWithin Whole is ps = AllShallow ps
+
+-- the contents of an entry, where they lie in the bytes
+abbrev pub contents_of : Header → List ℕ → Entry → List ℕ
+contents_of h b e = unwrap_or (range_of b (h.data_offset + e.offset) e.length) []
+
+-- Some contents for each entry; over told bytes, those that the archive has there.
+abbrev pub AreContentsOf : Option (List ℕ) → Header → List Entry → List (List ℕ) → Type 0
+AreContentsOf told h es cs = (length cs ≡ length es) × IfSome told (λ b. cs ≡ map (contents_of h b) es)
+
+-- where the whole is walked, the contents of what was collected are kept beside it
+abbrev pub KeepsContents : Extent → Option (List ℕ) → Header → Collected → Type 0
+KeepsContents Within told h c = Unit {0}
+KeepsContents Whole told h c = AreContentsOf told h c.parts.items c.contents.items
 
 -- As long as there is room, the parts lie in the intervals, and their tiles and those that there is room for are no more than these.
 abbrev pub KeepsTo : Extent → List (ℕ × ℕ) → ℕ → Collected → Type 0

@@ -1,5 +1,5 @@
 -- Intervals of ids, and the ends of ranges of ids.
-use Rattle.std.specs.Prelude.{◌≡◌, ℕ, ◌+◌, ◌≤◌, Bool, true, false, List, [], ◌∷◌, nat_lt, nat_le, ◌&&◌, ◌||◌, Option, Some, None}
+use Rattle.std.specs.Prelude.{ℕ, ◌+◌, ◌≤◌, Bool, true, false, List, [], ◌∷◌, nat_lt, nat_le, ◌&&◌, ◌||◌, Option, Some, None}
 
 -- whether an id lies in an interval, which has its two ids, and whether it lies in one of some
 abbrev pub lies_in : ℕ → ℕ × ℕ → Bool

@@ -4,3 +4,4 @@ pub mod Parts
 pub mod Testing
 pub mod Collecting
 pub mod Gathering
+pub mod Taking

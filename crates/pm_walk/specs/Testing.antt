@@ -1,11 +1,11 @@
 -- What the tests of a tile entry answer.
-use Rattle.std.specs.Prelude.{◌≡◌, ◌≢◌, ◌≤◌, ◌<◌, List, ℕ, Option, Some, None, Result, Ok, Err}
+use Rattle.std.specs.Prelude.{◌≡◌, ◌≢◌, ◌≤◌, ◌<◌, List, ℕ, Option, None, Result, Ok, Err}
 use Rattle.tile_ids.specs.declared.id.TheConstants.{MAX_TILE_ID}
 use Rattle.pm_format.specs.declared.error.PmtError.{PmtError}
 use Rattle.pm_format.specs.declared.error.PmtError.TheVariants as errors
 use Rattle.pm_format.specs.declared.error.ReadCause.TheVariants as causes
 use Rattle.pm_walk.specs.declared.error.WalkError.{WalkError}
-use Rattle.pm_walk.specs.declared.error.WalkError.TheVariants.{Archive, InvalidTileId, TooDeep, TooManyTiles}
+use Rattle.pm_walk.specs.declared.error.WalkError.TheVariants.{InvalidTileId, TooDeep}
 use Rattle.pm_walk.specs.declared.extent.TheConstants.{FIRST_TOO_DEEP}
 
 -- Over told bytes: a range lies in them, or it passes their end. A fault and want of memory may come in the place of both, and a wrong number of bytes never does.
@@ -21,12 +21,3 @@ abbrev pub IsOfRun : WalkError → Type 0
 IsOfRun (InvalidTileId id) = MAX_TILE_ID < id
 IsOfRun (TooDeep id) = (FIRST_TOO_DEEP ≤ id) × (id ≤ MAX_TILE_ID)
 IsOfRun x = ⊥
-
--- the same of all tests: the refusal that is due, if one is
-abbrev pub Tests : Option WalkError → Result Unit WalkError → Type 0
-Tests due (Ok x) = due ≡ None
-Tests due (Err (Archive errors.OutOfMemory)) = Unit {0}
-Tests due (Err (Archive (errors.Reading causes.Fault))) = Unit {0}
-Tests due (Err (Archive (errors.UnexpectedNumberOfBytesReturned asked got))) = ⊥
-Tests due (Err TooManyTiles) = ⊥
-Tests due (Err x) = due ≡ Some x

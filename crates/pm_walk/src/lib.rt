@@ -6,9 +6,10 @@ mod error;
 mod extent;
 mod intervals;
 mod parts;
+mod taking;
 mod testing;
 mod walk;
 
-pub use collection::collect;
+pub use collection::{ReadEntries, collect, read_entries};
 pub use error::WalkError;
 pub use extent::{Extent, FIRST_TOO_DEEP};

@@ -1,29 +1,43 @@
 // The parts of tile entries that lie in intervals.
-ghost use Rattle.std.specs.Prelude.{◌≡◌, ◌≢◌, ◌+◌, ◌≤◌, [], ◌∷◌, OnOk, IfErr, Some, MatchOption};
+ghost use Rattle.std.specs.Prelude.{◌≡◌, ◌≢◌, ◌+◌, ◌≤◌, [], ◌∷◌, ◌++◌, OnOk, Some, MatchOption, is_some, true};
 ghost use Rattle.tile_ids.specs.declared.id.TheConstants.{MAX_TILE_ID};
-ghost use Rattle.pm_walk.specs.Collecting.{AreOrdered, Collects, HasRoom, Stops};
+ghost use Rattle.pm_walk.specs.Collecting.{AreOrdered, Collects, taken};
 ghost use Rattle.pm_walk.specs.Intervals.{AreApart};
-ghost use Rattle.pm_walk.specs.Parts.{clip, full_of, parts_of, pieces_of};
+ghost use Rattle.pm_walk.specs.Parts.{clip, parts_of};
 
-use crate::{Extent, WalkError};
 use base_values::OutOfMemory;
+use bytes::Bytes;
 use pm_format::DirEntry;
 use std::alloc::Global;
 
-/// The parts that were met so far, as entries of their own, and for how many more tiles there is room. There is none once it didn't suffice; then parts are missing.
+/// The parts that were met so far, as entries of their own, the contents of each where the whole is walked, and for how many more tiles there is room. There is none once it didn't suffice; then parts
+/// are missing.
 #[derive(Drop)]
 pub(crate) struct Collected {
     pub parts: Vec<DirEntry>,
+    pub contents: Vec<Bytes>,
     pub room: Option<u64>,
+}
+
+/// The room that is left behind so many tiles, where there is enough.
+pub(crate) fn room_behind(room: Option<u64>, count: u32) -> Option<u64>
+    ensures { result ≡ taken room count }
+{
+    match room {
+        None => None,
+        Some(room) => room.checked_sub(u64::from(count)),
+    }
 }
 
 impl Collected {
     /// Nothing was met yet, and there is room for so many tiles.
     pub(crate) fn new(alloc: Global, room: u64) -> Collected
-        ensures { (result.parts.items ≡ []) × (result.room ≡ Some room) }
+        ensures parts { (result.parts.items ≡ []) × (result.room ≡ Some room) }
+        ensures contents { result.contents.items ≡ [] }
     {
         Collected {
             parts: Vec::new(alloc),
+            contents: Vec::new(alloc),
             room: Some(room),
         }
     }
@@ -36,11 +50,9 @@ impl Collected {
         ensures ordered { AreOrdered 0 self.old.parts.items (Some part.tile_id)
             → OnOk result (AreOrdered 0 self.new.parts.items (Some
             (part.tile_id + part.run_length))) }
+        ensures contents { self.new.contents ≡ self.old.contents }
     {
-        let Some(room) = self.room else {
-            return Ok(());
-        };
-        self.room = room.checked_sub(u64::from(part.run_length()));
+        self.room = room_behind(self.room, part.run_length());
         if self.room.is_some() {
             self.parts.push(part)?;
         }
@@ -74,56 +86,22 @@ impl Collected {
         Ok(())
     }
 
-    /// A tile entry as it is, whose run is one of tiles. One without a byte isn't collected.
-    pub(crate) fn add_whole(&mut self, entry: DirEntry) -> Result<(), OutOfMemory>
+    /// A tile entry as it is, with its contents. Its run is one of tiles, and there is room for them.
+    pub(crate) fn add_whole(&mut self, entry: DirEntry, contents: Bytes) -> Result<(), OutOfMemory>
         requires run { entry.run_length ≢ 0 }
         requires within { entry.tile_id + entry.run_length ≤ MAX_TILE_ID + 1 }
-        ensures collects { OnOk result (Collects self.old (full_of entry) self.new) }
+        requires room { is_some (taken self.old.room entry.run_length) ≡ true }
+        ensures collects { OnOk result (Collects self.old (entry ∷ []) self.new) }
         ensures ordered { AreOrdered 0 self.old.parts.items (Some entry.tile_id)
             → OnOk result (AreOrdered 0 self.new.parts.items (Some
             (entry.tile_id + entry.run_length))) }
+        ensures parts { OnOk result (self.new.parts.items ≡ self.old.parts.items ++ entry ∷ []) }
+        ensures contents { OnOk result (self.new.contents.items
+            ≡ self.old.contents.items ++ contents ∷ []) }
     {
-        if entry.length() == 0 {
-            return Ok(());
-        }
-        self.add_part(entry)
-    }
-
-    /// What a walk collects of a tile entry, whose run is one of tiles.
-    pub(crate) fn add(
-        &mut self,
-        extent: Extent,
-        intervals: &[(u64, u64)],
-        entry: DirEntry,
-    ) -> Result<(), OutOfMemory>
-        requires run { entry.run_length ≢ 0 }
-        requires within { entry.tile_id + entry.run_length ≤ MAX_TILE_ID + 1 }
-        ensures collects { OnOk result (Collects self.old
-            (pieces_of extent intervals.now entry) self.new) }
-        ensures ordered { AreApart 0 intervals.now
-            → AreOrdered 0 self.old.parts.items (Some entry.tile_id)
-            → OnOk result (AreOrdered 0 self.new.parts.items (Some
-            (entry.tile_id + entry.run_length))) }
-    {
-        match extent {
-            Extent::Within => self.add_entry(intervals, entry),
-            Extent::Whole => self.add_whole(entry),
-        }
-    }
-
-    /// Whether a walk goes on: that of the whole, as long as there is room.
-    pub(crate) fn test_room(&self, extent: Extent) -> Result<(), WalkError>
-        ensures ok { OnOk result (HasRoom extent self.now.room) }
-        ensures err { IfErr result (λ x. (x ≡ WalkError.TooManyTiles)
-            × Stops extent self.now.room) }
-    {
-        match extent {
-            Extent::Within => Ok(()),
-            Extent::Whole => match self.room {
-                Some(_) => Ok(()),
-                None => Err(WalkError::TooManyTiles),
-            },
-        }
+        self.add_part(entry)?;
+        self.contents.push(contents)?;
+        Ok(())
     }
 }
 

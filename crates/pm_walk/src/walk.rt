@@ -1,14 +1,14 @@
 // The walk along the directories that are met, each read once.
-ghost use Rattle.std.specs.Prelude.{◌≡◌, ◌≢◌, ◌+◌, ◌≤◌, ℕ, true, IfSome, IfOk, IfErr, OnOk, Some};
+ghost use Rattle.std.specs.Prelude.{◌≡◌, ◌+◌, ◌≤◌, ℕ, true, IfSome, IfOk, IfErr, OnOk, Some};
 ghost use Rattle.pm_reader.specs.Opening.{header_of};
 ghost use Rattle.pm_reader.specs.Reads.{ReadsOnly};
-ghost use Rattle.pm_walk.specs.Collecting.{AreOrdered, HasRoom, IsMetLeaf, KeepsTo, MeetReads, Meets, StopCauses, StopsWith, Walks};
+ghost use Rattle.pm_walk.specs.Collecting.{AreOrdered, HasRoom, IsMetLeaf, KeepsContents, KeepsTo, MeetReads, Meets, StopCauses, StopsWith, Walks};
 ghost use Rattle.pm_walk.specs.Intervals.{AreApart, stays_within};
-ghost use Rattle.pm_walk.specs.Walk.{below, end_before, entry_walk, fits_depth, rises, stands, tile_reads, tile_walk, walked};
+ghost use Rattle.pm_walk.specs.Walk.{below, end_before, entry_walk, fits_depth, rises, stands, walked};
 
 use crate::intervals::{is_below, meets, stays_within};
 use crate::parts::Collected;
-use crate::testing::test_tile;
+use crate::taking::take;
 use crate::{Extent, WalkError};
 use pm_format::{Backend, DirEntry, Directory, PmtError};
 use pm_reader::ReaderState;
@@ -61,48 +61,6 @@ fn end_of(others: &[DirEntry], limit: Option<u64>) -> Option<u64>
     }
 }
 
-// A tile entry, tested and collected. The whole is walked no further where its tiles are too many.
-fn take<B: Backend>(
-    extent: Extent,
-    state: &ReaderState,
-    intervals: &[(u64, u64)],
-    collected: &mut Collected,
-    backend: &mut B,
-    entry: DirEntry,
-) -> Result<(), WalkError>
-    requires run { entry.run_length ≢ 0 }
-    ensures answer { IfSome (B.told backend.old)
-        (λ b. Walks extent (tile_walk extent
-        (header_of state.now) b entry) intervals.now collected.old collected.new result) }
-    ensures ordered { AreApart 0 intervals.now
-        → AreOrdered 0 collected.old.parts.items (Some entry.tile_id)
-        → OnOk result (AreOrdered 0 collected.new.parts.items (Some
-        (entry.tile_id + entry.run_length))) }
-    ensures keeps { (most : ℕ) → KeepsTo extent intervals.now most collected.old
-        → OnOk result (KeepsTo extent intervals.now most collected.new) }
-    ensures room { HasRoom extent collected.old.room
-        → OnOk result (HasRoom extent collected.new.room) }
-    ensures stop { HasRoom extent collected.old.room
-        → IfErr result (StopsWith extent collected.new.room) }
-    ensures causes { IfErr result (StopCauses extent (B.faults backend.old)
-        (B.faults backend.new)) }
-    ensures kept { ReadsOnly B.told B.versions B.faults B.steady backend.old backend.new }
-    ensures reads { B.reads backend.new ≤ B.reads backend.old + tile_reads extent }
-{
-    match test_tile(extent, state, backend, entry) {
-        Ok(()) => {}
-        Err(error) => return Err(error),
-    }
-    match collected.add(extent, intervals, entry) {
-        Ok(()) => {}
-        Err(_) => return Err(WalkError::Archive(PmtError::OutOfMemory)),
-    }
-    match collected.test_room(extent) {
-        Ok(()) => Ok(()),
-        Err(error) => Err(error),
-    }
-}
-
 // An entry that passes its tests: the leaf that it leads to, still to be walked, or none where it is a tile or its leaf isn't met.
 fn meet<B: Backend>(
     extent: Extent,
@@ -124,6 +82,9 @@ fn meet<B: Backend>(
         → OnOk result (AreOrdered 0 collected.new.parts.items end) }
     ensures keeps { (most : ℕ) → KeepsTo extent intervals.now most collected.old
         → OnOk result (KeepsTo extent intervals.now most collected.new) }
+    ensures contents { KeepsContents extent (B.told backend.old) (header_of state.now)
+        collected.old → OnOk result (KeepsContents extent (B.told backend.old)
+        (header_of state.now) collected.new) }
     ensures room { HasRoom extent collected.old.room
         → OnOk result (HasRoom extent collected.new.room) }
     ensures stop { HasRoom extent collected.old.room
@@ -174,6 +135,9 @@ pub(crate) fn walk<B: Backend>(
         (AreOrdered 0 collected.new.parts.items limit) }
     ensures keeps { (most : ℕ) → KeepsTo extent intervals.now most collected.old
         → OnOk result (KeepsTo extent intervals.now most collected.new) }
+    ensures contents { KeepsContents extent (B.told backend.old) (header_of state.now)
+        collected.old → OnOk result (KeepsContents extent (B.told backend.old)
+        (header_of state.now) collected.new) }
     ensures room { HasRoom extent collected.old.room
         → OnOk result (HasRoom extent collected.new.room) }
     ensures stop { HasRoom extent collected.old.room

@@ -54,11 +54,8 @@ parts_causes first last old mid now before MediumFault le c = omega (arith, le, 
 parts_causes first last old mid now before OutOfMemory le c = c
 parts_causes first last old mid now before x le c = absurd c
 
-hidden_shows : (o : Options) (h : Header) (source : Option (List ℕ)) (ps : List Entry) (told : Option (List ℕ)) → IfSome told IsHidden → IfSome told (ShowsNone o h source ps)
-hidden_shows o h source ps told hidden = one_told IsHidden (ShowsNone o h source ps) told (λ b is. inl is) hidden
-
 pub shows_hidden : (o : Options) (h : Header) (source : Option (List ℕ)) (ps : List Entry) (told : Option (List ℕ)) → IfSome told IsHidden → IfSome told (ShowsNone o h source ps)
-shows_hidden o h source ps told hidden = hidden_shows o h source ps told hidden
+shows_hidden o h source ps told hidden = one_told IsHidden (ShowsNone o h source ps) told (λ b is. inl is) hidden
 
 -- an archive that is finished, or not
 pub finished : (o : Options) (h : Header) (source : Option (List ℕ)) (ps : List Entry) (mid told : Option (List ℕ)) (s : WriterState) (failed : Bool) (before now : ℕ) (p : ArchivePlaces) (a : PartsAdded o h source ps mid s) → is_some told ≡ is_some mid

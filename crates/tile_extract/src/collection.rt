@@ -16,7 +16,7 @@ use crate::writing::of_reader;
 use base_values::TextVal;
 use pm_format::{Backend, DirEntry, Header, PmtError};
 use pm_reader::ReaderState;
-use pm_walk::{Extent, WalkError};
+use pm_walk::WalkError;
 use pm_writer::PmTilesWriter;
 use std::alloc::Global;
 use tile_ids::TileCoord;
@@ -71,19 +71,23 @@ pub fn collect<B: Backend>(
     requires least { root.z ≤ max_zoom }
     requires most { max_zoom ≤ 31 }
     ensures collected { IfSome (B.told source.old) (λ b. IfOk result (λ parts. IsCollected
-        (walked extents.Within 6 (header_of state.now) b (intervals root max_zoom) 0 None (root_of state.now)) (intervals root max_zoom) max_tiles parts.items)) }
+        (walked extents.Within 6 (header_of state.now) b (intervals root max_zoom) 0 None
+        (root_of state.now)) (intervals root max_zoom) max_tiles parts.items)) }
     ensures refused { IfSome (B.told source.old) (λ b. IfErr result (CollectRefuses
-        (walked extents.Within 6 (header_of state.now) b (intervals root max_zoom) 0 None (root_of state.now)) (intervals root max_zoom) max_tiles)) }
+        (walked extents.Within 6 (header_of state.now) b (intervals root max_zoom) 0 None
+        (root_of state.now)) (intervals root max_zoom) max_tiles)) }
     ensures ordered { IfOk result (λ parts. AreOrdered 0 parts.items None) }
     ensures few { IfOk result (λ parts. tile_count parts.items ≤ max_tiles) }
     ensures within { IfOk result (λ parts. AllLieIn (intervals root max_zoom) parts.items) }
-    ensures causes { IfErr result (CollectCauses max_tiles (B.faults source.old) (B.faults source.new)) }
+    ensures causes { IfErr result
+        (CollectCauses max_tiles (B.faults source.old) (B.faults source.new)) }
     ensures kept { ReadsOnly B.told B.versions B.faults B.steady source.old source.new }
     ensures reads { IfSome (B.told source.old) (λ b. B.reads source.new ≤ B.reads source.old
-        + (walked extents.Within 6 (header_of state.now) b (intervals root max_zoom) 0 None (root_of state.now)).reads) }
+        + (walked extents.Within 6 (header_of state.now) b (intervals root max_zoom) 0 None
+        (root_of state.now)).reads) }
 {
     let intervals = intervals_of(alloc, root, max_zoom)?;
-    match pm_walk::collect(alloc, Extent::Within, state, source, &intervals, max_tiles) {
+    match pm_walk::collect(alloc, state, source, &intervals, max_tiles) {
         Ok(parts) => Ok(parts),
         Err(error) => Err(of_walk(error, max_tiles)),
     }

@@ -1,5 +1,6 @@
 // The archive of a subtree, from one archive to another.
-ghost use Rattle.std.specs.Prelude.{◌≡◌, ◌≤◌, ◌+◌, IfSome, is_some};
+ghost use Rattle.std.specs.Prelude.{◌≤◌, ◌+◌, IfSome};
+ghost use Rattle.byte_media.specs.Kept.{KeepsMedium};
 ghost use Rattle.pm_reader.specs.Reads.{ReadsOnly};
 ghost use Rattle.tile_extract.specs.Extract.{Answers, Causes, IntoCauses, IntoLeaves, IsEmpty, IsValid, Leaves, LeavesUncompared, LeavesUnread, reads_at_most};
 
@@ -23,17 +24,20 @@ fn extract_into<B: Backend, M: Medium>(
 ) -> Result<ArchivePlaces, ExtractError>
     requires valid { IsValid root max_zoom }
     requires empty { IsEmpty (M.told medium.old) }
-    ensures causes { IntoCauses max_tiles (B.faults source.old) (B.faults source.new) (M.faults medium.old) (M.faults medium.new) result }
-    ensures answers { IfSome (B.told source.old) (λ b. Answers (M.told medium.old) b root max_zoom max_tiles result) }
-    ensures leaves { IntoLeaves (B.told source.old) root max_zoom max_tiles result (M.told medium.new) }
-    ensures kept { ReadsOnly B.told B.versions B.faults B.steady source.old source.new }
-    ensures reads { IfSome (B.told source.old) (λ b. B.reads source.new ≤ B.reads source.old + reads_at_most b root max_zoom) }
-    ensures tells { is_some (M.told medium.new) ≡ is_some (M.told medium.old) }
-    ensures faults { M.faults medium.old ≤ M.faults medium.new }
-    ensures counted { M.reads medium.old ≤ M.reads medium.new }
+    ensures causes { IntoCauses max_tiles (B.faults source.old) (B.faults source.new)
+        (M.faults medium.old) (M.faults medium.new) result }
+    ensures answers { IfSome (B.told source.old)
+        (λ b. Answers (M.told medium.old) b root max_zoom max_tiles result) }
+    ensures leaves { IntoLeaves (B.told source.old) root max_zoom max_tiles result
+        (M.told medium.new) }
+    ensures source_kept { ReadsOnly B.told B.versions B.faults B.steady source.old source.new }
+    ensures reads { IfSome (B.told source.old)
+        (λ b. B.reads source.new ≤ B.reads source.old + reads_at_most b root max_zoom) }
     ensures compared { M.reads medium.new ≤ M.reads medium.old + max_tiles }
-    ensures uncompared { LeavesUncompared (B.told source.old) (M.told medium.old) root max_zoom max_tiles (M.reads medium.old) (M.reads medium.new) result }
-    ensures calm { M.steady medium.old → M.steady medium.new × (M.faults medium.new ≡ M.faults medium.old) }
+    ensures uncompared { LeavesUncompared (B.told source.old) (M.told medium.old)
+        root max_zoom max_tiles (M.reads medium.old) (M.reads medium.new) result }
+    ensures medium_kept { KeepsMedium M.told M.versions M.reads M.faults M.steady
+        medium.old medium.new }
 {
     let (reader, metadata) = match read_source(alloc, source) {
         Ok(read) => read,
@@ -68,17 +72,22 @@ pub fn extract<B: Backend, M: Medium>(
     max_tiles: u64,
     medium: &mut M,
 ) -> Result<ArchivePlaces, ExtractError>
-    ensures causes { Causes root max_zoom max_tiles (M.told medium.old) (B.faults source.old) (B.faults source.new) (M.faults medium.old) (M.faults medium.new) result }
-    ensures answers { IfSome (B.told source.old) (λ b. Answers (M.told medium.old) b root max_zoom max_tiles result) }
-    ensures leaves { Leaves (B.told source.old) root max_zoom max_tiles result (M.told medium.old) (M.told medium.new) }
-    ensures kept { ReadsOnly B.told B.versions B.faults B.steady source.old source.new }
-    ensures reads { IfSome (B.told source.old) (λ b. B.reads source.new ≤ B.reads source.old + reads_at_most b root max_zoom) }
+    ensures causes { Causes root max_zoom max_tiles (M.told medium.old)
+        (B.faults source.old) (B.faults source.new) (M.faults medium.old) (M.faults medium.new)
+        result }
+    ensures answers { IfSome (B.told source.old)
+        (λ b. Answers (M.told medium.old) b root max_zoom max_tiles result) }
+    ensures leaves { Leaves (B.told source.old) root max_zoom max_tiles result
+        (M.told medium.old) (M.told medium.new) }
+    ensures source_kept { ReadsOnly B.told B.versions B.faults B.steady source.old source.new }
+    ensures reads { IfSome (B.told source.old)
+        (λ b. B.reads source.new ≤ B.reads source.old + reads_at_most b root max_zoom) }
     ensures unread { LeavesUnread (B.reads source.old) (B.reads source.new) result }
-    ensures faults { M.faults medium.old ≤ M.faults medium.new }
-    ensures counted { M.reads medium.old ≤ M.reads medium.new }
     ensures compared { M.reads medium.new ≤ M.reads medium.old + max_tiles }
-    ensures uncompared { LeavesUncompared (B.told source.old) (M.told medium.old) root max_zoom max_tiles (M.reads medium.old) (M.reads medium.new) result }
-    ensures calm { M.steady medium.old → M.steady medium.new × (M.faults medium.new ≡ M.faults medium.old) }
+    ensures uncompared { LeavesUncompared (B.told source.old) (M.told medium.old)
+        root max_zoom max_tiles (M.reads medium.old) (M.reads medium.new) result }
+    ensures medium_kept { KeepsMedium M.told M.versions M.reads M.faults M.steady
+        medium.old medium.new }
 {
     match test_zoom(root, max_zoom) {
         Ok(()) => {}

@@ -16,7 +16,8 @@ use tile_ids::TileCoord;
 /// Whether the greatest zoom is the tile's or a deeper one, up to 31.
 pub(crate) fn test_zoom(root: TileCoord, max_zoom: u8) -> Result<(), ExtractError>
     ensures ok { IfOk result (λ _. IsValid root max_zoom) }
-    ensures err { IfErr result (λ e. (e ≡ ExtractError.InvalidZoom root.z max_zoom) × (IsValid root max_zoom → ⊥)) }
+    ensures err { IfErr result
+        (λ e. (e ≡ ExtractError.InvalidZoom root.z max_zoom) × (IsValid root max_zoom → ⊥)) }
 {
     let tile = root.z();
     if max_zoom < tile || 31 < max_zoom {
@@ -30,11 +31,10 @@ pub(crate) fn test_zoom(root: TileCoord, max_zoom: u8) -> Result<(), ExtractErro
 
 /// Whether a medium is empty.
 pub(crate) fn test_medium<M: Medium>(medium: &mut M) -> Result<(), ExtractError>
-    ensures tested { MediumTested (M.told medium.old) (M.faults medium.old) (M.faults medium.new) result }
-    ensures told { M.told medium.new ≡ M.told medium.old }
-    ensures faults { M.faults medium.old ≤ M.faults medium.new }
+    ensures tested { MediumTested (M.told medium.old) (M.faults medium.old) (M.faults medium.new)
+        result }
     ensures counted { M.reads medium.new ≡ M.reads medium.old }
-    ensures calm { M.steady medium.old → M.steady medium.new × (M.faults medium.new ≡ M.faults medium.old) }
+    ensures kept { ReadsOnly M.told M.versions M.faults M.steady medium.old medium.new }
 {
     let length = match medium.len() {
         Ok(length) => length,
@@ -54,7 +54,8 @@ pub(crate) fn read_source<B: Backend>(
     ensures answer { IfSome (B.told source.old) (λ b. SourceRead b result) }
     ensures causes { SourceCauses (B.faults source.old) (B.faults source.new) result }
     ensures kept { ReadsOnly B.told B.versions B.faults B.steady source.old source.new }
-    ensures reads { IfSome (B.told source.old) (λ b. B.reads source.new ≤ B.reads source.old + opening_reads (opened b)) }
+    ensures reads { IfSome (B.told source.old)
+        (λ b. B.reads source.new ≤ B.reads source.old + opening_reads (opened b)) }
 {
     let reader = match ReaderState::open(alloc, source) {
         Ok(reader) => reader,

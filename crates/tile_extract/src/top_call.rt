@@ -1,6 +1,7 @@
 // The whole extractor as one call.
 ghost use Rattle.std.specs.Prelude.{◌≡◌, ◌≢◌, ◌+◌, ◌≤◌, [], Some, IfSome};
 ghost use Rattle.base_values.specs.Counts.{Rose};
+ghost use Rattle.byte_media.specs.Kept.{KeepsMedium};
 ghost use Rattle.pm_reader.specs.Reads.{ReadsOnly};
 ghost use Rattle.tile_extract.specs.Completeness.{CanExtract, IsDoneOrWanting};
 ghost use Rattle.tile_extract.specs.Extract.{Answers, Causes, Leaves, LeavesUncompared, LeavesUnread, reads_at_most};
@@ -23,22 +24,40 @@ pub fn run_extract<B: Backend, M: Medium>(
     medium: &mut M,
 ) -> ExtractOutcome
     ensures words { IsFor (asked_in words.now) result }
-    ensures causes { IfSome (asked_in words.now) (λ a. OfExtract (Causes a.root a.max_zoom a.max_tiles (M.told medium.old) (B.faults source.old) (B.faults source.new) (M.faults medium.old) (M.faults medium.new)) result) }
-    ensures answers { IfSome (asked_in words.now) (λ a. IfSome (B.told source.old) (λ b. OfExtract (Answers (M.told medium.old) b a.root a.max_zoom a.max_tiles) result)) }
-    ensures leaves { IfSome (asked_in words.now) (λ a. OfExtract (λ r. Leaves (B.told source.old) a.root a.max_zoom a.max_tiles r (M.told medium.old) (M.told medium.new)) result) }
+    ensures causes { IfSome (asked_in words.now)
+        (λ a. OfExtract
+        (Causes a.root a.max_zoom a.max_tiles (M.told medium.old)
+        (B.faults source.old) (B.faults source.new) (M.faults medium.old) (M.faults medium.new))
+        result) }
+    ensures answers { IfSome (asked_in words.now)
+        (λ a. IfSome (B.told source.old)
+        (λ b. OfExtract (Answers (M.told medium.old) b a.root a.max_zoom a.max_tiles) result)) }
+    ensures leaves { IfSome (asked_in words.now)
+        (λ a. OfExtract
+        (λ r. Leaves (B.told source.old) a.root a.max_zoom a.max_tiles r
+        (M.told medium.old) (M.told medium.new)) result) }
     // Where the source can be extracted, the medium tells that it is empty and no count rose, it is Done, or memory ran out.
-    ensures complete { IfSome (asked_in words.now) (λ a. IfSome (B.told source.old) (λ b. CanExtract b a.root a.max_zoom a.max_tiles → M.told medium.old ≡ Some [] → ¬ Rose (B.faults source.old) (B.faults source.new)
+    ensures complete { IfSome (asked_in words.now)
+        (λ a. IfSome (B.told source.old)
+        (λ b. CanExtract b a.root a.max_zoom a.max_tiles → M.told medium.old ≡ Some []
+        → ¬ Rose (B.faults source.old) (B.faults source.new)
         → ¬ Rose (M.faults medium.old) (M.faults medium.new) → OfExtract IsDoneOrWanting result)) }
     ensures memory { result ≢ ExtractOutcome.Refused ExtractError.OutOfMemory }
-    ensures untouched { result ≡ ExtractOutcome.Usage → (source.new ≡ source.old) × (medium.new ≡ medium.old) }
-    ensures kept { ReadsOnly B.told B.versions B.faults B.steady source.old source.new }
-    ensures reads { IfSome (asked_in words.now) (λ a. IfSome (B.told source.old) (λ b. B.reads source.new ≤ B.reads source.old + reads_at_most b a.root a.max_zoom)) }
+    ensures untouched { result ≡ ExtractOutcome.Usage
+        → (source.new ≡ source.old) × (medium.new ≡ medium.old) }
+    ensures source_kept { ReadsOnly B.told B.versions B.faults B.steady source.old source.new }
+    ensures reads { IfSome (asked_in words.now)
+        (λ a. IfSome (B.told source.old)
+        (λ b. B.reads source.new ≤ B.reads source.old + reads_at_most b a.root a.max_zoom)) }
     ensures unread { OfExtract (LeavesUnread (B.reads source.old) (B.reads source.new)) result }
-    ensures faults { M.faults medium.old ≤ M.faults medium.new }
-    ensures counted { M.reads medium.old ≤ M.reads medium.new }
-    ensures compared { IfSome (asked_in words.now) (λ a. M.reads medium.new ≤ M.reads medium.old + a.max_tiles) }
-    ensures uncompared { IfSome (asked_in words.now) (λ a. OfExtract (LeavesUncompared (B.told source.old) (M.told medium.old) a.root a.max_zoom a.max_tiles (M.reads medium.old) (M.reads medium.new)) result) }
-    ensures calm { M.steady medium.old → M.steady medium.new × (M.faults medium.new ≡ M.faults medium.old) }
+    ensures compared { IfSome (asked_in words.now)
+        (λ a. M.reads medium.new ≤ M.reads medium.old + a.max_tiles) }
+    ensures uncompared { IfSome (asked_in words.now)
+        (λ a. OfExtract
+        (LeavesUncompared (B.told source.old) (M.told medium.old) a.root a.max_zoom a.max_tiles
+        (M.reads medium.old) (M.reads medium.new)) result) }
+    ensures medium_kept { KeepsMedium M.told M.versions M.reads M.faults M.steady
+        medium.old medium.new }
 {
     let Some((root, max_zoom, max_tiles)) = parse_words(words) else {
         return ExtractOutcome::Usage;

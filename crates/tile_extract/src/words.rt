@@ -27,8 +27,10 @@ fn parse_five(
     max_zoom: &TextVal,
     max_tiles: &TextVal,
 ) -> Option<(TileCoord, u8, u64)>
-    ensures { MatchOption result (asked_by_five zoom.now column.now row.now max_zoom.now max_tiles.now ≡ None)
-        (λ r. asked_by_five zoom.now column.now row.now max_zoom.now max_tiles.now ≡ Some (asked r.0 r.1 r.2)) }
+    ensures { MatchOption result
+        (asked_by_five zoom.now column.now row.now max_zoom.now max_tiles.now ≡ None)
+        (λ r. asked_by_five zoom.now column.now row.now max_zoom.now max_tiles.now
+        ≡ Some (asked r.0 r.1 r.2)) }
 {
     let root = parse_tile(zoom, column, row)?;
     let greatest = parse_number(max_zoom.as_str().as_bytes(), 255)?;
@@ -38,7 +40,8 @@ fn parse_five(
 
 /// The tile, the greatest zoom (0 to 255) and the limit of tiles (0 to `u64::MAX`) that words ask for, if they are five numbers: the tile's zoom (0 to 31), column and row, and then these two.
 pub(crate) fn parse_words(words: &[TextVal]) -> Option<(TileCoord, u8, u64)>
-    ensures { MatchOption result (asked_in words.now ≡ None) (λ r. asked_in words.now ≡ Some (asked r.0 r.1 r.2)) }
+    ensures { MatchOption result (asked_in words.now ≡ None)
+        (λ r. asked_in words.now ≡ Some (asked r.0 r.1 r.2)) }
 {
     match words {
         [zoom, column, row, max_zoom, max_tiles] => {

@@ -1,11 +1,13 @@
 // The tiles of parts, written to a medium.
-ghost use Rattle.std.specs.Prelude.{◌≡◌, ◌+◌, ◌≤◌, ℕ, List, [], length, Option, false, IfSome, OnOk, IsErrOf, is_some, None};
+ghost use Rattle.std.specs.Prelude.{◌≡◌, ◌+◌, ◌≤◌, [], length, false, IfSome, OnOk, IsErrOf, None};
 ghost use Rattle.base_values.specs.Counts.{Rose};
+ghost use Rattle.byte_media.specs.Kept.{KeepsMedium};
 ghost use Rattle.tile_ids.specs.declared.id.TheConstants.{MAX_TILE_ID};
 ghost use Rattle.pm_format.specs.Options.{Options};
 ghost use Rattle.pm_format.specs.declared.compression.Compression.TheVariants as compression;
 ghost use Rattle.pm_reader.specs.Opening.{header_of};
 ghost use Rattle.pm_reader.specs.Reads.{ReadsOnly};
+ghost use Rattle.pm_writer.specs.Adding.{WhereWrites, WritesSome};
 ghost use Rattle.pm_writer.specs.Writing.{Writes, has_failed};
 ghost use Rattle.pm_walk.specs.Collecting.{AreOrdered};
 ghost use Rattle.pm_walk.specs.Parts.{tile_count};
@@ -45,18 +47,17 @@ fn add_part<M: Medium>(
     part: DirEntry,
     bytes: &[u8],
 ) -> Result<(), ExtractError>
-    requires writes { (o : Options) × (done : List (ℕ × List ℕ)) × Writes o (M.told medium.old) writer.old done }
+    requires writes { WritesSome (M.told medium.old) writer.old }
     requires alive { has_failed writer.old ≡ false }
     requires within { part.tile_id + part.run_length ≤ MAX_TILE_ID + 1 }
-    ensures added { (o : Options) (done : List (ℕ × List ℕ)) → Writes o (M.told medium.old) writer.old done → Puts o bytes.now done (ids_of part) (M.told medium.new) writer.new result }
-    ensures writes { (o : Options) × (done : List (ℕ × List ℕ)) × Writes o (M.told medium.new) writer.new done }
+    ensures added { WhereWrites (M.told medium.old) writer.old (λ o done.
+        Puts o bytes.now done (ids_of part) (M.told medium.new) writer.new result) }
+    ensures writes { WritesSome (M.told medium.new) writer.new }
     ensures alive { OnOk result (has_failed writer.new ≡ false) }
-    ensures fault { IsErrOf result ExtractError.MediumFault → Rose (M.faults medium.old) (M.faults medium.new) }
-    ensures tells { is_some (M.told medium.new) ≡ is_some (M.told medium.old) }
-    ensures faults { M.faults medium.old ≤ M.faults medium.new }
-    ensures counted { M.reads medium.old ≤ M.reads medium.new }
+    ensures fault { IsErrOf result ExtractError.MediumFault
+        → Rose (M.faults medium.old) (M.faults medium.new) }
     ensures compared { M.reads medium.new ≤ M.reads medium.old + part.run_length }
-    ensures calm { M.steady medium.old → M.steady medium.new × (M.faults medium.new ≡ M.faults medium.old) }
+    ensures kept { KeepsMedium M.told M.versions M.reads M.faults M.steady medium.old medium.new }
 {
     for id in part.iter_coords() {
         match writer.add_raw_tile_by_id(medium, id, bytes) {
@@ -78,17 +79,18 @@ fn add_parts<B: Backend, M: Medium>(
     requires writes { (o : Options) × Writes o (M.told medium.old) writer.old [] }
     requires alive { has_failed writer.old ≡ false }
     requires ordered { AreOrdered 0 parts.now None }
-    ensures added { (o : Options) → Writes o (M.told medium.old) writer.old [] → PartsPut o (header_of reader.now) (B.told source.old) parts.now (M.told medium.new) writer.new result }
-    ensures writes { (o : Options) × (done : List (ℕ × List ℕ)) × Writes o (M.told medium.new) writer.new done }
+    ensures added { (o : Options) → Writes o (M.told medium.old) writer.old []
+        → PartsPut o (header_of reader.now) (B.told source.old) parts.now (M.told medium.new)
+        writer.new result }
+    ensures writes { WritesSome (M.told medium.new) writer.new }
     ensures alive { OnOk result (has_failed writer.new ≡ false) }
-    ensures causes { WriteCauses (B.faults source.old) (B.faults source.new) (M.faults medium.old) (M.faults medium.new) result }
-    ensures kept { ReadsOnly B.told B.versions B.faults B.steady source.old source.new }
+    ensures causes { WriteCauses (B.faults source.old) (B.faults source.new)
+        (M.faults medium.old) (M.faults medium.new) result }
+    ensures source_kept { ReadsOnly B.told B.versions B.faults B.steady source.old source.new }
     ensures reads { B.reads source.new ≤ B.reads source.old + length parts.now }
-    ensures tells { is_some (M.told medium.new) ≡ is_some (M.told medium.old) }
-    ensures faults { M.faults medium.old ≤ M.faults medium.new }
-    ensures counted { M.reads medium.old ≤ M.reads medium.new }
     ensures compared { M.reads medium.new ≤ M.reads medium.old + tile_count parts.now }
-    ensures calm { M.steady medium.old → M.steady medium.new × (M.faults medium.new ≡ M.faults medium.old) }
+    ensures medium_kept { KeepsMedium M.told M.versions M.reads M.faults M.steady
+        medium.old medium.new }
 {
     let mut rest = parts;
     while let Some((part, others)) = rest.split_first() {
@@ -117,16 +119,17 @@ pub fn write_parts<B: Backend, M: Medium>(
     requires empty { IfSome (M.told medium.old) (λ b. b ≡ []) }
     requires plain { options.now.internal_compression ≡ compression.None }
     requires ordered { AreOrdered 0 parts.now None }
-    ensures written { WritesParts options.now (header_of reader.now) (B.told source.old) parts.now (M.told medium.new) result }
-    ensures shown { IfSome (M.told medium.new) (ShowsNone options.now (header_of reader.now) (B.told source.old) parts.now) }
-    ensures causes { WriteCauses (B.faults source.old) (B.faults source.new) (M.faults medium.old) (M.faults medium.new) result }
-    ensures kept { ReadsOnly B.told B.versions B.faults B.steady source.old source.new }
+    ensures written { WritesParts options.now (header_of reader.now) (B.told source.old) parts.now
+        (M.told medium.new) result }
+    ensures shown { IfSome (M.told medium.new)
+        (ShowsNone options.now (header_of reader.now) (B.told source.old) parts.now) }
+    ensures causes { WriteCauses (B.faults source.old) (B.faults source.new)
+        (M.faults medium.old) (M.faults medium.new) result }
+    ensures source_kept { ReadsOnly B.told B.versions B.faults B.steady source.old source.new }
     ensures reads { B.reads source.new ≤ B.reads source.old + length parts.now }
-    ensures tells { is_some (M.told medium.new) ≡ is_some (M.told medium.old) }
-    ensures faults { M.faults medium.old ≤ M.faults medium.new }
-    ensures counted { M.reads medium.old ≤ M.reads medium.new }
     ensures compared { M.reads medium.new ≤ M.reads medium.old + tile_count parts.now }
-    ensures calm { M.steady medium.old → M.steady medium.new × (M.faults medium.new ≡ M.faults medium.old) }
+    ensures medium_kept { KeepsMedium M.told M.versions M.reads M.faults M.steady
+        medium.old medium.new }
 {
     let mut writer = match options.start(alloc, medium) {
         Ok(writer) => writer,

@@ -1,6 +1,5 @@
 pub mod PlacingLemmas
 pub mod EntryLemmas
-pub mod PassedLemmas
 pub mod TilesLemmas
 pub mod RefusalLemmas
 pub mod StoringLemmas

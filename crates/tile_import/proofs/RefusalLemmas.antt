@@ -1,5 +1,5 @@
 -- Refusals of an archive, and why they come.
-use Rattle.std.proofs.Common.{◌≡◌, ◌∙◌, ◌+◌, ◌≤◌, ◌<◌, ◌^◌, inl, inr, ℕ, true, false, nat_le, if◌then◌else◌, List, [], length, Option, Some, None, IfSome, Result, Ok, Err, refl, ap, sym, subst, arith}
+use Rattle.std.proofs.Common.{◌≡◌, ◌∙◌, ◌+◌, ◌≤◌, ◌<◌, ◌^◌, inl, inr, ℕ, true, false, nat_le, if◌then◌else◌, List, [], Option, Some, None, IfSome, Result, Ok, Err, refl, ap, sym, subst, arith}
 use Rattle.std.proofs.lemmas.Bool.{true≢false}
 use Rattle.std.proofs.lemmas.Bool.Decides.{nat_tests}
 use Rattle.std.specs.Option.{option_map}
@@ -16,9 +16,9 @@ use Rattle.pm_format.specs.declared.header.Header.{Header}
 use Rattle.pm_format.specs.declared.error.PmtError.{PmtError}
 use Rattle.pm_format.specs.declared.error.PmtError.TheVariants as errors
 use Rattle.pm_format.specs.declared.error.ReadCause.TheVariants as causes
-use Rattle.pm_reader.specs.Answers.{LookUpCauses, RangeCauses}
+use Rattle.pm_reader.specs.Answers.{LookUpCauses}
 use Rattle.pm_reader.specs.Opening.{OpenAnswers, OpenCauses}
-use Rattle.pm_walk.specs.Collecting.{StopCauses}
+use Rattle.pm_walk.specs.Collecting.{AreContentsOf, StopCauses}
 use Rattle.pm_walk.specs.Gathering.{Gathers}
 use Rattle.pm_walk.specs.Parts.{full, tile_count}
 use Rattle.pm_walk.specs.Walk.{Walked, all_walked}
@@ -29,14 +29,13 @@ use Rattle.pm_walk.specs.declared.extent.TheConstants.{FIRST_TOO_DEEP}
 use Rattle.mb_load.specs.Held.{Held}
 use Rattle.mb_tables.specs.Tiles.{TileSet}
 use Rattle.tile_import.proofs.PlacingLemmas.{lt_or}
-use Rattle.tile_import.proofs.PassedLemmas.{all_shallow, all_there}
 use Rattle.tile_import.proofs.TilesLemmas.{tiles_are}
-use Rattle.tile_import.specs.Import.{ArchiveCauses, ReadCauses, contents_read, reads_at_most, reads_opened, reads_walked}
-use Rattle.tile_import.specs.Putting.{AllShallow, AllThere, IsDeep, IsHindered, with_entries}
+use Rattle.tile_import.specs.Import.{ArchiveCauses, ReadCauses, reads_at_most, reads_opened}
+use Rattle.tile_import.specs.Putting.{with_contents, with_entries}
 use Rattle.tile_import.specs.Reading.{IsTileId}
 use Rattle.tile_import.specs.Refusals.{IsRead, Reads, archive_refusal, is_free, of_read_error, of_walk_error, refusal_opened, walk_refusal}
 use Rattle.tile_import.specs.declared.error.ImportError.{ImportError}
-use Rattle.tile_import.specs.declared.error.ImportError.TheVariants.{Archive, TooManyTiles}
+use Rattle.tile_import.specs.declared.error.ImportError.TheVariants.{Archive, OutOfMemory, TooManyTiles}
 
 -- a refusal of the walk is due where there are few before it, and too many tiles else
 few_test : (n most : ℕ) → n ≤ most → nat_le n most ≡ true
@@ -72,14 +71,10 @@ walk_refused None now o most x same opens g = tt
 walk_refused (Some b) now o most x same opens g = λ free.
     ap (refusal_opened most b) opens ∙ gathers_refused most (all_walked b o) x (subst (λ t. IfSome t (λ b. Gathers Whole (all_walked b o) [] most (Err x))) same g) free
 
--- and what reading the tiles does
-hindered_free : (e : PmtError) → IsHindered e → is_free (of_read_error e) ≡ true
-hindered_free errors.OutOfMemory h = refl
-hindered_free (errors.Reading causes.Fault) h = refl
-hindered_free e h = absurd h
-
-pub tiles_refused : (most : ℕ) (b : List ℕ) (e : PmtError) → IsHindered e → Reads most b (Err (of_read_error e))
-tiles_refused most b e h = λ free. absurd (true≢false (sym (hindered_free e h) ∙ free))
+-- want of memory
+pub want_read : (told : Option (List ℕ)) (most : ℕ) → IfSome told (λ b. Reads most b (Err OutOfMemory))
+want_read None most = tt
+want_read (Some b) most = λ free. absurd (true≢false free)
 
 -- or all is read
 pub all_read : (most : ℕ) (b : List ℕ) (o : Opened) → opened b ≡ Ok o → (all_walked b o).refusal ≡ None → tile_count (full (all_walked b o).entries) ≤ most → IsRead most b (Ok (with_entries o.0 b empty (full (all_walked b o).entries)))
@@ -129,14 +124,6 @@ look_up_causes most before now (errors.Reading causes.Fault) c = c
 look_up_causes most before now (errors.UnexpectedNumberOfBytesReturned asked got) c = c
 look_up_causes most before now e c = absurd c
 
-pub range_causes : (most before now : ℕ) (e : PmtError) → RangeCauses {A = Unit {0}} before now (Err e) → ReadCauses most before now (of_read_error e)
-range_causes most before now errors.InvalidEntry c = absurd c
-range_causes most before now errors.OutOfMemory c = tt
-range_causes most before now (errors.Reading causes.PastEnd) c = tt
-range_causes most before now (errors.Reading causes.Fault) c = c
-range_causes most before now (errors.UnexpectedNumberOfBytesReturned asked got) c = c
-range_causes most before now e c = absurd c
-
 pub open_causes : (most before now : ℕ) (e : PmtError) → OpenCauses {A = Held} before now (Err e) → ReadCauses most before now (of_read_error e)
 open_causes most before now errors.OutOfMemory c = tt
 open_causes most before now (errors.Reading causes.Fault) c = c
@@ -171,51 +158,30 @@ pub stop_id : (before now : ℕ) (x : WalkError) → StopCauses Whole before now
 stop_id before now (walks.TooDeep id) c = c.1
 stop_id before now x c = tt
 
--- Reads: of a walk that is refused, and of the contents behind one that isn't.
-pub reads_refused : (told : Option (List ℕ)) (o : Opened) (most before now : ℕ) → IfSome told (λ b. now ≤ before + (all_walked b o).reads) → IfSome told (λ b. now ≤ before + reads_walked most (all_walked b o))
-reads_refused None o most before now le = tt
-reads_refused (Some b) o most before now le = omega (arith, le)
-
-contents_due : (most : ℕ) (w : Walked) → w.refusal ≡ None → tile_count (full w.entries) ≤ most → contents_read w (walk_refusal most w) ≡ length (full w.entries)
-contents_due most w fine few = ap (contents_read w) (by_few most w few ∙ ap (option_map (of_walk_error most)) fine)
-
-pub reads_whole : (told again : Option (List ℕ)) (o : Opened) (most before mid now : ℕ) (es : List Entry) → again ≡ told → IfSome told (λ b. Gathers Whole (all_walked b o) [] most (Ok es)) → IfSome told (λ b. mid ≤ before + (all_walked b o).reads) → now ≤ mid + length es
-    → IfSome told (λ b. now ≤ before + reads_walked most (all_walked b o))
-reads_whole None again o most before mid now es same g le more = tt
-reads_whole (Some b) again o most before mid now es same g le more =
-    let count = contents_due most (all_walked b o) g.0 (g.2) in
-    let size : length es ≡ length (full (all_walked b o).entries) = ap length g.1 in
-    omega (arith, le, more, count, size)
-
-pub reads_opening : (told : Option (List ℕ)) (most before now : ℕ) → now ≤ before + 1 → IfSome told (λ b. now ≤ before + reads_at_most most b)
+-- Reads.
+pub reads_opening : (told : Option (List ℕ)) (most before now : ℕ) → now ≤ before + 1 → IfSome told (λ b. now ≤ before + reads_at_most b)
 reads_opening None most before now le = tt
 reads_opening (Some b) most before now le = by (opened b)
   where
-    by : (r : Result Opened PmtError) → now ≤ before + reads_opened most b r
+    by : (r : Result Opened PmtError) → now ≤ before + reads_opened b r
     by (Err e) = le
     by (Ok o) = omega (arith, le)
 
-pub reads_open : (told again : Option (List ℕ)) (h : Header) (root : List Entry) (most before mid now : ℕ) → again ≡ told → IfSome told (λ b. opened b ≡ Ok (h, root)) → mid ≤ before + 1 → IfSome again (λ b. now ≤ mid + reads_walked most (all_walked b (h, root)))
-    → IfSome told (λ b. now ≤ before + reads_at_most most b)
+pub reads_open : (told again : Option (List ℕ)) (h : Header) (root : List Entry) (most before mid now : ℕ) → again ≡ told → IfSome told (λ b. opened b ≡ Ok (h, root)) → mid ≤ before + 1 → IfSome again (λ b. now ≤ mid + (all_walked b (h, root)).reads)
+    → IfSome told (λ b. now ≤ before + reads_at_most b)
 reads_open None again h root most before mid now same opens le more = tt
 reads_open (Some b) again h root most before mid now same opens le more =
-    let n = subst (λ t. IfSome t (λ b. now ≤ mid + reads_walked most (all_walked b (h, root)))) same more in
-    let size : reads_at_most most b ≡ 1 + reads_walked most (all_walked b (h, root)) = ap (reads_opened most b) opens in
+    let n = subst (λ t. IfSome t (λ b. now ≤ mid + (all_walked b (h, root)).reads)) same more in
+    let size : reads_at_most b ≡ 1 + (all_walked b (h, root)).reads = ap (reads_opened b) opens in
     omega (arith, le, n, size)
 
--- what is read of an archive whose walk isn't refused
-pub tiles_taken : (told again : Option (List ℕ)) (o : Opened) (most : ℕ) (es : List Entry) (tiles : TileSet) → again ≡ told → IfSome told (λ b. opened b ≡ Ok o) → IfSome told (λ b. Gathers Whole (all_walked b o) [] most (Ok es))
-    → IfSome again (λ b. tiles ≡ with_entries o.0 b empty es) → IfSome told (λ b. Reads most b (Ok tiles))
-tiles_taken None again o most es tiles same opens g put = tt
-tiles_taken (Some b) again o most es tiles same opens g put =
-    subst (λ (m : TileSet). IsRead most b (Ok m)) (sym (subst (λ t. IfSome t (λ b. tiles ≡ with_entries o.0 b empty es)) same put ∙ ap (with_entries o.0 b empty) g.1)) (all_read most b o opens g.0 g.2)
-
--- and what hinders that
-pub tiles_hindered : (told again : Option (List ℕ)) (o : Opened) (most : ℕ) (es : List Entry) (e : PmtError) → again ≡ told → IfSome told (λ b. Gathers Whole (all_walked b o) [] most (Ok es)) → IfSome again (λ b. AllThere o.0 b es → IsHindered e)
-    → IfSome told (λ b. Reads most b (Err (of_read_error e)))
-tiles_hindered None again o most es e same g hindered = tt
-tiles_hindered (Some b) again o most es e same g hindered =
-    tiles_refused most b e (subst (λ t. IfSome t (λ b. AllThere o.0 b es → IsHindered e)) same hindered (subst (AllThere o.0 b) (sym g.1) (all_there b o g.0)))
+-- what is made of what a walk that isn't refused has read
+pub tiles_taken : (told : Option (List ℕ)) (o : Opened) (most : ℕ) (es : List Entry) (cs : List (List ℕ)) (tiles : TileSet) → IfSome told (λ b. opened b ≡ Ok o) → IfSome told (λ b. Gathers Whole (all_walked b o) [] most (Ok es))
+    → AreContentsOf told o.0 es cs → tiles ≡ with_contents empty es cs → IfSome told (λ b. Reads most b (Ok tiles))
+tiles_taken None o most es cs tiles opens g are put = tt
+tiles_taken (Some b) o most es cs tiles opens g are put =
+    let made : tiles ≡ with_entries o.0 b empty es = put ∙ ap (with_contents empty es) are.1 in
+    subst (λ (m : TileSet). IsRead most b (Ok m)) (sym (made ∙ ap (with_entries o.0 b empty) g.1)) (all_read most b o opens g.0 g.2)
 
 pub open_told : (told : Option (List ℕ)) (most : ℕ) (e : PmtError) → IfSome told (λ b. OpenAnswers b (Err e)) → IfSome told (λ b. Reads most b (Err (of_read_error e)))
 open_told None most e a = tt
@@ -224,8 +190,3 @@ open_told (Some b) most e a = open_refused most b e a
 -- the same of bytes that are told again
 pub told_again : (told again : Option (List ℕ)) (most : ℕ) (r : Result TileSet ImportError) → again ≡ told → IfSome again (λ b. Reads most b r) → IfSome told (λ b. Reads most b r)
 told_again told again most r same is = subst (λ t. IfSome t (λ b. Reads most b r)) same is
-
--- an id of zoom 31 isn't found behind a walk of told bytes
-pub deep_read : (told : Option (List ℕ)) (o : Opened) (most : ℕ) (es : List Entry) (id : ℕ) (e : ImportError) → IfSome told (λ b. Gathers Whole (all_walked b o) [] most (Ok es)) → IsDeep es id → IfSome told (λ b. Reads most b (Err e))
-deep_read None o most es id e g deep = tt
-deep_read (Some b) o most es id e g deep = absurd (deep.has (subst AllShallow (sym g.1) (all_shallow b o g.0)))

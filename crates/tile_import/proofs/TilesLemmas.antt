@@ -1,5 +1,5 @@
 -- The tiles that are read are those of the archive.
-use Rattle.std.proofs.Common.{◌≡◌, ◌≢◌, ◌∙◌, ◌+◌, ◌≤◌, ◌<◌, ◌^◌, ℕ, Bool, true, false, ◌&&◌, nat_le, nat_lt, if◌then◌else◌, List, [], ◌∷◌, length, take, drop, Option, Some, None, IsSome, is_some, Result, Ok, Err, refl, ap, sym, arith}
+use Rattle.std.proofs.Common.{◌≡◌, ◌≢◌, ◌∙◌, ◌+◌, ◌≤◌, ◌<◌, ◌^◌, ℕ, Bool, true, false, ◌&&◌, nat_le, nat_lt, if◌then◌else◌, List, [], ◌∷◌, length, map, take, drop, Option, Some, None, IsSome, is_some, Result, Ok, Err, refl, ap, sym, arith}
 use Rattle.std.proofs.lemmas.Bool.{and_parts, false≢true}
 use Rattle.std.proofs.lemmas.Bool.Decides.{nat_tests}
 use Rattle.std.proofs.lemmas.List.{length-drop, length-take-le}
@@ -16,17 +16,17 @@ use Rattle.pm_format.specs.LookUp.{filled, range_of}
 use Rattle.pm_format.specs.Opened.{Opened, opened}
 use Rattle.pm_walk.proofs.CoveringLemmas.{covering, has_id}
 use Rattle.pm_walk.proofs.WholeLemmas.{held, whole_map}
+use Rattle.pm_walk.specs.Collecting.{AllShallow, contents_of}
 use Rattle.pm_walk.specs.Parts.{full}
 use Rattle.pm_walk.specs.Walk.{all_walked}
 use Rattle.pm_walk.specs.declared.extent.TheConstants.{FIRST_TOO_DEEP}
 use Rattle.mb_load.specs.LoadedFrom.{IsOnBoard}
-use Rattle.mb_tables.specs.Tiles.{Place, TileSet, place_cmp}
+use Rattle.mb_tables.specs.Tiles.{Place, place_cmp}
 use Rattle.tile_bridge.specs.Adds.{InRange}
 use Rattle.tile_bridge.specs.Convert.{address}
-use Rattle.tile_import.proofs.EntryLemmas.{found_at, get_entries}
-use Rattle.tile_import.proofs.PassedLemmas.{all_ordered, all_shallow, all_there}
-use Rattle.tile_import.proofs.PlacingLemmas.{run_on_board}
-use Rattle.tile_import.specs.Putting.{AllShallow, AllThere, AreOnBoard, contents_at, contents_of, ids_of, with_entries, with_ids}
+use Rattle.tile_import.proofs.EntryLemmas.{contents_on_board, found_at, get_entries}
+use Rattle.pm_walk.proofs.PassedLemmas.{AllThere, all_ordered, all_shallow, all_there, contents_at}
+use Rattle.tile_import.specs.Putting.{AreOnBoard, with_entries}
 use Rattle.tile_import.specs.Tiles.{HasTilesOf}
 
 in_range : (p : Place) → IsOnBoard p → InRange p
@@ -79,10 +79,6 @@ found_shallow h b t (e ∷ es) bytes shallow is = by_test (has_id t e) refl (fou
         omega (arith, less, shallow.0)
     by_test false has rest is = rest is
 
-pub entries_on_board : (h : Header) (b : List ℕ) (tiles : TileSet) (es : List Entry) → AllShallow es → AreOnBoard tiles → AreOnBoard (with_entries h b tiles es)
-entries_on_board h b tiles [] shallow on = on
-entries_on_board h b tiles (e ∷ es) shallow on = entries_on_board h b (with_ids tiles (contents_of h b e) (ids_of e)) es shallow.1 (run_on_board tiles (contents_of h b e) e.tile_id e.run_length shallow.0 on)
-
 pub none_on_board : AreOnBoard empty
 none_on_board p has = absurd (false≢true (sym (ap is_some (get-empty place_cmp p)) ∙ has))
 
@@ -94,7 +90,7 @@ tiles_are b o opens fine = record {
       ∙ (ap (found_at o.0 b (covering (address p) es)) (get-empty place_cmp p)
       ∙ (found_held o.0 b (address p) es (all_there b o fine)
       ∙ ap (option_map (λ bytes. Some bytes)) (sym (whole_map b o (address p) opens fine))));
-  within = entries_on_board o.0 b empty es (all_shallow b o fine) none_on_board;
+  within = contents_on_board empty es (map (contents_of o.0 b) es) (all_shallow b o fine) none_on_board;
   shallow = λ t bytes is. found_shallow o.0 b t es bytes (all_shallow b o fine) (sym (whole_map b o t opens fine) ∙ is);
 }
   where

@@ -1,5 +1,5 @@
 -- What an import answers, why, and what it leaves.
-use Rattle.std.specs.Prelude.{◌≡◌, ◌≢◌, ◌≤◌, ◌<◌, ◌+◌, ℕ, Bool, true, false, List, length, Option, Some, None, Result, Ok, Err, IfSome}
+use Rattle.std.specs.Prelude.{◌≡◌, ◌≢◌, ◌≤◌, ◌<◌, ◌+◌, ℕ, Bool, true, false, List, Option, Some, None, Result, Ok, Err, IfSome}
 use Rattle.std.specs.FinMap.{len}
 use Rattle.base_values.specs.Counts.{Rose}
 use Rattle.tile_ids.specs.Coord.{IsCoord}
@@ -9,8 +9,7 @@ use Rattle.pm_format.specs.declared.error.PmtError.{PmtError}
 use Rattle.pm_format.specs.declared.error.PmtError.TheVariants as errors
 use Rattle.pm_format.specs.declared.error.ReadCause.TheVariants as causes
 use Rattle.pm_reader.specs.Opening.{IsOpenRefusal}
-use Rattle.pm_walk.specs.Parts.{full}
-use Rattle.pm_walk.specs.Walk.{Walked, all_walked}
+use Rattle.pm_walk.specs.Walk.{all_walked}
 use Rattle.mb_edit.specs.Put.{may_put}
 use Rattle.mb_edit.specs.PutTables.{ArePut}
 use Rattle.mb_load.specs.LoadedFrom.{is_editable}
@@ -19,7 +18,7 @@ use Rattle.mb_tables.specs.Table.{Tables}
 use Rattle.mb_tables.specs.Tiles.{TileSet}
 use Rattle.mb_tables.specs.declared.error.MbtError.{MbtError}
 use Rattle.mb_tables.specs.declared.error.MbtError.TheVariants as stores
-use Rattle.tile_import.specs.Refusals.{IsRead, is_free, walk_refusal}
+use Rattle.tile_import.specs.Refusals.{IsRead, is_free}
 use Rattle.tile_import.specs.Tiles.{HasTilesOf}
 use Rattle.tile_import.specs.declared.error.ImportError.{ImportError}
 use Rattle.tile_import.specs.declared.error.ImportError.TheVariants.{Archive, Store, InvalidTileId, InvalidTileIndex, TooManyTiles, OutOfMemory}
@@ -98,17 +97,10 @@ pub record IsImported (told : Option (List ℕ)) (old new : Tables) (n : ℕ) : 
   pub loaded : state_of old ≡ Ok base
   pub rows : ArePut tiles base old new
 
--- how often an archive is read: once to open it, once for each leaf and for the end of each tile entry, and, where nothing is refused, once for the contents of each entry that has some
-abbrev pub contents_read : Walked → Option ImportError → ℕ
-contents_read w None = length (full w.entries)
-contents_read w (Some e) = 0
+-- how often an archive is read: once to open it, once for each leaf, and once for each tile entry
+abbrev pub reads_opened : List ℕ → Result Opened PmtError → ℕ
+reads_opened b (Err e) = 1
+reads_opened b (Ok o) = 1 + (all_walked b o).reads
 
-abbrev pub reads_walked : ℕ → Walked → ℕ
-reads_walked most w = w.reads + contents_read w (walk_refusal most w)
-
-abbrev pub reads_opened : ℕ → List ℕ → Result Opened PmtError → ℕ
-reads_opened most b (Err e) = 1
-reads_opened most b (Ok o) = 1 + reads_walked most (all_walked b o)
-
-abbrev pub reads_at_most : ℕ → List ℕ → ℕ
-reads_at_most most b = reads_opened most b (opened b)
+abbrev pub reads_at_most : List ℕ → ℕ
+reads_at_most b = reads_opened b (opened b)

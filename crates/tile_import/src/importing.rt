@@ -34,7 +34,7 @@ fn of_store(error: MbtError) -> ImportError
 /// 4. `Store` with `IdCollision`: contents that are put have the id of others in a normalised set, with the id of the first such tile.
 ///
 /// Refused, the store holds what it held. After Ok the tables load again as the set with the tiles over its own; rows of other places, metadata and descriptions stay, and rows that were put carry
-/// their digest, where the layout has one. No tile is made before the whole archive is walked, and the contents of each entry are read once. `Archive(Reading(Fault))` and `Store(StoreFault)` come
+/// their digest, where the layout has one. No tile is made before the whole archive is walked. The archive is read once to open it, and once for each leaf and each tile entry. `Archive(Reading(Fault))` and `Store(StoreFault)` come
 /// only where the backend's, or the store's, count of faults rose.
 pub fn import<B: Backend, S: TileStore>(
     alloc: Global,
@@ -52,7 +52,7 @@ pub fn import<B: Backend, S: TileStore>(
     ensures backend_kept { ReadsOnly B.told B.versions B.faults B.steady backend.old backend.new }
     ensures store_kept { Keeps S.tells S.faults S.steady store.old store.new }
     ensures reads { IfSome (B.told backend.old) (λ b. B.reads backend.new
-        ≤ B.reads backend.old + reads_at_most max_tiles b) }
+        ≤ B.reads backend.old + reads_at_most b) }
 {
     let base = match load_base(alloc, store) {
         Ok(base) => base,
@@ -62,8 +62,9 @@ pub fn import<B: Backend, S: TileStore>(
         Ok(tiles) => tiles,
         Err(error) => return Err(error),
     };
-    match store_tiles(alloc, store, base, &tiles) {
-        Ok(()) => Ok(tiles.tile_count() as u64),
+    let count = tiles.tile_count();
+    match store_tiles(alloc, store, base, tiles) {
+        Ok(()) => Ok(count as u64),
         Err(error) => Err(of_store(error)),
     }
 }

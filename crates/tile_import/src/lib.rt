@@ -1,7 +1,6 @@
 //! Archives that are imported into tile sets.
 #![tactic(auto)]
 
-mod deep;
 mod error;
 mod importing;
 pub mod laws;

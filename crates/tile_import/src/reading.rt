@@ -7,17 +7,16 @@ ghost use Rattle.mb_load.specs.LoadedFrom.{AllOnBoard};
 ghost use Rattle.pm_reader.specs.Opening.{IsOpen, OpensAs, header_of, root_of};
 ghost use Rattle.pm_reader.specs.Reads.{ReadsOnly};
 ghost use Rattle.pm_walk.specs.Walk.{all_walked};
-ghost use Rattle.tile_import.specs.Import.{ReadCauses, reads_at_most, reads_walked};
+ghost use Rattle.tile_import.specs.Import.{ReadCauses, reads_at_most};
 ghost use Rattle.tile_import.specs.Reading.{IsTileId, tiles_of};
 ghost use Rattle.tile_import.specs.Refusals.{Reads, of_read_error, of_walk_error};
 
 use crate::ImportError;
-use crate::deep::first_deep;
-use crate::tiles::read_tiles;
+use crate::tiles::make_tiles;
 use mb_load::Loaded;
 use pm_format::{Backend, PmtError};
 use pm_reader::ReaderState;
-use pm_walk::{Extent, WalkError, collect};
+use pm_walk::{WalkError, read_entries};
 use std::alloc::Global;
 use tile_ids::{TileCoord, TileId};
 
@@ -70,18 +69,15 @@ fn read_opened<B: Backend>(
         (B.faults backend.new)) }
     ensures kept { ReadsOnly B.told B.versions B.faults B.steady backend.old backend.new }
     ensures reads { IfSome (B.told backend.old) (λ b. B.reads backend.new ≤ B.reads backend.old
-        + reads_walked max_tiles (all_walked b (header_of reader.now, root_of reader.now))) }
+        + (all_walked b (header_of reader.now, root_of reader.now)).reads) }
 {
-    let entries = match collect(alloc, Extent::Whole, reader, backend, &[], max_tiles) {
-        Ok(entries) => entries,
+    let read = match read_entries(alloc, reader, backend, max_tiles) {
+        Ok(read) => read,
         Err(error) => return Err(of_walk(error, max_tiles)),
     };
-    if let Some(id) = first_deep(&entries) {
-        return Err(ImportError::InvalidTileIndex(coord_at(id)));
-    }
-    match read_tiles(alloc, reader, backend, &entries) {
+    match make_tiles(alloc, read) {
         Ok(tiles) => Ok(tiles),
-        Err(error) => Err(of_reader(error)),
+        Err(_) => Err(ImportError::OutOfMemory),
     }
 }
 
@@ -101,7 +97,7 @@ pub(crate) fn read_archive<B: Backend>(
         (B.faults backend.new)) }
     ensures kept { ReadsOnly B.told B.versions B.faults B.steady backend.old backend.new }
     ensures reads { IfSome (B.told backend.old) (λ b. B.reads backend.new
-        ≤ B.reads backend.old + reads_at_most max_tiles b) }
+        ≤ B.reads backend.old + reads_at_most b) }
 {
     let reader = match ReaderState::open(alloc, backend) {
         Ok(reader) => reader,

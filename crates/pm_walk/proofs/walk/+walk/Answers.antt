@@ -1,6 +1,7 @@
 use Rattle.std.proofs.Common.{◌∙◌, ap, subst, Ok, IfSome, refl, arith}
 use Rattle.pm_reader.specs.Opening.{header_of}
 use Rattle.pm_walk.specs.Collecting.{IsMetLeaf}
+use Rattle.pm_walk.proofs.ContentsLemmas.{contents_again}
 use Rattle.pm_walk.proofs.ToldLemmas.{any_told}
 use Rattle.pm_walk.proofs.WalkToldLemmas.{order_end, order_leaf, order_step, told_all_gone, told_fallen, told_past, told_past_leaf, told_stopped, told_stopped_below}
 use Rattle.pm_walk.proofs.WalkingLemmas.{SoFar, begun_at}
@@ -14,6 +15,7 @@ loop-first-init g t c = (
   λ apart before. before,
   λ most k. k,
   λ room. room,
+  λ kept. kept,
 )
 
 pub returns-then-not-stands-clause-answer : goal.returns-then-not-stands-clause-answer
@@ -94,6 +96,7 @@ loop-first-preserved-in-Ok-None g t c =
           (c.loop-first.invariant.2 apart before) (λ ordered within. c.in-Ok-None.ensures.ordered apart ordered within),
       λ most k. c.in-Ok-None.ensures.keeps most (c.loop-first.invariant.3 most k),
       λ room. c.in-Ok-None.ensures.room (c.loop-first.invariant.4 room),
+      λ first. contents_again c.args.extent (g.B.Backend.told c.args.backend.now) (g.B.Backend.told c.loop-first.backend) (header_of c.args.state.now) c.loop-first.collected c.meet.new.collected i.told c.in-Ok-None.ensures.contents (c.loop-first.invariant.5 first),
     )
 
 pub loop-first-preserved : goal.loop-first-preserved
@@ -122,4 +125,6 @@ loop-first-preserved g t c =
           (λ ordered within. c.in_default-walk.ensures.ordered apart ordered within),
       λ most k. c.in_default-walk.ensures.keeps most (c.in-Ok-Some.ensures.keeps most (c.loop-first.invariant.3 most k)),
       λ room. c.in_default-walk.ensures.room (c.in-Ok-Some.ensures.room (c.loop-first.invariant.4 room)),
+      λ first. contents_again c.args.extent (g.B.Backend.told c.args.backend.now) (g.B.Backend.told c.meet.new.backend) (header_of c.args.state.now) c.meet.new.collected c.walk.new.collected (k.told ∙ i.told) c.in_default-walk.ensures.contents
+          (contents_again c.args.extent (g.B.Backend.told c.args.backend.now) (g.B.Backend.told c.loop-first.backend) (header_of c.args.state.now) c.loop-first.collected c.meet.new.collected i.told c.in-Ok-Some.ensures.contents (c.loop-first.invariant.5 first)),
     )

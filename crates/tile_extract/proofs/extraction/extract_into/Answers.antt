@@ -35,7 +35,7 @@ returns-in-Ok-write_parts-clause-answers g c =
     let held = g.M.Backend.told c.write_parts.new.medium in
     let items = c.in-Ok-collect.parts.items in
     ok_answers c.args.root c.args.max_zoom c.args.max_tiles h (root_of c.in-Ok.read.0) c.in-Ok.read.1 items told again held (g.M.Backend.told c.args.medium.now) c.options_from-options.result c.in-Ok-write_parts.written
-    (c.options_from-options.ensures ∙ ap (λ k. options_from k c.in-Ok.read.1 c.args.root c.args.max_zoom) c.get_header.ensures) (c.collect.ensures.kept.told ∙ c.read_source.ensures.kept.told) (sym c.write_parts.ensures.tells)
+    (c.options_from-options.ensures ∙ ap (λ k. options_from k c.in-Ok.read.1 c.args.root c.args.max_zoom) c.get_header.ensures) (c.collect.ensures.kept.told ∙ c.read_source.ensures.kept.told) (sym c.write_parts.ensures.medium_kept.tells)
     (planned c.args.root c.args.max_zoom c.args.max_tiles c.in-Ok.read.0 c.in-Ok.read.1 items told (g.B.Backend.told c.read_source.new.source) c.read_source.ensures.kept.told c.in-Ok.ensures.answer c.in-Ok-collect.ensures.collected)
     (subst (λ l. WritesParts c.options_from-options.result h again l held (Ok c.in-Ok-write_parts.written)) c.deref.ensures.value c.in-Ok-write_parts.ensures.written)
 
@@ -59,7 +59,7 @@ returns-clause-answers g c =
     let held = g.M.Backend.told c.write_parts.new.medium in
     let items = c.in-Ok-collect.parts.items in
     err_answers c.args.root c.args.max_zoom c.args.max_tiles h (root_of c.in-Ok.read.0) c.in-Ok.read.1 items told again held (g.M.Backend.told c.args.medium.now) _ _ _ _ c.options_from-options.result c.in-Err-write_parts.error
-    (c.options_from-options.ensures ∙ ap (λ k. options_from k c.in-Ok.read.1 c.args.root c.args.max_zoom) c.get_header.ensures) (c.collect.ensures.kept.told ∙ c.read_source.ensures.kept.told) (sym c.write_parts.ensures.tells)
+    (c.options_from-options.ensures ∙ ap (λ k. options_from k c.in-Ok.read.1 c.args.root c.args.max_zoom) c.get_header.ensures) (c.collect.ensures.kept.told ∙ c.read_source.ensures.kept.told) (sym c.write_parts.ensures.medium_kept.tells)
     (planned c.args.root c.args.max_zoom c.args.max_tiles c.in-Ok.read.0 c.in-Ok.read.1 items told (g.B.Backend.told c.read_source.new.source) c.read_source.ensures.kept.told c.in-Ok.ensures.answer c.in-Ok-collect.ensures.collected) c.in-Err-write_parts.ensures.causes
     (subst (λ l. WritesParts c.options_from-options.result h again l held (Err c.in-Err-write_parts.error)) c.deref.ensures.value c.in-Err-write_parts.ensures.written)
 
@@ -85,6 +85,6 @@ returns-clause-uncompared g c =
     let items = c.in-Ok-collect.parts.items in
     err_uncompared c.args.root c.args.max_zoom c.args.max_tiles h (root_of c.in-Ok.read.0) c.in-Ok.read.1 items told again held (g.M.Backend.told c.args.medium.now) _ _ _ _
     (g.M.Backend.reads c.args.medium.now) (g.M.Backend.reads c.write_parts.new.medium) c.options_from-options.result c.in-Err-write_parts.error
-    (c.options_from-options.ensures ∙ ap (λ k. options_from k c.in-Ok.read.1 c.args.root c.args.max_zoom) c.get_header.ensures) (c.collect.ensures.kept.told ∙ c.read_source.ensures.kept.told) (sym c.write_parts.ensures.tells)
+    (c.options_from-options.ensures ∙ ap (λ k. options_from k c.in-Ok.read.1 c.args.root c.args.max_zoom) c.get_header.ensures) (c.collect.ensures.kept.told ∙ c.read_source.ensures.kept.told) (sym c.write_parts.ensures.medium_kept.tells)
     (planned c.args.root c.args.max_zoom c.args.max_tiles c.in-Ok.read.0 c.in-Ok.read.1 items told (g.B.Backend.told c.read_source.new.source) c.read_source.ensures.kept.told c.in-Ok.ensures.answer c.in-Ok-collect.ensures.collected) c.in-Err-write_parts.ensures.causes
     (subst (λ l. WritesParts c.options_from-options.result h again l held (Err c.in-Err-write_parts.error)) c.deref.ensures.value c.in-Err-write_parts.ensures.written)

@@ -1,5 +1,6 @@
 use Rattle.std.proofs.Common.{◌∙◌, length, Err, Ok, refl, ap, sym, subst, arith}
 use Rattle.std.proofs.lemmas.List.FromFn.{length-range_with_len}
+use Rattle.byte_media.proofs.KeptLemmas.{medium_same, medium_then}
 use Rattle.pm_writer.proofs.Took.{took_as, written_fits}
 use Rattle.pm_writer.specs.Took.{Took}
 use Rattle.pm_writer.specs.Writing.{add_to}
@@ -12,11 +13,8 @@ loop-id-init g c = (
   λ o done w. (done, λ r is. subst (λ ids. PutsAll (Took (g.M.Backend.told c.args.medium.now)) o c.args.bytes.now done ids r) (c.into_iter-id-iterator.ensures.into_iter_gives ∙ c.iter_coords-id-items.ensures) is, w),
   c.requires.writes,
   c.requires.alive,
-  refl,
-  omega arith,
-  omega arith,
+  medium_same _ _ _ _ _ _,
   let n = ap length (c.into_iter-id-iterator.ensures.into_iter_gives ∙ c.iter_coords-id-items.ensures) in omega (arith, n, length-range_with_len c.args.part.tile_id c.args.part.run_length),
-  λ s. (s, refl),
 )
 
 pub add_raw_tile_by_id-requires : goal.add_raw_tile_by_id-requires
@@ -35,18 +33,15 @@ loop-id-preserved g c =
           let a = e.added o m.0 m.2 in
           let u = e.causes o m.0 m.2 in
           let fits = written_fits before after o c.add_raw_tile_by_id.new.self m.0 id bytes a.0 u.0 a.2 (e.failed ∙ i.2) a.1.0 u.1.0 u.2.2 in
-          let so = took_as (λ takes. PutsOn takes o bytes done (ids_of c.args.part) m.0 c.loop-id.id-iterator) before after e.tells m.1 in (
+          let so = took_as (λ takes. PutsOn takes o bytes done (ids_of c.args.part) m.0 c.loop-id.id-iterator) before after e.kept.tells m.1 in (
             add_to m.0 id a.0,
-            λ r is. so r (subst (λ ids. PutsAll (Took after) o bytes m.0 ids r) (sym c.in-Some.ensures.steps) (puts_next (Took after) o bytes a.0 m.0 id c.next.new.self r (took_as (λ takes. takes bytes a.0) before after e.tells a.1.0) fits is)),
+            λ r is. so r (subst (λ ids. PutsAll (Took after) o bytes m.0 ids r) (sym c.in-Some.ensures.steps) (puts_next (Took after) o bytes a.0 m.0 id c.next.new.self r (took_as (λ takes. takes bytes a.0) before after e.kept.tells a.1.0) fits is)),
             a.2,
           ),
       e.writes,
       e.failed ∙ i.2,
-      e.tells ∙ i.3,
-      omega (arith, e.faults, i.4),
-      omega (arith, e.counted, i.5),
-      let n = ap length c.in-Some.ensures.steps in omega (arith, e.reads, i.6, n),
-      λ s. let p = i.7 s in let q = e.calm p.0 in (q.0, q.1 ∙ p.1),
+      medium_then _ _ _ _ _ _ _ _ i.3 e.kept,
+      let n = ap length c.in-Some.ensures.steps in omega (arith, e.reads, i.4, n),
     )
 
 pub returns-in-Err-clause-added : goal.returns-in-Err-clause-added
@@ -56,17 +51,17 @@ returns-in-Err-clause-added g c = λ o done w.
     let bytes = c.args.bytes.now in
     let before = g.M.Backend.told c.loop-id.medium in
     let after = g.M.Backend.told c.add_raw_tile_by_id.new.medium in
-    let so = took_as (λ takes. PutsOn takes o bytes done (ids_of c.args.part) m.0 c.loop-id.id-iterator) before after c.in-Err.ensures.tells m.1 in
+    let so = took_as (λ takes. PutsOn takes o bytes done (ids_of c.args.part) m.0 c.loop-id.id-iterator) before after c.in-Err.ensures.kept.tells m.1 in
     subst (λ x. Puts o bytes done (ids_of c.args.part) after c.add_raw_tile_by_id.new.self (Err x)) (sym c.of_writer.ensures)
     (add_refused o bytes u.0 done (ids_of c.args.part) m.0 c.in-Some.id c.next.new.self after c.add_raw_tile_by_id.new.self _ (g.M.Backend.faults c.loop-id.medium) (g.M.Backend.faults c.add_raw_tile_by_id.new.medium) c.in-Err.error
-    c.loop-id.invariant.2 (λ r is. so r (subst (λ ids. PutsAll (Took after) o bytes m.0 ids r) (sym c.in-Some.ensures.steps) is)) (took_as (λ takes. takes bytes u.0) before after c.in-Err.ensures.tells u.1.0) u.2)
+    c.loop-id.invariant.2 (λ r is. so r (subst (λ ids. PutsAll (Took after) o bytes m.0 ids r) (sym c.in-Some.ensures.steps) is)) (took_as (λ takes. takes bytes u.0) before after c.in-Err.ensures.kept.tells u.1.0) u.2)
 
 pub returns-in-Err-clause-fault : goal.returns-in-Err-clause-fault
 returns-in-Err-clause-fault g c = λ is.
     let o = c.requires.writes.0 in
     let m = c.loop-id.invariant.0 o c.requires.writes.1 c.requires.writes.2 in
     let u = c.in-Err.ensures.causes o m.0 m.2 in
-    add_faulted _ _ _ (g.M.Backend.faults c.args.medium.now) (g.M.Backend.faults c.loop-id.medium) (g.M.Backend.faults c.add_raw_tile_by_id.new.medium) c.in-Err.error c.loop-id.invariant.2 c.loop-id.invariant.4 u.2
+    add_faulted _ _ _ (g.M.Backend.faults c.args.medium.now) (g.M.Backend.faults c.loop-id.medium) (g.M.Backend.faults c.add_raw_tile_by_id.new.medium) c.in-Err.error c.loop-id.invariant.2 c.loop-id.invariant.3.faults u.2
     (sym c.of_writer.ensures ∙ err_is c.of_writer.result _ is)
 
 pub returns-clause-added : goal.returns-clause-added

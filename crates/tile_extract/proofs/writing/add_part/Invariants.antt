@@ -1,4 +1,5 @@
-use Rattle.std.proofs.Common.{◌≡◌, ◌≤◌, ◌+◌, ℕ, false, List, is_some, length}
+use Rattle.std.proofs.Common.{◌≡◌, ◌≤◌, ◌+◌, ℕ, false, List, length}
+use Rattle.byte_media.specs.Kept.{KeepsMedium}
 use Rattle.pm_format.specs.Options.{Options}
 use Rattle.pm_writer.specs.Took.{Took}
 use Rattle.pm_writer.specs.Writing.{Writes, has_failed}
@@ -12,8 +13,5 @@ invariant-loop-id g l =
     → (mid : List (ℕ × List ℕ)) × PutsOn (Took (g.M.Backend.told l.medium)) o l.bytes done (ids_of l.fn.part) mid l.id-iterator × Writes o (g.M.Backend.told l.medium) l.writer mid)
     × ((o : Options) × (done : List (ℕ × List ℕ)) × Writes o (g.M.Backend.told l.medium) l.writer done)
     × (has_failed l.writer ≡ false)
-    × (is_some (g.M.Backend.told l.medium) ≡ is_some (g.M.Backend.told l.fn.medium))
-    × (g.M.Backend.faults l.fn.medium ≤ g.M.Backend.faults l.medium)
-    × (g.M.Backend.reads l.fn.medium ≤ g.M.Backend.reads l.medium)
+    × KeepsMedium g.M.Backend.told g.M.Backend.versions g.M.Backend.reads g.M.Backend.faults g.M.Backend.steady l.fn.medium l.medium
     × (g.M.Backend.reads l.medium + length l.id-iterator ≤ g.M.Backend.reads l.fn.medium + l.fn.part.run_length)
-    × (g.M.Backend.steady l.fn.medium → g.M.Backend.steady l.medium × (g.M.Backend.faults l.medium ≡ g.M.Backend.faults l.fn.medium))

@@ -1,4 +1,5 @@
-use Rattle.std.proofs.Common.{◌≡◌, ◌∙◌, ◌+◌, ◌∷◌, length, Err, Ok, IfSome, ap, sym, subst, arith}
+use Rattle.std.proofs.Common.{◌≡◌, ◌+◌, ◌∷◌, length, Err, Ok, IfSome, ap, sym, subst, arith}
+use Rattle.byte_media.proofs.KeptLemmas.{medium_then, reads_then}
 use Rattle.pm_reader.specs.Answers.{Gives, range_read}
 use Rattle.pm_reader.specs.Opening.{header_of}
 use Rattle.pm_walk.specs.Parts.{tile_count}
@@ -15,20 +16,17 @@ loop-part-preserved-in-Ok-add_part g c =
       λ o w.
           let s = i.0 o w in
           put_more o (header_of c.args.reader.now) (g.B.Backend.told c.args.source.now) (g.B.Backend.told c.loop-part.source) c.args.parts.now c.loop-part.rest.now c.in-Some.part.now c.in-Some.others.now (g.M.Backend.told c.loop-part.medium) (g.M.Backend.told c.add_part.new.medium) c.loop-part.writer c.add_part.new.writer c.as_slice.result.now s
-          i.4.told a.tells c.in-Some.ensures.cases.0
+          i.4.told a.kept.tells c.in-Some.ensures.cases.0
           (read_at (g.B.Backend.told c.loop-part.source) (header_of c.args.reader.now) c.offset.result c.length.result c.in-Some.part.now (Ok c.as_slice.result.now) c.offset.ensures c.length.ensures
           (subst (λ l. IfSome (g.B.Backend.told c.loop-part.source) (λ b. Gives (range_read b ((header_of c.args.reader.now).data_offset + c.offset.result) c.length.result) (Ok l))) (sym c.as_slice.ensures) c.in-Ok.ensures.answer))
           (a.added o s.mid s.writes),
       a.writes,
       a.alive,
       (c.in-Some.part.now.tile_id + c.in-Some.part.now.run_length, rest_ordered i.3.0 c.loop-part.rest.now c.in-Some.part.now c.in-Some.others.now c.in-Some.ensures.cases.0 i.3.1),
-      record { told = k.told ∙ i.4.told; versions = k.versions ∙ i.4.versions; faults = omega (arith, k.faults, i.4.faults); calm = λ s. let p = i.4.calm s in let q = k.calm p.0 in (q.0, q.1 ∙ p.1) },
-      a.tells ∙ i.5,
-      omega (arith, a.faults, i.6),
-      omega (arith, a.counted, i.7),
-      let n : tile_count c.loop-part.rest.now ≡ tile_count (c.in-Some.part.now ∷ c.in-Some.others.now) = ap tile_count c.in-Some.ensures.cases.0 in omega (arith, i.8, a.compared, n),
-      λ s. let p = i.9 s in let q = a.calm p.0 in (q.0, q.1 ∙ p.1),
-      let n : length c.loop-part.rest.now ≡ length (c.in-Some.part.now ∷ c.in-Some.others.now) = ap length c.in-Some.ensures.cases.0 in omega (arith, i.10, c.read_contents.ensures.reads.most, n),
+      reads_then _ _ _ _ _ _ _ i.4 k,
+      medium_then _ _ _ _ _ _ _ _ i.5 a.kept,
+      let n : tile_count c.loop-part.rest.now ≡ tile_count (c.in-Some.part.now ∷ c.in-Some.others.now) = ap tile_count c.in-Some.ensures.cases.0 in omega (arith, i.6, a.compared, n),
+      let n : length c.loop-part.rest.now ≡ length (c.in-Some.part.now ∷ c.in-Some.others.now) = ap length c.in-Some.ensures.cases.0 in omega (arith, i.7, c.read_contents.ensures.reads.most, n),
     )
 
 pub loop-part-preserved : goal.loop-part-preserved
@@ -39,20 +37,17 @@ loop-part-preserved g c =
       λ o w.
           let s = i.0 o w in
           put_more o (header_of c.args.reader.now) (g.B.Backend.told c.args.source.now) (g.B.Backend.told c.loop-part.source) c.args.parts.now c.loop-part.rest.now c.in-Some.part.now c.in-Some.others.now (g.M.Backend.told c.loop-part.medium) (g.M.Backend.told c.add_part.new.medium) c.loop-part.writer c.add_part.new.writer c.as_slice.result.now s
-          i.4.told a.tells c.in-Some.ensures.cases.0
+          i.4.told a.kept.tells c.in-Some.ensures.cases.0
           (read_at (g.B.Backend.told c.loop-part.source) (header_of c.args.reader.now) c.offset.result c.length.result c.in-Some.part.now (Ok c.as_slice.result.now) c.offset.ensures c.length.ensures
           (subst (λ l. IfSome (g.B.Backend.told c.loop-part.source) (λ b. Gives (range_read b ((header_of c.args.reader.now).data_offset + c.offset.result) c.length.result) (Ok l))) (sym c.as_slice.ensures) c.in-Ok.ensures.answer))
           (a.added o s.mid s.writes),
       a.writes,
       a.alive,
       (c.in-Some.part.now.tile_id + c.in-Some.part.now.run_length, rest_ordered i.3.0 c.loop-part.rest.now c.in-Some.part.now c.in-Some.others.now c.in-Some.ensures.cases.0 i.3.1),
-      record { told = k.told ∙ i.4.told; versions = k.versions ∙ i.4.versions; faults = omega (arith, k.faults, i.4.faults); calm = λ s. let p = i.4.calm s in let q = k.calm p.0 in (q.0, q.1 ∙ p.1) },
-      a.tells ∙ i.5,
-      omega (arith, a.faults, i.6),
-      omega (arith, a.counted, i.7),
-      let n : tile_count c.loop-part.rest.now ≡ tile_count (c.in-Some.part.now ∷ c.in-Some.others.now) = ap tile_count c.in-Some.ensures.cases.0 in omega (arith, i.8, a.compared, n),
-      λ s. let p = i.9 s in let q = a.calm p.0 in (q.0, q.1 ∙ p.1),
-      let n : length c.loop-part.rest.now ≡ length (c.in-Some.part.now ∷ c.in-Some.others.now) = ap length c.in-Some.ensures.cases.0 in omega (arith, i.10, c.read_contents.ensures.reads.most, n),
+      reads_then _ _ _ _ _ _ _ i.4 k,
+      medium_then _ _ _ _ _ _ _ _ i.5 a.kept,
+      let n : tile_count c.loop-part.rest.now ≡ tile_count (c.in-Some.part.now ∷ c.in-Some.others.now) = ap tile_count c.in-Some.ensures.cases.0 in omega (arith, i.6, a.compared, n),
+      let n : length c.loop-part.rest.now ≡ length (c.in-Some.part.now ∷ c.in-Some.others.now) = ap length c.in-Some.ensures.cases.0 in omega (arith, i.7, c.read_contents.ensures.reads.most, n),
     )
 
 pub returns-clause-added : goal.returns-clause-added
@@ -77,7 +72,7 @@ returns-in-Err-add_part-clause-added g c = λ o w.
     let again = g.B.Backend.told c.loop-part.source in
     let s = i.0 o w in
     put_refused o h (g.B.Backend.told c.args.source.now) again c.args.parts.now c.loop-part.rest.now c.in-Some.part.now c.in-Some.others.now (g.M.Backend.told c.loop-part.medium) (g.M.Backend.told c.add_part.new.medium) c.loop-part.writer c.add_part.new.writer c.as_slice.result.now c.in-Err-add_part.error s
-    i.4.told c.in-Err-add_part.ensures.tells c.in-Some.ensures.cases.0
+    i.4.told c.in-Err-add_part.ensures.kept.tells c.in-Some.ensures.cases.0
     (read_at again h c.offset.result c.length.result c.in-Some.part.now (Ok c.as_slice.result.now) c.offset.ensures c.length.ensures
     (subst (λ l. IfSome again (λ b. Gives (range_read b (h.data_offset + c.offset.result) c.length.result) (Ok l))) (sym c.as_slice.ensures) c.in-Ok.ensures.answer))
     (c.in-Err-add_part.ensures.added o s.mid s.writes)

@@ -1,4 +1,5 @@
-use Rattle.std.proofs.Common.{◌≡◌, ◌≤◌, ◌+◌, ℕ, false, List, [], None, is_some, length}
+use Rattle.std.proofs.Common.{◌≡◌, ◌≤◌, ◌+◌, ℕ, false, List, [], None, length}
+use Rattle.byte_media.specs.Kept.{KeepsMedium}
 use Rattle.pm_format.specs.Options.{Options}
 use Rattle.pm_reader.specs.Opening.{header_of}
 use Rattle.pm_reader.specs.Reads.{ReadsOnly}
@@ -15,11 +16,8 @@ invariant-loop-part g l =
     × (has_failed l.writer ≡ false)
     × ((low : ℕ) × AreOrdered low l.rest None)
     × ReadsOnly g.B.Backend.told g.B.Backend.versions g.B.Backend.faults g.B.Backend.steady l.fn.source l.source
-    × (is_some (g.M.Backend.told l.medium) ≡ is_some (g.M.Backend.told l.fn.medium))
-    × (g.M.Backend.faults l.fn.medium ≤ g.M.Backend.faults l.medium)
-    × (g.M.Backend.reads l.fn.medium ≤ g.M.Backend.reads l.medium)
+    × KeepsMedium g.M.Backend.told g.M.Backend.versions g.M.Backend.reads g.M.Backend.faults g.M.Backend.steady l.fn.medium l.medium
     × (g.M.Backend.reads l.medium + tile_count l.rest ≤ g.M.Backend.reads l.fn.medium + tile_count l.parts)
-    × (g.M.Backend.steady l.fn.medium → g.M.Backend.steady l.medium × (g.M.Backend.faults l.medium ≡ g.M.Backend.faults l.fn.medium))
     × (g.B.Backend.reads l.source + length l.rest ≤ g.B.Backend.reads l.fn.source + length l.parts)
 
 abbrev pub decreases-loop-part : goal.decreases-loop-part

@@ -7,6 +7,6 @@ use Rattle.tile_import.proofs.storing.store_tiles.Goals as goal
 pub returns-clause-put : goal.returns-clause-put
 returns-clause-put g c = λ told.
     let b = c.requires.base told in
-    are_put c.args.base c.args.tiles.now.state.tiles (g.S.TileStore.told c.args.store.now) (g.S.TileStore.told c.commit_loaded.new.store) b.clean b.loaded b.named c.requires.board c.in_ok-put.ensures.value.0
-    (g.met.S.TileStore.sound c.commit_loaded.new.store (c.commit_loaded.ensures.kept.tells ∙ told))
-    (subst (λ (x : Held). MakesChanges x (g.S.TileStore.told c.args.store.now) (g.S.TileStore.told c.commit_loaded.new.store)) c.in_ok-put.ensures.value.1 (c.in_ok-commit_loaded.ensures.committed told))
+    are_put c.args.base c.args.tiles.state.tiles (g.S.TileStore.told c.args.store.now) (g.S.TileStore.told c.commit_set.new.store) b.clean b.loaded b.named c.requires.board c.in_ok-put.ensures.value.0
+    (g.met.S.TileStore.sound c.commit_set.new.store (c.commit_set.ensures.kept.tells ∙ told))
+    (subst (λ (x : Held). MakesChanges x (g.S.TileStore.told c.args.store.now) (g.S.TileStore.told c.commit_set.new.store)) c.in_ok-put.ensures.value.1 (c.in_ok-commit_set.ensures.committed told))

@@ -4,9 +4,6 @@ use Rattle.pm_walk.specs.Collecting.{AreOrdered}
 use Rattle.pm_walk.proofs.CollectingLemmas.{ordered_later, ordered_push}
 use Rattle.pm_walk.proofs.parts.Collected.add_part.Goals as goal
 
-pub returns-in_default-clause-ordered : goal.returns-in_default-clause-ordered
-returns-in_default-clause-ordered c = λ before. ordered_later 0 c.args.self.now.parts.items c.args.part.tile_id (c.args.part.tile_id + c.args.part.run_length) (omega arith) before
-
 pub returns-else-is_some-clause-ordered : goal.returns-else-is_some-clause-ordered
 returns-else-is_some-clause-ordered c = λ before. ordered_later 0 c.args.self.now.parts.items c.args.part.tile_id (c.args.part.tile_id + c.args.part.run_length) (omega arith) before
 

@@ -1,26 +1,30 @@
--- The tile entries of a walk that isn't refused pass their tests.
-use Rattle.std.proofs.Common.{◌≡◌, ◌≢◌, ◌∙◌, ◌+◌, ◌≤◌, ℕ, zero, suc, Bool, true, false, max, nat_le, nat_eq, if◌then◌else◌, List, [], ◌∷◌, ◌++◌, Option, None, Some, IsSome, Result, Ok, Err, refl, ap, sym, subst, arith}
+-- The tile entries of a whole walk that isn't refused pass their tests.
+use Rattle.std.proofs.Common.{◌≡◌, ◌≢◌, ◌∙◌, ◌+◌, ◌≤◌, ℕ, zero, suc, Bool, true, false, nat_eq, if◌then◌else◌, List, [], ◌∷◌, ◌++◌, Option, None, Some, IsSome, Result, Ok, Err, refl, ap, sym, subst, arith}
 use Rattle.std.proofs.lemmas.Bool.Decides.{nat_tests}
 use Rattle.std.proofs.lemmas.Bool.{true≢false}
 use Rattle.std.proofs.lemmas.Option.{none-some}
-use Rattle.tile_ids.specs.declared.id.TheConstants.{MAX_TILE_ID}
 use Rattle.pm_format.specs.declared.error.PmtError.{PmtError}
 use Rattle.pm_format.specs.declared.header.Header.{Header}
 use Rattle.pm_format.specs.Directory.{Entry}
-use Rattle.pm_format.specs.LookUp.{leaf_of}
+use Rattle.pm_format.specs.LookUp.{leaf_of, range_of}
 use Rattle.pm_format.specs.Opened.{Opened}
-use Rattle.pm_walk.proofs.CoveringLemmas.{le_by}
 use Rattle.pm_walk.proofs.OrderLemmas.{unrefused, walked_ordered}
-use Rattle.pm_walk.proofs.TestingLemmas.{tile_stands}
+use Rattle.pm_walk.proofs.TestingLemmas.{run_shallow, tile_stands}
 use Rattle.pm_walk.proofs.WalkingLemmas.{walked_is}
-use Rattle.pm_walk.specs.Collecting.{AreOrdered}
+use Rattle.pm_walk.specs.Collecting.{AllShallow, AreOrdered}
 use Rattle.pm_walk.specs.Intervals.{stays_within}
 use Rattle.pm_walk.specs.Parts.{full}
 use Rattle.pm_walk.specs.Walk.{Walked, all_walked, end_before, entry_walk, leaf_walk, nothing_met, range_refusal, run_refusal, tile_refusal, tile_walk, walk_each, walked}
-use Rattle.pm_walk.specs.declared.error.WalkError.TheVariants.{Archive, InvalidTileId, TooDeep}
+use Rattle.pm_walk.specs.declared.error.WalkError.TheVariants.{Archive}
 use Rattle.pm_walk.specs.declared.extent.Extent.TheVariants.{Whole}
-use Rattle.pm_walk.specs.declared.extent.TheConstants.{FIRST_TOO_DEEP}
-use Rattle.tile_import.specs.Putting.{AllShallow, AllThere, IsShallow, contents_at}
+
+-- the contents of these lie in the archive, and are at least one byte
+abbrev pub contents_at : Header → List ℕ → Entry → Option (List ℕ)
+contents_at h b e = range_of b (h.data_offset + e.offset) e.length
+
+abbrev pub AllThere : Header → List ℕ → List Entry → Type 0
+AllThere h b [] = Unit {0}
+AllThere h b (e ∷ es) = IsSome (contents_at h b e) × (e.length ≢ 0) × AllThere h b es
 
 abbrev pub AllPass : Header → List ℕ → List Entry → Type 0
 AllPass h b [] = Unit {0}
@@ -82,24 +86,6 @@ walked_passes (suc n) h b low limit es fine =
     subst (λ w. AllPass h b w.entries) (sym same)
     (each_passes h b (suc n) (entry_walk Whole (Some (walked Whole n h b [])) h b []) (entry_passes (Some (walked Whole n h b [])) h b (deeper_passes h b (walked Whole n h b []) (walked_passes n h b))) None low limit es (sym (ap (λ w. w.refusal) same) ∙ fine))
 
--- what the tests of an entry that has bytes say
-run_passes : (e : Entry) → nat_eq e.length 0 ≡ false → run_refusal e ≡ None → IsShallow e
-run_passes e some fine = by_end (nat_le (e.tile_id + e.run_length) (MAX_TILE_ID + 1)) fine
-  where
-    by_deep : (t : Bool) → nat_le (e.tile_id + e.run_length) FIRST_TOO_DEEP ≡ t → (if t then None else Some (TooDeep (max e.tile_id FIRST_TOO_DEEP))) ≡ None → IsShallow e
-    by_deep true at fine = le_by (e.tile_id + e.run_length) FIRST_TOO_DEEP at
-    by_deep false at fine = absurd (none-some (TooDeep (max e.tile_id FIRST_TOO_DEEP)) (sym fine))
-
-    by_empty : (t : Bool) → nat_eq e.length 0 ≡ t → (if t then None else (if nat_le (e.tile_id + e.run_length) FIRST_TOO_DEEP then None else Some (TooDeep (max e.tile_id FIRST_TOO_DEEP)))) ≡ None → IsShallow e
-    by_empty true at fine = absurd (true≢false (sym at ∙ some))
-    by_empty false at fine = by_deep (nat_le (e.tile_id + e.run_length) FIRST_TOO_DEEP) refl fine
-
-    by_end : (t : Bool)
-        → (if t then (if nat_eq e.length 0 then None else (if nat_le (e.tile_id + e.run_length) FIRST_TOO_DEEP then None else Some (TooDeep (max e.tile_id FIRST_TOO_DEEP)))) else Some (InvalidTileId (max e.tile_id (MAX_TILE_ID + 1)))) ≡ None
-        → IsShallow e
-    by_end true fine = by_empty (nat_eq e.length 0) refl fine
-    by_end false fine = absurd (none-some (InvalidTileId (max e.tile_id (MAX_TILE_ID + 1))) (sym fine))
-
 there_passes : (r : Option (List ℕ)) (e : Entry) → range_refusal r e ≡ None → IsSome r × (run_refusal e ≡ None)
 there_passes None e fine = absurd (none-some _ (sym fine))
 there_passes (Some bytes) e fine = (refl, fine)
@@ -122,7 +108,7 @@ full_shallow h b (e ∷ es) p = by_empty (nat_eq e.length 0) refl (full_shallow 
   where
     by_empty : (t : Bool) → nat_eq e.length 0 ≡ t → AllShallow (full es) → AllShallow ((if t then [] else e ∷ []) ++ full es)
     by_empty true is rest = rest
-    by_empty false is rest = (run_passes e is (there_passes (contents_at h b e) e p.0).1, rest)
+    by_empty false is rest = (run_shallow e is (there_passes (contents_at h b e) e p.0).1, rest)
 
 -- entries that have bytes are in order where all are
 within_less : (end : Option ℕ) (low first : ℕ) → low ≤ first → stays_within end first ≡ true → stays_within end low ≡ true
