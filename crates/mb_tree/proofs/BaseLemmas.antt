@@ -60,11 +60,11 @@ pub new_from : (t : Tables) (h : Held) → IsSound t → t.descriptions ≡ [] �
 new_from t h sound e is =
     subst (λ (u : Tables). IsLoadedFrom u h) (made_new t e) (subst (IsLoadedFrom (created t (set_tables Flat))) (sym is) (from_empty (created t (set_tables Flat)) Flat Md5 (new_empty t sound e)))
 
-new_due : (t : Tables) → t.descriptions ≡ [] → base_of t ≡ Ok (empty_state Flat Md5)
+pub new_due : (t : Tables) → t.descriptions ≡ [] → base_of t ≡ Ok (empty_state Flat Md5)
 unfolding base_of
 new_due t e = ap (λ ds. base_by ds t) e
 
-some_due : (t : Tables) → (t.descriptions ≡ [] → ⊥) → base_of t ≡ then (state_of t) flat_alone
+pub some_due : (t : Tables) → (t.descriptions ≡ [] → ⊥) → base_of t ≡ then (state_of t) flat_alone
 unfolding base_of
 some_due t some = by t.descriptions some
   where

@@ -28,7 +28,7 @@ is_some_cond true x o = refl
 is_some_cond false x o = refl
 
 -- whether a place is there after one more tile
-has_after : (tiles : TileSet) (t : NewTile) (q : Place) → contains_key (insert tiles (place_in t) (Some t.tile_data)) q ≡ (eq_by_cmp place_cmp (place_in t) q || contains_key tiles q)
+pub has_after : (tiles : TileSet) (t : NewTile) (q : Place) → contains_key (insert tiles (place_in t) (Some t.tile_data)) q ≡ (eq_by_cmp place_cmp (place_in t) q || contains_key tiles q)
 has_after tiles t q =
     ap is_some (get-insert places_total tiles (place_in t) (Some t.tile_data) q)
     ∙ (is_some_cond (eq_by_cmp place_cmp q (place_in t)) (Some t.tile_data) (get tiles q)
@@ -41,7 +41,7 @@ four false true false y = refl
 four false false true y = refl
 four false false false y = refl
 
-any_after : (tiles : TileSet) (t : NewTile) (ts : List NewTile) → list_any (λ u. contains_key (insert tiles (place_in t) (Some t.tile_data)) (place_in u)) ts ≡ (list_any (eq_by_cmp place_cmp (place_in t)) (map place_in ts) || list_any (λ u. contains_key tiles (place_in u)) ts)
+pub any_after : (tiles : TileSet) (t : NewTile) (ts : List NewTile) → list_any (λ u. contains_key (insert tiles (place_in t) (Some t.tile_data)) (place_in u)) ts ≡ (list_any (eq_by_cmp place_cmp (place_in t)) (map place_in ts) || list_any (λ u. contains_key tiles (place_in u)) ts)
 any_after tiles t [] = refl
 any_after tiles t (u ∷ us) =
     ap₂ (λ a b. a || b) (has_after tiles t (place_in u)) (any_after tiles t us)

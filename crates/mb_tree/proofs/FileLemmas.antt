@@ -70,7 +70,7 @@ all_read scheme shows told paths i base now settled end same so = record {
 }
 
 -- the files of a tree's paths
-some_is : {A : Type 0} (x y : A) → Some x ≡ Some y → x ≡ y
+pub some_is : {A : Type 0} (x y : A) → Some x ≡ Some y → x ≡ y
 some_is x y e = cc
 
 same_files : (told : Files) (files others : List File) → paths_in files ≡ paths_in others → All (λ f. get told f.0 ≡ Some f.1) files → All (λ f. get told f.0 ≡ Some f.1) others → files ≡ others
@@ -124,15 +124,15 @@ as_many scheme (f ∷ fs) = counted_one scheme f.1 (tile_path f.0) (batch_of sch
 abbrev by_bytes : List ℕ → List ℕ → Ordering
 by_bytes = slice_cmp nat_cmp
 
-first_part : (a b : Bool) → T (a && b) → T a
+pub first_part : (a b : Bool) → T (a && b) → T a
 first_part true b h = tt
 first_part false b h = absurd h
 
-second_part : (a b : Bool) → T (a && b) → T b
+pub second_part : (a b : Bool) → T (a && b) → T b
 second_part true b h = h
 second_part false b h = absurd h
 
-apart_of : (o : Ordering) → T (is_lt o) → is_eq o ≡ false
+pub apart_of : (o : Ordering) → T (is_lt o) → is_eq o ≡ false
 apart_of Less h = refl
 apart_of Equal h = absurd h
 apart_of Greater h = absurd h

@@ -11,3 +11,9 @@ pub mod PackLemmas
 pub mod ZoomLemmas
 pub mod BaseLemmas
 pub mod AnswerLemmas
+pub mod WrittenLemmas
+pub mod PlainLemmas
+pub mod PlaceLemmas
+pub mod RoundTripLemmas
+pub mod AloneLemmas
+pub mod LawLemmas

@@ -1,5 +1,5 @@
 -- A set with the tiles of files: that it was loaded from the tables of its base, and what its tables hold after the commit.
-use Rattle.std.proofs.Common.{◌≡◌, ◌∙◌, ap, sym, subst, ℕ, ◌<◌, ◌^◌, ◌-◌, length, filter_map, Bool, true, false, ◌&&◌, not, List, [], ◌∷◌, ◌++◌, Option, Some, None, cond, nat_lt, refl, map, arith, Ok}
+use Rattle.std.proofs.Common.{◌≡◌, ◌∙◌, ap, sym, subst, ℕ, ◌<◌, ◌^◌, ◌-◌, length, filter_map, Bool, true, false, ◌&&◌, ◌||◌, not, List, [], ◌∷◌, ◌++◌, Option, Some, None, cond, nat_lt, refl, map, arith, Ok}
 use Rattle.std.specs.Prelude.{All, IfSome, codes, is_some, pos, option_and_then, option_map, option_to_list}
 use Rattle.std.specs.List.{cons_option}
 use Rattle.std.specs.Option.{option_or}
@@ -30,6 +30,7 @@ use Rattle.mb_metadata.specs.ZoomText.{zoom_at}
 use Rattle.mb_metadata.specs.Zooms.{span, zooms_of}
 use Rattle.mb_metadata.specs.declared.zoom_choice.UpdateZoomType.TheVariants.{Reset}
 use Rattle.mb_store.specs.Store.{IsSound}
+use Rattle.mb_tables.specs.Cell.{cell_eq}
 use Rattle.mb_tables.specs.Kind.{is_normalized}
 use Rattle.mb_tables.specs.Refusals.{first_refusal, first_refused, unless}
 use Rattle.mb_tables.specs.Table.{Tables}
@@ -70,7 +71,7 @@ pub all_fit : (paths : List (List ℕ)) → first_refused (path_refused (first_f
 all_fit paths h = all_fit_by (first_format paths) paths h
 
 -- a coordinate stands on the board, whichever way its rows are counted
-board : (scheme : TileScheme) (bytes : List ℕ) (t : TilePath) → is_coord (as_given t) ≡ true → IsOnBoard (place_in (new_tile scheme bytes t))
+pub board : (scheme : TileScheme) (bytes : List ℕ) (t : TilePath) → is_coord (as_given t) ≡ true → IsOnBoard (place_in (new_tile scheme bytes t))
 board scheme bytes t h =
     let two = and_parts (nat_lt t.zoom 31 && nat_lt t.column (2 ^ t.zoom)) (nat_lt t.row (2 ^ t.zoom)) h in
     let one = and_parts (nat_lt t.zoom 31) (nat_lt t.column (2 ^ t.zoom)) two.0 in
@@ -114,18 +115,20 @@ format_named : (h : Held) (o : Option FileFormat) → NamesAlgorithm h.state →
 format_named h None n = n
 format_named h (Some format) n = still_named h.state (with_format h (Some format)).state refl (ap (λ (o : Option (Option (List ℕ))). option_and_then (λ (value : Option (List ℕ)). value) o) (get-insert nat_list_cmp_total h.state.metadata (codes "format") (Some (format_word format)) algorithm_name)) n
 
-two_names : (x y : Bool) (t u : Option (List ℕ)) → is_edited (option_to_list (cond x (Some (record { name = codes "minzoom"; text = t })) None) ++ option_to_list (cond y (Some (record { name = codes "maxzoom"; text = u })) None)) (Text algorithm_name) ≡ false
-two_names true true t u = refl
-two_names true false t u = refl
-two_names false true t u = refl
-two_names false false t u = refl
+-- edits of both zooms leave every other name
+module _ (q : List ℕ) (least : cell_eq (Text q) (Text (codes "minzoom")) ≡ false) (greatest : cell_eq (Text q) (Text (codes "maxzoom")) ≡ false) where
+  two_names : (x y : Bool) (t u : Option (List ℕ)) → is_edited (option_to_list (cond x (Some (record { name = codes "minzoom"; text = t })) None) ++ option_to_list (cond y (Some (record { name = codes "maxzoom"; text = u })) None)) (Text q) ≡ false
+  two_names true true t u = (λ i. least i || (greatest i || false))
+  two_names true false t u = (λ i. least i || false)
+  two_names false true t u = (λ i. greatest i || false)
+  two_names false false t u = refl
 
-unnamed : (names : Names) (zooms : Option (ℕ × ℕ)) → is_edited (zoom_edits Reset names zooms) (Text algorithm_name) ≡ false
-unnamed names (Some zooms) = two_names (is_set Reset false (zoom_at names (codes "minzoom")) zooms.0) (is_set Reset true (zoom_at names (codes "maxzoom")) zooms.1) (Some (decimal zooms.0)) (Some (decimal zooms.1))
-unnamed names None = two_names (contains_key names (codes "minzoom")) (contains_key names (codes "maxzoom")) None None
+  pub unnamed : (names : Names) (zooms : Option (ℕ × ℕ)) → is_edited (zoom_edits Reset names zooms) (Text q) ≡ false
+  unnamed names (Some zooms) = two_names (is_set Reset false (zoom_at names (codes "minzoom")) zooms.0) (is_set Reset true (zoom_at names (codes "maxzoom")) zooms.1) (Some (decimal zooms.0)) (Some (decimal zooms.1))
+  unnamed names None = two_names (contains_key names (codes "minzoom")) (contains_key names (codes "maxzoom")) None None
 
 zooms_named : (h : Held) → NamesAlgorithm h.state → NamesAlgorithm (with_zooms h).state
-zooms_named h n = still_named h.state (with_zooms h).state refl (ap (λ (o : Option (Option (List ℕ))). option_and_then (λ (value : Option (List ℕ)). value) o) (get_other h.state.metadata (update_edits Reset h.state) algorithm_name (unnamed h.state.metadata (span (zooms_of h.state.tiles))))) n
+zooms_named h n = still_named h.state (with_zooms h).state refl (ap (λ (o : Option (Option (List ℕ))). option_and_then (λ (value : Option (List ℕ)). value) o) (get_other h.state.metadata (update_edits Reset h.state) algorithm_name (unnamed algorithm_name refl refl h.state.metadata (span (zooms_of h.state.tiles))))) n
 
 pub packed_named : (scheme : TileScheme) (files : List File) (h : Held) → NamesAlgorithm h.state → NamesAlgorithm (held_packed scheme files h).state
 unfolding held_packed

@@ -1,10 +1,12 @@
 -- What std reads as a number of so many bits.
-use Rattle.std.proofs.Common.{◌≡◌, ◌∙◌, ap, sym, ℕ, ◌<◌, ◌^◌, ◌&&◌, Bool, true, false, cond, List, Result, Ok, Err, Some, None, nat_lt, refl, length}
+use Rattle.std.proofs.Common.{◌≡◌, ◌≢◌, ◌∙◌, ap, sym, ℕ, ◌<◌, ◌^◌, ◌&&◌, Bool, true, false, cond, List, [], ◌∷◌, Result, Ok, Err, Some, None, get_or, nat_lt, refl, length, arith}
+use Rattle.std.specs.Fmt.{decimal}
 use Rattle.std.specs.Result.{OkIff, result_ok}
 use Rattle.std.specs.Str.{all_ascii_digits}
 use Rattle.std.specs.Str.Parse.{IsNumeral, ParsesUnsigned, digits_value, without_leading_plus}
 use Rattle.std.proofs.lemmas.Bool.{and_from, and_parts, lt-ltb, ltb-true, true≢false}
-use Rattle.std.proofs.lemmas.Str.Parse.{IsNumeralModel, numerals_by_value, tells_all_ascii_digits}
+use Rattle.std.proofs.lemmas.Fmt.{decimal_is_IsNumeral}
+use Rattle.std.proofs.lemmas.Str.Parse.{IsNumeralModel, numerals_by_value, tells_all_ascii_digits, without_leading_plus_none}
 use Rattle.mb_tree.specs.TilePath.{digits_within, number_within}
 
 own : IsNumeralModel (λ ds. all_ascii_digits ds ≡ true) (digits_value 10)
@@ -37,3 +39,19 @@ by bits ds (Err x) false e h = sym (of_digits bits ds false e)
 pub number_read : {E : Type 0} (bits : ℕ) (text : List ℕ) (r : Result ℕ E) → ParsesUnsigned bits 10 text r → result_ok r ≡ number_within bits text
 unfolding number_within
 number_read bits text r h = by bits (without_leading_plus text) r (is_small bits (without_leading_plus text)) refl h
+
+-- what is printed of a number is digits, and is read as it
+pub printed_digits : (n : ℕ) → n < 2 ^ 64 → all_ascii_digits (decimal n) ≡ true
+printed_digits n wide = own.from (decimal n) (decimal_is_IsNumeral n wide).0.1
+
+no_plus : (ds : List ℕ) → all_ascii_digits ds ≡ true → 0 < length ds → get_or ds 0 0 ≢ 43
+no_plus [] h lt = absurd (omega (arith, lt))
+no_plus (c ∷ cs) h lt = λ e. let digit = (tells_all_ascii_digits.parts c cs h).0 in let plus : c ≡ 43 = e in omega (arith, digit.0, plus)
+
+pub number_back : (bits n : ℕ) → n < 2 ^ bits → n < 2 ^ 64 → number_within bits (decimal n) ≡ Some n
+unfolding number_within
+number_back bits n lt wide =
+    let printed = decimal_is_IsNumeral n wide in
+    let low : digits_value 10 (decimal n) < 2 ^ bits = omega (arith, printed.1, lt) in
+    ap (digits_within bits) (without_leading_plus_none (decimal n) (no_plus (decimal n) (printed_digits n wide) printed.0.0))
+    ∙ (of_digits bits (decimal n) true (small_from bits (decimal n) (printed.0, low)) ∙ ap Some printed.1)

@@ -9,7 +9,7 @@ use Rattle.std.proofs.lemmas.List.{get_or-drop, length-drop}
 use Rattle.std.proofs.lemmas.Str.Pattern.{NoCharPasses-char}
 use Rattle.std.proofs.lemmas.Str.{len_utf8_ascii}
 
-none_below : (c : ℕ) (text : List ℕ) (n : ℕ) → ((i : ℕ) → i < n → get_or text i 0 ≢ c) → rfind_below c text n ≡ None
+pub none_below : (c : ℕ) (text : List ℕ) (n : ℕ) → ((i : ℕ) → i < n → get_or text i 0 ≢ c) → rfind_below c text n ≡ None
 none_below c text zero h = refl
 none_below c text (suc n) h = by (get_or text n 0 == c) refl (none_below c text n (λ i lt. h i (omega arith)))
   where
@@ -17,7 +17,7 @@ none_below c text (suc n) h = by (get_or text n 0 == c) refl (none_below c text 
     by true e rest = absurd (h n (omega arith) (eqb-true (get_or text n 0) c e))
     by false e rest = rest
 
-last_below : (c : ℕ) (text : List ℕ) (k n : ℕ) → k < n → get_or text k 0 ≡ c → ((i : ℕ) → k < i → i < n → get_or text i 0 ≢ c) → rfind_below c text n ≡ Some k
+pub last_below : (c : ℕ) (text : List ℕ) (k n : ℕ) → k < n → get_or text k 0 ≡ c → ((i : ℕ) → k < i → i < n → get_or text i 0 ≢ c) → rfind_below c text n ≡ Some k
 last_below c text k zero lt at h = absurd (omega arith)
 last_below c text k (suc n) lt at h = by (get_or text n 0 == c) refl (cases_eq k n) (λ less. last_below c text k n less at (λ i a b. h i a (omega arith)))
   where

@@ -160,7 +160,7 @@ bytes_of : (o : Option (List ℕ)) (bytes : List ℕ) → blob_cell o ≡ Blob b
 bytes_of (Some b) bytes h = let same : b ≡ bytes = cc in ap Some same
 bytes_of None bytes h = cc
 
-back : (side row : ℕ) → row < side → side - 1 - (side - 1 - row) ≡ row
+pub back : (side row : ℕ) → row < side → side - 1 - (side - 1 - row) ≡ row
 back side row lt = omega arith
 
 same_path : (scheme : TileScheme) (format : FileFormat) (c : Coord) → IsCoord c → path_at scheme format (place_at c) ≡ path_text format c.z c.x (turned scheme c.z c.y)

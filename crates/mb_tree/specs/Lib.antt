@@ -12,3 +12,4 @@ pub mod PackSteps
 pub mod ZoomSteps
 pub mod Unpacked
 pub mod UnpackSteps
+pub mod RoundTrip

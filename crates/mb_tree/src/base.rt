@@ -25,7 +25,8 @@ pub(crate) struct Base {
 // The test that a set is flat.
 fn test_flat(layout: MbtType) -> MbtResult<()>
     ensures flat { IfOk result (λ _. layout ≡ Flat) }
-    ensures other { IfErr result (λ e. (layout ≢ Flat) × (e ≡ MbtError.MismatchedTargetType layout Flat)) }
+    ensures other { IfErr result (λ e. (layout ≢ Flat)
+        × (e ≡ MbtError.MismatchedTargetType layout Flat)) }
 {
     match layout {
         MbtType::Flat => Ok(()),

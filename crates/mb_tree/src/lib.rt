@@ -5,6 +5,7 @@ mod base;
 mod folder_files;
 mod folder_tree;
 mod format;
+pub mod laws;
 mod mem_tree;
 mod naming;
 mod pack_tree;

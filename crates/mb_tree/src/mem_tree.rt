@@ -58,8 +58,8 @@ fn put(
     path: &str,
     bytes: &[u8],
 ) -> Result<(), OutOfMemory>
-    ensures ok { OnOk result (files_of_list files.new.entries ≡ insert (files_of_list files.old.entries)
-        path.now bytes.now) }
+    ensures ok { OnOk result (files_of_list files.new.entries
+        ≡ insert (files_of_list files.old.entries) path.now bytes.now) }
     ensures err { OnErr result (files_of_list files.new.entries ≡ files_of_list files.old.entries) }
 {
     let path = owned(alloc, path)?;

@@ -24,7 +24,8 @@ fn pack_loaded<T: TileTree>(
     base: Loaded,
     scheme: TileScheme,
 ) -> MbtResult<Loaded>
-    ensures refused { IfErr result (RefusesPaths scheme (T.tells tree.old) (T.told tree.old) base.state) }
+    ensures refused { IfErr result (RefusesPaths scheme (T.tells tree.old) (T.told tree.old)
+        base.state) }
     ensures packed { IfOk result (Packs scheme (T.tells tree.old) (T.told tree.old) base) }
     ensures unfaulted { IfErr result (λ e. e ≢ MbtError.StoreFault) }
     ensures kept { ReadsOnly T.told T.tells T.faults T.steady tree.old tree.new }

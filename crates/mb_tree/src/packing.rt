@@ -71,7 +71,8 @@ pub(crate) fn put_files<T: TileTree>(
     requires there { T.tells tree.old ≡ true →
         All (λ path. contains_key (T.told tree.old) path ≡ true) paths.now }
     requires fit { All IsFit paths.now }
-    ensures put { IfOk result (AreAllRead scheme (T.tells tree.old) (T.told tree.old) paths.now base) }
+    ensures put { IfOk result (AreAllRead scheme (T.tells tree.old) (T.told tree.old)
+        paths.now base) }
     ensures unfaulted { IfErr result (λ e. e ≢ MbtError.StoreFault) }
     ensures wanting { IfErr result (λ e. is_wanting e ≡ true) }
     ensures kept { ReadsOnly T.told T.tells T.faults T.steady tree.old tree.new }
@@ -87,7 +88,8 @@ pub(crate) fn put_files<T: TileTree>(
 
 /// The test that no tile of a path was in the set before or comes twice, by how many tiles the set had and has.
 pub(crate) fn test_apart(set: &Loaded, before: usize, paths: &[TextVal]) -> MbtResult<()>
-    ensures { (scheme : TileScheme) (base : Held) (files : List File) → before ≡ len base.state.tiles →
+    ensures { (scheme : TileScheme) (base : Held) (files : List File)
+        → before ≡ len base.state.tiles →
         paths_in files ≡ paths.now → set.now ≡ tiles_in base (batch_of scheme files) →
         Tests (duplicates Abort base.state.tiles (batch_of scheme (empty_files paths.now))) result }
 {
