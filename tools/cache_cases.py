@@ -4,8 +4,6 @@ import random
 
 from rows import flag, option
 
-# whether caches are thrown out by size
-SIZES = False
 ROUND = 64
 U64 = 2 ** 64 - 1
 
@@ -165,8 +163,6 @@ class Lines:
     def call(self, name, *given, how=''):
         """A call of the open cache, or of one that is opened for it (`once `, `over `)."""
         cache = self.cache
-        if name == 'size' and not SIZES:
-            return ''
         if how:
             try:
                 cache.open()
@@ -364,9 +360,8 @@ def nulls(rows):
     lines.say_size()
     lines.call('expired', 62)
     lines.say_rows()
-    if SIZES:
-        lines.call('size', 0)
-        lines.say_rows()
+    lines.call('size', 0)
+    lines.say_rows()
 
 
 def moments(rows):
@@ -407,8 +402,6 @@ def life(rows, kind, made, seed, calls, fails):
     lines.open()
     for number in range(calls):
         name, *given = random_call(chance)
-        if name == 'size' and not SIZES:
-            name, given = 'meta', ()
         how = chance.choice(('once ', 'over ')) if chance.random() < 0.05 else ''
         if fails and (chance.random() < 0.08 or name == 'size' and chance.random() < 0.3):
             each_fails(lines, chance, name, given)
@@ -454,16 +447,31 @@ def opening_fails(rows):
             lines.say_rows()
 
 
+def writing_fails(rows):
+    """Each call of the store fails while a tile is kept, dated or thrown out, the last of them the commit: the rows are those before. Then the call is made."""
+    for name, *given in (('set', 3, 1, 2, b'new', 7, 8, None), ('set', 2, 1, 2, b'other', 9, None, 't'), ('update', 2, 1, 2, 1, 2, 'w'), ('expired', 70)):
+        lines = Lines(rows, 'layout cache', True)
+        lines.push((2, 1, 1), (5, 60, 'v', b'one'))
+        lines.open()
+        for at in range(1, 9):
+            lines.fail(lines.store.asked + at)
+            said = lines.call(name, *given)
+            lines.fail()
+            lines.say_rows()
+            if 'StoreFault' not in said:
+                break
+
+
 def write(rows):
     rows.rows_line = lambda call, shown: rows.ROWS.rows.append((call, shown))
     moments(rows)
     for kind, made in (('memory', False), ('layout cache', True), ('database', True)):
         first_tile(rows, kind, made)
         expiry(rows, kind, made)
-        if SIZES:
-            sizes(rows, kind, made)
+        sizes(rows, kind, made)
     refusals(rows)
     nulls(rows)
     opening_fails(rows)
+    writing_fails(rows)
     life(rows, 'memory', False, 1, 2000, True)
     life(rows, 'database', True, 2, 2000, False)

@@ -52,6 +52,12 @@ fn expired<S: TileStore>(out: &mut String, cache: &mut MbtilesCache<S>, now: i64
     said_value(out, cache.purge_expired(UnixSeconds(now)))
 }
 
+fn size<S: TileStore>(out: &mut String, cache: &mut MbtilesCache<S>, most: u64) -> Option<()>
+    requires { S.tells cache.old.store.now ≡ true → Agrees (S.told cache.old.store.now) cache.old.state }
+{
+    said_value(out, cache.purge_cache_to_size(most))
+}
+
 fn call_of<S: TileStore>(
     alloc: Global,
     out: &mut String,
@@ -66,6 +72,7 @@ fn call_of<S: TileStore>(
         "get" => get(alloc, out, cache, at_in(words)?),
         "tile" => tile(alloc, out, cache, at_in(words)?),
         "expired" => expired(out, cache, number(words)?),
+        "size" => size(out, cache, number(words)?),
         "meta" => said::metadata(out, cache.get_metadata()),
         _ => None,
     }

@@ -81,6 +81,19 @@ fn expired<S: TileStore>(
     said_value(out, state.purge_expired(store, UnixSeconds(now)))
 }
 
+fn size<S: TileStore>(
+    out: &mut String,
+    store: &mut S,
+    state: &mut CacheState,
+    most: u64,
+) -> Option<()>
+    requires agrees { S.tells store.old ≡ true → Agrees (S.told store.old) state.old }
+    ensures tells { S.tells store.new ≡ S.tells store.old }
+    ensures agrees { S.tells store.old ≡ true → Agrees (S.told store.new) state.new }
+{
+    said_value(out, state.purge_cache_to_size(store, most))
+}
+
 fn meta<S: TileStore>(out: &mut String, store: &mut S, state: &CacheState) -> Option<()>
     ensures tells { S.tells store.new ≡ S.tells store.old }
     ensures told { S.told store.new ≡ S.told store.old }
@@ -107,6 +120,7 @@ pub fn answer<S: TileStore>(
         "get" => get(alloc, out, store, state, at_in(words)?),
         "tile" => tile(alloc, out, store, state, at_in(words)?),
         "expired" => expired(out, store, state, number(words)?),
+        "size" => size(out, store, state, number(words)?),
         "meta" => meta(out, store, state),
         _ => None,
     }

@@ -100,7 +100,7 @@ back_again (x ∷ xs) k new = by (entry_cmp k x) refl (or_parts (eq_by_cmp entry
     by Greater f parts next = ap (λ b. cond b (insert_key entry_cmp xs k) (x ∷ remove_key (is_at (entry_cmp k)) (insert_key entry_cmp xs k))) parts.0 ∙ ap (λ ys. x ∷ ys) (next parts.1)
 
 -- what stands behind an entry in order isn't that entry
-after_first : (x : Entry) (xs : List Entry) (e : Entry) → AllByRecursion (λ y. entry_cmp x y ≡ Less) xs → eq_by_cmp entry_cmp e x ≡ true → has_entry xs e ≡ false
+pub after_first : (x : Entry) (xs : List Entry) (e : Entry) → AllByRecursion (λ y. entry_cmp x y ≡ Less) xs → eq_by_cmp entry_cmp e x ≡ true → has_entry xs e ≡ false
 after_first x [] e all h = refl
 after_first x (y ∷ ys) e all h =
     let same : e ≡ x = same_entry e x h in
@@ -110,6 +110,17 @@ pub sorted_drop : (n : ℕ) (es : List Entry) → IsStrictlySortedBy entry_cmp e
 sorted_drop zero es sorted = sorted
 sorted_drop (suc n) [] sorted = sorted
 sorted_drop (suc n) (e ∷ es) sorted = sorted_drop n es (sorted_tail entry_cmp e es sorted)
+
+pub sorted_take : (n : ℕ) (es : List Entry) → IsStrictlySortedBy entry_cmp es → IsStrictlySortedBy entry_cmp (take n es)
+unfolding IsStrictlySortedBy
+sorted_take zero es sorted = tt
+sorted_take (suc n) [] sorted = sorted
+sorted_take (suc n) (e ∷ es) sorted = (some n es sorted.0, sorted_take n es sorted.1)
+  where
+    some : (m : ℕ) (xs : List Entry) → AllByRecursion (λ y. entry_cmp e y ≡ Less) xs → AllByRecursion (λ y. entry_cmp e y ≡ Less) (take m xs)
+    some zero xs all = tt
+    some (suc m) [] all = all
+    some (suc m) (x ∷ xs) all = (all.0, some m xs all.1)
 
 -- the entries from one on are those that aren't before it
 pub has-drop : (n : ℕ) (es : List Entry) (e : Entry) → IsStrictlySortedBy entry_cmp es → has_entry (drop n es) e ≡ (not (has_entry (take n es) e) && has_entry es e)

@@ -11,6 +11,7 @@ use Rattle.std.proofs.lemmas.List.Quantifiers.{position-Some}
 use Rattle.mb_cache.proofs.EntryLemmas.{entry_itself, equal_entries, has-drop, same_entry, sorted_drop}
 use Rattle.mb_cache.proofs.ListLemmas.{alone_is, any_filter, any_same, filter_same, none_left}
 use Rattle.mb_cache.proofs.RowLemmas.{entry_there, entry_under, one_row, own_key, place_itself}
+use Rattle.mb_cache.proofs.SetLemmas.{set_after}
 use Rattle.mb_cache.specs.Entries.{IsCacheRow, entry_of, has_entry, place_in, row_place}
 use Rattle.mb_cache.specs.EntryOrder.{entry_cmp}
 use Rattle.mb_cache.specs.Evicting.{AreDeletes, IsDelete}
@@ -32,7 +33,7 @@ use Rattle.mb_tables.specs.Tiles.{place_cmp}
 use Rattle.mb_tables.specs.declared.cell.Cell.{Cell}
 use Rattle.mb_tables.specs.declared.description.TableDesc.{TableDesc}
 use Rattle.mb_tables.specs.declared.table.TableName.{TableName}
-use Rattle.mb_tables.specs.declared.table.TableName.TheVariants.{TileCache}
+use Rattle.mb_tables.specs.declared.table.TableName.TheVariants.{Metadata, TileCache}
 
 any_set : {X : Type 0} (p : X → Bool) (xs : List X) (i : ℕ) (y d : X) → p y ≡ p (get_or xs i d) → i < length xs → list_any p (set xs i y) ≡ list_any p xs
 any_set p [] i y d h far = absurd (omega arith)
@@ -174,8 +175,9 @@ module _ (t u : Tables) (es : List Entry) (n : ℕ) (changes : List Change) (agr
   pub evicted : u ≡ without gone t
   evicted = λ i. record { descriptions = made.descriptions i; rows = λ table. each_table table i }
 
-  pub agrees_after : Agrees u (drop n es)
-  agrees_after = record {
+  pub agrees_after : IsSound u → Agrees u (drop n es)
+  agrees_after sound_after = record {
+    set = set_after t u agrees.set made.descriptions (others Metadata refl) sound_after (ap (λ (ds : List TableDesc). is_keyed ds TileCache) made.descriptions ∙ agrees.keyed) (subst (λ rows. All IsCacheRow rows) (sym rows_left) (All-filter (λ row. not (has_entry gone (entry_of row))) IsCacheRow before agrees.rows));
     table = ap (λ (ds : List TableDesc). is_table ds TileCache) made.descriptions ∙ agrees.table;
     keyed = ap (λ (ds : List TableDesc). is_keyed ds TileCache) made.descriptions ∙ agrees.keyed;
     rows = subst (λ rows. All IsCacheRow rows) (sym rows_left) (All-filter (λ row. not (has_entry gone (entry_of row))) IsCacheRow before agrees.rows);

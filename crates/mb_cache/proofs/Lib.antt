@@ -1,9 +1,12 @@
 pub mod ListLemmas
 pub mod EntryLemmas
 pub mod RowLemmas
+pub mod SetLemmas
 pub mod PutLemmas
 pub mod EvictLemmas
 pub mod PurgeLemmas
+pub mod RoundLemmas
+pub mod SizeLemmas
 pub mod OpenLemmas
 pub mod StillLemmas
 pub mod ReadLemmas

@@ -14,7 +14,7 @@ use Rattle.mb_cache.proofs.RowLemmas.{entry_under, no_tile, own_key, place_is, p
 use Rattle.mb_cache.specs.Entries.{IsCacheRow, entry_at, entry_of, has_entry, place_in, row_place}
 use Rattle.mb_cache.specs.EntryOrder.{entry_cmp}
 use Rattle.mb_cache.specs.Opening.{begin_answer, begun_with, entry_in, is_bare, is_cache_layout, may_begin, open_answer}
-use Rattle.mb_cache.specs.State.{Agrees}
+use Rattle.mb_cache.specs.State.{Agrees, IsCacheSet}
 use Rattle.mb_cache.specs.declared.entries.Entry.{Entry}
 use Rattle.mb_constraints.specs.Described.{index_missing}
 use Rattle.mb_constraints.specs.TileRows.{bad_tile, dates_in, tile_in}
@@ -73,7 +73,7 @@ places_any s e (x ∷ xs) = by (eq_by_cmp place_cmp (place_in e) x.0) refl (plac
         let there : eq_by_cmp entry_cmp e (entry_in s x.0) ≡ false = false_from_ne_true (eq_by_cmp entry_cmp e (entry_in s x.0)) (λ h. false≢true (sym f ∙ (ap (eq_by_cmp place_cmp (place_in e)) (sym (placed_there x.0 (unwrap_or (option_map (λ (d : Dates). d.expires) (get s.dates x.0)) Null)) ∙ ap place_in (sym (same_entry e (entry_in s x.0) h))) ∙ place_itself (place_in e)))) in
         rw (f, there) next
 
-module _ (t : Tables) (h : Held) (es : List Entry) (loaded : IsLoadedFrom t h) (new : h.edited ≡ nothing_edited) (cache : h.state.layout ≡ Cache) (sound : IsSound t) (members : (e : Entry) → has_entry es e ≡ list_any (λ x. eq_by_cmp entry_cmp e (entry_in h.state x.0)) (entries h.state.tiles)) (ordered : IsStrictlySortedBy entry_cmp es) where
+module _ (t : Tables) (h : Held) (es : List Entry) (loaded : IsLoadedFrom t h) (new : h.edited ≡ nothing_edited) (cache : h.state.layout ≡ Cache) (sound : IsSound t) (members : (e : Entry) → has_entry es e ≡ list_any (λ x. eq_by_cmp entry_cmp e (entry_in h.state x.0)) (entries h.state.tiles)) (ordered : IsStrictlySortedBy entry_cmp es) (set : IsCacheSet t) where
   abbrev rows : List (List Cell)
   rows = t.rows TileCache
 
@@ -148,7 +148,7 @@ module _ (t : Tables) (h : Held) (es : List Entry) (loaded : IsLoadedFrom t h) (
       ∙ entry_under (place_in e) e true rows (place_itself (place_in e)) good_rows)))
 
   pub agrees_loaded : Agrees t es
-  agrees_loaded = record { table = table_is; keyed = keyed_is; rows = good_rows; members = member; ordered = ordered }
+  agrees_loaded = record { set = set; table = table_is; keyed = keyed_is; rows = good_rows; members = member; ordered = ordered }
 
 -- the tables that opening begins with are those of a cache
 pub begun_layout : (t : Tables) → may_begin t.descriptions ≡ true → layout_of (begun_with t).descriptions ≡ Some Cache

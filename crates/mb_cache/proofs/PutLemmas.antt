@@ -12,6 +12,7 @@ use Rattle.std.proofs.lemmas.Bool.{false≢true}
 use Rattle.std.proofs.lemmas.List.Elements.{All-cons, All-filter, All-head, All-nil, filter_passes}
 use Rattle.mb_cache.proofs.EntryLemmas.{back_again, equal_entries, has-insert_key, other_entry, placed_there, same_entry}
 use Rattle.mb_cache.proofs.RowLemmas.{entry_elsewhere, entry_there, entry_under, no_tile, own_key, place_itself, put_entry, put_good, row_alone}
+use Rattle.mb_cache.proofs.SetLemmas.{set_after}
 use Rattle.mb_cache.specs.Entries.{IsCacheRow, entry_at, entry_of, has_entry, place_in, row_place}
 use Rattle.mb_cache.specs.EntryOrder.{entry_cmp}
 use Rattle.mb_cache.specs.Setting.{SetsTile, is_replaced, meta_row, moment_cell, put_row, taken_back}
@@ -24,9 +25,10 @@ use Rattle.mb_lists.proofs.Places.{places_antisymmetric}
 use Rattle.mb_load.specs.Changing.{tile_key}
 use Rattle.mb_load.specs.LoadedFrom.{IsOnBoard}
 use Rattle.mb_store.proofs.Committed.{all_committed, others_stay}
-use Rattle.mb_store.specs.Committing.{Commits}
+use Rattle.mb_store.specs.Committing.{Commits, is_changed}
 use Rattle.mb_store.specs.Store.{IsSound}
 use Rattle.mb_store.specs.declared.change.Change.{Change}
+use Rattle.mb_tables.proofs.ListLemmas.{filter_every}
 use Rattle.mb_tables.specs.Described.{is_keyed, is_table}
 use Rattle.mb_tables.specs.Key.{has_key}
 use Rattle.mb_tables.specs.Table.{Tables, table_eq}
@@ -35,7 +37,7 @@ use Rattle.mb_tables.specs.declared.cell.Cell.{Cell}
 use Rattle.mb_tables.specs.declared.cell.Cell.TheVariants.{Blob}
 use Rattle.tile_ids.specs.Coord.{Coord}
 use Rattle.mb_tables.specs.declared.description.TableDesc.{TableDesc}
-use Rattle.mb_tables.specs.declared.table.TableName.TheVariants.{TileCache}
+use Rattle.mb_tables.specs.declared.table.TableName.TheVariants.{Metadata, TileCache}
 
 not_from : (b : Bool) → not b ≡ true → b ≡ false
 not_from true h = absurd (false≢true h)
@@ -169,8 +171,16 @@ module _ (t u : Tables) (es fs gs : List Entry) (p : Place) (board : IsOnBoard p
       gone None there far = tt
       gone (Some r) there far = other_entry (entry_of r) e (λ same. far (row_place r) there.0 (ap place_in (sym same) ∙ entry_there r))
 
-  pub still_agrees : Agrees u gs
-  still_agrees = record {
+  abbrev never : List Cell → Bool
+  never r = not (is_changed (put_row p row) Metadata r)
+
+  -- no name is changed
+  names_stay : u.rows Metadata ≡ t.rows Metadata
+  names_stay = sym (filter_every never (u.rows Metadata) (λ k d far. refl)) ∙ ((made.tables Metadata).others ∙ filter_every never (t.rows Metadata) (λ k d far. refl))
+
+  pub still_agrees : IsSound u → Agrees u gs
+  still_agrees sound_after = record {
+    set = set_after t u agrees.set made.descriptions names_stay sound_after (ap (λ (ds : List TableDesc). is_keyed ds TileCache) made.descriptions ∙ agrees.keyed) good;
     table = ap (λ (ds : List TableDesc). is_table ds TileCache) made.descriptions ∙ agrees.table;
     keyed = ap (λ (ds : List TableDesc). is_keyed ds TileCache) made.descriptions ∙ agrees.keyed;
     rows = good;

@@ -6,4 +6,5 @@ pub mod Reading
 pub mod Setting
 pub mod Evicting
 pub mod Purging
+pub mod Sizing
 pub mod Opening

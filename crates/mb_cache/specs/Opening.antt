@@ -42,6 +42,10 @@ begun_with t = cond (is_bare t.descriptions) (created t (set_tables Cache)) t
 abbrev pub open_answer : Tables → Result (Unit {0}) MbtError
 open_answer t = then (begin_answer t.descriptions) (λ _. then (state_of (begun_with t)) (λ _. Ok tt))
 
+-- a store of the tables opens, but for want of memory and faults
+abbrev pub Opens : Tables → Type 0
+Opens t = open_answer t ≡ Ok tt
+
 -- an answer without its value
 abbrev pub done : {A : Type 0} → Result A MbtError → Result (Unit {0}) MbtError
 done (Ok x) = Ok tt

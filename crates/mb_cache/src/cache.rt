@@ -1,5 +1,5 @@
 // A cache that borrows its store.
-ghost use Rattle.std.specs.Prelude.{◌≡◌, ◌≢◌, ◌<◌, ◌-◌, ◌^◌, Err, IfErr, IfOk, IsErrOf, None, Ok, OnErr, OnOk, codes, false, length, true};
+ghost use Rattle.std.specs.Prelude.{◌≡◌, ◌≢◌, ◌<◌, ◌+◌, ◌-◌, ◌^◌, Err, IfErr, IfOk, IsErrOf, None, Ok, OnErr, OnOk, codes, false, length, true};
 ghost use Rattle.std.specs.List.{take_while};
 ghost use Rattle.base_values.specs.Counts.{Rose};
 ghost use Rattle.mb_cache.specs.Entries.{is_expired_entry};
@@ -8,7 +8,8 @@ ghost use Rattle.mb_cache.specs.Opening.{begun_with, done, open_answer};
 ghost use Rattle.mb_cache.specs.Purging.{expired_rows, without_expired};
 ghost use Rattle.mb_cache.specs.Reading.{IsRead, bytes_of, cached_of};
 ghost use Rattle.mb_cache.specs.Setting.{SetsTile, UpdatesMeta, set_answer};
-ghost use Rattle.mb_cache.specs.State.{Agrees};
+ghost use Rattle.mb_cache.specs.Sizing.{SomeRounds, WithoutRounds, oversize};
+ghost use Rattle.mb_cache.specs.State.{Agrees, without};
 ghost use Rattle.mb_load.specs.Begun.{IsBegun};
 ghost use Rattle.mb_metadata.specs.Reading.{metadata_answer};
 ghost use Rattle.mb_store.specs.Kept.{Keeps, ReadsOnly};
@@ -65,9 +66,11 @@ impl<'a, S: TileStore> MbtilesCache<'a, S> {
     /// The tile that `CacheState::get_cached` answers.
     pub fn get_cached(&mut self, z: u8, x: u32, y: u32) -> MbtResult<Option<CachedTile>>
         ensures same_reference { self.new.store.ghost_name ≡ self.old.store.ghost_name }
-        ensures answer { IsRead cached_of z x y (S.tells self.old.store.now) (S.told self.old.store.now) result }
+        ensures answer { IsRead cached_of z x y (S.tells self.old.store.now)
+            (S.told self.old.store.now) result }
         ensures state { self.new.state ≡ self.old.state }
-        ensures kept { ReadsOnly S.told S.tells S.faults S.steady self.old.store.now self.new.store.now }
+        ensures kept { ReadsOnly S.told S.tells S.faults S.steady self.old.store.now
+            self.new.store.now }
         ensures fault { IsErrOf result MbtError.StoreFault →
             Rose (S.faults self.old.store.now) (S.faults self.new.store.now) }
     {
@@ -140,7 +143,8 @@ impl<'a, S: TileStore> MbtilesCache<'a, S> {
             (S.told self.old.store.now)) }
         ensures agrees { S.tells self.old.store.now ≡ true →
             Agrees (S.told self.new.store.now) self.new.state }
-        ensures own { IfOk result (λ count. count ≡ length (take_while (is_expired_entry now) self.old.state)) }
+        ensures own { IfOk result (λ count. count ≡
+            length (take_while (is_expired_entry now) self.old.state)) }
         ensures free { IfErr result (λ e. is_free e ≡ true) }
         ensures err { OnErr result (S.told self.new.store.now ≡ S.told self.old.store.now) }
         ensures same { OnErr result (self.new.state ≡ self.old.state) }
@@ -151,12 +155,40 @@ impl<'a, S: TileStore> MbtilesCache<'a, S> {
         self.state.purge_expired(self.store, now)
     }
 
+    /// Throws tiles out by rounds while the store holds more than so many bytes, as `CacheState::purge_cache_to_size` does.
+    pub fn purge_cache_to_size(&mut self, max_bytes: u64) -> MbtResult<u64>
+        requires { S.tells self.old.store.now ≡ true →
+            Agrees (S.told self.old.store.now) self.old.state }
+        ensures same_reference { self.new.store.ghost_name ≡ self.old.store.ghost_name }
+        ensures count { S.tells self.old.store.now ≡ true →
+            IfOk result (λ count. count ≡ length (oversize max_bytes self.old.state
+            (S.told self.old.store.now))) }
+        ensures purged { S.tells self.old.store.now ≡ true →
+            OnOk result (S.told self.new.store.now ≡ without (oversize max_bytes self.old.state
+            (S.told self.old.store.now)) (S.told self.old.store.now)) }
+        ensures agrees { S.tells self.old.store.now ≡ true →
+            Agrees (S.told self.new.store.now) self.new.state }
+        ensures own { IfOk result (λ count. length self.new.state + count ≡ length self.old.state) }
+        ensures rounds { WithoutRounds self.old.state self.new.state }
+        ensures free { IfErr result (λ e. is_free e ≡ true) }
+        ensures err { S.tells self.old.store.now ≡ true →
+            OnErr result (SomeRounds max_bytes self.old.state (S.told self.old.store.now)
+            (S.told self.new.store.now)) }
+        ensures kept { Keeps S.tells S.faults S.steady self.old.store.now self.new.store.now }
+        ensures fault { IsErrOf result MbtError.StoreFault →
+            Rose (S.faults self.old.store.now) (S.faults self.new.store.now) }
+    {
+        self.state.purge_cache_to_size(self.store, max_bytes)
+    }
+
     /// The bytes of a tile, as `CacheState::get_tile` answers them.
     pub fn get_tile(&mut self, z: u8, x: u32, y: u32) -> MbtResult<Option<BlobVal>>
         ensures same_reference { self.new.store.ghost_name ≡ self.old.store.ghost_name }
-        ensures answer { IsRead bytes_of z x y (S.tells self.old.store.now) (S.told self.old.store.now) result }
+        ensures answer { IsRead bytes_of z x y (S.tells self.old.store.now)
+            (S.told self.old.store.now) result }
         ensures state { self.new.state ≡ self.old.state }
-        ensures kept { ReadsOnly S.told S.tells S.faults S.steady self.old.store.now self.new.store.now }
+        ensures kept { ReadsOnly S.told S.tells S.faults S.steady self.old.store.now
+            self.new.store.now }
         ensures fault { IsErrOf result MbtError.StoreFault →
             Rose (S.faults self.old.store.now) (S.faults self.new.store.now) }
     {
@@ -169,7 +201,8 @@ impl<'a, S: TileStore> MbtilesCache<'a, S> {
         ensures answer { IsBegun (metadata_answer (codes "unknown")) (S.tells self.old.store.now)
             (S.told self.old.store.now) result }
         ensures state { self.new.state ≡ self.old.state }
-        ensures kept { ReadsOnly S.told S.tells S.faults S.steady self.old.store.now self.new.store.now }
+        ensures kept { ReadsOnly S.told S.tells S.faults S.steady self.old.store.now
+            self.new.store.now }
         ensures fault { IsErrOf result MbtError.StoreFault →
             Rose (S.faults self.old.store.now) (S.faults self.new.store.now) }
     {

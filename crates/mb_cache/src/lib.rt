@@ -5,12 +5,14 @@ mod cache;
 mod entries;
 mod evicting;
 mod finding;
+pub mod laws;
 mod meta_rows;
 mod moments;
 mod opening;
 mod purging;
 mod reading;
 mod setting;
+mod sizing;
 mod state;
 
 pub use cache::MbtilesCache;

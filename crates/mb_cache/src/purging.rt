@@ -1,4 +1,4 @@
-// Throwing tiles out of a cache by age and by size.
+// Throwing tiles out of a cache by age.
 ghost use Rattle.std.specs.Prelude.{◌≡◌, true, IfErr, IfOk, IsErrOf, length, OnErr, OnOk};
 ghost use Rattle.std.specs.List.{take_while};
 ghost use Rattle.base_values.specs.Counts.{Rose};
@@ -22,7 +22,8 @@ fn expired(
     entries: &BTreeSet<Entry>,
     now: UnixSeconds,
 ) -> Result<Vec<Entry>, OutOfMemory>
-    ensures { IfOk result (λ expired. expired.items ≡ take_while (is_expired_entry now) entries.now.keys) }
+    ensures { IfOk result (λ expired. expired.items ≡
+        take_while (is_expired_entry now) entries.now.keys) }
 {
     let mut expired = Vec::new(alloc);
     for entry in entries {
@@ -43,7 +44,8 @@ impl CacheState {
         ensures purged { S.tells store.old ≡ true →
             OnOk result (S.told store.new ≡ without_expired now (S.told store.old)) }
         ensures agrees { S.tells store.old ≡ true → Agrees (S.told store.new) self.new }
-        ensures own { IfOk result (λ count. count ≡ length (take_while (is_expired_entry now) self.old)) }
+        ensures own { IfOk result (λ count. count ≡
+            length (take_while (is_expired_entry now) self.old)) }
         ensures free { IfErr result (λ e. is_free e ≡ true) }
         ensures err { OnErr result (S.told store.new ≡ S.told store.old) }
         ensures same { OnErr result (self.new ≡ self.old) }

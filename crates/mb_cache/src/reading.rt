@@ -119,8 +119,8 @@ impl CacheState {
 
     /// What the set says of itself, as a set without a file's name says it: its `id` is `unknown`. It loads the set, and answers the refusals of loading.
     pub fn get_metadata<S: TileStore>(&self, store: &mut S) -> MbtResult<Metadata>
-        ensures answer { IsBegun (metadata_answer (codes "unknown")) (S.tells store.old) (S.told store.old)
-            result }
+        ensures answer { IsBegun (metadata_answer (codes "unknown")) (S.tells store.old)
+            (S.told store.old) result }
         ensures kept { ReadsOnly S.told S.tells S.faults S.steady store.old store.new }
         ensures fault { IsErrOf result MbtError.StoreFault →
             Rose (S.faults store.old) (S.faults store.new) }

@@ -59,7 +59,8 @@ fn entry_of_found(coord: TileCoord, found: Option<&Row>) -> Option<Entry>
 // Removes the old entry of a place, where it isn't also the new one.
 fn replace(entries: &mut BTreeSet<Entry>, old: Option<Entry>, new: Entry)
     ensures members { (e : Entry) →
-        has_entry entries.new.keys e ≡ (has_entry entries.old.keys e && not (is_replaced old new e)) }
+        has_entry entries.new.keys e ≡
+        (has_entry entries.old.keys e && not (is_replaced old new e)) }
     ensures ordered { IsStrictlySortedBy entry_cmp entries.old.keys →
         IsStrictlySortedBy entry_cmp entries.new.keys }
 {

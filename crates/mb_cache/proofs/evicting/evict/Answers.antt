@@ -18,4 +18,5 @@ returns-clause-agrees g c t =
     let new = g.S.TileStore.told c.commit.new.self in
     subst (λ (ks : List Entry). Agrees new ks) (sym c.pop_all.ensures)
     (agrees_after old new c.args.entries.now.keys (length c.args.evicted.now) c.in_ok-changes.changes (c.requires.agrees t) (g.met.S.TileStore.sound c.args.store.now t)
-    (subst (λ (es : List Entry). AreDeletes es c.in_ok-changes.changes) (sym c.requires.first) c.in_ok-changes.ensures.deletes) (c.in_ok-commit.ensures.ok t))
+    (subst (λ (es : List Entry). AreDeletes es c.in_ok-changes.changes) (sym c.requires.first) c.in_ok-changes.ensures.deletes) (c.in_ok-commit.ensures.ok t)
+    (g.met.S.TileStore.sound c.commit.new.self (c.in_ok-commit.ensures.kept.tells ∙ t)))

@@ -22,6 +22,7 @@ returns-in-Ok-clause-agrees g c t =
     (c.in_ok-added.ensures.keys ∙ ap (insert_key entry_cmp c.args.entries.now.keys) is)
     (λ e. c.replace.ensures.members e ∙ ap (λ k. has_entry c.insert.new.self.keys e && not (is_replaced c.args.old k e)) is)
     (c.replace.ensures.ordered c.in_ok-added.ensures.ordered)
+    (g.met.S.TileStore.sound c.commit.new.self (c.in-Ok.ensures.kept.tells ∙ t))
 
 pub returns-clause-same : goal.returns-clause-same
 returns-clause-same g c = c.take_back.ensures ∙ back_as c.in_ok-added.added c.args.entries.now.keys c.insert.new.self.keys c.at-new.result c.in_ok-added.ensures.added c.in_ok-added.ensures.keys c.in_ok-added.ensures.unchanged

@@ -1,0 +1,10 @@
+use Rattle.std.proofs.Common.{◌≡◌, ◌-◌, ◌^◌, true, min, take}
+use Rattle.mb_cache.specs.Sizing.{sizes_at}
+use Rattle.mb_store.specs.Kept.{ReadsOnly}
+use Rattle.mb_cache.proofs.sizing.sizes_of.Given as goal
+
+abbrev pub invariant-loop-entry : goal.invariant-loop-entry
+invariant-loop-entry g l = record {
+  kept : ReadsOnly g.S.TileStore.told g.S.TileStore.tells g.S.TileStore.faults g.S.TileStore.steady l.fn.store l.store;
+  size : g.S.TileStore.tells l.fn.store ≡ true → l.size ≡ min (sizes_at (g.S.TileStore.told l.fn.store) (take l.entry-index l.entries)) (2 ^ 64 - 1);
+}
