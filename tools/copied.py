@@ -1,7 +1,7 @@
 # What copying one set into another makes of the tables of its destination, and when it is refused, for tools/copy_cases.py. The rules are worked out on rows of tables.
 import shown
 from check_rows import aggregate
-from patch_rows import AGG, CONTENT_TABLES, TILE_TABLES, State, digest, order, put_row
+from patch_rows import AFTER, AGG, BEFORE, CONTENT_TABLES, TILE_TABLES, State, digest, order, put_row
 from set_rows import KEYS, LAYOUTS, TABLES, layout_tables, table
 
 FIELDS = ('copy', 'type', 'cli', 'mode', 'min', 'max', 'zooms', 'box', 'skip', 'hash', 'force', 'validate')
@@ -9,10 +9,10 @@ SIDE = 2 ** 30
 
 
 class Set:
-    """A store: its layout, None where nothing is described, the rows of its tables, and the refusal of loading it, if there is one."""
+    """A store: its layout, None where nothing is described, the rows of its tables, the refusal of loading it, if there is one, and whether a table of binary differences is described too."""
 
-    def __init__(self, layout, pushes=(), refusal=None):
-        self.layout, self.refusal = layout, refusal
+    def __init__(self, layout, pushes=(), refusal=None, differences=False):
+        self.layout, self.refusal, self.differences = layout, refusal, differences
         self.tables = {} if layout is None else empty_tables(layout)
         self.pushes = pushes
         for name, *cells in pushes:
@@ -215,4 +215,68 @@ def copy(copier, source, target):
         layout = target.layout or made(copier.asked() or source.layout)
         algorithm = target.state().algorithm if target.layout else copier.hash or state.algorithm
         refusal = put_into(copier, target, layout, algorithm, state.tiles, state.names, lambda place: times_in(source, place))
+    return 'Ok(())' if refusal is None else f'Err({refusal})'
+
+
+def patch_refusal(copier, patch):
+    """The first refusal of loading a patch and of its own tests, or None."""
+    if patch.refusal:
+        return patch.refusal
+    if copier.validate and hash_refusal(patch.state()):
+        return hash_refusal(patch.state())
+    if patch.differences:
+        return 'UnsupportedPatchType'
+    if not copier.force and patch.state().names.get(AFTER) is None:
+        return 'PatchFileHasNoHashes'
+    if not copier.force and patch.state().names.get(BEFORE) is None:
+        return 'PatchFileHasNoBeforeHash'
+    return None
+
+
+def patched_refusal(copier, source, target):
+    """The same of a source that is to be patched, and of the destination."""
+    if source.refusal:
+        return source.refusal
+    state = source.state()
+    if copier.validate and hash_refusal(state):
+        return hash_refusal(state)
+    if not copier.force and state.names.get(AGG) is None:
+        return 'CannotDiffFileWithoutHash'
+    if not copier.force and (state.names.get(BEFORE) is not None or state.names.get(AFTER) is not None):
+        return 'DiffingDiffFile'
+    if (copier.asked() or source.layout).startswith(('cache', 'dedup-id')):
+        return 'UnsupportedCopyOperation'
+    if target.layout is not None:
+        return 'NonEmptyTargetFile'
+    return None
+
+
+def patched(source, patch):
+    """The tiles and the names of a source after a patch."""
+    tiles, names = dict(source.tiles), dict(source.names)
+    for place, cell in patch.tiles.items():
+        tiles[place] = cell
+        if cell == 'n':
+            del tiles[place]
+    for name, value in patch.names.items():
+        names[name] = value
+        if value is None:
+            del names[name]
+    return tiles, {name: value for name, value in names.items() if name not in (AGG, BEFORE, AFTER)}
+
+
+def copy_patched(copier, source, patch, target):
+    """The answer of a copy with a patch; the tables of the destination are made and filled where it is Ok."""
+    refusal = patch_refusal(copier, patch) or patched_refusal(copier, source, target)
+    if refusal is None:
+        state, change = source.state(), patch.state()
+        layout, made_set = made(copier.asked() or source.layout), Set(None)
+        tiles, names = patched(state, change)
+        refusal = put_into(copier, made_set, layout, copier.hash or state.algorithm, tiles, names, lambda place: ('n', 'n', 'n'))
+        if refusal is None and copier.copies_tiles() and not copier.skip and not copier.force:
+            after, computed = change.names[AFTER], made_set.state().names[AGG]
+            if after != computed:
+                refusal = f'AggHashMismatchAfterApply {{ after_apply_hash: {shown.text(after)}, agg_hash: {shown.text(computed)} }}'
+        if refusal is None:
+            target.layout, target.tables = made_set.layout, made_set.tables
     return 'Ok(())' if refusal is None else f'Err({refusal})'

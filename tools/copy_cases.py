@@ -31,6 +31,8 @@ class Cases:
             return self.rows.row(f'{place} none')
         pushes = ''.join(f" {name} {' '.join(map(cell_word, cells))}" for name, *cells in of.pushes)
         self.rows.row(f'{place} new {of.layout} {len(of.pushes)}{pushes}')
+        if of.differences:
+            self.rows.row(f'{place} differences', 'Ok(())')
 
     def say(self, place, of):
         """All rows of the tables that can have some."""
@@ -93,7 +95,7 @@ def labels(rows):
     for word, shown_as, tiles, metadata in (('all', 'All', True, True), ('metadata', 'Metadata', False, True), ('tiles', 'Tiles', True, False)):
         rows.row(f'label {word}', word + '|', shown_as, flag(tiles), flag(metadata))
     rows.row('label default', 'all|', 'All', 'true', 'true')
-    for line in ('label', 'label none', 'run copy=none', 'run copy', 'run min=256', 'run zooms=', 'run box=1,2,3', 'run type=dedup', 'run mode', 'src new', 'dst new flat 1', 'move'):
+    for line in ('label', 'label none', 'run copy=none', 'run copy', 'run min=256', 'run zooms=', 'run box=1,2,3', 'run type=dedup', 'run mode', 'src new', 'dst new flat 1', 'patch new', 'patched mode', 'move'):
         rows.refused(line)
 
 
@@ -108,6 +110,16 @@ def one_tile(cases):
     for mode in MODES:
         cases.run(Copier(mode=mode), source, target)
     cases.say('src', source)
+
+
+def expiring(cases):
+    """Two tiles of a cache, one of which expires at 50, into a cache, where it does so still, and into a flat set, which has the same tiles."""
+    source = Set('cache', [('tile_cache', 'i0', 'i0', 'i0', 'n', 'i50', 'n', 'x30'), ('tile_cache', 'i1', 'i0', 'i1', 'n', 'n', 'n', 'x30')])
+    cases.make('src', source)
+    for asked in (None, 'flat'):
+        target = Set(None)
+        assert cases.case(Copier(type=asked), source, target, True) == 'Ok(())'
+        assert target.state().tiles == {(0, 0, 0): 'x30', (1, 0, 1): 'x30'} and (asked or ('i0', 'i0', 'i0', 'n', 'i50', 'n', 'x30') in target.tables['tile_cache'])
 
 
 def into_nothing(cases):
@@ -357,5 +369,5 @@ def random_copies(cases):
 def write(rows):
     labels(rows)
     cases = Cases(rows)
-    for part in (one_tile, into_nothing, over_others, zooms, boxes, validated, algorithms, kinds, duplicates, nulls, collisions, order_of_refusals, faults, random_copies):
+    for part in (one_tile, expiring, into_nothing, over_others, zooms, boxes, validated, algorithms, kinds, duplicates, nulls, collisions, order_of_refusals, faults, random_copies):
         part(cases)

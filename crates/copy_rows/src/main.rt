@@ -11,11 +11,12 @@ use rows_shared::{Rows, Words, run};
 use std::alloc::Global;
 use std::io;
 
-// The stores that are kept from line to line: the source of a copy, and its destination.
+// The stores that are kept from line to line: the source of a copy, its destination, and a patch.
 #[derive(Drop)]
 pub struct Kept {
     pub src: MemStore,
     pub dst: MemStore,
+    pub patch: MemStore,
 }
 
 impl Rows for Kept {
@@ -30,7 +31,9 @@ impl Rows for Kept {
         match words.next()? {
             "src" => stores::answer(alloc, out, &mut self.src, &mut words),
             "dst" => stores::answer(alloc, out, &mut self.dst, &mut words),
+            "patch" => stores::answer(alloc, out, &mut self.patch, &mut words),
             "run" => runs::run(alloc, out, self, &mut words),
+            "patched" => runs::patched(alloc, out, self, &mut words),
             "label" => labels::answer(out, &mut words),
             _ => None,
         }
@@ -42,6 +45,7 @@ fn main(rt: HostRuntime) -> io::Result<()> {
     let mut kept = Kept {
         src: MemStore::new(alloc),
         dst: MemStore::new(alloc),
+        patch: MemStore::new(alloc),
     };
     run(&rt, &mut kept)
 }

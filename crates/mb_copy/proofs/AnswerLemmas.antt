@@ -4,7 +4,7 @@ use Rattle.std.specs.Prelude.{IfErr, OnErr, OnOk}
 use Rattle.std.proofs.lemmas.Bool.{false≢true}
 use Rattle.mb_constraints.specs.DiffHashes.{refused_by}
 use Rattle.mb_copy.specs.CopyOrder.{copy_answer, invalid, into_answer, made_state, may_copy, mode_missing, over_answer}
-use Rattle.mb_copy.specs.Copying.{AreMade, AreMadeBy, IsAnew, IsAnswered, IsCopied, IsCopiedBy, IsLeft, IsLeftBy, IsOver, IsPutInto, has_any}
+use Rattle.mb_copy.specs.Copying.{IsAnew, IsAnswered, IsCopied, IsCopiedBy, IsLeft, IsLeftBy, IsOver, IsPutInto, has_any}
 use Rattle.mb_copy.specs.declared.copier.MbtilesCopier.{MbtilesCopier}
 use Rattle.mb_edit.proofs.AnswerLemmas.{SomeTables, some_tables}
 use Rattle.mb_load.proofs.BegunLemmas.{begun_err, begun_ok}
@@ -76,7 +76,7 @@ module _ (c : MbtilesCopier) (source_tells : Bool) (source_told : Tables) (tells
       record { source = b.tables; is_source = b.is_told; target = p.target; described = p.described; is_target = p.is_target; is_described = p.is_described; answers = b.answers }
 
 -- what a copy of a set that was loaded leaves
-loaded_as : (tells : Bool) (told : Tables) (h : Held) → (tells ≡ true → Loads (state_of told) (Ok h)) → ((t : Tables) × Loads (state_of t) (Ok h)) → SomeTables tells told (λ t. state_of t ≡ Ok h.state)
+pub loaded_as : (tells : Bool) (told : Tables) (h : Held) → (tells ≡ true → Loads (state_of told) (Ok h)) → ((t : Tables) × Loads (state_of t) (Ok h)) → SomeTables tells told (λ t. state_of t ≡ Ok h.state)
 loaded_as tells told h it own = some_tables tells told (λ t. state_of t ≡ Ok h.state) (λ e. (it e).0) (own.0, own.1.0)
 
 pub copied_by : (c : MbtilesCopier) (tells : Bool) (told old new : Tables) (h : Held) → (tells ≡ true → Loads (state_of told) (Ok h)) → ((t : Tables) × Loads (state_of t) (Ok h)) → invalid c.validate h.state ≡ None → IsCopied c h.state (has_any old.descriptions) old new → IsCopiedBy c tells told old new

@@ -1,5 +1,5 @@
 -- The refusals of a copy, one after another, and the set after its parts.
-use Rattle.std.proofs.Common.{◌≡◌, ◌∙◌, ap, sym, subst, ℕ, List, [], ◌∷◌, Option, Some, None, Result, Ok, Err, Bool, true, false, refl}
+use Rattle.std.proofs.Common.{◌≡◌, ◌∙◌, ap, sym, subst, Option, Some, None, Result, Ok, Err, Bool, true, refl}
 use Rattle.std.specs.Prelude.{IfOk}
 use Rattle.std.specs.FinMap.{FinMap}
 use Rattle.std.specs.Option.{option_or}
@@ -24,7 +24,7 @@ use Rattle.mb_tables.specs.declared.error.MbtError.TheVariants.{UnsupportedCopyO
 use Rattle.mb_tables.specs.declared.kind.MbtType.{MbtType}
 use Rattle.tile_hash.specs.declared.algorithm.HashAlgorithm.{HashAlgorithm}
 
-or_none : {A : Type 0} (o : Option A) → option_or o None ≡ o
+pub or_none : {A : Type 0} (o : Option A) → option_or o None ≡ o
 or_none None = refl
 or_none (Some x) = refl
 

@@ -9,3 +9,6 @@ pub mod AnswerLemmas
 pub mod EntryLemmas
 pub mod WantedLemmas
 pub mod CopiedLemmas
+pub mod HashLemmas
+pub mod PatchedSourceLemmas
+pub mod PatchAnswerLemmas

@@ -1,5 +1,5 @@
 -- Tables that are made where nothing was described hold no set.
-use Rattle.std.proofs.Common.{◌≡◌, ◌∙◌, ap, sym, subst, List, [], ◌∷◌, Option, Some, None, Bool, true, false, refl}
+use Rattle.std.proofs.Common.{◌≡◌, ◌∙◌, ap, sym, subst, List, [], Some, None, true, false, refl}
 use Rattle.mb_constraints.specs.Described.{index_missing, metadata_missing}
 use Rattle.mb_lists.specs.Contents.{content_rows}
 use Rattle.mb_load.specs.Empty.{AreEmpty}

@@ -1,5 +1,5 @@
 -- The state of a set after names were put.
-use Rattle.std.proofs.Common.{◌≡◌, ◌∙◌, ap, sym, subst, ℕ, ◌++◌, List, [], ◌∷◌, Option, Some, None, Bool, true, false, ◌&&◌, ◌||◌, cond, not, refl, append_assoc}
+use Rattle.std.proofs.Common.{◌≡◌, ◌∙◌, ap, sym, subst, ℕ, ◌++◌, List, [], ◌∷◌, Option, Some, None, Bool, true, false, ◌||◌, cond, refl, append_assoc}
 use Rattle.std.specs.Prelude.{codes, option_and_then}
 use Rattle.std.specs.Option.{option_or}
 use Rattle.std.specs.Ordering.{nat_cmp}
@@ -37,7 +37,7 @@ abbrev names_in : Names → List Named → Names
 names_in m [] = m
 names_in m (e ∷ es) = insert (names_in m es) e.0 e.1
 
-abbrev with_names : State → Names → State
+abbrev pub with_names : State → Names → State
 with_names s names = record s { metadata = names }
 
 names_state : (h : Held) (es : List Named) → (from_last name_put h es).state ≡ with_names h.state (names_in h.state.metadata es)

@@ -1,8 +1,7 @@
 -- The tables after the commit of a set into which another one was copied.
-use Rattle.std.proofs.Common.{◌≡◌, ◌∙◌, ap, sym, subst, ℕ, List, [], ◌∷◌, Option, Some, None, Ok, Bool, true, false, ◌&&◌, ◌⊎◌, inl, inr, not, is_some, refl}
+use Rattle.std.proofs.Common.{◌≡◌, ◌∙◌, ap, sym, subst, ℕ, List, [], ◌∷◌, Option, Some, None, Ok, Bool, true, false, ◌&&◌, ◌⊎◌, inl, inr, is_some, refl}
 use Rattle.std.specs.Prelude.{codes}
-use Rattle.std.specs.FinMap.{FinMap, contains_key, get}
-use Rattle.std.specs.Str.{bytes_eq}
+use Rattle.std.specs.FinMap.{contains_key, get}
 use Rattle.std.proofs.lemmas.Bool.{false≢true}
 use Rattle.std.proofs.lemmas.Cmp.{nat_list_cmp_total}
 use Rattle.mb_copy.proofs.ClearedLemmas.{gone_at, was_there}

@@ -28,7 +28,6 @@ use Rattle.mb_tables.specs.Kind.{is_normalized}
 use Rattle.mb_tables.specs.Tiles.{Place, TileSet, place_cmp}
 use Rattle.mb_tables.specs.declared.kind.MbtType.{MbtType}
 use Rattle.mb_tables.specs.declared.kind.MbtType.TheVariants.{Flat, FlatWithHash, Normalized, Cache}
-use Rattle.tile_hash.specs.declared.algorithm.HashAlgorithm.{HashAlgorithm}
 
 -- an edit where null is put, and one where a source has times
 abbrev pub null_touch : {A : Type 0} → Option A → Place → Option (List ℕ) → Option (Option A)

@@ -1,5 +1,5 @@
 -- The tiles and the names of a source that a copy puts into a set.
-use Rattle.std.specs.Prelude.{ℕ, codes, ◌&&◌, ◌||◌, Bool, false, not, List, Option, Some, None}
+use Rattle.std.specs.Prelude.{ℕ, codes, ◌&&◌, ◌||◌, Bool, false, not, List, Option, None}
 use Rattle.std.specs.FinMap.{FinMap, contains_key, entries, get, retain_keys}
 use Rattle.std.specs.List.{list_any}
 use Rattle.std.specs.Str.{bytes_eq}

@@ -7,3 +7,6 @@ pub mod Copied
 pub mod CopyOrder
 pub mod HeldCopied
 pub mod Copying
+pub mod PatchedSource
+pub mod PatchOrder
+pub mod CopyingPatched

@@ -1,5 +1,5 @@
 -- The layout, the algorithm and the mode of a copy.
-use Rattle.std.specs.Prelude.{ℕ, ◌==◌, Bool, true, Option, Some, None, not, option_map, unwrap_or}
+use Rattle.std.specs.Prelude.{ℕ, ◌==◌, true, Option, Some, None, option_map, unwrap_or}
 use Rattle.std.specs.Option.{option_or}
 use Rattle.mb_copy.specs.declared.copier.MbtilesCopier.{MbtilesCopier}
 use Rattle.mb_insert.specs.declared.mode.CopyDuplicateMode.{CopyDuplicateMode}

@@ -1,5 +1,5 @@
 -- Which tiles of a set a copier takes: by their zoom, and by boxes at zoom 30.
-use Rattle.std.specs.Prelude.{ℕ, ◌+◌, ◌-◌, ◌*◌, ◌^◌, ◌==◌, ◌&&◌, ◌||◌, Bool, true, nat_le, nat_lt, List, [], ◌∷◌, Option, Some, None}
+use Rattle.std.specs.Prelude.{ℕ, ◌-◌, ◌*◌, ◌^◌, ◌==◌, ◌&&◌, Bool, true, nat_le, nat_lt, List, [], ◌∷◌, Option, Some, None}
 use Rattle.std.specs.List.{list_any}
 use Rattle.mb_copy.specs.CopyWords.{copies_tiles}
 use Rattle.mb_copy.specs.declared.copier.MbtilesCopier.{MbtilesCopier}

@@ -6,6 +6,7 @@ ghost use Rattle.mb_copy.specs.Clearing.{IsSource};
 ghost use Rattle.mb_copy.specs.CopyOrder.{made_state, may_copy, may_copy_over, over_answer};
 ghost use Rattle.mb_copy.specs.Copying.{IsAnew, IsAnswered, IsCopied, IsCopiedBy, IsLeft, IsLeftBy, IsOver, IsPutInto, has_any};
 ghost use Rattle.mb_copy.specs.HeldCopied.{held_copied};
+ghost use Rattle.mb_copy.specs.PatchOrder.{may_copy_anew};
 ghost use Rattle.mb_load.specs.Begun.{IsBegun};
 ghost use Rattle.mb_load.specs.Held.{fresh};
 ghost use Rattle.mb_store.specs.Kept.{Keeps, ReadsOnly};
@@ -14,8 +15,10 @@ ghost use Rattle.mb_tables.specs.Refusals.{Answers, Tests};
 use crate::MbtilesCopier;
 use crate::commit_anew::commit_anew;
 use crate::copied::copied;
+use crate::patch_order::test_expected;
 use crate::refusals::{test_kind, test_mode, test_valid};
 use crate::target::{made_type, wanted_algorithm};
+use base_values::TextVal;
 use mb_edit::test_editable;
 use mb_load::{Loaded, commit_loaded, load};
 use mb_store::{MbtError, MbtResult, TileStore, is_empty_database};
@@ -69,22 +72,39 @@ fn copied_anew(alloc: Global, copier: &MbtilesCopier, source: Loaded) -> MbtResu
     copied(alloc, copier, true, source, base)
 }
 
-// Copies a source into a destination that describes nothing: makes its tables, and then all rows in one commit.
-fn copy_anew<D: TileStore>(
+// The same, or the refusal where another hash of all tiles was computed than the one that is expected, if one is.
+fn copied_after(
     alloc: Global,
     copier: &MbtilesCopier,
     source: Loaded,
+    after: Option<TextVal>,
+) -> MbtResult<Loaded>
+    requires { IsSource source.state }
+    ensures tests { Tests (may_copy_anew copier.now after source.state) result }
+    ensures value { IfOk result (λ h. h ≡ held_copied copier.now true source.state (fresh (made_state copier.now source.state))) }
+{
+    let next = copied_anew(alloc, copier, source)?;
+    test_expected(alloc, copier, after, &next)?;
+    Ok(next)
+}
+
+/// Copies a source, of which a hash of all tiles may be expected, into a destination that describes nothing: makes its tables, and then all rows in one commit.
+pub(crate) fn copy_anew<D: TileStore>(
+    alloc: Global,
+    copier: &MbtilesCopier,
+    source: Loaded,
+    after: Option<TextVal>,
     dst: &mut D,
 ) -> MbtResult<()>
     requires source { IsSource source.state }
     requires none { D.tells dst.old ≡ true → (D.told dst.old).descriptions ≡ [] }
-    ensures answer { Answers (refused_by (may_copy copier.now source.state (made_state copier.now source.state))) result }
+    ensures answer { Answers (refused_by (may_copy_anew copier.now after source.state)) result }
     ensures copied { D.tells dst.old ≡ true → OnOk result (IsAnew copier.now source.state (D.told dst.old) (D.told dst.new)) }
     ensures left { D.tells dst.old ≡ true → IfErr result (IsLeft copier.now source.state (D.told dst.old) (D.told dst.new)) }
     ensures kept { Keeps D.tells D.faults D.steady dst.old dst.new }
     ensures fault { IsErrOf result MbtError.StoreFault → Rose (D.faults dst.old) (D.faults dst.new) }
 {
-    let next = copied_anew(alloc, copier, source)?;
+    let next = copied_after(alloc, copier, source, after)?;
     commit_anew(alloc, dst, &next)?;
     Ok(())
 }
@@ -105,7 +125,7 @@ fn copy_into<D: TileStore>(
 {
     let is_empty = is_empty_database(alloc, dst)?;
     if is_empty {
-        return copy_anew(alloc, copier, source, dst);
+        return copy_anew(alloc, copier, source, None, dst);
     }
     test_mode(copier)?;
     copy_over(alloc, copier, source, dst)

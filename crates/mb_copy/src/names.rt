@@ -55,8 +55,8 @@ fn put_text(
     }
 }
 
-// Whether the hash of all tiles is computed and stored.
-fn stores_aggregate(copier: &MbtilesCopier) -> bool
+/// Whether the hash of all tiles is computed and stored.
+pub(crate) fn stores_aggregate(copier: &MbtilesCopier) -> bool
     ensures { result ≡ stores_aggregate copier.now }
 {
     copier.copy.copy_tiles() && !copier.skip_agg_tiles_hash

@@ -1,6 +1,6 @@
 // The layout, the algorithm and the mode of a copy.
 ghost use Rattle.std.specs.Prelude.{◌≡◌, true};
-ghost use Rattle.mb_copy.specs.Target.{asked_type, kind_number, layout_of_cli, made_type, mode_of, wanted_algorithm};
+ghost use Rattle.mb_copy.specs.Target.{asked_type, kind_number, layout_of_cli, made_type, mode_of, wanted_algorithm, wanted_type};
 ghost use Rattle.mb_load.specs.LoadedFrom.{is_editable};
 ghost use Rattle.mb_tables.specs.Schema.{started_as};
 
@@ -50,13 +50,19 @@ fn started_as(layout: MbtType) -> MbtType
     }
 }
 
-/// The layout of a destination that is made for a source of a layout: that which is asked for, else that of the source, with digests as ids in
-/// place of numbers.
+/// The layout that a copy of a source of a layout is to have: that which is asked for, else that of the source.
+pub(crate) fn wanted_type(copier: &MbtilesCopier, source: MbtType) -> MbtType
+    ensures { result ≡ wanted_type copier.now source }
+{
+    asked_type(copier).unwrap_or(source)
+}
+
+/// The layout of a destination that is made for it: the wanted one, with digests as ids in place of numbers.
 pub(crate) fn made_type(copier: &MbtilesCopier, source: MbtType) -> MbtType
     ensures layout { result ≡ made_type copier.now source }
     ensures editable { is_editable result ≡ true }
 {
-    started_as(asked_type(copier).unwrap_or(source))
+    started_as(wanted_type(copier, source))
 }
 
 /// Its algorithm.

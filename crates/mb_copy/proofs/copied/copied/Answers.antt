@@ -1,4 +1,4 @@
-use Rattle.std.proofs.Common.{◌≡◌, ◌∙◌, ap, sym}
+use Rattle.std.proofs.Common.{◌∙◌, ap, sym}
 use Rattle.std.proofs.lemmas.Result.{err_from_is_err_and}
 use Rattle.mb_copy.proofs.CopiedLemmas.{copied_is, tests_as, twice_passed, twice_refused}
 use Rattle.mb_copy.specs.CopyOrder.{may_copy}

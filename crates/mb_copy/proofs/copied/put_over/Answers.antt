@@ -1,4 +1,4 @@
-use Rattle.std.proofs.Common.{◌≡◌, ◌∙◌, ap, sym, None}
+use Rattle.std.proofs.Common.{◌∙◌, ap, sym}
 use Rattle.std.proofs.lemmas.Result.{err_from_is_err_and}
 use Rattle.mb_copy.proofs.CopiedLemmas.{ids_alone, put_in_as}
 use Rattle.mb_copy.specs.HeldCopied.{held_completed}

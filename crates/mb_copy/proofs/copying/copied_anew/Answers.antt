@@ -1,4 +1,4 @@
-use Rattle.std.proofs.Common.{◌≡◌, ◌∙◌, ap, true}
+use Rattle.std.proofs.Common.{◌≡◌, ◌∙◌, ap}
 use Rattle.mb_copy.proofs.CopiedLemmas.{made_is, made_value, tests_as}
 use Rattle.mb_copy.specs.CopyOrder.{made_state, may_copy}
 use Rattle.mb_load.specs.Held.{Held, fresh}

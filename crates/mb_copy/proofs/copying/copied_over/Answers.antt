@@ -1,4 +1,4 @@
-use Rattle.std.proofs.Common.{◌≡◌, ◌∙◌, ap, sym, true}
+use Rattle.std.proofs.Common.{◌∙◌, ap, sym}
 use Rattle.std.proofs.lemmas.Result.{err_from_is_err_and}
 use Rattle.mb_copy.proofs.CopiedLemmas.{both_passed, edit_refused, kind_refused, tests_as}
 use Rattle.mb_copy.specs.CopyOrder.{may_copy, may_copy_over}

@@ -1,8 +1,12 @@
-use Rattle.std.proofs.Common.{◌≡◌, ◌∙◌, ap, sym, true, false}
+use Rattle.std.proofs.Common.{◌≡◌, ◌∙◌, ap, sym, subst, Option, true}
 use Rattle.std.proofs.lemmas.Bool.{false≢true}
 use Rattle.std.proofs.lemmas.Result.{err_from_is_err_and}
 use Rattle.mb_copy.proofs.AnswerLemmas.{anew_into, anew_moved, begun_moved, free_into, left_moved, mode_into, over_into, over_left, over_moved, store_free}
+use Rattle.mb_constraints.specs.DiffHashes.{refused_by}
+use Rattle.mb_copy.proofs.HashLemmas.{none_expected}
+use Rattle.mb_tables.specs.Refusals.{Answers}
 use Rattle.mb_tables.specs.Table.{Tables}
+use Rattle.mb_tables.specs.declared.error.MbtError.{MbtError}
 use Rattle.mb_copy.proofs.copying.copy_into.Goals as goal
 
 pub copy_anew-requires-clause-none : goal.copy_anew-requires-clause-none
@@ -16,7 +20,8 @@ returns-in_err-is_empty-clause-answer g c =
     rw (p.1, p.2) (free_into c.args.copier.now c.args.source.state (g.D.TileStore.tells c.args.dst.now) (g.D.TileStore.told c.args.dst.now) _ (store_free _ c.in_err-is_empty.ensures.errors))
 
 pub returns-then-is_empty-clause-answer : goal.returns-then-is_empty-clause-answer
-returns-then-is_empty-clause-answer g c = anew_into c.args.copier.now c.args.source.state (g.D.TileStore.tells c.args.dst.now) (g.D.TileStore.told c.args.dst.now) c.copy_anew.result (λ t. (c.in_ok-is_empty.ensures.answer t).0 c.if-is_empty.true) c.copy_anew.ensures.answer
+returns-then-is_empty-clause-answer g c = anew_into c.args.copier.now c.args.source.state (g.D.TileStore.tells c.args.dst.now) (g.D.TileStore.told c.args.dst.now) c.copy_anew.result (λ t. (c.in_ok-is_empty.ensures.answer t).0 c.if-is_empty.true)
+    (subst (λ (o : Option MbtError). Answers (refused_by o) c.copy_anew.result) (none_expected c.args.copier.now c.args.source.state) c.copy_anew.ensures.answer)
 
 pub returns-then-is_empty-clause-copied : goal.returns-then-is_empty-clause-copied
 returns-then-is_empty-clause-copied g c told = anew_moved c.args.copier.now c.args.source.state c.copy_anew.result (g.D.TileStore.told c.is_empty_database.new.store) (g.D.TileStore.told c.args.dst.now) (g.D.TileStore.told c.copy_anew.new.dst) c.is_empty_database.ensures.kept.told (c.copy_anew.ensures.copied (c.is_empty_database.ensures.kept.tells ∙ told))

@@ -1,4 +1,4 @@
-use Rattle.std.proofs.Common.{◌∙◌, ap, sym, arith}
+use Rattle.std.proofs.Common.{◌∙◌, ap, arith}
 use Rattle.std.specs.FinMap.{contains_key, entries, len-entries}
 use Rattle.mb_copy.proofs.TileStateLemmas.{times_state_last}
 use Rattle.mb_copy.specs.HeldCopied.{time_put}

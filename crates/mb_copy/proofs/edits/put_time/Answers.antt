@@ -1,5 +1,5 @@
 use Rattle.std.proofs.Common.{◌≡◌, arith}
-use Rattle.std.specs.FinMap.{entries, len-entries}
+use Rattle.std.specs.FinMap.{len-entries}
 use Rattle.mb_copy.proofs.EntryLemmas.{entry_there}
 use Rattle.mb_lists.specs.Entries.{blob_cell, place_at}
 use Rattle.mb_copy.proofs.edits.put_time.Goals as goal

@@ -1,0 +1,18 @@
+use Rattle.std.proofs.Common.{◌≡◌, ◌∙◌, is_some, subst, sym, Result}
+use Rattle.mb_constraints.specs.DiffHashes.{base_refused, refused_by, unless_forced}
+use Rattle.mb_edit.proofs.OrderLemmas.{base_tests, same_three}
+use Rattle.mb_lists.specs.Metadata.{after_hash, agg_hash, before_hash}
+use Rattle.mb_tables.specs.Refusals.{Tests}
+use Rattle.mb_tables.specs.declared.error.MbtError.{MbtError}
+use Rattle.mb_copy.proofs.patch_order.test_hashes_of_source.Goals as goal
+
+pub returns : goal.returns
+returns c =
+    let answer : c.test_base_hashes.result ≡ refused_by (unless_forced c.args.force (base_refused (is_some (agg_hash c.args.source.now.state.metadata)) (is_some (before_hash c.args.source.now.state.metadata)) (is_some (after_hash c.args.source.now.state.metadata)))) =
+    c.test_base_hashes.ensures
+    ∙ same_three (λ agg before after. refused_by (unless_forced c.args.force (base_refused agg before after)))
+    c.has_text-agg.result (is_some (agg_hash c.args.source.now.state.metadata))
+    c.has_text-before.result (is_some (before_hash c.args.source.now.state.metadata))
+    c.has_text-after.result (is_some (after_hash c.args.source.now.state.metadata))
+    c.has_text-agg.ensures c.has_text-before.ensures c.has_text-after.ensures in
+    subst (λ (r : Result (Unit {0}) MbtError). Tests (unless_forced c.args.force (base_refused (is_some (agg_hash c.args.source.now.state.metadata)) (is_some (before_hash c.args.source.now.state.metadata)) (is_some (after_hash c.args.source.now.state.metadata)))) r) (sym answer) (base_tests c.args.force (is_some (agg_hash c.args.source.now.state.metadata)) (is_some (before_hash c.args.source.now.state.metadata)) (is_some (after_hash c.args.source.now.state.metadata)))

@@ -1,0 +1,14 @@
+use Rattle.std.proofs.Common.{◌≡◌, ◌≤◌, drop, length}
+use Rattle.std.specs.FinMap.{entries}
+use Rattle.mb_copy.specs.PatchedSource.{name_patched}
+use Rattle.mb_load.specs.FromLast.{from_last}
+use Rattle.mb_copy.proofs.patched_source.patch_names.Given as goal
+
+abbrev pub invariant-loop-left : goal.invariant-loop-left
+invariant-loop-left l = record {
+  within : l.left ≤ length (entries l.patch.state.metadata);
+  made : l.set ≡ from_last name_patched l.initial.set (drop l.left (entries l.patch.state.metadata));
+}
+
+abbrev pub decreases-loop-left : goal.decreases-loop-left
+decreases-loop-left l = l.left
