@@ -3,6 +3,7 @@
 # stand in the modules that are imported here. Run it at the top of the repository: python3 tools/import_rows.py
 import sys
 
+import faulty_cases
 import hostile_archives
 import import_cases
 from rows import Rows
@@ -13,7 +14,7 @@ rows = ROWS.rows
 
 
 def main():
-    for cases in (import_cases, hostile_archives):
+    for cases in (import_cases, hostile_archives, faulty_cases):
         cases.write(sys.modules[__name__])
     ROWS.write()
 

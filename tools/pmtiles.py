@@ -1,6 +1,7 @@
 # PMTiles version 3 by its definition, in plain python: ids, varints, directories, headers, and archives that are written and read.
 # The scripts beside it compute from it what the rows programs must print. Nothing here is taken from a program of this repository.
 # tools/tileset_rows.py lays ids and archives out a second time, and holds each archive against the one that is made here.
+import functools
 import struct
 
 from hashes import xxh3
@@ -77,6 +78,7 @@ def read_u32(data, at):
 # Directories: entries (id, offset, length, run) in four columns.
 
 
+@functools.lru_cache(maxsize=64)
 def read_directory(data):
     count, at = read_u64(data, 0)
     if 4 * count > len(data) - at:
@@ -170,6 +172,7 @@ def read_header(data):
 # Archives that are read.
 
 
+@functools.lru_cache(maxsize=4)
 def opened(data):
     front = data[:FRONT]
     if len(front) < 127:

@@ -2,7 +2,7 @@
 ghost use Rattle.std.specs.Prelude.{ℕ, List};
 ghost use Rattle.pm_contents.specs.Contents.{Holds};
 
-use crate::mute::{Mode, Mute};
+use archive_words::{Mode, Mute};
 use pm_contents::Contents;
 use rows_shared::{Words, bytes, number};
 use std::alloc::Global;

@@ -10,7 +10,6 @@ mod extracting;
 mod kept;
 mod lines;
 mod media;
-mod mute;
 mod options;
 mod reading;
 mod serve_runs;

@@ -1,7 +1,7 @@
 // Calls over a medium that tells nothing, one of whose reads is answered by numbers in place of bytes.
 use crate::kept::Kept;
-use crate::mute::{Mode, Mute};
 use crate::{asking, extracting};
+use archive_words::{Mode, Mute};
 use rows_shared::{Words, number, say};
 use std::alloc::Global;
 

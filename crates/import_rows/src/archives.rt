@@ -27,8 +27,8 @@ pub fn backend_of(alloc: Global, held: &[u8]) -> Option<BytesBackend> {
     Some(BytesBackend::new(Bytes::copy_from_slice(alloc, held).ok()?))
 }
 
-// Whether a reader opens, and its tile at an id.
-fn by_reader(alloc: Global, out: &mut String, held: &[u8], id: TileId) -> Option<()> {
+/// Whether a reader opens, and its tile at an id.
+pub fn by_reader(alloc: Global, out: &mut String, held: &[u8], id: TileId) -> Option<()> {
     let mut backend = backend_of(alloc, held)?;
     match PmTilesReader::try_from_source(alloc, &mut backend) {
         Ok(reader) => {
@@ -39,8 +39,8 @@ fn by_reader(alloc: Global, out: &mut String, held: &[u8], id: TileId) -> Option
     }
 }
 
-// The same of a view.
-fn by_view(alloc: Global, out: &mut String, held: &[u8], id: TileId) -> Option<()> {
+/// The same of a view.
+pub fn by_view(alloc: Global, out: &mut String, held: &[u8], id: TileId) -> Option<()> {
     match ArchiveView::open(held) {
         Ok(view) => say_tile(alloc, out, view.get_tile(id)),
         Err(error) => said(out, error),

@@ -1,11 +1,11 @@
 // Imports of archives.
 use crate::archives::backend_of;
-use crate::mute::Mute;
 use crate::sets::say_all;
+use archive_words::{Counted, Mode, Mute};
 use mb_store::{MemStore, TileStore};
 use mb_tables::MbtType;
 use pm_format::MemMedium;
-use rows_shared::{Counted, Words, bytes, number, said, say};
+use rows_shared::{Words, bytes, number, said, say};
 use std::alloc::Global;
 use tile_import::import;
 
@@ -65,7 +65,13 @@ fn of_mute<S: TileStore>(
 ) -> Option<()> {
     let max_tiles = number::<u64>(words)?;
     let read = number::<u64>(words)?;
-    let mut backend = Mute::new(alloc, held, read, number(words)?)?;
+    let got = number::<u64>(words)?;
+    let mode = Mode::Numbers {
+        read,
+        asked: None,
+        got,
+    };
+    let mut backend = Mute::holding(alloc, held, mode)?;
     said(out, import(alloc, &mut backend, store, max_tiles))
 }
 

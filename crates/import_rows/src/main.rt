@@ -1,22 +1,27 @@
-//! Reads imports of archives into tile sets from standard input, one a line, and prints each line with its answer: calls of tile_import, and of a reader and a view of the same bytes.
+//! Reads imports of archives into tile sets from standard input, one a line, and prints each line with its answer: calls of tile_import, and of a reader, a view, a check, an extraction and a server of the same bytes.
 #![tactic(auto)]
 
 mod archives;
+mod asked;
 mod exports;
 mod imports;
-mod mute;
+mod neighbours;
+mod planted;
 mod sets;
 
+use asked::Asked;
 use mb_store::MemStore;
 use rows_shared::{Rows, Words, bytes, run};
 use std::alloc::Global;
 use std::io;
 
-// What is kept from line to line: a store, and the bytes of an archive.
+// What is kept from line to line: a store, the bytes of an archive, what is asked of archives, and what was said of the last one.
 #[derive(Drop)]
 struct Kept {
     store: MemStore,
     held: Vec<u8>,
+    asked: Asked,
+    last: String,
 }
 
 // Keeps the bytes of the next word.
@@ -49,6 +54,17 @@ impl Rows for Kept {
             "fresh" => imports::fresh(alloc, out, &mut words),
             "tiles" => archives::answer(alloc, out, self.held.as_slice(), &mut words),
             "export" => exports::answer(alloc, out, &mut self.store),
+            "ask" => asked::answer(alloc, &mut self.asked, &mut words),
+            "planted" => {
+                planted::answer(
+                    alloc,
+                    out,
+                    self.held.as_slice(),
+                    &self.asked,
+                    &mut self.last,
+                    &mut words,
+                )
+            }
             _ => None,
         }
     }
@@ -59,6 +75,8 @@ fn main(rt: HostRuntime) -> io::Result<()> {
     let mut kept = Kept {
         store: MemStore::new(alloc),
         held: Vec::new(alloc),
+        asked: Asked::new(alloc),
+        last: String::new(alloc),
     };
     run(&rt, &mut kept)
 }

@@ -7,7 +7,7 @@ pub put-requires-clause-sought : goal.put-requires-clause-sought
 put-requires-clause-sought c = ((λ x. c.args.digest), c.in-Ok.ensures.sought (λ x. c.args.digest) refl)
 
 pub returns-in_default-put : goal.returns-in_default-put
-returns-in_default-put c = (c.requires.0, holds_alike (λ x. c.args.digest) c.args.contents.now c.put.new.self c.requires.0 c.in_default-put.ensures.kept c.requires.1)
+returns-in_default-put c = (c.requires.0, holds_alike (λ x. c.args.digest) c.args.contents.now c.put.new.self c.requires.0 c.in_default-put.ensures.refused c.requires.1)
 
 pub returns : goal.returns
 returns c =

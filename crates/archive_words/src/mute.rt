@@ -2,21 +2,21 @@
 ghost use Rattle.std.specs.Prelude.{◌≡◌, None};
 ghost use Rattle.byte_media.specs.Media.{ReadExactCauses};
 
-use pm_format::{Backend, BackendResponse, Medium, MediumFault, MemMedium, ReadFault, WriteFault};
+use byte_media::{Backend, BackendResponse, Medium, MediumFault, MemMedium, ReadFault, WriteFault};
 use std::alloc::Global;
 
-// What a range is read as.
+/// What a range is read as.
 #[derive(Clone, Copy)]
 pub enum Mode {
-    // What was written there.
+    /// What was written there.
     True,
-    // What was written last.
+    /// What was written last.
     Last,
-    // Nothing: it lies past the end.
+    /// Nothing: it lies past the end.
     Past,
-    // A byte less.
+    /// A byte less.
     Short,
-    // What was written there, but for one read, which is answered by two numbers: how many bytes were asked for, or said to be, and how many came.
+    /// What was written there, but for one read, which is answered by two numbers: how many bytes were asked for, or said to be, and how many came.
     Numbers {
         read: u64,
         asked: Option<u64>,
@@ -24,6 +24,7 @@ pub enum Mode {
     },
 }
 
+/// What was written, how it is read, and how often it was.
 #[derive(Drop)]
 pub struct Mute {
     medium: MemMedium,
@@ -42,6 +43,7 @@ fn short(length: u64, asked: u64, got: u64) -> Result<BackendResponse, ReadFault
 }
 
 impl Mute {
+    /// A medium of no bytes.
     pub fn new(alloc: Global, mode: Mode) -> Mute {
         let medium = MemMedium::new(alloc);
         Mute {
@@ -51,7 +53,7 @@ impl Mute {
         }
     }
 
-    // A medium in which these bytes were written.
+    /// A medium in which these bytes were written.
     pub fn holding(alloc: Global, bytes: &[u8], mode: Mode) -> Option<Mute> {
         let medium = MemMedium::from_bytes(bytes.to_vec(alloc).ok()?);
         Some(Mute {
