@@ -17,9 +17,9 @@ import re
 import struct
 
 import pmtiles
-from base_cases import base_after, spelled as rows_of
+from base_cases import base_after, spelled as rows_of, words as words_of
 from scripts import LABELS, TYPES, defaults, parsed
-from set_scripts import bad_rows, four_ways, random_chains, refused_patches, refused_sets, removes_the_tile, verified_sets, worked_patches, worked_sets
+from set_scripts import QUERY, bad_rows, four_ways, random_chains, refused_patches, refused_sets, removes_the_tile, verified_sets, worked_patches, worked_sets
 from sets import converted
 
 MAX_ROOT = 16384 - 127
@@ -274,6 +274,7 @@ def bad(script, line):
 
 
 ONE_TILE = "base flat\nrow tiles i0 i0 i0 x30\nquery 0 0 0\n"
+ACROSS_ZOOMS = "base flat\nrow tiles i0 i0 i0 x30\nrow tiles i1 i0 i1 x30\n"
 FILE = ["convert", "file", "x"]
 NO_TILE = "base flat\nquery 0 0 0\n"
 FIVE = ["row tiles i4 i11 i2 x62", "row tiles i0 i0 i0 x61", "row tiles i4 i1 i12 x30", "row tiles i1 i0 i0 n", "row tiles i1 i1 i0 x"]
@@ -384,6 +385,7 @@ def media():
         (ONE_TILE, "i1", ended(4, "input fault")), (gzip, "i1", ended(4, "input fault")), ("base flat flat", "i1", ended(4, "input fault")),
         (ONE_TILE, "o1", ended(5, "output fault", medium=whole)), (gzip, "o1", ended(1, "refused: unsupported compression gzip")),
         (ONE_TILE, "m1", ended(6, "medium fault")), (gzip, "m1", ended(6, "medium fault")), ("base flat flat", "m1", ended(3, "bad script: line 1")), ("base none", "m1", ended(6, "medium fault")),
+        (removes_the_tile(), "o1", ended(5, "output fault", medium=report_of(NO_TILE)[2])),
         (ONE_TILE, "i1 m1 o1", ended(4, "input fault")), (ONE_TILE, "o1 m1", ended(6, "medium fault")), ("base flat flat", "o1 m1", ended(3, "bad script: line 1")), ("base none", "o1", ended(1, "refused: store 0 InvalidDataFormat")),
     ]:
         case(["run", "convert hex", escaped(script.encode()), calls, ""], wanted)
@@ -398,7 +400,7 @@ def media():
 def other_objects():
     """Each call failing in turn, reads for what is asked, and objects that answer in odd ways."""
     five = "\n".join(["base flat", *FIVE, "query 4 1 3", "query 0 0 0", ""])
-    for words, script in [("convert hex", ONE_TILE), ("convert hex", NO_TILE), ("convert hex", five), ("convert hex", removes_the_tile()), ("bulk 5 2", ""), ("bulk 300 1", ""), ("bulk 4064 1 16", "")]:
+    for words, script in [("convert hex", ONE_TILE), ("convert hex", NO_TILE), ("convert hex", five), ("convert hex", removes_the_tile()), ("convert hex", ACROSS_ZOOMS), ("bulk 5 2", ""), ("bulk 300 1", ""), ("bulk 4064 1 16", "")]:
         # The medium of 4064 contents has more calls than a case takes.
         for place in ["input", "output"] + ["medium"] * (words != "bulk 4064 1 16"):
             wanted = "no call" if place == "input" and words != "convert hex" else "as wanted"
@@ -445,6 +447,69 @@ def base(script):
     refusal, tables = base_after(given)
     line = "0|" if refusal is None else "1|" + shown(b"refused: " + refusal, 4000)
     case(["stores", escaped(script.encode())], f"{line}|{rows_of(tables, escaped)}")
+
+
+def in_a_row(ends):
+    """Ends as they are printed: those that follow each other and are the same stand once."""
+    return "".join(f"{end}|" for k, end in enumerate(ends) if k == 0 or end != ends[k - 1])
+
+
+def hindered(script):
+    """Each call of each store and of the medium fails in a conversion of its own: the base's tables are those at the start, or wholly patched where the medium fails after the commit."""
+    given = parsed(script.encode())
+    refusal, after = base_after(given)
+    assert refusal is None
+    before, after = (rows_of(tables, escaped) for tables in (words_of(given.stores[0]), after))
+    for place in range(len(given.stores)):
+        case(["hindered", str(place), escaped(script.encode())], in_a_row([f"1|refused: StoreFault {place}|{before}", f"0||{after}"]))
+    case(["hindered", "medium", escaped(script.encode())], in_a_row([f"1|refused: MediumFault|{before}", f"1|refused: MediumFault|{after}", f"0||{after}"]))
+
+
+def views(words, script, ids):
+    """Each call of the medium fails in a run of its own: a view opens what the medium then holds only where it is the whole archive."""
+    if words[0] == "bulk":
+        numbers = bulk_numbers(words)
+        found = {k: b"%d" % (k // numbers[1]) for k in range(numbers[0])}
+    else:
+        given = parsed(script.encode())
+        found = dict(adds_of(converted(given.stores, given.options["force"], given.options["verify"]).tiles))
+    tiles = "".join(" " + (found[k].hex() if k in found else "none") for k in ids)
+    case(["views", " ".join(words), escaped(script.encode()), " ".join(map(str, ids))], in_a_row(["6|medium fault" + " refused" * len(ids), f"6|medium fault{tiles}", f"0|{tiles}"]))
+
+
+TURNED = 16386
+
+
+def turned(script):
+    """What is read back of the archive, a byte of which is read with all its bits turned over."""
+    given = parsed(script.encode())
+    state = converted(given.stores, given.options["force"], given.options["verify"])
+    adds, at, offsets = adds_of(state.tiles), 16384 + len(given.options["metadata"]), {}
+    for _, content in adds:
+        if content not in offsets:
+            offsets[content] = at
+            at += len(content)
+    found = {number: bytes(byte ^ 255 if offsets[content] + k == TURNED else byte for k, byte in enumerate(content)) for number, content in adds}
+    answers = [found.get(tile_id(z, x, y)) for z, x, y in given.queries]
+    case(["turned", escaped(script.encode())], "".join("none " if it is None else it.hex() + " " for it in answers))
+
+
+def failing_objects():
+    """Stores and media of which one call after another fails, and a medium that gives another byte than was written."""
+    five = "\n".join(["base flat", *FIVE, "query 4 1 3", "query 0 0 0", ""])
+    chain = removes_the_tile().replace(QUERY, "patch normalized\nrow metadata tagg_tiles_hash_before_apply tB\nrow metadata tagg_tiles_hash_after_apply tC\n"
+                                       "row metadata tname ttown\nrow images t99 n\n" + QUERY)
+    for script in [removes_the_tile(), "option force\n" + chain, ONE_TILE, five, *four_ways()]:
+        given = parsed(script.encode())
+        if base_after(given)[0] is None:
+            hindered(script)
+    for words, script, ids in [(["convert", "hex"], ACROSS_ZOOMS, [0, 1, 2]), (["convert", "hex"], ACROSS_ZOOMS + QUERY + "\nquery 1 0 0\n", [0, 1]), (FILE, ACROSS_ZOOMS, [0, 1]),
+                               (["convert", "hex"], removes_the_tile(), [0]), (["convert", "hex"], five, [0, 1, 19, 91, 241]), (["bulk", "5", "2"], "", [0, 3, 4, 5]),
+                               (["bulk", "300", "1", "16"], "", [0, 17, 299, 300])]:
+        views(words, script, ids)
+    for script in [ONE_TILE, five, "base flat\nrow tiles i0 i0 i0 x3031\nrow tiles i1 i0 i0 x32\nquery 0 0 0\nquery 1 0 1\nquery 1 0 0\n",
+                   "base flat\nrow tiles i1 i0 i0 x32\nrow tiles i1 i1 i1 x00ff00\nquery 1 0 1\nquery 1 1 0\nquery 1 0 1\n", "option metadata t\n" + ONE_TILE, "option metadata t{%20%20}\n" + ONE_TILE]:
+        turned(script)
 
 
 def many_tiles():
@@ -528,6 +593,7 @@ def main():
     files()
     media()
     other_objects()
+    failing_objects()
     random_scripts(20)
     sets()
     many_rows()

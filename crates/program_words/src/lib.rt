@@ -14,16 +14,21 @@ pub use destination::{Before, leave_destination, say_medium_fault, take_destinat
 pub use said::{say_opening, say_out_of_memory, say_output_fault, say_source_fault, say_usage};
 use std::alloc::{AllocError, Global};
 use std::env;
-use std::io::Write;
+use std::io::{ErrorKind, Write};
 pub use streams::{HeldStreams, hold_streams};
 
 /// The status where a text can't be written.
 pub const OUTPUT_FAULT: u8 = 5;
 
-/// The words after the program's name, where each of them is a text.
+/// The line of a run that memory ran out for. It stands here since making it may find no memory either.
+pub const OUT_OF_MEMORY: &str = "out of memory\n";
+
+/// The words after the program's name, where each of them is a text; refused where memory runs out.
 pub fn words_of(rt: &HostRuntime, alloc: Global) -> Result<Option<Vec<TextVal>>, AllocError> {
-    let Ok(args) = env::args(rt) else {
-        return Ok(None);
+    let args = match env::args(rt) {
+        Ok(args) => args,
+        Err(error) if error.kind() == ErrorKind::OutOfMemory => return Err(AllocError),
+        Err(_) => return Ok(None),
     };
     let mut words = Vec::new(alloc);
     for arg in args.skip(1) {

@@ -4,8 +4,8 @@
 use base_values::TextVal;
 use pm_format::FileBackend;
 use program_words::{
-    OUTPUT_FAULT, hold_streams, print_for, say_opening, say_out_of_memory, say_output_fault,
-    say_source_fault, say_usage, text_of, words_of,
+    OUT_OF_MEMORY, OUTPUT_FAULT, hold_streams, print_for, say_opening, say_out_of_memory,
+    say_output_fault, say_source_fault, say_usage, text_of, words_of,
 };
 use std::process::ExitCode;
 use tile_verify::{VerifyError, VerifyOutcome, run_verify, verify_line, verify_status};
@@ -40,13 +40,22 @@ const VERSION: &str = "tile_verify 0.1.0\n";
 
 const TOOL: &str = "tile_verify";
 
-// Prints the line of an outcome, or nothing where that finds no memory.
+// Prints the line of an outcome. Where it finds no memory, that is the outcome.
 fn tell(rt: &HostRuntime, outcome: &VerifyOutcome) -> u8 {
-    let status = verify_status(outcome);
-    match verify_line(rt.alloc(), outcome) {
-        Ok(line) => print_for(rt, line.as_str(), status),
-        Err(_) => status,
-    }
+    let Ok(line) = verify_line(rt.alloc(), outcome) else {
+        if !matches!(
+            outcome,
+            VerifyOutcome::OutOfMemory | VerifyOutcome::Refused(VerifyError::OutOfMemory)
+        ) {
+            say_out_of_memory(rt, TOOL);
+        }
+        return print_for(
+            rt,
+            OUT_OF_MEMORY,
+            verify_status(&VerifyOutcome::OutOfMemory),
+        );
+    };
+    print_for(rt, line.as_str(), verify_status(outcome))
 }
 
 // Checks a file, which is opened first.

@@ -5,8 +5,8 @@ use base_values::TextVal;
 use mb_tables::MbtError;
 use pm_format::{FileMedium, Medium, MemMedium};
 use program_words::{
-    Before, hold_streams, leave_destination, print, say_medium_fault, say_out_of_memory,
-    say_output_fault, say_usage, take_destination, text_of, words_of,
+    Before, OUT_OF_MEMORY, hold_streams, leave_destination, print, say_medium_fault,
+    say_out_of_memory, say_output_fault, say_usage, take_destination, text_of, words_of,
 };
 use std::process::ExitCode;
 use tile_bridge::ConvertError;
@@ -43,12 +43,19 @@ const VERSION: &str = "tileset 0.1.0\n";
 
 const TOOL: &str = "tileset";
 
-// Prints the line of an outcome. Where it can't be written, that is the outcome.
+// Prints the line of an outcome. Where it finds no memory, or can't be written, that is the outcome.
 fn tell(rt: &HostRuntime, outcome: Outcome) -> Outcome {
     let Ok(line) = outcome_line(rt.alloc(), &outcome) else {
-        return outcome;
+        if !matches!(outcome, Outcome::OutOfMemory) {
+            say_out_of_memory(rt, TOOL);
+        }
+        return tell_line(rt, Outcome::OutOfMemory, OUT_OF_MEMORY);
     };
-    if line.as_str().is_empty() || print(rt, line.as_str()) {
+    tell_line(rt, outcome, line.as_str())
+}
+
+fn tell_line(rt: &HostRuntime, outcome: Outcome, line: &str) -> Outcome {
+    if line.is_empty() || print(rt, line) {
         outcome
     } else {
         if !matches!(outcome, Outcome::OutputFault) {

@@ -59,3 +59,13 @@ pub fn named(alloc: Global, out: &mut String, name: &str) -> Option<()> {
     };
     said_outcome(alloc, out, outcome)
 }
+
+/// Appends a text that isn't the one before.
+pub fn say_other(alloc: Global, out: &mut String, last: &mut String, text: &str) -> Option<()> {
+    if last.as_str() == text {
+        return Some(());
+    }
+    *last = String::from_str(alloc, text).ok()?;
+    say(out, text)?;
+    say(out, "|")
+}

@@ -7,14 +7,15 @@ use std::alloc::Global;
 use std::fmt::Write;
 use tileset::Outcome;
 
-// More calls than any case here makes.
-const MOST_CALLS: u64 = 1000;
+/// More calls than any case here makes.
+pub const MOST_CALLS: u64 = 1000;
 
 // The place of the label of directories.
 const LABEL: usize = 97;
 
+/// What has a call that fails.
 #[derive(Clone, Copy)]
-enum Object {
+pub enum Object {
     Input,
     Output,
     Medium,
@@ -44,8 +45,8 @@ fn failing_at(alloc: Global, object: Object, number: u64) -> Option<Failing> {
     Some(failing)
 }
 
-// A run in which this call of an object fails.
-fn run_with(
+/// A run in which this call of an object fails.
+pub fn run_with(
     alloc: Global,
     words: &[TextVal],
     script: &[u8],

@@ -7,6 +7,7 @@
 mod answers;
 mod counted;
 mod fields;
+mod hindered;
 mod in_memory;
 mod many;
 mod on_file;
@@ -15,6 +16,9 @@ mod running;
 mod short_medium;
 mod single_bytes;
 mod stores;
+mod turned;
+mod turned_medium;
+mod views;
 
 use fields::Fields;
 use rows_shared::{Rows, run};
@@ -30,6 +34,9 @@ fn other_case(
 ) -> Option<()> {
     match call {
         "stores" => stores::answer(alloc, out, fields),
+        "hindered" => hindered::answer(alloc, out, fields),
+        "views" => views::answer(alloc, out, fields),
+        "turned" => turned::answer(alloc, out, fields),
         "many" => many::answer(alloc, out, fields),
         "file" => on_file::answer(rt, alloc, out, fields),
         "outcome" => answers::named(alloc, out, fields.next()),

@@ -68,6 +68,15 @@ fn say_store<S: TileStore>(alloc: Global, out: &mut String, store: &mut S) -> Op
     Some(())
 }
 
+/// What a conversion takes of a script's options.
+pub fn options_of(options: ScriptOptions) -> ConvertOptions {
+    ConvertOptions {
+        force: options.force,
+        verify: options.verify,
+        writer: options.writer,
+    }
+}
+
 // `tile_bridge::convert` with nothing said of it.
 fn converted<S: TileStore, P: TileStore, M: Medium>(
     alloc: Global,
@@ -77,37 +86,49 @@ fn converted<S: TileStore, P: TileStore, M: Medium>(
     options: ScriptOptions,
     medium: &mut M,
 ) -> Outcome {
-    let options = ConvertOptions {
-        force: options.force,
-        verify: options.verify,
-        writer: options.writer,
-    };
+    let options = options_of(options);
     match convert(alloc, base, patches, coords, &options, medium) {
         Ok(_) => Outcome::Done,
         Err(error) => Outcome::Refused(error),
     }
 }
 
-fn shown(alloc: Global, out: &mut String, script: ParsedScript) -> Option<()> {
+/// Appends how a conversion over a script's stores ends, and what the tables of the base then hold; gives whether it is done.
+pub fn shown(
+    alloc: Global,
+    out: &mut String,
+    script: ParsedScript,
+    medium: MemMedium,
+) -> Option<bool> {
     let ParsedScript {
         options,
         mut base,
         mut patches,
         queries,
     } = script;
-    let mut medium = MemMedium::new(alloc);
+    let mut medium = medium;
     let coords = queries.as_slice();
     let outcome = converted(alloc, &mut base, &mut patches, coords, options, &mut medium);
+    let done = matches!(outcome, Outcome::Done);
     said_outcome(alloc, out, outcome)?;
     say(out, "|")?;
-    say_store(alloc, out, &mut base)
+    base.fail_at(Vec::new(alloc));
+    say_store(alloc, out, &mut base)?;
+    Some(done)
+}
+
+/// The script that a field spells.
+pub fn script_of(alloc: Global, script: &[u8]) -> Option<ParsedScript> {
+    if script.len() > MAX_INPUT {
+        return None;
+    }
+    parse_script(alloc, script).ok()
 }
 
 /// A case of a script: how its conversion ends, and what the tables of the base then hold.
 pub fn answer(alloc: Global, out: &mut String, fields: &mut Fields) -> Option<()> {
     let script = bytes_of(alloc, fields.next())?;
-    if script.len() > MAX_INPUT {
-        return None;
-    }
-    shown(alloc, out, parse_script(alloc, script.as_slice()).ok()?)
+    let script = script_of(alloc, script.as_slice())?;
+    shown(alloc, out, script, MemMedium::new(alloc))?;
+    Some(())
 }

@@ -1,0 +1,56 @@
+// A conversion over a medium of which a byte is read with all its bits turned over.
+use crate::answers::{said_outcome, say};
+use crate::fields::{Fields, bytes_of};
+use crate::stores::{options_of, script_of};
+use crate::turned_medium::TurnedMedium;
+use base_values::BlobVal;
+use std::alloc::Global;
+use std::fmt::Write;
+use tile_bridge::{ConvertError, ConvertReport, convert};
+use tileset::Outcome;
+use tileset_script::ParsedScript;
+
+fn converted(alloc: Global, script: ParsedScript) -> Result<ConvertReport, ConvertError> {
+    let ParsedScript {
+        options,
+        mut base,
+        mut patches,
+        queries,
+    } = script;
+    let mut medium = TurnedMedium::new(alloc);
+    let options = options_of(options);
+    convert(
+        alloc,
+        &mut base,
+        &mut patches,
+        &queries,
+        &options,
+        &mut medium,
+    )
+}
+
+fn say_answer(alloc: Global, out: &mut String, answer: Option<&BlobVal>) -> Option<()> {
+    match answer {
+        None => say(out, "none "),
+        Some(bytes) => {
+            let digits = hex::encode(alloc, bytes.as_bytes()).ok()?;
+            write!(out, "{digits} ").ok()
+        }
+    }
+}
+
+fn said_report(alloc: Global, out: &mut String, report: ConvertReport) -> Option<()> {
+    for answer in report.answers.as_slice() {
+        say_answer(alloc, out, answer.as_ref())?;
+    }
+    Some(())
+}
+
+/// A case of a script: its conversion, and the tiles that are asked for.
+pub fn answer(alloc: Global, out: &mut String, fields: &mut Fields) -> Option<()> {
+    let script = bytes_of(alloc, fields.next())?;
+    match converted(alloc, script_of(alloc, &script)?) {
+        Ok(report) => said_report(alloc, out, report),
+        Err(error) => said_outcome(alloc, out, Outcome::Refused(error)),
+    }
+}
