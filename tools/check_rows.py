@@ -24,14 +24,20 @@ def some(value, show=str):
     return 'None' if value is None else f'Some({show(value)})'
 
 
-def checked(state):
-    """The stored hash, which has to be the computed one."""
+def hash_refusal(state):
+    """Why the stored hash isn't the computed one, or None."""
     stored, computed = state.names.get(AGG), aggregate(state.algorithm, state.tiles)
     if stored is None:
-        return 'Err(AggHashValueNotFound)'
+        return 'AggHashValueNotFound'
     if stored != computed:
-        return f'Err(AggHashMismatch {{ computed: {text(computed)}, stored: {text(stored)} }})'
-    return f'Ok({text(computed)})'
+        return f'AggHashMismatch {{ computed: {text(computed)}, stored: {text(stored)} }}'
+    return None
+
+
+def checked(state):
+    """The stored hash, which has to be the computed one."""
+    refusal = hash_refusal(state)
+    return f'Ok({text(state.names[AGG])})' if refusal is None else f'Err({refusal})'
 
 
 def own_tests(state):

@@ -1,6 +1,6 @@
 # What copying one set into another makes of the tables of its destination, and when it is refused, for tools/copy_cases.py. The rules are worked out on rows of tables.
 import shown
-from check_rows import aggregate
+from check_rows import aggregate, hash_refusal
 from patch_rows import AFTER, AGG, BEFORE, CONTENT_TABLES, TILE_TABLES, State, digest, order, put_row
 from set_rows import KEYS, LAYOUTS, TABLES, layout_tables, table
 
@@ -107,15 +107,6 @@ def made(layout):
 
 def bytes_of(cell):
     return None if cell == 'n' else bytes.fromhex(cell[1:])
-
-
-def hash_refusal(state):
-    stored, computed = state.names.get(AGG), aggregate(state.algorithm, state.tiles)
-    if stored is None:
-        return 'AggHashValueNotFound'
-    if stored != computed:
-        return f'AggHashMismatch {{ computed: {shown.text(computed)}, stored: {shown.text(stored)} }}'
-    return None
 
 
 def collision(state, algorithm, put):
