@@ -6,7 +6,6 @@ pub mod LevelLemmas
 pub mod MetadataLemmas
 pub mod OneLengthLemmas
 pub mod OpeningLemmas
-pub mod PairLemmas
 pub mod PlainLemmas
 pub mod PoppingLemmas
 pub mod QueueLemmas

@@ -38,10 +38,10 @@ use Rattle.pm_format.proofs.error.PmtError.TheLaws as error-laws
 use Rattle.pm_format.specs.contracts.error.PmtError as E-type
 use Rattle.pm_format.specs.declared.error.PmtError.TheVariants as errors
 use Rattle.pm_format.specs.declared.error.ReadCause.TheVariants as causes
-use Rattle.byte_media.proofs.ByHand.Bodies.{after, head, arm_body, then_runs}
-use Rattle.byte_media.proofs.ByHand.Values.{alone, and_tt, by_result, told, holds, beside, ok_out, err_out, ok_of, err_of}
-use Rattle.byte_media.proofs.ByHand.Rests.{rests_ok, rests_err}
-use Rattle.byte_media.proofs.ByHand.Lending.{Back, lends_within, gives_back}
+use Rattle.base_values.proofs.ByHand.Bodies.{after, head, arm_body, then_runs}
+use Rattle.base_values.proofs.ByHand.Values.{alone, and_tt, by_result, told, holds, beside, ok_out, err_out, ok_of, err_of}
+use Rattle.base_values.proofs.ByHand.Rests.{rests_ok, rests_err}
+use Rattle.base_values.proofs.ByHand.Lending.{Back, lends_within, gives_back}
 use Rattle.pm_reader.proofs.state.ReaderState.TheLaws as state
 use Rattle.pm_reader.specs.contracts.state.ReaderState as S-type
 use Rattle.pm_reader.specs.contracts.reader.PmTilesReader as W-type
@@ -52,7 +52,7 @@ use Rattle.pm_reader.specs.contracts.reader.PmTilesReader+B+C.try_from_cached_so
 use Rattle.pm_reader.proofs.reader.PmTilesReader+B+C.try_from_cached_source.Statement.{statement}
 use Rattle.pm_reader.proofs.reader.PmTilesReader+B+C.try_from_cached_source.Code as code
 use Rattle.pm_reader.specs.Refused.{LeftByOpening}
-use Rattle.pm_reader.proofs.PairLemmas.{pair_out}
+use Rattle.base_values.proofs.ByHand.Pairs.{pair_out}
 use Rattle.pm_reader.proofs.RefusedLemmas.{causes_again, failure, is_ok, no_fault, fits_cache, opens_again}
 
 pub try_from_cached_source_spec : {M : Type 1} → statement M

@@ -37,10 +37,10 @@ use Rattle.pm_format.proofs.error.PmtError.TheLaws as error-laws
 use Rattle.pm_format.specs.contracts.error.PmtError as E-type
 use Rattle.pm_format.specs.declared.error.PmtError.TheVariants as errors
 use Rattle.pm_format.specs.declared.error.ReadCause.TheVariants as causes
-use Rattle.byte_media.proofs.ByHand.Bodies.{after, head, arm_body, then_runs}
-use Rattle.byte_media.proofs.ByHand.Values.{alone, and_tt, by_result, told, holds, beside, ok_out, err_out, ok_of, err_of}
-use Rattle.byte_media.proofs.ByHand.Rests.{rests_ok, rests_err}
-use Rattle.byte_media.proofs.ByHand.Lending.{Back, lends_within, gives_back}
+use Rattle.base_values.proofs.ByHand.Bodies.{after, head, arm_body, then_runs}
+use Rattle.base_values.proofs.ByHand.Values.{alone, and_tt, by_result, told, holds, beside, ok_out, err_out, ok_of, err_of}
+use Rattle.base_values.proofs.ByHand.Rests.{rests_ok, rests_err}
+use Rattle.base_values.proofs.ByHand.Lending.{Back, lends_within, gives_back}
 use Rattle.pm_reader.proofs.state.ReaderState.TheLaws as state
 use Rattle.pm_reader.specs.contracts.state.ReaderState as S-type
 use Rattle.pm_reader.specs.contracts.cache.none.NoCache as N-type

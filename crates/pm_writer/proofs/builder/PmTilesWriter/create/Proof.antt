@@ -46,14 +46,14 @@ use Rattle.pm_writer.specs.contracts.builder.PmTilesWriter.create as f
 use Rattle.pm_writer.specs.contracts.builder.PmTilesWriter.create.Key.{name as #self}
 use Rattle.pm_writer.proofs.builder.PmTilesWriter.create.Statement.{statement}
 use Rattle.pm_writer.proofs.builder.PmTilesWriter.create.Code as code
-use Rattle.byte_media.proofs.ByHand.Bodies.{after, head, arm_body, then_runs}
+use Rattle.base_values.proofs.ByHand.Bodies.{after, head, arm_body, then_runs}
 use Rattle.pm_writer.specs.Refused.{LeftByCreate}
 use Rattle.pm_format.specs.declared.error.PmtError.TheVariants as errors
 use Rattle.pm_format.specs.declared.error.ReadCause.TheVariants as causes
 use Rattle.pm_writer.proofs.Creating.{causes_again, refusals_again, is_ok, no_fault}
-use Rattle.byte_media.proofs.ByHand.Values.{alone, and_tt, by_result, told, holds, beside, ok_out, err_out, ok_of, err_of}
-use Rattle.byte_media.proofs.ByHand.Rests.{rests_ok, rests_err}
-use Rattle.byte_media.proofs.ByHand.Lending.{Back, lends_within, gives_back}
+use Rattle.base_values.proofs.ByHand.Values.{alone, and_tt, by_result, told, holds, beside, ok_out, err_out, ok_of, err_of}
+use Rattle.base_values.proofs.ByHand.Rests.{rests_ok, rests_err}
+use Rattle.base_values.proofs.ByHand.Lending.{Back, lends_within, gives_back}
 
 pub create_spec : {M : Type 1} → statement M
 create_spec 𝓤 𝓛 𝓜 𝓡 wired Y L gm dm gb db mm mb =

@@ -11,7 +11,7 @@ use denote.Steps.{only}
 use denote.Param.{layout}
 use denote.Param.Laws.{Laws}
 use denote.Struct.Tuple.{Tuple}
-use Rattle.byte_media.proofs.ByHand.Values.{one_of}
+use Rattle.base_values.proofs.ByHand.Values.{one_of}
 
 module _ {M : Type 1} {𝓤 : Ura M} {𝓛 : Logic 𝓤} {K : Type 0} {Γ : List (Item 𝓤)} {G : Goal 𝓤 𝓛.H} (R R' : RattleType) where
   -- what is owned of a pair is two machine values, one behind the other
