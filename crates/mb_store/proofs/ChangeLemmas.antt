@@ -1,5 +1,5 @@
 -- Changes stay one for each table and key, each row under its own.
-use Rattle.std.proofs.Common.{◌≡◌, ℕ, ◌<◌, ◌++◌, ◌∙◌, Bool, true, false, List, [], ◌∷◌, Option, Some, None, length, length-set, get_or, set, cond, refl, sym, ap, subst, arith, Result, Ok, Err, inl, inr, ◌⊎◌}
+use Rattle.std.proofs.Common.{◌≡◌, ℕ, ◌<◌, ◌++◌, ◌∙◌, true, false, List, [], ◌∷◌, Option, Some, None, length, length-set, get_or, set, refl, sym, ap, subst, arith, Result, Ok, Err, inl, inr, ◌⊎◌}
 use Rattle.std.specs.Prelude.{AllPairs, OnOk, OnErr, position}
 use Rattle.std.specs.Ordering.{is_eq, nat_cmp}
 use Rattle.std.specs.Cmp.{IsEquivalence, eq_by_cmp_equiv, unsigned_ties, both_tied}

@@ -1,5 +1,5 @@
 -- What a commit leaves under the keys of its changes, under each other key, and of all rows.
-use Rattle.std.proofs.Common.{◌≡◌, ◌∙◌, ap, sym, subst, ℕ, ◌<◌, ◌&&◌, Option, Some, None, List, [], ◌∷◌, Bool, true, false, not, cond, filter, find, refl, length, get_or, inl, inr}
+use Rattle.std.proofs.Common.{◌≡◌, ◌∙◌, ap, sym, subst, ℕ, ◌<◌, ◌&&◌, Option, Some, None, List, [], Bool, true, false, not, filter, find, refl, length, get_or, inl, inr}
 use Rattle.std.specs.Prelude.{All, IfSome, option_to_list}
 use Rattle.std.specs.List.{Any}
 use Rattle.std.proofs.lemmas.Bool.{false≢true, cases_Bool}

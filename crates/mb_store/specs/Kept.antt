@@ -1,5 +1,6 @@
 -- What calls keep of a store.
-use Rattle.std.specs.Prelude.{◌≡◌, ℕ, ◌≤◌, Bool}
+use Rattle.std.specs.Prelude.{◌≡◌, ℕ, ◌≤◌, Bool, IsErrOf, Result}
+use Rattle.base_values.specs.Counts.{Rose}
 
 -- of any call: whether it tells stays; its count of faults doesn't fall, and stands where its calls don't fail, which stays so
 pub record Keeps {S : Type 0} (shows : S → Bool) (failed : S → ℕ) (unfailing : S → Type 0) (before now : S) : Type 0 where
@@ -15,3 +16,7 @@ pub record ReadsOnly {S T : Type 0} (holds : S → T) (shows : S → Bool) (fail
   pub faults : failed before ≤ failed now
   pub steady : unfailing before → unfailing now
   pub calm : unfailing before → failed now ≡ failed before
+
+-- a fault is answered only where the count of faults rose
+abbrev pub FaultsCounted : {S A E : Type 0} → (S → ℕ) → S → S → Result A E → E → Type 0
+FaultsCounted failed before now result fault = IsErrOf result fault → Rose (failed before) (failed now)

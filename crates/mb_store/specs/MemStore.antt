@@ -1,5 +1,6 @@
 -- What a store in memory tells.
-use Rattle.std.specs.Prelude.{ℕ, ◌≡◌, true, []}
+use Rattle.std.specs.Prelude.{ℕ, ◌≡◌, ◌↔◌, true, [], IsErrOf, Result}
+use Rattle.base_values.specs.FailingCalls.{next_fails}
 use Rattle.base_values.specs.declared.failing_calls.FailingCalls.{FailingCalls}
 use Rattle.mb_tables.specs.Table.{Tables}
 use Rattle.mb_store.specs.Store.{IsSound}
@@ -17,6 +18,10 @@ failing_of s = s.failing
 -- how often it failed
 unfoldable pub faults_of : MemStore → ℕ
 faults_of s = s.failing.faults
+
+-- a call fails exactly where it is one of those that are to
+abbrev pub FailsAsListed : {A E : Type 0} → MemStore → Result A E → E → Type 0
+FailsAsListed s result fault = IsErrOf result fault ↔ (next_fails (failing_of s) ≡ true)
 
 -- no call is to fail
 unfoldable pub IsSteady : MemStore → Type 0

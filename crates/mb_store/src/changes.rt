@@ -52,9 +52,12 @@ impl Changes {
     pub fn put(&mut self, table: TableName, key: RowKey, row: Row) -> Result<(), OutOfMemory>
         requires own { has_key table key row ≡ true }
         requires wide { length row ≡ width table }
-        ensures ok { OnOk result (self.new ≡ with_change self.old (record { table = table; key = key; row = Some row })) }
+        ensures ok { OnOk result
+            (self.new ≡ with_change self.old
+            (record { table = table; key = key; row = Some row })) }
         ensures err { OnErr result (self.new ≡ self.old) }
-        ensures tables { (ds : List TableDesc) → AreOfTables ds self.old → is_table ds table ≡ true → AreOfTables ds self.new }
+        ensures tables { (ds : List TableDesc) → AreOfTables ds self.old → is_table ds table ≡ true
+            → AreOfTables ds self.new }
     {
         let change = Change {
             table,
@@ -66,9 +69,11 @@ impl Changes {
 
     /// Removes the rows of a key.
     pub fn delete(&mut self, table: TableName, key: RowKey) -> Result<(), OutOfMemory>
-        ensures ok { OnOk result (self.new ≡ with_change self.old (record { table = table; key = key; row = None })) }
+        ensures ok { OnOk result
+            (self.new ≡ with_change self.old (record { table = table; key = key; row = None })) }
         ensures err { OnErr result (self.new ≡ self.old) }
-        ensures tables { (ds : List TableDesc) → AreOfTables ds self.old → is_table ds table ≡ true → AreOfTables ds self.new }
+        ensures tables { (ds : List TableDesc) → AreOfTables ds self.old → is_table ds table ≡ true
+            → AreOfTables ds self.new }
     {
         let change = Change {
             table,
@@ -95,7 +100,8 @@ impl Changes {
     /// The change at a place: its table, its key, and the row that is put, None where the rows are removed.
     pub fn change_at(&self, index: usize) -> (TableName, &RowKey, Option<&Row>)
         requires { index < length self.now }
-        ensures change { slice_get self.now index ≡ Some (record { table = result.0; key = result.1.now; row = option_copied result.2 }) }
+        ensures change { slice_get self.now index ≡ Some
+            (record { table = result.0; key = result.1.now; row = option_copied result.2 }) }
         ensures sound { AreChanges self.now }
     {
         let change = &self.changes[index];

@@ -48,8 +48,10 @@ fn prepare_all(
     changes: &[Change],
     tables: &MemTables,
 ) -> Result<ByTable<Edits>, OutOfMemory>
-    ensures keys { IfOk result (λ edits. (table : TableName) → (at edits table).keys.items ≡ keys_of table changes.now) }
-    ensures start { IfOk result (λ edits. (table : TableName) → (at edits table).start ≡ (at tables.now table).next) }
+    ensures keys { IfOk result
+        (λ edits. (table : TableName) → (at edits table).keys.items ≡ keys_of table changes.now) }
+    ensures start { IfOk result
+        (λ edits. (table : TableName) → (at edits table).start ≡ (at tables.now table).next) }
 {
     Ok(ByTable {
         tiles: prepare(alloc, TableName::Tiles, changes, &tables.tiles)?,
@@ -77,8 +79,12 @@ fn prepare_all(
 fn put_tables(alloc: Global, changes: &[Change], tables: &mut MemTables) -> Result<(), OutOfMemory>
     requires sound { AreChanges changes.now }
     requires stored { AreAllStored tables.old }
-    ensures early { (table : TableName) → early_rows (at tables.old table).next (at tables.new table).stored.keys ≡ (at tables.old table).stored.keys }
-    ensures ok { OnOk result ((table : TableName) → AreAdded table changes.now (at tables.old table).next (at tables.old table).stored.keys (at tables.new table).stored.keys) }
+    ensures early { (table : TableName)
+        → early_rows (at tables.old table).next (at tables.new table).stored.keys ≡
+        (at tables.old table).stored.keys }
+    ensures ok { OnOk result ((table : TableName)
+        → AreAdded table changes.now (at tables.old table).next (at tables.old table).stored.keys
+        (at tables.new table).stored.keys) }
     ensures stored { AreAllStored tables.new }
 {
     put_all(alloc, TableName::Tiles, changes, &mut tables.tiles)?;
@@ -105,7 +111,9 @@ fn put_tables(alloc: Global, changes: &[Change], tables: &mut MemTables) -> Resu
 // Removes all rows that were put.
 fn undo_tables(edits: &ByTable<Edits>, tables: &mut MemTables)
     requires { AreAllStored tables.old }
-    ensures rows { (table : TableName) → (at tables.new table).stored.keys ≡ early_rows (at edits.now table).start (at tables.old table).stored.keys }
+    ensures rows { (table : TableName)
+        → (at tables.new table).stored.keys ≡ early_rows (at edits.now table).start
+        (at tables.old table).stored.keys }
     ensures stored { AreAllStored tables.new }
 {
     undo(TableName::Tiles, edits.tiles.start, &mut tables.tiles);
@@ -141,7 +149,8 @@ fn undo_tables(edits: &ByTable<Edits>, tables: &mut MemTables)
 // Removes the rows of changed keys that were there before.
 fn remove_table(table: TableName, edits: Edits, rows: &mut TableRows)
     requires { AreStored table rows.old }
-    ensures rows { rows.new.stored.keys ≡ removed edits.keys.items edits.start rows.old.stored.keys }
+    ensures rows { rows.new.stored.keys ≡ removed edits.keys.items edits.start
+        rows.old.stored.keys }
     ensures stored { AreStored table rows.new }
 {
     remove_all(table, edits.keys, edits.start, rows);
@@ -150,7 +159,9 @@ fn remove_table(table: TableName, edits: Edits, rows: &mut TableRows)
 // Removes the rows of changed keys that were there before, in each table.
 fn remove_tables(edits: ByTable<Edits>, tables: &mut MemTables)
     requires { AreAllStored tables.old }
-    ensures rows { (table : TableName) → (at tables.new table).stored.keys ≡ removed (at edits table).keys.items (at edits table).start (at tables.old table).stored.keys }
+    ensures rows { (table : TableName)
+        → (at tables.new table).stored.keys ≡ removed (at edits table).keys.items
+        (at edits table).start (at tables.old table).stored.keys }
     ensures stored { AreAllStored tables.new }
 {
     remove_table(TableName::Tiles, edits.tiles, &mut tables.tiles);
@@ -187,8 +198,10 @@ pub(crate) fn commit_all(
 ) -> Result<(), OutOfMemory>
     requires sound { AreChanges changes.now }
     requires stored { AreAllStored tables.old }
-    ensures ok { OnOk result ((table : TableName) → CommitsTable changes.now table (rows_at tables.old table) (rows_at tables.new table)) }
-    ensures err { OnErr result ((table : TableName) → rows_at tables.new table ≡ rows_at tables.old table) }
+    ensures ok { OnOk result ((table : TableName)
+        → CommitsTable changes.now table (rows_at tables.old table) (rows_at tables.new table)) }
+    ensures err { OnErr result ((table : TableName)
+        → rows_at tables.new table ≡ rows_at tables.old table) }
     ensures stored { AreAllStored tables.new }
 {
     let edits = prepare_all(alloc, changes, tables)?;

@@ -1,7 +1,6 @@
 // The tables and views that the project itself creates in a store.
-ghost use Rattle.mb_store.specs.Kept.{Keeps, ReadsOnly};
-ghost use Rattle.std.specs.Prelude.{◌≡◌, ◌≤◌, ◌⊎◌, ◌↔◌, [], ◌∷◌, true, false, IfErr, IfOk, IsErrOf, IsTrue, OnErr, OnOk};
-ghost use Rattle.base_values.specs.Counts.{Rose};
+ghost use Rattle.mb_store.specs.Kept.{FaultsCounted, Keeps, ReadsOnly};
+ghost use Rattle.std.specs.Prelude.{◌≡◌, ◌≤◌, ◌⊎◌, ◌↔◌, [], ◌∷◌, true, false, IfErr, IfOk, IsTrue, OnErr, OnOk};
 ghost use Rattle.mb_tables.specs.Schema.{layout_tables, set_tables, started_as, table_of, view_of};
 ghost use Rattle.mb_store.specs.Store.{created};
 ghost use Rattle.mb_tables.specs.declared.error.MbtError.{MbtError};
@@ -12,11 +11,12 @@ use std::alloc::Global;
 
 /// Creates the table `tiles`, where that name isn't described yet. Refused, the store stands as it was.
 pub fn create_flat_tables<S: TileStore>(alloc: Global, store: &mut S) -> MbtResult<()>
-    ensures ok { S.tells store.old ≡ true → OnOk result (S.told store.new ≡ created (S.told store.old) (layout_tables MbtType.Flat)) }
+    ensures ok { S.tells store.old ≡ true
+        → OnOk result (S.told store.new ≡ created (S.told store.old) (layout_tables MbtType.Flat)) }
     ensures err { OnErr result (S.told store.new ≡ S.told store.old) }
     ensures errors { IfErr result (λ e. (e ≡ MbtError.StoreFault) ⊎ (e ≡ MbtError.OutOfMemory)) }
     ensures kept { Keeps S.tells S.faults S.steady store.old store.new }
-    ensures fault { IsErrOf result MbtError.StoreFault → Rose (S.faults store.old) (S.faults store.new) }
+    ensures fault { FaultsCounted S.faults store.old store.new result MbtError.StoreFault }
 {
     let tables = layout_tables(alloc, MbtType::Flat)?;
     store.create(alloc, tables.as_slice())?;
@@ -25,11 +25,13 @@ pub fn create_flat_tables<S: TileStore>(alloc: Global, store: &mut S) -> MbtResu
 
 /// Creates the table `tiles_with_hash` and the view `tiles`, each where its name isn't described yet. Refused, the store stands as it was.
 pub fn create_flat_with_hash_tables<S: TileStore>(alloc: Global, store: &mut S) -> MbtResult<()>
-    ensures ok { S.tells store.old ≡ true → OnOk result (S.told store.new ≡ created (S.told store.old) (layout_tables MbtType.FlatWithHash)) }
+    ensures ok { S.tells store.old ≡ true
+        → OnOk result
+        (S.told store.new ≡ created (S.told store.old) (layout_tables MbtType.FlatWithHash)) }
     ensures err { OnErr result (S.told store.new ≡ S.told store.old) }
     ensures errors { IfErr result (λ e. (e ≡ MbtError.StoreFault) ⊎ (e ≡ MbtError.OutOfMemory)) }
     ensures kept { Keeps S.tells S.faults S.steady store.old store.new }
-    ensures fault { IsErrOf result MbtError.StoreFault → Rose (S.faults store.old) (S.faults store.new) }
+    ensures fault { FaultsCounted S.faults store.old store.new result MbtError.StoreFault }
 {
     let tables = layout_tables(alloc, MbtType::FlatWithHash)?;
     store.create(alloc, tables.as_slice())?;
@@ -39,11 +41,14 @@ pub fn create_flat_with_hash_tables<S: TileStore>(alloc: Global, store: &mut S) 
 /// Creates the tables `map` and `images` and the view `tiles`, each where its name isn't described yet. Refused, the store stands as it
 /// was.
 pub fn create_normalized_tables<S: TileStore>(alloc: Global, store: &mut S) -> MbtResult<()>
-    ensures ok { S.tells store.old ≡ true → OnOk result (S.told store.new ≡ created (S.told store.old) (layout_tables (MbtType.Normalized false NormalizedSchema.Hash))) }
+    ensures ok { S.tells store.old ≡ true
+        → OnOk result
+        (S.told store.new ≡ created (S.told store.old)
+        (layout_tables (MbtType.Normalized false NormalizedSchema.Hash))) }
     ensures err { OnErr result (S.told store.new ≡ S.told store.old) }
     ensures errors { IfErr result (λ e. (e ≡ MbtError.StoreFault) ⊎ (e ≡ MbtError.OutOfMemory)) }
     ensures kept { Keeps S.tells S.faults S.steady store.old store.new }
-    ensures fault { IsErrOf result MbtError.StoreFault → Rose (S.faults store.old) (S.faults store.new) }
+    ensures fault { FaultsCounted S.faults store.old store.new result MbtError.StoreFault }
 {
     let layout = MbtType::Normalized {
         hash_view: false,
@@ -56,11 +61,13 @@ pub fn create_normalized_tables<S: TileStore>(alloc: Global, store: &mut S) -> M
 
 /// Creates the table `tile_cache` and the view `tiles`, each where its name isn't described yet. Refused, the store stands as it was.
 pub fn create_cache_tables<S: TileStore>(alloc: Global, store: &mut S) -> MbtResult<()>
-    ensures ok { S.tells store.old ≡ true → OnOk result (S.told store.new ≡ created (S.told store.old) (layout_tables MbtType.Cache)) }
+    ensures ok { S.tells store.old ≡ true
+        → OnOk result
+        (S.told store.new ≡ created (S.told store.old) (layout_tables MbtType.Cache)) }
     ensures err { OnErr result (S.told store.new ≡ S.told store.old) }
     ensures errors { IfErr result (λ e. (e ≡ MbtError.StoreFault) ⊎ (e ≡ MbtError.OutOfMemory)) }
     ensures kept { Keeps S.tells S.faults S.steady store.old store.new }
-    ensures fault { IsErrOf result MbtError.StoreFault → Rose (S.faults store.old) (S.faults store.new) }
+    ensures fault { FaultsCounted S.faults store.old store.new result MbtError.StoreFault }
 {
     let tables = layout_tables(alloc, MbtType::Cache)?;
     store.create(alloc, tables.as_slice())?;
@@ -69,11 +76,13 @@ pub fn create_cache_tables<S: TileStore>(alloc: Global, store: &mut S) -> MbtRes
 
 /// Creates the table `metadata`, where that name isn't described yet. Refused, the store stands as it was.
 pub fn create_metadata_table<S: TileStore>(alloc: Global, store: &mut S) -> MbtResult<()>
-    ensures ok { S.tells store.old ≡ true → OnOk result (S.told store.new ≡ created (S.told store.old) (table_of TableName.Metadata ∷ [])) }
+    ensures ok { S.tells store.old ≡ true
+        → OnOk result
+        (S.told store.new ≡ created (S.told store.old) (table_of TableName.Metadata ∷ [])) }
     ensures err { OnErr result (S.told store.new ≡ S.told store.old) }
     ensures errors { IfErr result (λ e. (e ≡ MbtError.StoreFault) ⊎ (e ≡ MbtError.OutOfMemory)) }
     ensures kept { Keeps S.tells S.faults S.steady store.old store.new }
-    ensures fault { IsErrOf result MbtError.StoreFault → Rose (S.faults store.old) (S.faults store.new) }
+    ensures fault { FaultsCounted S.faults store.old store.new result MbtError.StoreFault }
 {
     let mut tables = Vec::new(alloc);
     tables.push(table_of(alloc, TableName::Metadata)?)?;
@@ -83,11 +92,13 @@ pub fn create_metadata_table<S: TileStore>(alloc: Global, store: &mut S) -> MbtR
 
 /// Creates the view `tiles_with_hash`, where that name isn't described yet. Refused, the store stands as it was.
 pub fn create_tiles_with_hash_view<S: TileStore>(alloc: Global, store: &mut S) -> MbtResult<()>
-    ensures ok { S.tells store.old ≡ true → OnOk result (S.told store.new ≡ created (S.told store.old) (view_of TableName.TilesWithHash ∷ [])) }
+    ensures ok { S.tells store.old ≡ true
+        → OnOk result
+        (S.told store.new ≡ created (S.told store.old) (view_of TableName.TilesWithHash ∷ [])) }
     ensures err { OnErr result (S.told store.new ≡ S.told store.old) }
     ensures errors { IfErr result (λ e. (e ≡ MbtError.StoreFault) ⊎ (e ≡ MbtError.OutOfMemory)) }
     ensures kept { Keeps S.tells S.faults S.steady store.old store.new }
-    ensures fault { IsErrOf result MbtError.StoreFault → Rose (S.faults store.old) (S.faults store.new) }
+    ensures fault { FaultsCounted S.faults store.old store.new result MbtError.StoreFault }
 {
     let mut tables = Vec::new(alloc);
     tables.push(view_of(alloc, TableName::TilesWithHash)?)?;
@@ -97,11 +108,12 @@ pub fn create_tiles_with_hash_view<S: TileStore>(alloc: Global, store: &mut S) -
 
 /// Creates the table `metadata` and what `create_cache_tables` does. Refused, the store stands as it was.
 pub fn create_cache_schema<S: TileStore>(alloc: Global, store: &mut S) -> MbtResult<()>
-    ensures ok { S.tells store.old ≡ true → OnOk result (S.told store.new ≡ created (S.told store.old) (set_tables MbtType.Cache)) }
+    ensures ok { S.tells store.old ≡ true
+        → OnOk result (S.told store.new ≡ created (S.told store.old) (set_tables MbtType.Cache)) }
     ensures err { OnErr result (S.told store.new ≡ S.told store.old) }
     ensures errors { IfErr result (λ e. (e ≡ MbtError.StoreFault) ⊎ (e ≡ MbtError.OutOfMemory)) }
     ensures kept { Keeps S.tells S.faults S.steady store.old store.new }
-    ensures fault { IsErrOf result MbtError.StoreFault → Rose (S.faults store.old) (S.faults store.new) }
+    ensures fault { FaultsCounted S.faults store.old store.new result MbtError.StoreFault }
 {
     let tables = set_tables(alloc, MbtType::Cache)?;
     store.create(alloc, tables.as_slice())?;
@@ -128,11 +140,13 @@ pub fn init_mbtiles_schema<S: TileStore>(
     store: &mut S,
     mbt_type: MbtType,
 ) -> MbtResult<()>
-    ensures ok { S.tells store.old ≡ true → OnOk result (S.told store.new ≡ created (S.told store.old) (set_tables (started_as mbt_type))) }
+    ensures ok { S.tells store.old ≡ true
+        → OnOk result
+        (S.told store.new ≡ created (S.told store.old) (set_tables (started_as mbt_type))) }
     ensures err { OnErr result (S.told store.new ≡ S.told store.old) }
     ensures errors { IfErr result (λ e. (e ≡ MbtError.StoreFault) ⊎ (e ≡ MbtError.OutOfMemory)) }
     ensures kept { Keeps S.tells S.faults S.steady store.old store.new }
-    ensures fault { IsErrOf result MbtError.StoreFault → Rose (S.faults store.old) (S.faults store.new) }
+    ensures fault { FaultsCounted S.faults store.old store.new result MbtError.StoreFault }
 {
     let tables = set_tables(alloc, started_as(mbt_type))?;
     store.create(alloc, tables.as_slice())?;
@@ -141,10 +155,11 @@ pub fn init_mbtiles_schema<S: TileStore>(
 
 /// Whether the store describes nothing.
 pub fn is_empty_database<S: TileStore>(alloc: Global, store: &mut S) -> MbtResult<bool>
-    ensures answer { S.tells store.old ≡ true → IfOk result (λ empty. IsTrue empty ↔ ((S.told store.old).descriptions ≡ [])) }
+    ensures answer { S.tells store.old ≡ true → IfOk result
+        (λ empty. IsTrue empty ↔ ((S.told store.old).descriptions ≡ [])) }
     ensures kept { ReadsOnly S.told S.tells S.faults S.steady store.old store.new }
     ensures errors { IfErr result (λ e. (e ≡ MbtError.StoreFault) ⊎ (e ≡ MbtError.OutOfMemory)) }
-    ensures fault { IsErrOf result MbtError.StoreFault → Rose (S.faults store.old) (S.faults store.new) }
+    ensures fault { FaultsCounted S.faults store.old store.new result MbtError.StoreFault }
 {
     let tables = store.describe(alloc)?;
     Ok(tables.is_empty())

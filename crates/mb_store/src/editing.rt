@@ -37,9 +37,11 @@ fn put(
     change: &Change,
     rows: &mut TableRows,
 ) -> Result<(), OutOfMemory>
-    requires fits { table_eq change.now.table table ≡ true → IfSome change.now.row (λ row. length row ≡ width table) }
+    requires fits { table_eq change.now.table table ≡ true → IfSome change.now.row
+        (λ row. length row ≡ width table) }
     requires stored { AreStored table rows.old }
-    ensures ok { OnOk result (rows.new.stored.keys ≡ with_put table change.now rows.old.next rows.old.stored.keys) }
+    ensures ok { OnOk result (rows.new.stored.keys ≡ with_put table change.now rows.old.next
+        rows.old.stored.keys) }
     ensures err { OnErr result (rows.new.stored.keys ≡ rows.old.stored.keys) }
     ensures later { rows.old.next ≤ rows.new.next }
     ensures stored { AreStored table rows.new }
@@ -63,7 +65,8 @@ pub(crate) fn put_all(
     requires sound { AreChanges changes.now }
     requires stored { AreStored table rows.old }
     ensures early { early_rows rows.old.next rows.new.stored.keys ≡ rows.old.stored.keys }
-    ensures ok { OnOk result (AreAdded table changes.now rows.old.next rows.old.stored.keys rows.new.stored.keys) }
+    ensures ok { OnOk result (AreAdded table changes.now rows.old.next rows.old.stored.keys
+        rows.new.stored.keys) }
     ensures stored { AreStored table rows.new }
 {
     for change in changes {
@@ -84,7 +87,8 @@ pub(crate) fn undo(table: TableName, start: u64, rows: &mut TableRows)
 // Removes the rows of a key that came before a number.
 fn remove(table: TableName, key: StoredRow, start: u64, rows: &mut TableRows)
     requires { AreStored table rows.old }
-    ensures rows { rows.new.stored.keys ≡ filter (λ s. not (is_early key.0 start s)) rows.old.stored.keys }
+    ensures rows { rows.new.stored.keys ≡ filter
+        (λ s. not (is_early key.0 start s)) rows.old.stored.keys }
     ensures stored { AreStored table rows.new }
 {
     let mut key = key;

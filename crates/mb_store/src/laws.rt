@@ -14,10 +14,17 @@ pub use mb_tables::laws::{solid_at_each_place, tiles_at_each_place};
 
 /// After a commit the row of each change, or none, is found under its key.
 pub fn found_after_commit()
-    ensures { (changes : List Change) (table : TableName) (old new : List (List Cell)) → CommitsTable changes table old new → All (λ c. table_eq c.table table ≡ true → first (has_key table c.key) new ≡ c.row) changes }
+    ensures { (changes : List Change) (table : TableName) (old new : List (List Cell))
+        → CommitsTable changes table old new
+        → All (λ c. table_eq c.table table ≡ true → first (has_key table c.key) new ≡ c.row)
+        changes }
 {}
 
 /// After a commit the rows of a key that no change has stand as they stood.
 pub fn left_after_commit()
-    ensures { (changes : List Change) (table : TableName) (old new : List (List Cell)) → CommitsTable changes table old new → (key : RowKey) → All (λ c. table_eq c.table table ≡ true → cells_eq (key_cells c.key) (key_cells key) ≡ false) changes → filter (has_key table key) new ≡ filter (has_key table key) old }
+    ensures { (changes : List Change) (table : TableName) (old new : List (List Cell))
+        → CommitsTable changes table old new → (key : RowKey)
+        → All (λ c. table_eq c.table table ≡ true
+        → cells_eq (key_cells c.key) (key_cells key) ≡ false) changes
+        → filter (has_key table key) new ≡ filter (has_key table key) old }
 {}

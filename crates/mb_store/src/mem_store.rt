@@ -1,6 +1,5 @@
 // A store of tables in memory.
-ghost use Rattle.std.specs.Prelude.{◌≡◌, ◌↔◌, ◌⊎◌, ◌≤◌, true, [], All, drop, find, length, take, IfErr, IfOk, IfSome, IsErrOf, IsOkUnless, IsTrue, OnErr, OnOk};
-ghost use Rattle.base_values.specs.Counts.{Rose};
+ghost use Rattle.std.specs.Prelude.{◌≡◌, ◌↔◌, ◌⊎◌, ◌≤◌, true, [], All, drop, find, length, take, IfErr, IfOk, IfSome, IsOkUnless, IsTrue, OnErr, OnOk};
 ghost use Rattle.base_values.specs.FailingCalls.{called, next_fails};
 ghost use Rattle.mb_tables.specs.Described.{is_table, names_apart};
 ghost use Rattle.mb_tables.specs.Key.{IsInOrder, has_key};
@@ -10,6 +9,8 @@ ghost use Rattle.mb_store.specs.Committing.{AreOfTables, Commits};
 ghost use Rattle.mb_store.specs.MemTables.{AreKeyed, IsKept};
 ghost use Rattle.mb_store.specs.Sizes.{live_size_of};
 ghost use Rattle.mb_store.specs.Store.{created, is_duplicate, no_rows, with_row};
+ghost use Rattle.mb_store.specs.Errors.{IsRowError, RefusesTwice};
+ghost use Rattle.mb_store.specs.Kept.{FaultsCounted};
 
 use crate::by_table::ByTable;
 use crate::mem_tables::MemTables;
@@ -78,8 +79,8 @@ impl MemStore {
     pub fn push_row(&mut self, table: TableName, row: Row) -> MbtResult<()>
         requires described { is_table (told_of self.old).descriptions table ≡ true }
         requires wide { length row ≡ width table }
-        ensures duplicate { IsErrOf result (MbtError.DuplicateRow table) ↔ (is_duplicate (told_of self.old) table row ≡ true) }
-        ensures errors { IfErr result (λ e. (e ≡ MbtError.DuplicateRow table) ⊎ (e ≡ MbtError.OutOfMemory)) }
+        ensures duplicate { RefusesTwice table (is_duplicate (told_of self.old) table row) result }
+        ensures errors { IfErr result (IsRowError table) }
         ensures ok { OnOk result (told_of self.new ≡ with_row (told_of self.old) table row) }
         ensures err { OnErr result (told_of self.new ≡ told_of self.old) }
         ensures faults { faults_of self.new ≡ faults_of self.old }
@@ -111,7 +112,7 @@ impl MemStore {
 #[tactic(auto, unfolding(crate::specs::MemStore::told_of, crate::specs::MemStore::failing_of, crate::specs::MemStore::faults_of, crate::specs::MemStore::IsSteady))]
 impl TileStore for MemStore {
     ghost use Rattle.std.specs.Prelude.{true};
-    ghost use Rattle.mb_store.specs.MemStore.{told_of, failing_of, faults_of, IsSteady, told_sound};
+    ghost use Rattle.mb_store.specs.MemStore.{told_of, failing_of, faults_of, FailsAsListed, IsSteady, told_sound};
 
     ghost tells = { λ _. true };
 
@@ -124,10 +125,10 @@ impl TileStore for MemStore {
     fn describe(&mut self, alloc: Global) -> Result<Vec<TableDesc>, StoreError>
         ensures answer { IfOk result (λ tables. tables.items ≡ (told_of self.old).descriptions) }
         ensures told { told_of self.new ≡ told_of self.old }
-        ensures fails { IsErrOf result StoreError.Fault ↔ (next_fails (failing_of self.old) ≡ true) }
+        ensures fails { FailsAsListed self.old result StoreError.Fault }
         ensures after { failing_of self.new ≡ called (failing_of self.old) }
         ensures faults { faults_of self.old ≤ faults_of self.new }
-        ensures fault { IsErrOf result StoreError.Fault → Rose (faults_of self.old) (faults_of self.new) }
+        ensures fault { FaultsCounted faults_of self.old self.new result StoreError.Fault }
         ensures steady { IsSteady self.old → IsSteady self.new }
         ensures calm { IsSteady self.old → faults_of self.new ≡ faults_of self.old }
     {
@@ -140,10 +141,10 @@ impl TileStore for MemStore {
     fn count_rows(&mut self, table: TableName) -> Result<u64, StoreError>
         ensures answer { IfOk result (λ count. count ≡ length ((told_of self.old).rows table)) }
         ensures told { told_of self.new ≡ told_of self.old }
-        ensures fails { IsErrOf result StoreError.Fault ↔ (next_fails (failing_of self.old) ≡ true) }
+        ensures fails { FailsAsListed self.old result StoreError.Fault }
         ensures after { failing_of self.new ≡ called (failing_of self.old) }
         ensures faults { faults_of self.old ≤ faults_of self.new }
-        ensures fault { IsErrOf result StoreError.Fault → Rose (faults_of self.old) (faults_of self.new) }
+        ensures fault { FaultsCounted faults_of self.old self.new result StoreError.Fault }
         ensures steady { IsSteady self.old → IsSteady self.new }
         ensures calm { IsSteady self.old → faults_of self.new ≡ faults_of self.old }
     {
@@ -160,14 +161,15 @@ impl TileStore for MemStore {
         from: u64,
         limit: u64,
     ) -> Result<Vec<Row>, StoreError>
-        ensures answer { IfOk result (λ rows. rows.items ≡ take limit (drop from ((told_of self.old).rows table))) }
+        ensures answer { IfOk result
+            (λ rows. rows.items ≡ take limit (drop from ((told_of self.old).rows table))) }
         ensures widths { IfOk result (λ rows. All (λ row. length row ≡ width table) rows.items) }
         ensures limit { IfOk result (λ rows. length rows.items ≤ limit) }
         ensures told { told_of self.new ≡ told_of self.old }
-        ensures fails { IsErrOf result StoreError.Fault ↔ (next_fails (failing_of self.old) ≡ true) }
+        ensures fails { FailsAsListed self.old result StoreError.Fault }
         ensures after { failing_of self.new ≡ called (failing_of self.old) }
         ensures faults { faults_of self.old ≤ faults_of self.new }
-        ensures fault { IsErrOf result StoreError.Fault → Rose (faults_of self.old) (faults_of self.new) }
+        ensures fault { FaultsCounted faults_of self.old self.new result StoreError.Fault }
         ensures steady { IsSteady self.old → IsSteady self.new }
         ensures calm { IsSteady self.old → faults_of self.new ≡ faults_of self.old }
     {
@@ -184,13 +186,14 @@ impl TileStore for MemStore {
         table: TableName,
         key: &RowKey,
     ) -> Result<Option<Row>, StoreError>
-        ensures answer { IfOk result (λ row. row ≡ find (has_key table key.now) ((told_of self.old).rows table)) }
+        ensures answer { IfOk result
+            (λ row. row ≡ find (has_key table key.now) ((told_of self.old).rows table)) }
         ensures widths { IfOk result (λ row. IfSome row (λ row. length row ≡ width table)) }
         ensures told { told_of self.new ≡ told_of self.old }
-        ensures fails { IsErrOf result StoreError.Fault ↔ (next_fails (failing_of self.old) ≡ true) }
+        ensures fails { FailsAsListed self.old result StoreError.Fault }
         ensures after { failing_of self.new ≡ called (failing_of self.old) }
         ensures faults { faults_of self.old ≤ faults_of self.new }
-        ensures fault { IsErrOf result StoreError.Fault → Rose (faults_of self.old) (faults_of self.new) }
+        ensures fault { FaultsCounted faults_of self.old self.new result StoreError.Fault }
         ensures steady { IsSteady self.old → IsSteady self.new }
         ensures calm { IsSteady self.old → faults_of self.new ≡ faults_of self.old }
     {
@@ -203,10 +206,10 @@ impl TileStore for MemStore {
     fn create(&mut self, alloc: Global, tables: &[TableDesc]) -> Result<(), StoreError>
         ensures ok { OnOk result (told_of self.new ≡ created (told_of self.old) tables.now) }
         ensures err { OnErr result (told_of self.new ≡ told_of self.old) }
-        ensures fails { IsErrOf result StoreError.Fault ↔ (next_fails (failing_of self.old) ≡ true) }
+        ensures fails { FailsAsListed self.old result StoreError.Fault }
         ensures after { failing_of self.new ≡ called (failing_of self.old) }
         ensures faults { faults_of self.old ≤ faults_of self.new }
-        ensures fault { IsErrOf result StoreError.Fault → Rose (faults_of self.old) (faults_of self.new) }
+        ensures fault { FaultsCounted faults_of self.old self.new result StoreError.Fault }
         ensures steady { IsSteady self.old → IsSteady self.new }
         ensures calm { IsSteady self.old → faults_of self.new ≡ faults_of self.old }
     {
@@ -223,10 +226,10 @@ impl TileStore for MemStore {
         requires { AreOfTables (told_of self.old).descriptions changes.now }
         ensures ok { OnOk result (Commits changes.now (told_of self.old) (told_of self.new)) }
         ensures err { OnErr result (told_of self.new ≡ told_of self.old) }
-        ensures fails { IsErrOf result StoreError.Fault ↔ (next_fails (failing_of self.old) ≡ true) }
+        ensures fails { FailsAsListed self.old result StoreError.Fault }
         ensures after { failing_of self.new ≡ called (failing_of self.old) }
         ensures faults { faults_of self.old ≤ faults_of self.new }
-        ensures fault { IsErrOf result StoreError.Fault → Rose (faults_of self.old) (faults_of self.new) }
+        ensures fault { FaultsCounted faults_of self.old self.new result StoreError.Fault }
         ensures steady { IsSteady self.old → IsSteady self.new }
         ensures calm { IsSteady self.old → faults_of self.new ≡ faults_of self.old }
     {
@@ -240,10 +243,10 @@ impl TileStore for MemStore {
     fn live_size(&mut self) -> Result<u64, StoreError>
         ensures answer { IfOk result (λ size. size ≡ live_size_of (told_of self.old)) }
         ensures told { told_of self.new ≡ told_of self.old }
-        ensures fails { IsErrOf result StoreError.Fault ↔ (next_fails (failing_of self.old) ≡ true) }
+        ensures fails { FailsAsListed self.old result StoreError.Fault }
         ensures after { failing_of self.new ≡ called (failing_of self.old) }
         ensures faults { faults_of self.old ≤ faults_of self.new }
-        ensures fault { IsErrOf result StoreError.Fault → Rose (faults_of self.old) (faults_of self.new) }
+        ensures fault { FaultsCounted faults_of self.old self.new result StoreError.Fault }
         ensures steady { IsSteady self.old → IsSteady self.new }
         ensures calm { IsSteady self.old → faults_of self.new ≡ faults_of self.old }
     {

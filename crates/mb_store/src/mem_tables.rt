@@ -8,6 +8,7 @@ ghost use Rattle.mb_store.specs.MemTables.{AreAllStored, AreKeyed, rows_at};
 ghost use Rattle.mb_store.specs.Sizes.{all_tables, row_size};
 ghost use Rattle.mb_store.specs.Store.{placed, with_rows};
 ghost use Rattle.mb_store.specs.TableRows.{rows_in};
+ghost use Rattle.mb_store.specs.Errors.{IsRowError, RefusesTwice};
 
 use crate::by_table::ByTable;
 use crate::reading::with_rows;
@@ -56,10 +57,14 @@ pub(crate) fn keyed_tables(descriptions: &[TableDesc]) -> ByTable<bool>
 pub(crate) fn push(tables: &mut MemTables, table: TableName, keyed: bool, row: Row) -> MbtResult<()>
     requires wide { length row ≡ width table }
     requires stored { AreAllStored tables.old }
-    ensures duplicate { IsErrOf result (MbtError.DuplicateRow table) ↔ ((keyed && list_any (clash table row) (rows_at tables.old table)) ≡ true) }
-    ensures errors { IfErr result (λ e. (e ≡ MbtError.DuplicateRow table) ⊎ (e ≡ MbtError.OutOfMemory)) }
-    ensures ok { OnOk result ((other : TableName) → rows_at tables.new other ≡ with_rows (rows_at tables.old) table (placed table row (rows_at tables.old table)) other) }
-    ensures err { OnErr result ((other : TableName) → rows_at tables.new other ≡ rows_at tables.old other) }
+    ensures duplicate { RefusesTwice table
+        (keyed && list_any (clash table row) (rows_at tables.old table)) result }
+    ensures errors { IfErr result (IsRowError table) }
+    ensures ok { OnOk result ((other : TableName)
+        → rows_at tables.new other ≡ with_rows (rows_at tables.old) table
+        (placed table row (rows_at tables.old table)) other) }
+    ensures err { OnErr result ((other : TableName)
+        → rows_at tables.new other ≡ rows_at tables.old other) }
     ensures stored { AreAllStored tables.new }
 {
     match table {
@@ -88,7 +93,8 @@ fn with_table(size: u64, rows: &TableRows) -> u64
 
 // The sizes of all rows of all tables, at most the greatest count.
 pub(crate) fn live_size(tables: &MemTables) -> u64
-    ensures { result ≡ min (sum_by (λ table. sum_by row_size (rows_at tables.now table)) all_tables) (2 ^ 64 - 1) }
+    ensures { result ≡ min (sum_by (λ table. sum_by row_size (rows_at tables.now table)) all_tables)
+        (2 ^ 64 - 1) }
 {
     let mut size = with_table(0, &tables.tiles);
     size = with_table(size, &tables.tiles_with_hash);

@@ -53,7 +53,9 @@ fn own_key(row: &[Cell]) -> &[Cell]
 
 // Three numbers in fewer bytes, where each of them fits.
 fn small_numbers(first: i64, second: i64, third: i64) -> Option<(u32, u32, u32)>
-    ensures { IfSome result (λ numbers. numbers_cells numbers ≡ Cell.Int first ∷ Cell.Int second ∷ Cell.Int third ∷ []) }
+    ensures { IfSome result
+        (λ numbers. numbers_cells numbers ≡ Cell.Int first ∷ Cell.Int second ∷ Cell.Int third ∷
+        []) }
 {
     let first = u32::try_from(first).ok()?;
     let second = u32::try_from(second).ok()?;

@@ -10,6 +10,7 @@ ghost use Rattle.mb_store.specs.Store.{placed};
 ghost use Rattle.mb_store.specs.StoredRow.{Stored, is_early, stored_cmp};
 ghost use Rattle.mb_store.specs.TableRows.{AreStored, has_equal, rows_in};
 ghost use Rattle.mb_tables.specs.declared.table.TableName.{TableName};
+ghost use Rattle.mb_store.specs.Errors.{IsRowError, RefusesTwice};
 
 use crate::stored_row::StoredRow;
 use crate::{Cell, MbtError, MbtResult, Row, RowKey, TableName};
@@ -48,7 +49,8 @@ impl TableRows {
     // The rows in the order of their keys.
     pub fn iter(&self) -> Iter<'_, StoredRow>
         ensures rows { result ≡ self.now.stored.keys }
-        ensures order { (table : TableName) → AreStored table self.now → IsInOrder table (rows_in self.now) }
+        ensures order { (table : TableName) → AreStored table self.now
+            → IsInOrder table (rows_in self.now) }
     {
         self.stored.iter()
     }
@@ -77,7 +79,8 @@ pub(crate) fn first_early<'a>(
 
 // A copy of a row, if there is one.
 fn copy_of(alloc: Global, row: Option<&StoredRow>) -> Result<Option<Row>, OutOfMemory>
-    ensures { IfOk result (λ copy. copy ≡ option_map (λ (s : Stored). s.0) (option_copied row.entry)) }
+    ensures { IfOk result
+        (λ copy. copy ≡ option_map (λ (s : Stored). s.0) (option_copied row.entry)) }
 {
     match row {
         Some(row) => Ok(Some(row.to_row(alloc)?)),
@@ -127,7 +130,8 @@ fn has_equal(table: TableName, row: &StoredRow, rows: &TableRows) -> bool
 pub(crate) fn add(table: TableName, row: StoredRow, rows: &mut TableRows) -> Result<(), OutOfMemory>
     requires wide { length row.0 ≡ width table }
     requires stored { AreStored table rows.old }
-    ensures ok { OnOk result (rows.new.stored.keys ≡ insert_key stored_cmp rows.old.stored.keys (row.0, rows.old.next)) }
+    ensures ok { OnOk result (rows.new.stored.keys ≡ insert_key stored_cmp rows.old.stored.keys
+        (row.0, rows.old.next)) }
     ensures placed { OnOk result (rows_in rows.new ≡ placed table row.0 (rows_in rows.old)) }
     ensures err { OnErr result (rows.new.stored.keys ≡ rows.old.stored.keys) }
     ensures later { rows.old.next ≤ rows.new.next }
@@ -149,8 +153,8 @@ fn add_first(table: TableName, row: StoredRow, rows: &mut TableRows) -> MbtResul
     requires first { row.1 ≡ 0 }
     requires all_first { rows.old.next ≤ 1 }
     requires stored { AreStored table rows.old }
-    ensures duplicate { IsErrOf result (MbtError.DuplicateRow table) ↔ (has_equal table row.0 (rows_in rows.old) ≡ true) }
-    ensures errors { IfErr result (λ e. (e ≡ MbtError.DuplicateRow table) ⊎ (e ≡ MbtError.OutOfMemory)) }
+    ensures duplicate { RefusesTwice table (has_equal table row.0 (rows_in rows.old)) result }
+    ensures errors { IfErr result (IsRowError table) }
     ensures ok { OnOk result (rows_in rows.new ≡ placed table row.0 (rows_in rows.old)) }
     ensures err { OnErr result (rows_in rows.new ≡ rows_in rows.old) }
     ensures stored { AreStored table rows.new }
@@ -174,8 +178,8 @@ fn add_only(table: TableName, row: StoredRow, rows: &mut TableRows) -> MbtResult
     requires wide { length row.0 ≡ width table }
     requires first { row.1 ≡ 0 }
     requires stored { AreStored table rows.old }
-    ensures duplicate { IsErrOf result (MbtError.DuplicateRow table) ↔ (has_equal table row.0 (rows_in rows.old) ≡ true) }
-    ensures errors { IfErr result (λ e. (e ≡ MbtError.DuplicateRow table) ⊎ (e ≡ MbtError.OutOfMemory)) }
+    ensures duplicate { RefusesTwice table (has_equal table row.0 (rows_in rows.old)) result }
+    ensures errors { IfErr result (IsRowError table) }
     ensures ok { OnOk result (rows_in rows.new ≡ placed table row.0 (rows_in rows.old)) }
     ensures err { OnErr result (rows_in rows.new ≡ rows_in rows.old) }
     ensures stored { AreStored table rows.new }
@@ -196,8 +200,9 @@ fn add_only(table: TableName, row: StoredRow, rows: &mut TableRows) -> MbtResult
 pub(crate) fn push(table: TableName, keyed: bool, row: Row, rows: &mut TableRows) -> MbtResult<()>
     requires wide { length row ≡ width table }
     requires stored { AreStored table rows.old }
-    ensures duplicate { IsErrOf result (MbtError.DuplicateRow table) ↔ ((keyed && list_any (clash table row) (rows_in rows.old)) ≡ true) }
-    ensures errors { IfErr result (λ e. (e ≡ MbtError.DuplicateRow table) ⊎ (e ≡ MbtError.OutOfMemory)) }
+    ensures duplicate { RefusesTwice table (keyed && list_any (clash table row) (rows_in rows.old))
+        result }
+    ensures errors { IfErr result (IsRowError table) }
     ensures ok { OnOk result (rows_in rows.new ≡ placed table row (rows_in rows.old)) }
     ensures err { OnErr result (rows_in rows.new ≡ rows_in rows.old) }
     ensures stored { AreStored table rows.new }
