@@ -4,7 +4,6 @@ ghost use Rattle.tileset_script.specs.Cell.{cell_of};
 
 use super::text::parse_text;
 use base_values::{BlobVal, OutOfMemory};
-use hex::FromHexError;
 use line_words::parse_integer;
 use mb_store::Cell;
 use std::alloc::Global;
@@ -18,10 +17,9 @@ pub(crate) fn parse_cell(alloc: Global, word: &[u8]) -> Result<Option<Cell>, Out
         [b'n'] => Ok(Some(Cell::Null)),
         [b'o'] => Ok(Some(Cell::Other)),
         [b'i', number @ ..] => Ok(parse_integer(number, 1 << 63).map(Cell::Int)),
-        [b'x', digits @ ..] => match hex::decode(alloc, digits) {
-            Ok(bytes) => Ok(Some(Cell::Blob(BlobVal::new(bytes)))),
-            Err(FromHexError::OutOfMemory) => Err(OutOfMemory),
-            Err(_) => Ok(None),
+        [b'x', digits @ ..] => match hex_pairs::decode(alloc, digits)? {
+            Some(bytes) => Ok(Some(Cell::Blob(BlobVal::new(bytes)))),
+            None => Ok(None),
         },
         [b't', ..] => Ok(parse_text(alloc, word)?.map(Cell::Text)),
         _ => Ok(None),
