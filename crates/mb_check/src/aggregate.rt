@@ -1,7 +1,6 @@
 // The hash of all tiles of a set: as it is stored, as it is computed, and whether these agree.
-ghost use Rattle.mb_store.specs.Kept.{ReadsOnly};
-ghost use Rattle.std.specs.Prelude.{◌≡◌, ◌≢◌, ◌≤◌, Err, IfOk, IsErrOf};
-ghost use Rattle.base_values.specs.Counts.{Rose};
+ghost use Rattle.mb_store.specs.Kept.{FaultsCounted, ReadsOnly};
+ghost use Rattle.std.specs.Prelude.{◌≡◌, ◌≢◌, ◌≤◌, Err, IfOk};
 ghost use Rattle.mb_check.specs.AggregateHash.{algorithm_answer, checked_answer, hash_answer, stored_answer};
 ghost use Rattle.mb_load.specs.Begun.{IsBegun};
 ghost use Rattle.mb_lists.specs.Metadata.{text_at};
@@ -65,7 +64,7 @@ fn checked_hash(alloc: Global, set: &Loaded) -> MbtResult<TextVal>
 pub fn get_hash_algorithm<S: TileStore>(alloc: Global, store: &mut S) -> MbtResult<HashAlgorithm>
     ensures answer { IsBegun algorithm_answer (S.tells store.old) (S.told store.old) result }
     ensures kept { ReadsOnly S.told S.tells S.faults S.steady store.old store.new }
-    ensures fault { IsErrOf result MbtError.StoreFault → Rose (S.faults store.old) (S.faults store.new) }
+    ensures fault { FaultsCounted S.faults store.old store.new result MbtError.StoreFault }
 {
     let set = load(alloc, store)?;
     Ok(set.algorithm())
@@ -77,7 +76,7 @@ pub fn get_hash_algorithm<S: TileStore>(alloc: Global, store: &mut S) -> MbtResu
 pub fn get_agg_tiles_hash<S: TileStore>(alloc: Global, store: &mut S) -> MbtResult<Option<TextVal>>
     ensures answer { IsBegun stored_answer (S.tells store.old) (S.told store.old) result }
     ensures kept { ReadsOnly S.told S.tells S.faults S.steady store.old store.new }
-    ensures fault { IsErrOf result MbtError.StoreFault → Rose (S.faults store.old) (S.faults store.new) }
+    ensures fault { FaultsCounted S.faults store.old store.new result MbtError.StoreFault }
 {
     let set = load(alloc, store)?;
     stored_hash(alloc, &set)
@@ -95,7 +94,7 @@ pub fn calc_agg_tiles_hash<S: TileStore>(
 ) -> MbtResult<TextVal>
     ensures answer { IsBegun (hash_answer algorithm) (S.tells store.old) (S.told store.old) result }
     ensures kept { ReadsOnly S.told S.tells S.faults S.steady store.old store.new }
-    ensures fault { IsErrOf result MbtError.StoreFault → Rose (S.faults store.old) (S.faults store.new) }
+    ensures fault { FaultsCounted S.faults store.old store.new result MbtError.StoreFault }
 {
     let set = load(alloc, store)?;
     hash_by(alloc, &set, algorithm)
@@ -108,7 +107,7 @@ pub fn calc_agg_tiles_hash<S: TileStore>(
 pub fn check_agg_tiles_hashes<S: TileStore>(alloc: Global, store: &mut S) -> MbtResult<TextVal>
     ensures answer { IsBegun checked_answer (S.tells store.old) (S.told store.old) result }
     ensures kept { ReadsOnly S.told S.tells S.faults S.steady store.old store.new }
-    ensures fault { IsErrOf result MbtError.StoreFault → Rose (S.faults store.old) (S.faults store.new) }
+    ensures fault { FaultsCounted S.faults store.old store.new result MbtError.StoreFault }
 {
     let set = load(alloc, store)?;
     checked_hash(alloc, &set)

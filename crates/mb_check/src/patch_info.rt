@@ -1,7 +1,6 @@
 // What a set says of itself as a patch, or as the base of one.
-ghost use Rattle.mb_store.specs.Kept.{ReadsOnly};
-ghost use Rattle.std.specs.Prelude.{◌≡◌, ◌≢◌, ◌≤◌, Err, IsErrOf, is_some};
-ghost use Rattle.base_values.specs.Counts.{Rose};
+ghost use Rattle.mb_store.specs.Kept.{FaultsCounted, ReadsOnly};
+ghost use Rattle.std.specs.Prelude.{◌≡◌, ◌≢◌, ◌≤◌, Err, is_some};
 ghost use Rattle.mb_load.specs.Begun.{IsBegun};
 ghost use Rattle.mb_check.specs.PatchInfo.{info_answer};
 ghost use Rattle.mb_constraints.specs.DiffHashes.{base_refused, patch_refused, refused_by, unless_forced};
@@ -54,7 +53,7 @@ fn info_of(alloc: Global, set: &Loaded) -> MbtResult<PatchFileInfo>
 pub fn examine_diff<S: TileStore>(alloc: Global, store: &mut S) -> MbtResult<PatchFileInfo>
     ensures answer { IsBegun info_answer (S.tells store.old) (S.told store.old) result }
     ensures kept { ReadsOnly S.told S.tells S.faults S.steady store.old store.new }
-    ensures fault { IsErrOf result MbtError.StoreFault → Rose (S.faults store.old) (S.faults store.new) }
+    ensures fault { FaultsCounted S.faults store.old store.new result MbtError.StoreFault }
 {
     let set = load(alloc, store)?;
     info_of(alloc, &set)
@@ -63,7 +62,11 @@ pub fn examine_diff<S: TileStore>(alloc: Global, store: &mut S) -> MbtResult<Pat
 /// The test of a set that is to be patched. `CannotDiffFileWithoutHash` where it has no hash of all tiles, `DiffingDiffFile` where it is itself a patch: it has
 /// that hash, and one of before or after a patch. None where forced. It takes no memory.
 pub fn assert_hashes(info: &PatchFileInfo, force: bool) -> MbtResult<()>
-    ensures { result ≡ refused_by (unless_forced force (base_refused (is_some info.now.agg_tiles_hash) (is_some info.now.agg_tiles_hash_before_apply) (is_some info.now.agg_tiles_hash_after_apply))) }
+    ensures { result ≡ refused_by
+        (unless_forced force
+        (base_refused (is_some info.now.agg_tiles_hash)
+        (is_some info.now.agg_tiles_hash_before_apply)
+        (is_some info.now.agg_tiles_hash_after_apply))) }
 {
     test_base_hashes(
         info.agg_tiles_hash.is_some(),
@@ -76,7 +79,9 @@ pub fn assert_hashes(info: &PatchFileInfo, force: bool) -> MbtResult<()>
 /// The test of a patch. `PatchFileHasNoHashes` where it has no hash of all tiles after it, `PatchFileHasNoBeforeHash` where it has that one and none of before it.
 /// None where forced. It takes no memory.
 pub fn validate_diff_info(info: &PatchFileInfo, force: bool) -> MbtResult<()>
-    ensures { result ≡ refused_by (unless_forced force (patch_refused (is_some info.now.agg_tiles_hash_before_apply) (is_some info.now.agg_tiles_hash_after_apply))) }
+    ensures { result ≡ refused_by
+        (unless_forced force (patch_refused (is_some info.now.agg_tiles_hash_before_apply)
+        (is_some info.now.agg_tiles_hash_after_apply))) }
 {
     test_patch_hashes(
         info.agg_tiles_hash_before_apply.is_some(),

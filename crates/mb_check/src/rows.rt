@@ -1,7 +1,6 @@
 // The tests of a set's rows, which loading makes.
-ghost use Rattle.mb_store.specs.Kept.{ReadsOnly};
-ghost use Rattle.std.specs.Prelude.{◌≡◌, ◌≤◌, IsErrOf};
-ghost use Rattle.base_values.specs.Counts.{Rose};
+ghost use Rattle.mb_store.specs.Kept.{FaultsCounted, ReadsOnly};
+ghost use Rattle.std.specs.Prelude.{◌≡◌, ◌≤◌};
 ghost use Rattle.mb_load.specs.Begun.{IsBegun};
 ghost use Rattle.mb_check.specs.Validation.{rows_answer};
 
@@ -15,7 +14,7 @@ use std::alloc::Global;
 pub fn check_tiles_type_validity<S: TileStore>(alloc: Global, store: &mut S) -> MbtResult<()>
     ensures answer { IsBegun rows_answer (S.tells store.old) (S.told store.old) result }
     ensures kept { ReadsOnly S.told S.tells S.faults S.steady store.old store.new }
-    ensures fault { IsErrOf result MbtError.StoreFault → Rose (S.faults store.old) (S.faults store.new) }
+    ensures fault { FaultsCounted S.faults store.old store.new result MbtError.StoreFault }
 {
     let _set = load(alloc, store)?;
     Ok(())
@@ -27,7 +26,7 @@ pub fn check_tiles_type_validity<S: TileStore>(alloc: Global, store: &mut S) -> 
 pub fn check_each_tile_hash<S: TileStore>(alloc: Global, store: &mut S) -> MbtResult<()>
     ensures answer { IsBegun rows_answer (S.tells store.old) (S.told store.old) result }
     ensures kept { ReadsOnly S.told S.tells S.faults S.steady store.old store.new }
-    ensures fault { IsErrOf result MbtError.StoreFault → Rose (S.faults store.old) (S.faults store.new) }
+    ensures fault { FaultsCounted S.faults store.old store.new result MbtError.StoreFault }
 {
     let _set = load(alloc, store)?;
     Ok(())

@@ -1,9 +1,8 @@
 // Counts and sizes of the tiles of a set.
-ghost use Rattle.mb_store.specs.Kept.{ReadsOnly};
-ghost use Rattle.std.specs.Prelude.{◌≡◌, ◌≢◌, ◌≤◌, ◌<◌, ◌^◌, ◌++◌, [], ℕ, List, Option, Err, IfOk, IfSome, IsErrOf, OnOk, length, map, option_map, slice_get, slice_index_or};
+ghost use Rattle.mb_store.specs.Kept.{FaultsCounted, ReadsOnly};
+ghost use Rattle.std.specs.Prelude.{◌≡◌, ◌≢◌, ◌≤◌, ◌<◌, ◌^◌, ◌++◌, [], ℕ, List, Option, Err, IfOk, IfSome, OnOk, length, map, option_map, slice_get, slice_index_or};
 ghost use Rattle.std.specs.FinMap.{entries, len};
 ghost use Rattle.std.specs.List.{cons_option, filter_map};
-ghost use Rattle.base_values.specs.Counts.{Rose};
 ghost use Rattle.mb_load.specs.Begun.{IsBegun};
 ghost use Rattle.mb_check.specs.Sizes.{info_by, no_sizes, with_sizes, with_tile};
 ghost use Rattle.mb_check.specs.Totals.{below, greatest, last_of, least, size_at, sizes_at, summary_answer, summary_of, total_of, zoom_infos};
@@ -20,7 +19,8 @@ use std::alloc::Global;
 
 // The size of a tile, None for null.
 fn size_of(cell: &Cell) -> Option<u64>
-    ensures { (contents : Option (List ℕ)) → blob_cell contents ≡ cell.now → result ≡ option_map length contents }
+    ensures { (contents : Option (List ℕ)) → blob_cell contents ≡ cell.now
+        → result ≡ option_map length contents }
 {
     match cell {
         Cell::Blob(bytes) => Some(bytes.as_bytes().len() as u64),
@@ -32,7 +32,10 @@ fn size_of(cell: &Cell) -> Option<u64>
 fn take_tile(sizes: &mut [Sizes], set: &Loaded, index: usize)
     requires within { index < len set.now.state.tiles }
     requires zooms { length sizes.old ≡ 32 }
-    ensures { IfSome (slice_get (entries set.now.state.tiles) index) (λ e. (zoom : ℕ) → zoom < 32 → slice_index_or sizes.new zoom no_sizes ≡ with_tile (slice_index_or sizes.old zoom no_sizes) (size_at zoom e)) }
+    ensures { IfSome (slice_get (entries set.now.state.tiles) index)
+        (λ e. (zoom : ℕ) → zoom < 32
+        → slice_index_or sizes.new zoom no_sizes ≡ with_tile
+        (slice_index_or sizes.old zoom no_sizes) (size_at zoom e)) }
 {
     let (coord, cell) = set.tile_at(index);
     let zoom = coord.z() as usize;
@@ -44,7 +47,9 @@ fn take_tile(sizes: &mut [Sizes], set: &Loaded, index: usize)
 fn take_tiles(sizes: &mut [Sizes], set: &Loaded)
     requires { length sizes.old ≡ 32 }
     ensures few { len set.now.state.tiles < 2 ^ 64 }
-    ensures taken { (zoom : ℕ) → zoom < 32 → slice_index_or sizes.new zoom no_sizes ≡ with_sizes (slice_index_or sizes.old zoom no_sizes) (sizes_at zoom (entries set.now.state.tiles)) }
+    ensures taken { (zoom : ℕ) → zoom < 32
+        → slice_index_or sizes.new zoom no_sizes ≡ with_sizes
+        (slice_index_or sizes.old zoom no_sizes) (sizes_at zoom (entries set.now.state.tiles)) }
 {
     for index in 0..set.tile_count() {
         take_tile(sizes, set, index);
@@ -75,7 +80,9 @@ fn add_info(infos: &mut Vec<ZoomInfo>, info: Option<ZoomInfo>) -> Result<(), Out
 // What sizes tell of the zooms that have tiles.
 fn infos_of(alloc: Global, sizes: &[Sizes]) -> Result<Vec<ZoomInfo>, OutOfMemory>
     requires { length sizes.now ≡ 32 }
-    ensures { IfOk result (λ infos. infos.items ≡ filter_map (λ zoom. info_by zoom (slice_index_or sizes.now zoom no_sizes)) (below 31)) }
+    ensures { IfOk result
+        (λ infos. infos.items ≡ filter_map
+        (λ zoom. info_by zoom (slice_index_or sizes.now zoom no_sizes)) (below 31)) }
 {
     let mut infos = Vec::new(alloc);
     for zoom in 0..31u8 {
@@ -189,7 +196,7 @@ fn summary_of(alloc: Global, set: &Loaded) -> MbtResult<Summary>
 pub fn summary<S: TileStore>(alloc: Global, store: &mut S) -> MbtResult<Summary>
     ensures answer { IsBegun summary_answer (S.tells store.old) (S.told store.old) result }
     ensures kept { ReadsOnly S.told S.tells S.faults S.steady store.old store.new }
-    ensures fault { IsErrOf result MbtError.StoreFault → Rose (S.faults store.old) (S.faults store.new) }
+    ensures fault { FaultsCounted S.faults store.old store.new result MbtError.StoreFault }
 {
     let set = load(alloc, store)?;
     summary_of(alloc, &set)

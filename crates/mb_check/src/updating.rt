@@ -1,7 +1,6 @@
 // Storing the computed hash of all tiles.
-ghost use Rattle.mb_store.specs.Kept.{Keeps};
-ghost use Rattle.std.specs.Prelude.{◌≡◌, ◌≤◌, Some, true, IfOk, IsErrOf, OnErr, OnOk};
-ghost use Rattle.base_values.specs.Counts.{Rose};
+ghost use Rattle.mb_store.specs.Kept.{FaultsCounted, Keeps};
+ghost use Rattle.std.specs.Prelude.{◌≡◌, ◌≤◌, Some, true, IfOk, OnErr, OnOk};
 ghost use Rattle.mb_check.specs.AggregateHash.{own_hash_answer};
 ghost use Rattle.mb_load.specs.Begun.{IsBegun};
 ghost use Rattle.mb_check.specs.Updated.{IsUpdated, held_hashed};
@@ -39,10 +38,11 @@ fn with_hash(alloc: Global, set: Loaded, hash: &TextVal) -> Result<Loaded, OutOf
 /// stay as they were.
 pub fn update_agg_tiles_hash<S: TileStore>(alloc: Global, store: &mut S) -> MbtResult<TextVal>
     ensures answer { IsBegun own_hash_answer (S.tells store.old) (S.told store.old) result }
-    ensures updated { S.tells store.old ≡ true → OnOk result (IsUpdated (S.told store.old) (S.told store.new)) }
+    ensures updated { S.tells store.old ≡ true
+        → OnOk result (IsUpdated (S.told store.old) (S.told store.new)) }
     ensures refused { OnErr result (S.told store.new ≡ S.told store.old) }
     ensures kept { Keeps S.tells S.faults S.steady store.old store.new }
-    ensures fault { IsErrOf result MbtError.StoreFault → Rose (S.faults store.old) (S.faults store.new) }
+    ensures fault { FaultsCounted S.faults store.old store.new result MbtError.StoreFault }
 {
     let set = load(alloc, store)?;
     let hash = set.aggregate(alloc)?;

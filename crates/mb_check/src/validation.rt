@@ -1,7 +1,6 @@
 // Validation of a set.
-ghost use Rattle.mb_store.specs.Kept.{Keeps, ReadsOnly};
-ghost use Rattle.std.specs.Prelude.{◌≡◌, ◌≢◌, ◌≤◌, true, IsErrOf, OnErr, OnOk};
-ghost use Rattle.base_values.specs.Counts.{Rose};
+ghost use Rattle.mb_store.specs.Kept.{FaultsCounted, Keeps, ReadsOnly};
+ghost use Rattle.std.specs.Prelude.{◌≡◌, ◌≢◌, ◌≤◌, true, OnErr, OnOk};
 ghost use Rattle.mb_load.specs.Begun.{IsBegun};
 ghost use Rattle.mb_check.specs.Validation.{IsLeft, hash_type_words, validated};
 
@@ -51,9 +50,10 @@ impl fmt::Display for AggHashType {
 
 // No text, of a set that loads.
 fn load_alone<S: TileStore>(alloc: Global, store: &mut S) -> MbtResult<TextVal>
-    ensures answer { IsBegun (validated AggHashType.Off) (S.tells store.old) (S.told store.old) result }
+    ensures answer { IsBegun (validated AggHashType.Off) (S.tells store.old) (S.told store.old)
+        result }
     ensures kept { ReadsOnly S.told S.tells S.faults S.steady store.old store.new }
-    ensures fault { IsErrOf result MbtError.StoreFault → Rose (S.faults store.old) (S.faults store.new) }
+    ensures fault { FaultsCounted S.faults store.old store.new result MbtError.StoreFault }
 {
     let _set = load(alloc, store)?;
     Ok(TextVal::new(String::new(alloc)))
@@ -70,11 +70,12 @@ pub fn validate<S: TileStore>(
     agg_hash: AggHashType,
 ) -> MbtResult<TextVal>
     ensures answer { IsBegun (validated agg_hash) (S.tells store.old) (S.told store.old) result }
-    ensures left { S.tells store.old ≡ true → OnOk result (IsLeft agg_hash (S.told store.old) (S.told store.new)) }
+    ensures left { S.tells store.old ≡ true
+        → OnOk result (IsLeft agg_hash (S.told store.old) (S.told store.new)) }
     ensures read { agg_hash ≢ AggHashType.Update → S.told store.new ≡ S.told store.old }
     ensures refused { OnErr result (S.told store.new ≡ S.told store.old) }
     ensures kept { Keeps S.tells S.faults S.steady store.old store.new }
-    ensures fault { IsErrOf result MbtError.StoreFault → Rose (S.faults store.old) (S.faults store.new) }
+    ensures fault { FaultsCounted S.faults store.old store.new result MbtError.StoreFault }
 {
     match agg_hash {
         AggHashType::Verify => check_agg_tiles_hashes(alloc, store),

@@ -28,7 +28,8 @@ fn id_text(alloc: Global, id: &Cell) -> MbtResult<TextVal>
 // Whether an id is null or has contents.
 fn has_contents(contents: &ContentList, id: &Cell) -> bool
     requires { AreIndexed contents.now.items.items contents.now.live contents.now.order.items }
-    ensures { result ≡ (is_null id.now || list_any (λ c. cell_eq (cell_at 0 c) id.now) (rows_kept contents.now.items.items)) }
+    ensures { result ≡ (is_null id.now || list_any
+        (λ c. cell_eq (cell_at 0 c) id.now) (rows_kept contents.now.items.items)) }
 {
     if id.is_null() {
         return true;
@@ -44,7 +45,9 @@ fn test_id(
     id: &Cell,
 ) -> MbtResult<()>
     requires { AreIndexed contents.now.items.items contents.now.live contents.now.order.items }
-    ensures { Tests (unless (is_null id.now || list_any (λ c. cell_eq (cell_at 0 c) id.now) (rows_kept contents.now.items.items)) (MbtError.MissingTileReference (id_text id.now) (contents_of schema))) result }
+    ensures { Tests (unless (is_null id.now || list_any
+        (λ c. cell_eq (cell_at 0 c) id.now) (rows_kept contents.now.items.items))
+        (MbtError.MissingTileReference (id_text id.now) (contents_of schema))) result }
 {
     if has_contents(contents, id) {
         return Ok(());
@@ -62,7 +65,9 @@ fn test_id_of(
     row: &Row,
 ) -> MbtResult<()>
     requires { AreIndexed contents.now.items.items contents.now.live contents.now.order.items }
-    ensures { Tests (unless (is_null (cell_at 3 row.now) || list_any (λ c. cell_eq (cell_at 0 c) (cell_at 3 row.now)) (rows_kept contents.now.items.items)) (MbtError.MissingTileReference (id_text (cell_at 3 row.now)) (contents_of schema))) result }
+    ensures { Tests (unless (is_null (cell_at 3 row.now) || list_any
+        (λ c. cell_eq (cell_at 0 c) (cell_at 3 row.now)) (rows_kept contents.now.items.items))
+        (MbtError.MissingTileReference (id_text (cell_at 3 row.now)) (contents_of schema))) result }
 {
     let null = Cell::Null;
     test_id(alloc, schema, contents, cell_at(row, 3, &null))
@@ -92,7 +97,8 @@ pub fn test_references(
     rows: &[Row],
 ) -> MbtResult<()>
     requires { AreIndexed contents.now.items.items contents.now.live contents.now.order.items }
-    ensures { Tests (first_refused (missing_reference layout (rows_kept contents.now.items.items)) rows.now) result }
+    ensures { Tests (first_refused (missing_reference layout (rows_kept contents.now.items.items))
+        rows.now) result }
 {
     for row in rows {
         test_reference(alloc, layout, contents, row)?;

@@ -27,7 +27,9 @@ fn is_tile(row: &Row, contents: &Cell) -> bool
 
 // The test of a row of a tile with these contents.
 fn test_place(alloc: Global, row: &Row, contents: &Cell) -> MbtResult<()>
-    ensures { Tests (unless (is_some (tile_of row.now contents.now)) (MbtError.InvalidTileIndex (cell_at 0 row.now) (cell_at 1 row.now) (cell_at 2 row.now))) result }
+    ensures { Tests (unless (is_some (tile_of row.now contents.now))
+        (MbtError.InvalidTileIndex (cell_at 0 row.now) (cell_at 1 row.now) (cell_at 2 row.now)))
+        result }
 {
     if is_tile(row, contents) {
         return Ok(());
@@ -46,7 +48,9 @@ fn test_place(alloc: Global, row: &Row, contents: &Cell) -> MbtResult<()>
 // The test of a row of a tile whose contents have an id, if it has one.
 fn test_place_by_id(alloc: Global, contents: &ContentList, row: &Row) -> MbtResult<()>
     requires { AreIndexed contents.now.items.items contents.now.live contents.now.order.items }
-    ensures { (view : Bool) (schema : NormalizedSchema) → Tests (bad_tile (MbtType.Normalized view schema) (rows_kept contents.now.items.items) row.now) result }
+    ensures { (view : Bool) (schema : NormalizedSchema)
+        → Tests (bad_tile (MbtType.Normalized view schema) (rows_kept contents.now.items.items)
+        row.now) result }
 {
     let null = Cell::Null;
     let id = cell_at(row, 3, &null);
@@ -58,7 +62,9 @@ fn test_place_by_id(alloc: Global, contents: &ContentList, row: &Row) -> MbtResu
 
 // The test of a row of a tile that has its own contents in a column.
 fn test_place_at(alloc: Global, row: &Row, column: usize) -> MbtResult<()>
-    ensures { Tests (unless (is_some (tile_of row.now (cell_at column row.now))) (MbtError.InvalidTileIndex (cell_at 0 row.now) (cell_at 1 row.now) (cell_at 2 row.now))) result }
+    ensures { Tests (unless (is_some (tile_of row.now (cell_at column row.now)))
+        (MbtError.InvalidTileIndex (cell_at 0 row.now) (cell_at 1 row.now) (cell_at 2 row.now)))
+        result }
 {
     let null = Cell::Null;
     test_place(alloc, row, cell_at(row, column, &null))
@@ -85,7 +91,8 @@ pub fn test_tiles(
     rows: &[Row],
 ) -> MbtResult<()>
     requires { AreIndexed contents.now.items.items contents.now.live contents.now.order.items }
-    ensures { Tests (first_refused (bad_tile layout (rows_kept contents.now.items.items)) rows.now) result }
+    ensures { Tests (first_refused (bad_tile layout (rows_kept contents.now.items.items)) rows.now)
+        result }
 {
     for row in rows {
         test_tile(alloc, layout, contents, row)?;

@@ -56,7 +56,10 @@ fn add_unput(
     coord: TileCoord,
     unput: &mut Vec<TileCoord>,
 ) -> Result<(), OutOfMemory>
-    ensures { OnOk result (unput.new.items ≡ unput.old.items ++ cond (is_put copier.now source.now.state.tiles base.now.state (place_at coord)) [] (coord ∷ [])) }
+    ensures { OnOk result
+        (unput.new.items ≡ unput.old.items ++ cond
+        (is_put copier.now source.now.state.tiles base.now.state (place_at coord)) []
+        (coord ∷ [])) }
 {
     if !is_put(copier, source, base, coord) {
         unput.push(coord)?;
@@ -71,7 +74,9 @@ fn unput_coords(
     source: &Loaded,
     base: &Loaded,
 ) -> Result<Vec<TileCoord>, OutOfMemory>
-    ensures { IfOk result (λ unput. map place_at unput.items ≡ unput_places copier.now source.now.state.tiles base.now.state (entries source.now.state.tiles)) }
+    ensures { IfOk result
+        (λ unput. map place_at unput.items ≡ unput_places copier.now source.now.state.tiles
+        base.now.state (entries source.now.state.tiles)) }
 {
     let mut unput = Vec::new(alloc);
     for index in 0..source.tile_count() {
@@ -104,7 +109,9 @@ fn add_unput_name(
     name: &str,
     unput: &mut Vec<TextVal>,
 ) -> Result<(), OutOfMemory>
-    ensures { OnOk result (unput.new.items ≡ unput.old.items ++ cond (is_put_name copier.now base.now.state.metadata name.now) [] (name.now ∷ [])) }
+    ensures { OnOk result
+        (unput.new.items ≡ unput.old.items ++ cond
+        (is_put_name copier.now base.now.state.metadata name.now) [] (name.now ∷ [])) }
 {
     if !is_put_name(copier, base, name) {
         let name = TextVal::new(String::from_str(alloc, name)?);
@@ -120,7 +127,9 @@ fn unput_names(
     source: &Loaded,
     base: &Loaded,
 ) -> Result<Vec<TextVal>, OutOfMemory>
-    ensures { IfOk result (λ unput. unput.items ≡ unput_names copier.now base.now.state.metadata (entries source.now.state.metadata)) }
+    ensures { IfOk result
+        (λ unput. unput.items ≡ unput_names copier.now base.now.state.metadata
+        (entries source.now.state.metadata)) }
 {
     let mut unput = Vec::new(alloc);
     for index in 0..source.metadata_count() {
@@ -132,8 +141,10 @@ fn unput_names(
 
 // Clears the tiles at coordinates.
 fn clear_coords(set: &mut Editing, coords: &[TileCoord]) -> Result<(), OutOfMemory>
-    ensures tiles { OnOk result (set.new.state.tiles ≡ removed_all set.old.state.tiles (map place_at coords.now)) }
-    ensures times { OnOk result (set.new.state.dates ≡ removed_all set.old.state.dates (map place_at coords.now)) }
+    ensures tiles { OnOk result
+        (set.new.state.tiles ≡ removed_all set.old.state.tiles (map place_at coords.now)) }
+    ensures times { OnOk result
+        (set.new.state.dates ≡ removed_all set.old.state.dates (map place_at coords.now)) }
     ensures names { OnOk result (set.new.state.metadata ≡ set.old.state.metadata) }
 {
     for coord in coords {
@@ -144,7 +155,8 @@ fn clear_coords(set: &mut Editing, coords: &[TileCoord]) -> Result<(), OutOfMemo
 
 // Clears names.
 fn clear_names(set: &mut Editing, names: &[TextVal]) -> Result<(), OutOfMemory>
-    ensures names { OnOk result (set.new.state.metadata ≡ removed_all set.old.state.metadata names.now) }
+    ensures names { OnOk result (set.new.state.metadata ≡ removed_all set.old.state.metadata
+        names.now) }
     ensures tiles { OnOk result (set.new.state.tiles ≡ set.old.state.tiles) }
     ensures times { OnOk result (set.new.state.dates ≡ set.old.state.dates) }
 {
@@ -162,9 +174,13 @@ pub(crate) fn put_of(
     base: &Loaded,
 ) -> Result<Loaded, OutOfMemory>
     requires { IsSource source.state }
-    ensures tiles { IfOk result (λ put. put.state.tiles ≡ tiles_to_put copier.now source.state.tiles base.now.state) }
-    ensures times { IfOk result (λ put. put.state.dates ≡ times_to_put copier.now source.state base.now.state) }
-    ensures names { IfOk result (λ put. put.state.metadata ≡ names_to_put copier.now source.state.metadata base.now.state.metadata) }
+    ensures tiles { IfOk result
+        (λ put. put.state.tiles ≡ tiles_to_put copier.now source.state.tiles base.now.state) }
+    ensures times { IfOk result
+        (λ put. put.state.dates ≡ times_to_put copier.now source.state base.now.state) }
+    ensures names { IfOk result
+        (λ put. put.state.metadata ≡ names_to_put copier.now source.state.metadata
+        base.now.state.metadata) }
 {
     let coords = unput_coords(alloc, copier, &source, base)?;
     let names = unput_names(alloc, copier, &source, base)?;

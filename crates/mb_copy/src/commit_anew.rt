@@ -1,10 +1,9 @@
 // Committing a set to a store that describes nothing.
-ghost use Rattle.std.specs.Prelude.{◌≡◌, ◌⊎◌, [], IfErr, IsErrOf, OnErr, OnOk, true};
-ghost use Rattle.base_values.specs.Counts.{Rose};
+ghost use Rattle.std.specs.Prelude.{◌≡◌, ◌⊎◌, [], IfErr, OnErr, OnOk, true};
 ghost use Rattle.mb_load.specs.Committing.{MakesChanges};
 ghost use Rattle.mb_load.specs.Empty.{AreEmpty};
 ghost use Rattle.mb_load.specs.LoadedFrom.{IsLoadedFrom};
-ghost use Rattle.mb_store.specs.Kept.{Keeps};
+ghost use Rattle.mb_store.specs.Kept.{FaultsCounted, Keeps};
 ghost use Rattle.mb_store.specs.Store.{created};
 ghost use Rattle.mb_tables.specs.Refusals.{is_free};
 ghost use Rattle.mb_tables.specs.Schema.{set_tables, started_as};
@@ -20,11 +19,16 @@ pub(crate) fn commit_anew<D: TileStore>(alloc: Global, dst: &mut D, next: &Loade
     requires none { D.tells dst.old ≡ true → (D.told dst.old).descriptions ≡ [] }
     requires layout { started_as next.now.state.layout ≡ next.now.state.layout }
     requires loaded { (t : Tables) → AreEmpty next.now.state.layout t → IsLoadedFrom t next.now }
-    ensures committed { D.tells dst.old ≡ true → OnOk result (MakesChanges next.now (created (D.told dst.old) (set_tables next.now.state.layout)) (D.told dst.new)) }
-    ensures left { D.tells dst.old ≡ true → OnErr result ((D.told dst.new ≡ D.told dst.old) ⊎ (D.told dst.new ≡ created (D.told dst.old) (set_tables next.now.state.layout))) }
+    ensures committed { D.tells dst.old ≡ true
+        → OnOk result
+        (MakesChanges next.now (created (D.told dst.old) (set_tables next.now.state.layout))
+        (D.told dst.new)) }
+    ensures left { D.tells dst.old ≡ true
+        → OnErr result ((D.told dst.new ≡ D.told dst.old)
+        ⊎ (D.told dst.new ≡ created (D.told dst.old) (set_tables next.now.state.layout))) }
     ensures free { IfErr result (λ e. is_free e ≡ true) }
     ensures kept { Keeps D.tells D.faults D.steady dst.old dst.new }
-    ensures fault { IsErrOf result MbtError.StoreFault → Rose (D.faults dst.old) (D.faults dst.new) }
+    ensures fault { FaultsCounted D.faults dst.old dst.new result MbtError.StoreFault }
 {
     init_mbtiles_schema(alloc, dst, next.mbt_type())?;
     commit_loaded(alloc, dst, next)?;

@@ -27,7 +27,9 @@ fn completed(
     put: &Loaded,
 ) -> Result<Loaded, OutOfMemory>
     requires { IsPutIn put.now.state.tiles (nulls_put set put.now.state.tiles) }
-    ensures { IfOk result (λ h. h ≡ held_completed copier.now made set put.now.state.tiles put.now.state.dates put.now.state.metadata) }
+    ensures { IfOk result
+        (λ h. h ≡ held_completed copier.now made set put.now.state.tiles put.now.state.dates
+        put.now.state.metadata) }
 {
     let set = with_nulls(set, put)?;
     let set = with_times(alloc, set, put)?;
@@ -43,8 +45,11 @@ fn put_over(
     put: &Loaded,
 ) -> MbtResult<Loaded>
     requires { is_editable base.state.layout ≡ true }
-    ensures tests { Tests (id_collides base.state.layout base.state.algorithm base.state.contents (bytes_put put.now.state.tiles)) result }
-    ensures value { IfOk result (λ h. h ≡ held_with copier.now made base put.now.state.tiles put.now.state.dates put.now.state.metadata) }
+    ensures tests { Tests (id_collides base.state.layout base.state.algorithm base.state.contents
+        (bytes_put put.now.state.tiles)) result }
+    ensures value { IfOk result
+        (λ h. h ≡ held_with copier.now made base put.now.state.tiles put.now.state.dates
+        put.now.state.metadata) }
 {
     let set = put_tiles(alloc, base, put)?;
     Ok(completed(alloc, copier, made, set, put)?)

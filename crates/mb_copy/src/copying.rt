@@ -1,5 +1,5 @@
 // Copying one store into another.
-ghost use Rattle.std.specs.Prelude.{◌≡◌, ◌⊎◌, [], IfErr, IfOk, IsErrOf, OnErr, OnOk, false, true};
+ghost use Rattle.std.specs.Prelude.{◌≡◌, ◌⊎◌, [], IfErr, IfOk, OnErr, OnOk, false, true};
 ghost use Rattle.base_values.specs.Counts.{Rose};
 ghost use Rattle.mb_constraints.specs.DiffHashes.{refused_by};
 ghost use Rattle.mb_copy.specs.Clearing.{IsSource};
@@ -9,7 +9,7 @@ ghost use Rattle.mb_copy.specs.HeldCopied.{held_copied};
 ghost use Rattle.mb_copy.specs.PatchOrder.{may_copy_anew};
 ghost use Rattle.mb_load.specs.Begun.{IsBegun};
 ghost use Rattle.mb_load.specs.Held.{fresh};
-ghost use Rattle.mb_store.specs.Kept.{Keeps, ReadsOnly};
+ghost use Rattle.mb_store.specs.Kept.{FaultsCounted, Keeps, ReadsOnly};
 ghost use Rattle.mb_tables.specs.Refusals.{Answers, Tests};
 
 use crate::MbtilesCopier;
@@ -48,11 +48,13 @@ fn copy_over<D: TileStore>(
     dst: &mut D,
 ) -> MbtResult<()>
     requires { IsSource source.state }
-    ensures answer { IsBegun (over_answer copier.now source.state) (D.tells dst.old) (D.told dst.old) result }
-    ensures copied { D.tells dst.old ≡ true → OnOk result (IsOver copier.now source.state (D.told dst.old) (D.told dst.new)) }
+    ensures answer { IsBegun (over_answer copier.now source.state) (D.tells dst.old)
+        (D.told dst.old) result }
+    ensures copied { D.tells dst.old ≡ true
+        → OnOk result (IsOver copier.now source.state (D.told dst.old) (D.told dst.new)) }
     ensures refused { OnErr result (D.told dst.new ≡ D.told dst.old) }
     ensures kept { Keeps D.tells D.faults D.steady dst.old dst.new }
-    ensures fault { IsErrOf result MbtError.StoreFault → Rose (D.faults dst.old) (D.faults dst.new) }
+    ensures fault { FaultsCounted D.faults dst.old dst.new result MbtError.StoreFault }
 {
     let base = load(alloc, dst)?;
     let next = copied_over(alloc, copier, source, base)?;
@@ -63,8 +65,11 @@ fn copy_over<D: TileStore>(
 // The set that is made for a source, with the source copied into it, or the first refusal.
 fn copied_anew(alloc: Global, copier: &MbtilesCopier, source: Loaded) -> MbtResult<Loaded>
     requires { IsSource source.state }
-    ensures tests { Tests (may_copy copier.now source.state (made_state copier.now source.state)) result }
-    ensures value { IfOk result (λ h. h ≡ held_copied copier.now true source.state (fresh (made_state copier.now source.state))) }
+    ensures tests { Tests (may_copy copier.now source.state (made_state copier.now source.state))
+        result }
+    ensures value { IfOk result
+        (λ h. h ≡ held_copied copier.now true source.state
+        (fresh (made_state copier.now source.state))) }
 {
     let layout = made_type(copier, source.mbt_type());
     let algorithm = wanted_algorithm(copier, source.algorithm());
@@ -81,7 +86,9 @@ fn copied_after(
 ) -> MbtResult<Loaded>
     requires { IsSource source.state }
     ensures tests { Tests (may_copy_anew copier.now after source.state) result }
-    ensures value { IfOk result (λ h. h ≡ held_copied copier.now true source.state (fresh (made_state copier.now source.state))) }
+    ensures value { IfOk result
+        (λ h. h ≡ held_copied copier.now true source.state
+        (fresh (made_state copier.now source.state))) }
 {
     let next = copied_anew(alloc, copier, source)?;
     test_expected(alloc, copier, after, &next)?;
@@ -99,10 +106,12 @@ pub(crate) fn copy_anew<D: TileStore>(
     requires source { IsSource source.state }
     requires none { D.tells dst.old ≡ true → (D.told dst.old).descriptions ≡ [] }
     ensures answer { Answers (refused_by (may_copy_anew copier.now after source.state)) result }
-    ensures copied { D.tells dst.old ≡ true → OnOk result (IsAnew copier.now source.state (D.told dst.old) (D.told dst.new)) }
-    ensures left { D.tells dst.old ≡ true → IfErr result (IsLeft copier.now source.state (D.told dst.old) (D.told dst.new)) }
+    ensures copied { D.tells dst.old ≡ true
+        → OnOk result (IsAnew copier.now source.state (D.told dst.old) (D.told dst.new)) }
+    ensures left { D.tells dst.old ≡ true
+        → IfErr result (IsLeft copier.now source.state (D.told dst.old) (D.told dst.new)) }
     ensures kept { Keeps D.tells D.faults D.steady dst.old dst.new }
-    ensures fault { IsErrOf result MbtError.StoreFault → Rose (D.faults dst.old) (D.faults dst.new) }
+    ensures fault { FaultsCounted D.faults dst.old dst.new result MbtError.StoreFault }
 {
     let next = copied_after(alloc, copier, source, after)?;
     commit_anew(alloc, dst, &next)?;
@@ -118,10 +127,13 @@ fn copy_into<D: TileStore>(
 ) -> MbtResult<()>
     requires { IsSource source.state }
     ensures answer { IsPutInto copier.now source.state (D.tells dst.old) (D.told dst.old) result }
-    ensures copied { D.tells dst.old ≡ true → OnOk result (IsCopied copier.now source.state (has_any (D.told dst.old).descriptions) (D.told dst.old) (D.told dst.new)) }
-    ensures left { D.tells dst.old ≡ true → IfErr result (IsLeft copier.now source.state (D.told dst.old) (D.told dst.new)) }
+    ensures copied { D.tells dst.old ≡ true
+        → OnOk result (IsCopied copier.now source.state (has_any (D.told dst.old).descriptions)
+        (D.told dst.old) (D.told dst.new)) }
+    ensures left { D.tells dst.old ≡ true
+        → IfErr result (IsLeft copier.now source.state (D.told dst.old) (D.told dst.new)) }
     ensures kept { Keeps D.tells D.faults D.steady dst.old dst.new }
-    ensures fault { IsErrOf result MbtError.StoreFault → Rose (D.faults dst.old) (D.faults dst.new) }
+    ensures fault { FaultsCounted D.faults dst.old dst.new result MbtError.StoreFault }
 {
     let is_empty = is_empty_database(alloc, dst)?;
     if is_empty {
@@ -159,12 +171,18 @@ impl MbtilesCopier {
         src: &mut S,
         dst: &mut D,
     ) -> MbtResult<()>
-        ensures answer { IsAnswered self.now (S.tells src.old) (S.told src.old) (D.tells dst.old) (D.told dst.old) result }
-        ensures copied { D.tells dst.old ≡ true → OnOk result (IsCopiedBy self.now (S.tells src.old) (S.told src.old) (D.told dst.old) (D.told dst.new)) }
-        ensures left { D.tells dst.old ≡ true → IfErr result (IsLeftBy self.now (S.tells src.old) (S.told src.old) (D.told dst.old) (D.told dst.new)) }
+        ensures answer { IsAnswered self.now (S.tells src.old) (S.told src.old) (D.tells dst.old)
+            (D.told dst.old) result }
+        ensures copied { D.tells dst.old ≡ true
+            → OnOk result (IsCopiedBy self.now (S.tells src.old) (S.told src.old) (D.told dst.old)
+            (D.told dst.new)) }
+        ensures left { D.tells dst.old ≡ true
+            → IfErr result (IsLeftBy self.now (S.tells src.old) (S.told src.old) (D.told dst.old)
+            (D.told dst.new)) }
         ensures source_kept { ReadsOnly S.told S.tells S.faults S.steady src.old src.new }
         ensures kept { Keeps D.tells D.faults D.steady dst.old dst.new }
-        ensures fault { IsErrOf result MbtError.StoreFault → Rose (S.faults src.old) (S.faults src.new) ⊎ Rose (D.faults dst.old) (D.faults dst.new) }
+        ensures fault { FaultsCounted S.faults src.old src.new result MbtError.StoreFault
+            ⊎ Rose (D.faults dst.old) (D.faults dst.new) }
     {
         let source = load(alloc, src)?;
         test_valid(alloc, self.validate, &source)?;

@@ -1,5 +1,5 @@
 // Copying one store into another with a patch.
-ghost use Rattle.std.specs.Prelude.{◌≡◌, ◌⊎◌, [], IfErr, IsErrOf, OnOk, false, true};
+ghost use Rattle.std.specs.Prelude.{◌≡◌, ◌⊎◌, [], IfErr, OnOk, false, true};
 ghost use Rattle.base_values.specs.Counts.{Rose};
 ghost use Rattle.mb_constraints.specs.DiffHashes.{refused_by};
 ghost use Rattle.mb_copy.specs.Clearing.{IsSource};
@@ -7,7 +7,7 @@ ghost use Rattle.mb_copy.specs.Copying.{IsLeft, IsLeftBy};
 ghost use Rattle.mb_copy.specs.CopyingPatched.{IsAnsweredPatched, IsCopiedPatched, IsCopiedPatchedBy, IsPutPatched};
 ghost use Rattle.mb_copy.specs.PatchOrder.{may_copy_patched};
 ghost use Rattle.mb_load.specs.LoadedFrom.{AllOnBoard};
-ghost use Rattle.mb_store.specs.Kept.{Keeps, ReadsOnly};
+ghost use Rattle.mb_store.specs.Kept.{FaultsCounted, Keeps, ReadsOnly};
 ghost use Rattle.mb_tables.specs.Refusals.{Answers};
 
 use crate::MbtilesCopier;
@@ -29,11 +29,15 @@ fn copy_patched_anew<D: TileStore>(
     requires source { IsSource source.state }
     requires patch { AllOnBoard patch.now.state }
     requires none { D.tells dst.old ≡ true → (D.told dst.old).descriptions ≡ [] }
-    ensures answer { Answers (refused_by (may_copy_patched copier.now false source.state patch.now.state)) result }
-    ensures copied { D.tells dst.old ≡ true → OnOk result (IsCopiedPatched copier.now source.state patch.now.state (D.told dst.old) (D.told dst.new)) }
-    ensures left { D.tells dst.old ≡ true → IfErr result (IsLeft copier.now source.state (D.told dst.old) (D.told dst.new)) }
+    ensures answer { Answers
+        (refused_by (may_copy_patched copier.now false source.state patch.now.state)) result }
+    ensures copied { D.tells dst.old ≡ true
+        → OnOk result (IsCopiedPatched copier.now source.state patch.now.state (D.told dst.old)
+        (D.told dst.new)) }
+    ensures left { D.tells dst.old ≡ true
+        → IfErr result (IsLeft copier.now source.state (D.told dst.old) (D.told dst.new)) }
     ensures kept { Keeps D.tells D.faults D.steady dst.old dst.new }
-    ensures fault { IsErrOf result MbtError.StoreFault → Rose (D.faults dst.old) (D.faults dst.new) }
+    ensures fault { FaultsCounted D.faults dst.old dst.new result MbtError.StoreFault }
 {
     let after = expected_hash(alloc, copier, patch)?;
     let patched = patched_source(alloc, source, patch)?;
@@ -50,11 +54,15 @@ fn copy_patched<D: TileStore>(
 ) -> MbtResult<()>
     requires source { IsSource source.state }
     requires patch { AllOnBoard patch.now.state }
-    ensures answer { IsPutPatched copier.now source.state patch.now.state (D.tells dst.old) (D.told dst.old) result }
-    ensures copied { D.tells dst.old ≡ true → OnOk result (IsCopiedPatched copier.now source.state patch.now.state (D.told dst.old) (D.told dst.new)) }
-    ensures left { D.tells dst.old ≡ true → IfErr result (IsLeft copier.now source.state (D.told dst.old) (D.told dst.new)) }
+    ensures answer { IsPutPatched copier.now source.state patch.now.state (D.tells dst.old)
+        (D.told dst.old) result }
+    ensures copied { D.tells dst.old ≡ true
+        → OnOk result (IsCopiedPatched copier.now source.state patch.now.state (D.told dst.old)
+        (D.told dst.new)) }
+    ensures left { D.tells dst.old ≡ true
+        → IfErr result (IsLeft copier.now source.state (D.told dst.old) (D.told dst.new)) }
     ensures kept { Keeps D.tells D.faults D.steady dst.old dst.new }
-    ensures fault { IsErrOf result MbtError.StoreFault → Rose (D.faults dst.old) (D.faults dst.new) }
+    ensures fault { FaultsCounted D.faults dst.old dst.new result MbtError.StoreFault }
 {
     let is_empty = is_empty_database(alloc, dst)?;
     if is_empty {
@@ -94,13 +102,20 @@ impl MbtilesCopier {
         dst: &mut D,
         patch: &mut P,
     ) -> MbtResult<()>
-        ensures answer { IsAnsweredPatched self.now (P.tells patch.old) (P.told patch.old) (S.tells src.old) (S.told src.old) (D.tells dst.old) (D.told dst.old) result }
-        ensures copied { D.tells dst.old ≡ true → OnOk result (IsCopiedPatchedBy self.now (P.tells patch.old) (P.told patch.old) (S.tells src.old) (S.told src.old) (D.told dst.old) (D.told dst.new)) }
-        ensures left { D.tells dst.old ≡ true → IfErr result (IsLeftBy self.now (S.tells src.old) (S.told src.old) (D.told dst.old) (D.told dst.new)) }
+        ensures answer { IsAnsweredPatched self.now (P.tells patch.old) (P.told patch.old)
+            (S.tells src.old) (S.told src.old) (D.tells dst.old) (D.told dst.old) result }
+        ensures copied { D.tells dst.old ≡ true
+            → OnOk result (IsCopiedPatchedBy self.now (P.tells patch.old) (P.told patch.old)
+            (S.tells src.old) (S.told src.old) (D.told dst.old) (D.told dst.new)) }
+        ensures left { D.tells dst.old ≡ true
+            → IfErr result (IsLeftBy self.now (S.tells src.old) (S.told src.old) (D.told dst.old)
+            (D.told dst.new)) }
         ensures source_kept { ReadsOnly S.told S.tells S.faults S.steady src.old src.new }
         ensures patch_kept { ReadsOnly P.told P.tells P.faults P.steady patch.old patch.new }
         ensures kept { Keeps D.tells D.faults D.steady dst.old dst.new }
-        ensures fault { IsErrOf result MbtError.StoreFault → Rose (S.faults src.old) (S.faults src.new) ⊎ (Rose (D.faults dst.old) (D.faults dst.new) ⊎ Rose (P.faults patch.old) (P.faults patch.new)) }
+        ensures fault { FaultsCounted S.faults src.old src.new result MbtError.StoreFault
+            ⊎ (Rose (D.faults dst.old) (D.faults dst.new)
+            ⊎ Rose (P.faults patch.old) (P.faults patch.new)) }
     {
         let other = load(alloc, patch)?;
         test_patch(alloc, self, &other)?;

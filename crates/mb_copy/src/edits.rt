@@ -16,7 +16,8 @@ use tile_ids::TileCoord;
 // Puts null at the place of the tile at an index of what is put, where that is null.
 fn put_null(set: &mut Editing, put: &Loaded, index: usize) -> Result<(), OutOfMemory>
     requires { index < len put.now.state.tiles }
-    ensures { OnOk result (IfSome (slice_get (entries put.now.state.tiles) index) (λ e. set.new ≡ null_put set.old e)) }
+    ensures { OnOk result (IfSome (slice_get (entries put.now.state.tiles) index)
+        (λ e. set.new ≡ null_put set.old e)) }
 {
     match put.tile_at(index) {
         (coord, Cell::Null) => set.set_null(coord),
@@ -57,7 +58,8 @@ fn put_times_at(
 ) -> Result<(), OutOfMemory>
     requires layout { set.old.state.layout ≡ Cache }
     requires there { contains_key set.old.state.tiles (place_at coord) ≡ true }
-    ensures { OnOk result (set.new ≡ times_at set.old (place_at coord) (get put.now.state.dates (place_at coord))) }
+    ensures { OnOk result
+        (set.new ≡ times_at set.old (place_at coord) (get put.now.state.dates (place_at coord))) }
 {
     match put.cache_fields(coord) {
         Some((fetched, expires, etag)) => {
@@ -75,8 +77,10 @@ fn put_times_at(
 fn put_time(alloc: Global, set: &mut Loaded, put: &Loaded, index: usize) -> Result<(), OutOfMemory>
     requires index { index < len put.now.state.tiles }
     requires layout { set.old.state.layout ≡ Cache }
-    requires there { (p : Place) → contains_key put.now.state.tiles p ≡ true → contains_key set.old.state.tiles p ≡ true }
-    ensures { OnOk result (IfSome (slice_get (entries put.now.state.tiles) index) (λ e. set.new ≡ time_put put.now.state.dates set.old e)) }
+    requires there { (p : Place) → contains_key put.now.state.tiles p ≡ true
+        → contains_key set.old.state.tiles p ≡ true }
+    ensures { OnOk result (IfSome (slice_get (entries put.now.state.tiles) index)
+        (λ e. set.new ≡ time_put put.now.state.dates set.old e)) }
 {
     let (coord, _) = put.tile_at(index);
     put_times_at(alloc, set, put, coord)
@@ -85,8 +89,10 @@ fn put_time(alloc: Global, set: &mut Loaded, put: &Loaded, index: usize) -> Resu
 // Gives all tiles that are put into a cache their times, from the last to the first.
 fn put_all_times(alloc: Global, set: &mut Loaded, put: &Loaded) -> Result<(), OutOfMemory>
     requires layout { set.old.state.layout ≡ Cache }
-    requires there { (p : Place) → contains_key put.now.state.tiles p ≡ true → contains_key set.old.state.tiles p ≡ true }
-    ensures { OnOk result (set.new ≡ from_last (time_put put.now.state.dates) set.old (entries put.now.state.tiles)) }
+    requires there { (p : Place) → contains_key put.now.state.tiles p ≡ true
+        → contains_key set.old.state.tiles p ≡ true }
+    ensures { OnOk result
+        (set.new ≡ from_last (time_put put.now.state.dates) set.old (entries put.now.state.tiles)) }
 {
     let mut left = put.tile_count();
     while left > 0 {

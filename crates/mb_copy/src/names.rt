@@ -18,7 +18,8 @@ use tile_hash::HashAlgorithm;
 // Puts the name at an index of what is put.
 fn put_name(alloc: Global, set: &mut Editing, put: &Loaded, index: usize) -> Result<(), OutOfMemory>
     requires { index < len put.now.state.metadata }
-    ensures { OnOk result (IfSome (slice_get (entries put.now.state.metadata) index) (λ e. set.new ≡ name_put set.old e)) }
+    ensures { OnOk result (IfSome (slice_get (entries put.now.state.metadata) index)
+        (λ e. set.new ≡ name_put set.old e)) }
 {
     let (name, value) = put.metadata_at(index);
     let name = TextVal::new(String::from_str(alloc, name)?);
@@ -68,7 +69,9 @@ fn aggregate_to_store(
     copier: &MbtilesCopier,
     set: &Loaded,
 ) -> Result<Option<TextVal>, OutOfMemory>
-    ensures { IfOk result (λ text. text ≡ cond (stores_aggregate copier.now) (Some (aggregate set.now.state.algorithm set.now.state.tiles)) None) }
+    ensures { IfOk result
+        (λ text. text ≡ cond (stores_aggregate copier.now)
+        (Some (aggregate set.now.state.algorithm set.now.state.tiles)) None) }
 {
     if stores_aggregate(copier) {
         return Ok(Some(set.aggregate(alloc)?));
@@ -90,7 +93,9 @@ fn algorithm_to_store(
     made: bool,
     algorithm: HashAlgorithm,
 ) -> Result<Option<TextVal>, OutOfMemory>
-    ensures { IfOk result (λ text. text ≡ cond (copies_metadata copier.now.copy || made || stores_aggregate copier.now) (Some (name_of algorithm)) None) }
+    ensures { IfOk result
+        (λ text. text ≡ cond (copies_metadata copier.now.copy || made || stores_aggregate
+        copier.now) (Some (name_of algorithm)) None) }
 {
     if stores_algorithm(copier, made) {
         let name = String::from_str(alloc, algorithm.as_str())?;

@@ -29,7 +29,8 @@ fn has_text(set: &Loaded, name: &str) -> bool
 
 // The test that a patch describes no table of binary differences.
 fn test_whole_tiles(patch: &Loaded) -> MbtResult<()>
-    ensures { Tests (unless (not (is_some patch.now.state.patch_type)) MbtError.UnsupportedPatchType) result }
+    ensures { Tests (unless (not (is_some patch.now.state.patch_type))
+        MbtError.UnsupportedPatchType) result }
 {
     if patch.patch_type().is_some() {
         return Err(MbtError::UnsupportedPatchType);
@@ -39,7 +40,9 @@ fn test_whole_tiles(patch: &Loaded) -> MbtResult<()>
 
 // The test of the hashes by which a patch is kept in order.
 fn test_hashes_of_patch(patch: &Loaded, force: bool) -> MbtResult<()>
-    ensures { Tests (unless_forced force (patch_refused (is_some (before_hash patch.now.state.metadata)) (is_some (after_hash patch.now.state.metadata)))) result }
+    ensures { Tests (unless_forced force
+        (patch_refused (is_some (before_hash patch.now.state.metadata))
+        (is_some (after_hash patch.now.state.metadata)))) result }
 {
     let before = has_text(patch, AGG_TILES_HASH_BEFORE_APPLY);
     let after = has_text(patch, AGG_TILES_HASH_AFTER_APPLY);
@@ -48,7 +51,10 @@ fn test_hashes_of_patch(patch: &Loaded, force: bool) -> MbtResult<()>
 
 // The test of those of a source.
 fn test_hashes_of_source(source: &Loaded, force: bool) -> MbtResult<()>
-    ensures { Tests (unless_forced force (base_refused (is_some (agg_hash source.now.state.metadata)) (is_some (before_hash source.now.state.metadata)) (is_some (after_hash source.now.state.metadata)))) result }
+    ensures { Tests (unless_forced force
+        (base_refused (is_some (agg_hash source.now.state.metadata))
+        (is_some (before_hash source.now.state.metadata))
+        (is_some (after_hash source.now.state.metadata)))) result }
 {
     let agg = has_text(source, AGG_TILES_HASH);
     let before = has_text(source, AGG_TILES_HASH_BEFORE_APPLY);
@@ -127,7 +133,9 @@ pub(crate) fn test_expected(
     after: Option<TextVal>,
     set: &Loaded,
 ) -> MbtResult<()>
-    requires { stores_aggregate copier.now ≡ true → agg_hash set.now.state.metadata ≡ Some (aggregate set.now.state.algorithm set.now.state.tiles) }
+    requires { stores_aggregate copier.now ≡ true
+        → agg_hash set.now.state.metadata ≡ Some
+        (aggregate set.now.state.algorithm set.now.state.tiles) }
     ensures { Tests (hash_off copier.now after set.now.state) result }
 {
     if !stores_aggregate(copier) {

@@ -17,7 +17,8 @@ fn patch_name(
     index: usize,
 ) -> Result<(), OutOfMemory>
     requires { index < len patch.now.state.metadata }
-    ensures { OnOk result (IfSome (slice_get (entries patch.now.state.metadata) index) (λ e. set.new ≡ name_patched set.old e)) }
+    ensures { OnOk result (IfSome (slice_get (entries patch.now.state.metadata) index)
+        (λ e. set.new ≡ name_patched set.old e)) }
 {
     match patch.metadata_at(index) {
         (name, Cell::Null) => set.clear_metadata(name),
@@ -30,7 +31,8 @@ fn patch_name(
 
 // Edits a set by all names of a patch, from the last to the first.
 fn patch_names(alloc: Global, set: &mut Editing, patch: &Loaded) -> Result<(), OutOfMemory>
-    ensures { OnOk result (set.new ≡ from_last name_patched set.old (entries patch.now.state.metadata)) }
+    ensures { OnOk result
+        (set.new ≡ from_last name_patched set.old (entries patch.now.state.metadata)) }
 {
     let mut left = patch.metadata_count();
     while left > 0 {

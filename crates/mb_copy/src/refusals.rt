@@ -19,7 +19,8 @@ use std::alloc::Global;
 
 // The test that the stored hash of all tiles is the computed one.
 fn test_hash(alloc: Global, source: &Loaded) -> MbtResult<()>
-    ensures { Tests (hash_wrong (agg_hash source.now.state.metadata) (aggregate source.now.state.algorithm source.now.state.tiles)) result }
+    ensures { Tests (hash_wrong (agg_hash source.now.state.metadata)
+        (aggregate source.now.state.algorithm source.now.state.tiles)) result }
 {
     let Some(stored) = source.text(AGG_TILES_HASH) else {
         return Err(MbtError::AggHashValueNotFound);
@@ -70,7 +71,8 @@ pub(crate) fn test_kind(copier: &MbtilesCopier, actual: MbtType) -> MbtResult<()
 // Whether the tile of a source at an index is copied and there already.
 fn has_tile(copier: &MbtilesCopier, source: &Loaded, base: &Loaded, index: usize) -> bool
     requires { index < len source.now.state.tiles }
-    ensures { IfSome (slice_get (entries source.now.state.tiles) index) (λ e. result ≡ tile_there copier.now base.now.state e) }
+    ensures { IfSome (slice_get (entries source.now.state.tiles) index)
+        (λ e. result ≡ tile_there copier.now base.now.state e) }
 {
     let (coord, _) = source.tile_at(index);
     is_chosen(copier, coord) && base.tile(coord).is_some()
@@ -78,7 +80,8 @@ fn has_tile(copier: &MbtilesCopier, source: &Loaded, base: &Loaded, index: usize
 
 // Whether a tile of a source is copied and there already.
 fn has_any_tile(copier: &MbtilesCopier, source: &Loaded, base: &Loaded) -> bool
-    ensures { result ≡ list_any (tile_there copier.now base.now.state) (entries source.now.state.tiles) }
+    ensures { result ≡ list_any (tile_there copier.now base.now.state)
+        (entries source.now.state.tiles) }
 {
     for index in 0..source.tile_count() {
         if has_tile(copier, source, base, index) {
@@ -91,7 +94,8 @@ fn has_any_tile(copier: &MbtilesCopier, source: &Loaded, base: &Loaded) -> bool
 // Whether the name of a source at an index is copied and there already.
 fn has_name(copier: &MbtilesCopier, source: &Loaded, base: &Loaded, index: usize) -> bool
     requires { index < len source.now.state.metadata }
-    ensures { IfSome (slice_get (entries source.now.state.metadata) index) (λ e. result ≡ name_there copier.now base.now.state e) }
+    ensures { IfSome (slice_get (entries source.now.state.metadata) index)
+        (λ e. result ≡ name_there copier.now base.now.state e) }
 {
     let (name, _) = source.metadata_at(index);
     is_copied_name(copier, name) && base.metadata(name).is_some()
@@ -99,7 +103,8 @@ fn has_name(copier: &MbtilesCopier, source: &Loaded, base: &Loaded, index: usize
 
 // Whether a name of a source is copied and there already.
 fn has_any_name(copier: &MbtilesCopier, source: &Loaded, base: &Loaded) -> bool
-    ensures { result ≡ list_any (name_there copier.now base.now.state) (entries source.now.state.metadata) }
+    ensures { result ≡ list_any (name_there copier.now base.now.state)
+        (entries source.now.state.metadata) }
 {
     for index in 0..source.metadata_count() {
         if has_name(copier, source, base, index) {
@@ -111,7 +116,9 @@ fn has_any_name(copier: &MbtilesCopier, source: &Loaded, base: &Loaded) -> bool
 
 // The test that nothing that is copied is there already.
 fn test_apart(copier: &MbtilesCopier, source: &Loaded, base: &Loaded) -> MbtResult<()>
-    ensures { Tests (duplicates CopyDuplicateMode.Abort (has_both copier.now source.now.state.tiles source.now.state.metadata base.now.state)) result }
+    ensures { Tests (duplicates CopyDuplicateMode.Abort
+        (has_both copier.now source.now.state.tiles source.now.state.metadata base.now.state))
+        result }
 {
     if has_any_tile(copier, source, base) || has_any_name(copier, source, base) {
         return Err(MbtError::DuplicateValues);
@@ -125,7 +132,9 @@ pub(crate) fn test_duplicates(
     source: &Loaded,
     base: &Loaded,
 ) -> MbtResult<()>
-    ensures { Tests (duplicates (mode_of copier.now) (has_both copier.now source.now.state.tiles source.now.state.metadata base.now.state)) result }
+    ensures { Tests (duplicates (mode_of copier.now)
+        (has_both copier.now source.now.state.tiles source.now.state.metadata base.now.state))
+        result }
 {
     match mode_of(copier) {
         CopyDuplicateMode::Override => Ok(()),

@@ -89,7 +89,8 @@ fn box_holds(zoom: u8, column: u32, row: u32, tile_box: &TileBox) -> bool
 
 // Whether one of the boxes holds a place.
 fn is_held(boxes: &[TileBox], zoom: u8, column: u32, row: u32) -> bool
-    ensures { result ≡ list_any (box_holds (record { zoom = zoom; column = column; row = row })) boxes.now }
+    ensures { result ≡ list_any (box_holds (record { zoom = zoom; column = column; row = row }))
+        boxes.now }
 {
     boxes
         .iter()

@@ -31,7 +31,8 @@ fn no_tiles(alloc: Global, algorithm: HashAlgorithm) -> Editing
 // Puts a new tile in place of one that was put at its place before.
 fn put_tile(alloc: Global, tiles: &mut Editing, tile: &NewTile) -> Result<(), OutOfMemory>
     requires { is_coord tile.now ≡ true }
-    ensures { OnOk result (tiles.new.state.tiles ≡ insert tiles.old.state.tiles (place_in tile.now) (Some tile.now.tile_data)) }
+    ensures { OnOk result (tiles.new.state.tiles ≡ insert tiles.old.state.tiles (place_in tile.now)
+        (Some tile.now.tile_data)) }
 {
     let coord = coord_of(tile);
     let bytes = tile.tile_data.try_clone(alloc)?;
@@ -54,7 +55,9 @@ fn put_missing(
     tile: &NewTile,
 ) -> Result<(), OutOfMemory>
     requires { is_coord tile.now ≡ true }
-    ensures { OnOk result (tiles.new.state.tiles ≡ cond (is_missing set.now.state.tiles tile.now) (insert tiles.old.state.tiles (place_in tile.now) (Some tile.now.tile_data)) tiles.old.state.tiles) }
+    ensures { OnOk result (tiles.new.state.tiles ≡ cond (is_missing set.now.state.tiles tile.now)
+        (insert tiles.old.state.tiles (place_in tile.now) (Some tile.now.tile_data))
+        tiles.old.state.tiles) }
 {
     if is_missing(set, tile) {
         return put_tile(alloc, tiles, tile);
@@ -81,7 +84,9 @@ fn last_tiles(
 // The first tile of each place of a batch at which a set has none.
 fn missing_tiles(alloc: Global, set: &Loaded, batch: &[NewTile]) -> Result<Loaded, OutOfMemory>
     requires { All (λ t. is_coord t ≡ true) batch.now }
-    ensures { IfOk result (λ h. h.state.tiles ≡ from_entries (map entry_of (filter (is_missing set.now.state.tiles) batch.now))) }
+    ensures { IfOk result
+        (λ h. h.state.tiles ≡ from_entries
+        (map entry_of (filter (is_missing set.now.state.tiles) batch.now))) }
 {
     let mut tiles = no_tiles(alloc, set.algorithm());
     let mut left = batch.len();

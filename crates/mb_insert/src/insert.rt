@@ -1,7 +1,6 @@
 // Inserting a batch of tiles.
-ghost use Rattle.mb_store.specs.Kept.{Keeps};
-ghost use Rattle.std.specs.Prelude.{◌≡◌, ◌≢◌, None, Some, false, true, IfErr, IfOk, IsErrOf, OnErr, OnOk};
-ghost use Rattle.base_values.specs.Counts.{Rose};
+ghost use Rattle.mb_store.specs.Kept.{FaultsCounted, Keeps};
+ghost use Rattle.std.specs.Prelude.{◌≡◌, ◌≢◌, None, Some, false, true, IfErr, IfOk, OnErr, OnOk};
 ghost use Rattle.mb_edit.specs.Put.{tiles_put};
 ghost use Rattle.mb_insert.specs.Batch.{put_of};
 ghost use Rattle.mb_insert.specs.Inserted.{IsInserted};
@@ -26,7 +25,8 @@ fn insert_loaded(
     mode: CopyDuplicateMode,
     batch: &[NewTile],
 ) -> MbtResult<Loaded>
-    ensures refused { IfErr result (λ e. is_free e ≡ false → may_insert mode batch.now base.state ≡ Some e) }
+    ensures refused { IfErr result
+        (λ e. is_free e ≡ false → may_insert mode batch.now base.state ≡ Some e) }
     ensures unfaulted { IfErr result (λ e. e ≢ MbtError.StoreFault) }
     ensures tested { IfOk result (λ h. may_insert mode batch.now base.state ≡ None) }
     ensures value { IfOk result (λ h. h ≡ tiles_put base (put_of mode base.state.tiles batch.now)) }
@@ -59,11 +59,13 @@ pub fn insert_tiles<S: TileStore>(
     on_duplicate: CopyDuplicateMode,
     batch: &[NewTile],
 ) -> MbtResult<()>
-    ensures answer { IsBegun (insertion on_duplicate batch.now) (S.tells store.old) (S.told store.old) result }
-    ensures inserted { S.tells store.old ≡ true → OnOk result (IsInserted on_duplicate batch.now (S.told store.old) (S.told store.new)) }
+    ensures answer { IsBegun (insertion on_duplicate batch.now) (S.tells store.old)
+        (S.told store.old) result }
+    ensures inserted { S.tells store.old ≡ true
+        → OnOk result (IsInserted on_duplicate batch.now (S.told store.old) (S.told store.new)) }
     ensures refused { OnErr result (S.told store.new ≡ S.told store.old) }
     ensures kept { Keeps S.tells S.faults S.steady store.old store.new }
-    ensures fault { IsErrOf result MbtError.StoreFault → Rose (S.faults store.old) (S.faults store.new) }
+    ensures fault { FaultsCounted S.faults store.old store.new result MbtError.StoreFault }
 {
     let set = load(alloc, store)?;
     let inserted = insert_loaded(alloc, set, on_duplicate, batch)?;

@@ -10,11 +10,17 @@ use crate::CopyDuplicateMode;
 
 /// In mode `Override` a set afterwards has the batch over it: at each place the last of the batch, else what it had.
 pub fn over_the_set()
-    ensures { (tiles : TileSet) (batch : List NewTile) → patched tiles (put_of CopyDuplicateMode.Override tiles batch) ≡ from_entries (map entry_of (reverse batch) ++ entries tiles) }
+    ensures { (tiles : TileSet) (batch : List NewTile)
+        → patched tiles (put_of CopyDuplicateMode.Override tiles batch) ≡ from_entries
+        (map entry_of (reverse batch) ++ entries tiles) }
 {}
 
 /// In the other modes it has the batch under it: at each place what it had, null too, else the first of the batch.
 pub fn under_the_set()
-    ensures ignore { (tiles : TileSet) (batch : List NewTile) → patched tiles (put_of CopyDuplicateMode.Ignore tiles batch) ≡ from_entries (entries tiles ++ map entry_of batch) }
-    ensures abort { (tiles : TileSet) (batch : List NewTile) → patched tiles (put_of CopyDuplicateMode.Abort tiles batch) ≡ from_entries (entries tiles ++ map entry_of batch) }
+    ensures ignore { (tiles : TileSet) (batch : List NewTile)
+        → patched tiles (put_of CopyDuplicateMode.Ignore tiles batch) ≡ from_entries
+        (entries tiles ++ map entry_of batch) }
+    ensures abort { (tiles : TileSet) (batch : List NewTile)
+        → patched tiles (put_of CopyDuplicateMode.Abort tiles batch) ≡ from_entries
+        (entries tiles ++ map entry_of batch) }
 {}

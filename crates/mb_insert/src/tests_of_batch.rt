@@ -46,7 +46,8 @@ pub(crate) fn test_coords(batch: &[NewTile]) -> MbtResult<()>
 
 // The test that a batch has as many tiles as there are places that it puts.
 fn test_all_put(tiles: &Loaded, batch: &[NewTile]) -> MbtResult<()>
-    ensures { (set : TileSet) → tiles.now.state.tiles ≡ put_of CopyDuplicateMode.Abort set batch.now → Tests (unless (not (has_duplicates set batch.now)) MbtError.DuplicateValues) result }
+    ensures { (set : TileSet) → tiles.now.state.tiles ≡ put_of CopyDuplicateMode.Abort set batch.now
+        → Tests (unless (not (has_duplicates set batch.now)) MbtError.DuplicateValues) result }
 {
     if tiles.tile_count() == batch.len() {
         return Ok(());
@@ -60,7 +61,8 @@ pub(crate) fn test_duplicates(
     tiles: &Loaded,
     batch: &[NewTile],
 ) -> MbtResult<()>
-    ensures { (set : TileSet) → tiles.now.state.tiles ≡ put_of mode set batch.now → Tests (duplicates mode set batch.now) result }
+    ensures { (set : TileSet) → tiles.now.state.tiles ≡ put_of mode set batch.now
+        → Tests (duplicates mode set batch.now) result }
 {
     match mode {
         CopyDuplicateMode::Override => Ok(()),

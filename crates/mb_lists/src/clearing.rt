@@ -50,7 +50,9 @@ pub(crate) fn mark_tile(items: &mut Vec<StoredTile>, at: usize, coord: TileCoord
 /// Takes an entry out, and puts its mark behind the others.
 pub(crate) fn mark_name(items: &mut Vec<StoredName>, at: usize)
     requires { at < length items.old.items }
-    ensures { (d : StoredName) → items.new.items ≡ remove items.old.items at ++ name_mark (slice_index_or items.old.items at d).name ∷ [] }
+    ensures { (d : StoredName)
+        → items.new.items ≡ remove items.old.items at ++ name_mark
+        (slice_index_or items.old.items at d).name ∷ [] }
 {
     let mut entry = items.remove(at);
     entry.value = Cell::Null;
@@ -80,7 +82,8 @@ pub(crate) fn name_position(names: &[StoredName], name: &str) -> Option<usize>
 
 /// The first of these contents that has the id of the contents at an index.
 pub(crate) fn id_position(contents: &[Content], order: &[usize], index: usize) -> Option<usize>
-    ensures { result ≡ position (at_key cell_cmp (id_at contents.now) (id_at contents.now index)) order.now }
+    ensures { result ≡ position (at_key cell_cmp (id_at contents.now) (id_at contents.now index))
+        order.now }
 {
     order
         .iter()

@@ -83,7 +83,8 @@ fn present(id: &Cell) -> Option<&Cell>
 
 /// The id of the contents at an index, if they have one.
 pub fn kept_id(items: &[Content], index: usize) -> Option<&Cell>
-    ensures { option_copied result ≡ cond (is_null (id_at items.now index)) None (Some (id_at items.now index)) }
+    ensures { option_copied result ≡ cond (is_null (id_at items.now index)) None
+        (Some (id_at items.now index)) }
 {
     match items.get(index) {
         Some(content) => present(&content.id),
@@ -93,7 +94,8 @@ pub fn kept_id(items: &[Content], index: usize) -> Option<&Cell>
 
 // The cell of the contents at an index, and the given null past the end.
 fn cell_in<'a>(items: &'a [Content], index: usize, null: &'a Cell) -> &'a Cell
-    ensures { result.now ≡ unwrap_or (option_map (λ c. c.cell) (slice_get items.now index)) null.now }
+    ensures { result.now ≡ unwrap_or (option_map (λ c. c.cell) (slice_get items.now index))
+        null.now }
 {
     match items.get(index) {
         Some(content) => &content.cell,
@@ -105,10 +107,14 @@ impl ContentList {
     /// Contents with the order of their ids, and none where an id stands twice.
     pub fn in_order(alloc: Global, items: Vec<Content>) -> Result<Option<ContentList>, OutOfMemory>
         requires { All (λ c. is_removed c.standing ≡ false) items.items }
-        ensures order { IfOk result (λ found. IfSome found (λ l. AreContentsInOrder l.items.items l.live l.order.items)) }
+        ensures order { IfOk result
+            (λ found. IfSome found (λ l. AreContentsInOrder l.items.items l.live l.order.items)) }
         ensures items { IfOk result (λ found. IfSome found (λ l. l.items.items ≡ items.items)) }
-        ensures same { IfOk result (λ found. IfSome found (λ l. IsPermutation (ids_from 0 items.items) l.order.items)) }
-        ensures twice { IfOk result (λ found. IfNone found (are_distinct cell_cmp (map (id_at items.items) (ids_from 0 items.items)) ≡ false)) }
+        ensures same { IfOk result
+            (λ found. IfSome found (λ l. IsPermutation (ids_from 0 items.items) l.order.items)) }
+        ensures twice { IfOk result
+            (λ found. IfNone found
+            (are_distinct cell_cmp (map (id_at items.items) (ids_from 0 items.items)) ≡ false)) }
     {
         let mut order = ids_of(alloc, &items)?;
         order.sort_unstable_by(|a, b| compare_ids(&items, *a, *b));
@@ -133,7 +139,9 @@ impl ContentList {
     pub fn newest(items: Vec<Content>, mut order: Vec<usize>) -> Result<ContentList, OutOfMemory>
         ensures items { IfOk result (λ l. l.items.items ≡ items.items) }
         ensures order { IfOk result (λ l. AreContentsInOrder items.items l.live l.order.items) }
-        ensures same { IfOk result (λ l. StandsAs cell_cmp (id_at items.items) (newest_ids items.items order.items) l.order.items) }
+        ensures same { IfOk result
+            (λ l. StandsAs cell_cmp (id_at items.items) (newest_ids items.items order.items)
+            l.order.items) }
         ensures from { IfOk result (λ l. All (Contains order.items) l.order.items) }
     {
         order.reverse();
@@ -146,8 +154,11 @@ impl ContentList {
     /// Where the index of the contents of an id is, or where it would go.
     pub(crate) fn search(&self, id: &Cell) -> Result<usize, usize>
         requires { AreContentsInOrder self.now.items.items self.now.live self.now.order.items }
-        ensures found { IfOk result (IsAt cell_cmp (id_at self.now.items.items) self.now.live self.now.order.items id.now) }
-        ensures absent { IfErr result (IsGap cell_cmp (id_at self.now.items.items) self.now.live self.now.order.items id.now) }
+        ensures found { IfOk result
+            (IsAt cell_cmp (id_at self.now.items.items) self.now.live self.now.order.items id.now) }
+        ensures absent { IfErr result
+            (IsGap cell_cmp (id_at self.now.items.items) self.now.live self.now.order.items
+            id.now) }
     {
         let items = self.items.as_slice();
         self.order[..self.live].binary_search_by(|index| compare_id(items, *index, id))
@@ -156,7 +167,8 @@ impl ContentList {
     /// The index of the contents of an id.
     pub fn index_of(&self, id: &Cell) -> Option<usize>
         requires { AreContentsInOrder self.now.items.items self.now.live self.now.order.items }
-        ensures { result ≡ live_at cell_cmp (id_at self.now.items.items) (is_content_gone self.now.items.items) id.now self.now.order.items }
+        ensures { result ≡ live_at cell_cmp (id_at self.now.items.items)
+            (is_content_gone self.now.items.items) id.now self.now.order.items }
     {
         match self.search(id) {
             Ok(at) => Some(self.order[at]),

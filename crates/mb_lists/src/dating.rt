@@ -24,7 +24,9 @@ fn redate(tile: &mut StoredTile, dates: Dates)
 // The same of the tile at an index.
 fn redate_at(items: &mut Vec<StoredTile>, at: usize, dates: Dates)
     requires { at < length items.old.items }
-    ensures { (d : StoredTile) → items.new.items ≡ set items.old.items at (redated dates (slice_index_or items.old.items at d)) }
+    ensures { (d : StoredTile)
+        → items.new.items ≡ set items.old.items at
+        (redated dates (slice_index_or items.old.items at d)) }
 {
     redate(&mut items[at], dates);
 }
@@ -51,7 +53,8 @@ pub fn push_dated(
     coord: TileCoord,
     dates: TileDates,
 ) -> Result<(), OutOfMemory>
-    ensures ok { OnOk result (tiles.new.items ≡ tiles.old.items ++ dated_last coord dates tiles.old.items) }
+    ensures ok { OnOk result (tiles.new.items ≡ tiles.old.items ++ dated_last coord dates
+        tiles.old.items) }
     ensures err { OnErr result (tiles.new.items ≡ tiles.old.items) }
 {
     match last_contents(tiles, coord) {
@@ -73,7 +76,9 @@ impl TileList {
     pub fn redate(&mut self, coord: TileCoord, dates: Dates)
         requires { AreInOrder self.old.live self.old.items.items }
         ensures order { AreInOrder self.new.live self.new.items.items }
-        ensures dated { Redates dates (live_at place_cmp place_of is_gone (place_at coord) self.old.items.items) self.old.items.items self.new.items.items }
+        ensures dated { Redates dates
+            (live_at place_cmp place_of is_gone (place_at coord) self.old.items.items)
+            self.old.items.items self.new.items.items }
     {
         if let Ok(at) = self.search(coord) {
             redate_at(&mut self.items, at, dates);

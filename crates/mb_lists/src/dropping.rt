@@ -13,7 +13,8 @@ use std::cmp::Ordering;
 
 // The order of two tiles by the ids of their contents, marks behind the others.
 fn compare_named(contents: &[Content], tile: &StoredTile, other: &StoredTile) -> Ordering
-    ensures { result ≡ behind cell_cmp (λ t. id_at contents.now t.contents) is_gone tile.now other.now }
+    ensures { result ≡ behind cell_cmp
+        (λ t. id_at contents.now t.contents) is_gone tile.now other.now }
 {
     let (mark, other_mark) = (tile.is_mark(), other.is_mark());
     mark.cmp(&other_mark)
@@ -22,10 +23,13 @@ fn compare_named(contents: &[Content], tile: &StoredTile, other: &StoredTile) ->
 
 /// Puts tiles in the order of the ids of their contents, the marks behind them, and answers how many aren't marks.
 pub fn sort_named(contents: &[Content], tiles: &mut Vec<StoredTile>) -> usize
-    ensures order { IsSortedBy (λ x y. is_lt (cell_cmp (id_at contents.now x.contents) (id_at contents.now y.contents))) (take result tiles.new.items) }
+    ensures order { IsSortedBy
+        (λ x y. is_lt (cell_cmp (id_at contents.now x.contents) (id_at contents.now y.contents)))
+        (take result tiles.new.items) }
     ensures same { IsPermutation tiles.old.items tiles.new.items }
     ensures bound { result ≤ length tiles.new.items }
-    ensures point { IsPartitionPoint (λ t. not (is_gone t) ≡ true) (λ t. not (is_gone t) ≡ false) tiles.new.items result }
+    ensures point { IsPartitionPoint (λ t. not (is_gone t) ≡ true)
+        (λ t. not (is_gone t) ≡ false) tiles.new.items result }
 {
     tiles.sort_unstable_by(|a, b| compare_named(contents, a, b));
     tiles.partition_point(|tile| !tile.is_mark())
@@ -33,7 +37,9 @@ pub fn sort_named(contents: &[Content], tiles: &mut Vec<StoredTile>) -> usize
 
 // Whether one of these tiles, which stand in the order of their ids, has the id.
 fn has_id(contents: &[Content], tiles: &[StoredTile], id: &Cell) -> bool
-    requires { IsSortedBy (λ x y. is_lt (cell_cmp (id_at contents.now x.contents) (id_at contents.now y.contents))) tiles.now }
+    requires { IsSortedBy
+        (λ x y. is_lt (cell_cmp (id_at contents.now x.contents) (id_at contents.now y.contents)))
+        tiles.now }
     ensures { result ≡ has_id contents.now tiles.now id.now }
 {
     tiles
@@ -43,7 +49,9 @@ fn has_id(contents: &[Content], tiles: &[StoredTile], id: &Cell) -> bool
 
 // Whether no tile has the id of the contents at an index.
 fn is_unnamed(contents: &[Content], tiles: &[StoredTile], index: usize) -> bool
-    requires { IsSortedBy (λ x y. is_lt (cell_cmp (id_at contents.now x.contents) (id_at contents.now y.contents))) tiles.now }
+    requires { IsSortedBy
+        (λ x y. is_lt (cell_cmp (id_at contents.now x.contents) (id_at contents.now y.contents)))
+        tiles.now }
     ensures { result ≡ is_unnamed contents.now tiles.now index }
 {
     match contents.get(index) {
@@ -63,7 +71,9 @@ fn mark(contents: &mut [Content], index: usize)
 
 // Makes the contents at an index a mark, if no tile has their id.
 fn mark_unnamed(contents: &mut [Content], tiles: &[StoredTile], index: usize)
-    requires { IsSortedBy (λ x y. is_lt (cell_cmp (id_at contents.old x.contents) (id_at contents.old y.contents))) tiles.now }
+    requires { IsSortedBy
+        (λ x y. is_lt (cell_cmp (id_at contents.old x.contents) (id_at contents.old y.contents)))
+        tiles.now }
     ensures { contents.new ≡ marked_unnamed tiles.now contents.old (index ∷ []) }
 {
     if is_unnamed(contents, tiles, index) {
@@ -73,7 +83,9 @@ fn mark_unnamed(contents: &mut [Content], tiles: &[StoredTile], index: usize)
 
 /// Makes all of these contents marks whose ids no tile has.
 pub fn mark_all(contents: &mut [Content], order: &[usize], tiles: &[StoredTile])
-    requires { IsSortedBy (λ x y. is_lt (cell_cmp (id_at contents.old x.contents) (id_at contents.old y.contents))) tiles.now }
+    requires { IsSortedBy
+        (λ x y. is_lt (cell_cmp (id_at contents.old x.contents) (id_at contents.old y.contents)))
+        tiles.now }
     ensures { contents.new ≡ marked_unnamed tiles.now contents.old order.now }
 {
     for index in order {

@@ -94,7 +94,8 @@ pub(crate) fn is_content_mark(contents: &[Content], index: usize) -> bool
 
 /// The order of the contents at two indexes by their ids, marks behind the others.
 pub(crate) fn compare_ids_settled(contents: &[Content], index: usize, other: usize) -> Ordering
-    ensures { result ≡ behind cell_cmp (id_at contents.now) (is_content_gone contents.now) index other }
+    ensures { result ≡ behind cell_cmp (id_at contents.now) (is_content_gone contents.now) index
+        other }
 {
     let mark = is_content_mark(contents, index);
     let other_mark = is_content_mark(contents, other);

@@ -60,7 +60,8 @@ impl NameList {
         requires { All (λ n. is_name_gone n ≡ false) items.items }
         ensures order { IfSome result (λ l. AreNamesInOrder l.live l.items.items) }
         ensures same { IfSome result (λ l. IsPermutation items.items l.items.items) }
-        ensures twice { IfNone result (are_distinct (slice_cmp nat_cmp) (map name_of items.items) ≡ false) }
+        ensures twice { IfNone result
+            (are_distinct (slice_cmp nat_cmp) (map name_of items.items) ≡ false) }
     {
         items.sort_unstable_by(|a, b| a.name.cmp(&b.name));
         if !items.is_sorted_by(|a, b| a.name.cmp(&b.name).is_lt()) {
@@ -83,7 +84,8 @@ impl NameList {
     /// The latest entry of each name, in order.
     pub fn newest(mut items: Vec<StoredName>) -> Result<NameList, OutOfMemory>
         ensures order { IfOk result (λ l. AreNamesInOrder l.live l.items.items) }
-        ensures same { IfOk result (λ l. StandsAs (slice_cmp nat_cmp) name_of (newest_names items.items) l.items.items) }
+        ensures same { IfOk result
+            (λ l. StandsAs (slice_cmp nat_cmp) name_of (newest_names items.items) l.items.items) }
         ensures from { IfOk result (λ l. All (Contains items.items) l.items.items) }
     {
         items.reverse();
@@ -96,8 +98,10 @@ impl NameList {
     /// Where a name is, or where it would go.
     pub(crate) fn search(&self, name: &str) -> Result<usize, usize>
         requires { AreNamesInOrder self.now.live self.now.items.items }
-        ensures found { IfOk result (IsAt (slice_cmp nat_cmp) name_of self.now.live self.now.items.items name.now) }
-        ensures absent { IfErr result (IsGap (slice_cmp nat_cmp) name_of self.now.live self.now.items.items name.now) }
+        ensures found { IfOk result
+            (IsAt (slice_cmp nat_cmp) name_of self.now.live self.now.items.items name.now) }
+        ensures absent { IfErr result
+            (IsGap (slice_cmp nat_cmp) name_of self.now.live self.now.items.items name.now) }
     {
         self.items[..self.live].binary_search_by(|entry| entry.name.as_str().cmp(name))
     }
@@ -105,7 +109,8 @@ impl NameList {
     /// The entry of a name.
     pub fn get(&self, name: &str) -> Option<&StoredName>
         requires { AreNamesInOrder self.now.live self.now.items.items }
-        ensures { option_copied result ≡ live_at (slice_cmp nat_cmp) name_of is_name_gone name.now self.now.items.items }
+        ensures { option_copied result ≡ live_at (slice_cmp nat_cmp) name_of is_name_gone name.now
+            self.now.items.items }
     {
         match self.search(name) {
             Ok(at) => Some(&self.items[at]),
@@ -115,7 +120,8 @@ impl NameList {
 
     /// The names of rows of metadata, or the refusal of these.
     pub fn of_rows(alloc: Global, rows: Vec<Row>) -> MbtResult<NameList>
-        ensures tests { Tests (option_or (name_kind_wrong rows.items) (name_twice rows.items)) result }
+        ensures tests { Tests (option_or (name_kind_wrong rows.items) (name_twice rows.items))
+            result }
         ensures order { IfOk result (λ l. AreNamesInOrder l.live l.items.items) }
         ensures names { IfOk result (λ l. names_held l.items.items ≡ names_of rows.items) }
         ensures kept { IfOk result (λ l. All (λ n. n.standing ≡ Kept) l.items.items) }

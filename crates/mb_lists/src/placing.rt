@@ -23,7 +23,8 @@ impl TileList {
         requires live { is_gone tile ≡ false }
         requires room { vec_len self.old.items < vec_capacity self.old.items }
         ensures order { AreInOrder self.new.live self.new.items.items }
-        ensures same { StandsAs place_cmp place_of (newest_tiles (self.old.items.items ++ tile ∷ [])) self.new.items.items }
+        ensures same { StandsAs place_cmp place_of
+            (newest_tiles (self.old.items.items ++ tile ∷ [])) self.new.items.items }
     {
         match self.search(tile.coord) {
             Ok(at) => self.items[at] = tile,
@@ -39,7 +40,9 @@ impl TileList {
     pub fn clear(&mut self, coord: TileCoord)
         requires { AreInOrder self.old.live self.old.items.items }
         ensures order { AreInOrder self.new.live self.new.items.items }
-        ensures cleared { Clears place_cmp place_of (live_at place_cmp place_of is_gone (place_at coord) self.old.items.items) (tile_mark coord) self.old.items.items self.new.items.items }
+        ensures cleared { Clears place_cmp place_of
+            (live_at place_cmp place_of is_gone (place_at coord) self.old.items.items)
+            (tile_mark coord) self.old.items.items self.new.items.items }
     {
         if let Ok(at) = self.search(coord) {
             mark_tile(&mut self.items, at, coord);
@@ -55,7 +58,8 @@ impl NameList {
         requires live { is_name_gone entry ≡ false }
         requires room { vec_len self.old.items < vec_capacity self.old.items }
         ensures order { AreNamesInOrder self.new.live self.new.items.items }
-        ensures same { StandsAs (slice_cmp nat_cmp) name_of (newest_names (self.old.items.items ++ entry ∷ [])) self.new.items.items }
+        ensures same { StandsAs (slice_cmp nat_cmp) name_of
+            (newest_names (self.old.items.items ++ entry ∷ [])) self.new.items.items }
     {
         match self.search(entry.name.as_str()) {
             Ok(at) => self.items[at] = entry,
@@ -71,7 +75,9 @@ impl NameList {
     pub fn clear(&mut self, name: &str)
         requires { AreNamesInOrder self.old.live self.old.items.items }
         ensures order { AreNamesInOrder self.new.live self.new.items.items }
-        ensures cleared { Clears (slice_cmp nat_cmp) name_of (live_at (slice_cmp nat_cmp) name_of is_name_gone name.now self.old.items.items) (name_mark name.now) self.old.items.items self.new.items.items }
+        ensures cleared { Clears (slice_cmp nat_cmp) name_of
+            (live_at (slice_cmp nat_cmp) name_of is_name_gone name.now self.old.items.items)
+            (name_mark name.now) self.old.items.items self.new.items.items }
     {
         if let Ok(at) = self.search(name) {
             mark_name(&mut self.items, at);
@@ -83,13 +89,16 @@ impl NameList {
 impl ContentList {
     // Lists contents at an index under their id.
     fn put(&mut self, index: usize)
-        requires order { AreContentsInOrder self.old.items.items self.old.live self.old.order.items }
+        requires order { AreContentsInOrder self.old.items.items self.old.live
+            self.old.order.items }
         requires within { index < length self.old.items.items }
         requires live { is_content_gone self.old.items.items index ≡ false }
         requires room { vec_len self.old.order < vec_capacity self.old.order }
         ensures items { self.new.items ≡ self.old.items }
         ensures order { AreContentsInOrder self.old.items.items self.new.live self.new.order.items }
-        ensures same { StandsAs cell_cmp (id_at self.old.items.items) (newest_ids self.old.items.items (self.old.order.items ++ index ∷ [])) self.new.order.items }
+        ensures same { StandsAs cell_cmp (id_at self.old.items.items)
+            (newest_ids self.old.items.items (self.old.order.items ++ index ∷ []))
+            self.new.order.items }
     {
         match self.search(&self.items[index].id) {
             Ok(at) => self.order[at] = index,
@@ -103,13 +112,16 @@ impl ContentList {
 
     /// Lists contents at an index under their id, unless it is null.
     pub fn list(&mut self, is_null: bool, index: usize)
-        requires order { AreContentsInOrder self.old.items.items self.old.live self.old.order.items }
+        requires order { AreContentsInOrder self.old.items.items self.old.live
+            self.old.order.items }
         requires within { index < length self.old.items.items }
         requires live { is_content_gone self.old.items.items index ≡ false }
         requires room { vec_len self.old.order < vec_capacity self.old.order }
         ensures items { self.new.items ≡ self.old.items }
         ensures order { AreContentsInOrder self.old.items.items self.new.live self.new.order.items }
-        ensures same { StandsAs cell_cmp (id_at self.old.items.items) (newest_ids self.old.items.items (self.old.order.items ++ listed is_null index)) self.new.order.items }
+        ensures same { StandsAs cell_cmp (id_at self.old.items.items)
+            (newest_ids self.old.items.items (self.old.order.items ++ listed is_null index))
+            self.new.order.items }
     {
         if is_null {
             return;

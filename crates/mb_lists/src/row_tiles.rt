@@ -23,7 +23,9 @@ pub struct RowTiles {
 
 // What is kept of a tile, if it has a coordinate.
 fn stored(coord: Option<TileCoord>, contents: usize, dates: TileDates) -> Option<StoredTile>
-    ensures { result ≡ option_map (λ c. record { coord = c; contents = contents; dates = dates; standing = Standing.Kept }) coord }
+    ensures { result ≡ option_map
+        (λ c. record { coord = c; contents = contents; dates = dates; standing = Standing.Kept })
+        coord }
 {
     match coord {
         Some(coord) => Some(StoredTile {
@@ -162,7 +164,9 @@ fn tiles_by_id(
     rows: Vec<Row>,
 ) -> Result<Vec<StoredTile>, OutOfMemory>
     requires { AreIndexed contents.now.items.items contents.now.live contents.now.order.items }
-    ensures { IfOk result (λ tiles. tiles.items ≡ filter_map (stored_by_id contents.now.items.items contents.now.order.items) rows.items) }
+    ensures { IfOk result
+        (λ tiles. tiles.items ≡ filter_map
+        (stored_by_id contents.now.items.items contents.now.order.items) rows.items) }
 {
     let mut tiles = Vec::with_capacity(alloc, rows.len())?;
     for row in rows {
@@ -183,7 +187,9 @@ pub fn named_tiles(
     ensures contents { IfOk result (λ r. r.contents.items.items ≡ contents.items.items) }
     ensures order { IfOk result (λ r. r.contents.order.items ≡ contents.order.items) }
     ensures live { IfOk result (λ r. r.contents.live ≡ contents.live) }
-    ensures tiles { IfOk result (λ r. r.tiles.items ≡ filter_map (stored_by_id contents.items.items contents.order.items) rows.items) }
+    ensures tiles { IfOk result
+        (λ r. r.tiles.items ≡ filter_map (stored_by_id contents.items.items contents.order.items)
+        rows.items) }
 {
     let tiles = tiles_by_id(alloc, &contents, rows)?;
     Ok(RowTiles { contents, tiles })

@@ -51,7 +51,8 @@ impl TileList {
     /// The latest tile of each place, in order.
     pub fn newest(mut items: Vec<StoredTile>) -> Result<TileList, OutOfMemory>
         ensures order { IfOk result (λ l. AreInOrder l.live l.items.items) }
-        ensures same { IfOk result (λ l. StandsAs place_cmp place_of (newest_tiles items.items) l.items.items) }
+        ensures same { IfOk result
+            (λ l. StandsAs place_cmp place_of (newest_tiles items.items) l.items.items) }
         ensures from { IfOk result (λ l. All (Contains items.items) l.items.items) }
     {
         items.reverse();
@@ -64,8 +65,10 @@ impl TileList {
     /// Where the tile at a coordinate is, or where it would go.
     pub(crate) fn search(&self, coord: TileCoord) -> Result<usize, usize>
         requires { AreInOrder self.now.live self.now.items.items }
-        ensures found { IfOk result (IsAt place_cmp place_of self.now.live self.now.items.items (place_at coord)) }
-        ensures absent { IfErr result (IsGap place_cmp place_of self.now.live self.now.items.items (place_at coord)) }
+        ensures found { IfOk result
+            (IsAt place_cmp place_of self.now.live self.now.items.items (place_at coord)) }
+        ensures absent { IfErr result (IsGap place_cmp place_of self.now.live self.now.items.items
+            (place_at coord)) }
     {
         self.items[..self.live].binary_search_by(|tile| compare_places(tile.coord, coord))
     }
@@ -73,7 +76,8 @@ impl TileList {
     /// The tile at a coordinate.
     pub fn get(&self, coord: TileCoord) -> Option<&StoredTile>
         requires { AreInOrder self.now.live self.now.items.items }
-        ensures { option_copied result ≡ live_at place_cmp place_of is_gone (place_at coord) self.now.items.items }
+        ensures { option_copied result ≡ live_at place_cmp place_of is_gone (place_at coord)
+            self.now.items.items }
     {
         match self.search(coord) {
             Ok(at) => Some(&self.items[at]),

@@ -1,7 +1,6 @@
 // Putting what a document says into the metadata of a set.
-ghost use Rattle.mb_store.specs.Kept.{Keeps};
-ghost use Rattle.std.specs.Prelude.{◌≡◌, ◌≤◌, IfOk, IsErrOf, OnErr, OnOk, option_copied, true};
-ghost use Rattle.base_values.specs.Counts.{Rose};
+ghost use Rattle.mb_store.specs.Kept.{FaultsCounted, Keeps};
+ghost use Rattle.std.specs.Prelude.{◌≡◌, ◌≤◌, IfOk, OnErr, OnOk, option_copied, true};
 ghost use Rattle.mb_load.specs.Begun.{IsBegun};
 ghost use Rattle.mb_metadata.specs.Inserting.{HasNoFloat, IsWithoutFloat, document_edits, insert_edits, other_edits, then_extents, then_put, then_texts};
 ghost use Rattle.mb_metadata.specs.NameEdits.{EditsNames, done_answer};
@@ -124,8 +123,7 @@ pub fn insert_metadata<S: TileStore>(
         (EditsNames (insert_edits tile_json.now) (S.told store.old) (S.told store.new)) }
     ensures refused { OnErr result (S.told store.new ≡ S.told store.old) }
     ensures kept { Keeps S.tells S.faults S.steady store.old store.new }
-    ensures fault { IsErrOf result MbtError.StoreFault
-        → Rose (S.faults store.old) (S.faults store.new) }
+    ensures fault { FaultsCounted S.faults store.old store.new result MbtError.StoreFault }
 {
     let set = load(alloc, store)?;
     let edits = document_edits(alloc, tile_json)?;

@@ -1,7 +1,6 @@
 // Edits of names of metadata, in one commit.
-ghost use Rattle.mb_store.specs.Kept.{Keeps};
-ghost use Rattle.std.specs.Prelude.{◌≡◌, ◌≤◌, ◌++◌, ◌∷◌, [], List, true, IfErr, IfOk, IsErrOf, IsOk, OnErr, OnOk, option_copied, option_to_list};
-ghost use Rattle.base_values.specs.Counts.{Rose};
+ghost use Rattle.mb_store.specs.Kept.{FaultsCounted, Keeps};
+ghost use Rattle.std.specs.Prelude.{◌≡◌, ◌≤◌, ◌++◌, ◌∷◌, [], List, true, IfErr, IfOk, IsOk, OnErr, OnOk, option_copied, option_to_list};
 ghost use Rattle.mb_metadata.specs.NameEdits.{AreEdited, IsFresh, held_edited, put_any, put_of, removal};
 ghost use Rattle.mb_tables.specs.Refusals.{is_free};
 
@@ -95,8 +94,7 @@ pub(crate) fn commit_edits<S: TileStore>(
     ensures refused { OnErr result (S.told store.new ≡ S.told store.old) }
     ensures free { IfErr result (λ e. is_free e ≡ true) }
     ensures kept { Keeps S.tells S.faults S.steady store.old store.new }
-    ensures fault { IsErrOf result MbtError.StoreFault
-        → Rose (S.faults store.old) (S.faults store.new) }
+    ensures fault { FaultsCounted S.faults store.old store.new result MbtError.StoreFault }
 {
     if edits.is_empty() {
         return Ok(());

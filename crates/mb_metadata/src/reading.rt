@@ -1,7 +1,6 @@
 // What a set says of itself.
-ghost use Rattle.mb_store.specs.Kept.{ReadsOnly};
-ghost use Rattle.std.specs.Prelude.{◌≡◌, ◌≢◌, Err, IfOk, IsErrOf};
-ghost use Rattle.base_values.specs.Counts.{Rose};
+ghost use Rattle.mb_store.specs.Kept.{FaultsCounted, ReadsOnly};
+ghost use Rattle.std.specs.Prelude.{◌≡◌, ◌≢◌, Err, IfOk};
 ghost use Rattle.mb_metadata.specs.Reading.{document_said, metadata_answer, metadata_of};
 ghost use Rattle.mb_load.specs.Begun.{IsBegun};
 ghost use Rattle.mb_tables.specs.Refusals.{Answers};
@@ -97,8 +96,7 @@ pub fn get_metadata<S: TileStore>(alloc: Global, store: &mut S, id: &str) -> Mbt
     ensures answer { IsBegun (metadata_answer id.now) (S.tells store.old) (S.told store.old)
         result }
     ensures kept { ReadsOnly S.told S.tells S.faults S.steady store.old store.new }
-    ensures fault { IsErrOf result MbtError.StoreFault
-        → Rose (S.faults store.old) (S.faults store.new) }
+    ensures fault { FaultsCounted S.faults store.old store.new result MbtError.StoreFault }
 {
     let set = load(alloc, store)?;
     answer_of(alloc, &set, id)

@@ -1,7 +1,6 @@
 // The zooms that metadata names, by the tiles of the set.
-ghost use Rattle.mb_store.specs.Kept.{Keeps};
-ghost use Rattle.std.specs.Prelude.{◌≡◌, ◌≤◌, ◌++◌, Ok, IfOk, IsErrOf, OnErr, OnOk, option_to_list, true};
-ghost use Rattle.base_values.specs.Counts.{Rose};
+ghost use Rattle.mb_store.specs.Kept.{FaultsCounted, Keeps};
+ghost use Rattle.std.specs.Prelude.{◌≡◌, ◌≤◌, ◌++◌, Ok, IfOk, OnErr, OnOk, option_to_list, true};
 ghost use Rattle.mb_load.specs.Begun.{IsBegun};
 ghost use Rattle.mb_load.specs.State.{State, state_of};
 ghost use Rattle.mb_metadata.specs.NameEdits.{EditsNames, done_answer};
@@ -121,8 +120,7 @@ pub fn update_metadata<S: TileStore>(
         → state_of (S.told store.new) ≡ Ok (state_updated update_zoom s)) }
     ensures refused { OnErr result (S.told store.new ≡ S.told store.old) }
     ensures kept { Keeps S.tells S.faults S.steady store.old store.new }
-    ensures fault { IsErrOf result MbtError.StoreFault
-        → Rose (S.faults store.old) (S.faults store.new) }
+    ensures fault { FaultsCounted S.faults store.old store.new result MbtError.StoreFault }
 {
     let set = load(alloc, store)?;
     let edits = update_edits(alloc, &set, update_zoom)?;

@@ -1,7 +1,6 @@
 // Single values of metadata: read, put and removed.
-ghost use Rattle.mb_store.specs.Kept.{Keeps, ReadsOnly};
-ghost use Rattle.std.specs.Prelude.{◌≡◌, ◌≢◌, ◌≤◌, ◌∷◌, [], Err, IfOk, IsErrOf, OnErr, OnOk, true};
-ghost use Rattle.base_values.specs.Counts.{Rose};
+ghost use Rattle.mb_store.specs.Kept.{FaultsCounted, Keeps, ReadsOnly};
+ghost use Rattle.std.specs.Prelude.{◌≡◌, ◌≢◌, ◌≤◌, ◌∷◌, [], Err, IfOk, OnErr, OnOk, true};
 ghost use Rattle.mb_lists.specs.Metadata.{text_at};
 ghost use Rattle.mb_load.specs.Begun.{IsBegun};
 ghost use Rattle.mb_metadata.specs.NameEdits.{EditsNames, done_answer, put_of};
@@ -85,8 +84,7 @@ pub fn get_metadata_value<S: TileStore>(
 ) -> MbtResult<Option<TextVal>>
     ensures answer { IsBegun (value_answer key.now) (S.tells store.old) (S.told store.old) result }
     ensures kept { ReadsOnly S.told S.tells S.faults S.steady store.old store.new }
-    ensures fault { IsErrOf result MbtError.StoreFault
-        → Rose (S.faults store.old) (S.faults store.new) }
+    ensures fault { FaultsCounted S.faults store.old store.new result MbtError.StoreFault }
 {
     let set = load(alloc, store)?;
     value_in(alloc, &set, key)
@@ -104,8 +102,7 @@ pub fn get_metadata_zoom_value<S: TileStore>(
     ensures answer { IsBegun (zoom_value_answer zoom_name.entry) (S.tells store.old)
         (S.told store.old) result }
     ensures kept { ReadsOnly S.told S.tells S.faults S.steady store.old store.new }
-    ensures fault { IsErrOf result MbtError.StoreFault
-        → Rose (S.faults store.old) (S.faults store.new) }
+    ensures fault { FaultsCounted S.faults store.old store.new result MbtError.StoreFault }
 {
     let set = load(alloc, store)?;
     zoom_value_in(alloc, &set, zoom_name)
@@ -126,8 +123,7 @@ pub fn set_metadata_value<S: TileStore>(
         (EditsNames (set_edits key.now value.now) (S.told store.old) (S.told store.new)) }
     ensures refused { OnErr result (S.told store.new ≡ S.told store.old) }
     ensures kept { Keeps S.tells S.faults S.steady store.old store.new }
-    ensures fault { IsErrOf result MbtError.StoreFault
-        → Rose (S.faults store.old) (S.faults store.new) }
+    ensures fault { FaultsCounted S.faults store.old store.new result MbtError.StoreFault }
 {
     let set = load(alloc, store)?;
     let edits = set_edits(alloc, key, value)?;
@@ -144,8 +140,7 @@ pub fn delete_metadata_value<S: TileStore>(alloc: Global, store: &mut S, key: &s
         (EditsNames (delete_edits key.now) (S.told store.old) (S.told store.new)) }
     ensures refused { OnErr result (S.told store.new ≡ S.told store.old) }
     ensures kept { Keeps S.tells S.faults S.steady store.old store.new }
-    ensures fault { IsErrOf result MbtError.StoreFault
-        → Rose (S.faults store.old) (S.faults store.new) }
+    ensures fault { FaultsCounted S.faults store.old store.new result MbtError.StoreFault }
 {
     let set = load(alloc, store)?;
     let edits = delete_edits(alloc, &set, key)?;

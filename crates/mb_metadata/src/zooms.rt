@@ -1,7 +1,6 @@
 // The least and the greatest zoom of a set.
-ghost use Rattle.mb_store.specs.Kept.{ReadsOnly};
-ghost use Rattle.std.specs.Prelude.{◌≡◌, IsErrOf};
-ghost use Rattle.base_values.specs.Counts.{Rose};
+ghost use Rattle.mb_store.specs.Kept.{FaultsCounted, ReadsOnly};
+ghost use Rattle.std.specs.Prelude.{◌≡◌};
 ghost use Rattle.mb_metadata.specs.Zooms.{span, with_zoom, zooms_answer, zooms_of};
 ghost use Rattle.mb_load.specs.Begun.{IsBegun};
 
@@ -41,8 +40,7 @@ pub fn compute_min_max_zoom<S: TileStore>(
 ) -> MbtResult<Option<(u8, u8)>>
     ensures answer { IsBegun zooms_answer (S.tells store.old) (S.told store.old) result }
     ensures kept { ReadsOnly S.told S.tells S.faults S.steady store.old store.new }
-    ensures fault { IsErrOf result MbtError.StoreFault
-        → Rose (S.faults store.old) (S.faults store.new) }
+    ensures fault { FaultsCounted S.faults store.old store.new result MbtError.StoreFault }
 {
     let set = load(alloc, store)?;
     Ok(zooms_in(&set))

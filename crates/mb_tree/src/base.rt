@@ -1,11 +1,10 @@
 // The set that tiles are packed into.
-ghost use Rattle.std.specs.Prelude.{◌≡◌, ◌≢◌, ◌⊎◌, true, false, IfErr, IfOk, IsErrOf, OnErr, OnOk};
-ghost use Rattle.base_values.specs.Counts.{Rose};
+ghost use Rattle.std.specs.Prelude.{◌≡◌, ◌≢◌, ◌⊎◌, true, false, IfErr, IfOk, OnErr, OnOk};
 ghost use Rattle.mb_load.specs.Committing.{MakesChanges};
 ghost use Rattle.mb_load.specs.Empty.{empty_state};
 ghost use Rattle.mb_load.specs.Held.{fresh, nothing_edited};
 ghost use Rattle.mb_load.specs.LoadedFrom.{IsLoadable, IsLoadedFrom, NamesAlgorithm};
-ghost use Rattle.mb_store.specs.Kept.{Keeps, ReadsOnly};
+ghost use Rattle.mb_store.specs.Kept.{FaultsCounted, Keeps, ReadsOnly};
 ghost use Rattle.mb_tables.specs.Refusals.{is_free};
 ghost use Rattle.mb_tables.specs.declared.kind.MbtType.TheVariants.{Flat};
 ghost use Rattle.mb_tree.specs.Base.{IsBaseOf, IsFlatOf, made, made_if};
@@ -60,8 +59,7 @@ fn old_set<S: TileStore>(alloc: Global, store: &mut S) -> MbtResult<Base>
     ensures named { IfOk result (λ b. NamesAlgorithm b.set.state) }
     ensures untouched { IfErr result (λ e. e ≢ MbtError.TreeFault) }
     ensures kept { ReadsOnly S.told S.tells S.faults S.steady store.old store.new }
-    ensures fault { IsErrOf result MbtError.StoreFault →
-        Rose (S.faults store.old) (S.faults store.new) }
+    ensures fault { FaultsCounted S.faults store.old store.new result MbtError.StoreFault }
 {
     let set = load(alloc, store)?;
     test_flat(set.mbt_type())?;
@@ -81,8 +79,7 @@ pub(crate) fn base_of<S: TileStore>(alloc: Global, store: &mut S) -> MbtResult<B
     ensures named { IfOk result (λ b. NamesAlgorithm b.set.state) }
     ensures untouched { IfErr result (λ e. e ≢ MbtError.TreeFault) }
     ensures kept { ReadsOnly S.told S.tells S.faults S.steady store.old store.new }
-    ensures fault { IsErrOf result MbtError.StoreFault →
-        Rose (S.faults store.old) (S.faults store.new) }
+    ensures fault { FaultsCounted S.faults store.old store.new result MbtError.StoreFault }
 {
     if is_empty_database(alloc, store)? {
         return Ok(new_set(alloc));
@@ -105,8 +102,7 @@ pub(crate) fn commit_base<S: TileStore>(
         (S.told store.new ≡ made_if is_new (S.told store.old))) }
     ensures free { IfErr result (λ e. is_free e ≡ true) }
     ensures kept { Keeps S.tells S.faults S.steady store.old store.new }
-    ensures fault { IsErrOf result MbtError.StoreFault →
-        Rose (S.faults store.old) (S.faults store.new) }
+    ensures fault { FaultsCounted S.faults store.old store.new result MbtError.StoreFault }
 {
     if is_new {
         init_mbtiles_schema(alloc, store, MbtType::Flat)?;

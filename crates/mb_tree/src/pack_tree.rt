@@ -2,7 +2,7 @@
 ghost use Rattle.std.specs.Prelude.{◌≡◌, ◌≢◌, true, IfErr, IfOk, IsErrOf, OnOk};
 ghost use Rattle.base_values.specs.Counts.{Rose};
 ghost use Rattle.mb_load.specs.LoadedFrom.{IsLoadable, IsLoadedFrom, NamesAlgorithm};
-ghost use Rattle.mb_store.specs.Kept.{Keeps, ReadsOnly};
+ghost use Rattle.mb_store.specs.Kept.{FaultsCounted, Keeps, ReadsOnly};
 ghost use Rattle.mb_tables.specs.Table.{Tables};
 ghost use Rattle.mb_tables.specs.declared.kind.MbtType.TheVariants.{Flat};
 ghost use Rattle.mb_tree.specs.PackSteps.{Packs, RefusesPaths};
@@ -73,8 +73,7 @@ pub fn pack<T: TileTree, S: TileStore>(
     ensures kept { Keeps S.tells S.faults S.steady store.old store.new }
     ensures tree_fault { IsErrOf result MbtError.TreeFault →
         Rose (T.faults tree.old) (T.faults tree.new) }
-    ensures fault { IsErrOf result MbtError.StoreFault →
-        Rose (S.faults store.old) (S.faults store.new) }
+    ensures fault { FaultsCounted S.faults store.old store.new result MbtError.StoreFault }
 {
     let base = base_of(alloc, store)?;
     let Base { set, is_new } = base;

@@ -2,7 +2,7 @@
 ghost use Rattle.std.specs.Prelude.{◌≡◌, ◌≢◌, ◌<◌, string_bytes, true, IfErr, IfOk, IsErrOf, OnErr, OnOk};
 ghost use Rattle.std.specs.FinMap.{len};
 ghost use Rattle.base_values.specs.Counts.{Rose};
-ghost use Rattle.mb_store.specs.Kept.{Keeps, ReadsOnly};
+ghost use Rattle.mb_store.specs.Kept.{FaultsCounted, Keeps, ReadsOnly};
 ghost use Rattle.mb_tables.specs.Refusals.{Answers};
 ghost use Rattle.mb_tree.specs.UnpackSteps.{IsPut};
 ghost use Rattle.mb_tree.specs.Files.{written};
@@ -121,8 +121,7 @@ pub fn unpack<S: TileStore, T: TileTree>(
     ensures kept { Keeps T.tells T.faults T.steady tree.old tree.new }
     ensures tree_fault { IsErrOf result MbtError.TreeFault →
         Rose (T.faults tree.old) (T.faults tree.new) }
-    ensures fault { IsErrOf result MbtError.StoreFault →
-        Rose (S.faults store.old) (S.faults store.new) }
+    ensures fault { FaultsCounted S.faults store.old store.new result MbtError.StoreFault }
 {
     let set = load(alloc, store)?;
     let format = format_in(alloc, &set)?;
