@@ -75,7 +75,8 @@ pub trait DirectoryCache {
         requires callable { held self.old offset ≡ None → F.pre fetcher }
         ensures held { AnswersHeld (held self.old offset) tile_id result }
         ensures fetched { AnswersFetched (held self.old offset) (F.post fetcher) tile_id result }
-        ensures adds { AddsOnly (held self.old) (held self.new) offset (λ d. F.post fetcher (Ok d)) }
+        ensures adds { AddsOnly (held self.old) (held self.new) offset
+            (λ d. F.post fetcher (Ok d)) }
         ensures idle { idle self.old → idle self.new }
         ensures limits { (l : CacheLimits) → keeps_to self.old l → keeps_to self.new l };
 

@@ -11,7 +11,8 @@ use std::alloc::Global;
 /// the root's bytes.
 pub(crate) fn open_front(alloc: Global, front: &[u8]) -> PmtResult<(Header, Directory)>
     ensures found { IfOk result (λ r. opened_front front.now ≡ Ok (r.0, r.1)) }
-    ensures refused { IfErr result (λ e. (e ≡ PmtError.OutOfMemory) ⊎ (opened_front front.now ≡ Err e)) }
+    ensures refused { IfErr result
+        (λ e. (e ≡ PmtError.OutOfMemory) ⊎ (opened_front front.now ≡ Err e)) }
 {
     let (header, bytes) = find_root(front)?;
     let root = Directory::decode(alloc, bytes)?;
@@ -34,7 +35,9 @@ pub(crate) fn find_root<'b>(front: &'b [u8]) -> PmtResult<(Header, &'b [u8])>
 
 // The bytes of the root, where the header says that they are.
 fn labelled_root<'b>(front: &'b [u8], header: &Header) -> PmtResult<&'b [u8]>
-    ensures found { IfOk result (λ root. root_placed front.now (Ok header.now) ≡ root_decoded header.now (dir_of root.now)) }
+    ensures found { IfOk result
+        (λ root. root_placed front.now (Ok header.now) ≡ root_decoded header.now
+        (dir_of root.now)) }
     ensures refused { IfErr result (λ e. root_placed front.now (Ok header.now) ≡ Err e) }
 {
     let Some(root) = root_bytes(front, header) else {

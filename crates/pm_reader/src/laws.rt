@@ -16,10 +16,13 @@ pub fn sound_answers()
 
 /// In a well-formed archive each leaf offset is used with one length, so that a cache changes no answer.
 pub fn archives_are_cacheable()
-    ensures { (b : List ℕ) (o : Options) (clustered : Bool) → WellFormed b o clustered → UsesOneLength b }
+    ensures { (b : List ℕ) (o : Options) (clustered : Bool) → WellFormed b o clustered
+        → UsesOneLength b }
 {}
 
 /// A walk doesn't reach deeper levels than its budget: more of them change nothing.
 pub fn levels_are_enough()
-    ensures { (h : Header) (b : List ℕ) (root : List Entry) (budget more : ℕ) → along h b budget (levels (suc budget + more) h b root) ≡ along h b budget (levels (suc budget) h b root) }
+    ensures { (h : Header) (b : List ℕ) (root : List Entry) (budget more : ℕ)
+        → along h b budget (levels (suc budget + more) h b root) ≡ along h b budget
+        (levels (suc budget) h b root) }
 {}

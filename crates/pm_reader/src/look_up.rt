@@ -27,7 +27,8 @@ impl ReaderState {
         cache: &mut C,
         tile_id: TileId,
     ) -> PmtResult<Option<BackendResponse>>
-        ensures found { IfSome (B.told backend.old) (λ b. IsTrusted self.now.header b self.now.root (C.held cache.old) (C.idle cache.old)
+        ensures found { IfSome (B.told backend.old)
+            (λ b. IsTrusted self.now.header b self.now.root (C.held cache.old) (C.idle cache.old)
             → Finds self.now.header b self.now.root tile_id (B.reads backend.old) (B.reads backend.new) (C.held cache.new) (C.idle cache.new) (tile_of result)) }
         ensures text { FoundTextAt (B.versions backend.new) (B.reads backend.new) result }
         ensures idle { C.idle cache.old → C.idle cache.new }
@@ -35,7 +36,8 @@ impl ReaderState {
         ensures causes { LookUpCauses (B.faults backend.old) (B.faults backend.new) result }
         ensures whole { IfSome (B.told backend.old) (λ _. IsWhole result) }
         ensures kept { ReadsOnly B.told B.versions B.faults B.steady backend.old backend.new }
-        ensures reads { GrewBetween (B.reads backend.old) (B.reads backend.new) (reads_for (tile_of result)) 7 }
+        ensures reads { GrewBetween (B.reads backend.old) (B.reads backend.new)
+            (reads_for (tile_of result)) 7 }
     {
         let found = self.root.find_tile_id(tile_id).copied();
         let reached = self.follow(backend, cache, found, tile_id, MAX_LEAVES)?;
@@ -68,8 +70,10 @@ impl ReaderState {
         ensures answer { IfSome (B.told backend.old) (λ b. Gives (archive_tile b tile_id) result) }
         ensures causes { LookUpCauses (B.faults backend.old) (B.faults backend.new) result }
         ensures whole { IfSome (B.told backend.old) (λ _. IsWhole result) }
-        ensures hops { IfSome (B.told backend.old) (λ b. ReadsByHops b tile_id (B.reads backend.old) (B.reads backend.new)) }
-        ensures reads { GrewBetween (B.reads backend.old) (B.reads backend.new) (reads_for result) 7 }
+        ensures hops { IfSome (B.told backend.old)
+            (λ b. ReadsByHops b tile_id (B.reads backend.old) (B.reads backend.new)) }
+        ensures reads { GrewBetween (B.reads backend.old) (B.reads backend.new) (reads_for result)
+            7 }
         ensures kept { ReadsOnly B.told B.versions B.faults B.steady backend.old backend.new }
     {
         let mut cache = NoCache;
@@ -86,15 +90,21 @@ impl ReaderState {
         cache: &mut C,
         tile_id: TileId,
     ) -> PmtResult<Option<Bytes>>
-        requires from { IfSome (B.told backend.old) (λ b. ReadsFrom b self.now (C.held cache.old) (C.idle cache.old)) }
-        ensures from { IfSome (B.told backend.new) (λ b. ReadsFrom b self.now (C.held cache.new) (C.idle cache.new)) }
-        ensures answer { IfSome (B.told backend.old) (λ b. IsCacheable b (C.idle cache.old) → Gives (archive_tile b tile_id) result) }
-        ensures hops { IfSome (B.told backend.old) (λ b. IsCacheable b (C.idle cache.old) → ReadsByHops b tile_id (B.reads backend.old) (B.reads backend.new)) }
+        requires from { IfSome (B.told backend.old)
+            (λ b. ReadsFrom b self.now (C.held cache.old) (C.idle cache.old)) }
+        ensures from { IfSome (B.told backend.new)
+            (λ b. ReadsFrom b self.now (C.held cache.new) (C.idle cache.new)) }
+        ensures answer { IfSome (B.told backend.old)
+            (λ b. IsCacheable b (C.idle cache.old) → Gives (archive_tile b tile_id) result) }
+        ensures hops { IfSome (B.told backend.old)
+            (λ b. IsCacheable b (C.idle cache.old)
+            → ReadsByHops b tile_id (B.reads backend.old) (B.reads backend.new)) }
         ensures idle { C.idle cache.old → C.idle cache.new }
         ensures limits { (l : CacheLimits) → C.keeps_to cache.old l → C.keeps_to cache.new l }
         ensures causes { LookUpCauses (B.faults backend.old) (B.faults backend.new) result }
         ensures whole { IfSome (B.told backend.old) (λ _. IsWhole result) }
-        ensures reads { GrewBetween (B.reads backend.old) (B.reads backend.new) (reads_for result) 7 }
+        ensures reads { GrewBetween (B.reads backend.old) (B.reads backend.new) (reads_for result)
+            7 }
         ensures kept { ReadsOnly B.told B.versions B.faults B.steady backend.old backend.new }
     {
         match self.find_tile(backend, cache, tile_id) {

@@ -16,7 +16,8 @@ impl ReaderState {
     /// The metadata of the archive, as it stands there. `InvalidMetadataUtf8Encoding` comes exactly where it isn't UTF-8, and `Reading(PastEnd)` where its range passes
     /// the end of the bytes or u64.
     pub fn get_metadata<B: Backend>(&self, backend: &mut B) -> PmtResult<TextVal>
-        ensures answer { IfSome (B.told backend.old) (λ b. MetadataAnswers (metadata_read b (header_of self.now)) result) }
+        ensures answer { IfSome (B.told backend.old)
+            (λ b. MetadataAnswers (metadata_read b (header_of self.now)) result) }
         ensures causes { MetadataCauses (B.faults backend.old) (B.faults backend.new) result }
         ensures kept { ReadsOnly B.told B.versions B.faults B.steady backend.old backend.new }
         ensures reads { GrewBetween (B.reads backend.old) (B.reads backend.new) 0 1 }
@@ -52,10 +53,14 @@ impl<'a, B: Backend, C: DirectoryCache> PmTilesReader<'a, B, C> {
         ensures same_reference { self.new.backend.ghost_name ≡ self.old.backend.ghost_name }
         ensures state { self.new.state ≡ self.old.state }
         ensures cache { self.new.cache ≡ self.old.cache }
-        ensures answer { IfSome (B.told self.old.backend.now) (λ b. MetadataAnswers (metadata_read b (header_of self.new.state)) result) }
-        ensures causes { MetadataCauses (B.faults self.old.backend.now) (B.faults self.new.backend.now) result }
-        ensures kept { ReadsOnly B.told B.versions B.faults B.steady self.old.backend.now self.new.backend.now }
-        ensures reads { GrewBetween (B.reads self.old.backend.now) (B.reads self.new.backend.now) 0 1 }
+        ensures answer { IfSome (B.told self.old.backend.now)
+            (λ b. MetadataAnswers (metadata_read b (header_of self.new.state)) result) }
+        ensures causes { MetadataCauses (B.faults self.old.backend.now)
+            (B.faults self.new.backend.now) result }
+        ensures kept { ReadsOnly B.told B.versions B.faults B.steady self.old.backend.now
+            self.new.backend.now }
+        ensures reads { GrewBetween (B.reads self.old.backend.now) (B.reads self.new.backend.now) 0
+            1 }
     {
         self.state.get_metadata(self.backend)
     }

@@ -20,7 +20,8 @@ pub(crate) fn read_directory_at<B: Backend>(
     offset: u64,
     length: u32,
 ) -> PmtResult<Directory>
-    ensures answer { IfSome (B.told backend.old) (λ b. Gives (directory_at header.now b offset length) result) }
+    ensures answer { IfSome (B.told backend.old)
+        (λ b. Gives (directory_at header.now b offset length) result) }
     ensures causes { LookUpCauses (B.faults backend.old) (B.faults backend.new) result }
     ensures whole { IfSome (B.told backend.old) (λ _. IsWhole result) }
     ensures kept { ReadsOnly B.told B.versions B.faults B.steady backend.old backend.new }
@@ -43,10 +44,12 @@ impl ReaderState {
         offset: u64,
         length: u32,
     ) -> PmtResult<Directory>
-        ensures answer { IfSome (B.told backend.old) (λ b. Gives (directory_at (header_of self.now) b offset length) result) }
+        ensures answer { IfSome (B.told backend.old)
+            (λ b. Gives (directory_at (header_of self.now) b offset length) result) }
         ensures causes { LookUpCauses (B.faults backend.old) (B.faults backend.new) result }
         ensures kept { ReadsOnly B.told B.versions B.faults B.steady backend.old backend.new }
-        ensures reads { GrewBetween (B.reads backend.old) (B.reads backend.new) (reads_done result) 1 }
+        ensures reads { GrewBetween (B.reads backend.old) (B.reads backend.new) (reads_done result)
+            1 }
     {
         read_directory_at(self.alloc, backend, &self.header, offset, length)
     }
@@ -61,10 +64,12 @@ impl ReaderState {
         offset: u64,
         length: u32,
     ) -> PmtResult<Bytes>
-        ensures answer { IfSome (B.told backend.old) (λ b. Gives (range_read b ((header_of self.now).data_offset + offset) length) result) }
+        ensures answer { IfSome (B.told backend.old)
+            (λ b. Gives (range_read b ((header_of self.now).data_offset + offset) length) result) }
         ensures causes { RangeCauses (B.faults backend.old) (B.faults backend.new) result }
         ensures kept { ReadsOnly B.told B.versions B.faults B.steady backend.old backend.new }
-        ensures reads { GrewBetween (B.reads backend.old) (B.reads backend.new) (reads_done result) 1 }
+        ensures reads { GrewBetween (B.reads backend.old) (B.reads backend.new) (reads_done result)
+            1 }
     {
         let bytes = u64::from(length);
         match read_range(self.alloc, backend, self.header.data_offset, offset, bytes) {
@@ -82,10 +87,14 @@ impl<'a, B: Backend, C: DirectoryCache> PmTilesReader<'a, B, C> {
         ensures same_reference { self.new.backend.ghost_name ≡ self.old.backend.ghost_name }
         ensures state { self.new.state ≡ self.old.state }
         ensures cache { self.new.cache ≡ self.old.cache }
-        ensures answer { IfSome (B.told self.old.backend.now) (λ b. Gives (directory_at (header_of self.new.state) b offset length) result) }
-        ensures causes { LookUpCauses (B.faults self.old.backend.now) (B.faults self.new.backend.now) result }
-        ensures kept { ReadsOnly B.told B.versions B.faults B.steady self.old.backend.now self.new.backend.now }
-        ensures reads { GrewBetween (B.reads self.old.backend.now) (B.reads self.new.backend.now) (reads_done result) 1 }
+        ensures answer { IfSome (B.told self.old.backend.now)
+            (λ b. Gives (directory_at (header_of self.new.state) b offset length) result) }
+        ensures causes { LookUpCauses (B.faults self.old.backend.now)
+            (B.faults self.new.backend.now) result }
+        ensures kept { ReadsOnly B.told B.versions B.faults B.steady self.old.backend.now
+            self.new.backend.now }
+        ensures reads { GrewBetween (B.reads self.old.backend.now) (B.reads self.new.backend.now)
+            (reads_done result) 1 }
     {
         self.state.read_directory(self.backend, offset, length)
     }
@@ -97,10 +106,15 @@ impl<'a, B: Backend, C: DirectoryCache> PmTilesReader<'a, B, C> {
         ensures same_reference { self.new.backend.ghost_name ≡ self.old.backend.ghost_name }
         ensures state { self.new.state ≡ self.old.state }
         ensures cache { self.new.cache ≡ self.old.cache }
-        ensures answer { IfSome (B.told self.old.backend.now) (λ b. Gives (range_read b ((header_of self.new.state).data_offset + offset) length) result) }
-        ensures causes { RangeCauses (B.faults self.old.backend.now) (B.faults self.new.backend.now) result }
-        ensures kept { ReadsOnly B.told B.versions B.faults B.steady self.old.backend.now self.new.backend.now }
-        ensures reads { GrewBetween (B.reads self.old.backend.now) (B.reads self.new.backend.now) (reads_done result) 1 }
+        ensures answer { IfSome (B.told self.old.backend.now)
+            (λ b. Gives (range_read b ((header_of self.new.state).data_offset + offset) length)
+            result) }
+        ensures causes { RangeCauses (B.faults self.old.backend.now) (B.faults self.new.backend.now)
+            result }
+        ensures kept { ReadsOnly B.told B.versions B.faults B.steady self.old.backend.now
+            self.new.backend.now }
+        ensures reads { GrewBetween (B.reads self.old.backend.now) (B.reads self.new.backend.now)
+            (reads_done result) 1 }
     {
         self.state.read_contents(self.backend, offset, length)
     }

@@ -15,7 +15,8 @@ pub(crate) fn read_range<B: Backend>(
     offset: u64,
     length: u64,
 ) -> PmtResult<BackendResponse>
-    ensures answer { IfSome (B.told backend.old) (λ b. Gives (range_read b (base + offset) length) (bytes_of result)) }
+    ensures answer { IfSome (B.told backend.old)
+        (λ b. Gives (range_read b (base + offset) length) (bytes_of result)) }
     ensures causes { LookUpCauses (B.faults backend.old) (B.faults backend.new) result }
     ensures whole { IfSome (B.told backend.old) (λ _. IsWhole result) }
     ensures plain { IsErrOf result PmtError.InvalidEntry → ⊥ }

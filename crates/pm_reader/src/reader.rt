@@ -50,15 +50,23 @@ impl<'a, B: Backend> PmTilesReader<'a, B, NoCache> {
     /// calls don't fail. After an error the backend was read once, and tells the bytes and version texts that it told; its count of faults didn't fall, and rose where
     /// `Reading(Fault)` came (`rests`). Whoever needs this for a proof calls `open`.
     pub fn try_from_source(alloc: Global, backend: &'a mut B) -> PmtResult<Self>
-        ensures* rests { sem 𝓛 (RestsIfErr B.row backend.entry (λ r. r.backend.ghost_name) result (LeftByOpening B.told B.versions B.faults B.reads B.steady backend.old result)) }
-        ensures refused { IfErr result (λ e. IfSome (B.told backend.old) (λ b. OpenAnswers b (Err e))) }
+        ensures* rests { sem 𝓛 (RestsIfErr B.row backend.entry
+            (λ r. r.backend.ghost_name) result
+            (LeftByOpening B.told B.versions B.faults B.reads B.steady backend.old result)) }
+        ensures refused { IfErr result
+            (λ e. IfSome (B.told backend.old) (λ b. OpenAnswers b (Err e))) }
         ensures causes { IfErr result IsOpenFailure }
-        ensures unfailing { B.steady backend.old → B.faults backend.old < 2 ^ 64 - 1 → result ≢ Err (errors.Reading causes.Fault) }
-        ensures same_reference { IfOk result (λ r. r.backend.ghost_name ≡ backend.entry.ghost_name) }
-        ensures tied { IfOk result (λ r. IsTied B.told ⟦<NoCache as DirectoryCache>⟧.held ⟦<NoCache as DirectoryCache>⟧.idle r) }
+        ensures unfailing { B.steady backend.old → B.faults backend.old < 2 ^ 64 - 1
+            → result ≢ Err (errors.Reading causes.Fault) }
+        ensures same_reference { IfOk result
+            (λ r. r.backend.ghost_name ≡ backend.entry.ghost_name) }
+        ensures tied { IfOk result
+            (λ r. IsTied B.told ⟦<NoCache as DirectoryCache>⟧.held ⟦<NoCache as DirectoryCache>⟧.idle r) }
         ensures open { IfOk result (λ r. IsOpen (B.told backend.old) r.state) }
-        ensures version { IfOk result (λ r. HasVersionOf (B.versions r.backend.now) (B.reads r.backend.now) r.state) }
-        ensures kept { IfOk result (λ r. ReadsOnly B.told B.versions B.faults B.steady backend.old r.backend.now) }
+        ensures version { IfOk result
+            (λ r. HasVersionOf (B.versions r.backend.now) (B.reads r.backend.now) r.state) }
+        ensures kept { IfOk result
+            (λ r. ReadsOnly B.told B.versions B.faults B.steady backend.old r.backend.now) }
         ensures reads { IfOk result (λ r. Grew (B.reads backend.old) (B.reads r.backend.now) 1) }
     {
         match ReaderState::open(alloc, backend) {
@@ -99,16 +107,23 @@ impl<'a, B: Backend, C: DirectoryCache> PmTilesReader<'a, B, C> {
     where
         C: Drop,
         requires empty { (o : ℕ) → C.held cache o ≡ None }
-        ensures* rests { sem 𝓛 (RestsIfErr B.row backend.entry (λ r. r.backend.ghost_name) result (LeftByOpening B.told B.versions B.faults B.reads B.steady backend.old result)) }
-        ensures refused { IfErr result (λ e. IfSome (B.told backend.old) (λ b. OpenAnswers b (Err e))) }
+        ensures* rests { sem 𝓛 (RestsIfErr B.row backend.entry
+            (λ r. r.backend.ghost_name) result
+            (LeftByOpening B.told B.versions B.faults B.reads B.steady backend.old result)) }
+        ensures refused { IfErr result
+            (λ e. IfSome (B.told backend.old) (λ b. OpenAnswers b (Err e))) }
         ensures causes { IfErr result IsOpenFailure }
-        ensures unfailing { B.steady backend.old → B.faults backend.old < 2 ^ 64 - 1 → result ≢ Err (errors.Reading causes.Fault) }
-        ensures same_reference { IfOk result (λ r. r.backend.ghost_name ≡ backend.entry.ghost_name) }
+        ensures unfailing { B.steady backend.old → B.faults backend.old < 2 ^ 64 - 1
+            → result ≢ Err (errors.Reading causes.Fault) }
+        ensures same_reference { IfOk result
+            (λ r. r.backend.ghost_name ≡ backend.entry.ghost_name) }
         ensures tied { IfOk result (λ r. IsTied B.told C.held C.idle r) }
         ensures open { IfOk result (λ r. IsOpen (B.told backend.old) r.state) }
         ensures cache { IfOk result (λ r. r.cache ≡ cache) }
-        ensures version { IfOk result (λ r. HasVersionOf (B.versions r.backend.now) (B.reads r.backend.now) r.state) }
-        ensures kept { IfOk result (λ r. ReadsOnly B.told B.versions B.faults B.steady backend.old r.backend.now) }
+        ensures version { IfOk result
+            (λ r. HasVersionOf (B.versions r.backend.now) (B.reads r.backend.now) r.state) }
+        ensures kept { IfOk result
+            (λ r. ReadsOnly B.told B.versions B.faults B.steady backend.old r.backend.now) }
         ensures reads { IfOk result (λ r. Grew (B.reads backend.old) (B.reads r.backend.now) 1) }
     {
         match open_with(alloc, backend, cache) {
@@ -141,14 +156,21 @@ impl<'a, B: Backend, C: DirectoryCache> PmTilesReader<'a, B, C> {
         ensures tied { IsTied B.told C.held C.idle self.new }
         ensures same_reference { self.new.backend.ghost_name ≡ self.old.backend.ghost_name }
         ensures state { self.new.state ≡ self.old.state }
-        ensures answer { IfSome (B.told self.old.backend.now) (λ b. IsCacheable b (C.idle self.old.cache) → Gives (archive_tile b tile_id) result) }
-        ensures hops { IfSome (B.told self.old.backend.now) (λ b. IsCacheable b (C.idle self.old.cache) → ReadsByHops b tile_id (B.reads self.old.backend.now) (B.reads self.new.backend.now)) }
+        ensures answer { IfSome (B.told self.old.backend.now)
+            (λ b. IsCacheable b (C.idle self.old.cache) → Gives (archive_tile b tile_id) result) }
+        ensures hops { IfSome (B.told self.old.backend.now)
+            (λ b. IsCacheable b (C.idle self.old.cache)
+            → ReadsByHops b tile_id (B.reads self.old.backend.now) (B.reads self.new.backend.now)) }
         ensures idle { C.idle self.old.cache → C.idle self.new.cache }
-        ensures limits { (l : CacheLimits) → C.keeps_to self.old.cache l → C.keeps_to self.new.cache l }
-        ensures causes { LookUpCauses (B.faults self.old.backend.now) (B.faults self.new.backend.now) result }
+        ensures limits { (l : CacheLimits) → C.keeps_to self.old.cache l
+            → C.keeps_to self.new.cache l }
+        ensures causes { LookUpCauses (B.faults self.old.backend.now)
+            (B.faults self.new.backend.now) result }
         ensures whole { IfSome (B.told self.old.backend.now) (λ _. IsWhole result) }
-        ensures kept { ReadsOnly B.told B.versions B.faults B.steady self.old.backend.now self.new.backend.now }
-        ensures reads { GrewBetween (B.reads self.old.backend.now) (B.reads self.new.backend.now) (reads_for result) 7 }
+        ensures kept { ReadsOnly B.told B.versions B.faults B.steady self.old.backend.now
+            self.new.backend.now }
+        ensures reads { GrewBetween (B.reads self.old.backend.now) (B.reads self.new.backend.now)
+            (reads_for result) 7 }
     {
         self.state
             .get_cached_tile(self.backend, &mut self.cache, tile_id)
@@ -161,15 +183,24 @@ impl<'a, B: Backend, C: DirectoryCache> PmTilesReader<'a, B, C> {
         ensures tied { IsTied B.told C.held C.idle self.new }
         ensures same_reference { self.new.backend.ghost_name ≡ self.old.backend.ghost_name }
         ensures state { self.new.state ≡ self.old.state }
-        ensures answer { IfSome (B.told self.old.backend.now) (λ b. IsCacheable b (C.idle self.old.cache) → GivesUnmodified (archive_tile b tile_id) (archive_tile b tile_id) result) }
-        ensures text { ComparesTexts (version_of self.new.state) (B.versions self.new.backend.now) (B.reads self.new.backend.now) result }
-        ensures causes { UnmodifiedCauses (B.faults self.old.backend.now) (B.faults self.new.backend.now) result }
+        ensures answer { IfSome (B.told self.old.backend.now)
+            (λ b. IsCacheable b (C.idle self.old.cache)
+            → GivesUnmodified (archive_tile b tile_id) (archive_tile b tile_id) result) }
+        ensures text { ComparesTexts (version_of self.new.state) (B.versions self.new.backend.now)
+            (B.reads self.new.backend.now) result }
+        ensures causes { UnmodifiedCauses (B.faults self.old.backend.now)
+            (B.faults self.new.backend.now) result }
         ensures whole { IfSome (B.told self.old.backend.now) (λ _. IsWhole result) }
-        ensures hops { IfSome (B.told self.old.backend.now) (λ b. IsCacheable b (C.idle self.old.cache) → ReadsByHops b tile_id (B.reads self.old.backend.now) (B.reads self.new.backend.now)) }
+        ensures hops { IfSome (B.told self.old.backend.now)
+            (λ b. IsCacheable b (C.idle self.old.cache)
+            → ReadsByHops b tile_id (B.reads self.old.backend.now) (B.reads self.new.backend.now)) }
         ensures idle { C.idle self.old.cache → C.idle self.new.cache }
-        ensures limits { (l : CacheLimits) → C.keeps_to self.old.cache l → C.keeps_to self.new.cache l }
-        ensures kept { ReadsOnly B.told B.versions B.faults B.steady self.old.backend.now self.new.backend.now }
-        ensures reads { GrewBetween (B.reads self.old.backend.now) (B.reads self.new.backend.now) (reads_for result) 7 }
+        ensures limits { (l : CacheLimits) → C.keeps_to self.old.cache l
+            → C.keeps_to self.new.cache l }
+        ensures kept { ReadsOnly B.told B.versions B.faults B.steady self.old.backend.now
+            self.new.backend.now }
+        ensures reads { GrewBetween (B.reads self.old.backend.now) (B.reads self.new.backend.now)
+            (reads_for result) 7 }
     {
         self.state
             .get_unmodified_tile(self.backend, &mut self.cache, tile_id)
@@ -181,16 +212,24 @@ impl<'a, B: Backend, C: DirectoryCache> PmTilesReader<'a, B, C> {
         ensures tied { IsTied B.told C.held C.idle self.new }
         ensures same_reference { self.new.backend.ghost_name ≡ self.old.backend.ghost_name }
         ensures state { self.new.state ≡ self.old.state }
-        ensures answer { IfSome (B.told self.old.backend.now) (λ b. IsCacheable b (C.idle self.old.cache)
+        ensures answer { IfSome (B.told self.old.backend.now)
+            (λ b. IsCacheable b (C.idle self.old.cache)
             → GivesUnmodified (archive_tile b tile_id) (plain (header_of self.new.state).tile_compression (archive_tile b tile_id)) result) }
-        ensures text { ComparesTexts (version_of self.new.state) (B.versions self.new.backend.now) (B.reads self.new.backend.now) result }
-        ensures causes { PlainCauses (header_of self.new.state).tile_compression (B.faults self.old.backend.now) (B.faults self.new.backend.now) result }
+        ensures text { ComparesTexts (version_of self.new.state) (B.versions self.new.backend.now)
+            (B.reads self.new.backend.now) result }
+        ensures causes { PlainCauses (header_of self.new.state).tile_compression
+            (B.faults self.old.backend.now) (B.faults self.new.backend.now) result }
         ensures whole { IfSome (B.told self.old.backend.now) (λ _. IsWhole result) }
-        ensures hops { IfSome (B.told self.old.backend.now) (λ b. IsCacheable b (C.idle self.old.cache) → ReadsByHops b tile_id (B.reads self.old.backend.now) (B.reads self.new.backend.now)) }
+        ensures hops { IfSome (B.told self.old.backend.now)
+            (λ b. IsCacheable b (C.idle self.old.cache)
+            → ReadsByHops b tile_id (B.reads self.old.backend.now) (B.reads self.new.backend.now)) }
         ensures idle { C.idle self.old.cache → C.idle self.new.cache }
-        ensures limits { (l : CacheLimits) → C.keeps_to self.old.cache l → C.keeps_to self.new.cache l }
-        ensures kept { ReadsOnly B.told B.versions B.faults B.steady self.old.backend.now self.new.backend.now }
-        ensures reads { GrewBetween (B.reads self.old.backend.now) (B.reads self.new.backend.now) (reads_for result) 7 }
+        ensures limits { (l : CacheLimits) → C.keeps_to self.old.cache l
+            → C.keeps_to self.new.cache l }
+        ensures kept { ReadsOnly B.told B.versions B.faults B.steady self.old.backend.now
+            self.new.backend.now }
+        ensures reads { GrewBetween (B.reads self.old.backend.now) (B.reads self.new.backend.now)
+            (reads_for result) 7 }
     {
         let found = self.get_tile(tile_id);
         require_plain(self.state.header.tile_compression, found)
@@ -201,7 +240,8 @@ impl<'a, B: Backend, C: DirectoryCache> PmTilesReader<'a, B, C> {
         requires tied { IsTied B.told C.held C.idle self }
         ensures same_reference { result.backend.ghost_name ≡ self.entry.backend.ghost_name }
         ensures same { result.backend.now ≡ self.entry.backend.now }
-        ensures items { IfSome (B.told self.entry.backend.now) (λ b. left_of b result.state ≡ walk b budget) }
+        ensures items { IfSome (B.told self.entry.backend.now)
+            (λ b. left_of b result.state ≡ walk b budget) }
         ensures budget { budget_of result.state ≡ budget }
         ensures goes { has_ended result.state ≡ false }
     {
@@ -228,7 +268,8 @@ fn open_with<B: Backend, C: DirectoryCache + Drop>(
     ensures causes { OpenCauses (B.faults backend.old) (B.faults backend.new) result }
     ensures open { IfOk result (λ p. IsOpen (B.told backend.new) p.1) }
     ensures cache { IfOk result (λ p. p.0 ≡ cache) }
-    ensures version { IfOk result (λ p. HasVersionOf (B.versions backend.new) (B.reads backend.new) p.1) }
+    ensures version { IfOk result
+        (λ p. HasVersionOf (B.versions backend.new) (B.reads backend.new) p.1) }
     ensures kept { ReadsOnly B.told B.versions B.faults B.steady backend.old backend.new }
     ensures reads { Grew (B.reads backend.old) (B.reads backend.new) 1 }
 {

@@ -31,7 +31,8 @@ impl ReaderState {
         ensures answer { IfSome (B.told backend.old) (λ b. OpenAnswers b result) }
         ensures open { IfOk result (λ s. IsOpen (B.told backend.new) s) }
         ensures causes { OpenCauses (B.faults backend.old) (B.faults backend.new) result }
-        ensures version { IfOk result (λ s. HasVersionOf (B.versions backend.new) (B.reads backend.new) s) }
+        ensures version { IfOk result
+            (λ s. HasVersionOf (B.versions backend.new) (B.reads backend.new) s) }
         ensures kept { ReadsOnly B.told B.versions B.faults B.steady backend.old backend.new }
         ensures reads { Grew (B.reads backend.old) (B.reads backend.new) 1 }
     {
@@ -68,7 +69,8 @@ impl ReaderState {
 fn read_front<B: Backend>(alloc: Global, backend: &mut B) -> PmtResult<BackendResponse>
     ensures answer { IfSome (B.told backend.old) (λ b. IfOk result (λ r. r.bytes ≡ take 16384 b)) }
     ensures causes { FrontCauses (B.faults backend.old) (B.faults backend.new) result }
-    ensures version { IfSome (B.versions backend.old) (λ text. IfOk result (λ r. r.data_version_string ≡ text (B.reads backend.new))) }
+    ensures version { IfSome (B.versions backend.old)
+        (λ text. IfOk result (λ r. r.data_version_string ≡ text (B.reads backend.new))) }
     ensures kept { ReadsOnly B.told B.versions B.faults B.steady backend.old backend.new }
     ensures reads { Grew (B.reads backend.old) (B.reads backend.new) 1 }
 {

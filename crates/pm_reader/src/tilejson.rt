@@ -21,7 +21,9 @@ impl ReaderState {
         backend: &mut B,
         sources: Vec<TextVal>,
     ) -> PmtResult<TileJson>
-        ensures answer { IfSome (B.told backend.old) (λ b. DocumentAnswers (metadata_read b (header_of self.now)) (tilejson_of (header_of self.now) sources.items) result) }
+        ensures answer { IfSome (B.told backend.old)
+            (λ b. DocumentAnswers (metadata_read b (header_of self.now))
+            (tilejson_of (header_of self.now) sources.items) result) }
         ensures causes { DocumentCauses (B.faults backend.old) (B.faults backend.new) result }
         ensures kept { ReadsOnly B.told B.versions B.faults B.steady backend.old backend.new }
         ensures reads { GrewBetween (B.reads backend.old) (B.reads backend.new) 0 1 }
@@ -34,7 +36,8 @@ impl ReaderState {
 
     // The document of the header and these sources, with what a text says.
     fn document_of(&self, sources: Vec<TextVal>, metadata: &str) -> PmtResult<TileJson>
-        ensures { IsDocumentOf (tilejson_in (tilejson_of (header_of self.now) sources.items) metadata.now) result }
+        ensures { IsDocumentOf (tilejson_in (tilejson_of (header_of self.now) sources.items)
+            metadata.now) result }
     {
         let document = self.header.get_tilejson(self.alloc, sources);
         match document.with_metadata(self.alloc, metadata) {
@@ -53,10 +56,15 @@ impl<'a, B: Backend, C: DirectoryCache> PmTilesReader<'a, B, C> {
         ensures same_reference { self.new.backend.ghost_name ≡ self.old.backend.ghost_name }
         ensures state { self.new.state ≡ self.old.state }
         ensures cache { self.new.cache ≡ self.old.cache }
-        ensures answer { IfSome (B.told self.old.backend.now) (λ b. DocumentAnswers (metadata_read b (header_of self.new.state)) (tilejson_of (header_of self.new.state) sources.items) result) }
-        ensures causes { DocumentCauses (B.faults self.old.backend.now) (B.faults self.new.backend.now) result }
-        ensures kept { ReadsOnly B.told B.versions B.faults B.steady self.old.backend.now self.new.backend.now }
-        ensures reads { GrewBetween (B.reads self.old.backend.now) (B.reads self.new.backend.now) 0 1 }
+        ensures answer { IfSome (B.told self.old.backend.now)
+            (λ b. DocumentAnswers (metadata_read b (header_of self.new.state))
+            (tilejson_of (header_of self.new.state) sources.items) result) }
+        ensures causes { DocumentCauses (B.faults self.old.backend.now)
+            (B.faults self.new.backend.now) result }
+        ensures kept { ReadsOnly B.told B.versions B.faults B.steady self.old.backend.now
+            self.new.backend.now }
+        ensures reads { GrewBetween (B.reads self.old.backend.now) (B.reads self.new.backend.now) 0
+            1 }
     {
         self.state.parse_tilejson(self.backend, sources)
     }

@@ -20,12 +20,16 @@ impl ReaderState {
     pub fn get_tile<B: Backend>(&self, backend: &mut B, tile_id: TileId) -> PmtResult<Option<Bytes>>
         requires open { IsOpen (B.told backend.old) self.now }
         ensures open { IsOpen (B.told backend.new) self.now }
-        ensures answer { IfSome (B.told backend.old) (λ b. GivesUnmodified (archive_tile b tile_id) (archive_tile b tile_id) result) }
-        ensures text { ComparesTexts (version_of self.now) (B.versions backend.new) (B.reads backend.new) result }
+        ensures answer { IfSome (B.told backend.old)
+            (λ b. GivesUnmodified (archive_tile b tile_id) (archive_tile b tile_id) result) }
+        ensures text { ComparesTexts (version_of self.now) (B.versions backend.new)
+            (B.reads backend.new) result }
         ensures causes { UnmodifiedCauses (B.faults backend.old) (B.faults backend.new) result }
         ensures whole { IfSome (B.told backend.old) (λ _. IsWhole result) }
-        ensures hops { IfSome (B.told backend.old) (λ b. ReadsByHops b tile_id (B.reads backend.old) (B.reads backend.new)) }
-        ensures reads { GrewBetween (B.reads backend.old) (B.reads backend.new) (reads_for result) 7 }
+        ensures hops { IfSome (B.told backend.old)
+            (λ b. ReadsByHops b tile_id (B.reads backend.old) (B.reads backend.new)) }
+        ensures reads { GrewBetween (B.reads backend.old) (B.reads backend.new) (reads_for result)
+            7 }
         ensures kept { ReadsOnly B.told B.versions B.faults B.steady backend.old backend.new }
     {
         let mut cache = NoCache;
@@ -39,16 +43,24 @@ impl ReaderState {
         cache: &mut C,
         tile_id: TileId,
     ) -> PmtResult<Option<Bytes>>
-        requires from { IfSome (B.told backend.old) (λ b. ReadsFrom b self.now (C.held cache.old) (C.idle cache.old)) }
-        ensures from { IfSome (B.told backend.new) (λ b. ReadsFrom b self.now (C.held cache.new) (C.idle cache.new)) }
-        ensures answer { IfSome (B.told backend.old) (λ b. IsCacheable b (C.idle cache.old) → GivesUnmodified (archive_tile b tile_id) (archive_tile b tile_id) result) }
-        ensures text { ComparesTexts (version_of self.now) (B.versions backend.new) (B.reads backend.new) result }
+        requires from { IfSome (B.told backend.old)
+            (λ b. ReadsFrom b self.now (C.held cache.old) (C.idle cache.old)) }
+        ensures from { IfSome (B.told backend.new)
+            (λ b. ReadsFrom b self.now (C.held cache.new) (C.idle cache.new)) }
+        ensures answer { IfSome (B.told backend.old)
+            (λ b. IsCacheable b (C.idle cache.old)
+            → GivesUnmodified (archive_tile b tile_id) (archive_tile b tile_id) result) }
+        ensures text { ComparesTexts (version_of self.now) (B.versions backend.new)
+            (B.reads backend.new) result }
         ensures causes { UnmodifiedCauses (B.faults backend.old) (B.faults backend.new) result }
         ensures whole { IfSome (B.told backend.old) (λ _. IsWhole result) }
-        ensures hops { IfSome (B.told backend.old) (λ b. IsCacheable b (C.idle cache.old) → ReadsByHops b tile_id (B.reads backend.old) (B.reads backend.new)) }
+        ensures hops { IfSome (B.told backend.old)
+            (λ b. IsCacheable b (C.idle cache.old)
+            → ReadsByHops b tile_id (B.reads backend.old) (B.reads backend.new)) }
         ensures idle { C.idle cache.old → C.idle cache.new }
         ensures limits { (l : CacheLimits) → C.keeps_to cache.old l → C.keeps_to cache.new l }
-        ensures reads { GrewBetween (B.reads backend.old) (B.reads backend.new) (reads_for result) 7 }
+        ensures reads { GrewBetween (B.reads backend.old) (B.reads backend.new) (reads_for result)
+            7 }
         ensures kept { ReadsOnly B.told B.versions B.faults B.steady backend.old backend.new }
     {
         self.find_unmodified(backend, cache, tile_id)
@@ -62,12 +74,18 @@ impl ReaderState {
     ) -> PmtResult<Option<Bytes>>
         requires open { IsOpen (B.told backend.old) self.now }
         ensures open { IsOpen (B.told backend.new) self.now }
-        ensures answer { IfSome (B.told backend.old) (λ b. GivesUnmodified (archive_tile b tile_id) (plain (header_of self.now).tile_compression (archive_tile b tile_id)) result) }
-        ensures text { ComparesTexts (version_of self.now) (B.versions backend.new) (B.reads backend.new) result }
-        ensures causes { PlainCauses (header_of self.now).tile_compression (B.faults backend.old) (B.faults backend.new) result }
+        ensures answer { IfSome (B.told backend.old)
+            (λ b. GivesUnmodified (archive_tile b tile_id)
+            (plain (header_of self.now).tile_compression (archive_tile b tile_id)) result) }
+        ensures text { ComparesTexts (version_of self.now) (B.versions backend.new)
+            (B.reads backend.new) result }
+        ensures causes { PlainCauses (header_of self.now).tile_compression (B.faults backend.old)
+            (B.faults backend.new) result }
         ensures whole { IfSome (B.told backend.old) (λ _. IsWhole result) }
-        ensures hops { IfSome (B.told backend.old) (λ b. ReadsByHops b tile_id (B.reads backend.old) (B.reads backend.new)) }
-        ensures reads { GrewBetween (B.reads backend.old) (B.reads backend.new) (reads_for result) 7 }
+        ensures hops { IfSome (B.told backend.old)
+            (λ b. ReadsByHops b tile_id (B.reads backend.old) (B.reads backend.new)) }
+        ensures reads { GrewBetween (B.reads backend.old) (B.reads backend.new) (reads_for result)
+            7 }
         ensures kept { ReadsOnly B.told B.versions B.faults B.steady backend.old backend.new }
     {
         let found = self.get_tile(backend, tile_id);

@@ -41,15 +41,18 @@ impl ReaderState {
         cache: &mut C,
         tile_id: TileId,
     ) -> PmtResult<Option<Bytes>>
-        ensures found { IfSome (B.told backend.old) (λ b. IsTrusted self.now.header b self.now.root (C.held cache.old) (C.idle cache.old)
+        ensures found { IfSome (B.told backend.old)
+            (λ b. IsTrusted self.now.header b self.now.root (C.held cache.old) (C.idle cache.old)
             → FindsUnmodified self.now.header b self.now.root tile_id (B.reads backend.old) (B.reads backend.new) (C.held cache.new) (C.idle cache.new) result) }
-        ensures text { ComparesTexts (version_of self.now) (B.versions backend.new) (B.reads backend.new) result }
+        ensures text { ComparesTexts (version_of self.now) (B.versions backend.new)
+            (B.reads backend.new) result }
         ensures idle { C.idle cache.old → C.idle cache.new }
         ensures limits { (l : CacheLimits) → C.keeps_to cache.old l → C.keeps_to cache.new l }
         ensures causes { UnmodifiedCauses (B.faults backend.old) (B.faults backend.new) result }
         ensures whole { IfSome (B.told backend.old) (λ _. IsWhole result) }
         ensures kept { ReadsOnly B.told B.versions B.faults B.steady backend.old backend.new }
-        ensures reads { GrewBetween (B.reads backend.old) (B.reads backend.new) (reads_for result) 7 }
+        ensures reads { GrewBetween (B.reads backend.old) (B.reads backend.new) (reads_for result)
+            7 }
     {
         match self.find_tile(backend, cache, tile_id) {
             Ok(None) => Ok(None),

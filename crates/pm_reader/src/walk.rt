@@ -72,15 +72,18 @@ impl WalkState {
     // Spends a unit on the leaf of an entry, whose entries go to the end of the queue.
     fn enter<B: Backend>(&mut self, backend: &mut B, leaf: DirEntry) -> PmtResult<()>
         requires { 0 < self.old.budget }
-        ensures ok { OnOk result (IfSome (B.told backend.old) (λ b. Enters self.old.header b leaf (queue_of self.old) (queue_of self.new))) }
-        ensures refused { IfErr result (λ e. IfSome (B.told backend.old) (λ b. IsRefused self.old.header b leaf e)) }
+        ensures ok { OnOk result (IfSome (B.told backend.old)
+            (λ b. Enters self.old.header b leaf (queue_of self.old) (queue_of self.new))) }
+        ensures refused { IfErr result
+            (λ e. IfSome (B.told backend.old) (λ b. IsRefused self.old.header b leaf e)) }
         ensures small { length (queue_of self.new) < length (queue_of self.old) + 2 ^ 64 }
         ensures header { self.new.header ≡ self.old.header }
         ensures budget { self.new.budget + 1 ≡ self.old.budget }
         ensures ended { self.new.ended ≡ self.old.ended }
         ensures causes { LookUpCauses (B.faults backend.old) (B.faults backend.new) result }
         ensures kept { ReadsOnly B.told B.versions B.faults B.steady backend.old backend.new }
-        ensures reads { GrewBetween (B.reads backend.old) (B.reads backend.new) (reads_done result) 1 }
+        ensures reads { GrewBetween (B.reads backend.old) (B.reads backend.new) (reads_done result)
+            1 }
     {
         self.budget -= 1;
         let directory = read_leaf(self.alloc, backend, &self.header, leaf)?;
@@ -90,7 +93,8 @@ impl WalkState {
     // Puts a directory to the end of the queue.
     fn append(&mut self, directory: Directory) -> PmtResult<()>
         ensures ok { OnOk result (queue_of self.new ≡ queue_of self.old ++ directory) }
-        ensures err { IfErr result (λ e. (e ≡ PmtError.OutOfMemory) × (queue_of self.new ≡ queue_of self.old)) }
+        ensures err { IfErr result
+            (λ e. (e ≡ PmtError.OutOfMemory) × (queue_of self.new ≡ queue_of self.old)) }
         ensures small { length directory < 2 ^ 64 }
         ensures header { self.new.header ≡ self.old.header }
         ensures budget { self.new.budget ≡ self.old.budget }
@@ -106,9 +110,11 @@ impl WalkState {
     /// The next item of the walk: an entry of a tile, or an error, after which the walk ends. A unit that is spent takes one read of a leaf, or at most one where that leaf
     /// is refused. `BudgetSpent` comes only where no unit is left and a leaf entry is next. Leaves are read once each, and not kept. The backend is to be the one that was opened.
     pub fn next_item<B: Backend>(&mut self, backend: &mut B) -> Option<PmtResult<DirEntry>>
-        ensures items { IfSome (B.told backend.old) (λ b. Yields (left_of b self.old) result (left_of b self.new)) }
+        ensures items { IfSome (B.told backend.old)
+            (λ b. Yields (left_of b self.old) result (left_of b self.new)) }
         ensures causes { WalkCauses (B.faults backend.old) (B.faults backend.new) result }
-        ensures spends { Spends (budget_of self.old) (budget_of self.new) (B.reads backend.old) (B.reads backend.new) result }
+        ensures spends { Spends (budget_of self.old) (budget_of self.new) (B.reads backend.old)
+            (B.reads backend.new) result }
         ensures ends { IfSome result (λ item. OnErr item (has_ended self.new ≡ true)) }
         ensures most { left_at_most self.new ≤ left_at_most self.old }
         ensures fewer { IfSome result (λ _. left_at_most self.new < left_at_most self.old) }

@@ -50,7 +50,8 @@ impl DirectoryCache for HashMapCache {
 
     fn insert_dir(&mut self, offset: u64, directory: Directory) -> Result<bool, OutOfMemory>
         ensures kept { IfOk result (λ kept. kept ≡ true) }
-        ensures also { OnOk result (HoldsAlso (held_in_map self.old) (held_in_map self.new) offset directory) }
+        ensures also { OnOk result (HoldsAlso (held_in_map self.old) (held_in_map self.new) offset
+            directory) }
         ensures err { OnErr result (HoldsSame (held_in_map self.old) (held_in_map self.new)) }
     {
         match self.directories.insert(offset, directory) {
@@ -67,8 +68,11 @@ impl DirectoryCache for HashMapCache {
     ) -> PmtResult<Option<DirEntry>>
         requires callable { held_in_map self.old offset ≡ None → F.pre fetcher }
         ensures held { AnswersHeld (held_in_map self.old offset) tile_id result }
-        ensures fetched { AnswersFetched (held_in_map self.old offset) (F.post fetcher) tile_id result }
-        ensures leaves { FetchLeaves (held_in_map self.old offset) (F.post fetcher) tile_id (HoldsSame (held_in_map self.old) (held_in_map self.new)) (HoldsAlso (held_in_map self.old) (held_in_map self.new) offset) result }
+        ensures fetched { AnswersFetched (held_in_map self.old offset) (F.post fetcher) tile_id
+            result }
+        ensures leaves { FetchLeaves (held_in_map self.old offset) (F.post fetcher) tile_id
+            (HoldsSame (held_in_map self.old) (held_in_map self.new))
+            (HoldsAlso (held_in_map self.old) (held_in_map self.new) offset) result }
     {
         match self.get_dir_entry(offset, tile_id) {
             DirCacheResult::Found(entry) => Ok(Some(entry)),

@@ -86,8 +86,10 @@ impl DirectoryCache for LruDirCache {
         ensures puts { Puts length (uses_of self.old) (uses_of self.new) offset directory result }
         ensures within { IsWithin length (uses_of self.new) }
         ensures limits { (l : CacheLimits) → IsLimited self.old l → IsLimited self.new l }
-        ensures kept { IfOk result (λ kept. IsTrue kept → held_by_use self.new offset ≡ Some directory) }
-        ensures adds { AddsOnly (held_by_use self.old) (held_by_use self.new) offset (λ d. d ≡ directory) }
+        ensures kept { IfOk result
+            (λ kept. IsTrue kept → held_by_use self.new offset ≡ Some directory) }
+        ensures adds { AddsOnly (held_by_use self.old) (held_by_use self.new) offset
+            (λ d. d ≡ directory) }
     {
         self.directories
             .insert(offset, KeptDirectory::new(directory))
@@ -101,9 +103,13 @@ impl DirectoryCache for LruDirCache {
     ) -> PmtResult<Option<DirEntry>>
         requires callable { held_by_use self.old offset ≡ None → F.pre fetcher }
         ensures held { AnswersHeld (held_by_use self.old offset) tile_id result }
-        ensures fetched { AnswersFetched (held_by_use self.old offset) (F.post fetcher) tile_id result }
-        ensures adds { AddsOnly (held_by_use self.old) (held_by_use self.new) offset (λ d. F.post fetcher (Ok d)) }
-        ensures leaves { FetchLeaves (held_by_use self.old offset) (F.post fetcher) tile_id (IsUsed (uses_of self.old) (uses_of self.new) offset) (PutsRecent (uses_of self.old) (uses_of self.new) offset) result }
+        ensures fetched { AnswersFetched (held_by_use self.old offset) (F.post fetcher) tile_id
+            result }
+        ensures adds { AddsOnly (held_by_use self.old) (held_by_use self.new) offset
+            (λ d. F.post fetcher (Ok d)) }
+        ensures leaves { FetchLeaves (held_by_use self.old offset) (F.post fetcher) tile_id
+            (IsUsed (uses_of self.old) (uses_of self.new) offset)
+            (PutsRecent (uses_of self.old) (uses_of self.new) offset) result }
         ensures within { IsWithin length (uses_of self.new) }
         ensures limits { (l : CacheLimits) → IsLimited self.old l → IsLimited self.new l }
     {

@@ -18,7 +18,9 @@ pub(crate) struct Cursors {
 /// The entry of the next row, and the places after it. `InvalidEntry` where there is none.
 pub(crate) fn next_entry(bytes: &[u8], at: Cursors) -> PmtResult<(DirEntry, Cursors)>
     requires { AreWithin bytes.now at }
-    ensures found { IfOk result (λ r. (n : ℕ) → rows_at (suc n) bytes.now at ≡ option_map (λ es. r.0 ∷ es) (rows_at n bytes.now r.1)) }
+    ensures found { IfOk result
+        (λ r. (n : ℕ) → rows_at (suc n) bytes.now at ≡ option_map
+        (λ es. r.0 ∷ es) (rows_at n bytes.now r.1)) }
     ensures within { IfOk result (λ r. AreWithin bytes.now r.1) }
     ensures none { OnErr result ((n : ℕ) → rows_at (suc n) bytes.now at ≡ None) }
     ensures error { IfErr result (λ e. e ≡ PmtError.InvalidEntry) }

@@ -27,7 +27,8 @@ pub(crate) fn follow<'b>(
     id: u64,
     left: u32,
 ) -> PmtResult<Option<&'b [u8]>>
-    ensures answer { tile_behind result ≡ tile_in left header.now bytes.now id (dir_of directory.now) }
+    ensures answer { tile_behind result ≡ tile_in left header.now bytes.now id
+        (dir_of directory.now) }
     ensures refusal { IfErr result IsTileRefusal }
 {
     let Some(entry) = find_in(directory, id)? else {

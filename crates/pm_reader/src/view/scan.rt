@@ -34,7 +34,8 @@ pub(crate) fn find_in(bytes: &[u8], id: u64) -> PmtResult<Option<DirEntry>>
 // The place after a column of u64.
 fn skip_u64s(bytes: &[u8], start: usize, count: usize) -> PmtResult<usize>
     requires { start ≤ length bytes.now }
-    ensures found { IfOk result (λ at. after (column 10 (2 ^ 64) count (drop start bytes.now)) ≡ Some (drop at bytes.now)) }
+    ensures found { IfOk result
+        (λ at. after (column 10 (2 ^ 64) count (drop start bytes.now)) ≡ Some (drop at bytes.now)) }
     ensures place { IfOk result (λ at. at ≤ length bytes.now) }
     ensures none { OnErr result (after (column 10 (2 ^ 64) count (drop start bytes.now)) ≡ None) }
     ensures error { IfErr result (λ e. e ≡ PmtError.InvalidEntry) }
@@ -50,7 +51,8 @@ fn skip_u64s(bytes: &[u8], start: usize, count: usize) -> PmtResult<usize>
 // The place after a column of u32.
 fn skip_u32s(bytes: &[u8], start: usize, count: usize) -> PmtResult<usize>
     requires { start ≤ length bytes.now }
-    ensures found { IfOk result (λ at. after (column 5 (2 ^ 32) count (drop start bytes.now)) ≡ Some (drop at bytes.now)) }
+    ensures found { IfOk result
+        (λ at. after (column 5 (2 ^ 32) count (drop start bytes.now)) ≡ Some (drop at bytes.now)) }
     ensures place { IfOk result (λ at. at ≤ length bytes.now) }
     ensures none { OnErr result (after (column 5 (2 ^ 32) count (drop start bytes.now)) ≡ None) }
     ensures error { IfErr result (λ e. e ≡ PmtError.InvalidEntry) }
