@@ -2,9 +2,9 @@
 use Rattle.std.proofs.Common.{◌≡◌, ◌∙◌, ap, sym, ◌++◌, Option, Some, None, List, [], ◌∷◌, Bool, true, false, cond, find, reverse, refl}
 use Rattle.std.specs.Prelude.{All, option_and_then}
 use Rattle.std.specs.declared.cmp.Ordering.{Ordering}
-use Rattle.std.specs.Ordering.{eq_by_cmp}
-use Rattle.std.specs.Cmp.{IsTotalOrder}
-use Rattle.std.specs.FinMap.{FinMap, IsAntisymmetric, from_entries, get, get-insert, get-remove, same_map}
+use Rattle.std.specs.Ordering.{eq_by_cmp, is_eq}
+use Rattle.std.specs.Cmp.{IsTotalOrder, tied_itself}
+use Rattle.std.specs.FinMap.{FinMap, IsAntisymmetric, from_entries, get, get-insert, get-remove, insert, same_map}
 use Rattle.std.proofs.lemmas.List.Elements.{All-head, All-tail}
 use Rattle.std.proofs.lemmas.List.Sorted.{All-permutation, IsPermutation-reverse}
 use Rattle.mb_load.specs.Edits.{with_value}
@@ -61,6 +61,10 @@ with_value_same {K = K} {V = V} {R = R} total anti m k o h = same_map total anti
     by : (q : K) (b : Bool) → eq_by_cmp R q k ≡ b → cond b o (get m q) ≡ get m q
     by q true e = h ∙ ap (get m) (sym (anti q k (equal_of (R q k) e)))
     by q false e = refl
+
+-- the same value put again
+pub insert_again : {K V : Type 0} {R : K → K → Ordering} (total : IsTotalOrder R) (anti : IsAntisymmetric R) (m : FinMap R V) (k : K) (v : V) → insert (insert m k v) k v ≡ insert m k v
+insert_again total anti m k v = with_value_same total anti (insert m k v) k (Some v) (sym (get-insert total m k v k ∙ ap (λ o. cond (is_eq o) (Some v) (get m k)) (tied_itself total k)))
 
 -- where the same items stand under each key the maps are the same
 module _ {K X : Type 0} {R : K → K → Ordering} (total : IsTotalOrder R) (anti : IsAntisymmetric R) (key : X → K) where

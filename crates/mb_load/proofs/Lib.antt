@@ -22,6 +22,7 @@ pub mod CommitLemmas
 pub mod FrameLemmas
 pub mod EditedFrom
 pub mod NullFrom
+pub mod SharedFrom
 pub mod KeyReading
 pub mod RowsPass
 pub mod LoadsFrom
@@ -29,6 +30,7 @@ pub mod StateAgain
 pub mod CommittedLemmas
 pub mod BegunLemmas
 pub mod CopyViews
+pub mod ShareLemmas
 pub mod CopyLemmas
 pub mod GivenLemmas
 pub mod EmptyLemmas

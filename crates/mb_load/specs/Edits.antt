@@ -1,5 +1,5 @@
 -- What edits make of a loaded set.
-use Rattle.std.specs.Prelude.{ℕ, Bool, cond, not, List, ◌++◌, Option, Some, None, map, filter}
+use Rattle.std.specs.Prelude.{ℕ, Bool, cond, not, List, [], ◌∷◌, ◌++◌, Option, Some, None, map, filter}
 use Rattle.std.specs.declared.cmp.Ordering.{Ordering}
 use Rattle.std.specs.List.{list_any}
 use Rattle.std.specs.FinMap.{FinMap, contains_key, entries, from_entries, insert, remove, retain_keys}
@@ -57,6 +57,11 @@ with_tile h p bytes = record {
     ids = with_key h.edited.ids (id_for h.state.layout h.state.algorithm bytes);
   };
 }
+
+-- the same bytes at each of some places, from the first to the last
+abbrev pub with_tiles : Held → List Place → List ℕ → Held
+with_tiles h [] bytes = h
+with_tiles h (p ∷ ps) bytes = with_tiles (with_tile h p bytes) ps bytes
 
 -- null at a place of a set without ids: in a cache without times
 abbrev pub with_null : Held → Place → Held

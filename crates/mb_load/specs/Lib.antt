@@ -17,4 +17,5 @@ pub mod Begun
 pub mod FromLast
 pub mod GivenIds
 pub mod Copying
+pub mod Sharing
 pub mod Empty

@@ -1,9 +1,9 @@
 //! Laws of loading, and of commits of a loaded set's changes.
-ghost use Rattle.std.specs.Prelude.{◌≡◌, ℕ, List, Ok, Option, None, Some, false, true};
+ghost use Rattle.std.specs.Prelude.{◌≡◌, ℕ, All, List, Ok, Option, None, Some, false, true};
 ghost use Rattle.std.specs.FinMap.{contains_key, get};
 ghost use Rattle.mb_load.specs.Changing.{AreChangesOf};
 ghost use Rattle.mb_load.specs.Committed.{IsCommitted};
-ghost use Rattle.mb_load.specs.Edits.{only_referenced, removed_name, removed_tile, with_dates, with_name, with_null, with_tile, without_name, without_tile};
+ghost use Rattle.mb_load.specs.Edits.{only_referenced, removed_name, removed_tile, with_dates, with_name, with_null, with_tile, with_tiles, without_name, without_tile};
 ghost use Rattle.mb_load.specs.Empty.{AreEmpty, empty_state};
 ghost use Rattle.mb_load.specs.Held.{Held, fresh};
 ghost use Rattle.mb_load.specs.LoadedFrom.{AreTimes, IsFree, IsLoadable, IsLoadedFrom, IsOnBoard, NamesAlgorithm, is_editable};
@@ -38,10 +38,12 @@ pub fn changes_of_tables()
 {}
 
 /// Tables that a set was loaded from are so of the edited set, too: after bytes were put at a place of zoom 0 to 30 of a layout that can be
-/// edited, where no other contents stand under their digest; after null was put at one of a layout without ids; after a tile of a cache got times of
-/// their kinds; and after each other edit.
+/// edited, where no other contents stand under their digest, and after the same bytes were put at several such places; after null was put
+/// at one of a layout without ids; after a tile of a cache got times of their kinds; and after each other edit.
 pub fn edits_stay_loaded()
     ensures put { (t : Tables) (h : Held) (p : Place) (bytes : List ℕ) → IsOnBoard p → is_editable h.state.layout ≡ true → IsFree h.state bytes → IsLoadedFrom t h → IsLoadedFrom t (with_tile h p bytes) }
+    ensures shared { (t : Tables) (h : Held) (ps : List Place) (bytes : List ℕ) → All IsOnBoard ps → is_editable h.state.layout ≡ true → IsFree h.state bytes
+        → IsLoadedFrom t h → IsLoadedFrom t (with_tiles h ps bytes) }
     ensures nulled { (t : Tables) (h : Held) (p : Place) → IsOnBoard p → is_normalized h.state.layout ≡ false → IsLoadedFrom t h → IsLoadedFrom t (with_null h p) }
     ensures dated { (t : Tables) (h : Held) (p : Place) (dates : Dates) → h.state.layout ≡ Cache → contains_key h.state.tiles p ≡ true → AreTimes dates → IsLoadedFrom t h → IsLoadedFrom t (with_dates h p dates) }
     ensures removed { (t : Tables) (h : Held) (p : Place) → IsLoadedFrom t h → IsLoadedFrom t (removed_tile h p) × IsLoadedFrom t (without_tile h p) }

@@ -16,6 +16,7 @@ mod loaded;
 mod loading;
 mod put_rows;
 mod reading;
+mod sharing;
 mod single_edits;
 mod tiles_of_rows;
 
