@@ -3,6 +3,7 @@ pub mod CourseLemmas
 pub mod HoldingLemmas
 pub mod LinesLemmas
 pub mod OpenedLemmas
+pub mod RefusedLemmas
 pub mod ReplyingLemmas
 pub mod RunLemmas
 pub mod ServingLemmas

@@ -1,6 +1,7 @@
 pub mod Answers
 pub mod Limits
 pub mod Outcomes
+pub mod Refused
 pub mod Reply
 pub mod Request
 pub mod Server

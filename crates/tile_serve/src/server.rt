@@ -1,5 +1,6 @@
 // A server that borrows its backend.
 ghost use Rattle.std.specs.Prelude.{◌≡◌, ◌≢◌, ◌<◌, ◌-◌, ◌^◌, [], false, length, Err, Some, IfErr, IfOk, IfSome};
+ghost use Rattle.std.specs.Borrow.{sem, RestsIfErr};
 ghost use Rattle.base_values.specs.Counts.{Grew};
 ghost use Rattle.bounded_lru.specs.Bounded.{IsWithin, bounded, weight_of};
 ghost use Rattle.pm_format.specs.Opened.{opened};
@@ -8,6 +9,7 @@ ghost use Rattle.pm_format.specs.declared.error.ReadCause.TheVariants as causes;
 ghost use Rattle.pm_reader.specs.Reads.{GrewBetween, ReadsOnly};
 ghost use Rattle.tile_serve.specs.Answers.{Answers, Causes, Compares, HasTexts, IsOpeningError, IsReadFor, IsUniform, IsUnmodified, IsWanting, LeavesTiles, OverOneLength, ReadsFor, RefusesOpening};
 ghost use Rattle.tile_serve.specs.Limits.{IsLimits};
+ghost use Rattle.tile_serve.specs.Refused.{LeftByOpening};
 ghost use Rattle.tile_serve.specs.Request.{request_of};
 ghost use Rattle.tile_serve.specs.Server.{IsTied};
 ghost use Rattle.tile_serve.specs.State.{KeepsBounds, KeepsDirectories, directories_of, opened_as, tiles_of};
@@ -40,13 +42,16 @@ impl<'a, B: Backend> TileServer<'a, B> {
     /// Opens the archive of a backend, by `ServerState::open`. The limits are to allow a directory and a tile; nothing is reserved for them.
     ///
     /// An error is one that `ServerState::open` answers: over told bytes exactly their first refusal, want of memory, or a fault in `Opening`, which doesn't come over a backend whose calls
-    /// don't fail. What stands of the backend after an error is promised by `ServerState::open`, whose callers keep it.
+    /// don't fail. After an error the backend was read once, and tells the bytes and version texts that it told; its count of faults didn't fall, and rose where a fault came in `Opening`
+    /// (`rests`). Whoever needs this for a proof calls `ServerState::open`.
     pub fn open(
         alloc: Global,
         backend: &'a mut B,
         limits: ServeLimits,
     ) -> Result<TileServer<'a, B>, ServeError>
         requires limits { IsLimits limits }
+        ensures* rests { sem 𝓛 (RestsIfErr B.row backend.entry (λ s. s.backend.ghost_name) result
+            (LeftByOpening B.told B.versions B.faults B.reads B.steady backend.old result)) }
         ensures refused { IfErr result
             (λ e. IfSome (B.told backend.old) (λ b. RefusesOpening (opened b) e)) }
         ensures causes { IfErr result IsOpeningError }
@@ -67,8 +72,10 @@ impl<'a, B: Backend> TileServer<'a, B> {
             (λ s. ReadsOnly B.told B.versions B.faults B.steady backend.old s.backend.now) }
         ensures reads { IfOk result (λ s. Grew (B.reads backend.old) (B.reads s.backend.now) 1) }
     {
-        let state = ServerState::open(alloc, backend, limits)?;
-        Ok(TileServer { backend, state })
+        match ServerState::open(alloc, backend, limits) {
+            Ok(state) => Ok(TileServer { backend, state }),
+            Err(error) => Err(error),
+        }
     }
 
     /// The reply to a line, as `ServerState::answer` gives it.
