@@ -8,5 +8,6 @@ pub mod PurgeLemmas
 pub mod RoundLemmas
 pub mod SizeLemmas
 pub mod OpenLemmas
+pub mod RefusedLemmas
 pub mod StillLemmas
 pub mod ReadLemmas

@@ -8,3 +8,4 @@ pub mod Evicting
 pub mod Purging
 pub mod Sizing
 pub mod Opening
+pub mod Refused

@@ -1,5 +1,6 @@
 // A cache that borrows its store.
 ghost use Rattle.std.specs.Prelude.{◌≡◌, ◌≢◌, ◌<◌, ◌+◌, ◌-◌, ◌^◌, Err, IfErr, IfOk, IsErrOf, None, Ok, OnErr, OnOk, codes, false, length, true};
+ghost use Rattle.std.specs.Borrow.{sem, RestsIfErr};
 ghost use Rattle.std.specs.List.{take_while};
 ghost use Rattle.base_values.specs.Counts.{Rose};
 ghost use Rattle.mb_cache.specs.Entries.{is_expired_entry};
@@ -7,6 +8,7 @@ ghost use Rattle.mb_cache.specs.Finding.{coord_in};
 ghost use Rattle.mb_cache.specs.Opening.{begun_with, done, open_answer};
 ghost use Rattle.mb_cache.specs.Purging.{expired_rows, without_expired};
 ghost use Rattle.mb_cache.specs.Reading.{IsRead, bytes_of, cached_of};
+ghost use Rattle.mb_cache.specs.Refused.{LeftByOpening};
 ghost use Rattle.mb_cache.specs.Setting.{SetsTile, UpdatesMeta, set_answer};
 ghost use Rattle.mb_cache.specs.Sizing.{SomeRounds, WithoutRounds, oversize};
 ghost use Rattle.mb_cache.specs.State.{Agrees, without};
@@ -37,7 +39,12 @@ impl<S: TileStore, C: Drop> Drop for MbtilesCache<'_, S, C> {
 
 impl<'a, S: TileStore> MbtilesCache<'a, S> {
     /// The cache of a store: `CacheState::open`, and then `over`.
+    ///
+    /// After an error a store that tells what it holds holds what it held, or has its new tables without rows; the count of faults didn't fall, and rose where `StoreFault` came (`rests`).
+    /// Whoever needs this for a proof calls `CacheState::open`.
     pub fn open_cache(alloc: Global, store: &'a mut S) -> MbtResult<Self>
+        ensures* rests { sem 𝓛 (RestsIfErr S.row store.entry (λ c. c.store.ghost_name) result
+            (LeftByOpening S.tells S.told S.faults S.steady store.old result)) }
         ensures answer { S.tells store.old ≡ true →
             Answers (open_answer (S.told store.old)) (done result) }
         ensures unfailing { S.steady store.old →
@@ -50,8 +57,10 @@ impl<'a, S: TileStore> MbtilesCache<'a, S> {
             IfOk result (λ c. Agrees (S.told c.store.now) c.state) }
         ensures kept { IfOk result (λ c. Keeps S.tells S.faults S.steady store.old c.store.now) }
     {
-        let state = CacheState::open(alloc, store)?;
-        Ok(MbtilesCache { store, state })
+        match CacheState::open(alloc, store) {
+            Ok(state) => Ok(MbtilesCache { store, state }),
+            Err(error) => Err(error),
+        }
     }
 
     /// The cache with this state over this store, over which the state was opened.
