@@ -21,6 +21,8 @@ SHARED = ('refused', 'rows_shared', 'archive_words', 'set_words', 'program_words
 # Errors that are listed whole: those of the objects of the outside, and those of calls that one of their own belongs to.
 WHOLE = ('ReadFault', 'WriteFault', 'SinkFault', 'StoreError', 'TreeError', 'InputError', 'ConvertError', 'ImportError', 'ExtractError', 'ServeError', 'Outcome', 'VerifyOutcome', 'ServeOutcome',
          'ExtractOutcome')
+# Words of clauses that name a refusal.
+NAMING = {'IsFaultCounted': 'StoreFault', 'IsUnfailing': 'StoreFault'}
 BEGIN, END = '<!-- tables: tools/safety_table.py -->', '<!-- end of the tables -->'
 
 
@@ -91,6 +93,7 @@ class Call:
         error = self.error()
         variants = known.get(error, [])
         said = self.words + ' '.join(body for _, body in self.clauses)
+        said += ''.join(f' {it}' for word, it in NAMING.items() if word in said)
         named = [it for it in variants if (error in WHOLE or re.search(rf'\b{it}\b', said)) and it != 'OutOfMemory' and not (error.endswith('Outcome') and it == 'Done')]
         handed = [f'those of {it}' for it in dict.fromkeys(re.findall(r'(?:refusals of|those of) (`[\w:]+`)', self.words))]
         last = ['`OutOfMemory`'] if 'OutOfMemory' in variants or error in ('OutOfMemory', 'AllocError') else [f'`{error}`'] if error in ('MediumFault', 'SourceFault') else []

@@ -10,7 +10,8 @@ use Rattle.mb_tables.specs.declared.error.MbtError.TheVariants.{InvalidDataForma
 use Rattle.mb_tables.specs.declared.kind.MbtType.{MbtType}
 
 -- the answer that is due of descriptions: of those that a store tells, and of some where it tells nothing
-pub record IsDescribed {A : Type 0} (f : List TableDesc → Result A MbtError) (tells : Bool) (told : Tables) (answer : Result A MbtError) : Type 0 where
+pub record IsDescribed {A : Type 0} (f : List TableDesc → Result A MbtError) (tells : Bool)
+    (told : Tables) (answer : Result A MbtError) : Type 0 where
   pub tables : List TableDesc
   pub is_told : tells ≡ true → tables ≡ told.descriptions
   pub answers : Answers (f tables) answer

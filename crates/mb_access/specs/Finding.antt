@@ -6,4 +6,5 @@ use Rattle.mb_tables.specs.Tiles.{Place, TileSet}
 -- the index of the tile at a place; none where there is no tile
 abbrev pub IsIndexOf : TileSet → Place → Option ℕ → Type 0
 IsIndexOf tiles p None = get tiles p ≡ None
-IsIndexOf tiles p (Some i) = (i < len tiles) × (slice_get (entries tiles) i ≡ option_map (λ contents. (p, contents)) (get tiles p))
+IsIndexOf tiles p (Some i) = (i < len tiles)
+    × (slice_get (entries tiles) i ≡ option_map (λ contents. (p, contents)) (get tiles p))

@@ -20,7 +20,9 @@ use Rattle.tile_ids.specs.Coord.{Coord}
 
 -- the row that tables have at a coordinate in the table of tiles with their digests
 abbrev pub row_at : Tables → Option Coord → Option (List Cell)
-row_at t c = option_and_then (λ c. find (has_key TilesWithHash (tile_key (place_at c))) (t.rows TilesWithHash)) c
+row_at t c =
+    option_and_then
+    (λ c. find (has_key TilesWithHash (tile_key (place_at c))) (t.rows TilesWithHash)) c
 
 -- the row that is asked for: that of a flat set with digests
 abbrev pub row_by : MbtType → Tables → Option Coord → Option (List Cell)
@@ -42,11 +44,15 @@ hash_by (Normalized view Hash) row id = option_and_then text_in id
 hash_by _ row id = None
 
 -- the bytes of the tile with its digest, where the row in the table of tiles with their digests is this one
-abbrev pub hashed_answer : ℕ → ℕ → ℕ → Option (List Cell) → State → Result (Option (List ℕ × Option (List ℕ))) MbtError
-hashed_answer z x y row s = Ok (option_map (λ bytes. (bytes, hash_by s.layout row (id_at s.ids (coord_in z x y)))) (bytes_in s.tiles (coord_in z x y)))
+abbrev pub hashed_answer : ℕ → ℕ → ℕ → Option (List Cell) → State
+    → Result (Option (List ℕ × Option (List ℕ))) MbtError
+hashed_answer z x y row s =
+    Ok (option_map (λ bytes. (bytes, hash_by s.layout row (id_at s.ids (coord_in z x y))))
+    (bytes_in s.tiles (coord_in z x y)))
 
 -- the answer that is due, with the row that the store tells; a store that tells nothing has some row
-pub record IsHashed (z x y : ℕ) (tells : Bool) (told : Tables) (answer : Result (Option (List ℕ × Option (List ℕ))) MbtError) : Type 0 where
+pub record IsHashed (z x y : ℕ) (tells : Bool) (told : Tables)
+    (answer : Result (Option (List ℕ × Option (List ℕ))) MbtError) : Type 0 where
   pub row : Option (List Cell)
   pub is_told : tells ≡ true → row ≡ row_at told (coord_in z x y)
   pub begun : IsBegun (hashed_answer z x y row) tells told answer

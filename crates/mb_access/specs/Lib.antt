@@ -5,5 +5,6 @@ pub mod FileName
 pub mod Finding
 pub mod StreamSteps
 pub mod Streams
+pub mod Refused
 pub mod StreamRuns
 pub mod StreamExamples

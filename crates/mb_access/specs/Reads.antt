@@ -10,7 +10,9 @@ use Rattle.tile_ids.specs.Coord.{Coord}
 
 -- the coordinate of three numbers, where they are one
 abbrev pub coord_in : ℕ → ℕ → ℕ → Option Coord
-coord_in z x y = cond (nat_le z 31 && nat_lt x (2 ^ z) && nat_lt y (2 ^ z)) (Some (record { z = z; x = x; y = y })) None
+coord_in z x y =
+    cond (nat_le z 31 && nat_lt x (2 ^ z) && nat_lt y (2 ^ z))
+    (Some (record { z = z; x = x; y = y })) None
 
 -- the tile at three numbers, bytes or null. None where there is none, and where they are no coordinate
 abbrev pub tile_in : TileSet → Option Coord → Option (Option (List ℕ))

@@ -18,14 +18,22 @@ at zoom column line = record { zoom = zoom; column = column; row = line }
 
 -- tables with rows of tiles, and of contents by id
 abbrev with_rows : TableName → List (List Cell) → List (List Cell) → Tables
-with_rows tiles rows contents = record { descriptions = []; rows = λ table. cond (table_eq table tiles) rows (cond (table_eq table Images) contents []) }
+with_rows tiles rows contents = record {
+  descriptions = [];
+  rows = λ table. cond (table_eq table tiles) rows (cond (table_eq table Images) contents []);
+}
 
 -- in the order of the rows, and not of the places, null included
-pub in_row_order : pairs_of Flat (with_rows Tiles (row 1 1 0 (Blob (48 ∷ [])) ∷ row 0 0 0 Null ∷ []) []) ≡ (at 1 1 0, Some (48 ∷ [])) ∷ (at 0 0 0, None) ∷ []
+pub in_row_order : pairs_of Flat
+    (with_rows Tiles (row 1 1 0 (Blob (48 ∷ [])) ∷ row 0 0 0 Null ∷ []) [])
+    ≡ (at 1 1 0, Some (48 ∷ [])) ∷ (at 0 0 0, None) ∷ []
 in_row_order = refl
 
 -- a row of a normalised set without an id is none of a tile
-pub without_id : pairs_of (Normalized false Hash) (with_rows Map (row 0 0 0 Null ∷ row 1 0 0 (Text (65 ∷ [])) ∷ []) ((Text (65 ∷ []) ∷ Blob (48 ∷ []) ∷ []) ∷ [])) ≡ (at 1 0 0, Some (48 ∷ [])) ∷ []
+pub without_id : pairs_of (Normalized false Hash)
+    (with_rows Map (row 0 0 0 Null ∷ row 1 0 0 (Text (65 ∷ [])) ∷ [])
+    ((Text (65 ∷ []) ∷ Blob (48 ∷ []) ∷ []) ∷ []))
+    ≡ (at 1 0 0, Some (48 ∷ [])) ∷ []
 without_id = refl
 
 pub first_page : page_size 0 ≡ 1024

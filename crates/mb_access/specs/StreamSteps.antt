@@ -9,7 +9,7 @@ use Rattle.mb_load.specs.State.{State}
 use Rattle.mb_tables.specs.Cell.{is_null}
 use Rattle.mb_tables.specs.Kind.{tile_table}
 use Rattle.mb_tables.specs.Table.{Tables}
-use Rattle.mb_tables.specs.Tiles.{Place, TileSet, cell_at, place_of}
+use Rattle.mb_tables.specs.Tiles.{Place, TileSet, cell_at, pairs_of, place_of}
 use Rattle.mb_tables.specs.declared.cell.Cell.{Cell}
 use Rattle.mb_tables.specs.declared.error.MbtError.{MbtError}
 use Rattle.mb_tables.specs.declared.error.MbtError.TheVariants.{OutOfMemory, StoreFault}
@@ -28,7 +28,9 @@ is_tile_row _ row = true
 
 -- the tile that a set has at the place of a row
 abbrev pub tile_by_row : State → List Cell → Option Tile
-tile_by_row s row = cond (is_tile_row s.layout row) (option_and_then (λ place. option_map (λ contents. (place, contents)) (get s.tiles place)) (place_of row)) None
+tile_by_row s row =
+    cond (is_tile_row s.layout row) (option_and_then
+    (λ place. option_map (λ contents. (place, contents)) (get s.tiles place)) (place_of row)) None
 
 -- the tile that a set has at a coordinate
 abbrev pub tile_at : TileSet → Coord → Tile
@@ -57,16 +59,23 @@ next_row s = slice_index_or s.page.items s.at []
 
 -- the rows that are still to come: those of the page, and those of the table from a number on up to another
 abbrev pub rows_left : Tables → StreamState → List (List Cell)
-rows_left t s = drop s.at s.page.items ++ take (s.rows - s.from) (drop s.from (t.rows (tile_table s.set.state.layout)))
+rows_left t s =
+    drop s.at s.page.items
+    ++ take (s.rows - s.from) (drop s.from (t.rows (tile_table s.set.state.layout)))
 
 -- the tiles that are still to come, over these tables
 abbrev pub left_of : Tables → StreamState → List Tile
 left_of t s = take s.left (filter_map (tile_by_row s.set.state) (rows_left t s))
 
+-- over the second tables, all tiles of the first are still to come, in the order of their rows
+abbrev pub AreAllLeft : Tables → Tables → StreamState → Type 0
+AreAllLeft told now s = left_of now s ≡ pairs_of (set_of s).layout told
+
 -- Of the tiles that were still to come the first is given, by its index among those of the set, by its coordinate, or whole, and the others are still to come; nothing is given where there was none. An error ends the stream.
 abbrev pub GivesIndex : TileSet → List Tile → Option (Result ℕ MbtError) → List Tile → Type 0
 GivesIndex tiles items None rest = (items ≡ []) × (rest ≡ [])
-GivesIndex tiles items (Some (Ok i)) rest = IfSome (slice_get (entries tiles) i) (λ e. items ≡ e ∷ rest)
+GivesIndex tiles items (Some (Ok i)) rest =
+    IfSome (slice_get (entries tiles) i) (λ e. items ≡ e ∷ rest)
 GivesIndex tiles items (Some (Err e)) rest = rest ≡ []
 
 abbrev pub GivesCoord : TileSet → List Tile → Option (Result Coord MbtError) → List Tile → Type 0
@@ -74,7 +83,8 @@ GivesCoord tiles items None rest = (items ≡ []) × (rest ≡ [])
 GivesCoord tiles items (Some (Ok c)) rest = items ≡ tile_at tiles c ∷ rest
 GivesCoord tiles items (Some (Err e)) rest = rest ≡ []
 
-abbrev pub GivesTile : List Tile → Option (Result (Coord × Option (List ℕ)) MbtError) → List Tile → Type 0
+abbrev pub GivesTile : List Tile → Option (Result (Coord × Option (List ℕ)) MbtError) → List Tile
+    → Type 0
 GivesTile items None rest = (items ≡ []) × (rest ≡ [])
 GivesTile items (Some (Ok e)) rest = items ≡ (place_at e.0, e.1) ∷ rest
 GivesTile items (Some (Err e)) rest = rest ≡ []

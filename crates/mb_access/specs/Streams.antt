@@ -14,9 +14,12 @@ use Rattle.tile_ids.specs.Coord.{Coord}
 
 -- What a call for the next coordinate gives, by what the store tells, whether it does, its count of faults, and whether it is steady. Over a store that tells, the
 -- first of the tiles to come is given; over any store, a coordinate is one of the set that was loaded, fewer are to come after each item, and none after an error or the end.
-pub record StreamsCoord {S : Type 0} (holds : S → Tables) (shows : S → Bool) (failed : S → ℕ) (unfailing : S → Type 0) (s : Coords S StreamState) (item : Option (Result Coord MbtError)) (t : Coords S StreamState) : Type 0 where
+pub record StreamsCoord {S : Type 0} (holds : S → Tables) (shows : S → Bool) (failed : S → ℕ)
+    (unfailing : S → Type 0) (s : Coords S StreamState)
+    (item : Option (Result Coord MbtError)) (t : Coords S StreamState) : Type 0 where
   pub same_reference : t.store.ghost_name ≡ s.store.ghost_name
-  pub items : shows s.store.now ≡ true → GivesCoord (set_of s.state).tiles (left_of (holds s.store.now) s.state) item (left_of (holds s.store.now) t.state)
+  pub items : shows s.store.now ≡ true → GivesCoord (set_of s.state).tiles
+      (left_of (holds s.store.now) s.state) item (left_of (holds s.store.now) t.state)
   pub own : IfSome item (λ x. IfOk x (λ c. contains_key (set_of s.state).tiles (place_at c) ≡ true))
   pub set : set_of t.state ≡ set_of s.state
   pub fewer : IfSome item (λ _. left_at_most t.state < left_at_most s.state)
@@ -26,9 +29,13 @@ pub record StreamsCoord {S : Type 0} (holds : S → Tables) (shows : S → Bool)
   pub kept : ReadsOnly holds shows failed unfailing s.store.now t.store.now
 
 -- the same of a call for the next tile: its bytes or null are those of the set that was loaded
-pub record StreamsTile {S : Type 0} (holds : S → Tables) (shows : S → Bool) (failed : S → ℕ) (unfailing : S → Type 0) (s : Tiles S StreamState) (item : Option (Result (Coord × Option (List ℕ)) MbtError)) (t : Tiles S StreamState) : Type 0 where
+pub record StreamsTile {S : Type 0} (holds : S → Tables) (shows : S → Bool) (failed : S → ℕ)
+    (unfailing : S → Type 0) (s : Tiles S StreamState)
+    (item : Option (Result (Coord × Option (List ℕ)) MbtError))
+    (t : Tiles S StreamState) : Type 0 where
   pub same_reference : t.store.ghost_name ≡ s.store.ghost_name
-  pub items : shows s.store.now ≡ true → GivesTile (left_of (holds s.store.now) s.state) item (left_of (holds s.store.now) t.state)
+  pub items : shows s.store.now ≡ true
+      → GivesTile (left_of (holds s.store.now) s.state) item (left_of (holds s.store.now) t.state)
   pub own : IfSome item (λ x. IfOk x (λ e. get (set_of s.state).tiles (place_at e.0) ≡ Some e.1))
   pub set : set_of t.state ≡ set_of s.state
   pub fewer : IfSome item (λ _. left_at_most t.state < left_at_most s.state)
@@ -38,10 +45,12 @@ pub record StreamsTile {S : Type 0} (holds : S → Tables) (shows : S → Bool) 
   pub kept : ReadsOnly holds shows failed unfailing s.store.now t.store.now
 
 -- what was loaded, or the refusal
-abbrev pub coords_loaded : {S : Type 0} → Result (Coords S StreamState) MbtError → Result State MbtError
+abbrev pub coords_loaded : {S : Type 0} → Result (Coords S StreamState) MbtError
+    → Result State MbtError
 coords_loaded (Ok c) = Ok (set_of c.state)
 coords_loaded (Err e) = Err e
 
-abbrev pub tiles_loaded : {S : Type 0} → Result (Tiles S StreamState) MbtError → Result State MbtError
+abbrev pub tiles_loaded : {S : Type 0} → Result (Tiles S StreamState) MbtError
+    → Result State MbtError
 tiles_loaded (Ok c) = Ok (set_of c.state)
 tiles_loaded (Err e) = Err e

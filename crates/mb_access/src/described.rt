@@ -1,8 +1,8 @@
 // What the descriptions of a store's tables tell.
-ghost use Rattle.mb_store.specs.Kept.{ReadsOnly};
-ghost use Rattle.std.specs.Prelude.{◌≡◌, ◌≢◌, Err, IfErr, IsErrOf};
-ghost use Rattle.base_values.specs.Counts.{Rose};
+ghost use Rattle.std.specs.Prelude.{◌≡◌, ◌≢◌, Err, IfErr};
 ghost use Rattle.mb_access.specs.Described.{IsDescribed, missing_answer, read_name};
+ghost use Rattle.mb_access.specs.Refused.{IsFaultCounted};
+ghost use Rattle.mb_store.specs.Kept.{ReadsOnly};
 ghost use Rattle.mb_tables.specs.Detection.{detected};
 ghost use Rattle.mb_tables.specs.Refusals.{Answers};
 
@@ -29,7 +29,7 @@ fn detected_in(tables: &[TableDesc]) -> MbtResult<MbtType>
 pub(crate) fn detect_type<S: TileStore>(alloc: Global, store: &mut S) -> MbtResult<MbtType>
     ensures answer { IsDescribed detected (S.tells store.old) (S.told store.old) result }
     ensures kept { ReadsOnly S.told S.tells S.faults S.steady store.old store.new }
-    ensures fault { IsErrOf result MbtError.StoreFault → Rose (S.faults store.old) (S.faults store.new) }
+    ensures fault { IsFaultCounted (S.faults store.old) (S.faults store.new) result }
 {
     let tables = store.describe(alloc)?;
     detected_in(&tables)
@@ -40,9 +40,10 @@ pub(crate) fn missing_tile_index<S: TileStore>(
     alloc: Global,
     store: &mut S,
 ) -> MbtResult<Option<&'static str>>
-    ensures answer { IsDescribed missing_answer (S.tells store.old) (S.told store.old) (read_name result) }
+    ensures answer { IsDescribed missing_answer
+        (S.tells store.old) (S.told store.old) (read_name result) }
     ensures kept { ReadsOnly S.told S.tells S.faults S.steady store.old store.new }
-    ensures fault { IsErrOf result MbtError.StoreFault → Rose (S.faults store.old) (S.faults store.new) }
+    ensures fault { IsFaultCounted (S.faults store.old) (S.faults store.new) result }
 {
     let tables = store.describe(alloc)?;
     missing_in(&tables)

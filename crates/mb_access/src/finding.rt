@@ -97,7 +97,8 @@ pub(crate) fn index_of(set: &Loaded, likely: usize, coord: TileCoord) -> Option<
 /// The coordinate of the tile at an index.
 pub(crate) fn coord_at(set: &Loaded, index: usize) -> TileCoord
     requires { index < len set.now.state.tiles }
-    ensures entry { slice_get (entries set.now.state.tiles) index ≡ Some (tile_at set.now.state.tiles result) }
+    ensures entry { slice_get (entries set.now.state.tiles) index
+        ≡ Some (tile_at set.now.state.tiles result) }
     ensures own { contains_key set.now.state.tiles (place_at result) ≡ true }
 {
     set.tile_at(index).0

@@ -1,11 +1,11 @@
 // Reads of single tiles with their stored digests.
-ghost use Rattle.mb_store.specs.Kept.{ReadsOnly};
-ghost use Rattle.std.specs.Prelude.{◌≡◌, ◌≢◌, true, Err, IfErr, IfOk, IsErrOf, option_and_then, option_copied};
-ghost use Rattle.base_values.specs.Counts.{Rose};
+ghost use Rattle.std.specs.Prelude.{◌≡◌, ◌≢◌, Err, IfErr, IfOk, option_and_then, option_copied, true};
 ghost use Rattle.mb_access.specs.Hashed.{IsHashed, hash_by, hashed_answer, id_at, row_by, text_in};
 ghost use Rattle.mb_access.specs.Reads.{coord_in};
+ghost use Rattle.mb_access.specs.Refused.{IsFaultCounted};
 ghost use Rattle.mb_lists.specs.Entries.{place_at};
 ghost use Rattle.mb_load.specs.Changing.{tile_key};
+ghost use Rattle.mb_store.specs.Kept.{ReadsOnly};
 ghost use Rattle.mb_tables.specs.Refusals.{Answers, is_free};
 ghost use Rattle.mb_tables.specs.Tiles.{cell_at};
 
@@ -39,10 +39,11 @@ fn row_by<S: TileStore>(
     layout: MbtType,
     coord: Option<TileCoord>,
 ) -> MbtResult<Option<Row>>
-    ensures answer { S.tells store.old ≡ true → IfOk result (λ row. row ≡ row_by layout (S.told store.old) coord) }
+    ensures answer { S.tells store.old ≡ true
+        → IfOk result (λ row. row ≡ row_by layout (S.told store.old) coord) }
     ensures free { IfErr result (λ e. is_free e ≡ true) }
     ensures kept { ReadsOnly S.told S.tells S.faults S.steady store.old store.new }
-    ensures fault { IsErrOf result MbtError.StoreFault → Rose (S.faults store.old) (S.faults store.new) }
+    ensures fault { IsFaultCounted (S.faults store.old) (S.faults store.new) result }
 {
     match (layout, coord) {
         (MbtType::FlatWithHash, Some(coord)) => {
@@ -104,7 +105,8 @@ fn hash_by(
     coord: Option<TileCoord>,
     row: Option<Row>,
 ) -> Result<Option<TextVal>, OutOfMemory>
-    ensures { IfOk result (λ hash. hash ≡ hash_by set.now.state.layout row (id_at set.now.state.ids coord)) }
+    ensures { IfOk result
+        (λ hash. hash ≡ hash_by set.now.state.layout row (id_at set.now.state.ids coord)) }
 {
     match set.mbt_type() {
         MbtType::FlatWithHash => text_of_row(alloc, row),
@@ -151,7 +153,7 @@ pub fn get_tile_and_hash<S: TileStore>(
 ) -> MbtResult<Option<(BlobVal, Option<TextVal>)>>
     ensures answer { IsHashed z x y (S.tells store.old) (S.told store.old) result }
     ensures kept { ReadsOnly S.told S.tells S.faults S.steady store.old store.new }
-    ensures fault { IsErrOf result MbtError.StoreFault → Rose (S.faults store.old) (S.faults store.new) }
+    ensures fault { IsFaultCounted (S.faults store.old) (S.faults store.new) result }
 {
     let set = load(alloc, store)?;
     let row = row_by(alloc, store, set.mbt_type(), coord_in(z, x, y))?;

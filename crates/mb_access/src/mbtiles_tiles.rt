@@ -1,23 +1,23 @@
 // The calls of a set on its tiles.
-ghost use Rattle.mb_store.specs.Kept.{Keeps, ReadsOnly};
-ghost use Rattle.std.specs.Prelude.{◌≡◌, ◌≢◌, ◌<◌, ◌-◌, ◌^◌, Err, IfOk, IsErrOf, Ok, OnErr, OnOk, true};
+ghost use Rattle.std.specs.Prelude.{◌≡◌, IfOk, Ok, OnErr, OnOk, true};
+ghost use Rattle.std.specs.Borrow.{RestsIfErr, sem};
 ghost use Rattle.std.specs.FinMap.{len};
-ghost use Rattle.base_values.specs.Counts.{Rose};
 ghost use Rattle.mb_access.specs.Described.{IsDescribed, missing_answer, read_name};
 ghost use Rattle.mb_access.specs.Hashed.{IsHashed};
 ghost use Rattle.mb_access.specs.Reads.{contains_answer, tile_answer};
-ghost use Rattle.mb_access.specs.StreamSteps.{left_at_most, left_of, set_of};
+ghost use Rattle.mb_access.specs.Refused.{IsFaultCounted, IsUnfailing, LeftByStart};
+ghost use Rattle.mb_access.specs.StreamSteps.{AreAllLeft, left_at_most, set_of};
 ghost use Rattle.mb_access.specs.Streams.{coords_loaded, tiles_loaded};
 ghost use Rattle.mb_insert.specs.Inserted.{IsInserted};
 ghost use Rattle.mb_insert.specs.Insertion.{insertion};
 ghost use Rattle.mb_load.specs.Begun.{IsBegun};
+ghost use Rattle.mb_store.specs.Kept.{Keeps, ReadsOnly};
 ghost use Rattle.mb_tables.specs.Detection.{detected};
-ghost use Rattle.mb_tables.specs.Tiles.{pairs_of};
 
 use crate::{Coords, Mbtiles, Tiles, described, hashed, reads, streams};
 use base_values::{BlobVal, TextVal};
 use mb_insert::{CopyDuplicateMode, NewTile};
-use mb_store::{MbtError, MbtResult, MbtType, TileStore};
+use mb_store::{MbtResult, MbtType, TileStore};
 use std::alloc::Global;
 
 impl Mbtiles {
@@ -25,7 +25,7 @@ impl Mbtiles {
     pub fn detect_type<S: TileStore>(&self, alloc: Global, store: &mut S) -> MbtResult<MbtType>
         ensures answer { IsDescribed detected (S.tells store.old) (S.told store.old) result }
         ensures kept { ReadsOnly S.told S.tells S.faults S.steady store.old store.new }
-        ensures fault { IsErrOf result MbtError.StoreFault → Rose (S.faults store.old) (S.faults store.new) }
+        ensures fault { IsFaultCounted (S.faults store.old) (S.faults store.new) result }
     {
         described::detect_type(alloc, store)
     }
@@ -36,9 +36,10 @@ impl Mbtiles {
         alloc: Global,
         store: &mut S,
     ) -> MbtResult<Option<&'static str>>
-        ensures answer { IsDescribed missing_answer (S.tells store.old) (S.told store.old) (read_name result) }
+        ensures answer { IsDescribed missing_answer
+            (S.tells store.old) (S.told store.old) (read_name result) }
         ensures kept { ReadsOnly S.told S.tells S.faults S.steady store.old store.new }
-        ensures fault { IsErrOf result MbtError.StoreFault → Rose (S.faults store.old) (S.faults store.new) }
+        ensures fault { IsFaultCounted (S.faults store.old) (S.faults store.new) result }
     {
         described::missing_tile_index(alloc, store)
     }
@@ -54,7 +55,7 @@ impl Mbtiles {
     ) -> MbtResult<Option<BlobVal>>
         ensures answer { IsBegun (tile_answer z x y) (S.tells store.old) (S.told store.old) result }
         ensures kept { ReadsOnly S.told S.tells S.faults S.steady store.old store.new }
-        ensures fault { IsErrOf result MbtError.StoreFault → Rose (S.faults store.old) (S.faults store.new) }
+        ensures fault { IsFaultCounted (S.faults store.old) (S.faults store.new) result }
     {
         reads::get_tile(alloc, store, z, x, y)
     }
@@ -70,7 +71,7 @@ impl Mbtiles {
     ) -> MbtResult<Option<(BlobVal, Option<TextVal>)>>
         ensures answer { IsHashed z x y (S.tells store.old) (S.told store.old) result }
         ensures kept { ReadsOnly S.told S.tells S.faults S.steady store.old store.new }
-        ensures fault { IsErrOf result MbtError.StoreFault → Rose (S.faults store.old) (S.faults store.new) }
+        ensures fault { IsFaultCounted (S.faults store.old) (S.faults store.new) result }
     {
         hashed::get_tile_and_hash(alloc, store, z, x, y)
     }
@@ -84,9 +85,10 @@ impl Mbtiles {
         x: u32,
         y: u32,
     ) -> MbtResult<bool>
-        ensures answer { IsBegun (contains_answer z x y) (S.tells store.old) (S.told store.old) result }
+        ensures answer { IsBegun (contains_answer z x y)
+            (S.tells store.old) (S.told store.old) result }
         ensures kept { ReadsOnly S.told S.tells S.faults S.steady store.old store.new }
-        ensures fault { IsErrOf result MbtError.StoreFault → Rose (S.faults store.old) (S.faults store.new) }
+        ensures fault { IsFaultCounted (S.faults store.old) (S.faults store.new) result }
     {
         reads::contains(alloc, store, z, x, y)
     }
@@ -97,12 +99,16 @@ impl Mbtiles {
         alloc: Global,
         store: &'s mut S,
     ) -> MbtResult<Coords<'s, S>>
+        ensures* rests { sem 𝓛 (RestsIfErr S.row store.entry (λ c. c.store.ghost_name) result
+            (LeftByStart S.told S.tells S.faults S.steady store.old result)) }
         ensures answer { IsBegun Ok (S.tells store.old) (S.told store.old) (coords_loaded result) }
-        ensures unfailing { S.steady store.old → S.faults store.old < 2 ^ 64 - 1 → result ≢ Err MbtError.StoreFault }
+        ensures unfailing { IsUnfailing (S.steady store.old) (S.faults store.old) result }
         ensures same_reference { IfOk result (λ c. c.store.ghost_name ≡ store.entry.ghost_name) }
-        ensures items { S.tells store.old ≡ true → IfOk result (λ c. left_of (S.told c.store.now) c.state ≡ pairs_of (set_of c.state).layout (S.told store.old)) }
+        ensures items { S.tells store.old ≡ true
+            → IfOk result (λ c. AreAllLeft (S.told store.old) (S.told c.store.now) c.state) }
         ensures most { IfOk result (λ c. left_at_most c.state ≡ len (set_of c.state).tiles) }
-        ensures kept { IfOk result (λ c. ReadsOnly S.told S.tells S.faults S.steady store.old c.store.now) }
+        ensures kept { IfOk result
+            (λ c. ReadsOnly S.told S.tells S.faults S.steady store.old c.store.now) }
     {
         streams::stream_coords(alloc, store)
     }
@@ -113,12 +119,16 @@ impl Mbtiles {
         alloc: Global,
         store: &'s mut S,
     ) -> MbtResult<Tiles<'s, S>>
+        ensures* rests { sem 𝓛 (RestsIfErr S.row store.entry (λ c. c.store.ghost_name) result
+            (LeftByStart S.told S.tells S.faults S.steady store.old result)) }
         ensures answer { IsBegun Ok (S.tells store.old) (S.told store.old) (tiles_loaded result) }
-        ensures unfailing { S.steady store.old → S.faults store.old < 2 ^ 64 - 1 → result ≢ Err MbtError.StoreFault }
+        ensures unfailing { IsUnfailing (S.steady store.old) (S.faults store.old) result }
         ensures same_reference { IfOk result (λ c. c.store.ghost_name ≡ store.entry.ghost_name) }
-        ensures items { S.tells store.old ≡ true → IfOk result (λ c. left_of (S.told c.store.now) c.state ≡ pairs_of (set_of c.state).layout (S.told store.old)) }
+        ensures items { S.tells store.old ≡ true
+            → IfOk result (λ c. AreAllLeft (S.told store.old) (S.told c.store.now) c.state) }
         ensures most { IfOk result (λ c. left_at_most c.state ≡ len (set_of c.state).tiles) }
-        ensures kept { IfOk result (λ c. ReadsOnly S.told S.tells S.faults S.steady store.old c.store.now) }
+        ensures kept { IfOk result
+            (λ c. ReadsOnly S.told S.tells S.faults S.steady store.old c.store.now) }
     {
         streams::stream_tiles(alloc, store)
     }
@@ -131,11 +141,13 @@ impl Mbtiles {
         on_duplicate: CopyDuplicateMode,
         batch: &[NewTile],
     ) -> MbtResult<()>
-        ensures answer { IsBegun (insertion on_duplicate batch.now) (S.tells store.old) (S.told store.old) result }
-        ensures inserted { S.tells store.old ≡ true → OnOk result (IsInserted on_duplicate batch.now (S.told store.old) (S.told store.new)) }
+        ensures answer { IsBegun (insertion on_duplicate batch.now)
+            (S.tells store.old) (S.told store.old) result }
+        ensures inserted { S.tells store.old ≡ true → OnOk result
+            (IsInserted on_duplicate batch.now (S.told store.old) (S.told store.new)) }
         ensures refused { OnErr result (S.told store.new ≡ S.told store.old) }
         ensures kept { Keeps S.tells S.faults S.steady store.old store.new }
-        ensures fault { IsErrOf result MbtError.StoreFault → Rose (S.faults store.old) (S.faults store.new) }
+        ensures fault { IsFaultCounted (S.faults store.old) (S.faults store.new) result }
     {
         mb_insert::insert_tiles(alloc, store, on_duplicate, batch)
     }

@@ -1,10 +1,10 @@
 // Reads of single tiles.
-ghost use Rattle.mb_store.specs.Kept.{ReadsOnly};
-ghost use Rattle.std.specs.Prelude.{◌≡◌, ◌≢◌, Err, IsErrOf, is_some, option_copied, option_map};
-ghost use Rattle.base_values.specs.Counts.{Rose};
+ghost use Rattle.std.specs.Prelude.{◌≡◌, ◌≢◌, Err, is_some, option_copied, option_map};
 ghost use Rattle.mb_access.specs.Reads.{bytes_in, contains_answer, coord_in, tile_answer, tile_in};
+ghost use Rattle.mb_access.specs.Refused.{IsFaultCounted};
 ghost use Rattle.mb_lists.specs.Entries.{blob_cell};
 ghost use Rattle.mb_load.specs.Begun.{IsBegun};
+ghost use Rattle.mb_store.specs.Kept.{ReadsOnly};
 ghost use Rattle.mb_tables.specs.Refusals.{Answers};
 
 use base_values::BlobVal;
@@ -22,7 +22,8 @@ pub(crate) fn coord_in(z: u8, x: u32, y: u32) -> Option<TileCoord>
 
 // The cell of the tile at three numbers.
 fn cell_in(set: &Loaded, z: u8, x: u32, y: u32) -> Option<&Cell>
-    ensures { option_copied result ≡ option_map blob_cell (tile_in set.now.state.tiles (coord_in z x y)) }
+    ensures { option_copied result
+        ≡ option_map blob_cell (tile_in set.now.state.tiles (coord_in z x y)) }
 {
     match coord_in(z, x, y) {
         Some(coord) => set.tile(coord),
@@ -67,7 +68,7 @@ pub fn get_tile<S: TileStore>(
 ) -> MbtResult<Option<BlobVal>>
     ensures answer { IsBegun (tile_answer z x y) (S.tells store.old) (S.told store.old) result }
     ensures kept { ReadsOnly S.told S.tells S.faults S.steady store.old store.new }
-    ensures fault { IsErrOf result MbtError.StoreFault → Rose (S.faults store.old) (S.faults store.new) }
+    ensures fault { IsFaultCounted (S.faults store.old) (S.faults store.new) result }
 {
     let set = load(alloc, store)?;
     bytes_in(alloc, &set, z, x, y)
@@ -85,7 +86,7 @@ pub fn contains<S: TileStore>(
 ) -> MbtResult<bool>
     ensures answer { IsBegun (contains_answer z x y) (S.tells store.old) (S.told store.old) result }
     ensures kept { ReadsOnly S.told S.tells S.faults S.steady store.old store.new }
-    ensures fault { IsErrOf result MbtError.StoreFault → Rose (S.faults store.old) (S.faults store.new) }
+    ensures fault { IsFaultCounted (S.faults store.old) (S.faults store.new) result }
 {
     let set = load(alloc, store)?;
     Ok(has_tile(&set, z, x, y))

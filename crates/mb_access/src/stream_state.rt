@@ -1,19 +1,19 @@
 // A stream along the rows of a set: what it owns beside the store that it reads.
-ghost use Rattle.std.specs.Prelude.{◌≡◌, ◌<◌, ◌≤◌, ◌+◌, ◌-◌, ◌∷◌, [], IfOk, IfSome, IsErrOf, None, OnErr, OnOk, Ok, false, length, max, true};
+ghost use Rattle.std.specs.Prelude.{◌≡◌, ◌<◌, ◌≤◌, ◌+◌, ◌-◌, ◌∷◌, [], IfOk, IfSome, IsErrOf, None, Ok, OnErr, OnOk, false, length, true};
 ghost use Rattle.std.specs.FinMap.{contains_key, get, len};
 ghost use Rattle.base_values.specs.Counts.{Rose};
-ghost use Rattle.mb_access.specs.StreamSteps.{GivesCoord, GivesIndex, GivesTile, IsRowOf, StreamCauses, is_tile_row, left_at_most, left_of, loaded_by, next_row, page_size, rows_left, set_of};
-ghost use Rattle.mb_load.specs.Begun.{IsBegun};
+ghost use Rattle.mb_access.specs.Refused.{IsFaultCounted};
+ghost use Rattle.mb_access.specs.StreamSteps.{AreAllLeft, GivesCoord, GivesIndex, GivesTile, IsRowOf, StreamCauses, is_tile_row, left_at_most, left_of, loaded_by, next_row, page_size, rows_left, set_of};
 ghost use Rattle.mb_lists.specs.Entries.{place_at};
+ghost use Rattle.mb_load.specs.Begun.{IsBegun};
 ghost use Rattle.mb_store.specs.Kept.{ReadsOnly};
 ghost use Rattle.mb_tables.specs.Table.{Tables};
-ghost use Rattle.mb_tables.specs.Tiles.{pairs_of};
 
 use crate::finding::{coord_at, index_of, tile_copy};
 use base_values::BlobVal;
 use mb_lists::{cell_at, coord_of};
 use mb_load::{Loaded, load};
-use mb_store::{Cell, MbtError, MbtResult, MbtType, Row, StoreError, TileStore};
+use mb_store::{Cell, MbtResult, MbtType, Row, StoreError, TileStore};
 use std::alloc::Global;
 use tile_ids::TileCoord;
 
@@ -74,10 +74,11 @@ impl StreamState {
     /// Over a store that tells, all tiles of the set are to come, in the order of the told rows. Over any store at most as many come as were loaded.
     pub fn start<S: TileStore>(alloc: Global, store: &mut S) -> MbtResult<StreamState>
         ensures answer { IsBegun Ok (S.tells store.old) (S.told store.old) (loaded_by result) }
-        ensures items { S.tells store.old ≡ true → IfOk result (λ s. left_of (S.told store.old) s ≡ pairs_of (set_of s).layout (S.told store.old)) }
+        ensures items { S.tells store.old ≡ true
+            → IfOk result (λ s. AreAllLeft (S.told store.old) (S.told store.old) s) }
         ensures most { IfOk result (λ s. left_at_most s ≡ len (set_of s).tiles) }
         ensures kept { ReadsOnly S.told S.tells S.faults S.steady store.old store.new }
-        ensures fault { IsErrOf result MbtError.StoreFault → Rose (S.faults store.old) (S.faults store.new) }
+        ensures fault { IsFaultCounted (S.faults store.old) (S.faults store.new) result }
     {
         let set = load(alloc, store)?;
         let rows = store.count_rows(set.mbt_type().tile_table())?;
@@ -96,14 +97,20 @@ impl StreamState {
 
     // Whether a row is next, of the page or of the one that comes then.
     fn has_row<S: TileStore>(&mut self, store: &mut S) -> Result<bool, StoreError>
-        ensures rows { S.tells store.old ≡ true → OnOk result (rows_left (S.told store.old) self.new ≡ rows_left (S.told store.old) self.old) }
-        ensures next { IfOk result (λ there. there ≡ true → self.new.at < length self.new.page.items) }
-        ensures none { S.tells store.old ≡ true → IfOk result (λ there. there ≡ false → rows_left (S.told store.old) self.new ≡ []) }
-        ensures most { OnOk result (length self.new.page.items - self.new.at + (self.new.rows - self.new.from) ≤ length self.old.page.items - self.old.at + (self.old.rows - self.old.from)) }
+        ensures rows { S.tells store.old ≡ true → OnOk result
+            (rows_left (S.told store.old) self.new ≡ rows_left (S.told store.old) self.old) }
+        ensures next { IfOk result (λ there. there ≡ true
+            → self.new.at < length self.new.page.items) }
+        ensures none { S.tells store.old ≡ true → IfOk result (λ there. there ≡ false
+            → rows_left (S.told store.old) self.new ≡ []) }
+        ensures most { OnOk result
+            (length self.new.page.items - self.new.at + (self.new.rows - self.new.from)
+            ≤ length self.old.page.items - self.old.at + (self.old.rows - self.old.from)) }
         ensures set { self.new.set ≡ self.old.set }
         ensures left { self.new.left ≡ self.old.left }
         ensures kept { ReadsOnly S.told S.tells S.faults S.steady store.old store.new }
-        ensures fault { IsErrOf result StoreError.Fault → Rose (S.faults store.old) (S.faults store.new) }
+        ensures fault { IsErrOf result StoreError.Fault
+            → Rose (S.faults store.old) (S.faults store.new) }
     {
         if self.at < self.page.len() {
             return Ok(true);
@@ -124,9 +131,11 @@ impl StreamState {
     // Takes the next row of the page: the index of its tile, if it has one.
     fn take_row(&mut self) -> Option<usize>
         requires { self.old.at < length self.old.page.items }
-        ensures rows { (t : Tables) → rows_left t self.old ≡ next_row self.old ∷ rows_left t self.new }
+        ensures rows { (t : Tables)
+            → rows_left t self.old ≡ next_row self.old ∷ rows_left t self.new }
         ensures index { IsRowOf (set_of self.old) (next_row self.old) result }
-        ensures most { length self.new.page.items - self.new.at + 1 ≡ length self.old.page.items - self.old.at }
+        ensures most { length self.new.page.items - self.new.at + 1
+            ≡ length self.old.page.items - self.old.at }
         ensures set { self.new.set ≡ self.old.set }
         ensures left { self.new.left ≡ self.old.left }
         ensures rest { self.new.rows - self.new.from ≡ self.old.rows - self.old.from }
@@ -173,8 +182,10 @@ impl StreamState {
     ///
     /// Rows are read a page at a time. The store holds what it held, and is to be the one that was loaded.
     pub fn next_coord<S: TileStore>(&mut self, store: &mut S) -> Option<MbtResult<TileCoord>>
-        ensures items { S.tells store.old ≡ true → GivesCoord (set_of self.old).tiles (left_of (S.told store.old) self.old) result (left_of (S.told store.old) self.new) }
-        ensures own { IfSome result (λ item. IfOk item (λ c. contains_key (set_of self.old).tiles (place_at c) ≡ true)) }
+        ensures items { S.tells store.old ≡ true → GivesCoord (set_of self.old).tiles
+            (left_of (S.told store.old) self.old) result (left_of (S.told store.old) self.new) }
+        ensures own { IfSome result (λ item. IfOk item
+            (λ c. contains_key (set_of self.old).tiles (place_at c) ≡ true)) }
         ensures set { set_of self.new ≡ set_of self.old }
         ensures fewer { IfSome result (λ _. left_at_most self.new < left_at_most self.old) }
         ensures err { IfSome result (λ item. OnErr item (left_at_most self.new ≡ 0)) }
@@ -194,8 +205,10 @@ impl StreamState {
         &mut self,
         store: &mut S,
     ) -> Option<MbtResult<(TileCoord, Option<BlobVal>)>>
-        ensures items { S.tells store.old ≡ true → GivesTile (left_of (S.told store.old) self.old) result (left_of (S.told store.old) self.new) }
-        ensures own { IfSome result (λ item. IfOk item (λ e. get (set_of self.old).tiles (place_at e.0) ≡ Some e.1)) }
+        ensures items { S.tells store.old ≡ true → GivesTile (left_of (S.told store.old) self.old)
+            result (left_of (S.told store.old) self.new) }
+        ensures own { IfSome result (λ item. IfOk item
+            (λ e. get (set_of self.old).tiles (place_at e.0) ≡ Some e.1)) }
         ensures set { set_of self.new ≡ set_of self.old }
         ensures fewer { IfSome result (λ _. left_at_most self.new < left_at_most self.old) }
         ensures err { IfSome result (λ item. OnErr item (left_at_most self.new ≡ 0)) }
