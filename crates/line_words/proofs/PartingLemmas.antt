@@ -1,8 +1,8 @@
 -- the first part of bytes
-use Rattle.std.proofs.Common.{◌≡◌, ◌≢◌, ℕ, zero, suc, ◌+◌, ◌<◌, Bool, true, false, List, [], ◌∷◌, length, take, drop, get_or, slice_index, nat_eq, Option, None, Some, IfSome, MatchOption, if◌then◌else◌, refl, ◌∙◌, ap, arith, ◌-◌, length-drop}
+use Rattle.std.proofs.Common.{◌≡◌, ◌≢◌, ℕ, zero, suc, ◌+◌, ◌<◌, Bool, true, false, List, [], ◌∷◌, ◌++◌, length, take, drop, get_or, slice_index, nat_eq, Option, None, Some, IfSome, MatchOption, if◌then◌else◌, refl, sym, ◌∙◌, ap, arith, ◌-◌, length-drop}
 use Rattle.std.proofs.lemmas.Bool.Decides.{nat_tests}
 use Rattle.std.proofs.lemmas.Bool.{eq-eqb, eqb-true}
-use Rattle.std.proofs.lemmas.List.{take_all}
+use Rattle.std.proofs.lemmas.List.{drop-append-le, get_or_append_left, length-append, take-append-le, take_all}
 use Rattle.memchr.specs.Find.{IsFirstByte, is_byte}
 use Rattle.line_words.specs.Lines.{ended, lines_of}
 use Rattle.line_words.specs.Parting.{HasNo, onto, parted, words_of}
@@ -59,6 +59,20 @@ pub line_behind : (bytes : List ℕ) (n : ℕ) → n < length bytes → get_or b
     → lines_of bytes ≡ take n bytes ∷ lines_of (take (length bytes - (n + 1)) (drop (n + 1) bytes))
 unfolding lines_of
 line_behind bytes n l e h = ap ended (behind 10 bytes n l e h) ∙ more_parts (take n bytes) 10 (take (length bytes - (n + 1)) (drop (n + 1) bytes))
+
+-- the same, whatever comes behind these bytes
+pub line_before : (bytes more : List ℕ) (n : ℕ) → n < length bytes → get_or bytes n 0 ≡ 10 → HasNo 10 bytes n
+    → lines_of (bytes ++ more) ≡ take n bytes ∷ lines_of (take (length bytes - (n + 1)) (drop (n + 1) bytes) ++ more)
+unfolding lines_of
+line_before bytes more n l e h =
+    let at : (k : ℕ) → k < length bytes → get_or (bytes ++ more) k 0 ≡ get_or bytes k 0 = λ k below. get_or_append_left bytes more 0 k below in
+    let none : HasNo 10 (bytes ++ more) n = λ k below same. h k below (sym (at k (omega (arith, below, l))) ∙ same) in
+    let long : n < length (bytes ++ more) = omega (arith, l, length-append bytes more) in
+    let split = with_separator 10 (bytes ++ more) n long (at n l ∙ e) none in
+    let front : take n (bytes ++ more) ≡ take n bytes = take-append-le n bytes more (omega (arith, l)) in
+    let back : drop (n + 1) (bytes ++ more) ≡ drop (n + 1) bytes ++ more = drop-append-le (n + 1) bytes more (omega (arith, l)) in
+    let whole : take (length bytes - (n + 1)) (drop (n + 1) bytes) ≡ drop (n + 1) bytes = take_all (length bytes - (n + 1)) (drop (n + 1) bytes) (omega (arith, length-drop (n + 1) bytes)) in
+    rw whole (ap ended (rw (front, back) at split) ∙ more_parts (take n bytes) 10 (drop (n + 1) bytes ++ more))
 
 pub last_line : (bytes : List ℕ) → 0 < length bytes → HasNo 10 bytes (length bytes) → lines_of bytes ≡ bytes ∷ lines_of []
 unfolding lines_of parted

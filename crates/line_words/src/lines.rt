@@ -1,6 +1,7 @@
 // The lines of an input.
-ghost use Rattle.std.specs.Prelude.{◌≡◌, ◌<◌, [], ◌∷◌, length, IfSome, MatchOption};
+ghost use Rattle.std.specs.Prelude.{◌≡◌, ◌<◌, ◌++◌, [], ◌∷◌, List, ℕ, length, IfSome, MatchOption};
 ghost use Rattle.line_words.specs.Lines.{lines_of};
+ghost use Rattle.line_words.specs.Parting.{HasNo};
 
 use crate::parting::first_separator;
 
@@ -17,4 +18,15 @@ pub fn next_line(bytes: &[u8]) -> Option<(&[u8], &[u8])>
         Some(place) => Some((&bytes[..place], &bytes[place + 1..])),
         None => Some((bytes, &[])),
     }
+}
+
+/// The first line that ends in a line feed, and what follows it; None where there is no line feed. It is the first line of these bytes whatever comes behind them.
+pub fn next_whole_line(bytes: &[u8]) -> Option<(&[u8], &[u8])>
+    ensures lines { MatchOption result (HasNo 10 bytes.now (length bytes.now))
+        (λ r. (more : List ℕ) → lines_of (bytes.now ++ more) ≡ r.0.now ∷ lines_of
+        (r.1.now ++ more)) }
+    ensures shorter { IfSome result (λ r. length r.1.now < length bytes.now) }
+{
+    let place = first_separator(b'\n', bytes)?;
+    Some((&bytes[..place], &bytes[place + 1..]))
 }

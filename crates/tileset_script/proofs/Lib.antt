@@ -1,5 +1,6 @@
 pub mod BulkLemmas
 pub mod DraftLemmas
+pub mod ReaderLemmas
 pub mod RowLemmas
 pub mod ScriptLemmas
 pub mod SettingLemmas

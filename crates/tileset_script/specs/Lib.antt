@@ -9,3 +9,4 @@ pub mod Section
 pub mod Setting
 pub mod Text
 pub mod Words
+pub mod Reader

@@ -9,5 +9,5 @@ mod section;
 mod words;
 
 pub use bulk::bulk_base;
-pub use script::{ParsedScript, ScriptError, ScriptOptions, parse_script};
+pub use script::{ParsedScript, ScriptError, ScriptOptions, ScriptReader, parse_script};
 pub use words::{Command, MAX_BULK_REPEAT, MAX_BULK_TILES, command_of};

@@ -1,19 +1,23 @@
-use Rattle.std.proofs.Common.{rules, arith}
-use Rattle.tileset_script.proofs.ScriptLemmas.{lines_begin, no_base, script_ends}
-use Rattle.tileset_script.specs.Reading.{drafted, script_text}
-use Rattle.tileset_script.specs.Script.{script_of}
+use Rattle.std.proofs.Common.{arith, length, subst, sym}
+use Rattle.std.specs.Prelude.{IfSome}
+use Rattle.std.specs.Option.{option_copied}
+use Rattle.line_words.specs.Parting.{HasNo}
+use Rattle.tileset_script.specs.Reading.{EndsAs, TakesLines, drafted}
+use Rattle.tileset_script.proofs.ReaderLemmas.{parse_ends, parse_stops}
 use Rattle.tileset_script.proofs.script.reading.parse_script.Goals as goal
 
-pub loop-line-init : goal.loop-line-init
-loop-line-init c = record {
-  whole = lines_begin (drafted c.new-draft.result) c.args.input.now c.new-draft.ensures.empty;
-  unfailing = c.new-draft.ensures.unfailing;
-  small = omega arith;
-}
-
-pub returns-in-Some-2-clause-reads : goal.returns-in-Some-2-clause-reads
-returns-in-Some-2-clause-reads c =
-    script_ends c.loop-line.number (drafted c.loop-line.draft) (script_text c.in-Some-2.script) c.loop-line.rest.now (script_of c.args.input.now) (search rules) (search rules) c.loop-line.invariant.whole
+pub returns-in-Some-clause-reads : goal.returns-in-Some-clause-reads
+returns-in-Some-clause-reads c =
+    let d = drafted c.new-draft.result in
+    let e = drafted c.take_lines.new.draft in
+    let taken = subst (λ o. TakesLines 1 d c.args.input.now (option_copied o) c.take_lines.new.number e) c.in-Some.is (c.in_ok-line.ensures.lines (omega (arith, c.requires.small))) in
+    let single = subst (λ o. IfSome o (λ r. HasNo 10 r.now (length r.now))) c.in-Some.is c.in_ok-line.ensures.whole in
+    subst (λ due. EndsAs due c.end.result) (sym (parse_ends c.args.input.now c.in-Some.line.now c.take_lines.new.number d e c.new-draft.ensures.empty taken))
+    (c.end.ensures.ends (omega (arith, taken.0, c.requires.small)) single)
 
 pub returns-in-None-clause-reads : goal.returns-in-None-clause-reads
-returns-in-None-clause-reads c = no_base c.loop-line.number (drafted c.loop-line.draft) c.loop-line.rest.now (script_of c.args.input.now) (search rules) (search rules) c.loop-line.invariant.whole
+returns-in-None-clause-reads c =
+    let d = drafted c.new-draft.result in
+    let e = drafted c.take_lines.new.draft in
+    let taken = subst (λ o. TakesLines 1 d c.args.input.now (option_copied o) c.take_lines.new.number e) c.in-None.is (c.in_ok-line.ensures.lines (omega (arith, c.requires.small))) in
+    parse_stops c.args.input.now c.take_lines.new.number d e c.new-draft.ensures.empty taken
