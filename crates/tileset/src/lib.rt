@@ -15,7 +15,7 @@ mod top_call;
 
 pub use byte_streams::{
     InputError, MAX_INPUT, MemSink, MemSource, Sink, SinkFault, Source, SourceFault, StdSink,
-    StdSource, read_input, write_all,
+    StdSource, read_input, take_input, write_all,
 };
 pub use outcome::Outcome;
 pub use outcome_text::{outcome_line, outcome_status};

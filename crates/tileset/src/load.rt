@@ -14,12 +14,12 @@ ghost use Rattle.tileset_script.specs.Words.{IsCommand};
 ghost use Rattle.tileset_script.specs.declared.script.setting.Setting.TheVariants.{MaxLeafEntries};
 ghost use Rattle.tileset_script.specs.declared.words.Command.TheVariants as commands;
 
-use crate::{Command, Outcome, Source, read_input};
+use crate::{Command, Outcome, Source, take_input};
 use base_values::OutOfMemory;
 use pm_format::TileType;
 use pm_writer::PmTilesWriter;
 use std::alloc::Global;
-use tileset_script::{ParsedScript, ScriptOptions, bulk_base, parse_script};
+use tileset_script::{ParsedScript, ScriptOptions, ScriptReader, bulk_base};
 
 // The script that the input spells, which is read to its end.
 fn load<I: Source>(alloc: Global, input: &mut I) -> Result<ParsedScript, Outcome>
@@ -33,8 +33,9 @@ fn load<I: Source>(alloc: Global, input: &mut I) -> Result<ParsedScript, Outcome
         → Rose (I.faults input.old) (I.faults input.new) }
     ensures input_kept { KeepsSource I.left I.taken I.faults I.steady input.old input.new }
 {
-    let bytes = read_input(alloc, input)?;
-    Ok(parse_script(alloc, bytes.as_slice())?)
+    let mut reader = ScriptReader::new(alloc);
+    take_input(input, &mut reader)?;
+    Ok(reader.finish()?)
 }
 
 // The options of a set that is made from two numbers.
