@@ -1,0 +1,18 @@
+-- A tile, and a name, as a set gives it.
+use Rattle.std.proofs.Common.{◌≡◌, ◌∙◌, ap, sym, ℕ, List, Option}
+use Rattle.mb_lists.specs.Entries.{blob_cell, place_at, text_cell}
+use Rattle.mb_tables.specs.Tiles.{Place}
+use Rattle.mb_tables.specs.declared.cell.Cell.{Cell}
+use Rattle.serde_json.specs.Data.{Members}
+use Rattle.tile_ids.specs.Coord.{Coord}
+use Rattle.set_options.specs.ArchiveJson.{with_entry, with_name}
+use Rattle.set_options.specs.Facts.{with_cell, with_tile}
+use Rattle.set_options.specs.declared.facts.TileFacts.{TileFacts}
+
+-- the tile of an entry
+pub tile_step : (old new : TileFacts) (zoom : ℕ) (c : Coord) (cell : Cell) → new ≡ with_cell old zoom cell → zoom ≡ c.z → (e : Place × Option (List ℕ)) → (e.0 ≡ place_at c) × (blob_cell e.1 ≡ cell) → new ≡ with_tile old e
+tile_step old new zoom c cell step of e is = step ∙ λ i. with_cell old ((of ∙ sym (ap (λ (p : Place). p.zoom) is.0)) i) (sym is.1 i)
+
+-- the name of an entry
+pub name_step : (old new : Members) (name : List ℕ) (cell : Cell) → new ≡ with_name old name cell → (e : List ℕ × Option (List ℕ)) → (e.0 ≡ name) × (text_cell e.1 ≡ cell) → new ≡ with_entry old e
+name_step old new name cell step e is = step ∙ λ i. with_name old (sym is.0 i) (sym is.1 i)

@@ -1,0 +1,23 @@
+use Rattle.std.proofs.Common.{◌≡◌, [], None, arith}
+use Rattle.std.specs.Prelude.{codes}
+use Rattle.std.specs.FinMap.{entries, len-entries}
+use Rattle.mb_lists.specs.Entries.{text_cell}
+use Rattle.mb_lists.specs.Metadata.{text_at}
+use Rattle.serde_json.specs.View.{members_view}
+use Rattle.set_options.proofs.FoldLemmas.{fold_at, fold_end}
+use Rattle.set_options.proofs.StepLemmas.{name_step}
+use Rattle.set_options.specs.ArchiveJson.{members_in, with_entry}
+use Rattle.set_options.proofs.archive_json.archive_members.Goals as goal
+
+pub loop-index-preserved : goal.loop-index-preserved
+loop-index-preserved c =
+    let names = c.args.set.now.state.metadata in
+    let old = members_view c.loop-index.members.entries in
+    let new = members_view c.put_name.new.members.entries in
+    fold_at with_entry (members_in (text_at names (codes "json"))) (entries names) c.loop-index.index ([], None) old new (λ e. (e.0 ≡ c.metadata_at.result.0.now) × (text_cell e.1 ≡ c.metadata_at.result.1.now))
+    (omega (arith, len-entries names)) c.metadata_at.ensures (name_step old new c.metadata_at.result.0.now c.metadata_at.result.1.now c.in_ok-put_name.ensures) c.loop-index.invariant
+
+pub returns : goal.returns
+returns c =
+    let names = c.args.set.now.state.metadata in
+    fold_end with_entry (members_in (text_at names (codes "json"))) (entries names) c.loop-index.index (members_view c.loop-index.members.entries) (omega (arith, len-entries names)) c.loop-index.invariant

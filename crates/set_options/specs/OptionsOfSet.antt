@@ -1,0 +1,61 @@
+-- The options of an archive that a set gives.
+use Rattle.std.specs.Prelude.{◌≡◌, ℕ, List, Option, Some, None, codes, unwrap_or}
+use Rattle.std.specs.Option.{option_and_then}
+use Rattle.mb_lists.specs.Metadata.{text_at}
+use Rattle.mb_load.specs.State.{State}
+use Rattle.pm_format.specs.Options.{Options, default_options}
+use Rattle.set_options.specs.ArchiveJson.{IsTextOf, archive_data}
+use Rattle.set_options.specs.Extents.{bounds_in, center_in}
+use Rattle.set_options.specs.Facts.{facts_of, label_of}
+use Rattle.set_options.specs.Format.{type_of}
+use Rattle.set_options.specs.declared.extents.SetBounds.{SetBounds}
+use Rattle.set_options.specs.declared.extents.SetCenter.{SetCenter}
+use Rattle.set_options.specs.declared.options.SetOptions.{SetOptions}
+
+-- what a set says, with this text as the archive's metadata
+abbrev pub said_by : State → List ℕ → SetOptions
+said_by s text = record {
+  tile_type = type_of (text_at s.metadata (codes "format"));
+  tile_compression = label_of (type_of (text_at s.metadata (codes "format"))) (facts_of s.tiles);
+  zooms = unwrap_or (facts_of s.tiles).zooms (0, 0);
+  bounds = option_and_then bounds_in (text_at s.metadata (codes "bounds"));
+  center = option_and_then center_in (text_at s.metadata (codes "center"));
+  metadata = text;
+}
+
+-- options are what a set says of itself
+abbrev pub IsSaidBy : State → SetOptions → Type 0
+IsSaidBy s o = IsTextOf o.metadata (archive_data s.metadata) × (o ≡ said_by s o.metadata)
+
+-- bounds that aren't said are the whole world
+abbrev pub with_bounds : Option SetBounds → Options → Options
+with_bounds None o = o
+with_bounds (Some b) o = record o { min_longitude = b.west; min_latitude = b.south; max_longitude = b.east; max_latitude = b.north }
+
+abbrev pub with_center_zoom : Option ℕ → Options → Options
+with_center_zoom None o = o
+with_center_zoom (Some zoom) o = record o { center_zoom = zoom }
+
+-- a center that isn't said is at zoom 0 and degrees 0
+abbrev pub with_center : Option SetCenter → Options → Options
+with_center None o = o
+with_center (Some c) o = with_center_zoom c.zoom (record o { center_longitude = c.longitude; center_latitude = c.latitude })
+
+-- the options of the archive's writer
+abbrev pub writer_of : SetOptions → Options
+writer_of o = with_center o.center (with_bounds o.bounds (record (default_options o.tile_type) {
+  tile_compression = o.tile_compression;
+  min_zoom = o.zooms.0;
+  max_zoom = o.zooms.1;
+  metadata = o.metadata;
+}))
+
+-- the options that a set gives, with this text as the archive's metadata
+abbrev pub options_of_set : State → List ℕ → Options
+options_of_set s text = writer_of (said_by s text)
+
+-- options are those of a set
+pub record AreOptionsOfSet (s : State) (o : Options) : Type 0 where
+  pub text : List ℕ
+  pub is_text : IsTextOf text (archive_data s.metadata)
+  pub are : o ≡ options_of_set s text

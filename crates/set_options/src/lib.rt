@@ -1,0 +1,12 @@
+//! What an archive says beside its tiles, by what the set says of itself.
+#![tactic(auto)]
+
+mod archive_json;
+mod degrees;
+mod extents;
+mod facts;
+mod format;
+mod options;
+
+pub use extents::{SetBounds, SetCenter};
+pub use options::{SetOptions, options_of_set};

@@ -1,0 +1,132 @@
+// The options of an archive that a set gives.
+ghost use Rattle.std.specs.Prelude.{◌≡◌, codes, IfOk};
+ghost use Rattle.std.specs.Option.{option_and_then};
+ghost use Rattle.mb_lists.specs.Metadata.{text_at};
+ghost use Rattle.set_options.specs.Extents.{bounds_in, center_in};
+ghost use Rattle.set_options.specs.Format.{type_of};
+ghost use Rattle.set_options.specs.OptionsOfSet.{AreOptionsOfSet, IsSaidBy, with_bounds, with_center, with_center_zoom, writer_of};
+
+use crate::archive_json::archive_text;
+use crate::extents::{bounds_in, center_in};
+use crate::facts::{facts_of, label_of};
+use crate::format::type_of;
+use crate::{SetBounds, SetCenter};
+use base_values::{OutOfMemory, TextVal};
+use mb_load::Loaded;
+use pm_format::{Compression, TileType};
+use pm_writer::PmTilesWriter;
+use std::alloc::Global;
+
+/// What a set says of its archive.
+#[derive(Debug, Drop)]
+pub struct SetOptions {
+    /// The type of the tiles, by the text under `format`.
+    pub tile_type: TileType,
+    /// The label of the tiles, by their first bytes.
+    pub tile_compression: Compression,
+    /// The least and the greatest zoom of the tiles of at least one byte, 0 and 0 where there is none.
+    pub zooms: (u8, u8),
+    /// The bounds, where the text under `bounds` says any.
+    pub bounds: Option<SetBounds>,
+    /// The center, where the text under `center` says one.
+    pub center: Option<SetCenter>,
+    /// The text of the archive's metadata, an object of JSON.
+    pub metadata: TextVal,
+}
+
+// The type that the text under `format` says.
+fn type_said(set: &Loaded) -> TileType
+    ensures { result ≡ type_of (text_at set.now.state.metadata (codes "format")) }
+{
+    type_of(set.text("format"))
+}
+
+// The bounds that the text under `bounds` says.
+fn bounds_said(set: &Loaded) -> Option<SetBounds>
+    ensures { result ≡ option_and_then bounds_in (text_at set.now.state.metadata (codes "bounds")) }
+{
+    bounds_in(set.text("bounds")?.as_str().as_bytes())
+}
+
+// The center that the text under `center` says.
+fn center_said(set: &Loaded) -> Option<SetCenter>
+    ensures { result ≡ option_and_then center_in (text_at set.now.state.metadata (codes "center")) }
+{
+    center_in(set.text("center")?.as_str().as_bytes())
+}
+
+impl SetOptions {
+    /// What a loaded set says of its archive:
+    ///
+    /// - the type of tiles by the text under `format`, a word or a media type, ASCII case and blanks around it aside;
+    /// - the label of vector tiles by their first two bytes: `Gzip` where all of them begin as gzip begins, `None` where none does, `Unknown` where some do; that of
+    ///   others `None`;
+    /// - the zooms of the tiles of at least one byte;
+    /// - bounds and center by the texts under these names, to the nearest ten millionth of a degree;
+    /// - as metadata the members of the object of JSON under `json`, and over them the texts of all names but those that are said otherwise.
+    pub fn of_set(alloc: Global, set: &Loaded) -> Result<SetOptions, OutOfMemory>
+        ensures { IfOk result (IsSaidBy set.now.state) }
+    {
+        let tile_type = type_said(set);
+        let facts = facts_of(set);
+        let metadata = archive_text(alloc, set)?;
+        Ok(SetOptions {
+            tile_type,
+            tile_compression: label_of(tile_type, facts),
+            zooms: facts.zooms.unwrap_or((0, 0)),
+            bounds: bounds_said(set),
+            center: center_said(set),
+            metadata,
+        })
+    }
+
+    /// The writer of the archive that these options are of.
+    pub fn into_writer(self) -> PmTilesWriter
+        ensures { result ≡ writer_of self }
+    {
+        let (min_zoom, max_zoom) = self.zooms;
+        let writer = PmTilesWriter::new(self.tile_type)
+            .tile_compression(self.tile_compression)
+            .min_zoom(min_zoom)
+            .max_zoom(max_zoom)
+            .metadata(self.metadata);
+        with_center(with_bounds(writer, self.bounds), self.center)
+    }
+}
+
+// With bounds, if there are any.
+fn with_bounds(writer: PmTilesWriter, bounds: Option<SetBounds>) -> PmTilesWriter
+    ensures { result ≡ with_bounds bounds writer }
+{
+    match bounds {
+        Some(b) => writer.bounds(b.west, b.south, b.east, b.north),
+        None => writer,
+    }
+}
+
+// With a zoom to begin with, if there is one.
+fn with_center_zoom(writer: PmTilesWriter, zoom: Option<u8>) -> PmTilesWriter
+    ensures { result ≡ with_center_zoom zoom writer }
+{
+    match zoom {
+        Some(zoom) => writer.center_zoom(zoom),
+        None => writer,
+    }
+}
+
+// With a center, if there is one.
+fn with_center(writer: PmTilesWriter, center: Option<SetCenter>) -> PmTilesWriter
+    ensures { result ≡ with_center center writer }
+{
+    match center {
+        Some(c) => with_center_zoom(writer.center(c.longitude, c.latitude), c.zoom),
+        None => writer,
+    }
+}
+
+/// The options that a loaded set gives its archive, those of `SetOptions::of_set`.
+pub fn options_of_set(alloc: Global, set: &Loaded) -> Result<PmTilesWriter, OutOfMemory>
+    ensures { IfOk result (AreOptionsOfSet set.now.state) }
+{
+    Ok(SetOptions::of_set(alloc, set)?.into_writer())
+}
