@@ -14,6 +14,7 @@ pub mod DatedViews
 pub mod PlacedViews
 pub mod Listed
 pub mod ChangeSteps
+pub mod TakenLemmas
 pub mod Covering
 pub mod AggregateLemmas
 pub mod KeyedCommit

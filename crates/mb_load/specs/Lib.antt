@@ -18,4 +18,5 @@ pub mod FromLast
 pub mod GivenIds
 pub mod Copying
 pub mod Sharing
+pub mod Taking
 pub mod Empty

@@ -151,8 +151,12 @@ fn add_contents(
     Ok(())
 }
 
-// The changes of all names.
-fn add_names(alloc: Global, changes: &mut Changes, names: &[StoredName]) -> Result<(), OutOfMemory>
+/// The changes of all names.
+pub(crate) fn add_names(
+    alloc: Global,
+    changes: &mut Changes,
+    names: &[StoredName],
+) -> Result<(), OutOfMemory>
     requires others { All (λ c. table_eq c.table Metadata ≡ false) changes.old }
     requires apart { Apart (slice_cmp nat_cmp) name_of names.now }
     ensures { OnOk result (changes.new ≡ changes.old ++ filter_map name_change names.now) }

@@ -11,13 +11,17 @@ mod editing;
 mod empty;
 mod from_rows;
 mod given_ids;
+mod into_changes;
+mod last_uses;
 pub mod laws;
 mod loaded;
 mod loading;
+mod moved_rows;
 mod put_rows;
 mod reading;
 mod sharing;
 mod single_edits;
+mod taking;
 mod tiles_of_rows;
 
 pub use commit::commit_loaded;

@@ -45,8 +45,8 @@ pub(crate) fn id_key(alloc: Global, id: &Cell) -> Result<Option<RowKey>, OutOfMe
     }
 }
 
-// The digest of contents; null has none.
-fn digest_cell(
+/// The digest of contents; null has none.
+pub(crate) fn digest_cell(
     alloc: Global,
     algorithm: HashAlgorithm,
     contents: &Cell,
@@ -67,8 +67,8 @@ fn push_copy(alloc: Global, cells: &mut Vec<Cell>, cell: &Cell) -> Result<(), Ou
     Ok(())
 }
 
-// The cells of a place.
-fn place_cells(alloc: Global, coord: TileCoord) -> Result<Vec<Cell>, OutOfMemory>
+/// The cells of a place.
+pub(crate) fn place_cells(alloc: Global, coord: TileCoord) -> Result<Vec<Cell>, OutOfMemory>
     ensures { IfOk result (λ cells. cells.items ≡ front (place_at coord)) }
 {
     let zoom = coord.z();
@@ -80,8 +80,12 @@ fn place_cells(alloc: Global, coord: TileCoord) -> Result<Vec<Cell>, OutOfMemory
     Ok(cells)
 }
 
-// Adds the times of a tile.
-fn add_times(alloc: Global, cells: &mut Vec<Cell>, dates: Option<&Dates>) -> Result<(), OutOfMemory>
+/// Adds the times of a tile.
+pub(crate) fn add_times(
+    alloc: Global,
+    cells: &mut Vec<Cell>,
+    dates: Option<&Dates>,
+) -> Result<(), OutOfMemory>
     ensures { OnOk result (cells.new.items ≡ cells.old.items ++ times_cells (unwrap_or (option_copied dates.entry) no_dates)) }
 {
     match dates {
