@@ -21,6 +21,7 @@ use Rattle.mb_tables.specs.Tiles.{Place, place_cmp, place_of}
 use Rattle.mb_tables.specs.declared.cell.Cell.{Cell}
 use Rattle.tile_bridge.specs.Base.{BaseLeaves, IsBaseAfter}
 use Rattle.tile_bridge.specs.Convert.{IsConverted, SetCauses, SetLeaves}
+use Rattle.tile_bridge.specs.Given.{IsBaseOf}
 use Rattle.tile_bridge.specs.Outcome.{all_patched, at_place, outcome, tested, then}
 use Rattle.tile_bridge.specs.Patching.{AreStatesOf, AreToldBy, IsBaseWith, IsHeldFrom, IsPatched, IsStored, all_held, is_patched_at, is_patched_row}
 use Rattle.tile_bridge.specs.declared.error.ConvertError.{ConvertError}
@@ -99,6 +100,10 @@ module _ (o : ConvertOptions) (base_tells : Bool) (tells : List Bool) (told : Li
     due = comes_to o.force o.verify old held.patched.tables held.first h.state (held.base_state t) held.patched.made held.passes;
     base = base_with held.patched.tables held.patched.states held.first h old new n patched held.patched.read held.patched.held (held.loaded t) (held.named t) (count ∙ as_many_told tells told held.patched.tables held.patched.are_told) any (stored t) (sound t);
   }
+
+  -- the same with the state that it holds
+  pub base_of : base_tells ≡ true → IsBaseOf o tells told h.state old new
+  base_of t = (base_after t, refl)
 
   -- what is said of both told contents is said of those that are told now
   archive_now : (coords : List Coord) (r : ConvertReport) (before medium : Option (List ℕ)) → SetLeaves o.writer h.state.tiles coords (Ok r) before medium → IfSome medium (λ b. IsConverted b o.writer h.state.tiles coords r)

@@ -4,6 +4,7 @@ pub mod ConvertLemmas
 pub mod FewAddLemmas
 pub mod FoldLemmas
 pub mod FillingLemmas
+pub mod GivenLemmas
 pub mod Members
 pub mod OutcomeLemmas
 pub mod PatchedRows

@@ -46,8 +46,8 @@ fn of_reader(error: PmtError) -> ConvertError
     }
 }
 
-// Writes the archive of a set to an empty medium, and reads the tiles at the coordinates from it.
-fn convert_set<M: Medium>(
+/// Writes the archive of a set to an empty medium, and reads the tiles at the coordinates from it.
+pub(crate) fn convert_set<M: Medium>(
     alloc: Global,
     set: &Loaded,
     aggregate: TextVal,

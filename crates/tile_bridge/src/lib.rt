@@ -4,6 +4,8 @@
 mod adds;
 mod conversion;
 mod error;
+mod given;
+mod given_options;
 mod loading;
 mod options;
 mod patching;
@@ -14,5 +16,7 @@ mod writing;
 
 pub use conversion::convert;
 pub use error::ConvertError;
+pub use given::convert_given;
+pub use given_options::ArchiveOptions;
 pub use options::ConvertOptions;
 pub use report::{Answers, ConvertReport};

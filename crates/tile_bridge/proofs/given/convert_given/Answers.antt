@@ -1,0 +1,52 @@
+use Rattle.std.proofs.Common.{arith, map, not, refl, subst, sym, ◌∙◌, ap}
+use Rattle.std.proofs.lemmas.List.{length-map}
+use Rattle.tile_bridge.specs.Convert.{ConvertCauses, IsEmpty, SetCauses, SetLeaves}
+use Rattle.tile_bridge.specs.Given.{GivenLeaves, plain_options}
+use Rattle.tile_bridge.specs.Outcome.{due}
+use Rattle.tile_bridge.specs.Patching.{IsStored}
+use Rattle.tile_bridge.specs.declared.options.ConvertOptions.{ConvertOptions}
+use Rattle.tile_bridge.proofs.BaseLemmas.{base_of}
+use Rattle.tile_bridge.proofs.ConvertLemmas.{none_told}
+use Rattle.tile_bridge.proofs.FoldLemmas.{as_long}
+use Rattle.tile_bridge.proofs.GivenLemmas.{is_given}
+use Rattle.tile_bridge.proofs.OutcomeLemmas.{refused_causes, set_causes, store_refuses}
+use Rattle.tile_bridge.proofs.given.convert_given.Goals as goal
+
+pub returns-in_err-store_patches-clause-causes : goal.returns-in_err-store_patches-clause-causes
+returns-in_err-store_patches-clause-causes g c =
+    let due_by = λ (o : ConvertOptions). due g.S.TileStore.tells g.S.TileStore.told g.P.TileStore.tells g.P.TileStore.told c.args.base.now c.args.patches.now.items o in
+    subst (λ (o : ConvertOptions). ConvertCauses plain_options (due_by o) (g.M.Backend.told c.args.medium.now) c.from_residual-in_err-store_patches.result) c.asked-asked.ensures
+    (refused_causes plain_options (due_by c.asked-asked.result) (g.M.Backend.told c.args.medium.now) c.in_err-store_patches.field-0.0 c.from_residual-in_err-store_patches.result
+    (none_told _ _ c.in_ok-length.ensures.answer c.if-length-ne0.false) refl (store_refuses (due_by c.asked-asked.result) c.in_err-store_patches.field-0.0 c.in_err-store_patches.ensures.causes) c.from_residual-in_err-store_patches.ensures.1)
+
+pub convert_set-requires-clause-empty : goal.convert_set-requires-clause-empty
+convert_set-requires-clause-empty g c = subst IsEmpty (sym c.len.ensures.kept.told) (none_told _ _ c.in_ok-length.ensures.answer c.if-length-ne0.false)
+
+pub returns-clause-causes : goal.returns-clause-causes
+returns-clause-causes g c =
+    let due_by = λ (o : ConvertOptions). due g.S.TileStore.tells g.S.TileStore.told g.P.TileStore.tells g.P.TileStore.told c.args.base.now c.args.patches.now.items o in
+    subst (λ (o : ConvertOptions). ConvertCauses plain_options (due_by o) (g.M.Backend.told c.args.medium.now) c.convert_set.result) c.asked-asked.ensures
+    (set_causes plain_options (due_by c.asked-asked.result) c.in_ok-set.set.state c.in_ok-set.ensures.state (g.M.Backend.told c.args.medium.now) c.convert_set.result
+    (none_told _ _ c.in_ok-length.ensures.answer c.if-length-ne0.false) refl (subst (λ m. SetCauses m c.convert_set.result) c.len.ensures.kept.told c.convert_set.ensures.causes))
+
+pub returns-clause-leaves : goal.returns-clause-leaves
+returns-clause-leaves g c =
+    let due_by = λ (o : ConvertOptions). due g.S.TileStore.tells g.S.TileStore.told g.P.TileStore.tells g.P.TileStore.told c.args.base.now c.args.patches.now.items o in
+    let gives = g.O.ArchiveOptions.gives c.args.options.now in
+    let patches = c.args.patches.now.items in
+    let base = g.S.TileStore.told c.args.base.now in
+    let base_now = g.S.TileStore.told c.store_patches.new.base in
+    let tells = g.S.TileStore.tells c.args.base.now in
+    let medium = g.M.Backend.told c.args.medium.now in
+    let medium_now = g.M.Backend.told c.convert_set.new.medium in
+    subst (λ (o : ConvertOptions). GivenLeaves gives (due_by o) o tells (map g.P.TileStore.tells patches) (map g.P.TileStore.told patches) c.args.coords.now c.convert_set.result medium medium_now base base_now) c.asked-asked.ensures
+    (is_given gives (due_by c.asked-asked.result) c.asked-asked.result tells (map g.P.TileStore.tells patches) (map g.P.TileStore.told patches) c.args.coords.now c.convert_set.result medium medium_now base base_now
+    c.in_ok-set.set.state c.in_ok-writer.writer c.in_ok-set.aggregate c.in_ok-set.ensures.state c.in_ok-writer.ensures.given
+    (none_told _ _ c.in_ok-length.ensures.answer c.if-length-ne0.false)
+    (subst (λ m. SetCauses m c.convert_set.result) c.len.ensures.kept.told c.convert_set.ensures.causes)
+    (subst (λ m. SetLeaves c.in_ok-writer.writer c.in_ok-set.set.state.tiles c.args.coords.now c.convert_set.result m medium_now) c.len.ensures.kept.told c.convert_set.ensures.leaves)
+    c.in_ok-set.ensures.aggregate c.convert_set.ensures.aggregate
+    (base_of c.asked-asked.result tells (map g.P.TileStore.tells patches) (map g.P.TileStore.told patches) base base_now c.in_ok-set.set c.in_ok-set.ensures.held
+    c.resolve.new.patches.len (not c.is_empty.result) (omega (arith, c.resolve.new.patches.ok.0, as_long g.P.TileStore.told patches c.resolve.new.patches.items c.in_ok-set.ensures.patches.told, length-map patches g.P.TileStore.told)) (ap not c.is_empty.ensures)
+    (λ u. subst (λ a. IsStored (not c.is_empty.result) c.in_ok-set.set a base_now) c.in_ok-set.ensures.base_kept.told (c.in_ok-store_patches.ensures.stored (c.in_ok-set.ensures.base_kept.tells ∙ u)))
+    (λ u. g.met.S.TileStore.sound c.store_patches.new.base (c.in_ok-store_patches.ensures.kept.tells ∙ c.in_ok-set.ensures.base_kept.tells ∙ u))))
