@@ -1,6 +1,5 @@
 -- Tables and views that are there, or are made.
-use Rattle.std.proofs.Common.{◌≡◌, ◌+◌, ◌<◌, ℕ, ◌||◌, Bool, false, true, List, [], None, Some, MatchBool, MatchOption, get_or, inl, inr, refl, slice_get, subst, sym, take}
-use Rattle.std.proofs.lemmas.Bool.{cases_Bool}
+use Rattle.std.proofs.Common.{◌≡◌, ◌+◌, ℕ, ◌||◌, Bool, false, true, List, [], None, Some, MatchBool, MatchOption, inl, inr, refl, slice_get, subst, sym, take}
 use Rattle.sqlite.specs.Held.{Held}
 use Rattle.sqlite.specs.Store.{Ghosts}
 use Rattle.mb_tables.specs.declared.kind.MbtType.{MbtType}

@@ -1,11 +1,7 @@
 -- Cells and rows that are read one after another.
-use Rattle.std.proofs.Common.{◌≡◌, ℕ, ℤ, ◌+◌, ◌<◌, ◌≤◌, ◌++◌, List, [], ◌∷◌, length, get_or, take, zero, suc, add-one, arith, subst, sym, ◌∙◌}
+use Rattle.std.proofs.Common.{ℕ, ◌+◌, ◌<◌, ◌≤◌, ◌++◌, List, [], ◌∷◌, length, get_or, take, zero, suc, add-one, arith, subst, sym, ◌∙◌}
 use Rattle.std.specs.List.{AllZip}
 use Rattle.std.proofs.lemmas.List.{take_all}
-use Rattle.sqlite_value.specs.declared.value.Value.TheVariants.{Int}
-use Rattle.sqlite_value.specs.Order.{Row, column}
-use Rattle.mb_tables.specs.Table.{width}
-use Rattle.mb_tables.specs.declared.table.TableName.{TableName}
 
 module _ {A B : Type 0} (R : A → B → Type 0) where
   next_pair : (xs : List A) (ys : List B) (n : ℕ) (y : B) (d : A) → n < length xs → AllZip R (take n xs) ys → R (get_or xs n d) y → AllZip R (take (suc n) xs) (ys ++ y ∷ [])

@@ -1,5 +1,5 @@
 -- What calls in a row leave of a transaction, and what it leaves when it ends.
-use Rattle.std.proofs.Common.{◌≡◌, false, true, arith, inl, inr, refl, ◌∙◌}
+use Rattle.std.proofs.Common.{◌≡◌, false, arith, inl, inr, refl, ◌∙◌}
 use Rattle.std.proofs.lemmas.Bool.{both_ways}
 use Rattle.sqlite.specs.declared.error.Error.{Error}
 use Rattle.sqlite.specs.Held.{Held, state}

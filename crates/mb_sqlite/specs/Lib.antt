@@ -8,3 +8,4 @@ pub mod Cursor
 pub mod Resting
 pub mod Failing
 pub mod Sizing
+pub mod Calls

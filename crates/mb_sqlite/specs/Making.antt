@@ -1,5 +1,5 @@
 -- What statements make of the database of a connection, one after another in a transaction.
-use Rattle.std.specs.Prelude.{ℕ, pos, Bool, true, false, nat_lt, ◌≡◌, ◌⊎◌, List, [], ◌∷◌, Option, Some, None, Ok, MatchOption}
+use Rattle.std.specs.Prelude.{ℕ, pos, Bool, true, false, nat_lt, ◌≡◌, ◌⊎◌, List, [], ◌∷◌, Some, Ok, MatchOption}
 use Rattle.std.specs.List.{AllZip}
 use Rattle.sqlite_value.specs.declared.value.Value.TheVariants as sql
 use Rattle.sqlite_value.specs.Order.{Row, column}

@@ -1,7 +1,6 @@
 -- What is read of the database of a connection.
 use Rattle.std.specs.Prelude.{Bool, ℕ, ℤ, pos, true, ◌≡◌, ◌+◌, ◌-◌, ◌^◌, drop, int_lt, List, [], ◌∷◌, Option, Some, None, Ok, MatchOption, min, option_to_list, take}
 use Rattle.std.specs.List.{AllZip}
-use Rattle.sqlite_value.specs.declared.value.Value.{Value}
 use Rattle.sqlite_value.specs.declared.value.Value.TheVariants as sql
 use Rattle.sqlite_value.specs.Order.{Row, column}
 use Rattle.sqlite.specs.Held.{Held, state}

@@ -19,3 +19,11 @@ pub record Rests {S : Type 0} (g : Ghosts S) (old new : Held S) : Type 0 where
   pub shows : HasCleanDisk (state g new) → IsTrue (state g new).is_open → (state g new).now ≡ (state g old).committed
   pub committed : HasCleanDisk (state g new) → IsTrue (state g new).is_open → (state g new).committed ≡ (state g old).committed
   pub unmarked : HasCleanDisk (state g new) → (state g new).marks ≡ []
+
+-- where the files returned what was written
+abbrev pub IfClean : {S : Type 0} → Ghosts S → Held S → Type 0 → Type 0
+IfClean g new P = HasCleanDisk (state g new) → P
+
+-- a connection that was outside a transaction rests
+abbrev pub IdleRests : {S : Type 0} → Ghosts S → Held S → Held S → Type 0
+IdleRests g old new = old.in_transaction ≡ false → Rests g old new

@@ -1,5 +1,5 @@
 -- How much the tables hold that a database shows.
-use Rattle.std.specs.Prelude.{ℕ, ℤ, ◌≡◌, ◌+◌, ◌-◌, ◌^◌, true, cond, List, [], ◌∷◌, length, MatchBool, min, Option, None, sum_by, take}
+use Rattle.std.specs.Prelude.{ℕ, ℤ, ◌≡◌, ◌+◌, ◌-◌, ◌^◌, cond, List, [], length, MatchBool, min, Option, None, sum_by, take}
 use Rattle.std.specs.Str.{is_utf8}
 use Rattle.sqlite_value.specs.declared.value.Value.{Value}
 use Rattle.sqlite_value.specs.declared.value.Value.TheVariants as sql

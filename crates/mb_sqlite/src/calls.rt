@@ -3,7 +3,8 @@ ghost use Rattle.std.specs.Prelude.{◌≡◌, ◌≤◌, false, true, [], All, 
 ghost use Rattle.mb_tables.specs.Schema.{set_tables};
 ghost use Rattle.mb_tables.specs.Described.{is_table};
 ghost use Rattle.mb_tables.specs.Table.{width};
-ghost use Rattle.mb_sqlite.specs.Committing.{CommitsNothing, CommitsOnce, IsReady, KeepsCommitted, Leaves, MakesChanges, OnceReady, RefusesCommit, Sees};
+ghost use Rattle.mb_sqlite.specs.Calls.{ChangesOnce, CommitsChanges, HasTable, IsInside, IsPrepared, LeavesStore, MakesOnce, OnlyMakes, RefusesStore, Saw};
+ghost use Rattle.mb_sqlite.specs.Committing.{KeepsCommitted};
 ghost use Rattle.mb_sqlite.specs.Creation.{are_named};
 ghost use Rattle.mb_sqlite.specs.Cursor.{MovesPast};
 ghost use Rattle.mb_sqlite.specs.Making.{AreChanged, AreMade, begun};
@@ -24,13 +25,13 @@ impl<S: Alter> SqliteStore<S> {
     pub(crate) fn begin(&mut self) -> Result<(), Failure>
         ensures made { OnOk result (self.new.is_made ≡ true) }
         ensures same { self.old.is_made ≡ true → self.new.connection ≡ self.old.connection }
-        ensures once { CommitsOnce S.Store (AreMade S.Store self.old.layout (begun self.old.connection)) self.old.connection self.new.connection }
-        ensures ready { OnOk result (IsReady S.Store self.old.layout self.old.is_made self.old.connection self.new.connection) }
+        ensures once { MakesOnce S.Store self.old self.new }
+        ensures ready { OnOk result (IsPrepared S.Store self.old self.new) }
         ensures outside { OnOk result (self.old.connection.in_transaction ≡ false) }
         ensures ended { OnOk result (self.new.connection.in_transaction ≡ false) }
-        ensures inside { self.old.connection.in_transaction ≡ true → IsErrOf result Failure.Fault }
-        ensures alone { self.old.connection.in_transaction ≡ true → self.new.connection ≡ self.old.connection }
-        ensures leaves { Leaves S.Store self.old.layout self.old.is_made self.new.is_made self.old.connection self.new.connection }
+        ensures inside { IsInside self.old → IsErrOf result Failure.Fault }
+        ensures alone { IsInside self.old → self.new.connection ≡ self.old.connection }
+        ensures leaves { LeavesStore S.Store self.old self.new }
         ensures layout { self.new.layout ≡ self.old.layout }
         ensures cursor { self.new.cursor ≡ self.old.cursor }
         ensures faults { self.new.faults ≡ self.old.faults }
@@ -48,10 +49,10 @@ impl<S: Alter> SqliteStore<S> {
     // The descriptions of the layout's tables and views.
     pub(crate) fn described(&mut self, alloc: Global) -> Result<Vec<TableDesc>, Failure>
         ensures described { IfOk result (λ tables. tables.items ≡ set_tables self.old.layout) }
-        ensures once { CommitsOnce S.Store (AreMade S.Store self.old.layout (begun self.old.connection)) self.old.connection self.new.connection }
-        ensures ready { OnOk result (IsReady S.Store self.old.layout self.old.is_made self.old.connection self.new.connection) }
-        ensures inside { self.old.connection.in_transaction ≡ true → IsErrOf result Failure.Fault }
-        ensures leaves { Leaves S.Store self.old.layout self.old.is_made self.new.is_made self.old.connection self.new.connection }
+        ensures once { MakesOnce S.Store self.old self.new }
+        ensures ready { OnOk result (IsPrepared S.Store self.old self.new) }
+        ensures inside { IsInside self.old → IsErrOf result Failure.Fault }
+        ensures leaves { LeavesStore S.Store self.old self.new }
         ensures layout { self.new.layout ≡ self.old.layout }
         ensures cursor { self.new.cursor ≡ self.old.cursor }
         ensures made { OnOk result (self.new.is_made ≡ true) }
@@ -64,10 +65,10 @@ impl<S: Alter> SqliteStore<S> {
     // Makes the tables that aren't there. One that the layout doesn't have can't be made.
     pub(crate) fn created(&mut self, alloc: Global, tables: &[TableDesc]) -> Result<(), Failure>
         ensures named { OnOk result (are_named (set_tables self.old.layout) tables.now ≡ true) }
-        ensures once { CommitsOnce S.Store (AreMade S.Store self.old.layout (begun self.old.connection)) self.old.connection self.new.connection }
-        ensures ready { OnOk result (IsReady S.Store self.old.layout self.old.is_made self.old.connection self.new.connection) }
-        ensures inside { self.old.connection.in_transaction ≡ true → IsErrOf result Failure.Fault }
-        ensures leaves { Leaves S.Store self.old.layout self.old.is_made self.new.is_made self.old.connection self.new.connection }
+        ensures once { MakesOnce S.Store self.old self.new }
+        ensures ready { OnOk result (IsPrepared S.Store self.old self.new) }
+        ensures inside { IsInside self.old → IsErrOf result Failure.Fault }
+        ensures leaves { LeavesStore S.Store self.old self.new }
         ensures layout { self.new.layout ≡ self.old.layout }
         ensures cursor { self.new.cursor ≡ self.old.cursor }
         ensures made { OnOk result (self.new.is_made ≡ true) }
@@ -82,12 +83,14 @@ impl<S: Alter> SqliteStore<S> {
     }
 
     pub(crate) fn counted_rows(&mut self, table: TableName) -> Result<u64, Failure>
-        ensures survives { self.old.is_made ≡ true → CommitsNothing S.Store self.old.connection self.new.connection }
-        ensures once { CommitsOnce S.Store (AreMade S.Store self.old.layout (begun self.old.connection)) self.old.connection self.new.connection }
-        ensures undescribed { is_table (set_tables self.old.layout) table ≡ false → IfOk result (λ count. count ≡ 0) }
-        ensures counted { is_table (set_tables self.old.layout) table ≡ true → IfOk result (λ count. OnceReady S.Store self.old.layout self.old.is_made self.old.connection (Sees S.Store (λ old seen. IsCounted S.Store table old seen count) self.new.connection)) }
-        ensures inside { self.old.connection.in_transaction ≡ true → IsErrOf result Failure.Fault }
-        ensures leaves { Leaves S.Store self.old.layout self.old.is_made self.new.is_made self.old.connection self.new.connection }
+        ensures survives { OnlyMakes S.Store self.old self.new }
+        ensures once { MakesOnce S.Store self.old self.new }
+        ensures undescribed { HasTable self.old table false → IfOk result (λ count. count ≡ 0) }
+        ensures counted { HasTable self.old table true → IfOk result
+            (λ count. Saw S.Store self.old self.new
+            (λ old seen. IsCounted S.Store table old seen count)) }
+        ensures inside { IsInside self.old → IsErrOf result Failure.Fault }
+        ensures leaves { LeavesStore S.Store self.old self.new }
         ensures layout { self.new.layout ≡ self.old.layout }
         ensures cursor { self.new.cursor ≡ self.old.cursor }
         ensures made { OnOk result (self.new.is_made ≡ true) }
@@ -109,14 +112,18 @@ impl<S: Alter> SqliteStore<S> {
     ) -> Result<Vec<Row>, Failure>
         ensures widths { IfOk result (λ rows. All (λ row. length row ≡ width table) rows.items) }
         ensures limit { IfOk result (λ rows. length rows.items ≤ limit) }
-        ensures undescribed { is_table (set_tables self.old.layout) table ≡ false → IfOk result (λ rows. rows.items ≡ []) }
-        ensures passed { is_table (set_tables self.old.layout) table ≡ false → self.new.cursor ≡ self.old.cursor }
+        ensures undescribed { HasTable self.old table false → IfOk result
+            (λ rows. rows.items ≡ []) }
+        ensures passed { HasTable self.old table false → self.new.cursor ≡ self.old.cursor }
         ensures kept { OnErr result (self.new.cursor ≡ self.old.cursor) }
-        ensures survives { self.old.is_made ≡ true → CommitsNothing S.Store self.old.connection self.new.connection }
-        ensures once { CommitsOnce S.Store (AreMade S.Store self.old.layout (begun self.old.connection)) self.old.connection self.new.connection }
-        ensures paged { is_table (set_tables self.old.layout) table ≡ true → IfOk result (λ rows. OnceReady S.Store self.old.layout self.old.is_made self.old.connection (Sees S.Store (λ old seen. MovesPast S.Store table old seen from limit self.old.cursor self.new.cursor rows.items) self.new.connection)) }
-        ensures inside { self.old.connection.in_transaction ≡ true → IsErrOf result Failure.Fault }
-        ensures leaves { Leaves S.Store self.old.layout self.old.is_made self.new.is_made self.old.connection self.new.connection }
+        ensures survives { OnlyMakes S.Store self.old self.new }
+        ensures once { MakesOnce S.Store self.old self.new }
+        ensures paged { HasTable self.old table true → IfOk result
+            (λ rows. Saw S.Store self.old self.new
+            (λ old seen. MovesPast S.Store table old seen from limit self.old.cursor self.new.cursor
+            rows.items)) }
+        ensures inside { IsInside self.old → IsErrOf result Failure.Fault }
+        ensures leaves { LeavesStore S.Store self.old self.new }
         ensures layout { self.new.layout ≡ self.old.layout }
         ensures made { OnOk result (self.new.is_made ≡ true) }
         ensures faults { self.new.faults ≡ self.old.faults }
@@ -142,12 +149,14 @@ impl<S: Alter> SqliteStore<S> {
         key: &RowKey,
     ) -> Result<Option<Row>, Failure>
         ensures widths { IfOk result (λ row. IfSome row (λ row. length row ≡ width table)) }
-        ensures survives { self.old.is_made ≡ true → CommitsNothing S.Store self.old.connection self.new.connection }
-        ensures once { CommitsOnce S.Store (AreMade S.Store self.old.layout (begun self.old.connection)) self.old.connection self.new.connection }
-        ensures undescribed { is_table (set_tables self.old.layout) table ≡ false → IfOk result (λ row. row ≡ None) }
-        ensures found { is_table (set_tables self.old.layout) table ≡ true → IfOk result (λ row. OnceReady S.Store self.old.layout self.old.is_made self.old.connection (Sees S.Store (λ old seen. IsFound S.Store table old seen key.now row) self.new.connection)) }
-        ensures inside { self.old.connection.in_transaction ≡ true → IsErrOf result Failure.Fault }
-        ensures leaves { Leaves S.Store self.old.layout self.old.is_made self.new.is_made self.old.connection self.new.connection }
+        ensures survives { OnlyMakes S.Store self.old self.new }
+        ensures once { MakesOnce S.Store self.old self.new }
+        ensures undescribed { HasTable self.old table false → IfOk result (λ row. row ≡ None) }
+        ensures found { HasTable self.old table true → IfOk result
+            (λ row. Saw S.Store self.old self.new
+            (λ old seen. IsFound S.Store table old seen key.now row)) }
+        ensures inside { IsInside self.old → IsErrOf result Failure.Fault }
+        ensures leaves { LeavesStore S.Store self.old self.new }
         ensures layout { self.new.layout ≡ self.old.layout }
         ensures cursor { self.new.cursor ≡ self.old.cursor }
         ensures made { OnOk result (self.new.is_made ≡ true) }
@@ -161,13 +170,14 @@ impl<S: Alter> SqliteStore<S> {
     }
 
     pub(crate) fn committed(&mut self, alloc: Global, changes: &Changes) -> Result<(), Failure>
-        ensures once { self.old.is_made ≡ true → CommitsOnce S.Store (AreChanged S.Store self.old.layout changes.now (begun self.old.connection)) self.old.connection self.new.connection }
-        ensures changed { OnOk result (OnceReady S.Store self.old.layout self.old.is_made self.old.connection (MakesChanges S.Store self.old.layout changes.now self.new.connection)) }
-        ensures unchanged { OnErr result (RefusesCommit S.Store self.old.layout changes.now self.old.is_made self.new.is_made self.old.connection self.new.connection self.old.cursor self.new.cursor) }
-        ensures refused { self.old.is_made ≡ true → OnErr result (KeepsCommitted S.Store self.old.connection self.new.connection) }
+        ensures once { ChangesOnce S.Store self.old self.new changes.now }
+        ensures changed { OnOk result (CommitsChanges S.Store self.old self.new changes.now) }
+        ensures unchanged { OnErr result (RefusesStore S.Store self.old self.new changes.now) }
+        ensures refused { self.old.is_made ≡ true
+            → OnErr result (KeepsCommitted S.Store self.old.connection self.new.connection) }
         ensures cursor { OnOk result (self.new.cursor ≡ None) }
-        ensures inside { self.old.connection.in_transaction ≡ true → IsErrOf result Failure.Fault }
-        ensures alone { self.old.connection.in_transaction ≡ true → self.new.connection ≡ self.old.connection }
+        ensures inside { IsInside self.old → IsErrOf result Failure.Fault }
+        ensures alone { IsInside self.old → self.new.connection ≡ self.old.connection }
         ensures layout { self.new.layout ≡ self.old.layout }
         ensures made { OnOk result (self.new.is_made ≡ true) }
         ensures faults { self.new.faults ≡ self.old.faults }
@@ -179,11 +189,13 @@ impl<S: Alter> SqliteStore<S> {
     }
 
     pub(crate) fn size(&mut self) -> Result<u64, Failure>
-        ensures survives { self.old.is_made ≡ true → CommitsNothing S.Store self.old.connection self.new.connection }
-        ensures once { CommitsOnce S.Store (AreMade S.Store self.old.layout (begun self.old.connection)) self.old.connection self.new.connection }
-        ensures sized { IfOk result (λ size. OnceReady S.Store self.old.layout self.old.is_made self.old.connection (Sees S.Store (λ old seen. IsLiveSize S.Store self.old.layout old seen size) self.new.connection)) }
-        ensures inside { self.old.connection.in_transaction ≡ true → IsErrOf result Failure.Fault }
-        ensures leaves { Leaves S.Store self.old.layout self.old.is_made self.new.is_made self.old.connection self.new.connection }
+        ensures survives { OnlyMakes S.Store self.old self.new }
+        ensures once { MakesOnce S.Store self.old self.new }
+        ensures sized { IfOk result
+            (λ size. Saw S.Store self.old self.new
+            (λ old seen. IsLiveSize S.Store self.old.layout old seen size)) }
+        ensures inside { IsInside self.old → IsErrOf result Failure.Fault }
+        ensures leaves { LeavesStore S.Store self.old self.new }
         ensures layout { self.new.layout ≡ self.old.layout }
         ensures cursor { self.new.cursor ≡ self.old.cursor }
         ensures made { OnOk result (self.new.is_made ≡ true) }

@@ -5,7 +5,7 @@ ghost use Rattle.sqlite.specs.State.{HasCleanDisk};
 ghost use Rattle.mb_sqlite.specs.Committing.{CommitsNothing, CommitsOnce};
 ghost use Rattle.mb_sqlite.specs.Creation.{making_order};
 ghost use Rattle.mb_sqlite.specs.Making.{AreMade, ArePassed, ArePrepared, Arises, IsThere, Stays, begun};
-ghost use Rattle.mb_sqlite.specs.Resting.{KeepsInside, Rests, StaysInside};
+ghost use Rattle.mb_sqlite.specs.Resting.{IfClean, KeepsInside, Rests, StaysInside};
 
 use crate::failure::Failure;
 use crate::layout::{TABLES, making_of};
@@ -24,8 +24,10 @@ fn is_there<S: Alter>(
     ensures same_reference { transaction.new.conn.ghost_name ≡ transaction.old.conn.ghost_name }
     ensures survives { CommitsNothing S.Store transaction.old.conn.now transaction.new.conn.now }
     ensures kept { KeepsInside S.Store transaction.old.conn.now transaction.new.conn.now }
-    ensures inside { OnOk result (StaysInside S.Store transaction.old.conn.now transaction.new.conn.now) }
-    ensures there { HasCleanDisk (state S.Store transaction.new.conn.now) → IfOk result (λ there. IsThere S.Store table there transaction.old.conn.now transaction.new.conn.now) }
+    ensures inside { OnOk result
+        (StaysInside S.Store transaction.old.conn.now transaction.new.conn.now) }
+    ensures there { IfClean S.Store transaction.new.conn.now (IfOk result
+        (λ there. IsThere S.Store table there transaction.old.conn.now transaction.new.conn.now)) }
 {
     let row = ask_row(transaction, statements::named(), params![table.name()])?;
     let count: u64 = row.get(0)?;
@@ -41,8 +43,12 @@ fn make_table<S: Alter>(
     ensures same_reference { transaction.new.conn.ghost_name ≡ transaction.old.conn.ghost_name }
     ensures survives { CommitsNothing S.Store transaction.old.conn.now transaction.new.conn.now }
     ensures kept { KeepsInside S.Store transaction.old.conn.now transaction.new.conn.now }
-    ensures inside { OnOk result (StaysInside S.Store transaction.old.conn.now transaction.new.conn.now) }
-    ensures passed { HasCleanDisk (state S.Store transaction.new.conn.now) → IfOk result (λ made. MatchBool made (Arises S.Store layout table transaction.old.conn.now transaction.new.conn.now) (Stays S.Store layout table transaction.old.conn.now transaction.new.conn.now)) }
+    ensures inside { OnOk result
+        (StaysInside S.Store transaction.old.conn.now transaction.new.conn.now) }
+    ensures passed { IfClean S.Store transaction.new.conn.now (IfOk result
+        (λ made. MatchBool made
+        (Arises S.Store layout table transaction.old.conn.now transaction.new.conn.now)
+        (Stays S.Store layout table transaction.old.conn.now transaction.new.conn.now))) }
 {
     match making_of(layout, table) {
         Some(text) => {
@@ -64,8 +70,11 @@ fn make_missing<S: Alter>(
     ensures same_reference { transaction.new.conn.ghost_name ≡ transaction.old.conn.ghost_name }
     ensures survives { CommitsNothing S.Store transaction.old.conn.now transaction.new.conn.now }
     ensures kept { KeepsInside S.Store transaction.old.conn.now transaction.new.conn.now }
-    ensures inside { OnOk result (StaysInside S.Store transaction.old.conn.now transaction.new.conn.now) }
-    ensures passed { HasCleanDisk (state S.Store transaction.new.conn.now) → IfOk result (λ made. ArePassed S.Store layout making_order made transaction.old.conn.now transaction.new.conn.now) }
+    ensures inside { OnOk result
+        (StaysInside S.Store transaction.old.conn.now transaction.new.conn.now) }
+    ensures passed { IfClean S.Store transaction.new.conn.now (IfOk result
+        (λ made. ArePassed S.Store layout making_order made transaction.old.conn.now
+        transaction.new.conn.now)) }
 {
     let mut made = false;
     for table in &TABLES {
@@ -78,11 +87,15 @@ fn make_missing<S: Alter>(
 // Makes the tables and views of a layout that aren't there, in one transaction. Where none is missing, nothing is written.
 #[tactic(auto, using(crate::proofs::CommitLemmas::nothing_yet, crate::proofs::CommitLemmas::nothing_once, crate::proofs::CommitLemmas::undone_nothing))]
 pub(crate) fn make<S: Alter>(connection: &mut Connection<S>, layout: MbtType) -> Result<(), Failure>
-    ensures once { CommitsOnce S.Store (AreMade S.Store layout (begun connection.old)) connection.old connection.new }
-    ensures prepared { HasCleanDisk (state S.Store connection.new) → OnOk result (ArePrepared S.Store layout connection.old connection.new) }
-    ensures inside { connection.old.in_transaction ≡ true → IsErrOf result Failure.Fault × (connection.new ≡ connection.old) }
+    ensures once { CommitsOnce S.Store (AreMade S.Store layout (begun connection.old))
+        connection.old connection.new }
+    ensures prepared { IfClean S.Store connection.new
+        (OnOk result (ArePrepared S.Store layout connection.old connection.new)) }
+    ensures inside { connection.old.in_transaction ≡ true → IsErrOf result Failure.Fault
+        × (connection.new ≡ connection.old) }
     ensures ended { connection.old.in_transaction ≡ false → connection.new.in_transaction ≡ false }
-    ensures rests { connection.old.in_transaction ≡ false → OnErr result (Rests S.Store connection.old connection.new) }
+    ensures rests { connection.old.in_transaction ≡ false
+        → OnErr result (Rests S.Store connection.old connection.new) }
 {
     if !connection.is_autocommit() {
         return Err(Failure::Fault);

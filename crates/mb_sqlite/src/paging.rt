@@ -7,7 +7,7 @@ ghost use Rattle.sqlite_value.specs.Order.{column};
 ghost use Rattle.sqlite_value.specs.declared.value.Value.TheVariants as sql;
 ghost use Rattle.mb_tables.specs.Table.{width};
 ghost use Rattle.mb_sqlite.specs.Committing.{CommitsNothing};
-ghost use Rattle.mb_sqlite.specs.Resting.{KeepsInside, StaysInside};
+ghost use Rattle.mb_sqlite.specs.Resting.{IfClean, KeepsInside, StaysInside};
 ghost use Rattle.mb_sqlite.specs.Reading.{ArePaged, AreShown, IsRowOf, RisesTo, is_above, sql_number};
 
 use crate::failure::Failure;
@@ -46,8 +46,11 @@ pub(crate) fn answers<S: Alter>(
     ensures same_reference { transaction.new.conn.ghost_name ≡ transaction.old.conn.ghost_name }
     ensures survives { CommitsNothing S.Store transaction.old.conn.now transaction.new.conn.now }
     ensures kept { KeepsInside S.Store transaction.old.conn.now transaction.new.conn.now }
-    ensures inside { OnOk result (StaysInside S.Store transaction.old.conn.now transaction.new.conn.now) }
-    ensures shown { HasCleanDisk (state S.Store transaction.new.conn.now) → IfOk result (λ rows. AreShown S.Store table transaction.old.conn.now transaction.new.conn.now from passed (limit + 1) rows.items) }
+    ensures inside { OnOk result
+        (StaysInside S.Store transaction.old.conn.now transaction.new.conn.now) }
+    ensures shown { IfClean S.Store transaction.new.conn.now (IfOk result
+        (λ rows. AreShown S.Store table transaction.old.conn.now transaction.new.conn.now from
+        passed (limit + 1) rows.items)) }
 {
     let most = one_more(limit);
     let passed = sql_number(passed);
@@ -100,9 +103,11 @@ fn rows_of(
 ) -> Result<(Vec<Row>, Option<i64>), Failure>
     ensures widths { IfOk result (λ page. All (λ row. length row ≡ width table) page.0.items) }
     ensures limit { IfOk result (λ page. length page.0.items ≤ limit) }
-    ensures rows { IfOk result (λ page. AllZip (IsRowOf table) (take limit answers.now) page.0.items) }
+    ensures rows { IfOk result
+        (λ page. AllZip (IsRowOf table) (take limit answers.now) page.0.items) }
     ensures rises { IfOk result (λ page. RisesTo table from (take limit answers.now) page.1) }
-    ensures beyond { IfOk result (λ page. (beyond : _) × RisesTo table page.1 (take 1 (drop limit answers.now)) beyond) }
+    ensures beyond { IfOk result
+        (λ page. (beyond : _) × RisesTo table page.1 (take 1 (drop limit answers.now)) beyond) }
 {
     let mut rows = Vec::new(alloc);
     let mut last = from;
@@ -130,8 +135,11 @@ pub(crate) fn page<S: Alter>(
     ensures same_reference { transaction.new.conn.ghost_name ≡ transaction.old.conn.ghost_name }
     ensures survives { CommitsNothing S.Store transaction.old.conn.now transaction.new.conn.now }
     ensures kept { KeepsInside S.Store transaction.old.conn.now transaction.new.conn.now }
-    ensures inside { OnOk result (StaysInside S.Store transaction.old.conn.now transaction.new.conn.now) }
-    ensures paged { HasCleanDisk (state S.Store transaction.new.conn.now) → IfOk result (λ page. ArePaged S.Store table transaction.old.conn.now transaction.new.conn.now start limit page.0.items page.1) }
+    ensures inside { OnOk result
+        (StaysInside S.Store transaction.old.conn.now transaction.new.conn.now) }
+    ensures paged { IfClean S.Store transaction.new.conn.now (IfOk result
+        (λ page. ArePaged S.Store table transaction.old.conn.now transaction.new.conn.now start
+        limit page.0.items page.1)) }
 {
     let answers = answers(transaction, table, start.0, start.1, limit)?;
     let page = rows_of(alloc, table, answers.as_slice(), limit, start.0)?;

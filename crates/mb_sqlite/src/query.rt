@@ -5,7 +5,7 @@ ghost use Rattle.sqlite.specs.State.{HasCleanDisk, QueriesRowInside, Shown};
 ghost use Rattle.sqlite.specs.Values.{bound};
 ghost use Rattle.mb_tables.specs.Table.{width};
 ghost use Rattle.mb_sqlite.specs.Committing.{CommitsNothing};
-ghost use Rattle.mb_sqlite.specs.Resting.{KeepsInside, StaysInside};
+ghost use Rattle.mb_sqlite.specs.Resting.{IfClean, KeepsInside, StaysInside};
 ghost use Rattle.mb_sqlite.specs.Reading.{IsCounted, IsFirst, IsFound};
 
 use crate::failure::Failure;
@@ -25,8 +25,11 @@ pub(crate) fn ask<S: Alter>(
     ensures same_reference { transaction.new.conn.ghost_name ≡ transaction.old.conn.ghost_name }
     ensures survives { CommitsNothing S.Store transaction.old.conn.now transaction.new.conn.now }
     ensures kept { KeepsInside S.Store transaction.old.conn.now transaction.new.conn.now }
-    ensures inside { OnOk result (StaysInside S.Store transaction.old.conn.now transaction.new.conn.now) }
-    ensures shown { HasCleanDisk (state S.Store transaction.new.conn.now) → IfOk result (λ rows. Shown text.now (bound values.now) (state S.Store transaction.old.conn.now) (state S.Store transaction.new.conn.now) rows.items) }
+    ensures inside { OnOk result
+        (StaysInside S.Store transaction.old.conn.now transaction.new.conn.now) }
+    ensures shown { IfClean S.Store transaction.new.conn.now (IfOk result
+        (λ rows. Shown text.now (bound values.now) (state S.Store transaction.old.conn.now)
+        (state S.Store transaction.new.conn.now) rows.items)) }
 {
     let rows = transaction.query_all(text, values)?;
     Ok(rows)
@@ -41,8 +44,12 @@ pub(crate) fn ask_row<S: Alter>(
     ensures same_reference { transaction.new.conn.ghost_name ≡ transaction.old.conn.ghost_name }
     ensures survives { CommitsNothing S.Store transaction.old.conn.now transaction.new.conn.now }
     ensures kept { KeepsInside S.Store transaction.old.conn.now transaction.new.conn.now }
-    ensures inside { OnOk result (StaysInside S.Store transaction.old.conn.now transaction.new.conn.now) }
-    ensures row { HasCleanDisk (state S.Store transaction.new.conn.now) → IfOk result (λ row. QueriesRowInside text.now (bound values.now) (state S.Store transaction.old.conn.now) (state S.Store transaction.new.conn.now) (Ok row)) }
+    ensures inside { OnOk result
+        (StaysInside S.Store transaction.old.conn.now transaction.new.conn.now) }
+    ensures row { IfClean S.Store transaction.new.conn.now (IfOk result
+        (λ row. QueriesRowInside text.now (bound values.now)
+        (state S.Store transaction.old.conn.now) (state S.Store transaction.new.conn.now)
+        (Ok row))) }
 {
     let row = transaction.query_row(text, values)?;
     Ok(row)
@@ -56,8 +63,10 @@ pub(crate) fn count<S: Alter>(
     ensures same_reference { transaction.new.conn.ghost_name ≡ transaction.old.conn.ghost_name }
     ensures survives { CommitsNothing S.Store transaction.old.conn.now transaction.new.conn.now }
     ensures kept { KeepsInside S.Store transaction.old.conn.now transaction.new.conn.now }
-    ensures inside { OnOk result (StaysInside S.Store transaction.old.conn.now transaction.new.conn.now) }
-    ensures counted { HasCleanDisk (state S.Store transaction.new.conn.now) → IfOk result (IsCounted S.Store table transaction.old.conn.now transaction.new.conn.now) }
+    ensures inside { OnOk result
+        (StaysInside S.Store transaction.old.conn.now transaction.new.conn.now) }
+    ensures counted { IfClean S.Store transaction.new.conn.now
+        (IfOk result (IsCounted S.Store table transaction.old.conn.now transaction.new.conn.now)) }
 {
     let row = ask_row(transaction, statements::count_of(table), &[])?;
     Ok(row.get(0)?)
@@ -74,8 +83,11 @@ fn first<S: Alter>(
     ensures same_reference { transaction.new.conn.ghost_name ≡ transaction.old.conn.ghost_name }
     ensures survives { CommitsNothing S.Store transaction.old.conn.now transaction.new.conn.now }
     ensures kept { KeepsInside S.Store transaction.old.conn.now transaction.new.conn.now }
-    ensures inside { OnOk result (StaysInside S.Store transaction.old.conn.now transaction.new.conn.now) }
-    ensures first { HasCleanDisk (state S.Store transaction.new.conn.now) → IfOk result (IsFirst S.Store table transaction.old.conn.now transaction.new.conn.now (bound key.now)) }
+    ensures inside { OnOk result
+        (StaysInside S.Store transaction.old.conn.now transaction.new.conn.now) }
+    ensures first { IfClean S.Store transaction.new.conn.now
+        (IfOk result (IsFirst S.Store table transaction.old.conn.now transaction.new.conn.now
+        (bound key.now))) }
 {
     let rows = ask(transaction, statements::found_in(table), key)?;
     match rows.first() {
@@ -95,8 +107,11 @@ pub(crate) fn find<S: Alter>(
     ensures same_reference { transaction.new.conn.ghost_name ≡ transaction.old.conn.ghost_name }
     ensures survives { CommitsNothing S.Store transaction.old.conn.now transaction.new.conn.now }
     ensures kept { KeepsInside S.Store transaction.old.conn.now transaction.new.conn.now }
-    ensures inside { OnOk result (StaysInside S.Store transaction.old.conn.now transaction.new.conn.now) }
-    ensures found { HasCleanDisk (state S.Store transaction.new.conn.now) → IfOk result (IsFound S.Store table transaction.old.conn.now transaction.new.conn.now key.now) }
+    ensures inside { OnOk result
+        (StaysInside S.Store transaction.old.conn.now transaction.new.conn.now) }
+    ensures found { IfClean S.Store transaction.new.conn.now
+        (IfOk result (IsFound S.Store table transaction.old.conn.now transaction.new.conn.now
+        key.now)) }
 {
     match (table, key) {
         (TableName::Images | TableName::Metadata, RowKey::TextId(text)) => {

@@ -4,7 +4,7 @@ ghost use Rattle.mb_tables.specs.Table.{width};
 ghost use Rattle.sqlite.specs.Held.{state};
 ghost use Rattle.sqlite.specs.State.{HasCleanDisk};
 ghost use Rattle.mb_sqlite.specs.Committing.{CommitsNothing};
-ghost use Rattle.mb_sqlite.specs.Resting.{Rests};
+ghost use Rattle.mb_sqlite.specs.Resting.{IdleRests, IfClean, Rests};
 ghost use Rattle.mb_sqlite.specs.Sizing.{IsLiveSize};
 ghost use Rattle.mb_sqlite.specs.Cursor.{MovesPast};
 ghost use Rattle.mb_sqlite.specs.Reading.{ArePaged, IsCounted, IsFound, Within};
@@ -22,9 +22,11 @@ pub(crate) fn count<S: Alter>(
     table: TableName,
 ) -> Result<u64, Failure>
     ensures survives { CommitsNothing S.Store connection.old connection.new }
-    ensures inside { connection.old.in_transaction ≡ true → IsErrOf result Failure.Fault × (connection.new ≡ connection.old) }
-    ensures rests { connection.old.in_transaction ≡ false → Rests S.Store connection.old connection.new }
-    ensures counted { HasCleanDisk (state S.Store connection.new) → IfOk result (λ count. Within connection.old (λ old seen. IsCounted S.Store table old seen count)) }
+    ensures inside { connection.old.in_transaction ≡ true → IsErrOf result Failure.Fault
+        × (connection.new ≡ connection.old) }
+    ensures rests { IdleRests S.Store connection.old connection.new }
+    ensures counted { IfClean S.Store connection.new (IfOk result
+        (λ count. Within connection.old (λ old seen. IsCounted S.Store table old seen count))) }
 {
     if !connection.is_autocommit() {
         return Err(Failure::Fault);
@@ -46,9 +48,13 @@ pub(crate) fn page<S: Alter>(
     ensures widths { IfOk result (λ rows. All (λ row. length row ≡ width table) rows.items) }
     ensures limit { IfOk result (λ rows. length rows.items ≤ limit) }
     ensures survives { CommitsNothing S.Store connection.old connection.new }
-    ensures inside { connection.old.in_transaction ≡ true → IsErrOf result Failure.Fault × (connection.new ≡ connection.old) }
-    ensures rests { connection.old.in_transaction ≡ false → Rests S.Store connection.old connection.new }
-    ensures paged { HasCleanDisk (state S.Store connection.new) → IfOk result (λ rows. Within connection.old (λ old seen. MovesPast S.Store table old seen from limit cursor.old cursor.new rows.items)) }
+    ensures inside { connection.old.in_transaction ≡ true → IsErrOf result Failure.Fault
+        × (connection.new ≡ connection.old) }
+    ensures rests { IdleRests S.Store connection.old connection.new }
+    ensures paged { IfClean S.Store connection.new (IfOk result
+        (λ rows. Within connection.old
+        (λ old seen. MovesPast S.Store table old seen from limit cursor.old cursor.new
+        rows.items))) }
     ensures kept { OnErr result (cursor.new ≡ cursor.old) }
 {
     let start = start_of(*cursor, table, from);
@@ -68,9 +74,12 @@ fn page_after<S: Alter>(
     ensures widths { IfOk result (λ page. All (λ row. length row ≡ width table) page.0.items) }
     ensures limit { IfOk result (λ page. length page.0.items ≤ limit) }
     ensures survives { CommitsNothing S.Store connection.old connection.new }
-    ensures inside { connection.old.in_transaction ≡ true → IsErrOf result Failure.Fault × (connection.new ≡ connection.old) }
-    ensures rests { connection.old.in_transaction ≡ false → Rests S.Store connection.old connection.new }
-    ensures paged { HasCleanDisk (state S.Store connection.new) → IfOk result (λ page. Within connection.old (λ old seen. ArePaged S.Store table old seen start limit page.0.items page.1)) }
+    ensures inside { connection.old.in_transaction ≡ true → IsErrOf result Failure.Fault
+        × (connection.new ≡ connection.old) }
+    ensures rests { IdleRests S.Store connection.old connection.new }
+    ensures paged { IfClean S.Store connection.new (IfOk result
+        (λ page. Within connection.old
+        (λ old seen. ArePaged S.Store table old seen start limit page.0.items page.1))) }
 {
     if !connection.is_autocommit() {
         return Err(Failure::Fault);
@@ -89,9 +98,11 @@ pub(crate) fn find<S: Alter>(
 ) -> Result<Option<Row>, Failure>
     ensures widths { IfOk result (λ row. IfSome row (λ row. length row ≡ width table)) }
     ensures survives { CommitsNothing S.Store connection.old connection.new }
-    ensures inside { connection.old.in_transaction ≡ true → IsErrOf result Failure.Fault × (connection.new ≡ connection.old) }
-    ensures rests { connection.old.in_transaction ≡ false → Rests S.Store connection.old connection.new }
-    ensures found { HasCleanDisk (state S.Store connection.new) → IfOk result (λ row. Within connection.old (λ old seen. IsFound S.Store table old seen key.now row)) }
+    ensures inside { connection.old.in_transaction ≡ true → IsErrOf result Failure.Fault
+        × (connection.new ≡ connection.old) }
+    ensures rests { IdleRests S.Store connection.old connection.new }
+    ensures found { IfClean S.Store connection.new (IfOk result
+        (λ row. Within connection.old (λ old seen. IsFound S.Store table old seen key.now row))) }
 {
     if !connection.is_autocommit() {
         return Err(Failure::Fault);
@@ -107,9 +118,11 @@ pub(crate) fn size<S: Alter>(
     layout: MbtType,
 ) -> Result<u64, Failure>
     ensures survives { CommitsNothing S.Store connection.old connection.new }
-    ensures sized { HasCleanDisk (state S.Store connection.new) → IfOk result (λ size. Within connection.old (λ old seen. IsLiveSize S.Store layout old seen size)) }
-    ensures inside { connection.old.in_transaction ≡ true → IsErrOf result Failure.Fault × (connection.new ≡ connection.old) }
-    ensures rests { connection.old.in_transaction ≡ false → Rests S.Store connection.old connection.new }
+    ensures sized { IfClean S.Store connection.new (IfOk result
+        (λ size. Within connection.old (λ old seen. IsLiveSize S.Store layout old seen size))) }
+    ensures inside { connection.old.in_transaction ≡ true → IsErrOf result Failure.Fault
+        × (connection.new ≡ connection.old) }
+    ensures rests { IdleRests S.Store connection.old connection.new }
 {
     if !connection.is_autocommit() {
         return Err(Failure::Fault);

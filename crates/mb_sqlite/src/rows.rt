@@ -60,7 +60,8 @@ pub(crate) fn row_of(alloc: Global, table: TableName, row: &sqlite::Row) -> Resu
 // The size of the cell that a value is read as.
 fn value_size(value: ValueRef<'_>) -> u64
     ensures size { result ≡ value_size (owned value.entry) }
-    ensures same { (cell : stored.Cell) → IsReadAs (owned value.entry) cell → result ≡ cell_size cell }
+    ensures same { (cell : stored.Cell) → IsReadAs (owned value.entry) cell
+        → result ≡ cell_size cell }
 {
     match value {
         ValueRef::Text(bytes) => match std::str::from_utf8(bytes) {

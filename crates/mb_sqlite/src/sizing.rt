@@ -7,7 +7,7 @@ ghost use Rattle.mb_tables.specs.Described.{is_table};
 ghost use Rattle.mb_tables.specs.Schema.{set_tables};
 ghost use Rattle.mb_sqlite.specs.Committing.{CommitsNothing};
 ghost use Rattle.mb_sqlite.specs.Reading.{AreRead, RisesTo};
-ghost use Rattle.mb_sqlite.specs.Resting.{KeepsInside, StaysInside};
+ghost use Rattle.mb_sqlite.specs.Resting.{IfClean, KeepsInside, StaysInside};
 ghost use Rattle.mb_sqlite.specs.Sizing.{IsLiveSize, IsTableSize, answer_size, piece, piece_size};
 
 use crate::failure::Failure;
@@ -29,9 +29,12 @@ fn with_rows(
     limit: u64,
     from: Option<i64>,
 ) -> Result<(u64, Option<i64>), Failure>
-    ensures sum { IfOk result (λ next. next.0 ≡ min (size + sum_by (answer_size table) (take limit answers.now)) (2 ^ 64 - 1)) }
+    ensures sum { IfOk result
+        (λ next. next.0 ≡ min (size + sum_by (answer_size table) (take limit answers.now))
+        (2 ^ 64 - 1)) }
     ensures rises { IfOk result (λ next. RisesTo table from (take limit answers.now) next.1) }
-    ensures beyond { IfOk result (λ next. (beyond : _) × RisesTo table next.1 (take 1 (drop limit answers.now)) beyond) }
+    ensures beyond { IfOk result
+        (λ next. (beyond : _) × RisesTo table next.1 (take 1 (drop limit answers.now)) beyond) }
 {
     let mut sum = size;
     let mut last = from;
@@ -58,8 +61,13 @@ fn with_piece<S: Alter>(
     ensures same_reference { transaction.new.conn.ghost_name ≡ transaction.old.conn.ghost_name }
     ensures survives { CommitsNothing S.Store transaction.old.conn.now transaction.new.conn.now }
     ensures kept { KeepsInside S.Store transaction.old.conn.now transaction.new.conn.now }
-    ensures inside { OnOk result (StaysInside S.Store transaction.old.conn.now transaction.new.conn.now) }
-    ensures piece { HasCleanDisk (state S.Store transaction.new.conn.now) → IfOk result (λ next. (found : List sql.Row) × AreRead S.Store table transaction.old.conn.now transaction.new.conn.now (from, 0) piece found next.1 × (next.0 ≡ min (size + piece_size table found) (2 ^ 64 - 1)) × (next.2 ≡ (length found == 0))) }
+    ensures inside { OnOk result
+        (StaysInside S.Store transaction.old.conn.now transaction.new.conn.now) }
+    ensures piece { IfClean S.Store transaction.new.conn.now (IfOk result
+        (λ next. (found : List sql.Row)
+        × AreRead S.Store table transaction.old.conn.now transaction.new.conn.now (from, 0) piece
+        found next.1 × (next.0 ≡ min (size + piece_size table found) (2 ^ 64 - 1))
+        × (next.2 ≡ (length found == 0)))) }
 {
     let answers = answers(transaction, table, from, 0, PIECE)?;
     let next = with_rows(size, table, answers.as_slice(), PIECE, from)?;
@@ -75,8 +83,12 @@ fn with_table<S: Alter>(
     ensures same_reference { transaction.new.conn.ghost_name ≡ transaction.old.conn.ghost_name }
     ensures survives { CommitsNothing S.Store transaction.old.conn.now transaction.new.conn.now }
     ensures kept { KeepsInside S.Store transaction.old.conn.now transaction.new.conn.now }
-    ensures inside { OnOk result (StaysInside S.Store transaction.old.conn.now transaction.new.conn.now) }
-    ensures table { HasCleanDisk (state S.Store transaction.new.conn.now) → IfOk result (λ sum. (total : _) × IsTableSize S.Store table transaction.old.conn.now transaction.new.conn.now total × (sum ≡ min (size + total) (2 ^ 64 - 1))) }
+    ensures inside { OnOk result
+        (StaysInside S.Store transaction.old.conn.now transaction.new.conn.now) }
+    ensures table { IfClean S.Store transaction.new.conn.now (IfOk result
+        (λ sum. (total : _)
+        × IsTableSize S.Store table transaction.old.conn.now transaction.new.conn.now total
+        × (sum ≡ min (size + total) (2 ^ 64 - 1)))) }
 {
     let mut sum = size;
     let mut last = None;
@@ -101,8 +113,13 @@ fn with_layout_table<S: Alter>(
     ensures same_reference { transaction.new.conn.ghost_name ≡ transaction.old.conn.ghost_name }
     ensures survives { CommitsNothing S.Store transaction.old.conn.now transaction.new.conn.now }
     ensures kept { KeepsInside S.Store transaction.old.conn.now transaction.new.conn.now }
-    ensures inside { OnOk result (StaysInside S.Store transaction.old.conn.now transaction.new.conn.now) }
-    ensures table { HasCleanDisk (state S.Store transaction.new.conn.now) → IfOk result (λ sum. MatchBool (is_table (set_tables layout) table) ((total : _) × IsTableSize S.Store table transaction.old.conn.now transaction.new.conn.now total × (sum ≡ min (size + total) (2 ^ 64 - 1))) ((transaction.new.conn.now ≡ transaction.old.conn.now) × (sum ≡ size))) }
+    ensures inside { OnOk result
+        (StaysInside S.Store transaction.old.conn.now transaction.new.conn.now) }
+    ensures table { IfClean S.Store transaction.new.conn.now (IfOk result
+        (λ sum. MatchBool (is_table (set_tables layout) table) ((total : _)
+        × IsTableSize S.Store table transaction.old.conn.now transaction.new.conn.now total
+        × (sum ≡ min (size + total) (2 ^ 64 - 1)))
+        ((transaction.new.conn.now ≡ transaction.old.conn.now) × (sum ≡ size)))) }
 {
     if !has_table(layout, table) {
         return Ok(size);
@@ -119,8 +136,11 @@ pub(crate) fn size<S: Alter>(
     ensures same_reference { transaction.new.conn.ghost_name ≡ transaction.old.conn.ghost_name }
     ensures survives { CommitsNothing S.Store transaction.old.conn.now transaction.new.conn.now }
     ensures kept { KeepsInside S.Store transaction.old.conn.now transaction.new.conn.now }
-    ensures inside { OnOk result (StaysInside S.Store transaction.old.conn.now transaction.new.conn.now) }
-    ensures size { HasCleanDisk (state S.Store transaction.new.conn.now) → IfOk result (IsLiveSize S.Store layout transaction.old.conn.now transaction.new.conn.now) }
+    ensures inside { OnOk result
+        (StaysInside S.Store transaction.old.conn.now transaction.new.conn.now) }
+    ensures size { IfClean S.Store transaction.new.conn.now
+        (IfOk result (IsLiveSize S.Store layout transaction.old.conn.now
+        transaction.new.conn.now)) }
 {
     let mut size = 0;
     for table in &TABLES {

@@ -4,7 +4,8 @@ ghost use Rattle.base_values.specs.Counts.{Rose};
 ghost use Rattle.mb_tables.specs.Schema.{set_tables};
 ghost use Rattle.mb_tables.specs.Described.{is_table};
 ghost use Rattle.mb_tables.specs.Table.{width};
-ghost use Rattle.mb_sqlite.specs.Committing.{CommitsNothing, CommitsOnce, IsReady, KeepsCommitted, Leaves, MakesChanges, OnceReady, RefusesCommit, Sees};
+ghost use Rattle.mb_sqlite.specs.Calls.{ChangesOnce, CommitsChanges, HasTable, IsInside, IsPrepared, LeavesStore, MakesOnce, OnlyMakes, RefusesStore, Saw};
+ghost use Rattle.mb_sqlite.specs.Committing.{KeepsCommitted};
 ghost use Rattle.mb_sqlite.specs.Creation.{are_named};
 ghost use Rattle.mb_sqlite.specs.Cursor.{MovesPast};
 ghost use Rattle.mb_sqlite.specs.Making.{AreChanged, AreMade, begun};
@@ -97,10 +98,10 @@ impl<S: Alter> TileStore for SqliteStore<S> {
     /// The descriptions of the layout's tables and views and of its metadata, whatever the database has.
     fn describe(&mut self, alloc: Global) -> Result<Vec<TableDesc>, StoreError>
         ensures described { IfOk result (λ tables. tables.items ≡ set_tables self.old.layout) }
-        ensures once { CommitsOnce S.Store (AreMade S.Store self.old.layout (begun self.old.connection)) self.old.connection self.new.connection }
-        ensures ready { OnOk result (IsReady S.Store self.old.layout self.old.is_made self.old.connection self.new.connection) }
-        ensures inside { self.old.connection.in_transaction ≡ true → IsErrOf result StoreError.Fault }
-        ensures leaves { Leaves S.Store self.old.layout self.old.is_made self.new.is_made self.old.connection self.new.connection }
+        ensures once { MakesOnce S.Store self.old self.new }
+        ensures ready { OnOk result (IsPrepared S.Store self.old self.new) }
+        ensures inside { IsInside self.old → IsErrOf result StoreError.Fault }
+        ensures leaves { LeavesStore S.Store self.old self.new }
         ensures layout { self.new.layout ≡ self.old.layout }
         ensures cursor { self.new.cursor ≡ self.old.cursor }
         ensures made { OnOk result (self.new.is_made ≡ true) }
@@ -112,12 +113,14 @@ impl<S: Alter> TileStore for SqliteStore<S> {
     }
 
     fn count_rows(&mut self, table: TableName) -> Result<u64, StoreError>
-        ensures survives { self.old.is_made ≡ true → CommitsNothing S.Store self.old.connection self.new.connection }
-        ensures once { CommitsOnce S.Store (AreMade S.Store self.old.layout (begun self.old.connection)) self.old.connection self.new.connection }
-        ensures undescribed { is_table (set_tables self.old.layout) table ≡ false → IfOk result (λ count. count ≡ 0) }
-        ensures counted { is_table (set_tables self.old.layout) table ≡ true → IfOk result (λ count. OnceReady S.Store self.old.layout self.old.is_made self.old.connection (Sees S.Store (λ old seen. IsCounted S.Store table old seen count) self.new.connection)) }
-        ensures inside { self.old.connection.in_transaction ≡ true → IsErrOf result StoreError.Fault }
-        ensures leaves { Leaves S.Store self.old.layout self.old.is_made self.new.is_made self.old.connection self.new.connection }
+        ensures survives { OnlyMakes S.Store self.old self.new }
+        ensures once { MakesOnce S.Store self.old self.new }
+        ensures undescribed { HasTable self.old table false → IfOk result (λ count. count ≡ 0) }
+        ensures counted { HasTable self.old table true → IfOk result
+            (λ count. Saw S.Store self.old self.new
+            (λ old seen. IsCounted S.Store table old seen count)) }
+        ensures inside { IsInside self.old → IsErrOf result StoreError.Fault }
+        ensures leaves { LeavesStore S.Store self.old self.new }
         ensures layout { self.new.layout ≡ self.old.layout }
         ensures cursor { self.new.cursor ≡ self.old.cursor }
         ensures made { OnOk result (self.new.is_made ≡ true) }
@@ -138,14 +141,18 @@ impl<S: Alter> TileStore for SqliteStore<S> {
     ) -> Result<Vec<Row>, StoreError>
         ensures widths { IfOk result (λ rows. All (λ row. length row ≡ width table) rows.items) }
         ensures limit { IfOk result (λ rows. length rows.items ≤ limit) }
-        ensures undescribed { is_table (set_tables self.old.layout) table ≡ false → IfOk result (λ rows. rows.items ≡ []) }
-        ensures passed { is_table (set_tables self.old.layout) table ≡ false → self.new.cursor ≡ self.old.cursor }
+        ensures undescribed { HasTable self.old table false → IfOk result
+            (λ rows. rows.items ≡ []) }
+        ensures passed { HasTable self.old table false → self.new.cursor ≡ self.old.cursor }
         ensures kept { OnErr result (self.new.cursor ≡ self.old.cursor) }
-        ensures survives { self.old.is_made ≡ true → CommitsNothing S.Store self.old.connection self.new.connection }
-        ensures once { CommitsOnce S.Store (AreMade S.Store self.old.layout (begun self.old.connection)) self.old.connection self.new.connection }
-        ensures paged { is_table (set_tables self.old.layout) table ≡ true → IfOk result (λ rows. OnceReady S.Store self.old.layout self.old.is_made self.old.connection (Sees S.Store (λ old seen. MovesPast S.Store table old seen from limit self.old.cursor self.new.cursor rows.items) self.new.connection)) }
-        ensures inside { self.old.connection.in_transaction ≡ true → IsErrOf result StoreError.Fault }
-        ensures leaves { Leaves S.Store self.old.layout self.old.is_made self.new.is_made self.old.connection self.new.connection }
+        ensures survives { OnlyMakes S.Store self.old self.new }
+        ensures once { MakesOnce S.Store self.old self.new }
+        ensures paged { HasTable self.old table true → IfOk result
+            (λ rows. Saw S.Store self.old self.new
+            (λ old seen. MovesPast S.Store table old seen from limit self.old.cursor self.new.cursor
+            rows.items)) }
+        ensures inside { IsInside self.old → IsErrOf result StoreError.Fault }
+        ensures leaves { LeavesStore S.Store self.old self.new }
         ensures layout { self.new.layout ≡ self.old.layout }
         ensures made { OnOk result (self.new.is_made ≡ true) }
         ensures faults { self.old.faults ≤ self.new.faults }
@@ -163,12 +170,14 @@ impl<S: Alter> TileStore for SqliteStore<S> {
         key: &RowKey,
     ) -> Result<Option<Row>, StoreError>
         ensures widths { IfOk result (λ row. IfSome row (λ row. length row ≡ width table)) }
-        ensures survives { self.old.is_made ≡ true → CommitsNothing S.Store self.old.connection self.new.connection }
-        ensures once { CommitsOnce S.Store (AreMade S.Store self.old.layout (begun self.old.connection)) self.old.connection self.new.connection }
-        ensures undescribed { is_table (set_tables self.old.layout) table ≡ false → IfOk result (λ row. row ≡ None) }
-        ensures found { is_table (set_tables self.old.layout) table ≡ true → IfOk result (λ row. OnceReady S.Store self.old.layout self.old.is_made self.old.connection (Sees S.Store (λ old seen. IsFound S.Store table old seen key.now row) self.new.connection)) }
-        ensures inside { self.old.connection.in_transaction ≡ true → IsErrOf result StoreError.Fault }
-        ensures leaves { Leaves S.Store self.old.layout self.old.is_made self.new.is_made self.old.connection self.new.connection }
+        ensures survives { OnlyMakes S.Store self.old self.new }
+        ensures once { MakesOnce S.Store self.old self.new }
+        ensures undescribed { HasTable self.old table false → IfOk result (λ row. row ≡ None) }
+        ensures found { HasTable self.old table true → IfOk result
+            (λ row. Saw S.Store self.old self.new
+            (λ old seen. IsFound S.Store table old seen key.now row)) }
+        ensures inside { IsInside self.old → IsErrOf result StoreError.Fault }
+        ensures leaves { LeavesStore S.Store self.old self.new }
         ensures layout { self.new.layout ≡ self.old.layout }
         ensures cursor { self.new.cursor ≡ self.old.cursor }
         ensures made { OnOk result (self.new.is_made ≡ true) }
@@ -182,10 +191,10 @@ impl<S: Alter> TileStore for SqliteStore<S> {
     /// Makes the tables of the layout that aren't there, whichever of them are asked for. A name that the layout doesn't have is a fault.
     fn create(&mut self, alloc: Global, tables: &[TableDesc]) -> Result<(), StoreError>
         ensures named { OnOk result (are_named (set_tables self.old.layout) tables.now ≡ true) }
-        ensures once { CommitsOnce S.Store (AreMade S.Store self.old.layout (begun self.old.connection)) self.old.connection self.new.connection }
-        ensures ready { OnOk result (IsReady S.Store self.old.layout self.old.is_made self.old.connection self.new.connection) }
-        ensures inside { self.old.connection.in_transaction ≡ true → IsErrOf result StoreError.Fault }
-        ensures leaves { Leaves S.Store self.old.layout self.old.is_made self.new.is_made self.old.connection self.new.connection }
+        ensures once { MakesOnce S.Store self.old self.new }
+        ensures ready { OnOk result (IsPrepared S.Store self.old self.new) }
+        ensures inside { IsInside self.old → IsErrOf result StoreError.Fault }
+        ensures leaves { LeavesStore S.Store self.old self.new }
         ensures layout { self.new.layout ≡ self.old.layout }
         ensures cursor { self.new.cursor ≡ self.old.cursor }
         ensures made { OnOk result (self.new.is_made ≡ true) }
@@ -198,13 +207,14 @@ impl<S: Alter> TileStore for SqliteStore<S> {
 
     /// Makes all changes in one transaction. A change of a table that the layout doesn't have, and a row with a `Cell::Other`, is a fault.
     fn commit(&mut self, alloc: Global, changes: &Changes) -> Result<(), StoreError>
-        ensures once { self.old.is_made ≡ true → CommitsOnce S.Store (AreChanged S.Store self.old.layout changes.now (begun self.old.connection)) self.old.connection self.new.connection }
-        ensures changed { OnOk result (OnceReady S.Store self.old.layout self.old.is_made self.old.connection (MakesChanges S.Store self.old.layout changes.now self.new.connection)) }
-        ensures unchanged { OnErr result (RefusesCommit S.Store self.old.layout changes.now self.old.is_made self.new.is_made self.old.connection self.new.connection self.old.cursor self.new.cursor) }
-        ensures refused { self.old.is_made ≡ true → OnErr result (KeepsCommitted S.Store self.old.connection self.new.connection) }
+        ensures once { ChangesOnce S.Store self.old self.new changes.now }
+        ensures changed { OnOk result (CommitsChanges S.Store self.old self.new changes.now) }
+        ensures unchanged { OnErr result (RefusesStore S.Store self.old self.new changes.now) }
+        ensures refused { self.old.is_made ≡ true
+            → OnErr result (KeepsCommitted S.Store self.old.connection self.new.connection) }
         ensures cursor { OnOk result (self.new.cursor ≡ None) }
-        ensures inside { self.old.connection.in_transaction ≡ true → IsErrOf result StoreError.Fault }
-        ensures alone { self.old.connection.in_transaction ≡ true → self.new.connection ≡ self.old.connection }
+        ensures inside { IsInside self.old → IsErrOf result StoreError.Fault }
+        ensures alone { IsInside self.old → self.new.connection ≡ self.old.connection }
         ensures layout { self.new.layout ≡ self.old.layout }
         ensures made { OnOk result (self.new.is_made ≡ true) }
         ensures faults { self.old.faults ≤ self.new.faults }
@@ -216,11 +226,13 @@ impl<S: Alter> TileStore for SqliteStore<S> {
 
     /// The bytes of all texts and blobs, and 8 for each other cell, over all rows of the layout's tables; at most the greatest `u64`.
     fn live_size(&mut self) -> Result<u64, StoreError>
-        ensures survives { self.old.is_made ≡ true → CommitsNothing S.Store self.old.connection self.new.connection }
-        ensures once { CommitsOnce S.Store (AreMade S.Store self.old.layout (begun self.old.connection)) self.old.connection self.new.connection }
-        ensures sized { IfOk result (λ size. OnceReady S.Store self.old.layout self.old.is_made self.old.connection (Sees S.Store (λ old seen. IsLiveSize S.Store self.old.layout old seen size) self.new.connection)) }
-        ensures inside { self.old.connection.in_transaction ≡ true → IsErrOf result StoreError.Fault }
-        ensures leaves { Leaves S.Store self.old.layout self.old.is_made self.new.is_made self.old.connection self.new.connection }
+        ensures survives { OnlyMakes S.Store self.old self.new }
+        ensures once { MakesOnce S.Store self.old self.new }
+        ensures sized { IfOk result
+            (λ size. Saw S.Store self.old self.new
+            (λ old seen. IsLiveSize S.Store self.old.layout old seen size)) }
+        ensures inside { IsInside self.old → IsErrOf result StoreError.Fault }
+        ensures leaves { LeavesStore S.Store self.old self.new }
         ensures layout { self.new.layout ≡ self.old.layout }
         ensures cursor { self.new.cursor ≡ self.old.cursor }
         ensures made { OnOk result (self.new.is_made ≡ true) }

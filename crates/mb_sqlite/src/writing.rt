@@ -6,7 +6,7 @@ ghost use Rattle.sqlite.specs.State.{HasCleanDisk};
 ghost use Rattle.sqlite.specs.Values.{bound};
 ghost use Rattle.mb_sqlite.specs.Committing.{CommitsNothing, CommitsOnce, KeepsCommitted};
 ghost use Rattle.mb_sqlite.specs.Making.{Adds, AreChanged, Changed, Commits, IsRun, Removes, begun};
-ghost use Rattle.mb_sqlite.specs.Resting.{Rests, StaysInside};
+ghost use Rattle.mb_sqlite.specs.Resting.{IfClean, Rests, StaysInside};
 ghost use Rattle.mb_sqlite.specs.Statements.{removal_text};
 ghost use Rattle.mb_sqlite.specs.Stored.{IsWrittenAs};
 
@@ -29,8 +29,11 @@ pub(crate) fn run<S: Alter>(
     ensures same_reference { transaction.new.conn.ghost_name ≡ transaction.old.conn.ghost_name }
     ensures survives { CommitsNothing S.Store transaction.old.conn.now transaction.new.conn.now }
     ensures kept { KeepsCommitted S.Store transaction.old.conn.now transaction.new.conn.now }
-    ensures inside { OnOk result (StaysInside S.Store transaction.old.conn.now transaction.new.conn.now) }
-    ensures runs { HasCleanDisk (state S.Store transaction.new.conn.now) → OnOk result (IsRun S.Store text.now (bound values.now) transaction.old.conn.now transaction.new.conn.now) }
+    ensures inside { OnOk result
+        (StaysInside S.Store transaction.old.conn.now transaction.new.conn.now) }
+    ensures runs { IfClean S.Store transaction.new.conn.now
+        (OnOk result (IsRun S.Store text.now (bound values.now) transaction.old.conn.now
+        transaction.new.conn.now)) }
 {
     transaction.execute(text, values)?;
     Ok(())
@@ -45,8 +48,11 @@ fn remove_rows<S: Alter>(
     ensures same_reference { transaction.new.conn.ghost_name ≡ transaction.old.conn.ghost_name }
     ensures survives { CommitsNothing S.Store transaction.old.conn.now transaction.new.conn.now }
     ensures kept { KeepsCommitted S.Store transaction.old.conn.now transaction.new.conn.now }
-    ensures inside { OnOk result (StaysInside S.Store transaction.old.conn.now transaction.new.conn.now) }
-    ensures removes { HasCleanDisk (state S.Store transaction.new.conn.now) → OnOk result (IsRun S.Store (removal_text table) (bound key.now) transaction.old.conn.now transaction.new.conn.now) }
+    ensures inside { OnOk result
+        (StaysInside S.Store transaction.old.conn.now transaction.new.conn.now) }
+    ensures removes { IfClean S.Store transaction.new.conn.now
+        (OnOk result (IsRun S.Store (removal_text table) (bound key.now) transaction.old.conn.now
+        transaction.new.conn.now)) }
 {
     run(transaction, statements::removal_from(table), key)
 }
@@ -61,8 +67,11 @@ fn remove<S: Alter>(
     ensures same_reference { transaction.new.conn.ghost_name ≡ transaction.old.conn.ghost_name }
     ensures survives { CommitsNothing S.Store transaction.old.conn.now transaction.new.conn.now }
     ensures kept { KeepsCommitted S.Store transaction.old.conn.now transaction.new.conn.now }
-    ensures inside { OnOk result (StaysInside S.Store transaction.old.conn.now transaction.new.conn.now) }
-    ensures removes { HasCleanDisk (state S.Store transaction.new.conn.now) → OnOk result (Removes S.Store table key.now transaction.old.conn.now transaction.new.conn.now) }
+    ensures inside { OnOk result
+        (StaysInside S.Store transaction.old.conn.now transaction.new.conn.now) }
+    ensures removes { IfClean S.Store transaction.new.conn.now
+        (OnOk result (Removes S.Store table key.now transaction.old.conn.now
+        transaction.new.conn.now)) }
 {
     match (table, key) {
         (TableName::Images | TableName::Metadata, RowKey::TextId(id)) => {
@@ -105,8 +114,11 @@ fn add<S: Alter>(
     ensures same_reference { transaction.new.conn.ghost_name ≡ transaction.old.conn.ghost_name }
     ensures survives { CommitsNothing S.Store transaction.old.conn.now transaction.new.conn.now }
     ensures kept { KeepsCommitted S.Store transaction.old.conn.now transaction.new.conn.now }
-    ensures inside { OnOk result (StaysInside S.Store transaction.old.conn.now transaction.new.conn.now) }
-    ensures adds { HasCleanDisk (state S.Store transaction.new.conn.now) → OnOk result (Adds S.Store table cells.now transaction.old.conn.now transaction.new.conn.now) }
+    ensures inside { OnOk result
+        (StaysInside S.Store transaction.old.conn.now transaction.new.conn.now) }
+    ensures adds { IfClean S.Store transaction.new.conn.now
+        (OnOk result (Adds S.Store table cells.now transaction.old.conn.now
+        transaction.new.conn.now)) }
 {
     let values = values_of(alloc, cells)?;
     run(
@@ -129,8 +141,12 @@ fn change_one<S: Alter>(
     ensures same_reference { transaction.new.conn.ghost_name ≡ transaction.old.conn.ghost_name }
     ensures survives { CommitsNothing S.Store transaction.old.conn.now transaction.new.conn.now }
     ensures kept { KeepsCommitted S.Store transaction.old.conn.now transaction.new.conn.now }
-    ensures inside { OnOk result (StaysInside S.Store transaction.old.conn.now transaction.new.conn.now) }
-    ensures changed { HasCleanDisk (state S.Store transaction.new.conn.now) → OnOk result (Changed S.Store layout (record { table = table; key = key.now; row = option_copied row.entry }) transaction.old.conn.now transaction.new.conn.now) }
+    ensures inside { OnOk result
+        (StaysInside S.Store transaction.old.conn.now transaction.new.conn.now) }
+    ensures changed { IfClean S.Store transaction.new.conn.now
+        (OnOk result (Changed S.Store layout
+        (record { table = table; key = key.now; row = option_copied row.entry })
+        transaction.old.conn.now transaction.new.conn.now)) }
 {
     if !has_table(layout, table) {
         return Err(Failure::Fault);
@@ -155,8 +171,11 @@ fn change<S: Alter>(
     ensures same_reference { transaction.new.conn.ghost_name ≡ transaction.old.conn.ghost_name }
     ensures survives { CommitsNothing S.Store transaction.old.conn.now transaction.new.conn.now }
     ensures kept { KeepsCommitted S.Store transaction.old.conn.now transaction.new.conn.now }
-    ensures inside { OnOk result (StaysInside S.Store transaction.old.conn.now transaction.new.conn.now) }
-    ensures changed { HasCleanDisk (state S.Store transaction.new.conn.now) → OnOk result (AreChanged S.Store layout changes.now transaction.old.conn.now transaction.new.conn.now) }
+    ensures inside { OnOk result
+        (StaysInside S.Store transaction.old.conn.now transaction.new.conn.now) }
+    ensures changed { IfClean S.Store transaction.new.conn.now
+        (OnOk result (AreChanged S.Store layout changes.now transaction.old.conn.now
+        transaction.new.conn.now)) }
 {
     for at in 0..changes.len() {
         let (table, key, row) = changes.change_at(at);
@@ -173,12 +192,18 @@ pub(crate) fn commit<S: Alter>(
     layout: MbtType,
     changes: &Changes,
 ) -> Result<(), Failure>
-    ensures once { CommitsOnce S.Store (AreChanged S.Store layout changes.now (begun connection.old)) connection.old connection.new }
-    ensures changed { HasCleanDisk (state S.Store connection.new) → OnOk result (Commits S.Store (AreChanged S.Store layout changes.now (begun connection.old)) connection.new) }
+    ensures once { CommitsOnce S.Store
+        (AreChanged S.Store layout changes.now (begun connection.old)) connection.old
+        connection.new }
+    ensures changed { IfClean S.Store connection.new
+        (OnOk result (Commits S.Store (AreChanged S.Store layout changes.now (begun connection.old))
+        connection.new)) }
     ensures refused { OnErr result (KeepsCommitted S.Store connection.old connection.new) }
-    ensures inside { connection.old.in_transaction ≡ true → IsErrOf result Failure.Fault × (connection.new ≡ connection.old) }
+    ensures inside { connection.old.in_transaction ≡ true → IsErrOf result Failure.Fault
+        × (connection.new ≡ connection.old) }
     ensures ended { connection.old.in_transaction ≡ false → connection.new.in_transaction ≡ false }
-    ensures rests { connection.old.in_transaction ≡ false → OnErr result (Rests S.Store connection.old connection.new) }
+    ensures rests { connection.old.in_transaction ≡ false
+        → OnErr result (Rests S.Store connection.old connection.new) }
 {
     if !connection.is_autocommit() {
         return Err(Failure::Fault);

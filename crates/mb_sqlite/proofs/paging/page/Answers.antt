@@ -1,4 +1,4 @@
-use Rattle.std.proofs.Common.{◌≡◌, ℤ, List, Option, drop, subst, take}
+use Rattle.std.proofs.Common.{ℤ, List, Option, drop, subst, take}
 use Rattle.std.specs.List.{AllZip}
 use Rattle.sqlite_value.specs.Order.{Row}
 use Rattle.mb_sqlite.specs.Reading.{IsRowOf, RisesTo}

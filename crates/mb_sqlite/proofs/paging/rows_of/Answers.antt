@@ -1,4 +1,4 @@
-use Rattle.std.proofs.Common.{rules, w64, ◌≡◌, ◌+◌, ◌≤◌, ◌++◌, ◌∷◌, ◌∙◌, [], List, All, Some, arith, ap, drop, length, length-append, subst, sym, take}
+use Rattle.std.proofs.Common.{rules, w64, ◌≡◌, ◌+◌, ◌++◌, ◌∷◌, ◌∙◌, [], List, All, Some, arith, ap, drop, length, length-append, subst, sym, take}
 use Rattle.std.specs.List.{AllZip}
 use Rattle.std.proofs.lemmas.List.Elements.{All-push}
 use Rattle.std.proofs.lemmas.Int.{to_z-of_z}

@@ -1,4 +1,4 @@
-use Rattle.std.proofs.Common.{rules, ◌≡◌, ◌+◌, ◌-◌, ◌^◌, ◌==◌, ℤ, List, Option, drop, length, min, subst, sum_by, take}
+use Rattle.std.proofs.Common.{rules, ◌≡◌, ◌+◌, ◌-◌, ◌^◌, ◌==◌, ℤ, List, Option, drop, length, min, subst, take}
 use Rattle.sqlite_value.specs.Order.{Row}
 use Rattle.mb_sqlite.specs.Reading.{RisesTo}
 use Rattle.mb_sqlite.specs.Sizing.{piece, piece_size}

@@ -1,4 +1,4 @@
-use Rattle.std.proofs.Common.{rules, ◌≡◌, None, Some, MatchOption, ap, arith, option_copied, refl, subst, sym, true}
+use Rattle.std.proofs.Common.{rules, ◌≡◌, Some, MatchOption, ap, arith, option_copied, refl, subst, sym, true}
 use Rattle.mb_tables.specs.Described.{is_table}
 use Rattle.mb_tables.specs.Schema.{set_tables}
 use Rattle.mb_sqlite.specs.Making.{Adds}
