@@ -245,11 +245,12 @@ one_copied others tiles n t first old new some within at done made =
 pub none_copied : (others : List Content) (tiles : List StoredTile) (n : ℕ) (l : Copying) → length tiles ≤ n → Edits (tiles_copied others (drop n tiles)) l l
 none_copied others tiles n l past = subst (λ (ts : List StoredTile). Edits (tiles_copied others ts) l l) (sym (drop_all n tiles past)) (record { layout = refl; algorithm = refl; held = λ p names. refl })
 
+-- no copy stands in a list of zeros
+pub none_copied_there : (n k i : ℕ) → slice_get (replicate n 0) k ≡ Some (suc i) → ⊥
+none_copied_there zero k i h = none-some (suc i) h
+none_copied_there (suc n) zero i h = absurd (omega (arith, same_Some 0 (suc i) h))
+none_copied_there (suc n) (suc k) i h = none_copied_there n k i h
+
 -- before the first copy
 pub no_copy : (others : List Content) (l : Copying) (n : ℕ) → l.copies.items ≡ replicate n 0 → AreCopies others l
-no_copy others l n e = λ k i bytes at cell. absurd (none_there n k i (ap (λ (z : List ℕ). slice_get z k) (sym e) ∙ at))
-  where
-    none_there : (n k i : ℕ) → slice_get (replicate n 0) k ≡ Some (suc i) → ⊥
-    none_there zero k i h = none-some (suc i) h
-    none_there (suc n) zero i h = absurd (omega (arith, same_Some 0 (suc i) h))
-    none_there (suc n) (suc k) i h = none_there n k i h
+no_copy others l n e = λ k i bytes at cell. absurd (none_copied_there n k i (ap (λ (z : List ℕ). slice_get z k) (sym e) ∙ at))

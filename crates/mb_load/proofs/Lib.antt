@@ -33,5 +33,6 @@ pub mod BegunLemmas
 pub mod CopyViews
 pub mod ShareLemmas
 pub mod CopyLemmas
+pub mod MoveLemmas
 pub mod GivenLemmas
 pub mod EmptyLemmas

@@ -1,5 +1,5 @@
 -- Contents that are taken out of their list, and the last use of each.
-use Rattle.std.proofs.Common.{◌≡◌, ◌≢◌, ◌∙◌, ap, sym, subst, ℕ, ◌<◌, ◌≤◌, ◌+◌, ◌⊎◌, inl, inr, Option, Some, None, List, [], ◌∷◌, Bool, true, false, length, set, take, refl, zero, suc, is_some, arith, get_or, nat_eq, ◌++◌}
+use Rattle.std.proofs.Common.{◌≡◌, ◌≢◌, ◌∙◌, ap, sym, ℕ, ◌<◌, ◌≤◌, ◌+◌, ◌⊎◌, inl, inr, Option, Some, List, [], ◌∷◌, Bool, true, false, length, set, take, refl, zero, suc, is_some, arith, get_or, nat_eq, ◌++◌}
 use Rattle.std.specs.Prelude.{All, filter_map, slice_get, unwrap_or}
 use Rattle.std.specs.Cmp.{tied_itself}
 use Rattle.std.specs.Ordering.{eq_by_cmp, is_eq}

@@ -19,4 +19,5 @@ pub mod GivenIds
 pub mod Copying
 pub mod Sharing
 pub mod Taking
+pub mod Moving
 pub mod Empty

@@ -63,8 +63,8 @@ fn copied(
     Ok(copy)
 }
 
-// Puts the contents at an index at a coordinate, in a cache without times, and lists them unless their id is null.
-fn put_at(
+/// Puts the contents at an index at a coordinate, in a cache without times, and lists them unless their id is null.
+pub(crate) fn put_at(
     copying: &mut Copying,
     coord: TileCoord,
     index: usize,
@@ -85,8 +85,8 @@ fn put_at(
     Ok(())
 }
 
-// Removes the tile at a coordinate.
-fn remove_at(copying: &mut Copying, coord: TileCoord) -> Result<(), OutOfMemory>
+/// Removes the tile at a coordinate.
+pub(crate) fn remove_at(copying: &mut Copying, coord: TileCoord) -> Result<(), OutOfMemory>
     ensures { OnOk result (Removes coord copying.old copying.new) }
 {
     copying.tiles.push(StoredTile::mark(coord))?;
@@ -142,8 +142,8 @@ fn copy_tiles(
     Ok(())
 }
 
-// So many contents without a copy.
-fn no_copies(alloc: Global, count: usize) -> Result<Vec<usize>, AllocError>
+/// So many contents without a copy.
+pub(crate) fn no_copies(alloc: Global, count: usize) -> Result<Vec<usize>, AllocError>
     ensures { IfOk result (λ copies. copies.items ≡ replicate count 0) }
 {
     vec![in alloc; 0; count]

@@ -17,6 +17,7 @@ pub mod laws;
 mod loaded;
 mod loading;
 mod moved_rows;
+mod moving;
 mod put_rows;
 mod reading;
 mod sharing;

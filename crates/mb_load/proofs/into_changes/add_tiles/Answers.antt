@@ -1,4 +1,4 @@
-use Rattle.std.proofs.Common.{◌≡◌, ◌<◌, ◌∙◌, ap, arith, length, subst, sym}
+use Rattle.std.proofs.Common.{◌<◌, ◌∙◌, ap, arith, length, subst, sym}
 use Rattle.mb_lists.specs.Entries.{IsTile}
 use Rattle.mb_load.specs.PutRows.{with_any}
 use Rattle.mb_load.proofs.ChangeSteps.{tile_step}
