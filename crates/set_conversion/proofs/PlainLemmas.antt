@@ -1,0 +1,27 @@
+-- The options of a set label directories `None`.
+use Rattle.std.proofs.Common.{◌≡◌, ◌∙◌, ap, ℕ, Option, Some, None, refl}
+use Rattle.mb_load.specs.State.{State}
+use Rattle.pm_format.specs.Options.{Options}
+use Rattle.set_options.specs.OptionsOfSet.{AreOptionsOfSet, said_by, with_bounds, with_center, with_center_zoom, writer_of}
+use Rattle.set_options.specs.declared.extents.SetBounds.{SetBounds}
+use Rattle.set_options.specs.declared.extents.SetCenter.{SetCenter}
+use Rattle.set_options.specs.declared.options.SetOptions.{SetOptions}
+use Rattle.tile_bridge.specs.Convert.{IsPlain}
+
+bounded : (b : Option SetBounds) (o : Options) → IsPlain o → IsPlain (with_bounds b o)
+bounded None o plain = plain
+bounded (Some b) o plain = plain
+
+zoomed : (zoom : Option ℕ) (o : Options) → IsPlain o → IsPlain (with_center_zoom zoom o)
+zoomed None o plain = plain
+zoomed (Some zoom) o plain = plain
+
+centered : (c : Option SetCenter) (o : Options) → IsPlain o → IsPlain (with_center c o)
+centered None o plain = plain
+centered (Some c) o plain = zoomed c.zoom (record o { center_longitude = c.longitude; center_latitude = c.latitude }) plain
+
+said_plain : (o : SetOptions) → IsPlain (writer_of o)
+said_plain o = centered o.center (with_bounds o.bounds _) (bounded o.bounds _ refl)
+
+pub plain_of_set : (s : State) (o : Options) → AreOptionsOfSet s o → IsPlain o
+plain_of_set s o of = ap (λ (o : Options). o.internal_compression) of.are ∙ said_plain (said_by s of.text)
