@@ -25,7 +25,8 @@ fn in_hexadecimal(algorithm: HashAlgorithm) -> HashAlgorithm
 
 // The bytes of a tile, none where they are null.
 fn bytes_of(cell: &Cell) -> &[u8]
-    ensures { (contents : Option (List ℕ)) → blob_cell contents ≡ cell.now → result.now ≡ bytes_of contents }
+    ensures { (contents : Option (List ℕ)) → blob_cell contents ≡ cell.now
+        → result.now ≡ bytes_of contents }
 {
     match cell {
         Cell::Blob(bytes) => bytes.as_bytes(),
@@ -36,7 +37,9 @@ fn bytes_of(cell: &Cell) -> &[u8]
 // Hashes the zoom, column and row of a tile in decimal, the row counted from the bottom, and its bytes, if they aren't null.
 #[tactic(auto, using(crate::proofs::AggregateLemmas::four_parts))]
 fn hash_tile(stream: &mut HashStream, coord: TileCoord, cell: &Cell)
-    ensures { (a : HashAlgorithm) (m : List ℕ) (contents : Option (List ℕ)) → blob_cell contents ≡ cell.now → HasTaken a stream.old m → HasTaken a stream.new (m ++ tile_text (place_at coord, contents)) }
+    ensures { (a : HashAlgorithm) (m : List ℕ) (contents : Option (List ℕ))
+        → blob_cell contents ≡ cell.now → HasTaken a stream.old m
+        → HasTaken a stream.new (m ++ tile_text (place_at coord, contents)) }
 {
     let zoom = coord.z();
     let line = invert_y_value(zoom, coord.y());
@@ -51,7 +54,8 @@ impl Loaded {
     /// counted from the bottom. Null adds no bytes. In hexadecimal, also for `Fnv1aDecimal`; a set without tiles has the digest of no bytes, which is decimal for that algorithm.
     /// It fails only for want of memory, of which it takes no more than the text needs.
     pub fn aggregate(&self, alloc: Global) -> Result<TextVal, OutOfMemory>
-        ensures { IfOk result (λ text. text ≡ aggregate self.now.state.algorithm self.now.state.tiles) }
+        ensures { IfOk result
+            (λ text. text ≡ aggregate self.now.state.algorithm self.now.state.tiles) }
     {
         self.aggregate_by(alloc, self.algorithm())
     }

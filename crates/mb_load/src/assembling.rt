@@ -20,14 +20,19 @@ pub(crate) fn set_of(
     rows: RowTiles,
     names: NameList,
 ) -> Option<Loaded>
-    requires indexed { AreIndexed rows.contents.items.items rows.contents.live rows.contents.order.items }
-    requires whole { All (λ t. is_some (tile_value rows.contents.items.items t) ≡ true) rows.tiles.items }
+    requires indexed { AreIndexed rows.contents.items.items rows.contents.live
+        rows.contents.order.items }
+    requires whole { All (λ t. is_some (tile_value rows.contents.items.items t) ≡ true)
+        rows.tiles.items }
     requires kept { All (λ t. t.standing ≡ Kept) rows.tiles.items }
     requires dated { All (IsDated layout) rows.tiles.items }
     requires names { AreNamesInOrder names.live names.items.items }
     requires texts { All IsName names.items.items }
-    ensures held { IfSome result (λ l. l ≡ held_of layout algorithm patch_type rows.contents.items.items rows.contents.order.items rows.tiles.items names.items.items) }
-    ensures apart { IfSome result (λ l. are_distinct place_cmp (map place_of rows.tiles.items) ≡ true) }
+    ensures held { IfSome result
+        (λ l. l ≡ held_of layout algorithm patch_type rows.contents.items.items
+        rows.contents.order.items rows.tiles.items names.items.items) }
+    ensures apart { IfSome result
+        (λ l. are_distinct place_cmp (map place_of rows.tiles.items) ≡ true) }
     ensures twice { IfNone result (are_distinct place_cmp (map place_of rows.tiles.items) ≡ false) }
 {
     let RowTiles { contents, tiles } = rows;

@@ -29,7 +29,8 @@ fn add_tile(
     tile: &StoredTile,
 ) -> Result<(), OutOfMemory>
     requires { IsTile contents.now tile.now }
-    ensures { OnOk result (changes.new ≡ with_any changes.old (tile_change layout algorithm contents.now tile.now)) }
+    ensures { OnOk result
+        (changes.new ≡ with_any changes.old (tile_change layout algorithm contents.now tile.now)) }
 {
     match tile.standing {
         Standing::Kept => Ok(()),
@@ -52,7 +53,10 @@ fn add_keyed(
     requires id { id_key content.now.id ≡ Some key }
     requires width { width table ≡ 2 }
     requires keyed { key_width table ≡ 1 }
-    ensures { OnOk result (changes.new ≡ with_any changes.old (change_by content.now.standing (row_of_content content.now) (λ row. record { table = table; key = key; row = row }))) }
+    ensures { OnOk result
+        (changes.new ≡ with_any changes.old
+        (change_by content.now.standing (row_of_content content.now)
+        (λ row. record { table = table; key = key; row = row }))) }
 {
     match content.standing {
         Standing::Kept => Ok(()),
@@ -87,7 +91,8 @@ fn add_listed(
     contents: &[Content],
     index: usize,
 ) -> Result<(), OutOfMemory>
-    ensures { OnOk result (changes.new ≡ with_any changes.old (listed_change layout contents.now index)) }
+    ensures { OnOk result
+        (changes.new ≡ with_any changes.old (listed_change layout contents.now index)) }
 {
     match contents.get(index) {
         Some(content) => add_content(alloc, changes, layout, content),
@@ -125,7 +130,8 @@ fn add_tiles(
     requires none { changes.old ≡ [] }
     requires apart { Apart place_cmp place_of tiles.now }
     requires whole { All (IsTile contents.now) tiles.now }
-    ensures { OnOk result (changes.new ≡ filter_map (tile_change layout algorithm contents.now) tiles.now) }
+    ensures { OnOk result (changes.new ≡ filter_map (tile_change layout algorithm contents.now)
+        tiles.now) }
 {
     for tile in tiles {
         add_tile(alloc, changes, layout, algorithm, contents, tile)?;
@@ -143,7 +149,8 @@ fn add_contents(
 ) -> Result<(), OutOfMemory>
     requires others { All (λ c. table_eq c.table (content_table layout) ≡ false) changes.old }
     requires apart { Apart cell_cmp (id_at contents.now) order.now }
-    ensures { OnOk result (changes.new ≡ changes.old ++ filter_map (listed_change layout contents.now) order.now) }
+    ensures { OnOk result
+        (changes.new ≡ changes.old ++ filter_map (listed_change layout contents.now) order.now) }
 {
     for index in order {
         add_listed(alloc, changes, layout, contents, *index)?;

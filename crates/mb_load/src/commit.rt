@@ -1,10 +1,9 @@
 // Committing the edits of a loaded set.
-ghost use Rattle.mb_store.specs.Kept.{Keeps};
-ghost use Rattle.std.specs.Prelude.{◌≡◌, ◌≤◌, true, OnOk, OnErr, IfErr, IsErrOf};
+ghost use Rattle.mb_store.specs.Kept.{FaultsCounted, Keeps};
+ghost use Rattle.std.specs.Prelude.{◌≡◌, ◌≤◌, true, OnOk, OnErr, IfErr};
 ghost use Rattle.mb_load.specs.Committing.{MakesChanges};
 ghost use Rattle.mb_load.specs.LoadedFrom.{IsLoadedFrom};
 ghost use Rattle.mb_tables.specs.Refusals.{is_free};
-ghost use Rattle.base_values.specs.Counts.{Rose};
 
 use crate::Loaded;
 use mb_store::{MbtError, MbtResult, TileStore};
@@ -14,11 +13,12 @@ use std::alloc::Global;
 /// the store holds what it held.
 pub fn commit_loaded<S: TileStore>(alloc: Global, store: &mut S, set: &Loaded) -> MbtResult<()>
     requires { S.tells store.old ≡ true → IsLoadedFrom (S.told store.old) set.now }
-    ensures committed { S.tells store.old ≡ true → OnOk result (MakesChanges set.now (S.told store.old) (S.told store.new)) }
+    ensures committed { S.tells store.old ≡ true
+        → OnOk result (MakesChanges set.now (S.told store.old) (S.told store.new)) }
     ensures refused { OnErr result (S.told store.new ≡ S.told store.old) }
     ensures free { IfErr result (λ e. is_free e ≡ true) }
     ensures kept { Keeps S.tells S.faults S.steady store.old store.new }
-    ensures fault { IsErrOf result MbtError.StoreFault → Rose (S.faults store.old) (S.faults store.new) }
+    ensures fault { FaultsCounted S.faults store.old store.new result MbtError.StoreFault }
 {
     let changes = set.changes(alloc)?;
     store.commit(alloc, &changes)?;

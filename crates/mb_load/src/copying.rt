@@ -52,7 +52,9 @@ fn copied(
 ) -> Result<usize, OutOfMemory>
     requires within { index < length copying.old.copies.items }
     requires id { id.now ≡ cell_id copying.old.layout copying.old.algorithm (Blob bytes.now) }
-    ensures { (others : List Content) → IsCopying others copying.old → (content_at others index).cell ≡ Blob bytes.now → IfOk result (λ i. IsCopied others i bytes.now copying.old copying.new) }
+    ensures { (others : List Content) → IsCopying others copying.old
+        → (content_at others index).cell ≡ Blob bytes.now → IfOk result
+        (λ i. IsCopied others i bytes.now copying.old copying.new) }
 {
     let known = copying.copies[index];
     if known > 0 {
@@ -130,9 +132,11 @@ fn copy_tiles(
     requires copying { IsCopying others.now copying.old }
     requires whole { All (IsTile others.now) tiles.now }
     requires live { All (λ t. is_gone t ≡ false) tiles.now }
-    requires ids { ids.now ≡ map (id_of copying.old.layout copying.old.algorithm others.now) tiles.now }
+    requires ids { ids.now ≡ map (id_of copying.old.layout copying.old.algorithm others.now)
+        tiles.now }
     ensures copying { OnOk result (IsCopying others.now copying.new) }
-    ensures edits { OnOk result (Edits (tiles_copied others.now tiles.now) copying.old copying.new) }
+    ensures edits { OnOk result
+        (Edits (tiles_copied others.now tiles.now) copying.old copying.new) }
 {
     let mut left = tiles.len();
     while left > 0 {
@@ -153,7 +157,8 @@ impl Editing {
     /// Puts the tiles of another set, from the last to the first: bytes at their coordinate, under the ids that the set's layout gives them, and null clears it. Each of the
     /// other set's contents is copied once, however many of its tiles have them, and none is digested.
     pub fn put_tiles(self, other: &Loaded, ids: &GivenIds) -> Result<Editing, OutOfMemory>
-        requires { ids.now ≡ ids_given self.state.layout self.state.algorithm other.now.state.tiles }
+        requires { ids.now ≡ ids_given self.state.layout self.state.algorithm
+            other.now.state.tiles }
         ensures { IfOk result (λ set. set ≡ tiles_put self other.now.state.tiles) }
     {
         let Editing {

@@ -129,7 +129,9 @@ impl Editing {
     ) -> Result<(), OutOfMemory>
         requires layout { self.old.state.layout ≡ Cache }
         requires there { contains_key self.old.state.tiles (place_at coord) ≡ true }
-        ensures ok { OnOk result (self.new ≡ with_dates self.old (place_at coord) (record { fetched = fetched; expires = expires; etag = etag })) }
+        ensures ok { OnOk result
+            (self.new ≡ with_dates self.old (place_at coord)
+            (record { fetched = fetched; expires = expires; etag = etag })) }
         ensures err { OnErr result (self.new ≡ self.old) }
     {
         let alloc = *self.tiles.allocator();

@@ -32,7 +32,8 @@ use tile_hash::HashAlgorithm;
 
 // Whether the cells of tile rows and the ids of contents are of their kinds.
 fn have_kinds(layout: MbtType, contents: &ContentList, rows: &[Row]) -> bool
-    ensures { result ≡ (list_all (has_tile_kinds layout) rows.now && list_all (λ c. is_id layout c.id) contents.now.items.items) }
+    ensures { result ≡ (list_all (has_tile_kinds layout) rows.now && list_all
+        (λ c. is_id layout c.id) contents.now.items.items) }
 {
     have_tile_kinds(layout, rows) && have_id_kinds(layout, &contents.items)
 }
@@ -45,7 +46,10 @@ fn contents_of(
     rows: &[Row],
 ) -> MbtResult<ContentList>
     requires { All (λ row. length row ≡ 2) contents.items }
-    ensures tests { Tests (option_or (id_twice contents.items) (option_or (tile_kind_wrong layout rows.now) (content_kind_wrong layout contents.items))) result }
+    ensures tests { Tests
+        (option_or (id_twice contents.items)
+        (option_or (tile_kind_wrong layout rows.now) (content_kind_wrong layout contents.items)))
+        result }
     ensures kept { IfOk result (λ l. rows_kept l.items.items ≡ contents.items) }
     ensures indexed { IfOk result (λ l. AreIndexed l.items.items l.live l.order.items) }
     ensures fresh { IfOk result (λ l. All (λ c. c.standing ≡ Kept) l.items.items) }
@@ -76,7 +80,8 @@ fn text_of(cell: &Cell) -> Option<&TextVal>
 // The text under a name.
 fn text_under<'a>(names: &'a NameList, name: &str) -> Option<&'a TextVal>
     requires { AreNamesInOrder names.now.live names.now.items.items }
-    ensures { option_copied result ≡ option_and_then (λ text. text) (get (names_held names.now.items.items) name.now) }
+    ensures { option_copied result ≡ option_and_then
+        (λ text. text) (get (names_held names.now.items.items) name.now) }
 {
     match names.get(name) {
         Some(entry) => text_of(&entry.value),
@@ -87,8 +92,12 @@ fn text_under<'a>(names: &'a NameList, name: &str) -> Option<&'a TextVal>
 // The algorithm that names of metadata mean, or its refusal.
 fn algorithm_in(alloc: Global, names: &NameList) -> MbtResult<HashAlgorithm>
     requires { AreNamesInOrder names.now.live names.now.items.items }
-    ensures tests { (metadata : List (List Cell)) → names_held names.now.items.items ≡ names_of metadata → Tests (algorithm_unknown metadata) result }
-    ensures algorithm { (metadata : List (List Cell)) → names_held names.now.items.items ≡ names_of metadata → IfOk result (λ a. a ≡ algorithm_of metadata) }
+    ensures tests { (metadata : List (List Cell))
+        → names_held names.now.items.items ≡ names_of metadata
+        → Tests (algorithm_unknown metadata) result }
+    ensures algorithm { (metadata : List (List Cell))
+        → names_held names.now.items.items ≡ names_of metadata → IfOk result
+        (λ a. a ≡ algorithm_of metadata) }
 {
     algorithm_by(alloc, text_under(names, HASH_ALGORITHM))
 }
@@ -102,7 +111,9 @@ fn test_rows(
     rows: &[Row],
 ) -> MbtResult<()>
     requires { AreIndexed contents.now.items.items contents.now.live contents.now.order.items }
-    ensures { Tests (option_or (tile_bad layout (rows_kept contents.now.items.items) rows.now) (option_or (reference_missing layout (rows_kept contents.now.items.items) rows.now) (hash_wrong layout algorithm (rows_kept contents.now.items.items) rows.now))) result }
+    ensures { Tests (option_or (tile_bad layout (rows_kept contents.now.items.items) rows.now)
+        (option_or (reference_missing layout (rows_kept contents.now.items.items) rows.now)
+        (hash_wrong layout algorithm (rows_kept contents.now.items.items) rows.now))) result }
 {
     test_tiles(alloc, layout, contents, rows)?;
     test_references(alloc, layout, contents, rows)?;
@@ -122,7 +133,8 @@ pub(crate) fn loaded_from(
 ) -> MbtResult<Loaded>
     requires widths { All (λ row. length row ≡ 2) contents.items }
     requires none { is_normalized layout ≡ false → contents.items ≡ [] }
-    ensures loads { Loads (rows_due layout patch_type metadata.items contents.items rows.items) result }
+    ensures loads { Loads (rows_due layout patch_type metadata.items contents.items rows.items)
+        result }
     ensures unfaulted { IfErr result (λ e. e ≢ MbtError.StoreFault) }
 {
     let contents = contents_of(alloc, layout, contents, &rows)?;

@@ -41,7 +41,9 @@ impl Model for Loaded {
 
 // The three times, if there are any.
 fn fields_of(dates: &TileDates) -> Option<(&Cell, &Cell, &Cell)>
-    ensures { option_map (λ cells. record { fetched = cells.0.now; expires = cells.1.now; etag = cells.2.now }) result ≡ dates.now }
+    ensures { option_map
+        (λ cells. record { fetched = cells.0.now; expires = cells.1.now; etag = cells.2.now })
+        result ≡ dates.now }
 {
     match dates.get() {
         Some(dates) => Some((&dates.fetched, &dates.expires, &dates.etag)),
@@ -73,7 +75,8 @@ impl Loaded {
 
     /// The contents of a tile, bytes or null. None where there is no tile, as at zoom 31.
     pub fn tile(&self, coord: TileCoord) -> Option<&Cell>
-        ensures { option_copied result ≡ option_map blob_cell (get self.now.state.tiles (place_at coord)) }
+        ensures { option_copied result ≡ option_map blob_cell
+            (get self.now.state.tiles (place_at coord)) }
     {
         match self.tiles.get(coord) {
             Some(tile) => kept_cell(&self.contents.items, tile.contents),
@@ -91,7 +94,8 @@ impl Loaded {
     /// The tile at an index below `tile_count`, in the order of zoom, column and row counted from the bottom, with its bytes or null.
     pub fn tile_at(&self, index: usize) -> (TileCoord, &Cell)
         requires { index < len self.now.state.tiles }
-        ensures { IfSome (slice_get (entries self.now.state.tiles) index) (λ e. (e.0 ≡ place_at result.0) × (blob_cell e.1 ≡ result.1.now)) }
+        ensures { IfSome (slice_get (entries self.now.state.tiles) index)
+            (λ e. (e.0 ≡ place_at result.0) × (blob_cell e.1 ≡ result.1.now)) }
     {
         let tile = &self.tiles.items[index];
         (tile.coord, &self.contents.items[tile.contents].cell)
@@ -110,7 +114,9 @@ impl Loaded {
     /// When the tile of a row of a cache was fetched, when it expires, and its version: numbers or null, and a text or null. None where there is no tile, and in the
     /// other layouts.
     pub fn cache_fields(&self, coord: TileCoord) -> Option<(&Cell, &Cell, &Cell)>
-        ensures { option_map (λ cells. record { fetched = cells.0.now; expires = cells.1.now; etag = cells.2.now }) result ≡ get self.now.state.dates (place_at coord) }
+        ensures { option_map
+            (λ cells. record { fetched = cells.0.now; expires = cells.1.now; etag = cells.2.now })
+            result ≡ get self.now.state.dates (place_at coord) }
     {
         match self.tiles.get(coord) {
             Some(tile) => fields_of(&tile.dates),
@@ -131,7 +137,8 @@ impl Loaded {
 
     /// The metadata of a name, a text or null. None where there is none.
     pub fn metadata(&self, name: &str) -> Option<&Cell>
-        ensures { option_copied result ≡ option_map text_cell (get self.now.state.metadata name.now) }
+        ensures { option_copied result ≡ option_map text_cell
+            (get self.now.state.metadata name.now) }
     {
         match self.names.get(name) {
             Some(entry) => Some(&entry.value),
@@ -159,7 +166,8 @@ impl Loaded {
     /// The name and value at an index below `metadata_count`, in the order of the names' bytes.
     pub fn metadata_at(&self, index: usize) -> (&str, &Cell)
         requires { index < len self.now.state.metadata }
-        ensures { IfSome (slice_get (entries self.now.state.metadata) index) (λ e. (e.0 ≡ result.0.now) × (text_cell e.1 ≡ result.1.now)) }
+        ensures { IfSome (slice_get (entries self.now.state.metadata) index)
+            (λ e. (e.0 ≡ result.0.now) × (text_cell e.1 ≡ result.1.now)) }
     {
         let entry = &self.names.items[index];
         (entry.name.as_str(), &entry.value)

@@ -1,7 +1,6 @@
 // Loading a set.
-ghost use Rattle.mb_store.specs.Kept.{ReadsOnly};
-ghost use Rattle.std.specs.Prelude.{◌≡◌, ◌≢◌, ◌≤◌, Err, None, Some, true, IfErr, IfOk, IsErrOf};
-ghost use Rattle.base_values.specs.Counts.{Rose};
+ghost use Rattle.mb_store.specs.Kept.{FaultsCounted, ReadsOnly};
+ghost use Rattle.std.specs.Prelude.{◌≡◌, ◌≢◌, ◌≤◌, Err, None, Some, true, IfErr, IfOk};
 ghost use Rattle.mb_constraints.specs.Described.{index_missing, metadata_missing};
 ghost use Rattle.mb_load.specs.Loading.{Loads};
 ghost use Rattle.mb_load.specs.LoadedFrom.{IsLoadable, IsLoadedFrom, NamesAlgorithm};
@@ -22,7 +21,8 @@ fn layout_in(tables: &[TableDesc]) -> MbtResult<MbtType>
     ensures metadata { IfOk result (λ layout. metadata_missing tables.now ≡ None) }
     ensures index { IfOk result (λ layout. index_missing tables.now layout ≡ None) }
     ensures unfaulted { IfErr result (λ e. e ≢ MbtError.StoreFault) }
-    ensures refused { IfErr result (λ e. (t : Tables) → t.descriptions ≡ tables.now → state_of t ≡ Err e) }
+    ensures refused { IfErr result (λ e. (t : Tables) → t.descriptions ≡ tables.now
+        → state_of t ≡ Err e) }
 {
     let detected = detect_type(tables);
     if !has_metadata(tables) {
@@ -51,7 +51,7 @@ pub fn load<S: TileStore>(alloc: Global, store: &mut S) -> MbtResult<Loaded>
     ensures whole { IfOk result (λ h. IsLoadable h.state) }
     ensures named { IfOk result (λ h. NamesAlgorithm h.state) }
     ensures kept { ReadsOnly S.told S.tells S.faults S.steady store.old store.new }
-    ensures fault { IsErrOf result MbtError.StoreFault → Rose (S.faults store.old) (S.faults store.new) }
+    ensures fault { FaultsCounted S.faults store.old store.new result MbtError.StoreFault }
 {
     let descriptions = store.describe(alloc)?;
     let layout = layout_in(&descriptions)?;

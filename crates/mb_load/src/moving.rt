@@ -96,8 +96,10 @@ fn move_tiles(
     requires left { AreLeft others.old.items others.old.items copying.old.copies.items }
     requires whole { All (IsTile others.old.items) tiles.now }
     requires live { All (λ t. is_gone t ≡ false) tiles.now }
-    requires ids { ids.now ≡ map (id_of copying.old.layout copying.old.algorithm others.old.items) tiles.now }
-    ensures edits { OnOk result (Edits (tiles_copied others.old.items tiles.now) copying.old copying.new) }
+    requires ids { ids.now ≡ map (id_of copying.old.layout copying.old.algorithm others.old.items)
+        tiles.now }
+    ensures edits { OnOk result (Edits (tiles_copied others.old.items tiles.now) copying.old
+        copying.new) }
     ensures copying { OnOk result (IsCopying others.old.items copying.new) }
 {
     let mut left = tiles.len();

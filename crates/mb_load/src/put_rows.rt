@@ -86,7 +86,9 @@ pub(crate) fn add_times(
     cells: &mut Vec<Cell>,
     dates: Option<&Dates>,
 ) -> Result<(), OutOfMemory>
-    ensures { OnOk result (cells.new.items ≡ cells.old.items ++ times_cells (unwrap_or (option_copied dates.entry) no_dates)) }
+    ensures { OnOk result
+        (cells.new.items ≡ cells.old.items ++ times_cells
+        (unwrap_or (option_copied dates.entry) no_dates)) }
 {
     match dates {
         Some(dates) => {
@@ -110,7 +112,8 @@ fn push_digest(
     cells: &mut Vec<Cell>,
     contents: &Cell,
 ) -> Result<(), OutOfMemory>
-    ensures { OnOk result (cells.new.items ≡ cells.old.items ++ digest_cell algorithm contents.now ∷ []) }
+    ensures { OnOk result (cells.new.items ≡ cells.old.items ++ digest_cell algorithm contents.now ∷
+        []) }
 {
     cells.push(digest_cell(alloc, algorithm, contents)?)?;
     Ok(())
@@ -125,7 +128,8 @@ fn add_cells(
     dates: Option<&Dates>,
     cells: &mut Vec<Cell>,
 ) -> Result<(), OutOfMemory>
-    ensures { OnOk result (cells.new.items ≡ cells.old.items ++ cells_kept layout algorithm content.now (option_copied dates.entry)) }
+    ensures { OnOk result (cells.new.items ≡ cells.old.items ++ cells_kept layout algorithm
+        content.now (option_copied dates.entry)) }
 {
     match layout {
         MbtType::Flat => push_copy(alloc, cells, &content.cell),

@@ -1,7 +1,6 @@
 // All rows of a table.
-ghost use Rattle.mb_store.specs.Kept.{ReadsOnly};
-ghost use Rattle.std.specs.Prelude.{◌≡◌, ◌≤◌, All, [], false, true, IfOk, IsErrOf, length};
-ghost use Rattle.base_values.specs.Counts.{Rose};
+ghost use Rattle.mb_store.specs.Kept.{FaultsCounted, ReadsOnly};
+ghost use Rattle.std.specs.Prelude.{◌≡◌, ◌≤◌, All, [], false, true, IfOk, length};
 ghost use Rattle.mb_lists.specs.Contents.{content_rows};
 ghost use Rattle.mb_tables.specs.Kind.{is_normalized, tile_table};
 ghost use Rattle.mb_tables.specs.Table.{width};
@@ -16,10 +15,11 @@ pub(crate) fn read_table<S: TileStore>(
     store: &mut S,
     table: TableName,
 ) -> Result<Vec<Row>, StoreError>
-    ensures answer { S.tells store.old ≡ true → IfOk result (λ rows. rows.items ≡ (S.told store.old).rows table) }
+    ensures answer { S.tells store.old ≡ true → IfOk result
+        (λ rows. rows.items ≡ (S.told store.old).rows table) }
     ensures widths { IfOk result (λ rows. All (λ row. length row ≡ width table) rows.items) }
     ensures kept { ReadsOnly S.told S.tells S.faults S.steady store.old store.new }
-    ensures fault { IsErrOf result StoreError.Fault → Rose (S.faults store.old) (S.faults store.new) }
+    ensures fault { FaultsCounted S.faults store.old store.new result StoreError.Fault }
 {
     let count = store.count_rows(table)?;
     store.rows(alloc, table, 0, count)
@@ -31,11 +31,12 @@ fn read_contents<S: TileStore>(
     store: &mut S,
     layout: MbtType,
 ) -> Result<Vec<Row>, StoreError>
-    ensures answer { S.tells store.old ≡ true → IfOk result (λ rows. rows.items ≡ content_rows layout (S.told store.old)) }
+    ensures answer { S.tells store.old ≡ true → IfOk result
+        (λ rows. rows.items ≡ content_rows layout (S.told store.old)) }
     ensures widths { IfOk result (λ rows. All (λ row. length row ≡ 2) rows.items) }
     ensures none { is_normalized layout ≡ false → IfOk result (λ rows. rows.items ≡ []) }
     ensures kept { ReadsOnly S.told S.tells S.faults S.steady store.old store.new }
-    ensures fault { IsErrOf result StoreError.Fault → Rose (S.faults store.old) (S.faults store.new) }
+    ensures fault { FaultsCounted S.faults store.old store.new result StoreError.Fault }
 {
     match layout {
         MbtType::Normalized { schema, .. } => read_table(alloc, store, schema.contents()),
@@ -57,13 +58,16 @@ pub(crate) fn read_all<S: TileStore>(
     store: &mut S,
     layout: MbtType,
 ) -> Result<AllRows, StoreError>
-    ensures metadata { S.tells store.old ≡ true → IfOk result (λ r. r.metadata.items ≡ (S.told store.old).rows Metadata) }
-    ensures tiles { S.tells store.old ≡ true → IfOk result (λ r. r.tiles.items ≡ (S.told store.old).rows (tile_table layout)) }
-    ensures contents { S.tells store.old ≡ true → IfOk result (λ r. r.contents.items ≡ content_rows layout (S.told store.old)) }
+    ensures metadata { S.tells store.old ≡ true → IfOk result
+        (λ r. r.metadata.items ≡ (S.told store.old).rows Metadata) }
+    ensures tiles { S.tells store.old ≡ true → IfOk result
+        (λ r. r.tiles.items ≡ (S.told store.old).rows (tile_table layout)) }
+    ensures contents { S.tells store.old ≡ true → IfOk result
+        (λ r. r.contents.items ≡ content_rows layout (S.told store.old)) }
     ensures widths { IfOk result (λ r. All (λ row. length row ≡ 2) r.contents.items) }
     ensures none { is_normalized layout ≡ false → IfOk result (λ r. r.contents.items ≡ []) }
     ensures kept { ReadsOnly S.told S.tells S.faults S.steady store.old store.new }
-    ensures fault { IsErrOf result StoreError.Fault → Rose (S.faults store.old) (S.faults store.new) }
+    ensures fault { FaultsCounted S.faults store.old store.new result StoreError.Fault }
 {
     let metadata = read_table(alloc, store, TableName::Metadata)?;
     let tiles = read_table(alloc, store, layout.tile_table())?;

@@ -69,7 +69,8 @@ impl Loaded {
     pub fn set_cache_fields(&mut self, coord: TileCoord, fetched: Cell, expires: Cell, etag: Cell)
         requires layout { self.old.state.layout ≡ Cache }
         requires there { contains_key self.old.state.tiles (place_at coord) ≡ true }
-        ensures { self.new ≡ with_dates self.old (place_at coord) (record { fetched = fetched; expires = expires; etag = etag }) }
+        ensures { self.new ≡ with_dates self.old (place_at coord)
+            (record { fetched = fetched; expires = expires; etag = etag }) }
     {
         let dates = Dates {
             fetched,

@@ -25,12 +25,19 @@ pub(crate) fn tiles_of(
     requires indexed { AreIndexed contents.items.items contents.live contents.order.items }
     requires fresh { All (λ c. c.standing ≡ Kept) contents.items.items }
     requires none { is_normalized layout ≡ false → contents.items.items ≡ [] }
-    requires pass { first_refused (bad_tile layout (rows_kept contents.items.items)) rows.items ≡ None }
-    requires there { first_refused (missing_reference layout (rows_kept contents.items.items)) rows.items ≡ None }
-    ensures tiles { IfOk result (λ t. AreTilesOf layout (rows_kept contents.items.items) rows.items t.contents.items.items t.tiles.items) }
-    ensures indexed { IfOk result (λ t. AreIndexed t.contents.items.items t.contents.live t.contents.order.items) }
+    requires pass { first_refused (bad_tile layout (rows_kept contents.items.items)) rows.items
+        ≡ None }
+    requires there { first_refused (missing_reference layout (rows_kept contents.items.items))
+        rows.items ≡ None }
+    ensures tiles { IfOk result
+        (λ t. AreTilesOf layout (rows_kept contents.items.items) rows.items t.contents.items.items
+        t.tiles.items) }
+    ensures indexed { IfOk result
+        (λ t. AreIndexed t.contents.items.items t.contents.live t.contents.order.items) }
     ensures fresh { IfOk result (λ t. All (λ c. c.standing ≡ Kept) t.contents.items.items) }
-    ensures held { IfOk result (λ t. contents_held t.contents.items.items t.contents.order.items ≡ contents_by_id (rows_kept contents.items.items)) }
+    ensures held { IfOk result
+        (λ t. contents_held t.contents.items.items t.contents.order.items ≡ contents_by_id
+        (rows_kept contents.items.items)) }
 {
     match layout {
         MbtType::Flat => {
