@@ -7,7 +7,7 @@ use Rattle.pm_format.specs.Directory.{Entry, entry}
 use Rattle.pm_walk.specs.Collecting.{AreOrdered, Collects}
 use Rattle.pm_walk.specs.Intervals.{AreApart}
 use Rattle.pm_walk.specs.Parts.{clip, clip_all, parts, parts_of}
-use Rattle.pm_walk.specs.declared.parts.Collected.{Collected}
+use Rattle.pm_walk.specs.Collected.{Collected}
 use Rattle.pm_walk.proofs.CoveringLemmas.{le_by, ordered_append, to_le}
 use Rattle.pm_walk.proofs.CollectingLemmas.{collects_nothing, collects_twice, ordered_later}
 
@@ -23,13 +23,13 @@ pub record Clipping (e : Entry) (is rest : List (ℕ × ℕ)) (old now : Collect
 pub record Reached (e : Entry) (rest : List (ℕ × ℕ)) (now : Collected) : Type 0 where
   pub low : ℕ
   pub left : AreApart low rest
-  pub ordered : AreOrdered 0 now.parts.items (Some (reach e low))
+  pub ordered : AreOrdered 0 now.parts (Some (reach e low))
 
 pub clipping : (e : Entry) (is : List (ℕ × ℕ)) (old : Collected) → Clipping e is is old old
 clipping e is old = record { done = []; whole = refl; collects = collects_nothing old }
 
-pub reaching : (e : Entry) (is : List (ℕ × ℕ)) (old : Collected) → AreApart 0 is → AreOrdered 0 old.parts.items (Some e.tile_id) → Reached e is old
-reaching e is old apart ordered = record { low = 0; left = apart; ordered = ordered_later 0 old.parts.items e.tile_id (reach e 0) (omega arith) ordered }
+pub reaching : (e : Entry) (is : List (ℕ × ℕ)) (old : Collected) → AreApart 0 is → AreOrdered 0 old.parts (Some e.tile_id) → Reached e is old
+reaching e is old apart ordered = record { low = 0; left = apart; ordered = ordered_later 0 old.parts e.tile_id (reach e 0) (omega arith) ordered }
 
 -- what a part is
 pub record IsClip (e : Entry) (i : ℕ × ℕ) (p : Entry) : Type 0 where
@@ -58,7 +58,7 @@ pub past_none : (e : Entry) (is : List (ℕ × ℕ)) (i : ℕ × ℕ) (others : 
 past_none e is i others old now none s = record { done = s.done; whole = s.whole ∙ ap (λ l. s.done ++ (l ++ clip_all e others)) none; collects = s.collects }
 
 pub reach_none : (e : Entry) (i : ℕ × ℕ) (others : List (ℕ × ℕ)) (now : Collected) → Reached e (i ∷ others) now → Reached e others now
-reach_none e i others now s = record { low = i.1 + 1; left = s.left.2; ordered = ordered_later 0 now.parts.items (reach e s.low) (reach e (i.1 + 1)) (omega (arith, s.left.0, s.left.1)) s.ordered }
+reach_none e i others now s = record { low = i.1 + 1; left = s.left.2; ordered = ordered_later 0 now.parts (reach e s.low) (reach e (i.1 + 1)) (omega (arith, s.left.0, s.left.1)) s.ordered }
 
 pub past_one : (e : Entry) (is : List (ℕ × ℕ)) (i : ℕ × ℕ) (others : List (ℕ × ℕ)) (old mid now : Collected) (p : Entry) → clip e i ≡ p ∷ [] → Clipping e is (i ∷ others) old mid → Collects mid (p ∷ []) now → Clipping e is others old now
 past_one e is i others old mid now p one s adds = record {
@@ -68,14 +68,14 @@ past_one e is i others old mid now p one s adds = record {
 }
 
 pub reach_one : (e : Entry) (i : ℕ × ℕ) (others : List (ℕ × ℕ)) (mid now : Collected) (p : Entry) → e.run_length ≢ 0 → clip e i ≡ p ∷ [] → Reached e (i ∷ others) mid
-    → (AreOrdered 0 mid.parts.items (Some p.tile_id) → AreOrdered 0 now.parts.items (Some (p.tile_id + p.run_length))) → Reached e others now
+    → (AreOrdered 0 mid.parts (Some p.tile_id) → AreOrdered 0 now.parts (Some (p.tile_id + p.run_length))) → Reached e others now
 reach_one e i others mid now p run one s more =
     let c = is_clip e i p run one in
     record {
       low = i.1 + 1;
       left = s.left.2;
-      ordered = ordered_later 0 now.parts.items (p.tile_id + p.run_length) (reach e (i.1 + 1)) (omega (arith, c.past, c.first, c.some))
-          (more (ordered_later 0 mid.parts.items (reach e s.low) p.tile_id (omega (arith, c.first, c.past, c.some, s.left.0)) s.ordered));
+      ordered = ordered_later 0 now.parts (p.tile_id + p.run_length) (reach e (i.1 + 1)) (omega (arith, c.past, c.first, c.some))
+          (more (ordered_later 0 mid.parts (reach e s.low) p.tile_id (omega (arith, c.first, c.past, c.some, s.left.0)) s.ordered));
     }
 
 pub no_items : {A : Type 0} (l : List A) → length l ≡ 0 → l ≡ []
@@ -88,8 +88,8 @@ all_clipped e is rest old now some none s =
     let are : parts_of is e ≡ s.done = ap (λ t. if t then [] else clip_all e is) test ∙ s.whole ∙ ap (λ l. s.done ++ clip_all e l) (no_items rest none) ∙ append-nil s.done in
     subst (λ l. Collects old l now) (sym are) s.collects
 
-pub all_reached : (e : Entry) (rest : List (ℕ × ℕ)) (now : Collected) → Reached e rest now → AreOrdered 0 now.parts.items (Some (e.tile_id + e.run_length))
-all_reached e rest now s = ordered_later 0 now.parts.items (reach e s.low) (e.tile_id + e.run_length) (omega arith) s.ordered
+pub all_reached : (e : Entry) (rest : List (ℕ × ℕ)) (now : Collected) → Reached e rest now → AreOrdered 0 now.parts (Some (e.tile_id + e.run_length))
+all_reached e rest now s = ordered_later 0 now.parts (reach e s.low) (e.tile_id + e.run_length) (omega arith) s.ordered
 
 pub nothing_clipped : (e : Entry) (is : List (ℕ × ℕ)) (old : Collected) → e.length ≡ 0 → Collects old (parts_of is e) old
 nothing_clipped e is old none = subst (λ n. Collects old (if nat_eq n 0 then [] else clip_all e is) old) (sym none) (collects_nothing old)

@@ -7,7 +7,7 @@ use Rattle.tile_ids.specs.declared.id.TheConstants.{MAX_TILE_ID}
 use Rattle.pm_format.specs.Directory.{Entry}
 use Rattle.pm_walk.specs.Collecting.{AreOrdered, Collects, room_after, taken}
 use Rattle.pm_walk.specs.Intervals.{stays_within}
-use Rattle.pm_walk.specs.declared.parts.Collected.{Collected}
+use Rattle.pm_walk.specs.Collected.{Collected}
 
 pub if_some : {A : Type 0} (o : Option ℕ) → A → IfSome o (λ _. A)
 if_some None a = tt
@@ -22,7 +22,7 @@ room_append room [] qs = refl
 room_append room (p ∷ ps) qs = room_append (taken room p.run_length) ps qs
 
 pub collects_nothing : (a : Collected) → Collects a [] a
-collects_nothing a = record { room = refl; parts = if_some a.room (sym (append-nil a.parts.items)) }
+collects_nothing a = record { room = refl; parts = if_some a.room (sym (append-nil a.parts)) }
 
 pub collects_twice : (a b c : Collected) (ps qs : List Entry) → Collects a ps b → Collects b qs c → Collects a (ps ++ qs) c
 collects_twice a b c ps qs x y = record {
@@ -30,10 +30,10 @@ collects_twice a b c ps qs x y = record {
   parts = by_room b.room c.room y.room x.parts y.parts;
 }
   where
-    by_room : (rb rc : Option ℕ) → rc ≡ room_after rb qs → IfSome rb (λ _. b.parts.items ≡ a.parts.items ++ ps) → IfSome rc (λ _. c.parts.items ≡ b.parts.items ++ qs) → IfSome rc (λ _. c.parts.items ≡ a.parts.items ++ (ps ++ qs))
+    by_room : (rb rc : Option ℕ) → rc ≡ room_after rb qs → IfSome rb (λ _. b.parts ≡ a.parts ++ ps) → IfSome rc (λ _. c.parts ≡ b.parts ++ qs) → IfSome rc (λ _. c.parts ≡ a.parts ++ (ps ++ qs))
     by_room rb None is p q = tt
     by_room None (Some r) is p q = absurd (none-some r (sym (is ∙ room_none qs)))
-    by_room (Some s) (Some r) is p q = q ∙ ap (λ l. l ++ qs) p ∙ append_assoc a.parts.items ps qs
+    by_room (Some s) (Some r) is p q = q ∙ ap (λ l. l ++ qs) p ∙ append_assoc a.parts ps qs
 
 -- parts that end by one id end by a later one
 pub within_more : (end more : Option ℕ) (n : ℕ) → ((k : ℕ) → stays_within end k ≡ true → stays_within more k ≡ true) → stays_within end n ≡ true → stays_within more n ≡ true

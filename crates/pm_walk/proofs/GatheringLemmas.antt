@@ -12,7 +12,7 @@ use Rattle.pm_walk.specs.declared.error.WalkError.{WalkError}
 use Rattle.pm_walk.specs.declared.error.WalkError.TheVariants.{Archive, TooManyTiles}
 use Rattle.pm_walk.specs.declared.extent.Extent.{Extent}
 use Rattle.pm_walk.specs.declared.extent.Extent.TheVariants.{Within, Whole}
-use Rattle.pm_walk.specs.declared.parts.Collected.{Collected}
+use Rattle.pm_walk.specs.Collected.{Collected}
 use Rattle.pm_walk.proofs.CollectLemmas.{enough, too_many}
 use Rattle.pm_walk.proofs.ToldLemmas.{one_told}
 
@@ -21,13 +21,13 @@ some_of None is = absurd (cc)
 some_of (Some x) is = (x, refl)
 
 -- all of it is there where there was room for it, and too much where there was none
-pub all_gathered : (ext : Extent) (w : Walked) (is : List (ℕ × ℕ)) (most : ℕ) (old new : Collected) (ps : List Entry) → (old.parts.items ≡ []) × (old.room ≡ Some most) → Walks ext w is old new (Ok tt) → (ps ≡ new.parts.items) × (is_some new.room ≡ true)
+pub all_gathered : (ext : Extent) (w : Walked) (is : List (ℕ × ℕ)) (most : ℕ) (old new : Collected) (ps : List Entry) → (old.parts ≡ []) × (old.room ≡ Some most) → Walks ext w is old new (Ok tt) → (ps ≡ new.parts) × (is_some new.room ≡ true)
     → Gathers ext w is most (Ok ps)
 all_gathered ext w is most old new ps begun walks all =
     let c = walks.1 in
     let x = some_of new.room all.1 in (
       walks.0,
-      all.0 ∙ subst (λ o. IfSome o (λ _. new.parts.items ≡ old.parts.items ++ pieces ext is w.entries)) x.1 c.parts ∙ ap (λ l. l ++ pieces ext is w.entries) begun.0,
+      all.0 ∙ subst (λ o. IfSome o (λ _. new.parts ≡ old.parts ++ pieces ext is w.entries)) x.1 c.parts ∙ ap (λ l. l ++ pieces ext is w.entries) begun.0,
       enough most (pieces ext is w.entries) x.0 (sym (ap (λ r. room_after r (pieces ext is w.entries)) begun.1) ∙ sym c.room ∙ x.1),
     )
 
@@ -65,19 +65,19 @@ room_first Whole room most is = ap is_some is
 abbrev RootWalk : Extent → Header → List (ℕ × ℕ) → List Entry → List ℕ → Walked
 RootWalk ext h is es b = walked ext 6 h b is 0 None es
 
-pub told_gathered : (told : Option (List ℕ)) (ext : Extent) (h : Header) (is : List (ℕ × ℕ)) (es root : List Entry) (most : ℕ) (old new : Collected) (ps : List Entry) → es ≡ root → (old.parts.items ≡ []) × (old.room ≡ Some most)
-    → IfSome told (λ b. Walks ext (RootWalk ext h is es b) is old new (Ok tt)) → (ps ≡ new.parts.items) × (is_some new.room ≡ true) → IfSome told (λ b. Gathers ext (RootWalk ext h is root b) is most (Ok ps))
+pub told_gathered : (told : Option (List ℕ)) (ext : Extent) (h : Header) (is : List (ℕ × ℕ)) (es root : List Entry) (most : ℕ) (old new : Collected) (ps : List Entry) → es ≡ root → (old.parts ≡ []) × (old.room ≡ Some most)
+    → IfSome told (λ b. Walks ext (RootWalk ext h is es b) is old new (Ok tt)) → (ps ≡ new.parts) × (is_some new.room ≡ true) → IfSome told (λ b. Gathers ext (RootWalk ext h is root b) is most (Ok ps))
 told_gathered told ext h is es root most old new ps same begun walks all =
     one_told (λ b. Walks ext (RootWalk ext h is es b) is old new (Ok tt)) (λ b. Gathers ext (RootWalk ext h is root b) is most (Ok ps)) told
     (λ b w. subst (λ l. Gathers ext (RootWalk ext h is l b) is most (Ok ps)) same (all_gathered ext (RootWalk ext h is es b) is most old new ps begun w all)) walks
 
-pub told_too_many : (told : Option (List ℕ)) (ext : Extent) (h : Header) (is : List (ℕ × ℕ)) (es root : List Entry) (most : ℕ) (old new : Collected) (x : WalkError) → es ≡ root → (old.parts.items ≡ []) × (old.room ≡ Some most)
+pub told_too_many : (told : Option (List ℕ)) (ext : Extent) (h : Header) (is : List (ℕ × ℕ)) (es root : List Entry) (most : ℕ) (old new : Collected) (x : WalkError) → es ≡ root → (old.parts ≡ []) × (old.room ≡ Some most)
     → IfSome told (λ b. Walks ext (RootWalk ext h is es b) is old new (Ok tt)) → (x ≡ TooManyTiles) × (new.room ≡ None) → IfSome told (λ b. Gathers ext (RootWalk ext h is root b) is most (Err x))
 told_too_many told ext h is es root most old new x same begun walks none =
     one_told (λ b. Walks ext (RootWalk ext h is es b) is old new (Ok tt)) (λ b. Gathers ext (RootWalk ext h is root b) is most (Err x)) told
     (λ b w. subst (λ l. Gathers ext (RootWalk ext h is l b) is most (Err x)) same (none_left ext (RootWalk ext h is es b) is most old new x begun.1 w none)) walks
 
-pub told_refused : (told : Option (List ℕ)) (ext : Extent) (h : Header) (is : List (ℕ × ℕ)) (es root : List Entry) (most : ℕ) (old new : Collected) (x : WalkError) → es ≡ root → (old.parts.items ≡ []) × (old.room ≡ Some most)
+pub told_refused : (told : Option (List ℕ)) (ext : Extent) (h : Header) (is : List (ℕ × ℕ)) (es root : List Entry) (most : ℕ) (old new : Collected) (x : WalkError) → es ≡ root → (old.parts ≡ []) × (old.room ≡ Some most)
     → IfSome told (λ b. Walks ext (RootWalk ext h is es b) is old new (Err x)) → (HasRoom ext old.room → StopsWith ext new.room x) → IfSome told (λ b. Gathers ext (RootWalk ext h is root b) is most (Err x))
 told_refused told ext h is es root most old new x same begun walks leaves =
     one_told (λ b. Walks ext (RootWalk ext h is es b) is old new (Err x)) (λ b. Gathers ext (RootWalk ext h is root b) is most (Err x)) told

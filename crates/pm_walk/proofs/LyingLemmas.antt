@@ -8,7 +8,7 @@ use Rattle.pm_walk.specs.Intervals.{in_intervals, lies_in}
 use Rattle.pm_walk.specs.Parts.{clip, clip_all, parts_of, tile_count}
 use Rattle.pm_walk.specs.declared.extent.Extent.{Extent}
 use Rattle.pm_walk.specs.declared.extent.Extent.TheVariants.{Within, Whole}
-use Rattle.pm_walk.specs.declared.parts.Collected.{Collected}
+use Rattle.pm_walk.specs.Collected.{Collected}
 use Rattle.pm_walk.proofs.CollectLemmas.{room_taken}
 
 -- The parts of an entry.
@@ -74,29 +74,29 @@ count_append (p ∷ ps) qs = let n = count_append ps qs in omega (arith, n)
 pub keeps_more : (ext : Extent) (is : List (ℕ × ℕ)) (most : ℕ) (old new : Collected) (ps : List Entry) → KeepWithin ext is ps → Collects old ps new → KeepsTo ext is most old → KeepsTo ext is most new
 keeps_more ext is most old new ps lie c k = by_room new.room refl c.parts
   where
-    after : (room : ℕ) → new.room ≡ Some room → new.parts.items ≡ old.parts.items ++ ps → KeepWithin ext is new.parts.items × (tile_count new.parts.items + room ≤ most)
+    after : (room : ℕ) → new.room ≡ Some room → new.parts ≡ old.parts ++ ps → KeepWithin ext is new.parts × (tile_count new.parts + room ≤ most)
     after room at items =
         let before = room_taken old.room ps room (sym c.room ∙ at) in
-        let w : KeepWithin ext is old.parts.items × (tile_count old.parts.items + before.0 ≤ most) = subst (λ r. IfSome r (λ n. KeepWithin ext is old.parts.items × (tile_count old.parts.items + n ≤ most))) before.1 k in
-        let n = count_append old.parts.items ps in (
-          subst (KeepWithin ext is) (sym items) (keep_append ext is old.parts.items ps w.0 lie),
+        let w : KeepWithin ext is old.parts × (tile_count old.parts + before.0 ≤ most) = subst (λ r. IfSome r (λ n. KeepWithin ext is old.parts × (tile_count old.parts + n ≤ most))) before.1 k in
+        let n = count_append old.parts ps in (
+          subst (KeepWithin ext is) (sym items) (keep_append ext is old.parts ps w.0 lie),
           omega (arith, w.1, before.2, n, ap tile_count items),
         )
 
-    by_room : (r : Option ℕ) → new.room ≡ r → IfSome r (λ _. new.parts.items ≡ old.parts.items ++ ps) → IfSome r (λ room. KeepWithin ext is new.parts.items × (tile_count new.parts.items + room ≤ most))
+    by_room : (r : Option ℕ) → new.room ≡ r → IfSome r (λ _. new.parts ≡ old.parts ++ ps) → IfSome r (λ room. KeepWithin ext is new.parts × (tile_count new.parts + room ≤ most))
     by_room None at items = tt
     by_room (Some room) at items = after room at items
 
 -- all that was collected, where there was room for it
-pub kept_all : (ext : Extent) (is : List (ℕ × ℕ)) (most : ℕ) (old new : Collected) (ps : List Entry) → (old.parts.items ≡ []) × (old.room ≡ Some most) → ((n : ℕ) → KeepsTo ext is n old → KeepsTo ext is n new)
-    → (ps ≡ new.parts.items) × (is_some new.room ≡ true) → (tile_count ps ≤ most) × KeepWithin ext is ps
+pub kept_all : (ext : Extent) (is : List (ℕ × ℕ)) (most : ℕ) (old new : Collected) (ps : List Entry) → (old.parts ≡ []) × (old.room ≡ Some most) → ((n : ℕ) → KeepsTo ext is n old → KeepsTo ext is n new)
+    → (ps ≡ new.parts) × (is_some new.room ≡ true) → (tile_count ps ≤ most) × KeepWithin ext is ps
 kept_all ext is most old new ps begun keeps all =
-    let none : tile_count old.parts.items ≡ 0 = ap tile_count begun.0 in
+    let none : tile_count old.parts ≡ 0 = ap tile_count begun.0 in
     let first : KeepsTo ext is most old =
-    subst (λ r. IfSome r (λ room. KeepWithin ext is old.parts.items × (tile_count old.parts.items + room ≤ most))) (sym begun.1) (subst (KeepWithin ext is) (sym begun.0) (keep_none ext is), omega (arith, none)) in
+    subst (λ r. IfSome r (λ room. KeepWithin ext is old.parts × (tile_count old.parts + room ≤ most))) (sym begun.1) (subst (KeepWithin ext is) (sym begun.0) (keep_none ext is), omega (arith, none)) in
     by_room new.room all.1 (keeps most first)
   where
-    by_room : (r : Option ℕ) → is_some r ≡ true → IfSome r (λ room. KeepWithin ext is new.parts.items × (tile_count new.parts.items + room ≤ most)) → (tile_count ps ≤ most) × KeepWithin ext is ps
+    by_room : (r : Option ℕ) → is_some r ≡ true → IfSome r (λ room. KeepWithin ext is new.parts × (tile_count new.parts + room ≤ most)) → (tile_count ps ≤ most) × KeepWithin ext is ps
     by_room None some k = absurd (cc)
     by_room (Some room) some k =
         let n = ap tile_count all.0 in

@@ -11,7 +11,7 @@ use Rattle.pm_walk.specs.Walk.{below, end_before, entry_walk, meets, stands, wal
 use Rattle.pm_walk.specs.declared.error.WalkError.{WalkError}
 use Rattle.pm_walk.specs.declared.error.WalkError.TheVariants.{Archive}
 use Rattle.pm_walk.specs.declared.extent.Extent.{Extent}
-use Rattle.pm_walk.specs.declared.parts.Collected.{Collected}
+use Rattle.pm_walk.specs.Collected.{Collected}
 use Rattle.pm_walk.proofs.ClippingLemmas.{no_items}
 use Rattle.pm_walk.proofs.CollectingLemmas.{ordered_end, ordered_later, starts_within}
 use Rattle.pm_walk.proofs.ToldLemmas.{both_told}
@@ -161,30 +161,30 @@ told_stopped_below (Some b) again last ext h is (suc n) low limit es before rest
 
 -- The order of the parts: where those before an entry end, and those with it.
 front_ordered : (left low : ℕ) (limit : Option ℕ) (before : Option Entry) (rest : List Entry) (e : Entry) (others : List Entry) (end : Option ℕ) (test : Bool) (mid : Collected) → AtFront left low limit before rest e others end test true
-    → AreOrdered 0 mid.parts.items (reach before low limit rest) → AreOrdered 0 mid.parts.items (Some e.tile_id)
+    → AreOrdered 0 mid.parts (reach before low limit rest) → AreOrdered 0 mid.parts (Some e.tile_id)
 front_ordered left low limit None rest e others end test mid a o =
     let s = stood_by left None low limit (end_before others limit) e (stand_is left low limit None rest e others end test true a) in
-    ordered_later 0 mid.parts.items low e.tile_id (let t = s.least in let le : low ≤ e.tile_id = grind (arith, nat_tests) in le) o
-front_ordered left low limit (Some d) rest e others end test mid a o = subst (λ l. AreOrdered 0 mid.parts.items (end_before l limit)) a.first o
+    ordered_later 0 mid.parts low e.tile_id (let t = s.least in let le : low ≤ e.tile_id = grind (arith, nat_tests) in le) o
+front_ordered left low limit (Some d) rest e others end test mid a o = subst (λ l. AreOrdered 0 mid.parts (end_before l limit)) a.first o
 
 end_within : (left low : ℕ) (limit : Option ℕ) (before : Option Entry) (rest : List Entry) (e : Entry) (others : List Entry) (end : Option ℕ) (test : Bool) → AtFront left low limit before rest e others end test true → stays_within end (e.tile_id + e.run_length) ≡ true
 end_within left low limit before rest e others end test a =
     (stood_by left before low limit end e (sym a.tested ∙ a.is)).ends
 
 pub order_step : (left low : ℕ) (limit : Option ℕ) (before : Option Entry) (rest : List Entry) (e : Entry) (others : List Entry) (end : Option ℕ) (test : Bool) (mid now : Collected) → AtFront left low limit before rest e others end test true
-    → AreOrdered 0 mid.parts.items (reach before low limit rest) → (AreOrdered 0 mid.parts.items (Some e.tile_id) → stays_within end (e.tile_id + e.run_length) ≡ true → AreOrdered 0 now.parts.items end)
-    → AreOrdered 0 now.parts.items (end_before others limit)
+    → AreOrdered 0 mid.parts (reach before low limit rest) → (AreOrdered 0 mid.parts (Some e.tile_id) → stays_within end (e.tile_id + e.run_length) ≡ true → AreOrdered 0 now.parts end)
+    → AreOrdered 0 now.parts (end_before others limit)
 order_step left low limit before rest e others end test mid now a o f =
-    subst (AreOrdered 0 now.parts.items) a.end_is (f (front_ordered left low limit before rest e others end test mid a o) (end_within left low limit before rest e others end test a))
+    subst (AreOrdered 0 now.parts) a.end_is (f (front_ordered left low limit before rest e others end test mid a o) (end_within left low limit before rest e others end test a))
 
 pub order_leaf : (left low : ℕ) (limit : Option ℕ) (before : Option Entry) (rest : List Entry) (e : Entry) (others : List Entry) (end : Option ℕ) (test : Bool) (mid read now : Collected) (id : ℕ) → AtFront left low limit before rest e others end test true
-    → AreOrdered 0 mid.parts.items (reach before low limit rest) → read ≡ mid → id ≡ e.tile_id → (AreOrdered 0 read.parts.items (Some id) → stays_within end id ≡ true → AreOrdered 0 now.parts.items end)
-    → AreOrdered 0 now.parts.items (end_before others limit)
+    → AreOrdered 0 mid.parts (reach before low limit rest) → read ≡ mid → id ≡ e.tile_id → (AreOrdered 0 read.parts (Some id) → stays_within end id ≡ true → AreOrdered 0 now.parts end)
+    → AreOrdered 0 now.parts (end_before others limit)
 order_leaf left low limit before rest e others end test mid read now id a o kept same f =
-    subst (AreOrdered 0 now.parts.items) a.end_is
-    (f (subst (λ n. AreOrdered 0 read.parts.items (Some n)) (sym same) (subst (λ m. AreOrdered 0 m.parts.items (Some e.tile_id)) (sym kept) (front_ordered left low limit before rest e others end test mid a o)))
+    subst (AreOrdered 0 now.parts) a.end_is
+    (f (subst (λ n. AreOrdered 0 read.parts (Some n)) (sym same) (subst (λ m. AreOrdered 0 m.parts (Some e.tile_id)) (sym kept) (front_ordered left low limit before rest e others end test mid a o)))
     (subst (λ n. stays_within end n ≡ true) (sym same) (starts_within end e.tile_id e.run_length (end_within left low limit before rest e others end test a))))
 
-pub order_end : (low : ℕ) (limit : Option ℕ) (before : Option Entry) (rest : List Entry) (now : Collected) → length rest ≡ 0 → stays_within limit low ≡ true → AreOrdered 0 now.parts.items (reach before low limit rest) → AreOrdered 0 now.parts.items limit
-order_end low limit None rest now none within o = ordered_end 0 now.parts.items low limit within o
-order_end low limit (Some d) rest now none within o = subst (λ l. AreOrdered 0 now.parts.items (end_before l limit)) (no_items rest none) o
+pub order_end : (low : ℕ) (limit : Option ℕ) (before : Option Entry) (rest : List Entry) (now : Collected) → length rest ≡ 0 → stays_within limit low ≡ true → AreOrdered 0 now.parts (reach before low limit rest) → AreOrdered 0 now.parts limit
+order_end low limit None rest now none within o = ordered_end 0 now.parts low limit within o
+order_end low limit (Some d) rest now none within o = subst (λ l. AreOrdered 0 now.parts (end_before l limit)) (no_items rest none) o

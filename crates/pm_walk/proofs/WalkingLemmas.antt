@@ -16,7 +16,7 @@ use Rattle.pm_walk.specs.declared.error.WalkError.{WalkError}
 use Rattle.pm_walk.specs.declared.error.WalkError.TheVariants.{Archive, TooManyTiles}
 use Rattle.pm_walk.specs.declared.extent.Extent.{Extent}
 use Rattle.pm_walk.specs.declared.extent.Extent.TheVariants.{Within, Whole}
-use Rattle.pm_walk.specs.declared.parts.Collected.{Collected}
+use Rattle.pm_walk.specs.Collected.{Collected}
 use Rattle.pm_walk.proofs.CollectingLemmas.{collects_nothing, collects_twice, room_append, room_none}
 
 pub walked_is : (ext : Extent) (n : ℕ) (h : Header) (b : List ℕ) (is : List (ℕ × ℕ)) (low : ℕ) (limit : Option ℕ) (es : List Entry) → walked ext n h b is low limit es ≡ walk_each n (entry_walk ext (below ext n h b is) h b is) None low limit es

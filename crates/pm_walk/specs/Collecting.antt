@@ -7,6 +7,7 @@ use Rattle.pm_format.specs.declared.header.Header.{Header}
 use Rattle.pm_format.specs.Directory.{Entry}
 use Rattle.pm_format.specs.LookUp.{leaf_of, range_of}
 use Rattle.pm_reader.specs.Answers.{LookUpCauses}
+use Rattle.pm_walk.specs.Collected.{Collected}
 use Rattle.pm_walk.specs.Intervals.{in_intervals, stays_within}
 use Rattle.pm_walk.specs.Parts.{pieces, tile_count}
 use Rattle.pm_walk.specs.Testing.{IsOfRun}
@@ -16,7 +17,6 @@ use Rattle.pm_walk.specs.declared.error.WalkError.TheVariants.{Archive, TooManyT
 use Rattle.pm_walk.specs.declared.extent.Extent.{Extent}
 use Rattle.pm_walk.specs.declared.extent.Extent.TheVariants.{Within, Whole}
 use Rattle.pm_walk.specs.declared.extent.TheConstants.{FIRST_TOO_DEEP}
-use Rattle.pm_walk.specs.declared.parts.Collected.{Collected}
 
 -- the room that is left behind so many tiles, where there is enough
 abbrev pub taken : Option ℕ → ℕ → Option ℕ
@@ -30,7 +30,7 @@ room_after room (p ∷ ps) = room_after (taken room p.run_length) ps
 -- these parts were collected, as long as there is room for all of them
 pub record Collects (old : Collected) (ps : List Entry) (new : Collected) : Type 0 where
   pub room : new.room ≡ room_after old.room ps
-  pub parts : IfSome new.room (λ _. new.parts.items ≡ old.parts.items ++ ps)
+  pub parts : IfSome new.room (λ _. new.parts ≡ old.parts ++ ps)
 
 -- parts of at least one id, in order and apart, from an id on and up to an end, and none past the ids of tiles
 abbrev pub AreOrdered : ℕ → List Entry → Option ℕ → Type 0
@@ -70,11 +70,11 @@ AreContentsOf told h es cs = (length cs ≡ length es) × IfSome told (λ b. cs 
 -- where the whole is walked, the contents of what was collected are kept beside it
 abbrev pub KeepsContents : Extent → Option (List ℕ) → Header → Collected → Type 0
 KeepsContents Within told h c = Unit {0}
-KeepsContents Whole told h c = AreContentsOf told h c.parts.items c.contents.items
+KeepsContents Whole told h c = AreContentsOf told h c.parts c.contents
 
 -- As long as there is room, the parts lie in the intervals, and their tiles and those that there is room for are no more than these.
 abbrev pub KeepsTo : Extent → List (ℕ × ℕ) → ℕ → Collected → Type 0
-KeepsTo k is most c = IfSome c.room (λ room. KeepWithin k is c.parts.items × (tile_count c.parts.items + room ≤ most))
+KeepsTo k is most c = IfSome c.room (λ room. KeepWithin k is c.parts × (tile_count c.parts + room ≤ most))
 
 -- a walk of the whole stops where no room is left
 abbrev pub Stops : Extent → Option ℕ → Type 0

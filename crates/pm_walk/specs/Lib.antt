@@ -2,6 +2,10 @@ pub mod Intervals
 pub mod Walk
 pub mod Parts
 pub mod Testing
+pub mod Collected
 pub mod Collecting
 pub mod Gathering
 pub mod Taking
+pub mod Taker
+pub mod Steps
+pub mod Gathered

@@ -2,52 +2,50 @@
 ghost use Rattle.std.specs.Prelude.{◌≡◌, ◌≤◌, ◌+◌, true, [], None, Ok, Err, IfSome, IfOk, IfErr, is_some};
 ghost use Rattle.pm_reader.specs.Opening.{header_of, root_of};
 ghost use Rattle.pm_reader.specs.Reads.{ReadsOnly};
-ghost use Rattle.pm_walk.specs.Collecting.{AllLieIn, AllShallow, AreContentsOf, AreOrdered, KeepWithin, KeepsContents, StopCauses};
+ghost use Rattle.pm_walk.specs.Collecting.{AllLieIn, AreOrdered, StopCauses};
+ghost use Rattle.pm_walk.specs.Gathered.{HoldsGiven, IsGathered};
 ghost use Rattle.pm_walk.specs.Gathering.{Gathers};
 ghost use Rattle.pm_walk.specs.Intervals.{AreApart};
 ghost use Rattle.pm_walk.specs.Parts.{tile_count};
 ghost use Rattle.pm_walk.specs.Walk.{all_walked, walked};
 
-use crate::parts::Collected;
+use crate::taker::Collecting;
 use crate::walk::{MAX_DEPTH, walk};
-use crate::{Extent, WalkError};
+use crate::{Extent, TakesEntries, WalkError};
+use base_values::OutOfMemory;
 use bytes::Bytes;
 use pm_format::{Backend, DirEntry};
 use pm_reader::ReaderState;
 use std::alloc::Global;
 
-// What was collected, where there was room for all of it.
-fn all_of(collected: Collected) -> Result<Collected, WalkError>
-    ensures ok { IfOk result (λ all. (all ≡ collected) × (is_some collected.room ≡ true)) }
-    ensures err { IfErr result (λ e. (e ≡ WalkError.TooManyTiles) × (collected.room ≡ None)) }
+// What has taken all parts, where there was room for all of them.
+fn all_of<T: Drop>(collecting: Collecting<T>) -> Result<T, WalkError>
+    ensures ok { IfOk result (λ taker. (taker ≡ collecting.taker)
+        × (is_some collecting.room ≡ true)) }
+    ensures err { IfErr result (λ e. (e ≡ WalkError.TooManyTiles) × (collecting.room ≡ None)) }
 {
-    if collected.room.is_none() {
+    let Collecting { taker, room } = collecting;
+    if room.is_none() {
         return Err(WalkError::TooManyTiles);
     }
-    Ok(collected)
+    Ok(taker)
 }
 
-// What a walk from the root collects.
-fn gather<B: Backend>(
-    alloc: Global,
+// Gives what a walk from the root collects.
+fn gather<B: Backend, T: TakesEntries + Drop>(
     extent: Extent,
     state: &ReaderState,
     backend: &mut B,
     intervals: &[(u64, u64)],
+    taker: T,
     max_tiles: u64,
-) -> Result<Collected, WalkError>
-    ensures gathered { IfSome (B.told backend.old) (λ b. IfOk result (λ c.
-        Gathers extent (walked extent 6 (header_of state.now) b intervals.now 0 None
-        (root_of state.now)) intervals.now max_tiles (Ok c.parts.items))) }
+) -> Result<T, WalkError>
+    requires begun { T.holds taker [] [] }
+    ensures gathered { IfOk result (IsGathered T.holds extent (B.told backend.old)
+        (header_of state.now) (root_of state.now) intervals.now max_tiles) }
     ensures refused { IfSome (B.told backend.old) (λ b. IfErr result (λ x.
         Gathers extent (walked extent 6 (header_of state.now) b intervals.now 0 None
         (root_of state.now)) intervals.now max_tiles (Err x))) }
-    ensures ordered { AreApart 0 intervals.now
-        → IfOk result (λ c. AreOrdered 0 c.parts.items None) }
-    ensures few { IfOk result (λ c. tile_count c.parts.items ≤ max_tiles) }
-    ensures within { IfOk result (λ c. KeepWithin extent intervals.now c.parts.items) }
-    ensures contents { IfOk result (KeepsContents extent (B.told backend.old)
-        (header_of state.now)) }
     ensures causes { IfErr result (StopCauses extent (B.faults backend.old)
         (B.faults backend.new)) }
     ensures kept { ReadsOnly B.told B.versions B.faults B.steady backend.old backend.new }
@@ -55,13 +53,16 @@ fn gather<B: Backend>(
         ≤ B.reads backend.old + (walked extent 6 (header_of state.now) b intervals.now 0 None
         (root_of state.now)).reads) }
 {
-    let mut collected = Collected::new(alloc, max_tiles);
+    let mut collecting = Collecting {
+        taker,
+        room: Some(max_tiles),
+    };
     let root = state.root();
     match walk(
         extent,
         state,
         intervals,
-        &mut collected,
+        &mut collecting,
         backend,
         0,
         None,
@@ -71,36 +72,36 @@ fn gather<B: Backend>(
         Ok(()) => {}
         Err(error) => return Err(error),
     }
-    match all_of(collected) {
-        Ok(all) => Ok(all),
+    match all_of(collecting) {
+        Ok(taker) => Ok(taker),
         Err(error) => Err(error),
     }
 }
 
-// Its entries alone, and with their contents.
-fn parts_of(collected: Collected) -> Vec<DirEntry>
-    ensures { result.items ≡ collected.parts.items }
-{
-    let Collected {
-        parts,
-        contents: _,
-        room: _,
-    } = collected;
-    parts
+// The parts of a walk, as a list.
+#[derive(Drop)]
+struct PartList {
+    parts: Vec<DirEntry>,
 }
 
-fn entries_of(collected: Collected) -> ReadEntries
-    ensures entries { result.entries.items ≡ collected.parts.items }
-    ensures contents { result.contents.items ≡ collected.contents.items }
+impl TakesEntries for PartList {
+    ghost use Rattle.std.specs.Prelude.{◌≡◌};
+
+    ghost holds = { λ t es cs. t.parts.items ≡ es };
+
+    fn take_entry(&mut self, entry: DirEntry, contents: Bytes) -> Result<(), OutOfMemory> {
+        let _ = contents;
+        self.parts.push(entry)?;
+        Ok(())
+    }
+}
+
+// No part yet.
+fn no_parts(alloc: Global) -> PartList
+    ensures { result.parts.items ≡ [] }
 {
-    let Collected {
-        parts,
-        contents,
-        room: _,
-    } = collected;
-    ReadEntries {
-        entries: parts,
-        contents,
+    PartList {
+        parts: Vec::new(alloc),
     }
 }
 
@@ -134,48 +135,38 @@ pub fn collect<B: Backend>(
         ≤ B.reads backend.old + (walked Extent.Within 6 (header_of state.now) b intervals.now 0
         None (root_of state.now)).reads) }
 {
-    match gather(alloc, Extent::Within, state, backend, intervals, max_tiles) {
-        Ok(collected) => Ok(parts_of(collected)),
+    let none = no_parts(alloc);
+    match gather(Extent::Within, state, backend, intervals, none, max_tiles) {
+        Ok(list) => Ok(list.parts),
         Err(error) => Err(error),
     }
 }
 
-/// The tile entries of a whole archive that have bytes, in order of their ids, and the contents of each.
-#[derive(Drop)]
-pub struct ReadEntries {
-    pub entries: Vec<DirEntry>,
-    pub contents: Vec<Bytes>,
-}
-
-/// The tile entries of a whole archive that opened, with their contents, in order of their ids. Entries without a byte are left out.
+/// Gives the tile entries of a whole archive that opened, with their contents, in order of their ids, to what takes them, and answers what has taken all. Entries without a byte are left out.
 ///
 /// The directories are walked as by `collect`, but all of them. A tile entry is tested, in this order, for `PastEnd`, `InvalidTileId`, `TooDeep` and `TooManyTiles`, for the last two unless it is
-/// empty. Each costs one read: its contents are read once it has passed the other tests; where it fails one of them or is empty, no bytes are read at the end of its range.
-pub fn read_entries<B: Backend>(
-    alloc: Global,
+/// empty. Each costs one read: its contents are read once it has passed the other tests, and given away at once; where it fails one of them or is empty, no bytes are read at the end of its range. So what
+/// is given has at most so many tiles, also where the walk is refused behind it, and what has taken a part of the entries is let go then. Where it wants memory, the walk ends.
+pub fn take_entries<B: Backend, T: TakesEntries + Drop>(
     state: &ReaderState,
     backend: &mut B,
+    taker: T,
     max_tiles: u64,
-) -> Result<ReadEntries, WalkError>
-    ensures gathered { IfSome (B.told backend.old) (λ b. IfOk result (λ read.
-        Gathers Extent.Whole (all_walked b (header_of state.now, root_of state.now)) [] max_tiles
-        (Ok read.entries.items))) }
+) -> Result<T, WalkError>
+    requires begun { T.holds taker [] [] }
+    ensures given { IfOk result (HoldsGiven T.holds (B.told backend.old) (header_of state.now)
+        (root_of state.now) max_tiles) }
     ensures refused { IfSome (B.told backend.old) (λ b. IfErr result (λ x.
         Gathers Extent.Whole (all_walked b (header_of state.now, root_of state.now)) [] max_tiles
         (Err x))) }
-    ensures contents { IfOk result (λ read. AreContentsOf (B.told backend.old)
-        (header_of state.now) read.entries.items read.contents.items) }
-    ensures ordered { IfOk result (λ read. AreOrdered 0 read.entries.items None) }
-    ensures few { IfOk result (λ read. tile_count read.entries.items ≤ max_tiles) }
-    ensures shallow { IfOk result (λ read. AllShallow read.entries.items) }
     ensures causes { IfErr result (StopCauses Extent.Whole (B.faults backend.old)
         (B.faults backend.new)) }
     ensures kept { ReadsOnly B.told B.versions B.faults B.steady backend.old backend.new }
     ensures reads { IfSome (B.told backend.old) (λ b. B.reads backend.new ≤ B.reads backend.old
         + (all_walked b (header_of state.now, root_of state.now)).reads) }
 {
-    match gather(alloc, Extent::Whole, state, backend, &[], max_tiles) {
-        Ok(collected) => Ok(entries_of(collected)),
+    match gather(Extent::Whole, state, backend, &[], taker, max_tiles) {
+        Ok(taker) => Ok(taker),
         Err(error) => Err(error),
     }
 }

@@ -6,10 +6,12 @@ mod error;
 mod extent;
 mod intervals;
 mod parts;
+mod taker;
 mod taking;
 mod testing;
 mod walk;
 
-pub use collection::{ReadEntries, collect, read_entries};
+pub use collection::{collect, take_entries};
 pub use error::WalkError;
 pub use extent::{Extent, FIRST_TOO_DEEP};
+pub use taker::TakesEntries;

@@ -1,16 +1,19 @@
 // A tile entry that is met: tested, and collected.
-ghost use Rattle.std.specs.Prelude.{◌≡◌, ◌≢◌, ◌+◌, ◌≤◌, ℕ, List, [], IfSome, IfOk, IfErr, OnOk, Some};
+ghost use Rattle.std.specs.Prelude.{◌≡◌, ◌≢◌, ◌+◌, ◌≤◌, ℕ, List, Option, [], IfSome, IfOk, IfErr};
 ghost use Rattle.pm_format.specs.declared.header.Header.{Header};
 ghost use Rattle.pm_reader.specs.Opening.{header_of};
 ghost use Rattle.pm_reader.specs.Reads.{ReadsOnly};
-ghost use Rattle.pm_walk.specs.Collecting.{AreOrdered, HasRoom, KeepsContents, KeepsTo, StopCauses, StopsWith, Walks};
-ghost use Rattle.pm_walk.specs.Intervals.{AreApart};
+ghost use Rattle.pm_walk.specs.Collected.{Collected};
+ghost use Rattle.pm_walk.specs.Collecting.{StopCauses};
+ghost use Rattle.pm_walk.specs.Steps.{TakesTile};
+ghost use Rattle.pm_walk.specs.Taker.{Holds};
 ghost use Rattle.pm_walk.specs.Taking.{IsTaken, Takes, behind_range};
-ghost use Rattle.pm_walk.specs.Walk.{tile_reads, tile_walk};
+ghost use Rattle.pm_walk.specs.Walk.{tile_reads};
 
-use crate::parts::{Collected, room_behind};
+use crate::parts::add_entry;
+use crate::taker::{Collecting, room_behind};
 use crate::testing::{run_refusal, test_range};
-use crate::{Extent, WalkError};
+use crate::{Extent, TakesEntries, WalkError};
 use bytes::Bytes;
 use pm_format::{Backend, DirEntry, PmtError};
 use pm_reader::ReaderState;
@@ -64,34 +67,23 @@ fn read_whole<B: Backend>(
 }
 
 // A tile entry where the whole is walked.
-fn take_whole<B: Backend>(
+fn take_whole<B: Backend, T: TakesEntries>(
     state: &ReaderState,
-    collected: &mut Collected,
+    collecting: &mut Collecting<T>,
     backend: &mut B,
     entry: DirEntry,
 ) -> Result<(), WalkError>
     requires run { entry.run_length ≢ 0 }
-    ensures answer { IfSome (B.told backend.old) (λ b. Walks Extent.Whole (tile_walk Extent.Whole
-        (header_of state.now) b entry) [] collected.old collected.new result) }
-    ensures ordered { AreOrdered 0 collected.old.parts.items (Some entry.tile_id)
-        → OnOk result (AreOrdered 0 collected.new.parts.items (Some
-        (entry.tile_id + entry.run_length))) }
-    ensures keeps { (most : ℕ) → KeepsTo Extent.Whole [] most collected.old
-        → OnOk result (KeepsTo Extent.Whole [] most collected.new) }
-    ensures contents { KeepsContents Extent.Whole (B.told backend.old) (header_of state.now)
-        collected.old → OnOk result (KeepsContents Extent.Whole (B.told backend.old)
-        (header_of state.now) collected.new) }
-    ensures room { HasRoom Extent.Whole collected.old.room
-        → OnOk result (HasRoom Extent.Whole collected.new.room) }
-    ensures stop { HasRoom Extent.Whole collected.old.room
-        → IfErr result (StopsWith Extent.Whole collected.new.room) }
+    ensures takes { (c : Collected) → Holds T.holds collecting.old.taker collecting.old.room c
+        → TakesTile T.holds Extent.Whole (B.told backend.old) (header_of state.now) [] entry c
+        collecting.new.taker collecting.new.room result }
     ensures causes { IfErr result (StopCauses Extent.Whole (B.faults backend.old)
         (B.faults backend.new)) }
     ensures kept { ReadsOnly B.told B.versions B.faults B.steady backend.old backend.new }
     ensures reads { B.reads backend.new ≤ B.reads backend.old + 1 }
 {
-    match read_whole(state, backend, collected.room, entry) {
-        Ok(Some(contents)) => match collected.add_whole(entry, contents) {
+    match read_whole(state, backend, collecting.room, entry) {
+        Ok(Some(contents)) => match collecting.add_part(entry, contents) {
             Ok(()) => Ok(()),
             Err(_) => Err(WalkError::Archive(PmtError::OutOfMemory)),
         },
@@ -101,64 +93,47 @@ fn take_whole<B: Backend>(
 }
 
 // A tile entry where a part is walked.
-fn take_parts(
+fn take_parts<T: TakesEntries>(
     intervals: &[(u64, u64)],
-    collected: &mut Collected,
+    collecting: &mut Collecting<T>,
     entry: DirEntry,
 ) -> Result<(), WalkError>
     requires run { entry.run_length ≢ 0 }
-    ensures answer { (h : Header) (b : List ℕ) → Walks Extent.Within (tile_walk Extent.Within
-        h b entry) intervals.now collected.old collected.new result }
-    ensures ordered { AreApart 0 intervals.now
-        → AreOrdered 0 collected.old.parts.items (Some entry.tile_id)
-        → OnOk result (AreOrdered 0 collected.new.parts.items (Some
-        (entry.tile_id + entry.run_length))) }
-    ensures keeps { (most : ℕ) → KeepsTo Extent.Within intervals.now most collected.old
-        → OnOk result (KeepsTo Extent.Within intervals.now most collected.new) }
+    ensures takes { (told : Option (List ℕ)) (h : Header) (c : Collected)
+        → Holds T.holds collecting.old.taker collecting.old.room c
+        → TakesTile T.holds Extent.Within told h intervals.now entry c
+        collecting.new.taker collecting.new.room result }
     ensures causes { (before now : ℕ) → IfErr result (StopCauses Extent.Within before now) }
 {
     if !entry.run_in_range() {
         return Err(WalkError::Archive(PmtError::InvalidEntry));
     }
-    match collected.add_entry(intervals, entry) {
+    match add_entry(collecting, intervals, entry) {
         Ok(()) => Ok(()),
         Err(_) => Err(WalkError::Archive(PmtError::OutOfMemory)),
     }
 }
 
 /// A tile entry, tested and collected: where a part is walked, the parts of a run of tiles; where the whole is walked, the entry with its contents.
-pub(crate) fn take<B: Backend>(
+pub(crate) fn take<B: Backend, T: TakesEntries>(
     extent: Extent,
     state: &ReaderState,
     intervals: &[(u64, u64)],
-    collected: &mut Collected,
+    collecting: &mut Collecting<T>,
     backend: &mut B,
     entry: DirEntry,
 ) -> Result<(), WalkError>
     requires run { entry.run_length ≢ 0 }
-    ensures answer { IfSome (B.told backend.old)
-        (λ b. Walks extent (tile_walk extent
-        (header_of state.now) b entry) intervals.now collected.old collected.new result) }
-    ensures ordered { AreApart 0 intervals.now
-        → AreOrdered 0 collected.old.parts.items (Some entry.tile_id)
-        → OnOk result (AreOrdered 0 collected.new.parts.items (Some
-        (entry.tile_id + entry.run_length))) }
-    ensures keeps { (most : ℕ) → KeepsTo extent intervals.now most collected.old
-        → OnOk result (KeepsTo extent intervals.now most collected.new) }
-    ensures contents { KeepsContents extent (B.told backend.old) (header_of state.now)
-        collected.old → OnOk result (KeepsContents extent (B.told backend.old)
-        (header_of state.now) collected.new) }
-    ensures room { HasRoom extent collected.old.room
-        → OnOk result (HasRoom extent collected.new.room) }
-    ensures stop { HasRoom extent collected.old.room
-        → IfErr result (StopsWith extent collected.new.room) }
+    ensures takes { (c : Collected) → Holds T.holds collecting.old.taker collecting.old.room c
+        → TakesTile T.holds extent (B.told backend.old) (header_of state.now) intervals.now entry c
+        collecting.new.taker collecting.new.room result }
     ensures causes { IfErr result (StopCauses extent (B.faults backend.old)
         (B.faults backend.new)) }
     ensures kept { ReadsOnly B.told B.versions B.faults B.steady backend.old backend.new }
     ensures reads { B.reads backend.new ≤ B.reads backend.old + tile_reads extent }
 {
     match extent {
-        Extent::Within => take_parts(intervals, collected, entry),
-        Extent::Whole => take_whole(state, collected, backend, entry),
+        Extent::Within => take_parts(intervals, collecting, entry),
+        Extent::Whole => take_whole(state, collecting, backend, entry),
     }
 }

@@ -1,15 +1,18 @@
 // The walk along the directories that are met, each read once.
-ghost use Rattle.std.specs.Prelude.{◌≡◌, ◌+◌, ◌≤◌, ℕ, true, IfSome, IfOk, IfErr, OnOk, Some};
+ghost use Rattle.std.specs.Prelude.{◌≡◌, ◌≢◌, ◌+◌, ◌≤◌, true, IfSome, IfOk, IfErr};
 ghost use Rattle.pm_reader.specs.Opening.{header_of};
 ghost use Rattle.pm_reader.specs.Reads.{ReadsOnly};
-ghost use Rattle.pm_walk.specs.Collecting.{AreOrdered, HasRoom, IsMetLeaf, KeepsContents, KeepsTo, MeetReads, Meets, StopCauses, StopsWith, Walks};
-ghost use Rattle.pm_walk.specs.Intervals.{AreApart, stays_within};
-ghost use Rattle.pm_walk.specs.Walk.{below, end_before, entry_walk, fits_depth, rises, stands, walked};
+ghost use Rattle.pm_walk.specs.Collected.{Collected};
+ghost use Rattle.pm_walk.specs.Collecting.{MeetReads, StopCauses};
+ghost use Rattle.pm_walk.specs.Intervals.{stays_within};
+ghost use Rattle.pm_walk.specs.Steps.{MeetsEntry, WalksAll};
+ghost use Rattle.pm_walk.specs.Taker.{Holds};
+ghost use Rattle.pm_walk.specs.Walk.{below, end_before, entry_walk, fits_depth, rises, stands};
 
 use crate::intervals::{is_below, meets, stays_within};
-use crate::parts::Collected;
+use crate::taker::Collecting;
 use crate::taking::take;
-use crate::{Extent, WalkError};
+use crate::{Extent, TakesEntries, WalkError};
 use pm_format::{Backend, DirEntry, Directory, PmtError};
 use pm_reader::ReaderState;
 
@@ -62,35 +65,21 @@ fn end_of(others: &[DirEntry], limit: Option<u64>) -> Option<u64>
 }
 
 // An entry that passes its tests: the leaf that it leads to, still to be walked, or none where it is a tile or its leaf isn't met.
-fn meet<B: Backend>(
+fn meet<B: Backend, T: TakesEntries>(
     extent: Extent,
     state: &ReaderState,
     intervals: &[(u64, u64)],
-    collected: &mut Collected,
+    collecting: &mut Collecting<T>,
     backend: &mut B,
     entry: DirEntry,
     end: Option<u64>,
     left: u8,
 ) -> Result<Option<Directory>, WalkError>
     requires fits { fits_depth left entry ≡ true }
-    ensures answer { IfSome (B.told backend.old)
-        (λ b. Meets extent (header_of state.now) b intervals.now left entry end collected.old
-        collected.new result) }
-    ensures ordered { AreApart 0 intervals.now
-        → AreOrdered 0 collected.old.parts.items (Some entry.tile_id)
-        → stays_within end (entry.tile_id + entry.run_length) ≡ true
-        → OnOk result (AreOrdered 0 collected.new.parts.items end) }
-    ensures keeps { (most : ℕ) → KeepsTo extent intervals.now most collected.old
-        → OnOk result (KeepsTo extent intervals.now most collected.new) }
-    ensures contents { KeepsContents extent (B.told backend.old) (header_of state.now)
-        collected.old → OnOk result (KeepsContents extent (B.told backend.old)
-        (header_of state.now) collected.new) }
-    ensures room { HasRoom extent collected.old.room
-        → OnOk result (HasRoom extent collected.new.room) }
-    ensures stop { HasRoom extent collected.old.room
-        → IfErr result (StopsWith extent collected.new.room) }
-    ensures below { IfOk result (λ leaf. IfSome leaf
-        (λ _. IsMetLeaf extent intervals.now left entry end collected.old collected.new)) }
+    ensures meets { (c : Collected) → Holds T.holds collecting.old.taker collecting.old.room c
+        → MeetsEntry T.holds extent (B.told backend.old) (header_of state.now) intervals.now left
+        entry end c collecting.new.taker collecting.new.room result }
+    ensures deep { IfOk result (λ leaf. IfSome leaf (λ _. left ≢ 0)) }
     ensures causes { IfErr result (StopCauses extent (B.faults backend.old)
         (B.faults backend.new)) }
     ensures kept { ReadsOnly B.told B.versions B.faults B.steady backend.old backend.new }
@@ -100,7 +89,7 @@ fn meet<B: Backend>(
         (B.reads backend.old) (B.reads backend.new) result) }
 {
     if !entry.is_leaf() {
-        return match take(extent, state, intervals, collected, backend, entry) {
+        return match take(extent, state, intervals, collecting, backend, entry) {
             Ok(()) => Ok(None),
             Err(error) => Err(error),
         };
@@ -115,39 +104,24 @@ fn meet<B: Backend>(
 }
 
 /// Walks a directory and the leaves below it that are met, at most so many deep: each entry is tested, a tile is collected, and a leaf that is met is read and walked whole before the next entry.
-pub(crate) fn walk<B: Backend>(
+pub(crate) fn walk<B: Backend, T: TakesEntries>(
     extent: Extent,
     state: &ReaderState,
     intervals: &[(u64, u64)],
-    collected: &mut Collected,
+    collecting: &mut Collecting<T>,
     backend: &mut B,
     low: u64,
     limit: Option<u64>,
     left: u8,
     directory: &Directory,
 ) -> Result<(), WalkError>
-    ensures answer { IfSome (B.told backend.old)
-        (λ b. Walks extent (walked extent left
-        (header_of state.now) b intervals.now low limit directory.now) intervals.now
-        collected.old collected.new result) }
-    ensures ordered { AreApart 0 intervals.now → AreOrdered 0 collected.old.parts.items (Some low)
-        → stays_within limit low ≡ true → OnOk result
-        (AreOrdered 0 collected.new.parts.items limit) }
-    ensures keeps { (most : ℕ) → KeepsTo extent intervals.now most collected.old
-        → OnOk result (KeepsTo extent intervals.now most collected.new) }
-    ensures contents { KeepsContents extent (B.told backend.old) (header_of state.now)
-        collected.old → OnOk result (KeepsContents extent (B.told backend.old)
-        (header_of state.now) collected.new) }
-    ensures room { HasRoom extent collected.old.room
-        → OnOk result (HasRoom extent collected.new.room) }
-    ensures stop { HasRoom extent collected.old.room
-        → IfErr result (StopsWith extent collected.new.room) }
+    ensures walks { (c : Collected) → Holds T.holds collecting.old.taker collecting.old.room c
+        → WalksAll T.holds extent (B.told backend.old) (header_of state.now) intervals.now left low
+        limit directory.now c collecting.new.taker collecting.new.room
+        (B.reads backend.old) (B.reads backend.new) result }
     ensures causes { IfErr result (StopCauses extent (B.faults backend.old)
         (B.faults backend.new)) }
     ensures kept { ReadsOnly B.told B.versions B.faults B.steady backend.old backend.new }
-    ensures reads { IfSome (B.told backend.old)
-        (λ b. B.reads backend.new ≤ B.reads backend.old + (walked extent left
-        (header_of state.now) b intervals.now low limit directory.now).reads) }
 {
     let mut before = None;
     let mut rest = directory.entries();
@@ -160,7 +134,7 @@ pub(crate) fn walk<B: Backend>(
         before = Some(entry);
         rest = others;
         match meet(
-            extent, state, intervals, collected, backend, entry, end, left,
+            extent, state, intervals, collecting, backend, entry, end, left,
         ) {
             Ok(None) => {}
             Ok(Some(leaf)) => {
@@ -169,7 +143,7 @@ pub(crate) fn walk<B: Backend>(
                     extent,
                     state,
                     intervals,
-                    collected,
+                    collecting,
                     backend,
                     id,
                     end,

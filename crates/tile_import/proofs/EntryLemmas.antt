@@ -1,8 +1,9 @@
 -- What a set has after the tiles of entries were put into it.
-use Rattle.std.proofs.Common.{◌≡◌, ◌∙◌, ◌+◌, ◌≤◌, ◌<◌, ℕ, Bool, true, false, nat_le, nat_lt, List, [], ◌∷◌, length, Option, Some, None, cond, refl, ap, sym, arith}
+use Rattle.std.proofs.Common.{◌≡◌, ◌∙◌, ◌+◌, ◌≤◌, ◌<◌, ℕ, Bool, true, false, nat_le, nat_lt, List, [], ◌∷◌, ◌++◌, length, Option, Some, None, OnOk, Result, Ok, Err, cond, refl, ap, sym, arith}
 use Rattle.std.proofs.lemmas.Bool.{and_parts}
 use Rattle.std.proofs.lemmas.Bool.Decides.{nat_tests}
-use Rattle.std.specs.FinMap.{get, len}
+use Rattle.std.proofs.lemmas.List.{length-append}
+use Rattle.std.specs.FinMap.{empty, get, len}
 use Rattle.pm_format.specs.Directory.{Entry}
 use Rattle.pm_format.specs.declared.header.Header.{Header}
 use Rattle.mb_tables.specs.Tiles.{Place, TileSet}
@@ -12,7 +13,7 @@ use Rattle.pm_walk.specs.Collecting.{AllShallow, AreOrdered, contents_of}
 use Rattle.pm_walk.specs.Parts.{tile_count}
 use Rattle.pm_walk.proofs.CoveringLemmas.{covering, covers_here, covers_later, has_id, none_below}
 use Rattle.tile_import.proofs.PlacingLemmas.{At, get_run, in_run, run_few, run_on_board}
-use Rattle.tile_import.specs.Putting.{AreOnBoard, ids_of, with_contents, with_entries, with_ids}
+use Rattle.tile_import.specs.Putting.{AreOnBoard, IsMadeOf, ids_of, with_contents, with_entries, with_ids}
 
 -- the contents of an entry that was found, or what was there
 abbrev pub found_at : Header → List ℕ → Option Entry → At → At
@@ -52,11 +53,16 @@ contents_few tiles (e ∷ es) (c ∷ cs) =
     let run = run_few tiles c e.tile_id e.run_length in
     omega (arith, rest, run)
 
--- no contents are left
-pub no_contents : (tiles : TileSet) (es : List Entry) → with_contents tiles es [] ≡ tiles
-no_contents tiles [] = refl
-no_contents tiles (e ∷ es) = refl
+-- one more entry behind others
+contents_push : (tiles : TileSet) (es : List Entry) (cs : List (List ℕ)) (e : Entry) (c : List ℕ) → length cs ≡ length es → with_contents tiles (es ++ e ∷ []) (cs ++ c ∷ []) ≡ with_ids (with_contents tiles es cs) c (ids_of e)
+contents_push tiles [] [] e c same = refl
+contents_push tiles [] (x ∷ cs) e c same = absurd (omega (arith, same))
+contents_push tiles (d ∷ es) [] e c same = absurd (omega (arith, same))
+contents_push tiles (d ∷ es) (x ∷ cs) e c same = contents_push (with_ids tiles x (ids_of d)) es cs e c (omega (arith, same))
 
-pub no_items : {A : Type 0} (l : List A) → length l ≡ 0 → l ≡ []
-no_items [] is = refl
-no_items (x ∷ xs) is = absurd (omega (arith, is))
+pub made_more : {E : Type 0} (r : Result Unit E) (old new : TileSet) (es : List Entry) (cs : List (List ℕ)) (e : Entry) (c : List ℕ) → OnOk r (new ≡ with_ids old c (ids_of e)) → IsMadeOf old es cs → OnOk r (IsMadeOf new (es ++ e ∷ []) (cs ++ c ∷ []))
+made_more (Err x) old new es cs e c put made = tt
+made_more (Ok x) old new es cs e c put made = (
+  length-append cs (c ∷ []) ∙ ap (λ n. n + 1) made.0 ∙ sym (length-append es (e ∷ [])),
+  put ∙ ap (λ m. with_ids m c (ids_of e)) made.1 ∙ sym (contents_push empty es cs e c made.0),
+)

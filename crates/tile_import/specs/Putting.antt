@@ -1,6 +1,6 @@
 -- The tiles of tile entries, put one after another into a set.
-use Rattle.std.specs.Prelude.{◌≡◌, ℕ, true, List, [], ◌∷◌, map, Some}
-use Rattle.std.specs.FinMap.{contains_key, insert}
+use Rattle.std.specs.Prelude.{◌≡◌, ℕ, true, List, [], ◌∷◌, length, map, Some}
+use Rattle.std.specs.FinMap.{contains_key, empty, insert}
 use Rattle.std.specs.List.{range_with_len}
 use Rattle.tile_ids.specs.Hilbert.{coord_of}
 use Rattle.pm_format.specs.declared.header.Header.{Header}
@@ -28,6 +28,10 @@ abbrev pub with_contents : TileSet → List Entry → List (List ℕ) → TileSe
 with_contents tiles [] cs = tiles
 with_contents tiles (e ∷ es) [] = tiles
 with_contents tiles (e ∷ es) (c ∷ cs) = with_contents (with_ids tiles c (ids_of e)) es cs
+
+-- these are the tiles of entries with contents beside them
+abbrev pub IsMadeOf : TileSet → List Entry → List (List ℕ) → Type 0
+IsMadeOf tiles es cs = (length cs ≡ length es) × (tiles ≡ with_contents empty es cs)
 
 -- of those that an archive has there
 abbrev pub with_entries : Header → List ℕ → TileSet → List Entry → TileSet

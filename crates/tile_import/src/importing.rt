@@ -34,7 +34,7 @@ fn of_store(error: MbtError) -> ImportError
 /// 4. `Store` with `IdCollision`: contents that are put have the id of others in a normalised set, with the id of the first such tile.
 ///
 /// Refused, the store holds what it held. After Ok the tables load again as the set with the tiles over its own; rows of other places, metadata and descriptions stay, and rows that were put carry
-/// their digest, where the layout has one. No tile is made before the whole archive is walked. The archive is read once to open it, and once for each leaf and each tile entry. `Archive(Reading(Fault))` and `Store(StoreFault)` come
+/// their digest, where the layout has one. The tiles are made in memory as the archive is walked, those of a run once the limit has room for all of them, and no list of entries is kept. The archive is read once to open it, and once for each leaf and each tile entry. `Archive(Reading(Fault))` and `Store(StoreFault)` come
 /// only where the backend's, or the store's, count of faults rose.
 pub fn import<B: Backend, S: TileStore>(
     alloc: Global,

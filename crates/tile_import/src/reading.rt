@@ -12,11 +12,11 @@ ghost use Rattle.tile_import.specs.Reading.{IsTileId, tiles_of};
 ghost use Rattle.tile_import.specs.Refusals.{Reads, of_read_error, of_walk_error};
 
 use crate::ImportError;
-use crate::tiles::make_tiles;
+use crate::tiles::{no_tiles, settle_tiles};
 use mb_load::Loaded;
 use pm_format::{Backend, PmtError};
 use pm_reader::ReaderState;
-use pm_walk::{WalkError, read_entries};
+use pm_walk::{WalkError, take_entries};
 use std::alloc::Global;
 use tile_ids::{TileCoord, TileId};
 
@@ -71,17 +71,18 @@ fn read_opened<B: Backend>(
     ensures reads { IfSome (B.told backend.old) (λ b. B.reads backend.new ≤ B.reads backend.old
         + (all_walked b (header_of reader.now, root_of reader.now)).reads) }
 {
-    let read = match read_entries(alloc, reader, backend, max_tiles) {
-        Ok(read) => read,
+    let made = match take_entries(reader, backend, no_tiles(alloc), max_tiles) {
+        Ok(made) => made,
         Err(error) => return Err(of_walk(error, max_tiles)),
     };
-    match make_tiles(alloc, read) {
+    match settle_tiles(made) {
         Ok(tiles) => Ok(tiles),
         Err(_) => Err(ImportError::OutOfMemory),
     }
 }
 
-/// Opens an archive, walks all of it and reads its tiles of at least one byte, as a flat set of their own. No tile is made before the walk ends.
+/// Opens an archive, walks all of it and makes its tiles of at least one byte as it comes to them, as a flat set of their own, which is let go where the archive is refused. The tiles of a run are made
+/// once the limit has room for all of them.
 ///
 /// The first of these that holds is answered: the refusal of opening; at the first entry that fails a test, in order of the directories, the refusal of that test, `TooManyTiles` where the non-empty
 /// entries up to this one have more tiles than the limit.

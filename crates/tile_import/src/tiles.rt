@@ -1,17 +1,15 @@
 // The tiles of tile entries, as a set of their own.
-ghost use Rattle.std.specs.Prelude.{◌≡◌, ◌≤◌, IfOk, OnOk, Some};
-ghost use Rattle.std.specs.FinMap.{empty, insert, len};
-ghost use Rattle.mb_load.specs.LoadedFrom.{AllOnBoard};
-ghost use Rattle.pm_walk.specs.Collecting.{AllShallow, IsShallow};
-ghost use Rattle.pm_walk.specs.Parts.{tile_count};
-ghost use Rattle.tile_import.specs.Putting.{ids_of, place_of_id, with_contents, with_ids};
+ghost use Rattle.std.specs.Prelude.{◌≡◌, ◌≤◌, ◌+◌, [], IfOk, OnOk, Some};
+ghost use Rattle.std.specs.FinMap.{insert};
+ghost use Rattle.tile_ids.specs.declared.id.TheConstants.{MAX_TILE_ID};
+ghost use Rattle.tile_import.specs.Putting.{IsMadeOf, ids_of, place_of_id, with_ids};
 
 use base_values::{BlobVal, OutOfMemory};
 use bytes::Bytes;
 use mb_load::{Editing, Loaded};
 use mb_store::MbtType;
 use pm_format::DirEntry;
-use pm_walk::ReadEntries;
+use pm_walk::TakesEntries;
 use std::alloc::Global;
 use tile_hash::HashAlgorithm;
 use tile_ids::{TileCoord, TileId};
@@ -33,7 +31,7 @@ fn put_run(
     entry: DirEntry,
     bytes: &[u8],
 ) -> Result<(), OutOfMemory>
-    requires { IsShallow entry }
+    requires { entry.tile_id + entry.run_length ≤ MAX_TILE_ID + 1 }
     ensures { OnOk result (tiles.new.state.tiles
         ≡ with_ids tiles.old.state.tiles bytes.now (ids_of entry)) }
 {
@@ -43,47 +41,39 @@ fn put_run(
     Ok(())
 }
 
-// Puts the tiles of entries, in order, of the contents beside them, which are let go one by one.
-fn put_entries(
+/// The tiles of an archive, as a flat set of their own in the making: the contents of each tile entry stand at the coordinate of each id of its run.
+#[derive(Drop)]
+pub(crate) struct MadeTiles {
     alloc: Global,
-    tiles: &mut Editing,
-    entries: &[DirEntry],
-    contents: Vec<Bytes>,
-) -> Result<(), OutOfMemory>
-    requires { AllShallow entries.now }
-    ensures { OnOk result (tiles.new.state.tiles
-        ≡ with_contents tiles.old.state.tiles entries.now contents.items) }
-{
-    let mut rest = entries;
-    for bytes in contents {
-        let Some((entry, others)) = rest.split_first() else {
-            return Ok(());
-        };
-        put_run(alloc, tiles, *entry, bytes.as_slice())?;
-        rest = others;
-    }
-    Ok(())
+    tiles: Editing,
 }
 
-// A set without tiles, that takes those of an archive.
-fn no_tiles(alloc: Global) -> Editing
-    ensures { result.state.tiles ≡ empty }
+impl TakesEntries for MadeTiles {
+    ghost use Rattle.tile_import.specs.Putting.{IsMadeOf};
+
+    ghost holds = { λ t es cs. IsMadeOf t.tiles.state.tiles es cs };
+
+    fn take_entry(&mut self, entry: DirEntry, contents: Bytes) -> Result<(), OutOfMemory> {
+        put_run(self.alloc, &mut self.tiles, entry, contents.as_slice())
+    }
+}
+
+/// No tile yet.
+pub(crate) fn no_tiles(alloc: Global) -> MadeTiles
+    ensures { IsMadeOf result.tiles.state.tiles [] [] }
 {
     let set = Loaded::empty(alloc, MbtType::Flat, HashAlgorithm::Md5);
-    set.edit()
+    MadeTiles {
+        alloc,
+        tiles: set.edit(),
+    }
 }
 
-/// The tiles of tile entries of zoom 0 to 30, as a flat set of their own: the contents of each entry stand at the coordinate of each id of its run.
-pub(crate) fn make_tiles(alloc: Global, read: ReadEntries) -> Result<Loaded, OutOfMemory>
-    requires { AllShallow read.entries.items }
-    ensures put { IfOk result (λ set. set.state.tiles
-        ≡ with_contents empty read.entries.items read.contents.items) }
-    ensures board { IfOk result (λ set. AllOnBoard set.state) }
-    ensures few { IfOk result (λ set. len set.state.tiles ≤ tile_count read.entries.items) }
+/// The set, once all tiles are made.
+pub(crate) fn settle_tiles(made: MadeTiles) -> Result<Loaded, OutOfMemory>
+    ensures { IfOk result (λ set. set.state.tiles ≡ made.tiles.state.tiles) }
 {
-    let ReadEntries { entries, contents } = read;
-    let mut tiles = no_tiles(alloc);
-    put_entries(alloc, &mut tiles, &entries, contents)?;
+    let MadeTiles { alloc: _, tiles } = made;
     let set = tiles.settle()?;
     Ok(set)
 }

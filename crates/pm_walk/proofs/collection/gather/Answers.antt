@@ -1,43 +1,22 @@
-use Rattle.std.proofs.Common.{None, Some, refl, sym, subst}
+use Rattle.std.proofs.Common.{Err, Ok}
 use Rattle.pm_reader.specs.Opening.{header_of, root_of}
-use Rattle.pm_walk.specs.Collecting.{AreOrdered, KeepsContents}
-use Rattle.pm_walk.specs.declared.parts.Collected.{Collected}
-use Rattle.pm_walk.proofs.ContentsLemmas.{all_items, contents_first}
-use Rattle.pm_walk.proofs.GatheringLemmas.{told_gathered, told_refused, told_too_many}
-use Rattle.pm_walk.proofs.LyingLemmas.{kept_all}
+use Rattle.pm_walk.proofs.GatheredLemmas.{root_gathered, root_reads, root_refused, root_too_many}
 use Rattle.pm_walk.proofs.collection.gather.Goals as goal
 
 pub returns-in-Err-clause-refused : goal.returns-in-Err-clause-refused
-returns-in-Err-clause-refused g c =
-    told_refused (g.B.Backend.told c.args.backend.now) c.args.extent (header_of c.args.state.now) c.args.intervals.now c.root-root.result.now (root_of c.args.state.now) c.args.max_tiles c.new-collected.result c.walk.new.collected c.in-Err.error
-    c.root-root.ensures c.new-collected.ensures.parts c.in-Err.ensures.answer c.in-Err.ensures.stop
+returns-in-Err-clause-refused g c = root_refused g.T.TakesEntries.holds c.args.extent (g.B.Backend.told c.args.backend.now) (header_of c.args.state.now) c.args.intervals.now c.root-root.result.now (root_of c.args.state.now) c.args.max_tiles c.args.taker c.walk.new.collecting.taker c.walk.new.collecting.room (g.B.Backend.reads c.args.backend.now) (g.B.Backend.reads c.walk.new.backend) c.in-Err.error c.root-root.ensures c.requires.begun c.in-Err.ensures.walks
+
+pub returns-in-Err-clause-reads : goal.returns-in-Err-clause-reads
+returns-in-Err-clause-reads g c = root_reads g.T.TakesEntries.holds c.args.extent (g.B.Backend.told c.args.backend.now) (header_of c.args.state.now) c.args.intervals.now c.root-root.result.now (root_of c.args.state.now) c.args.max_tiles c.args.taker c.walk.new.collecting.taker c.walk.new.collecting.room (g.B.Backend.reads c.args.backend.now) (g.B.Backend.reads c.walk.new.backend) (Err c.in-Err.error) c.root-root.ensures c.requires.begun c.in-Err.ensures.walks
 
 pub returns-in-Ok-all_of-clause-gathered : goal.returns-in-Ok-all_of-clause-gathered
-returns-in-Ok-all_of-clause-gathered g c =
-    told_gathered (g.B.Backend.told c.args.backend.now) c.args.extent (header_of c.args.state.now) c.args.intervals.now c.root-root.result.now (root_of c.args.state.now) c.args.max_tiles c.new-collected.result c.walk.new.collected c.in-Ok-all_of.all.parts.items
-    c.root-root.ensures c.new-collected.ensures.parts c.in-Ok.ensures.answer (all_items c.walk.new.collected c.in-Ok-all_of.all c.in-Ok-all_of.ensures.ok)
+returns-in-Ok-all_of-clause-gathered g c = root_gathered g.T.TakesEntries.holds c.args.extent (g.B.Backend.told c.args.backend.now) (header_of c.args.state.now) c.args.intervals.now c.root-root.result.now (root_of c.args.state.now) c.args.max_tiles c.args.taker c.walk.new.collecting.taker c.in-Ok-all_of.taker c.walk.new.collecting.room (g.B.Backend.reads c.args.backend.now) (g.B.Backend.reads c.walk.new.backend) c.root-root.ensures c.requires.begun c.in-Ok.ensures.walks c.in-Ok-all_of.ensures.ok
+
+pub returns-in-Ok-all_of-clause-reads : goal.returns-in-Ok-all_of-clause-reads
+returns-in-Ok-all_of-clause-reads g c = root_reads g.T.TakesEntries.holds c.args.extent (g.B.Backend.told c.args.backend.now) (header_of c.args.state.now) c.args.intervals.now c.root-root.result.now (root_of c.args.state.now) c.args.max_tiles c.args.taker c.walk.new.collecting.taker c.walk.new.collecting.room (g.B.Backend.reads c.args.backend.now) (g.B.Backend.reads c.walk.new.backend) (Ok tt) c.root-root.ensures c.requires.begun c.in-Ok.ensures.walks
 
 pub returns-in-Err-all_of-clause-refused : goal.returns-in-Err-all_of-clause-refused
-returns-in-Err-all_of-clause-refused g c =
-    told_too_many (g.B.Backend.told c.args.backend.now) c.args.extent (header_of c.args.state.now) c.args.intervals.now c.root-root.result.now (root_of c.args.state.now) c.args.max_tiles c.new-collected.result c.walk.new.collected c.in-Err-all_of.error
-    c.root-root.ensures c.new-collected.ensures.parts c.in-Ok.ensures.answer c.in-Err-all_of.ensures.err
+returns-in-Err-all_of-clause-refused g c = root_too_many g.T.TakesEntries.holds c.args.extent (g.B.Backend.told c.args.backend.now) (header_of c.args.state.now) c.args.intervals.now c.root-root.result.now (root_of c.args.state.now) c.args.max_tiles c.args.taker c.walk.new.collecting.taker c.walk.new.collecting.room (g.B.Backend.reads c.args.backend.now) (g.B.Backend.reads c.walk.new.backend) c.in-Err-all_of.error c.root-root.ensures c.requires.begun c.in-Ok.ensures.walks c.in-Err-all_of.ensures.err
 
-pub returns-in-Ok-all_of-clause-few : goal.returns-in-Ok-all_of-clause-few
-returns-in-Ok-all_of-clause-few g c =
-    (kept_all c.args.extent c.args.intervals.now c.args.max_tiles c.new-collected.result c.walk.new.collected c.in-Ok-all_of.all.parts.items
-    c.new-collected.ensures.parts (λ n k. c.in-Ok.ensures.keeps n k) (all_items c.walk.new.collected c.in-Ok-all_of.all c.in-Ok-all_of.ensures.ok)).0
-
-pub returns-in-Ok-all_of-clause-within : goal.returns-in-Ok-all_of-clause-within
-returns-in-Ok-all_of-clause-within g c =
-    (kept_all c.args.extent c.args.intervals.now c.args.max_tiles c.new-collected.result c.walk.new.collected c.in-Ok-all_of.all.parts.items
-    c.new-collected.ensures.parts (λ n k. c.in-Ok.ensures.keeps n k) (all_items c.walk.new.collected c.in-Ok-all_of.all c.in-Ok-all_of.ensures.ok)).1
-
-pub returns-in-Ok-all_of-clause-contents : goal.returns-in-Ok-all_of-clause-contents
-returns-in-Ok-all_of-clause-contents g c =
-    let told = g.B.Backend.told c.args.backend.now in
-    let h = header_of c.args.state.now in
-    subst (KeepsContents c.args.extent told h) (sym c.in-Ok-all_of.ensures.ok.0)
-    (c.in-Ok.ensures.contents (contents_first c.args.extent told h c.new-collected.result c.new-collected.ensures.parts.0 c.new-collected.ensures.contents))
-
-pub returns-in-Ok-all_of-clause-ordered : goal.returns-in-Ok-all_of-clause-ordered
-returns-in-Ok-all_of-clause-ordered g c = λ apart. subst (λ (k : Collected). AreOrdered 0 k.parts.items None) (sym c.in-Ok-all_of.ensures.ok.0) (c.in-Ok.ensures.ordered apart (subst (λ l. AreOrdered 0 l (Some 0)) (sym c.new-collected.ensures.parts.0) refl) refl)
+pub returns-in-Err-all_of-clause-reads : goal.returns-in-Err-all_of-clause-reads
+returns-in-Err-all_of-clause-reads g c = root_reads g.T.TakesEntries.holds c.args.extent (g.B.Backend.told c.args.backend.now) (header_of c.args.state.now) c.args.intervals.now c.root-root.result.now (root_of c.args.state.now) c.args.max_tiles c.args.taker c.walk.new.collecting.taker c.walk.new.collecting.room (g.B.Backend.reads c.args.backend.now) (g.B.Backend.reads c.walk.new.backend) (Ok tt) c.root-root.ensures c.requires.begun c.in-Ok.ensures.walks

@@ -1,19 +1,39 @@
-use Rattle.std.proofs.Common.{sym, subst}
+use Rattle.std.proofs.Common.{◌∙◌, ◌≤◌, List, ℕ, Option, sym, subst, arith}
+use Rattle.std.specs.FinMap.{empty, len, len-empty}
+use Rattle.mb_tables.specs.Tiles.{TileSet, place_cmp}
 use Rattle.pm_reader.specs.Opening.{header_of, root_of}
+use Rattle.pm_walk.specs.Parts.{tile_count}
+use Rattle.tile_import.proofs.EntryLemmas.{contents_few, contents_on_board}
 use Rattle.tile_import.proofs.RefusalLemmas.{stop_causes, tiles_taken, want_read}
+use Rattle.tile_import.proofs.TilesLemmas.{none_on_board}
 use Rattle.tile_import.specs.Import.{ReadCauses}
+use Rattle.tile_import.specs.Putting.{AreOnBoard}
 use Rattle.tile_import.proofs.reading.read_opened.Goals as goal
 
 pub returns-in-Err-clause-causes : goal.returns-in-Err-clause-causes
 returns-in-Err-clause-causes g c =
     let before = g.B.Backend.faults c.args.backend.now in
-    let now = g.B.Backend.faults c.read_entries.new.backend in
+    let now = g.B.Backend.faults c.take_entries.new.backend in
     subst (ReadCauses c.args.max_tiles before now) (sym c.of_walk.ensures) (stop_causes c.args.max_tiles before now c.in-Err.error c.in-Err.ensures.causes)
 
-pub returns-in-Ok-make_tiles-clause-answer : goal.returns-in-Ok-make_tiles-clause-answer
-returns-in-Ok-make_tiles-clause-answer g c =
-    tiles_taken (g.B.Backend.told c.args.backend.now) (header_of c.args.reader.now, root_of c.args.reader.now) c.args.max_tiles c.in-Ok.read.entries.items c.in-Ok.read.contents.items c.in-Ok-make_tiles.tiles.state.tiles
-    c.requires c.in-Ok.ensures.gathered c.in-Ok.ensures.contents c.in-Ok-make_tiles.ensures.put
+pub returns-in-Ok-settle_tiles-clause-answer : goal.returns-in-Ok-settle_tiles-clause-answer
+returns-in-Ok-settle_tiles-clause-answer g c =
+    let all = c.in-Ok.ensures.given in
+    tiles_taken (g.B.Backend.told c.args.backend.now) (header_of c.args.reader.now, root_of c.args.reader.now) c.args.max_tiles all.entries all.contents c.in-Ok-settle_tiles.tiles.state.tiles
+    c.requires all.given.gathered all.given.contents (c.in-Ok-settle_tiles.ensures ∙ all.held.1)
 
-pub returns-in-Err-make_tiles-clause-answer : goal.returns-in-Err-make_tiles-clause-answer
-returns-in-Err-make_tiles-clause-answer g c = want_read (g.B.Backend.told c.args.backend.now) c.args.max_tiles
+pub returns-in-Ok-settle_tiles-clause-board : goal.returns-in-Ok-settle_tiles-clause-board
+returns-in-Ok-settle_tiles-clause-board g c =
+    let all = c.in-Ok.ensures.given in
+    subst AreOnBoard (sym (c.in-Ok-settle_tiles.ensures ∙ all.held.1)) (contents_on_board empty all.entries all.contents all.given.shallow none_on_board)
+
+pub returns-in-Ok-settle_tiles-clause-few : goal.returns-in-Ok-settle_tiles-clause-few
+returns-in-Ok-settle_tiles-clause-few g c =
+    let all = c.in-Ok.ensures.given in
+    let few = contents_few empty all.entries all.contents in
+    let none = len-empty place_cmp (Option (List ℕ)) in
+    let most : tile_count all.entries ≤ c.args.max_tiles = all.given.few in
+    subst (λ (m : TileSet). len m ≤ c.args.max_tiles) (sym (c.in-Ok-settle_tiles.ensures ∙ all.held.1)) (omega (arith, few, none, most))
+
+pub returns-in-Err-settle_tiles-clause-answer : goal.returns-in-Err-settle_tiles-clause-answer
+returns-in-Err-settle_tiles-clause-answer g c = want_read (g.B.Backend.told c.args.backend.now) c.args.max_tiles
