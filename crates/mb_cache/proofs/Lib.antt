@@ -7,7 +7,12 @@ pub mod EvictLemmas
 pub mod PurgeLemmas
 pub mod RoundLemmas
 pub mod SizeLemmas
+pub mod NamedLemmas
+pub mod SeenLemmas
+pub mod PageLemmas
+pub mod RowOrder
 pub mod OpenLemmas
 pub mod RefusedLemmas
+pub mod OwnLemmas
 pub mod StillLemmas
 pub mod ReadLemmas

@@ -7,5 +7,6 @@ pub mod Setting
 pub mod Evicting
 pub mod Purging
 pub mod Sizing
+pub mod Seen
 pub mod Opening
 pub mod Refused

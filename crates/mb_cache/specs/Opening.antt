@@ -1,21 +1,22 @@
 -- What opening a cache answers, and what it leaves.
-use Rattle.std.specs.Prelude.{◌||◌, ◌≡◌, ◌⊎◌, Bool, true, false, cond, List, [], ◌∷◌, Option, Some, Result, Ok, Err, option_map, unwrap_or}
-use Rattle.std.specs.FinMap.{get}
-use Rattle.mb_cache.specs.Entries.{entry_at}
+use Rattle.std.specs.Prelude.{◌||◌, ◌≡◌, ◌⊎◌, Bool, true, false, cond, List, [], ◌∷◌, Option, Some, Result, Ok, Err}
+use Rattle.std.specs.List.{list_any}
+use Rattle.mb_cache.specs.State.{Agrees}
 use Rattle.mb_cache.specs.declared.entries.Entry.{Entry}
-use Rattle.mb_load.specs.State.{State, state_of}
+use Rattle.mb_constraints.specs.Described.{is_metadata}
+use Rattle.mb_load.specs.State.{state_of}
 use Rattle.mb_store.specs.Store.{created}
+use Rattle.mb_tables.specs.Described.{is_keyed}
 use Rattle.mb_tables.specs.Detection.{layout_of}
-use Rattle.mb_tables.specs.Refusals.{then}
+use Rattle.mb_tables.specs.Refusals.{is_free, then}
 use Rattle.mb_tables.specs.Schema.{set_tables}
 use Rattle.mb_tables.specs.Table.{Tables}
-use Rattle.mb_tables.specs.Tiles.{Place}
-use Rattle.mb_tables.specs.declared.cell.Cell.TheVariants.{Null}
 use Rattle.mb_tables.specs.declared.description.TableDesc.{TableDesc}
 use Rattle.mb_tables.specs.declared.error.MbtError.{MbtError}
-use Rattle.mb_tables.specs.declared.error.MbtError.TheVariants.{NotACacheFile}
+use Rattle.mb_tables.specs.declared.error.MbtError.TheVariants.{InvalidDataFormat, NoUniquenessConstraint, NotACacheFile}
 use Rattle.mb_tables.specs.declared.kind.MbtType.{MbtType}
 use Rattle.mb_tables.specs.declared.kind.MbtType.TheVariants.{Cache}
+use Rattle.mb_tables.specs.declared.table.TableName.TheVariants.{TileCache}
 
 -- whether the first layout whose tables are described is the cache
 abbrev pub is_cache_layout : Option MbtType → Bool
@@ -55,6 +56,11 @@ done (Err e) = Err e
 abbrev pub LeftOrBegun : Tables → Tables → Type 0
 LeftOrBegun old new = (new ≡ old) ⊎ (new ≡ begun_with old)
 
--- the entry of a place of a loaded cache
-abbrev pub entry_in : State → Place → Entry
-entry_in s p = entry_at p (unwrap_or (option_map (λ d. d.expires) (get s.dates p)) Null)
+-- what the descriptions of the tables of a cache are refused for
+abbrev pub described_answer : List TableDesc → Result (Unit {0}) MbtError
+described_answer ds = cond (is_cache_layout (layout_of ds)) (cond (list_any is_metadata ds) (cond (is_keyed ds TileCache) (Ok tt) (Err NoUniquenessConstraint)) (Err InvalidDataFormat)) (Err NotACacheFile)
+
+-- what opening tables gives: the entries of a cache that agree with them, or the refusal that is due, unless memory or the store was wanting
+abbrev pub OpensAs : Tables → Result (List Entry) MbtError → Type 0
+OpensAs t (Ok es) = Agrees t es
+OpensAs t (Err e) = is_free e ≡ false → open_answer t ≡ Err e

@@ -1,32 +1,24 @@
 // Opening a cache.
-ghost use Rattle.std.specs.Prelude.{◌≡◌, ◌<◌, true, false, IfErr, IfOk, IsErrOf, OnErr, OnOk};
-ghost use Rattle.std.specs.FinMap.{entries, len};
-ghost use Rattle.std.specs.List.{list_any};
-ghost use Rattle.std.specs.List.Sorted.{IsStrictlySortedBy};
-ghost use Rattle.std.specs.Ordering.{eq_by_cmp};
+ghost use Rattle.std.specs.Prelude.{◌≡◌, Some, false, true, IfErr, IfOk, IsErrOf, OnErr, OnOk};
 ghost use Rattle.base_values.specs.Counts.{Rose};
-ghost use Rattle.mb_cache.specs.Entries.{has_entry};
-ghost use Rattle.mb_cache.specs.EntryOrder.{entry_cmp};
-ghost use Rattle.mb_cache.specs.declared.entries.Entry.{Entry};
-ghost use Rattle.mb_cache.specs.Opening.{LeftOrBegun, begin_answer, begun_with, done, entry_in, is_cache_layout, open_answer};
+ghost use Rattle.mb_cache.specs.Opening.{LeftOrBegun, OpensAs, begin_answer, begun_with, described_answer, done, is_cache_layout, open_answer};
 ghost use Rattle.mb_cache.specs.State.{Agrees};
-ghost use Rattle.mb_lists.specs.Entries.{place_at};
-ghost use Rattle.mb_store.specs.Kept.{Keeps};
+ghost use Rattle.mb_store.specs.Kept.{Keeps, ReadsOnly};
 ghost use Rattle.mb_tables.specs.Detection.{layout_of};
-ghost use Rattle.mb_tables.specs.Refusals.{Answers};
+ghost use Rattle.mb_tables.specs.Refusals.{Answers, is_free};
+ghost use Rattle.mb_tables.specs.Table.{Tables};
+ghost use Rattle.mb_tables.specs.declared.kind.MbtType.TheVariants.{Cache};
 
 use crate::CacheState;
-use crate::entries::Entry;
-use base_values::OutOfMemory;
-use mb_load::{Loaded, load};
+use crate::pages::{read_metadata, read_rows};
+use mb_constraints::has_metadata;
 use mb_store::{
-    Cell, MbtError, MbtResult, TableDesc, TileStore, create_cache_schema, is_cache_tables_type,
-    is_dedup_id_normalized_tables_type, is_flat_tables_type, is_flat_with_hash_tables_type,
-    is_normalized_tables_type,
+    MbtError, MbtResult, TableDesc, TableName, TileStore, create_cache_schema,
+    is_cache_tables_type, is_dedup_id_normalized_tables_type, is_flat_tables_type,
+    is_flat_with_hash_tables_type, is_normalized_tables_type,
 };
+use mb_tables::is_keyed;
 use std::alloc::Global;
-use std::collections::BTreeSet;
-use tile_ids::TileCoord;
 
 // Whether the first layout whose tables are described is the cache.
 fn is_cache(tables: &[TableDesc]) -> bool
@@ -49,6 +41,7 @@ fn begin<S: TileStore>(alloc: Global, store: &mut S) -> MbtResult<()>
     ensures kept { Keeps S.tells S.faults S.steady store.old store.new }
     ensures fault { IsErrOf result MbtError.StoreFault →
         Rose (S.faults store.old) (S.faults store.new) }
+    ensures own { IfErr result (λ e. is_free e ≡ false → e ≡ MbtError.NotACacheFile) }
 {
     let tables = store.describe(alloc)?;
     if tables.is_empty() {
@@ -61,36 +54,47 @@ fn begin<S: TileStore>(alloc: Global, store: &mut S) -> MbtResult<()>
     }
 }
 
-// The entry of a tile of a loaded cache.
-fn entry_in(set: &Loaded, coord: TileCoord) -> Entry
-    ensures { result ≡ entry_in set.now.state (place_at coord) }
+// The tests of the descriptions of a cache.
+fn test_described(tables: &[TableDesc]) -> MbtResult<()>
+    ensures { result ≡ described_answer tables.now }
 {
-    match set.cache_fields(coord) {
-        Some((_, expires, _)) => Entry::at(coord, expires),
-        None => Entry::at(coord, &Cell::Null),
+    if !is_cache(tables) {
+        return Err(MbtError::NotACacheFile);
     }
+    if !has_metadata(tables) {
+        return Err(MbtError::InvalidDataFormat);
+    }
+    if !is_keyed(tables, TableName::TileCache) {
+        return Err(MbtError::NoUniquenessConstraint);
+    }
+    Ok(())
 }
 
-// The entries of all tiles of a loaded cache.
-fn entries_of(alloc: Global, set: &Loaded) -> Result<BTreeSet<Entry>, OutOfMemory>
-    ensures members { IfOk result (λ es. (e : Entry) → has_entry es.keys e ≡ list_any
-        (λ t. eq_by_cmp entry_cmp e (entry_in set.now.state t.0)) (entries set.now.state.tiles)) }
-    ensures ordered { IfOk result (λ es. IsStrictlySortedBy entry_cmp es.keys) }
+// The state of the cache of a store whose tables are there.
+fn load_state<S: TileStore>(alloc: Global, store: &mut S) -> MbtResult<CacheState>
+    ensures answer { S.tells store.old ≡ true →
+        layout_of (S.told store.old).descriptions ≡ Some Cache →
+        OpensAs (S.told store.old) result }
+    ensures own { (t : Tables) × OpensAs t result }
+    ensures kept { ReadsOnly S.told S.tells S.faults S.steady store.old store.new }
+    ensures fault { IsErrOf result MbtError.StoreFault →
+        Rose (S.faults store.old) (S.faults store.new) }
 {
-    let mut entries = BTreeSet::new(alloc);
-    for index in 0..set.tile_count() {
-        let (coord, _) = set.tile_at(index);
-        entries.insert(entry_in(set, coord))?;
-    }
-    Ok(entries)
+    let tables = store.describe(alloc)?;
+    test_described(&tables)?;
+    let seen = read_rows(alloc, store)?;
+    let metadata = read_metadata(alloc, store)?;
+    let entries = seen.settle(alloc, metadata)?;
+    Ok(CacheState { alloc, entries })
 }
 
 impl CacheState {
     /// Opens the cache of a store, without borrowing it any longer. It creates the tables of the layout Cache and of metadata in a store that describes nothing,
-    /// answers `NotACacheFile` where the first layout whose tables are described isn't Cache, and else the refusals of loading. The whole set is in memory while it
-    /// is loaded, and is dropped before the call returns.
+    /// answers `NotACacheFile` where the first layout whose tables are described isn't Cache, and else the refusals of loading. Rows are read in pages of 64, each of
+    /// which is let go before the next: beside the entries, a place of 12 bytes for each row is in memory until the call returns.
     ///
-    /// Refused, the store holds what it held, or has its new tables without rows.
+    /// Refused, the store holds what it held, or has its new tables without rows. A store that tells nothing is answered as some tables are that its answers could be
+    /// of, with the entries of these.
     pub fn open<S: TileStore>(alloc: Global, store: &mut S) -> MbtResult<CacheState>
         ensures answer { S.tells store.old ≡ true →
             Answers (open_answer (S.told store.old)) (done result) }
@@ -102,10 +106,9 @@ impl CacheState {
         ensures kept { Keeps S.tells S.faults S.steady store.old store.new }
         ensures fault { IsErrOf result MbtError.StoreFault →
             Rose (S.faults store.old) (S.faults store.new) }
+        ensures own { (t : Tables) × OpensAs t result }
     {
         begin(alloc, store)?;
-        let set = load(alloc, store)?;
-        let entries = entries_of(alloc, &set)?;
-        Ok(CacheState { alloc, entries })
+        load_state(alloc, store)
     }
 }
