@@ -1,11 +1,10 @@
 // A cache that borrows its store.
-ghost use Rattle.std.specs.Prelude.{◌≡◌, ◌≢◌, ◌<◌, ◌+◌, ◌-◌, ◌^◌, Err, IfErr, IfOk, IsErrOf, None, Ok, OnErr, OnOk, codes, false, length, true};
+ghost use Rattle.std.specs.Prelude.{◌≡◌, ◌≢◌, ◌<◌, ◌+◌, ◌-◌, ◌^◌, Err, IfErr, IfOk, None, Ok, OnErr, OnOk, codes, false, length, true};
 ghost use Rattle.std.specs.Borrow.{sem, RestsIfErr};
 ghost use Rattle.std.specs.List.{take_while};
-ghost use Rattle.base_values.specs.Counts.{Rose};
 ghost use Rattle.mb_cache.specs.Entries.{is_expired_entry};
 ghost use Rattle.mb_cache.specs.Finding.{coord_in};
-ghost use Rattle.mb_cache.specs.Opening.{begun_with, done, open_answer};
+ghost use Rattle.mb_cache.specs.Opening.{OpensAs, begun_with, done, open_answer};
 ghost use Rattle.mb_cache.specs.Purging.{expired_rows, without_expired};
 ghost use Rattle.mb_cache.specs.Reading.{IsRead, bytes_of, cached_of};
 ghost use Rattle.mb_cache.specs.Refused.{LeftByOpening};
@@ -14,8 +13,9 @@ ghost use Rattle.mb_cache.specs.Sizing.{SomeRounds, WithoutRounds, oversize};
 ghost use Rattle.mb_cache.specs.State.{Agrees, without};
 ghost use Rattle.mb_load.specs.Begun.{IsBegun};
 ghost use Rattle.mb_metadata.specs.Reading.{metadata_answer};
-ghost use Rattle.mb_store.specs.Kept.{Keeps, ReadsOnly};
+ghost use Rattle.mb_store.specs.Kept.{FaultsCounted, Keeps, ReadsOnly};
 ghost use Rattle.mb_tables.specs.Refusals.{Answers, is_free};
+ghost use Rattle.mb_tables.specs.Table.{Tables};
 
 use crate::{CacheEntryMeta, CacheState, CachedTile, Metadata, UnixSeconds};
 use base_values::BlobVal;
@@ -56,6 +56,7 @@ impl<'a, S: TileStore> MbtilesCache<'a, S> {
         ensures agrees { S.tells store.old ≡ true →
             IfOk result (λ c. Agrees (S.told c.store.now) c.state) }
         ensures kept { IfOk result (λ c. Keeps S.tells S.faults S.steady store.old c.store.now) }
+        ensures own { IfErr result (λ e. (t : Tables) × OpensAs t (Err e)) }
     {
         match CacheState::open(alloc, store) {
             Ok(state) => Ok(MbtilesCache { store, state }),
@@ -80,8 +81,8 @@ impl<'a, S: TileStore> MbtilesCache<'a, S> {
         ensures state { self.new.state ≡ self.old.state }
         ensures kept { ReadsOnly S.told S.tells S.faults S.steady self.old.store.now
             self.new.store.now }
-        ensures fault { IsErrOf result MbtError.StoreFault →
-            Rose (S.faults self.old.store.now) (S.faults self.new.store.now) }
+        ensures fault { FaultsCounted S.faults self.old.store.now self.new.store.now result
+            MbtError.StoreFault }
     {
         self.state.get_cached(self.store, z, x, y)
     }
@@ -107,8 +108,8 @@ impl<'a, S: TileStore> MbtilesCache<'a, S> {
         ensures err { OnErr result (S.told self.new.store.now ≡ S.told self.old.store.now) }
         ensures same { OnErr result (self.new.state ≡ self.old.state) }
         ensures kept { Keeps S.tells S.faults S.steady self.old.store.now self.new.store.now }
-        ensures fault { IsErrOf result MbtError.StoreFault →
-            Rose (S.faults self.old.store.now) (S.faults self.new.store.now) }
+        ensures fault { FaultsCounted S.faults self.old.store.now self.new.store.now result
+            MbtError.StoreFault }
     {
         self.state.set_cached(self.store, z, x, y, bytes, meta)
     }
@@ -134,8 +135,8 @@ impl<'a, S: TileStore> MbtilesCache<'a, S> {
         ensures err { OnErr result (S.told self.new.store.now ≡ S.told self.old.store.now) }
         ensures same { OnErr result (self.new.state ≡ self.old.state) }
         ensures kept { Keeps S.tells S.faults S.steady self.old.store.now self.new.store.now }
-        ensures fault { IsErrOf result MbtError.StoreFault →
-            Rose (S.faults self.old.store.now) (S.faults self.new.store.now) }
+        ensures fault { FaultsCounted S.faults self.old.store.now self.new.store.now result
+            MbtError.StoreFault }
     {
         self.state.update_cached_meta(self.store, z, x, y, meta)
     }
@@ -158,8 +159,8 @@ impl<'a, S: TileStore> MbtilesCache<'a, S> {
         ensures err { OnErr result (S.told self.new.store.now ≡ S.told self.old.store.now) }
         ensures same { OnErr result (self.new.state ≡ self.old.state) }
         ensures kept { Keeps S.tells S.faults S.steady self.old.store.now self.new.store.now }
-        ensures fault { IsErrOf result MbtError.StoreFault →
-            Rose (S.faults self.old.store.now) (S.faults self.new.store.now) }
+        ensures fault { FaultsCounted S.faults self.old.store.now self.new.store.now result
+            MbtError.StoreFault }
     {
         self.state.purge_expired(self.store, now)
     }
@@ -184,8 +185,8 @@ impl<'a, S: TileStore> MbtilesCache<'a, S> {
             OnErr result (SomeRounds max_bytes self.old.state (S.told self.old.store.now)
             (S.told self.new.store.now)) }
         ensures kept { Keeps S.tells S.faults S.steady self.old.store.now self.new.store.now }
-        ensures fault { IsErrOf result MbtError.StoreFault →
-            Rose (S.faults self.old.store.now) (S.faults self.new.store.now) }
+        ensures fault { FaultsCounted S.faults self.old.store.now self.new.store.now result
+            MbtError.StoreFault }
     {
         self.state.purge_cache_to_size(self.store, max_bytes)
     }
@@ -198,8 +199,8 @@ impl<'a, S: TileStore> MbtilesCache<'a, S> {
         ensures state { self.new.state ≡ self.old.state }
         ensures kept { ReadsOnly S.told S.tells S.faults S.steady self.old.store.now
             self.new.store.now }
-        ensures fault { IsErrOf result MbtError.StoreFault →
-            Rose (S.faults self.old.store.now) (S.faults self.new.store.now) }
+        ensures fault { FaultsCounted S.faults self.old.store.now self.new.store.now result
+            MbtError.StoreFault }
     {
         self.state.get_tile(self.store, z, x, y)
     }
@@ -212,8 +213,8 @@ impl<'a, S: TileStore> MbtilesCache<'a, S> {
         ensures state { self.new.state ≡ self.old.state }
         ensures kept { ReadsOnly S.told S.tells S.faults S.steady self.old.store.now
             self.new.store.now }
-        ensures fault { IsErrOf result MbtError.StoreFault →
-            Rose (S.faults self.old.store.now) (S.faults self.new.store.now) }
+        ensures fault { FaultsCounted S.faults self.old.store.now self.new.store.now result
+            MbtError.StoreFault }
     {
         self.state.get_metadata(self.store)
     }

@@ -1,10 +1,9 @@
 // Throwing entries out of a cache.
-ghost use Rattle.std.specs.Prelude.{◌≡◌, List, true, IfErr, IfOk, IsErrOf, OnErr, OnOk, drop, length, take};
-ghost use Rattle.base_values.specs.Counts.{Rose};
+ghost use Rattle.std.specs.Prelude.{◌≡◌, List, true, IfErr, IfOk, OnErr, OnOk, drop, length, take};
 ghost use Rattle.mb_cache.specs.Evicting.{AreDeletes};
 ghost use Rattle.mb_cache.specs.State.{Agrees, without};
 ghost use Rattle.mb_store.specs.Committing.{AreOfTables};
-ghost use Rattle.mb_store.specs.Kept.{Keeps};
+ghost use Rattle.mb_store.specs.Kept.{FaultsCounted, Keeps};
 ghost use Rattle.mb_tables.specs.Described.{is_table};
 ghost use Rattle.mb_tables.specs.Refusals.{is_free};
 ghost use Rattle.mb_tables.specs.declared.description.TableDesc.{TableDesc};
@@ -57,8 +56,7 @@ pub(crate) fn evict<S: TileStore>(
     ensures same { OnErr result (entries.new.keys ≡ entries.old.keys) }
     ensures free { IfErr result (λ e. is_free e ≡ true) }
     ensures kept { Keeps S.tells S.faults S.steady store.old store.new }
-    ensures fault { IsErrOf result MbtError.StoreFault →
-        Rose (S.faults store.old) (S.faults store.new) }
+    ensures fault { FaultsCounted S.faults store.old store.new result MbtError.StoreFault }
 {
     let changes = deletes_of(alloc, evicted)?;
     store.commit(alloc, &changes)?;

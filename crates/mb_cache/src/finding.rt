@@ -1,11 +1,10 @@
 // Coordinates of tiles, and their rows in a store.
-ghost use Rattle.std.specs.Prelude.{◌≡◌, pos, true, IfErr, IfOk, IfSome, IsErrOf, length};
-ghost use Rattle.base_values.specs.Counts.{Rose};
+ghost use Rattle.std.specs.Prelude.{◌≡◌, pos, true, IfErr, IfOk, IfSome, length};
 ghost use Rattle.mb_cache.specs.Finding.{coord_in};
 ghost use Rattle.mb_cache.specs.State.{row_at};
 ghost use Rattle.mb_lists.specs.Entries.{place_at};
 ghost use Rattle.mb_load.specs.Changing.{tile_key};
-ghost use Rattle.mb_store.specs.Kept.{ReadsOnly};
+ghost use Rattle.mb_store.specs.Kept.{FaultsCounted, ReadsOnly};
 ghost use Rattle.mb_tables.specs.Refusals.{is_free};
 ghost use Rattle.mb_tables.specs.declared.cell.Cell.TheVariants.{Int};
 
@@ -57,8 +56,7 @@ pub(crate) fn find_row<S: TileStore>(
     ensures wide { IfOk result (λ row. IfSome row (λ row. length row ≡ 7)) }
     ensures free { IfErr result (λ e. is_free e ≡ true) }
     ensures kept { ReadsOnly S.told S.tells S.faults S.steady store.old store.new }
-    ensures fault { IsErrOf result MbtError.StoreFault →
-        Rose (S.faults store.old) (S.faults store.new) }
+    ensures fault { FaultsCounted S.faults store.old store.new result MbtError.StoreFault }
 {
     Ok(store.find(alloc, TableName::TileCache, &key_at(coord))?)
 }

@@ -1,9 +1,8 @@
 // Opening a cache.
-ghost use Rattle.std.specs.Prelude.{◌≡◌, Some, false, true, IfErr, IfOk, IsErrOf, OnErr, OnOk};
-ghost use Rattle.base_values.specs.Counts.{Rose};
+ghost use Rattle.std.specs.Prelude.{◌≡◌, Some, false, true, IfErr, IfOk, OnErr, OnOk};
 ghost use Rattle.mb_cache.specs.Opening.{LeftOrBegun, OpensAs, begin_answer, begun_with, described_answer, done, is_cache_layout, open_answer};
 ghost use Rattle.mb_cache.specs.State.{Agrees};
-ghost use Rattle.mb_store.specs.Kept.{Keeps, ReadsOnly};
+ghost use Rattle.mb_store.specs.Kept.{FaultsCounted, Keeps, ReadsOnly};
 ghost use Rattle.mb_tables.specs.Detection.{layout_of};
 ghost use Rattle.mb_tables.specs.Refusals.{Answers, is_free};
 ghost use Rattle.mb_tables.specs.Table.{Tables};
@@ -39,8 +38,7 @@ fn begin<S: TileStore>(alloc: Global, store: &mut S) -> MbtResult<()>
         OnOk result (S.told store.new ≡ begun_with (S.told store.old)) }
     ensures err { OnErr result (S.told store.new ≡ S.told store.old) }
     ensures kept { Keeps S.tells S.faults S.steady store.old store.new }
-    ensures fault { IsErrOf result MbtError.StoreFault →
-        Rose (S.faults store.old) (S.faults store.new) }
+    ensures fault { FaultsCounted S.faults store.old store.new result MbtError.StoreFault }
     ensures own { IfErr result (λ e. is_free e ≡ false → e ≡ MbtError.NotACacheFile) }
 {
     let tables = store.describe(alloc)?;
@@ -77,8 +75,7 @@ fn load_state<S: TileStore>(alloc: Global, store: &mut S) -> MbtResult<CacheStat
         OpensAs (S.told store.old) result }
     ensures own { (t : Tables) × OpensAs t result }
     ensures kept { ReadsOnly S.told S.tells S.faults S.steady store.old store.new }
-    ensures fault { IsErrOf result MbtError.StoreFault →
-        Rose (S.faults store.old) (S.faults store.new) }
+    ensures fault { FaultsCounted S.faults store.old store.new result MbtError.StoreFault }
 {
     let tables = store.describe(alloc)?;
     test_described(&tables)?;
@@ -104,8 +101,7 @@ impl CacheState {
         ensures err { S.tells store.old ≡ true →
             OnErr result (LeftOrBegun (S.told store.old) (S.told store.new)) }
         ensures kept { Keeps S.tells S.faults S.steady store.old store.new }
-        ensures fault { IsErrOf result MbtError.StoreFault →
-            Rose (S.faults store.old) (S.faults store.new) }
+        ensures fault { FaultsCounted S.faults store.old store.new result MbtError.StoreFault }
         ensures own { (t : Tables) × OpensAs t result }
     {
         begin(alloc, store)?;

@@ -1,8 +1,7 @@
 // The rows of a cache, read in pages, each of which is let go before the next.
-ghost use Rattle.std.specs.Prelude.{◌≡◌, ◌≤◌, ◌-◌, ◌++◌, Some, false, true, IfErr, IfOk, IsErrOf, List, OnOk, length, take};
-ghost use Rattle.base_values.specs.Counts.{Rose};
+ghost use Rattle.std.specs.Prelude.{◌≡◌, ◌≤◌, ◌-◌, ◌++◌, Some, false, true, IfErr, IfOk, List, OnOk, length, take};
 ghost use Rattle.mb_cache.specs.Seen.{SeesRows};
-ghost use Rattle.mb_store.specs.Kept.{ReadsOnly};
+ghost use Rattle.mb_store.specs.Kept.{FaultsCounted, ReadsOnly};
 ghost use Rattle.mb_tables.specs.CellKinds.{tile_kind_wrong};
 ghost use Rattle.mb_tables.specs.Refusals.{is_free};
 ghost use Rattle.mb_tables.specs.declared.cell.Cell.{Cell};
@@ -55,8 +54,7 @@ fn read_page<S: TileStore>(
         tile_kind_wrong Cache ((S.told store.old).rows TileCache) ≡ Some e) }
     ensures kind { IfErr result (λ e. is_free e ≡ false → e ≡ MbtError.InvalidDataFormat) }
     ensures kept { ReadsOnly S.told S.tells S.faults S.steady store.old store.new }
-    ensures fault { IsErrOf result MbtError.StoreFault →
-        Rose (S.faults store.old) (S.faults store.new) }
+    ensures fault { FaultsCounted S.faults store.old store.new result MbtError.StoreFault }
 {
     let asked = page_size(left);
     let page = store.rows(alloc, TableName::TileCache, count - left, asked)?;
@@ -74,8 +72,7 @@ pub(crate) fn read_rows<S: TileStore>(alloc: Global, store: &mut S) -> MbtResult
         tile_kind_wrong Cache ((S.told store.old).rows TileCache) ≡ Some e) }
     ensures kind { IfErr result (λ e. is_free e ≡ false → e ≡ MbtError.InvalidDataFormat) }
     ensures kept { ReadsOnly S.told S.tells S.faults S.steady store.old store.new }
-    ensures fault { IsErrOf result MbtError.StoreFault →
-        Rose (S.faults store.old) (S.faults store.new) }
+    ensures fault { FaultsCounted S.faults store.old store.new result MbtError.StoreFault }
 {
     let count = store.count_rows(TableName::TileCache)?;
     let mut seen = SeenRows::none(alloc);
@@ -94,8 +91,7 @@ pub(crate) fn read_metadata<S: TileStore>(
     ensures answer { S.tells store.old ≡ true →
         IfOk result (λ rows. rows.items ≡ (S.told store.old).rows Metadata) }
     ensures kept { ReadsOnly S.told S.tells S.faults S.steady store.old store.new }
-    ensures fault { IsErrOf result StoreError.Fault →
-        Rose (S.faults store.old) (S.faults store.new) }
+    ensures fault { FaultsCounted S.faults store.old store.new result StoreError.Fault }
 {
     let count = store.count_rows(TableName::Metadata)?;
     store.rows(alloc, TableName::Metadata, 0, count)

@@ -1,11 +1,10 @@
 // Throwing tiles out of a cache by age.
-ghost use Rattle.std.specs.Prelude.{◌≡◌, true, IfErr, IfOk, IsErrOf, length, OnErr, OnOk};
+ghost use Rattle.std.specs.Prelude.{◌≡◌, true, IfErr, IfOk, length, OnErr, OnOk};
 ghost use Rattle.std.specs.List.{take_while};
-ghost use Rattle.base_values.specs.Counts.{Rose};
 ghost use Rattle.mb_cache.specs.Entries.{is_expired_entry};
 ghost use Rattle.mb_cache.specs.Purging.{expired_rows, without_expired};
 ghost use Rattle.mb_cache.specs.State.{Agrees};
-ghost use Rattle.mb_store.specs.Kept.{Keeps};
+ghost use Rattle.mb_store.specs.Kept.{FaultsCounted, Keeps};
 ghost use Rattle.mb_tables.specs.Refusals.{is_free};
 
 use crate::entries::Entry;
@@ -50,8 +49,7 @@ impl CacheState {
         ensures err { OnErr result (S.told store.new ≡ S.told store.old) }
         ensures same { OnErr result (self.new ≡ self.old) }
         ensures kept { Keeps S.tells S.faults S.steady store.old store.new }
-        ensures fault { IsErrOf result MbtError.StoreFault →
-            Rose (S.faults store.old) (S.faults store.new) }
+        ensures fault { FaultsCounted S.faults store.old store.new result MbtError.StoreFault }
     {
         let expired = expired(self.alloc, &self.entries, now)?;
         evict(self.alloc, store, &mut self.entries, &expired)?;

@@ -1,10 +1,9 @@
 // What a row of a cache says of its tile, and reads of a cache.
-ghost use Rattle.std.specs.Prelude.{◌≡◌, IsErrOf, codes, length, option_and_then};
-ghost use Rattle.base_values.specs.Counts.{Rose};
+ghost use Rattle.std.specs.Prelude.{◌≡◌, codes, length, option_and_then};
 ghost use Rattle.mb_cache.specs.Reading.{IsRead, blob_in, bytes_of, cached_of, moment_in, text_in};
 ghost use Rattle.mb_load.specs.Begun.{IsBegun};
 ghost use Rattle.mb_metadata.specs.Reading.{metadata_answer};
-ghost use Rattle.mb_store.specs.Kept.{ReadsOnly};
+ghost use Rattle.mb_store.specs.Kept.{FaultsCounted, ReadsOnly};
 ghost use Rattle.mb_tables.specs.Tiles.{cell_at};
 
 use crate::finding::{coord_in, find_row};
@@ -83,8 +82,7 @@ impl CacheState {
     ) -> MbtResult<Option<CachedTile>>
         ensures answer { IsRead cached_of z x y (S.tells store.old) (S.told store.old) result }
         ensures kept { ReadsOnly S.told S.tells S.faults S.steady store.old store.new }
-        ensures fault { IsErrOf result MbtError.StoreFault →
-            Rose (S.faults store.old) (S.faults store.new) }
+        ensures fault { FaultsCounted S.faults store.old store.new result MbtError.StoreFault }
     {
         let Some(coord) = coord_in(z, x, y) else {
             return Ok(None);
@@ -105,8 +103,7 @@ impl CacheState {
     ) -> MbtResult<Option<BlobVal>>
         ensures answer { IsRead bytes_of z x y (S.tells store.old) (S.told store.old) result }
         ensures kept { ReadsOnly S.told S.tells S.faults S.steady store.old store.new }
-        ensures fault { IsErrOf result MbtError.StoreFault →
-            Rose (S.faults store.old) (S.faults store.new) }
+        ensures fault { FaultsCounted S.faults store.old store.new result MbtError.StoreFault }
     {
         let Some(coord) = coord_in(z, x, y) else {
             return Ok(None);
@@ -122,8 +119,7 @@ impl CacheState {
         ensures answer { IsBegun (metadata_answer (codes "unknown")) (S.tells store.old)
             (S.told store.old) result }
         ensures kept { ReadsOnly S.told S.tells S.faults S.steady store.old store.new }
-        ensures fault { IsErrOf result MbtError.StoreFault →
-            Rose (S.faults store.old) (S.faults store.new) }
+        ensures fault { FaultsCounted S.faults store.old store.new result MbtError.StoreFault }
     {
         mb_metadata::get_metadata(self.alloc, store, "unknown")
     }

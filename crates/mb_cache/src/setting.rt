@@ -1,7 +1,6 @@
 // Putting tiles into a cache.
-ghost use Rattle.std.specs.Prelude.{◌≡◌, ◌&&◌, List, not, None, Ok, false, true, IfErr, IfOk, IsErrOf, OnErr, OnOk, is_some, length, option_copied, option_map};
+ghost use Rattle.std.specs.Prelude.{◌≡◌, ◌&&◌, List, not, None, Ok, false, true, IfErr, IfOk, OnErr, OnOk, is_some, length, option_copied, option_map};
 ghost use Rattle.std.specs.List.Sorted.{IsStrictlySortedBy};
-ghost use Rattle.base_values.specs.Counts.{Rose};
 ghost use Rattle.mb_cache.specs.Entries.{entry_at, entry_of, has_entry};
 ghost use Rattle.mb_cache.specs.EntryOrder.{entry_cmp};
 ghost use Rattle.mb_cache.specs.declared.entries.Entry.{Entry};
@@ -12,7 +11,7 @@ ghost use Rattle.mb_lists.specs.Entries.{place_at};
 ghost use Rattle.mb_load.specs.Changing.{tile_key};
 ghost use Rattle.mb_load.specs.LoadedFrom.{IsOnBoard};
 ghost use Rattle.mb_store.specs.Committing.{AreOfTables, Commits};
-ghost use Rattle.mb_store.specs.Kept.{Keeps};
+ghost use Rattle.mb_store.specs.Kept.{FaultsCounted, Keeps};
 ghost use Rattle.mb_tables.specs.Described.{is_table};
 ghost use Rattle.mb_tables.specs.Key.{has_key};
 ghost use Rattle.mb_tables.specs.Refusals.{Answers, is_free};
@@ -104,8 +103,7 @@ fn put<S: TileStore>(
     ensures same { OnErr result (entries.new.keys ≡ entries.old.keys) }
     ensures free { IfErr result (λ e. is_free e ≡ true) }
     ensures kept { Keeps S.tells S.faults S.steady store.old store.new }
-    ensures fault { IsErrOf result MbtError.StoreFault →
-        Rose (S.faults store.old) (S.faults store.new) }
+    ensures fault { FaultsCounted S.faults store.old store.new result MbtError.StoreFault }
 {
     let new = Entry::at(coord, &expiry_cell(meta));
     let row = meta_row(alloc, coord, meta, contents)?;
@@ -145,8 +143,7 @@ impl CacheState {
         ensures err { OnErr result (S.told store.new ≡ S.told store.old) }
         ensures same { OnErr result (self.new ≡ self.old) }
         ensures kept { Keeps S.tells S.faults S.steady store.old store.new }
-        ensures fault { IsErrOf result MbtError.StoreFault →
-            Rose (S.faults store.old) (S.faults store.new) }
+        ensures fault { FaultsCounted S.faults store.old store.new result MbtError.StoreFault }
     {
         let Some(coord) = coord_in(z, x, y) else {
             return Err(bad_coordinate(z, x, y));
@@ -185,8 +182,7 @@ impl CacheState {
         ensures err { OnErr result (S.told store.new ≡ S.told store.old) }
         ensures same { OnErr result (self.new ≡ self.old) }
         ensures kept { Keeps S.tells S.faults S.steady store.old store.new }
-        ensures fault { IsErrOf result MbtError.StoreFault →
-            Rose (S.faults store.old) (S.faults store.new) }
+        ensures fault { FaultsCounted S.faults store.old store.new result MbtError.StoreFault }
     {
         let Some(coord) = coord_in(z, x, y) else {
             return Ok(false);

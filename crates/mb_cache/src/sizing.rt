@@ -1,9 +1,8 @@
 // Throwing tiles out of a cache by size.
-ghost use Rattle.std.specs.Prelude.{◌≡◌, ◌+◌, ◌-◌, ◌^◌, ◌<◌, true, IfErr, IfOk, IsErrOf, Ok, OnErr, OnOk, drop, length, min, sum_by, take};
-ghost use Rattle.base_values.specs.Counts.{Rose};
+ghost use Rattle.std.specs.Prelude.{◌≡◌, ◌+◌, ◌-◌, ◌^◌, ◌<◌, true, IfErr, IfOk, Ok, OnErr, OnOk, drop, length, min, sum_by, take};
 ghost use Rattle.mb_cache.specs.Sizing.{SomeRounds, WithoutRounds, oversize, size_at, sizes_at};
 ghost use Rattle.mb_cache.specs.State.{Agrees, without};
-ghost use Rattle.mb_store.specs.Kept.{Keeps, ReadsOnly};
+ghost use Rattle.mb_store.specs.Kept.{FaultsCounted, Keeps, ReadsOnly};
 ghost use Rattle.mb_store.specs.Sizes.{cell_size, live_size_of};
 ghost use Rattle.mb_tables.specs.Refusals.{is_free};
 
@@ -51,8 +50,7 @@ fn with_row_of<S: TileStore>(
         IfOk result (λ sum. sum ≡ min (size + size_at (S.told store.old) entry.now) (2 ^ 64 - 1)) }
     ensures free { IfErr result (λ e. is_free e ≡ true) }
     ensures kept { ReadsOnly S.told S.tells S.faults S.steady store.old store.new }
-    ensures fault { IsErrOf result MbtError.StoreFault →
-        Rose (S.faults store.old) (S.faults store.new) }
+    ensures fault { FaultsCounted S.faults store.old store.new result MbtError.StoreFault }
 {
     match store.find(alloc, TableName::TileCache, &entry.key())? {
         Some(row) => Ok(with_cells(size, row.cells())),
@@ -66,8 +64,7 @@ fn sizes_of<S: TileStore>(alloc: Global, store: &mut S, entries: &[Entry]) -> Mb
         IfOk result (λ size. size ≡ min (sizes_at (S.told store.old) entries.now) (2 ^ 64 - 1)) }
     ensures free { IfErr result (λ e. is_free e ≡ true) }
     ensures kept { ReadsOnly S.told S.tells S.faults S.steady store.old store.new }
-    ensures fault { IsErrOf result MbtError.StoreFault →
-        Rose (S.faults store.old) (S.faults store.new) }
+    ensures fault { FaultsCounted S.faults store.old store.new result MbtError.StoreFault }
 {
     let mut size = 0;
     for entry in entries {
@@ -109,8 +106,7 @@ fn evict_round<S: TileStore>(
     ensures same { OnErr result (entries.new.keys ≡ entries.old.keys) }
     ensures free { IfErr result (λ e. is_free e ≡ true) }
     ensures kept { Keeps S.tells S.faults S.steady store.old store.new }
-    ensures fault { IsErrOf result MbtError.StoreFault →
-        Rose (S.faults store.old) (S.faults store.new) }
+    ensures fault { FaultsCounted S.faults store.old store.new result MbtError.StoreFault }
 {
     let round = next_round(alloc, entries)?;
     let size = sizes_of(alloc, store, &round)?;
@@ -125,8 +121,7 @@ fn size_after<S: TileStore>(store: &mut S, size: u64, gone: u64) -> MbtResult<u6
         IfOk result (λ left. left ≡ live_size_of (S.told store.old)) }
     ensures free { IfErr result (λ e. is_free e ≡ true) }
     ensures kept { ReadsOnly S.told S.tells S.faults S.steady store.old store.new }
-    ensures fault { IsErrOf result MbtError.StoreFault →
-        Rose (S.faults store.old) (S.faults store.new) }
+    ensures fault { FaultsCounted S.faults store.old store.new result MbtError.StoreFault }
 {
     if size < u64::MAX {
         return Ok(size.saturating_sub(gone));
@@ -156,8 +151,7 @@ fn evict_rounds<S: TileStore>(
     ensures rounds { WithoutRounds entries.old.keys entries.new.keys }
     ensures free { IfErr result (λ e. is_free e ≡ true) }
     ensures kept { Keeps S.tells S.faults S.steady store.old store.new }
-    ensures fault { IsErrOf result MbtError.StoreFault →
-        Rose (S.faults store.old) (S.faults store.new) }
+    ensures fault { FaultsCounted S.faults store.old store.new result MbtError.StoreFault }
 {
     let mut size = live;
     while size > most && !entries.is_empty() {
@@ -190,8 +184,7 @@ impl CacheState {
         ensures err { S.tells store.old ≡ true →
             OnErr result (SomeRounds max_bytes self.old (S.told store.old) (S.told store.new)) }
         ensures kept { Keeps S.tells S.faults S.steady store.old store.new }
-        ensures fault { IsErrOf result MbtError.StoreFault →
-            Rose (S.faults store.old) (S.faults store.new) }
+        ensures fault { FaultsCounted S.faults store.old store.new result MbtError.StoreFault }
     {
         let before = self.entries.len();
         let live = store.live_size()?;
