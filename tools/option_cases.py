@@ -1,0 +1,155 @@
+# Rows on the options that a set gives its archive, for tools/mbtiles_rows.py, which hands itself in as `rows`. The answers are worked out by Python's json and decimal.
+import json
+import random
+import re
+from decimal import ROUND_HALF_UP, Decimal
+
+import shown
+from held_sets import Held, data_of, tile_row
+from patch_cases import named
+from patch_rows import TILE_TABLES
+from shown import option
+
+TYPES = {'pbf': 'Mvt', 'mvt': 'Mvt', 'x-protobuf': 'Mvt', 'protobuf': 'Mvt', 'application/x-protobuf': 'Mvt', 'application/vnd.mapbox-vector-tile': 'Mvt',
+         'png': 'Png', 'image/png': 'Png', 'jpg': 'Jpeg', 'jpeg': 'Jpeg', 'image/jpg': 'Jpeg', 'image/jpeg': 'Jpeg', 'webp': 'Webp', 'image/webp': 'Webp',
+         'avif': 'Avif', 'image/avif': 'Avif', 'mlt': 'Mlt', 'application/vnd.maplibre-vector-tile': 'Mlt'}
+LEFT_OUT = ('format', 'minzoom', 'maxzoom', 'bounds', 'center', 'json', 'scheme', 'hash_algorithm', 'agg_tiles_hash', 'agg_tiles_hash_before_apply', 'agg_tiles_hash_after_apply')
+BLANKS = ' \t\n\x0c\r'
+GZIP, OTHER = 'x1f8b08', 'x1a05'
+NUMBERS = ('0', '-0', '+0', '7', '007', '-8.5', '8.', '.5', '-', '+', '', '1.5e1', '0x1', '180', '-180', '180.0', '180.00000004', '180.00000005', '180.0000001', '-180.1', '181', '90', '-90', '90.1', '-90.1', '1.23456784',
+           '1.23456785', '-1.23456785', '1.234567849999999999999', '0.00000005', '-0.00000004', '1.2.3', '1,5', '--1', '1-', ' 4', '4 ', '4 5', '٣', '1.00000000x', '0' * 38 + '15', '0' * 39 + '15', '1.' + '3' * 38, '1.' + '3' * 39)
+
+
+def degrees(word):
+    """Ten millionths of a degree, or None."""
+    word = word.strip(BLANKS)
+    if not re.fullmatch(r'[-+]?[0-9]+(\.[0-9]*)?', word) or len(word.lstrip('-+')) > 40:
+        return None
+    number = int((Decimal(word) * 10 ** 7).quantize(Decimal(1), rounding=ROUND_HALF_UP))
+    return number if abs(number) <= 180 * 10 ** 7 else None
+
+
+def bounds(text):
+    parts = [degrees(part) for part in text.split(',')]
+    if len(parts) != 4 or None in parts or abs(parts[1]) > 90 * 10 ** 7 or abs(parts[3]) > 90 * 10 ** 7 or parts[1] > parts[3]:
+        return None
+    return 'SetBounds {{ west: {}, south: {}, east: {}, north: {} }}'.format(*parts)
+
+
+def center(text):
+    parts = text.split(',')
+    lon, lat = (degrees(parts[0]), degrees(parts[1])) if len(parts) in (2, 3) else (None, None)
+    if lon is None or lat is None or abs(lat) > 90 * 10 ** 7:
+        return None
+    zoom = parts[2].strip(BLANKS) if len(parts) == 3 else ''
+    zoom = zoom if re.fullmatch('0|[1-9][0-9]?', zoom) and int(zoom) <= 30 else None
+    return f'SetCenter {{ longitude: {lon}, latitude: {lat}, zoom: {option(zoom)} }}'
+
+
+def members(text):
+    """The members of an object of JSON, none where the text is no object that nests at most 127 deep."""
+    def refuse(_):
+        raise ValueError
+    try:
+        value = json.loads(text, parse_constant=refuse)
+    except (ValueError, RecursionError):
+        return {}
+    return value if isinstance(value, dict) and shown.depth(value) <= 127 else {}
+
+
+def metadata(names):
+    kept = members(names.get('json') or '')
+    kept.update((name, text) for name, text in names.items() if name not in LEFT_OUT and text is not None)
+    return in_order(kept)
+
+
+def in_order(value):
+    if isinstance(value, dict):
+        return '{' + ','.join(f'{json.dumps(n, ensure_ascii=False)}:{in_order(v)}' for n, v in shown.in_order(value)) + '}'
+    if isinstance(value, list):
+        return '[' + ','.join(map(in_order, value)) + ']'
+    return json.dumps(value, ensure_ascii=False)
+
+
+def options(held):
+    state = held.state()
+    filled = [(place, data) for place, cell in state.tiles.items() if (data := data_of(cell))]
+    kind = TYPES.get((state.names.get('format') or '').strip(BLANKS).lower(), 'Unknown')
+    gzip = [data[:2] == b'\x1f\x8b' for _, data in filled]
+    label = ('Gzip' if all(gzip) else 'Unknown' if any(gzip) else 'None') if kind == 'Mvt' else 'None'
+    zooms = [place[0] for place, _ in filled] or [0]
+    parts = [option(read(state.names[name])) if state.names.get(name) is not None else 'None' for name, read in (('bounds', bounds), ('center', center))]
+    held.rows.row('meta options', kind, label, f'({min(zooms)}, {max(zooms)})', *parts, shown.text(metadata(state.names)))
+
+
+def ask(rows, pushes, layout='flat'):
+    options(Held(rows, layout, pushes))
+
+
+def types(rows):
+    for word in (*TYPES, 'PBF', ' Png', 'image/JPEG ', '\tmvt\n', '', 'gif', 'image/gif', 'vnd.mapbox-vector-tile', 'p bf', 'pbf2', 'é'):
+        ask(rows, named(('format', word)))
+    ask(rows, named(('format', None)))
+    ask(rows, [])
+
+
+def labels(rows):
+    tiles = [[], [GZIP], [OTHER], [GZIP, GZIP], [GZIP, OTHER], [OTHER, GZIP], [OTHER, OTHER], ['n'], ['x'], ['x', 'n', GZIP], ['x', OTHER], ['x1f'], ['x1f8b'], ['x1f8c'], ['x8b1f']]
+    for cells in tiles:
+        for word in ('pbf', 'png', 'mlt', None):
+            pushes = [('tiles', f'i{at + 3}', 'i0', 'i1', cell) for at, cell in enumerate(cells)]
+            ask(rows, named(('format', word)) + pushes)
+    # zooms by the tiles with a byte, whatever is said
+    ask(rows, named(('minzoom', '0'), ('maxzoom', '9')) + [('tiles', 'i2', 'i0', 'i0', 'x'), ('tiles', 'i5', 'i0', 'i0', 'x30'), ('tiles', 'i7', 'i0', 'i0', 'x31'), ('tiles', 'i30', 'i0', 'i0', 'n')])
+    ask(rows, named(('minzoom', '4')) + [('tiles', 'i30', 'i0', 'i0', 'x30')])
+
+
+def extents(rows):
+    for number in NUMBERS:
+        for text in (f'{number},-85,8,85', f'-8,{number},8,90', f'-8,-90,8,{number}', f'-8,-5,{number},5'):
+            ask(rows, named(('bounds', text)))
+        for text in (f'{number},4', f'4,{number}', f'{number},{number},5', f'4,5,{number}'):
+            ask(rows, named(('center', text)))
+    for text in ('', ',', ',,,', '1,2,3', '1,2,3,4', '1,2,3,4,', ',1,2,3,4', '1,2,3,4,5', ' 1 , 2 ,\t3 , 4 ', '1;2;3;4', '1,4,3,2', '5,1,3,2', '[1,2,3,4]', '1', '1,2', '1,2,3', '1,2,30', '1,2,31', '1,2,07', '1,2,-1', '1,2,', '1,2,3.0', '1,2, 3 '):
+        ask(rows, named(('bounds', text), ('center', text)))
+    ask(rows, named(('bounds', None), ('center', None)))
+
+
+def documents(rows):
+    texts = ('{}', '{"a":1}', '{"vector_layers":[{"id":"a","fields":{"b":"String"},"minzoom":0,"maxzoom":14}],"tilestats":{"layerCount":1}}', '{"name":"inner","z":[1,2.5,null,true]}', '[1]', '"a"', 'null', '', 'x', '{"a":1,}',
+             '{"a":1,"a":2}', '{"b":{"d":1,"c":2},"a":"\\u00e9\\n"}', '{"bounds":"1,2,3,4","format":"png"}', '{"half":0.5,"one":1.0,"less":-2.25}', *('{"a":' * n + '1' + '}' * n for n in (126, 127, 128)))
+    for text in texts:
+        ask(rows, named(('json', text)))
+        ask(rows, named(('json', text), ('name', 'town'), ('a', 'over')))
+        ask(rows, named(('json', text), ('name', None), ('a', None)))
+    for name in (*LEFT_OUT, 'name', 'type', 'version', 'description', 'attribution', 'vector_layers', '', 'Format', 'é', 'with "quotes"', '\x01\x7f'):
+        for text in ('md5', '', 'é "quoted" \\ \n\t\x0b\x7f end', None) if name != 'hash_algorithm' else ('md5', None):
+            ask(rows, named((name, text)))
+    ask(rows, named(('name', 'town'), ('type', 'overlay'), ('version', '2'), ('format', 'pbf'), ('agg_tiles_hash', '0')) + [('metadata', 'n', 'tnobody'), ('metadata', 'n', 'n')])
+
+
+def layouts(rows):
+    for layout in TILE_TABLES:
+        ask(rows, named(('name', 'town'), ('format', 'png')), layout)
+    # a row without an id is no tile
+    tiles = tile_row('normalized', 'md5', (4, 0, 0), bytes.fromhex(GZIP[1:]))
+    ask(rows, [*named(('format', 'pbf')), *tiles, ('map', 'i6', 'i0', 'i0', 'n')], 'normalized')
+    refusal = f'UnsupportedHashAlgorithm {{ algorithm: {shown.text("crc32")} }}'
+    Held(rows, 'flat', named(('hash_algorithm', 'crc32')))
+    rows.row('meta options', refusal)
+
+
+def some(rows):
+    chance = random.Random(51)
+    for _ in range(60):
+        number = lambda limit: f'{chance.uniform(-limit, limit):.{chance.randrange(0, 12)}f}'
+        low, high = sorted((number(90), number(90)), key=float)
+        names = [('bounds', f'{number(180)},{low},{number(180)},{high}'), ('center', f'{number(180)},{number(90)},{chance.randrange(-1, 33)}'), ('format', chance.choice([*TYPES, 'x'])), ('name', chance.choice(['a', '', None])),
+                 ('json', chance.choice(['{"a":[]}', '{"name":"b"}', 'x', None]))]
+        tiles = [('tiles', f'i{z}', 'i0', 'i0', chance.choice([GZIP, OTHER, 'x', 'n'])) for z in sorted(chance.sample(range(31), chance.randrange(4)))]
+        ask(rows, named(*chance.sample(names, chance.randrange(1, 6))) + tiles)
+
+
+def write(rows):
+    for cases in (types, labels, extents, documents, layouts, some):
+        cases(rows)
