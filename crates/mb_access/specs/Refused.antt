@@ -1,14 +1,9 @@
 -- What a call that is refused says of the store, and what a stream that isn't made leaves of the store that it would have borrowed.
-use Rattle.std.specs.Prelude.{◌≢◌, ◌<◌, ◌-◌, ◌^◌, ℕ, Bool, Err, IsErrOf, Result}
-use Rattle.base_values.specs.Counts.{Rose}
-use Rattle.mb_store.specs.Kept.{ReadsOnly}
+use Rattle.std.specs.Prelude.{◌≢◌, ◌<◌, ◌-◌, ◌^◌, ℕ, Bool, Err, Result}
+use Rattle.mb_store.specs.Kept.{FaultsCounted, ReadsOnly}
 use Rattle.mb_tables.specs.Table.{Tables}
 use Rattle.mb_tables.specs.declared.error.MbtError.{MbtError}
 use Rattle.mb_tables.specs.declared.error.MbtError.TheVariants.{StoreFault}
-
--- a fault comes only where the store's count of faults rose from the first number to the second
-abbrev pub IsFaultCounted : {A : Type 0} → ℕ → ℕ → Result A MbtError → Type 0
-IsFaultCounted before now result = IsErrOf result StoreFault → Rose before now
 
 -- no fault comes where calls don't fail, and the count of faults isn't at its end
 abbrev pub IsUnfailing : {A : Type 0} → Type 0 → ℕ → Result A MbtError → Type 0
@@ -18,4 +13,4 @@ IsUnfailing steady failed result = steady → failed < 2 ^ 64 - 1 → result ≢
 pub record LeftByStart {A S : Type 0} (holds : S → Tables) (shows : S → Bool) (failed : S → ℕ)
     (unfailing : S → Type 0) (old : S) (result : Result A MbtError) (new : S) : Type 0 where
   pub kept : ReadsOnly holds shows failed unfailing old new
-  pub fault : IsFaultCounted (failed old) (failed new) result
+  pub fault : FaultsCounted failed old new result StoreFault

@@ -1,8 +1,7 @@
 // What the descriptions of a store's tables tell.
 ghost use Rattle.std.specs.Prelude.{◌≡◌, ◌≢◌, Err, IfErr};
 ghost use Rattle.mb_access.specs.Described.{IsDescribed, missing_answer, read_name};
-ghost use Rattle.mb_access.specs.Refused.{IsFaultCounted};
-ghost use Rattle.mb_store.specs.Kept.{ReadsOnly};
+ghost use Rattle.mb_store.specs.Kept.{FaultsCounted, ReadsOnly};
 ghost use Rattle.mb_tables.specs.Detection.{detected};
 ghost use Rattle.mb_tables.specs.Refusals.{Answers};
 
@@ -29,7 +28,7 @@ fn detected_in(tables: &[TableDesc]) -> MbtResult<MbtType>
 pub(crate) fn detect_type<S: TileStore>(alloc: Global, store: &mut S) -> MbtResult<MbtType>
     ensures answer { IsDescribed detected (S.tells store.old) (S.told store.old) result }
     ensures kept { ReadsOnly S.told S.tells S.faults S.steady store.old store.new }
-    ensures fault { IsFaultCounted (S.faults store.old) (S.faults store.new) result }
+    ensures fault { FaultsCounted S.faults store.old store.new result MbtError.StoreFault }
 {
     let tables = store.describe(alloc)?;
     detected_in(&tables)
@@ -43,7 +42,7 @@ pub(crate) fn missing_tile_index<S: TileStore>(
     ensures answer { IsDescribed missing_answer
         (S.tells store.old) (S.told store.old) (read_name result) }
     ensures kept { ReadsOnly S.told S.tells S.faults S.steady store.old store.new }
-    ensures fault { IsFaultCounted (S.faults store.old) (S.faults store.new) result }
+    ensures fault { FaultsCounted S.faults store.old store.new result MbtError.StoreFault }
 {
     let tables = store.describe(alloc)?;
     missing_in(&tables)

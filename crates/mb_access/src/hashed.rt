@@ -2,10 +2,9 @@
 ghost use Rattle.std.specs.Prelude.{◌≡◌, ◌≢◌, Err, IfErr, IfOk, option_and_then, option_copied, true};
 ghost use Rattle.mb_access.specs.Hashed.{IsHashed, hash_by, hashed_answer, id_at, row_by, text_in};
 ghost use Rattle.mb_access.specs.Reads.{coord_in};
-ghost use Rattle.mb_access.specs.Refused.{IsFaultCounted};
 ghost use Rattle.mb_lists.specs.Entries.{place_at};
 ghost use Rattle.mb_load.specs.Changing.{tile_key};
-ghost use Rattle.mb_store.specs.Kept.{ReadsOnly};
+ghost use Rattle.mb_store.specs.Kept.{FaultsCounted, ReadsOnly};
 ghost use Rattle.mb_tables.specs.Refusals.{Answers, is_free};
 ghost use Rattle.mb_tables.specs.Tiles.{cell_at};
 
@@ -43,7 +42,7 @@ fn row_by<S: TileStore>(
         → IfOk result (λ row. row ≡ row_by layout (S.told store.old) coord) }
     ensures free { IfErr result (λ e. is_free e ≡ true) }
     ensures kept { ReadsOnly S.told S.tells S.faults S.steady store.old store.new }
-    ensures fault { IsFaultCounted (S.faults store.old) (S.faults store.new) result }
+    ensures fault { FaultsCounted S.faults store.old store.new result MbtError.StoreFault }
 {
     match (layout, coord) {
         (MbtType::FlatWithHash, Some(coord)) => {
@@ -153,7 +152,7 @@ pub fn get_tile_and_hash<S: TileStore>(
 ) -> MbtResult<Option<(BlobVal, Option<TextVal>)>>
     ensures answer { IsHashed z x y (S.tells store.old) (S.told store.old) result }
     ensures kept { ReadsOnly S.told S.tells S.faults S.steady store.old store.new }
-    ensures fault { IsFaultCounted (S.faults store.old) (S.faults store.new) result }
+    ensures fault { FaultsCounted S.faults store.old store.new result MbtError.StoreFault }
 {
     let set = load(alloc, store)?;
     let row = row_by(alloc, store, set.mbt_type(), coord_in(z, x, y))?;

@@ -1,7 +1,6 @@
 // The calls of a set on its metadata.
 ghost use Rattle.std.specs.Prelude.{◌≡◌, Ok, OnErr, OnOk, true};
 ghost use Rattle.mb_access.specs.FileName.{file_name};
-ghost use Rattle.mb_access.specs.Refused.{IsFaultCounted};
 ghost use Rattle.mb_load.specs.Begun.{IsBegun};
 ghost use Rattle.mb_load.specs.State.{State, state_of};
 ghost use Rattle.mb_metadata.specs.Inserting.{IsWithoutFloat, insert_edits};
@@ -9,12 +8,12 @@ ghost use Rattle.mb_metadata.specs.NameEdits.{EditsNames, done_answer};
 ghost use Rattle.mb_metadata.specs.Reading.{metadata_answer};
 ghost use Rattle.mb_metadata.specs.Updating.{state_updated, update_edits};
 ghost use Rattle.mb_metadata.specs.Values.{delete_edits, set_edits, value_answer, zoom_value_answer};
-ghost use Rattle.mb_store.specs.Kept.{Keeps, ReadsOnly};
+ghost use Rattle.mb_store.specs.Kept.{FaultsCounted, Keeps, ReadsOnly};
 
 use crate::Mbtiles;
 use base_values::TextVal;
 use mb_metadata::{Metadata, UpdateZoomType};
-use mb_store::{MbtResult, TileStore};
+use mb_store::{MbtError, MbtResult, TileStore};
 use std::alloc::Global;
 use tile_json::TileJson;
 
@@ -24,7 +23,7 @@ impl Mbtiles {
         ensures answer { IsBegun (metadata_answer (file_name self.now))
             (S.tells store.old) (S.told store.old) result }
         ensures kept { ReadsOnly S.told S.tells S.faults S.steady store.old store.new }
-        ensures fault { IsFaultCounted (S.faults store.old) (S.faults store.new) result }
+        ensures fault { FaultsCounted S.faults store.old store.new result MbtError.StoreFault }
     {
         mb_metadata::get_metadata(alloc, store, self.filename())
     }
@@ -39,7 +38,7 @@ impl Mbtiles {
         ensures answer { IsBegun (value_answer key.now)
             (S.tells store.old) (S.told store.old) result }
         ensures kept { ReadsOnly S.told S.tells S.faults S.steady store.old store.new }
-        ensures fault { IsFaultCounted (S.faults store.old) (S.faults store.new) result }
+        ensures fault { FaultsCounted S.faults store.old store.new result MbtError.StoreFault }
     {
         mb_metadata::get_metadata_value(alloc, store, key)
     }
@@ -54,7 +53,7 @@ impl Mbtiles {
         ensures answer { IsBegun (zoom_value_answer zoom_name.entry)
             (S.tells store.old) (S.told store.old) result }
         ensures kept { ReadsOnly S.told S.tells S.faults S.steady store.old store.new }
-        ensures fault { IsFaultCounted (S.faults store.old) (S.faults store.new) result }
+        ensures fault { FaultsCounted S.faults store.old store.new result MbtError.StoreFault }
     {
         mb_metadata::get_metadata_zoom_value(alloc, store, zoom_name)
     }
@@ -72,7 +71,7 @@ impl Mbtiles {
             (EditsNames (set_edits key.now value.now) (S.told store.old) (S.told store.new)) }
         ensures refused { OnErr result (S.told store.new ≡ S.told store.old) }
         ensures kept { Keeps S.tells S.faults S.steady store.old store.new }
-        ensures fault { IsFaultCounted (S.faults store.old) (S.faults store.new) result }
+        ensures fault { FaultsCounted S.faults store.old store.new result MbtError.StoreFault }
     {
         mb_metadata::set_metadata_value(alloc, store, key, value)
     }
@@ -89,7 +88,7 @@ impl Mbtiles {
             (EditsNames (delete_edits key.now) (S.told store.old) (S.told store.new)) }
         ensures refused { OnErr result (S.told store.new ≡ S.told store.old) }
         ensures kept { Keeps S.tells S.faults S.steady store.old store.new }
-        ensures fault { IsFaultCounted (S.faults store.old) (S.faults store.new) result }
+        ensures fault { FaultsCounted S.faults store.old store.new result MbtError.StoreFault }
     {
         mb_metadata::delete_metadata_value(alloc, store, key)
     }
@@ -107,7 +106,7 @@ impl Mbtiles {
             (EditsNames (insert_edits tile_json.now) (S.told store.old) (S.told store.new)) }
         ensures refused { OnErr result (S.told store.new ≡ S.told store.old) }
         ensures kept { Keeps S.tells S.faults S.steady store.old store.new }
-        ensures fault { IsFaultCounted (S.faults store.old) (S.faults store.new) result }
+        ensures fault { FaultsCounted S.faults store.old store.new result MbtError.StoreFault }
     {
         mb_metadata::insert_metadata(alloc, store, tile_json)
     }
@@ -127,7 +126,7 @@ impl Mbtiles {
             → state_of (S.told store.new) ≡ Ok (state_updated update_zoom s)) }
         ensures refused { OnErr result (S.told store.new ≡ S.told store.old) }
         ensures kept { Keeps S.tells S.faults S.steady store.old store.new }
-        ensures fault { IsFaultCounted (S.faults store.old) (S.faults store.new) result }
+        ensures fault { FaultsCounted S.faults store.old store.new result MbtError.StoreFault }
     {
         mb_metadata::update_metadata(alloc, store, update_zoom)
     }

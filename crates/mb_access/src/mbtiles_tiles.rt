@@ -5,19 +5,19 @@ ghost use Rattle.std.specs.FinMap.{len};
 ghost use Rattle.mb_access.specs.Described.{IsDescribed, missing_answer, read_name};
 ghost use Rattle.mb_access.specs.Hashed.{IsHashed};
 ghost use Rattle.mb_access.specs.Reads.{contains_answer, tile_answer};
-ghost use Rattle.mb_access.specs.Refused.{IsFaultCounted, IsUnfailing, LeftByStart};
+ghost use Rattle.mb_access.specs.Refused.{IsUnfailing, LeftByStart};
 ghost use Rattle.mb_access.specs.StreamSteps.{AreAllLeft, left_at_most, set_of};
 ghost use Rattle.mb_access.specs.Streams.{coords_loaded, tiles_loaded};
 ghost use Rattle.mb_insert.specs.Inserted.{IsInserted};
 ghost use Rattle.mb_insert.specs.Insertion.{insertion};
 ghost use Rattle.mb_load.specs.Begun.{IsBegun};
-ghost use Rattle.mb_store.specs.Kept.{Keeps, ReadsOnly};
+ghost use Rattle.mb_store.specs.Kept.{FaultsCounted, Keeps, ReadsOnly};
 ghost use Rattle.mb_tables.specs.Detection.{detected};
 
 use crate::{Coords, Mbtiles, Tiles, described, hashed, reads, streams};
 use base_values::{BlobVal, TextVal};
 use mb_insert::{CopyDuplicateMode, NewTile};
-use mb_store::{MbtResult, MbtType, TileStore};
+use mb_store::{MbtError, MbtResult, MbtType, TileStore};
 use std::alloc::Global;
 
 impl Mbtiles {
@@ -25,7 +25,7 @@ impl Mbtiles {
     pub fn detect_type<S: TileStore>(&self, alloc: Global, store: &mut S) -> MbtResult<MbtType>
         ensures answer { IsDescribed detected (S.tells store.old) (S.told store.old) result }
         ensures kept { ReadsOnly S.told S.tells S.faults S.steady store.old store.new }
-        ensures fault { IsFaultCounted (S.faults store.old) (S.faults store.new) result }
+        ensures fault { FaultsCounted S.faults store.old store.new result MbtError.StoreFault }
     {
         described::detect_type(alloc, store)
     }
@@ -39,7 +39,7 @@ impl Mbtiles {
         ensures answer { IsDescribed missing_answer
             (S.tells store.old) (S.told store.old) (read_name result) }
         ensures kept { ReadsOnly S.told S.tells S.faults S.steady store.old store.new }
-        ensures fault { IsFaultCounted (S.faults store.old) (S.faults store.new) result }
+        ensures fault { FaultsCounted S.faults store.old store.new result MbtError.StoreFault }
     {
         described::missing_tile_index(alloc, store)
     }
@@ -55,7 +55,7 @@ impl Mbtiles {
     ) -> MbtResult<Option<BlobVal>>
         ensures answer { IsBegun (tile_answer z x y) (S.tells store.old) (S.told store.old) result }
         ensures kept { ReadsOnly S.told S.tells S.faults S.steady store.old store.new }
-        ensures fault { IsFaultCounted (S.faults store.old) (S.faults store.new) result }
+        ensures fault { FaultsCounted S.faults store.old store.new result MbtError.StoreFault }
     {
         reads::get_tile(alloc, store, z, x, y)
     }
@@ -71,7 +71,7 @@ impl Mbtiles {
     ) -> MbtResult<Option<(BlobVal, Option<TextVal>)>>
         ensures answer { IsHashed z x y (S.tells store.old) (S.told store.old) result }
         ensures kept { ReadsOnly S.told S.tells S.faults S.steady store.old store.new }
-        ensures fault { IsFaultCounted (S.faults store.old) (S.faults store.new) result }
+        ensures fault { FaultsCounted S.faults store.old store.new result MbtError.StoreFault }
     {
         hashed::get_tile_and_hash(alloc, store, z, x, y)
     }
@@ -88,7 +88,7 @@ impl Mbtiles {
         ensures answer { IsBegun (contains_answer z x y)
             (S.tells store.old) (S.told store.old) result }
         ensures kept { ReadsOnly S.told S.tells S.faults S.steady store.old store.new }
-        ensures fault { IsFaultCounted (S.faults store.old) (S.faults store.new) result }
+        ensures fault { FaultsCounted S.faults store.old store.new result MbtError.StoreFault }
     {
         reads::contains(alloc, store, z, x, y)
     }
@@ -147,7 +147,7 @@ impl Mbtiles {
             (IsInserted on_duplicate batch.now (S.told store.old) (S.told store.new)) }
         ensures refused { OnErr result (S.told store.new ≡ S.told store.old) }
         ensures kept { Keeps S.tells S.faults S.steady store.old store.new }
-        ensures fault { IsFaultCounted (S.faults store.old) (S.faults store.new) result }
+        ensures fault { FaultsCounted S.faults store.old store.new result MbtError.StoreFault }
     {
         mb_insert::insert_tiles(alloc, store, on_duplicate, batch)
     }

@@ -1,10 +1,9 @@
 // Reads of single tiles.
 ghost use Rattle.std.specs.Prelude.{◌≡◌, ◌≢◌, Err, is_some, option_copied, option_map};
 ghost use Rattle.mb_access.specs.Reads.{bytes_in, contains_answer, coord_in, tile_answer, tile_in};
-ghost use Rattle.mb_access.specs.Refused.{IsFaultCounted};
 ghost use Rattle.mb_lists.specs.Entries.{blob_cell};
 ghost use Rattle.mb_load.specs.Begun.{IsBegun};
-ghost use Rattle.mb_store.specs.Kept.{ReadsOnly};
+ghost use Rattle.mb_store.specs.Kept.{FaultsCounted, ReadsOnly};
 ghost use Rattle.mb_tables.specs.Refusals.{Answers};
 
 use base_values::BlobVal;
@@ -68,7 +67,7 @@ pub fn get_tile<S: TileStore>(
 ) -> MbtResult<Option<BlobVal>>
     ensures answer { IsBegun (tile_answer z x y) (S.tells store.old) (S.told store.old) result }
     ensures kept { ReadsOnly S.told S.tells S.faults S.steady store.old store.new }
-    ensures fault { IsFaultCounted (S.faults store.old) (S.faults store.new) result }
+    ensures fault { FaultsCounted S.faults store.old store.new result MbtError.StoreFault }
 {
     let set = load(alloc, store)?;
     bytes_in(alloc, &set, z, x, y)
@@ -86,7 +85,7 @@ pub fn contains<S: TileStore>(
 ) -> MbtResult<bool>
     ensures answer { IsBegun (contains_answer z x y) (S.tells store.old) (S.told store.old) result }
     ensures kept { ReadsOnly S.told S.tells S.faults S.steady store.old store.new }
-    ensures fault { IsFaultCounted (S.faults store.old) (S.faults store.new) result }
+    ensures fault { FaultsCounted S.faults store.old store.new result MbtError.StoreFault }
 {
     let set = load(alloc, store)?;
     Ok(has_tile(&set, z, x, y))

@@ -2,18 +2,17 @@
 ghost use Rattle.std.specs.Prelude.{◌≡◌, ◌<◌, ◌≤◌, ◌+◌, ◌-◌, ◌∷◌, [], IfOk, IfSome, IsErrOf, None, Ok, OnErr, OnOk, false, length, true};
 ghost use Rattle.std.specs.FinMap.{contains_key, get, len};
 ghost use Rattle.base_values.specs.Counts.{Rose};
-ghost use Rattle.mb_access.specs.Refused.{IsFaultCounted};
 ghost use Rattle.mb_access.specs.StreamSteps.{AreAllLeft, GivesCoord, GivesIndex, GivesTile, IsRowOf, StreamCauses, is_tile_row, left_at_most, left_of, loaded_by, next_row, page_size, rows_left, set_of};
 ghost use Rattle.mb_lists.specs.Entries.{place_at};
 ghost use Rattle.mb_load.specs.Begun.{IsBegun};
-ghost use Rattle.mb_store.specs.Kept.{ReadsOnly};
+ghost use Rattle.mb_store.specs.Kept.{FaultsCounted, ReadsOnly};
 ghost use Rattle.mb_tables.specs.Table.{Tables};
 
 use crate::finding::{coord_at, index_of, tile_copy};
 use base_values::BlobVal;
 use mb_lists::{cell_at, coord_of};
 use mb_load::{Loaded, load};
-use mb_store::{Cell, MbtResult, MbtType, Row, StoreError, TileStore};
+use mb_store::{Cell, MbtError, MbtResult, MbtType, Row, StoreError, TileStore};
 use std::alloc::Global;
 use tile_ids::TileCoord;
 
@@ -78,7 +77,7 @@ impl StreamState {
             → IfOk result (λ s. AreAllLeft (S.told store.old) (S.told store.old) s) }
         ensures most { IfOk result (λ s. left_at_most s ≡ len (set_of s).tiles) }
         ensures kept { ReadsOnly S.told S.tells S.faults S.steady store.old store.new }
-        ensures fault { IsFaultCounted (S.faults store.old) (S.faults store.new) result }
+        ensures fault { FaultsCounted S.faults store.old store.new result MbtError.StoreFault }
     {
         let set = load(alloc, store)?;
         let rows = store.count_rows(set.mbt_type().tile_table())?;
