@@ -22,7 +22,7 @@ SHARED = ('refused', 'rows_shared', 'archive_words', 'set_words', 'program_words
 WHOLE = ('ReadFault', 'WriteFault', 'SinkFault', 'StoreError', 'TreeError', 'InputError', 'ConvertError', 'ImportError', 'ExtractError', 'ServeError', 'Outcome', 'VerifyOutcome', 'ServeOutcome',
          'ExtractOutcome')
 # Words of clauses that name a refusal.
-NAMING = {'IsFaultCounted': 'StoreFault', 'IsUnfailing': 'StoreFault'}
+NAMING = {'IsUnfailing': 'StoreFault'}
 BEGIN, END = '<!-- tables: tools/safety_table.py -->', '<!-- end of the tables -->'
 
 

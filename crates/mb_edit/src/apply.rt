@@ -1,6 +1,6 @@
 // Applying a patch to a store.
-ghost use Rattle.mb_store.specs.Kept.{Keeps, ReadsOnly};
-ghost use Rattle.std.specs.Prelude.{◌≡◌, ◌≤◌, ◌⊎◌, true, false, OnOk, OnErr, IfErr, IsErrOf};
+ghost use Rattle.mb_store.specs.Kept.{FaultsCounted, Keeps, ReadsOnly};
+ghost use Rattle.std.specs.Prelude.{◌≡◌, ◌≤◌, ◌⊎◌, true, false, OnOk, OnErr, IfErr};
 ghost use Rattle.mb_edit.specs.Applying.{IsAppliedBy, IsRefusedBy};
 ghost use Rattle.mb_tables.specs.Refusals.{is_free};
 ghost use Rattle.base_values.specs.Counts.{Rose};
@@ -22,12 +22,18 @@ pub fn apply_patch<S: TileStore, P: TileStore>(
     patch: &mut P,
     force: bool,
 ) -> MbtResult<()>
-    ensures answer { IfErr result (λ e. is_free e ≡ false → IsRefusedBy force (S.tells base.old) (S.told base.old) (P.tells patch.old) (P.told patch.old) e) }
-    ensures applied { S.tells base.old ≡ true → OnOk result (IsAppliedBy force (P.tells patch.old) (P.told patch.old) (S.told base.old) (S.told base.new)) }
+    ensures answer { IfErr result
+        (λ e. is_free e ≡ false
+        → IsRefusedBy force (S.tells base.old) (S.told base.old) (P.tells patch.old)
+        (P.told patch.old) e) }
+    ensures applied { S.tells base.old ≡ true
+        → OnOk result (IsAppliedBy force (P.tells patch.old) (P.told patch.old) (S.told base.old)
+        (S.told base.new)) }
     ensures refused { OnErr result (S.told base.new ≡ S.told base.old) }
     ensures patch_kept { ReadsOnly P.told P.tells P.faults P.steady patch.old patch.new }
     ensures kept { Keeps S.tells S.faults S.steady base.old base.new }
-    ensures fault { IsErrOf result MbtError.StoreFault → Rose (S.faults base.old) (S.faults base.new) ⊎ Rose (P.faults patch.old) (P.faults patch.new) }
+    ensures fault { FaultsCounted S.faults base.old base.new result MbtError.StoreFault
+        ⊎ Rose (P.faults patch.old) (P.faults patch.new) }
 {
     let set = load(alloc, base)?;
     let other = load(alloc, patch)?;

@@ -61,7 +61,8 @@ fn stands_for_other(base: &Loaded, id: &Cell, bytes: &BlobVal) -> bool
 
 // Whether the tile of a patch at an index has other bytes.
 fn has_other(patch: &Loaded, index: usize, bytes: &BlobVal) -> bool
-    ensures { IfSome (bytes_of (entries patch.now.state.tiles) index) (λ met. result ≡ not (bytes_eq met bytes.now)) }
+    ensures { IfSome (bytes_of (entries patch.now.state.tiles) index)
+        (λ met. result ≡ not (bytes_eq met bytes.now)) }
 {
     match bytes_at(patch, index) {
         None => false,
@@ -71,7 +72,11 @@ fn has_other(patch: &Loaded, index: usize, bytes: &BlobVal) -> bool
 
 // Whether bytes collide under their id, by what was met before.
 fn collides_with(base: &Loaded, patch: &Loaded, marks: &Marks, id: &Cell, bytes: &BlobVal) -> bool
-    ensures { (put : List (List ℕ)) → id.now ≡ Cell.Text (digest base.now.state.algorithm bytes.now) → AreMarked (digest base.now.state.algorithm) base.now.state.contents (entries patch.now.state.tiles) put marks.now → result ≡ collides (digest base.now.state.algorithm) base.now.state.contents (bytes.now ∷ put) bytes.now }
+    ensures { (put : List (List ℕ)) → id.now ≡ Cell.Text (digest base.now.state.algorithm bytes.now)
+        → AreMarked (digest base.now.state.algorithm) base.now.state.contents
+        (entries patch.now.state.tiles) put marks.now
+        → result ≡ collides (digest base.now.state.algorithm) base.now.state.contents
+        (bytes.now ∷ put) bytes.now }
 {
     match marks.by_id.get(id) {
         None => stands_for_other(base, id, bytes),
@@ -81,7 +86,9 @@ fn collides_with(base: &Loaded, patch: &Loaded, marks: &Marks, id: &Cell, bytes:
 
 // Puts a mark in place of the one of its id.
 fn put_mark(by_id: &mut BTreeMap<Cell, Mark>, id: Cell, mark: Mark) -> Result<(), OutOfMemory>
-    ensures { OnOk result ((q : Cell) → marked cell_cmp by_id.new q ≡ cond (is_eq (cell_cmp id q)) (Some mark) (marked cell_cmp by_id.old q)) }
+    ensures { OnOk result ((q : Cell)
+        → marked cell_cmp by_id.new q ≡ cond (is_eq (cell_cmp id q)) (Some mark)
+        (marked cell_cmp by_id.old q)) }
 {
     by_id.insert(id, mark)?;
     Ok(())
@@ -96,8 +103,14 @@ fn meet(
     id: &Cell,
     marks: &mut Marks,
 ) -> Result<(), OutOfMemory>
-    requires { IfSome (bytes_of (entries patch.now.state.tiles) index) (λ bytes. id.now ≡ Cell.Text (digest base.now.state.algorithm bytes)) }
-    ensures { OnOk result ((put : List (List ℕ)) → AreMarked (digest base.now.state.algorithm) base.now.state.contents (entries patch.now.state.tiles) put marks.old → AreMarked (digest base.now.state.algorithm) base.now.state.contents (entries patch.now.state.tiles) (cons_option (bytes_of (entries patch.now.state.tiles) index) put) marks.new) }
+    requires { IfSome (bytes_of (entries patch.now.state.tiles) index)
+        (λ bytes. id.now ≡ Cell.Text (digest base.now.state.algorithm bytes)) }
+    ensures { OnOk result ((put : List (List ℕ))
+        → AreMarked (digest base.now.state.algorithm) base.now.state.contents
+        (entries patch.now.state.tiles) put marks.old
+        → AreMarked (digest base.now.state.algorithm) base.now.state.contents
+        (entries patch.now.state.tiles)
+        (cons_option (bytes_of (entries patch.now.state.tiles) index) put) marks.new) }
 {
     let Some(bytes) = bytes_at(patch, index) else {
         return Ok(());
@@ -114,8 +127,10 @@ fn meet(
 // The test that no contents which a patch puts have the id of others, by the ids of its tiles.
 fn test_contents(alloc: Global, base: &Loaded, patch: &Loaded, ids: &GivenIds) -> MbtResult<()>
     requires normalised { is_normalized base.now.state.layout ≡ true }
-    requires ids { ids.now ≡ ids_given base.now.state.layout base.now.state.algorithm patch.now.state.tiles }
-    ensures { Tests (collision (digest base.now.state.algorithm) base.now.state.contents (bytes_put patch.now.state.tiles)) result }
+    requires ids { ids.now ≡ ids_given base.now.state.layout base.now.state.algorithm
+        patch.now.state.tiles }
+    ensures { Tests (collision (digest base.now.state.algorithm) base.now.state.contents
+        (bytes_put patch.now.state.tiles)) result }
 {
     let mut left = patch.tile_count();
     let mut marks = Marks {
@@ -135,8 +150,10 @@ fn test_contents(alloc: Global, base: &Loaded, patch: &Loaded, ids: &GivenIds) -
 
 // The test of the ids that a set gives a patch's tiles, where the set has ids.
 fn test_given(alloc: Global, base: &Loaded, patch: &Loaded, ids: &GivenIds) -> MbtResult<()>
-    requires { ids.now ≡ ids_given base.now.state.layout base.now.state.algorithm patch.now.state.tiles }
-    ensures { Tests (id_collides base.now.state.layout base.now.state.algorithm base.now.state.contents (bytes_put patch.now.state.tiles)) result }
+    requires { ids.now ≡ ids_given base.now.state.layout base.now.state.algorithm
+        patch.now.state.tiles }
+    ensures { Tests (id_collides base.now.state.layout base.now.state.algorithm
+        base.now.state.contents (bytes_put patch.now.state.tiles)) result }
 {
     if base.mbt_type().is_normalized() {
         return test_contents(alloc, base, patch, ids);
@@ -146,8 +163,12 @@ fn test_given(alloc: Global, base: &Loaded, patch: &Loaded, ids: &GivenIds) -> M
 
 /// The test of the ids of contents that a patch puts, where the set has ids, and the ids that the set gives the patch's tiles. Each of the patch's contents is digested once.
 pub(crate) fn test_ids(alloc: Global, base: &Loaded, patch: &Loaded) -> MbtResult<GivenIds>
-    ensures tests { Tests (id_collides base.now.state.layout base.now.state.algorithm base.now.state.contents (bytes_put patch.now.state.tiles)) result }
-    ensures ids { IfOk result (λ ids. ids ≡ ids_given base.now.state.layout base.now.state.algorithm patch.now.state.tiles) }
+    ensures tests { Tests
+        (id_collides base.now.state.layout base.now.state.algorithm base.now.state.contents
+        (bytes_put patch.now.state.tiles)) result }
+    ensures ids { IfOk result
+        (λ ids. ids ≡ ids_given base.now.state.layout base.now.state.algorithm
+        patch.now.state.tiles) }
 {
     let ids = patch.ids_for(alloc, base.mbt_type(), base.algorithm())?;
     test_given(alloc, base, patch, &ids)?;

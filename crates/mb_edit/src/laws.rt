@@ -13,7 +13,8 @@ ghost use Rattle.mb_tables.specs.Tiles.{Place, TileSet};
 
 /// A patched set has at each place the bytes of the patch where that has bytes, no tile where it has null, else what it had.
 pub fn patched_at_each_place()
-    ensures { (tiles patch : TileSet) (place : Place) → get (patched tiles patch) place ≡ patched_at (λ bytes. Some (Some bytes)) (get patch place) (get tiles place) }
+    ensures { (tiles patch : TileSet) (place : Place) → get (patched tiles patch) place ≡ patched_at
+        (λ bytes. Some (Some bytes)) (get patch place) (get tiles place) }
 {}
 
 /// A patch that is made twice makes what it makes once.
@@ -23,10 +24,14 @@ pub fn patched_twice()
 
 /// A place that the patch doesn't name keeps what it has.
 pub fn unnamed_places_stay()
-    ensures { (tiles patch : TileSet) (place : Place) → contains_key patch place ≡ false → get (patched tiles patch) place ≡ get tiles place }
+    ensures { (tiles patch : TileSet) (place : Place) → contains_key patch place ≡ false
+        → get (patched tiles patch) place ≡ get tiles place }
 {}
 
 /// What a commit makes of the tables that a set was loaded from, after tiles were put into it.
 pub fn put_tiles_committed()
-    ensures { (h : Held) (tiles : TileSet) (old new : Tables) → h.edited ≡ nothing_edited → IsLoadedFrom old h → NamesAlgorithm h.state → ((p : Place) → contains_key tiles p ≡ true → IsOnBoard p) → may_put h.state tiles ≡ None → IsSound new → MakesChanges (tiles_put h tiles) old new → ArePut tiles h.state old new }
+    ensures { (h : Held) (tiles : TileSet) (old new : Tables) → h.edited ≡ nothing_edited
+        → IsLoadedFrom old h → NamesAlgorithm h.state
+        → ((p : Place) → contains_key tiles p ≡ true → IsOnBoard p) → may_put h.state tiles ≡ None
+        → IsSound new → MakesChanges (tiles_put h tiles) old new → ArePut tiles h.state old new }
 {}

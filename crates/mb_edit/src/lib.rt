@@ -11,4 +11,4 @@ mod put;
 pub use apply::apply_patch;
 pub use mb_load::commit_loaded;
 pub use patch::patch_loaded;
-pub use put::{put_tiles, test_editable};
+pub use put::{move_tiles, put_tiles, test_editable};

@@ -39,7 +39,8 @@ fn patch_name(
     index: usize,
 ) -> Result<(), OutOfMemory>
     requires { index < len patch.now.state.metadata }
-    ensures { OnOk result (IfSome (slice_get (entries patch.now.state.metadata) index) (λ e. set.new ≡ name_patched set.old e)) }
+    ensures { OnOk result (IfSome (slice_get (entries patch.now.state.metadata) index)
+        (λ e. set.new ≡ name_patched set.old e)) }
 {
     let (name, value) = patch.metadata_at(index);
     match target_of(name) {
@@ -66,7 +67,8 @@ fn patch_names(alloc: Global, set: &mut Editing, patch: &Loaded) -> Result<(), O
 // Removes the name of a patch at an index, where it has null.
 fn clear_null(set: &mut Editing, patch: &Loaded, index: usize) -> Result<(), OutOfMemory>
     requires { index < len patch.now.state.metadata }
-    ensures { OnOk result (IfSome (slice_get (entries patch.now.state.metadata) index) (λ e. set.new ≡ null_cleared set.old e)) }
+    ensures { OnOk result (IfSome (slice_get (entries patch.now.state.metadata) index)
+        (λ e. set.new ≡ null_cleared set.old e)) }
 {
     match patch.metadata_at(index) {
         (name, Cell::Null) => set.clear_metadata(name),
@@ -121,11 +123,15 @@ fn patch_all(
 /// 7. `IdCollision`: contents that are put have the id of others in a normalised set, with the id of the first such tile.
 pub fn patch_loaded(alloc: Global, base: Loaded, patch: &Loaded, force: bool) -> MbtResult<Loaded>
     ensures answer { IfOk result (λ h. step force base.state patch.now.state ≡ Ok h.state) }
-    ensures refused { IfErr result (λ e. is_free e ≡ false → step force base.state patch.now.state ≡ Err e) }
+    ensures refused { IfErr result
+        (λ e. is_free e ≡ false → step force base.state patch.now.state ≡ Err e) }
     ensures unfaulted { IfErr result (λ e. e ≢ MbtError.StoreFault) }
-    ensures value { IfOk result (λ h. (may_patch force base.state patch.now.state ≡ None) × (h ≡ held_patched base patch.now.state)) }
-    ensures loaded { (t : Tables) → IsLoadedFrom t base → AllOnBoard patch.now.state → IfOk result (IsLoadedFrom t) }
-    ensures named { NamesAlgorithm base.state → NamesAlgorithm patch.now.state → IfOk result (λ h. NamesAlgorithm h.state) }
+    ensures value { IfOk result (λ h. (may_patch force base.state patch.now.state ≡ None)
+        × (h ≡ held_patched base patch.now.state)) }
+    ensures loaded { (t : Tables) → IsLoadedFrom t base → AllOnBoard patch.now.state
+        → IfOk result (IsLoadedFrom t) }
+    ensures named { NamesAlgorithm base.state → NamesAlgorithm patch.now.state → IfOk result
+        (λ h. NamesAlgorithm h.state) }
 {
     let ids = test_patching(alloc, &base, patch, force)?;
     let patched = patch_all(alloc, base, patch, &ids)?;

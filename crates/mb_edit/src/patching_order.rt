@@ -19,7 +19,8 @@ use tile_hash::HashAlgorithm;
 
 // The test that a patch describes no table of binary differences.
 fn test_kind(patch: &Loaded) -> MbtResult<()>
-    ensures { Tests (unless (not (is_some patch.now.state.patch_type)) MbtError.UnsupportedPatchType) result }
+    ensures { Tests (unless (not (is_some patch.now.state.patch_type))
+        MbtError.UnsupportedPatchType) result }
 {
     if patch.patch_type().is_some() {
         return Err(MbtError::UnsupportedPatchType);
@@ -51,7 +52,9 @@ fn has_text(set: &Loaded, name: &str) -> bool
 
 // The test of the digests of all tiles that a patch has.
 fn test_patch(patch: &Loaded, force: bool) -> MbtResult<()>
-    ensures { Tests (unless_forced force (patch_refused (is_some (before_hash patch.now.state.metadata)) (is_some (after_hash patch.now.state.metadata)))) result }
+    ensures { Tests (unless_forced force
+        (patch_refused (is_some (before_hash patch.now.state.metadata))
+        (is_some (after_hash patch.now.state.metadata)))) result }
 {
     let before = has_text(patch, AGG_TILES_HASH_BEFORE_APPLY);
     let after = has_text(patch, AGG_TILES_HASH_AFTER_APPLY);
@@ -60,7 +63,10 @@ fn test_patch(patch: &Loaded, force: bool) -> MbtResult<()>
 
 // The test of those that a set has.
 fn test_base(base: &Loaded, force: bool) -> MbtResult<()>
-    ensures { Tests (unless_forced force (base_refused (is_some (agg_hash base.now.state.metadata)) (is_some (before_hash base.now.state.metadata)) (is_some (after_hash base.now.state.metadata)))) result }
+    ensures { Tests (unless_forced force
+        (base_refused (is_some (agg_hash base.now.state.metadata))
+        (is_some (before_hash base.now.state.metadata))
+        (is_some (after_hash base.now.state.metadata)))) result }
 {
     let agg = has_text(base, AGG_TILES_HASH);
     let before = has_text(base, AGG_TILES_HASH_BEFORE_APPLY);
@@ -85,7 +91,9 @@ fn test_agree(alloc: Global, before: &TextVal, agg: &TextVal) -> MbtResult<()>
 
 // The test that a patch is meant for a set, where both have the digest of the set.
 fn test_meant_for(alloc: Global, base: &Loaded, patch: &Loaded, force: bool) -> MbtResult<()>
-    ensures { Tests (unless_forced force (wrong_base (before_hash patch.now.state.metadata) (agg_hash base.now.state.metadata))) result }
+    ensures { Tests (unless_forced force
+        (wrong_base (before_hash patch.now.state.metadata) (agg_hash base.now.state.metadata)))
+        result }
 {
     if force {
         return Ok(());
@@ -120,7 +128,9 @@ pub(crate) fn test_patching(
     force: bool,
 ) -> MbtResult<GivenIds>
     ensures tests { Tests (may_patch force base.now.state patch.now.state) result }
-    ensures ids { IfOk result (λ ids. ids ≡ ids_given base.now.state.layout base.now.state.algorithm patch.now.state.tiles) }
+    ensures ids { IfOk result
+        (λ ids. ids ≡ ids_given base.now.state.layout base.now.state.algorithm
+        patch.now.state.tiles) }
 {
     test_kind(patch)?;
     test_patch(patch, force)?;
