@@ -1,6 +1,7 @@
 -- What a set has after the same bytes were put at the places of ids.
-use Rattle.std.proofs.Common.{◌≡◌, ◌≢◌, ◌∙◌, ◌⊎◌, inl, inr, ◌+◌, ◌≤◌, ◌<◌, ℕ, zero, suc, Bool, true, false, ◌&&◌, ◌||◌, nat_le, nat_lt, List, Option, Some, OnOk, Result, Ok, Err, cond, is_some, refl, ap, sym, subst, arith}
+use Rattle.std.proofs.Common.{◌≡◌, ◌≢◌, ◌∙◌, ◌⊎◌, inl, inr, ◌+◌, ◌≤◌, ◌<◌, ℕ, zero, suc, Bool, true, false, ◌&&◌, ◌||◌, nat_le, nat_lt, List, [], ◌∷◌, ◌++◌, map, Option, Some, OnOk, Result, Ok, Err, cond, is_some, refl, ap, sym, subst, arith}
 use Rattle.std.proofs.lemmas.Bool.Decides.{nat_tests}
+use Rattle.std.proofs.lemmas.List.{append_assoc, map-append}
 use Rattle.std.specs.List.{range_with_len}
 use Rattle.std.specs.Ordering.{eq_by_cmp, nat_cmp}
 use Rattle.std.specs.FinMap.{contains_key, get, get-insert, insert, len, len-insert}
@@ -10,7 +11,7 @@ use Rattle.tile_ids.specs.Hilbert.{coord_of, hilbert, id_of, pyramid, tile_id}
 use Rattle.tile_ids.specs.declared.id.TheConstants.{MAX_TILE_ID}
 use Rattle.mb_lists.specs.Entries.{place_at}
 use Rattle.mb_load.proofs.EditedFrom.{same_place}
-use Rattle.mb_load.specs.Edits.{with_tile}
+use Rattle.mb_load.specs.Edits.{with_tile, with_tiles}
 use Rattle.mb_load.specs.Held.{Held}
 use Rattle.mb_load.specs.LoadedFrom.{IsOnBoard}
 use Rattle.mb_tables.proofs.TileLemmas.{places_total}
@@ -155,10 +156,22 @@ run_few tiles bytes a (suc n) =
     let most = at_most_one (contains_key tiles (place_of_id a)) (len tiles) in
     omega (arith, more, one, most)
 
--- bytes that were put at the coordinate of an id
-pub put_placed : {E : Type 0} (r : Result Unit E) (old new : Held) (c : Coord) (t : ℕ) (bytes given : List ℕ) → IsCoord c → id_of c ≡ t → given ≡ bytes → OnOk r (new ≡ with_tile old (place_at c) given) → OnOk r (new.state.tiles ≡ insert old.state.tiles (place_of_id t) (Some bytes))
-put_placed (Err e) old new c t bytes given is id same put = put
-put_placed (Ok x) old new c t bytes given is id same put =
+-- bytes that were put at the coordinates of ids
+tiles_placed : (h : Held) (ts : List ℕ) (bytes : List ℕ) → (with_tiles h (map place_of_id ts) bytes).state.tiles ≡ with_ids h.state.tiles bytes ts
+tiles_placed h [] bytes = refl
+tiles_placed h (t ∷ ts) bytes = tiles_placed (with_tile h (place_of_id t) bytes) ts bytes
+
+pub run_placed : {E : Type 0} (r : Result Unit E) (old new : Held) (coords : List Coord) (ts bytes given : List ℕ) → map place_at coords ≡ map place_of_id ts → given ≡ bytes → OnOk r (new ≡ with_tiles old (map place_at coords) given)
+    → OnOk r (new.state.tiles ≡ with_ids old.state.tiles bytes ts)
+run_placed (Err e) old new coords ts bytes given places same put = put
+run_placed (Ok x) old new coords ts bytes given places same put =
     ap (λ (h : Held). h.state.tiles) put
-    ∙ (ap (λ p. insert old.state.tiles p (Some given)) (placed_coord c t is id)
-    ∙ ap (λ l. insert old.state.tiles (place_of_id t) (Some l)) same)
+    ∙ (ap (λ ps. (with_tiles old ps given).state.tiles) places
+    ∙ (ap (λ l. (with_tiles old (map place_of_id ts) l).state.tiles) same ∙ tiles_placed old ts bytes))
+
+-- one coordinate more
+pub places_more : (cs : List Coord) (c : Coord) (t : ℕ) (ts all : List ℕ) → place_at c ≡ place_of_id t → map place_at cs ++ map place_of_id (t ∷ ts) ≡ map place_of_id all
+    → map place_at (cs ++ c ∷ []) ++ map place_of_id ts ≡ map place_of_id all
+places_more cs c t ts all at left =
+    ap (λ l. l ++ map place_of_id ts) (map-append place_at cs (c ∷ []) ∙ ap (λ p. map place_at cs ++ p ∷ []) at)
+    ∙ (append_assoc (map place_at cs) (place_of_id t ∷ []) (map place_of_id ts) ∙ left)

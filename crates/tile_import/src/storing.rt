@@ -13,7 +13,7 @@ ghost use Rattle.mb_tables.specs.Table.{Tables};
 ghost use Rattle.tile_import.specs.Storing.{IsBase, editable, state_in};
 
 use base_values::OutOfMemory;
-use mb_edit::{put_tiles, test_editable};
+use mb_edit::{move_tiles, test_editable};
 use mb_load::{Loaded, load};
 use mb_store::{Changes, MbtError, MbtResult, TileStore};
 use std::alloc::Global;
@@ -41,14 +41,14 @@ fn put_over(alloc: Global, base: Loaded, tiles: Loaded) -> MbtResult<Loaded>
     ensures loaded { (t : Tables) → IsLoadedFrom t base → AllOnBoard tiles.state
         → IfOk result (IsLoadedFrom t) }
 {
-    put_tiles(alloc, base, &tiles)
+    move_tiles(alloc, base, tiles)
 }
 
 // The changes of a set, which is let go.
 fn changes_of(alloc: Global, set: Loaded) -> Result<Changes, OutOfMemory>
     ensures { IfOk result (λ changes. AreChangesOf set changes) }
 {
-    set.changes(alloc)
+    set.into_changes(alloc)
 }
 
 // Commits all edits of a set at once to the store that it was loaded from, as `commit_loaded` does. The set is let go before that, since a store may make rows of its own of the changes.

@@ -1,7 +1,7 @@
 // The tiles of tile entries, as a set of their own.
-ghost use Rattle.std.specs.Prelude.{◌≡◌, ◌≤◌, ◌+◌, [], IfOk, OnOk, Some};
-ghost use Rattle.std.specs.FinMap.{insert};
+ghost use Rattle.std.specs.Prelude.{◌≡◌, ◌≤◌, ◌+◌, [], IfOk, OnOk, map};
 ghost use Rattle.tile_ids.specs.declared.id.TheConstants.{MAX_TILE_ID};
+ghost use Rattle.mb_lists.specs.Entries.{place_at};
 ghost use Rattle.tile_import.specs.Putting.{IsMadeOf, ids_of, place_of_id, with_ids};
 
 use base_values::{BlobVal, OutOfMemory};
@@ -14,17 +14,26 @@ use std::alloc::Global;
 use tile_hash::HashAlgorithm;
 use tile_ids::{TileCoord, TileId};
 
-// Puts bytes at the coordinate of an id.
-fn put_at(alloc: Global, tiles: &mut Editing, id: TileId, bytes: &[u8]) -> Result<(), OutOfMemory>
-    ensures { OnOk result (tiles.new.state.tiles
-        ≡ insert tiles.old.state.tiles (place_of_id id) (Some bytes.now)) }
+// The coordinate of an id.
+fn placed(id: TileId) -> TileCoord
+    ensures { place_at result ≡ place_of_id id }
 {
-    let coord = TileCoord::from(id);
-    let contents = BlobVal::new(Vec::from_slice(alloc, bytes)?);
-    tiles.set_tile(coord, contents)
+    TileCoord::from(id)
 }
 
-// Puts bytes at the coordinate of each id of a run.
+// The coordinates of the ids of a run.
+fn coords_of(alloc: Global, entry: DirEntry) -> Result<Vec<TileCoord>, OutOfMemory>
+    requires { entry.tile_id + entry.run_length ≤ MAX_TILE_ID + 1 }
+    ensures { IfOk result (λ coords. map place_at coords.items ≡ map place_of_id (ids_of entry)) }
+{
+    let mut coords = Vec::with_capacity(alloc, entry.run_length() as usize)?;
+    for id in entry.iter_coords() {
+        coords.push(placed(id))?;
+    }
+    Ok(coords)
+}
+
+// Puts bytes at the coordinate of each id of a run, where they are kept once.
 fn put_run(
     alloc: Global,
     tiles: &mut Editing,
@@ -35,10 +44,9 @@ fn put_run(
     ensures { OnOk result (tiles.new.state.tiles
         ≡ with_ids tiles.old.state.tiles bytes.now (ids_of entry)) }
 {
-    for id in entry.iter_coords() {
-        put_at(alloc, tiles, id, bytes)?;
-    }
-    Ok(())
+    let coords = coords_of(alloc, entry)?;
+    let contents = BlobVal::new(Vec::from_slice(alloc, bytes)?);
+    tiles.set_tiles(coords.as_slice(), contents)
 }
 
 /// The tiles of an archive, as a flat set of their own in the making: the contents of each tile entry stand at the coordinate of each id of its run.
