@@ -17,7 +17,7 @@ import refused_memory
 TOP = os.path.dirname(os.path.dirname(os.path.abspath(__file__)))
 CRATES = os.path.join(TOP, 'crates')
 PROGRAMS = ('_rows', '_program')
-SHARED = ('refused', 'rows_shared', 'archive_words', 'set_words', 'program_words')
+SHARED = ('refused', 'refused_sets', 'rows_shared', 'archive_words', 'set_words', 'program_words')
 # Errors that are listed whole: those of the objects of the outside, and those of calls that one of their own belongs to.
 WHOLE = ('ReadFault', 'WriteFault', 'SinkFault', 'StoreError', 'TreeError', 'InputError', 'ConvertError', 'ImportError', 'ExtractError', 'ServeError', 'Outcome', 'VerifyOutcome', 'ServeOutcome',
          'ExtractOutcome')

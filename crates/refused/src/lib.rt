@@ -2,9 +2,13 @@
 #![tactic(auto)]
 
 mod archives;
+mod checking;
 mod input;
-mod top_call;
+mod serving;
+mod writing;
 
 pub use archives::{decode, header_bytes, next_entry, put_content};
-pub use input::{place, read};
-pub use top_call::outcome;
+pub use checking::{check, entries_below};
+pub use input::{id, place, read};
+pub use serving::{held_after, reply, serve};
+pub use writing::{add, end, finish};
