@@ -7,6 +7,7 @@ import content_cases
 import insert_cases
 import loaded_cases
 import metadata_cases
+import option_cases
 import read_cases
 import stream_cases
 from rows import Rows, text_word
@@ -17,7 +18,7 @@ rows = ROWS.rows
 
 
 def main():
-    for cases in (read_cases, stream_cases, insert_cases, content_cases, metadata_cases, loaded_cases):
+    for cases in (read_cases, stream_cases, insert_cases, content_cases, metadata_cases, option_cases, loaded_cases):
         cases.write(sys.modules[__name__])
     ROWS.write()
 

@@ -1,5 +1,5 @@
 // Calls on the metadata of a set.
-use crate::{documents, said, values, zoom_values};
+use crate::{archive_options, documents, said, values, zoom_values};
 use mb_store::TileStore;
 use rows_shared::Words;
 use std::alloc::Global;
@@ -14,6 +14,7 @@ pub fn answer<S: TileStore>(
         "get" => said::get(alloc, out, store, words),
         "zoom" => zoom_values::zoom(alloc, out, store, words),
         "insert" => documents::insert(alloc, out, store, words),
+        "options" => archive_options::answer(alloc, out, store),
         call => values::answer(alloc, out, store, call, words),
     }
 }
