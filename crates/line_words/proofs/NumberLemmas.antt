@@ -1,5 +1,5 @@
 -- Decimal numbers, a digit at a time.
-use Rattle.std.proofs.Common.{◌≡◌, ℕ, suc, ◌+◌, ◌-◌, ◌*◌, ◌<◌, Bool, true, false, List, [], ◌∷◌, length, get_or, drop, nat_le, if◌then◌else◌, Option, Some, None, refl, sym, ◌∙◌, ap, arith, add-one}
+use Rattle.std.proofs.Common.{◌≡◌, ℕ, suc, ◌+◌, ◌-◌, ◌*◌, ◌<◌, Bool, true, false, List, [], ◌∷◌, length, get_or, drop, nat_le, if◌then◌else◌, Option, Some, None, refl, sym, ◌∙◌, ap, arith}
 use Rattle.std.proofs.lemmas.Bool.Decides.{nat_tests}
 use Rattle.std.proofs.Math.Seq.{drop-cons}
 use Rattle.std.specs.Char.{is_ascii_digit}
@@ -24,13 +24,6 @@ digit limit n b word m h = cased (is_ascii_digit b) (nat_le (n * 10 + (b - 48)) 
     cased false u e f = ap (option_and_then (λ k. option_and_then (at_most limit) (digits_behind k word))) f
     cased true true e f = let s : Some (n * 10 + (b - 48)) ≡ m = rw e at f in ap (option_and_then (λ k. option_and_then (at_most limit) (digits_behind k word))) s
     cased true false e f = let s : None ≡ m = rw e at f in past limit (n * 10 + (b - 48)) word (grind (arith, nat_tests)) ∙ ap (option_and_then (λ k. option_and_then (at_most limit) (digits_behind k word))) s
-
--- one more digit of a word
-pub digit_taken : (limit n i m : ℕ) (word : List ℕ) (whole : Option ℕ) → i < length word → option_and_then (at_most limit) (digits_behind n (get_or word i 0 ∷ [])) ≡ Some m
-    → option_and_then (at_most limit) (digits_behind n (drop i word)) ≡ whole → option_and_then (at_most limit) (digits_behind m (drop (i + 1) word)) ≡ whole
-digit_taken limit n i m word whole l h w =
-    let cons : drop i word ≡ get_or word i 0 ∷ drop (i + 1) word = rw add-one (drop-cons word i 0 l) in
-    sym (digit limit n (get_or word i 0) (drop (i + 1) word) (Some m) h) ∙ (ap (λ ds. option_and_then (at_most limit) (digits_behind n ds)) (sym cons) ∙ w)
 
 pub digit_refused : (limit n i : ℕ) (word : List ℕ) (whole : Option ℕ) → i < length word → option_and_then (at_most limit) (digits_behind n (get_or word i 0 ∷ [])) ≡ None
     → option_and_then (at_most limit) (digits_behind n (drop i word)) ≡ whole → whole ≡ None

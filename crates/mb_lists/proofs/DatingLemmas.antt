@@ -1,11 +1,9 @@
 -- A tile that got other times is the latest of its place.
-use Rattle.std.proofs.Common.{◌≡◌, ◌∙◌, ap, sym, subst, ℕ, ◌<◌, ◌+◌, ◌++◌, suc, Option, Some, None, List, [], ◌∷◌, cond, find, length, set, get_or, take, refl, arith}
+use Rattle.std.proofs.Common.{◌≡◌, sym, subst, ℕ, Option, Some, None, List, set, get_or, refl}
 use Rattle.std.specs.Prelude.{slice_index_or}
-use Rattle.std.proofs.Math.Seq.{take-suc}
-use Rattle.std.proofs.lemmas.List.{reverse-append}
-use Rattle.mb_lists.specs.Dating.{Redates, last_at, redated}
+use Rattle.mb_lists.specs.Dating.{Redates, redated}
 use Rattle.mb_lists.specs.Entries.{AreInOrder, is_gone, place_of}
-use Rattle.mb_lists.specs.Keyed.{IsAt, IsGap, at_key, live_at}
+use Rattle.mb_lists.specs.Keyed.{IsAt, IsGap, live_at}
 use Rattle.mb_lists.specs.declared.dates.Dates.{Dates}
 use Rattle.mb_lists.specs.declared.entries.Standing.TheVariants.{Kept}
 use Rattle.mb_lists.specs.declared.entries.StoredTile.{StoredTile}
@@ -28,11 +26,3 @@ module _ (live : ℕ) (tiles : List StoredTile) where
 
   pub redated_not : (q : Place) (i : ℕ) (d : Dates) → IsGap place_cmp place_of live tiles q i → AreInOrder live tiles → Redates d (live_at place_cmp place_of is_gone q tiles) tiles tiles
   redated_not q i d gap o = subst (λ (o : Option StoredTile). Redates d o tiles tiles) (sym (gap_live places_total places_antisymmetric place_of is_gone live tiles q i gap o)) refl
-
--- the last tile at a place, one tile more
-pub last_step : (q : Place) (tiles : List StoredTile) (left k : ℕ) (t : StoredTile) → left ≡ k + 1 → k < length tiles → t ≡ get_or tiles k t → last_at q (take left tiles) ≡ cond (at_key place_cmp place_of q t) (Some t) (last_at q (take k tiles))
-last_step q tiles left k t e lt at =
-    let s : left ≡ suc k = omega (arith, e) in
-    ap (λ n. last_at q (take n tiles)) s
-    ∙ (ap (last_at q) (take-suc tiles k t lt ∙ ap (λ x. take k tiles ++ x ∷ []) (sym at))
-    ∙ ap (find (at_key place_cmp place_of q)) (reverse-append (take k tiles) (t ∷ [])))

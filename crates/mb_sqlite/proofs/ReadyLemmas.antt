@@ -19,10 +19,6 @@ pub answered : {X E F : Type 0} (r : Result X E) (a : Result X F) (P : X → Typ
 answered (Ok x) a P is h = subst (λ a. IfOk a P) is h
 answered (Err e) a P is h = tt
 
-pub done_as : {X E F : Type 0} (r : Result X E) (a : Result X F) (P : Type 0) → IfOk r (λ x. a ≡ Ok x) → OnOk a P → OnOk r P
-done_as (Ok x) a P is h = subst (λ a. OnOk a P) is h
-done_as (Err e) a P is h = tt
-
 -- a refusal that is passed on
 pub refused_as : {X E F : Type 0} (r : Result X E) (a : Result X F) (P : Type 0) → OnErr r (OnOk a ⊥) → OnErr a P → OnErr r P
 refused_as (Ok x) a P is h = tt

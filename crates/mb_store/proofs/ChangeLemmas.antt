@@ -10,13 +10,10 @@ use Rattle.std.proofs.lemmas.List.Elements.{All-push, All-set}
 use Rattle.std.proofs.lemmas.List.Quantifiers.{all_pairs_push, position-Some}
 use Rattle.mb_store.specs.Changes.{AreChanges, is_own, same_key, with_change}
 use Rattle.mb_store.specs.ChangeIndex.{table_key_of}
-use Rattle.mb_store.specs.Committing.{AreOfTables}
 use Rattle.mb_store.specs.TableKey.{table_keys_total}
-use Rattle.mb_tables.specs.Described.{is_table}
 use Rattle.mb_tables.specs.Key.{key_cmp}
 use Rattle.mb_store.specs.TableKey.{table_key_cmp}
 use Rattle.mb_tables.specs.Table.{table_number}
-use Rattle.mb_tables.specs.declared.description.TableDesc.{TableDesc}
 use Rattle.mb_tables.proofs.ListLemmas.{none_passes}
 use Rattle.mb_store.specs.declared.change.Change.{Change}
 
@@ -83,14 +80,3 @@ change_made P (Err e) old new c ok err before made = subst P (sym err) before
 
 pub AreChanges-after : {T E : Type 0} (r : Result T E) (old new : List Change) (c : Change) → OnOk r (new ≡ with_change old c) → OnErr r (new ≡ old) → is_own c ≡ true → AreChanges old → AreChanges new
 AreChanges-after r old new c ok err owned sound = change_made AreChanges r old new c ok err sound (AreChanges-with_change old c owned sound)
-
--- changes of tables and one more of a table
-pub AreOfTables-with_change : (ds : List TableDesc) (cs : List Change) (c : Change) → is_table ds c.table ≡ true → AreOfTables ds cs → AreOfTables ds (with_change cs c)
-AreOfTables-with_change ds cs c is all = by (position (λ d. same_key d c) cs) refl
-  where
-    by : (o : Option ℕ) → position (λ d. same_key d c) cs ≡ o → AreOfTables ds (with_change cs c)
-    by (Some i) h = rw h (All-set (λ d. is_table ds d.table ≡ true) cs i c is all)
-    by None h = rw h (All-push (λ d. is_table ds d.table ≡ true) cs c all is)
-
-pub AreOfTables-after : {T E : Type 0} (ds : List TableDesc) (r : Result T E) (old new : List Change) (c : Change) → OnOk r (new ≡ with_change old c) → OnErr r (new ≡ old) → is_table ds c.table ≡ true → AreOfTables ds old → AreOfTables ds new
-AreOfTables-after ds r old new c ok err is all = change_made (AreOfTables ds) r old new c ok err all (AreOfTables-with_change ds old c is all)

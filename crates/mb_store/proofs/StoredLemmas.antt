@@ -50,9 +50,6 @@ later_cmp m n lt = grind (arith)
 earlier_cmp : (m n : ℕ) → nat_cmp m n ≡ Less → m < n
 earlier_cmp m n e = grind (arith)
 
-zero_cmp : (n : ℕ) → nat_cmp 0 n ≡ Greater → ⊥
-zero_cmp n e = grind (arith)
-
 -- a new row beside the first of those there are, by their order
 abbrev inserted : Ordering → Stored → Stored → List Stored → List Stored
 inserted r k s ss = match_ordering r (k ∷ s ∷ ss) (s ∷ ss) (s ∷ insert_key stored_cmp ss k)
@@ -320,14 +317,6 @@ module _ (table : TableName) (old new : TableRows) (row : List Cell) (n : ℕ) (
 
 pub add_placed : (table : TableName) (old new : TableRows) (row : List Cell) → length row ≡ width table → AreStored table old → new.stored.keys ≡ insert_key stored_cmp old.stored.keys (row, old.next) → rows_in new ≡ placed table row (rows_in old)
 add_placed table old new row own stored added = ap rows_of added ∙ placed_in table row old.next old.stored.keys own stored.wide (λ k d far e. stored.earlier k d far)
-
--- what is stored is stored still with a greater number to come
-pub next_stored : (table : TableName) (old new : TableRows) → new.stored.keys ≡ old.stored.keys → old.next ≤ new.next → AreStored table old → AreStored table new
-next_stored table old new same later stored = record {
-  wide = subst (All (Wide table)) (sym same) stored.wide;
-  earlier = subst (All (λ (s : Stored). s.1 < new.next)) (sym same) (λ k d far. let h : (get_or old.stored.keys k d).1 < old.next = stored.earlier k d far in omega (arith, later));
-  count = subst (λ (keys : List Stored). length keys < 2 ^ 64) (sym same) stored.count;
-}
 
 length-rows_of : (keys : List Stored) → length (rows_of keys) ≡ length keys
 length-rows_of keys = length-map keys (λ (s : Stored). s.0)

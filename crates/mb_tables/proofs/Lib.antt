@@ -1,6 +1,5 @@
 pub mod ListLemmas
 pub mod CellLemmas
-pub mod RowOrder
 pub mod TableLemmas
 pub mod TileLemmas
 pub mod RowLemmas

@@ -9,10 +9,6 @@ use Rattle.pm_format.specs.Columns.{ids_at}
 abbrev pub behind : {A : Type 0} → List A → List A × List ℕ → List A × List ℕ
 behind front r = (front ++ r.0, r.1)
 
-pub behind_nothing : {A : Type 0} (x : Option (List A × List ℕ)) → x ≡ option_map (behind []) x
-behind_nothing None = refl
-behind_nothing (Some r) = refl
-
 pub behind_one : {A : Type 0} (front : List A) (n : A) (x : Option (List A × List ℕ)) → option_map (behind front) (option_map (λ r. (n ∷ r.0, r.1)) x) ≡ option_map (behind (front ++ n ∷ [])) x
 behind_one front n None = refl
 behind_one front n (Some r) = ap (λ s. Some (s, r.1)) (sym (append_assoc front (n ∷ []) r.0))

@@ -35,10 +35,6 @@ carried_twice : (v s d : ℕ) (x : Option (ℕ × List ℕ)) → option_map (car
 carried_twice v s d None = refl
 carried_twice v s d (Some r) = let e : v + s * (d + 128 * r.0) ≡ v + d * s + s * 128 * r.0 = omega arith in ap (λ n. Some (n, r.1)) e
 
-carried_none : (x : Option (ℕ × List ℕ)) → x ≡ option_map (carried 0 1) x
-carried_none None = refl
-carried_none (Some r) = let e : r.0 ≡ 0 + 1 * r.0 = omega arith in ap (λ n. Some (n, r.1)) e
-
 -- the byte at a place, and what follows it
 pub at_place : (bytes : List ℕ) (n : ℕ) → n < length bytes → drop n bytes ≡ get_or bytes n 0 ∷ drop (n + 1) bytes
 at_place bytes n h = rw add-one (drop-cons bytes n 0 h)

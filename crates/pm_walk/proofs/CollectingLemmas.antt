@@ -35,10 +35,6 @@ collects_twice a b c ps qs x y = record {
     by_room None (Some r) is p q = absurd (none-some r (sym (is ∙ room_none qs)))
     by_room (Some s) (Some r) is p q = q ∙ ap (λ l. l ++ qs) p ∙ append_assoc a.parts ps qs
 
--- parts that end by one id end by a later one
-pub within_more : (end more : Option ℕ) (n : ℕ) → ((k : ℕ) → stays_within end k ≡ true → stays_within more k ≡ true) → stays_within end n ≡ true → stays_within more n ≡ true
-within_more end more n f h = f n h
-
 pub ordered_more : (low : ℕ) (ps : List Entry) (end more : Option ℕ) → ((k : ℕ) → stays_within end k ≡ true → stays_within more k ≡ true) → AreOrdered low ps end → AreOrdered low ps more
 ordered_more low [] end more f o = f low o
 ordered_more low (p ∷ ps) end more f o = (o.0, o.1, o.2, ordered_more (p.tile_id + p.run_length) ps end more f o.3)

@@ -1,5 +1,5 @@
 -- The blocks of adds with one more behind.
-use Rattle.std.proofs.Common.{◌≡◌, ◌≢◌, ℕ, ◌+◌, ◌*◌, ◌/◌, ◌<◌, ◌≤◌, ◌⊎◌, inl, inr, Bool, true, false, List, [], ◌∷◌, ◌++◌, length, flat_map, nat_eq, ◌&&◌, refl, sym, ◌∙◌, ap, arith, append-nil, lit<}
+use Rattle.std.proofs.Common.{◌≡◌, ◌≢◌, ℕ, ◌+◌, ◌*◌, ◌/◌, ◌<◌, ◌≤◌, Bool, true, false, List, [], ◌∷◌, ◌++◌, length, flat_map, nat_eq, ◌&&◌, refl, sym, ◌∙◌, ap, arith, append-nil, lit<}
 use Rattle.std.proofs.lemmas.Bool.Decides.{nat_tests}
 use Rattle.std.proofs.Math.Nat.{lt-div-mul-add}
 use Rattle.std.proofs.lemmas.Slice.Eq.{bytes_eq-Decides}
@@ -16,14 +16,6 @@ single a = record { first = a.0; count = 1; bytes = a.1 }
 pub record Follows (b : Block) (a : ℕ × List ℕ) : Type 0 where
   pub next : b.first + b.count ≡ a.0
   pub same : b.bytes ≡ a.1
-
-pub follows_or : (b : Block) (a : ℕ × List ℕ) → Follows b a ⊎ (Follows b a → ⊥)
-follows_or b a = go (nat_eq (b.first + b.count) a.0) (bytes_eq b.bytes a.1) refl refl
-  where
-    go : (x y : Bool) → nat_eq (b.first + b.count) a.0 ≡ x → bytes_eq b.bytes a.1 ≡ y → Follows b a ⊎ (Follows b a → ⊥)
-    go false y p q = inr (λ f. let n = f.next in grind (arith, nat_tests))
-    go true false p q = inr (λ f. let t = (bytes_eq-Decides b.bytes a.1).1 f.same in cc)
-    go true true p q = inl (record { next = grind (arith, nat_tests); same = (bytes_eq-Decides b.bytes a.1).0 q })
 
 -- one more add joins the last block, or is one of its own
 pub data Grown : List Block → ℕ × List ℕ → List Block → Type 0 where

@@ -1,11 +1,11 @@
 -- The directories that are built are those of the layout.
-use Rattle.std.proofs.Common.{◌≡◌, ℕ, true, false, List, [], length, Option, Some, None, MatchOption, sym, ◌∙◌, ap, subst}
+use Rattle.std.proofs.Common.{◌≡◌, ℕ, true, false, List, [], Option, Some, None, MatchOption, sym, ◌∙◌, ap, subst}
 use Rattle.pm_format.specs.Directory.{Entry, dir_bytes}
 use Rattle.pm_format.specs.WellFormed.{root_of}
 use Rattle.pm_writer.specs.Cutting.{IsCut, IsLaid, IsRooted, named}
 use Rattle.pm_writer.specs.Leaves.{end_of, fits_root, found_uppers, laid, pieces, stands_in_root}
 use Rattle.pm_writer.specs.declared.level.Level.{Level}
-use Rattle.pm_writer.proofs.Laying.{laid_flat, laid_leaves, laid_uppers}
+use Rattle.pm_writer.proofs.Laying.{laid_flat, laid_leaves}
 use Rattle.pm_writer.proofs.Trying.{Trying, trying_found}
 
 -- what holds of an option in its two cases
@@ -23,15 +23,6 @@ pub leaves_laid : (size : ℕ) (es : List Entry) (root : List ℕ) (lower upper 
 leaves_laid size es root lower upper q c f r u =
     let ls = pieces size es in
     subst (IsLaid root lower upper) (sym (laid_leaves size es q (ap fits_root (sym c.names) ∙ f))) (record { root = r ∙ ap dir_bytes c.names; leaves = c; uppers = u (end_of ls) })
-
-pub uppers_laid : (size : ℕ) (es : List Entry) (root : List ℕ) (lower upper : Level) → stands_in_root es ≡ false → IsCut lower 0 (pieces size es) → fits_root (named lower) ≡ false
-    → IsRooted upper root (length lower.bytes.items) (found_uppers (length lower.bytes.items) size (named lower)) → IsLaid root lower upper (laid size es)
-uppers_laid size es root lower upper q c f w =
-    let ls = pieces size es in
-    let at : length lower.bytes.items ≡ end_of ls = ap length c.bytes in
-    let here = subst (λ f. IsRooted upper root (length lower.bytes.items) (found_uppers (length lower.bytes.items) size f)) c.names w in
-    let there = subst (λ p. IsRooted upper root p (found_uppers p size (root_of 0 ls))) at here in
-    subst (IsLaid root lower upper) (sym (laid_uppers size es q (ap fits_root (sym c.names) ∙ f))) (record { root = there.root; leaves = c; uppers = there.cut })
 
 -- a size that is tried
 pub rooted : (upper : Level) (root : List ℕ) (place first size : ℕ) (es : List Entry) → IsCut upper place (pieces size es) → fits_root (named upper) ≡ true → root ≡ dir_bytes (named upper) → Trying place first size es

@@ -64,6 +64,3 @@ pub shown_told : (o : Options) (adds : List (ℕ × List ℕ)) (t0 t1 : Option (
 shown_told o adds t0 t1 below root header f l r h e g =
     both_now (λ b. b ≡ begun o adds) (IsHiddenOr (archive o adds)) (λ b c. IsHiddenOr (finished b below root header) c) t0 t1
     (λ b c p q. elim q [ inl hidden ↦ inl hidden | inr whole ↦ inr (whole ∙ finished_is o adds b below root header f p l r h) ]) e g
-
-pub hidden_told : (o : Options) (adds : List (ℕ × List ℕ)) (told : Option (List ℕ)) → IfSome told IsHidden → IfSome told (IsHiddenOr (archive o adds))
-hidden_told o adds told h = if_some_map IsHidden (IsHiddenOr (archive o adds)) told (λ b p. inl p) h

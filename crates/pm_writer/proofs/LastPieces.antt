@@ -37,12 +37,6 @@ after_label leaves root header t0 t3 t4 size h g =
 front_hidden : (b rest : List ℕ) → 97 < length b → IsHidden b → IsHidden (b ++ rest)
 front_hidden b rest long h = get_or-append b rest 0 97 long ∙ h
 
--- no part is shown, wherever the writing stops
-pub stops_in_leaves : (end : ℕ) (whole : List ℕ → List ℕ) (leaves : List ℕ) (t0 t1 : Option (List ℕ)) → 16384 ≤ end → IfSome t0 (IsOpenTo end) → BothTold (WroteFront end leaves) t0 t1 → BothTold (λ b c. IsHiddenOr (whole b) c) t0 t1
-stops_in_leaves end whole leaves t0 t1 long o h =
-    both_with (IsOpenTo end) (WroteFront end leaves) (λ b c. IsHiddenOr (whole b) c) t0 t1
-    (λ b c p w. inl (subst IsHidden (sym w.2) (hidden_behind b (take w.0 leaves) end (omega (arith, long)) (omega (arith, p.ends)) p.hidden))) o h
-
 pub stops_in_root : (end : ℕ) (whole : List ℕ → List ℕ) (leaves root : List ℕ) (t0 t1 t2 : Option (List ℕ)) → 16384 ≤ end → BothTold (λ b c. IsOpenTo end b × (c ≡ b ++ leaves)) t0 t1 → BothTold (WroteFront 127 root) t1 t2 → BothTold (λ b c. IsHiddenOr (whole b) c) t0 t2
 stops_in_root end whole leaves root t0 t1 t2 long h g =
     both_then (λ b c. IsOpenTo end b × (c ≡ b ++ leaves)) (WroteFront 127 root) (λ b c. IsHiddenOr (whole b) c) t0 t1 t2

@@ -1,11 +1,10 @@
 -- Pieces written one after another, where the bytes are told.
 use Rattle.pm_writer.proofs.Runs.{le_or}
-use Rattle.std.proofs.Common.{◌≡◌, ℕ, ◌+◌, ◌-◌, ◌<◌, ◌≤◌, inl, inr, List, [], ◌∷◌, ◌++◌, length, take, drop, get_or, set, Option, Some, None, IfSome, is_some, Ok, Err, refl, sym, ◌∙◌, ap, arith, append_assoc, append-nil}
+use Rattle.std.proofs.Common.{◌≡◌, ℕ, ◌+◌, ◌-◌, ◌<◌, ◌≤◌, inl, inr, List, [], ◌∷◌, ◌++◌, length, take, drop, get_or, set, Option, Some, None, IfSome, is_some, Ok, refl, sym, ◌∙◌, ap, arith, append_assoc, append-nil}
 use Rattle.std.proofs.Math.ListN.{get_or-append}
 use Rattle.std.proofs.lemmas.List.{drop_all, drop-append-le, get_or-append_right, get_or-drop, get_or-take, length-take-le, take-append-drop, take-append-le, take_all, drop_at}
 use Rattle.std.proofs.Math.ListN.{length-set}
 use Rattle.std.proofs.lemmas.List.{drop_more, get_or-set_same, take-set-le, drop-set-lt}
-use Rattle.byte_media.proofs.WriteLemmas.{written_nothing}
 use Rattle.byte_media.specs.declared.medium.WriteFault.TheVariants as writes
 use Rattle.byte_media.specs.Media.{WriteLeaves, written}
 use Rattle.pm_writer.specs.Pieces.{IsHidden}
@@ -54,18 +53,6 @@ wrote_it at piece u None (Some c) h = absurd h
 wrote_it at piece u (Some b) None h = absurd h
 wrote_it at piece u (Some b) (Some c) h = h
 
-pub wrote_part : (at : ℕ) (piece : List ℕ) (old new : Option (List ℕ)) → WriteLeaves at piece (Err writes.Fault) old new → BothTold (WroteFront at piece) old new
-wrote_part at piece None None h = tt
-wrote_part at piece None (Some c) h = absurd h
-wrote_part at piece (Some b) None h = absurd h
-wrote_part at piece (Some b) (Some c) h = h
-
-pub wrote_nothing : (at : ℕ) (piece : List ℕ) (old new : Option (List ℕ)) → WriteLeaves at piece (Err writes.OutOfMemory) old new → BothTold (λ b c. c ≡ b) old new
-wrote_nothing at piece None None h = tt
-wrote_nothing at piece None (Some c) h = absurd h
-wrote_nothing at piece (Some b) None h = absurd h
-wrote_nothing at piece (Some b) (Some c) h = h
-
 pub wrote_by : (at : ℕ) (piece : List ℕ) (u : Unit {0}) (old new : Option (List ℕ)) → WriteLeaves at piece (Ok u) old new → BothTold (WroteFront at piece) old new
 wrote_by at piece u old new h = both_map (λ b c. c ≡ written b at piece) (WroteFront at piece) old new (λ b c e. wrote_all at piece b c e) (wrote_it at piece u old new h)
 
@@ -75,11 +62,6 @@ written_behind b piece at e =
     let front : take at b ≡ b = take_all at b (omega (arith, e)) in
     let none : drop (at + length piece) b ≡ [] = drop_all (at + length piece) b (omega (arith, e)) in
     rw (front, none) (ap (λ z. b ++ z) (append-nil piece))
-
--- a piece of no bytes changes nothing
-pub left_nothing : (at : ℕ) (t : Option (List ℕ)) → BothTold (λ b c. c ≡ written b at []) t t
-left_nothing at None = tt
-left_nothing at (Some b) = sym (written_nothing b at)
 
 -- a byte before a piece stays
 pub byte_before : (b piece : List ℕ) (at k : ℕ) → k < at → at ≤ length b → get_or (written b at piece) k 0 ≡ get_or b k 0

@@ -114,9 +114,6 @@ falls t place back l (m ∷ ls) h s r =
           }
     ]
 
-covers_leaf : (t a b c : ℕ) → covers t (entry a b c 0) ≡ Some (entry a b c 0)
-covers_leaf t a b c = refl
-
 pub through : (place : ℕ) (ls : List (List Entry)) (t : ℕ) → AllSome ls → Rising (joined ls) → Through place (root_of place ls) ls (joined ls) t
 unfolding scan
 through place [] t s r = refl

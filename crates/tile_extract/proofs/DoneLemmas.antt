@@ -1,5 +1,5 @@
 -- The archive of the parts of a source, finished or refused.
-use Rattle.std.proofs.Common.{◌≡◌, ◌∙◌, inl, inr, ◌≤◌, ℕ, true, List, [], length, Option, None, Some, IfSome, is_some, Result, Ok, Err, refl, ap, sym, subst, arith}
+use Rattle.std.proofs.Common.{◌≡◌, ◌∙◌, inl, inr, ℕ, true, List, [], length, Option, None, Some, IfSome, is_some, Result, Ok, Err, refl, ap, sym, subst, arith}
 use Rattle.std.specs.Cmp.{nat_cmp_total}
 use Rattle.std.specs.FinMap.{find, from_entries, get, get-from_entries}
 use Rattle.std.specs.Ordering.{nat_cmp}
@@ -20,12 +20,12 @@ use Rattle.pm_writer.specs.Pieces.{IsHidden}
 use Rattle.pm_writer.specs.Places.{places_read}
 use Rattle.pm_writer.specs.declared.places.ArchivePlaces.{ArchivePlaces}
 use Rattle.tile_extract.specs.Cut.{cut, intervals, options_from, options_of, options_opened, options_with}
-use Rattle.tile_extract.specs.Extract.{Added, Answers, AreKept, Due, IntoBytes, IntoCauses, IntoLeaves, IsCollected, IsDone, IsExtract, IsLate, LeavesUncompared, MayBeTile, Overflows, ShowsNoPart}
+use Rattle.tile_extract.specs.Extract.{Added, Answers, AreKept, Due, IntoBytes, IntoLeaves, IsCollected, IsDone, IsExtract, IsLate, LeavesUncompared, MayBeTile, Overflows, ShowsNoPart}
 use Rattle.pm_walk.specs.Walk.{walked}
 use Rattle.pm_walk.specs.declared.extent.Extent.TheVariants.{Within}
 use Rattle.tile_extract.specs.Written.{Adds, AreAt, ComesTo, IsWritten, PartsOverflow, PartsRefuse, Rises, ShowsNone, WriteCauses, WritesParts, put_parts}
 use Rattle.tile_extract.specs.declared.error.ExtractError.{ExtractError}
-use Rattle.tile_extract.specs.declared.error.ExtractError.TheVariants.{Archive, IndexEntryOverflow, InvalidZoom, MediumFault, MediumNotEmpty, OutOfMemory, TooManyTiles}
+use Rattle.tile_extract.specs.declared.error.ExtractError.TheVariants.{Archive, IndexEntryOverflow, MediumFault, OutOfMemory}
 use Rattle.tile_extract.proofs.AddedLemmas.{sorted_by}
 use Rattle.pm_walk.proofs.CoveringLemmas.{covering}
 use Rattle.pm_walk.proofs.WholeLemmas.{held}
@@ -174,22 +174,3 @@ module _ (c : Coord) (m most : ℕ) (h : Header) (es : List Entry) (text : List 
       → WriteCauses {A = ArchivePlaces} first now old new (Err x) → WritesParts o h again ps told (Err x) → LeavesUncompared source held c m most before after (Err x)
   err_uncompared source again told held first now old new before after o x same kept tells plan cause w =
       late_uncompared source told held first now old new before after x tells plan cause (subst (λ s. WritesParts opts h s ps told (Err x)) kept (subst (λ q. WritesParts q h again ps told (Err x)) same w))
-
--- why a later refusal comes
-pub late_causes : (most first before now old new : ℕ) (x : ExtractError) → first ≤ before → WriteCauses {A = ArchivePlaces} before now old new (Err x) → IntoCauses most first now old new (Err x)
-late_causes most first before now old new (Archive (errors.Reading causes.Fault)) le c = omega (arith, le, c)
-late_causes most first before now old new (Archive (errors.Reading causes.PastEnd)) le c = tt
-late_causes most first before now old new (Archive (errors.UnexpectedNumberOfBytesReturned asked got)) le c = c
-late_causes most first before now old new IndexEntryOverflow le c = tt
-late_causes most first before now old new MediumFault le c = c
-late_causes most first before now old new OutOfMemory le c = tt
-late_causes most first before now old new x le c = absurd c
-
--- the medium is read only once the archive is begun
-pub unread_uncompared : (source held : Option (List ℕ)) (c : Coord) (m most before after : ℕ) (r : Result ArchivePlaces ExtractError) → after ≡ before → LeavesUncompared source held c m most before after r
-unread_uncompared source held c m most before after (Ok p) same = tt
-unread_uncompared source held c m most before after (Err (InvalidZoom tile asked)) same = same
-unread_uncompared source held c m most before after (Err (MediumNotEmpty n)) same = same
-unread_uncompared source held c m most before after (Err (TooManyTiles n)) same = same
-unread_uncompared source held c m most before after (Err (Archive e)) same = inl same
-unread_uncompared source held c m most before after (Err e) same = tt

@@ -10,14 +10,13 @@ use Rattle.pm_format.specs.Directory.{Entry}
 use Rattle.pm_format.specs.Options.{Options}
 use Rattle.pm_writer.specs.Archive.{archive}
 use Rattle.pm_writer.specs.Causes.{CreateCauses, FinishCauses}
-use Rattle.pm_writer.specs.Pieces.{IsHidden, IsHiddenOr}
+use Rattle.pm_writer.specs.Pieces.{IsHiddenOr}
 use Rattle.pm_writer.specs.Places.{places_of}
 use Rattle.pm_writer.specs.declared.places.ArchivePlaces.{ArchivePlaces}
 use Rattle.pm_writer.specs.declared.state.WriterState.{WriterState}
 use Rattle.pm_writer.proofs.Sorted.{adds_distinct}
-use Rattle.tile_extract.specs.Written.{ComesTo, IsWritten, PartsAdded, PartsOverflow, PartsPut, PartsRefuse, ShowsNone, WriteCauses, WritesParts, of_write_error}
-use Rattle.tile_extract.specs.declared.error.ExtractError.{ExtractError}
-use Rattle.tile_extract.specs.declared.error.ExtractError.TheVariants.{Archive, IndexEntryOverflow, MediumFault, OutOfMemory}
+use Rattle.tile_extract.specs.Written.{ComesTo, IsWritten, PartsAdded, PartsOverflow, ShowsNone, WriteCauses, WritesParts, of_write_error}
+use Rattle.tile_extract.specs.declared.error.ExtractError.TheVariants.{IndexEntryOverflow, OutOfMemory}
 use Rattle.tile_extract.proofs.AddedLemmas.{sorted_by}
 use Rattle.tile_extract.proofs.PartsLemmas.{comes_as}
 use Rattle.pm_walk.proofs.ToldLemmas.{one_told}
@@ -29,33 +28,6 @@ start_refused o h source ps told before now (errors.UnsupportedCompression label
 start_refused o h source ps told before now (errors.Reading causes.Fault) plain c = tt
 start_refused o h source ps told before now errors.OutOfMemory plain c = tt
 start_refused o h source ps told before now e plain c = absurd c
-
-pub start_causes : (o : Options) (first last before now : ℕ) (e : PmtError) → o.internal_compression ≡ compression.None → CreateCauses {A = WriterState} o.internal_compression before now (Err e) → WriteCauses {A = ArchivePlaces} first last before now (Err (of_write_error e))
-start_causes o first last before now (errors.UnsupportedCompression label) plain c = absurd (c.1 plain)
-start_causes o first last before now (errors.Reading causes.Fault) plain c = c.1
-start_causes o first last before now errors.OutOfMemory plain c = tt
-start_causes o first last before now e plain c = absurd c
-
--- a part that isn't added
-pub parts_refused : (o : Options) (h : Header) (source : Option (List ℕ)) (ps : List Entry) (told : Option (List ℕ)) (s : WriterState) (first last before now : ℕ) (x : ExtractError) → PartsPut o h source ps told s (Err x) → IfSome told IsHidden → WriteCauses {A = Unit {0}} first last before now (Err x)
-    → WritesParts o h source ps told (Err x)
-parts_refused o h source ps told s first last before now (Archive e) put hidden c = (put, hidden)
-parts_refused o h source ps told s first last before now IndexEntryOverflow put hidden c = one_told (λ b. PartsRefuse (ComesTo told o h b ps) IndexEntryOverflow) (PartsOverflow told o h ps) source (λ b is. inl is) put
-parts_refused o h source ps told s first last before now MediumFault put hidden c = tt
-parts_refused o h source ps told s first last before now OutOfMemory put hidden c = tt
-parts_refused o h source ps told s first last before now x put hidden c = absurd c
-
-pub parts_causes : (first last old mid now : ℕ) (before : ℕ) (x : ExtractError) → old ≤ before → WriteCauses {A = Unit {0}} first last before now (Err x) → WriteCauses {A = ArchivePlaces} first last old now (Err x)
-parts_causes first last old mid now before (Archive (errors.Reading causes.Fault)) le c = c
-parts_causes first last old mid now before (Archive (errors.Reading causes.PastEnd)) le c = c
-parts_causes first last old mid now before (Archive (errors.UnexpectedNumberOfBytesReturned asked got)) le c = c
-parts_causes first last old mid now before IndexEntryOverflow le c = c
-parts_causes first last old mid now before MediumFault le c = omega (arith, le, c)
-parts_causes first last old mid now before OutOfMemory le c = c
-parts_causes first last old mid now before x le c = absurd c
-
-pub shows_hidden : (o : Options) (h : Header) (source : Option (List ℕ)) (ps : List Entry) (told : Option (List ℕ)) → IfSome told IsHidden → IfSome told (ShowsNone o h source ps)
-shows_hidden o h source ps told hidden = one_told IsHidden (ShowsNone o h source ps) told (λ b is. inl is) hidden
 
 -- an archive that is finished, or not
 pub finished : (o : Options) (h : Header) (source : Option (List ℕ)) (ps : List Entry) (mid told : Option (List ℕ)) (s : WriterState) (failed : Bool) (before now : ℕ) (p : ArchivePlaces) (a : PartsAdded o h source ps mid s) → is_some told ≡ is_some mid

@@ -1,7 +1,5 @@
 -- Parts that are added one after another.
 use Rattle.std.proofs.Common.{◌≡◌, ◌∙◌, ◌+◌, ◌≤◌, ℕ, Bool, true, false, List, [], ◌∷◌, length, Option, None, Some, IfSome, is_some, Result, Ok, Err, refl, ap, sym, subst, arith}
-use Rattle.base_values.specs.Counts.{Rose}
-use Rattle.tile_ids.specs.declared.id.TheConstants.{MAX_TILE_ID}
 use Rattle.pm_format.specs.declared.error.PmtError.{PmtError}
 use Rattle.pm_format.specs.declared.error.PmtError.TheVariants as errors
 use Rattle.pm_format.specs.declared.error.ReadCause.TheVariants as causes
@@ -19,9 +17,9 @@ use Rattle.pm_walk.specs.Parts.{tile_count}
 use Rattle.tile_extract.specs.Written.{Adds, AddsLieIn, ByRoom, ComesTo, EndsBy, PartsPut, PartsRefuse, Puts, PutsAll, PutsFound, PutsNext, PutsParts, WriteCauses, has_room, ids_of, of_read_error, put_all, put_next, put_parts}
 use Rattle.tile_extract.specs.declared.error.ExtractError.{ExtractError}
 use Rattle.tile_extract.specs.declared.error.ExtractError.TheVariants.{Archive, IndexEntryOverflow, MediumFault, OutOfMemory}
-use Rattle.tile_extract.proofs.AddedLemmas.{ends_all, ends_later, ends_nothing, ends_rise}
+use Rattle.tile_extract.proofs.AddedLemmas.{ends_all, ends_later, ends_rise}
 use Rattle.tile_extract.proofs.LyingLemmas.{puts_few, puts_lie}
-use Rattle.pm_walk.proofs.ToldLemmas.{any_told, both_told, one_told}
+use Rattle.pm_walk.proofs.ToldLemmas.{both_told, one_told}
 
 -- a range that is read, and one that isn't there
 range_found : (b : List ℕ) (at len : ℕ) (bytes : List ℕ) → range_read b at len ≡ Ok bytes → range_of b at len ≡ Some bytes
@@ -106,9 +104,6 @@ pub record PutSoFar (o : Options) (h : Header) (source : Option (List ℕ)) (ps 
   pub within : (is : List (ℕ × ℕ)) → AllLieIn is ps → AddsLieIn is mid × AllLieIn is rest
   pub so : IfSome source (λ b. (r : Result Adds ExtractError) → PutsParts (Took told) o h b rest mid r → PutsParts (Took told) o h b ps [] r)
 
-pub put_begun : (o : Options) (h : Header) (source : Option (List ℕ)) (ps : List Entry) (told : Option (List ℕ)) (s : WriterState) → Writes o told s [] → AreOrdered 0 ps None → PutSoFar o h source ps ps told s
-put_begun o h source ps told s w ordered = record { mid = []; writes = w; low = 0; ordered = ordered; ends = ends_nothing; few = omega arith; within = λ is l. (tt, l); so = any_told (PartsOn (Took told) o h ps ps []) source (λ b r is. is) }
-
 -- a part that is read and added
 pub put_more : (o : Options) (h : Header) (source again : Option (List ℕ)) (ps rest : List Entry) (p : Entry) (others : List Entry) (told now : Option (List ℕ)) (s new : WriterState) (bytes : List ℕ) (s1 : PutSoFar o h source ps rest told s)
     → again ≡ source → is_some now ≡ is_some told → rest ≡ p ∷ others → IfSome again (λ b. Gives (range_read b (h.data_offset + p.offset) p.length) (Ok bytes)) → Puts o bytes s1.mid (ids_of p) now new (Ok tt) → PutSoFar o h source ps others now new
@@ -179,17 +174,6 @@ put_refused o h source again ps rest p others told now s new bytes x s1 same tel
     both_told (PartsOn (Took now) o h ps rest s1.mid) (λ b. Gives (range_read b (h.data_offset + p.offset) p.length) (Ok bytes)) (λ b. PartsRefuse (ComesTo now o h b ps) x) source again same
     (λ b whole found. put_by (ComesTo now o h b ps) o h b p others s1.mid bytes now new x (λ r is. comes now o h b ps r (whole r (subst (λ l. PutsParts (Took now) o h b l s1.mid r) (sym first) is))) found put)
     (took_as (λ takes. IfSome source (PartsOn takes o h ps rest s1.mid)) told now tells s1.so) read
-
-pub put_causes : (o : Options) (bytes : List ℕ) (mid : Adds) (ids : List ℕ) (told : Option (List ℕ)) (s : WriterState) (start now old before new : ℕ) (x : ExtractError) → old ≤ before → Puts o bytes mid ids told s (Err x) → (x ≡ MediumFault → Rose before new)
-    → WriteCauses {A = Unit {0}} start now old new (Err x)
-put_causes o bytes mid ids told s start now old before new IndexEntryOverflow le put rose = tt
-put_causes o bytes mid ids told s start now old before new MediumFault le put rose = omega (arith, le, rose refl)
-put_causes o bytes mid ids told s start now old before new OutOfMemory le put rose = tt
-put_causes o bytes mid ids told s start now old before new x le put rose = absurd put
-
--- each part's run is one of tiles
-pub run_within : (low : ℕ) (rest : List Entry) (p : Entry) (others : List Entry) → rest ≡ p ∷ others → AreOrdered low rest None → p.tile_id + p.run_length ≤ MAX_TILE_ID + 1
-run_within low rest p others first o = (subst (λ l. AreOrdered low l None) first o).2
 
 -- what was read for a part, by the place that it was asked for
 pub read_at : (again : Option (List ℕ)) (h : Header) (off len : ℕ) (p : Entry) (r : Result (List ℕ) PmtError) → off ≡ p.offset → len ≡ p.length → IfSome again (λ b. Gives (range_read b (h.data_offset + off) len) r) → IfSome again (λ b. Gives (range_read b (h.data_offset + p.offset) p.length) r)

@@ -1,5 +1,5 @@
 -- What an extraction answers and leaves, by what is found of the source.
-use Rattle.std.proofs.Common.{◌≡◌, inl, inr, ◌+◌, ◌≤◌, ℕ, List, [], length, slice_index, Option, None, IfSome, Result, Ok, Err, ap, arith}
+use Rattle.std.proofs.Common.{◌≡◌, inl, inr, ◌≤◌, ℕ, List, [], slice_index, Option, None, IfSome, Result, Ok, Err, ap, arith}
 use Rattle.std.specs.Str.{IsUtf8}
 use Rattle.tile_ids.specs.Coord.{Coord}
 use Rattle.pm_format.specs.declared.error.PmtError.{PmtError}
@@ -9,13 +9,11 @@ use Rattle.pm_format.specs.declared.header.Header.{Header}
 use Rattle.pm_format.specs.Directory.{Entry}
 use Rattle.pm_format.specs.Opened.{Opened, opened}
 use Rattle.pm_reader.specs.Metadata.{metadata_read}
-use Rattle.pm_reader.specs.declared.state.ReaderState.{ReaderState}
 use Rattle.tile_extract.specs.Cut.{intervals}
 use Rattle.tile_extract.specs.Extract.{Answers, CollectCauses, CollectRefuses, IntoBytes, IntoCauses, IntoLeaves, IsEarly, IsEmpty, ReadCauses, Refuses, Source, reads_at_most, reads_opened}
 use Rattle.pm_walk.specs.Walk.{walked}
 use Rattle.pm_walk.specs.declared.extent.Extent.TheVariants.{Within}
-use Rattle.tile_extract.specs.Opening.{IsUnread, SourceCauses, SourceRead, opening_reads}
-use Rattle.pm_walk.specs.Parts.{parts}
+use Rattle.tile_extract.specs.Opening.{IsUnread, SourceRead, opening_reads}
 use Rattle.tile_extract.specs.declared.error.ExtractError.{ExtractError}
 use Rattle.tile_extract.specs.declared.error.ExtractError.TheVariants.{Archive, InvalidZoom, MediumNotEmpty, OutOfMemory, TooManyTiles}
 use Rattle.pm_walk.proofs.ToldLemmas.{one_told}
@@ -38,11 +36,6 @@ pub source_early : (b : List ℕ) (c : Coord) (m most : ℕ) (x : ExtractError) 
 source_early b c m most (Archive e) is = unread_early b c m e is
 source_early b c m most OutOfMemory is = tt
 source_early b c m most x is = absurd is
-
-pub source_causes : (most before now old new : ℕ) (x : ExtractError) → SourceCauses {A = ReaderState × List ℕ} before now (Err x) → IntoCauses most before now old new (Err x)
-source_causes most before now old new (Archive e) c = c
-source_causes most before now old new OutOfMemory c = tt
-source_causes most before now old new x c = absurd c
 
 -- what is found of a source that tells its bytes
 pub record Found (b : List ℕ) (h : Header) (es : List Entry) (text : List ℕ) : Type 0 where
@@ -105,13 +98,3 @@ opening_most b c m = most (opened b)
     most : (r : Result Opened PmtError) → opening_reads r ≤ reads_opened b c m r
     most (Ok o) = omega arith
     most (Err e) = omega arith
-
-pub reads_are : (b : List ℕ) (c : Coord) (m : ℕ) (h : Header) (es : List Entry) → opened b ≡ Ok (h, es) → reads_at_most b c m ≡ 2 + (walked Within 6 h b (intervals c m) 0 None es).reads + length (parts (intervals c m) (walked Within 6 h b (intervals c m) 0 None es).entries)
-reads_are b c m h es opens = ap (reads_opened b c m) opens
-
-pub collect_most : (b : List ℕ) (c : Coord) (m first mid now : ℕ) (h : Header) (es : List Entry) → opened b ≡ Ok (h, es) → mid ≤ first + opening_reads (opened b) → now ≤ mid + (walked Within 6 h b (intervals c m) 0 None es).reads → now ≤ first + reads_at_most b c m
-collect_most b c m first mid now h es opens one more = omega (arith, one, more, reads_are b c m h es opens, ap opening_reads opens)
-
-pub all_most : (b : List ℕ) (c : Coord) (m first mid between now : ℕ) (h : Header) (es ps : List Entry) → opened b ≡ Ok (h, es) → mid ≤ first + opening_reads (opened b) → between ≤ mid + (walked Within 6 h b (intervals c m) 0 None es).reads
-    → ps ≡ parts (intervals c m) (walked Within 6 h b (intervals c m) 0 None es).entries → now ≤ between + length ps → now ≤ first + reads_at_most b c m
-all_most b c m first mid between now h es ps opens one more are last = omega (arith, one, more, last, ap length are, reads_are b c m h es opens, ap opening_reads opens)

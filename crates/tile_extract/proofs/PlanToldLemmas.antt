@@ -1,5 +1,5 @@
 -- The steps of an extraction over a source that may tell its bytes.
-use Rattle.std.proofs.Common.{◌≡◌, ◌+◌, ◌≤◌, ℕ, List, length, Option, None, Some, IfSome, Ok, Err, subst, arith}
+use Rattle.std.proofs.Common.{◌≡◌, ◌+◌, ◌≤◌, ℕ, List, Option, None, Some, IfSome, Ok, Err, subst, arith}
 use Rattle.tile_ids.specs.Coord.{Coord}
 use Rattle.pm_format.specs.Directory.{Entry}
 use Rattle.pm_format.specs.Opened.{opened}
@@ -12,7 +12,7 @@ use Rattle.pm_walk.specs.declared.extent.Extent.TheVariants.{Within}
 use Rattle.tile_extract.specs.Opening.{SourceRead, opening_reads}
 use Rattle.tile_extract.specs.declared.error.ExtractError.{ExtractError}
 use Rattle.tile_extract.proofs.DoneLemmas.{Planned}
-use Rattle.tile_extract.proofs.PlanLemmas.{ComesEarly, Found, all_most, collect_early, collect_most, early_answers, opening_most, source_early}
+use Rattle.tile_extract.proofs.PlanLemmas.{ComesEarly, Found, collect_early, early_answers, opening_most, source_early}
 use Rattle.pm_walk.proofs.ToldLemmas.{one_told}
 
 -- the walk of an opened reader
@@ -44,16 +44,3 @@ answered c m most x told held early = one_told (λ b. ComesEarly b c m most x) (
 -- how often the source is read
 pub reads_opened : (c : Coord) (m first now : ℕ) (told : Option (List ℕ)) → IfSome told (λ b. now ≤ first + opening_reads (opened b)) → IfSome told (λ b. now ≤ first + reads_at_most b c m)
 reads_opened c m first now told reads = one_told (λ b. now ≤ first + opening_reads (opened b)) (λ b. now ≤ first + reads_at_most b c m) told (λ b is. omega (arith, is, opening_most b c m)) reads
-
-pub reads_walked : (c : Coord) (m first mid now : ℕ) (s : ReaderState) (text : List ℕ) (told again : Option (List ℕ)) → again ≡ told → IfSome told (λ b. SourceRead b (Ok (s, text))) → IfSome told (λ b. mid ≤ first + opening_reads (opened b))
-    → IfSome again (λ b. now ≤ mid + (walk_of c m s b).reads) → IfSome told (λ b. now ≤ first + reads_at_most b c m)
-reads_walked c m first mid now s text None again same read one more = tt
-reads_walked c m first mid now s text (Some b) again same read one more = collect_most b c m first mid now (header_of s) (root_of s) read.0 one (subst (λ a. IfSome a (λ b. now ≤ mid + (walk_of c m s b).reads)) same more)
-
-pub reads_written : (c : Coord) (m most first mid between now : ℕ) (s : ReaderState) (text : List ℕ) (ps : List Entry) (told again : Option (List ℕ)) → again ≡ told → IfSome told (λ b. SourceRead b (Ok (s, text)))
-    → IfSome told (λ b. mid ≤ first + opening_reads (opened b)) → IfSome again (λ b. between ≤ mid + (walk_of c m s b).reads) → IfSome again (λ b. IsCollected (walk_of c m s b) (intervals c m) most ps) → now ≤ between + length ps
-    → IfSome told (λ b. now ≤ first + reads_at_most b c m)
-reads_written c m most first mid between now s text ps None again same read one more are last = tt
-reads_written c m most first mid between now s text ps (Some b) again same read one more are last =
-    let all : IsCollected (walk_of c m s b) (intervals c m) most ps = subst (λ a. IfSome a (λ b. IsCollected (walk_of c m s b) (intervals c m) most ps)) same are in
-    all_most b c m first mid between now (header_of s) (root_of s) ps read.0 one (subst (λ a. IfSome a (λ b. between ≤ mid + (walk_of c m s b).reads)) same more) all.are last

@@ -24,10 +24,6 @@ unusual : (words : Option ServeLimits) → is_some words ≡ true → IsFor word
 unusual None some q = absurd (cc)
 unusual (Some l) some q = q
 
-not_told : (told : Option (List ℕ)) → is_some told ≡ true → told ≡ None → ⊥
-not_told None some q = absurd (cc)
-not_told (Some b) some q = absurd (cc)
-
 opens_ok : {A : Type 0} (r : Result A PmtError) (e : PmtError) → IsOk r → r ≡ Err e → ⊥
 opens_ok (Ok x) e ok q = absurd (cc)
 opens_ok (Err y) e ok q = absurd (cc)

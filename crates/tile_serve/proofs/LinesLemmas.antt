@@ -46,10 +46,6 @@ serve_by (errors.Short x y) q = absurd (cc)
 pub serve_no_fault : (e : ServeError) (o : ServeOutcome) → o ≡ of_serve e → o ≡ OutputFault → ⊥
 serve_no_fault e o is q = serve_by e (sym is ∙ q)
 
-pub sink_fault : (f : SinkFault) (o : ServeOutcome) → o ≡ of_sink f → o ≡ OutputFault → f ≡ sink.Fault
-sink_fault sink.Fault o is q = refl
-sink_fault sink.OutOfMemory o is q = absurd (cc)
-
 -- nothing is a front of each text
 pub front_none : (held : Held) (text : List ℕ) → GainsFront held held text
 front_none held text = (0, omega arith, Gains-nil held)

@@ -245,22 +245,6 @@ taken_input before now input.OutOfMemory q = q
 pub taken_unread : (before now : ℕ) (e : InputError) (o : ServeOutcome) → o ≡ of_input e → InputCounts before now (Err e) → Taken before now o
 taken_unread before now e o is q = let P : ServeOutcome → Type 0 = λ x. Taken before now x in subst P (sym is) (taken_input before now e q)
 
-input_long : (e : InputError) → of_input e ≡ InputTooLong → e ≡ input.TooLong
-input_long input.Fault q = absurd (cc)
-input_long input.TooLong q = refl
-input_long input.OutOfMemory q = absurd (cc)
-
-pub long_unread : (e : InputError) (o : ServeOutcome) → o ≡ of_input e → o ≡ InputTooLong → e ≡ input.TooLong
-long_unread e o is q = input_long e (sym is ∙ q)
-
-input_failed : (e : InputError) → of_input e ≡ InputFault → e ≡ input.Fault
-input_failed input.Fault q = refl
-input_failed input.TooLong q = absurd (cc)
-input_failed input.OutOfMemory q = absurd (cc)
-
-pub fault_unread : (e : InputError) (o : ServeOutcome) → o ≡ of_input e → o ≡ InputFault → e ≡ input.Fault
-fault_unread e o is q = input_failed e (sym is ∙ q)
-
 taken_by : (before now n : ℕ) (o : ServeOutcome) → Grew before now n → n ≤ MAX_INPUT → IsRead o → Taken before now o
 taken_by before now n Done g low read = omega (arith, g.most, low)
 taken_by before now n (Refused e) g low read = omega (arith, g.most, low)
