@@ -21,8 +21,10 @@ fn streamed(
     id: TileId,
     tile: &[u8],
 ) -> PmtResult<()>
-    requires tied { (o : Options) × (adds : List (ℕ × List ℕ)) × IsTied ⟦<MemMedium as Backend>⟧.told o writer.old adds }
-    ensures tied { (o : Options) × (adds : List (ℕ × List ℕ)) × IsTied ⟦<MemMedium as Backend>⟧.told o writer.new adds }
+    requires tied { (o : Options) × (adds : List (ℕ × List ℕ))
+        × IsTied ⟦<MemMedium as Backend>⟧.told o writer.old adds }
+    ensures tied { (o : Options) × (adds : List (ℕ × List ℕ))
+        × IsTied ⟦<MemMedium as Backend>⟧.told o writer.new adds }
     ensures same_reference { writer.new.medium.ghost_name ≡ writer.old.medium.ghost_name }
 {
     if plain {
@@ -38,8 +40,10 @@ pub fn all_streamed(
     writer: &mut PmTilesStreamWriter<'_, MemMedium>,
     words: &mut Words,
 ) -> Option<()>
-    requires tied { (o : Options) × (adds : List (ℕ × List ℕ)) × IsTied ⟦<MemMedium as Backend>⟧.told o writer.old adds }
-    ensures tied { (o : Options) × (adds : List (ℕ × List ℕ)) × IsTied ⟦<MemMedium as Backend>⟧.told o writer.new adds }
+    requires tied { (o : Options) × (adds : List (ℕ × List ℕ))
+        × IsTied ⟦<MemMedium as Backend>⟧.told o writer.old adds }
+    ensures tied { (o : Options) × (adds : List (ℕ × List ℕ))
+        × IsTied ⟦<MemMedium as Backend>⟧.told o writer.new adds }
     ensures same_reference { writer.new.medium.ghost_name ≡ writer.old.medium.ghost_name }
 {
     for _turn in 0..number::<u32>(words)? {
@@ -59,8 +63,10 @@ fn stated(
     id: TileId,
     tile: &[u8],
 ) -> PmtResult<()>
-    requires writes { (o : Options) × (adds : List (ℕ × List ℕ)) × Writes o (⟦<MemMedium as Backend>⟧.told medium.old) state.old adds }
-    ensures writes { (o : Options) × (adds : List (ℕ × List ℕ)) × Writes o (⟦<MemMedium as Backend>⟧.told medium.new) state.new adds }
+    requires writes { (o : Options) × (adds : List (ℕ × List ℕ))
+        × Writes o (⟦<MemMedium as Backend>⟧.told medium.old) state.old adds }
+    ensures writes { (o : Options) × (adds : List (ℕ × List ℕ))
+        × Writes o (⟦<MemMedium as Backend>⟧.told medium.new) state.new adds }
 {
     match call {
         "plain" => state.add_tile(medium, TileCoord::from(id), tile),
@@ -77,8 +83,10 @@ pub fn all_stated(
     medium: &mut MemMedium,
     words: &mut Words,
 ) -> Option<()>
-    requires writes { (o : Options) × (adds : List (ℕ × List ℕ)) × Writes o (⟦<MemMedium as Backend>⟧.told medium.old) state.old adds }
-    ensures writes { (o : Options) × (adds : List (ℕ × List ℕ)) × Writes o (⟦<MemMedium as Backend>⟧.told medium.new) state.new adds }
+    requires writes { (o : Options) × (adds : List (ℕ × List ℕ))
+        × Writes o (⟦<MemMedium as Backend>⟧.told medium.old) state.old adds }
+    ensures writes { (o : Options) × (adds : List (ℕ × List ℕ))
+        × Writes o (⟦<MemMedium as Backend>⟧.told medium.new) state.new adds }
 {
     for _turn in 0..number::<u32>(words)? {
         let call = words.next()?;

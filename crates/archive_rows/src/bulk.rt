@@ -17,8 +17,10 @@ fn add_numbers(
     each: u64,
 ) -> PmtResult<()>
     requires each { 0 < each }
-    requires tied { (o : Options) × (adds : List (ℕ × List ℕ)) × IsTied ⟦<MemMedium as Backend>⟧.told o writer.old adds }
-    ensures tied { (o : Options) × (adds : List (ℕ × List ℕ)) × IsTied ⟦<MemMedium as Backend>⟧.told o writer.new adds }
+    requires tied { (o : Options) × (adds : List (ℕ × List ℕ))
+        × IsTied ⟦<MemMedium as Backend>⟧.told o writer.old adds }
+    ensures tied { (o : Options) × (adds : List (ℕ × List ℕ))
+        × IsTied ⟦<MemMedium as Backend>⟧.told o writer.new adds }
     ensures same_reference { writer.new.medium.ghost_name ≡ writer.old.medium.ghost_name }
 {
     for id in 0..ids {

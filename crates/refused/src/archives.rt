@@ -31,7 +31,8 @@ pub fn decode(alloc: Global, bytes: &[u8]) -> Result<Directory, PmtError>
 
 /// The next item of a walk along all entries.
 pub fn next_entry<B: Backend>(walk: &mut WalkState, backend: &mut B) -> Option<PmtResult<DirEntry>>
-    ensures spends { Spends (budget_of walk.old) (budget_of walk.new) (B.reads backend.old) (B.reads backend.new) result }
+    ensures spends { Spends (budget_of walk.old) (budget_of walk.new)
+        (B.reads backend.old) (B.reads backend.new) result }
 {
     walk.next_item(backend)
 }

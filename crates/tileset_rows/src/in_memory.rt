@@ -51,7 +51,9 @@ impl Failing {
 
 /// A run over new objects in memory whose calls don't fail: where the words and the script are valid it is done, or memory runs out.
 pub fn run_calm(alloc: Global, words: &[TextVal], script: Vec<u8>) -> Ended
-    ensures { (s : Script) → IsValid (record { words = words.now; input = Some script.items; medium = Some [] }) s → (result.outcome ≡ Outcome.Done) ⊎ (result.outcome ≡ Outcome.OutOfMemory) }
+    ensures { (s : Script)
+        → IsValid (record { words = words.now; input = Some script.items; medium = Some [] }) s
+        → (result.outcome ≡ Outcome.Done) ⊎ (result.outcome ≡ Outcome.OutOfMemory) }
 {
     let mut input = MemSource::new(script);
     let mut output = MemSink::new(alloc);
