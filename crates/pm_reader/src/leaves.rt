@@ -41,10 +41,12 @@ impl ReaderState {
     ) -> PmtResult<Option<DirEntry>>
         ensures answer { IfSome (B.told backend.old)
             (λ b. IsTrusted self.now.header b self.now.root (C.held cache.old) (C.idle cache.old)
-            → IsLeafEntry self.now.header b self.now.root leaf → Gives (entry_in_leaf self.now.header b tile_id leaf) result) }
+            → IsLeafEntry self.now.header b self.now.root leaf
+            → Gives (entry_in_leaf self.now.header b tile_id leaf) result) }
         ensures trusted { IfSome (B.told backend.old)
             (λ b. IsTrusted self.now.header b self.now.root (C.held cache.old) (C.idle cache.old)
-            → IsLeafEntry self.now.header b self.now.root leaf → IsTrusted self.now.header b self.now.root (C.held cache.new) (C.idle cache.new)) }
+            → IsLeafEntry self.now.header b self.now.root leaf
+            → IsTrusted self.now.header b self.now.root (C.held cache.new) (C.idle cache.new)) }
         ensures idle { C.idle cache.old → C.idle cache.new }
         ensures limits { (l : CacheLimits) → C.keeps_to cache.old l → C.keeps_to cache.new l }
         ensures causes { LookUpCauses (B.faults backend.old) (B.faults backend.new) result }
@@ -80,7 +82,8 @@ impl ReaderState {
         ensures way { IfSome (B.told backend.old)
             (λ b. IsTrusted self.now.header b self.now.root (C.held cache.old) (C.idle cache.old)
             → IsAtLevel self.now.header b self.now.root (6 - left) found
-            → Follows self.now.header b self.now.root tile_id left found (B.reads backend.old) (B.reads backend.new) (C.held cache.new) (C.idle cache.new) result) }
+            → Follows self.now.header b self.now.root tile_id left found
+            (B.reads backend.old) (B.reads backend.new) (C.held cache.new) (C.idle cache.new) result) }
         ensures idle { C.idle cache.old → C.idle cache.new }
         ensures limits { (l : CacheLimits) → C.keeps_to cache.old l → C.keeps_to cache.new l }
         ensures causes { LookUpCauses (B.faults backend.old) (B.faults backend.new) result }

@@ -61,7 +61,8 @@ impl<'a, B: Backend> PmTilesReader<'a, B, NoCache> {
         ensures same_reference { IfOk result
             (λ r. r.backend.ghost_name ≡ backend.entry.ghost_name) }
         ensures tied { IfOk result
-            (λ r. IsTied B.told ⟦<NoCache as DirectoryCache>⟧.held ⟦<NoCache as DirectoryCache>⟧.idle r) }
+            (λ r. IsTied B.told ⟦<NoCache as DirectoryCache>⟧.held
+            ⟦<NoCache as DirectoryCache>⟧.idle r) }
         ensures open { IfOk result (λ r. IsOpen (B.told backend.old) r.state) }
         ensures version { IfOk result
             (λ r. HasVersionOf (B.versions r.backend.now) (B.reads r.backend.now) r.state) }
@@ -214,7 +215,8 @@ impl<'a, B: Backend, C: DirectoryCache> PmTilesReader<'a, B, C> {
         ensures state { self.new.state ≡ self.old.state }
         ensures answer { IfSome (B.told self.old.backend.now)
             (λ b. IsCacheable b (C.idle self.old.cache)
-            → GivesUnmodified (archive_tile b tile_id) (plain (header_of self.new.state).tile_compression (archive_tile b tile_id)) result) }
+            → GivesUnmodified (archive_tile b tile_id)
+            (plain (header_of self.new.state).tile_compression (archive_tile b tile_id)) result) }
         ensures text { ComparesTexts (version_of self.new.state) (B.versions self.new.backend.now)
             (B.reads self.new.backend.now) result }
         ensures causes { PlainCauses (header_of self.new.state).tile_compression

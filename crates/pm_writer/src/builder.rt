@@ -25,7 +25,8 @@ impl Model for PmTilesWriter {
 
     ghost view = { λ w. options_with w.settings (metadata_of w.metadata) };
 
-    ghost invariant = { λ w. (16 ≤ w.settings.max_leaf_entries) × (w.settings.max_leaf_entries ≤ 65536) };
+    ghost invariant = { λ w. (16 ≤ w.settings.max_leaf_entries)
+        × (w.settings.max_leaf_entries ≤ 65536) };
 }
 
 impl PmTilesWriter {
