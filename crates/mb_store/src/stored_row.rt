@@ -40,7 +40,8 @@ impl Model for StoredRow {
 
     ghost view = { λ s. (cells_in s.numbers s.cells, s.arrival) };
 
-    ghost invariant = { λ s. s.is_numbered ≡ true → own_key (cells_in s.numbers s.cells) ≡ numbers_cells s.numbers };
+    ghost invariant = { λ s. s.is_numbered ≡ true
+        → own_key (cells_in s.numbers s.cells) ≡ numbers_cells s.numbers };
 }
 
 // The cells of a row's key, whose number the row's width tells.
