@@ -8,7 +8,8 @@ use crate::parting::first_separator;
 #[tactic(auto, using(crate::proofs::PartingLemmas::next_lines))]
 /// The first line, and what follows it; None where no byte is left.
 pub fn next_line(bytes: &[u8]) -> Option<(&[u8], &[u8])>
-    ensures lines { MatchOption result (bytes.now ≡ []) (λ r. lines_of bytes.now ≡ r.0.now ∷ lines_of r.1.now) }
+    ensures lines { MatchOption result (bytes.now ≡ [])
+        (λ r. lines_of bytes.now ≡ r.0.now ∷ lines_of r.1.now) }
     ensures shorter { IfSome result (λ r. length r.1.now < length bytes.now) }
 {
     if bytes.is_empty() {

@@ -7,8 +7,10 @@ use memchr::memchr;
 
 /// Where the first separator is.
 pub fn first_separator(separator: u8, bytes: &[u8]) -> Option<usize>
-    ensures found { IfSome result (λ place. (place < length bytes.now) × (slice_index bytes.now place ≡ separator)) }
-    ensures before { MatchOption result (HasNo separator bytes.now (length bytes.now)) (HasNo separator bytes.now) }
+    ensures found { IfSome result
+        (λ place. (place < length bytes.now) × (slice_index bytes.now place ≡ separator)) }
+    ensures before { MatchOption result (HasNo separator bytes.now (length bytes.now))
+        (HasNo separator bytes.now) }
 {
     memchr(separator, bytes)
 }
@@ -16,7 +18,8 @@ pub fn first_separator(separator: u8, bytes: &[u8]) -> Option<usize>
 #[tactic(auto, using(crate::proofs::PartingLemmas::first_words))]
 /// The first word, and what follows the space behind it, if there is one.
 pub fn first_word(line: &[u8]) -> (&[u8], Option<&[u8]>)
-    ensures { MatchOption result.1 (words_of line.now ≡ result.0.now ∷ []) (λ rest. words_of line.now ≡ result.0.now ∷ words_of rest.now) }
+    ensures { MatchOption result.1 (words_of line.now ≡ result.0.now ∷ [])
+        (λ rest. words_of line.now ≡ result.0.now ∷ words_of rest.now) }
 {
     match first_separator(b' ', line) {
         Some(place) => (&line[..place], Some(&line[place + 1..])),
@@ -33,7 +36,8 @@ pub fn is_word(word: &[u8], text: &str) -> bool
 
 /// The word of a line that has exactly one.
 pub fn one_word(line: &[u8]) -> Option<&[u8]>
-    ensures { MatchOption result (length (words_of line.now) ≢ 1) (λ word. words_of line.now ≡ word.now ∷ []) }
+    ensures { MatchOption result (length (words_of line.now) ≢ 1)
+        (λ word. words_of line.now ≡ word.now ∷ []) }
 {
     match first_word(line) {
         (word, None) => Some(word),
@@ -43,7 +47,8 @@ pub fn one_word(line: &[u8]) -> Option<&[u8]>
 
 /// The words of a line that has exactly two.
 pub fn two_words(line: &[u8]) -> Option<(&[u8], &[u8])>
-    ensures { MatchOption result (length (words_of line.now) ≢ 2) (λ words. words_of line.now ≡ words.0.now ∷ words.1.now ∷ []) }
+    ensures { MatchOption result (length (words_of line.now) ≢ 2)
+        (λ words. words_of line.now ≡ words.0.now ∷ words.1.now ∷ []) }
 {
     let (first, Some(rest)) = first_word(line) else {
         return None;
@@ -53,7 +58,8 @@ pub fn two_words(line: &[u8]) -> Option<(&[u8], &[u8])>
 
 /// The words of a line that has exactly three.
 pub fn three_words(line: &[u8]) -> Option<(&[u8], &[u8], &[u8])>
-    ensures { MatchOption result (length (words_of line.now) ≢ 3) (λ words. words_of line.now ≡ words.0.now ∷ words.1.now ∷ words.2.now ∷ []) }
+    ensures { MatchOption result (length (words_of line.now) ≢ 3)
+        (λ words. words_of line.now ≡ words.0.now ∷ words.1.now ∷ words.2.now ∷ []) }
 {
     let (first, Some(rest)) = first_word(line) else {
         return None;
@@ -64,7 +70,8 @@ pub fn three_words(line: &[u8]) -> Option<(&[u8], &[u8], &[u8])>
 
 /// The words of a line that has exactly four.
 pub fn four_words(line: &[u8]) -> Option<(&[u8], &[u8], &[u8], &[u8])>
-    ensures { MatchOption result (length (words_of line.now) ≢ 4) (λ words. words_of line.now ≡ words.0.now ∷ words.1.now ∷ words.2.now ∷ words.3.now ∷ []) }
+    ensures { MatchOption result (length (words_of line.now) ≢ 4)
+        (λ words. words_of line.now ≡ words.0.now ∷ words.1.now ∷ words.2.now ∷ words.3.now ∷ []) }
 {
     let (first, Some(rest)) = first_word(line) else {
         return None;
