@@ -30,7 +30,9 @@ impl<V: Weigh> Model for BoundedLru<V> {
 
     ghost view = { λ b. bounded b.pairs.entries b.pairs.cap b.limit };
 
-    ghost invariant = { λ b. (length b.pairs.entries ≤ b.pairs.cap) × (0 < b.pairs.cap) × IfSome b.limit (λ most. (b.weight ≡ weight_of V.weight b.pairs.entries) × (b.weight ≤ most)) };
+    ghost invariant = { λ b. (length b.pairs.entries ≤ b.pairs.cap) × (0 < b.pairs.cap)
+        × IfSome b.limit
+        (λ most. (b.weight ≡ weight_of V.weight b.pairs.entries) × (b.weight ≤ most)) };
 }
 
 impl<V: Weigh> BoundedLru<V> {
@@ -53,7 +55,8 @@ impl<V: Weigh> BoundedLru<V> {
 
     /// What all pairs weigh together, where there is a limit; else 0.
     pub fn weight(&self) -> u64
-        ensures limited { IfSome self.now.limit (λ _. result ≡ weight_of_pairs V.weight self.now.pairs) }
+        ensures limited { IfSome self.now.limit
+            (λ _. result ≡ weight_of_pairs V.weight self.now.pairs) }
         ensures within { IsWithin V.weight self.now }
     {
         self.weight

@@ -10,8 +10,11 @@ use lru::LruCache;
 pub(crate) fn lighten<V: Weigh + Drop>(pairs: &mut LruCache<u64, V>, others: u64, room: u64) -> u64
     requires some { 0 < length pairs.old.entries }
     requires weight { others ≡ weight_of_pairs V.weight (drop 1 pairs.old.entries) }
-    ensures pairs { pairs.new ≡ lru_cache (take 1 pairs.old.entries ++ light_front V.weight room (drop 1 pairs.old.entries)) pairs.old.cap }
-    ensures weight { result ≡ weight_of_pairs V.weight (light_front V.weight room (drop 1 pairs.old.entries)) }
+    ensures pairs { pairs.new ≡ lru_cache
+        (take 1 pairs.old.entries ++ light_front V.weight room (drop 1 pairs.old.entries))
+        pairs.old.cap }
+    ensures weight { result ≡ weight_of_pairs V.weight
+        (light_front V.weight room (drop 1 pairs.old.entries)) }
     ensures light { result ≤ room }
 {
     let mut left = others;
@@ -23,7 +26,8 @@ pub(crate) fn lighten<V: Weigh + Drop>(pairs: &mut LruCache<u64, V>, others: u64
 
 // Gives up the last pair, and answers what it weighs.
 fn give_up_last<V: Weigh + Drop>(pairs: &mut LruCache<u64, V>) -> u64
-    ensures pairs { pairs.new ≡ lru_cache (take (length pairs.old.entries - 1) pairs.old.entries) pairs.old.cap }
+    ensures pairs { pairs.new ≡ lru_cache
+        (take (length pairs.old.entries - 1) pairs.old.entries) pairs.old.cap }
     ensures weight { result ≡ weight_of_pair V.weight (last_entry pairs.old.entries) }
 {
     weight_of(pairs.pop_lru())
