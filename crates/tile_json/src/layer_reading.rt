@@ -80,7 +80,9 @@ fn text(value: Option<Value>) -> Result<TextVal, DocumentError>
 
 // The texts of the object that a member is.
 fn texts(alloc: Global, value: Option<Value>) -> Result<TextFields, DocumentError>
-    ensures { Answers (option_and_then (with_texts map.empty) (option_and_then as_object (option_map view value))) result }
+    ensures { Answers
+        (option_and_then (with_texts map.empty) (option_and_then as_object (option_map view value)))
+        result }
 {
     match value {
         Some(Value::Object(members)) => text_fields(alloc, members),

@@ -13,8 +13,10 @@ use std::alloc::Global;
 
 // Takes the value of a name out of an object.
 pub(crate) fn take_member(members: &mut Map<String, Value>, name: &str) -> Option<Value>
-    ensures value { option_map view result ≡ get_member name.now (members_view members.old.entries) }
-    ensures left { members_view members.new.entries ≡ without name.now (members_view members.old.entries) }
+    ensures value { option_map view result
+        ≡ get_member name.now (members_view members.old.entries) }
+    ensures left { members_view members.new.entries
+        ≡ without name.now (members_view members.old.entries) }
 {
     members.remove(name)
 }

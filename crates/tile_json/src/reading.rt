@@ -60,7 +60,8 @@ impl TileJson {
 
     // Adds a member that is a text.
     fn add_text(&mut self, name: String, text: String) -> Result<(), DocumentError>
-        ensures { Leaves (Some (with_text self.old (string_bytes name) (string_bytes text))) self.new result }
+        ensures { Leaves (Some (with_text self.old (string_bytes name) (string_bytes text)))
+            self.new result }
     {
         match name.as_str() {
             "description" => self.description = Some(TextVal::new(text)),
@@ -87,7 +88,8 @@ impl TileJson {
 
     // Adds a member to those that have no field of their own.
     fn add_other(&mut self, name: String, value: Value) -> Result<(), DocumentError>
-        ensures { Leaves (Some (with_other self.old (string_bytes name) (view value))) self.new result }
+        ensures { Leaves (Some (with_other self.old (string_bytes name) (view value)))
+            self.new result }
     {
         Ok(self.other.insert(TextVal::new(name), JsonVal::new(value))?)
     }
