@@ -49,7 +49,8 @@ impl HashAlgorithm {
     /// The algorithm of this name, ASCII case aside: `md5`, `fnv1a`, `fnv1a-decimal`, `xxh64` or `xxh3`.
     pub fn parse(value: &str) -> Option<HashAlgorithm>
         ensures named { IfSome result (λ a. map to_ascii_lowercase value.now ≡ name_of a) }
-        ensures found { (a : HashAlgorithm) → map to_ascii_lowercase value.now ≡ name_of a → result ≡ Some a }
+        ensures found { (a : HashAlgorithm) → map to_ascii_lowercase value.now ≡ name_of a
+            → result ≡ Some a }
     {
         if value.eq_ignore_ascii_case("md5") {
             Some(HashAlgorithm::Md5)

@@ -62,7 +62,8 @@ impl HashStream {
     /// Takes the next piece.
     #[inline]
     pub fn update(&mut self, piece: &[u8])
-        ensures { (a : HashAlgorithm) (bytes : List ℕ) → HasTaken a self.old bytes → HasTaken a self.new (bytes ++ piece.now) }
+        ensures { (a : HashAlgorithm) (bytes : List ℕ) → HasTaken a self.old bytes
+            → HasTaken a self.new (bytes ++ piece.now) }
     {
         match &mut self.hasher {
             Hasher::Md5(stream) => stream.update(piece),
@@ -75,7 +76,8 @@ impl HashStream {
 
     /// The digest of all pieces together, the text that `HashAlgorithm::hash` gives these bytes. It fails only for want of memory.
     pub fn finish(self, alloc: Global) -> Result<TextVal, OutOfMemory>
-        ensures { (a : HashAlgorithm) (bytes : List ℕ) → HasTaken a self bytes → IfOk result (λ text. text ≡ digest a bytes) }
+        ensures { (a : HashAlgorithm) (bytes : List ℕ) → HasTaken a self bytes
+            → IfOk result (λ text. text ≡ digest a bytes) }
     {
         match self.hasher {
             Hasher::Md5(stream) => upper_hex(alloc, &stream.finalize()),

@@ -6,5 +6,6 @@ ghost use Rattle.tile_hash.specs.declared.algorithm.HashAlgorithm.{HashAlgorithm
 
 /// No digest's text has a lower-case letter: upper-casing leaves it as it is.
 pub fn digests_have_no_lower_case()
-    ensures { (a : HashAlgorithm) (bytes : List ℕ) → map to_ascii_uppercase (digest a bytes) ≡ digest a bytes }
+    ensures { (a : HashAlgorithm) (bytes : List ℕ)
+        → map to_ascii_uppercase (digest a bytes) ≡ digest a bytes }
 {}

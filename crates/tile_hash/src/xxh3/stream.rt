@@ -46,7 +46,8 @@ fn kept_of(buffer: &[u8], more: &[u8], count: usize) -> [u8; 256]
     requires room { length buffer.now ≡ 256 }
     requires within { 64 * count ≤ length more.now }
     requires few { length more.now ≤ 64 * count + 64 }
-    ensures { take (64 + length more.now - 64 * count) result ≡ drop (192 + 64 * count) (buffer.now ++ more.now) }
+    ensures { take (64 + length more.now - 64 * count) result
+        ≡ drop (192 + 64 * count) (buffer.now ++ more.now) }
 {
     let last = last_stripe(buffer, &more[..64 * count]);
     let rest = &more[64 * count..];
