@@ -44,7 +44,8 @@ pub(crate) fn number_entry(before: u8, column: u32, row: u32) -> u8
 pub(crate) fn place_entry(before: u8, number: u64) -> u8
     requires before { before < 64 }
     requires number { number < 16 }
-    ensures sixteenth { IsSixteenth (before / 16) (result / 4 % 4) (result % 4) number (result / 16) }
+    ensures sixteenth { IsSixteenth (before / 16) (result / 4 % 4) (result % 4) number
+        (result / 16) }
     ensures within { result < 64 }
 {
     PLACES[(before / 16 * 16) as usize + number as usize]
