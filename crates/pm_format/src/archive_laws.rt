@@ -10,6 +10,7 @@ use crate::MAX_ROOT;
 
 /// What is laid out as an archive opens with its header and root.
 pub fn laid_archive_opens()
-    ensures { (o : Options) (clustered : Bool) (p : Parts) → HeaderFits (header_of o clustered p) → length (dir_bytes p.root) ≤ MAX_ROOT → dir_of (dir_bytes p.root) ≡ Some p.root
+    ensures { (o : Options) (clustered : Bool) (p : Parts) → HeaderFits (header_of o clustered p)
+        → length (dir_bytes p.root) ≤ MAX_ROOT → dir_of (dir_bytes p.root) ≡ Some p.root
         → opened (archive_bytes o clustered p) ≡ Ok (header_of o clustered p, p.root) }
 {}

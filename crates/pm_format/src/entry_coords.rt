@@ -19,9 +19,11 @@ impl<'a> Model for DirEntryCoordsIter<'a> {
 
     ghost Value = { List ℕ };
 
-    ghost view = { λ s. range_with_len (s.entry.now.tile_id + s.taken) (s.entry.now.run_length - s.taken) };
+    ghost view = { λ s. range_with_len (s.entry.now.tile_id + s.taken)
+        (s.entry.now.run_length - s.taken) };
 
-    ghost invariant = { λ s. (s.taken ≤ s.entry.now.run_length) × (s.entry.now.tile_id + s.entry.now.run_length ≤ MAX_TILE_ID + 1) };
+    ghost invariant = { λ s. (s.taken ≤ s.entry.now.run_length)
+        × (s.entry.now.tile_id + s.entry.now.run_length ≤ MAX_TILE_ID + 1) };
 }
 
 impl<'a> DirEntryCoordsIter<'a> {

@@ -5,7 +5,8 @@ ghost use Rattle.pm_format.specs.Varint.{IsShort, SpellsU64, u64_at, varint};
 
 /// What is written as a directory is read again, whatever follows it: fewer than 2^64 entries whose ids don't fall and are within u64, with lengths and runs within u32, offsets below the end of u64 and ends within u64.
 pub fn directory_read_again()
-    ensures { (es : List Entry) (rest : List ℕ) → length es < 2 ^ 64 → DirFits 0 es → dir_of (dir_bytes es ++ rest) ≡ Some es }
+    ensures { (es : List Entry) (rest : List ℕ) → length es < 2 ^ 64 → DirFits 0 es
+        → dir_of (dir_bytes es ++ rest) ≡ Some es }
 {}
 
 /// A spelling of a u64 is read as its number, whatever follows it.
@@ -15,7 +16,8 @@ pub fn spelling_read()
 
 /// Where a u64 is read from bytes, a front of them spells it.
 pub fn reading_spelled()
-    ensures { (bs rest : List ℕ) (n : ℕ) → All (λ b. b < 256) bs → u64_at bs ≡ Some (n, rest) → (s : List ℕ) × (bs ≡ s ++ rest) × SpellsU64 s n }
+    ensures { (bs rest : List ℕ) (n : ℕ) → All (λ b. b < 256) bs → u64_at bs ≡ Some (n, rest)
+        → (s : List ℕ) × (bs ≡ s ++ rest) × SpellsU64 s n }
 {}
 
 /// The spelling that is written has no padding, and no other spelling of its number is without.

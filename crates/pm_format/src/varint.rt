@@ -58,10 +58,13 @@ fn read_number(bytes: &[u8], at: usize, full: u32, top: u8) -> Result<(u64, usiz
     requires full { full ≤ 9 }
     requires top { top < 128 }
     requires fits { (top + 1) * 2 ^ (7 * full) ≤ 2 ^ 64 }
-    ensures found { IfOk result (λ r. number_at (full + 1) ((top + 1) * 2 ^ (7 * full)) (drop at bytes.now) ≡ Some (r.0, drop r.1 bytes.now)) }
+    ensures found { IfOk result
+        (λ r. number_at (full + 1) ((top + 1) * 2 ^ (7 * full)) (drop at bytes.now)
+        ≡ Some (r.0, drop r.1 bytes.now)) }
     ensures place { IfOk result (λ r. (at < r.1) × (r.1 ≤ length bytes.now)) }
     ensures low { IfOk result (λ r. r.0 < (top + 1) * 2 ^ (7 * full)) }
-    ensures none { OnErr result (number_at (full + 1) ((top + 1) * 2 ^ (7 * full)) (drop at bytes.now) ≡ None) }
+    ensures none { OnErr result
+        (number_at (full + 1) ((top + 1) * 2 ^ (7 * full)) (drop at bytes.now) ≡ None) }
     ensures error { IfErr result (λ e. e ≡ PmtError.InvalidEntry) }
 {
     let mut value: u64 = 0;

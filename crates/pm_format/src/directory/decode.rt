@@ -12,7 +12,8 @@ impl Directory {
     pub fn decode(alloc: Global, bytes: &[u8]) -> Result<Directory, PmtError>
         ensures found { IfOk result (λ d. dir_of bytes.now ≡ Some d) }
         ensures none { IsErrOf result PmtError.InvalidEntry → dir_of bytes.now ≡ None }
-        ensures error { IfErr result (λ e. (e ≡ PmtError.InvalidEntry) ⊎ (e ≡ PmtError.OutOfMemory)) }
+        ensures error { IfErr result
+            (λ e. (e ≡ PmtError.InvalidEntry) ⊎ (e ≡ PmtError.OutOfMemory)) }
     {
         let (count, start) = read_varint_u64(bytes, 0)?;
         if count > ((bytes.len() - start) / 4) as u64 {
@@ -33,7 +34,8 @@ fn read_columns(
     requires { start ≤ length bytes.now }
     ensures found { IfOk result (λ v. columns_at count (drop start bytes.now) ≡ Some v.items) }
     ensures ordered { IfOk result (λ v. IdsDontFall v.items) }
-    ensures none { IsErrOf result PmtError.InvalidEntry → columns_at count (drop start bytes.now) ≡ None }
+    ensures none { IsErrOf result PmtError.InvalidEntry
+        → columns_at count (drop start bytes.now) ≡ None }
     ensures error { IfErr result (λ e. (e ≡ PmtError.InvalidEntry) ⊎ (e ≡ PmtError.OutOfMemory)) }
 {
     let (ids, runs_start) = read_ids(alloc, bytes, start, count)?;
@@ -50,10 +52,12 @@ fn read_ids(
     count: usize,
 ) -> Result<(Vec<u64>, usize), PmtError>
     requires { start ≤ length bytes.now }
-    ensures found { IfOk result (λ r. ids_at 0 count (drop start bytes.now) ≡ Some (r.0.items, drop r.1 bytes.now)) }
+    ensures found { IfOk result
+        (λ r. ids_at 0 count (drop start bytes.now) ≡ Some (r.0.items, drop r.1 bytes.now)) }
     ensures place { IfOk result (λ r. r.1 ≤ length bytes.now) }
     ensures count { IfOk result (λ r. length r.0.items ≡ count) }
-    ensures none { IsErrOf result PmtError.InvalidEntry → ids_at 0 count (drop start bytes.now) ≡ None }
+    ensures none { IsErrOf result PmtError.InvalidEntry
+        → ids_at 0 count (drop start bytes.now) ≡ None }
     ensures error { IfErr result (λ e. (e ≡ PmtError.InvalidEntry) ⊎ (e ≡ PmtError.OutOfMemory)) }
 {
     let mut ids = Vec::with_capacity(alloc, count)?;
@@ -79,10 +83,13 @@ fn read_column(
     count: usize,
 ) -> Result<(Vec<u32>, usize), PmtError>
     requires { start ≤ length bytes.now }
-    ensures found { IfOk result (λ r. column 5 (2 ^ 32) count (drop start bytes.now) ≡ Some (r.0.items, drop r.1 bytes.now)) }
+    ensures found { IfOk result
+        (λ r. column 5 (2 ^ 32) count (drop start bytes.now)
+        ≡ Some (r.0.items, drop r.1 bytes.now)) }
     ensures place { IfOk result (λ r. r.1 ≤ length bytes.now) }
     ensures count { IfOk result (λ r. length r.0.items ≡ count) }
-    ensures none { IsErrOf result PmtError.InvalidEntry → column 5 (2 ^ 32) count (drop start bytes.now) ≡ None }
+    ensures none { IsErrOf result PmtError.InvalidEntry
+        → column 5 (2 ^ 32) count (drop start bytes.now) ≡ None }
     ensures error { IfErr result (λ e. (e ≡ PmtError.InvalidEntry) ⊎ (e ≡ PmtError.OutOfMemory)) }
 {
     let mut numbers = Vec::with_capacity(alloc, count)?;
@@ -107,8 +114,12 @@ fn read_entries(
     requires place { start ≤ length bytes.now }
     requires runs { length runs.now ≡ length ids.now }
     requires lengths { length lengths.now ≡ length ids.now }
-    ensures found { IfOk result (λ v. entries_at None (length ids.now) ids.now runs.now lengths.now (drop start bytes.now) ≡ Some v.items) }
-    ensures none { IsErrOf result PmtError.InvalidEntry → entries_at None (length ids.now) ids.now runs.now lengths.now (drop start bytes.now) ≡ None }
+    ensures found { IfOk result
+        (λ v. entries_at None (length ids.now) ids.now runs.now lengths.now (drop start bytes.now)
+        ≡ Some v.items) }
+    ensures none { IsErrOf result PmtError.InvalidEntry
+        → entries_at None (length ids.now) ids.now runs.now lengths.now (drop start bytes.now)
+        ≡ None }
     ensures error { IfErr result (λ e. (e ≡ PmtError.InvalidEntry) ⊎ (e ≡ PmtError.OutOfMemory)) }
 {
     let mut entries = Vec::with_capacity(alloc, ids.len())?;

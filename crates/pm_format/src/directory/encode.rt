@@ -33,7 +33,8 @@ pub fn encode_entries<E: AsWide>(alloc: Global, entries: &[E]) -> Result<Vec<u8>
 
 fn write_ids<E: AsWide>(out: &mut Vec<u8>, entries: &[E]) -> Result<(), OutOfMemory>
     requires { IsWritable 0 (map E.entry entries.now) }
-    ensures { OnOk result (out.new.items ≡ out.old.items ++ spell_all (steps_from 0 (map E.entry entries.now))) }
+    ensures { OnOk result
+        (out.new.items ≡ out.old.items ++ spell_all (steps_from 0 (map E.entry entries.now))) }
 {
     let mut last = 0;
     for entry in entries {
@@ -45,7 +46,8 @@ fn write_ids<E: AsWide>(out: &mut Vec<u8>, entries: &[E]) -> Result<(), OutOfMem
 }
 
 fn write_runs<E: AsWide>(out: &mut Vec<u8>, entries: &[E]) -> Result<(), OutOfMemory>
-    ensures { OnOk result (out.new.items ≡ out.old.items ++ spell_all (map (λ e. e.run_length) (map E.entry entries.now))) }
+    ensures { OnOk result (out.new.items ≡ out.old.items ++ spell_all
+        (map (λ e. e.run_length) (map E.entry entries.now))) }
 {
     for entry in entries {
         write_varint(out, u64::from(entry.wide().run_length))?;
@@ -54,7 +56,8 @@ fn write_runs<E: AsWide>(out: &mut Vec<u8>, entries: &[E]) -> Result<(), OutOfMe
 }
 
 fn write_lengths<E: AsWide>(out: &mut Vec<u8>, entries: &[E]) -> Result<(), OutOfMemory>
-    ensures { OnOk result (out.new.items ≡ out.old.items ++ spell_all (map (λ e. e.length) (map E.entry entries.now))) }
+    ensures { OnOk result (out.new.items ≡ out.old.items ++ spell_all
+        (map (λ e. e.length) (map E.entry entries.now))) }
 {
     for entry in entries {
         write_varint(out, entry.wide().length)?;
@@ -64,7 +67,8 @@ fn write_lengths<E: AsWide>(out: &mut Vec<u8>, entries: &[E]) -> Result<(), OutO
 
 fn write_offsets<E: AsWide>(out: &mut Vec<u8>, entries: &[E]) -> Result<(), OutOfMemory>
     requires { IsWritable 0 (map E.entry entries.now) }
-    ensures { OnOk result (out.new.items ≡ out.old.items ++ spell_all (starts_from None (map E.entry entries.now))) }
+    ensures { OnOk result
+        (out.new.items ≡ out.old.items ++ spell_all (starts_from None (map E.entry entries.now))) }
 {
     let mut end = None;
     for entry in entries {

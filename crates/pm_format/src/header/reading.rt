@@ -28,8 +28,10 @@ fn read_degrees(bytes: &[u8], at: usize) -> i32
 // Tests the lengths and the first seven bytes. Where they pass, the labels and the type decide.
 pub fn check_front(bytes: &[u8]) -> Result<(), PmtError>
     ensures long { OnOk result (HEADER_SIZE ≤ length bytes.now) }
-    ensures ok { OnOk result (head bytes.now ≡ labelled bytes.now (slice_get compressions (byte_at 97 bytes.now))
-        (slice_get compressions (byte_at 98 bytes.now)) (slice_get tile_types (byte_at 99 bytes.now))) }
+    ensures ok { OnOk result (head bytes.now ≡ labelled bytes.now
+        (slice_get compressions (byte_at 97 bytes.now))
+        (slice_get compressions (byte_at 98 bytes.now))
+        (slice_get tile_types (byte_at 99 bytes.now))) }
     ensures err { IfErr result (λ refusal. head bytes.now ≡ Err refusal) }
 {
     if bytes.len() < 7 {
