@@ -17,9 +17,13 @@ is_table_kind View = false
 abbrev pub is_table : List TableDesc → TableName → Bool
 is_table ds table = list_any (λ d. bytes_eq d.name (table_text table) && is_table_kind d.kind) ds
 
+-- whether texts have each of the wanted ones among them
+abbrev pub has_each : List (List ℕ) → List (List ℕ) → Bool
+has_each texts wanted = list_all (λ w. list_any (bytes_eq w) texts) wanted
+
 -- whether two lists of texts have the same members
 abbrev pub same_texts : List (List ℕ) → List (List ℕ) → Bool
-same_texts xs ys = list_all (λ x. list_any (bytes_eq x) ys) xs && list_all (λ y. list_any (bytes_eq y) xs) ys
+same_texts xs ys = has_each ys xs && has_each xs ys
 
 -- whether an index keeps equal keys of the table out: it is unique, and of exactly the key's columns
 abbrev pub is_key_index : TableName → IndexDesc → Bool

@@ -1,10 +1,10 @@
 -- The layout of a tile set, from the descriptions of its tables.
 use Rattle.std.specs.Prelude.{ℕ, ◌&&◌, Bool, false, cond, List, Option, Some, None, Result, Ok, Err}
-use Rattle.std.specs.List.{list_all, list_any}
+use Rattle.std.specs.List.{list_any}
 use Rattle.std.specs.Str.{bytes_eq}
 use Rattle.mb_tables.specs.Columns.{fits, patch_columns}
 use Rattle.mb_tables.specs.Schema.{columns_of}
-use Rattle.mb_tables.specs.Described.{is_keyed, is_table_kind}
+use Rattle.mb_tables.specs.Described.{has_each, is_keyed, is_table_kind}
 use Rattle.mb_tables.specs.Kind.{tile_table}
 use Rattle.mb_tables.specs.PatchType.{patch_text}
 use Rattle.mb_tables.specs.Table.{key_columns, table_text}
@@ -46,7 +46,7 @@ detected ds = by (layout_of ds)
 
 -- whether an index of the table, unique or not, has the columns of a place among its own
 abbrev pub has_tile_index : List TableDesc → TableName → Bool
-has_tile_index ds table = list_any (λ d. bytes_eq d.name (table_text table) && list_any (λ i. list_all (λ column. list_any (bytes_eq column) i.columns) (key_columns Tiles)) d.indexes) ds
+has_tile_index ds table = list_any (λ d. bytes_eq d.name (table_text table) && list_any (λ i. has_each i.columns (key_columns Tiles)) d.indexes) ds
 
 -- the name of a layout's tile table, where it has no such index
 abbrev pub missing_index : List TableDesc → MbtType → Option (List ℕ)

@@ -91,7 +91,8 @@ fn is_column_of(table: TableName, column: &ColumnDesc) -> bool
 
 // Whether a column is one of those of `tile_cache` after the place.
 fn is_cache_column(column: &ColumnDesc) -> bool
-    ensures { result ≡ list_any (λ wanted. is_column wanted column.now) (drop 3 (columns_of TableName.TileCache)) }
+    ensures { result ≡ list_any (λ wanted. is_column wanted column.now)
+        (drop 3 (columns_of TableName.TileCache)) }
 {
     is_column(column, "fetched", "INTEGER")
         || is_column(column, "expires", "INTEGER")

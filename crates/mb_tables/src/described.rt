@@ -1,8 +1,8 @@
 // What descriptions say of a table.
 ghost use Rattle.std.specs.Prelude.{◌≡◌};
-ghost use Rattle.std.specs.List.{list_all, list_any};
+ghost use Rattle.std.specs.List.{list_any};
 ghost use Rattle.std.specs.Str.{bytes_eq};
-ghost use Rattle.mb_tables.specs.Described.{is_key_index, is_keyed};
+ghost use Rattle.mb_tables.specs.Described.{has_each, is_key_index, is_keyed};
 ghost use Rattle.mb_tables.specs.Table.{key_columns};
 
 use crate::{IndexDesc, TableDesc, TableName};
@@ -29,7 +29,7 @@ fn is_key_column(table: TableName, name: &str) -> bool
 
 // Whether names have each column of the table's key among them.
 fn has_key_columns(table: TableName, names: &[TextVal]) -> bool
-    ensures { result ≡ list_all (λ column. list_any (bytes_eq column) names.now) (key_columns table) }
+    ensures { result ≡ has_each names.now (key_columns table) }
 {
     match table {
         TableName::Images => has_text(names, "tile_id"),
@@ -41,14 +41,14 @@ fn has_key_columns(table: TableName, names: &[TextVal]) -> bool
 
 // Whether names have the three columns of a place among them.
 pub(crate) fn has_coordinates(names: &[TextVal]) -> bool
-    ensures { result ≡ list_all (λ column. list_any (bytes_eq column) names.now) (key_columns TableName.Tiles) }
+    ensures { result ≡ has_each names.now (key_columns TableName.Tiles) }
 {
     has_text(names, "zoom_level") && has_text(names, "tile_column") && has_text(names, "tile_row")
 }
 
 // Whether each name is that of a column of the table's key.
 fn are_key_columns(table: TableName, names: &[TextVal]) -> bool
-    ensures { result ≡ list_all (λ name. list_any (bytes_eq name) (key_columns table)) names.now }
+    ensures { result ≡ has_each (key_columns table) names.now }
 {
     names.iter().all(|name| is_key_column(table, name.as_str()))
 }

@@ -1,9 +1,9 @@
 // The layout of a tile set, from the descriptions of its tables.
 ghost use Rattle.std.specs.Prelude.{◌≡◌, ◌↔◌, ◌&&◌, None, IfOk, IfErr, IfSome, IsErrOf};
-ghost use Rattle.std.specs.List.{list_all, list_any};
+ghost use Rattle.std.specs.List.{list_any};
 ghost use Rattle.std.specs.Option.{option_copied};
-ghost use Rattle.std.specs.Str.{bytes_eq};
 ghost use Rattle.mb_tables.specs.Detection.{detected, has_columns, has_patches, has_table, has_tile_index, layout_of, missing_index, patch_type_of};
+ghost use Rattle.mb_tables.specs.Described.{has_each};
 ghost use Rattle.mb_tables.specs.Kind.{tile_table};
 ghost use Rattle.mb_tables.specs.Table.{key_columns};
 
@@ -63,7 +63,8 @@ pub fn is_normalized_tables_type(tables: &[TableDesc]) -> bool
 
 /// Whether the tables `tiles_shallow` and `tiles_data` are described.
 pub fn is_dedup_id_normalized_tables_type(tables: &[TableDesc]) -> bool
-    ensures { result ≡ has_table tables.now TableName.TilesShallow && has_table tables.now TableName.TilesData }
+    ensures { result ≡ has_table tables.now TableName.TilesShallow
+        && has_table tables.now TableName.TilesData }
 {
     has_table(tables, TableName::TilesShallow) && has_table(tables, TableName::TilesData)
 }
@@ -118,14 +119,15 @@ pub fn detect_type(tables: &[TableDesc]) -> MbtResult<MbtType>
 
 // Whether an index has the columns of a place among its own.
 fn is_tile_index(index: &IndexDesc) -> bool
-    ensures { result ≡ list_all (λ column. list_any (bytes_eq column) index.now.columns) (key_columns TableName.Tiles) }
+    ensures { result ≡ has_each index.now.columns (key_columns TableName.Tiles) }
 {
     has_coordinates(index.columns.as_slice())
 }
 
 // Whether one of these indexes does.
 fn has_place_index(indexes: &[IndexDesc]) -> bool
-    ensures { result ≡ list_any (λ i. list_all (λ column. list_any (bytes_eq column) i.columns) (key_columns TableName.Tiles)) indexes.now }
+    ensures { result ≡ list_any (λ i. has_each i.columns (key_columns TableName.Tiles))
+        indexes.now }
 {
     indexes.iter().any(|index| is_tile_index(index))
 }
@@ -141,7 +143,8 @@ fn has_tile_index(tables: &[TableDesc], table: TableName) -> bool
 /// The name of the table of a tile set's places, where no index of it, unique or not, has the columns of a place among its own. Refused
 /// as `InvalidDataFormat` where the tables are of no layout.
 pub fn missing_tile_index(tables: &[TableDesc]) -> MbtResult<Option<&'static str>>
-    ensures answer { IfOk result (λ name. IfSome (layout_of tables.now) (λ layout. option_copied name ≡ missing_index tables.now layout)) }
+    ensures answer { IfOk result (λ name. IfSome (layout_of tables.now)
+        (λ layout. option_copied name ≡ missing_index tables.now layout)) }
     ensures format { IsErrOf result MbtError.InvalidDataFormat ↔ (layout_of tables.now ≡ None) }
     ensures errors { IfErr result (λ e. e ≡ MbtError.InvalidDataFormat) }
 {

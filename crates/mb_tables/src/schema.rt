@@ -23,7 +23,8 @@ fn add_column(
     name: &str,
     type_name: &str,
 ) -> Result<(), OutOfMemory>
-    ensures { OnOk result (columns.new.items ≡ columns.old.items ++ column_of name.now type_name.now ∷ []) }
+    ensures { OnOk result
+        (columns.new.items ≡ columns.old.items ++ column_of name.now type_name.now ∷ []) }
 {
     let name = text_of(alloc, name)?;
     let type_name = text_of(alloc, type_name)?;
@@ -50,7 +51,8 @@ fn listed_columns(
     value: &str,
     value_type: &str,
 ) -> Result<Vec<ColumnDesc>, OutOfMemory>
-    ensures { IfOk result (λ columns. columns.items ≡ column_of id.now id_type.now ∷ column_of value.now value_type.now ∷ []) }
+    ensures { IfOk result (λ columns. columns.items
+        ≡ column_of id.now id_type.now ∷ column_of value.now value_type.now ∷ []) }
 {
     let mut columns = Vec::new(alloc);
     add_column(alloc, &mut columns, id, id_type)?;
@@ -60,7 +62,8 @@ fn listed_columns(
 
 // The columns of a place, and one more.
 fn place_columns(alloc: Global, name: &str, type_name: &str) -> Result<Vec<ColumnDesc>, OutOfMemory>
-    ensures { IfOk result (λ columns. columns.items ≡ coordinates ++ column_of name.now type_name.now ∷ []) }
+    ensures { IfOk result
+        (λ columns. columns.items ≡ coordinates ++ column_of name.now type_name.now ∷ []) }
 {
     let mut columns = coordinates(alloc)?;
     add_column(alloc, &mut columns, name, type_name)?;
@@ -182,7 +185,8 @@ fn normalized_tables(
     hash_view: bool,
     schema: NormalizedSchema,
 ) -> Result<Vec<TableDesc>, OutOfMemory>
-    ensures { IfOk result (λ tables. tables.items ≡ layout_tables (MbtType.Normalized hash_view schema)) }
+    ensures { IfOk result
+        (λ tables. tables.items ≡ layout_tables (MbtType.Normalized hash_view schema)) }
 {
     let mut tables = Vec::new(alloc);
     match schema {
