@@ -2,7 +2,7 @@
 use Rattle.std.proofs.Common.{◌≡◌, ◌≢◌, ◌∙◌, ap, sym, subst, ℕ, ◌<◌, ◌≤◌, ◌+◌, ◌-◌, ◌++◌, ◌⊎◌, inl, inr, Option, Some, None, List, [], ◌∷◌, Bool, true, false, length, drop, set, replicate, refl, zero, suc, is_some, arith, append-nil, get_or}
 use Rattle.std.specs.Prelude.{All, slice_get, unwrap_or}
 use Rattle.std.proofs.lemmas.Bool.{false≢true}
-use Rattle.std.proofs.lemmas.List.{drop_all, drop_more, length-set}
+use Rattle.std.proofs.lemmas.List.{drop_more, length-set}
 use Rattle.std.proofs.lemmas.List.Elements.{All-push, All-weaker}
 use Rattle.std.proofs.lemmas.Option.{none-some, same_Some, slice_get-get_or, slice_get_within}
 use Rattle.mb_lists.specs.Clearing.{listed, tile_mark}
@@ -240,10 +240,6 @@ one_copied others tiles n t first old new some within at done made =
     let front : drop (n - 1) tiles ≡ t ∷ drop n tiles = drop_more tiles (n - 1) t (omega (arith, some, within)) ∙ (ap (λ (x : StoredTile). x ∷ drop ((n - 1) + 1) tiles) (sym at) ∙ ap (λ (k : ℕ). t ∷ drop k tiles) next) in
     subst (λ (ts : List StoredTile). Edits (tiles_copied others ts) first new) (sym front)
     (both_edits (tiles_copied others (drop n tiles)) (tile_copied others t) first old new done made)
-
--- none are copied
-pub none_copied : (others : List Content) (tiles : List StoredTile) (n : ℕ) (l : Copying) → length tiles ≤ n → Edits (tiles_copied others (drop n tiles)) l l
-none_copied others tiles n l past = subst (λ (ts : List StoredTile). Edits (tiles_copied others ts) l l) (sym (drop_all n tiles past)) (record { layout = refl; algorithm = refl; held = λ p names. refl })
 
 -- no copy stands in a list of zeros
 pub none_copied_there : (n k i : ℕ) → slice_get (replicate n 0) k ≡ Some (suc i) → ⊥

@@ -18,11 +18,6 @@ use Rattle.mb_tables.specs.declared.error.MbtError.{MbtError}
 use Rattle.mb_tables.specs.declared.error.MbtError.TheVariants.{InvalidDataFormat, NoUniquenessConstraint, StoreFault}
 use Rattle.mb_tables.specs.declared.kind.MbtType.{MbtType}
 
--- the first refusal where the first or the second test is the first that refuses
-one_test : (a : Bool) (rest : List (Option MbtError)) → a ≡ false → first_refusal (unless a InvalidDataFormat ∷ rest) ≡ Some InvalidDataFormat
-one_test false rest h = refl
-one_test true rest h = absurd (false≢true (sym h))
-
 two_tests : (a b : Bool) (rest : List (Option MbtError)) → a ≡ true → b ≡ false → first_refusal (unless a InvalidDataFormat ∷ unless b NoUniquenessConstraint ∷ rest) ≡ Some NoUniquenessConstraint
 two_tests true false rest h k = refl
 two_tests true true rest h k = absurd (false≢true (sym k))

@@ -256,9 +256,6 @@ module _ (t : Tables) (layout : MbtType) (sound : IsSound t) (laid : layout_of t
   keyed : is_keyed t.descriptions (tile_table layout) ≡ true
   keyed = holds (is_keyed t.descriptions (tile_table layout)) NoUniquenessConstraint indexed
 
-  under : Place → List (List Cell)
-  under p = filter (has_key (tile_table layout) (tile_key p)) rows
-
   fits : (p : Place) → FitsPlace state p (filter (has_key (tile_table layout) (tile_key p)) rows)
   fits p = record {
     alone = alone_under (tile_table layout) (tile_key p) refl rows (sound.keys (tile_table layout) keyed);

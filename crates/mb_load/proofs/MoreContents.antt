@@ -18,10 +18,6 @@ pub at_end : {X : Type 0} (xs : List X) (x : X) → slice_get (xs ++ x ∷ []) (
 at_end [] x = refl
 at_end (y ∷ xs) x = at_end xs x
 
-pub past_end : {X : Type 0} (xs : List X) → slice_get xs (length xs) ≡ None
-past_end [] = refl
-past_end (y ∷ xs) = past_end xs
-
 -- contents that aren't those past the end are there
 there : (P : Content → Bool) → P nothing ≡ false → (contents : List Content) (i : ℕ) → P (content_at contents i) ≡ true → (x : Content) × (slice_get contents i ≡ Some x)
 there P none contents i h = by (slice_get contents i) refl h

@@ -24,7 +24,6 @@ use Rattle.mb_tables.specs.CellOrder.{cells_total}
 use Rattle.mb_tables.specs.Kind.{tile_table}
 use Rattle.mb_tables.specs.Table.{table_eq}
 use Rattle.mb_tables.specs.Tiles.{contents_of}
-use Rattle.mb_tables.specs.declared.cell.Cell.{Cell}
 use Rattle.mb_tables.specs.declared.kind.MbtType.{MbtType}
 use Rattle.tile_hash.specs.declared.algorithm.HashAlgorithm.{HashAlgorithm}
 
@@ -86,9 +85,6 @@ use_noted tiles i t old new lt at within put other below = λ j u less there is_
 pub all_noted : (tiles : List StoredTile) (n : ℕ) (last : List ℕ) → length tiles ≤ n → LastBelow n tiles last → AreLast tiles last
 all_noted tiles n last past below = λ j t there is_put. let lt = slice_get_within tiles j t there in below j t (omega (arith, lt, past)) there is_put
 
-pub none_noted : (tiles : List StoredTile) (last : List ℕ) → LastBelow 0 tiles last
-none_noted tiles last = λ j t less there is_put. absurd (omega (arith, less))
-
 -- contents that are taken at their last use, and none that are
 pub spends_taken : (b : Bool) (i : ℕ) (old : List Content) → b ≡ true → is_null (id_at old i) ≡ true → Spends b i old (set old i taken)
 spends_taken b i old last null = record {
@@ -97,12 +93,6 @@ spends_taken b i old last null = record {
   others = λ k ne. set_apart old i k taken ne;
   kept = λ f. absurd (false≢true (sym f ∙ last));
 }
-
-pub spends_none : (b : Bool) (i : ℕ) (cs : List Content) → Spends b i cs cs
-spends_none b i cs = record { each = refl; named = λ k h. refl; others = λ k ne. refl; kept = λ f. refl }
-
-pub none_spent : (cs : List Content) (last : List ℕ) → AreUnspent cs cs last 0
-none_spent cs last = record { each = refl; named = λ k h. refl; used = λ k m at le. refl }
 
 unequal : (m n : ℕ) → n + 1 ≤ m → nat_eq m n ≡ false
 unequal m n h = grind (arith, nat_tests)
@@ -164,20 +154,6 @@ contents_next layout first now new base others order i d old next apart lt each 
 
 -- where all contents that have an id are there
 module _ (first now : List Content) (left : (k : ℕ) → is_null (id_at first k) ≡ false → slice_get now k ≡ slice_get first k) where
-  pub ids_left : (order : List ℕ) → All (HasId first) order → All (HasId now) order
-  ids_left order all = λ i d lt. ap (λ (o : Option Content). is_null (unwrap_or o nothing).id) (left (get_or order i d) (all i d lt)) ∙ all i d lt
-
-  same_id : (order : List ℕ) (i d : ℕ) → All (HasId first) order → i < length order → id_at now (get_or order i d) ≡ id_at first (get_or order i d)
-  same_id order i d all lt = ap (λ (o : Option Content). (unwrap_or o nothing).id) (left (get_or order i d) (all i d lt))
-
-  pub apart_left : (order : List ℕ) → All (HasId first) order → Apart cell_cmp (id_at first) order → Apart cell_cmp (id_at now) order
-  apart_left order all apart = record {
-    pairs = λ i j d less lt.
-        ap (λ (z : Cell). eq_by_cmp cell_cmp z (id_at now (get_or order j d))) (same_id order i d all (omega (arith, less, lt)))
-        ∙ (ap (eq_by_cmp cell_cmp (id_at first (get_or order i d))) (same_id order j d all lt)
-        ∙ apart.pairs i j d less lt);
-  }
-
   pub listed_left : (layout : MbtType) (order : List ℕ) → All (HasId first) order → filter_map (listed_change layout now) order ≡ filter_map (listed_change layout first) order
   listed_left layout [] all = refl
   listed_left layout (i ∷ order) all =
