@@ -1,6 +1,5 @@
 -- Tiles of a batch that are put one after another.
-use Rattle.std.proofs.Common.{◌≡◌, ◌∙◌, ap, sym, ℕ, ◌<◌, ◌≤◌, ◌+◌, ◌-◌, ◌++◌, Bool, true, false, ◌||◌, List, [], ◌∷◌, Option, Some, Result, Ok, Err, cond, drop, filter, get_or, is_some, length, map, refl, suc, zero, arith, append-nil, append_assoc}
-use Rattle.std.proofs.Math.Seq.{drop-cons}
+use Rattle.std.proofs.Common.{◌≡◌, ◌∙◌, ap, sym, ℕ, ◌≤◌, ◌+◌, ◌-◌, ◌++◌, Bool, true, false, ◌||◌, List, [], ◌∷◌, Option, Some, Result, Ok, Err, cond, drop, filter, is_some, length, map, refl, suc, zero, arith, append-nil, append_assoc}
 use Rattle.std.specs.Prelude.{IfOk, reverse}
 use Rattle.std.specs.List.{list_any}
 use Rattle.std.specs.Ordering.{eq_by_cmp}
@@ -34,16 +33,6 @@ in_turn es (t ∷ ts) = in_turn (entry_of t ∷ es) ts ∙ ap by_first (sym (tur
 pub all_in_turn : (ts : List NewTile) → put_in_turn empty ts ≡ by_first (map entry_of (reverse ts))
 all_in_turn ts = in_turn [] ts ∙ ap by_first (append-nil (map entry_of (reverse ts)))
 
-rest_at : (ts : List NewTile) (i : ℕ) (t : NewTile) → i < length ts → t ≡ get_or ts i t → drop i ts ≡ t ∷ drop (suc i) ts
-rest_at ts i t lt at = drop-cons ts i t lt ∙ ap (λ z. z ∷ drop (suc i) ts) (sym at)
-
-pub one_more : (tiles next all : TileSet) (ts : List NewTile) (i : ℕ) (t : NewTile) → i < length ts → t ≡ get_or ts i t → put_in_turn tiles (drop i ts) ≡ all → next ≡ insert tiles (place_in t) (Some t.tile_data) → put_in_turn next (drop (i + 1) ts) ≡ all
-one_more tiles next all ts i t lt at done put =
-    let e : i + 1 ≡ suc i = omega arith in
-    ap (λ n. put_in_turn next (drop n ts)) e
-    ∙ (ap (λ (m : TileSet). put_in_turn m (drop (suc i) ts)) put
-    ∙ (ap (put_in_turn tiles) (sym (rest_at ts i t lt at)) ∙ done))
-
 none_left : (ts : List NewTile) (n : ℕ) → length ts ≤ n → drop n ts ≡ []
 none_left [] zero h = refl
 none_left [] (suc n) h = refl
@@ -61,22 +50,6 @@ settled (Err x) h tiles e is = is
 -- those of places at which a set has none, from the last to the first
 abbrev pub missing_of : TileSet → List NewTile → TileSet
 missing_of set ts = by_first (map entry_of (filter (is_missing set) ts))
-
-pub none_missing : (set : TileSet) (ts : List NewTile) (n : ℕ) → length ts ≤ n → empty ≡ missing_of set (drop n ts)
-none_missing set ts n h = ap (missing_of set) (sym (none_left ts n h))
-
-one_step : (t : NewTile) (ts : List NewTile) (b : Bool) → by_first (map entry_of (cond b (t ∷ ts) ts)) ≡ cond b (insert (by_first (map entry_of ts)) (place_in t) (Some t.tile_data)) (by_first (map entry_of ts))
-one_step t ts true = refl
-one_step t ts false = refl
-
-pub one_before : (set tiles next : TileSet) (ts : List NewTile) (n : ℕ) (t : NewTile) → 0 < n → n ≤ length ts → t ≡ get_or ts (n - 1) t → tiles ≡ missing_of set (drop n ts) → next ≡ cond (is_missing set t) (insert tiles (place_in t) (Some t.tile_data)) tiles → next ≡ missing_of set (drop (n - 1) ts)
-one_before set tiles next ts n t some within at done put =
-    let e : n ≡ suc (n - 1) = omega arith in
-    let lt : n - 1 < length ts = omega arith in
-    put
-    ∙ (ap (λ (m : TileSet). cond (is_missing set t) (insert m (place_in t) (Some t.tile_data)) m) (done ∙ ap (λ k. missing_of set (drop k ts)) e)
-    ∙ (sym (one_step t (filter (is_missing set) (drop (suc (n - 1)) ts)) (is_missing set t))
-    ∙ ap (missing_of set) (sym (rest_at ts (n - 1) t lt at))))
 
 -- which places stand in a list
 is_some_cond : {A : Type 0} (b : Bool) (x : A) (o : Option A) → is_some (cond b (Some x) o) ≡ (b || is_some o)

@@ -21,7 +21,6 @@ use Rattle.mb_tables.specs.Refusals.{first_refused}
 use Rattle.mb_tables.specs.Tiles.{Place, TileSet, place_cmp}
 use Rattle.mb_tables.specs.declared.cell.Cell.TheVariants.{Int}
 use Rattle.mb_tables.specs.declared.error.MbtError.TheVariants.{InvalidTileIndex}
-use Rattle.tile_ids.specs.Coord.{IsCoord}
 
 record AreWithin (t : NewTile) : Type 0 where
   zoom : t.z < 31
@@ -33,12 +32,6 @@ within t h =
     let two = and_parts (nat_lt t.z 31 && nat_lt t.x (2 ^ t.z)) (nat_lt t.y (2 ^ t.z)) h in
     let one = and_parts (nat_lt t.z 31) (nat_lt t.x (2 ^ t.z)) two.0 in
     record { zoom = ltb-true t.z 31 one.0; column = ltb-true t.x (2 ^ t.z) one.1; row = ltb-true t.y (2 ^ t.z) two.1 }
-
-pub coordinate : (t : NewTile) → is_coord t ≡ true → IsCoord (record { z = t.z; x = t.x; y = t.y })
-coordinate t h =
-    let w = within t h in
-    let zoom : t.z < 31 = w.zoom in
-    record { zoom = omega arith; column = w.column; row = w.row }
 
 on_board : (t : NewTile) → is_coord t ≡ true → IsOnBoard (place_in t)
 on_board t h =
