@@ -1,22 +1,18 @@
 -- The edits of entries of a document, one after another.
-use Rattle.std.proofs.Common.{◌≡◌, ◌∙◌, ap, sym, subst, ℕ, ◌+◌, ◌<◌, ◌≤◌, List, [], ◌∷◌, ◌++◌, Some, false, length, take, map}
-use Rattle.std.specs.Prelude.{All, slice_get}
+use Rattle.std.proofs.Common.{◌≡◌, ◌∙◌, ap, sym, ℕ, ◌+◌, ◌<◌, ◌≤◌, List, [], ◌∷◌, ◌++◌, Some, length, take, map}
+use Rattle.std.specs.Prelude.{slice_get}
 use Rattle.std.proofs.lemmas.List.{map-append, take_all, take_more}
 use Rattle.std.proofs.lemmas.Option.{get_or_from_slice_get}
 use Rattle.mb_metadata.specs.Inserting.{data_text}
 use Rattle.mb_metadata.specs.NameEdits.{put_of}
 use Rattle.mb_metadata.specs.declared.name_edits.NameEdit.{NameEdit}
 use Rattle.serde_json.specs.Data.{Data}
-use Rattle.serde_json.specs.Written.{has_float}
 
 abbrev Entry : Type 0
 Entry = List ℕ × Data
 
 abbrev edit_of : Entry → NameEdit
 edit_of e = put_of e.0 (data_text e.1)
-
-pub no_float_at : (es : List Entry) (i : ℕ) (name : List ℕ) (d : Data) → i < length es → slice_get es i ≡ Some (name, d) → All (λ e. has_float e.1 ≡ false) es → has_float d ≡ false
-no_float_at es i name d lt at h = subst (λ (e : Entry). has_float e.1 ≡ false) (get_or_from_slice_get es i (name, d) (name, d) at) (h i (name, d) lt)
 
 pub others_more : (es : List Entry) (i : ℕ) (old new : List NameEdit) (edit : NameEdit) (name text : List ℕ) (d : Data) → i < length es → slice_get es i ≡ Some (name, d) → text ≡ data_text d → edit ≡ put_of name text → new ≡ old ++ edit ∷ [] → old ≡ map (λ e. put_of e.0 (data_text e.1)) (take i es) → new ≡ map (λ e. put_of e.0 (data_text e.1)) (take (i + 1) es)
 others_more es i old new edit name text d lt at said is step before =

@@ -1,20 +1,19 @@
 -- Objects of JSON that are put together member by member, and have no float.
-use Rattle.std.proofs.Common.{◌≡◌, ◌∙◌, ap, sym, ℕ, suc, ◌+◌, ◌<◌, ◌≤◌, List, [], ◌∷◌, ◌++◌, Option, Some, None, Bool, true, false, ◌||◌, Ordering, Less, Equal, Greater, refl, length, drop, take, map, get_or, arith}
+use Rattle.std.proofs.Common.{◌≡◌, ◌∙◌, ap, sym, ℕ, suc, ◌+◌, ◌<◌, ◌≤◌, List, [], ◌∷◌, Option, Some, None, Bool, true, false, ◌||◌, Ordering, Less, Equal, Greater, refl, length, drop, map, get_or, arith}
 use Rattle.std.specs.Prelude.{All, IfSome, codes, option_map, slice_get}
 use Rattle.std.specs.FinMap.{entries}
 use Rattle.std.specs.Ordering.{match_ordering, nat_cmp}
 use Rattle.std.specs.Cmp.Lexicographic.{slice_cmp}
 use Rattle.std.proofs.lemmas.Bool.{false≢true}
-use Rattle.std.proofs.lemmas.List.{at_drop_all, map-append, take_all, take_more}
+use Rattle.std.proofs.lemmas.List.{at_drop_all}
 use Rattle.std.proofs.lemmas.List.Elements.{All-head, All-tail}
 use Rattle.std.proofs.lemmas.Option.{get_or_from_slice_get}
 use Rattle.std.proofs.Math.Seq.{drop-cons}
 use Rattle.mb_metadata.specs.Inserting.{HasNoFloat, LayersHaveNoFloat}
 use Rattle.mb_metadata.specs.LayerJson.{as_it_is, layer_data, layers_data, put_some, texts_data, with_entries, zoom_data}
 use Rattle.serde_json.specs.Data.{Data, string, Members, no_members, member, put}
-use Rattle.serde_json.specs.View.{items_of, view}
+use Rattle.serde_json.specs.View.{items_of}
 use Rattle.serde_json.specs.Written.{has_float, items_have_float, members_have_float}
-use Rattle.serde_json.specs.declared.value.Value.{Value}
 use Rattle.tile_json.specs.declared.layer.VectorLayer.{VectorLayer}
 
 -- the entry at an index is put, and those behind it are left
@@ -31,19 +30,6 @@ entries_kept value es i old new all name v d lt at is step before =
 
 pub entries_end : {V : Type 0} (value : V → Data) (es : List (List ℕ × V)) (i : ℕ) (ms all : Members) → length es ≤ i → with_entries value ms (drop i es) ≡ all → ms ≡ all
 entries_end value es i ms all end h = sym (at_drop_all (with_entries value ms) es i end) ∙ h
-
--- the objects of layers, one more at the end
-pub layers_more : (layers : List VectorLayer) (i : ℕ) (old new : List Value) (v : Value) (l : VectorLayer) → i < length layers → get_or layers i l ≡ l → view v ≡ layer_data l → new ≡ old ++ v ∷ [] → map view old ≡ map layer_data (take i layers) → map view new ≡ map layer_data (take (i + 1) layers)
-layers_more layers i old new v l lt at is step before =
-    ap (map view) step
-    ∙ (map-append view old (v ∷ [])
-    ∙ (ap (λ xs. xs ++ view v ∷ []) before
-    ∙ (ap (λ d. map layer_data (take i layers) ++ d ∷ []) is
-    ∙ (sym (map-append layer_data (take i layers) (l ∷ []))
-    ∙ ap (map layer_data) (sym (take_more layers i l lt ∙ ap (λ x. take i layers ++ x ∷ []) at))))))
-
-pub layers_end : (layers : List VectorLayer) (i : ℕ) (vs : List Value) → length layers ≤ i → map view vs ≡ map layer_data (take i layers) → map view vs ≡ map layer_data layers
-layers_end layers i vs end h = h ∙ ap (map layer_data) (take_all i layers end)
 
 -- no float where none is put
 neither : (a b : Bool) → a ≡ false → b ≡ false → (a || b) ≡ false

@@ -1,6 +1,6 @@
 -- A set after edits of its metadata, and its tables after their commit.
 use Rattle.std.proofs.Common.{◌≡◌, ◌∙◌, ap, sym, subst, ℕ, List, [], ◌∷◌, Option, Some, None, Bool, true, false, ◌&&◌, ◌||◌, cond, not, filter, refl, is_some, get_or, length, take, Ok}
-use Rattle.std.specs.Prelude.{◌==◌, codes, option_and_then, option_map}
+use Rattle.std.specs.Prelude.{◌==◌, codes, option_and_then}
 use Rattle.std.specs.FinMap.{FinMap, contains_key, get, get-empty, get-insert, get-remove, insert}
 use Rattle.std.specs.Ordering.{nat_cmp}
 use Rattle.std.specs.Cmp.Lexicographic.{slice_cmp}
@@ -8,7 +8,6 @@ use Rattle.std.proofs.lemmas.Bool.{false≢true}
 use Rattle.std.proofs.lemmas.Cmp.{nat_list_cmp_total}
 use Rattle.std.proofs.lemmas.List.Folds.{list_any_none}
 use Rattle.mb_constraints.specs.Algorithm.{algorithm_by, unknown_name}
-use Rattle.mb_lists.specs.Entries.{text_cell}
 use Rattle.mb_lists.specs.Metadata.{Names, text_at}
 use Rattle.mb_load.proofs.CommitLemmas.{committed, names_stand}
 use Rattle.mb_load.proofs.EditedFrom.{from_removed_name, from_with_name}
@@ -42,11 +41,6 @@ use Rattle.mb_tables.specs.declared.key.RowKey.TheVariants.{Tile, TextId, IntId}
 use Rattle.mb_tables.specs.declared.table.TableName.{TableName}
 use Rattle.mb_tables.specs.declared.table.TableName.TheVariants.{Metadata}
 
--- a name that is there has a value
-pub there : (o : Option (Option (List ℕ))) (r : Option Cell) → r ≡ option_map text_cell o → is_some o ≡ is_some r
-there None r e = sym (ap is_some e)
-there (Some v) r e = sym (ap is_some e)
-
 -- one edit
 abbrev edit_made : Held → List ℕ → Option (List ℕ) → Held
 edit_made h name None = removed_name h name
@@ -55,17 +49,6 @@ edit_made h name (Some text) = with_name h name (Some text)
 made_first : (h : Held) (name : List ℕ) (text : Option (List ℕ)) (es : List NameEdit) → held_edited (edit_made h name text) es ≡ held_edited h (record { name = name; text = text } ∷ es)
 made_first h name None es = refl
 made_first h name (Some text) es = refl
-
--- a step of the code
-pub put_first : (h next : Held) (name text : List ℕ) (es : List NameEdit) → next ≡ with_name h name (Some text) → held_edited next es ≡ held_edited h (record { name = name; text = Some text } ∷ es)
-put_first h next name text es e = ap (λ (x : Held). held_edited x es) e
-
-pub removed_first : (h next : Held) (name : List ℕ) (es : List NameEdit) → next ≡ removed_name h name → held_edited next es ≡ held_edited h (record { name = name; text = None } ∷ es)
-removed_first h next name es e = ap (λ (x : Held). held_edited x es) e
-
--- no edit
-pub none_made : (h : Held) → held_edited h [] ≡ h
-none_made h = refl
 
 -- tables that a set was loaded from are so after edits
 from_made : (t : Tables) (h : Held) (name : List ℕ) (text : Option (List ℕ)) → IsLoadedFrom t h → IsLoadedFrom t (edit_made h name text)
@@ -203,22 +186,6 @@ edits_committed old new h next es value some was sound done =
 -- a list that isn't empty
 pub some_edits : (es : List NameEdit) (n : ℕ) (b : Bool) → length es ≡ n → b ≡ (n == 0) → b ≡ false → es ≡ [] → ⊥
 some_edits es n b counted test is none = false≢true (sym is ∙ (test ∙ ap (λ (m : ℕ). m == 0) (sym counted ∙ ap length none)))
-
--- where there is nothing to edit the tables are as they were
-from_fresh : (t : Tables) (h : Held) → IsFresh t h → IsLoadedFrom t (fresh h.state)
-from_fresh t h was = subst (λ (e : Edited). IsLoadedFrom t (record { state = h.state; edited = e })) was.clean was.from
-
-pub none_edited : (t : Tables) (h : Held) (es : List NameEdit) → es ≡ [] → IsFresh t h → AreEdited h.state es t t
-none_edited t h es none was = subst (λ (es : List NameEdit). AreEdited h.state es t t) (sym none) (record {
-  holds = from_fresh t h was;
-  again = λ _. was.loaded;
-  unnamed = λ _. was.loaded;
-  put = λ name e. absurd (false≢true e);
-  kept = refl;
-  others = λ table _. refl;
-  descriptions = refl;
-  idle = λ _. refl;
-})
 
 -- a set that was loaded from a store that a read leaves as it was
 pub is_fresh : (old new : Tables) (h : Held) → new ≡ old → Loads (state_of old) (Ok h) → IsLoadedFrom old h → IsFresh new h
