@@ -11,7 +11,7 @@ use Rattle.std.specs.FinMap.{contains_key, entries, entries_sorted, find, get, g
 use Rattle.std.specs.FinMap.Entries.{below_all}
 use Rattle.std.proofs.lemmas.Bool.{false≢true}
 use Rattle.std.proofs.lemmas.Cmp.{nat_list_cmp_total}
-use Rattle.std.proofs.lemmas.List.{map-append, take_all, take_more}
+use Rattle.std.proofs.lemmas.List.{map-append, take_more}
 use Rattle.std.proofs.lemmas.List.Elements.{All-append, All-cons, All-head, All-nil, All-tail}
 use Rattle.mb_insert.specs.Batch.{has_duplicates, place_in}
 use Rattle.mb_insert.specs.declared.new_tile.NewTile.{NewTile}
@@ -42,14 +42,6 @@ last_put scheme h (g ∷ gs) f = by (tile_of_file scheme g) (λ k. last_put sche
     by (Some t) rest = rest _
     by None rest = rest h
 
-pub none_read : (scheme : TileScheme) (shows : Bool) (told : Files) (paths : List (List ℕ)) (base now : Held) → now ≡ base → AreAllRead scheme shows told (take 0 paths) base now
-none_read scheme shows told paths base now e = record {
-  files = [];
-  of = refl;
-  read = λ _. All-nil (λ f. get told f.0 ≡ Some f.1);
-  put = e;
-}
-
 pub one_read : (scheme : TileScheme) (shows : Bool) (told : Files) (paths : List (List ℕ)) (i : ℕ) (path : List ℕ) (base old new : Held) → i < length paths → path ≡ get_or paths i path → AreAllRead scheme shows told (take i paths) base old → IsRead scheme shows told path old new → AreAllRead scheme shows told (take (i + 1) paths) base new
 one_read scheme shows told paths i path base old new lt at so step = record {
   files = so.files ++ (path, step.bytes) ∷ [];
@@ -59,14 +51,6 @@ one_read scheme shows told paths i path base old new lt at so step = record {
       ∙ sym (take_more paths i path lt ∙ ap (λ p. take i paths ++ p ∷ []) (sym at)));
   read = λ e. All-append (λ f. get told f.0 ≡ Some f.1) so.files ((path, step.bytes) ∷ []) (so.read e) (All-cons (λ f. get told f.0 ≡ Some f.1) (path, step.bytes) [] (step.read e) (All-nil (λ f. get told f.0 ≡ Some f.1)));
   put = step.put ∙ (ap (λ h. with_any h (tile_of_file scheme (path, step.bytes))) so.put ∙ sym (last_put scheme base so.files (path, step.bytes)));
-}
-
-pub all_read : (scheme : TileScheme) (shows : Bool) (told : Files) (paths : List (List ℕ)) (i : ℕ) (base now settled : Held) → length paths ≤ i → settled ≡ now → AreAllRead scheme shows told (take i paths) base now → AreAllRead scheme shows told paths base settled
-all_read scheme shows told paths i base now settled end same so = record {
-  files = so.files;
-  of = so.of ∙ take_all i paths end;
-  read = so.read;
-  put = same ∙ so.put;
 }
 
 -- the files of a tree's paths

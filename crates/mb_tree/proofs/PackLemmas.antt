@@ -35,7 +35,6 @@ use Rattle.mb_tables.specs.Kind.{is_normalized}
 use Rattle.mb_tables.specs.Refusals.{first_refusal, first_refused, unless}
 use Rattle.mb_tables.specs.Table.{Tables}
 use Rattle.mb_tables.specs.declared.cell.Cell.TheVariants.{Int, Text}
-use Rattle.mb_tables.specs.declared.error.MbtError.{MbtError}
 use Rattle.mb_tables.specs.declared.error.MbtError.TheVariants.{DuplicateValues, InconsistentTileFormats, InvalidTileIndex, UnsupportedFileExtension}
 use Rattle.mb_tables.specs.declared.kind.MbtType.TheVariants.{Flat}
 use Rattle.mb_tree.proofs.CountLemmas.{apart, twice}
@@ -137,14 +136,6 @@ packed_named scheme files h n = zooms_named (with_format (tiles_in h (batch_of s
 -- the tests of files, by their paths
 pub both_pass : (scheme : TileScheme) (paths : List (List ℕ)) (s : State) → first_refused (path_refused (first_format paths)) paths ≡ None → duplicates Abort s.tiles (batch_of scheme (empty_files paths)) ≡ None → may_pack scheme paths s ≡ None
 both_pass scheme paths s a b =
-    ap (λ o. option_or o (option_or (duplicates Abort s.tiles (batch_of scheme (empty_files paths))) None)) a
-    ∙ ap (λ o. option_or o None) b
-
-pub first_refuses : (scheme : TileScheme) (paths : List (List ℕ)) (s : State) (e : MbtError) → first_refused (path_refused (first_format paths)) paths ≡ Some e → may_pack scheme paths s ≡ Some e
-first_refuses scheme paths s e a = ap (λ o. option_or o (option_or (duplicates Abort s.tiles (batch_of scheme (empty_files paths))) None)) a
-
-pub second_refuses : (scheme : TileScheme) (paths : List (List ℕ)) (s : State) (e : MbtError) → first_refused (path_refused (first_format paths)) paths ≡ None → duplicates Abort s.tiles (batch_of scheme (empty_files paths)) ≡ Some e → may_pack scheme paths s ≡ Some e
-second_refuses scheme paths s e a b =
     ap (λ o. option_or o (option_or (duplicates Abort s.tiles (batch_of scheme (empty_files paths))) None)) a
     ∙ ap (λ o. option_or o None) b
 

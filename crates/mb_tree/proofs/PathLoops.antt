@@ -1,32 +1,10 @@
 -- Paths, one after another: the first format, and how many are those of tiles.
-use Rattle.std.proofs.Common.{◌≡◌, ◌∙◌, ap, sym, ℕ, ◌<◌, ◌≤◌, ◌+◌, ◌++◌, List, [], ◌∷◌, Option, Some, None, drop, filter_map, get_or, length, take, refl, suc, zero, arith, is_some, true, false}
-use Rattle.std.proofs.Math.Seq.{drop-cons}
+use Rattle.std.proofs.Common.{◌≡◌, ◌∙◌, ap, sym, ℕ, ◌<◌, ◌+◌, ◌++◌, List, [], ◌∷◌, Option, Some, None, filter_map, get_or, length, take, refl, arith, is_some, true, false}
 use Rattle.std.specs.List.{cons_option}
 use Rattle.std.proofs.lemmas.Bool.{false≢true}
-use Rattle.std.proofs.lemmas.List.{length-append, take_all, take_more}
-use Rattle.mb_tree.specs.Packing.{first_format, format_or}
+use Rattle.std.proofs.lemmas.List.{length-append, take_more}
 use Rattle.mb_tree.specs.TilePath.{tile_path}
 use Rattle.mb_tree.specs.declared.tile_path.TilePath.{TilePath}
-
-rest_at : (paths : List (List ℕ)) (i : ℕ) (path : List ℕ) → i < length paths → path ≡ get_or paths i path → drop i paths ≡ path ∷ drop (suc i) paths
-rest_at paths i path lt at = drop-cons paths i path lt ∙ ap (λ z. z ∷ drop (suc i) paths) (sym at)
-
-pub format_here : (paths : List (List ℕ)) (i : ℕ) (path : List ℕ) (t : TilePath) → i < length paths → path ≡ get_or paths i path → first_format paths ≡ first_format (drop i paths) → tile_path path ≡ Some t → first_format paths ≡ t.format
-format_here paths i path t lt at so is = so ∙ (ap first_format (rest_at paths i path lt at) ∙ ap (λ o. format_or o (first_format (drop (suc i) paths))) is)
-
-pub format_later : (paths : List (List ℕ)) (i : ℕ) (path : List ℕ) → i < length paths → path ≡ get_or paths i path → first_format paths ≡ first_format (drop i paths) → tile_path path ≡ None → first_format paths ≡ first_format (drop (i + 1) paths)
-format_later paths i path lt at so is =
-    let e : suc i ≡ i + 1 = omega arith in
-    so ∙ (ap first_format (rest_at paths i path lt at) ∙ (ap (λ o. format_or o (first_format (drop (suc i) paths))) is ∙ ap (λ n. first_format (drop n paths)) e))
-
-none_left : (paths : List (List ℕ)) (n : ℕ) → length paths ≤ n → drop n paths ≡ []
-none_left [] zero h = refl
-none_left [] (suc n) h = refl
-none_left (t ∷ ts) zero h = absurd (omega arith)
-none_left (t ∷ ts) (suc n) h = none_left ts n (omega arith)
-
-pub format_nowhere : (paths : List (List ℕ)) (i : ℕ) → length paths ≤ i → first_format paths ≡ first_format (drop i paths) → first_format paths ≡ None
-format_nowhere paths i end so = so ∙ ap first_format (none_left paths i end)
 
 -- one more path
 cons_join : (o : Option TilePath) (ts us : List TilePath) → cons_option o (ts ++ us) ≡ cons_option o ts ++ us
@@ -54,9 +32,6 @@ none_counted paths i count path lt at so is =
     let more = taken_more paths i path lt at in
     let none : length (cons_option (tile_path path) []) ≡ 0 = ap (λ o. length (cons_option o [])) is in
     omega (arith, more, none, so)
-
-pub all_counted : (paths : List (List ℕ)) (i count : ℕ) → length paths ≤ i → count ≡ length (filter_map tile_path (take i paths)) → count ≡ length (filter_map tile_path paths)
-all_counted paths i count end so = so ∙ ap (λ ps. length (filter_map tile_path ps)) (take_all i paths end)
 
 pub some_counted : (paths : List (List ℕ)) (i count : ℕ) (path : List ℕ) → i < length paths → path ≡ get_or paths i path → count ≡ length (filter_map tile_path (take i paths)) → is_some (tile_path path) ≡ true → count + 1 ≡ length (filter_map tile_path (take (i + 1) paths))
 some_counted paths i count path lt at so h = by (tile_path path) refl h

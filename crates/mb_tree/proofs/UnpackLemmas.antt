@@ -86,10 +86,6 @@ front_of f es i first now so = (
   so ∙ ap (written first) (sym (ap (take (length (filter_map f (take i es)))) (ap (filter_map f) (sym (join_back i es)) ∙ files_join f (take i es) (drop i es)) ∙ take_front (filter_map f (take i es)) (filter_map f (drop i es)))),
 )
 
-pub none_written : (f : Entry → Option File) (es : List Entry) (first now : Files) → now ≡ first → now ≡ written first (filter_map f (take 0 es))
-none_written f [] first now e = e
-none_written f (x ∷ xs) first now e = e
-
 -- a tree that nothing was written into
 nothing : (files : List File) (old new : Files) → new ≡ old → IsFront files old new
 nothing files old new e = (0, e ∙ ap (written old) (sym (none files)))
