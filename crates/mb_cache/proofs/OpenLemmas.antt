@@ -1,5 +1,5 @@
 -- What opening answers, and that the entries of rows that were read agree with their tables.
-use Rattle.std.proofs.Common.{◌≡◌, ◌∙◌, ap, sym, subst, refl, ◌&&◌, ◌||◌, Bool, true, false, not, cond, List, [], ◌∷◌, Option, Some, None, Result, Ok, Err}
+use Rattle.std.proofs.Common.{◌≡◌, ◌∙◌, ap, sym, subst, refl, ◌||◌, Bool, true, false, cond, List, [], ◌∷◌, Option, Some, None, Result, Ok, Err}
 use Rattle.std.specs.Prelude.{IfOk}
 use Rattle.std.specs.List.{list_any}
 use Rattle.std.specs.Option.{option_or}
@@ -23,7 +23,6 @@ use Rattle.mb_tables.specs.declared.error.MbtError.{MbtError}
 use Rattle.mb_tables.specs.declared.error.MbtError.TheVariants.{InvalidDataFormat, NoUniquenessConstraint, NotACacheFile}
 use Rattle.mb_tables.specs.declared.kind.MbtType.{MbtType}
 use Rattle.mb_tables.specs.declared.kind.MbtType.TheVariants.{Flat, FlatWithHash, Normalized, Cache}
-use Rattle.mb_tables.specs.declared.kind.NormalizedSchema.TheVariants.{Hash, DedupId}
 use Rattle.mb_tables.specs.declared.table.TableName.TheVariants.{Metadata, TileCache}
 
 -- the tables that opening begins with are those of a cache
@@ -48,15 +47,6 @@ begun_may ds h = by (may_begin ds) refl h
     by true e h = e
     by false e h = cc
 
--- whether the cache is the first layout, by the tests of all layouts
-pub first_layout : (normalized dedup : Bool) (hashed flat cache view : Bool) → is_cache_layout (cond normalized (Some (Normalized view Hash)) (cond dedup (Some (Normalized false DedupId)) (cond hashed (Some FlatWithHash) (cond flat (Some Flat) (cond cache (Some Cache) None))))) ≡ (not normalized && (not dedup && (not hashed && (not flat && cache))))
-first_layout true dedup hashed flat cache view = refl
-first_layout false true hashed flat cache view = refl
-first_layout false false true flat cache view = refl
-first_layout false false false true cache view = refl
-first_layout false false false false true view = refl
-first_layout false false false false false view = refl
-
 -- tables of a cache open as they load
 pub is_cache : (o : Option MbtType) → is_cache_layout o ≡ true → o ≡ Some Cache
 is_cache (Some Cache) h = refl
@@ -80,10 +70,6 @@ cache_opens t layout = by t.descriptions refl
         let bare : is_bare t.descriptions ≡ false = ap is_bare e in
         let may : may_begin t.descriptions ≡ true = ap (λ b. b || is_cache_layout (layout_of t.descriptions)) bare ∙ ap is_cache_layout layout in
         loads_first t t (ap (λ (b : Bool). cond b (Ok tt) (Err NotACacheFile)) may) (sym (ap (λ (b : Bool). cond b (created t (set_tables Cache)) t) bare))
-
--- what opening answers where it begins, and then loads
-pub refused_first : (t : Tables) (e : MbtError) → Answers (begin_answer t.descriptions) (Err e) → Answers (open_answer t) (Err e)
-refused_first t e h free = ap (λ r. then r (λ _. then (state_of (begun_with t)) (λ _. Ok tt))) (h free)
 
 pub opened_as : (t u : Tables) (r : Result (List Entry) MbtError) → begin_answer t.descriptions ≡ Ok tt → u ≡ begun_with t → OpensAs u r → Answers (open_answer t) (done r)
 opened_as t u r first same opened = by r opened

@@ -17,11 +17,9 @@ use Rattle.mb_lists.specs.Entries.{text_cell}
 use Rattle.mb_load.proofs.KeyReading.{alone_under, key_of_place}
 use Rattle.mb_load.specs.Changing.{tile_key}
 use Rattle.mb_load.specs.LoadedFrom.{IsOnBoard}
-use Rattle.mb_tables.proofs.CellLemmas.{cells_eq-Decides}
 use Rattle.mb_tables.proofs.TileLemmas.{places_total}
 use Rattle.mb_tables.specs.CellKinds.{is_number, is_text}
-use Rattle.mb_tables.specs.Key.{clash, has_key, key_cells}
-use Rattle.mb_tables.specs.Table.{key_of}
+use Rattle.mb_tables.specs.Key.{clash, has_key}
 use Rattle.mb_tables.specs.Tiles.{Place, cell_at, contents_of, place_cmp, place_of, tile_of}
 use Rattle.mb_tables.specs.declared.cell.Cell.{Cell}
 use Rattle.mb_tables.specs.declared.kind.MbtType.TheVariants.{Cache}
@@ -80,9 +78,6 @@ entry_elsewhere p e b rows at good = any_filter (λ row. eq_by_cmp entry_cmp e (
 module _ (p : Place) (board : IsOnBoard p) (m : CacheEntryMeta) (contents : Cell) where
   in_board : place_of (meta_row p m contents) ≡ Some p
   in_board = rw (lt-ltb p.zoom 31 board.zoom, lt-ltb p.column (2 ^ p.zoom) board.column, lt-ltb p.row (2 ^ p.zoom) board.row) refl
-
-  pub put_key : has_key TileCache (tile_key p) (meta_row p m contents) ≡ true
-  put_key = (cells_eq-Decides (key_of TileCache (meta_row p m contents)) (key_cells (tile_key p))).1 refl
 
   pub put_place : row_place (meta_row p m contents) ≡ p
   put_place = ap (λ o. unwrap_or o (record { zoom = 0; column = 0; row = 0 })) in_board

@@ -120,8 +120,5 @@ entries_held rows tiles (Err e) sees ok = tt
 pub tiles_left : (metadata rows : List (List Cell)) → tile_kind_wrong Cache rows ≡ None → names_refused metadata ≡ None → tiles_refused rows ≡ row_refusal metadata rows
 tiles_left metadata rows kinds names = sym (by_parts metadata rows ∙ (ap (λ o. option_or o (option_or (names_refused metadata) (tiles_refused rows))) kinds ∙ ap (λ o. option_or o (tiles_refused rows)) names))
 
-pub names_left : (metadata rows : List (List Cell)) → tile_kind_wrong Cache rows ≡ None → row_refusal metadata rows ≡ option_or (names_refused metadata) (tiles_refused rows)
-names_left metadata rows kinds = by_parts metadata rows ∙ ap (λ o. option_or o (option_or (names_refused metadata) (tiles_refused rows))) kinds
-
 pub kinds_first : (metadata rows : List (List Cell)) (e : MbtError) → tile_kind_wrong Cache rows ≡ Some e → row_refusal metadata rows ≡ Some e
 kinds_first metadata rows e wrong = by_parts metadata rows ∙ ap (λ o. option_or o (option_or (names_refused metadata) (tiles_refused rows))) wrong

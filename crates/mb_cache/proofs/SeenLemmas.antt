@@ -1,6 +1,6 @@
 -- What rows of a cache come to with one row more, and with one page more.
-use Rattle.std.proofs.Common.{◌≡◌, ◌∙◌, ap, sym, refl, subst, ℕ, ◌+◌, ◌<◌, ◌&&◌, ◌||◌, ◌++◌, Bool, true, false, not, cond, List, [], ◌∷◌, Option, Some, None, Result, Ok, Err, map, is_some, unwrap_or, get_or, length, take}
-use Rattle.std.specs.Prelude.{OnOk, option_map}
+use Rattle.std.proofs.Common.{◌≡◌, ◌∙◌, ap, sym, refl, subst, ℕ, ◌+◌, ◌<◌, ◌&&◌, ◌||◌, ◌++◌, Bool, true, false, not, cond, List, [], ◌∷◌, Option, Some, None, Result, Ok, Err, map, is_some, get_or, length, take}
+use Rattle.std.specs.Prelude.{OnOk}
 use Rattle.std.specs.declared.cmp.Ordering.{Ordering}
 use Rattle.std.specs.Cmp.{IsEquivalence, IsTotalOrder, eq_by_cmp_equiv, nat_cmp_total}
 use Rattle.std.specs.List.{list_all, list_any}
@@ -13,28 +13,22 @@ use Rattle.std.proofs.lemmas.List.{append_assoc, map-append, take_more}
 use Rattle.std.proofs.lemmas.List.Folds.{list_all-append, list_any-append}
 use Rattle.std.proofs.lemmas.Option.{none-some, slice_get-get_or}
 use Rattle.mb_cache.proofs.EntryLemmas.{equal_entries}
-use Rattle.mb_cache.specs.Entries.{entry_of, has_entry, row_place}
+use Rattle.mb_cache.specs.Entries.{entry_of, has_entry}
 use Rattle.mb_cache.specs.EntryOrder.{entry_cmp}
 use Rattle.mb_cache.specs.Seen.{SeesRows, SeesTiles, spot_cmp, spot_of}
 use Rattle.mb_cache.specs.declared.entries.Entry.{Entry}
 use Rattle.mb_cache.specs.declared.seen_rows.SeenRows.{SeenRows}
 use Rattle.mb_cache.specs.declared.seen_tiles.SeenTiles.{SeenTiles}
-use Rattle.mb_constraints.proofs.TileRowLemmas.{tile_parts}
 use Rattle.mb_constraints.proofs.TilesKept.{passed}
 use Rattle.mb_constraints.specs.TileRows.{bad_tile, tile_bad}
-use Rattle.mb_lists.proofs.PlaceLemmas.{place_is}
-use Rattle.mb_lists.specs.Entries.{place_at}
-use Rattle.mb_lists.specs.FromRows.{coord_in}
 use Rattle.mb_lists.specs.Keyed.{are_distinct}
 use Rattle.mb_load.proofs.RowsPass.{holds}
 use Rattle.mb_tables.specs.CellKinds.{has_tile_kinds, tile_kind_wrong}
 use Rattle.mb_tables.specs.Refusals.{first_refused, unless}
-use Rattle.mb_tables.specs.Tiles.{cell_at, contents_of}
 use Rattle.mb_tables.specs.declared.cell.Cell.{Cell}
 use Rattle.mb_tables.specs.declared.error.MbtError.{MbtError}
 use Rattle.mb_tables.specs.declared.error.MbtError.TheVariants.{InvalidDataFormat}
 use Rattle.mb_tables.specs.declared.kind.MbtType.TheVariants.{Cache}
-use Rattle.tile_ids.specs.Coord.{Coord}
 
 abbrev Rows : Type 0
 Rows = List (List Cell)
@@ -99,13 +93,6 @@ pub tiles_next : (xs : Rows) (i : ℕ) (x : List Cell) (start old new : SeenTile
 tiles_next xs i x start old new lt at was step before sees =
     let next : (before ++ take i xs) ++ x ∷ [] ≡ before ++ take (i + 1) xs = append_assoc before (take i xs) (x ∷ []) ∙ ap (λ l. before ++ l) (ap (λ y. take i xs ++ y ∷ []) at ∙ sym (take_more xs i x lt)) in
     subst (λ l. SeesTiles l new) next (step (before ++ take i xs) (was before sees))
-
--- a row with a coordinate has its place, and a row that isn't bad has one
-pub row_at_coord : (row : List Cell) (c : Coord) → coord_in row ≡ Some c → row_place row ≡ place_at c
-row_at_coord row c h = ap (λ o. unwrap_or o (record { zoom = 0; column = 0; row = 0 })) (sym (place_is row) ∙ ap (option_map place_at) h)
-
-pub has_coord : (row : List Cell) → bad_tile Cache [] row ≡ None → coord_in row ≡ None → ⊥
-has_coord row good none = false≢true (sym (tile_parts row (cell_at 6 row) ∙ ap (λ o. is_some o && is_some (contents_of (cell_at 6 row))) none) ∙ holds _ _ good)
 
 -- the first refusal of two lists, one after the other
 pub refused_more : {A : Type 0} (test : A → Option MbtError) (xs ys : List A) → first_refused test (xs ++ ys) ≡ option_or (first_refused test xs) (first_refused test ys)

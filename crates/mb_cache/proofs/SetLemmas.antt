@@ -1,5 +1,5 @@
 -- The tables of a cache load, and load again where rows of tiles alone were changed.
-use Rattle.std.proofs.Common.{◌≡◌, ◌∙◌, ap, sym, subst, refl, ◌||◌, Bool, true, false, cond, List, [], ◌∷◌, Option, Some, None, Result, Ok, Err, get_or}
+use Rattle.std.proofs.Common.{◌≡◌, ◌∙◌, ap, sym, subst, refl, ◌||◌, Bool, true, false, cond, List, [], ◌∷◌, Option, Some, None, Ok, Err, get_or}
 use Rattle.std.specs.Prelude.{All}
 use Rattle.std.specs.Option.{option_or}
 use Rattle.std.proofs.lemmas.List.Elements.{All-nil}
@@ -14,8 +14,8 @@ use Rattle.mb_constraints.specs.Hashes.{wrong_content_hash}
 use Rattle.mb_constraints.specs.TileRows.{bad_tile}
 use Rattle.mb_lists.specs.Contents.{are_apart, fronts}
 use Rattle.mb_load.proofs.RowsPass.{ArePassing, pass_all, passing}
-use Rattle.mb_load.specs.LoadingOrder.{refusals, row_refusals}
-use Rattle.mb_load.specs.State.{State, held_in, state_of, stated, unless_refused}
+use Rattle.mb_load.specs.LoadingOrder.{row_refusals}
+use Rattle.mb_load.specs.State.{held_in, state_of, stated, unless_refused}
 use Rattle.mb_store.specs.Store.{IsSound, created}
 use Rattle.mb_tables.specs.CellKinds.{has_name_kinds}
 use Rattle.mb_tables.specs.Described.{is_keyed, is_table}
@@ -23,29 +23,17 @@ use Rattle.mb_tables.specs.Detection.{layout_of}
 use Rattle.mb_tables.specs.Refusals.{first_refusal, then, unless}
 use Rattle.mb_tables.specs.Schema.{set_tables}
 use Rattle.mb_tables.specs.Table.{Tables}
-use Rattle.mb_tables.specs.Tiles.{cell_at, tile_of}
+use Rattle.mb_tables.specs.Tiles.{cell_at}
 use Rattle.mb_tables.specs.declared.cell.Cell.{Cell}
 use Rattle.mb_tables.specs.declared.description.TableDesc.{TableDesc}
 use Rattle.mb_tables.specs.declared.error.MbtError.{MbtError}
 use Rattle.mb_tables.specs.declared.error.MbtError.TheVariants.{InvalidTileIndex, NotACacheFile}
-use Rattle.mb_tables.specs.declared.kind.MbtType.{MbtType}
 use Rattle.mb_tables.specs.declared.kind.MbtType.TheVariants.{Cache}
 use Rattle.mb_tables.specs.declared.table.TableName.TheVariants.{Metadata, TileCache}
 
 both_none : (a b : Option MbtError) → option_or a b ≡ None → (a ≡ None) × (b ≡ None)
 both_none (Some x) b h = cc
 both_none None b h = (refl, h)
-
--- tables that loaded as a set of the layout Cache
-pub set_loaded : (t : Tables) (s : State) → layout_of t.descriptions ≡ Some Cache → state_of t ≡ Ok s → IsCacheSet t
-set_loaded t s layout loaded = record { layout = layout; passes = by (first_refusal (refusals Cache t)) refl (sym (ap (λ o. stated o t) layout) ∙ loaded) }
-  where
-    by : (r : Option MbtError) → first_refusal (refusals Cache t) ≡ r → unless_refused Cache t (first_refusal (refusals Cache t)) ≡ Ok s → first_refusal (refusals Cache t) ≡ None
-    by None e h = e
-    by (Some refusal) e h = absurd (not_ok (sym (ap (unless_refused Cache t) e) ∙ h))
-      where
-        not_ok : ◌≡◌ {A = Result State MbtError} (Err refusal) (Ok s) → ⊥
-        not_ok f = cc
 
 module _ (t u : Tables) (set : IsCacheSet t) (described : u.descriptions ≡ t.descriptions) (named : u.rows Metadata ≡ t.rows Metadata) (sound : IsSound u) (keyed : is_keyed u.descriptions TileCache ≡ true) (good : All IsCacheRow (u.rows TileCache)) where
   refused : (option_or (metadata_missing t.descriptions) (option_or (index_missing t.descriptions Cache) (first_refusal (row_refusals Cache (t.rows Metadata) [] (t.rows TileCache)))) ≡ None)
