@@ -40,9 +40,6 @@ with_cons s q e es = by (size_at q e)
 pub record AreTaken (first sizes : List Sizes) (es : List Entry) (i : ℕ) : Type 0 where
   pub taken : (q : ℕ) → q < 32 → with_sizes (get_or sizes q no_sizes) (sizes_at q (drop i es)) ≡ with_sizes (get_or first q no_sizes) (sizes_at q es)
 
-pub none_taken : (first : List Sizes) (es : List Entry) → AreTaken first first es 0
-none_taken first es = record { taken = λ q _. refl }
-
 pub one_taken : (first old new : List Sizes) (es : List Entry) (i : ℕ) → i < length es → IfSome (slice_get es i) (λ e. (q : ℕ) → q < 32 → get_or new q no_sizes ≡ with_tile (get_or old q no_sizes) (size_at q e)) → AreTaken first old es i → AreTaken first new es (i + 1)
 one_taken first old new es i within step a = record { taken = λ q lt. by (slice_get es i) refl step q lt }
   where
