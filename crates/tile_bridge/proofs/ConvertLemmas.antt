@@ -1,10 +1,9 @@
 -- What a conversion owes: the archive of the adds is that of the set.
-use Rattle.std.proofs.Common.{◌≡◌, inl, inr, ℕ, ◌≤◌, ◌<◌, ◌^◌, true, false, List, [], ◌∷◌, length, map, Option, Some, None, is_some, IfSome, Ok, Err, refl, sym, subst, ◌∙◌, ap, arith}
+use Rattle.std.proofs.Common.{◌≡◌, inl, inr, ℕ, ◌<◌, ◌^◌, true, false, List, [], ◌∷◌, length, map, Option, Some, None, is_some, IfSome, Ok, Err, refl, sym, subst, ◌∙◌, ap, arith}
 use Rattle.std.specs.Cmp.{nat_cmp_total}
 use Rattle.std.specs.Ordering.{nat_cmp}
 use Rattle.std.specs.FinMap.{find, from_entries, get, get-from_entries}
 use Rattle.tile_ids.specs.Coord.{Coord}
-use Rattle.base_values.specs.Counts.{Rose}
 use Rattle.tile_ids.specs.Hilbert.{id_of}
 use Rattle.mb_tables.specs.Tiles.{TileSet}
 use Rattle.pm_format.specs.LookUp.{archive_map}
@@ -26,7 +25,7 @@ use Rattle.tile_bridge.specs.Adds.{AreAddsOf}
 use Rattle.tile_bridge.specs.Convert.{IsArchiveOf, IsConverted, SetCauses, SetLeaves, ShowsNoPart}
 use Rattle.tile_bridge.specs.Outcome.{overflows}
 use Rattle.tile_bridge.specs.ReadingBack.{IsHindered, ReadBackCauses, of_read_error}
-use Rattle.tile_bridge.specs.Writing.{CanBeWritten, of_write_error}
+use Rattle.tile_bridge.specs.Writing.{CanBeWritten}
 use Rattle.pm_format.specs.declared.error.PmtError.{PmtError}
 use Rattle.pm_format.specs.declared.error.PmtError.TheVariants as errors
 use Rattle.tile_bridge.specs.declared.error.ConvertError.{ConvertError}
@@ -119,20 +118,3 @@ module _ (o : Options) (adds : List (ℕ × List ℕ)) (can : CanBeWritten o add
       by_told None new same is h = untold e cause
       by_told (Some a) None same is h = absurd (cc)
       by_told (Some a) (Some b) same is h = told e a (h o (formed b is))
-
--- a refusal of the writer
-pub write_refused : (e : PmtError) (x : ConvertError) (told : Option (List ℕ)) → x ≡ of_write_error e → SetCauses told (Err x)
-write_refused e x told is = subst (λ x. SetCauses told (Err x)) (sym is) (by_case e)
-  where
-    by_case : (e : PmtError) → SetCauses told (Err (of_write_error e))
-    by_case errors.OutOfMemory = tt
-    by_case _ = tt
-
--- the fault of a reader after a writer
-pub read_fault : (start before now : ℕ) (e : PmtError) (x : ConvertError) → x ≡ of_read_error e → start ≤ before → ReadBackCauses {A = Unit {0}} before now (Err e) → x ≡ refusals.MediumFault → Rose start now
-read_fault start before now e x is order cause fault = by_case e cause (sym is ∙ fault)
-  where
-    by_case : (e : PmtError) → ReadBackCauses {A = Unit {0}} before now (Err e) → of_read_error e ≡ refusals.MediumFault → Rose start now
-    by_case errors.OutOfMemory c same = absurd (cc)
-    by_case (errors.Reading causes.Fault) c same = omega (arith, order, c)
-    by_case _ c same = absurd (cc)

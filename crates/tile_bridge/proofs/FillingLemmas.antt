@@ -55,9 +55,6 @@ bytes_read tiles index c cell low h =
     let e = entry_read tiles index c cell low h in
     cell_has e.entry.1 cell e.cell ∙ sym (ap (λ o. unwrap_or (option_map (λ e. bytes_of e.1) o) []) e.there)
 
-pub none_filled : (tiles : TileSet) → AreFilled tiles [] 0
-none_filled tiles = record { shown = refl; within = All-nil (λ a. a.index < len tiles); ranged = tt }
-
 ranged_more : (es : Pairs) (e : Place × Option (List ℕ)) → Ranged es → InRange e.0 → Ranged (es ++ e ∷ [])
 ranged_more [] e h at = (at, tt)
 ranged_more (f ∷ es) e h at = (h.0, ranged_more es e h.1 at)

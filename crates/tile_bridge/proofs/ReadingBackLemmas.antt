@@ -1,13 +1,11 @@
 -- Reading the archive back that was written.
-use Rattle.std.proofs.Common.{◌≡◌, ℕ, ◌+◌, ◌<◌, ◌≤◌, Bool, true, cond, List, [], ◌∷◌, ◌++◌, length, get_or, map, take, nat_le, Option, None, Some, IfSome, Result, Ok, Err, IsErrAnd, sym, subst, ◌∙◌, ap, arith}
+use Rattle.std.proofs.Common.{◌≡◌, ℕ, ◌+◌, ◌<◌, ◌≤◌, Bool, true, List, [], ◌∷◌, ◌++◌, length, get_or, map, take, Option, None, Some, IfSome, Result, Ok, Err, IsErrAnd, sym, subst, ◌∙◌, ap, arith}
 use Rattle.std.specs.Prelude.{IsOk}
-use Rattle.std.proofs.lemmas.Bool.Decides.{nat_tests}
 use Rattle.std.proofs.lemmas.List.{map-append, take_all, take_more}
 use Rattle.byte_media.specs.Kept.{ReadsOnly}
-use Rattle.tile_ids.specs.declared.id.TheConstants.{MAX_TILE_ID}
 use Rattle.tile_ids.specs.Coord.{Coord}
 use Rattle.tile_ids.specs.Hilbert.{id_of}
-use Rattle.pm_format.specs.LookUp.{archive_map, archive_tile, filled}
+use Rattle.pm_format.specs.LookUp.{archive_map}
 use Rattle.pm_format.specs.Options.{Options}
 use Rattle.pm_format.specs.Sound.{Sound}
 use Rattle.pm_format.specs.WellFormed.{WellFormed, header_of}
@@ -16,65 +14,21 @@ use Rattle.pm_format.specs.declared.error.PmtError.TheVariants as errors
 use Rattle.pm_format.specs.declared.error.ReadCause.TheVariants as causes
 use Rattle.pm_reader.proofs.SoundTileLemmas.{sound_tile}
 use Rattle.pm_reader.proofs.OneLengthLemmas.{cacheable}
-use Rattle.pm_reader.specs.Answers.{LookUpCauses}
 use Rattle.pm_reader.specs.Archives.{UsesOneLength}
 use Rattle.pm_reader.specs.Caches.{Held}
-use Rattle.pm_reader.specs.Opening.{OpenAnswers, OpenCauses}
 use Rattle.pm_reader.specs.ReadsFrom.{ReadsFrom}
 use Rattle.pm_reader.specs.declared.state.ReaderState.{ReaderState}
-use Rattle.tile_bridge.specs.ReadingBack.{GivesTile, GrewFrom, IsHindered, ReadBackCauses, ReadsAnswers, answered, answered_by}
+use Rattle.tile_bridge.specs.ReadingBack.{GivesTile, GrewFrom, IsHindered, ReadsAnswers, answered, answered_by}
 
 -- a well-formed archive is sound
 pub is_sound : (b : List ℕ) (o : Options) (clustered : Bool) → WellFormed b o clustered → Sound b
 is_sound b o clustered w = record { found = (header_of o clustered w.0, w.0.root); opens = w.1.opens; root = w.1.sound }
-
--- a refused opening, told or not
-pub open_cause : {A : Type 0} (start now : ℕ) (e : PmtError) (r : Result A PmtError) → OpenCauses {A = ReaderState} start now (Err e) → IsErrAnd r (λ x. x ≡ e) → ReadBackCauses {A = A} start now r
-open_cause start now e (Ok x) cause is = tt
-open_cause start now e (Err x) cause is = subst (λ x. ReadBackCauses {A = ReaderState} start now (Err x)) (sym is) (by_case e cause)
-  where
-    by_case : (e : PmtError) → OpenCauses {A = ReaderState} start now (Err e) → ReadBackCauses {A = ReaderState} start now (Err e)
-    by_case errors.OutOfMemory c = tt
-    by_case (errors.Reading causes.Fault) c = c
-    by_case errors.InvalidEntry c = tt
-    by_case errors.InvalidHeader c = tt
-    by_case errors.InvalidMagicNumber c = tt
-    by_case errors.UnsupportedPmTilesVersion c = tt
-    by_case errors.InvalidCompression c = tt
-    by_case errors.InvalidTileType c = tt
-    by_case (errors.UnsupportedCompression label) c = tt
-    by_case _ c = absurd c
-
--- a refused look-up, told or not
-pub look_up_cause : {A : Type 0} (start before now : ℕ) (e : PmtError) (r : Result A PmtError) → start ≤ before → LookUpCauses {A = Option (List ℕ)} before now (Err e) → IsErrAnd r (λ x. x ≡ e) → ReadBackCauses {A = A} start now r
-look_up_cause start before now e (Ok x) order cause is = tt
-look_up_cause start before now e (Err x) order cause is = subst (λ x. ReadBackCauses {A = ReaderState} start now (Err x)) (sym is) (by_case e cause)
-  where
-    by_case : (e : PmtError) → LookUpCauses {A = Option (List ℕ)} before now (Err e) → ReadBackCauses {A = ReaderState} start now (Err e)
-    by_case errors.OutOfMemory c = tt
-    by_case (errors.Reading causes.Fault) c = omega (arith, order, c)
-    by_case errors.InvalidEntry c = tt
-    by_case (errors.Reading causes.PastEnd) c = tt
-    by_case (errors.UnexpectedNumberOfBytesReturned asked got) c = c
-    by_case _ c = absurd c
-
--- bytes that open are refused for want of memory or a fault alone
-pub open_hindered : (b : List ℕ) (e : PmtError) → Sound b → OpenAnswers b (Err e) → IsHindered e
-open_hindered b errors.OutOfMemory s h = tt
-open_hindered b (errors.Reading causes.Fault) s h = tt
-open_hindered b e s h = absurd (let no : Err e ≡ Ok s.found = sym h ∙ s.opens in cc)
 
 -- so are look-ups in a sound archive
 pub tile_hindered : (b : List ℕ) (t : ℕ) (e : PmtError) → Sound b → GivesTile b t (Err e) → IsHindered e
 tile_hindered b t errors.OutOfMemory s h = tt
 tile_hindered b t (errors.Reading causes.Fault) s h = tt
 tile_hindered b t e s h = absurd (let no : IsOk {T = Option (List ℕ)} {E = PmtError} (Err e) = subst IsOk h (sound_tile b t s) in cc)
-
--- the tile that a look-up found
-pub tile_given : (b : List ℕ) (t : ℕ) (found tile : Option (List ℕ)) → t ≤ MAX_TILE_ID → archive_tile b t ≡ Ok found → tile ≡ filled (Ok found) → tile ≡ archive_map b t
-tile_given b t found tile low is same =
-    let within : nat_le t MAX_TILE_ID ≡ true = grind (arith, nat_tests) in
-    same ∙ sym (ap filled is) ∙ sym (ap (λ test. cond test (filled (archive_tile b t)) None) within)
 
 -- after so many coordinates
 pub record SoFar {B V : Type 0} (told : B → Option (List ℕ)) (texts : B → V) (count failed : B → ℕ) (steady : B → Type 0) (s : ReaderState) (x y : B) (held : Held) (coords : List Coord) (n : ℕ) (tiles : List (Option (List ℕ))) : Type 0 where
@@ -112,10 +66,6 @@ hindered_answers (Some b) coords e (Err x) h is = λ o formed. subst IsHindered 
 pub memory_answers : (told : Option (List ℕ)) (coords : List Coord) (r : Result (List (Option (List ℕ))) PmtError) → IsErrAnd r (λ x. x ≡ errors.OutOfMemory) → IfSome told (λ b. (o : Options) → WellFormed b o true → ReadsAnswers b coords r)
 memory_answers None coords r is = tt
 memory_answers (Some b) coords r is = hindered_answers (Some b) coords errors.OutOfMemory r (λ o formed. tt) is
-
-pub open_answers : (told : Option (List ℕ)) (coords : List Coord) (e : PmtError) (r : Result (List (Option (List ℕ))) PmtError) → IfSome told (λ b. OpenAnswers b (Err e)) → IsErrAnd r (λ x. x ≡ e) → IfSome told (λ b. (o : Options) → WellFormed b o true → ReadsAnswers b coords r)
-open_answers None coords e r h is = tt
-open_answers (Some b) coords e r h is = hindered_answers (Some b) coords e r (λ o formed. open_hindered b e (is_sound b o true formed) h) is
 
 pub tile_answers : (told again : Option (List ℕ)) (coords : List Coord) (t : ℕ) (e : PmtError) (r : Result (List (Option (List ℕ))) PmtError) → again ≡ told → IfSome again (λ b. UsesOneLength b → GivesTile b t (Err e)) → IsErrAnd r (λ x. x ≡ e)
     → IfSome told (λ b. (o : Options) → WellFormed b o true → ReadsAnswers b coords r)

@@ -71,9 +71,6 @@ module _ (tiles : TileSet) (n total : ℕ) (bytes : List ℕ) (low : n < len til
       below : length bytes < 2 ^ 32 → nat_le (2 ^ 32) (length bytes) ≡ false
       below h = grind (arith, nat_tests)
 
-pub none_counted : (tiles : TileSet) → IsCounted tiles 0 0
-none_counted tiles = record { long = refl; sum = omega arith; low = omega arith }
-
 pub many : (tiles : TileSet) → 2 ^ 32 ≤ len tiles → overflows tiles ≡ true
 many tiles h = or_true (long_from (entries tiles)) _ (ap (λ b. b || nat_le (2 ^ 60) (total_from (entries tiles))) (at_least (omega (arith, h, len-entries tiles))))
   where
