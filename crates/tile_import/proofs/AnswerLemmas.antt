@@ -2,7 +2,6 @@
 use Rattle.std.proofs.Common.{◌≡◌, ◌∙◌, ℕ, Bool, true, false, List, Option, Some, None, IfSome, Result, Ok, Err, refl, ap, sym, subst}
 use Rattle.std.proofs.lemmas.Bool.{true≢false}
 use Rattle.std.specs.FinMap.{len}
-use Rattle.base_values.specs.Counts.{Rose}
 use Rattle.mb_edit.specs.Put.{may_put}
 use Rattle.mb_load.specs.Begun.{IsBegun, begun}
 use Rattle.mb_load.specs.LoadedFrom.{is_editable}
@@ -14,7 +13,7 @@ use Rattle.mb_tables.specs.Tiles.{TileSet}
 use Rattle.mb_tables.specs.declared.error.MbtError.{MbtError}
 use Rattle.mb_tables.specs.declared.error.MbtError.TheVariants as stores
 use Rattle.tile_import.proofs.RefusalLemmas.{something_read}
-use Rattle.tile_import.specs.Import.{ImportCauses, IsAnswered, ReadCauses, editable_due, found_due, import_due, of_store_error, put_due}
+use Rattle.tile_import.specs.Import.{IsAnswered, editable_due, found_due, import_due, of_store_error, put_due}
 use Rattle.tile_import.specs.Refusals.{IsRead, Reads, is_free}
 use Rattle.tile_import.specs.Tiles.{HasTilesOf}
 use Rattle.tile_import.specs.Storing.{editable, unless_numbered}
@@ -133,13 +132,3 @@ loaded_state tells store base began is = subst (λ (t : Tables). state_of t ≡ 
 pub are_tiles : (told : Option (List ℕ)) (most : ℕ) (tiles : TileSet) → IfSome told (λ b. Reads most b (Ok tiles)) → IfSome told (λ b. HasTilesOf b tiles)
 are_tiles None most tiles is = tt
 are_tiles (Some b) most tiles is = is.1
-
--- why: of the store, and of the archive
-pub store_causes : (most before now old new : ℕ) (e : MbtError) → (e ≡ stores.StoreFault → Rose old new) → ImportCauses most before now old new (Err (of_store_error e))
-store_causes most before now old new stores.OutOfMemory fault = tt
-store_causes most before now old new stores.StoreFault fault = fault refl
-store_causes most before now old new e fault = tt
-
-pub read_causes : (most before now old new : ℕ) (e : ImportError) → ReadCauses most before now e → ImportCauses most before now old new (Err e)
-read_causes most before now old new (Store e) c = absurd c
-read_causes most before now old new e c = c

@@ -1,7 +1,6 @@
 -- What a set has after the same bytes were put at the places of ids.
-use Rattle.std.proofs.Common.{◌≡◌, ◌≢◌, ◌∙◌, ◌⊎◌, inl, inr, ◌+◌, ◌≤◌, ◌<◌, ℕ, zero, suc, Bool, true, false, ◌&&◌, ◌||◌, nat_le, nat_lt, List, [], ◌∷◌, ◌++◌, map, Option, Some, OnOk, Result, Ok, Err, cond, is_some, refl, ap, sym, subst, arith}
+use Rattle.std.proofs.Common.{◌≡◌, ◌≢◌, ◌∙◌, ◌⊎◌, inl, inr, ◌+◌, ◌≤◌, ◌<◌, ℕ, zero, suc, Bool, true, false, ◌&&◌, ◌||◌, nat_le, nat_lt, List, [], ◌∷◌, map, Option, Some, OnOk, Result, Ok, Err, cond, is_some, refl, ap, sym, subst, arith}
 use Rattle.std.proofs.lemmas.Bool.Decides.{nat_tests}
-use Rattle.std.proofs.lemmas.List.{append_assoc, map-append}
 use Rattle.std.specs.List.{range_with_len}
 use Rattle.std.specs.Ordering.{eq_by_cmp, nat_cmp}
 use Rattle.std.specs.FinMap.{contains_key, get, get-insert, insert, len, len-insert}
@@ -168,10 +167,3 @@ run_placed (Ok x) old new coords ts bytes given places same put =
     ap (λ (h : Held). h.state.tiles) put
     ∙ (ap (λ ps. (with_tiles old ps given).state.tiles) places
     ∙ (ap (λ l. (with_tiles old (map place_of_id ts) l).state.tiles) same ∙ tiles_placed old ts bytes))
-
--- one coordinate more
-pub places_more : (cs : List Coord) (c : Coord) (t : ℕ) (ts all : List ℕ) → place_at c ≡ place_of_id t → map place_at cs ++ map place_of_id (t ∷ ts) ≡ map place_of_id all
-    → map place_at (cs ++ c ∷ []) ++ map place_of_id ts ≡ map place_of_id all
-places_more cs c t ts all at left =
-    ap (λ l. l ++ map place_of_id ts) (map-append place_at cs (c ∷ []) ∙ ap (λ p. map place_at cs ++ p ∷ []) at)
-    ∙ (append_assoc (map place_at cs) (place_of_id t ∷ []) (map place_of_id ts) ∙ left)
