@@ -3,13 +3,9 @@ use Rattle.std.proofs.Common.{◌≡◌, ℕ, zero, suc, ◌≤◌, min, Bool, i
 use Rattle.std.proofs.lemmas.List.{drop_all}
 use Rattle.tile_ids.specs.Coord.{Coord}
 use Rattle.tile_ids.specs.Hilbert.{id_of}
-use Rattle.pm_format.specs.declared.error.PmtError.{PmtError}
 use Rattle.pm_format.specs.LookUp.{archive_map}
-use Rattle.pm_format.specs.Opened.{Opened, opened}
-use Rattle.pm_writer.specs.Places.{places_opened, places_read}
-use Rattle.pm_writer.specs.declared.places.ArchivePlaces.{ArchivePlaces}
+use Rattle.pm_writer.specs.Places.{places_read}
 use Rattle.tile_bridge.specs.declared.report.ConvertReport.{ConvertReport}
-use Rattle.tileset.specs.Dump.{HasLength}
 use Rattle.tileset.specs.HexDump.{hex_dump}
 use Rattle.tileset.specs.Places.{places_text}
 use Rattle.tileset.specs.Report.{bulk_text, file_text, number_lines, query_lines, query_line, report_text, summary_lines}
@@ -95,15 +91,6 @@ bulk_front asked tiles repeat leaf uppers old new (Some b) queries r bulk wanted
     let text : places_text uppers r.places ≡ command_text asked queries r.aggregate b =
     ap (λ u. places_text u r.places) wanted ∙ (ap (bulk_text (is_some leaf)) (sym is.places) ∙ ap (λ a. command_text a queries r.aggregate b) (sym bulk)) in
     subst (GainsFront old new) text p
-
--- places that are read have the length of the bytes
-length_read : (b : List ℕ) (o : Result Opened PmtError) (p : ArchivePlaces) → places_opened b o ≡ Some p → p.length ≡ length b
-length_read b (Err e) p is = absurd (cc)
-length_read b (Ok o) p is = cc
-
-pub reported_length : (told : Option (List ℕ)) (queries : List Coord) (r : ConvertReport) → IfSome told (IsReported queries r) → IfSome told (HasLength r.places.length)
-reported_length None queries r is = tt
-reported_length (Some b) queries r is = length_read b (opened b) r.places is.places
 
 -- writing such lines ends as a report may
 pub lines_end : (told : Option (List ℕ)) (r : Result Unit Outcome) → IfErr r LinesCauses → IfErr r (ReportCauses told)

@@ -1,22 +1,18 @@
 -- What a run answers and leaves once there is a script.
-use Rattle.std.proofs.Common.{◌≡◌, ◌≢◌, ◌⊎◌, ℕ, inl, inr, List, [], ◌∷◌, Option, Some, None, IfSome, Result, Ok, Err, refl, sym, subst, ◌∙◌, ap, arith}
+use Rattle.std.proofs.Common.{◌≡◌, ◌⊎◌, ℕ, inl, inr, List, [], ◌∷◌, Option, Some, None, IfSome, Result, Ok, Err, refl, sym, subst, ◌∙◌}
 use Rattle.std.specs.Result.{IsErrAnd}
 use Rattle.tile_ids.specs.Coord.{Coord}
-use Rattle.pm_format.specs.declared.compression.Compression.{Compression}
 use Rattle.pm_format.specs.declared.compression.Compression.TheVariants as compression
 use Rattle.mb_load.specs.State.{State}
 use Rattle.tile_bridge.specs.Convert.{BothTold, ConvertCauses, ConvertLeaves, HasAggregate, IsArchiveOf, IsEmpty, LeavesPart}
-use Rattle.tile_bridge.specs.declared.error.ConvertError.{ConvertError}
-use Rattle.tile_bridge.specs.declared.error.ConvertError.TheVariants.{MediumNotEmpty, UnsupportedCompression, Store, IndexEntryOverflow, StoreFault, MediumFault, ReadBack, OutOfMemory}
+use Rattle.tile_bridge.specs.declared.error.ConvertError.TheVariants.{MediumFault, ReadBack, OutOfMemory}
 use Rattle.tile_bridge.specs.declared.report.ConvertReport.{ConvertReport}
 use Rattle.tile_bridge.specs.ReadingBack.{IsReadBack}
 use Rattle.pm_format.specs.declared.error.PmtError.{PmtError}
 use Rattle.pm_format.specs.declared.error.PmtError.TheVariants as errors
 use Rattle.pm_format.specs.declared.error.ReadCause.TheVariants as causes
-use Rattle.tileset.specs.Converting.{IsNoStoreFault}
 use Rattle.tileset.specs.Dump.{IsOtherRange}
-use Rattle.tileset.specs.Outcomes.{of_convert}
-use Rattle.tileset.specs.Run.{AnsweredBy, Causes, Given, Gives, HasBegun, HoldsArchive, IsConvertible, IsScript, LeavesMedium, LeavesOutput, LeftBy, ReportCauses, SomeBegun, WrittenBy, answer_label, answer_medium, answer_script, answer_set, command_text, converted, outcome_of, text_of}
+use Rattle.tileset.specs.Run.{AnsweredBy, Causes, Given, HasBegun, HoldsArchive, IsConvertible, IsScript, LeavesMedium, LeavesOutput, LeftBy, ReportCauses, SomeBegun, WrittenBy, command_text, converted, outcome_of, text_of}
 use Rattle.byte_streams.specs.Streams.{Gains, GainsFront}
 use Rattle.tileset_script.specs.Script.{Script}
 use Rattle.tileset.specs.declared.outcome.Outcome.{Outcome}
@@ -26,99 +22,6 @@ use Rattle.tileset_script.specs.declared.words.Command.{Command}
 pub err_outcome : (r : Result Unit Outcome) (o : Outcome) → IsErrAnd r (λ x. x ≡ o) → outcome_of r ≡ o
 err_outcome (Ok x) o h = absurd h
 err_outcome (Err e) o h = h
-
--- directories that aren't plain
-packed : (s : Script) (label : Compression) → label ≢ compression.None → answer_label s label ≡ outcomes.Refused (UnsupportedCompression label)
-packed s compression.Unknown h = refl
-packed s compression.None h = absurd (h refl)
-packed s compression.Gzip h = refl
-packed s compression.Brotli h = refl
-packed s compression.Zstd h = refl
-
--- over a medium that tells
-refused_set : (s : Script) (e : ConvertError) → s.options.writer.internal_compression ≡ compression.None → converted s ≡ Err e → outcomes.Refused e ≡ answer_medium s []
-refused_set s e plain is = sym (ap (answer_label s) plain ∙ ap answer_set is)
-
-refused_medium : (s : Script) (bytes : List ℕ) (e : ConvertError) → IsNoStoreFault e → ConvertCauses s.options.writer (Some (converted s)) (Some bytes) (Err e) → Gives (Some (answer_medium s bytes)) (of_convert e)
-refused_medium s [] (MediumNotEmpty n) fine h = absurd (omega (arith, h.0, h.1))
-refused_medium s [] (UnsupportedCompression label) fine h = inl (ap (λ l. outcomes.Refused (UnsupportedCompression l)) h.1 ∙ sym (packed s s.options.writer.internal_compression (λ e. h.2 (h.1 ∙ e))))
-refused_medium s [] (Store place e) fine h = inl (refused_set s (Store place e) h.1 h.2)
-refused_medium s [] IndexEntryOverflow fine h = inl (refused_set s IndexEntryOverflow h.1 h.2)
-refused_medium s bytes (StoreFault place) fine h = absurd fine
-refused_medium s (x ∷ xs) (MediumNotEmpty n) fine h = inl (ap (λ m. outcomes.Refused (MediumNotEmpty m)) h.1)
-refused_medium s (x ∷ xs) (UnsupportedCompression label) fine h = absurd (cc)
-refused_medium s (x ∷ xs) (Store place e) fine h = absurd (cc)
-refused_medium s (x ∷ xs) IndexEntryOverflow fine h = absurd (cc)
-refused_medium s bytes MediumFault fine h = inr tt
-refused_medium s bytes (ReadBack e) fine h = absurd (cc)
-refused_medium s bytes OutOfMemory fine h = inr tt
-
-refused_script : (s : Script) (medium : Option (List ℕ)) (e : ConvertError) → IsNoStoreFault e → ConvertCauses s.options.writer (Some (converted s)) medium (Err e) → Gives (answer_script (Ok s) medium) (of_convert e)
-refused_script s None e fine h = tt
-refused_script s (Some bytes) e fine h = refused_medium s bytes e fine h
-
-pub refused_exact : (s : Script) (medium : Option (List ℕ)) (e : ConvertError) (r : Result Unit Outcome) → IsNoStoreFault e → ConvertCauses s.options.writer (Some (converted s)) medium (Err e) → IsErrAnd r (λ x. x ≡ of_convert e) → Gives (answer_script (Ok s) medium) (outcome_of r)
-refused_exact s medium e r fine h ended = subst (Gives (answer_script (Ok s) medium)) (sym (err_outcome r (of_convert e) ended)) (refused_script s medium e fine h)
-
--- a medium that tells nothing isn't told to hold a byte
-empty_untold : (medium : Option (List ℕ)) → medium ≡ None → IsEmpty medium
-empty_untold None is = tt
-empty_untold (Some bytes) is = absurd (cc)
-
-refused_answer : (s : Script) (medium : Option (List ℕ)) (e : ConvertError) → IsNoStoreFault e → ConvertCauses s.options.writer (Some (converted s)) medium (Err e) → AnsweredBy s medium (of_convert e)
-refused_answer s medium (MediumNotEmpty n) fine h = h
-refused_answer s medium (UnsupportedCompression label) fine h = h
-refused_answer s medium (Store place e) fine h = h
-refused_answer s medium IndexEntryOverflow fine h = h
-refused_answer s medium (StoreFault place) fine h = absurd fine
-refused_answer s medium MediumFault fine h = tt
-refused_answer s medium (ReadBack e) fine h = (h.0, (empty_untold medium h.0, h.1, h.2), h.3)
-refused_answer s medium OutOfMemory fine h = tt
-
-pub refused_causes : (s : Script) (medium : Option (List ℕ)) (e : ConvertError) (r : Result Unit Outcome) → IsNoStoreFault e → ConvertCauses s.options.writer (Some (converted s)) medium (Err e) → IsErrAnd r (λ x. x ≡ of_convert e) → AnsweredBy s medium (outcome_of r)
-refused_causes s medium e r fine h ended = subst (AnsweredBy s medium) (sym (err_outcome r (of_convert e) ended)) (refused_answer s medium e fine h)
-
--- bytes that stay are told as before
-stays : (old new : Option (List ℕ)) → BothTold old new (λ a b. b ≡ a) → new ≡ old
-stays None None h = refl
-stays None (Some b) h = absurd h
-stays (Some a) None h = absurd h
-stays (Some a) (Some b) h = ap Some h
-
--- nor does it tell afterwards
-never : (old new : Option (List ℕ)) → BothTold old new (λ a b. ⊥) → new ≡ old
-never None None h = refl
-never None (Some b) h = absurd h
-never (Some a) None h = absurd h
-never (Some a) (Some b) h = absurd h
-
--- a refused conversion
-refused_by : (s : Script) (coords : List Coord) (old new : Option (List ℕ)) (e : ConvertError) → ConvertLeaves s.options.writer (Some (converted s)) coords (Err e) old new → LeftBy s old new (of_convert e)
-refused_by s coords old new (MediumNotEmpty n) h = stays old new h
-refused_by s coords old new (UnsupportedCompression label) h = stays old new h
-refused_by s coords old new (Store place e) h = stays old new h
-refused_by s coords old new IndexEntryOverflow h = stays old new h
-refused_by s coords old new (StoreFault place) h = stays old new h
-refused_by s coords old new MediumFault h = h
-refused_by s coords old new (ReadBack e) h = never old new h
-refused_by s coords old new OutOfMemory h = h
-
-pub refused_medium_left : (s : Script) (coords : List Coord) (old new : Option (List ℕ)) (e : ConvertError) (r : Result Unit Outcome) → ConvertLeaves s.options.writer (Some (converted s)) coords (Err e) old new → IsErrAnd r (λ x. x ≡ of_convert e) → LeftBy s old new (outcome_of r)
-refused_medium_left s coords old new e r h ended = subst (LeftBy s old new) (sym (err_outcome r (of_convert e) ended)) (refused_by s coords old new e h)
-
--- nothing is written where the conversion is refused
-unwritten : (asked : Command) (s : Script) (medium left old : Option (List ℕ)) (e : ConvertError) → WrittenBy asked s medium left old old (of_convert e)
-unwritten asked s medium left old (MediumNotEmpty n) = refl
-unwritten asked s medium left old (UnsupportedCompression label) = refl
-unwritten asked s medium left old (Store place e) = refl
-unwritten asked s medium left old IndexEntryOverflow = refl
-unwritten asked s medium left old (StoreFault place) = refl
-unwritten asked s medium left old MediumFault = inl refl
-unwritten asked s medium left old (ReadBack e) = inl refl
-unwritten asked s medium left old OutOfMemory = inl refl
-
-pub refused_output : (asked : Command) (s : Script) (medium left old : Option (List ℕ)) (e : ConvertError) (r : Result Unit Outcome) → IsErrAnd r (λ x. x ≡ of_convert e) → WrittenBy asked s medium left old old (outcome_of r)
-refused_output asked s medium left old e r ended = subst (WrittenBy asked s medium left old old) (sym (err_outcome r (of_convert e) ended)) (unwritten asked s medium left old e)
 
 -- over a medium whose archive is written
 both_archive : (s : Script) (coords : List Coord) (r : ConvertReport) (old new : Option (List ℕ)) → ConvertLeaves s.options.writer (Some (converted s)) coords (Ok r) old new → HoldsArchive s old new
