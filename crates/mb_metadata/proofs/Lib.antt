@@ -7,4 +7,4 @@ pub mod JsonLemmas
 pub mod NameEditLemmas
 pub mod UpdateLemmas
 pub mod ZoomLemmas
-pub mod ZoomTextLemmas
+pub mod NumberLemmas

@@ -15,7 +15,7 @@ use Rattle.mb_lists.specs.Metadata.{Names}
 use Rattle.mb_load.specs.State.{State, state_of}
 use Rattle.mb_metadata.proofs.OthersLemmas.{Entry, R, is_less, is_true, other_name}
 use Rattle.mb_metadata.proofs.UpdateLemmas.{ok_same}
-use Rattle.mb_metadata.proofs.ZoomTextLemmas.{zoom_back}
+use Rattle.mb_metadata.proofs.NumberLemmas.{number_back}
 use Rattle.mb_metadata.specs.Inserting.{bounds_text, center_text, data_text, document_edits, insert_edits, layers_text, other_edits, then_put}
 use Rattle.mb_metadata.specs.NameEdits.{EditsNames, is_edited, names_edited, put_any, put_of, state_edited, with_text}
 use Rattle.mb_metadata.specs.Others.{has_field, other_entry, others_said}
@@ -158,7 +158,7 @@ read_at names t q put only =
 pub zoom_now : (names : Names) (t : TileJson) (q : List ℕ) (put : Option ℕ) (zoom : ℕ) → ((had : Held_at) → text_over q (fields t) had ≡ put_over (option_map decimal put) had) → put ≡ Some zoom → zoom < 256 → zoom_at (names_edited names (document_edits t)) q ≡ Some zoom
 zoom_now names t q put zoom only e lt =
     let had : Held_at = put_over (option_map data_text (get t.other q)) (get names q) in
-    ap (λ (o : Held_at). option_and_then zoom_of (option_and_then (λ value. value) o)) (get_after names t q ∙ (only had ∙ ap (λ (p : Option ℕ). put_over (option_map decimal p) had) e)) ∙ zoom_back zoom lt
+    ap (λ (o : Held_at). option_and_then zoom_of (option_and_then (λ value. value) o)) (get_after names t q ∙ (only had ∙ ap (λ (p : Option ℕ). put_over (option_map decimal p) had) e)) ∙ number_back 8 zoom lt (omega (arith, lt))
 
 -- what is read of a name without a field is what it says
 abbrev entry_by : List ℕ → Bool → Option (List ℕ) → Option Value_at

@@ -23,10 +23,11 @@ mod zooms;
 pub use inserting::insert_metadata;
 pub use metadata::Metadata;
 pub use reading::get_metadata;
-pub use updating::update_metadata;
+pub use updating::{update_metadata, with_zooms};
 pub use values::{
     delete_metadata_value, get_metadata_value, get_metadata_zoom_value, set_metadata_value,
 };
 pub use whole_documents::is_without_float;
 pub use zoom_choice::UpdateZoomType;
+pub use zoom_text::zoom_of;
 pub use zooms::compute_min_max_zoom;

@@ -67,8 +67,8 @@ fn make(set: &mut Editing, edit: NameEdit) -> Result<(), OutOfMemory>
     }
 }
 
-// A loaded set after edits.
-fn after_edits(set: Loaded, edits: Vec<NameEdit>) -> Result<Loaded, OutOfMemory>
+/// A loaded set after edits.
+pub(crate) fn after_edits(set: Loaded, edits: Vec<NameEdit>) -> Result<Loaded, OutOfMemory>
     ensures { IfOk result (λ h. h ≡ held_edited set edits.items) }
 {
     let mut editing = set.edit();

@@ -3,11 +3,11 @@ ghost use Rattle.mb_store.specs.Kept.{FaultsCounted, Keeps};
 ghost use Rattle.std.specs.Prelude.{◌≡◌, ◌≤◌, ◌++◌, Ok, IfOk, OnErr, OnOk, option_to_list, true};
 ghost use Rattle.mb_load.specs.Begun.{IsBegun};
 ghost use Rattle.mb_load.specs.State.{State, state_of};
-ghost use Rattle.mb_metadata.specs.NameEdits.{EditsNames, done_answer};
+ghost use Rattle.mb_metadata.specs.NameEdits.{EditsNames, done_answer, held_edited};
 ghost use Rattle.mb_metadata.specs.Updating.{both_edits, removals, state_updated, update_edits, zoom_edit, zoom_edits};
 
 use crate::UpdateZoomType;
-use crate::name_edits::{NameEdit, commit_edits, push_any};
+use crate::name_edits::{NameEdit, after_edits, commit_edits, push_any};
 use crate::zoom_choice::is_set;
 use crate::zoom_text::zoom_at;
 use crate::zooms::zooms_in;
@@ -99,6 +99,18 @@ fn update_edits(
     ensures { IfOk result (λ edits. edits.items ≡ update_edits mode set.now.state) }
 {
     zoom_edits(alloc, set, mode, zooms_in(set))
+}
+
+/// A loaded set whose metadata names the zooms of its tiles, as `update_metadata` stores them. Only want of memory refuses it.
+pub fn with_zooms(
+    alloc: Global,
+    set: Loaded,
+    update_zoom: UpdateZoomType,
+) -> Result<Loaded, OutOfMemory>
+    ensures { IfOk result (λ h. h ≡ held_edited set (update_edits update_zoom set.state)) }
+{
+    let edits = update_edits(alloc, &set, update_zoom)?;
+    Ok(after_edits(set, edits)?)
 }
 
 /// Stores the least and the greatest zoom of a set's tiles, null ones included, under `minzoom` and `maxzoom` of its metadata, in one commit. Under each of the two a

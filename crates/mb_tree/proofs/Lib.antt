@@ -1,14 +1,12 @@
 pub mod MemTreeLemmas
 pub mod RefusalLemmas
 pub mod UnpackLemmas
-pub mod PathLemmas
 pub mod PathLoops
 pub mod PathRefusals
 pub mod SplitLemmas
 pub mod FileLemmas
 pub mod CountLemmas
 pub mod PackLemmas
-pub mod ZoomLemmas
 pub mod BaseLemmas
 pub mod AnswerLemmas
 pub mod WrittenLemmas

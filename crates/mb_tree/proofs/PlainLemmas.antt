@@ -9,10 +9,11 @@ use Rattle.std.proofs.lemmas.Bool.{and_from, and_parts, eqb-true, false_from_ne_
 use Rattle.std.proofs.lemmas.Bool.Decides.{Decides-eqb}
 use Rattle.std.proofs.lemmas.List.{append_assoc, length-append}
 use Rattle.std.proofs.lemmas.Str.Parse.{tells_all_ascii_digits}
-use Rattle.mb_tree.proofs.PathLemmas.{number_back, printed_digits}
+use Rattle.mb_metadata.proofs.NumberLemmas.{number_back, printed_digits}
 use Rattle.mb_tree.proofs.SplitLemmas.{last_below, none_below}
 use Rattle.mb_tree.specs.Format.{format_of, format_word}
-use Rattle.mb_tree.specs.TilePath.{format_in, last_part, number_within, stem, tile_named, tile_path}
+use Rattle.mb_metadata.specs.ZoomText.{number_within}
+use Rattle.mb_tree.specs.TilePath.{format_in, last_part, stem, tile_named, tile_path}
 use Rattle.mb_tree.specs.Unpacked.{path_text}
 use Rattle.mb_tree.specs.declared.format.FileFormat.{FileFormat}
 use Rattle.mb_tree.specs.declared.format.FileFormat.TheVariants.{Png, Jpg, Webp, Avif, Pbf, Mlt}

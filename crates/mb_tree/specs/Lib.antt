@@ -9,7 +9,6 @@ pub mod Packing
 pub mod Base
 pub mod Packed
 pub mod PackSteps
-pub mod ZoomSteps
 pub mod Unpacked
 pub mod UnpackSteps
 pub mod RoundTrip

@@ -8,7 +8,8 @@ use Rattle.mb_tree.specs.Base.{base_of}
 use Rattle.mb_tree.specs.Files.{File, Files}
 use Rattle.mb_tree.specs.Format.{format_of}
 use Rattle.mb_tree.specs.Scheme.{turned}
-use Rattle.mb_tree.specs.TilePath.{number_within, tile_path}
+use Rattle.mb_metadata.specs.ZoomText.{number_within}
+use Rattle.mb_tree.specs.TilePath.{tile_path}
 use Rattle.mb_tree.specs.Unpacked.{path_text}
 use Rattle.mb_tree.specs.declared.scheme.TileScheme.{TileScheme}
 use Rattle.mb_tree.specs.declared.tile_path.TilePath.{TilePath}

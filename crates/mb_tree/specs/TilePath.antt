@@ -1,20 +1,11 @@
 -- The paths of the files of tiles.
-use Rattle.std.specs.Prelude.{◌≡◌, ℕ, codes, ◌&&◌, ◌^◌, List, Option, Some, None, cond, length, nat_lt, option_and_then, option_map, unwrap_or, refl}
+use Rattle.std.specs.Prelude.{◌≡◌, codes, List, ℕ, Option, Some, None, option_and_then, option_map, unwrap_or, refl}
 use Rattle.std.specs.Path.{dot, rsplit_once, slash}
-use Rattle.std.specs.Str.{all_ascii_digits}
-use Rattle.std.specs.Str.Parse.{digits_value, without_leading_plus}
+use Rattle.mb_metadata.specs.ZoomText.{number_within}
 use Rattle.mb_tree.specs.Format.{format_of}
 use Rattle.mb_tree.specs.declared.format.FileFormat.{FileFormat}
 use Rattle.mb_tree.specs.declared.format.FileFormat.TheVariants.{Pbf}
 use Rattle.mb_tree.specs.declared.tile_path.TilePath.{TilePath}
-
--- decimal digits, one or more, of a number of so many bits
-abbrev pub digits_within : ℕ → List ℕ → Option ℕ
-digits_within bits ds = cond (nat_lt 0 (length ds) && all_ascii_digits ds && nat_lt (digits_value 10 ds) (2 ^ bits)) (Some (digits_value 10 ds)) None
-
--- the same behind a plus, if there is one; no other text spells a number
-unfoldable pub number_within : ℕ → List ℕ → Option ℕ
-number_within bits text = digits_within bits (without_leading_plus text)
 
 -- what stands behind the last slash, or all where there is none
 abbrev pub last_part : List ℕ → List ℕ

@@ -15,7 +15,6 @@ mod tests_of_paths;
 mod tile_path;
 mod tree;
 mod unpack_tree;
-mod zooms;
 
 pub use folder_tree::FolderTree;
 pub use mem_tree::MemTree;

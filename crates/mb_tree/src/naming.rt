@@ -3,9 +3,9 @@ ghost use Rattle.std.specs.Prelude.{◌≡◌, IfOk, OnOk};
 ghost use Rattle.mb_tree.specs.Packed.{with_format, with_zooms};
 
 use crate::format::FileFormat;
-use crate::zooms::reset_zooms;
 use base_values::{OutOfMemory, TextVal};
 use mb_load::Loaded;
+use mb_metadata::{UpdateZoomType, with_zooms};
 use mb_store::Cell;
 use std::alloc::Global;
 
@@ -33,14 +33,14 @@ fn put_format(
     }
 }
 
-/// Names the format of the tiles of a set, if there is one, and then the zooms.
-pub(crate) fn put_names(
+/// A set after the format of its tiles is named, if there is one, and then their zooms.
+pub(crate) fn with_names(
     alloc: Global,
-    set: &mut Loaded,
+    mut set: Loaded,
     format: Option<FileFormat>,
-) -> Result<(), OutOfMemory>
-    ensures { OnOk result (set.new ≡ with_zooms (with_format set.old format)) }
+) -> Result<Loaded, OutOfMemory>
+    ensures { IfOk result (λ h. h ≡ with_zooms (with_format set format)) }
 {
-    put_format(alloc, set, format)?;
-    reset_zooms(alloc, set)
+    put_format(alloc, &mut set, format)?;
+    Ok(with_zooms(alloc, set, UpdateZoomType::Reset)?)
 }

@@ -9,7 +9,7 @@ ghost use Rattle.mb_tree.specs.PackSteps.{Packs, RefusesPaths};
 ghost use Rattle.mb_tree.specs.Packed.{IsLeft, IsPacked, IsPacking};
 
 use crate::base::{Base, base_of, commit_base};
-use crate::naming::put_names;
+use crate::naming::with_names;
 use crate::packing::{put_files, test_apart};
 use crate::tests_of_paths::{first_format, test_paths};
 use crate::{TileScheme, TileTree};
@@ -36,10 +36,9 @@ fn pack_loaded<T: TileTree>(
     let paths = listed.as_slice();
     test_paths(alloc, paths)?;
     let before = base.tile_count();
-    let mut set = put_files(alloc, tree, base, scheme, paths)?;
+    let set = put_files(alloc, tree, base, scheme, paths)?;
     test_apart(&set, before, paths)?;
-    put_names(alloc, &mut set, first_format(paths))?;
-    Ok(set)
+    Ok(with_names(alloc, set, first_format(paths))?)
 }
 
 /// Packs the tiles of a tree of files into a flat set, in one commit. A file is that of a tile where the last three parts of its path, parted by `/`, are a zoom, a column, and a row

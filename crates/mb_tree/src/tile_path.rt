@@ -1,9 +1,11 @@
 // The paths of the files of tiles.
 ghost use Rattle.std.specs.Prelude.{◌≡◌, option_map};
 ghost use Rattle.std.specs.Path.{dot, rsplit_once, slash};
-ghost use Rattle.mb_tree.specs.TilePath.{format_in, last_part, number_within, stem, tile_named, tile_path};
+ghost use Rattle.mb_metadata.specs.ZoomText.{number_within};
+ghost use Rattle.mb_tree.specs.TilePath.{format_in, last_part, stem, tile_named, tile_path};
 
 use crate::format::FileFormat;
+use mb_metadata::zoom_of;
 
 /// What the path of a tile's file says of it.
 #[derive(Clone, Copy, Debug, PartialEq, Eq)]
@@ -60,13 +62,6 @@ fn format_in(name: &str) -> Option<FileFormat>
         Some((_, extension)) => FileFormat::of_word(extension),
         None => None,
     }
-}
-
-// The number of a zoom that a text spells, as std reads it.
-fn zoom_of(text: &str) -> Option<u8>
-    ensures { result ≡ number_within 8 text.now }
-{
-    text.parse::<u8>().ok()
 }
 
 // The number of a column or row that a text spells, as std reads it.

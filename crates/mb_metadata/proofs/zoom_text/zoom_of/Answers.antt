@@ -1,6 +1,6 @@
 use Rattle.std.proofs.Common.{◌∙◌}
-use Rattle.mb_metadata.proofs.ZoomTextLemmas.{zoom_read}
+use Rattle.mb_metadata.proofs.NumberLemmas.{number_read}
 use Rattle.mb_metadata.proofs.zoom_text.zoom_of.Goals as goal
 
 pub returns : goal.returns
-returns c = c.ok.ensures.value ∙ zoom_read c.args.text.now c.parse.result c.parse.ensures.value.0
+returns c = c.ok.ensures.value ∙ number_read 8 c.args.text.now c.parse.result c.parse.ensures.value.0

@@ -39,4 +39,4 @@ returns-clause-packed g c =
     are_packed c.args.scheme (g.T.TileTree.tells c.args.tree.now) (g.T.TileTree.told c.args.tree.now) c.as_slice-paths.result.now c.args.base c.in_ok-set.set _
     (λ tells. c.as_slice-paths.ensures.value ∙ c.in_ok-listed.ensures.answer tells) read c.in_ok-test_paths.ensures
     (c.in_ok-test_apart.ensures c.args.scheme c.args.base read.files c.tile_count-before.ensures read.of read.put)
-    (c.in_ok-put_names.ensures ∙ ap (λ (o : Option FileFormat). with_zooms (with_format c.in_ok-set.set o)) c.first_format.ensures)
+    (c.in_ok-with_names.ensures ∙ ap (λ (o : Option FileFormat). with_zooms (with_format c.in_ok-set.set o)) c.first_format.ensures)

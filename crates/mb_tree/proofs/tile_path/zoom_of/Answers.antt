@@ -1,6 +1,0 @@
-use Rattle.std.proofs.Common.{◌∙◌}
-use Rattle.mb_tree.proofs.PathLemmas.{number_read}
-use Rattle.mb_tree.proofs.tile_path.zoom_of.Goals as goal
-
-pub returns : goal.returns
-returns c = c.ok.ensures.value ∙ number_read 8 c.args.text.now c.parse.result c.parse.ensures.value.0
