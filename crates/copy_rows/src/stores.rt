@@ -3,41 +3,10 @@ use mb_store::{
     ColumnDesc, ColumnList, IndexList, MemStore, PatchType, TableDesc, TableKind, TileStore,
     get_bsdiff_tbl_name,
 };
-use rows_shared::{Words, number, said, say};
-use set_words::{layout, owned, push, row_of, table};
+use rows_shared::{Words, said, say};
+use set_words::{make, owned, table};
 use std::alloc::Global;
 use std::fmt::Write;
-
-// Pushes as many rows as the first word says, each the name of its table and its cells.
-fn push_rows(alloc: Global, store: &mut MemStore, words: &mut Words) -> Option<()> {
-    for _ in 0..number::<u32>(words)? {
-        let table = table(words)?;
-        let row = row_of(alloc, table, words)?;
-        push(alloc, store, table, row)?.ok()?;
-    }
-    Some(())
-}
-
-// A new store of a layout, and its rows.
-fn new(alloc: Global, store: &mut MemStore, words: &mut Words) -> Option<()> {
-    *store = MemStore::with_layout(alloc, layout(words)?).ok()?;
-    push_rows(alloc, store, words)
-}
-
-fn none(alloc: Global, store: &mut MemStore) -> Option<()> {
-    *store = MemStore::new(alloc);
-    Some(())
-}
-
-// The calls of these numbers fail, counted from 1 over all calls of the store.
-fn fail(alloc: Global, store: &mut MemStore, words: &mut Words) -> Option<()> {
-    let mut calls = Vec::new(alloc);
-    for word in words {
-        calls.push(word.parse::<u64>().ok()?).ok()?;
-    }
-    store.fail_at(calls);
-    Some(())
-}
 
 // The rows of the tables that are named.
 fn rows(alloc: Global, out: &mut String, store: &mut MemStore, words: &mut Words) -> Option<()> {
@@ -99,12 +68,9 @@ pub fn answer(
     words: &mut Words,
 ) -> Option<()> {
     match words.next()? {
-        "new" => new(alloc, store, words),
-        "none" => none(alloc, store),
-        "fail" => fail(alloc, store, words),
         "rows" => rows(alloc, out, store, words),
         "tables" => tables(alloc, out, store),
         "differences" => differences(alloc, out, store),
-        _ => None,
+        call => make(alloc, store, call, words),
     }
 }

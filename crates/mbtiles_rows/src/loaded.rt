@@ -1,11 +1,10 @@
 // Sets that are made of nothing, or loaded, then edited, printed and committed to the kept store.
 use crate::editing::edit;
-use crate::printed::say_cell;
 use mb_load::{Loaded, load};
 use mb_store::{MbtType, MemStore, NormalizedSchema};
 use mb_tables::Cell;
 use rows_shared::{Words, number, say};
-use set_words::{commit, layout};
+use set_words::{commit, layout, say_cell};
 use std::alloc::Global;
 use std::fmt::Write;
 use tile_hash::HashAlgorithm;

@@ -1,70 +1,11 @@
-// Rows of tables as they are printed, and long texts by their digest.
-use mb_store::{Row, TableName, TileStore};
-use mb_tables::Cell;
+// What tables hold, by its digest.
+use mb_store::{TableName, TileStore};
 use rows_shared::say;
+use set_words::{TABLES, say_table};
 use std::alloc::Global;
 use std::fmt::Write;
 use std::str;
 use tile_hash::md5_text;
-
-// All tables, in their order.
-const TABLES: [TableName; 8] = [
-    TableName::Tiles,
-    TableName::TilesWithHash,
-    TableName::Map,
-    TableName::Images,
-    TableName::TilesShallow,
-    TableName::TilesData,
-    TableName::TileCache,
-    TableName::Metadata,
-];
-
-/// A cell as a line spells it, its text quoted.
-pub fn say_cell(alloc: Global, out: &mut String, cell: &Cell) -> Option<()> {
-    match cell {
-        Cell::Null => write!(out, "n").ok(),
-        Cell::Other => write!(out, "o").ok(),
-        Cell::Int(number) => write!(out, "i{number}").ok(),
-        Cell::Text(text) => write!(out, "t{:?}", text.as_str()).ok(),
-        Cell::Blob(bytes) => {
-            let digits = hex::encode(alloc, bytes.as_bytes()).ok()?;
-            write!(out, "x{digits}").ok()
-        }
-    }
-}
-
-// The name of a table and the cells of one of its rows.
-fn say_row(alloc: Global, out: &mut String, table: TableName, row: &Row) -> Option<()> {
-    write!(out, "{table}").ok()?;
-    for cell in row.cells() {
-        write!(out, " ").ok()?;
-        say_cell(alloc, out, cell)?;
-    }
-    write!(out, "; ").ok()
-}
-
-// All rows of a table, and how many there are.
-fn say_table<S: TileStore>(
-    alloc: Global,
-    out: &mut String,
-    store: &mut S,
-    table: TableName,
-) -> Option<u64> {
-    let count = store.count_rows(table).ok()?;
-    let rows = store.rows(alloc, table, 0, count).ok()?;
-    for row in &rows {
-        say_row(alloc, out, table, row)?;
-    }
-    Some(count)
-}
-
-/// All rows of all tables.
-pub fn say_all<S: TileStore>(alloc: Global, out: &mut String, store: &mut S) -> Option<()> {
-    for table in &TABLES {
-        say_table(alloc, out, store, *table)?;
-    }
-    Some(())
-}
 
 /// The MD5 digest of a text.
 pub fn say_digest(out: &mut String, text: &str) -> Option<()> {

@@ -1,21 +1,11 @@
 // The store that is kept: how it is made, which of its calls fail, and what it holds.
 use crate::fills;
-use crate::printed::{say_all, say_digests};
+use crate::printed::say_digests;
 use mb_store::{MemStore, TileStore};
 use mb_tables::{IndexDesc, IndexList, MbtType, TableDesc, set_tables};
-use rows_shared::{Words, number};
-use set_words::{layout, push, row_of, table};
+use rows_shared::Words;
+use set_words::{layout, make, push_rows, say_all};
 use std::alloc::Global;
-
-// Pushes as many rows as the first word says, each the name of its table and its cells.
-fn push_rows(alloc: Global, store: &mut MemStore, words: &mut Words) -> Option<()> {
-    for _ in 0..number::<u32>(words)? {
-        let table = table(words)?;
-        let row = row_of(alloc, table, words)?;
-        push(alloc, store, table, row)?.ok()?;
-    }
-    Some(())
-}
 
 // A description without its indexes, or with its indexes as such that aren't unique.
 fn weakened(alloc: Global, table: TableDesc, are_kept: bool) -> Option<TableDesc> {
@@ -55,30 +45,9 @@ fn without_unique(alloc: Global, layout: MbtType, are_kept: bool) -> Option<MemS
     Some(store)
 }
 
-// A new store, and its rows.
-fn new(alloc: Global, store: &mut MemStore, words: &mut Words) -> Option<()> {
-    *store = MemStore::with_layout(alloc, layout(words)?).ok()?;
-    push_rows(alloc, store, words)
-}
-
 fn weak(alloc: Global, store: &mut MemStore, are_kept: bool, words: &mut Words) -> Option<()> {
     *store = without_unique(alloc, layout(words)?, are_kept)?;
     push_rows(alloc, store, words)
-}
-
-fn none(alloc: Global, store: &mut MemStore) -> Option<()> {
-    *store = MemStore::new(alloc);
-    Some(())
-}
-
-// The calls of these numbers fail, counted from 1 over all calls of the store.
-fn fail(alloc: Global, store: &mut MemStore, words: &mut Words) -> Option<()> {
-    let mut calls = Vec::new(alloc);
-    for word in words {
-        calls.push(word.parse::<u64>().ok()?).ok()?;
-    }
-    store.fail_at(calls);
-    Some(())
 }
 
 pub fn answer(
@@ -88,14 +57,11 @@ pub fn answer(
     words: &mut Words,
 ) -> Option<()> {
     match words.next()? {
-        "new" => new(alloc, store, words),
         "bare" => weak(alloc, store, false, words),
         "plain" => weak(alloc, store, true, words),
-        "none" => none(alloc, store),
         "fill" => fills::fill(alloc, store, words),
-        "fail" => fail(alloc, store, words),
         "all" => say_all(alloc, out, store),
         "digest" => say_digests(alloc, out, store),
-        _ => None,
+        call => make(alloc, store, call, words),
     }
 }

@@ -2,7 +2,7 @@
 use crate::changes::changes_of;
 use mb_store::{MemStore, TileStore, is_empty_database};
 use rows_shared::{Words, number, said};
-use set_words::{key, layout, push, row, table};
+use set_words::{fail, key, layout, push, row, table};
 use std::alloc::Global;
 
 fn pushed(alloc: Global, out: &mut String, store: &mut MemStore, words: &mut Words) -> Option<()> {
@@ -44,15 +44,6 @@ fn find<S: TileStore>(
     let table = table(words)?;
     let key = key(alloc, words)?;
     said(out, store.find(alloc, table, &key))
-}
-
-fn fail(alloc: Global, store: &mut MemStore, words: &mut Words) -> Option<()> {
-    let mut calls = Vec::new(alloc);
-    for word in words {
-        calls.push(word.parse::<u64>().ok()?).ok()?;
-    }
-    store.fail_at(calls);
-    Some(())
 }
 
 fn new(alloc: Global, store: &mut MemStore, words: &mut Words) -> Option<()> {
