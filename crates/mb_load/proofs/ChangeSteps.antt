@@ -5,7 +5,7 @@ use Rattle.std.specs.declared.cmp.Ordering.{Ordering}
 use Rattle.std.specs.Ordering.{eq_by_cmp, is_eq, nat_cmp}
 use Rattle.std.specs.Cmp.{tied_itself}
 use Rattle.std.specs.Cmp.Lexicographic.{slice_cmp}
-use Rattle.std.proofs.lemmas.Bool.{false≢true}
+use Rattle.std.proofs.lemmas.Bool.{and_left, false≢true}
 use Rattle.std.proofs.lemmas.Cmp.{nat_list_cmp_total}
 use Rattle.std.proofs.lemmas.List.{get_or_default}
 use Rattle.std.proofs.lemmas.Option.{get_or_from_slice_get, slice_get_within}
@@ -48,14 +48,11 @@ and_second true true h = absurd (h refl)
 and_second true false h = refl
 and_second false b h = refl
 
-and_first : (a b : Bool) → a ≡ false → (a && b) ≡ false
-and_first a b h = ap (λ x. x && b) h
-
 module _ {K X : Type 0} {R : K → K → Ordering} (key : X → K) (cells : K → List Cell) (apart_cells : (k l : K) → cells k ≡ cells l → eq_by_cmp R k l ≡ true) (table : TableName) (change : X → Option Change) (of : (x : X) (c : Change) → change x ≡ Some c → (c.table ≡ table) × (key_cells c.key ≡ cells (key x))) where
   pub step : (base : List Change) → All (λ c. table_eq c.table table ≡ false) base → (xs : List X) (i : ℕ) (x : X) (old new : List Change) → Apart R key xs → i < length xs → x ≡ get_or xs i x → old ≡ base ++ filter_map change (take i xs) → new ≡ with_any old (change x) → new ≡ base ++ filter_map change (take (i + 1) xs)
   step base others xs i x old new apart lt at was is =
       is ∙ (ap (λ cs. with_any cs (change x)) was ∙ more change base xs i x lt at (λ c e. (
-        (λ k d there. and_first (table_eq d.table c.table) (cells_eq (key_cells d.key) (key_cells c.key))
+        (λ k d there. and_left (table_eq d.table c.table) (cells_eq (key_cells d.key) (key_cells c.key))
             (ap (table_eq d.table) (of x c e).0 ∙ (ap (λ (z : Change). table_eq z.table table) (sym (get_or_from_slice_get base k d d there)) ∙ others k d (slice_get_within base k d there)))),
         λ j y d less there f. and_second (table_eq d.table c.table) (cells_eq (key_cells d.key) (key_cells c.key)) (λ same.
             let k : cells (key y) ≡ cells (key x) = sym (of y d f).1 ∙ ((cells_eq-Decides (key_cells d.key) (key_cells c.key)).0 same ∙ (of x c e).1) in

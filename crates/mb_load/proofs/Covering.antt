@@ -6,7 +6,7 @@ use Rattle.std.specs.Ordering.{nat_cmp}
 use Rattle.std.specs.Cmp.{IsTotalOrder}
 use Rattle.std.specs.Cmp.Lexicographic.{slice_cmp}
 use Rattle.std.specs.FinMap.{IsAntisymmetric, contains_key, from_entries, get}
-use Rattle.std.proofs.lemmas.Bool.{false≢true}
+use Rattle.std.proofs.lemmas.Bool.{false≢true, or_left, or_right}
 use Rattle.std.proofs.lemmas.Bool.Decides.{Decides-eqb}
 use Rattle.std.proofs.lemmas.Cmp.{nat_list_cmp_total}
 use Rattle.std.proofs.lemmas.Option.{get_or_from_slice_get, slice_get-get_or, slice_get_within}
@@ -30,6 +30,7 @@ use Rattle.mb_lists.proofs.Finding.{found_in}
 use Rattle.mb_lists.proofs.Items.{equal_of, found_itself, look_up}
 use Rattle.mb_load.proofs.Listed.{at_right, in_append, in_mapped, keeps_mapped}
 use Rattle.mb_load.proofs.MoreContents.{at_left}
+use Rattle.mb_load.proofs.PutRowLemmas.{there}
 use Rattle.mb_lists.proofs.NameLemmas.{names_antisymmetric}
 use Rattle.mb_lists.proofs.Places.{places_antisymmetric}
 use Rattle.mb_store.specs.declared.change.Change.{Change}
@@ -122,10 +123,6 @@ same_cells Flat a c dates o h = ap (λ x. x ∷ []) (hash_of a c.cell o h).0
 same_cells FlatWithHash a c dates o h = let e = hash_of a c.cell o h in ap (λ x. x ∷ hash_cell a o ∷ []) e.0 ∙ ap (λ y. c.cell ∷ y ∷ []) e.1
 same_cells (Normalized view schema) a c dates o h = ap (λ x. x ∷ []) (own_id c.id)
 same_cells Cache a c dates o h = let d = unwrap_or dates no_dates in ap (λ x. d.fetched ∷ d.expires ∷ d.etag ∷ x ∷ []) (hash_of a c.cell o h).0
-
-there : {A : Type 0} (o : Option A) → is_some o ≡ true → (x : A) × (o ≡ Some x)
-there (Some x) h = (x, refl)
-there None h = absurd (false≢true h)
 
 row_is : (layout : MbtType) (a : HashAlgorithm) (contents : List Content) (t : StoredTile) → IsTile contents t → (r : Option (List Cell)) → ((t.standing ≡ Put) × (r ≡ Some (row_of_tile layout a contents t))) ⊎ ((t.standing ≡ Removed) × (r ≡ None)) → r ≡ option_map (λ o. front (place_of t) ++ cells_for layout a o (tile_id contents t) (tile_dates t)) (tile_value contents t)
 row_is layout a contents t whole r (inr (gone, none)) = none ∙ ap (option_map (λ o. front (place_of t) ++ cells_for layout a o (tile_id contents t) (tile_dates t))) (sym (ap (λ s. unless_removed s (contents_of (content_at contents t.contents).cell)) gone))
@@ -305,13 +302,6 @@ module _ (layout : MbtType) (a : HashAlgorithm) (p : Option PatchType) (contents
         ap (λ (c : Change). c.row) (sym m.1) ∙ (name_put n m.0 ok m.2 ∙ sym (ap (name_row_by held.state) key ∙ ap (option_map (λ v. Text n.name ∷ text_cell v ∷ [])) (name_has name_value n i at))),
       )
 
-  either_left : (x y : Bool) → x ≡ true → (x || y) ≡ true
-  either_left x y h = ap (λ b. b || y) h
-
-  either_right : (x y : Bool) → y ≡ true → (x || y) ≡ true
-  either_right true y h = refl
-  either_right false y h = h
-
   pub are_changes : AreChangesOf held all
   are_changes = record {
     tiles = record {
@@ -345,10 +335,10 @@ module _ (layout : MbtType) (a : HashAlgorithm) (p : Option PatchType) (contents
       ]);
     };
     tables = each (λ c. is_own_table layout c.table ≡ true) all (λ k c h. elim (in_three of_tiles of_ids of_names k c h) [
-      | inl q ↦ either_left (table_eq c.table (tile_table layout) || table_eq c.table (content_table layout)) (table_eq c.table Metadata) (either_left (table_eq c.table (tile_table layout)) (table_eq c.table (content_table layout)) (table_itself c.table (tile_table layout) (tile_tables q.0 c q.1)))
+      | inl q ↦ or_left (table_eq c.table (tile_table layout) || table_eq c.table (content_table layout)) (table_eq c.table Metadata) (or_left (table_eq c.table (tile_table layout)) (table_eq c.table (content_table layout)) (table_itself c.table (tile_table layout) (tile_tables q.0 c q.1)))
       | inr q ↦ elim q [
-        | inl r ↦ either_left (table_eq c.table (tile_table layout) || table_eq c.table (content_table layout)) (table_eq c.table Metadata) (either_right (table_eq c.table (tile_table layout)) (table_eq c.table (content_table layout)) (table_itself c.table (content_table layout) (id_tables r.0 c r.1)))
-        | inr r ↦ either_right (table_eq c.table (tile_table layout) || table_eq c.table (content_table layout)) (table_eq c.table Metadata) (table_itself c.table Metadata (name_tables r.0 c r.1))
+        | inl r ↦ or_left (table_eq c.table (tile_table layout) || table_eq c.table (content_table layout)) (table_eq c.table Metadata) (or_right (table_eq c.table (tile_table layout)) (table_eq c.table (content_table layout)) (table_itself c.table (content_table layout) (id_tables r.0 c r.1)))
+        | inr r ↦ or_right (table_eq c.table (tile_table layout) || table_eq c.table (content_table layout)) (table_eq c.table Metadata) (table_itself c.table Metadata (name_tables r.0 c r.1))
       ]
     ]);
   }

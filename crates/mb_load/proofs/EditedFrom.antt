@@ -1,5 +1,6 @@
 -- Tables that a set was loaded from are so of the edited set, too.
 use Rattle.std.proofs.Common.{◌≡◌, ◌∙◌, ap, sym, subst, ℕ, Option, Some, None, List, [], ◌∷◌, Bool, true, false, ◌&&◌, ◌||◌, ◌⊎◌, inl, inr, not, cond, refl, is_some}
+use Rattle.std.proofs.Math.Bool.{or-true}
 use Rattle.std.specs.Prelude.{T, option_and_then, option_map, option_to_list}
 use Rattle.std.specs.List.{list_any}
 use Rattle.std.specs.Option.{option_or}
@@ -324,15 +325,11 @@ holds_value : (p : Place) (id : Cell) (es : List (Place × Cell)) → fin.find p
 holds_value p id [] h = cc
 holds_value p id (e ∷ es) h = by (eq_by_cmp place_cmp p e.0) h (holds_value p id es)
   where
-    or_true : (b : Bool) → (b || true) ≡ true
-    or_true true = refl
-    or_true false = refl
-
     by : (b : Bool) → cond b (Some e.1) (fin.find place_cmp p es) ≡ Some id → (fin.find place_cmp p es ≡ Some id → list_any (λ (e : Place × Cell). cell_eq e.1 id) es ≡ true) → list_any (λ (e : Place × Cell). cell_eq e.1 id) (e ∷ es) ≡ true
     by true h rest =
         let same : e.1 ≡ id = cc in
         ap (λ c. cell_eq c id || list_any (λ (e : Place × Cell). cell_eq e.1 id) es) same ∙ ap (λ o. is_eq o || list_any (λ (e : Place × Cell). cell_eq e.1 id) es) (tied_itself cells_total id)
-    by false h rest = ap (λ b. cell_eq e.1 id || b) (rest h) ∙ or_true (cell_eq e.1 id)
+    by false h rest = ap (λ b. cell_eq e.1 id || b) (rest h) ∙ or-true (cell_eq e.1 id)
 
 pub named_at : (ids : FinMap place_cmp Cell) (p : Place) (id : Cell) → get ids p ≡ Some id → is_named ids id ≡ true
 named_at ids p id h = holds_value p id (entries ids) (sym (get-entries ids p) ∙ h)
@@ -402,7 +399,7 @@ both_of : (a b : Bool) → T (a && b) → T a × T b
 both_of true b h = (tt, h)
 both_of false b h = absurd h
 
-less_apart : (o : Ordering) → T (is_lt o) → is_eq o ≡ false
+pub less_apart : (o : Ordering) → T (is_lt o) → is_eq o ≡ false
 less_apart Less h = refl
 less_apart Equal h = absurd h
 less_apart Greater h = absurd h

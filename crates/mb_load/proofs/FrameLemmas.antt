@@ -4,8 +4,9 @@ use Rattle.std.specs.Prelude.{All}
 use Rattle.std.specs.List.{list_any}
 use Rattle.std.specs.FinMap.{contains_key}
 use Rattle.std.specs.Str.{bytes_eq}
-use Rattle.std.proofs.lemmas.Bool.{false≢true, and_parts}
+use Rattle.std.proofs.lemmas.Bool.{false≢true, and_parts, or_cases, or_right, and_right}
 use Rattle.std.proofs.lemmas.List.Folds.{list_any_none}
+use Rattle.mb_load.proofs.LoadsFrom.{key_first}
 use Rattle.mb_load.specs.Changing.{AreChangesOf, content_row_by, content_table, id_edited, is_own_table}
 use Rattle.mb_load.specs.Committed.{is_set_table}
 use Rattle.mb_constraints.specs.Described.{is_metadata, metadata_missing}
@@ -48,10 +49,6 @@ any_weaker p q (x ∷ xs) f h = by (p x) refl h (any_weaker p q xs f)
     by true e k rest = ap (λ b. b || list_any q xs) (f x e)
     by false e k rest = or_right (q x) (list_any q xs) (rest k)
       where
-        or_right : (a b : Bool) → b ≡ true → (a || b) ≡ true
-        or_right true b h = refl
-        or_right false b h = h
-
 table_from : (ds : List TableDesc) (table : TableName) → has_table ds table ≡ true → is_table ds table ≡ true
 table_from ds table = any_weaker (λ d. bytes_eq d.name (table_text table) && is_table_kind d.kind && fits (columns_of table) d) (λ d. bytes_eq d.name (table_text table) && is_table_kind d.kind) ds (λ d h. (and_parts (bytes_eq d.name (table_text table) && is_table_kind d.kind) (fits (columns_of table) d) h).0)
 
@@ -98,10 +95,6 @@ tables_found ds layout h = first (has_table ds Map && has_table ds Images) refl 
 also_table : (t u : TableName) → table_eq t u ≡ true → (ds : List TableDesc) → is_table ds u ≡ true → is_table ds t ≡ true
 also_table t u h ds k = ap (is_table ds) (same_table t u h) ∙ k
 
-or_cases : (a b : Bool) → (a || b) ≡ true → (a ≡ true) ⊎ (b ≡ true)
-or_cases true b h = inl refl
-or_cases false b h = inr h
-
 named_id : (e : Edited) (key : RowKey) → id_edited e key ≡ true → (id : Cell) × (contains_key e.ids id ≡ true)
 named_id e (TextId text) h = (Text text, h)
 named_id e (IntId n) h = (Int n, h)
@@ -125,19 +118,8 @@ of_tables h t changes loaded are = λ k d lt. by (get_or changes k d) (are.table
 module _ (h : Held) (t t' : Tables) (changes : List Change) (are : AreChangesOf h changes) (made : Commits changes t t') where
   -- rows of contents with a null id stay
   pub null_ids_stay : filter (λ row. is_null (cell_at 0 row)) (t'.rows (content_table h.state.layout)) ≡ filter (λ row. is_null (cell_at 0 row)) (t.rows (content_table h.state.layout))
-  null_ids_stay = others_stay changes (content_table h.state.layout) (t.rows (content_table h.state.layout)) (t'.rows (content_table h.state.layout)) (made.tables (content_table h.state.layout)) (λ row. is_null (cell_at 0 row)) (λ row null. list_any_none (λ c. table_eq c.table (content_table h.state.layout) && has_key (content_table h.state.layout) c.key row) changes (λ k d lt. and_second (table_eq (get_or changes k d).table (content_table h.state.layout)) (has_key (content_table h.state.layout) (get_or changes k d).key row) (no_key (content_table h.state.layout) (one_column h.state.layout) (get_or changes k d).key row null)))
+  null_ids_stay = others_stay changes (content_table h.state.layout) (t.rows (content_table h.state.layout)) (t'.rows (content_table h.state.layout)) (made.tables (content_table h.state.layout)) (λ row. is_null (cell_at 0 row)) (λ row null. list_any_none (λ c. table_eq c.table (content_table h.state.layout) && has_key (content_table h.state.layout) c.key row) changes (λ k d lt. and_right (table_eq (get_or changes k d).table (content_table h.state.layout)) (has_key (content_table h.state.layout) (get_or changes k d).key row) (no_key (content_table h.state.layout) (key_first h.state.layout) (get_or changes k d).key row null)))
     where
-      and_second : (a b : Bool) → b ≡ false → (a && b) ≡ false
-      and_second true b h = h
-      and_second false b h = refl
-
-      one_column : (l : MbtType) → key_width (content_table l) ≡ 1
-      one_column Flat = refl
-      one_column FlatWithHash = refl
-      one_column Cache = refl
-      one_column (Normalized view Hash) = refl
-      one_column (Normalized view DedupId) = refl
-
       no_cells : (key : RowKey) (row : List Cell) → is_null (cell_at 0 row) ≡ true → take 1 row ≡ key_cells key → ⊥
       no_cells (TextId text) [] n e = cc
       no_cells (TextId text) (x ∷ row) n e = let s : x ≡ Text text = cc in false≢true (ap is_null (sym s) ∙ n)

@@ -29,7 +29,7 @@ use Rattle.mb_constraints.proofs.ApartPlaces.{in_has_place}
 use Rattle.mb_load.proofs.CommitLemmas.{no_contents, rows_of_contents}
 use Rattle.mb_lists.proofs.FrontLemmas.{begins, entry_key, filter_entry, key_begins, key_whole, names_as_entries}
 use Rattle.mb_load.proofs.KeyReading.{Agrees, Joins, agree_if_joined, alone_under, at_place_placed, found_both, found_never, found_row, found_through, place_on_board, under_key}
-use Rattle.mb_load.proofs.RowsPass.{ArePassing, cell_under, dates_row, holds, joins_row, passing, place_tested}
+use Rattle.mb_load.proofs.RowsPass.{ArePassing, both_none, cell_under, dates_row, holds, joins_row, passing, place_tested}
 use Rattle.mb_load.proofs.StateLemmas.{state_is}
 use Rattle.mb_store.specs.Store.{IsSound}
 use Rattle.mb_tables.proofs.TileLemmas.{places_total}
@@ -297,10 +297,6 @@ unrefused : (t : Tables) (layout : MbtType) (s : State) (o : Option MbtError) �
 unrefused t layout s (Some e) h = cc
 unrefused t layout s None h = refl
 
-first_none : (a b : Option MbtError) → option_or a b ≡ None → (a ≡ None) × (b ≡ None)
-first_none (Some x) b h = cc
-first_none None b h = (refl, h)
-
 due_none : (x s : State) (o : Option MbtError) → due_by x o ≡ Ok s → (o ≡ None) × (x ≡ s)
 due_none x s (Some e) h = cc
 due_none x s None h = (refl, cc)
@@ -320,8 +316,8 @@ given t s h = laid (layout_of t.descriptions) refl
     by : (layout : MbtType) → layout_of t.descriptions ≡ Some layout → IsGiven t s
     by layout e =
         let none = unrefused t layout s (first_refusal (refusals layout t)) (ap (λ o. stated o t) (sym e) ∙ h) in
-        let first = first_none (metadata_missing t.descriptions) _ none in
-        let second = first_none (index_missing t.descriptions layout) _ first.1 in
+        let first = both_none (metadata_missing t.descriptions) _ none in
+        let second = both_none (index_missing t.descriptions layout) _ first.1 in
         let x : State = held_by layout (patch_type_of t.descriptions) (t.rows Metadata) (content_rows layout t) (t.rows (tile_table layout)) in
         let due = due_none x s (first_refusal (row_refusals layout (t.rows Metadata) (content_rows layout t) (t.rows (tile_table layout)))) (sym (state_is t layout e first.0 second.0) ∙ h) in
         record { layout = layout; laid = e; described = first.0; indexed = second.0; pass = passing layout (t.rows Metadata) (content_rows layout t) (t.rows (tile_table layout)) due.0; same = due.1 }

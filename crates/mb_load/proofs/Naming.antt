@@ -1,5 +1,6 @@
 -- Whether a tile has an id: in the map of ids, in the tiles, and in those that are no marks.
 use Rattle.std.proofs.Common.{◌≡◌, ◌∙◌, ap, sym, ℕ, ◌<◌, ◌≤◌, ◌+◌, List, [], ◌∷◌, Option, Some, None, Bool, true, false, ◌||◌, ◌&&◌, cond, not, refl, length, get_or, take, drop, arith, length-drop}
+use Rattle.std.proofs.Math.Bool.{or-false}
 use Rattle.std.specs.Prelude.{All, option_and_then, option_map}
 use Rattle.std.specs.List.{cons_option, list_any}
 use Rattle.std.specs.List.Sorted.{IsPartitionPoint, IsPermutation}
@@ -11,7 +12,7 @@ use Rattle.std.specs.FinMap as fin
 use Rattle.std.specs.FinMap.{empty, entries, entries-insert, from_entries, get-entries, len-empty, len-entries}
 use Rattle.std.specs.FinMap.Entries.{by_order}
 use Rattle.std.proofs.lemmas.Bool.{false≢true}
-use Rattle.std.proofs.lemmas.List.{get_or-drop, get_or-take, length-take-le, take-append-drop}
+use Rattle.std.proofs.lemmas.List.{get_or-drop, get_or-take, length-take-le, nil_from_length, take-append-drop}
 use Rattle.std.proofs.lemmas.List.Elements.{All-head, All-tail}
 use Rattle.std.proofs.lemmas.List.Folds.{list_any-append, list_any_none}
 use Rattle.std.proofs.lemmas.List.Sorted.{list_any-IsPermutation}
@@ -35,10 +36,6 @@ abbrev pub any_some : {V : Type 0} → (V → Bool) → Option V → Bool
 any_some test None = false
 any_some test (Some v) = test v
 
-no_items : {X : Type 0} (xs : List X) → length xs ≡ 0 → xs ≡ []
-no_items [] h = refl
-no_items (x ∷ xs) h = absurd (omega arith)
-
 or_swap : (a b c : Bool) → (a || (b || c)) ≡ (b || (a || c))
 or_swap true true c = refl
 or_swap true false c = refl
@@ -60,7 +57,7 @@ module _ {K X V : Type 0} {R : K → K → Ordering} (total : IsTotalOrder R) (k
       by Greater h rest = ap (λ b. test e.1 || b) (rest h) ∙ or_swap (test e.1) (test v) (list_any (λ (e : K × V). test e.1) es)
 
   none_listed : entries (empty {X = V} {R = R}) ≡ []
-  none_listed = no_items (entries (empty {X = V} {R = R})) (sym (len-entries (empty {X = V} {R = R})) ∙ len-empty R V)
+  none_listed = nil_from_length (entries (empty {X = V} {R = R})) (sym (len-entries (empty {X = V} {R = R})) ∙ len-empty R V)
 
   pub any_values : (value : X → Option V) (xs : List X) → Apart R key xs → list_any (λ (e : K × V). test e.1) (entries (from_entries {R = R} (entries_by key value xs))) ≡ list_any (λ x. any_some test (value x)) xs
   any_values value [] a = ap (list_any (λ (e : K × V). test e.1)) none_listed
@@ -123,13 +120,9 @@ module _ (contents : List Content) (id : Cell) (present : is_null id ≡ false) 
       ∙ (ap (list_any has) (sym (take-append-drop n sorted))
       ∙ (list_any-append has (take n sorted) (drop n sorted)
       ∙ (ap (λ b. list_any has (take n sorted) || b) (list_any_none has (drop n sorted) marks)
-      ∙ (or_none (list_any has (take n sorted))
+      ∙ (or-false (list_any has (take n sorted))
       ∙ any_agree has (λ t. cell_eq (id_at contents t.contents) id) (take n sorted) live)))))
     where
-      or_none : (b : Bool) → (b || false) ≡ b
-      or_none true = refl
-      or_none false = refl
-
       marks : All (λ t. has t ≡ false) (drop n sorted)
       marks k d lt =
           let len = length-drop n sorted in

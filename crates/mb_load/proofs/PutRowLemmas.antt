@@ -1,5 +1,6 @@
 -- The rows that are put are read as what the state has.
 use Rattle.std.proofs.Common.{◌≡◌, ◌∙◌, ap, sym, ℕ, ◌<◌, ◌^◌, ◌++◌, Option, Some, None, List, [], ◌∷◌, Bool, true, false, ◌&&◌, cond, pos, refl, is_some, arith}
+use Rattle.std.proofs.Math.Bool.{and-false}
 use Rattle.std.specs.Prelude.{IfSome, option_and_then, option_map, option_to_list, unwrap_or}
 use Rattle.std.specs.Ordering.{eq_by_cmp, is_eq}
 use Rattle.std.specs.Cmp.{tied_itself}
@@ -114,7 +115,7 @@ no_times Flat row h = refl
 no_times FlatWithHash row h = refl
 
 -- tests of the row of a tile
-itself : (xs : List ℕ) → bytes_eq xs xs ≡ true
+pub itself : (xs : List ℕ) → bytes_eq xs xs ≡ true
 itself xs = (bytes_eq-Decides xs xs).1 refl
 
 pub digest_right : (a : HashAlgorithm) (bytes : List ℕ) → wrong_digest a bytes (digest a bytes) ≡ None
@@ -183,16 +184,12 @@ module _ (s : State) (ok : IsLoadable s) where
           found_nothing (at_place (dates_in s.layout)) p row (at_front (dates_in s.layout) p (cells_for s.layout s.algorithm o (get s.ids p) (get s.dates p)) None on (no_times s.layout row n))
           ∙ sym (not_there (get s.dates p) (ap is_some f ∙ (h ∙ ap (λ b. b && contains_key s.tiles p) n)))
 
-  and_false : (b : Bool) → (b && false) ≡ false
-  and_false true = refl
-  and_false false = refl
-
   fits_none : (p : Place) → get s.tiles p ≡ None → FitsPlace s p []
   fits_none p e = record {
     alone = omega arith;
     tile = λ flat. sym e;
-    id = sym (not_there (get s.ids p) (ok.placed p ∙ (ap (λ o. is_normalized s.layout && is_some o) e ∙ and_false (is_normalized s.layout))));
-    dates = sym (not_there (get s.dates p) (ok.dated p ∙ (ap (λ o. is_cache s.layout && is_some o) e ∙ and_false (is_cache s.layout))));
+    id = sym (not_there (get s.ids p) (ok.placed p ∙ (ap (λ o. is_normalized s.layout && is_some o) e ∙ and-false (is_normalized s.layout))));
+    dates = sym (not_there (get s.dates p) (ok.dated p ∙ (ap (λ o. is_cache s.layout && is_some o) e ∙ and-false (is_cache s.layout))));
   }
 
   -- the row that is put, or none, fits the state

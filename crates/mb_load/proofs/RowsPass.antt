@@ -45,7 +45,7 @@ pub record ArePassing (layout : MbtType) (metadata contents rows : List (List Ce
   pub content_hashes : All (λ row. wrong_content_hash layout (algorithm_of metadata) row ≡ None) contents
   pub apart : place_twice layout contents rows ≡ None
 
-both_none : (a b : Option MbtError) → option_or a b ≡ None → (a ≡ None) × (b ≡ None)
+pub both_none : (a b : Option MbtError) → option_or a b ≡ None → (a ≡ None) × (b ≡ None)
 both_none (Some x) b h = cc
 both_none None b h = (refl, h)
 

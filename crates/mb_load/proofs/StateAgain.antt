@@ -29,7 +29,7 @@ use Rattle.mb_load.proofs.KeyReading.{at_place_placed, found_through, key_of_pla
 use Rattle.mb_load.proofs.LoadsFrom.{filter_begins, key_first, own_contents}
 use Rattle.mb_lists.proofs.NameLemmas.{names_antisymmetric}
 use Rattle.mb_lists.proofs.Places.{places_antisymmetric}
-use Rattle.mb_load.proofs.PutRowLemmas.{id_known, tied}
+use Rattle.mb_load.proofs.PutRowLemmas.{id_known, there, tied}
 use Rattle.mb_load.proofs.RowsPass.{ArePassing, cell_under, holds, joins_row, pass_all}
 use Rattle.mb_load.proofs.StateLemmas.{state_is}
 use Rattle.mb_tables.proofs.ListLemmas.{find_only}
@@ -115,7 +115,7 @@ row_place row e h = by (place_of row) refl
     by (Some p) f = (p, f)
     by None f = let is : tile_of row Null ≡ None = simp f in absurd (false≢true (ap is_some (sym is) ∙ h))
 
-tile_at : (row : List Cell) (cell : Cell) (p : Place) (c : Option (List ℕ)) → place_of row ≡ Some p → contents_of cell ≡ Some c → tile_of row cell ≡ Some (p, c)
+pub tile_at : (row : List Cell) (cell : Cell) (p : Place) (c : Option (List ℕ)) → place_of row ≡ Some p → contents_of cell ≡ Some c → tile_of row cell ≡ Some (p, c)
 tile_at row cell p c e f = simp (e, f)
 
 module _ (t : Tables) (s : State) (sound : IsSound t) (loaded : IsLoadedFrom t (fresh s)) (algorithm : NamesAlgorithm s) where
@@ -184,13 +184,9 @@ module _ (t : Tables) (s : State) (sound : IsSound t) (loaded : IsLoadedFrom t (
       let only : filter (begins id) contents ≡ (id ∷ c.0 ∷ []) ∷ [] = under_id id key ∙ ap (λ o. option_to_list (option_map (λ cell. id ∷ cell ∷ []) o)) c.1 in
       let first : find (begins id) contents ≡ Some (id ∷ c.0 ∷ []) = find_only (begins id) contents (Some (id ∷ c.0 ∷ [])) only in
       let two = and_parts (is_normalized layout) (contains_key s.tiles p) (sym (loaded.state.placed p) ∙ ap is_some e) in
-      let there = some_value (get s.tiles p) two.1 in
-      (any_from_filter (begins id) contents (id ∷ c.0 ∷ []) [] only, (there.0, ap (λ o. contents_of (cell_at 1 (unwrap_or o []))) first ∙ (sym c.2 ∙ there.1)))
+      let tile = there (get s.tiles p) two.1 in
+      (any_from_filter (begins id) contents (id ∷ c.0 ∷ []) [] only, (tile.0, ap (λ o. contents_of (cell_at 1 (unwrap_or o []))) first ∙ (sym c.2 ∙ tile.1)))
     where
-      some_value : {X : Type 0} (o : Option X) → is_some o ≡ true → (x : X) × (o ≡ Some x)
-      some_value (Some x) h = (x, refl)
-      some_value None h = absurd (false≢true h)
-
   passes_row : (l : MbtType) (ids : List (List Cell)) (row : List Cell) → bad_tile l [] row ≡ None → ((p : Place) → is_normalized l ≡ true → place_of row ≡ Some p → is_null (cell_at 3 row) ≡ false → (list_any (begins (cell_at 3 row)) ids ≡ true) × ((c : Option (List ℕ)) × (contents_of (content_of ids (cell_at 3 row)) ≡ Some c))) → (bad_tile l ids row ≡ None) × (missing_reference l ids row ≡ None)
   passes_row Flat ids row h f = (h, refl)
   passes_row FlatWithHash ids row h f = (h, refl)

@@ -41,7 +41,7 @@ named_row view schema contents row = by (is_null (cell_at 3 row))
     by true = refl
     by false = refl
 
-named_rows : (view : Bool) (schema : NormalizedSchema) (contents rows : List (List Cell)) → pairs_by_id rows contents ≡ filter_map (tile_in (Normalized view schema) contents) rows
+pub named_rows : (view : Bool) (schema : NormalizedSchema) (contents rows : List (List Cell)) → pairs_by_id rows contents ≡ filter_map (tile_in (Normalized view schema) contents) rows
 named_rows view schema contents rows = λ i. filter_map (λ row. named_row view schema contents row i) rows
 
 tiles_same : (layout : MbtType) (t : Tables) → tiles_of layout t ≡ from_entries (filter_map (tile_in layout (content_rows layout t)) (t.rows (tile_table layout)))
@@ -111,7 +111,7 @@ own_of layout r ds patch_type metadata contents rows p l m x h loads = (
 )
 
 -- a store that failed, or want of memory, is due of any tables
-store_free : (s : StoreError) → is_free (of_store s) ≡ true
+pub store_free : (s : StoreError) → is_free (of_store s) ≡ true
 store_free Fault = refl
 store_free OutOfMemory = refl
 
