@@ -1,5 +1,5 @@
 -- Changes are of tables that are described, and what a commit of them leaves as it was beside the rows of keys.
-use Rattle.std.proofs.Common.{◌≡◌, ◌∙◌, ap, sym, subst, Some, None, List, [], ◌∷◌, Bool, true, false, ◌&&◌, ◌||◌, ◌⊎◌, inl, inr, cond, filter, refl, take, get_or}
+use Rattle.std.proofs.Common.{◌≡◌, ◌∙◌, ap, sym, subst, Some, None, List, [], ◌∷◌, Bool, true, false, ◌&&◌, ◌||◌, inl, inr, cond, filter, refl, take, get_or}
 use Rattle.std.specs.Prelude.{All}
 use Rattle.std.specs.List.{list_any}
 use Rattle.std.specs.FinMap.{contains_key}
@@ -48,7 +48,7 @@ any_weaker p q (x ∷ xs) f h = by (p x) refl h (any_weaker p q xs f)
     by : (b : Bool) → p x ≡ b → (b || list_any p xs) ≡ true → (list_any p xs ≡ true → list_any q xs ≡ true) → (q x || list_any q xs) ≡ true
     by true e k rest = ap (λ b. b || list_any q xs) (f x e)
     by false e k rest = or_right (q x) (list_any q xs) (rest k)
-      where
+
 table_from : (ds : List TableDesc) (table : TableName) → has_table ds table ≡ true → is_table ds table ≡ true
 table_from ds table = any_weaker (λ d. bytes_eq d.name (table_text table) && is_table_kind d.kind && fits (columns_of table) d) (λ d. bytes_eq d.name (table_text table) && is_table_kind d.kind) ds (λ d h. (and_parts (bytes_eq d.name (table_text table) && is_table_kind d.kind) (fits (columns_of table) d) h).0)
 

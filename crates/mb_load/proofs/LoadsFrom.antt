@@ -1,7 +1,6 @@
 -- A set that loads is loaded from its tables.
 use Rattle.std.proofs.Common.{◌≡◌, ◌∙◌, ap, sym, subst, ℕ, Option, Some, None, List, [], ◌∷◌, Bool, true, false, ◌&&◌, filter, filter_map, refl, is_some, length, get_or, codes, Result, Ok, Err}
 use Rattle.std.specs.Prelude.{All, IfOk, option_and_then, option_map, option_to_list}
-use Rattle.std.specs.Option.{option_or}
 use Rattle.std.specs.Ordering.{nat_cmp}
 use Rattle.std.specs.Cmp.Lexicographic.{slice_cmp}
 use Rattle.std.specs.FinMap as fin

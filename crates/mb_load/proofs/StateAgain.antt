@@ -186,7 +186,7 @@ module _ (t : Tables) (s : State) (sound : IsSound t) (loaded : IsLoadedFrom t (
       let two = and_parts (is_normalized layout) (contains_key s.tiles p) (sym (loaded.state.placed p) ∙ ap is_some e) in
       let tile = there (get s.tiles p) two.1 in
       (any_from_filter (begins id) contents (id ∷ c.0 ∷ []) [] only, (tile.0, ap (λ o. contents_of (cell_at 1 (unwrap_or o []))) first ∙ (sym c.2 ∙ tile.1)))
-    where
+
   passes_row : (l : MbtType) (ids : List (List Cell)) (row : List Cell) → bad_tile l [] row ≡ None → ((p : Place) → is_normalized l ≡ true → place_of row ≡ Some p → is_null (cell_at 3 row) ≡ false → (list_any (begins (cell_at 3 row)) ids ≡ true) × ((c : Option (List ℕ)) × (contents_of (content_of ids (cell_at 3 row)) ≡ Some c))) → (bad_tile l ids row ≡ None) × (missing_reference l ids row ≡ None)
   passes_row Flat ids row h f = (h, refl)
   passes_row FlatWithHash ids row h f = (h, refl)
