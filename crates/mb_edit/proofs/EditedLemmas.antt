@@ -1,5 +1,6 @@
 -- What counts as edited after a patch.
 use Rattle.std.proofs.Common.{◌≡◌, ◌∙◌, ap, sym, ℕ, List, [], ◌∷◌, Option, Some, None, Bool, true, false, ◌||◌, cond, refl, is_some}
+use Rattle.std.proofs.Math.Bool.{or-false}
 use Rattle.std.specs.Ordering.{eq_by_cmp}
 use Rattle.std.specs.FinMap.{contains_key, entries, find, get, get-entries, get-insert, insert}
 use Rattle.mb_edit.specs.HeldPatched.{from_last, held_patched, name_patched, names_patched, null_cleared, tile_patched, tiles_patched}
@@ -21,11 +22,7 @@ tile_edited h p (Some bytes) = refl
 tile_edited h p None = refl
 
 pub tiles_edited : (h : Held) (q : Place) (es : List (Place × Option (List ℕ))) → contains_key (from_last tile_patched h es).edited.places q ≡ (contains_key h.edited.places q || is_some (find place_cmp q es))
-tiles_edited h q [] = sym (or_none (contains_key h.edited.places q))
-  where
-    or_none : (b : Bool) → (b || false) ≡ b
-    or_none true = refl
-    or_none false = refl
+tiles_edited h q [] = sym (or-false (contains_key h.edited.places q))
 tiles_edited h q (e ∷ es) =
     ap (λ m. contains_key m q) (tile_edited (from_last tile_patched h es) e.0 e.1)
     ∙ (ap is_some (get-insert places_total (from_last tile_patched h es).edited.places e.0 tt q)

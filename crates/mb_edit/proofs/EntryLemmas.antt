@@ -25,7 +25,7 @@ abbrev bytes_in : Cell → List ℕ
 bytes_in (Blob bytes) = bytes
 bytes_in _ = []
 
-blob_of : (o : Option (List ℕ)) (bytes : List ℕ) → blob_cell o ≡ Blob bytes → o ≡ Some bytes
+pub blob_of : (o : Option (List ℕ)) (bytes : List ℕ) → blob_cell o ≡ Blob bytes → o ≡ Some bytes
 blob_of None bytes h = cc
 blob_of (Some x) bytes h = ap (λ c. Some (bytes_in c)) h
 

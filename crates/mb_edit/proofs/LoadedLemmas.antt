@@ -33,11 +33,11 @@ use Rattle.tile_hash.specs.Digest.{digest}
 pub record AreOnBoard (es : List (Place × Option (List ℕ))) : Type 0 where
   pub within : (p : Place) → is_some (fin.find place_cmp p es) ≡ true → IsOnBoard p
 
-here : {A : Type 0} (b : Bool) (x : A) (o : Option A) → b ≡ true → is_some (cond b (Some x) o) ≡ true
+pub here : {A : Type 0} (b : Bool) (x : A) (o : Option A) → b ≡ true → is_some (cond b (Some x) o) ≡ true
 here true x o h = refl
 here false x o h = absurd (false≢true h)
 
-later : {A : Type 0} (b : Bool) (x : A) (o : Option A) → is_some o ≡ true → is_some (cond b (Some x) o) ≡ true
+pub later : {A : Type 0} (b : Bool) (x : A) (o : Option A) → is_some o ≡ true → is_some (cond b (Some x) o) ≡ true
 later true x o h = refl
 later false x o h = h
 

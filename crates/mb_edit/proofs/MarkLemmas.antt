@@ -1,5 +1,6 @@
 -- What is known of the contents that are put, after one more tile.
 use Rattle.std.proofs.Common.{◌≡◌, ◌∙◌, ap, sym, subst, ℕ, List, [], ◌∷◌, Option, Some, None, Bool, true, false, ◌&&◌, ◌||◌, not, cond, find, filter_map, drop, length, ◌<◌, ◌≤◌, ◌-◌, suc, zero, refl, arith}
+use Rattle.std.proofs.Math.Bool.{and-false, or-false, or-true}
 use Rattle.std.specs.Prelude.{IfSome}
 use Rattle.std.specs.BTreeMap as tree
 use Rattle.std.specs.List.{cons_option, list_any}
@@ -18,26 +19,12 @@ use Rattle.mb_tables.proofs.CellLemmas.{cell_eq-Decides}
 use Rattle.mb_tables.specs.Cell.{cell_cmp, cell_eq}
 use Rattle.mb_tables.specs.declared.cell.Cell.{Cell}
 use Rattle.mb_tables.specs.declared.cell.Cell.TheVariants.{Text}
-
-and_false : (b : Bool) → (b && false) ≡ false
-and_false true = refl
-and_false false = refl
-
-or_false : (b : Bool) → (b || false) ≡ b
-or_false true = refl
-or_false false = refl
-
-or_true : (b : Bool) → (b || true) ≡ true
-or_true true = refl
-or_true false = refl
+use Rattle.mb_load.proofs.PutRowLemmas.{itself}
 
 last_false : (a b c : Bool) → (a || (b || c)) ≡ false → c ≡ false
 last_false true b c h = absurd (false≢true (sym h))
 last_false false true c h = absurd (false≢true (sym h))
 last_false false false c h = h
-
-bytes_itself : (bytes : List ℕ) → bytes_eq bytes bytes ≡ true
-bytes_itself bytes = (bytes_eq-Decides bytes bytes).1 refl
 
 turned : (a b : List ℕ) → bytes_eq a b ≡ bytes_eq b a
 turned a b = by (bytes_eq a b) refl (bytes_eq b a) refl
@@ -62,7 +49,7 @@ any_known p known (x ∷ xs) h k = by (bytes_eq known x) refl h (λ e. any_known
   where
     by : (b : Bool) → bytes_eq known x ≡ b → (b || list_any (bytes_eq known) xs) ≡ true → (list_any (bytes_eq known) xs ≡ true → list_any p xs ≡ true) → (p x || list_any p xs) ≡ true
     by true e h rest = ap (λ b. b || list_any p xs) (ap p (sym ((bytes_eq-Decides known x).0 e)) ∙ k)
-    by false e h rest = ap (λ b. p x || b) (rest h) ∙ or_true (p x)
+    by false e h rest = ap (λ b. p x || b) (rest h) ∙ or-true (p x)
 
 find_alike : {A : Type 0} (test p q : A → Bool) (xs : List A) → list_any test xs ≡ false → ((x : A) → test x ≡ false → p x ≡ q x) → find p xs ≡ find q xs
 find_alike test p q [] h same = refl
@@ -78,7 +65,7 @@ twin digest bytes other = bytes_eq (digest other) (digest bytes) && not (bytes_e
 
 module _ (digest : List ℕ → List ℕ) (contents : Contents) where
   twin_itself : (bytes : List ℕ) → twin digest bytes bytes ≡ false
-  twin_itself bytes = ap (λ b. bytes_eq (digest bytes) (digest bytes) && not b) (bytes_itself bytes) ∙ and_false (bytes_eq (digest bytes) (digest bytes))
+  twin_itself bytes = ap (λ b. bytes_eq (digest bytes) (digest bytes) && not b) (itself bytes) ∙ and-false (bytes_eq (digest bytes) (digest bytes))
 
   twin_turned : (a b : List ℕ) → twin digest a b ≡ twin digest b a
   twin_turned a b = ap (λ x. x && not (bytes_eq b a)) (turned (digest b) (digest a)) ∙ ap (λ x. bytes_eq (digest a) (digest b) && not x) (turned b a)
@@ -91,7 +78,7 @@ module _ (digest : List ℕ → List ℕ) (contents : Contents) where
   new_collides bytes put h =
       own bytes put
       ∙ (ap (λ b. is_other bytes (get contents (Text (digest bytes))) || b) (none_both (λ other. bytes_eq (digest other) (digest bytes)) (λ other. not (bytes_eq other bytes)) put h)
-      ∙ or_false (is_other bytes (get contents (Text (digest bytes)))))
+      ∙ or-false (is_other bytes (get contents (Text (digest bytes)))))
 
   -- bytes of a digest that has a mark
   pub met_collides : (es : Entries) (bytes : List ℕ) (put : List (List ℕ)) (mark : Mark) (m : IsMarkOf digest contents es put (digest bytes) mark) → collides digest contents (bytes ∷ put) bytes ≡ (mark.collides || not (bytes_eq m.bytes bytes))
@@ -101,13 +88,13 @@ module _ (digest : List ℕ → List ℕ) (contents : Contents) where
       by true e =
           own bytes put
           ∙ (ap (collides digest contents put) (sym ((bytes_eq-Decides m.bytes bytes).0 e))
-          ∙ (sym m.says ∙ sym (or_false mark.collides)))
+          ∙ (sym m.says ∙ sym (or-false mark.collides)))
       by false e =
-          let same : bytes_eq (digest m.bytes) (digest bytes) ≡ true = ap (λ d. bytes_eq d (digest bytes)) m.has_id ∙ bytes_itself (digest bytes) in
+          let same : bytes_eq (digest m.bytes) (digest bytes) ≡ true = ap (λ d. bytes_eq d (digest bytes)) m.has_id ∙ itself (digest bytes) in
           let found : has_twin digest put bytes ≡ true = any_known (twin digest bytes) m.bytes put m.among (ap (λ b. b && not (bytes_eq m.bytes bytes)) same ∙ ap not e) in
           own bytes put
           ∙ (ap (λ b. is_other bytes (get contents (Text (digest bytes))) || b) found
-          ∙ (or_true (is_other bytes (get contents (Text (digest bytes)))) ∙ sym (or_true mark.collides)))
+          ∙ (or-true (is_other bytes (get contents (Text (digest bytes)))) ∙ sym (or-true mark.collides)))
 
   -- of other digests nothing changes
   unaffected : (bytes other : List ℕ) (put : List (List ℕ)) → twin digest other bytes ≡ false → collides digest contents (bytes ∷ put) other ≡ collides digest contents put other
@@ -118,7 +105,7 @@ module _ (digest : List ℕ → List ℕ) (contents : Contents) where
   apart_marked es bytes put id (Some mark) away m = record {
     bytes = m.bytes;
     at_index = m.at_index;
-    among = ap (λ b. bytes_eq m.bytes bytes || b) m.among ∙ or_true (bytes_eq m.bytes bytes);
+    among = ap (λ b. bytes_eq m.bytes bytes || b) m.among ∙ or-true (bytes_eq m.bytes bytes);
     has_id = m.has_id;
     says = m.says ∙ sym (unaffected bytes m.bytes put (ap (λ d. bytes_eq (digest bytes) d && not (bytes_eq bytes m.bytes)) m.has_id ∙ ap (λ b. b && not (bytes_eq bytes m.bytes)) away));
   }
@@ -137,7 +124,7 @@ module _ (digest : List ℕ → List ℕ) (contents : Contents) where
       mark = record { index = index; collides = c }
 
       made : (id : List ℕ) → digest bytes ≡ id → IsMarkOf digest contents es (bytes ∷ put) id mark
-      made id e = record { bytes = bytes; at_index = at; among = ap (λ b. b || list_any (bytes_eq bytes) put) (bytes_itself bytes); has_id = e; says = says }
+      made id e = record { bytes = bytes; at_index = at; among = ap (λ b. b || list_any (bytes_eq bytes) put) (itself bytes); has_id = e; says = says }
 
       by : (id : List ℕ) (b : Bool) → bytes_eq (digest bytes) id ≡ b → IsMarked digest contents es (bytes ∷ put) id (cond (cell_eq (Text (digest bytes)) (Text id)) (Some mark) (tree.get cell_cmp marks.by_id (Text id)))
       by id true e =

@@ -7,6 +7,7 @@ use Rattle.mb_edit.specs.Collision.{collides}
 use Rattle.mb_edit.specs.PatchingOrder.{bytes_put, can_be_patched, id_collides, may_patch, wrong_algorithm, wrong_base}
 use Rattle.mb_lists.specs.Metadata.{after_hash, agg_hash, before_hash}
 use Rattle.mb_constraints.specs.DiffHashes.{base_refused, patch_refused, unless_forced}
+pub use Rattle.mb_load.proofs.RowsPass.{holds}
 use Rattle.mb_load.specs.HeldCode.{algorithm_at, algorithm_back, algorithm_number}
 use Rattle.mb_load.specs.LoadedFrom.{is_editable}
 use Rattle.mb_tables.specs.Refusals.{first_refusal, unless}
@@ -28,10 +29,6 @@ pass_first (Some e) rest h = cc
 pub pass_rest : (o : Option MbtError) (rest : List (Option MbtError)) → first_refusal (o ∷ rest) ≡ None → first_refusal rest ≡ None
 pass_rest None rest h = h
 pass_rest (Some e) rest h = cc
-
-pub holds : (b : Bool) (e : MbtError) → unless b e ≡ None → b ≡ true
-holds true e h = refl
-holds false e h = cc
 
 editable : (layout : MbtType) → can_be_patched layout ≡ true → is_editable layout ≡ true
 editable Flat h = refl

@@ -4,8 +4,8 @@ use Rattle.std.specs.Prelude.{T, option_and_then, option_map}
 use Rattle.std.specs.Option.{option_or}
 use Rattle.std.specs.List.{cons_option}
 use Rattle.std.specs.declared.cmp.Ordering.{Ordering}
-use Rattle.std.specs.declared.cmp.Ordering.TheVariants.{Less, Equal, Greater}
-use Rattle.std.specs.Ordering.{eq_by_cmp, is_eq, is_lt, nat_cmp}
+use Rattle.std.specs.declared.cmp.Ordering.TheVariants.{Equal}
+use Rattle.std.specs.Ordering.{eq_by_cmp, nat_cmp}
 use Rattle.std.specs.Cmp.{IsTotalOrder, Equal-is}
 use Rattle.std.specs.Cmp.Lexicographic.{slice_cmp}
 use Rattle.std.specs.FinMap.{FinMap, contains_key, entries, entries_sorted, find, get, get-entries, get-from_entries, get-retain_keys, get_tied, retain_keys}
@@ -16,6 +16,7 @@ use Rattle.mb_lists.specs.Metadata.{Names}
 use Rattle.mb_lists.proofs.Places.{places_antisymmetric}
 use Rattle.mb_tables.proofs.TileLemmas.{places_total}
 use Rattle.mb_tables.specs.Tiles.{Place, TileSet, place_cmp}
+use Rattle.mb_load.proofs.EditedFrom.{less_apart}
 
 pub first : (a b : Bool) → T (a && b) → T a
 first true b h = tt
@@ -24,11 +25,6 @@ first false b h = h
 pub second : (a b : Bool) → T (a && b) → T b
 second true b h = h
 second false b h = absurd h
-
-less : (o : Ordering) → T (is_lt o) → is_eq o ≡ false
-less Less h = refl
-less Equal h = absurd h
-less Greater h = absurd h
 
 or_cond : {A : Type 0} (b : Bool) (v : A) (x y : Option A) → cond b (Some v) (option_or x y) ≡ option_or (cond b (Some v) x) y
 or_cond true v x y = refl
@@ -41,7 +37,7 @@ module _ {K V : Type 0} (R : K → K → Ordering) where
 
   pub none_below : (q : K) (es : List (K × V)) → T (below_all R q es) → find R q es ≡ None
   none_below q [] h = refl
-  none_below q (e ∷ es) h = rw (less (R q e.0) (first _ _ h)) (none_below q es (second _ _ h))
+  none_below q (e ∷ es) h = rw (less_apart (R q e.0) (first _ _ h)) (none_below q es (second _ _ h))
 
 module _ {K V : Type 0} {R : K → K → Ordering} (total : IsTotalOrder R) where
   -- entries over those of a map
@@ -52,7 +48,7 @@ module _ {K V : Type 0} {R : K → K → Ordering} (total : IsTotalOrder R) wher
   pub get-left : {A : Type 0} (p : FinMap R A) (test : Option A → Bool) (m : FinMap R V) (q : K) → get (retain_keys m (λ key. test (get p key))) q ≡ cond (test (get p q)) (get m q) None
   get-left p test m q = get-retain_keys m (λ key. test (get p key)) q (λ x tie. ap test (get_tied total p q x tie))
 
-or_none : {A : Type 0} (o : Option A) → option_or o None ≡ o
+pub or_none : {A : Type 0} (o : Option A) → option_or o None ≡ o
 or_none None = refl
 or_none (Some x) = refl
 

@@ -1,5 +1,6 @@
 -- The tables after a commit of a set into which tiles were put.
 use Rattle.std.proofs.Common.{◌≡◌, ◌∙◌, ap, sym, subst, ℕ, List, [], ◌∷◌, ◌++◌, Option, Some, None, Bool, true, false, ◌||◌, not, filter, filter_map, cond, get_or, take, refl, is_some, Ok}
+use Rattle.std.proofs.Math.Bool.{or-false}
 use Rattle.std.specs.Prelude.{option_and_then, option_map, option_to_list}
 use Rattle.std.specs.List.{cons_option, list_any}
 use Rattle.std.specs.Ordering.{nat_cmp}
@@ -19,6 +20,7 @@ use Rattle.mb_edit.proofs.PutLemmas.{put_layout, put_loaded, put_named, put_stat
 use Rattle.mb_edit.proofs.StateLemmas.{tiles_state}
 use Rattle.mb_load.proofs.CommitLemmas.{committed, places_stand}
 use Rattle.mb_load.proofs.FrameLemmas.{other_tables_stay}
+use Rattle.mb_load.proofs.LoadsFrom.{key_first}
 use Rattle.mb_load.proofs.StateAgain.{state_again}
 use Rattle.mb_load.specs.Changing.{AreChangesOf, cells_for, content_table, front, id_edited, name_edited, tile_key, tile_row}
 use Rattle.mb_load.specs.Committing.{MakesChanges}
@@ -37,15 +39,13 @@ use Rattle.mb_tables.specs.Cell.{cell_cmp, cell_eq}
 use Rattle.mb_tables.specs.CellOrder.{cells_total}
 use Rattle.mb_tables.specs.Key.{has_key, key_cells}
 use Rattle.mb_tables.specs.Kind.{tile_table}
-use Rattle.mb_tables.specs.Table.{Tables, key_of, key_width, table_eq}
+use Rattle.mb_tables.specs.Table.{Tables, key_of, table_eq}
 use Rattle.mb_tables.specs.Tiles.{Place, TileSet, cell_at, place_cmp, place_of}
 use Rattle.mb_tables.specs.declared.cell.Cell.{Cell}
 use Rattle.mb_tables.specs.declared.cell.Cell.TheVariants.{Int, Text}
 use Rattle.mb_tables.specs.declared.key.RowKey.{RowKey}
 use Rattle.mb_tables.specs.declared.key.RowKey.TheVariants.{Tile, TextId, IntId}
 use Rattle.mb_tables.specs.declared.kind.MbtType.{MbtType}
-use Rattle.mb_tables.specs.declared.kind.MbtType.TheVariants.{Flat, FlatWithHash, Normalized, Cache}
-use Rattle.mb_tables.specs.declared.kind.NormalizedSchema.TheVariants.{Hash, DedupId}
 use Rattle.mb_tables.specs.declared.table.TableName.{TableName}
 use Rattle.mb_tables.specs.declared.table.TableName.TheVariants.{Metadata}
 use Rattle.tile_hash.specs.declared.algorithm.HashAlgorithm.{HashAlgorithm}
@@ -64,10 +64,6 @@ names_unedited h (e ∷ es) = by e.1 (names_unedited h es)
     by (Some bytes) rest = rest
     by None rest = rest
 
-or_none : (b : Bool) → b ≡ (b || false)
-or_none true = refl
-or_none false = refl
-
 is_some_cond : {A : Type 0} (b h r : Bool) (x : A) (o : Option A) → is_some o ≡ (h || r) → is_some (cond b (Some x) o) ≡ (h || (b || r))
 is_some_cond true true r x o e = refl
 is_some_cond true false r x o e = refl
@@ -82,7 +78,7 @@ key_added ids None id h rest e = e
 key_added ids (Some k) id h rest e = ap is_some (get-insert cells_total ids k tt id) ∙ is_some_cond (cell_eq id k) h (list_any (cell_eq id) rest) tt (get ids id) e
 
 ids_edited : (h : Held) (id : Cell) (es : List (Place × Option (List ℕ))) → contains_key (from_last tile_patched h es).edited.ids id ≡ (contains_key h.edited.ids id || among h.state.layout h.state.algorithm id (filter_map (λ e. e.1) es))
-ids_edited h id [] = or_none (contains_key h.edited.ids id)
+ids_edited h id [] = sym (or-false (contains_key h.edited.ids id))
 ids_edited h id (e ∷ es) = by e.1 (ids_edited h id es)
   where
     by : (o : Option (List ℕ)) → contains_key (from_last tile_patched h es).edited.ids id ≡ (contains_key h.edited.ids id || among h.state.layout h.state.algorithm id (filter_map (λ e. e.1) es)) → contains_key (tile_patched (from_last tile_patched h es) (e.0, o)).edited.ids id ≡ (contains_key h.edited.ids id || among h.state.layout h.state.algorithm id (cons_option o (filter_map (λ e. e.1) es)))
@@ -90,13 +86,6 @@ ids_edited h id (e ∷ es) = by e.1 (ids_edited h id es)
     by (Some bytes) rest =
         ap (λ (s : State). contains_key (with_key (from_last tile_patched h es).edited.ids (id_for s.layout s.algorithm bytes)) id) (tiles_state h es)
         ∙ key_added (from_last tile_patched h es).edited.ids (id_for h.state.layout h.state.algorithm bytes) id (contains_key h.edited.ids id) (filter_map (id_for h.state.layout h.state.algorithm) (filter_map (λ e. e.1) es)) rest
-
-one_column : (l : MbtType) → key_width (content_table l) ≡ 1
-one_column Flat = refl
-one_column FlatWithHash = refl
-one_column Cache = refl
-one_column (Normalized view Hash) = refl
-one_column (Normalized view DedupId) = refl
 
 first_cell : (row : List Cell) (id : Cell) → take 1 row ≡ id ∷ [] → cell_at 0 row ≡ id
 first_cell [] id e = cc
@@ -162,7 +151,7 @@ module _ (h : Held) (tiles : TileSet) (clean : h.edited ≡ nothing_edited) wher
         other row kept (get_or changes k d).key (are.contents.only k d lt is).0 (has_key (content_table (layout_put h tiles)) (get_or changes k d).key row) refl)
       where
         begins : (row : List Cell) (id : Cell) (key : RowKey) → key_cells key ≡ id ∷ [] → has_key (content_table (layout_put h tiles)) key row ≡ true → cell_at 0 row ≡ id
-        begins row id key cells e = first_cell row id (ap (λ n. take n row) (sym (one_column (layout_put h tiles))) ∙ ((cells_eq-Decides (key_of (content_table (layout_put h tiles)) row) (key_cells key)).0 e ∙ cells))
+        begins row id key cells e = first_cell row id (ap (λ n. take n row) (sym (key_first (layout_put h tiles))) ∙ ((cells_eq-Decides (key_of (content_table (layout_put h tiles)) row) (key_cells key)).0 e ∙ cells))
 
         at : (row : List Cell) (id : Cell) → (other_id h.state tiles) row ≡ true → contains_key (tiles_put h tiles).edited.ids id ≡ true → cell_at 0 row ≡ id → ⊥
         at row id kept edited e = false≢true (sym (ap (λ c. not (list_any (cell_eq c) (ids_put h.state.layout h.state.algorithm tiles))) e ∙ ap not (id_put id edited)) ∙ kept)
