@@ -52,7 +52,7 @@ abbrev pub missing_of : TileSet → List NewTile → TileSet
 missing_of set ts = by_first (map entry_of (filter (is_missing set) ts))
 
 -- which places stand in a list
-is_some_cond : {A : Type 0} (b : Bool) (x : A) (o : Option A) → is_some (cond b (Some x) o) ≡ (b || is_some o)
+pub is_some_cond : {A : Type 0} (b : Bool) (x : A) (o : Option A) → is_some (cond b (Some x) o) ≡ (b || is_some o)
 is_some_cond true x o = refl
 is_some_cond false x o = refl
 

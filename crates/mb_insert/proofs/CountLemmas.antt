@@ -3,7 +3,7 @@ use Rattle.std.proofs.Common.{◌≡◌, ◌≢◌, ◌∙◌, ap, sym, subst, �
 use Rattle.std.specs.List.{list_any}
 use Rattle.std.specs.Ordering.{eq_by_cmp}
 use Rattle.std.specs.FinMap.{contains_key, insert, len, len-empty, len-insert}
-use Rattle.std.proofs.lemmas.Bool.{false≢true}
+use Rattle.std.proofs.lemmas.Bool.{or_parts}
 use Rattle.mb_insert.proofs.ChosenLemmas.{by_first, contained, missing_of}
 use Rattle.mb_insert.specs.Batch.{entry_of, has_duplicates, is_missing, place_in}
 use Rattle.mb_insert.specs.declared.new_tile.NewTile.{NewTile}
@@ -22,14 +22,10 @@ at_most : (b : Bool) (n m : ℕ) → IsCount b n m → n ≤ m
 at_most true n m h = let lt : n < m = h in omega arith
 at_most false n m h = let all : n ≡ m = h in omega arith
 
-left_false : (a b : Bool) → (a || b) ≡ false → (a ≡ false) × (b ≡ false)
-left_false true b h = absurd (false≢true (sym h))
-left_false false b h = (refl, h)
-
 all_missing : (set : TileSet) (ts : List NewTile) → list_any (λ t. contains_key set (place_in t)) ts ≡ false → filter (is_missing set) ts ≡ ts
 all_missing set [] h = refl
 all_missing set (t ∷ ts) h =
-    let two = left_false (contains_key set (place_in t)) (list_any (λ t. contains_key set (place_in t)) ts) h in
+    let two = or_parts (contains_key set (place_in t)) (list_any (λ t. contains_key set (place_in t)) ts) h in
     ap (λ b. cond (not b) (t ∷ filter (is_missing set) ts) (filter (is_missing set) ts)) two.0 ∙ ap (λ l. t ∷ l) (all_missing set ts two.1)
 
 -- a place that is put, or is among those that were
