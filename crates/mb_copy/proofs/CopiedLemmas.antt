@@ -1,5 +1,5 @@
 -- The refusals of a copy, one after another, and the set after its parts.
-use Rattle.std.proofs.Common.{◌≡◌, ◌∙◌, ap, sym, subst, Option, Some, None, Result, Ok, Err, Bool, true, refl}
+use Rattle.std.proofs.Common.{◌≡◌, ◌∙◌, ap, sym, subst, Option, Some, None, Result, Ok, Err, Bool, true}
 use Rattle.std.specs.Prelude.{IfOk}
 use Rattle.std.specs.FinMap.{FinMap}
 use Rattle.std.specs.Option.{option_or}
@@ -9,6 +9,7 @@ use Rattle.mb_copy.specs.CopyOrder.{made_state, may_copy, may_copy_over}
 use Rattle.mb_copy.specs.HeldCopied.{IsPutIn, all_times_put, held_completed, held_copied, held_with, held_with_names, nulls_put}
 use Rattle.mb_copy.specs.Target.{asked_type, kind_wrong, made_type, mode_of, wanted_algorithm}
 use Rattle.mb_copy.specs.declared.copier.MbtilesCopier.{MbtilesCopier}
+use Rattle.mb_edit.proofs.PatchedLemmas.{or_none}
 use Rattle.mb_edit.specs.PatchingOrder.{bytes_put, id_collides}
 use Rattle.mb_edit.specs.Put.{may_put, tiles_put}
 use Rattle.mb_lists.specs.Metadata.{Names}
@@ -23,10 +24,6 @@ use Rattle.mb_tables.specs.declared.error.MbtError.{MbtError}
 use Rattle.mb_tables.specs.declared.error.MbtError.TheVariants.{UnsupportedCopyOperation}
 use Rattle.mb_tables.specs.declared.kind.MbtType.{MbtType}
 use Rattle.tile_hash.specs.declared.algorithm.HashAlgorithm.{HashAlgorithm}
-
-pub or_none : {A : Type 0} (o : Option A) → option_or o None ≡ o
-or_none None = refl
-or_none (Some x) = refl
 
 -- tiles that are put into a set that takes them are refused by their ids alone
 pub ids_alone : (s : State) (tiles : TileSet) → is_editable s.layout ≡ true → may_put s tiles ≡ id_collides s.layout s.algorithm s.contents (bytes_put tiles)

@@ -1,5 +1,5 @@
 -- The entries of what is put, as its readers give them.
-use Rattle.std.proofs.Common.{◌≡◌, ◌∙◌, ap, sym, ℕ, ◌+◌, ◌<◌, ◌≤◌, List, [], ◌∷◌, Option, Some, Bool, true, false, ◌||◌, drop, length, refl, suc, zero, is_some, cond, arith}
+use Rattle.std.proofs.Common.{◌≡◌, ◌∙◌, ap, sym, ℕ, ◌+◌, ◌<◌, ◌≤◌, List, [], ◌∷◌, Option, Bool, true, false, ◌||◌, drop, length, refl, suc, zero, is_some, arith}
 use Rattle.std.specs.Prelude.{IfSome, slice_get}
 use Rattle.std.specs.Ordering.{eq_by_cmp, is_eq}
 use Rattle.std.specs.Cmp.{tied_itself}
@@ -7,9 +7,9 @@ use Rattle.std.specs.FinMap as fin
 use Rattle.std.specs.FinMap.{contains_key, entries, get, get-entries}
 use Rattle.mb_tables.proofs.TileLemmas.{places_total}
 use Rattle.std.specs.List.{list_any}
-use Rattle.std.proofs.lemmas.Bool.{false≢true}
 use Rattle.mb_copy.proofs.TouchLemmas.{Tile}
 use Rattle.mb_tables.specs.Tiles.{Place, TileSet, place_cmp}
+use Rattle.mb_edit.proofs.LoadedLemmas.{here, later}
 
 -- a list, of which none so far passes a test
 pub none_yet : {A : Type 0} (test : A → Bool) (xs : List A) (i : ℕ) (b : Bool) → i < length xs → IfSome (slice_get xs i) (λ x. b ≡ test x) → b ≡ false → list_any test xs ≡ list_any test (drop i xs) → list_any test xs ≡ list_any test (drop (i + 1) xs)
@@ -44,14 +44,6 @@ none_at_all {A = A} test xs n end before = none xs n end ∙ sym before
     none (x ∷ xs) (suc n) h = none xs n (omega arith)
 
 -- the place of a tile of a set is one of its places
-later : {A : Type 0} (b : Bool) (x : A) (o : Option A) → is_some o ≡ true → is_some (cond b (Some x) o) ≡ true
-later true x o h = refl
-later false x o h = h
-
-here : {A : Type 0} (b : Bool) (x : A) (o : Option A) → b ≡ true → is_some (cond b (Some x) o) ≡ true
-here true x o h = refl
-here false x o h = absurd (false≢true h)
-
 found_at : (Q : Option (List ℕ) → Type 0) (es : List Tile) (i : ℕ) (p : Place) → i < length es → IfSome (slice_get es i) (λ e. (e.0 ≡ p) × Q e.1) → is_some (fin.find place_cmp p es) ≡ true
 found_at Q [] i p lt h = absurd (omega arith)
 found_at Q (e ∷ es) zero p lt h = here (eq_by_cmp place_cmp p e.0) e.1 (fin.find place_cmp p es) (ap (λ x. eq_by_cmp place_cmp p x) h.0 ∙ ap is_eq (tied_itself places_total p))

@@ -7,7 +7,6 @@ use Rattle.std.specs.Cmp.Lexicographic.{slice_cmp}
 use Rattle.std.specs.FinMap.{entries, find, get, get-empty}
 use Rattle.std.specs.List.{list_any}
 use Rattle.std.proofs.lemmas.Cmp.{nat_list_cmp_total}
-use Rattle.mb_copy.proofs.CopiedLemmas.{or_none}
 use Rattle.mb_copy.proofs.NameStateLemmas.{Named, copied_state}
 use Rattle.mb_copy.specs.Chosen.{duplicates, has_both, is_copied_name, name_there, names_to_put, tile_there, tiles_to_put}
 use Rattle.mb_copy.specs.Copied.{copied, entries_put, stores_aggregate, text_entries}
@@ -18,7 +17,7 @@ use Rattle.mb_copy.specs.PatchOrder.{hash_off, may_copy_anew}
 use Rattle.mb_copy.specs.Target.{mode_of}
 use Rattle.mb_copy.specs.Wanted.{is_chosen}
 use Rattle.mb_copy.specs.declared.copier.MbtilesCopier.{MbtilesCopier}
-use Rattle.mb_edit.proofs.PatchedLemmas.{get-over}
+use Rattle.mb_edit.proofs.PatchedLemmas.{get-over, or_none}
 use Rattle.mb_edit.specs.PatchingOrder.{bytes_put, id_collides}
 use Rattle.mb_insert.specs.declared.mode.CopyDuplicateMode.{CopyDuplicateMode}
 use Rattle.mb_insert.specs.declared.mode.CopyDuplicateMode.TheVariants.{Override, Ignore, Abort}

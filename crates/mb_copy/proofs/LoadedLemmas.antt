@@ -12,6 +12,7 @@ use Rattle.mb_copy.proofs.TouchLemmas.{Tile}
 use Rattle.mb_copy.specs.Copied.{entries_put, merged}
 use Rattle.mb_copy.specs.HeldCopied.{IsPutIn, all_times_put, held_with, name_put, null_at, null_put, nulls_put, time_put, times_at}
 use Rattle.mb_copy.specs.declared.copier.MbtilesCopier.{MbtilesCopier}
+use Rattle.mb_edit.proofs.LoadedLemmas.{here, later}
 use Rattle.mb_edit.proofs.PatchedLemmas.{get-over}
 use Rattle.mb_edit.proofs.PutLemmas.{put_layout, put_loaded}
 use Rattle.mb_edit.specs.Patched.{over, patched}
@@ -36,16 +37,8 @@ use Rattle.mb_tables.specs.declared.kind.MbtType.TheVariants.{Flat, FlatWithHash
 abbrev AtAll : (Place → Type 0) → List Tile → Type 0
 AtAll P es = (p : Place) → is_some (fin.find place_cmp p es) ≡ true → P p
 
-later : {A : Type 0} (b : Bool) (x : A) (o : Option A) → is_some o ≡ true → is_some (cond b (Some x) o) ≡ true
-later true x o h = refl
-later false x o h = h
-
-first_there : {A : Type 0} (b : Bool) (x : A) (o : Option A) → b ≡ true → is_some (cond b (Some x) o) ≡ true
-first_there true x o h = refl
-first_there false x o h = absurd (false≢true h)
-
 at_first : (P : Place → Type 0) (e : Tile) (es : List Tile) → AtAll P (e ∷ es) → P e.0
-at_first P e es all = all e.0 (first_there (eq_by_cmp place_cmp e.0 e.0) e.1 (fin.find place_cmp e.0 es) (ap is_eq (tied_itself places_total e.0)))
+at_first P e es all = all e.0 (here (eq_by_cmp place_cmp e.0 e.0) e.1 (fin.find place_cmp e.0 es) (ap is_eq (tied_itself places_total e.0)))
 
 at_rest : (P : Place → Type 0) (e : Tile) (es : List Tile) → AtAll P (e ∷ es) → AtAll P es
 at_rest P e es all p h = all p (later (eq_by_cmp place_cmp p e.0) e.1 (fin.find place_cmp p es) h)
