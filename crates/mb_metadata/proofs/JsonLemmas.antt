@@ -1,10 +1,10 @@
 -- Objects of JSON that are put together member by member, and have no float.
-use Rattle.std.proofs.Common.{◌≡◌, ◌∙◌, ap, sym, ℕ, suc, ◌+◌, ◌<◌, ◌≤◌, List, [], ◌∷◌, Option, Some, None, Bool, true, false, ◌||◌, Ordering, Less, Equal, Greater, refl, length, drop, map, get_or, arith}
+use Rattle.std.proofs.Common.{◌≡◌, ◌∙◌, ap, sym, ℕ, suc, ◌+◌, ◌<◌, ◌≤◌, List, [], ◌∷◌, Option, Some, None, false, ◌||◌, Ordering, Less, Equal, Greater, refl, length, drop, map, get_or, arith}
 use Rattle.std.specs.Prelude.{All, IfSome, codes, option_map, slice_get}
 use Rattle.std.specs.FinMap.{entries}
 use Rattle.std.specs.Ordering.{match_ordering, nat_cmp}
 use Rattle.std.specs.Cmp.Lexicographic.{slice_cmp}
-use Rattle.std.proofs.lemmas.Bool.{false≢true}
+use Rattle.std.proofs.lemmas.Bool.{or_from, or_parts}
 use Rattle.std.proofs.lemmas.List.{at_drop_all}
 use Rattle.std.proofs.lemmas.List.Elements.{All-head, All-tail}
 use Rattle.std.proofs.lemmas.Option.{get_or_from_slice_get}
@@ -32,22 +32,14 @@ pub entries_end : {V : Type 0} (value : V → Data) (es : List (List ℕ × V)) 
 entries_end value es i ms all end h = sym (at_drop_all (with_entries value ms) es i end) ∙ h
 
 -- no float where none is put
-neither : (a b : Bool) → a ≡ false → b ≡ false → (a || b) ≡ false
-neither true b e f = e
-neither false b e f = f
-
-both_none : (a b : Bool) → (a || b) ≡ false → (a ≡ false) × (b ≡ false)
-both_none true b e = absurd (false≢true (sym e))
-both_none false b e = (refl, e)
-
 no_float_put : (k : List ℕ) (d : Data) (ms : Members) → has_float d ≡ false → members_have_float ms ≡ false → members_have_float (put k d ms) ≡ false
-no_float_put k d no_members h m = neither (has_float d) false h refl
-no_float_put k d (member l e ms) h m = by (slice_cmp nat_cmp k l) (no_float_put k d ms h (both_none (has_float e) (members_have_float ms) m).1)
+no_float_put k d no_members h m = or_from (has_float d) false h refl
+no_float_put k d (member l e ms) h m = by (slice_cmp nat_cmp k l) (no_float_put k d ms h (or_parts (has_float e) (members_have_float ms) m).1)
   where
     by : (o : Ordering) → members_have_float (put k d ms) ≡ false → members_have_float (match_ordering o (member k d (member l e ms)) (member l d ms) (member l e (put k d ms))) ≡ false
-    by Less ih = neither (has_float d) (has_float e || members_have_float ms) h m
-    by Equal ih = neither (has_float d) (members_have_float ms) h (both_none (has_float e) (members_have_float ms) m).1
-    by Greater ih = neither (has_float e) (members_have_float (put k d ms)) (both_none (has_float e) (members_have_float ms) m).0 ih
+    by Less ih = or_from (has_float d) (has_float e || members_have_float ms) h m
+    by Equal ih = or_from (has_float d) (members_have_float ms) h (or_parts (has_float e) (members_have_float ms) m).1
+    by Greater ih = or_from (has_float e) (members_have_float (put k d ms)) (or_parts (has_float e) (members_have_float ms) m).0 ih
 
 no_float_some : (k : List ℕ) (o : Option Data) (ms : Members) → IfSome o (λ d. has_float d ≡ false) → members_have_float ms ≡ false → members_have_float (put_some k o ms) ≡ false
 no_float_some k None ms h m = m
@@ -76,7 +68,7 @@ no_float_layer l h =
 
 no_float_items : (ls : List VectorLayer) → LayersHaveNoFloat ls → items_have_float (items_of (map layer_data ls)) ≡ false
 no_float_items [] h = refl
-no_float_items (l ∷ ls) h = neither (has_float (layer_data l)) _ (no_float_layer l (All-head (λ l. HasNoFloat l.other) l ls h)) (no_float_items ls (All-tail (λ l. HasNoFloat l.other) l ls h))
+no_float_items (l ∷ ls) h = or_from (has_float (layer_data l)) _ (no_float_layer l (All-head (λ l. HasNoFloat l.other) l ls h)) (no_float_items ls (All-tail (λ l. HasNoFloat l.other) l ls h))
 
 pub no_float_layers : (ls : List VectorLayer) → LayersHaveNoFloat ls → has_float (layers_data ls) ≡ false
-no_float_layers ls h = neither _ false (no_float_items ls h) refl
+no_float_layers ls h = or_from _ false (no_float_items ls h) refl

@@ -1,10 +1,11 @@
 -- A set after edits of its metadata, and its tables after their commit.
 use Rattle.std.proofs.Common.{◌≡◌, ◌∙◌, ap, sym, subst, ℕ, List, [], ◌∷◌, Option, Some, None, Bool, true, false, ◌&&◌, ◌||◌, cond, not, filter, refl, is_some, get_or, length, take, Ok}
+use Rattle.std.proofs.Math.Bool.{or-false}
 use Rattle.std.specs.Prelude.{◌==◌, codes, option_and_then}
 use Rattle.std.specs.FinMap.{FinMap, contains_key, get, get-empty, get-insert, get-remove, insert}
 use Rattle.std.specs.Ordering.{nat_cmp}
 use Rattle.std.specs.Cmp.Lexicographic.{slice_cmp}
-use Rattle.std.proofs.lemmas.Bool.{false≢true}
+use Rattle.std.proofs.lemmas.Bool.{false≢true, or_parts}
 use Rattle.std.proofs.lemmas.Cmp.{nat_list_cmp_total}
 use Rattle.std.proofs.lemmas.List.Folds.{list_any_none}
 use Rattle.mb_constraints.specs.Algorithm.{algorithm_by, unknown_name}
@@ -60,10 +61,6 @@ edits_loaded t h [] l = l
 edits_loaded t h (e ∷ es) l = subst (IsLoadedFrom t) (made_first h e.name e.text es) (edits_loaded t (edit_made h e.name e.text) es (from_made t h e.name e.text l))
 
 -- names that edits don't name have what they had
-apart : (a b : Bool) → (a || b) ≡ false → (a ≡ false) × (b ≡ false)
-apart true b e = absurd (false≢true (sym e))
-apart false b e = (refl, e)
-
 get_after : (names : Names) (name : List ℕ) (text : Option (List ℕ)) (q : List ℕ) → cell_eq (Text q) (Text name) ≡ false → get (with_text names name text) q ≡ get names q
 get_after names name None q e = get-remove nat_list_cmp_total names name q ∙ ap (λ b. cond b None (get names q)) e
 get_after names name (Some text) q e = get-insert nat_list_cmp_total names name (Some text) q ∙ ap (λ b. cond b (Some (Some text)) (get names q)) e
@@ -71,7 +68,7 @@ get_after names name (Some text) q e = get-insert nat_list_cmp_total names name 
 pub get_other : (names : Names) (es : List NameEdit) (q : List ℕ) → is_edited es (Text q) ≡ false → get (names_edited names es) q ≡ get names q
 get_other names [] q h = refl
 get_other names (e ∷ es) q h =
-    let two = apart (cell_eq (Text q) (Text e.name)) (is_edited es (Text q)) h in
+    let two = or_parts (cell_eq (Text q) (Text e.name)) (is_edited es (Text q)) h in
     get_other (with_text names e.name e.text) es q two.1 ∙ get_after names e.name e.text q two.0
 
 named_still : (s : State) (es : List NameEdit) → is_edited es (Text (codes "hash_algorithm")) ≡ false → NamesAlgorithm s → NamesAlgorithm (state_edited s es)
@@ -90,12 +87,8 @@ joined true (Some u) r = refl
 joined false None r = refl
 joined false (Some u) r = refl
 
-or_none : (b : Bool) → b ≡ (b || false)
-or_none true = refl
-or_none false = refl
-
 touched : (names : FinMap (slice_cmp nat_cmp) (Unit {0})) (es : List NameEdit) (q : List ℕ) → contains_key (with_touched names es) q ≡ (contains_key names q || is_edited es (Text q))
-touched names [] q = or_none (contains_key names q)
+touched names [] q = sym (or-false (contains_key names q))
 touched names (e ∷ es) q =
     touched (insert names e.name tt) es q
     ∙ (ap (λ o. is_some o || is_edited es (Text q)) (get-insert nat_list_cmp_total names e.name tt q)
