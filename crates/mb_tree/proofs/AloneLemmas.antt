@@ -1,5 +1,5 @@
 -- A tree that is packed into a set without tiles comes back.
-use Rattle.std.proofs.Common.{◌≡◌, ◌≢◌, ◌∙◌, ap, sym, subst, ℕ, ◌||◌, Bool, true, false, not, cond, List, [], ◌∷◌, Option, Some, None, Ok, Err, Result, filter_map, is_some, length, map, refl, arith, ◌⊎◌, inl, inr}
+use Rattle.std.proofs.Common.{◌≡◌, ◌≢◌, ◌∙◌, ap, sym, subst, ℕ, ◌||◌, Bool, true, false, not, cond, List, [], ◌∷◌, Option, Some, None, Ok, Err, Result, filter_map, is_some, map, refl, ◌⊎◌, inl, inr}
 use Rattle.std.specs.Prelude.{All, IfSome, T, option_and_then, option_map}
 use Rattle.std.specs.List.{cons_option, list_any}
 use Rattle.std.specs.Option.{option_or}
@@ -7,17 +7,19 @@ use Rattle.std.specs.Ordering.{eq_by_cmp, is_eq, is_lt}
 use Rattle.std.specs.Cmp.{tied_itself}
 use Rattle.std.specs.FinMap.{contains_key, empty, entries, entries_sorted, find, get, get-empty, get-entries, get-insert, get-retain_keys, insert, is_sorted, len-empty, len-entries, nat_cmp-IsAntisymmetric, retain_keys, same_map, slice_cmp-IsAntisymmetric}
 use Rattle.std.specs.FinMap.Entries.{below_all}
-use Rattle.std.proofs.lemmas.Bool.{and_parts, false≢true, not-false, not-true, or_parts}
+use Rattle.std.proofs.lemmas.Bool.{and_parts, false≢true, not-false, not-true, or_parts, or_right}
 use Rattle.std.proofs.lemmas.Cmp.{nat_list_cmp_total}
+use Rattle.std.proofs.lemmas.List.{nil_from_length}
 use Rattle.std.proofs.lemmas.List.Elements.{All-cons, All-head, All-nil, All-tail}
-use Rattle.std.proofs.lemmas.Option.{none-some}
+use Rattle.std.proofs.lemmas.Option.{none-some, same_Some}
 use Rattle.mb_insert.specs.Batch.{is_coord, place_in}
 use Rattle.mb_lists.specs.Keyed.{are_distinct}
+use Rattle.mb_load.proofs.EditedFrom.{less_apart}
 use Rattle.mb_load.specs.State.{State}
 use Rattle.mb_tables.proofs.TileLemmas.{places_total}
 use Rattle.mb_tables.specs.Tiles.{Place, TileSet, place_cmp}
 use Rattle.mb_tables.specs.declared.error.MbtError.{MbtError}
-use Rattle.mb_tree.proofs.FileLemmas.{all_there, apart_of, first_part, own_files, second_part, some_is}
+use Rattle.mb_tree.proofs.FileLemmas.{all_there, own_files}
 use Rattle.mb_tree.proofs.PackLemmas.{all_fit, paths_pass}
 use Rattle.mb_tree.proofs.PlaceLemmas.{AreOnBoard}
 use Rattle.mb_tree.proofs.PlainLemmas.{read_back}
@@ -33,16 +35,13 @@ use Rattle.mb_tree.specs.Unpacked.{file_of, files_by, files_of, format_due, path
 use Rattle.mb_tree.specs.declared.format.FileFormat.{FileFormat}
 use Rattle.mb_tree.specs.declared.scheme.TileScheme.{TileScheme}
 use Rattle.mb_tree.specs.declared.tile_path.TilePath.{TilePath}
+use Rattle.mb_edit.proofs.PatchedLemmas.{first, second}
 
 -- a set without tiles has no files
-no_length : {A : Type 0} (xs : List A) → length xs ≡ 0 → xs ≡ []
-no_length [] e = refl
-no_length (x ∷ xs) e = absurd (omega (arith, e))
-
 no_files_of : (scheme : TileScheme) (format : FileFormat) (tiles : TileSet) → tiles ≡ empty → files_of scheme format tiles ≡ []
 no_files_of scheme format tiles e =
     ap (λ (m : TileSet). files_of scheme format m) e
-    ∙ ap (filter_map (file_of scheme format)) (no_length (entries (empty {X = Option (List ℕ)} {R = place_cmp})) (sym (len-entries (empty {X = Option (List ℕ)} {R = place_cmp})) ∙ len-empty place_cmp (Option (List ℕ))))
+    ∙ ap (filter_map (file_of scheme format)) (nil_from_length (entries (empty {X = Option (List ℕ)} {R = place_cmp})) (sym (len-entries (empty {X = Option (List ℕ)} {R = place_cmp})) ∙ len-empty place_cmp (Option (List ℕ))))
 
 none_by_any : (scheme : TileScheme) (tiles : TileSet) (r : Result FileFormat MbtError) → tiles ≡ empty → files_by scheme tiles r ≡ []
 none_by_any scheme tiles (Ok format) e = no_files_of scheme format tiles e
@@ -67,8 +66,8 @@ alone scheme into files s none h = by (first_format (paths_in files)) refl
 find_none : (q : List ℕ) (es : List File) → T (below_all by_bytes q es) → find by_bytes q es ≡ None
 find_none q [] h = refl
 find_none q (e ∷ es) h =
-    ap (λ b. cond b (Some e.1) (find by_bytes q es)) (apart_of (by_bytes q e.0) (first_part (is_lt (by_bytes q e.0)) (below_all by_bytes q es) h))
-    ∙ find_none q es (second_part (is_lt (by_bytes q e.0)) (below_all by_bytes q es) h)
+    ap (λ b. cond b (Some e.1) (find by_bytes q es)) (less_apart (by_bytes q e.0) (first (is_lt (by_bytes q e.0)) (below_all by_bytes q es) h))
+    ∙ find_none q es (second (is_lt (by_bytes q e.0)) (below_all by_bytes q es) h)
 
 abbrev over : Bool → Option (List ℕ) → Option (List ℕ) → Option (List ℕ)
 over tile found had = cond tile (option_or found had) had
@@ -92,10 +91,10 @@ own_at q [] m rising plain = by (is_tile q) (get m q)
     by false o = refl
 own_at q (e ∷ es) m rising plain =
     by (tile_path e.0) refl (All-head IsPlain e.0 (paths_in es) plain)
-    (λ n. own_at q es n (second_part (below_all by_bytes e.0 es) (is_sorted by_bytes es) rising) (All-tail IsPlain e.0 (paths_in es) plain))
+    (λ n. own_at q es n (second (below_all by_bytes e.0 es) (is_sorted by_bytes es) rising) (All-tail IsPlain e.0 (paths_in es) plain))
   where
     here : eq_by_cmp by_bytes q e.0 ≡ true → find by_bytes q es ≡ None
-    here k = find_none q es (subst (λ (x : List ℕ). T (below_all by_bytes x es)) (sym (tied_same q e.0 k)) (first_part (below_all by_bytes e.0 es) (is_sorted by_bytes es) rising))
+    here k = find_none q es (subst (λ (x : List ℕ). T (below_all by_bytes x es)) (sym (tied_same q e.0 k)) (first (below_all by_bytes e.0 es) (is_sorted by_bytes es) rising))
 
     by : (o : Option TilePath) → tile_path e.0 ≡ o → IsPlain e.0
         → ((n : Files) → get (written n (filter_map plain_file es)) q ≡ over (is_tile q) (find by_bytes q es) (get n q))
@@ -138,7 +137,7 @@ from_path scheme path t fit is = by t.format is
   where
     by : (o : Option FileFormat) → option_map (λ format. path_text format t.zoom t.column t.row) o ≡ Some path → place_in (new_tile scheme [] t) ≡ place_from scheme (tile_path path)
     by None h = absurd (none-some path h)
-    by (Some format) h = sym (ap (place_from scheme) (ap tile_path (sym (some_is _ path h)) ∙ read_back format t.zoom t.column t.row (zoom_of t fit) (column_of t fit) (row_of t fit)))
+    by (Some format) h = sym (ap (place_from scheme) (ap tile_path (sym (same_Some _ path h)) ∙ read_back format t.zoom t.column t.row (zoom_of t fit) (column_of t fit) (row_of t fit)))
 
 -- a file of a path has its tile among those of a batch
 abbrev IsAmong : TileScheme → List File → List ℕ → Type 0
@@ -151,10 +150,6 @@ among scheme (e ∷ es) fit source path found is =
   where
     P : Place
     P = place_from scheme (tile_path path)
-
-    or_right : (a b : Bool) → b ≡ true → (a || b) ≡ true
-    or_right true b h = refl
-    or_right false b h = h
 
     tie : (p : Place) → p ≡ place_from scheme (tile_path path) → eq_by_cmp place_cmp (place_from scheme (tile_path path)) p ≡ true
     tie p same = ap (eq_by_cmp place_cmp (place_from scheme (tile_path path))) same ∙ ap is_eq (tied_itself places_total (place_from scheme (tile_path path)))

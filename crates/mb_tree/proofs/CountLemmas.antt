@@ -1,10 +1,10 @@
 -- Tiles that are put are as many more as they are, exactly where none is there or comes twice.
-use Rattle.std.proofs.Common.{◌≡◌, ◌∙◌, ap, ap₂, subst, ℕ, ◌<◌, ◌≤◌, ◌+◌, ◌-◌, Bool, true, false, ◌&&◌, ◌||◌, not, List, [], ◌∷◌, Option, Some, cond, is_some, length, map, refl, suc, arith}
+use Rattle.std.proofs.Common.{◌≡◌, ◌∙◌, ap, ap₂, subst, ℕ, ◌<◌, ◌≤◌, ◌+◌, ◌-◌, Bool, true, false, ◌&&◌, ◌||◌, not, List, [], ◌∷◌, Some, cond, is_some, length, map, refl, suc, arith}
 use Rattle.std.specs.List.{list_any}
 use Rattle.std.specs.Ordering.{eq_by_cmp}
 use Rattle.std.specs.Cmp.{eq_by_cmp_equiv}
 use Rattle.std.specs.FinMap.{contains_key, get, get-insert, insert, len, len-insert}
-use Rattle.mb_insert.proofs.ChosenLemmas.{put_in_turn}
+use Rattle.mb_insert.proofs.ChosenLemmas.{is_some_cond, put_in_turn}
 use Rattle.mb_insert.specs.Batch.{has_duplicates, place_in}
 use Rattle.mb_insert.specs.declared.new_tile.NewTile.{NewTile}
 use Rattle.mb_lists.specs.Keyed.{are_distinct}
@@ -22,10 +22,6 @@ IsCount false n m = n ≡ m
 at_most : (b : Bool) (n m : ℕ) → IsCount b n m → n ≤ m
 at_most true n m h = let lt : n < m = h in omega arith
 at_most false n m h = let all : n ≡ m = h in omega arith
-
-is_some_cond : {A : Type 0} (b : Bool) (x : A) (o : Option A) → is_some (cond b (Some x) o) ≡ (b || is_some o)
-is_some_cond true x o = refl
-is_some_cond false x o = refl
 
 -- whether a place is there after one more tile
 pub has_after : (tiles : TileSet) (t : NewTile) (q : Place) → contains_key (insert tiles (place_in t) (Some t.tile_data)) q ≡ (eq_by_cmp place_cmp (place_in t) q || contains_key tiles q)

@@ -1,21 +1,22 @@
 -- Files that are read, one after another, and their tiles.
-use Rattle.std.proofs.Common.{◌≡◌, ◌∙◌, ap, sym, subst, ℕ, ◌<◌, ◌≤◌, ◌+◌, ◌++◌, ◌||◌, ◌&&◌, Bool, true, false, not, cond, List, [], ◌∷◌, Option, Some, None, filter_map, get_or, length, map, take, refl, suc, arith, is_some, unwrap_or}
+use Rattle.std.proofs.Common.{◌≡◌, ◌∙◌, ap, sym, subst, ℕ, ◌<◌, ◌≤◌, ◌+◌, ◌++◌, ◌||◌, Bool, true, false, not, cond, List, [], ◌∷◌, Option, Some, None, filter_map, get_or, length, map, take, refl, suc, arith, is_some, unwrap_or}
 use Rattle.std.specs.Prelude.{T, All, option_map}
 use Rattle.std.specs.List.{cons_option, list_any}
 use Rattle.std.specs.Ordering.{eq_by_cmp, is_eq, is_lt, nat_cmp}
 use Rattle.std.specs.Cmp.{eq_by_cmp_equiv, tied_itself}
 use Rattle.std.specs.Cmp.Lexicographic.{slice_cmp}
 use Rattle.std.specs.declared.cmp.Ordering.{Ordering}
-use Rattle.std.specs.declared.cmp.Ordering.TheVariants.{Less, Equal, Greater}
 use Rattle.std.specs.FinMap.{contains_key, entries, entries_sorted, find, get, get-entries, is_sorted}
 use Rattle.std.specs.FinMap.Entries.{below_all}
 use Rattle.std.proofs.lemmas.Bool.{false≢true}
 use Rattle.std.proofs.lemmas.Cmp.{nat_list_cmp_total}
 use Rattle.std.proofs.lemmas.List.{map-append, take_more}
 use Rattle.std.proofs.lemmas.List.Elements.{All-append, All-cons, All-head, All-nil, All-tail}
+use Rattle.std.proofs.lemmas.Option.{same_Some}
 use Rattle.mb_insert.specs.Batch.{has_duplicates, place_in}
 use Rattle.mb_insert.specs.declared.new_tile.NewTile.{NewTile}
 use Rattle.mb_lists.specs.Keyed.{are_distinct}
+use Rattle.mb_load.proofs.EditedFrom.{less_apart}
 use Rattle.mb_load.specs.Edits.{with_tile}
 use Rattle.mb_load.specs.Held.{Held}
 use Rattle.mb_store.specs.Kept.{ReadsOnly}
@@ -27,6 +28,7 @@ use Rattle.mb_tree.specs.Packing.{batch_of, empty_files, new_tile, tile_of_file}
 use Rattle.mb_tree.specs.TilePath.{tile_path}
 use Rattle.mb_tree.specs.declared.scheme.TileScheme.{TileScheme}
 use Rattle.mb_tree.specs.declared.tile_path.TilePath.{TilePath}
+use Rattle.mb_edit.proofs.PatchedLemmas.{first, second}
 
 -- one more file at the end
 last_put : (scheme : TileScheme) (h : Held) (files : List File) (f : File) → tiles_in h (batch_of scheme (files ++ f ∷ [])) ≡ with_any (tiles_in h (batch_of scheme files)) (tile_of_file scheme f)
@@ -54,9 +56,6 @@ one_read scheme shows told paths i path base old new lt at so step = record {
 }
 
 -- the files of a tree's paths
-pub some_is : {A : Type 0} (x y : A) → Some x ≡ Some y → x ≡ y
-some_is x y e = cc
-
 same_files : (told : Files) (files others : List File) → paths_in files ≡ paths_in others → All (λ f. get told f.0 ≡ Some f.1) files → All (λ f. get told f.0 ≡ Some f.1) others → files ≡ others
 same_files told [] [] e h k = refl
 same_files told [] (g ∷ gs) e h k = cc
@@ -64,7 +63,7 @@ same_files told (f ∷ fs) [] e h k = cc
 same_files told (f ∷ fs) (g ∷ gs) e h k =
     let here : f.0 ≡ g.0 = ap (λ l. first f.0 l) e in
     let rest : paths_in fs ≡ paths_in gs = ap tail e in
-    let bytes : f.1 ≡ g.1 = some_is f.1 g.1 (sym (All-head (λ f. get told f.0 ≡ Some f.1) f fs h) ∙ (ap (get told) here ∙ All-head (λ f. get told f.0 ≡ Some f.1) g gs k)) in
+    let bytes : f.1 ≡ g.1 = same_Some f.1 g.1 (sym (All-head (λ f. get told f.0 ≡ Some f.1) f fs h) ∙ (ap (get told) here ∙ All-head (λ f. get told f.0 ≡ Some f.1) g gs k)) in
     let same : f ≡ g = λ i. (here i, bytes i) in
     λ i. same i ∷ same_files told fs gs rest (All-tail (λ f. get told f.0 ≡ Some f.1) f fs h) (All-tail (λ f. get told f.0 ≡ Some f.1) g gs k) i
   where
@@ -108,31 +107,18 @@ as_many scheme (f ∷ fs) = counted_one scheme f.1 (tile_path f.0) (batch_of sch
 abbrev by_bytes : List ℕ → List ℕ → Ordering
 by_bytes = slice_cmp nat_cmp
 
-pub first_part : (a b : Bool) → T (a && b) → T a
-first_part true b h = tt
-first_part false b h = absurd h
-
-pub second_part : (a b : Bool) → T (a && b) → T b
-second_part true b h = h
-second_part false b h = absurd h
-
-pub apart_of : (o : Ordering) → T (is_lt o) → is_eq o ≡ false
-apart_of Less h = refl
-apart_of Equal h = absurd h
-apart_of Greater h = absurd h
-
 found_later : (e : File) (es fs : List File) → T (below_all by_bytes e.0 fs) → All (λ f. find by_bytes f.0 es ≡ Some f.1) fs → All (λ f. find by_bytes f.0 (e ∷ es) ≡ Some f.1) fs
 found_later e es [] below h = All-nil (λ f. find by_bytes f.0 (e ∷ es) ≡ Some f.1)
 found_later e es (f ∷ fs) below h =
-    let apart : eq_by_cmp by_bytes f.0 e.0 ≡ false = (eq_by_cmp_equiv nat_list_cmp_total).symm f.0 e.0 ∙ apart_of (by_bytes e.0 f.0) (first_part (is_lt (by_bytes e.0 f.0)) (below_all by_bytes e.0 fs) below) in
+    let apart : eq_by_cmp by_bytes f.0 e.0 ≡ false = (eq_by_cmp_equiv nat_list_cmp_total).symm f.0 e.0 ∙ less_apart (by_bytes e.0 f.0) (first (is_lt (by_bytes e.0 f.0)) (below_all by_bytes e.0 fs) below) in
     All-cons (λ f. find by_bytes f.0 (e ∷ es) ≡ Some f.1) f fs (ap (λ b. cond b (Some e.1) (find by_bytes f.0 es)) apart ∙ All-head (λ f. find by_bytes f.0 es ≡ Some f.1) f fs h)
-    (found_later e es fs (second_part (is_lt (by_bytes e.0 f.0)) (below_all by_bytes e.0 fs) below) (All-tail (λ f. find by_bytes f.0 es ≡ Some f.1) f fs h))
+    (found_later e es fs (second (is_lt (by_bytes e.0 f.0)) (below_all by_bytes e.0 fs) below) (All-tail (λ f. find by_bytes f.0 es ≡ Some f.1) f fs h))
 
 found_each : (es : List File) → T (is_sorted by_bytes es) → All (λ f. find by_bytes f.0 es ≡ Some f.1) es
 found_each [] h = All-nil (λ f. find by_bytes f.0 [] ≡ Some f.1)
 found_each (e ∷ es) h =
     All-cons (λ f. find by_bytes f.0 (e ∷ es) ≡ Some f.1) e es (ap (λ o. cond (is_eq o) (Some e.1) (find by_bytes e.0 es)) (tied_itself nat_list_cmp_total e.0))
-    (found_later e es es (first_part (below_all by_bytes e.0 es) (is_sorted by_bytes es) h) (found_each es (second_part (below_all by_bytes e.0 es) (is_sorted by_bytes es) h)))
+    (found_later e es es (first (below_all by_bytes e.0 es) (is_sorted by_bytes es) h) (found_each es (second (below_all by_bytes e.0 es) (is_sorted by_bytes es) h)))
 
 got_each : (m : Files) (fs : List File) → All (λ f. find by_bytes f.0 (entries m) ≡ Some f.1) fs → All (λ f. get m f.0 ≡ Some f.1) fs
 got_each m [] h = All-nil (λ f. get m f.0 ≡ Some f.1)

@@ -8,6 +8,7 @@ use Rattle.std.specs.FinMap.{contains_key, entries, entries-insert, find, get-en
 use Rattle.std.proofs.Math.Nat.{pow-le-pow_right}
 use Rattle.std.proofs.lemmas.Bool.{false≢true}
 use Rattle.std.proofs.lemmas.List.Elements.{All-head, All-tail}
+use Rattle.std.proofs.lemmas.Option.{same_Some}
 use Rattle.mb_insert.proofs.ChosenLemmas.{put_in_turn}
 use Rattle.mb_insert.specs.Batch.{has_duplicates, place_in}
 use Rattle.mb_insert.specs.declared.new_tile.NewTile.{NewTile}
@@ -17,7 +18,6 @@ use Rattle.mb_load.specs.LoadedFrom.{IsOnBoard}
 use Rattle.mb_tables.proofs.TileLemmas.{places_total}
 use Rattle.mb_tables.specs.Tiles.{Place, TileSet, place_cmp}
 use Rattle.mb_tree.proofs.CountLemmas.{any_after, has_after}
-use Rattle.mb_tree.proofs.FileLemmas.{some_is}
 use Rattle.mb_tree.proofs.PlainLemmas.{read_back, tile_made}
 use Rattle.mb_tree.proofs.UnpackLemmas.{back}
 use Rattle.mb_tree.proofs.WrittenLemmas.{put_one}
@@ -57,7 +57,7 @@ read_place scheme format p on =
 pub one_place : (scheme : TileScheme) (format : FileFormat) (p q : Place) → IsOnBoard p → IsOnBoard q → path_at scheme format p ≡ path_at scheme format q → p ≡ q
 one_place scheme format p q on also e =
     let same : tile_made format p.zoom p.column (turned scheme p.zoom (inverted_y p.zoom p.row)) ≡ tile_made format q.zoom q.column (turned scheme q.zoom (inverted_y q.zoom q.row)) =
-    some_is _ _ (sym (read_place scheme format p on) ∙ (ap tile_path e ∙ read_place scheme format q also)) in
+    same_Some _ _ (sym (read_place scheme format p on) ∙ (ap tile_path e ∙ read_place scheme format q also)) in
     let row : p.row ≡ q.row =
     sym (row_back scheme p.zoom p.row on.row)
     ∙ ((λ i. inverted_y (same i).zoom (turned scheme (same i).zoom (same i).row))

@@ -5,7 +5,7 @@ use Rattle.std.specs.Char.{to_ascii_uppercase}
 use Rattle.std.specs.List.{list_all, list_any}
 use Rattle.std.specs.Option.{option_or}
 use Rattle.std.specs.Str.{bytes_eq}
-use Rattle.std.proofs.lemmas.Bool.{false≢true}
+use Rattle.std.proofs.lemmas.Bool.{false≢true, or_left}
 use Rattle.mb_constraints.specs.Algorithm.{algorithm_named, algorithm_of, algorithm_unknown, stored_algorithm, unknown_name}
 use Rattle.mb_constraints.specs.Described.{index_missing, is_metadata, metadata_missing}
 use Rattle.mb_constraints.specs.Hashes.{hash_wrong, wrong_content_hash, wrong_hash, wrong_tile_hash}
@@ -208,12 +208,8 @@ left_false false b h = refl
 pub not_free : (e : MbtError) → is_wanting e ≡ false → is_free e ≡ false
 not_free e h = left_false (is_free e) (is_tree_fault e) h
 
-right_true : (a b : Bool) → a ≡ true → (a || b) ≡ true
-right_true true b h = refl
-right_true false b h = absurd (false≢true h)
-
 pub free_wanting : (e : MbtError) → is_free e ≡ true → is_wanting e ≡ true
-free_wanting e h = right_true (is_free e) (is_tree_fault e) h
+free_wanting e h = or_left (is_free e) (is_tree_fault e) h
 
 -- so that a tree's count need not have risen
 pub no_tree_fault : {A X : Type 0} (r : Result A MbtError) (e : MbtError) → r ≡ Err e → ((t : Tables) × Loads (state_of t) (Err e)) → r ≡ Err TreeFault → X

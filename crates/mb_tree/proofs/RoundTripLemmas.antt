@@ -7,6 +7,7 @@ use Rattle.std.specs.Str.{bytes_eq}
 use Rattle.std.proofs.lemmas.Bool.{and_parts, false≢true, ltb-true, not-true}
 use Rattle.std.proofs.lemmas.Cmp.{nat_list_cmp_total}
 use Rattle.std.proofs.lemmas.List.Elements.{All-cons, All-head, All-nil, All-tail}
+use Rattle.std.proofs.lemmas.Option.{same_Some}
 use Rattle.std.proofs.lemmas.Slice.Eq.{bytes_eq-Decides}
 use Rattle.mb_edit.proofs.PassedLemmas.{holds, pass_first, pass_rest}
 use Rattle.mb_insert.proofs.ChosenLemmas.{put_in_turn}
@@ -25,7 +26,7 @@ use Rattle.mb_tables.specs.Tiles.{TileSet}
 use Rattle.mb_tables.specs.declared.error.MbtError.{MbtError}
 use Rattle.mb_tables.specs.declared.error.MbtError.TheVariants.{DuplicateValues, InconsistentTileFormats, UnsupportedFileExtension}
 use Rattle.mb_tree.proofs.CountLemmas.{tiles_are}
-use Rattle.mb_tree.proofs.FileLemmas.{same_duplicates, same_places, some_is}
+use Rattle.mb_tree.proofs.FileLemmas.{same_duplicates, same_places}
 use Rattle.mb_tree.proofs.PackLemmas.{all_fit, board, paths_pass, unnamed}
 use Rattle.mb_tree.proofs.PlaceLemmas.{AreOnBoard, IsPlaced, all_more, file_back, narrow, turned_back, turned_within}
 use Rattle.mb_tree.proofs.PlainLemmas.{named}
@@ -53,7 +54,7 @@ all_placed scheme (f ∷ fs) fit = by (tile_path f.0) (All-head IsFit f.0 (paths
     by (Some t) here rest = All-cons IsPlaced (new_tile scheme f.1 t) (batch_of scheme fs) (board scheme f.1 t here) rest
 
 same_word : (f g : FileFormat) → bytes_eq (format_word f) (format_word g) ≡ true → f ≡ g
-same_word f g h = some_is f g (sym (named f) ∙ (ap format_of ((bytes_eq-Decides (format_word f) (format_word g)).0 h) ∙ named g))
+same_word f g h = same_Some f g (sym (named f) ∙ (ap format_of ((bytes_eq-Decides (format_word f) (format_word g)).0 h) ∙ named g))
 
 its_format : (format : FileFormat) (o : Option FileFormat) → same_format (Some format) o ≡ true → o ≡ Some format
 its_format format None h = absurd (false≢true h)

@@ -30,6 +30,7 @@ use Rattle.mb_tree.specs.Unpacked.{IsFront, IsUnpacking, file_of, files_by, file
 use Rattle.mb_tree.specs.Wanting.{is_wanting}
 use Rattle.mb_tree.specs.declared.format.FileFormat.{FileFormat}
 use Rattle.mb_tree.specs.declared.scheme.TileScheme.{TileScheme}
+use Rattle.mb_edit.proofs.EntryLemmas.{blob_of}
 
 abbrev Entry : Type 0
 Entry = Place × Option (List ℕ)
@@ -152,10 +153,6 @@ module _ (scheme : TileScheme) (tells : Bool) (told : Tables) (shows : Bool) (ol
         }
 
 -- the file of one tile
-bytes_of : (o : Option (List ℕ)) (bytes : List ℕ) → blob_cell o ≡ Blob bytes → o ≡ Some bytes
-bytes_of (Some b) bytes h = let same : b ≡ bytes = cc in ap Some same
-bytes_of None bytes h = cc
-
 pub back : (side row : ℕ) → row < side → side - 1 - (side - 1 - row) ≡ row
 back side row lt = omega arith
 
@@ -172,7 +169,7 @@ wrote (Ok u) scheme format tiles i old new c cell path bytes lt within here is a
         let name : path ≡ path_at scheme format e.0 = at ∙ (sym (same_path scheme format c within) ∙ ap (path_at scheme format) (sym h.0)) in
         step
         ∙ (ap (λ p. insert old p bytes) name
-        ∙ (ap (λ o. with_file old (option_map (λ b. (path_at scheme format e.0, b)) o)) (sym (bytes_of e.1 bytes (h.1 ∙ is)))
+        ∙ (ap (λ o. with_file old (option_map (λ b. (path_at scheme format e.0, b)) o)) (sym (blob_of e.1 bytes (h.1 ∙ is)))
         ∙ ap (λ o. with_file old (option_and_then (file_of scheme format) o)) (sym found)))
 
 -- frames of calls in turn
