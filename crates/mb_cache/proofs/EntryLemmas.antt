@@ -21,6 +21,7 @@ use Rattle.mb_cache.specs.declared.moments.UnixSeconds.{UnixSeconds}
 use Rattle.mb_tables.specs.Tiles.{Place}
 use Rattle.mb_tables.specs.declared.cell.Cell.{Cell}
 use Rattle.mb_tables.specs.declared.cell.Cell.TheVariants.{Null, Int, Text, Blob, Other}
+use Rattle.mb_lists.proofs.Items.{equal_of}
 
 pub equal_entries : IsEquivalence (eq_by_cmp entry_cmp)
 equal_entries = eq_by_cmp_equiv entries_total
@@ -29,11 +30,6 @@ then_equal : (a b : Ordering) → ordering_then a b ≡ Equal → (a ≡ Equal) 
 then_equal Less b h = cc
 then_equal Equal b h = (refl, h)
 then_equal Greater b h = cc
-
-is_equal : (r : Ordering) → is_eq r ≡ true → r ≡ Equal
-is_equal Less h = cc
-is_equal Equal h = refl
-is_equal Greater h = cc
 
 same_parts : (a b : Entry) → a.group ≡ b.group → a.expires ≡ b.expires → a.zoom ≡ b.zoom → a.column ≡ b.column → a.row ≡ b.row → a ≡ b
 same_parts a b g e z c r = λ i. record { group = g i; expires = e i; zoom = z i; column = c i; row = r i }
@@ -48,7 +44,7 @@ entries_antisymmetric a b h =
 
 -- entries that compare as equal are the same
 pub same_entry : (a b : Entry) → eq_by_cmp entry_cmp a b ≡ true → a ≡ b
-same_entry a b h = entries_antisymmetric a b (is_equal (entry_cmp a b) h)
+same_entry a b h = entries_antisymmetric a b (equal_of (entry_cmp a b) h)
 
 pub entry_itself : (a : Entry) → eq_by_cmp entry_cmp a a ≡ true
 entry_itself a = ap is_eq (tied_itself entries_total a)

@@ -1,5 +1,6 @@
 -- A cache agrees with its tables after its first entries were thrown out.
 use Rattle.std.proofs.Common.{◌≡◌, ◌∙◌, ap, sym, subst, refl, ℕ, ◌<◌, ◌&&◌, ◌||◌, ◌++◌, Bool, true, false, not, cond, List, [], ◌∷◌, Option, Some, None, filter, get_or, length, take, drop, take-append-drop, set, suc, zero, arith}
+use Rattle.std.proofs.Math.Bool.{or-false}
 use Rattle.std.specs.Prelude.{All, option_to_list, position}
 use Rattle.std.specs.List.{list_any}
 use Rattle.std.specs.Ordering.{eq_by_cmp}
@@ -10,13 +11,14 @@ use Rattle.std.proofs.lemmas.List.Folds.{list_any-append, list_any_at, list_any_
 use Rattle.std.proofs.lemmas.List.Quantifiers.{position-Some}
 use Rattle.mb_cache.proofs.EntryLemmas.{entry_itself, equal_entries, has-drop, same_entry, sorted_drop}
 use Rattle.mb_cache.proofs.ListLemmas.{alone_is, any_filter, any_same, filter_same, none_left}
-use Rattle.mb_cache.proofs.RowLemmas.{entry_there, entry_under, one_row, own_key, place_itself}
+use Rattle.mb_cache.proofs.RowLemmas.{entry_there, entry_under, one_row, own_key}
 use Rattle.mb_cache.proofs.SetLemmas.{set_after}
 use Rattle.mb_cache.specs.Entries.{IsCacheRow, entry_of, has_entry, place_in, row_place}
 use Rattle.mb_cache.specs.EntryOrder.{entry_cmp}
 use Rattle.mb_cache.specs.Evicting.{AreDeletes, IsDelete}
 use Rattle.mb_cache.specs.State.{Agrees, without}
 use Rattle.mb_cache.specs.declared.entries.Entry.{Entry}
+use Rattle.mb_load.proofs.PutRowLemmas.{tied}
 use Rattle.mb_load.specs.Changing.{tile_key}
 use Rattle.mb_store.specs.Changes.{same_key, with_change}
 use Rattle.mb_store.specs.Committing.{Commits, is_changed}
@@ -68,11 +70,7 @@ module _ (cs : List Change) (c : Change) (row : List Cell) where
           ap (list_any test) put ∙ (any_set test cs i c c (sym same) at.0 ∙ one_more (list_any test cs) (test c) (λ h. list_any_at test cs i c at.0 (same ∙ h)))
       by None e =
           let put : with_change cs c ≡ cs ++ c ∷ [] = rw (e) refl in
-          ap (list_any test) put ∙ (list_any-append test cs (c ∷ []) ∙ ap (λ b. list_any test cs || b) (or_false (test c)))
-        where
-          or_false : (b : Bool) → (b || false) ≡ b
-          or_false true = refl
-          or_false false = refl
+          ap (list_any test) put ∙ (list_any-append test cs (c ∷ []) ∙ ap (λ b. list_any test cs || b) (or-false (test c)))
 
   pub deletes_kept : All IsDelete cs → IsDelete c → All IsDelete (with_change cs c)
   deletes_kept all one = by (position (λ d. same_key d c) cs) refl
@@ -89,11 +87,7 @@ deletes_more es e cs c table key none are = record {
 }
   where
     one : (row : List Cell) → (list_any (λ e. has_key TileCache (tile_key (place_in e)) row) es || (table_eq c.table TileCache && has_key TileCache c.key row)) ≡ (list_any (λ e. has_key TileCache (tile_key (place_in e)) row) es || (has_key TileCache (tile_key (place_in e)) row || false))
-    one row = ap (λ b. list_any (λ e. has_key TileCache (tile_key (place_in e)) row) es || b) (ap (λ x. table_eq x TileCache && has_key TileCache c.key row) table ∙ (ap (λ k. has_key TileCache k row) key ∙ or_false (has_key TileCache (tile_key (place_in e)) row)))
-      where
-        or_false : (b : Bool) → b ≡ (b || false)
-        or_false true = refl
-        or_false false = refl
+    one row = ap (λ b. list_any (λ e. has_key TileCache (tile_key (place_in e)) row) es || b) (ap (λ x. table_eq x TileCache && has_key TileCache c.key row) table ∙ (ap (λ k. has_key TileCache k row) key ∙ sym (or-false (has_key TileCache (tile_key (place_in e)) row))))
 
 -- an entry of a cache has a row, so that another row at its place is that row
 module _ (t : Tables) (es : List Entry) (agrees : Agrees t es) (sound : IsSound t) where
@@ -114,10 +108,10 @@ module _ (t : Tables) (es : List Entry) (agrees : Agrees t es) (sound : IsSound 
       by false f false g = f ∙ sym g
       by false f true g =
           let place : row_place row ≡ place_in e = sym (entry_there row) ∙ ap place_in (same_entry (entry_of row) e g) in
-          absurd (false≢true (sym f ∙ (own_key (place_in e) row good ∙ (ap (eq_by_cmp place_cmp (place_in e)) place ∙ place_itself (place_in e)))))
+          absurd (false≢true (sym f ∙ (own_key (place_in e) row good ∙ (ap (eq_by_cmp place_cmp (place_in e)) place ∙ tied (place_in e)))))
       by true f false g =
           let only : filter (has_key TileCache (tile_key (place_in e))) rows ≡ row ∷ [] = alone_is (has_key TileCache (tile_key (place_in e))) rows k d far f (one_row (place_in e) rows (sound.keys TileCache agrees.keyed)) in
-          let is : (eq_by_cmp entry_cmp e (entry_of row) || false) ≡ true = sym (ap (list_any (λ r. eq_by_cmp entry_cmp e (entry_of r))) only) ∙ (entry_under (place_in e) e true rows (place_itself (place_in e)) agrees.rows ∙ (sym (agrees.members e) ∙ there)) in
+          let is : (eq_by_cmp entry_cmp e (entry_of row) || false) ≡ true = sym (ap (list_any (λ r. eq_by_cmp entry_cmp e (entry_of r))) only) ∙ (entry_under (place_in e) e true rows (tied (place_in e)) agrees.rows ∙ (sym (agrees.members e) ∙ there)) in
           absurd (false≢true (sym (equal_entries.symm e (entry_of row) ∙ g) ∙ or_only (eq_by_cmp entry_cmp e (entry_of row)) is))
         where
           or_only : (b : Bool) → (b || false) ≡ true → b ≡ true

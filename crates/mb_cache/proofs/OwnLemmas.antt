@@ -10,10 +10,9 @@ use Rattle.mb_cache.specs.Seen.{AreEntries, row_refusal}
 use Rattle.mb_cache.specs.State.{Agrees}
 use Rattle.mb_cache.specs.declared.entries.Entry.{Entry}
 use Rattle.mb_constraints.specs.Described.{is_metadata}
-use Rattle.mb_load.proofs.StateLemmas.{made}
+use Rattle.mb_load.proofs.StateLemmas.{made, store_free}
 use Rattle.mb_store.specs.Errors.{of_store}
 use Rattle.mb_store.specs.declared.store.StoreError.{StoreError}
-use Rattle.mb_store.specs.declared.store.StoreError.TheVariants.{Fault, OutOfMemory}
 use Rattle.mb_tables.specs.Described.{is_keyed}
 use Rattle.mb_tables.specs.Detection.{layout_of}
 use Rattle.mb_tables.specs.Refusals.{is_free}
@@ -38,10 +37,6 @@ module _ (r : Result (List Entry) MbtError) (e f : MbtError) (is : r ≡ Err e) 
 
   pub opens_free : (t : Tables) → is_free f ≡ true → OpensAs t r
   opens_free t free = opens_err t (λ h. absurd (false≢true (sym h ∙ free)))
-
-store_free : (s : StoreError) → is_free (of_store s) ≡ true
-store_free Fault = refl
-store_free OutOfMemory = refl
 
 pub opens_store : (r : Result (List Entry) MbtError) (e : MbtError) (s : StoreError) → r ≡ Err e → e ≡ of_store s → (t : Tables) → OpensAs t r
 opens_store r e s is same t = opens_free r e (of_store s) is same t (store_free s)

@@ -1,5 +1,6 @@
 -- The entries that expire are those of the rows that do.
-use Rattle.std.proofs.Common.{◌≡◌, ◌∙◌, ap, sym, refl, ◌&&◌, ◌||◌, Bool, true, false, not, cond, List, [], ◌∷◌, ◌++◌, filter, get_or, length, map}
+use Rattle.std.proofs.Common.{◌≡◌, ◌∙◌, ap, sym, refl, ◌&&◌, Bool, true, false, not, cond, List, [], ◌∷◌, ◌++◌, filter, get_or, length, map}
+use Rattle.std.proofs.Math.Bool.{and-true}
 use Rattle.std.specs.Prelude.{All, AllPairs}
 use Rattle.std.specs.List.{AllByRecursion, IsDistinct, list_any, take_while}
 use Rattle.std.specs.Ordering.{eq_by_cmp}
@@ -13,13 +14,15 @@ use Rattle.std.proofs.lemmas.Map.Keys.{IsDistinct-from_sorted}
 use Rattle.std.proofs.lemmas.Map.Made.{length-from_same_keys}
 use Rattle.mb_cache.proofs.EntryLemmas.{entry_itself, equal_entries, expired_are, same_entry}
 use Rattle.mb_cache.proofs.ListLemmas.{any_filter, filter_same}
-use Rattle.mb_cache.proofs.RowLemmas.{entry_there, own_key, place_itself}
+use Rattle.mb_cache.proofs.RowLemmas.{entry_there, own_key}
+use Rattle.mb_cache.proofs.SeenLemmas.{any_map}
 use Rattle.mb_cache.specs.Entries.{IsCacheRow, entry_at, entry_of, has_entry, is_expired, is_expired_entry, place_in, row_place}
 use Rattle.mb_cache.specs.EntryOrder.{entry_cmp}
 use Rattle.mb_cache.specs.Purging.{expired_rows, without_expired}
 use Rattle.mb_cache.specs.State.{Agrees, without}
 use Rattle.mb_cache.specs.declared.entries.Entry.{Entry}
 use Rattle.mb_cache.specs.declared.moments.UnixSeconds.{UnixSeconds}
+use Rattle.mb_load.proofs.PutRowLemmas.{tied}
 use Rattle.mb_load.specs.Changing.{front}
 use Rattle.mb_store.specs.Store.{IsSound, with_rows}
 use Rattle.mb_tables.proofs.CellLemmas.{cells_eq-Decides}
@@ -31,10 +34,6 @@ use Rattle.mb_tables.specs.Tiles.{Place, cell_at}
 use Rattle.mb_tables.specs.declared.cell.Cell.{Cell}
 use Rattle.mb_tables.specs.declared.cell.Cell.TheVariants.{Null, Int, Text, Blob, Other}
 use Rattle.mb_tables.specs.declared.table.TableName.TheVariants.{TileCache}
-
-any_map : {X Y : Type 0} (p : Y → Bool) (f : X → Y) (xs : List X) → list_any p (map f xs) ≡ list_any (λ x. p (f x)) xs
-any_map p f [] = refl
-any_map p f (x ∷ xs) = ap (λ b. p (f x) || b) (any_map p f xs)
 
 -- an entry expires by its cell
 by_cell : (now : UnixSeconds) (p : Place) (cell : Cell) → is_expired_entry now (entry_at p cell) ≡ is_expired now cell
@@ -49,7 +48,7 @@ by_row now row = by_cell now (row_place row) (cell_at 4 row)
 
 -- rows that their index keeps apart have different entries
 key_cells_of : (row : List Cell) → IsCacheRow row → key_of TileCache row ≡ front (row_place row)
-key_cells_of row good = (cells_eq-Decides (key_of TileCache row) (front (row_place row))).0 (own_key (row_place row) row good ∙ place_itself (row_place row))
+key_cells_of row good = (cells_eq-Decides (key_of TileCache row) (front (row_place row))).0 (own_key (row_place row) row good ∙ tied (row_place row))
 
 rows_apart : (r s : List Cell) → IsCacheRow r → IsCacheRow s → clash TileCache r s ≡ false → eq_by_cmp entry_cmp (entry_of r) (entry_of s) ≡ false
 rows_apart r s first second apart = false_from_ne_true (eq_by_cmp entry_cmp (entry_of r) (entry_of s)) (λ h.
@@ -78,11 +77,7 @@ module _ (now : UnixSeconds) (t : Tables) (es : List Entry) (agrees : Agrees t e
   has_expired e = ap (λ xs. has_entry xs e) (expired_are now es agrees.ordered) ∙ any_filter (eq_by_cmp entry_cmp e) (is_expired_entry now) (is_expired_entry now e) es (λ k d far h. ap (is_expired_entry now) (sym (same_entry e (get_or es k d) h)))
 
   left_same : All (λ row. not (has_entry (take_while (is_expired_entry now) es) (entry_of row)) ≡ not (is_expired now (cell_at 4 row))) rows
-  left_same k d far = ap not (has_expired (entry_of (get_or rows k d)) ∙ (ap (λ b. is_expired_entry now (entry_of (get_or rows k d)) && b) (has_row k d far) ∙ (and_true (is_expired_entry now (entry_of (get_or rows k d))) ∙ by_row now (get_or rows k d))))
-    where
-      and_true : (b : Bool) → (b && true) ≡ b
-      and_true true = refl
-      and_true false = refl
+  left_same k d far = ap not (has_expired (entry_of (get_or rows k d)) ∙ (ap (λ b. is_expired_entry now (entry_of (get_or rows k d)) && b) (has_row k d far) ∙ (and-true (is_expired_entry now (entry_of (get_or rows k d))) ∙ by_row now (get_or rows k d))))
 
   pub purged_same : without (take_while (is_expired_entry now) es) t ≡ without_expired now t
   purged_same = ap (λ rs. record { descriptions = t.descriptions; rows = with_rows t.rows TileCache rs }) (filter_same (λ row. not (has_entry (take_while (is_expired_entry now) es) (entry_of row))) (λ row. not (is_expired now (cell_at 4 row))) rows left_same)

@@ -8,10 +8,10 @@ use Rattle.std.specs.Set.{remove_key}
 use Rattle.std.specs.List.{list_any}
 use Rattle.std.specs.List.Sorted.{IsStrictlySortedBy}
 use Rattle.std.specs.Ordering.{eq_by_cmp}
-use Rattle.std.proofs.lemmas.Bool.{false≢true}
+use Rattle.std.proofs.lemmas.Bool.{false≢true, not-true}
 use Rattle.std.proofs.lemmas.List.Elements.{All-cons, All-filter, All-head, All-nil, filter_passes}
 use Rattle.mb_cache.proofs.EntryLemmas.{back_again, equal_entries, has-insert_key, other_entry, placed_there, same_entry}
-use Rattle.mb_cache.proofs.RowLemmas.{entry_elsewhere, entry_there, entry_under, no_tile, own_key, place_itself, put_entry, put_good, row_alone}
+use Rattle.mb_cache.proofs.RowLemmas.{entry_elsewhere, entry_there, entry_under, no_tile, own_key, put_entry, put_good, row_alone}
 use Rattle.mb_cache.proofs.SetLemmas.{set_after}
 use Rattle.mb_cache.specs.Entries.{IsCacheRow, entry_at, entry_of, has_entry, place_in, row_place}
 use Rattle.mb_cache.specs.EntryOrder.{entry_cmp}
@@ -22,6 +22,7 @@ use Rattle.mb_cache.specs.declared.moments.CacheEntryMeta.{CacheEntryMeta}
 use Rattle.mb_lists.specs.Entries.{place_at}
 use Rattle.mb_lists.proofs.Items.{equal_of}
 use Rattle.mb_lists.proofs.Places.{places_antisymmetric}
+use Rattle.mb_load.proofs.PutRowLemmas.{tied}
 use Rattle.mb_load.specs.Changing.{tile_key}
 use Rattle.mb_load.specs.LoadedFrom.{IsOnBoard}
 use Rattle.mb_store.proofs.Committed.{all_committed, others_stay}
@@ -38,10 +39,6 @@ use Rattle.mb_tables.specs.declared.cell.Cell.TheVariants.{Blob}
 use Rattle.tile_ids.specs.Coord.{Coord}
 use Rattle.mb_tables.specs.declared.description.TableDesc.{TableDesc}
 use Rattle.mb_tables.specs.declared.table.TableName.TheVariants.{Metadata, TileCache}
-
-not_from : (b : Bool) → not b ≡ true → b ≡ false
-not_from true h = absurd (false≢true h)
-not_from false h = refl
 
 -- whether an entry is that of a row, if there is one
 abbrev of_row : Entry → Option (List Cell) → Bool
@@ -115,7 +112,7 @@ module _ (t : Tables) (es : List Entry) (agrees : Agrees t es) (sound : IsSound 
 
 -- what was added is taken back
 pub back_as : (added : Bool) (es fs : List Entry) (k : Entry) → added ≡ not (has_entry es k) → fs ≡ insert_key entry_cmp es k → OnFalse added (fs ≡ es) → taken_back added k fs ≡ es
-back_as true es fs k new is same = ap (remove_key (is_at (entry_cmp k))) is ∙ back_again es k (not_from (has_entry es k) (sym new))
+back_as true es fs k new is same = ap (remove_key (is_at (entry_cmp k))) is ∙ back_again es k (not-true (has_entry es k) (sym new))
 back_as false es fs k new is same = same
 
 -- the clause of a put as that of a tile
@@ -142,7 +139,7 @@ module _ (t u : Tables) (es fs gs : List Entry) (p : Place) (board : IsOnBoard p
   under = All-head (λ (c : Change). table_eq c.table TileCache ≡ true → filter (has_key TileCache c.key) after ≡ option_to_list c.row) _ [] (made.tables TileCache).changed refl
 
   others : filter (λ r. not (has_key TileCache (tile_key p) r)) after ≡ filter (λ r. not (has_key TileCache (tile_key p) r)) before
-  others = others_stay (put_row p row) TileCache before after (made.tables TileCache) (λ r. not (has_key TileCache (tile_key p) r)) (λ r h. ap (λ b. b || false) (not_from (has_key TileCache (tile_key p) r) h))
+  others = others_stay (put_row p row) TileCache before after (made.tables TileCache) (λ r. not (has_key TileCache (tile_key p) r)) (λ r h. ap (λ b. b || false) (not-true (has_key TileCache (tile_key p) r) h))
 
   good : All IsCacheRow after
   good = all_committed (put_row p row) TileCache before after (made.tables TileCache) IsCacheRow agrees.rows (All-cons (λ (c : Change). table_eq c.table TileCache ≡ true → IfSome c.row IsCacheRow) _ [] (λ _. put_good p board m contents whole) (All-nil (λ (c : Change). table_eq c.table TileCache ≡ true → IfSome c.row IsCacheRow)))
@@ -163,7 +160,7 @@ module _ (t u : Tables) (es fs gs : List Entry) (p : Place) (board : IsOnBoard p
   member e false at =
       let f : List Cell → Bool = λ r. eq_by_cmp entry_cmp e (entry_of r) in
       let now : list_any f after ≡ list_any f before = sym (entry_elsewhere p e false after at good) ∙ (ap (list_any f) others ∙ entry_elsewhere p e false before at agrees.rows) in
-      let far : (q : Place) → q ≡ p → place_in e ≡ q → ⊥ = λ q same here. false≢true (sym at ∙ (ap (eq_by_cmp place_cmp p) (here ∙ same) ∙ place_itself p)) in
+      let far : (q : Place) → q ≡ p → place_in e ≡ q → ⊥ = λ q same here. false≢true (sym at ∙ (ap (eq_by_cmp place_cmp p) (here ∙ same) ∙ tied p)) in
       let apart : eq_by_cmp entry_cmp e new ≡ false = other_entry e new (λ same. far p refl (ap place_in same ∙ placed_there p (moment_cell m.expires))) in
       kept_entry e ∙ (elsewhere e new (row_at t p) (has_entry es e) apart (gone (row_at t p) old_there far) ∙ (agrees.members e ∙ sym now))
     where

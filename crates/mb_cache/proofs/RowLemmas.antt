@@ -2,8 +2,7 @@
 use Rattle.std.proofs.Common.{◌≡◌, ◌∙◌, ap, sym, refl, ℕ, ◌≤◌, ◌^◌, ◌&&◌, Bool, true, false, not, List, Option, Some, None, filter, get_or, length, is_some, unwrap_or}
 use Rattle.std.specs.Prelude.{All, AllPairs, find, option_copied, option_to_list}
 use Rattle.std.specs.List.{list_any}
-use Rattle.std.specs.Ordering.{eq_by_cmp, is_eq}
-use Rattle.std.specs.Cmp.{tied_itself}
+use Rattle.std.specs.Ordering.{eq_by_cmp}
 use Rattle.std.proofs.lemmas.Bool.{false≢true, lt-ltb}
 use Rattle.mb_cache.proofs.EntryLemmas.{placed_there, same_entry}
 use Rattle.mb_cache.proofs.ListLemmas.{any_filter, found_alone}
@@ -17,16 +16,12 @@ use Rattle.mb_lists.specs.Entries.{text_cell}
 use Rattle.mb_load.proofs.KeyReading.{alone_under, key_of_place}
 use Rattle.mb_load.specs.Changing.{tile_key}
 use Rattle.mb_load.specs.LoadedFrom.{IsOnBoard}
-use Rattle.mb_tables.proofs.TileLemmas.{places_total}
 use Rattle.mb_tables.specs.CellKinds.{is_number, is_text}
 use Rattle.mb_tables.specs.Key.{clash, has_key}
 use Rattle.mb_tables.specs.Tiles.{Place, cell_at, contents_of, place_cmp, place_of, tile_of}
 use Rattle.mb_tables.specs.declared.cell.Cell.{Cell}
 use Rattle.mb_tables.specs.declared.kind.MbtType.TheVariants.{Cache}
 use Rattle.mb_tables.specs.declared.table.TableName.TheVariants.{TileCache}
-
-pub place_itself : (p : Place) → eq_by_cmp place_cmp p p ≡ true
-place_itself p = ap is_eq (tied_itself places_total p)
 
 -- a row of a place with contents is that of a tile, and no other row is
 pub tile_whole : (row : List Cell) (cell : Cell) (p : Place) (c : Option (List ℕ)) → place_of row ≡ Some p → contents_of cell ≡ Some c → tile_of row cell ≡ Some (p, c)

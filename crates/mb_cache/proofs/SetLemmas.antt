@@ -1,5 +1,5 @@
 -- The tables of a cache load, and load again where rows of tiles alone were changed.
-use Rattle.std.proofs.Common.{◌≡◌, ◌∙◌, ap, sym, subst, refl, ◌||◌, Bool, true, false, cond, List, [], ◌∷◌, Option, Some, None, Ok, Err, get_or}
+use Rattle.std.proofs.Common.{◌≡◌, ◌∙◌, ap, sym, subst, refl, ◌||◌, Bool, true, false, cond, List, [], ◌∷◌, Option, None, Ok, Err, get_or}
 use Rattle.std.specs.Prelude.{All}
 use Rattle.std.specs.Option.{option_or}
 use Rattle.std.proofs.lemmas.List.Elements.{All-nil}
@@ -13,7 +13,7 @@ use Rattle.mb_constraints.specs.Described.{index_missing, metadata_missing}
 use Rattle.mb_constraints.specs.Hashes.{wrong_content_hash}
 use Rattle.mb_constraints.specs.TileRows.{bad_tile}
 use Rattle.mb_lists.specs.Contents.{are_apart, fronts}
-use Rattle.mb_load.proofs.RowsPass.{ArePassing, pass_all, passing}
+use Rattle.mb_load.proofs.RowsPass.{ArePassing, both_none, pass_all, passing}
 use Rattle.mb_load.specs.LoadingOrder.{row_refusals}
 use Rattle.mb_load.specs.State.{held_in, state_of, stated, unless_refused}
 use Rattle.mb_store.specs.Store.{IsSound, created}
@@ -30,10 +30,6 @@ use Rattle.mb_tables.specs.declared.error.MbtError.{MbtError}
 use Rattle.mb_tables.specs.declared.error.MbtError.TheVariants.{InvalidTileIndex, NotACacheFile}
 use Rattle.mb_tables.specs.declared.kind.MbtType.TheVariants.{Cache}
 use Rattle.mb_tables.specs.declared.table.TableName.TheVariants.{Metadata, TileCache}
-
-both_none : (a b : Option MbtError) → option_or a b ≡ None → (a ≡ None) × (b ≡ None)
-both_none (Some x) b h = cc
-both_none None b h = (refl, h)
 
 module _ (t u : Tables) (set : IsCacheSet t) (described : u.descriptions ≡ t.descriptions) (named : u.rows Metadata ≡ t.rows Metadata) (sound : IsSound u) (keyed : is_keyed u.descriptions TileCache ≡ true) (good : All IsCacheRow (u.rows TileCache)) where
   refused : (option_or (metadata_missing t.descriptions) (option_or (index_missing t.descriptions Cache) (first_refusal (row_refusals Cache (t.rows Metadata) [] (t.rows TileCache)))) ≡ None)
