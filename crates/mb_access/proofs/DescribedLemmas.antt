@@ -1,18 +1,13 @@
 -- Answers from descriptions, and want of memory and faults in their place.
-use Rattle.std.proofs.Common.{◌≡◌, ◌∙◌, sym, Bool, true, List, Result, Err, refl}
+use Rattle.std.proofs.Common.{◌∙◌, sym, Bool, true, List, Result, Err, refl}
 use Rattle.std.proofs.lemmas.Bool.{false≢true}
 use Rattle.mb_access.specs.Described.{IsDescribed}
 use Rattle.mb_store.specs.Errors.{of_store}
 use Rattle.mb_store.specs.declared.store.StoreError.{StoreError}
-use Rattle.mb_store.specs.declared.store.StoreError.TheVariants.{Fault, OutOfMemory}
-use Rattle.mb_tables.specs.Refusals.{is_free}
 use Rattle.mb_tables.specs.Table.{Tables}
 use Rattle.mb_tables.specs.declared.description.TableDesc.{TableDesc}
 use Rattle.mb_tables.specs.declared.error.MbtError.{MbtError}
-
-pub store_free : (s : StoreError) → is_free (of_store s) ≡ true
-store_free Fault = refl
-store_free OutOfMemory = refl
+use Rattle.mb_load.proofs.StateLemmas.{store_free}
 
 -- the store failed, or memory was wanting
 pub described_err : {A : Type 0} (f : List TableDesc → Result A MbtError) (tells : Bool) (told : Tables) (s : StoreError) → IsDescribed f tells told (Err (of_store s))

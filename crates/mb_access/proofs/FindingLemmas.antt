@@ -1,14 +1,14 @@
 -- Where a tile stands among those of a set, by halving.
-use Rattle.std.proofs.Common.{◌≡◌, ◌∙◌, ap, sym, subst, arith, ⊎_elim, ℕ, zero, suc, ◌+◌, ◌<◌, ◌≤◌, Bool, true, false, cond, T, List, [], ◌∷◌, Option, Some, None, option_map, refl, is_eq, is_lt, is_some, unwrap_or, Ordering, Less, Equal, Greater}
+use Rattle.std.proofs.Common.{◌≡◌, ◌∙◌, ap, sym, subst, arith, ⊎_elim, ℕ, zero, suc, ◌+◌, ◌<◌, ◌≤◌, Bool, true, false, cond, List, [], ◌∷◌, Option, Some, None, option_map, refl, is_eq, is_lt, is_some, Ordering, Less, Equal, Greater}
 use Rattle.std.specs.Prelude.{IfSome, slice_get}
 use Rattle.std.specs.Cmp.{Equal-is}
 use Rattle.std.specs.FinMap.{contains_key, entries, entries_sorted, find, get, get-entries, is_sorted, len, len-entries}
 use Rattle.std.specs.FinMap.Entries.{below_all}
 use Rattle.std.specs.Option.{option_flatten}
 use Rattle.std.specs.Ordering.{eq_by_cmp, ordering_reverse}
-use Rattle.std.proofs.lemmas.Bool.{and_parts, cases_lt, false≢true, true≢false}
+use Rattle.std.proofs.lemmas.Bool.{and_parts, cases_lt, true≢false}
 use Rattle.std.proofs.lemmas.Cmp.{tied_itself}
-use Rattle.std.proofs.lemmas.Option.{none-some, slice_get-get_or, slice_get_within}
+use Rattle.std.proofs.lemmas.Option.{none-some, same_Some, slice_get-get_or, slice_get_within}
 use Rattle.mb_access.specs.Finding.{IsIndexOf}
 use Rattle.mb_access.specs.StreamSteps.{Tile, tile_at}
 use Rattle.mb_lists.proofs.Places.{places_antisymmetric}
@@ -17,18 +17,7 @@ use Rattle.mb_tables.proofs.TileLemmas.{places_total}
 use Rattle.mb_tables.specs.Tiles.{Place, TileSet, contents_of, place_cmp}
 use Rattle.mb_tables.specs.declared.cell.Cell.{Cell}
 use Rattle.tile_ids.specs.Coord.{Coord}
-
-is_true : (b : Bool) → T b → b ≡ true
-is_true true h = refl
-is_true false h = absurd h
-
-is_less : (o : Ordering) → is_lt o ≡ true → o ≡ Less
-is_less Less h = refl
-is_less Equal h = absurd (false≢true h)
-is_less Greater h = absurd (false≢true h)
-
-some_same : {A : Type 0} (x y : A) → Some x ≡ Some y → x ≡ y
-some_same x y e = ap (λ q. unwrap_or q x) e
+use Rattle.mb_metadata.proofs.OthersLemmas.{is_less, is_true}
 
 in_order : (tiles : TileSet) → is_sorted place_cmp (entries tiles) ≡ true
 in_order tiles = is_true _ (entries_sorted tiles)
@@ -39,21 +28,21 @@ turned p q o h = places_total.antisymm q p ∙ ap ordering_reverse h
 -- in a list in order each entry is below those behind it
 below_each : (p : Place) (es : List Tile) (k : ℕ) (e : Tile) → below_all place_cmp p es ≡ true → slice_get es k ≡ Some e → place_cmp p e.0 ≡ Less
 below_each p [] k e h at = absurd (none-some e at)
-below_each p (y ∷ es) zero e h at = ap (λ (x : Tile). place_cmp p x.0) (sym (some_same y e at)) ∙ is_less _ (and_parts _ _ h).0
+below_each p (y ∷ es) zero e h at = ap (λ (x : Tile). place_cmp p x.0) (sym (same_Some y e at)) ∙ is_less _ (and_parts _ _ h).0
 below_each p (y ∷ es) (suc k) e h at = below_each p es k e (and_parts _ _ h).1 at
 
 rises : (es : List Tile) (j k : ℕ) (x y : Tile) → is_sorted place_cmp es ≡ true → j < k → slice_get es j ≡ Some x → slice_get es k ≡ Some y → place_cmp x.0 y.0 ≡ Less
 rises [] j k x y s lt a b = absurd (none-some x a)
 rises (e ∷ es) zero zero x y s lt a b = absurd (omega (arith, lt))
 rises (e ∷ es) (suc j) zero x y s lt a b = absurd (omega (arith, lt))
-rises (e ∷ es) zero (suc k) x y s lt a b = ap (λ (z : Tile). place_cmp z.0 y.0) (sym (some_same e x a)) ∙ below_each e.0 es k y (and_parts _ _ s).0 b
+rises (e ∷ es) zero (suc k) x y s lt a b = ap (λ (z : Tile). place_cmp z.0 y.0) (sym (same_Some e x a)) ∙ below_each e.0 es k y (and_parts _ _ s).0 b
 rises (e ∷ es) (suc j) (suc k) x y s lt a b = rises es j k x y (and_parts _ _ s).1 (omega (arith, lt)) a b
 
 -- what stands at an index is found
 found_there : (es : List Tile) (i : ℕ) (e : Tile) → is_sorted place_cmp es ≡ true → slice_get es i ≡ Some e → find place_cmp e.0 es ≡ Some e.1
 found_there [] i e s at = absurd (none-some e at)
 found_there (x ∷ es) zero e s at =
-    subst (λ (y : Tile). find place_cmp y.0 (x ∷ es) ≡ Some y.1) (some_same x e at) (ap (λ o. cond (is_eq o) (Some x.1) (find place_cmp x.0 es)) (tied_itself places_total x.0))
+    subst (λ (y : Tile). find place_cmp y.0 (x ∷ es) ≡ Some y.1) (same_Some x e at) (ap (λ o. cond (is_eq o) (Some x.1) (find place_cmp x.0 es)) (tied_itself places_total x.0))
 found_there (x ∷ es) (suc i) e s at =
     ap (λ o. cond (is_eq o) (Some x.1) (find place_cmp e.0 es)) (turned x.0 e.0 Less (below_each x.0 es i e (and_parts _ _ s).0 at)) ∙ found_there es i e (and_parts _ _ s).1 at
 
@@ -81,7 +70,7 @@ all_between tiles p n e = record {
 
 module _ (tiles : TileSet) (p : Place) (low high middle : ℕ) (e : Tile) (at : slice_get (entries tiles) middle ≡ Some e) (first : low ≤ middle) (last : middle < high) (w : Between tiles p low high) where
   same_there : (k : ℕ) (x : Tile) → k ≡ middle → slice_get (entries tiles) k ≡ Some x → x ≡ e
-  same_there k x is here = some_same x e (sym here ∙ (ap (slice_get (entries tiles)) is ∙ at))
+  same_there k x is here = same_Some x e (sym here ∙ (ap (slice_get (entries tiles)) is ∙ at))
 
   behind : place_cmp e.0 p ≡ Less → Between tiles p (middle + 1) high
   behind h = record { order = omega (arith, last); within = w.within; below = before; above = w.above }

@@ -2,7 +2,6 @@
 use Rattle.std.proofs.Common.{◌≡◌, ◌∙◌, ap, sym, subst, ℕ, ◌+◌, ◌-◌, ◌++◌, ◌&&◌, Bool, true, false, cond, not, List, [], ◌∷◌, Option, Some, None, Result, Ok, Err, arith, filter_map, get_or, is_some, length, map, refl, take}
 use Rattle.std.specs.Prelude.{All, option_and_then, option_map, slice_get}
 use Rattle.std.specs.List.{cons_option, list_any}
-use Rattle.std.specs.Option.{option_or}
 use Rattle.std.specs.Ordering.{eq_by_cmp}
 use Rattle.std.specs.FinMap as fin
 use Rattle.std.specs.FinMap.{contains_key, from_entries, get, get-from_entries, len, len-empty, len-insert}
@@ -18,7 +17,8 @@ use Rattle.mb_lists.proofs.Items.{found_itself, look_up}
 use Rattle.mb_lists.proofs.Sorting.{apart_from_distinct}
 use Rattle.mb_lists.specs.Contents.{content_rows}
 use Rattle.mb_lists.specs.Keyed.{are_distinct, entries_by}
-use Rattle.mb_load.proofs.RowsPass.{holds, passing}
+use Rattle.mb_load.proofs.RowsPass.{both_none, holds, passing}
+use Rattle.mb_load.proofs.StateLemmas.{named_rows}
 use Rattle.mb_load.specs.LoadingOrder.{refusals}
 use Rattle.mb_load.specs.State.{State, held_in, state_of, stated, unless_refused}
 use Rattle.mb_tables.proofs.TileLemmas.{get-tiles_of, places_total}
@@ -27,30 +27,19 @@ use Rattle.mb_tables.specs.Detection.{layout_of}
 use Rattle.mb_tables.specs.Kind.{tile_table}
 use Rattle.mb_tables.specs.Refusals.{first_refusal, unless}
 use Rattle.mb_tables.specs.Table.{Tables}
-use Rattle.mb_tables.specs.Tiles.{Place, cell_at, content_of, pairs_by_id, pairs_of, place_cmp, place_of, tile_of}
+use Rattle.mb_tables.specs.Tiles.{Place, cell_at, content_of, pairs_of, place_cmp, place_of, tile_of}
 use Rattle.mb_tables.specs.declared.cell.Cell.{Cell}
 use Rattle.mb_tables.specs.declared.error.MbtError.{MbtError}
 use Rattle.mb_tables.specs.declared.error.MbtError.TheVariants.{InvalidDataFormat, InvalidTileIndex, NoUniquenessConstraint}
 use Rattle.mb_tables.specs.declared.kind.MbtType.{MbtType}
 use Rattle.mb_tables.specs.declared.kind.MbtType.TheVariants.{Flat, FlatWithHash, Normalized, Cache}
-use Rattle.mb_tables.specs.declared.kind.NormalizedSchema.{NormalizedSchema}
 use Rattle.mb_tables.specs.declared.kind.NormalizedSchema.TheVariants.{Hash, DedupId}
 use Rattle.mb_tables.specs.declared.table.TableName.TheVariants.{Metadata}
+use Rattle.mb_metadata.proofs.UpdateLemmas.{ok_same}
 
 module _ (s : State) (row : List Cell) where
   abbrev tile_there : Option Place → Option Tile
   tile_there o = option_and_then (λ place. option_map (λ contents. (place, contents)) (get s.tiles place)) o
-
--- the tiles of tables by their rows
-named_row : (view : Bool) (schema : NormalizedSchema) (contents : List (List Cell)) (row : List Cell) → cond (is_null (cell_at 3 row)) None (tile_of row (content_of contents (cell_at 3 row))) ≡ tile_in (Normalized view schema) contents row
-named_row view schema contents row = by (is_null (cell_at 3 row))
-  where
-    by : (b : Bool) → cond b None (tile_of row (content_of contents (cell_at 3 row))) ≡ option_and_then (tile_of row) (cond b None (Some (content_of contents (cell_at 3 row))))
-    by true = refl
-    by false = refl
-
-named_rows : (view : Bool) (schema : NormalizedSchema) (contents rows : List (List Cell)) → pairs_by_id rows contents ≡ filter_map (tile_in (Normalized view schema) contents) rows
-named_rows view schema contents rows = λ i. filter_map (λ row. named_row view schema contents row i) rows
 
 pairs_same : (layout : MbtType) (t : Tables) → pairs_of layout t ≡ filter_map (tile_in layout (content_rows layout t)) (t.rows (tile_table layout))
 pairs_same Flat t = refl
@@ -68,13 +57,6 @@ pub record HasPassed (t : Tables) (s : State) : Type 0 where
   pub good : All (λ row. bad_tile s.layout (content_rows s.layout t) row ≡ None) (t.rows (tile_table s.layout))
   pub apart : are_distinct place_cmp (places (pairs_of s.layout t)) ≡ true
 
-both_none : (a b : Option MbtError) → option_or a b ≡ None → (a ≡ None) × (b ≡ None)
-both_none (Some x) b h = cc
-both_none None b h = (refl, h)
-
-same_state : (x y : State) → ◌≡◌ {A = Result State MbtError} (Ok x) (Ok y) → x ≡ y
-same_state x y h = cc
-
 no_state : (e : MbtError) (s : State) → ◌≡◌ {A = Result State MbtError} (Err e) (Ok s) → ⊥
 no_state e s h = cc
 
@@ -89,7 +71,7 @@ has_passed t s h = by (layout_of t.descriptions) h
         let p = passing layout (t.rows Metadata) (content_rows layout t) (t.rows (tile_table layout)) second.1 in
         let apart : are_distinct place_cmp (places (pairs_of layout t)) ≡ true =
         ap (λ (l : List Tile). are_distinct place_cmp (places l)) (pairs_same layout t) ∙ holds (are_distinct place_cmp (places (filter_map (tile_in layout (content_rows layout t)) (t.rows (tile_table layout))))) NoUniquenessConstraint p.apart in
-        subst (HasPassed t) (same_state (held_in layout t) s h) (record { held = refl; good = p.places; apart = apart })
+        subst (HasPassed t) (ok_same (held_in layout t) s h) (record { held = refl; good = p.places; apart = apart })
 
     by : (o : Option MbtType) → stated o t ≡ Ok s → HasPassed t s
     by None h = absurd (no_state InvalidDataFormat s h)

@@ -3,6 +3,7 @@ use Rattle.std.proofs.Common.{◌≡◌, ◌∙◌, ap, sym, subst, ℕ, ◌++�
 use Rattle.std.specs.Iterator.{Yields}
 use Rattle.std.specs.List.{cons_option, list_all}
 use Rattle.std.proofs.lemmas.Bool.{false≢true, and_parts}
+use Rattle.std.proofs.lemmas.Option.{none-some, same_Some}
 use Rattle.mb_access.specs.StreamRuns.{CoordItem, TileItem, place_in, tile_in}
 use Rattle.mb_access.specs.StreamSteps.{GivesCoord, GivesTile, Tile, left_of, set_of}
 use Rattle.mb_access.specs.Streams.{StreamsCoord, StreamsTile}
@@ -50,18 +51,12 @@ module _ {T A B : Type 0} (steps : T → Option A → T → Type 0) (left : T �
 some_none : {B : Type 0} (b : B) → Some b ≡ None → ⊥
 some_none b h = cc
 
-none_some : {B : Type 0} (b : B) → None ≡ Some b → ⊥
-none_some b h = cc
-
-one_place : {B : Type 0} (p q : B) → Some p ≡ Some q → p ≡ q
-one_place p q h = cc
-
 abbrev fronts : List Tile → List Place
 fronts es = map (λ (e : Tile). e.0) es
 
 coord_gives : (tiles : TileSet) (items rest : List Tile) (x : CoordItem) (p : Place) → GivesCoord tiles items (Some x) rest → place_in x ≡ Some p → fronts items ≡ p ∷ fronts rest
-coord_gives tiles items rest (Ok c) p g e = ap fronts g ∙ ap (λ (q : Place). q ∷ fronts rest) (one_place (place_at c) p e)
-coord_gives tiles items rest (Err r) p g e = absurd (none_some p e)
+coord_gives tiles items rest (Ok c) p g e = ap fronts g ∙ ap (λ (q : Place). q ∷ fronts rest) (same_Some (place_at c) p e)
+coord_gives tiles items rest (Err r) p g e = absurd (none-some p e)
 
 coord_ends : (tiles : TileSet) (items rest : List Tile) (x : CoordItem) → GivesCoord tiles items (Some x) rest → place_in x ≡ None → fronts rest ≡ []
 coord_ends tiles items rest (Ok c) g e = absurd (some_none (place_at c) e)
@@ -72,8 +67,8 @@ coord_shows (Ok c) ok e = some_none (place_at c) e
 coord_shows (Err r) ok e = false≢true ok
 
 tile_gives : (items rest : List Tile) (x : TileItem) (b : Tile) → GivesTile items (Some x) rest → tile_in x ≡ Some b → items ≡ b ∷ rest
-tile_gives items rest (Ok c) b g e = g ∙ ap (λ (q : Tile). q ∷ rest) (one_place (place_at c.0, c.1) b e)
-tile_gives items rest (Err r) b g e = absurd (none_some b e)
+tile_gives items rest (Ok c) b g e = g ∙ ap (λ (q : Tile). q ∷ rest) (same_Some (place_at c.0, c.1) b e)
+tile_gives items rest (Err r) b g e = absurd (none-some b e)
 
 tile_ends : (items rest : List Tile) (x : TileItem) → GivesTile items (Some x) rest → tile_in x ≡ None → rest ≡ []
 tile_ends items rest (Ok c) g e = absurd (some_none (place_at c.0, c.1) e)
