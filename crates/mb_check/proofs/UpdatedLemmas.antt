@@ -4,7 +4,7 @@ use Rattle.std.specs.Prelude.{codes, option_and_then, option_map, option_to_list
 use Rattle.std.specs.FinMap.{contains_key, get, get-empty, get-insert, insert}
 use Rattle.std.specs.Ordering.{nat_cmp}
 use Rattle.std.specs.Cmp.Lexicographic.{slice_cmp}
-use Rattle.std.proofs.lemmas.Bool.{false≢true}
+use Rattle.std.proofs.lemmas.Bool.{false≢true, or_left, or_right}
 use Rattle.std.proofs.lemmas.Cmp.{nat_list_cmp_total}
 use Rattle.std.proofs.lemmas.List.Folds.{list_any_none}
 use Rattle.mb_check.specs.Updated.{IsUpdated, held_hashed, is_hash_row, names_hashed}
@@ -105,17 +105,9 @@ row_apart row kept name is = by (has_key Metadata (TextId name) row) refl
     first [] e = cc
     first (x ∷ row) e = let s : x ≡ Text name = cc in s
 
-    left : (a b : Bool) → a ≡ true → (a || b) ≡ true
-    left true b e = refl
-    left false b e = absurd (false≢true e)
-
-    right : (a b : Bool) → b ≡ true → (a || b) ≡ true
-    right true b e = refl
-    right false b e = e
-
     of : (name ≡ hash_name) ⊎ (name ≡ algorithm_name) → cell_at 0 row ≡ Text name → is_hash_row row ≡ true
-    of (inl e) at = left _ (cell_eq (cell_at 0 row) (Text algorithm_name)) ((cell_eq-Decides (cell_at 0 row) (Text hash_name)).1 (at ∙ ap Text e))
-    of (inr e) at = right (cell_eq (cell_at 0 row) (Text hash_name)) _ ((cell_eq-Decides (cell_at 0 row) (Text algorithm_name)).1 (at ∙ ap Text e))
+    of (inl e) at = or_left _ (cell_eq (cell_at 0 row) (Text algorithm_name)) ((cell_eq-Decides (cell_at 0 row) (Text hash_name)).1 (at ∙ ap Text e))
+    of (inr e) at = or_right (cell_eq (cell_at 0 row) (Text hash_name)) _ ((cell_eq-Decides (cell_at 0 row) (Text algorithm_name)).1 (at ∙ ap Text e))
 
     by : (b : Bool) → has_key Metadata (TextId name) row ≡ b → has_key Metadata (TextId name) row ≡ false
     by false e = e
