@@ -19,7 +19,8 @@ use Rattle.tile_bridge.specs.Adds.{AreAddsOf, InRange, Ranged, add_of, bytes_at,
 use Rattle.tile_bridge.specs.Convert.{HoldsExactly, address}
 use Rattle.tile_bridge.specs.declared.adds.Add.{Add}
 use Rattle.tile_bridge.proofs.Members.{Has, find_has, has_back, has_find, has_permuted, sorted_true}
-use Rattle.tile_bridge.proofs.PlaceLemmas.{address_within, one_tie, tied_place}
+use Rattle.tile_bridge.proofs.PlaceLemmas.{address_within, one_tie}
+use Rattle.mb_load.proofs.EditedFrom.{same_place}
 
 abbrev pub Pairs : Type 0
 Pairs = List (Place × Option (List ℕ))
@@ -159,7 +160,7 @@ module _ (set : TileSet) (ranged : Ranged (entries set)) (adds : List Add) (same
   each_add : (p : Place) (bytes : List ℕ) → get (solid set) p ≡ Some (Some bytes) → content_at (shown set adds) (address p) ≡ Some bytes
   each_add p bytes h =
       let there = to_solid (get set p) bytes (sym (solid_is p) ∙ h) in
-      let place : Has (p, Some bytes) (entries set) = find_has place_cmp (λ a b e. tied_place a b (ap is_eq e)) (entries set) p (Some bytes) (sym (get-entries set p) ∙ there.0) in
+      let place : Has (p, Some bytes) (entries set) = find_has place_cmp (λ a b e. same_place a b (ap is_eq e)) (entries set) p (Some bytes) (sym (get-entries set p) ∙ there.0) in
       has_find nat_cmp nat_cmp_total (shown set adds) (address p) bytes adds_sorted (has_permuted (address p, bytes) (added (entries set)) (shown set adds) same (has_added p bytes there.1 (entries set) place))
 
   only_adds : (id : ℕ) (bytes : List ℕ) → content_at (shown set adds) id ≡ Some bytes → (p : Place) × (get (solid set) p ≡ Some (Some bytes)) × (address p ≡ id)

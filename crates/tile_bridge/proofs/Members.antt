@@ -9,6 +9,7 @@ use Rattle.std.specs.Cmp.{IsTotalOrder, tied_itself}
 use Rattle.std.specs.List.{Contains}
 use Rattle.std.specs.List.Sorted.{IsPermutation}
 use Rattle.std.specs.FinMap.{find, is_sorted}
+use Rattle.mb_lists.proofs.Items.{equal_of}
 
 abbrev pub Has : {X : Type 0} → X → List X → Type 0
 Has x [] = ⊥
@@ -34,11 +35,6 @@ pub sorted_true : (b : Bool) → T b → b ≡ true
 sorted_true true h = refl
 sorted_true false h = absurd h
 
-equal : (o : Ordering) → is_eq o ≡ true → o ≡ Equal
-equal Less h = absurd (cc)
-equal Equal h = refl
-equal Greater h = absurd (cc)
-
 less : (o : Ordering) → is_lt o ≡ true → o ≡ Less
 less Less h = refl
 less Equal h = absurd (cc)
@@ -51,7 +47,7 @@ module _ {K V : Type 0} (R : K → K → Ordering) where
   pub find_has : ((x y : K) → R x y ≡ Equal → x ≡ y) → (es : List (K × V)) (q : K) (v : V) → find R q es ≡ Some v → Has (q, v) es
   find_has tied [] q v h = absurd (cc)
   find_has tied (e ∷ es) q v h = elim (eq_by_cmp R q e.0) as (λ b. eq_by_cmp R q e.0 ≡ b → cond b (Some e.1) (find R q es) ≡ Some v → Has (q, v) (e ∷ es)) [
-    | true ↦ λ t is. let key : e.0 ≡ q = sym (tied q e.0 (equal (R q e.0) t)) in let value : e.1 ≡ v = cc in inl (λ i. (key i, value i))
+    | true ↦ λ t is. let key : e.0 ≡ q = sym (tied q e.0 (equal_of (R q e.0) t)) in let value : e.1 ≡ v = cc in inl (λ i. (key i, value i))
     | false ↦ λ t is. inr (find_has tied es q v is)
   ] refl h
 

@@ -1,8 +1,6 @@
 -- Places, their coordinates and their ids.
 use Rattle.std.proofs.Common.{◌≡◌, ℕ, ◌-◌, ◌<◌, ◌≤◌, ◌^◌, Bool, true, false, refl, sym, ◌∙◌, ap, arith}
-use Rattle.std.specs.declared.cmp.Ordering.{Ordering}
-use Rattle.std.specs.declared.cmp.Ordering.TheVariants.{Less, Equal, Greater}
-use Rattle.std.specs.Ordering.{nat_cmp, ordering_then, is_eq, eq_by_cmp}
+use Rattle.std.specs.Ordering.{nat_cmp, is_eq, eq_by_cmp}
 use Rattle.std.specs.Cmp.{nat_cmp_total, tied_itself}
 use Rattle.std.specs.FinMap.{nat_cmp-IsAntisymmetric}
 use Rattle.tile_ids.specs.Coord.{Coord, IsCoord}
@@ -10,11 +8,13 @@ use Rattle.tile_ids.specs.Hilbert.{id_of, tile_id}
 use Rattle.tile_ids.proofs.Bijection.{id_within, one_id}
 use Rattle.tile_ids.proofs.Indexes.{inverted_twice}
 use Rattle.tile_ids.specs.declared.id.TheConstants.{MAX_TILE_ID}
+use Rattle.mb_lists.proofs.Items.{equal_of}
 use Rattle.mb_lists.specs.Entries.{place_at}
 use Rattle.mb_tables.proofs.TileLemmas.{places_total}
 use Rattle.mb_tables.specs.Tiles.{Place, place_cmp}
 use Rattle.tile_bridge.specs.Adds.{InRange}
 use Rattle.tile_bridge.specs.Convert.{address}
+use Rattle.mb_load.proofs.EditedFrom.{same_place}
 
 -- the coordinate of a place
 abbrev coord_at : Place → Coord
@@ -33,25 +33,8 @@ coord_in_range p h = record { zoom = h.zoom; column = h.column; row = omega (ari
 pub address_within : (p : Place) → InRange p → address p ≤ MAX_TILE_ID
 address_within p h = id_within (coord_at p) (coord_in_range p h)
 
-then_Equal : (a b : Ordering) → ordering_then a b ≡ Equal → (a ≡ Equal) × (b ≡ Equal)
-then_Equal Less b e = absurd (cc)
-then_Equal Equal b e = (refl, e)
-then_Equal Greater b e = absurd (cc)
-
-is_Equal : (o : Ordering) → is_eq o ≡ true → o ≡ Equal
-is_Equal Less e = absurd (cc)
-is_Equal Equal e = refl
-is_Equal Greater e = absurd (cc)
-
 from_parts : (p q : Place) → p.zoom ≡ q.zoom → p.column ≡ q.column → p.row ≡ q.row → p ≡ q
 from_parts p q e f g = λ i. record { zoom = e i; column = f i; row = g i }
-
-pub tied_place : (p q : Place) → eq_by_cmp place_cmp p q ≡ true → p ≡ q
-tied_place p q h =
-    let e = is_Equal (place_cmp p q) h in
-    let first = then_Equal (nat_cmp p.zoom q.zoom) _ e in
-    let second = then_Equal (nat_cmp p.column q.column) _ first.1 in
-    from_parts p q (nat_cmp-IsAntisymmetric p.zoom q.zoom first.0) (nat_cmp-IsAntisymmetric p.column q.column second.0) (nat_cmp-IsAntisymmetric p.row q.row second.1)
 
 same_row : (a b m n : ℕ) → m ≡ n → a < m → b < n → m - 1 - a ≡ n - 1 - b → a ≡ b
 same_row a b m n e f g h = omega arith
@@ -71,8 +54,8 @@ one_tie p q hp hq = go (eq_by_cmp nat_cmp (address p) (address q)) (eq_by_cmp pl
     go true true e f = refl
     go false false e f = refl
     go true false e f =
-        let same : p ≡ q = same_address p q hp hq (nat_cmp-IsAntisymmetric (address p) (address q) (is_Equal (nat_cmp (address p) (address q)) e)) in
+        let same : p ≡ q = same_address p q hp hq (nat_cmp-IsAntisymmetric (address p) (address q) (equal_of (nat_cmp (address p) (address q)) e)) in
         sym (ap is_eq (tied_itself places_total p)) ∙ ap (λ r. eq_by_cmp place_cmp p r) same ∙ f
     go false true e f =
-        let same : p ≡ q = tied_place p q f in
+        let same : p ≡ q = same_place p q f in
         sym e ∙ sym (ap (λ r. eq_by_cmp nat_cmp (address p) (address r)) same) ∙ ap is_eq (tied_itself nat_cmp_total (address p))
