@@ -15,6 +15,7 @@ use Rattle.pm_format.specs.declared.error.PmtError.{PmtError}
 use Rattle.pm_format.specs.declared.error.PmtError.TheVariants as errors
 use Rattle.pm_format.specs.declared.error.ReadCause.TheVariants as causes
 use Rattle.pm_reader.specs.Answers.{LookUpCauses}
+use Rattle.pm_walk.proofs.CoveringLemmas.{to_le}
 use Rattle.pm_walk.specs.Collecting.{AreContentsOf, StopCauses}
 use Rattle.pm_walk.specs.Gathering.{Gathers}
 use Rattle.pm_walk.specs.Parts.{full, tile_count}
@@ -33,14 +34,11 @@ use Rattle.tile_import.specs.declared.error.ImportError.{ImportError}
 use Rattle.tile_import.specs.declared.error.ImportError.TheVariants.{Archive, OutOfMemory, TooManyTiles}
 
 -- a refusal of the walk is due where there are few before it, and too many tiles else
-few_test : (n most : ℕ) → n ≤ most → nat_le n most ≡ true
-few_test n most few = grind (arith, nat_tests)
-
 many_test : (n most : ℕ) → most < n → nat_le n most ≡ false
 many_test n most many = grind (arith, nat_tests)
 
 by_few : (most : ℕ) (w : Walked) → tile_count (full w.entries) ≤ most → walk_refusal most w ≡ option_map (of_walk_error most) w.refusal
-by_few most w few = ap (λ b. if b then option_map (of_walk_error most) w.refusal else Some (TooManyTiles most)) (few_test (tile_count (full w.entries)) most few)
+by_few most w few = ap (λ b. if b then option_map (of_walk_error most) w.refusal else Some (TooManyTiles most)) (to_le (tile_count (full w.entries)) most few)
 
 too_many : (most : ℕ) (w : Walked) → most < tile_count (full w.entries) → walk_refusal most w ≡ Some (TooManyTiles most)
 too_many most w many = ap (λ b. if b then option_map (of_walk_error most) w.refusal else Some (TooManyTiles most)) (many_test (tile_count (full w.entries)) most many)
