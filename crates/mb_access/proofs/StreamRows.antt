@@ -41,6 +41,7 @@ module _ (s : State) (row : List Cell) where
   abbrev tile_there : Option Place → Option Tile
   tile_there o = option_and_then (λ place. option_map (λ contents. (place, contents)) (get s.tiles place)) o
 
+-- the tiles of tables by their rows
 pairs_same : (layout : MbtType) (t : Tables) → pairs_of layout t ≡ filter_map (tile_in layout (content_rows layout t)) (t.rows (tile_table layout))
 pairs_same Flat t = refl
 pairs_same FlatWithHash t = refl
