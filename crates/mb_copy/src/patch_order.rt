@@ -1,81 +1,20 @@
 // The tests of a copy with a patch that need no store.
-ghost use Rattle.std.specs.Prelude.{◌≡◌, IfOk, Some, is_some, not, true};
-ghost use Rattle.mb_constraints.specs.DiffHashes.{base_refused, patch_refused, unless_forced};
+ghost use Rattle.std.specs.Prelude.{◌≡◌, IfOk, Some, true};
 ghost use Rattle.mb_copy.specs.Copied.{stores_aggregate};
 ghost use Rattle.mb_copy.specs.PatchOrder.{expected_hash, hash_off, may_be_patch, may_be_patched, other_hash};
-ghost use Rattle.mb_edit.specs.PatchingOrder.{can_be_patched};
-ghost use Rattle.mb_lists.specs.Metadata.{after_hash, agg_hash, before_hash, text_at};
+ghost use Rattle.mb_lists.specs.Metadata.{agg_hash};
 ghost use Rattle.mb_load.specs.Aggregate.{aggregate};
-ghost use Rattle.mb_tables.specs.Refusals.{Tests, unless};
+ghost use Rattle.mb_tables.specs.Refusals.{Tests};
 
 use crate::MbtilesCopier;
 use crate::names::stores_aggregate;
 use crate::refusals::test_valid;
 use crate::target::wanted_type;
 use base_values::{OutOfMemory, TextVal};
-use mb_load::{Loaded, test_base_hashes, test_patch_hashes};
-use mb_store::{
-    AGG_TILES_HASH, AGG_TILES_HASH_AFTER_APPLY, AGG_TILES_HASH_BEFORE_APPLY, MbtError, MbtResult,
-    MbtType, NormalizedSchema,
-};
+use mb_edit::{test_hashes_of_base, test_hashes_of_patch, test_patchable, test_whole_tiles};
+use mb_load::Loaded;
+use mb_store::{AGG_TILES_HASH, AGG_TILES_HASH_AFTER_APPLY, MbtError, MbtResult};
 use std::alloc::Global;
-
-// Whether a set has a text under a name of metadata.
-fn has_text(set: &Loaded, name: &str) -> bool
-    ensures { result ≡ is_some (text_at set.now.state.metadata name.now) }
-{
-    set.text(name).is_some()
-}
-
-// The test that a patch describes no table of binary differences.
-fn test_whole_tiles(patch: &Loaded) -> MbtResult<()>
-    ensures { Tests (unless (not (is_some patch.now.state.patch_type))
-        MbtError.UnsupportedPatchType) result }
-{
-    if patch.patch_type().is_some() {
-        return Err(MbtError::UnsupportedPatchType);
-    }
-    Ok(())
-}
-
-// The test of the hashes by which a patch is kept in order.
-fn test_hashes_of_patch(patch: &Loaded, force: bool) -> MbtResult<()>
-    ensures { Tests (unless_forced force
-        (patch_refused (is_some (before_hash patch.now.state.metadata))
-        (is_some (after_hash patch.now.state.metadata)))) result }
-{
-    let before = has_text(patch, AGG_TILES_HASH_BEFORE_APPLY);
-    let after = has_text(patch, AGG_TILES_HASH_AFTER_APPLY);
-    test_patch_hashes(before, after, force)
-}
-
-// The test of those of a source.
-fn test_hashes_of_source(source: &Loaded, force: bool) -> MbtResult<()>
-    ensures { Tests (unless_forced force
-        (base_refused (is_some (agg_hash source.now.state.metadata))
-        (is_some (before_hash source.now.state.metadata))
-        (is_some (after_hash source.now.state.metadata)))) result }
-{
-    let agg = has_text(source, AGG_TILES_HASH);
-    let before = has_text(source, AGG_TILES_HASH_BEFORE_APPLY);
-    let after = has_text(source, AGG_TILES_HASH_AFTER_APPLY);
-    test_base_hashes(agg, before, after, force)
-}
-
-// The test that a patched set can have a layout.
-fn test_layout(layout: MbtType) -> MbtResult<()>
-    ensures { Tests (unless (can_be_patched layout) MbtError.UnsupportedCopyOperation) result }
-{
-    match layout {
-        MbtType::Flat
-        | MbtType::FlatWithHash
-        | MbtType::Normalized {
-            schema: NormalizedSchema::Hash,
-            ..
-        } => Ok(()),
-        _ => Err(MbtError::UnsupportedCopyOperation),
-    }
-}
 
 /// The tests of a patch that was loaded.
 pub(crate) fn test_patch(alloc: Global, copier: &MbtilesCopier, patch: &Loaded) -> MbtResult<()>
@@ -91,8 +30,8 @@ pub(crate) fn test_source(alloc: Global, copier: &MbtilesCopier, source: &Loaded
     ensures { Tests (may_be_patched copier.now source.now.state) result }
 {
     test_valid(alloc, copier.validate, source)?;
-    test_hashes_of_source(source, copier.force)?;
-    test_layout(wanted_type(copier, source.mbt_type()))
+    test_hashes_of_base(source, copier.force)?;
+    test_patchable(wanted_type(copier, source.mbt_type()))
 }
 
 /// The hash of all tiles that a patch says a set has after it, unless the patch is forced.

@@ -17,8 +17,8 @@ use mb_store::{
 use std::alloc::Global;
 use tile_hash::HashAlgorithm;
 
-// The test that a patch describes no table of binary differences.
-fn test_kind(patch: &Loaded) -> MbtResult<()>
+/// The test that a patch describes no table of binary differences, `UnsupportedPatchType` if not.
+pub fn test_whole_tiles(patch: &Loaded) -> MbtResult<()>
     ensures { Tests (unless (not (is_some patch.now.state.patch_type))
         MbtError.UnsupportedPatchType) result }
 {
@@ -28,8 +28,8 @@ fn test_kind(patch: &Loaded) -> MbtResult<()>
     Ok(())
 }
 
-// The test that sets of a layout can be patched.
-fn test_layout(layout: MbtType) -> MbtResult<()>
+/// The test that sets of a layout can be patched, `UnsupportedCopyOperation` if not: those that are no caches, and whose ids are no numbers.
+pub fn test_patchable(layout: MbtType) -> MbtResult<()>
     ensures { Tests (unless (can_be_patched layout) MbtError.UnsupportedCopyOperation) result }
 {
     match layout {
@@ -50,8 +50,8 @@ fn has_text(set: &Loaded, name: &str) -> bool
     set.text(name).is_some()
 }
 
-// The test of the digests of all tiles that a patch has.
-fn test_patch(patch: &Loaded, force: bool) -> MbtResult<()>
+/// The test of the digests of all tiles that a patch has: `PatchFileHasNoHashes`, `PatchFileHasNoBeforeHash`. Forced, it passes.
+pub fn test_hashes_of_patch(patch: &Loaded, force: bool) -> MbtResult<()>
     ensures { Tests (unless_forced force
         (patch_refused (is_some (before_hash patch.now.state.metadata))
         (is_some (after_hash patch.now.state.metadata)))) result }
@@ -61,8 +61,8 @@ fn test_patch(patch: &Loaded, force: bool) -> MbtResult<()>
     test_patch_hashes(before, after, force)
 }
 
-// The test of those that a set has.
-fn test_base(base: &Loaded, force: bool) -> MbtResult<()>
+/// The test of those that a set has: `CannotDiffFileWithoutHash`, `DiffingDiffFile`. Forced, it passes.
+pub fn test_hashes_of_base(base: &Loaded, force: bool) -> MbtResult<()>
     ensures { Tests (unless_forced force
         (base_refused (is_some (agg_hash base.now.state.metadata))
         (is_some (before_hash base.now.state.metadata))
@@ -132,10 +132,10 @@ pub(crate) fn test_patching(
         (λ ids. ids ≡ ids_given base.now.state.layout base.now.state.algorithm
         patch.now.state.tiles) }
 {
-    test_kind(patch)?;
-    test_patch(patch, force)?;
-    test_layout(base.mbt_type())?;
-    test_base(base, force)?;
+    test_whole_tiles(patch)?;
+    test_hashes_of_patch(patch, force)?;
+    test_patchable(base.mbt_type())?;
+    test_hashes_of_base(base, force)?;
     test_meant_for(alloc, base, patch, force)?;
     test_algorithm(alloc, base.algorithm(), patch.algorithm())?;
     test_ids(alloc, base, patch)

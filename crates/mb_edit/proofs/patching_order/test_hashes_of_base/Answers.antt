@@ -4,7 +4,7 @@ use Rattle.mb_tables.specs.Refusals.{Tests}
 use Rattle.mb_tables.specs.declared.error.MbtError.{MbtError}
 use Rattle.mb_lists.specs.Metadata.{after_hash, agg_hash, before_hash}
 use Rattle.mb_edit.proofs.OrderLemmas.{base_tests, same_three}
-use Rattle.mb_edit.proofs.patching_order.test_base.Goals as goal
+use Rattle.mb_edit.proofs.patching_order.test_hashes_of_base.Goals as goal
 
 pub returns : goal.returns
 returns c =
