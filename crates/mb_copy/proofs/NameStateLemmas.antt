@@ -19,6 +19,7 @@ use Rattle.mb_edit.specs.Put.{tiles_put}
 use Rattle.mb_lists.proofs.NameLemmas.{names_antisymmetric}
 use Rattle.mb_lists.specs.Metadata.{Names, text_at}
 use Rattle.mb_lists.specs.declared.dates.Dates.{Dates}
+use Rattle.mb_load.proofs.AlgorithmNames.{name_back, name_known}
 use Rattle.mb_load.specs.Aggregate.{aggregate}
 use Rattle.mb_load.specs.FromLast.{from_last}
 use Rattle.mb_load.specs.Held.{Held, nothing_edited}
@@ -27,7 +28,6 @@ use Rattle.mb_load.specs.State.{State}
 use Rattle.mb_tables.specs.Tiles.{Place, TileSet, place_cmp}
 use Rattle.tile_hash.specs.Digest.{name_of}
 use Rattle.tile_hash.specs.declared.algorithm.HashAlgorithm.{HashAlgorithm}
-use Rattle.tile_hash.specs.declared.algorithm.HashAlgorithm.TheVariants.{Md5, Fnv1a, Fnv1aDecimal, Xxh64, Xxh3}
 
 abbrev pub Named : Type 0
 Named = List ℕ × Option (List ℕ)
@@ -75,21 +75,6 @@ edited_with c made h put times names clean q =
 
 pub copied_state : (c : MbtilesCopier) (made : Bool) (source : State) (h : Held) → (held_copied c made source h).state ≡ copied c made source h.state
 copied_state c made source h = state_with c made h (tiles_to_put c source.tiles h.state) (times_to_put c source h.state) (names_to_put c source.metadata h.state.metadata)
-
--- each algorithm is that of its name
-name_known : (a : HashAlgorithm) → unknown_name (Some (name_of a)) ≡ None
-name_known Md5 = refl
-name_known Fnv1a = refl
-name_known Fnv1aDecimal = refl
-name_known Xxh64 = refl
-name_known Xxh3 = refl
-
-name_back : (a : HashAlgorithm) → algorithm_by (Some (name_of a)) ≡ a
-name_back Md5 = refl
-name_back Fnv1a = refl
-name_back Fnv1aDecimal = refl
-name_back Xxh64 = refl
-name_back Xxh3 = refl
 
 abbrev algorithm_name : List ℕ
 algorithm_name = codes "hash_algorithm"

@@ -3,6 +3,7 @@ pub mod TilesOfRows
 pub mod HeldLemmas
 pub mod StateLemmas
 pub mod Naming
+pub mod AlgorithmNames
 pub mod DroppedHeld
 pub mod Due
 pub mod Final
