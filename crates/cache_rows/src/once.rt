@@ -10,7 +10,8 @@ use rows_shared::{Words, number, said as said_value};
 use std::alloc::Global;
 
 fn set<S: TileStore>(out: &mut String, cache: &mut MbtilesCache<S>, given: &Given) -> Option<()>
-    requires { S.tells cache.old.store.now ≡ true → Agrees (S.told cache.old.store.now) cache.old.state }
+    requires { S.tells cache.old.store.now ≡ true
+        → Agrees (S.told cache.old.store.now) cache.old.state }
 {
     let at = given.at;
     let meta = given.beside.meta();
@@ -21,7 +22,8 @@ fn set<S: TileStore>(out: &mut String, cache: &mut MbtilesCache<S>, given: &Give
 }
 
 fn update<S: TileStore>(out: &mut String, cache: &mut MbtilesCache<S>, times: &Times) -> Option<()>
-    requires { S.tells cache.old.store.now ≡ true → Agrees (S.told cache.old.store.now) cache.old.state }
+    requires { S.tells cache.old.store.now ≡ true
+        → Agrees (S.told cache.old.store.now) cache.old.state }
 {
     let at = times.at;
     let meta = times.beside.meta();
@@ -47,13 +49,15 @@ fn tile<S: TileStore>(
 }
 
 fn expired<S: TileStore>(out: &mut String, cache: &mut MbtilesCache<S>, now: i64) -> Option<()>
-    requires { S.tells cache.old.store.now ≡ true → Agrees (S.told cache.old.store.now) cache.old.state }
+    requires { S.tells cache.old.store.now ≡ true
+        → Agrees (S.told cache.old.store.now) cache.old.state }
 {
     said_value(out, cache.purge_expired(UnixSeconds(now)))
 }
 
 fn size<S: TileStore>(out: &mut String, cache: &mut MbtilesCache<S>, most: u64) -> Option<()>
-    requires { S.tells cache.old.store.now ≡ true → Agrees (S.told cache.old.store.now) cache.old.state }
+    requires { S.tells cache.old.store.now ≡ true
+        → Agrees (S.told cache.old.store.now) cache.old.state }
 {
     said_value(out, cache.purge_cache_to_size(most))
 }
@@ -64,7 +68,8 @@ fn call_of<S: TileStore>(
     cache: &mut MbtilesCache<S>,
     words: &mut Words,
 ) -> Option<()>
-    requires { S.tells cache.old.store.now ≡ true → Agrees (S.told cache.old.store.now) cache.old.state }
+    requires { S.tells cache.old.store.now ≡ true
+        → Agrees (S.told cache.old.store.now) cache.old.state }
 {
     match words.next()? {
         "set" => set(out, cache, &given_in(alloc, words)?),

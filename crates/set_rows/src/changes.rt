@@ -17,7 +17,8 @@ fn put(
     key: RowKey,
     words: &mut Words,
 ) -> Option<()>
-    ensures { (ds : List TableDesc) → AreOfTables ds changes.old → is_table ds table ≡ true → AreOfTables ds changes.new }
+    ensures { (ds : List TableDesc) → AreOfTables ds changes.old → is_table ds table ≡ true
+        → AreOfTables ds changes.new }
 {
     let row = row_of(alloc, table, words)?;
     if row.cells().len() != table.width() || !key.is_of(table, row.cells()) {
@@ -33,7 +34,8 @@ fn add(
     table: TableName,
     words: &mut Words,
 ) -> Option<()>
-    ensures { (ds : List TableDesc) → AreOfTables ds changes.old → is_table ds table ≡ true → AreOfTables ds changes.new }
+    ensures { (ds : List TableDesc) → AreOfTables ds changes.old → is_table ds table ≡ true
+        → AreOfTables ds changes.new }
 {
     let key = key(alloc, words)?;
     match call {
