@@ -3,19 +3,20 @@ use Rattle.std.proofs.Common.{◌≡◌, inl, inr, ℕ, List, [], ◌∷◌, Opt
 use Rattle.std.specs.Prelude.{IsOk, is_ok}
 use Rattle.tile_ids.specs.Coord.{Coord}
 use Rattle.mb_load.specs.State.{State}
+use Rattle.pm_contents.specs.Pieces.{BothTold}
 use Rattle.pm_format.specs.Options.{Options}
 use Rattle.mb_load.specs.Aggregate.{aggregate}
-use Rattle.tile_bridge.specs.Convert.{BothTold, ConvertCauses, ConvertLeaves, HasAggregate, IsEmpty, IsPlain, LeavesPart, SetCauses, SetLeaves, ShowsNoPart}
+use Rattle.tile_bridge.specs.Convert.{ConvertCauses, ConvertLeaves, HasAggregate, IsEmpty, IsPlain, LeavesPart, SetCauses, SetLeaves, ShowsNoPart}
 use Rattle.tile_bridge.specs.Stores.{IsDue, IsStoreError, Refuses}
 use Rattle.tile_bridge.specs.declared.error.ConvertError.{ConvertError}
 use Rattle.tile_bridge.specs.declared.error.ConvertError.TheVariants.{Store, IndexEntryOverflow, StoreFault, MediumFault, ReadBack, OutOfMemory}
 use Rattle.tile_bridge.specs.declared.report.ConvertReport.{ConvertReport}
 
 -- a fact on bytes of which each is what it was
-same_both : (P : List ℕ → List ℕ → Type 0) (old new : Option (List ℕ)) → new ≡ old → ((b : List ℕ) → P b b) → BothTold old new P
-same_both P old new same h = subst (λ n. BothTold old n P) (sym same) (itself old)
+same_both : (P : List ℕ → List ℕ → Type 0) (old new : Option (List ℕ)) → new ≡ old → ((b : List ℕ) → P b b) → BothTold P old new
+same_both P old new same h = subst (BothTold P old) (sym same) (itself old)
   where
-    itself : (told : Option (List ℕ)) → BothTold told told P
+    itself : (told : Option (List ℕ)) → BothTold P told told
     itself None = tt
     itself (Some b) = h b
 
@@ -69,13 +70,13 @@ module _ (o : Options) (due : Option (Result State ConvertError)) where
     part e [] b empty (inr whole) = inr (s, is, whole)
     part e (byte ∷ bytes) b empty h = absurd (cc)
 
-    parts : (e : ConvertError) (coords : List Coord) (old new : Option (List ℕ)) → IsEmpty old → SetLeaves o s.tiles coords (Err e) old new → BothTold old new (LeavesPart o due)
+    parts : (e : ConvertError) (coords : List Coord) (old new : Option (List ℕ)) → IsEmpty old → SetLeaves o s.tiles coords (Err e) old new → BothTold (LeavesPart o due) old new
     parts e coords None None empty h = tt
     parts e coords None (Some b) empty h = h
     parts e coords (Some a) None empty h = h
     parts e coords (Some a) (Some b) empty h = part e a b empty h
 
-    untold : (P Q : List ℕ → List ℕ → Type 0) (old new : Option (List ℕ)) → old ≡ None → BothTold old new P → BothTold old new Q
+    untold : (P Q : List ℕ → List ℕ → Type 0) (old new : Option (List ℕ)) → old ≡ None → BothTold P old new → BothTold Q old new
     untold P Q None None none h = tt
     untold P Q None (Some b) none h = h
     untold P Q (Some a) new none h = absurd (cc)

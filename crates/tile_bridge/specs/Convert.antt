@@ -8,6 +8,7 @@ use Rattle.mb_load.specs.Aggregate.{aggregate}
 use Rattle.mb_tables.specs.Refusals.{is_free}
 use Rattle.mb_load.specs.State.{State}
 use Rattle.mb_tables.specs.Tiles.{Place, TileSet, solid}
+use Rattle.pm_contents.specs.Pieces.{BothTold}
 use Rattle.pm_format.specs.declared.compression.Compression.TheVariants as compression
 use Rattle.pm_format.specs.LookUp.{archive_map}
 use Rattle.pm_format.specs.Options.{Options}
@@ -91,15 +92,8 @@ LeavesBytes o due coords (Err (ReadBack e)) old new = ⊥
 LeavesBytes o due coords (Err OutOfMemory) old new = LeavesPart o due old new
 LeavesBytes o due coords (Err _) old new = new ≡ old
 
--- a fact on the bytes before and after, where they are told; whether they are doesn't change
-abbrev pub BothTold : Option (List ℕ) → Option (List ℕ) → (List ℕ → List ℕ → Type 0) → Type 0
-BothTold None None P = Unit {0}
-BothTold None (Some new) P = ⊥
-BothTold (Some old) None P = ⊥
-BothTold (Some old) (Some new) P = P old new
-
 abbrev pub ConvertLeaves : Options → Option (Result State ConvertError) → List Coord → Result ConvertReport ConvertError → Option (List ℕ) → Option (List ℕ) → Type 0
-ConvertLeaves o due coords result old new = BothTold old new (LeavesBytes o due coords result)
+ConvertLeaves o due coords result old new = BothTold (LeavesBytes o due coords result) old new
 
 -- Of a set that is at hand: when each answer comes once the medium is empty and directories are labelled `None`.
 abbrev pub SetCauses : Option (List ℕ) → Result ConvertReport ConvertError → Type 0
@@ -115,4 +109,4 @@ SetBytes o tiles coords (Ok r) new = IsConverted new o tiles coords r
 SetBytes o tiles coords (Err _) new = ShowsNoPart o tiles new
 
 abbrev pub SetLeaves : Options → TileSet → List Coord → Result ConvertReport ConvertError → Option (List ℕ) → Option (List ℕ) → Type 0
-SetLeaves o tiles coords result old new = BothTold old new (λ a b. SetBytes o tiles coords result b)
+SetLeaves o tiles coords result old new = BothTold (λ a b. SetBytes o tiles coords result b) old new

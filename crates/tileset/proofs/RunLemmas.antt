@@ -2,9 +2,10 @@
 use Rattle.std.proofs.Common.{◌≡◌, ◌⊎◌, ℕ, inl, inr, List, [], ◌∷◌, Option, Some, None, IfSome, Result, Ok, Err, refl, sym, subst, ◌∙◌}
 use Rattle.std.specs.Result.{IsErrAnd}
 use Rattle.tile_ids.specs.Coord.{Coord}
+use Rattle.pm_contents.specs.Pieces.{BothTold}
 use Rattle.pm_format.specs.declared.compression.Compression.TheVariants as compression
 use Rattle.mb_load.specs.State.{State}
-use Rattle.tile_bridge.specs.Convert.{BothTold, ConvertCauses, ConvertLeaves, HasAggregate, IsArchiveOf, IsEmpty, LeavesPart}
+use Rattle.tile_bridge.specs.Convert.{ConvertCauses, ConvertLeaves, HasAggregate, IsArchiveOf, IsEmpty, LeavesPart}
 use Rattle.tile_bridge.specs.declared.error.ConvertError.TheVariants.{MediumFault, ReadBack, OutOfMemory}
 use Rattle.tile_bridge.specs.declared.report.ConvertReport.{ConvertReport}
 use Rattle.tile_bridge.specs.ReadingBack.{IsReadBack}
@@ -34,7 +35,7 @@ pub archive_left : (s : Script) (coords : List Coord) (r : ConvertReport) (old t
 archive_left s coords r old told new h same = subst (HoldsArchive s old) (sym same) (both_archive s coords r old told h)
 
 -- an archive on a medium that was empty is no part
-no_part : (s : Script) (old new : Option (List ℕ)) → IsEmpty old → HoldsArchive s old new → BothTold old new (LeavesPart s.options.writer (Some (converted s)))
+no_part : (s : Script) (old new : Option (List ℕ)) → IsEmpty old → HoldsArchive s old new → BothTold (LeavesPart s.options.writer (Some (converted s))) old new
 no_part s None None empty h = tt
 no_part s None (Some b) empty h = absurd h
 no_part s (Some a) None empty h = absurd h
@@ -42,7 +43,7 @@ no_part s (Some []) (Some b) empty h = inr h
 no_part s (Some (x ∷ xs)) (Some b) empty h = absurd (cc)
 
 -- a medium that tells nothing told nothing before
-untold_before : (old new : Option (List ℕ)) (P : List ℕ → List ℕ → Type 0) → BothTold old new P → new ≡ None → old ≡ None
+untold_before : (old new : Option (List ℕ)) (P : List ℕ → List ℕ → Type 0) → BothTold P old new → new ≡ None → old ≡ None
 untold_before None new P h none = refl
 untold_before (Some a) None P h none = absurd h
 untold_before (Some a) (Some b) P h none = absurd (cc)

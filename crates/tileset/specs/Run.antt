@@ -2,6 +2,7 @@
 use Rattle.std.specs.Prelude.{ℕ, ◌≡◌, ◌≢◌, ◌+◌, ◌-◌, ◌^◌, ◌≤◌, ◌<◌, ◌⊎◌, false, List, [], ◌∷◌, length, map, nat_lt, if◌then◌else◌, Option, Some, None, is_some, Result, Ok, Err, IfSome, IsOk}
 use Rattle.tile_ids.specs.Coord.{Coord}
 use Rattle.tile_ids.specs.Hilbert.{id_of}
+use Rattle.pm_contents.specs.Pieces.{BothTold}
 use Rattle.pm_format.specs.declared.compression.Compression.{Compression}
 use Rattle.pm_format.specs.declared.compression.Compression.TheVariants as compression
 use Rattle.pm_format.specs.LookUp.{archive_map}
@@ -9,7 +10,7 @@ use Rattle.pm_writer.specs.Places.{places_read}
 use Rattle.mb_tables.specs.Refusals.{is_free}
 use Rattle.mb_load.specs.State.{State}
 use Rattle.mb_load.specs.Aggregate.{aggregate}
-use Rattle.tile_bridge.specs.Convert.{BothTold, IsArchiveOf, IsEmpty, IsPlain, LeavesPart}
+use Rattle.tile_bridge.specs.Convert.{IsArchiveOf, IsEmpty, IsPlain, LeavesPart}
 use Rattle.tile_bridge.specs.Outcome.{outcome}
 use Rattle.tile_bridge.specs.ReadingBack.{IsReadBack}
 use Rattle.tile_bridge.specs.declared.error.ConvertError.{ConvertError}
@@ -178,15 +179,15 @@ Taken before now _ = now ≤ before + MAX_INPUT
 -- the medium holds the archive of the script: well formed, with the script's options, and with exactly the tiles of at least one byte that the base has after its
 -- patches, each under its id
 abbrev pub HoldsArchive : Script → Option (List ℕ) → Option (List ℕ) → Type 0
-HoldsArchive s old new = BothTold old new (λ before b. (final : State) × (converted s ≡ Ok final) × IsArchiveOf b s.options.writer final.tiles)
+HoldsArchive s old new = BothTold (λ before b. (final : State) × (converted s ≡ Ok final) × IsArchiveOf b s.options.writer final.tiles) old new
 
 -- What the medium holds in the end, where there is a script. After Done and after a fault of the sink it is the archive of the script. After a fault of the
 -- medium and want of memory a medium that was empty shows no part: no reader opens its bytes, or the whole archive stands.
 abbrev pub LeftBy : Script → Option (List ℕ) → Option (List ℕ) → Outcome → Type 0
 LeftBy s old new Done = HoldsArchive s old new
 LeftBy s old new OutputFault = HoldsArchive s old new
-LeftBy s old new OutOfMemory = BothTold old new (LeavesPart s.options.writer (Some (converted s)))
-LeftBy s old new MediumFault = BothTold old new (LeavesPart s.options.writer (Some (converted s)))
+LeftBy s old new OutOfMemory = BothTold (LeavesPart s.options.writer (Some (converted s))) old new
+LeftBy s old new MediumFault = BothTold (LeavesPart s.options.writer (Some (converted s))) old new
 LeftBy s old new _ = new ≡ old
 
 -- What the medium holds in the end.
