@@ -1,5 +1,5 @@
 -- What is left of a map after the keys of entries that don't pass a test were removed.
-use Rattle.std.proofs.Common.{◌≡◌, ◌∙◌, ap, sym, ℕ, ◌+◌, ◌<◌, ◌≤◌, ◌++◌, Bool, true, false, ◌&&◌, ◌||◌, not, List, [], ◌∷◌, Option, Some, None, Result, Ok, Err, cond, drop, get_or, is_some, length, map, refl, suc, take, zero, arith}
+use Rattle.std.proofs.Common.{◌≡◌, ◌∙◌, ap, sym, ℕ, ◌+◌, ◌<◌, ◌≤◌, ◌++◌, Bool, true, false, ◌&&◌, ◌||◌, not, List, [], ◌∷◌, Option, Some, None, Result, Ok, Err, cond, drop, get_or, is_some, length, map, refl, suc, take, arith}
 use Rattle.std.proofs.Math.Seq.{drop-cons}
 use Rattle.std.specs.Prelude.{IfOk, IfSome, slice_get}
 use Rattle.std.specs.declared.cmp.Ordering.{Ordering}
@@ -8,7 +8,7 @@ use Rattle.std.specs.Ordering.{eq_by_cmp}
 use Rattle.std.specs.Cmp.{Equal-is, IsTotalOrder}
 use Rattle.std.specs.FinMap.{FinMap, IsAntisymmetric, contains_key, entries, find, get, get-entries, get-remove, get-retain_keys, remove, retain_keys, same_map}
 use Rattle.std.proofs.lemmas.Bool.{false≢true}
-use Rattle.std.proofs.lemmas.List.{map-append, take_all, take_more}
+use Rattle.std.proofs.lemmas.List.{drop_all, map-append, take_all, take_more}
 use Rattle.std.proofs.lemmas.Option.{get_or_from_slice_get, none-some, slice_get-get_or}
 use Rattle.mb_copy.specs.Clearing.{failing, removed_all}
 use Rattle.mb_load.specs.Held.{Held}
@@ -42,12 +42,6 @@ by_itself m (k ∷ ks) = by_itself (remove m k) ks
 rest_at : {C : Type 0} (cs : List C) (i : ℕ) (c : C) → i < length cs → c ≡ get_or cs i c → drop i cs ≡ c ∷ drop (suc i) cs
 rest_at cs i c lt at = drop-cons cs i c lt ∙ ap (λ z. z ∷ drop (suc i) cs) (sym at)
 
-none_left : {C : Type 0} (cs : List C) (n : ℕ) → length cs ≤ n → drop n cs ≡ []
-none_left [] zero h = cc
-none_left [] (suc n) h = cc
-none_left (c ∷ cs) zero h = absurd (omega arith)
-none_left (c ∷ cs) (suc n) h = none_left cs n (omega arith)
-
 module _ {C K V : Type 0} {R : K → K → Ordering} (key : C → K) where
   pub one_removed : (cs : List C) (i : ℕ) (c : C) (m next all : FinMap R V) → i < length cs → c ≡ get_or cs i c → removed_by key m (drop i cs) ≡ all → next ≡ remove m (key c) → removed_by key next (drop (i + 1) cs) ≡ all
   one_removed cs i c m next all lt at done put =
@@ -57,7 +51,7 @@ module _ {C K V : Type 0} {R : K → K → Ordering} (key : C → K) where
       ∙ (ap (removed_by key m) (sym (rest_at cs i c lt at)) ∙ done))
 
   pub all_removed : (cs : List C) (n : ℕ) (m all : FinMap R V) → length cs ≤ n → removed_by key m (drop n cs) ≡ all → m ≡ all
-  all_removed cs n m all h done = ap (removed_by key m) (sym (none_left cs n h)) ∙ done
+  all_removed cs n m all h done = ap (removed_by key m) (sym (drop_all n cs h)) ∙ done
 
 mapped : {C K : Type 0} (key : C → K) (b : Bool) (c : C) → map key (cond b [] (c ∷ [])) ≡ cond b [] (key c ∷ [])
 mapped key true c = refl

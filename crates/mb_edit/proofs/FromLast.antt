@@ -1,5 +1,6 @@
 -- Edits for each of a list, from the last to the first, in a loop.
 use Rattle.std.proofs.Common.{◌≡◌, ◌∙◌, ap, sym, ℕ, ◌<◌, ◌≤◌, ◌-◌, List, [], ◌∷◌, drop, length, suc, zero, arith}
+use Rattle.std.proofs.lemmas.List.{drop_all}
 use Rattle.std.specs.Prelude.{IfSome, slice_get}
 use Rattle.mb_edit.specs.HeldPatched.{from_last}
 use Rattle.mb_load.specs.Held.{Held}
@@ -15,11 +16,5 @@ one_before edit es n first set new some within done made =
     let next : n ≡ suc (n - 1) = omega arith in
     (omega arith, at_index edit es (n - 1) first set new (omega arith) (done ∙ ap (λ k. from_last edit first (drop k es)) next) made)
 
-none_left : {A : Type 0} (es : List A) (n : ℕ) → length es ≤ n → drop n es ≡ []
-none_left [] zero h = cc
-none_left [] (suc n) h = cc
-none_left (e ∷ es) zero h = absurd (omega arith)
-none_left (e ∷ es) (suc n) h = none_left es n (omega arith)
-
 pub none_made : {A : Type 0} (edit : Held → A → Held) (es : List A) (n : ℕ) (first : Held) → n ≡ length es → (n ≤ length es) × (first ≡ from_last edit first (drop n es))
-none_made edit es n first all = (omega (arith, all), ap (from_last edit first) (sym (none_left es n (omega (arith, all)))))
+none_made edit es n first all = (omega (arith, all), ap (from_last edit first) (sym (drop_all n es (omega (arith, all)))))

@@ -1,10 +1,10 @@
 -- Tiles of a batch that are put one after another.
-use Rattle.std.proofs.Common.{◌≡◌, ◌∙◌, ap, sym, ℕ, ◌≤◌, ◌+◌, ◌-◌, ◌++◌, Bool, true, false, ◌||◌, List, [], ◌∷◌, Option, Some, Result, Ok, Err, cond, drop, filter, is_some, length, map, refl, suc, zero, arith, append-nil, append_assoc}
+use Rattle.std.proofs.Common.{◌≡◌, ◌∙◌, ap, sym, ℕ, ◌≤◌, ◌+◌, ◌-◌, ◌++◌, Bool, true, false, ◌||◌, List, [], ◌∷◌, Option, Some, Result, Ok, Err, cond, drop, filter, is_some, length, map, refl, append-nil, append_assoc}
 use Rattle.std.specs.Prelude.{IfOk, reverse}
 use Rattle.std.specs.List.{list_any}
 use Rattle.std.specs.Ordering.{eq_by_cmp}
 use Rattle.std.specs.FinMap.{contains_key, empty, from_entries, get, get-empty, get-insert, insert}
-use Rattle.std.proofs.lemmas.List.{map-append, reverse-append}
+use Rattle.std.proofs.lemmas.List.{drop_all, map-append, reverse-append}
 use Rattle.mb_insert.specs.Batch.{entry_of, is_missing, place_in}
 use Rattle.mb_insert.specs.declared.new_tile.NewTile.{NewTile}
 use Rattle.mb_load.specs.Held.{Held}
@@ -33,14 +33,8 @@ in_turn es (t ∷ ts) = in_turn (entry_of t ∷ es) ts ∙ ap by_first (sym (tur
 pub all_in_turn : (ts : List NewTile) → put_in_turn empty ts ≡ by_first (map entry_of (reverse ts))
 all_in_turn ts = in_turn [] ts ∙ ap by_first (append-nil (map entry_of (reverse ts)))
 
-none_left : (ts : List NewTile) (n : ℕ) → length ts ≤ n → drop n ts ≡ []
-none_left [] zero h = refl
-none_left [] (suc n) h = refl
-none_left (t ∷ ts) zero h = absurd (omega arith)
-none_left (t ∷ ts) (suc n) h = none_left ts n (omega arith)
-
 pub all_put : (tiles all : TileSet) (ts : List NewTile) (n : ℕ) → length ts ≤ n → put_in_turn tiles (drop n ts) ≡ all → tiles ≡ all
-all_put tiles all ts n h done = ap (put_in_turn tiles) (sym (none_left ts n h)) ∙ done
+all_put tiles all ts n h done = ap (put_in_turn tiles) (sym (drop_all n ts h)) ∙ done
 
 -- a set in order again has the tiles that it had
 pub settled : {E : Type 0} (r : Result Held E) (h : Held) (tiles : TileSet) → h.state.tiles ≡ tiles → IfOk r (λ l. l ≡ h) → IfOk r (λ l. l.state.tiles ≡ tiles)
