@@ -14,6 +14,7 @@ use Rattle.std.specs.FinMap.Entries.{below_all}
 use Rattle.std.specs.FinMap.{FinMap, contains_key, entries, entries_sorted, get, insert, remove, get-entries, get-insert, get-remove}
 use Rattle.std.proofs.lemmas.Bool.{false≢true}
 use Rattle.std.proofs.lemmas.Cmp.{nat_list_cmp_total}
+use Rattle.std.proofs.lemmas.Option.{none-some, same_Some}
 use Rattle.mb_lists.specs.Contents.{Contents}
 use Rattle.mb_load.specs.Edits.{dates_for, id_for, is_named, only_referenced, removed_name, removed_tile, with_content, with_key, with_name, with_tile, with_value, without_name, without_tile}
 use Rattle.mb_lists.specs.Entries.{is_cache, text_cell}
@@ -69,6 +70,24 @@ by_test false f g = g refl
 
 pub same_place : (p q : Place) → eq_by_cmp place_cmp p q ≡ true → p ≡ q
 same_place p q h = places_antisymmetric p q (equal_of (place_cmp p q) h)
+
+-- of two tests that agree in a set, and at a place
+pub put_placed : (b : Bool) (l c : Bool) (x y : Bool) → l ≡ c → x ≡ (c && y) → cond b l x ≡ (c && cond b true y)
+put_placed true l true x y e f = e
+put_placed true l false x y e f = e
+put_placed false l c x y e f = f
+
+-- a value that is put at a place
+module _ (p : Place) where
+  pub put_at : {V : Type 0} (m : FinMap place_cmp V) (o : Option V) (q : Place) → get (with_value m p o) q ≡ cond (eq_by_cmp place_cmp q p) o (get m q)
+  put_at m o q = get-with_value places_total m p o q
+
+  pub put_key : {V : Type 0} (m : FinMap place_cmp V) (o : Option V) (q : Place) → contains_key (with_value m p o) q ≡ cond (eq_by_cmp place_cmp q p) (is_some o) (contains_key m q)
+  put_key m o q = ap is_some (put_at m o q) ∙ by (eq_by_cmp place_cmp q p)
+    where
+      by : (b : Bool) → is_some (cond b o (get m q)) ≡ cond b (is_some o) (contains_key m q)
+      by true = refl
+      by false = refl
 
 -- names
 module _ (t : Tables) (h : Held) (name : List ℕ) (loaded : IsLoadedFrom t h) where
@@ -200,18 +219,8 @@ module _ (t : Tables) (h : Held) (p : Place) (bytes : List ℕ) (on : IsOnBoard 
   abbrev contents : Contents
   contents = with_content s.contents id bytes
 
-  put_at : {V : Type 0} (m : FinMap place_cmp V) (o : Option V) (q : Place) → get (with_value m p o) q ≡ cond (eq_by_cmp place_cmp q p) o (get m q)
-  put_at m o q = get-with_value places_total m p o q
-
-  put_key : {V : Type 0} (m : FinMap place_cmp V) (o : Option V) (q : Place) → contains_key (with_value m p o) q ≡ cond (eq_by_cmp place_cmp q p) (is_some o) (contains_key m q)
-  put_key m o q = ap is_some (put_at m o q) ∙ by (eq_by_cmp place_cmp q p)
-    where
-      by : (b : Bool) → is_some (cond b o (get m q)) ≡ cond b (is_some o) (contains_key m q)
-      by true = refl
-      by false = refl
-
   tile_key' : (q : Place) → contains_key (insert s.tiles p (Some bytes)) q ≡ cond (eq_by_cmp place_cmp q p) true (contains_key s.tiles q)
-  tile_key' q = put_key s.tiles (Some (Some bytes)) q
+  tile_key' q = put_key p s.tiles (Some (Some bytes)) q
 
   -- the contents of an id: the bytes under their own, and under each other what was there
   content_at : (o : Option Cell) → ((i : Cell) → o ≡ Some i → i ≡ Text (digest s.algorithm bytes)) → (i : Cell) → (get (with_content s.contents o bytes) i ≡ get s.contents i) ⊎ ((o ≡ Some i) × (get (with_content s.contents o bytes) i ≡ Some (Blob bytes)))
@@ -238,13 +247,8 @@ module _ (t : Tables) (h : Held) (p : Place) (bytes : List ℕ) (on : IsOnBoard 
       itself : (i : Cell) → eq_by_cmp cell_cmp i i ≡ true
       itself i = ap is_eq (tied_itself cells_total i)
 
-  put_placed : (b : Bool) (l c : Bool) (x y : Bool) → l ≡ c → x ≡ (c && y) → cond b l x ≡ (c && cond b true y)
-  put_placed true l true x y e f = e
-  put_placed true l false x y e f = e
-  put_placed false l c x y e f = f
-
   put_joined : is_normalized s.layout ≡ true → (q : Place) → get (insert s.tiles p (Some bytes)) q ≡ option_and_then (λ i. option_and_then contents_of (get contents i)) (get (with_value s.ids p id) q)
-  put_joined n q = put_at s.tiles (Some (Some bytes)) q ∙ (by (eq_by_cmp place_cmp q p) ∙ ap (option_and_then (λ i. option_and_then contents_of (get contents i))) (sym (put_at s.ids id q)))
+  put_joined n q = put_at p s.tiles (Some (Some bytes)) q ∙ (by (eq_by_cmp place_cmp q p) ∙ ap (option_and_then (λ i. option_and_then contents_of (get contents i))) (sym (put_at p s.ids id q)))
     where
       old : (o : Option Cell) → get s.ids q ≡ o → get s.tiles q ≡ option_and_then (λ i. option_and_then contents_of (get contents i)) o
       old None e = loaded.state.joined n q ∙ ap (option_and_then (λ i. option_and_then contents_of (get s.contents i))) e
@@ -263,38 +267,29 @@ module _ (t : Tables) (h : Held) (p : Place) (bytes : List ℕ) (on : IsOnBoard 
     on_board = λ q k. by_test (eq_by_cmp place_cmp q p)
         (λ e. subst IsOnBoard (sym (same_place q p e)) on)
         (λ e. loaded.state.on_board q (sym (tile_key' q ∙ at_other (eq_by_cmp place_cmp q p) true (contains_key s.tiles q) e) ∙ k));
-    placed = λ q. put_key s.ids id q ∙ (put_placed (eq_by_cmp place_cmp q p) (is_some id) (is_normalized s.layout) (contains_key s.ids q) (contains_key s.tiles q) (id_some s.layout s.algorithm bytes) (loaded.state.placed q) ∙ ap (λ b. is_normalized s.layout && b) (sym (tile_key' q)));
+    placed = λ q. put_key p s.ids id q ∙ (put_placed (eq_by_cmp place_cmp q p) (is_some id) (is_normalized s.layout) (contains_key s.ids q) (contains_key s.tiles q) (id_some s.layout s.algorithm bytes) (loaded.state.placed q) ∙ ap (λ b. is_normalized s.layout && b) (sym (tile_key' q)));
     joined = put_joined;
     stored = λ i cell e. elim (content_at id (id_is s.layout s.algorithm bytes) i) [
       | inl same ↦ loaded.state.stored i cell (sym same ∙ e)
       | inr two ↦
           let n : is_normalized s.layout ≡ true = sym (id_some s.layout s.algorithm bytes) ∙ ap is_some two.0 in
-          let c : Blob bytes ≡ cell = some_same (Blob bytes) cell (sym two.1 ∙ e) in
+          let c : Blob bytes ≡ cell = same_Some (Blob bytes) cell (sym two.1 ∙ e) in
           subst (λ i. IsContentOf s.layout s.algorithm i cell) (sym (id_is s.layout s.algorithm bytes i two.0)) (subst (IsContentOf s.layout s.algorithm (Text (digest s.algorithm bytes))) c (stored_under s.layout s.algorithm bytes editable n))
     ];
-    dated = λ q. put_key s.dates (dates_for s.layout) q ∙ (put_placed (eq_by_cmp place_cmp q p) (is_some (dates_for s.layout)) (is_cache s.layout) (contains_key s.dates q) (contains_key s.tiles q) (dates_some s.layout) (loaded.state.dated q) ∙ ap (λ b. is_cache s.layout && b) (sym (tile_key' q)));
-    times = λ q d e. times_at (eq_by_cmp place_cmp q p) q d (sym (put_at s.dates (dates_for s.layout) q) ∙ e);
+    dated = λ q. put_key p s.dates (dates_for s.layout) q ∙ (put_placed (eq_by_cmp place_cmp q p) (is_some (dates_for s.layout)) (is_cache s.layout) (contains_key s.dates q) (contains_key s.tiles q) (dates_some s.layout) (loaded.state.dated q) ∙ ap (λ b. is_cache s.layout && b) (sym (tile_key' q)));
+    times = λ q d e. times_at (eq_by_cmp place_cmp q p) q d (sym (put_at p s.dates (dates_for s.layout) q) ∙ e);
   }
     where
-      some_same : (x y : Cell) → Some x ≡ Some y → x ≡ y
-      some_same x y h = cc
-
       times_at : (b : Bool) (q : Place) (d : Dates) → cond b (dates_for s.layout) (get s.dates q) ≡ Some d → AreTimes d
       times_at true q d e = dates_are s.layout d e
       times_at false q d e = loaded.state.times q d e
 
   -- ids that aren't edited by it
   unkeyed : (o : Option Cell) (i : Cell) → contains_key (with_key h.edited.ids o) i ≡ false → ((o ≡ Some i) → ⊥) × (contains_key h.edited.ids i ≡ false)
-  unkeyed None i left = (λ e. none i e, left)
-    where
-      none : (i : Cell) → None ≡ Some i → ⊥
-      none i e = cc
+  unkeyed None i left = (λ e. none-some i e, left)
   unkeyed (Some k) i left =
       let two = unedited cells_total h.edited.ids k i left in
-      (λ e. false≢true (sym two.0 ∙ (ap (eq_by_cmp cell_cmp i) (same k i e) ∙ ap is_eq (tied_itself cells_total i))), two.1)
-    where
-      same : (k i : Cell) → Some k ≡ Some i → k ≡ i
-      same k i e = cc
+      (λ e. false≢true (sym two.0 ∙ (ap (eq_by_cmp cell_cmp i) (same_Some k i e) ∙ ap is_eq (tied_itself cells_total i))), two.1)
 
   keyed : (o : Option Cell) → is_some o ≡ is_normalized s.layout → (i : Cell) → contains_key (with_key h.edited.ids o) i ≡ true → is_normalized s.layout ≡ true
   keyed None e i k = loaded.with_ids i k
@@ -310,7 +305,7 @@ module _ (t : Tables) (h : Held) (p : Place) (bytes : List ℕ) (on : IsOnBoard 
     with_ids = keyed id (id_some s.layout s.algorithm bytes);
     tiles = λ q left.
         let two = unedited places_total h.edited.places p q left in
-        fits_same s (with_tile h p bytes).state q _ refl (put_at s.tiles (Some (Some bytes)) q ∙ at_other _ (Some (Some bytes)) (get s.tiles q) two.0) (put_at s.ids id q ∙ at_other _ id (get s.ids q) two.0) (put_at s.dates (dates_for s.layout) q ∙ at_other _ (dates_for s.layout) (get s.dates q) two.0) (loaded.tiles q two.1);
+        fits_same s (with_tile h p bytes).state q _ refl (put_at p s.tiles (Some (Some bytes)) q ∙ at_other _ (Some (Some bytes)) (get s.tiles q) two.0) (put_at p s.ids id q ∙ at_other _ id (get s.ids q) two.0) (put_at p s.dates (dates_for s.layout) q ∙ at_other _ (dates_for s.layout) (get s.dates q) two.0) (loaded.tiles q two.1);
     contents = λ i key is left.
         let two = unkeyed id i left in
         loaded.contents i key is two.1 ∙ ap (λ o. option_to_list (option_map (λ cell. i ∷ cell ∷ []) o)) (sym (elim (content_at id (id_is s.layout s.algorithm bytes) i) as (λ _. get contents i ≡ get s.contents i) [ inl same ↦ same | inr here ↦ absurd (two.0 here.0) ]));

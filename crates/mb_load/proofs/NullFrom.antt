@@ -9,8 +9,7 @@ use Rattle.mb_load.specs.Held.{Held}
 use Rattle.mb_load.specs.LoadedFrom.{AreTimes, IsLoadable, IsLoadedFrom, IsOnBoard}
 use Rattle.mb_lists.specs.declared.dates.Dates.{Dates}
 use Rattle.mb_load.proofs.DatedLemmas.{dates_are, dates_some}
-use Rattle.mb_load.proofs.EditMaps.{get-with_value}
-use Rattle.mb_load.proofs.EditedFrom.{at_other, by_test, fits_same, same_place, unedited}
+use Rattle.mb_load.proofs.EditedFrom.{at_other, by_test, fits_same, put_at, put_key, put_placed, same_place, unedited}
 use Rattle.mb_tables.proofs.TileLemmas.{places_total}
 use Rattle.mb_tables.specs.Kind.{is_normalized}
 use Rattle.mb_tables.specs.Table.{Tables}
@@ -18,36 +17,20 @@ use Rattle.mb_tables.specs.Tiles.{Place, place_cmp}
 use Rattle.mb_tables.specs.declared.kind.MbtType.TheVariants.{Cache}
 
 module _ (t : Tables) (h : Held) (p : Place) (loaded : IsLoadedFrom t h) where
-  at_place_of : {V : Type 0} (m : FinMap place_cmp V) (o : Option V) (q : Place) → get (with_value m p o) q ≡ cond (eq_by_cmp place_cmp q p) o (get m q)
-  at_place_of m o q = get-with_value places_total m p o q
-
-  key_at : {V : Type 0} (m : FinMap place_cmp V) (o : Option V) (q : Place) → contains_key (with_value m p o) q ≡ cond (eq_by_cmp place_cmp q p) (is_some o) (contains_key m q)
-  key_at m o q = ap is_some (at_place_of m o q) ∙ by (eq_by_cmp place_cmp q p)
-    where
-      by : (b : Bool) → is_some (cond b o (get m q)) ≡ cond b (is_some o) (contains_key m q)
-      by true = refl
-      by false = refl
-
   -- what stays elsewhere
   elsewhere : {V : Type 0} (m : FinMap place_cmp V) (o : Option V) (q : Place) → contains_key (insert h.edited.places p tt) q ≡ false → get (with_value m p o) q ≡ get m q
-  elsewhere m o q left = at_place_of m o q ∙ at_other _ o (get m q) (unedited places_total h.edited.places p q left).0
-
-  -- of two tests that agree in a set, and at a place
-  agree_put : (b l c x y : Bool) → l ≡ c → x ≡ (c && y) → cond b l x ≡ (c && cond b true y)
-  agree_put true l true x y e f = e
-  agree_put true l false x y e f = e
-  agree_put false l c x y e f = f
+  elsewhere m o q left = put_at p m o q ∙ at_other _ o (get m q) (unedited places_total h.edited.places p q left).0
 
   null_state : IsOnBoard p → is_normalized h.state.layout ≡ false → IsLoadable (with_null h p).state
   null_state on flat = record {
     on_board = λ q k. by_test (eq_by_cmp place_cmp q p)
         (λ e. subst IsOnBoard (sym (same_place q p e)) on)
-        (λ e. loaded.state.on_board q (sym (key_at h.state.tiles (Some None) q ∙ at_other (eq_by_cmp place_cmp q p) true (contains_key h.state.tiles q) e) ∙ k));
-    placed = λ q. key_at h.state.ids None q ∙ (agree_put (eq_by_cmp place_cmp q p) false (is_normalized h.state.layout) (contains_key h.state.ids q) (contains_key h.state.tiles q) (sym flat) (loaded.state.placed q) ∙ ap (λ b. is_normalized h.state.layout && b) (sym (key_at h.state.tiles (Some None) q)));
+        (λ e. loaded.state.on_board q (sym (put_key p h.state.tiles (Some None) q ∙ at_other (eq_by_cmp place_cmp q p) true (contains_key h.state.tiles q) e) ∙ k));
+    placed = λ q. put_key p h.state.ids None q ∙ (put_placed (eq_by_cmp place_cmp q p) false (is_normalized h.state.layout) (contains_key h.state.ids q) (contains_key h.state.tiles q) (sym flat) (loaded.state.placed q) ∙ ap (λ b. is_normalized h.state.layout && b) (sym (put_key p h.state.tiles (Some None) q)));
     joined = λ n q. absurd (false≢true (sym flat ∙ n));
     stored = loaded.state.stored;
-    dated = λ q. key_at h.state.dates (dates_for h.state.layout) q ∙ (agree_put (eq_by_cmp place_cmp q p) (is_some (dates_for h.state.layout)) (is_cache h.state.layout) (contains_key h.state.dates q) (contains_key h.state.tiles q) (dates_some h.state.layout) (loaded.state.dated q) ∙ ap (λ b. is_cache h.state.layout && b) (sym (key_at h.state.tiles (Some None) q)));
-    times = λ q d e. times_at (eq_by_cmp place_cmp q p) q d (sym (at_place_of h.state.dates (dates_for h.state.layout) q) ∙ e);
+    dated = λ q. put_key p h.state.dates (dates_for h.state.layout) q ∙ (put_placed (eq_by_cmp place_cmp q p) (is_some (dates_for h.state.layout)) (is_cache h.state.layout) (contains_key h.state.dates q) (contains_key h.state.tiles q) (dates_some h.state.layout) (loaded.state.dated q) ∙ ap (λ b. is_cache h.state.layout && b) (sym (put_key p h.state.tiles (Some None) q)));
+    times = λ q d e. times_at (eq_by_cmp place_cmp q p) q d (sym (put_at p h.state.dates (dates_for h.state.layout) q) ∙ e);
   }
     where
       times_at : (b : Bool) (q : Place) (d : Dates) → cond b (dates_for h.state.layout) (get h.state.dates q) ≡ Some d → AreTimes d
@@ -76,8 +59,8 @@ module _ (t : Tables) (h : Held) (p : Place) (loaded : IsLoadedFrom t h) where
     placed = loaded.state.placed;
     joined = loaded.state.joined;
     stored = loaded.state.stored;
-    dated = λ q. key_at h.state.dates (Some dates) q ∙ by q (eq_by_cmp place_cmp q p) refl;
-    times = λ q d e. times_at (eq_by_cmp place_cmp q p) q d (sym (at_place_of h.state.dates (Some dates) q) ∙ e);
+    dated = λ q. put_key p h.state.dates (Some dates) q ∙ by q (eq_by_cmp place_cmp q p) refl;
+    times = λ q d e. times_at (eq_by_cmp place_cmp q p) q d (sym (put_at p h.state.dates (Some dates) q) ∙ e);
   }
     where
       by : (q : Place) (b : Bool) → eq_by_cmp place_cmp q p ≡ b → cond b true (contains_key h.state.dates q) ≡ (is_cache h.state.layout && contains_key h.state.tiles q)
