@@ -30,7 +30,6 @@ use Rattle.mb_lists.proofs.Finding.{found_in}
 use Rattle.mb_lists.proofs.Items.{equal_of, found_itself, look_up}
 use Rattle.mb_load.proofs.Listed.{at_right, in_append, in_mapped, keeps_mapped}
 use Rattle.mb_load.proofs.MoreContents.{at_left}
-use Rattle.mb_load.proofs.PutRowLemmas.{there}
 use Rattle.mb_lists.proofs.NameLemmas.{names_antisymmetric}
 use Rattle.mb_lists.proofs.Places.{places_antisymmetric}
 use Rattle.mb_store.specs.declared.change.Change.{Change}
@@ -81,6 +80,10 @@ other t u h = by (table_eq u t) refl
 some_of : {A B : Type 0} (f : A → Option B) (o : Option A) → is_some (option_and_then f o) ≡ true → (x : A) × (o ≡ Some x) × (is_some (f x) ≡ true)
 some_of f None h = absurd (false≢true h)
 some_of f (Some x) h = (x, refl, h)
+
+pub there : {A : Type 0} (o : Option A) → is_some o ≡ true → (x : A) × (o ≡ Some x)
+there (Some x) h = (x, refl)
+there None h = absurd (false≢true h)
 
 -- an entry that was edited has a change
 made_by : (s : Standing) (row : List Cell) (change : Option (List Cell) → Change) → is_some (if_edited s) ≡ true → (r : Option (List Cell)) × (change_by s row change ≡ Some (change r))

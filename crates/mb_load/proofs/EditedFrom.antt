@@ -16,6 +16,7 @@ use Rattle.std.proofs.lemmas.Bool.{false≢true}
 use Rattle.std.proofs.lemmas.Cmp.{nat_list_cmp_total}
 use Rattle.std.proofs.lemmas.Option.{none-some, same_Some}
 use Rattle.mb_lists.specs.Contents.{Contents}
+use Rattle.mb_load.proofs.Covering.{there}
 use Rattle.mb_load.specs.Edits.{dates_for, id_for, is_named, only_referenced, removed_name, removed_tile, with_content, with_key, with_name, with_tile, with_value, without_name, without_tile}
 use Rattle.mb_lists.specs.Entries.{is_cache, text_cell}
 use Rattle.mb_load.specs.Held.{Held}
@@ -28,7 +29,7 @@ use Rattle.mb_load.proofs.DroppedHeld.{any_unit, contents_with, edited_with}
 use Rattle.mb_load.proofs.EditMaps.{get-with_value}
 use Rattle.mb_lists.proofs.Items.{equal_of}
 use Rattle.mb_lists.proofs.Places.{places_antisymmetric}
-use Rattle.mb_load.proofs.PutRowLemmas.{digest_right, id_known, there}
+use Rattle.mb_load.proofs.PutRowLemmas.{digest_right, id_known}
 use Rattle.mb_tables.proofs.CellLemmas.{cell_cmp-IsAntisymmetric}
 use Rattle.mb_tables.proofs.TileLemmas.{places_total}
 use Rattle.mb_tables.specs.Cell.{cell_cmp, cell_eq}

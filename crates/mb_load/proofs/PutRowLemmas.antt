@@ -67,10 +67,6 @@ pub not_there : {A : Type 0} (o : Option A) → is_some o ≡ false → o ≡ No
 not_there None h = refl
 not_there (Some x) h = absurd (false≢true (sym h))
 
-pub there : {A : Type 0} (o : Option A) → is_some o ≡ true → (x : A) × (o ≡ Some x)
-there (Some x) h = (x, refl)
-there None h = absurd (false≢true h)
-
 module _ (s : State) (ok : IsLoadable s) where
   -- the id of a tile of a normalised set has contents, which are the tile
   pub id_known : (p : Place) (id : Cell) → get s.ids p ≡ Some id → (cell : Cell) × (get s.contents id ≡ Some cell) × (get s.tiles p ≡ contents_of cell) × IsContentOf s.layout s.algorithm id cell

@@ -24,12 +24,13 @@ use Rattle.mb_load.specs.State.{State, state_of}
 use Rattle.mb_constraints.specs.TileRows.{bad_tile, by_place, dates_in, id_in, tile_in}
 use Rattle.mb_constraints.proofs.ApartPlaces.{in_has_place, never_twice}
 use Rattle.mb_load.proofs.CommitLemmas.{no_contents}
+use Rattle.mb_load.proofs.Covering.{there}
 use Rattle.mb_lists.proofs.FrontLemmas.{any_from_filter, apart_from, begins, entry_from, entry_key, key_whole, names_as_entries, text_cells}
 use Rattle.mb_load.proofs.KeyReading.{at_place_placed, found_through, key_of_place, under_key}
 use Rattle.mb_load.proofs.LoadsFrom.{filter_begins, key_first, own_contents}
 use Rattle.mb_lists.proofs.NameLemmas.{names_antisymmetric}
 use Rattle.mb_lists.proofs.Places.{places_antisymmetric}
-use Rattle.mb_load.proofs.PutRowLemmas.{id_known, there, tied}
+use Rattle.mb_load.proofs.PutRowLemmas.{id_known, tied}
 use Rattle.mb_load.proofs.RowsPass.{ArePassing, cell_under, holds, joins_row, pass_all}
 use Rattle.mb_load.proofs.StateLemmas.{state_is}
 use Rattle.mb_tables.proofs.ListLemmas.{find_only}
