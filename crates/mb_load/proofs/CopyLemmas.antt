@@ -33,13 +33,13 @@ use Rattle.tile_hash.specs.declared.algorithm.HashAlgorithm.{HashAlgorithm}
 use Rattle.tile_ids.specs.Coord.{Coord}
 
 -- facts of lists that are equal to others
-tiles_moved : (cs cs' : List Content) (ts ts' : List StoredTile) → cs' ≡ cs → ts' ≡ ts → All (IsTile cs) ts → All (IsTile cs') ts'
+pub tiles_moved : (cs cs' : List Content) (ts ts' : List StoredTile) → cs' ≡ cs → ts' ≡ ts → All (IsTile cs) ts → All (IsTile cs') ts'
 tiles_moved cs cs' ts ts' c t h = subst (λ (z : List Content). All (IsTile z) ts') (sym c) (subst (λ (z : List StoredTile). All (IsTile cs) z) (sym t) h)
 
-ids_moved : (cs cs' : List Content) (is is' : List ℕ) → cs' ≡ cs → is' ≡ is → All (HasId cs) is → All (HasId cs') is'
+pub ids_moved : (cs cs' : List Content) (is is' : List ℕ) → cs' ≡ cs → is' ≡ is → All (HasId cs) is → All (HasId cs') is'
 ids_moved cs cs' is is' c i h = subst (λ (z : List Content). All (HasId z) is') (sym c) (subst (λ (z : List ℕ). All (HasId cs) z) (sym i) h)
 
-dated_moved : (l l' : MbtType) (ts ts' : List StoredTile) → l' ≡ l → ts' ≡ ts → All (IsDated l) ts → All (IsDated l') ts'
+pub dated_moved : (l l' : MbtType) (ts ts' : List StoredTile) → l' ≡ l → ts' ≡ ts → All (IsDated l) ts → All (IsDated l') ts'
 dated_moved l l' ts ts' e t h = subst (λ (z : MbtType). All (IsDated z) ts') (sym e) (subst (λ (z : List StoredTile). All (IsDated l) z) (sym t) h)
 
 -- bytes that were put at an index stay there

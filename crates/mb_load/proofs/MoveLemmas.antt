@@ -4,10 +4,12 @@ use Rattle.std.specs.Prelude.{Err, Ok, OnOk, Result, slice_get, unwrap_or}
 use Rattle.std.proofs.lemmas.Bool.{cases_eq, false≢true}
 use Rattle.std.proofs.lemmas.List.{length-set}
 use Rattle.std.proofs.lemmas.Option.{same_Some}
-use Rattle.mb_lists.specs.Entries.{IsTile, content_at, is_gone, nothing}
+use Rattle.mb_lists.specs.Entries.{IsTile, content_at, is_gone, newest_ids, newest_names, newest_tiles, nothing}
 use Rattle.mb_lists.specs.declared.entries.Content.{Content}
+use Rattle.mb_lists.specs.declared.entries.StoredName.{StoredName}
 use Rattle.mb_lists.specs.declared.entries.StoredTile.{StoredTile}
 use Rattle.mb_load.specs.Copying.{Edits, IsCopied, IsCopying, Puts, Removes, id_of, tile_copied}
+use Rattle.mb_load.specs.HeldEntries.{held_of}
 use Rattle.mb_load.specs.Moving.{AreLeft}
 use Rattle.mb_load.specs.Taking.{taken}
 use Rattle.mb_load.specs.declared.copying.Copying.{Copying}
@@ -17,6 +19,9 @@ use Rattle.mb_tables.specs.Cell.{is_null}
 use Rattle.mb_tables.specs.Tiles.{contents_of}
 use Rattle.mb_tables.specs.declared.cell.Cell.{Cell}
 use Rattle.mb_tables.specs.declared.cell.Cell.TheVariants.{Null, Int, Text, Blob, Other}
+use Rattle.mb_tables.specs.declared.kind.MbtType.{MbtType}
+use Rattle.mb_tables.specs.declared.patch_type.PatchType.{PatchType}
+use Rattle.tile_hash.specs.declared.algorithm.HashAlgorithm.{HashAlgorithm}
 
 null_cell : (c : Cell) → is_some (contents_of c) ≡ true → ((b : List ℕ) → c ≢ Blob b) → c ≡ Null
 null_cell Null h away = refl
@@ -27,6 +32,10 @@ null_cell Other h away = absurd (false≢true h)
 
 not_suc : (i : ℕ) → suc i ≡ 0 → ⊥
 not_suc i e = omega (arith, e)
+
+-- a set whose lists have the same items
+pub same_held : (layout : MbtType) (a : HashAlgorithm) (p : Option PatchType) (cs cs' : List Content) (order : List ℕ) (ts ts' : List StoredTile) (names : List StoredName) → cs' ≡ cs → ts' ≡ ts → held_of layout a p cs' (newest_ids cs' order) (newest_tiles ts') (newest_names names) ≡ held_of layout a p cs (newest_ids cs order) (newest_tiles ts) (newest_names names)
+same_held layout a p cs cs' order ts ts' names c t = λ k. held_of layout a p (c k) (newest_ids (c k) order) (newest_tiles (t k)) (newest_names names)
 
 -- before the first one is moved
 pub none_moved : (others : List Content) (copies : List ℕ) (n : ℕ) → copies ≡ replicate n 0 → AreLeft others others copies

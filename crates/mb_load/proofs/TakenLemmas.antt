@@ -1,11 +1,11 @@
 -- Contents that are taken out of their list, and the last use of each.
-use Rattle.std.proofs.Common.{◌≡◌, ◌≢◌, ◌∙◌, ap, sym, ℕ, ◌<◌, ◌≤◌, ◌+◌, ◌⊎◌, inl, inr, Option, Some, List, [], ◌∷◌, Bool, true, false, length, set, take, refl, zero, suc, is_some, arith, get_or, nat_eq, ◌++◌}
-use Rattle.std.specs.Prelude.{All, filter_map, slice_get, unwrap_or}
+use Rattle.std.proofs.Common.{◌≡◌, ◌≢◌, ◌∙◌, ap, sym, ℕ, ◌<◌, ◌≤◌, ◌+◌, ◌⊎◌, inl, inr, Option, Some, None, List, [], ◌∷◌, Bool, true, false, length, length-drop, set, take, drop, refl, zero, suc, is_some, arith, get_or, nat_eq, nat_lt, ◌++◌}
+use Rattle.std.specs.Prelude.{All, cond, filter_map, slice_get, unwrap_or}
 use Rattle.std.specs.Cmp.{tied_itself}
 use Rattle.std.specs.Ordering.{eq_by_cmp, is_eq}
 use Rattle.std.proofs.lemmas.Bool.{cases_eq, cases_lt, false≢true}
 use Rattle.std.proofs.lemmas.Bool.Decides.{nat_tests}
-use Rattle.std.proofs.lemmas.List.{length-set}
+use Rattle.std.proofs.lemmas.List.{drop_more, length-set}
 use Rattle.std.proofs.lemmas.List.Elements.{All-head, All-tail}
 use Rattle.std.proofs.lemmas.Option.{get_or_from_slice_get, same_Some, slice_get-get_or, slice_get_within}
 use Rattle.mb_lists.specs.Entries.{HasId, IsTile, id_at, nothing, place_of}
@@ -16,14 +16,14 @@ use Rattle.mb_lists.specs.declared.entries.Standing.TheVariants.{Kept, Put, Remo
 use Rattle.mb_lists.specs.declared.entries.StoredTile.{StoredTile}
 use Rattle.mb_load.specs.Changing.{content_table, front, tile_key}
 use Rattle.mb_load.specs.PutRows.{cells_kept, change_by, content_change, listed_change, tile_change, with_any}
-use Rattle.mb_load.specs.Taking.{AreLast, AreUnspent, Spends, taken}
-use Rattle.mb_load.proofs.ChangeSteps.{listed_step}
+use Rattle.mb_load.specs.Taking.{AreLast, AreUnspent, IsSpent, Spends, taken}
+use Rattle.mb_load.proofs.ChangeSteps.{listed_step, tile_step}
 use Rattle.mb_store.specs.declared.change.Change.{Change}
 use Rattle.mb_tables.specs.Cell.{cell_cmp, is_null}
 use Rattle.mb_tables.specs.CellOrder.{cells_total}
 use Rattle.mb_tables.specs.Kind.{tile_table}
 use Rattle.mb_tables.specs.Table.{table_eq}
-use Rattle.mb_tables.specs.Tiles.{contents_of}
+use Rattle.mb_tables.specs.Tiles.{contents_of, place_cmp}
 use Rattle.mb_tables.specs.declared.kind.MbtType.{MbtType}
 use Rattle.tile_hash.specs.declared.algorithm.HashAlgorithm.{HashAlgorithm}
 
@@ -99,13 +99,53 @@ unequal m n h = grind (arith, nat_tests)
 
 pub unspent_next : (first now new : List Content) (last : List ℕ) (n i : ℕ) (b : Bool) → ((m : ℕ) → slice_get last i ≡ Some m → b ≡ nat_eq m n) → AreUnspent first now last n → Spends b i now new → AreUnspent first new last (n + 1)
 unspent_next first now new last n i b is u s = record {
-  each = s.each ∙ u.each;
   named = λ k h. s.named k (ap (λ (o : Option Content). is_null (unwrap_or o nothing).id) (u.named k h) ∙ h) ∙ u.named k h;
   used = λ k m at le. elim (cases_eq k i) [
     | inl e ↦ ap (λ (l : List Content). slice_get l k) (s.kept (is m (ap (slice_get last) (sym e) ∙ at) ∙ unequal m n le)) ∙ u.used k m at (omega (arith, le))
     | inr ne ↦ s.others k ne ∙ u.used k m at (omega (arith, le))
   ];
 }
+
+-- no id, and an index that is before another one
+pub none_null : {X : Type 0} (b : Bool) (x : X) → None ≡ cond b None (Some x) → b ≡ true
+none_null true x h = refl
+none_null false x h = cc
+
+pub less_from : (m n : ℕ) → nat_lt m n ≡ true → m < n
+less_from m n h = grind (arith, nat_tests)
+
+-- what stands at an index of a list that was cut, or that it was cut before it
+cut_at : {X : Type 0} (xs : List X) (n k : ℕ) → (slice_get (take n xs) k ≡ slice_get xs k) ⊎ ((n ≤ k) × (k < length xs))
+cut_at [] zero k = inl refl
+cut_at [] (suc n) k = inl refl
+cut_at (x ∷ xs) zero zero = inr (omega arith, omega arith)
+cut_at (x ∷ xs) zero (suc k) = elim (cut_at xs zero k) [ inl e ↦ inl e | inr p ↦ inr (omega arith, omega (arith, p.1)) ]
+cut_at (x ∷ xs) (suc n) zero = inl refl
+cut_at (x ∷ xs) (suc n) (suc k) = elim (cut_at xs n k) [ inl e ↦ inl e | inr p ↦ inr (omega (arith, p.0), omega (arith, p.1)) ]
+
+-- contents that are spent are cut off
+pub cut_unspent : (first now : List Content) (last : List ℕ) (n left : ℕ) → ((k : ℕ) → left ≤ k → k < length now → IsSpent now last k n) → AreUnspent first now last n → AreUnspent first (take left now) last n
+cut_unspent first now last n left spent u = record {
+  named = λ k h. elim (cut_at now left k) [
+    | inl same ↦ same ∙ u.named k h
+    | inr past ↦ absurd (false≢true (sym (ap (λ (o : Option Content). is_null (unwrap_or o nothing).id) (u.named k h) ∙ h) ∙ (spent k past.0 past.1).0))
+  ];
+  used = λ k m at le. elim (cut_at now left k) [
+    | inl same ↦ same ∙ u.used k m at le
+    | inr past ↦ absurd (omega (arith, le, (spent k past.0 past.1).1 m at))
+  ];
+}
+
+-- the first of the tiles that are left, and when none is left
+pub tile_taken : (ts q r : List StoredTile) (i : ℕ) (t : StoredTile) → q ≡ drop i ts → q ≡ t ∷ r → (i < length ts) × (t ≡ get_or ts i t) × (r ≡ drop (i + 1) ts)
+tile_taken ts q r i t is at =
+    let there : drop i ts ≡ t ∷ r = sym is ∙ at in
+    let lt : i < length ts = omega (arith, length-drop i ts, ap length there) in
+    let both : t ∷ r ≡ get_or ts i t ∷ drop (i + 1) ts = sym there ∙ drop_more ts i t lt in
+    (lt, ap (λ (xs : List StoredTile). get_or xs 0 t) both, ap (drop 1) both)
+
+pub all_taken : (ts q r : List StoredTile) (i : ℕ) → q ≡ drop i ts → q ≡ r → r ≡ [] → length ts ≤ i
+all_taken ts q r i is at none = omega (arith, length-drop i ts, ap length (sym is ∙ (at ∙ none)))
 
 -- contents of a tile that is to come are there
 pub still_there : (tiles : List StoredTile) (first now : List Content) (last : List ℕ) (n : ℕ) (t : StoredTile) → n < length tiles → t ≡ get_or tiles n t → AreLast tiles last → AreUnspent first now last n → t.standing ≡ Put → slice_get now t.contents ≡ slice_get first t.contents
@@ -123,6 +163,18 @@ same_change layout a first now t same = by t.standing same
     by Kept h = refl
     by Removed h = refl
     by Put h = ap (λ (o : Option Content). change_by Put (front (place_of t) ++ cells_kept layout a (unwrap_or o nothing) t.dates) (λ row. record { table = tile_table layout; key = tile_key (place_of t); row = row })) (h refl)
+
+-- the change of a tile that is taken, whose contents are spent at their last use
+pub spent_next : (layout : MbtType) (a : HashAlgorithm) (first now new : List Content) (ts q r : List StoredTile) (last : List ℕ) (i : ℕ) (t : StoredTile) (b : Bool) (old next : List Change) → Apart place_cmp place_of ts → AreLast ts last → q ≡ drop i ts → q ≡ t ∷ r
+    → old ≡ filter_map (tile_change layout a first) (take i ts) → AreUnspent first now last i → next ≡ with_any old (tile_change layout a now t) → ((m : ℕ) → slice_get last t.contents ≡ Some m → b ≡ nat_eq m i) → Spends b t.contents now new
+    → (r ≡ drop (i + 1) ts) × (i + 1 ≤ length ts) × (next ≡ filter_map (tile_change layout a first) (take (i + 1) ts)) × AreUnspent first new last (i + 1)
+spent_next layout a first now new ts q r last i t b old next apart are is at was u made ends spent =
+    let p = tile_taken ts q r i t is at in (
+      p.2,
+      omega (arith, p.0),
+      tile_step layout a first ts i t old next apart p.0 p.1 was (made ∙ ap (with_any old) (same_change layout a first now t (still_there ts first now last i t p.0 p.1 are u))),
+      unspent_next first now new last i t.contents b ends u spent,
+    )
 
 -- listed contents that are to come are there
 abbrev pub LeftFrom : ℕ → List ℕ → List Content → List Content → Type 0

@@ -1,5 +1,5 @@
 -- Lists of contents out of which some are taken, once each.
-use Rattle.std.specs.Prelude.{◌≡◌, ◌≢◌, ◌≤◌, ℕ, Bool, false, List, Some, length, slice_get}
+use Rattle.std.specs.Prelude.{◌≡◌, ◌≢◌, ◌<◌, ◌≤◌, ℕ, Bool, false, true, List, Some, length, slice_get}
 use Rattle.mb_lists.specs.Entries.{id_at}
 use Rattle.mb_lists.specs.declared.entries.Content.{Content}
 use Rattle.mb_lists.specs.declared.entries.Standing.TheVariants.{Put}
@@ -17,7 +17,6 @@ AreLast tiles last = (j : ℕ) (t : StoredTile) → slice_get tiles j ≡ Some t
 
 -- contents that are there still: those that have an id, and those with which a tile from an index on is put
 pub record AreUnspent (first now : List Content) (last : List ℕ) (n : ℕ) : Type 0 where
-  pub each : length now ≡ length first
   pub named : (k : ℕ) → is_null (id_at first k) ≡ false → slice_get now k ≡ slice_get first k
   pub used : (k m : ℕ) → slice_get last k ≡ Some m → n ≤ m → slice_get now k ≡ slice_get first k
 
@@ -27,3 +26,7 @@ pub record Spends (is_last : Bool) (i : ℕ) (old new : List Content) : Type 0 w
   pub named : (k : ℕ) → is_null (id_at old k) ≡ false → slice_get new k ≡ slice_get old k
   pub others : (k : ℕ) → k ≢ i → slice_get new k ≡ slice_get old k
   pub kept : is_last ≡ false → new ≡ old
+
+-- contents at an index that have no id, and with which no tile from another index on is put
+abbrev pub IsSpent : List Content → List ℕ → ℕ → ℕ → Type 0
+IsSpent contents last k n = (is_null (id_at contents k) ≡ true) × ((m : ℕ) → slice_get last k ≡ Some m → m < n)

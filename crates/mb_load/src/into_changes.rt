@@ -15,11 +15,13 @@ use crate::changes::add_names;
 use crate::last_uses::last_uses;
 use crate::moved_rows::{moved_content_row, moved_row};
 use crate::put_rows::{contents_table, id_key, place_key, tile_row};
+use crate::spending::{drop_spent, next_tile};
 use crate::taking::take_content;
 use base_values::OutOfMemory;
-use mb_lists::{Content, ContentList, Standing, StoredTile};
+use mb_lists::{Content, ContentList, Standing, StoredTile, TileList};
 use mb_store::{Changes, MbtType, Row, RowKey, TableName};
 use std::alloc::Global;
+use std::collections::VecDeque;
 use tile_hash::HashAlgorithm;
 
 // The row of a tile. Contents without an id are moved into the row of the last tile that is put with them.
@@ -79,7 +81,7 @@ fn is_last(last: &[usize], index: usize, tile: &StoredTile) -> bool
     }
 }
 
-// The changes of all tiles. Of the contents those that have an id are there afterwards.
+// The changes of all tiles, which go as their rows are made. Of the contents those that have an id are there afterwards.
 fn add_tiles(
     alloc: Global,
     changes: &mut Changes,
@@ -87,23 +89,24 @@ fn add_tiles(
     algorithm: HashAlgorithm,
     contents: &mut Vec<Content>,
     last: &[usize],
-    tiles: &[StoredTile],
+    tiles: Vec<StoredTile>,
 ) -> Result<(), OutOfMemory>
     requires none { changes.old ≡ [] }
-    requires apart { Apart place_cmp place_of tiles.now }
-    requires whole { All (IsTile contents.old.items) tiles.now }
-    requires last { AreLast tiles.now last.now }
+    requires apart { Apart place_cmp place_of tiles.items }
+    requires whole { All (IsTile contents.old.items) tiles.items }
+    requires last { AreLast tiles.items last.now }
     ensures changes { OnOk result
-        (changes.new ≡ filter_map (tile_change layout algorithm contents.old.items) tiles.now) }
+        (changes.new ≡ filter_map (tile_change layout algorithm contents.old.items) tiles.items) }
     ensures left { OnOk result ((k : ℕ) → is_null (id_at contents.old.items k) ≡ false
         → slice_get contents.new.items k ≡ slice_get contents.old.items k) }
 {
+    let mut left = VecDeque::from_vec(tiles);
     let mut index = 0;
-    while index < tiles.len() {
-        let tile = &tiles[index];
-        let ends = is_last(last, index, tile);
-        add_tile(alloc, changes, layout, algorithm, contents, ends, tile)?;
+    while let Some(tile) = next_tile(&mut left) {
+        let ends = is_last(last, index, &tile);
+        add_tile(alloc, changes, layout, algorithm, contents, ends, &tile)?;
         index += 1;
+        drop_spent(contents, last, index);
     }
     Ok(())
 }
@@ -188,7 +191,8 @@ fn add_contents(
 
 impl Loaded {
     /// The changes that turn the tables that were loaded into tables of the present state, as `changes` gives them. The set is let go: each of its contents is moved into
-    /// the row of the last tile that is put with them, or into their own row where they have an id, so that the contents are not held twice.
+    /// the row of the last tile that is put with them, or into their own row where they have an id, so that the contents are not held twice. Its list of tiles goes as their rows are
+    /// made, and so do contents without an id at the end of theirs.
     pub fn into_changes(self, alloc: Global) -> Result<Changes, OutOfMemory>
         ensures { IfOk result (λ changes. AreChangesOf self changes) }
     {
@@ -205,7 +209,11 @@ impl Loaded {
             order,
             live: _,
         } = contents;
-        let last = last_uses(alloc, contents.len(), &tiles.items)?;
+        let TileList {
+            items: tiles,
+            live: _,
+        } = tiles;
+        let last = last_uses(alloc, contents.len(), &tiles)?;
         let mut changes = Changes::new(alloc);
         add_tiles(
             alloc,
@@ -214,7 +222,7 @@ impl Loaded {
             algorithm,
             &mut contents,
             &last,
-            &tiles.items,
+            tiles,
         )?;
         add_contents(alloc, &mut changes, layout, &mut contents, &order)?;
         add_names(alloc, &mut changes, &names.items)?;

@@ -22,6 +22,7 @@ mod put_rows;
 mod reading;
 mod sharing;
 mod single_edits;
+mod spending;
 mod taking;
 mod tiles_of_rows;
 

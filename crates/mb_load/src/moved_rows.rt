@@ -67,7 +67,7 @@ pub(crate) fn moved_row(
     ensures { IfOk result
         (λ row. row ≡ front (place_of tile.now) ++ cells_kept layout algorithm content tile.now.dates) }
 {
-    let mut cells = place_cells(alloc, tile.coord)?;
+    let mut cells = place_cells(alloc, layout, tile.coord)?;
     let dates = tile.dates.get();
     add_moved(alloc, layout, algorithm, content, dates, &mut cells)?;
     Ok(Row::new(cells))

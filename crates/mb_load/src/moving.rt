@@ -110,6 +110,21 @@ fn move_tiles(
     Ok(())
 }
 
+// Makes room for so many contents and tiles more, so that no list is held twice while it grows.
+fn make_room(
+    contents: &mut Vec<Content>,
+    tiles: &mut Vec<StoredTile>,
+    more_contents: usize,
+    more_tiles: usize,
+) -> Result<(), OutOfMemory>
+    ensures contents { contents.new.items ≡ contents.old.items }
+    ensures tiles { tiles.new.items ≡ tiles.old.items }
+{
+    contents.reserve(more_contents)?;
+    tiles.reserve(more_tiles)?;
+    Ok(())
+}
+
 impl Editing {
     /// Puts the tiles of another set, as `put_tiles` does, and lets that set go: each of its contents is moved, however many of its tiles have them.
     pub fn move_tiles(self, other: Loaded, ids: &GivenIds) -> Result<Editing, OutOfMemory>
@@ -120,9 +135,9 @@ impl Editing {
             layout,
             algorithm,
             patch_type,
-            contents,
+            mut contents,
             order,
-            tiles,
+            mut tiles,
             names,
         } = self;
         let Loaded {
@@ -143,6 +158,7 @@ impl Editing {
             live,
         } = moving;
         let copies = no_copies(*contents.allocator(), others.len())?;
+        make_room(&mut contents, &mut tiles, others.len(), live)?;
         let mut copying = Copying {
             layout,
             algorithm,

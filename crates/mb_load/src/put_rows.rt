@@ -67,13 +67,17 @@ fn push_copy(alloc: Global, cells: &mut Vec<Cell>, cell: &Cell) -> Result<(), Ou
     Ok(())
 }
 
-/// The cells of a place.
-pub(crate) fn place_cells(alloc: Global, coord: TileCoord) -> Result<Vec<Cell>, OutOfMemory>
+/// The cells of a place, with room for the row of a layout.
+pub(crate) fn place_cells(
+    alloc: Global,
+    layout: MbtType,
+    coord: TileCoord,
+) -> Result<Vec<Cell>, OutOfMemory>
     ensures { IfOk result (λ cells. cells.items ≡ front (place_at coord)) }
 {
     let zoom = coord.z();
     let row = invert_y_value(zoom, coord.y());
-    let mut cells = Vec::with_capacity(alloc, 7)?;
+    let mut cells = Vec::with_capacity(alloc, layout.tile_table().width())?;
     cells.push(Cell::Int(i64::from(zoom)))?;
     cells.push(Cell::Int(i64::from(coord.x())))?;
     cells.push(Cell::Int(i64::from(row)))?;
@@ -157,7 +161,7 @@ pub(crate) fn tile_row(
     requires live { is_gone tile.now ≡ false }
     ensures { IfOk result (λ row. row ≡ row_of_tile layout algorithm contents.now tile.now) }
 {
-    let mut cells = place_cells(alloc, tile.coord)?;
+    let mut cells = place_cells(alloc, layout, tile.coord)?;
     let content = &contents[tile.contents];
     let dates = tile.dates.get();
     add_cells(alloc, layout, algorithm, content, dates, &mut cells)?;
