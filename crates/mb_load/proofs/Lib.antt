@@ -37,3 +37,4 @@ pub mod CopyLemmas
 pub mod MoveLemmas
 pub mod GivenLemmas
 pub mod EmptyLemmas
+pub mod OwnedLemmas

@@ -30,5 +30,5 @@ pub use commit::commit_loaded;
 pub use editing::Editing;
 pub use given_ids::GivenIds;
 pub use loaded::Loaded;
-pub use loading::load;
+pub use loading::{load, load_owned};
 pub use mb_constraints::{test_base_hashes, test_patch_hashes};

@@ -5,14 +5,17 @@ ghost use Rattle.mb_constraints.specs.Described.{index_missing, metadata_missing
 ghost use Rattle.mb_load.specs.Loading.{Loads};
 ghost use Rattle.mb_load.specs.LoadedFrom.{IsLoadable, IsLoadedFrom, NamesAlgorithm};
 ghost use Rattle.mb_load.specs.State.{state_of};
+ghost use Rattle.mb_store.specs.MemStore.{told_of};
 ghost use Rattle.mb_tables.specs.Detection.{layout_of};
 ghost use Rattle.mb_tables.specs.Table.{Tables};
 
 use crate::Loaded;
 use crate::from_rows::loaded_from;
-use crate::reading::read_all;
+use crate::reading::{read_all, take_all};
 use mb_constraints::has_metadata;
-use mb_store::{MbtError, MbtResult, MbtType, TableDesc, TileStore, detect_type, get_patch_type};
+use mb_store::{
+    MbtError, MbtResult, MbtType, MemStore, TableDesc, TileStore, detect_type, get_patch_type,
+};
 use std::alloc::Global;
 
 // The layout of a set whose descriptions pass their tests, or their first refusal.
@@ -57,6 +60,29 @@ pub fn load<S: TileStore>(alloc: Global, store: &mut S) -> MbtResult<Loaded>
     let layout = layout_in(&descriptions)?;
     let patch_type = get_patch_type(&descriptions);
     let rows = read_all(alloc, store, layout)?;
+    loaded_from(
+        alloc,
+        layout,
+        patch_type,
+        rows.metadata,
+        rows.contents,
+        rows.tiles,
+    )
+}
+
+/// Loads a set as `load` does, out of a store in memory that is let go: the texts and bytes of its rows are moved, so that they stand in memory once. None of the store's calls that can
+/// fail is made, so that no fault comes.
+pub fn load_owned(alloc: Global, store: MemStore) -> MbtResult<Loaded>
+    ensures answer { Loads (state_of (told_of store)) result }
+    ensures loaded { IfOk result (IsLoadedFrom (told_of store)) }
+    ensures whole { IfOk result (λ h. IsLoadable h.state) }
+    ensures named { IfOk result (λ h. NamesAlgorithm h.state) }
+    ensures unfaulted { IfErr result (λ e. e ≢ MbtError.StoreFault) }
+{
+    let described = store.descriptions();
+    let layout = layout_in(described)?;
+    let patch_type = get_patch_type(described);
+    let rows = take_all(alloc, store, layout)?;
     loaded_from(
         alloc,
         layout,

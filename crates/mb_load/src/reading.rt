@@ -2,11 +2,13 @@
 ghost use Rattle.mb_store.specs.Kept.{FaultsCounted, ReadsOnly};
 ghost use Rattle.std.specs.Prelude.{◌≡◌, ◌≤◌, All, [], false, true, IfOk, length};
 ghost use Rattle.mb_lists.specs.Contents.{content_rows};
+ghost use Rattle.mb_store.specs.MemStore.{told_of};
 ghost use Rattle.mb_tables.specs.Kind.{is_normalized, tile_table};
 ghost use Rattle.mb_tables.specs.Table.{width};
 ghost use Rattle.mb_tables.specs.declared.table.TableName.TheVariants.{Metadata};
 
-use mb_store::{MbtType, Row, StoreError, TableName, TileStore};
+use base_values::OutOfMemory;
+use mb_store::{MbtType, MemStore, Row, StoreError, TableName, TileStore};
 use std::alloc::Global;
 
 /// All rows of a table in their order: as many as the store counts are asked for at once.
@@ -72,6 +74,45 @@ pub(crate) fn read_all<S: TileStore>(
     let metadata = read_table(alloc, store, TableName::Metadata)?;
     let tiles = read_table(alloc, store, layout.tile_table())?;
     let contents = read_contents(alloc, store, layout)?;
+    Ok(AllRows {
+        metadata,
+        tiles,
+        contents,
+    })
+}
+
+// The rows of contents of a normalised set, moved out of a store; the other layouts have none.
+fn take_contents(
+    alloc: Global,
+    mut store: MemStore,
+    layout: MbtType,
+) -> Result<Vec<Row>, OutOfMemory>
+    ensures answer { IfOk result (λ rows. rows.items ≡ content_rows layout (told_of store)) }
+    ensures widths { IfOk result (λ rows. All (λ row. length row ≡ 2) rows.items) }
+    ensures none { is_normalized layout ≡ false → IfOk result (λ rows. rows.items ≡ []) }
+{
+    match layout {
+        MbtType::Normalized { schema, .. } => store.take_rows(alloc, schema.contents()),
+        _ => Ok(Vec::new(alloc)),
+    }
+}
+
+/// All rows of the tables of a layout, moved out of a store in memory.
+pub(crate) fn take_all(
+    alloc: Global,
+    mut store: MemStore,
+    layout: MbtType,
+) -> Result<AllRows, OutOfMemory>
+    ensures metadata { IfOk result (λ r. r.metadata.items ≡ (told_of store).rows Metadata) }
+    ensures tiles { IfOk result (λ r. r.tiles.items ≡ (told_of store).rows (tile_table layout)) }
+    ensures contents { IfOk result
+        (λ r. r.contents.items ≡ content_rows layout (told_of store)) }
+    ensures widths { IfOk result (λ r. All (λ row. length row ≡ 2) r.contents.items) }
+    ensures none { is_normalized layout ≡ false → IfOk result (λ r. r.contents.items ≡ []) }
+{
+    let metadata = store.take_rows(alloc, TableName::Metadata)?;
+    let tiles = store.take_rows(alloc, layout.tile_table())?;
+    let contents = take_contents(alloc, store, layout)?;
     Ok(AllRows {
         metadata,
         tiles,

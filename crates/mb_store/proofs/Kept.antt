@@ -3,6 +3,7 @@ use Rattle.std.proofs.Common.{◌≡◌, ℕ, ◌<◌, ◌≤◌, ◌^◌, ◌&&
 use Rattle.std.specs.Prelude.{All, AllPairs, insert, OnOk, OnErr, IsErrOf, ◌↔◌}
 use Rattle.std.specs.List.{list_any}
 use Rattle.std.proofs.lemmas.Bool.{false≢true, and_parts, and_from}
+use Rattle.std.proofs.lemmas.List.Elements.{All-nil}
 use Rattle.std.proofs.lemmas.List.Folds.{list_any_at}
 use Rattle.std.proofs.lemmas.List.Sums.{prefix_len-le-length}
 use Rattle.mb_tables.specs.declared.cell.Cell.{Cell}
@@ -17,6 +18,7 @@ use Rattle.mb_tables.specs.Described.{is_keyed, is_table}
 use Rattle.mb_store.specs.Store.{place_for, placed, with_rows}
 use Rattle.mb_store.specs.MemTables.{AreAllStored, IsKept, MemTables, rows_at}
 use Rattle.mb_tables.proofs.CellLemmas.{cells_eq-Decides}
+use Rattle.mb_tables.proofs.ListLemmas.{AllPairs-nil}
 use Rattle.mb_store.specs.ByTable.{at}
 use Rattle.mb_store.proofs.Ordered.{All-insert, AllPairs-insert}
 use Rattle.mb_store.proofs.StoredLemmas.{stored_count}
@@ -69,6 +71,22 @@ kept_with ds m n table new same described keys widths count stored kept = record
   where
     there : (P : TableName → List (List Cell) → Type 0) → P table new → ((u : TableName) → P u (rows_at m u)) → (u : TableName) → P u (rows_at n u)
     there P here all u = subst (P u) (sym (same u)) (with_rows-holds P (rows_at m) table new here all u)
+
+-- no rows of one table any more
+pub kept_taken : (ds : List TableDesc) (m n : MemTables) (table : TableName) → ((u : TableName) → rows_at n u ≡ with_rows (rows_at m) table [] u) → AreAllStored n → IsKept ds m → IsKept ds n
+kept_taken ds m n table same stored kept = record {
+  sound = record {
+    names = kept.sound.names;
+    described = λ u. there (λ t rows. is_table ds t ≡ false → rows ≡ []) (λ none. refl) kept.sound.described u;
+    keys = λ u. there (λ t rows. is_keyed ds t ≡ true → AllPairs (λ r s. clash t r s ≡ false) rows) (λ keyed. AllPairs-nil (λ r s. clash table r s ≡ false)) kept.sound.keys u;
+    widths = λ u. there (λ t rows. All (λ row. length row ≡ width t) rows) (All-nil (λ (row : List Cell). length row ≡ width table)) kept.sound.widths u;
+    counts = λ u. there (λ t rows. length rows < 2 ^ 64) (omega arith) kept.sound.counts u;
+  };
+  stored = stored;
+}
+  where
+    there : (P : TableName → List (List Cell) → Type 0) → P table [] → ((u : TableName) → P u (rows_at m u)) → (u : TableName) → P u (rows_at n u)
+    there P here all u = subst (P u) (sym (same u)) (with_rows-holds P (rows_at m) table [] here all u)
 
 -- what a push leaves
 pub kept_pushed : {T : Type 0} (r : Result T MbtError) (ds : List TableDesc) (m n : MemTables) (table : TableName) (keyed : Bool) (row : List Cell) → keyed ≡ is_keyed ds table → (IsErrOf r (DuplicateRow table) ↔ ((keyed && list_any (clash table row) (rows_at m table)) ≡ true)) → OnOk r ((u : TableName) → rows_at n u ≡ with_rows (rows_at m) table (placed table row (rows_at m table)) u) → OnErr r ((u : TableName) → rows_at n u ≡ rows_at m u) → AreAllStored n → is_table ds table ≡ true → length row ≡ width table → IsKept ds m → IsKept ds n

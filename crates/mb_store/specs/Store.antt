@@ -41,6 +41,10 @@ with_rows rows table new u = cond (table_eq u table) new (rows u)
 abbrev pub with_row : Tables → TableName → List Cell → Tables
 with_row t table row = record { descriptions = t.descriptions; rows = with_rows t.rows table (placed table row (t.rows table)) }
 
+-- a table has no rows any more
+abbrev pub without_rows : Tables → TableName → Tables
+without_rows t table = record { descriptions = t.descriptions; rows = with_rows t.rows table [] }
+
 -- tables as they are described, without rows
 abbrev pub no_rows : List TableDesc → Tables
 no_rows ds = record { descriptions = ds; rows = λ table. [] }

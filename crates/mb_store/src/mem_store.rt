@@ -8,7 +8,7 @@ ghost use Rattle.mb_tables.specs.Table.{width};
 ghost use Rattle.mb_store.specs.Committing.{AreOfTables, Commits};
 ghost use Rattle.mb_store.specs.MemTables.{AreKeyed, IsKept};
 ghost use Rattle.mb_store.specs.Sizes.{live_size_of};
-ghost use Rattle.mb_store.specs.Store.{created, is_duplicate, no_rows, with_row};
+ghost use Rattle.mb_store.specs.Store.{created, is_duplicate, no_rows, with_row, without_rows};
 ghost use Rattle.mb_store.specs.Errors.{IsRowError, RefusesTwice};
 ghost use Rattle.mb_store.specs.Kept.{FaultsCounted};
 
@@ -18,7 +18,7 @@ use crate::{
     Changes, MbtError, MbtResult, MbtType, Row, RowKey, StoreError, TableDesc, TableName,
     TileStore, committing, describing, mem_tables, reading, table_rows,
 };
-use base_values::FailingCalls;
+use base_values::{FailingCalls, OutOfMemory};
 use std::alloc::Global;
 
 /// A store of tables in memory. The rows of a table stand in the order of their keys, rows of equal keys in order of arrival. A row
@@ -89,6 +89,27 @@ impl MemStore {
     {
         let keyed = *self.keyed.of(table);
         mem_tables::push(&mut self.tables, table, keyed, row)
+    }
+
+    /// The descriptions of all tables and views.
+    pub fn descriptions(&self) -> &[TableDesc]
+        ensures { result.now ≡ (told_of self.now).descriptions }
+    {
+        self.descriptions.as_slice()
+    }
+
+    /// Takes the rows of a table, in the order of their keys: their texts and bytes are moved. The table has no rows then, also where memory is wanting for the list of the rows.
+    /// It is none of the calls that can fail.
+    pub fn take_rows(&mut self, alloc: Global, table: TableName) -> Result<Vec<Row>, OutOfMemory>
+        ensures rows { IfOk result (λ rows. rows.items ≡ (told_of self.old).rows table) }
+        ensures widths { IfOk result (λ rows. All (λ row. length row ≡ width table) rows.items) }
+        ensures told { told_of self.new ≡ without_rows (told_of self.old) table }
+        ensures faults { faults_of self.new ≡ faults_of self.old }
+        ensures failing { failing_of self.new ≡ failing_of self.old }
+        ensures steady { IsSteady self.new ↔ IsSteady self.old }
+    {
+        let rows = mem_tables::take(alloc, &mut self.tables, table);
+        reading::into_rows(alloc, rows)
     }
 
     /// The rows of a table stand in the order of their keys, whatever was pushed and committed.

@@ -84,6 +84,26 @@ pub(crate) fn push(tables: &mut MemTables, table: TableName, keyed: bool, row: R
     }
 }
 
+// Takes the rows of a table, which has none then.
+pub(crate) fn take(alloc: Global, tables: &mut MemTables, table: TableName) -> TableRows
+    requires stored { AreAllStored tables.old }
+    ensures taken { rows_in result ≡ rows_at tables.old table }
+    ensures left { (other : TableName)
+        → rows_at tables.new other ≡ with_rows (rows_at tables.old) table [] other }
+    ensures stored { AreAllStored tables.new }
+{
+    match table {
+        TableName::Tiles => tables.tiles.take(alloc),
+        TableName::TilesWithHash => tables.tiles_with_hash.take(alloc),
+        TableName::Map => tables.map.take(alloc),
+        TableName::Images => tables.images.take(alloc),
+        TableName::TilesShallow => tables.tiles_shallow.take(alloc),
+        TableName::TilesData => tables.tiles_data.take(alloc),
+        TableName::TileCache => tables.tile_cache.take(alloc),
+        TableName::Metadata => tables.metadata.take(alloc),
+    }
+}
+
 // A size and that of a table's rows, at most the greatest count.
 fn with_table(size: u64, rows: &TableRows) -> u64
     ensures { result ≡ min (size + sum_by row_size (rows_in rows.now)) (2 ^ 64 - 1) }

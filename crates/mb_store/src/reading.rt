@@ -47,6 +47,18 @@ pub(crate) fn page_of(
     Ok(page)
 }
 
+// The rows themselves in the order of their keys, whose cells are moved.
+pub(crate) fn into_rows(alloc: Global, rows: TableRows) -> Result<Vec<Row>, OutOfMemory>
+    ensures { IfOk result (λ all. all.items ≡ rows_in rows) }
+{
+    let TableRows { stored, next: _ } = rows;
+    let mut all = Vec::with_capacity(alloc, stored.len())?;
+    for row in stored {
+        all.push(row.into_row(alloc)?)?;
+    }
+    Ok(all)
+}
+
 // The bytes of a text or blob, and 8 for another cell.
 fn size_of_cell(cell: &Cell) -> u64
     ensures { result ≡ cell_size cell.now }

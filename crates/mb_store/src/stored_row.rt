@@ -103,14 +103,14 @@ fn behind_numbers(numbers: (u32, u32, u32), row: Row) -> StoredCells
 }
 
 // The row of three numbers and a cell.
-fn row_of(alloc: Global, numbers: (u32, u32, u32), last: &Cell) -> Result<Row, OutOfMemory>
-    ensures { IfOk result (λ row. row ≡ numbers_cells numbers ++ last.now ∷ []) }
+fn row_of(alloc: Global, numbers: (u32, u32, u32), last: Cell) -> Result<Row, OutOfMemory>
+    ensures { IfOk result (λ row. row ≡ numbers_cells numbers ++ last ∷ []) }
 {
     let mut cells = Vec::with_capacity(alloc, 4)?;
     cells.push(Cell::Int(i64::from(numbers.0)))?;
     cells.push(Cell::Int(i64::from(numbers.1)))?;
     cells.push(Cell::Int(i64::from(numbers.2)))?;
-    cells.push(last.try_clone(alloc)?)?;
+    cells.push(last)?;
     Ok(Row::new(cells))
 }
 
@@ -120,8 +120,8 @@ fn compare_numbers(numbers: (u32, u32, u32), others: (u32, u32, u32)) -> Orderin
 {
     i64::from(numbers.0)
         .cmp(&i64::from(others.0))
-        .then(i64::from(numbers.1).cmp(&i64::from(others.1)))
-        .then(i64::from(numbers.2).cmp(&i64::from(others.2)))
+        .then_with(|| i64::from(numbers.1).cmp(&i64::from(others.1)))
+        .then_with(|| i64::from(numbers.2).cmp(&i64::from(others.2)))
 }
 
 // The cells of a key.
@@ -174,8 +174,24 @@ impl StoredRow {
         ensures { IfOk result (λ row. row ≡ self.now.0) }
     {
         match &self.cells {
-            StoredCells::Last(last) => row_of(alloc, self.numbers, last),
+            StoredCells::Last(last) => row_of(alloc, self.numbers, last.try_clone(alloc)?),
             StoredCells::All(row) => row.try_clone(alloc),
+        }
+    }
+
+    // The row itself, whose cells are moved.
+    pub fn into_row(self, alloc: Global) -> Result<Row, OutOfMemory>
+        ensures { IfOk result (λ row. row ≡ self.0) }
+    {
+        let StoredRow {
+            numbers,
+            is_numbered: _,
+            arrival: _,
+            cells,
+        } = self;
+        match cells {
+            StoredCells::Last(last) => row_of(alloc, numbers, last),
+            StoredCells::All(row) => Ok(row),
         }
     }
 

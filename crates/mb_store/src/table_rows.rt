@@ -19,6 +19,7 @@ use mb_tables::key_of;
 use std::alloc::Global;
 use std::collections::BTreeSet;
 use std::collections::btree_set::Iter;
+use std::mem;
 
 // The rows of a table, and the number of the row that comes next.
 #[derive(Debug, Drop)]
@@ -37,6 +38,15 @@ impl TableRows {
             stored: BTreeSet::new(alloc),
             next: 0,
         }
+    }
+
+    // Takes the rows, which leaves none.
+    pub fn take(&mut self, alloc: Global) -> TableRows
+        ensures taken { rows_in result ≡ rows_in self.old }
+        ensures left { rows_in self.new ≡ [] }
+        ensures stored { (table : TableName) → AreStored table self.new }
+    {
+        mem::replace(self, TableRows::none(alloc))
     }
 
     // How many rows there are.

@@ -16,7 +16,7 @@ use Rattle.mb_tables.specs.Table.{Tables}
 use Rattle.mb_store.specs.Kept.{ReadsOnly}
 use Rattle.tile_bridge.specs.Outcome.{all_patched, at_place, one_patched, then}
 use Rattle.tile_bridge.specs.Patching.{AreToldBy, IsPatchedBy, IsPatchedByAll, all_held}
-use Rattle.tile_bridge.specs.Stores.{AreOnlyRead, IsDue, IsRefused, NoneFell, Refuses, RoseAt, due_patch, due_patches}
+use Rattle.tile_bridge.specs.Stores.{AreOnlyRead, HasFailed, IsDue, IsRefused, NoneFell, Refuses, RoseAt, due_patch, due_patches}
 use Rattle.tile_bridge.specs.declared.error.ConvertError.{ConvertError}
 use Rattle.tile_bridge.specs.declared.error.ConvertError.TheVariants.{IndexEntryOverflow, OutOfMemory, Store, StoreFault}
 
@@ -216,3 +216,9 @@ module _ {P : Type 0} (tell : P → Bool) (tables : P → Tables) (failed : P �
       let bound : length (map tell old) ≤ n = omega (arith, far, ap length so.read.tells, length-map now tell) in
       subst (λ bs. IsPatchedByAll force bs (map tables old) base h) (take_all n (map tell old) bound)
       (subst (λ ts. IsPatchedByAll force (take n (map tell old)) ts base h) (take_all n (map tables old) as_far) so.some)
+
+-- a fault of patches that are let go
+pub has_failed : {P A : Type 0} (tell : P → Bool) (tables : P → Tables) (failed : P → ℕ) (calm : P → Type 0) (old now : List P) → AreOnlyRead tell tables failed calm old now → (e : ConvertError) (r : Result A ConvertError)
+    → ((p : ℕ) → e ≡ StoreFault p → RoseAt p (0 ∷ map failed old) (0 ∷ map failed now)) → IsErrAnd r (λ x. x ≡ e) → (p : ℕ) → r ≡ Err (StoreFault p) → HasFailed tell tables failed calm old p
+has_failed tell tables failed calm old now read e (Ok x) fault same p is = absurd same
+has_failed tell tables failed calm old now read e (Err x) fault same p is = let at : e ≡ StoreFault p = cc in record { now = now; read = read; rose = fault p at }

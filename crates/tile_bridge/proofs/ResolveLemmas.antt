@@ -8,7 +8,7 @@ use Rattle.mb_load.specs.State.{State, state_of}
 use Rattle.mb_tables.specs.Table.{Tables}
 use Rattle.tile_bridge.specs.Outcome.{all_patched, at_place, due, outcome, tested, then}
 use Rattle.tile_bridge.specs.Patching.{IsHeldFrom, IsPatchedByAll}
-use Rattle.tile_bridge.specs.Stores.{IsDue, Refuses, due_patches}
+use Rattle.tile_bridge.specs.Stores.{IsDue, IsRefused, Refuses, due_at, due_patches}
 use Rattle.tile_bridge.specs.declared.error.ConvertError.{ConvertError}
 use Rattle.tile_bridge.specs.declared.options.ConvertOptions.{ConvertOptions}
 use Rattle.tile_bridge.proofs.FoldLemmas.{refuses_on}
@@ -50,6 +50,19 @@ module _ {S P : Type 0} (tells : S → Bool) (told : S → Tables) (patch_tells 
 
     pub state_due : tested options.verify next ≡ Ok next → IsDue all_due next
     state_due passed = from_tests (λ d. d ≡ Ok next) passed
+
+-- a base that is let go and refused
+pub base_refused : {S P A : Type 0} (told : S → Tables) (patch_tells : P → Bool) (patch_told : P → Tables) (base : S) (patches : List P) (options : ConvertOptions) (e : ConvertError) (r : Result A ConvertError) → Refuses (due_at 0 true (told base)) e → IsErrAnd r (λ x. x ≡ e) → IfErr r (Refuses (due (λ _. true) told patch_tells patch_told base patches options))
+base_refused told patch_tells patch_told base patches options e (Ok x) h same = tt
+base_refused told patch_tells patch_told base patches options e (Err x) h same =
+    subst (Refuses (due (λ _. true) told patch_tells patch_told base patches options)) (sym same) (refuses_on (due_at 0 true (told base)) (due (λ _. true) told patch_tells patch_told base patches options) e stays h)
+  where
+    stays : (x : ConvertError) → IsRefused (due_at 0 true (told base)) x → IsRefused (due (λ _. true) told patch_tells patch_told base patches options) x
+    stays x is = by (list_all patch_tells patches)
+      where
+        by : (b : Bool) → IfSome (cond b (Some (outcome (told base) (map patch_told patches) options.force options.verify)) None) (λ d. d ≡ Err x)
+        by false = tt
+        by true = ap (λ r. then r (λ s. then (all_patched options.force 1 s (map patch_told patches)) (tested options.verify))) is
 
 -- the set that is converted
 pub held_from : (force verify tells : Bool) (base : Tables) (patch_tells : List Bool) (patches : List Tables) (first next : Held) → first.edited ≡ nothing_edited → (tells ≡ true → state_of base ≡ Ok first.state) → (tells ≡ true → IsLoadedFrom base first) → NamesAlgorithm first.state

@@ -1,5 +1,5 @@
 -- What the stores of a conversion come to.
-use Rattle.std.specs.Prelude.{ℕ, ◌≡◌, ◌≤◌, Bool, false, cond, List, map, All, slice_index, Option, Some, None, Result, IfSome, Ok, Err}
+use Rattle.std.specs.Prelude.{ℕ, ◌≡◌, ◌≤◌, Bool, false, cond, List, ◌∷◌, map, All, slice_index, Option, Some, None, Result, IfSome, Ok, Err}
 use Rattle.std.specs.List.{list_all}
 use Rattle.base_values.specs.Counts.{Rose}
 use Rattle.mb_tables.specs.Refusals.{is_free}
@@ -59,6 +59,12 @@ pub record AreOnlyRead {P : Type 0} (tell : P → Bool) (tables : P → Tables) 
   pub tells : map tell new ≡ map tell old
   pub faults : NoneFell (map failed old) (map failed new)
   pub steady : All calm old → All calm new × (map failed new ≡ map failed old)
+
+-- One of the stores at a place failed, and the patches were let go: in a state of theirs in which they were only read the count at this place had risen. The base, at place 0, has no count.
+pub record HasFailed {P : Type 0} (tell : P → Bool) (tables : P → Tables) (failed : P → ℕ) (calm : P → Type 0) (old : List P) (place : ℕ) : Type 0 where
+  pub now : List P
+  pub read : AreOnlyRead tell tables failed calm old now
+  pub rose : RoseAt place (0 ∷ map failed old) (0 ∷ map failed now)
 
 -- a store's fault, or want of memory
 abbrev pub IsStoreError : ConvertError → Type 0

@@ -1,16 +1,17 @@
 // The stores of a conversion are loaded.
-ghost use Rattle.std.specs.Prelude.{◌≡◌, ℕ, true, Err, IfErr, IfOk, IsErrOf, Ok};
+ghost use Rattle.std.specs.Prelude.{◌≡◌, ◌≢◌, ℕ, true, Err, IfErr, IfOk, IsErrOf, Ok};
 ghost use Rattle.base_values.specs.Counts.{Rose};
 ghost use Rattle.mb_load.specs.Held.{nothing_edited};
 ghost use Rattle.mb_load.specs.State.{state_of};
 ghost use Rattle.mb_load.specs.LoadedFrom.{IsLoadable, IsLoadedFrom, NamesAlgorithm};
 ghost use Rattle.mb_store.specs.Kept.{ReadsOnly};
+ghost use Rattle.mb_store.specs.MemStore.{told_of};
 ghost use Rattle.tile_bridge.specs.Patching.{HoldsState};
 ghost use Rattle.tile_bridge.specs.Stores.{Refuses, due_at, refusal_at};
 
 use crate::ConvertError;
-use mb_load::{Loaded, load};
-use mb_store::{MbtError, TileStore};
+use mb_load::{Loaded, load, load_owned};
+use mb_store::{MbtError, MemStore, TileStore};
 use std::alloc::Global;
 
 /// The conversion's word for the error of the store at a place: 0 is the base, k the k-th patch.
@@ -47,5 +48,17 @@ pub(crate) fn load_at<S: TileStore>(
     match load(alloc, store) {
         Ok(set) => Ok(set),
         Err(error) => Err(of_store(place, error)),
+    }
+}
+
+/// Loads a base in memory that is let go.
+pub(crate) fn load_base(alloc: Global, base: MemStore) -> Result<Loaded, ConvertError>
+    ensures refused { IfErr result (Refuses (due_at 0 true (told_of base))) }
+    ensures state { IfOk result (λ set. state_of (told_of base) ≡ Ok set.state) }
+    ensures fault { (p : ℕ) → result ≢ Err (ConvertError.StoreFault p) }
+{
+    match load_owned(alloc, base) {
+        Ok(set) => Ok(set),
+        Err(error) => Err(of_store(0, error)),
     }
 }

@@ -1,19 +1,20 @@
 // The set that is converted.
-ghost use Rattle.std.specs.Prelude.{◌≡◌, ◌≢◌, ◌∷◌, ℕ, cond, false, Err, IfErr, IfOk, IsErrOf, None, Ok, Some, map};
+ghost use Rattle.std.specs.Prelude.{◌≡◌, ◌≢◌, ◌∷◌, ℕ, cond, false, true, Err, IfErr, IfOk, IsErrOf, None, Ok, Some, map};
 ghost use Rattle.mb_tables.specs.Refusals.{is_free};
 ghost use Rattle.mb_load.specs.Aggregate.{aggregate};
 ghost use Rattle.mb_store.specs.Kept.{ReadsOnly};
+ghost use Rattle.mb_store.specs.MemStore.{told_of};
 ghost use Rattle.tile_bridge.specs.Outcome.{due, overflows, tested, unverified};
 ghost use Rattle.tile_bridge.specs.Patching.{IsHeldFrom};
 ghost use Rattle.tile_bridge.specs.Stores.{AreOnlyRead, IsDue, Refuses, RoseAt};
 
 use crate::adds::is_overflow;
-use crate::loading::{load_at, of_store};
+use crate::loading::{load_at, load_base, of_store};
 use crate::patching::patch_all;
 use crate::{ConvertError, ConvertOptions};
 use base_values::TextVal;
 use mb_load::Loaded;
-use mb_store::{AGG_TILES_HASH, MbtError, MbtResult, TileStore};
+use mb_store::{AGG_TILES_HASH, MbtError, MbtResult, MemStore, TileStore};
 use std::alloc::Global;
 
 // The aggregate hash of a set, which has to be the stored one.
@@ -93,6 +94,31 @@ pub(crate) fn resolve<S: TileStore, P: TileStore>(
         (S.faults base.new ∷ map P.faults patches.new.items) }
 {
     let set = load_at(alloc, base, 0)?;
+    let set = patch_all(alloc, set, patches, options.force)?;
+    let aggregate = test_set(alloc, &set, options.verify)?;
+    Ok((set, aggregate))
+}
+
+/// The same of a base in memory that is let go, at place 0. Only patches fail.
+pub(crate) fn resolve_owned<P: TileStore>(
+    alloc: Global,
+    base: MemStore,
+    patches: &mut Vec<P>,
+    options: &ConvertOptions,
+) -> Result<(Loaded, TextVal), ConvertError>
+    ensures state { IfOk result (λ set. IsDue (due (λ _. true) told_of P.tells P.told base
+        patches.old.items options.now) set.0.state) }
+    ensures aggregate { IfOk result (λ set. set.1 ≡ aggregate set.0.state.algorithm
+        set.0.state.tiles) }
+    ensures size { IfOk result (λ set. overflows set.0.state.tiles ≡ false) }
+    ensures refused { IfErr result (Refuses (due (λ _. true) told_of P.tells P.told base
+        patches.old.items options.now)) }
+    ensures patches { AreOnlyRead P.tells P.told P.faults P.steady
+        patches.old.items patches.new.items }
+    ensures fault { (p : ℕ) → IsErrOf result (ConvertError.StoreFault p)
+        → RoseAt p (0 ∷ map P.faults patches.old.items) (0 ∷ map P.faults patches.new.items) }
+{
+    let set = load_base(alloc, base)?;
     let set = patch_all(alloc, set, patches, options.force)?;
     let aggregate = test_set(alloc, &set, options.verify)?;
     Ok((set, aggregate))

@@ -44,8 +44,8 @@ fn count_entries(set: &Loaded, adds: &[Add]) -> usize
     count
 }
 
-// Makes room for the entries of each block of adds before it. It reads the contents of the block on the way, so that they come from memory side by side and
-// not one after another.
+// Makes room for the entries of all adds before the first, and for those of each block before it, where there is none. It reads the contents of the block on the way, so that they come from
+// memory side by side and not one after another.
 fn make_room(
     state: &mut WriterState,
     set: &Loaded,
@@ -62,7 +62,8 @@ fn make_room(
         return Ok(());
     }
     let rest = &adds[index..];
-    state.reserve(count_entries(set, &rest[..rest.len().min(BLOCK)]))
+    let count = count_entries(set, &rest[..rest.len().min(BLOCK)]);
+    state.reserve(if index == 0 { adds.len() } else { count })
 }
 
 // Adds the tiles of a set to an archive that is begun.

@@ -11,7 +11,7 @@ ghost use Rattle.tileset.specs.Converting.{IsNoStoreFault, options_for};
 use mb_store::MemStore;
 use pm_format::Medium;
 use std::alloc::Global;
-use tile_bridge::{ConvertError, ConvertOptions, ConvertReport, convert};
+use tile_bridge::{ConvertError, ConvertOptions, ConvertReport, convert_owned};
 use tile_ids::TileCoord;
 use tileset_script::ScriptOptions;
 
@@ -26,25 +26,24 @@ fn convert_options(options: ScriptOptions) -> ConvertOptions
     }
 }
 
-/// Converts a base in memory after its patches, of which none fails: writes the archive to the medium, and answers the coordinates from it.
+/// Converts a base in memory after its patches, of which none fails: writes the archive to the medium, and answers the coordinates from it. Base and patches are let go before
+/// the archive is written.
 pub(crate) fn convert_stores<M: Medium>(
     alloc: Global,
-    base: &mut MemStore,
-    patches: &mut Vec<MemStore>,
+    base: MemStore,
+    patches: Vec<MemStore>,
     coords: &[TileCoord],
     options: ScriptOptions,
     medium: &mut M,
 ) -> Result<ConvertReport, ConvertError>
-    requires base { NeverFails base.old }
-    requires patches { All NeverFails patches.old.items }
-    ensures causes { ConvertCauses options.writer (Some (outcome (told_of base.old)
-        (map told_of patches.old.items) options.force options.verify)) (M.told medium.old)
-        result }
-    ensures leaves { ConvertLeaves options.writer (Some (outcome (told_of base.old)
-        (map told_of patches.old.items) options.force options.verify)) coords.now result
+    requires patches { All NeverFails patches.items }
+    ensures causes { ConvertCauses options.writer (Some (outcome (told_of base)
+        (map told_of patches.items) options.force options.verify)) (M.told medium.old) result }
+    ensures leaves { ConvertLeaves options.writer (Some (outcome (told_of base)
+        (map told_of patches.items) options.force options.verify)) coords.now result
         (M.told medium.old) (M.told medium.new) }
-    ensures aggregate { IfOk result (HasAggregate (Some (outcome (told_of base.old)
-        (map told_of patches.old.items) options.force options.verify))) }
+    ensures aggregate { IfOk result (HasAggregate (Some (outcome (told_of base)
+        (map told_of patches.items) options.force options.verify))) }
     ensures stores { IfErr result IsNoStoreFault }
     ensures fault { IsErrOf result ConvertError.MediumFault
         → Rose (M.faults medium.old) (M.faults medium.new) }
@@ -52,5 +51,5 @@ pub(crate) fn convert_stores<M: Medium>(
         medium.old medium.new }
 {
     let options = convert_options(options);
-    convert(alloc, base, patches, coords, &options, medium)
+    convert_owned(alloc, base, patches, coords, &options, medium)
 }

@@ -92,12 +92,12 @@ fn convert_script<O: Sink, M: Medium>(
 {
     let ParsedScript {
         options,
-        mut base,
-        mut patches,
+        base,
+        patches,
         queries,
     } = script;
     let queries = queries.as_slice();
-    let report = convert_stores(alloc, &mut base, &mut patches, queries, options, medium)?;
+    let report = convert_stores(alloc, base, patches, queries, options, medium)?;
     write_report(alloc, command, queries, &report, output, medium)?;
     Ok(())
 }
