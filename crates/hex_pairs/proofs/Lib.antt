@@ -1,1 +1,5 @@
 pub mod TableLemmas
+mod LaneLemmas
+mod DigitLemmas
+mod ValueLemmas
+mod ReadLemmas

@@ -1,2 +1,4 @@
 pub mod Tables
 pub mod Decoded
+pub mod DigitLanes
+pub mod ValueLanes

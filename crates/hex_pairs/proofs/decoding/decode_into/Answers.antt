@@ -1,11 +1,12 @@
-use Rattle.std.proofs.Common.{arith, slice_index, ap, ◌*◌, ◌+◌}
-use Rattle.hex.proofs.Pairs.{decode_done, decode_err, decode_start, decode_step}
+use Rattle.std.proofs.Common.{arith, rules, slice_index, ap, ◌*◌, ◌+◌}
+use Rattle.hex.proofs.Pairs.{decode_done, decode_err, decode_step}
 use Rattle.hex_pairs.specs.Decoded.{bytes_of}
+use Rattle.hex_pairs.proofs.ReadLemmas.{front_read}
 use Rattle.hex_pairs.proofs.TableLemmas.{pair_read, pair_wrong}
 use Rattle.hex_pairs.proofs.decoding.decode_into.Goals as goal
 
 pub loop-i-init : goal.loop-i-init
-loop-i-init c = decode_start _ c.args.bytes.now
+loop-i-init c = front_read _ _ _ (search rules) c.read_blocks-done.ensures.digits c.read_blocks-done.ensures.read
 
 pub loop-i-preserved : goal.loop-i-preserved
 loop-i-preserved c =
