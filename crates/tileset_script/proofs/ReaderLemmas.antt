@@ -1,11 +1,11 @@
 -- What a reader of a script keeps, from the first byte to the last.
-use Rattle.std.proofs.Common.{◌≡◌, ◌≤◌, ◌<◌, ◌+◌, ◌++◌, ◌^◌, ℕ, Bool, true, false, List, [], length, Some, None, Result, Ok, Err, refl, sym, ◌∙◌, ap, arith}
-use Rattle.std.proofs.lemmas.List.{append_assoc, append-nil, length-append}
+use Rattle.std.proofs.Common.{◌≡◌, ◌++◌, ◌∷◌, ℕ, zero, suc, subst, Bool, true, false, List, [], length, Some, None, Err, sym, ◌∙◌, ap, arith}
+use Rattle.std.proofs.lemmas.List.{append_assoc, append-nil}
 use Rattle.line_words.specs.Lines.{lines_of}
 use Rattle.line_words.specs.Parting.{HasNo}
 use Rattle.tileset_script.specs.Reader.{HasRead, due_of}
-use Rattle.tileset_script.specs.Reading.{DraftNeverFails, TakesLines, drafted}
-use Rattle.tileset_script.specs.Script.{Draft, Script, no_lines, script_from, script_of}
+use Rattle.tileset_script.specs.Reading.{TakesLines, drafted}
+use Rattle.tileset_script.specs.Script.{Draft, no_lines, script_from, script_of}
 use Rattle.tileset_script.specs.declared.script.reader.ScriptReader.{ScriptReader}
 use Rattle.tileset_script.proofs.ScriptLemmas.{lines_begin}
 
@@ -54,3 +54,36 @@ piece_bad bytes piece more n m d e f line rest h t =
     let two : script_from n d (lines_of ((line ++ piece) ++ more)) ≡ Err m = t.1 more in
     let three : script_from n d (lines_of (line ++ (piece ++ more))) ≡ script_from n d (lines_of ((line ++ piece) ++ more)) = ap (λ x. script_from n d (lines_of x)) (sym (append_assoc line piece more)) in
     ap script_of (append_assoc bytes piece more) ∙ one ∙ three ∙ two
+
+-- a piece where no part of a line is kept
+pub piece_alone : (bytes piece more : List ℕ) (n m : ℕ) (d e : Draft) (line rest now : List ℕ) → line ≡ [] → now ≡ line ++ rest
+    → ((more : List ℕ) → script_of (bytes ++ more) ≡ due_of false n d (line ++ more)) → TakesLines n d piece (Some rest) m e → script_of ((bytes ++ piece) ++ more) ≡ due_of false m e (now ++ more)
+piece_alone bytes piece more n m d e line rest now none is h t =
+    let front : line ++ piece ≡ piece = ap (λ l. l ++ piece) none in
+    let same : now ≡ rest = is ∙ ap (λ l. l ++ rest) none in
+    rw same (piece_taken bytes piece more n m d e line rest h (subst (λ l. TakesLines n d l (Some rest) m e) (sym front) t))
+
+-- or one of its lines is bad
+pub piece_alone_bad : (bytes piece more : List ℕ) (n m : ℕ) (d e f : Draft) (line rest : List ℕ) → line ≡ []
+    → ((more : List ℕ) → script_of (bytes ++ more) ≡ due_of false n d (line ++ more)) → TakesLines n d piece None m e → script_of ((bytes ++ piece) ++ more) ≡ due_of true m f (rest ++ more)
+piece_alone_bad bytes piece more n m d e f line rest none h t =
+    let front : line ++ piece ≡ piece = ap (λ l. l ++ piece) none in
+    piece_bad bytes piece more n m d e f line rest h (subst (λ l. TakesLines n d l None m e) (sym front) t)
+
+-- a piece that is kept
+pub piece_kept : (bytes piece more : List ℕ) (n : ℕ) (d : Draft) (line now : List ℕ) → now ≡ line ++ piece
+    → ((more : List ℕ) → script_of (bytes ++ more) ≡ due_of false n d (line ++ more)) → script_of ((bytes ++ piece) ++ more) ≡ due_of false n d (now ++ more)
+piece_kept bytes piece more n d line now is h =
+    rw is (ap script_of (append_assoc bytes piece more) ∙ h (piece ++ more) ∙ ap (due_of false n d) (sym (append_assoc line piece more)))
+
+no_feed : (line piece : List ℕ) → HasNo 10 line (length line) → HasNo 10 piece (length piece) → HasNo 10 (line ++ piece) (length (line ++ piece))
+no_feed [] piece p q k below = q k below
+no_feed (b ∷ line) piece p q zero below = p 0 (omega arith)
+no_feed (b ∷ line) piece p q (suc k) below = no_feed line piece (λ j under. p (suc j) (omega (arith, under))) q k (omega (arith, below))
+
+pub part_kept : (line piece now : List ℕ) → now ≡ line ++ piece → HasNo 10 line (length line) → HasNo 10 piece (length piece) → HasNo 10 now (length now)
+part_kept line piece now is p q = rw is (no_feed line piece p q)
+
+-- two pieces, one after the other
+pub pieces_joined : (bytes front back piece : List ℕ) → front ++ back ≡ piece → (bytes ++ front) ++ back ≡ bytes ++ piece
+pieces_joined bytes front back piece e = append_assoc bytes front back ∙ ap (λ l. bytes ++ l) e
