@@ -1,8 +1,10 @@
 -- one line of a dump after another
-use Rattle.std.proofs.Common.{◌≡◌, ◌≢◌, ℕ, zero, suc, ◌+◌, ◌*◌, ◌/◌, ◌%◌, ◌<◌, ◌≤◌, min, List, [], ◌∷◌, ◌++◌, length, take, drop, nat_eq, false, refl, sym, ◌∙◌, ap, arith, length-drop, length-append, append_assoc, append-nil}
+use Rattle.std.proofs.Common.{◌≡◌, ◌≢◌, ℕ, zero, suc, ◌+◌, ◌*◌, ◌/◌, ◌%◌, ◌^◌, ◌<◌, ◌≤◌, min, List, [], ◌∷◌, ◌++◌, length, take, drop, nat_eq, false, refl, sym, ◌∙◌, ap, arith, length-drop, length-append, append_assoc, append-nil}
 use Rattle.std.proofs.lemmas.Bool.Decides.{nat_tests}
 use Rattle.std.proofs.lemmas.List.{take_all, drop_all, take-append-le, drop-append-le}
-use Rattle.tileset.specs.HexDump.{hex_lines, hex_dump, shown_line, trimmed}
+use Rattle.std.specs.Int.{to_be_bytes, w32}
+use Rattle.hex.specs.Hex.{encode_lower, encode_with}
+use Rattle.tileset.specs.HexDump.{hex_lines, hex_dump, place_text, shown_line, trimmed}
 
 -- a zero in front goes
 pub trimmed-zero : (n m : ℕ) (digits tail : List ℕ) → n ≡ m + 1 → digits ≡ 48 ∷ tail → trimmed n digits ≡ trimmed m tail
@@ -95,3 +97,17 @@ lines-append (suc k) at a c e =
 
 pub hex_dump-append : (at : ℕ) (a c : List ℕ) → length a % 32 ≡ 0 → hex_dump at (a ++ c) ≡ hex_dump at a ++ hex_dump (at + length a) c
 hex_dump-append at a c e = lines-append (length a / 32) at a c (omega arith)
+
+-- four bytes of zero in front of a place go
+four_zeros : (a b c d : ℕ) (bytes : List ℕ) → a ≡ 0 → b ≡ 0 → c ≡ 0 → d ≡ 0 → trimmed 8 (encode_lower (a ∷ b ∷ c ∷ d ∷ bytes)) ≡ encode_lower bytes
+unfolding encode_with
+four_zeros a b c d bytes ea eb ec ed = rw (ea, eb, ec, ed) refl
+
+-- a place below 2^32 has eight digits
+pub near_place : (at : ℕ) → at < 2 ^ 32 → encode_lower (to_be_bytes w32 at) ≡ place_text at
+near_place at h =
+    let a : at / 256 ^ 7 % 256 ≡ 0 = omega (arith, h) in
+    let b : at / 256 ^ 6 % 256 ≡ 0 = omega (arith, h) in
+    let c : at / 256 ^ 5 % 256 ≡ 0 = omega (arith, h) in
+    let d : at / 256 ^ 4 % 256 ≡ 0 = omega (arith, h) in
+    sym (four_zeros (at / 256 ^ 7 % 256) (at / 256 ^ 6 % 256) (at / 256 ^ 5 % 256) (at / 256 ^ 4 % 256) (to_be_bytes w32 at) a b c d)

@@ -15,11 +15,12 @@ use std::alloc::Global;
 // A whole number of lines.
 const PIECE: u64 = 16_384;
 
-// Writes the lines of a range of the medium.
+// Writes the lines of a range of the medium, through a text that serves each range.
 fn write_piece<O: Sink, M: Medium>(
     alloc: Global,
     at: u64,
     size: u64,
+    text: &mut Vec<u8>,
     output: &mut O,
     medium: &mut M,
 ) -> Result<(), Outcome>
@@ -40,8 +41,8 @@ fn write_piece<O: Sink, M: Medium>(
         medium.old medium.new }
 {
     let response = medium.read_exact(alloc, at, size)?;
-    let mut text = Vec::new(alloc);
-    push_hex_dump(&mut text, at, response.bytes.as_slice())?;
+    text.clear();
+    push_hex_dump(text, at, response.bytes.as_slice())?;
     write_all(output, text.as_slice())?;
     Ok(())
 }
@@ -68,10 +69,11 @@ pub(crate) fn write_dump<O: Sink, M: Medium>(
     ensures medium_kept { KeepsMedium M.told M.versions M.reads M.faults M.steady
         medium.old medium.new }
 {
+    let mut text = Vec::new(alloc);
     let mut at = 0;
     while at < length {
         let size = (length - at).min(PIECE);
-        write_piece(alloc, at, size, output, medium)?;
+        write_piece(alloc, at, size, &mut text, output, medium)?;
         at += size;
     }
     Ok(())

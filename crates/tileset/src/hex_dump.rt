@@ -3,6 +3,7 @@ ghost use Rattle.std.specs.Prelude.{◌≡◌, ◌≤◌, ◌<◌, ◌+◌, ◌*
 ghost use Rattle.std.specs.List.{list_all};
 ghost use Rattle.tileset.specs.HexDump.{hex_dump, shown_line, hex_line, place_text, trimmed};
 
+use hex_pairs::encode_into;
 use std::alloc::AllocError;
 
 /// How many bytes a line has at most.
@@ -26,13 +27,32 @@ fn without_zeros(digits: &[u8]) -> &[u8]
     rest
 }
 
-// Appends a place in hexadecimal, by at least eight digits.
-fn push_place(text: &mut Vec<u8>, at: u64) -> Result<(), AllocError>
+// Appends a place in hexadecimal, by its sixteen digits without zeros in front.
+fn push_far_place(text: &mut Vec<u8>, at: u64) -> Result<(), AllocError>
     ensures { OnOk result (text.new.items ≡ text.old.items ++ place_text at) }
 {
     let mut digits = [48u8; 16];
     let _ = hex::encode_to_slice(&at.to_be_bytes(), &mut digits);
     text.extend_from_slice(without_zeros(&digits))
+}
+
+// The eight digits of a place below 2^32.
+fn near_digits(at: u32) -> [u8; 8]
+    ensures { result ≡ place_text at }
+{
+    let mut digits = [48u8; 8];
+    encode_into(&at.to_be_bytes(), &mut digits);
+    digits
+}
+
+// Appends a place in hexadecimal, by at least eight digits.
+fn push_place(text: &mut Vec<u8>, at: u64) -> Result<(), AllocError>
+    ensures { OnOk result (text.new.items ≡ text.old.items ++ place_text at) }
+{
+    match u32::try_from(at) {
+        Ok(near) => text.extend_from_slice(&near_digits(near)),
+        Err(_) => push_far_place(text, at),
+    }
 }
 
 // Appends the line of some bytes at a place.
@@ -41,8 +61,7 @@ fn push_line(text: &mut Vec<u8>, at: u64, bytes: &[u8]) -> Result<(), AllocError
     ensures { OnOk result (text.new.items ≡ text.old.items ++ hex_line at bytes.now) }
 {
     let mut digits = [48u8; 64];
-    let shown = &mut digits[..2 * bytes.len()];
-    let _ = hex::encode_to_slice(bytes, shown);
+    encode_into(bytes, &mut digits[..2 * bytes.len()]);
     push_place(text, at)?;
     text.push(b' ')?;
     text.extend_from_slice(&digits[..2 * bytes.len()])?;
