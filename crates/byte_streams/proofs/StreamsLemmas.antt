@@ -1,5 +1,6 @@
 -- one read or write after another
-use Rattle.std.proofs.Common.{ℕ, ◌≡◌, ◌+◌, ◌-◌, ◌≤◌, List, [], ◌++◌, length, Some, None, refl, sym, ap, ◌∙◌, append_assoc, append-nil, length-append, arith, IfSome, is_some, subst}
+use Rattle.std.proofs.Common.{ℕ, ◌≡◌, ◌+◌, ◌-◌, ◌≤◌, List, [], ◌++◌, length, take, drop, Some, None, refl, sym, ap, ◌∙◌, append_assoc, append-nil, take-add, length-append, arith, IfSome, is_some, subst}
+use Rattle.std.proofs.lemmas.Slice.{between_to_end}
 use Rattle.std.specs.declared.option.Option.{Option}
 use Rattle.byte_streams.specs.Streams.{Loses, Gains, IsAtEnd}
 use Rattle.base_values.specs.Counts.{Grew}
@@ -54,6 +55,12 @@ Loses-tells (Some x) (Some y) xs p = refl
 pub Loses-told : (a b c : Option (List ℕ)) (xs : List ℕ) → Loses b c xs → is_some b ≡ is_some a → is_some c ≡ is_some a
 Loses-told a b c xs p same = Loses-tells b c xs p ∙ same
 
+pub Gains-tells : (a b : Option (List ℕ)) (xs : List ℕ) → Gains a b xs → is_some b ≡ is_some a
+Gains-tells None None xs p = refl
+Gains-tells None (Some y) xs p = absurd p
+Gains-tells (Some x) None xs p = absurd p
+Gains-tells (Some x) (Some y) xs p = refl
+
 pub Grew-nil : (t : ℕ) → Grew t t 0
 Grew-nil t = record { later = omega arith; most = omega arith; exact = λ h. omega arith }
 
@@ -63,3 +70,10 @@ Grew-more t u v m n p q = record { later = omega arith; most = omega arith; exac
 pub ruleset reading = (Loses-told, Loses-nil, Loses-more, Loses-end, IsAtEnd-kept, Loses-length, Grew-nil, Grew-more)
 
 pub ruleset writing = (Gains-nil, Gains-more)
+
+-- a further front of a text
+pub Gains-part : (a b c : Option (List ℕ)) (text : List ℕ) (d n : ℕ) → Gains a b (take d text) → Gains b c (take n (take (length text - d) (drop d text))) → Gains a c (take (d + n) text)
+Gains-part a b c text d n p q =
+    let whole : take (length text - d) (drop d text) ≡ drop d text = between_to_end text d (length text) (omega arith) in
+    let joined : take d text ++ take n (drop d text) ≡ take (d + n) text = sym (take-add d n text) in
+    subst (Gains a c) joined (Gains-more a b c (take d text) (take n (drop d text)) p (subst (λ l. Gains b c (take n l)) whole q))
