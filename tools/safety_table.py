@@ -92,7 +92,7 @@ class Call:
     def refusals(self, known):
         error = self.error()
         variants = known.get(error, [])
-        said = self.words + ' '.join(body for _, body in self.clauses)
+        said = self.words + ' '.join(re.sub(r'≢ (Err )?\w+\.\w+', '', body) for _, body in self.clauses)
         said += ''.join(f' {it}' for word, it in NAMING.items() if word in said)
         named = [it for it in variants if (error in WHOLE or re.search(rf'\b{it}\b', said)) and it != 'OutOfMemory' and not (error.endswith('Outcome') and it == 'Done')]
         handed = [f'those of {it}' for it in dict.fromkeys(re.findall(r'(?:refusals of|those of) (`[\w:]+`)', self.words))]

@@ -70,8 +70,8 @@ pub fn load<S: TileStore>(alloc: Global, store: &mut S) -> MbtResult<Loaded>
     )
 }
 
-/// Loads a set as `load` does, out of a store in memory that is let go: the texts and bytes of its rows are moved, so that they stand in memory once. None of the store's calls that can
-/// fail is made, so that no fault comes.
+/// Loads a set as `load` does, out of a store in memory that is let go: the texts and bytes of its rows are moved, so that they stand in memory once. The refusals of `load` are these,
+/// but that no fault comes: none of the store's calls is made that can fail.
 pub fn load_owned(alloc: Global, store: MemStore) -> MbtResult<Loaded>
     ensures answer { Loads (state_of (told_of store)) result }
     ensures loaded { IfOk result (IsLoadedFrom (told_of store)) }
