@@ -7,7 +7,7 @@ use Rattle.mb_access.specs.Reads.{bytes_in, coord_in}
 use Rattle.mb_load.proofs.BegunLemmas.{begun_err, begun_free, begun_ok}
 use Rattle.mb_load.specs.Held.{Held}
 use Rattle.mb_load.specs.Loading.{Loads}
-use Rattle.mb_load.specs.State.{state_of}
+use Rattle.mb_load.specs.StateOf.{state_of}
 use Rattle.mb_tables.specs.Refusals.{Answers, is_free}
 use Rattle.mb_tables.specs.Table.{Tables}
 use Rattle.mb_tables.specs.declared.cell.Cell.{Cell}

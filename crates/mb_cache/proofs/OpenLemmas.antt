@@ -11,7 +11,7 @@ use Rattle.mb_cache.specs.declared.entries.Entry.{Entry}
 use Rattle.mb_constraints.specs.Described.{index_missing, is_metadata, metadata_missing}
 use Rattle.mb_load.proofs.FrameLemmas.{tables_found}
 use Rattle.mb_load.proofs.RowsPass.{ArePassing, holds, passing}
-use Rattle.mb_load.specs.State.{state_of, stated, unless_refused}
+use Rattle.mb_load.specs.StateOf.{state_of, stated, unless_refused}
 use Rattle.mb_store.specs.Store.{created, with_tables}
 use Rattle.mb_tables.specs.Described.{is_keyed}
 use Rattle.mb_tables.specs.Detection.{layout_of}

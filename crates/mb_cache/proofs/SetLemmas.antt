@@ -15,7 +15,7 @@ use Rattle.mb_constraints.specs.TileRows.{bad_tile}
 use Rattle.mb_lists.specs.Contents.{are_apart, fronts}
 use Rattle.mb_load.proofs.RowsPass.{ArePassing, both_none, pass_all, passing}
 use Rattle.mb_load.specs.LoadingOrder.{row_refusals}
-use Rattle.mb_load.specs.State.{held_in, state_of, stated, unless_refused}
+use Rattle.mb_load.specs.StateOf.{held_in, state_of, stated, unless_refused}
 use Rattle.mb_store.specs.Store.{IsSound, created}
 use Rattle.mb_tables.specs.CellKinds.{has_name_kinds}
 use Rattle.mb_tables.specs.Described.{is_keyed, is_table}

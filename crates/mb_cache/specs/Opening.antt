@@ -4,7 +4,7 @@ use Rattle.std.specs.List.{list_any}
 use Rattle.mb_cache.specs.State.{Agrees}
 use Rattle.mb_cache.specs.declared.entries.Entry.{Entry}
 use Rattle.mb_constraints.specs.Described.{is_metadata}
-use Rattle.mb_load.specs.State.{state_of}
+use Rattle.mb_load.specs.StateOf.{state_of}
 use Rattle.mb_store.specs.Store.{created}
 use Rattle.mb_tables.specs.Described.{is_keyed}
 use Rattle.mb_tables.specs.Detection.{layout_of}

@@ -9,7 +9,7 @@ ghost use Rattle.mb_cache.specs.Setting.{SetsTile, UpdatesMeta, is_replaced, met
 ghost use Rattle.mb_cache.specs.State.{Agrees, row_at};
 ghost use Rattle.mb_lists.specs.Entries.{place_at};
 ghost use Rattle.mb_load.specs.Changing.{tile_key};
-ghost use Rattle.mb_load.specs.LoadedFrom.{IsOnBoard};
+ghost use Rattle.mb_load.specs.Editable.{IsOnBoard};
 ghost use Rattle.mb_store.specs.Committing.{AreOfTables, Commits};
 ghost use Rattle.mb_store.specs.Kept.{FaultsCounted, Keeps};
 ghost use Rattle.mb_tables.specs.Described.{is_table};

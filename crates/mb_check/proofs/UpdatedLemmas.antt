@@ -15,7 +15,7 @@ use Rattle.mb_load.specs.Committing.{MakesChanges}
 use Rattle.mb_load.specs.Edits.{with_name}
 use Rattle.mb_load.specs.Held.{Held, nothing_edited}
 use Rattle.mb_load.specs.LoadedFrom.{IsLoadedFrom, NamesAlgorithm}
-use Rattle.mb_load.specs.State.{state_of}
+use Rattle.mb_load.specs.StateOf.{state_of}
 use Rattle.mb_metadata.proofs.NameEditLemmas.{edits_committed}
 use Rattle.mb_metadata.specs.NameEdits.{AreEdited, is_edited, put_of}
 use Rattle.mb_store.specs.Store.{IsSound}

@@ -6,7 +6,8 @@ use Rattle.mb_load.specs.Committed.{rows_under}
 use Rattle.mb_load.specs.Edits.{with_name}
 use Rattle.mb_load.specs.Held.{Held}
 use Rattle.mb_lists.specs.Metadata.{Names}
-use Rattle.mb_load.specs.State.{State, state_of}
+use Rattle.mb_load.specs.State.{State}
+use Rattle.mb_load.specs.StateOf.{state_of}
 use Rattle.mb_tables.specs.Cell.{cell_eq}
 use Rattle.mb_tables.specs.Table.{Tables, table_eq}
 use Rattle.mb_tables.specs.Tiles.{cell_at}

@@ -16,7 +16,7 @@ use Rattle.mb_lists.specs.Metadata.{Names}
 use Rattle.mb_lists.specs.declared.dates.Dates.{Dates}
 use Rattle.mb_load.specs.Empty.{empty_state}
 use Rattle.mb_load.specs.Held.{Held, fresh}
-use Rattle.mb_load.specs.LoadedFrom.{is_editable}
+use Rattle.mb_load.specs.Editable.{is_editable}
 use Rattle.mb_load.specs.State.{State}
 use Rattle.mb_tables.specs.Refusals.{Tests, unless}
 use Rattle.mb_tables.specs.Tiles.{TileSet, place_cmp}

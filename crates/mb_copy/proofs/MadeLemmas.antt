@@ -2,7 +2,7 @@
 use Rattle.std.proofs.Common.{◌≡◌, ◌∙◌, ap, sym, subst, List, [], Some, None, true, false, refl}
 use Rattle.mb_constraints.specs.Described.{index_missing, metadata_missing}
 use Rattle.mb_lists.specs.Contents.{content_rows}
-use Rattle.mb_load.specs.Empty.{AreEmpty}
+use Rattle.mb_load.specs.EmptyTables.{AreEmpty}
 use Rattle.mb_store.specs.Store.{IsSound, created, with_tables}
 use Rattle.mb_tables.specs.Described.{is_table}
 use Rattle.mb_tables.specs.Detection.{layout_of, patch_type_of}

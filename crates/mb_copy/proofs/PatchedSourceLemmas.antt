@@ -24,7 +24,8 @@ use Rattle.mb_load.proofs.DatedLemmas.{dates_are}
 use Rattle.mb_load.specs.Edits.{dates_for}
 use Rattle.mb_load.specs.FromLast.{from_last}
 use Rattle.mb_load.specs.Held.{Held}
-use Rattle.mb_load.specs.LoadedFrom.{AllOnBoard, AreTimes, IsOnBoard}
+use Rattle.mb_load.specs.LoadedFrom.{AllOnBoard}
+use Rattle.mb_load.specs.Editable.{AreTimes, IsOnBoard}
 use Rattle.mb_load.specs.State.{State}
 use Rattle.mb_tables.specs.Tiles.{Place}
 

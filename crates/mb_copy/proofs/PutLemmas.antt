@@ -28,10 +28,12 @@ use Rattle.mb_load.proofs.CommittedLemmas.{is_committed}
 use Rattle.mb_load.proofs.EmptyLemmas.{from_empty}
 use Rattle.mb_load.specs.Committed.{IsCommitted}
 use Rattle.mb_load.specs.Committing.{MakesChanges}
-use Rattle.mb_load.specs.Empty.{AreEmpty}
+use Rattle.mb_load.specs.EmptyTables.{AreEmpty}
 use Rattle.mb_load.specs.Held.{Edited, Held, fresh, nothing_edited}
-use Rattle.mb_load.specs.LoadedFrom.{AreTimes, IsLoadable, IsLoadedFrom, IsOnBoard, NamesAlgorithm, is_editable}
-use Rattle.mb_load.specs.State.{State, state_of}
+use Rattle.mb_load.specs.Editable.{AreTimes, IsOnBoard, is_editable}
+use Rattle.mb_load.specs.LoadedFrom.{IsLoadable, IsLoadedFrom, NamesAlgorithm}
+use Rattle.mb_load.specs.State.{State}
+use Rattle.mb_load.specs.StateOf.{state_of}
 use Rattle.mb_store.specs.Store.{IsSound, created}
 use Rattle.mb_tables.proofs.TileLemmas.{places_total}
 use Rattle.mb_tables.specs.Refusals.{first_refusal, is_free, unless}

@@ -9,8 +9,9 @@ use Rattle.mb_edit.specs.PatchingOrder.{bytes_put, id_collides}
 use Rattle.mb_lists.specs.Metadata.{Names, agg_hash}
 use Rattle.mb_load.specs.Aggregate.{aggregate}
 use Rattle.mb_load.specs.Empty.{empty_state}
-use Rattle.mb_load.specs.LoadedFrom.{is_editable}
-use Rattle.mb_load.specs.State.{State, state_of}
+use Rattle.mb_load.specs.Editable.{is_editable}
+use Rattle.mb_load.specs.State.{State}
+use Rattle.mb_load.specs.StateOf.{state_of}
 use Rattle.mb_tables.specs.Refusals.{first_refusal, then, unless}
 use Rattle.mb_tables.specs.Table.{Tables}
 use Rattle.mb_tables.specs.Tiles.{TileSet}

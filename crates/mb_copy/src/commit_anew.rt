@@ -1,7 +1,7 @@
 // Committing a set to a store that describes nothing.
 ghost use Rattle.std.specs.Prelude.{◌≡◌, ◌⊎◌, [], IfErr, OnErr, OnOk, true};
 ghost use Rattle.mb_load.specs.Committing.{MakesChanges};
-ghost use Rattle.mb_load.specs.Empty.{AreEmpty};
+ghost use Rattle.mb_load.specs.EmptyTables.{AreEmpty};
 ghost use Rattle.mb_load.specs.LoadedFrom.{IsLoadedFrom};
 ghost use Rattle.mb_store.specs.Kept.{FaultsCounted, Keeps};
 ghost use Rattle.mb_store.specs.Store.{created};

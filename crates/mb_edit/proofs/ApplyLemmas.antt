@@ -23,8 +23,10 @@ use Rattle.mb_load.specs.Changing.{AreChangesOf, cells_for, content_table, front
 use Rattle.mb_load.specs.Committed.{is_set_table}
 use Rattle.mb_load.specs.Edits.{dates_for, id_for}
 use Rattle.mb_load.specs.Held.{Edited, Held, nothing_edited}
-use Rattle.mb_load.specs.LoadedFrom.{AllOnBoard, IsLoadable, IsLoadedFrom, IsOnBoard, NamesAlgorithm}
-use Rattle.mb_load.specs.State.{State, state_of}
+use Rattle.mb_load.specs.LoadedFrom.{AllOnBoard, IsLoadable, IsLoadedFrom, NamesAlgorithm}
+use Rattle.mb_load.specs.Editable.{IsOnBoard}
+use Rattle.mb_load.specs.State.{State}
+use Rattle.mb_load.specs.StateOf.{state_of}
 use Rattle.mb_lists.specs.declared.dates.Dates.{Dates}
 use Rattle.mb_store.specs.Committing.{Commits}
 use Rattle.mb_store.specs.Store.{IsSound}

@@ -8,7 +8,7 @@ use Rattle.mb_edit.specs.Applying.{stands_in}
 use Rattle.mb_load.proofs.PutRowLemmas.{front_read}
 use Rattle.mb_load.specs.Changing.{AreChangesOf, front, name_edited, place_edited}
 use Rattle.mb_load.specs.Held.{Held}
-use Rattle.mb_load.specs.LoadedFrom.{IsOnBoard}
+use Rattle.mb_load.specs.Editable.{IsOnBoard}
 use Rattle.mb_store.proofs.Committed.{others_stay}
 use Rattle.mb_store.specs.Committing.{Commits}
 use Rattle.mb_store.specs.declared.change.Change.{Change}

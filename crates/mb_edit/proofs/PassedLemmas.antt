@@ -9,7 +9,7 @@ use Rattle.mb_lists.specs.Metadata.{after_hash, agg_hash, before_hash}
 use Rattle.mb_constraints.specs.DiffHashes.{base_refused, patch_refused, unless_forced}
 pub use Rattle.mb_load.proofs.RowsPass.{holds}
 use Rattle.mb_load.specs.HeldCode.{algorithm_at, algorithm_back, algorithm_number}
-use Rattle.mb_load.specs.LoadedFrom.{is_editable}
+use Rattle.mb_load.specs.Editable.{is_editable}
 use Rattle.mb_tables.specs.Refusals.{first_refusal, unless}
 use Rattle.mb_load.specs.State.{State}
 use Rattle.mb_tables.specs.declared.error.MbtError.{MbtError}

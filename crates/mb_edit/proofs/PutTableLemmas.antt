@@ -26,7 +26,8 @@ use Rattle.mb_load.specs.Changing.{AreChangesOf, cells_for, content_table, front
 use Rattle.mb_load.specs.Committing.{MakesChanges}
 use Rattle.mb_load.specs.Edits.{dates_for, id_for, with_key}
 use Rattle.mb_load.specs.Held.{Edited, Held, nothing_edited}
-use Rattle.mb_load.specs.LoadedFrom.{IsLoadedFrom, IsOnBoard, NamesAlgorithm}
+use Rattle.mb_load.specs.LoadedFrom.{IsLoadedFrom, NamesAlgorithm}
+use Rattle.mb_load.specs.Editable.{IsOnBoard}
 use Rattle.mb_load.specs.State.{State}
 use Rattle.mb_lists.specs.declared.dates.Dates.{Dates}
 use Rattle.mb_store.specs.Committing.{Commits}

@@ -5,7 +5,8 @@ use Rattle.mb_edit.specs.Step.{step}
 use Rattle.mb_load.specs.Changing.{cells_for, content_table, front, tile_key}
 use Rattle.mb_load.specs.Committed.{is_set_table}
 use Rattle.mb_load.specs.Edits.{dates_for, id_for}
-use Rattle.mb_load.specs.State.{State, state_of}
+use Rattle.mb_load.specs.State.{State}
+use Rattle.mb_load.specs.StateOf.{state_of}
 use Rattle.mb_tables.specs.Cell.{is_null}
 use Rattle.mb_tables.specs.Kind.{tile_table}
 use Rattle.mb_tables.specs.Key.{has_key}

@@ -5,7 +5,7 @@ use Rattle.mb_edit.specs.PatchingOrder.{bytes_put, id_collides}
 use Rattle.mb_edit.specs.Step.{contents_over}
 use Rattle.mb_load.specs.Edits.{dates_for, id_for}
 pub use Rattle.mb_load.specs.FromLast.{tiles_put}
-use Rattle.mb_load.specs.LoadedFrom.{is_editable}
+use Rattle.mb_load.specs.Editable.{is_editable}
 use Rattle.mb_load.specs.State.{State}
 use Rattle.mb_tables.specs.Refusals.{first_refusal, unless}
 use Rattle.mb_tables.specs.Tiles.{TileSet}

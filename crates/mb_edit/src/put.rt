@@ -2,7 +2,8 @@
 ghost use Rattle.std.specs.Prelude.{◌≡◌, ◌≢◌, IfErr, IfOk, None, Some, false};
 ghost use Rattle.mb_edit.specs.Put.{may_put, state_put, tiles_put};
 ghost use Rattle.mb_load.specs.GivenIds.{ids_given};
-ghost use Rattle.mb_load.specs.LoadedFrom.{AllOnBoard, IsLoadedFrom, NamesAlgorithm, is_editable};
+ghost use Rattle.mb_load.specs.LoadedFrom.{AllOnBoard, IsLoadedFrom, NamesAlgorithm};
+ghost use Rattle.mb_load.specs.Editable.{is_editable};
 ghost use Rattle.mb_tables.specs.Refusals.{Tests, is_free, unless};
 ghost use Rattle.mb_tables.specs.Table.{Tables};
 

@@ -6,7 +6,8 @@ use Rattle.mb_tables.specs.Refusals.{then}
 use Rattle.mb_load.specs.Held.{Held}
 use Rattle.mb_load.specs.Loading.{Loads}
 use Rattle.mb_tables.specs.Refusals.{Answers, is_free}
-use Rattle.mb_load.specs.State.{State, state_of}
+use Rattle.mb_load.specs.State.{State}
+use Rattle.mb_load.specs.StateOf.{state_of}
 use Rattle.mb_tables.specs.Table.{Tables}
 use Rattle.mb_tables.specs.declared.error.MbtError.{MbtError}
 

@@ -5,7 +5,7 @@ use Rattle.std.proofs.lemmas.Bool.{false≢true}
 use Rattle.std.proofs.lemmas.List.Elements.{All-cons, All-nil}
 use Rattle.std.proofs.lemmas.List.Sorted.{All-permutation}
 use Rattle.mb_load.specs.Edits.{dates_for, no_dates}
-use Rattle.mb_load.specs.LoadedFrom.{AreTimes}
+use Rattle.mb_load.specs.Editable.{AreTimes}
 use Rattle.mb_lists.specs.Entries.{HasId, is_cache, nothing}
 use Rattle.mb_lists.specs.FromRows.{AreIndexed, ids_from}
 use Rattle.mb_lists.specs.declared.dates.Dates.{Dates}

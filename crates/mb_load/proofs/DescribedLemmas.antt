@@ -6,7 +6,7 @@ use Rattle.mb_constraints.specs.Described.{index_missing, is_metadata}
 use Rattle.mb_lists.specs.Contents.{content_rows}
 use Rattle.mb_load.specs.LoadingOrder.{row_refusals}
 use Rattle.mb_tables.specs.Refusals.{first_refusal, unless}
-use Rattle.mb_load.specs.State.{state_of, stated, unless_refused}
+use Rattle.mb_load.specs.StateOf.{state_of, stated, unless_refused}
 use Rattle.std.proofs.lemmas.Bool.{false≢true}
 use Rattle.mb_tables.specs.declared.table.TableName.TheVariants.{Metadata}
 use Rattle.mb_tables.specs.Described.{is_keyed}

@@ -20,7 +20,8 @@ use Rattle.mb_load.proofs.Covering.{there}
 use Rattle.mb_load.specs.Edits.{dates_for, id_for, is_named, only_referenced, removed_name, removed_tile, with_content, with_key, with_name, with_tile, with_value, without_name, without_tile}
 use Rattle.mb_lists.specs.Entries.{is_cache, text_cell}
 use Rattle.mb_load.specs.Held.{Held}
-use Rattle.mb_load.specs.LoadedFrom.{AreTimes, FitsPlace, IsContentOf, IsFree, IsLoadable, IsLoadedFrom, IsOnBoard, at_place, found, is_editable}
+use Rattle.mb_load.specs.Editable.{AreTimes, IsFree, IsOnBoard, is_editable}
+use Rattle.mb_load.specs.LoadedFrom.{FitsPlace, IsContentOf, IsLoadable, IsLoadedFrom, at_place, found}
 use Rattle.mb_load.specs.State.{State}
 use Rattle.mb_constraints.specs.TileRows.{dates_in, id_in, tile_in}
 use Rattle.mb_lists.specs.declared.dates.Dates.{Dates}

@@ -10,7 +10,8 @@ use Rattle.std.proofs.lemmas.List.Elements.{All-nil}
 use Rattle.mb_lists.specs.Entries.{text_cell}
 use Rattle.mb_lists.specs.declared.dates.Dates.{Dates}
 use Rattle.mb_load.specs.Changing.{content_table, tile_key}
-use Rattle.mb_load.specs.Empty.{AreEmpty, empty_state}
+use Rattle.mb_load.specs.EmptyTables.{AreEmpty}
+use Rattle.mb_load.specs.Empty.{empty_state}
 use Rattle.mb_load.specs.Held.{fresh}
 use Rattle.mb_load.specs.LoadedFrom.{FitsPlace, IsGoodContent, IsGoodRow, IsLoadable, IsLoadedFrom}
 use Rattle.mb_lists.specs.Entries.{is_cache}

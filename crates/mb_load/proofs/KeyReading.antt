@@ -10,7 +10,8 @@ use Rattle.std.proofs.lemmas.Bool.Decides.{Decides-ltb}
 use Rattle.std.proofs.lemmas.List.Elements.{All-head, All-tail}
 use Rattle.std.proofs.lemmas.Option.{none-some}
 use Rattle.mb_load.specs.Changing.{front, tile_key}
-use Rattle.mb_load.specs.LoadedFrom.{IsOnBoard, at_place, found}
+use Rattle.mb_load.specs.Editable.{IsOnBoard}
+use Rattle.mb_load.specs.LoadedFrom.{at_place, found}
 use Rattle.mb_constraints.proofs.ApartPlaces.{cells_of_place, key_is}
 use Rattle.mb_load.proofs.ChangeSteps.{front_same}
 use Rattle.mb_lists.proofs.Items.{equal_of}

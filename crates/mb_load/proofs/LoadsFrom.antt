@@ -17,11 +17,13 @@ use Rattle.mb_constraints.specs.Hashes.{wrong_content_hash, wrong_hash}
 use Rattle.mb_load.specs.Held.{Held, fresh}
 use Rattle.mb_tables.specs.CellKinds.{has_tile_kinds, is_id, is_number, is_text}
 use Rattle.mb_load.specs.Loading.{Loads, due_by, held_by}
-use Rattle.mb_load.specs.LoadedFrom.{AllOnBoard, AreTimes, FitsPlace, IsContentOf, IsLoadable, IsLoadedFrom, IsOnBoard, NamesAlgorithm, at_place, found}
+use Rattle.mb_load.specs.LoadedFrom.{AllOnBoard, FitsPlace, IsContentOf, IsLoadable, IsLoadedFrom, NamesAlgorithm, at_place, found}
+use Rattle.mb_load.specs.Editable.{AreTimes, IsOnBoard}
 use Rattle.mb_load.specs.LoadingOrder.{refusals, row_refusals}
 use Rattle.mb_lists.specs.Metadata.{name_entry}
 use Rattle.mb_tables.specs.Refusals.{first_refusal}
-use Rattle.mb_load.specs.State.{State, state_of, stated, unless_refused}
+use Rattle.mb_load.specs.State.{State}
+use Rattle.mb_load.specs.StateOf.{state_of, stated, unless_refused}
 use Rattle.mb_constraints.specs.TileRows.{bad_tile, dates_in, id_in, tile_in}
 use Rattle.mb_lists.specs.declared.dates.Dates.{Dates}
 use Rattle.mb_constraints.proofs.ApartPlaces.{in_has_place}

@@ -13,7 +13,8 @@ use Rattle.mb_load.specs.Changing.{cells_for, content_row, content_row_by, front
 use Rattle.mb_lists.specs.Entries.{blob_cell, is_cache, text_cell}
 use Rattle.mb_constraints.specs.Hashes.{wrong_digest, wrong_hash, wrong_tile_hash}
 use Rattle.mb_tables.specs.CellKinds.{has_name_kinds, has_tile_kinds, is_id, is_number, is_text}
-use Rattle.mb_load.specs.LoadedFrom.{AreTimes, FitsPlace, IsContentOf, IsGoodContent, IsGoodRow, IsLoadable, IsOnBoard, at_place, found}
+use Rattle.mb_load.specs.Editable.{AreTimes, IsOnBoard}
+use Rattle.mb_load.specs.LoadedFrom.{FitsPlace, IsContentOf, IsGoodContent, IsGoodRow, IsLoadable, at_place, found}
 use Rattle.mb_tables.specs.Refusals.{unless}
 use Rattle.mb_load.specs.State.{State}
 use Rattle.mb_constraints.specs.TileRows.{bad_tile, dates_in, id_in, tile_in}

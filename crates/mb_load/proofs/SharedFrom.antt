@@ -9,7 +9,8 @@ use Rattle.std.proofs.lemmas.Option.{same_Some}
 use Rattle.mb_lists.specs.Contents.{Contents}
 use Rattle.mb_load.specs.Edits.{id_for, with_content, with_tile, with_tiles}
 use Rattle.mb_load.specs.Held.{Held}
-use Rattle.mb_load.specs.LoadedFrom.{IsFree, IsLoadedFrom, IsOnBoard, is_editable}
+use Rattle.mb_load.specs.Editable.{IsFree, IsOnBoard, is_editable}
+use Rattle.mb_load.specs.LoadedFrom.{IsLoadedFrom}
 use Rattle.mb_load.proofs.EditedFrom.{from_with_tile}
 use Rattle.mb_tables.specs.CellOrder.{cells_total}
 use Rattle.mb_tables.specs.Table.{Tables}

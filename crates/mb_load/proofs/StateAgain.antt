@@ -20,7 +20,8 @@ use Rattle.mb_load.specs.LoadedFrom.{FitsPlace, IsGoodContent, IsLoadedFrom, Nam
 use Rattle.mb_lists.specs.Metadata.{name_entry, names_of}
 use Rattle.mb_constraints.specs.References.{id_text, missing_reference}
 use Rattle.mb_tables.specs.Refusals.{unless}
-use Rattle.mb_load.specs.State.{State, state_of}
+use Rattle.mb_load.specs.State.{State}
+use Rattle.mb_load.specs.StateOf.{state_of}
 use Rattle.mb_constraints.specs.TileRows.{bad_tile, by_place, dates_in, id_in, tile_in}
 use Rattle.mb_constraints.proofs.ApartPlaces.{in_has_place, never_twice}
 use Rattle.mb_load.proofs.CommitLemmas.{no_contents}

@@ -1,5 +1,6 @@
 pub mod LoadingOrder
 pub mod State
+pub mod StateOf
 pub mod Aggregate
 pub mod Held
 pub mod HeldCode
@@ -9,6 +10,7 @@ pub mod Loading
 pub mod LoadingExamples
 pub mod Edits
 pub mod Changing
+pub mod Editable
 pub mod LoadedFrom
 pub mod Committed
 pub mod PutRows
@@ -21,3 +23,4 @@ pub mod Sharing
 pub mod Taking
 pub mod Moving
 pub mod Empty
+pub mod EmptyTables

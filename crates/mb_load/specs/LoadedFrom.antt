@@ -1,5 +1,5 @@
 -- Tables that a set was loaded from.
-use Rattle.std.specs.Prelude.{◌≡◌, ℕ, codes, ◌<◌, ◌≤◌, ◌^◌, ◌&&◌, Bool, true, false, List, [], ◌∷◌, Option, Some, None, All, filter, filter_map, length, option_and_then, option_map, option_to_list}
+use Rattle.std.specs.Prelude.{◌≡◌, ℕ, codes, ◌≤◌, ◌&&◌, true, false, List, [], ◌∷◌, Option, Some, None, All, filter, filter_map, length, option_and_then, option_map, option_to_list}
 use Rattle.std.specs.FinMap.{contains_key, find, get}
 use Rattle.mb_constraints.specs.Algorithm.{algorithm_by, unknown_name}
 use Rattle.mb_load.specs.Changing.{content_row, content_table, name_row, tile_key}
@@ -8,9 +8,10 @@ use Rattle.mb_lists.specs.Entries.{is_cache}
 use Rattle.mb_constraints.specs.Described.{index_missing, metadata_missing}
 use Rattle.mb_constraints.specs.Hashes.{wrong_content_hash, wrong_tile_hash}
 use Rattle.mb_load.specs.Held.{Held}
-use Rattle.mb_tables.specs.CellKinds.{has_name_kinds, has_tile_kinds, is_id, is_number, is_text}
+use Rattle.mb_tables.specs.CellKinds.{has_name_kinds, has_tile_kinds, is_id}
 use Rattle.mb_lists.specs.Metadata.{text_at}
 use Rattle.mb_load.specs.State.{State}
+use Rattle.mb_load.specs.Editable.{AreTimes, IsOnBoard}
 use Rattle.mb_constraints.specs.TileRows.{bad_tile, dates_in, id_in, tile_in}
 use Rattle.mb_lists.specs.declared.dates.Dates.{Dates}
 use Rattle.mb_tables.specs.Cell.{is_null}
@@ -20,21 +21,11 @@ use Rattle.mb_tables.specs.Kind.{is_normalized, tile_table}
 use Rattle.mb_tables.specs.Table.{Tables}
 use Rattle.mb_tables.specs.Tiles.{Place, cell_at, contents_of, place_cmp, place_of}
 use Rattle.mb_tables.specs.declared.cell.Cell.{Cell}
-use Rattle.mb_tables.specs.declared.cell.Cell.TheVariants.{Text, Blob}
 use Rattle.mb_tables.specs.declared.key.RowKey.{RowKey}
 use Rattle.mb_tables.specs.declared.key.RowKey.TheVariants.{TextId}
 use Rattle.mb_tables.specs.declared.kind.MbtType.{MbtType}
-use Rattle.mb_tables.specs.declared.kind.MbtType.TheVariants.{Normalized}
-use Rattle.mb_tables.specs.declared.kind.NormalizedSchema.TheVariants.{DedupId}
 use Rattle.mb_tables.specs.declared.table.TableName.TheVariants.{Metadata}
-use Rattle.tile_hash.specs.Digest.{digest}
 use Rattle.tile_hash.specs.declared.algorithm.HashAlgorithm.{HashAlgorithm}
-
--- a place of zoom 0 to 30
-pub record IsOnBoard (p : Place) : Type 0 where
-  pub zoom : p.zoom < 31
-  pub column : p.column < 2 ^ p.zoom
-  pub row : p.row < 2 ^ p.zoom
 
 -- all tiles of a set stand at such places
 abbrev pub AllOnBoard : State → Type 0
@@ -46,12 +37,6 @@ pub record IsContentOf (layout : MbtType) (a : HashAlgorithm) (id cell : Cell) :
   pub present : is_null id ≡ false
   pub kind : is_id layout id ≡ true
   pub digest : wrong_content_hash layout a (id ∷ cell ∷ []) ≡ None
-
--- times of their kinds
-pub record AreTimes (d : Dates) : Type 0 where
-  pub fetched : is_number d.fetched ≡ true
-  pub expires : is_number d.expires ≡ true
-  pub etag : is_text d.etag ≡ true
 
 -- a state that tables of its layout can hold: a normalised set, and no other, has the id of each tile, whose contents are the tile; a cache, and no other, has
 -- the times of each tile
@@ -109,12 +94,3 @@ pub record IsLoadedFrom (t : Tables) (h : Held) : Type 0 where
 pub record NamesAlgorithm (s : State) : Type 0 where
   pub known : unknown_name (text_at s.metadata (codes "hash_algorithm")) ≡ None
   pub named : algorithm_by (text_at s.metadata (codes "hash_algorithm")) ≡ s.algorithm
-
--- whether tiles of a layout can be put
-abbrev pub is_editable : MbtType → Bool
-is_editable (Normalized view DedupId) = false
-is_editable _ = true
-
--- no other contents stand under the digest of bytes
-abbrev pub IsFree : State → List ℕ → Type 0
-IsFree s bytes = (cell : Cell) → get s.contents (Text (digest s.algorithm bytes)) ≡ Some cell → cell ≡ Blob bytes

@@ -2,7 +2,7 @@
 use Rattle.std.specs.Prelude.{◌≡◌, ℕ, codes, pos, negsuc, refl, cond, false, List, [], ◌∷◌, None, Err}
 use Rattle.mb_load.specs.LoadingOrder.{refusals}
 use Rattle.mb_tables.specs.Refusals.{first_refusal}
-use Rattle.mb_load.specs.State.{state_of}
+use Rattle.mb_load.specs.StateOf.{state_of}
 use Rattle.mb_tables.specs.Schema.{set_tables}
 use Rattle.mb_tables.specs.Table.{Tables, table_eq}
 use Rattle.mb_tables.specs.declared.cell.Cell.{Cell}

@@ -1,23 +1,13 @@
--- What a set of tables holds, and whether it can be loaded.
-use Rattle.std.specs.Prelude.{Option, Some, None, Result, Ok, Err}
+-- What a set of tiles is.
+use Rattle.std.specs.Prelude.{Option}
 use Rattle.std.specs.FinMap.{FinMap}
-use Rattle.mb_constraints.specs.Algorithm.{algorithm_of}
-use Rattle.mb_lists.specs.Contents.{Contents, content_rows, contents_by_id}
-use Rattle.mb_load.specs.LoadingOrder.{refusals}
-use Rattle.mb_lists.specs.Metadata.{Names, names_of}
-use Rattle.mb_tables.specs.Refusals.{first_refusal}
-use Rattle.mb_constraints.specs.TileRows.{by_place, dates_in, id_in}
+use Rattle.mb_lists.specs.Contents.{Contents}
+use Rattle.mb_lists.specs.Metadata.{Names}
 use Rattle.mb_lists.specs.declared.dates.Dates.{Dates}
-use Rattle.mb_tables.specs.Detection.{layout_of, patch_type_of}
-use Rattle.mb_tables.specs.Kind.{tile_table}
-use Rattle.mb_tables.specs.Table.{Tables}
-use Rattle.mb_tables.specs.Tiles.{TileSet, place_cmp, tiles_of}
+use Rattle.mb_tables.specs.Tiles.{TileSet, place_cmp}
 use Rattle.mb_tables.specs.declared.cell.Cell.{Cell}
-use Rattle.mb_tables.specs.declared.error.MbtError.{MbtError}
-use Rattle.mb_tables.specs.declared.error.MbtError.TheVariants.{InvalidDataFormat}
 use Rattle.mb_tables.specs.declared.kind.MbtType.{MbtType}
 use Rattle.mb_tables.specs.declared.patch_type.PatchType.{PatchType}
-use Rattle.mb_tables.specs.declared.table.TableName.TheVariants.{Metadata}
 use Rattle.tile_hash.specs.declared.algorithm.HashAlgorithm.{HashAlgorithm}
 
 -- a set of tiles with its metadata; in a normalised set the id of each tile and the contents of each id, in a cache the times of each tile
@@ -30,29 +20,3 @@ pub record State : Type 0 where
   pub ids : FinMap place_cmp Cell
   pub contents : Contents
   pub dates : FinMap place_cmp Dates
-
--- what the tables of a layout hold
-abbrev pub held_in : MbtType → Tables → State
-held_in layout t = record {
-  layout = layout;
-  algorithm = algorithm_of (t.rows Metadata);
-  patch_type = patch_type_of t.descriptions;
-  tiles = tiles_of layout t;
-  metadata = names_of (t.rows Metadata);
-  ids = by_place (id_in layout) (t.rows (tile_table layout));
-  contents = contents_by_id (content_rows layout t);
-  dates = by_place (dates_in layout) (t.rows (tile_table layout));
-}
-
--- a refusal, or what the tables of a layout hold
-abbrev pub unless_refused : MbtType → Tables → Option MbtError → Result State MbtError
-unless_refused layout t (Some refusal) = Err refusal
-unless_refused layout t None = Ok (held_in layout t)
-
-abbrev pub stated : Option MbtType → Tables → Result State MbtError
-stated None t = Err InvalidDataFormat
-stated (Some layout) t = unless_refused layout t (first_refusal (refusals layout t))
-
--- the first refusal of a set of tables, or what it holds
-abbrev pub state_of : Tables → Result State MbtError
-state_of t = stated (layout_of t.descriptions) t

@@ -2,7 +2,7 @@
 ghost use Rattle.std.specs.Prelude.{◌≡◌, true};
 ghost use Rattle.mb_load.specs.Empty.{empty_state};
 ghost use Rattle.mb_load.specs.Held.{fresh};
-ghost use Rattle.mb_load.specs.LoadedFrom.{is_editable};
+ghost use Rattle.mb_load.specs.Editable.{is_editable};
 
 use crate::Loaded;
 use mb_lists::{ContentList, NameList, TileList};

@@ -4,7 +4,7 @@ ghost use Rattle.std.specs.Prelude.{◌≡◌, ◌≢◌, ◌≤◌, Err, None, 
 ghost use Rattle.mb_constraints.specs.Described.{index_missing, metadata_missing};
 ghost use Rattle.mb_load.specs.Loading.{Loads};
 ghost use Rattle.mb_load.specs.LoadedFrom.{IsLoadable, IsLoadedFrom, NamesAlgorithm};
-ghost use Rattle.mb_load.specs.State.{state_of};
+ghost use Rattle.mb_load.specs.StateOf.{state_of};
 ghost use Rattle.mb_store.specs.MemStore.{told_of};
 ghost use Rattle.mb_tables.specs.Detection.{layout_of};
 ghost use Rattle.mb_tables.specs.Table.{Tables};

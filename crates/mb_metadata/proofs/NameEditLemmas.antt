@@ -20,7 +20,8 @@ use Rattle.mb_load.specs.Edits.{removed_name, with_name}
 use Rattle.mb_load.specs.Held.{Edited, Held, fresh, nothing_edited}
 use Rattle.mb_load.specs.LoadedFrom.{IsLoadedFrom, NamesAlgorithm}
 use Rattle.mb_load.specs.Loading.{Loads}
-use Rattle.mb_load.specs.State.{State, state_of}
+use Rattle.mb_load.specs.State.{State}
+use Rattle.mb_load.specs.StateOf.{state_of}
 use Rattle.mb_metadata.specs.NameEdits.{AreEdited, EditsNames, IsFresh, held_edited, is_edited, names_edited, state_edited, with_text, with_touched}
 use Rattle.mb_metadata.specs.declared.name_edits.NameEdit.{NameEdit}
 use Rattle.mb_store.proofs.Committed.{others_stay}

@@ -8,7 +8,8 @@ use Rattle.mb_load.specs.Changing.{name_row}
 use Rattle.mb_load.specs.Committed.{rows_under}
 use Rattle.mb_load.specs.Held.{Held, fresh, nothing_edited}
 use Rattle.mb_load.specs.LoadedFrom.{IsLoadedFrom, NamesAlgorithm}
-use Rattle.mb_load.specs.State.{State, state_of}
+use Rattle.mb_load.specs.State.{State}
+use Rattle.mb_load.specs.StateOf.{state_of}
 use Rattle.mb_metadata.specs.declared.name_edits.NameEdit.{NameEdit}
 use Rattle.mb_tables.specs.Cell.{cell_eq}
 use Rattle.mb_tables.specs.Table.{Tables, table_eq}

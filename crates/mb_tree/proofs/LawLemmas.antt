@@ -6,7 +6,8 @@ use Rattle.mb_load.proofs.LoadsFrom.{state_whole}
 use Rattle.mb_load.specs.Begun.{begun}
 use Rattle.mb_load.specs.Empty.{empty_state}
 use Rattle.mb_load.specs.Held.{fresh}
-use Rattle.mb_load.specs.State.{State, state_of}
+use Rattle.mb_load.specs.State.{State}
+use Rattle.mb_load.specs.StateOf.{state_of}
 use Rattle.mb_metadata.proofs.UpdateLemmas.{ok_same}
 use Rattle.mb_tables.specs.Refusals.{then}
 use Rattle.mb_tables.specs.Table.{Tables}

@@ -21,7 +21,8 @@ use Rattle.mb_load.specs.Committed.{IsCommitted}
 use Rattle.mb_load.specs.Committing.{MakesChanges}
 use Rattle.mb_load.specs.Edits.{with_tile}
 use Rattle.mb_load.specs.Held.{Held, fresh, nothing_edited}
-use Rattle.mb_load.specs.LoadedFrom.{IsFree, IsLoadable, IsLoadedFrom, IsOnBoard, NamesAlgorithm, is_editable}
+use Rattle.mb_load.specs.Editable.{IsFree, IsOnBoard, is_editable}
+use Rattle.mb_load.specs.LoadedFrom.{IsLoadable, IsLoadedFrom, NamesAlgorithm}
 use Rattle.mb_load.specs.State.{State}
 use Rattle.mb_metadata.proofs.NameEditLemmas.{edits_loaded, get_other}
 use Rattle.mb_metadata.specs.NameEdits.{is_edited}

@@ -10,7 +10,8 @@ use Rattle.mb_lists.specs.Entries.{blob_cell, place_at}
 use Rattle.mb_load.specs.Begun.{begun}
 use Rattle.mb_load.specs.Held.{Held}
 use Rattle.mb_load.specs.Loading.{Loads}
-use Rattle.mb_load.specs.State.{State, state_of}
+use Rattle.mb_load.specs.State.{State}
+use Rattle.mb_load.specs.StateOf.{state_of}
 use Rattle.mb_store.specs.Kept.{Keeps}
 use Rattle.mb_tables.specs.declared.cell.Cell.{Cell}
 use Rattle.mb_tables.specs.declared.cell.Cell.TheVariants.{Blob}

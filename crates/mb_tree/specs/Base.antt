@@ -1,7 +1,8 @@
 -- The set that tiles are packed into.
 use Rattle.std.specs.Prelude.{◌≡◌, Bool, true, false, List, [], ◌∷◌, Result, Ok, Err, IfErr, IfOk}
 use Rattle.mb_load.specs.Empty.{empty_state}
-use Rattle.mb_load.specs.State.{State, state_of}
+use Rattle.mb_load.specs.State.{State}
+use Rattle.mb_load.specs.StateOf.{state_of}
 use Rattle.mb_store.specs.Store.{created}
 use Rattle.mb_tables.specs.Refusals.{then}
 use Rattle.mb_tables.specs.Schema.{set_tables}

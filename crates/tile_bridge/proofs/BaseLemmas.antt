@@ -13,7 +13,8 @@ use Rattle.mb_load.specs.Committed.{IsCommitted}
 use Rattle.mb_load.specs.Held.{Held, fresh}
 use Rattle.mb_load.specs.LoadedFrom.{IsLoadedFrom, NamesAlgorithm}
 use Rattle.mb_load.specs.Aggregate.{aggregate}
-use Rattle.mb_load.specs.State.{State, state_of}
+use Rattle.mb_load.specs.State.{State}
+use Rattle.mb_load.specs.StateOf.{state_of}
 use Rattle.mb_store.specs.Store.{IsSound}
 use Rattle.mb_tables.specs.Kind.{tile_table}
 use Rattle.mb_tables.specs.Table.{Tables}

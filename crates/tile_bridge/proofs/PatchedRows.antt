@@ -16,8 +16,9 @@ use Rattle.mb_load.proofs.LoadsFrom.{state_whole}
 use Rattle.mb_load.specs.Changing.{cells_for, front, tile_row}
 use Rattle.mb_load.specs.Edits.{dates_for, id_for}
 use Rattle.mb_load.specs.Held.{Held}
-use Rattle.mb_load.specs.LoadedFrom.{IsOnBoard}
-use Rattle.mb_load.specs.State.{State, state_of}
+use Rattle.mb_load.specs.Editable.{IsOnBoard}
+use Rattle.mb_load.specs.State.{State}
+use Rattle.mb_load.specs.StateOf.{state_of}
 use Rattle.mb_lists.specs.declared.dates.Dates.{Dates}
 use Rattle.mb_tables.specs.Table.{Tables}
 use Rattle.mb_tables.specs.Tiles.{Place}

@@ -4,7 +4,8 @@ use Rattle.std.proofs.lemmas.List.Folds.{list_all-map}
 use Rattle.std.specs.List.{list_all}
 use Rattle.mb_load.specs.Held.{Held, nothing_edited}
 use Rattle.mb_load.specs.LoadedFrom.{IsLoadedFrom, NamesAlgorithm}
-use Rattle.mb_load.specs.State.{State, state_of}
+use Rattle.mb_load.specs.State.{State}
+use Rattle.mb_load.specs.StateOf.{state_of}
 use Rattle.mb_tables.specs.Table.{Tables}
 use Rattle.tile_bridge.specs.Outcome.{all_patched, at_place, due, outcome, tested, then}
 use Rattle.tile_bridge.specs.Patching.{IsHeldFrom, IsPatchedByAll}

@@ -6,7 +6,8 @@ use Rattle.std.specs.FinMap.{entries}
 use Rattle.mb_load.specs.Aggregate.{aggregate, bytes_of}
 use Rattle.mb_lists.specs.Metadata.{text_at}
 use Rattle.mb_tables.specs.Refusals.{unless}
-use Rattle.mb_load.specs.State.{State, state_of}
+use Rattle.mb_load.specs.State.{State}
+use Rattle.mb_load.specs.StateOf.{state_of}
 use Rattle.mb_edit.specs.Step.{step}
 use Rattle.mb_tables.specs.Table.{Tables}
 use Rattle.mb_tables.specs.Tiles.{TileSet}

@@ -3,7 +3,8 @@ use Rattle.std.specs.Prelude.{ℕ, ◌≡◌, ◌≤◌, Bool, false, cond, List
 use Rattle.std.specs.List.{list_all}
 use Rattle.base_values.specs.Counts.{Rose}
 use Rattle.mb_tables.specs.Refusals.{is_free}
-use Rattle.mb_load.specs.State.{State, state_of}
+use Rattle.mb_load.specs.State.{State}
+use Rattle.mb_load.specs.StateOf.{state_of}
 use Rattle.mb_tables.specs.Table.{Tables}
 use Rattle.mb_tables.specs.declared.error.MbtError.{MbtError}
 use Rattle.mb_tables.specs.declared.error.MbtError.TheVariants as errors

@@ -2,7 +2,7 @@
 ghost use Rattle.std.specs.Prelude.{◌≡◌, ◌≢◌, ℕ, true, Err, IfErr, IfOk, IsErrOf, Ok};
 ghost use Rattle.base_values.specs.Counts.{Rose};
 ghost use Rattle.mb_load.specs.Held.{nothing_edited};
-ghost use Rattle.mb_load.specs.State.{state_of};
+ghost use Rattle.mb_load.specs.StateOf.{state_of};
 ghost use Rattle.mb_load.specs.LoadedFrom.{IsLoadable, IsLoadedFrom, NamesAlgorithm};
 ghost use Rattle.mb_store.specs.Kept.{ReadsOnly};
 ghost use Rattle.mb_store.specs.MemStore.{told_of};

@@ -5,7 +5,7 @@ use Rattle.mb_load.specs.Committing.{MakesChanges}
 use Rattle.mb_edit.proofs.AnswerLemmas.{base_refused, patch_refused, some_tables, step_refused}
 use Rattle.mb_edit.proofs.ApplyLemmas.{next_applied, next_loaded}
 use Rattle.mb_load.specs.LoadedFrom.{IsLoadedFrom}
-use Rattle.mb_load.specs.State.{state_of}
+use Rattle.mb_load.specs.StateOf.{state_of}
 use Rattle.mb_tables.specs.Table.{Tables}
 use Rattle.mb_edit.proofs.apply.apply_patch.Goals as goal
 
