@@ -5,7 +5,7 @@ use Rattle.std.proofs.lemmas.Bool.{false≢true}
 use Rattle.mb_access.specs.Hashed.{IsHashed, hash_by, hashed_answer, id_at, row_at, row_by}
 use Rattle.mb_access.specs.Reads.{bytes_in, coord_in}
 use Rattle.mb_load.proofs.BegunLemmas.{begun_err, begun_free, begun_ok}
-use Rattle.mb_load.specs.Held.{Held}
+use Rattle.mb_loaded.specs.Held.{Held}
 use Rattle.mb_load.specs.Loading.{Loads}
 use Rattle.mb_load.specs.StateOf.{state_of}
 use Rattle.mb_tables.specs.Refusals.{Answers, is_free}

@@ -9,7 +9,7 @@ use types.Logic.{Logic, sem}
 use denote.RattleType.{RattleType}
 use denote.Ref.{MutBor, MutRef}
 use Rattle.mb_tables.specs.declared.error.MbtError.{MbtError}
-use Rattle.mb_load.specs.State.{State}
+use Rattle.mb_loaded.specs.State.{State}
 use Rattle.mb_access.specs.StreamSteps.{set_of}
 use Rattle.mb_access.specs.declared.stream_state.StreamState.{StreamState}
 use Rattle.mb_access.specs.contracts.stream_state.StreamState as S-type

@@ -5,7 +5,7 @@ use Rattle.std.specs.FinMap.{entries, len}
 use Rattle.std.specs.List.{cons_option}
 use Rattle.mb_access.specs.StreamSteps.{GivesIndex, IsRowOf, Tile, left_of, rows_left, set_of, tile_by_row}
 use Rattle.mb_access.specs.declared.stream_state.StreamState.{StreamState}
-use Rattle.mb_load.specs.Held.{Held}
+use Rattle.mb_loaded.specs.Held.{Held}
 use Rattle.mb_store.specs.Kept.{ReadsOnly}
 use Rattle.mb_tables.specs.Table.{Tables}
 use Rattle.mb_tables.specs.declared.cell.Cell.{Cell}

@@ -20,7 +20,7 @@ use Rattle.mb_lists.specs.Keyed.{are_distinct, entries_by}
 use Rattle.mb_load.proofs.RowsPass.{both_none, holds, passing}
 use Rattle.mb_load.proofs.StateLemmas.{named_rows}
 use Rattle.mb_load.specs.LoadingOrder.{refusals}
-use Rattle.mb_load.specs.State.{State}
+use Rattle.mb_loaded.specs.State.{State}
 use Rattle.mb_load.specs.StateOf.{held_in, state_of, stated, unless_refused}
 use Rattle.mb_tables.proofs.TileLemmas.{get-tiles_of, places_total}
 use Rattle.mb_tables.specs.Cell.{is_null}

@@ -4,8 +4,8 @@ use Rattle.std.specs.FinMap.{FinMap, get}
 use Rattle.mb_access.specs.Reads.{bytes_in, coord_in}
 use Rattle.mb_lists.specs.Entries.{place_at}
 use Rattle.mb_load.specs.Begun.{IsBegun}
-use Rattle.mb_load.specs.Changing.{tile_key}
-use Rattle.mb_load.specs.State.{State}
+use Rattle.mb_loaded.specs.Changing.{tile_key}
+use Rattle.mb_loaded.specs.State.{State}
 use Rattle.mb_tables.specs.Key.{has_key}
 use Rattle.mb_tables.specs.Table.{Tables}
 use Rattle.mb_tables.specs.Tiles.{cell_at, place_cmp}

@@ -3,7 +3,7 @@ use Rattle.std.specs.Prelude.{ℕ, ◌^◌, ◌&&◌, Bool, nat_le, nat_lt, cond
 use Rattle.std.specs.FinMap.{get}
 use Rattle.std.specs.Option.{option_flatten}
 use Rattle.mb_lists.specs.Entries.{place_at}
-use Rattle.mb_load.specs.State.{State}
+use Rattle.mb_loaded.specs.State.{State}
 use Rattle.mb_tables.specs.Tiles.{TileSet}
 use Rattle.mb_tables.specs.declared.error.MbtError.{MbtError}
 use Rattle.tile_ids.specs.Coord.{Coord}

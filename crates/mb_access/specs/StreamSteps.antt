@@ -5,7 +5,7 @@ use Rattle.std.specs.Option.{option_flatten}
 use Rattle.base_values.specs.Counts.{Rose}
 use Rattle.mb_access.specs.declared.stream_state.StreamState.{StreamState}
 use Rattle.mb_lists.specs.Entries.{place_at}
-use Rattle.mb_load.specs.State.{State}
+use Rattle.mb_loaded.specs.State.{State}
 use Rattle.mb_tables.specs.Cell.{is_null}
 use Rattle.mb_tables.specs.Kind.{tile_table}
 use Rattle.mb_tables.specs.Table.{Tables}

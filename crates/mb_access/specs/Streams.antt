@@ -6,7 +6,7 @@ use Rattle.mb_access.specs.declared.stream_state.StreamState.{StreamState}
 use Rattle.mb_access.specs.declared.streams.Coords.{Coords}
 use Rattle.mb_access.specs.declared.streams.Tiles.{Tiles}
 use Rattle.mb_lists.specs.Entries.{place_at}
-use Rattle.mb_load.specs.State.{State}
+use Rattle.mb_loaded.specs.State.{State}
 use Rattle.mb_store.specs.Kept.{ReadsOnly}
 use Rattle.mb_tables.specs.Table.{Tables}
 use Rattle.mb_tables.specs.declared.error.MbtError.{MbtError}

@@ -8,7 +8,7 @@ ghost use Rattle.mb_lists.specs.Entries.{place_at};
 ghost use Rattle.mb_tables.specs.Tiles.{contents_of, place_cmp};
 
 use base_values::{BlobVal, OutOfMemory};
-use mb_load::Loaded;
+use mb_loaded::Loaded;
 use mb_store::Cell;
 use std::alloc::Global;
 use std::cmp::Ordering;

@@ -3,7 +3,7 @@ ghost use Rattle.std.specs.Prelude.{◌≡◌, ◌≢◌, Err, IfErr, IfOk, opti
 ghost use Rattle.mb_access.specs.Hashed.{IsHashed, hash_by, hashed_answer, id_at, row_by, text_in};
 ghost use Rattle.mb_access.specs.Reads.{coord_in};
 ghost use Rattle.mb_lists.specs.Entries.{place_at};
-ghost use Rattle.mb_load.specs.Changing.{tile_key};
+ghost use Rattle.mb_loaded.specs.Changing.{tile_key};
 ghost use Rattle.mb_store.specs.Kept.{FaultsCounted, ReadsOnly};
 ghost use Rattle.mb_tables.specs.Refusals.{Answers, is_free};
 ghost use Rattle.mb_tables.specs.Tiles.{cell_at};
@@ -11,7 +11,8 @@ ghost use Rattle.mb_tables.specs.Tiles.{cell_at};
 use crate::reads::{bytes_in, coord_in};
 use base_values::{BlobVal, OutOfMemory, TextVal};
 use mb_lists::cell_at;
-use mb_load::{Loaded, load};
+use mb_load::load;
+use mb_loaded::Loaded;
 use mb_store::{
     Cell, MbtError, MbtResult, MbtType, NormalizedSchema, Row, RowKey, StoreError, TableName,
     TileStore,

@@ -10,7 +10,7 @@ ghost use Rattle.mb_access.specs.declared.stream_state.StreamState.{StreamState}
 ghost use Rattle.mb_access.specs.declared.streams.Coords.{Coords};
 ghost use Rattle.mb_access.specs.declared.streams.Tiles.{Tiles};
 ghost use Rattle.mb_lists.specs.Keyed.{are_distinct};
-ghost use Rattle.mb_load.specs.State.{State};
+ghost use Rattle.mb_loaded.specs.State.{State};
 ghost use Rattle.mb_load.specs.StateOf.{state_of};
 ghost use Rattle.mb_tables.specs.Table.{Tables};
 ghost use Rattle.mb_tables.specs.Tiles.{Place, pairs_of, place_cmp};

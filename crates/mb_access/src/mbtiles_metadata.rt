@@ -2,7 +2,7 @@
 ghost use Rattle.std.specs.Prelude.{◌≡◌, Ok, OnErr, OnOk, true};
 ghost use Rattle.mb_access.specs.FileName.{file_name};
 ghost use Rattle.mb_load.specs.Begun.{IsBegun};
-ghost use Rattle.mb_load.specs.State.{State};
+ghost use Rattle.mb_loaded.specs.State.{State};
 ghost use Rattle.mb_load.specs.StateOf.{state_of};
 ghost use Rattle.mb_metadata.specs.Inserting.{IsWithoutFloat, insert_edits};
 ghost use Rattle.mb_metadata.specs.NameEdits.{EditsNames, done_answer};

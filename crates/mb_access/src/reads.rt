@@ -7,7 +7,8 @@ ghost use Rattle.mb_store.specs.Kept.{FaultsCounted, ReadsOnly};
 ghost use Rattle.mb_tables.specs.Refusals.{Answers};
 
 use base_values::BlobVal;
-use mb_load::{Loaded, load};
+use mb_load::load;
+use mb_loaded::Loaded;
 use mb_store::{Cell, MbtError, MbtResult, TileStore};
 use std::alloc::Global;
 use tile_ids::TileCoord;

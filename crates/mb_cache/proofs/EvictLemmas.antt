@@ -19,7 +19,7 @@ use Rattle.mb_cache.specs.Evicting.{AreDeletes, IsDelete}
 use Rattle.mb_cache.specs.State.{Agrees, without}
 use Rattle.mb_cache.specs.declared.entries.Entry.{Entry}
 use Rattle.mb_load.proofs.PutRowLemmas.{tied}
-use Rattle.mb_load.specs.Changing.{tile_key}
+use Rattle.mb_loaded.specs.Changing.{tile_key}
 use Rattle.mb_store.specs.Changes.{same_key, with_change}
 use Rattle.mb_store.specs.Committing.{Commits, is_changed}
 use Rattle.mb_store.specs.Store.{IsSound, with_rows}

@@ -23,7 +23,7 @@ use Rattle.mb_cache.specs.State.{Agrees, without}
 use Rattle.mb_cache.specs.declared.entries.Entry.{Entry}
 use Rattle.mb_cache.specs.declared.moments.UnixSeconds.{UnixSeconds}
 use Rattle.mb_load.proofs.PutRowLemmas.{tied}
-use Rattle.mb_load.specs.Changing.{front}
+use Rattle.mb_loaded.specs.Changing.{front}
 use Rattle.mb_store.specs.Store.{IsSound, with_rows}
 use Rattle.mb_tables.proofs.CellLemmas.{cells_eq-Decides}
 use Rattle.mb_tables.proofs.ListLemmas.{AllPairs-head, AllPairs-tail}

@@ -23,8 +23,8 @@ use Rattle.mb_lists.specs.Entries.{place_at}
 use Rattle.mb_lists.proofs.Items.{equal_of}
 use Rattle.mb_lists.proofs.Places.{places_antisymmetric}
 use Rattle.mb_load.proofs.PutRowLemmas.{tied}
-use Rattle.mb_load.specs.Changing.{tile_key}
-use Rattle.mb_load.specs.Editable.{IsOnBoard}
+use Rattle.mb_loaded.specs.Changing.{tile_key}
+use Rattle.mb_loaded.specs.Editable.{IsOnBoard}
 use Rattle.mb_store.proofs.Committed.{all_committed, others_stay}
 use Rattle.mb_store.specs.Committing.{Commits, is_changed}
 use Rattle.mb_store.specs.Store.{IsSound}

@@ -14,8 +14,8 @@ use Rattle.mb_cache.specs.declared.moments.CacheEntryMeta.{CacheEntryMeta}
 use Rattle.mb_cache.specs.declared.moments.UnixSeconds.{UnixSeconds}
 use Rattle.mb_lists.specs.Entries.{text_cell}
 use Rattle.mb_load.proofs.KeyReading.{alone_under, key_of_place}
-use Rattle.mb_load.specs.Changing.{tile_key}
-use Rattle.mb_load.specs.Editable.{IsOnBoard}
+use Rattle.mb_loaded.specs.Changing.{tile_key}
+use Rattle.mb_loaded.specs.Editable.{IsOnBoard}
 use Rattle.mb_tables.specs.CellKinds.{is_number, is_text}
 use Rattle.mb_tables.specs.Key.{clash, has_key}
 use Rattle.mb_tables.specs.Tiles.{Place, cell_at, contents_of, place_cmp, place_of, tile_of}

@@ -17,7 +17,7 @@ use Rattle.mb_cache.specs.EntryOrder.{entry_cmp}
 use Rattle.mb_cache.specs.Sizing.{found_size, size_at, sizes_at}
 use Rattle.mb_cache.specs.State.{Agrees, without}
 use Rattle.mb_cache.specs.declared.entries.Entry.{Entry}
-use Rattle.mb_load.specs.Changing.{tile_key}
+use Rattle.mb_loaded.specs.Changing.{tile_key}
 use Rattle.mb_store.specs.Sizes.{live_size_of, row_size}
 use Rattle.mb_store.specs.Store.{IsSound}
 use Rattle.mb_tables.specs.Key.{has_key}

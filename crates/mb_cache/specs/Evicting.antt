@@ -3,7 +3,7 @@ use Rattle.std.specs.Prelude.{◌≡◌, List, None, All}
 use Rattle.std.specs.List.{list_any}
 use Rattle.mb_cache.specs.Entries.{place_in}
 use Rattle.mb_cache.specs.declared.entries.Entry.{Entry}
-use Rattle.mb_load.specs.Changing.{tile_key}
+use Rattle.mb_loaded.specs.Changing.{tile_key}
 use Rattle.mb_store.specs.Committing.{is_changed}
 use Rattle.mb_store.specs.declared.change.Change.{Change}
 use Rattle.mb_tables.specs.Key.{has_key}

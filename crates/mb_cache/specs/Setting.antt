@@ -10,7 +10,7 @@ use Rattle.mb_cache.specs.State.{row_at}
 use Rattle.mb_cache.specs.declared.moments.CacheEntryMeta.{CacheEntryMeta}
 use Rattle.mb_cache.specs.declared.moments.UnixSeconds.{UnixSeconds}
 use Rattle.mb_lists.specs.Entries.{place_at, text_cell}
-use Rattle.mb_load.specs.Changing.{front, tile_key}
+use Rattle.mb_loaded.specs.Changing.{front, tile_key}
 use Rattle.mb_store.specs.Committing.{Commits}
 use Rattle.mb_store.specs.declared.change.Change.{Change}
 use Rattle.mb_tables.specs.Table.{Tables}

@@ -6,7 +6,7 @@ use Rattle.std.specs.Ordering.{eq_by_cmp}
 use Rattle.mb_cache.specs.Entries.{IsCacheRow, entry_of, has_entry}
 use Rattle.mb_cache.specs.EntryOrder.{entry_cmp}
 use Rattle.mb_cache.specs.declared.entries.Entry.{Entry}
-use Rattle.mb_load.specs.Changing.{tile_key}
+use Rattle.mb_loaded.specs.Changing.{tile_key}
 use Rattle.mb_load.specs.LoadingOrder.{refusals}
 use Rattle.mb_store.specs.Store.{with_rows}
 use Rattle.mb_tables.specs.Described.{is_keyed, is_table}

@@ -2,7 +2,7 @@
 ghost use Rattle.std.specs.Prelude.{◌≡◌};
 ghost use Rattle.mb_cache.specs.Entries.{entry_at, is_expired_entry, place_in};
 ghost use Rattle.mb_lists.specs.Entries.{place_at};
-ghost use Rattle.mb_load.specs.Changing.{tile_key};
+ghost use Rattle.mb_loaded.specs.Changing.{tile_key};
 
 use crate::UnixSeconds;
 use mb_store::{Cell, RowKey};

@@ -2,7 +2,7 @@
 ghost use Rattle.std.specs.Prelude.{◌≡◌, ◌++◌, ◌∷◌, [], IfOk, length, option_copied};
 ghost use Rattle.mb_cache.specs.Setting.{meta_row, moment_cell};
 ghost use Rattle.mb_lists.specs.Entries.{place_at, text_cell};
-ghost use Rattle.mb_load.specs.Changing.{front};
+ghost use Rattle.mb_loaded.specs.Changing.{front};
 ghost use Rattle.mb_tables.specs.Tiles.{cell_at};
 
 use crate::{CacheEntryMeta, UnixSeconds};

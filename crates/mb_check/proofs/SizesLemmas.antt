@@ -13,7 +13,7 @@ use Rattle.mb_check.specs.Sizes.{greatest_with, info_by, least_with, no_sizes, w
 use Rattle.mb_check.specs.Totals.{below, capped, greatest, info_of, known, least, size_at, sizes_at, zoom_infos}
 use Rattle.mb_check.specs.declared.sizes.Sizes.{Sizes}
 use Rattle.mb_check.specs.declared.zoom_info.ZoomInfo.{ZoomInfo}
-use Rattle.mb_load.specs.Aggregate.{bytes_of}
+use Rattle.mb_loaded.specs.Aggregate.{bytes_of}
 use Rattle.mb_lists.specs.Entries.{blob_cell, place_at}
 use Rattle.mb_tables.specs.Tiles.{Place, TileSet}
 use Rattle.mb_tables.specs.declared.cell.Cell.{Cell}

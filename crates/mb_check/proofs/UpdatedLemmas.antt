@@ -10,10 +10,10 @@ use Rattle.mb_lists.specs.Entries.{text_cell}
 use Rattle.mb_lists.specs.Metadata.{Names, text_at}
 use Rattle.mb_load.proofs.AlgorithmNames.{name_back, name_known}
 use Rattle.mb_load.proofs.EditedFrom.{from_with_name}
-use Rattle.mb_load.specs.Aggregate.{aggregate}
+use Rattle.mb_loaded.specs.Aggregate.{aggregate}
 use Rattle.mb_load.specs.Committing.{MakesChanges}
-use Rattle.mb_load.specs.Edits.{with_name}
-use Rattle.mb_load.specs.Held.{Held, nothing_edited}
+use Rattle.mb_loaded.specs.Edits.{with_name}
+use Rattle.mb_loaded.specs.Held.{Held, nothing_edited}
 use Rattle.mb_load.specs.LoadedFrom.{IsLoadedFrom, NamesAlgorithm}
 use Rattle.mb_load.specs.StateOf.{state_of}
 use Rattle.mb_metadata.proofs.NameEditLemmas.{edits_committed}

@@ -2,7 +2,7 @@
 use Rattle.std.specs.Prelude.{Result, Ok}
 use Rattle.mb_check.specs.declared.patch_info.PatchFileInfo.{PatchFileInfo}
 use Rattle.mb_lists.specs.Metadata.{after_hash, agg_hash, before_hash}
-use Rattle.mb_load.specs.State.{State}
+use Rattle.mb_loaded.specs.State.{State}
 use Rattle.mb_tables.specs.declared.error.MbtError.{MbtError}
 
 -- its layout, its hash of all tiles and those of before and after a patch, and the kind of the patches that its tables describe

@@ -4,8 +4,8 @@ use Rattle.std.specs.FinMap.{entries, len}
 use Rattle.std.specs.List.{filter_map}
 use Rattle.mb_check.specs.declared.tile_counts.Summary.{Summary}
 use Rattle.mb_check.specs.declared.zoom_info.ZoomInfo.{ZoomInfo}
-use Rattle.mb_load.specs.Aggregate.{bytes_of}
-use Rattle.mb_load.specs.State.{State}
+use Rattle.mb_loaded.specs.Aggregate.{bytes_of}
+use Rattle.mb_loaded.specs.State.{State}
 use Rattle.mb_tables.specs.Tiles.{Place, TileSet}
 use Rattle.mb_tables.specs.declared.error.MbtError.{MbtError}
 

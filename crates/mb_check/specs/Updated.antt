@@ -1,12 +1,12 @@
 -- What storing the hash of all tiles makes of a set and of its tables.
 use Rattle.std.specs.Prelude.{◌≡◌, ℕ, codes, ◌||◌, Bool, false, not, List, [], ◌∷◌, Some, Ok, filter}
 use Rattle.std.specs.FinMap.{insert}
-use Rattle.mb_load.specs.Aggregate.{aggregate}
+use Rattle.mb_loaded.specs.Aggregate.{aggregate}
 use Rattle.mb_load.specs.Committed.{rows_under}
-use Rattle.mb_load.specs.Edits.{with_name}
-use Rattle.mb_load.specs.Held.{Held}
+use Rattle.mb_loaded.specs.Edits.{with_name}
+use Rattle.mb_loaded.specs.Held.{Held}
 use Rattle.mb_lists.specs.Metadata.{Names}
-use Rattle.mb_load.specs.State.{State}
+use Rattle.mb_loaded.specs.State.{State}
 use Rattle.mb_load.specs.StateOf.{state_of}
 use Rattle.mb_tables.specs.Cell.{cell_eq}
 use Rattle.mb_tables.specs.Table.{Tables, table_eq}

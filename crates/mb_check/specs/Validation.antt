@@ -4,7 +4,7 @@ use Rattle.mb_check.specs.AggregateHash.{checked_answer, own_hash_answer}
 use Rattle.mb_check.specs.Updated.{IsUpdated}
 use Rattle.mb_check.specs.declared.validation.AggHashType.{AggHashType}
 use Rattle.mb_check.specs.declared.validation.AggHashType.TheVariants.{Verify, Update, Off}
-use Rattle.mb_load.specs.State.{State}
+use Rattle.mb_loaded.specs.State.{State}
 use Rattle.mb_tables.specs.Table.{Tables}
 use Rattle.mb_tables.specs.declared.error.MbtError.{MbtError}
 

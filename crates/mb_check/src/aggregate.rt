@@ -7,7 +7,8 @@ ghost use Rattle.mb_lists.specs.Metadata.{text_at};
 ghost use Rattle.mb_tables.specs.Refusals.{Answers};
 
 use base_values::{OutOfMemory, TextVal};
-use mb_load::{Loaded, load};
+use mb_load::load;
+use mb_loaded::Loaded;
 use mb_store::{AGG_TILES_HASH, MbtError, MbtResult, TileStore};
 use std::alloc::Global;
 use tile_hash::HashAlgorithm;

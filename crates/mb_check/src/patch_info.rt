@@ -8,7 +8,8 @@ ghost use Rattle.mb_tables.specs.Refusals.{Answers};
 
 use crate::aggregate::text_of;
 use base_values::TextVal;
-use mb_load::{Loaded, load, test_base_hashes, test_patch_hashes};
+use mb_load::{load, test_base_hashes, test_patch_hashes};
+use mb_loaded::Loaded;
 use mb_store::{
     AGG_TILES_HASH, AGG_TILES_HASH_AFTER_APPLY, AGG_TILES_HASH_BEFORE_APPLY, MbtError, MbtResult,
     MbtType, PatchType, TileStore,

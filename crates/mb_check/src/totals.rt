@@ -13,7 +13,8 @@ ghost use Rattle.mb_tables.specs.Refusals.{Answers};
 use crate::sizes::{Sizes, greatest_with, least_with};
 use crate::{Summary, ZoomInfo, ZoomInfoList};
 use base_values::OutOfMemory;
-use mb_load::{Loaded, load};
+use mb_load::load;
+use mb_loaded::Loaded;
 use mb_store::{Cell, MbtError, MbtResult, TileStore};
 use std::alloc::Global;
 

@@ -4,10 +4,11 @@ ghost use Rattle.std.specs.Prelude.{◌≡◌, ◌≤◌, Some, true, IfOk, OnEr
 ghost use Rattle.mb_check.specs.AggregateHash.{own_hash_answer};
 ghost use Rattle.mb_load.specs.Begun.{IsBegun};
 ghost use Rattle.mb_check.specs.Updated.{IsUpdated, held_hashed};
-ghost use Rattle.mb_load.specs.Edits.{with_name};
+ghost use Rattle.mb_loaded.specs.Edits.{with_name};
 
 use base_values::{OutOfMemory, TextVal};
-use mb_load::{Editing, Loaded, commit_loaded, load};
+use mb_load::{commit_loaded, load};
+use mb_loaded::{Editing, Loaded};
 use mb_store::{AGG_TILES_HASH, Cell, HASH_ALGORITHM, MbtError, MbtResult, TileStore};
 use std::alloc::Global;
 

@@ -9,9 +9,9 @@ use Rattle.mb_copy.specs.declared.copier.MbtilesCopier.{MbtilesCopier}
 use Rattle.mb_edit.proofs.AnswerLemmas.{SomeTables, some_tables}
 use Rattle.mb_load.proofs.BegunLemmas.{begun_err, begun_ok}
 use Rattle.mb_load.specs.Begun.{IsBegun, begun}
-use Rattle.mb_load.specs.Held.{Held}
+use Rattle.mb_loaded.specs.Held.{Held}
 use Rattle.mb_load.specs.Loading.{Loads}
-use Rattle.mb_load.specs.State.{State}
+use Rattle.mb_loaded.specs.State.{State}
 use Rattle.mb_load.specs.StateOf.{state_of}
 use Rattle.mb_tables.specs.Refusals.{Answers, is_free, then}
 use Rattle.mb_tables.specs.Table.{Tables}

@@ -11,7 +11,7 @@ use Rattle.std.proofs.lemmas.Bool.{false≢true}
 use Rattle.std.proofs.lemmas.List.{drop_all, map-append, take_all, take_more}
 use Rattle.std.proofs.lemmas.Option.{get_or_from_slice_get, none-some, slice_get-get_or}
 use Rattle.mb_copy.specs.Clearing.{failing, removed_all}
-use Rattle.mb_load.specs.Held.{Held}
+use Rattle.mb_loaded.specs.Held.{Held}
 
 -- what a set is, it is in order again
 pub settled_as : {A E : Type 0} (f : Held → A) (r : Result Held E) (h : Held) (x : A) → f h ≡ x → IfOk r (λ l. l ≡ h) → IfOk r (λ l. f l ≡ x)

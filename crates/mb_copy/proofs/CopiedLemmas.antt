@@ -14,10 +14,10 @@ use Rattle.mb_edit.specs.PatchingOrder.{bytes_put, id_collides}
 use Rattle.mb_edit.specs.Put.{may_put, tiles_put}
 use Rattle.mb_lists.specs.Metadata.{Names}
 use Rattle.mb_lists.specs.declared.dates.Dates.{Dates}
-use Rattle.mb_load.specs.Empty.{empty_state}
-use Rattle.mb_load.specs.Held.{Held, fresh}
-use Rattle.mb_load.specs.Editable.{is_editable}
-use Rattle.mb_load.specs.State.{State}
+use Rattle.mb_loaded.specs.Empty.{empty_state}
+use Rattle.mb_loaded.specs.Held.{Held, fresh}
+use Rattle.mb_loaded.specs.Editable.{is_editable}
+use Rattle.mb_loaded.specs.State.{State}
 use Rattle.mb_tables.specs.Refusals.{Tests, unless}
 use Rattle.mb_tables.specs.Tiles.{TileSet, place_cmp}
 use Rattle.mb_tables.specs.declared.error.MbtError.{MbtError}

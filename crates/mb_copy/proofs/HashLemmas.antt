@@ -22,9 +22,9 @@ use Rattle.mb_edit.specs.PatchingOrder.{bytes_put, id_collides}
 use Rattle.mb_insert.specs.declared.mode.CopyDuplicateMode.{CopyDuplicateMode}
 use Rattle.mb_insert.specs.declared.mode.CopyDuplicateMode.TheVariants.{Override, Ignore, Abort}
 use Rattle.mb_lists.specs.Metadata.{agg_hash}
-use Rattle.mb_load.specs.Aggregate.{aggregate}
-use Rattle.mb_load.specs.Held.{Held, fresh}
-use Rattle.mb_load.specs.State.{State}
+use Rattle.mb_loaded.specs.Aggregate.{aggregate}
+use Rattle.mb_loaded.specs.Held.{Held, fresh}
+use Rattle.mb_loaded.specs.State.{State}
 use Rattle.mb_tables.specs.Tiles.{Place, place_cmp}
 use Rattle.mb_tables.specs.declared.error.MbtError.{MbtError}
 use Rattle.tile_hash.specs.Digest.{name_of}

@@ -22,11 +22,11 @@ use Rattle.mb_lists.specs.Metadata.{Names}
 use Rattle.mb_lists.specs.declared.dates.Dates.{Dates}
 use Rattle.mb_load.proofs.EditedFrom.{from_with_name}
 use Rattle.mb_load.proofs.NullFrom.{from_with_dates, from_with_null}
-use Rattle.mb_load.specs.FromLast.{from_last}
-use Rattle.mb_load.specs.Held.{Held}
-use Rattle.mb_load.specs.Editable.{AreTimes, IsOnBoard}
+use Rattle.mb_loaded.specs.FromLast.{from_last}
+use Rattle.mb_loaded.specs.Held.{Held}
+use Rattle.mb_loaded.specs.Editable.{AreTimes, IsOnBoard}
 use Rattle.mb_load.specs.LoadedFrom.{IsLoadedFrom}
-use Rattle.mb_load.specs.State.{State}
+use Rattle.mb_loaded.specs.State.{State}
 use Rattle.mb_tables.proofs.TileLemmas.{places_total}
 use Rattle.mb_tables.specs.Kind.{is_normalized}
 use Rattle.mb_tables.specs.Table.{Tables}

@@ -20,13 +20,13 @@ use Rattle.mb_edit.specs.Put.{state_put, tiles_put}
 use Rattle.mb_lists.proofs.NameLemmas.{names_antisymmetric}
 use Rattle.mb_lists.specs.Metadata.{Names}
 use Rattle.mb_lists.specs.declared.dates.Dates.{Dates}
-use Rattle.mb_load.proofs.DatedLemmas.{dates_are}
-use Rattle.mb_load.specs.Edits.{dates_for}
-use Rattle.mb_load.specs.FromLast.{from_last}
-use Rattle.mb_load.specs.Held.{Held}
+use Rattle.mb_loaded.proofs.DatedLemmas.{dates_are}
+use Rattle.mb_loaded.specs.Edits.{dates_for}
+use Rattle.mb_loaded.specs.FromLast.{from_last}
+use Rattle.mb_loaded.specs.Held.{Held}
 use Rattle.mb_load.specs.LoadedFrom.{AllOnBoard}
-use Rattle.mb_load.specs.Editable.{AreTimes, IsOnBoard}
-use Rattle.mb_load.specs.State.{State}
+use Rattle.mb_loaded.specs.Editable.{AreTimes, IsOnBoard}
+use Rattle.mb_loaded.specs.State.{State}
 use Rattle.mb_tables.specs.Tiles.{Place}
 
 -- names of a patch, one after another

@@ -29,10 +29,10 @@ use Rattle.mb_load.proofs.EmptyLemmas.{from_empty}
 use Rattle.mb_load.specs.Committed.{IsCommitted}
 use Rattle.mb_load.specs.Committing.{MakesChanges}
 use Rattle.mb_load.specs.EmptyTables.{AreEmpty}
-use Rattle.mb_load.specs.Held.{Edited, Held, fresh, nothing_edited}
-use Rattle.mb_load.specs.Editable.{AreTimes, IsOnBoard, is_editable}
+use Rattle.mb_loaded.specs.Held.{Edited, Held, fresh, nothing_edited}
+use Rattle.mb_loaded.specs.Editable.{AreTimes, IsOnBoard, is_editable}
 use Rattle.mb_load.specs.LoadedFrom.{IsLoadable, IsLoadedFrom, NamesAlgorithm}
-use Rattle.mb_load.specs.State.{State}
+use Rattle.mb_loaded.specs.State.{State}
 use Rattle.mb_load.specs.StateOf.{state_of}
 use Rattle.mb_store.specs.Store.{IsSound, created}
 use Rattle.mb_tables.proofs.TileLemmas.{places_total}

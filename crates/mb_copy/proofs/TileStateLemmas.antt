@@ -19,10 +19,10 @@ use Rattle.mb_edit.specs.Step.{contents_over}
 use Rattle.mb_lists.proofs.Places.{places_antisymmetric}
 use Rattle.mb_lists.specs.Entries.{is_cache}
 use Rattle.mb_lists.specs.declared.dates.Dates.{Dates}
-use Rattle.mb_load.specs.Edits.{dates_for, id_for}
-use Rattle.mb_load.specs.FromLast.{from_last}
-use Rattle.mb_load.specs.Held.{Edited, Held, nothing_edited}
-use Rattle.mb_load.specs.State.{State}
+use Rattle.mb_loaded.specs.Edits.{dates_for, id_for}
+use Rattle.mb_loaded.specs.FromLast.{from_last}
+use Rattle.mb_loaded.specs.Held.{Edited, Held, nothing_edited}
+use Rattle.mb_loaded.specs.State.{State}
 use Rattle.mb_tables.proofs.TileLemmas.{places_total}
 use Rattle.mb_tables.specs.Kind.{is_normalized}
 use Rattle.mb_tables.specs.Tiles.{Place, TileSet, place_cmp}

@@ -8,8 +8,8 @@ use Rattle.std.specs.FinMap.{FinMap, IsAntisymmetric, find, get}
 use Rattle.std.specs.FinMap.Entries.{below_all, is_sorted}
 use Rattle.mb_edit.proofs.PatchedLemmas.{first, none_below, second}
 use Rattle.mb_lists.proofs.Places.{places_antisymmetric}
-use Rattle.mb_load.proofs.EditMaps.{get-with_value}
-use Rattle.mb_load.specs.Edits.{with_value}
+use Rattle.mb_loaded.proofs.EditMaps.{get-with_value}
+use Rattle.mb_loaded.specs.Edits.{with_value}
 use Rattle.mb_tables.proofs.TileLemmas.{places_total}
 use Rattle.mb_tables.specs.Tiles.{Place, place_cmp}
 

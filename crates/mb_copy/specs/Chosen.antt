@@ -12,7 +12,7 @@ use Rattle.mb_insert.specs.declared.mode.CopyDuplicateMode.{CopyDuplicateMode}
 use Rattle.mb_insert.specs.declared.mode.CopyDuplicateMode.TheVariants.{Override, Ignore, Abort}
 use Rattle.mb_lists.specs.Metadata.{Names}
 use Rattle.mb_lists.specs.declared.dates.Dates.{Dates}
-use Rattle.mb_load.specs.State.{State}
+use Rattle.mb_loaded.specs.State.{State}
 use Rattle.mb_tables.specs.Kind.{is_normalized}
 use Rattle.mb_tables.specs.Refusals.{unless}
 use Rattle.mb_tables.specs.Tiles.{Place, TileSet, place_cmp}

@@ -7,8 +7,8 @@ use Rattle.mb_copy.specs.declared.copier.MbtilesCopier.{MbtilesCopier}
 use Rattle.mb_lists.specs.Metadata.{Names}
 use Rattle.mb_lists.specs.declared.dates.Dates.{Dates}
 use Rattle.mb_load.specs.LoadedFrom.{AllOnBoard}
-use Rattle.mb_load.specs.Editable.{AreTimes}
-use Rattle.mb_load.specs.State.{State}
+use Rattle.mb_loaded.specs.Editable.{AreTimes}
+use Rattle.mb_loaded.specs.State.{State}
 use Rattle.mb_tables.specs.Tiles.{Place, TileSet}
 
 -- keys are removed, one after another

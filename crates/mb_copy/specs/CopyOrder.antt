@@ -7,10 +7,10 @@ use Rattle.mb_copy.specs.Target.{asked_type, kind_wrong, made_type, mode_of, wan
 use Rattle.mb_copy.specs.declared.copier.MbtilesCopier.{MbtilesCopier}
 use Rattle.mb_edit.specs.PatchingOrder.{bytes_put, id_collides}
 use Rattle.mb_lists.specs.Metadata.{Names, agg_hash}
-use Rattle.mb_load.specs.Aggregate.{aggregate}
-use Rattle.mb_load.specs.Empty.{empty_state}
-use Rattle.mb_load.specs.Editable.{is_editable}
-use Rattle.mb_load.specs.State.{State}
+use Rattle.mb_loaded.specs.Aggregate.{aggregate}
+use Rattle.mb_loaded.specs.Empty.{empty_state}
+use Rattle.mb_loaded.specs.Editable.{is_editable}
+use Rattle.mb_loaded.specs.State.{State}
 use Rattle.mb_load.specs.StateOf.{state_of}
 use Rattle.mb_tables.specs.Refusals.{first_refusal, then, unless}
 use Rattle.mb_tables.specs.Table.{Tables}

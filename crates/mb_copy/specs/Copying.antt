@@ -9,8 +9,8 @@ use Rattle.mb_copy.specs.Target.{made_type}
 use Rattle.mb_copy.specs.declared.copier.MbtilesCopier.{MbtilesCopier}
 use Rattle.mb_load.specs.Begun.{begun}
 use Rattle.mb_load.specs.Committed.{IsCommitted}
-use Rattle.mb_load.specs.Held.{fresh}
-use Rattle.mb_load.specs.State.{State}
+use Rattle.mb_loaded.specs.Held.{fresh}
+use Rattle.mb_loaded.specs.State.{State}
 use Rattle.mb_load.specs.StateOf.{state_of}
 use Rattle.mb_store.specs.Store.{created}
 use Rattle.mb_tables.specs.Refusals.{Answers, is_free}

@@ -6,7 +6,7 @@ use Rattle.mb_copy.specs.PatchOrder.{may_be_patch, may_be_patched, may_copy_patc
 use Rattle.mb_copy.specs.PatchedSource.{source_patched}
 use Rattle.mb_copy.specs.declared.copier.MbtilesCopier.{MbtilesCopier}
 use Rattle.mb_load.specs.Begun.{begun}
-use Rattle.mb_load.specs.State.{State}
+use Rattle.mb_loaded.specs.State.{State}
 use Rattle.mb_load.specs.StateOf.{state_of}
 use Rattle.mb_tables.specs.Refusals.{Answers}
 use Rattle.mb_tables.specs.Table.{Tables}

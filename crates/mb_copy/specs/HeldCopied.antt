@@ -7,10 +7,10 @@ use Rattle.mb_copy.specs.declared.copier.MbtilesCopier.{MbtilesCopier}
 use Rattle.mb_lists.specs.Entries.{is_cache}
 use Rattle.mb_lists.specs.Metadata.{Names}
 use Rattle.mb_lists.specs.declared.dates.Dates.{Dates}
-use Rattle.mb_load.specs.Edits.{with_dates, with_name, with_null}
-use Rattle.mb_load.specs.FromLast.{from_last, tiles_put}
-use Rattle.mb_load.specs.Held.{Held}
-use Rattle.mb_load.specs.State.{State}
+use Rattle.mb_loaded.specs.Edits.{with_dates, with_name, with_null}
+use Rattle.mb_loaded.specs.FromLast.{from_last, tiles_put}
+use Rattle.mb_loaded.specs.Held.{Held}
+use Rattle.mb_loaded.specs.State.{State}
 use Rattle.mb_tables.specs.Kind.{is_normalized}
 use Rattle.mb_tables.specs.Tiles.{Place, TileSet, place_cmp}
 

@@ -10,8 +10,8 @@ use Rattle.mb_copy.specs.Target.{wanted_type}
 use Rattle.mb_copy.specs.declared.copier.MbtilesCopier.{MbtilesCopier}
 use Rattle.mb_edit.specs.PatchingOrder.{bytes_put, can_be_patched, id_collides}
 use Rattle.mb_lists.specs.Metadata.{after_hash, agg_hash, before_hash}
-use Rattle.mb_load.specs.Aggregate.{aggregate}
-use Rattle.mb_load.specs.State.{State}
+use Rattle.mb_loaded.specs.Aggregate.{aggregate}
+use Rattle.mb_loaded.specs.State.{State}
 use Rattle.mb_load.specs.StateOf.{state_of}
 use Rattle.mb_tables.specs.Refusals.{first_refusal, then, unless}
 use Rattle.mb_tables.specs.Table.{Tables}

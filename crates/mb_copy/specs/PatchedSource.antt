@@ -5,9 +5,9 @@ use Rattle.std.specs.Str.{bytes_eq}
 use Rattle.mb_edit.specs.Patched.{is_null_at, over}
 use Rattle.mb_edit.specs.Put.{state_put}
 use Rattle.mb_lists.specs.Metadata.{Names}
-use Rattle.mb_load.specs.Edits.{removed_name, with_name}
-use Rattle.mb_load.specs.Held.{Held}
-use Rattle.mb_load.specs.State.{State}
+use Rattle.mb_loaded.specs.Edits.{removed_name, with_name}
+use Rattle.mb_loaded.specs.Held.{Held}
+use Rattle.mb_loaded.specs.State.{State}
 
 -- the hashes of all tiles, by which patches are kept in order
 abbrev pub is_hash_name : List ℕ → Bool

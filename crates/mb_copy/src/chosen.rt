@@ -10,7 +10,7 @@ use crate::target::mode_of;
 use crate::wanted::is_chosen;
 use crate::{CopyDuplicateMode, MbtilesCopier};
 use base_values::{OutOfMemory, TextVal};
-use mb_load::{Editing, Loaded};
+use mb_loaded::{Editing, Loaded};
 use mb_store::{Cell, HASH_ALGORITHM};
 use std::alloc::Global;
 use tile_ids::TileCoord;

@@ -9,7 +9,8 @@ ghost use Rattle.mb_tables.specs.Refusals.{is_free};
 ghost use Rattle.mb_tables.specs.Schema.{set_tables, started_as};
 ghost use Rattle.mb_tables.specs.Table.{Tables};
 
-use mb_load::{Loaded, commit_loaded};
+use mb_load::commit_loaded;
+use mb_loaded::Loaded;
 use mb_store::{MbtError, MbtResult, TileStore, init_mbtiles_schema};
 use std::alloc::Global;
 

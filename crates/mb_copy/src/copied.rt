@@ -4,7 +4,7 @@ ghost use Rattle.mb_copy.specs.Clearing.{IsSource};
 ghost use Rattle.mb_copy.specs.CopyOrder.{may_copy};
 ghost use Rattle.mb_copy.specs.HeldCopied.{IsPutIn, held_completed, held_copied, held_with, nulls_put};
 ghost use Rattle.mb_edit.specs.PatchingOrder.{bytes_put, id_collides};
-ghost use Rattle.mb_load.specs.Editable.{is_editable};
+ghost use Rattle.mb_loaded.specs.Editable.{is_editable};
 ghost use Rattle.mb_tables.specs.Refusals.{Tests};
 
 use crate::MbtilesCopier;
@@ -14,7 +14,7 @@ use crate::names::with_names;
 use crate::refusals::test_duplicates;
 use base_values::OutOfMemory;
 use mb_edit::put_tiles;
-use mb_load::Loaded;
+use mb_loaded::Loaded;
 use mb_store::MbtResult;
 use std::alloc::Global;
 

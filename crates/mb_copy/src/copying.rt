@@ -8,7 +8,7 @@ ghost use Rattle.mb_copy.specs.Copying.{IsAnew, IsAnswered, IsCopied, IsCopiedBy
 ghost use Rattle.mb_copy.specs.HeldCopied.{held_copied};
 ghost use Rattle.mb_copy.specs.PatchOrder.{may_copy_anew};
 ghost use Rattle.mb_load.specs.Begun.{IsBegun};
-ghost use Rattle.mb_load.specs.Held.{fresh};
+ghost use Rattle.mb_loaded.specs.Held.{fresh};
 ghost use Rattle.mb_store.specs.Kept.{FaultsCounted, Keeps, ReadsOnly};
 ghost use Rattle.mb_tables.specs.Refusals.{Answers, Tests};
 
@@ -20,7 +20,8 @@ use crate::refusals::{test_kind, test_mode, test_valid};
 use crate::target::{made_type, wanted_algorithm};
 use base_values::TextVal;
 use mb_edit::test_editable;
-use mb_load::{Loaded, commit_loaded, load};
+use mb_load::{commit_loaded, load};
+use mb_loaded::Loaded;
 use mb_store::{MbtError, MbtResult, TileStore, is_empty_database};
 use std::alloc::Global;
 

@@ -14,7 +14,8 @@ use crate::MbtilesCopier;
 use crate::copying::copy_anew;
 use crate::patch_order::{expected_hash, test_patch, test_source};
 use crate::patched_source::patched_source;
-use mb_load::{Loaded, load};
+use mb_load::load;
+use mb_loaded::Loaded;
 use mb_store::{MbtError, MbtResult, TileStore, is_empty_database};
 use std::alloc::Global;
 

@@ -3,12 +3,12 @@ ghost use Rattle.std.specs.Prelude.{◌≡◌, ◌<◌, IfOk, IfSome, OnOk, slic
 ghost use Rattle.std.specs.FinMap.{contains_key, entries, get, len};
 ghost use Rattle.mb_copy.specs.HeldCopied.{IsPutIn, all_times_put, null_put, nulls_put, time_put, times_at};
 ghost use Rattle.mb_lists.specs.Entries.{place_at};
-ghost use Rattle.mb_load.specs.FromLast.{from_last};
+ghost use Rattle.mb_loaded.specs.FromLast.{from_last};
 ghost use Rattle.mb_tables.specs.Tiles.{Place};
 ghost use Rattle.mb_tables.specs.declared.kind.MbtType.TheVariants.{Cache};
 
 use base_values::OutOfMemory;
-use mb_load::{Editing, Loaded};
+use mb_loaded::{Editing, Loaded};
 use mb_store::{Cell, MbtType};
 use std::alloc::Global;
 use tile_ids::TileCoord;

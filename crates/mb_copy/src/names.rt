@@ -4,13 +4,13 @@ ghost use Rattle.std.specs.FinMap.{entries, len};
 ghost use Rattle.mb_copy.specs.Copied.{stores_aggregate, text_entries};
 ghost use Rattle.mb_copy.specs.CopyWords.{copies_metadata};
 ghost use Rattle.mb_copy.specs.HeldCopied.{held_with_names, name_put};
-ghost use Rattle.mb_load.specs.Aggregate.{aggregate};
-ghost use Rattle.mb_load.specs.FromLast.{from_last};
+ghost use Rattle.mb_loaded.specs.Aggregate.{aggregate};
+ghost use Rattle.mb_loaded.specs.FromLast.{from_last};
 ghost use Rattle.tile_hash.specs.Digest.{name_of};
 
 use crate::MbtilesCopier;
 use base_values::{OutOfMemory, TextVal};
-use mb_load::{Editing, Loaded};
+use mb_loaded::{Editing, Loaded};
 use mb_store::{AGG_TILES_HASH, Cell, HASH_ALGORITHM};
 use std::alloc::Global;
 use tile_hash::HashAlgorithm;

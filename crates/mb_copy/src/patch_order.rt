@@ -3,7 +3,7 @@ ghost use Rattle.std.specs.Prelude.{◌≡◌, IfOk, Some, true};
 ghost use Rattle.mb_copy.specs.Copied.{stores_aggregate};
 ghost use Rattle.mb_copy.specs.PatchOrder.{expected_hash, hash_off, may_be_patch, may_be_patched, other_hash};
 ghost use Rattle.mb_lists.specs.Metadata.{agg_hash};
-ghost use Rattle.mb_load.specs.Aggregate.{aggregate};
+ghost use Rattle.mb_loaded.specs.Aggregate.{aggregate};
 ghost use Rattle.mb_tables.specs.Refusals.{Tests};
 
 use crate::MbtilesCopier;
@@ -12,7 +12,7 @@ use crate::refusals::test_valid;
 use crate::target::wanted_type;
 use base_values::{OutOfMemory, TextVal};
 use mb_edit::{test_hashes_of_base, test_hashes_of_patch, test_patchable, test_whole_tiles};
-use mb_load::Loaded;
+use mb_loaded::Loaded;
 use mb_store::{AGG_TILES_HASH, AGG_TILES_HASH_AFTER_APPLY, MbtError, MbtResult};
 use std::alloc::Global;
 

@@ -2,10 +2,10 @@
 ghost use Rattle.std.specs.Prelude.{◌≡◌, ◌<◌, IfOk, IfSome, OnOk, slice_get};
 ghost use Rattle.std.specs.FinMap.{entries, len};
 ghost use Rattle.mb_copy.specs.PatchedSource.{hashes_removed, name_patched, source_patched};
-ghost use Rattle.mb_load.specs.FromLast.{from_last};
+ghost use Rattle.mb_loaded.specs.FromLast.{from_last};
 
 use base_values::{OutOfMemory, TextVal};
-use mb_load::{Editing, Loaded};
+use mb_loaded::{Editing, Loaded};
 use mb_store::{AGG_TILES_HASH, AGG_TILES_HASH_AFTER_APPLY, AGG_TILES_HASH_BEFORE_APPLY, Cell};
 use std::alloc::Global;
 

@@ -5,7 +5,7 @@ ghost use Rattle.std.specs.List.{list_any};
 ghost use Rattle.mb_copy.specs.Chosen.{duplicates, has_both, name_there, tile_there};
 ghost use Rattle.mb_copy.specs.CopyOrder.{hash_wrong, invalid, mode_missing};
 ghost use Rattle.mb_copy.specs.Target.{asked_type, kind_wrong, mode_of};
-ghost use Rattle.mb_load.specs.Aggregate.{aggregate};
+ghost use Rattle.mb_loaded.specs.Aggregate.{aggregate};
 ghost use Rattle.mb_lists.specs.Metadata.{agg_hash};
 ghost use Rattle.mb_tables.specs.Refusals.{Tests};
 
@@ -13,7 +13,7 @@ use crate::chosen::is_copied_name;
 use crate::target::{asked_type, kind_number, mode_of};
 use crate::wanted::is_chosen;
 use crate::{CopyDuplicateMode, MbtilesCopier};
-use mb_load::Loaded;
+use mb_loaded::Loaded;
 use mb_store::{AGG_TILES_HASH, MbtError, MbtResult, MbtType};
 use std::alloc::Global;
 

@@ -16,7 +16,7 @@ use Rattle.mb_lists.proofs.NameLemmas.{names_antisymmetric}
 use Rattle.mb_constraints.specs.Algorithm.{algorithm_by, unknown_name}
 use Rattle.mb_load.specs.LoadedFrom.{NamesAlgorithm}
 use Rattle.mb_lists.specs.Metadata.{Names, text_at}
-use Rattle.mb_load.specs.State.{State}
+use Rattle.mb_loaded.specs.State.{State}
 
 -- whether two names are equal
 abbrev same : List ℕ → List ℕ → Bool

@@ -19,13 +19,13 @@ use Rattle.mb_edit.proofs.StepLemmas.{step_made}
 use Rattle.mb_load.proofs.CommitLemmas.{committed, places_stand}
 use Rattle.mb_load.proofs.FrameLemmas.{null_ids_stay, other_tables_stay}
 use Rattle.mb_load.proofs.StateAgain.{state_again}
-use Rattle.mb_load.specs.Changing.{AreChangesOf, cells_for, content_table, front, tile_key, tile_row}
+use Rattle.mb_loaded.specs.Changing.{AreChangesOf, cells_for, content_table, front, tile_key, tile_row}
 use Rattle.mb_load.specs.Committed.{is_set_table}
-use Rattle.mb_load.specs.Edits.{dates_for, id_for}
-use Rattle.mb_load.specs.Held.{Edited, Held, nothing_edited}
+use Rattle.mb_loaded.specs.Edits.{dates_for, id_for}
+use Rattle.mb_loaded.specs.Held.{Edited, Held, nothing_edited}
 use Rattle.mb_load.specs.LoadedFrom.{AllOnBoard, IsLoadable, IsLoadedFrom, NamesAlgorithm}
-use Rattle.mb_load.specs.Editable.{IsOnBoard}
-use Rattle.mb_load.specs.State.{State}
+use Rattle.mb_loaded.specs.Editable.{IsOnBoard}
+use Rattle.mb_loaded.specs.State.{State}
 use Rattle.mb_load.specs.StateOf.{state_of}
 use Rattle.mb_lists.specs.declared.dates.Dates.{Dates}
 use Rattle.mb_store.specs.Committing.{Commits}

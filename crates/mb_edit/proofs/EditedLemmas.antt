@@ -5,9 +5,9 @@ use Rattle.std.specs.Ordering.{eq_by_cmp}
 use Rattle.std.specs.FinMap.{contains_key, entries, find, get, get-entries, get-insert, insert}
 use Rattle.mb_edit.specs.HeldPatched.{from_last, held_patched, name_patched, names_patched, null_cleared, tile_patched, tiles_patched}
 use Rattle.mb_edit.specs.Patched.{landed}
-use Rattle.mb_load.specs.Edits.{with_name}
-use Rattle.mb_load.specs.Held.{Held}
-use Rattle.mb_load.specs.State.{State}
+use Rattle.mb_loaded.specs.Edits.{with_name}
+use Rattle.mb_loaded.specs.Held.{Held}
+use Rattle.mb_loaded.specs.State.{State}
 use Rattle.mb_tables.proofs.TileLemmas.{places_total}
 use Rattle.mb_tables.specs.Tiles.{Place, place_cmp}
 

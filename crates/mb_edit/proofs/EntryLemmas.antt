@@ -8,7 +8,7 @@ use Rattle.std.proofs.lemmas.Slice.Eq.{bytes_eq-Decides}
 use Rattle.mb_edit.specs.Collision.{is_other}
 use Rattle.mb_edit.specs.Marks.{Entries, bytes_of}
 use Rattle.mb_lists.specs.Entries.{blob_cell, text_cell}
-use Rattle.mb_load.specs.GivenIds.{cell_id}
+use Rattle.mb_loaded.specs.GivenIds.{cell_id}
 use Rattle.mb_tables.specs.CellKinds.{is_text}
 use Rattle.mb_tables.proofs.CellLemmas.{cell_eq-Decides}
 use Rattle.mb_tables.specs.Cell.{cell_eq}

@@ -6,9 +6,9 @@ use Rattle.std.proofs.lemmas.Bool.{false≢true}
 use Rattle.std.proofs.lemmas.List.Folds.{list_any_none}
 use Rattle.mb_edit.specs.Applying.{stands_in}
 use Rattle.mb_load.proofs.PutRowLemmas.{front_read}
-use Rattle.mb_load.specs.Changing.{AreChangesOf, front, name_edited, place_edited}
-use Rattle.mb_load.specs.Held.{Held}
-use Rattle.mb_load.specs.Editable.{IsOnBoard}
+use Rattle.mb_loaded.specs.Changing.{AreChangesOf, front, name_edited, place_edited}
+use Rattle.mb_loaded.specs.Held.{Held}
+use Rattle.mb_loaded.specs.Editable.{IsOnBoard}
 use Rattle.mb_store.proofs.Committed.{others_stay}
 use Rattle.mb_store.specs.Committing.{Commits}
 use Rattle.mb_store.specs.declared.change.Change.{Change}

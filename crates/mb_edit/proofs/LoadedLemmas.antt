@@ -16,11 +16,11 @@ use Rattle.mb_edit.proofs.MarkLemmas.{rest_apart}
 use Rattle.mb_edit.proofs.PassedLemmas.{none_collide, passed}
 use Rattle.mb_edit.proofs.StateLemmas.{contents_same, tiles_state, with_tiles}
 use Rattle.mb_load.proofs.EditedFrom.{from_only_referenced, from_removed_name, from_removed_tile, from_with_name, from_with_tile}
-use Rattle.mb_load.specs.Edits.{with_name}
-use Rattle.mb_load.specs.Held.{Held}
+use Rattle.mb_loaded.specs.Edits.{with_name}
+use Rattle.mb_loaded.specs.Held.{Held}
 use Rattle.mb_load.specs.LoadedFrom.{AllOnBoard, IsLoadedFrom}
-use Rattle.mb_load.specs.Editable.{IsFree, IsOnBoard, is_editable}
-use Rattle.mb_load.specs.State.{State}
+use Rattle.mb_loaded.specs.Editable.{IsFree, IsOnBoard, is_editable}
+use Rattle.mb_loaded.specs.State.{State}
 use Rattle.mb_tables.proofs.TileLemmas.{places_total}
 use Rattle.mb_tables.specs.Kind.{is_normalized}
 use Rattle.mb_tables.specs.Table.{Tables}

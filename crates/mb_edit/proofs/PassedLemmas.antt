@@ -8,10 +8,10 @@ use Rattle.mb_edit.specs.PatchingOrder.{bytes_put, can_be_patched, id_collides, 
 use Rattle.mb_lists.specs.Metadata.{after_hash, agg_hash, before_hash}
 use Rattle.mb_constraints.specs.DiffHashes.{base_refused, patch_refused, unless_forced}
 pub use Rattle.mb_load.proofs.RowsPass.{holds}
-use Rattle.mb_load.specs.HeldCode.{algorithm_at, algorithm_back, algorithm_number}
-use Rattle.mb_load.specs.Editable.{is_editable}
+use Rattle.mb_loaded.specs.HeldCode.{algorithm_at, algorithm_back, algorithm_number}
+use Rattle.mb_loaded.specs.Editable.{is_editable}
 use Rattle.mb_tables.specs.Refusals.{first_refusal, unless}
-use Rattle.mb_load.specs.State.{State}
+use Rattle.mb_loaded.specs.State.{State}
 use Rattle.mb_tables.specs.declared.error.MbtError.{MbtError}
 use Rattle.mb_tables.specs.declared.error.MbtError.TheVariants.{IdCollision, UnsupportedCopyOperation, UnsupportedHashAlgorithm, UnsupportedPatchType}
 use Rattle.mb_tables.specs.declared.kind.MbtType.{MbtType}

@@ -9,11 +9,11 @@ use Rattle.mb_edit.specs.Put.{may_put, state_put, tiles_put}
 use Rattle.mb_edit.proofs.LoadedLemmas.{AreApart, tiles_loaded}
 use Rattle.mb_edit.proofs.PassedLemmas.{holds, none_collide, pass_first, pass_rest}
 use Rattle.mb_edit.proofs.StateLemmas.{contents_same, steps_patched, tiles_state, with_tiles}
-use Rattle.mb_load.specs.Edits.{dates_for, id_for}
-use Rattle.mb_load.specs.Held.{Held}
+use Rattle.mb_loaded.specs.Edits.{dates_for, id_for}
+use Rattle.mb_loaded.specs.Held.{Held}
 use Rattle.mb_load.specs.LoadedFrom.{IsLoadedFrom, NamesAlgorithm}
-use Rattle.mb_load.specs.Editable.{IsOnBoard, is_editable}
-use Rattle.mb_load.specs.State.{State}
+use Rattle.mb_loaded.specs.Editable.{IsOnBoard, is_editable}
+use Rattle.mb_loaded.specs.State.{State}
 use Rattle.mb_tables.specs.Kind.{is_normalized}
 use Rattle.mb_tables.specs.Refusals.{unless}
 use Rattle.mb_tables.specs.Table.{Tables}

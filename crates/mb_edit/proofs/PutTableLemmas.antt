@@ -22,13 +22,13 @@ use Rattle.mb_load.proofs.CommitLemmas.{committed, places_stand}
 use Rattle.mb_load.proofs.FrameLemmas.{other_tables_stay}
 use Rattle.mb_load.proofs.LoadsFrom.{key_first}
 use Rattle.mb_load.proofs.StateAgain.{state_again}
-use Rattle.mb_load.specs.Changing.{AreChangesOf, cells_for, content_table, front, id_edited, name_edited, tile_key, tile_row}
+use Rattle.mb_loaded.specs.Changing.{AreChangesOf, cells_for, content_table, front, id_edited, name_edited, tile_key, tile_row}
 use Rattle.mb_load.specs.Committing.{MakesChanges}
-use Rattle.mb_load.specs.Edits.{dates_for, id_for, with_key}
-use Rattle.mb_load.specs.Held.{Edited, Held, nothing_edited}
+use Rattle.mb_loaded.specs.Edits.{dates_for, id_for, with_key}
+use Rattle.mb_loaded.specs.Held.{Edited, Held, nothing_edited}
 use Rattle.mb_load.specs.LoadedFrom.{IsLoadedFrom, NamesAlgorithm}
-use Rattle.mb_load.specs.Editable.{IsOnBoard}
-use Rattle.mb_load.specs.State.{State}
+use Rattle.mb_loaded.specs.Editable.{IsOnBoard}
+use Rattle.mb_loaded.specs.State.{State}
 use Rattle.mb_lists.specs.declared.dates.Dates.{Dates}
 use Rattle.mb_store.specs.Committing.{Commits}
 use Rattle.mb_store.specs.Store.{IsSound}

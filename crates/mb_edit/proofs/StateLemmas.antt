@@ -17,10 +17,10 @@ use Rattle.mb_edit.proofs.PatchedLemmas.{first, get-meta_patched, get-over, get-
 use Rattle.mb_lists.proofs.NameLemmas.{names_antisymmetric}
 use Rattle.mb_lists.proofs.Places.{places_antisymmetric}
 use Rattle.mb_lists.specs.Contents.{Contents}
-use Rattle.mb_load.specs.Edits.{dates_for, id_for, is_named, with_content, with_name, with_value}
-use Rattle.mb_load.specs.Held.{Held}
+use Rattle.mb_loaded.specs.Edits.{dates_for, id_for, is_named, with_content, with_name, with_value}
+use Rattle.mb_loaded.specs.Held.{Held}
 use Rattle.mb_lists.specs.Metadata.{Names}
-use Rattle.mb_load.specs.State.{State}
+use Rattle.mb_loaded.specs.State.{State}
 use Rattle.mb_tables.proofs.CellLemmas.{cell_cmp-IsAntisymmetric}
 use Rattle.mb_tables.proofs.TileLemmas.{places_total}
 use Rattle.mb_tables.specs.CellOrder.{cells_total}

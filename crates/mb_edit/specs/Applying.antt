@@ -2,10 +2,10 @@
 use Rattle.std.specs.Prelude.{ℕ, ◌≡◌, ◌++◌, Bool, false, not, true, List, [], ◌∷◌, Some, None, Result, Ok, Err, filter, is_some, option_and_then}
 use Rattle.std.specs.FinMap.{FinMap, get}
 use Rattle.mb_edit.specs.Step.{step}
-use Rattle.mb_load.specs.Changing.{cells_for, content_table, front, tile_key}
+use Rattle.mb_loaded.specs.Changing.{cells_for, content_table, front, tile_key}
 use Rattle.mb_load.specs.Committed.{is_set_table}
-use Rattle.mb_load.specs.Edits.{dates_for, id_for}
-use Rattle.mb_load.specs.State.{State}
+use Rattle.mb_loaded.specs.Edits.{dates_for, id_for}
+use Rattle.mb_loaded.specs.State.{State}
 use Rattle.mb_load.specs.StateOf.{state_of}
 use Rattle.mb_tables.specs.Cell.{is_null}
 use Rattle.mb_tables.specs.Kind.{tile_table}

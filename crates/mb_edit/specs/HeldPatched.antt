@@ -2,10 +2,10 @@
 use Rattle.std.specs.Prelude.{ℕ, List, Option, Some, None}
 use Rattle.std.specs.FinMap.{entries}
 use Rattle.mb_edit.specs.Patched.{landed}
-use Rattle.mb_load.specs.Edits.{only_referenced, removed_name, with_name}
-pub use Rattle.mb_load.specs.FromLast.{from_last, tile_patched, tiles_put}
-use Rattle.mb_load.specs.Held.{Held}
-use Rattle.mb_load.specs.State.{State}
+use Rattle.mb_loaded.specs.Edits.{only_referenced, removed_name, with_name}
+pub use Rattle.mb_loaded.specs.FromLast.{from_last, tile_patched, tiles_put}
+use Rattle.mb_loaded.specs.Held.{Held}
+use Rattle.mb_loaded.specs.State.{State}
 
 -- a name of a patch: its value is put under its target
 abbrev pub name_patched : Held → List ℕ × Option (List ℕ) → Held

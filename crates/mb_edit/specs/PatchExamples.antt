@@ -9,7 +9,7 @@ use Rattle.mb_edit.specs.Patched.{landed}
 use Rattle.mb_edit.specs.PatchingOrder.{may_patch}
 use Rattle.mb_lists.specs.Contents.{Contents}
 use Rattle.mb_lists.specs.Metadata.{text_at}
-use Rattle.mb_load.specs.State.{State}
+use Rattle.mb_loaded.specs.State.{State}
 use Rattle.mb_tables.specs.CellOrder.{cells_total}
 use Rattle.mb_tables.specs.declared.cell.Cell.{Cell}
 use Rattle.mb_tables.specs.declared.cell.Cell.TheVariants.{Null, Text, Blob}

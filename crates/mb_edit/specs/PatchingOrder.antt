@@ -5,10 +5,10 @@ use Rattle.std.specs.Str.{bytes_eq}
 use Rattle.mb_edit.specs.Collision.{collision}
 use Rattle.mb_lists.specs.Contents.{Contents}
 use Rattle.mb_constraints.specs.DiffHashes.{base_refused, patch_refused, unless_forced}
-use Rattle.mb_load.specs.HeldCode.{algorithm_number}
+use Rattle.mb_loaded.specs.HeldCode.{algorithm_number}
 use Rattle.mb_lists.specs.Metadata.{after_hash, agg_hash, before_hash}
 use Rattle.mb_tables.specs.Refusals.{first_refusal, unless}
-use Rattle.mb_load.specs.State.{State}
+use Rattle.mb_loaded.specs.State.{State}
 use Rattle.mb_tables.specs.Tiles.{TileSet}
 use Rattle.mb_tables.specs.declared.error.MbtError.{MbtError}
 use Rattle.mb_tables.specs.declared.error.MbtError.TheVariants.{AggHashMismatchWithDiff, UnsupportedCopyOperation, UnsupportedHashAlgorithm, UnsupportedPatchType}

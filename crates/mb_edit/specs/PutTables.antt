@@ -5,10 +5,10 @@ use Rattle.std.specs.List.{list_any}
 use Rattle.mb_edit.specs.Applying.{put_row, stands_in}
 use Rattle.mb_edit.specs.PatchingOrder.{bytes_put}
 use Rattle.mb_edit.specs.Put.{state_put}
-use Rattle.mb_load.specs.Changing.{content_table, tile_key}
+use Rattle.mb_loaded.specs.Changing.{content_table, tile_key}
 use Rattle.mb_load.specs.Committed.{rows_under}
-use Rattle.mb_load.specs.Edits.{id_for}
-use Rattle.mb_load.specs.State.{State}
+use Rattle.mb_loaded.specs.Edits.{id_for}
+use Rattle.mb_loaded.specs.State.{State}
 use Rattle.mb_load.specs.StateOf.{state_of}
 use Rattle.mb_tables.specs.Cell.{cell_eq}
 use Rattle.mb_tables.specs.Kind.{is_normalized, tile_table}

@@ -4,9 +4,9 @@ use Rattle.std.specs.FinMap.{retain_keys}
 use Rattle.mb_edit.specs.Patched.{meta_patched, over, patched, patched_by}
 use Rattle.mb_edit.specs.PatchingOrder.{bytes_put, may_patch}
 use Rattle.mb_lists.specs.Contents.{Contents}
-use Rattle.mb_load.specs.Edits.{dates_for, id_for, is_named}
+use Rattle.mb_loaded.specs.Edits.{dates_for, id_for, is_named}
 use Rattle.mb_load.specs.Loading.{due_by}
-use Rattle.mb_load.specs.State.{State}
+use Rattle.mb_loaded.specs.State.{State}
 use Rattle.mb_tables.specs.declared.cell.Cell.{Cell}
 use Rattle.mb_tables.specs.declared.cell.Cell.TheVariants.{Blob}
 use Rattle.mb_tables.specs.declared.error.MbtError.{MbtError}

@@ -8,7 +8,7 @@ ghost use Rattle.std.specs.Str.{bytes_eq};
 ghost use Rattle.mb_edit.specs.Collision.{collides, collision, is_other};
 ghost use Rattle.mb_edit.specs.Marks.{AreMarked, bytes_of};
 ghost use Rattle.mb_edit.specs.PatchingOrder.{bytes_put, id_collides};
-ghost use Rattle.mb_load.specs.GivenIds.{ids_given};
+ghost use Rattle.mb_loaded.specs.GivenIds.{ids_given};
 ghost use Rattle.mb_tables.specs.Kind.{is_normalized};
 ghost use Rattle.mb_tables.specs.Refusals.{Tests};
 ghost use Rattle.mb_tables.specs.Cell.{cell_cmp};
@@ -16,7 +16,7 @@ ghost use Rattle.mb_tables.specs.declared.cell.Cell.{Cell};
 ghost use Rattle.tile_hash.specs.Digest.{digest};
 
 use base_values::{BlobVal, OutOfMemory};
-use mb_load::{GivenIds, Loaded};
+use mb_loaded::{GivenIds, Loaded};
 use mb_store::{Cell, MbtError, MbtResult};
 use std::alloc::Global;
 use std::collections::BTreeMap;

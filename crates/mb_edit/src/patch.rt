@@ -6,14 +6,14 @@ ghost use Rattle.mb_edit.specs.HeldPatched.{held_patched, name_patched, names_pa
 ghost use Rattle.mb_edit.specs.Patched.{target_of};
 ghost use Rattle.mb_edit.specs.PatchingOrder.{may_patch};
 ghost use Rattle.mb_edit.specs.Step.{step};
-ghost use Rattle.mb_load.specs.GivenIds.{ids_given};
+ghost use Rattle.mb_loaded.specs.GivenIds.{ids_given};
 ghost use Rattle.mb_load.specs.LoadedFrom.{AllOnBoard, IsLoadedFrom, NamesAlgorithm};
 ghost use Rattle.mb_tables.specs.Refusals.{is_free};
 ghost use Rattle.mb_tables.specs.Table.{Tables};
 
 use crate::patching_order::test_patching;
 use base_values::{OutOfMemory, TextVal};
-use mb_load::{Editing, GivenIds, Loaded};
+use mb_loaded::{Editing, GivenIds, Loaded};
 use mb_store::{
     AGG_TILES_HASH, AGG_TILES_HASH_AFTER_APPLY, AGG_TILES_HASH_BEFORE_APPLY, Cell, MbtError,
     MbtResult,

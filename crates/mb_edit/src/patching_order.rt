@@ -4,12 +4,13 @@ ghost use Rattle.mb_edit.specs.PatchingOrder.{can_be_patched, may_patch, wrong_a
 ghost use Rattle.mb_lists.specs.Metadata.{after_hash, agg_hash, before_hash};
 ghost use Rattle.mb_lists.specs.Metadata.{text_at};
 ghost use Rattle.mb_constraints.specs.DiffHashes.{base_refused, patch_refused, unless_forced};
-ghost use Rattle.mb_load.specs.GivenIds.{ids_given};
+ghost use Rattle.mb_loaded.specs.GivenIds.{ids_given};
 ghost use Rattle.mb_tables.specs.Refusals.{Tests, unless};
 
 use crate::collision::test_ids;
 use base_values::TextVal;
-use mb_load::{GivenIds, Loaded, test_base_hashes, test_patch_hashes};
+use mb_load::{test_base_hashes, test_patch_hashes};
+use mb_loaded::{GivenIds, Loaded};
 use mb_store::{
     AGG_TILES_HASH, AGG_TILES_HASH_AFTER_APPLY, AGG_TILES_HASH_BEFORE_APPLY, MbtError, MbtResult,
     MbtType, NormalizedSchema,

@@ -7,7 +7,7 @@ use Rattle.std.specs.FinMap.{contains_key, empty, from_entries, get, get-empty, 
 use Rattle.std.proofs.lemmas.List.{drop_all, map-append, reverse-append}
 use Rattle.mb_insert.specs.Batch.{entry_of, is_missing, place_in}
 use Rattle.mb_insert.specs.declared.new_tile.NewTile.{NewTile}
-use Rattle.mb_load.specs.Held.{Held}
+use Rattle.mb_loaded.specs.Held.{Held}
 use Rattle.mb_tables.proofs.TileLemmas.{places_total}
 use Rattle.mb_tables.specs.Tiles.{Place, TileSet, place_cmp}
 

@@ -16,7 +16,7 @@ use Rattle.mb_insert.specs.declared.mode.CopyDuplicateMode.{CopyDuplicateMode}
 use Rattle.mb_insert.specs.declared.mode.CopyDuplicateMode.TheVariants.{Override, Ignore, Abort}
 use Rattle.mb_insert.specs.declared.new_tile.NewTile.{NewTile}
 use Rattle.mb_lists.proofs.Places.{places_antisymmetric}
-use Rattle.mb_load.specs.Editable.{IsOnBoard}
+use Rattle.mb_loaded.specs.Editable.{IsOnBoard}
 use Rattle.mb_tables.specs.Refusals.{first_refused}
 use Rattle.mb_tables.specs.Tiles.{Place, TileSet, place_cmp}
 use Rattle.mb_tables.specs.declared.cell.Cell.TheVariants.{Int}

@@ -13,10 +13,10 @@ use Rattle.mb_insert.specs.Insertion.{bad_coord, duplicates, may_insert}
 use Rattle.mb_insert.specs.declared.mode.CopyDuplicateMode.{CopyDuplicateMode}
 use Rattle.mb_insert.specs.declared.new_tile.NewTile.{NewTile}
 use Rattle.mb_load.specs.Committing.{MakesChanges}
-use Rattle.mb_load.specs.Held.{Held, nothing_edited}
+use Rattle.mb_loaded.specs.Held.{Held, nothing_edited}
 use Rattle.mb_load.specs.LoadedFrom.{IsLoadedFrom, NamesAlgorithm}
-use Rattle.mb_load.specs.Editable.{is_editable}
-use Rattle.mb_load.specs.State.{State}
+use Rattle.mb_loaded.specs.Editable.{is_editable}
+use Rattle.mb_loaded.specs.State.{State}
 use Rattle.mb_load.specs.StateOf.{state_of}
 use Rattle.mb_store.specs.Store.{IsSound}
 use Rattle.mb_tables.specs.Refusals.{first_refused, unless}

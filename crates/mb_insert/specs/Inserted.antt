@@ -5,7 +5,7 @@ use Rattle.mb_insert.specs.Batch.{put_of}
 use Rattle.mb_insert.specs.Insertion.{inserted, may_insert}
 use Rattle.mb_insert.specs.declared.mode.CopyDuplicateMode.{CopyDuplicateMode}
 use Rattle.mb_insert.specs.declared.new_tile.NewTile.{NewTile}
-use Rattle.mb_load.specs.State.{State}
+use Rattle.mb_loaded.specs.State.{State}
 use Rattle.mb_load.specs.StateOf.{state_of}
 use Rattle.mb_tables.specs.Table.{Tables}
 

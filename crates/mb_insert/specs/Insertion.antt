@@ -7,8 +7,8 @@ use Rattle.mb_insert.specs.Batch.{has_duplicates, is_coord, put_of}
 use Rattle.mb_insert.specs.declared.mode.CopyDuplicateMode.{CopyDuplicateMode}
 use Rattle.mb_insert.specs.declared.mode.CopyDuplicateMode.TheVariants.{Override, Ignore, Abort}
 use Rattle.mb_insert.specs.declared.new_tile.NewTile.{NewTile}
-use Rattle.mb_load.specs.Editable.{is_editable}
-use Rattle.mb_load.specs.State.{State}
+use Rattle.mb_loaded.specs.Editable.{is_editable}
+use Rattle.mb_loaded.specs.State.{State}
 use Rattle.mb_tables.specs.Refusals.{first_refusal, first_refused, unless}
 use Rattle.mb_tables.specs.Tiles.{TileSet}
 use Rattle.mb_tables.specs.declared.cell.Cell.TheVariants.{Int}

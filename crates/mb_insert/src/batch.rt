@@ -6,7 +6,7 @@ ghost use Rattle.mb_lists.specs.Entries.{place_at};
 
 use crate::{CopyDuplicateMode, NewTile};
 use base_values::OutOfMemory;
-use mb_load::{Editing, Loaded};
+use mb_loaded::{Editing, Loaded};
 use mb_store::MbtType;
 use std::alloc::Global;
 use tile_hash::HashAlgorithm;

@@ -14,7 +14,8 @@ use crate::batch::chosen_tiles;
 use crate::tests_of_batch::{test_coords, test_duplicates};
 use crate::{CopyDuplicateMode, NewTile};
 use mb_edit::{put_tiles, test_editable};
-use mb_load::{Loaded, commit_loaded, load};
+use mb_load::{commit_loaded, load};
+use mb_loaded::Loaded;
 use mb_store::{MbtError, MbtResult, TileStore};
 use std::alloc::Global;
 

@@ -6,7 +6,7 @@ ghost use Rattle.mb_tables.specs.Refusals.{Tests, first_refused, unless};
 ghost use Rattle.mb_tables.specs.Tiles.{TileSet};
 
 use crate::{CopyDuplicateMode, NewTile};
-use mb_load::Loaded;
+use mb_loaded::Loaded;
 use mb_store::{Cell, MbtError, MbtResult};
 
 // Whether the numbers of a tile are a coordinate of zoom 0 to 30.

@@ -4,13 +4,13 @@ use Rattle.std.specs.Prelude.{All, option_map, option_to_list}
 use Rattle.std.specs.FinMap.{contains_key, get, get-empty}
 use Rattle.std.proofs.lemmas.Bool.{false≢true}
 use Rattle.std.proofs.lemmas.List.Elements.{All-nil}
-use Rattle.mb_load.specs.Changing.{AreChangesOf, content_row, content_row_by, content_table, id_edited, name_edited, name_row, name_row_by, place_edited, tile_key, tile_row, tile_row_by}
+use Rattle.mb_loaded.specs.Changing.{AreChangesOf, content_row, content_row_by, content_table, id_edited, name_edited, name_row, name_row_by, place_edited, tile_key, tile_row, tile_row_by}
 use Rattle.mb_lists.specs.Contents.{content_rows}
 use Rattle.mb_constraints.specs.Described.{index_missing, metadata_missing}
-use Rattle.mb_load.specs.Held.{Held, fresh}
+use Rattle.mb_loaded.specs.Held.{Held, fresh}
 use Rattle.mb_tables.specs.CellKinds.{has_name_kinds}
 use Rattle.mb_load.specs.LoadedFrom.{FitsPlace, IsGoodContent, IsGoodRow, IsLoadable, IsLoadedFrom}
-use Rattle.mb_load.specs.State.{State}
+use Rattle.mb_loaded.specs.State.{State}
 use Rattle.mb_load.proofs.KeyedCommit.{all_then, edited_stand, fits_then, unedited_stay}
 use Rattle.mb_load.proofs.PutRowLemmas.{content_put, fits_put, good_put, name_put}
 use Rattle.mb_store.specs.Committing.{Commits}

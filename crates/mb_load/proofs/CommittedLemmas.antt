@@ -1,7 +1,7 @@
 -- What a commit of a set's changes leaves, in one.
-use Rattle.mb_load.specs.Changing.{AreChangesOf}
+use Rattle.mb_loaded.specs.Changing.{AreChangesOf}
 use Rattle.mb_load.specs.Committed.{IsCommitted}
-use Rattle.mb_load.specs.Held.{Held, fresh}
+use Rattle.mb_loaded.specs.Held.{Held, fresh}
 use Rattle.mb_load.specs.LoadedFrom.{IsLoadedFrom}
 use Rattle.mb_load.proofs.CommitLemmas.{committed, ids_stand, ids_stay, names_stand, names_stay, places_stand, places_stay}
 use Rattle.mb_load.proofs.FrameLemmas.{null_ids_stay, other_tables_stay}

@@ -16,18 +16,18 @@ use Rattle.std.proofs.lemmas.Bool.{false≢true}
 use Rattle.std.proofs.lemmas.Cmp.{nat_list_cmp_total}
 use Rattle.std.proofs.lemmas.Option.{none-some, same_Some}
 use Rattle.mb_lists.specs.Contents.{Contents}
-use Rattle.mb_load.proofs.Covering.{there}
-use Rattle.mb_load.specs.Edits.{dates_for, id_for, is_named, only_referenced, removed_name, removed_tile, with_content, with_key, with_name, with_tile, with_value, without_name, without_tile}
+use Rattle.mb_loaded.proofs.Covering.{there}
+use Rattle.mb_loaded.specs.Edits.{dates_for, id_for, is_named, only_referenced, removed_name, removed_tile, with_content, with_key, with_name, with_tile, with_value, without_name, without_tile}
 use Rattle.mb_lists.specs.Entries.{is_cache, text_cell}
-use Rattle.mb_load.specs.Held.{Held}
-use Rattle.mb_load.specs.Editable.{AreTimes, IsFree, IsOnBoard, is_editable}
+use Rattle.mb_loaded.specs.Held.{Held}
+use Rattle.mb_loaded.specs.Editable.{AreTimes, IsFree, IsOnBoard, is_editable}
 use Rattle.mb_load.specs.LoadedFrom.{FitsPlace, IsContentOf, IsLoadable, IsLoadedFrom, at_place, found}
-use Rattle.mb_load.specs.State.{State}
+use Rattle.mb_loaded.specs.State.{State}
 use Rattle.mb_constraints.specs.TileRows.{dates_in, id_in, tile_in}
 use Rattle.mb_lists.specs.declared.dates.Dates.{Dates}
-use Rattle.mb_load.proofs.DatedLemmas.{dates_are, dates_some}
-use Rattle.mb_load.proofs.DroppedHeld.{any_unit, contents_with, edited_with}
-use Rattle.mb_load.proofs.EditMaps.{get-with_value}
+use Rattle.mb_loaded.proofs.DatedLemmas.{dates_are, dates_some}
+use Rattle.mb_loaded.proofs.DroppedHeld.{any_unit, contents_with, edited_with}
+use Rattle.mb_loaded.proofs.EditMaps.{get-with_value}
 use Rattle.mb_lists.proofs.Items.{equal_of}
 use Rattle.mb_lists.proofs.Places.{places_antisymmetric}
 use Rattle.mb_load.proofs.PutRowLemmas.{digest_right, id_known}

@@ -9,10 +9,10 @@ use Rattle.std.proofs.lemmas.Bool.{false≢true}
 use Rattle.std.proofs.lemmas.List.Elements.{All-nil}
 use Rattle.mb_lists.specs.Entries.{text_cell}
 use Rattle.mb_lists.specs.declared.dates.Dates.{Dates}
-use Rattle.mb_load.specs.Changing.{content_table, tile_key}
+use Rattle.mb_loaded.specs.Changing.{content_table, tile_key}
 use Rattle.mb_load.specs.EmptyTables.{AreEmpty}
-use Rattle.mb_load.specs.Empty.{empty_state}
-use Rattle.mb_load.specs.Held.{fresh}
+use Rattle.mb_loaded.specs.Empty.{empty_state}
+use Rattle.mb_loaded.specs.Held.{fresh}
 use Rattle.mb_load.specs.LoadedFrom.{FitsPlace, IsGoodContent, IsGoodRow, IsLoadable, IsLoadedFrom}
 use Rattle.mb_lists.specs.Entries.{is_cache}
 use Rattle.mb_tables.specs.Cell.{cell_cmp}

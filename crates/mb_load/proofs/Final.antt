@@ -5,8 +5,8 @@ use Rattle.std.specs.FinMap.{from_entries}
 use Rattle.mb_constraints.specs.Algorithm.{algorithm_of}
 use Rattle.mb_lists.specs.Contents.{contents_by_id}
 use Rattle.mb_lists.specs.Entries.{contents_held, names_held, place_of, tile_dates, tile_id, tile_value, tiles_held}
-use Rattle.mb_load.specs.HeldEntries.{held_of}
-use Rattle.mb_load.specs.Held.{Held, nothing_edited}
+use Rattle.mb_loaded.specs.HeldEntries.{held_of}
+use Rattle.mb_loaded.specs.Held.{Held, nothing_edited}
 use Rattle.mb_lists.specs.Keyed.{are_distinct}
 use Rattle.mb_load.specs.Loading.{due_by, held_by, rows_due}
 use Rattle.mb_lists.specs.Metadata.{names_of}
@@ -17,7 +17,7 @@ use Rattle.mb_lists.specs.declared.entries.Content.{Content}
 use Rattle.mb_lists.specs.declared.entries.Standing.TheVariants.{Kept}
 use Rattle.mb_lists.specs.declared.entries.StoredName.{StoredName}
 use Rattle.mb_lists.specs.declared.entries.StoredTile.{StoredTile}
-use Rattle.mb_load.proofs.HeldLemmas.{edited_none, places_listed, states_same}
+use Rattle.mb_loaded.proofs.HeldLemmas.{edited_none, places_listed, states_same}
 use Rattle.mb_tables.specs.Tiles.{Place, place_cmp}
 use Rattle.mb_tables.specs.declared.cell.Cell.{Cell}
 use Rattle.mb_tables.specs.declared.error.MbtError.TheVariants.{NoUniquenessConstraint}

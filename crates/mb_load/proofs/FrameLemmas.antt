@@ -7,10 +7,10 @@ use Rattle.std.specs.Str.{bytes_eq}
 use Rattle.std.proofs.lemmas.Bool.{false≢true, and_parts, or_cases, or_right, and_right}
 use Rattle.std.proofs.lemmas.List.Folds.{list_any_none}
 use Rattle.mb_load.proofs.LoadsFrom.{key_first}
-use Rattle.mb_load.specs.Changing.{AreChangesOf, content_row_by, content_table, id_edited, is_own_table}
+use Rattle.mb_loaded.specs.Changing.{AreChangesOf, content_row_by, content_table, id_edited, is_own_table}
 use Rattle.mb_load.specs.Committed.{is_set_table}
 use Rattle.mb_constraints.specs.Described.{is_metadata, metadata_missing}
-use Rattle.mb_load.specs.Held.{Edited, Held}
+use Rattle.mb_loaded.specs.Held.{Edited, Held}
 use Rattle.mb_load.specs.LoadedFrom.{IsLoadedFrom}
 use Rattle.mb_tables.specs.Refusals.{unless}
 use Rattle.mb_store.proofs.Committed.{others_stay}

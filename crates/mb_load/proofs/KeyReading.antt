@@ -9,11 +9,11 @@ use Rattle.std.proofs.lemmas.Bool.{false≢true, and_from}
 use Rattle.std.proofs.lemmas.Bool.Decides.{Decides-ltb}
 use Rattle.std.proofs.lemmas.List.Elements.{All-head, All-tail}
 use Rattle.std.proofs.lemmas.Option.{none-some}
-use Rattle.mb_load.specs.Changing.{front, tile_key}
-use Rattle.mb_load.specs.Editable.{IsOnBoard}
+use Rattle.mb_loaded.specs.Changing.{front, tile_key}
+use Rattle.mb_loaded.specs.Editable.{IsOnBoard}
 use Rattle.mb_load.specs.LoadedFrom.{at_place, found}
 use Rattle.mb_constraints.proofs.ApartPlaces.{cells_of_place, key_is}
-use Rattle.mb_load.proofs.ChangeSteps.{front_same}
+use Rattle.mb_loaded.proofs.ChangeSteps.{front_same}
 use Rattle.mb_lists.proofs.Items.{equal_of}
 use Rattle.mb_lists.proofs.Places.{places_antisymmetric}
 use Rattle.mb_tables.proofs.ListLemmas.{AllPairs-head, AllPairs-tail, filter_none}

@@ -4,7 +4,7 @@ use Rattle.std.specs.Prelude.{All, IfSome, option_to_list}
 use Rattle.std.proofs.lemmas.Bool.{false≢true}
 use Rattle.std.proofs.lemmas.List.Elements.{All-weaker}
 use Rattle.std.proofs.lemmas.Option.{get_or_from_slice_get, slice_get_within}
-use Rattle.mb_load.specs.Changing.{Covers}
+use Rattle.mb_loaded.specs.Changing.{Covers}
 use Rattle.mb_store.proofs.Committed.{all_committed, left_committed}
 use Rattle.mb_store.specs.Committing.{CommitsTable}
 use Rattle.mb_store.specs.declared.change.Change.{Change}

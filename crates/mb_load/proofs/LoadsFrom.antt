@@ -9,20 +9,20 @@ use Rattle.std.proofs.lemmas.Bool.{false≢true, and_parts}
 use Rattle.std.proofs.lemmas.Cmp.{nat_list_cmp_total}
 use Rattle.std.proofs.lemmas.List.Elements.{All-nil, All-weaker}
 use Rattle.mb_constraints.specs.Algorithm.{algorithm_by, unknown_name}
-use Rattle.mb_load.specs.Changing.{content_table, tile_key}
+use Rattle.mb_loaded.specs.Changing.{content_table, tile_key}
 use Rattle.mb_lists.specs.Contents.{content_entry, content_rows}
 use Rattle.mb_constraints.specs.Described.{index_missing, metadata_missing}
 use Rattle.mb_lists.specs.Entries.{is_cache, text_cell}
 use Rattle.mb_constraints.specs.Hashes.{wrong_content_hash, wrong_hash}
-use Rattle.mb_load.specs.Held.{Held, fresh}
+use Rattle.mb_loaded.specs.Held.{Held, fresh}
 use Rattle.mb_tables.specs.CellKinds.{has_tile_kinds, is_id, is_number, is_text}
 use Rattle.mb_load.specs.Loading.{Loads, due_by, held_by}
 use Rattle.mb_load.specs.LoadedFrom.{AllOnBoard, FitsPlace, IsContentOf, IsLoadable, IsLoadedFrom, NamesAlgorithm, at_place, found}
-use Rattle.mb_load.specs.Editable.{AreTimes, IsOnBoard}
+use Rattle.mb_loaded.specs.Editable.{AreTimes, IsOnBoard}
 use Rattle.mb_load.specs.LoadingOrder.{refusals, row_refusals}
 use Rattle.mb_lists.specs.Metadata.{name_entry}
 use Rattle.mb_tables.specs.Refusals.{first_refusal}
-use Rattle.mb_load.specs.State.{State}
+use Rattle.mb_loaded.specs.State.{State}
 use Rattle.mb_load.specs.StateOf.{state_of, stated, unless_refused}
 use Rattle.mb_constraints.specs.TileRows.{bad_tile, dates_in, id_in, tile_in}
 use Rattle.mb_lists.specs.declared.dates.Dates.{Dates}

@@ -3,13 +3,13 @@ use Rattle.std.proofs.Common.{◌≡◌, ◌∙◌, ap, sym, subst, Option, Some
 use Rattle.std.specs.Ordering.{eq_by_cmp}
 use Rattle.std.specs.FinMap.{FinMap, contains_key, get, insert}
 use Rattle.std.proofs.lemmas.Bool.{false≢true}
-use Rattle.mb_load.specs.Edits.{dates_for, with_dates, with_null, with_value}
+use Rattle.mb_loaded.specs.Edits.{dates_for, with_dates, with_null, with_value}
 use Rattle.mb_lists.specs.Entries.{is_cache}
-use Rattle.mb_load.specs.Held.{Held}
-use Rattle.mb_load.specs.Editable.{AreTimes, IsOnBoard}
+use Rattle.mb_loaded.specs.Held.{Held}
+use Rattle.mb_loaded.specs.Editable.{AreTimes, IsOnBoard}
 use Rattle.mb_load.specs.LoadedFrom.{IsLoadable, IsLoadedFrom}
 use Rattle.mb_lists.specs.declared.dates.Dates.{Dates}
-use Rattle.mb_load.proofs.DatedLemmas.{dates_are, dates_some}
+use Rattle.mb_loaded.proofs.DatedLemmas.{dates_are, dates_some}
 use Rattle.mb_load.proofs.EditedFrom.{at_other, by_test, fits_same, put_at, put_key, put_placed, same_place, unedited}
 use Rattle.mb_tables.proofs.TileLemmas.{places_total}
 use Rattle.mb_tables.specs.Kind.{is_normalized}

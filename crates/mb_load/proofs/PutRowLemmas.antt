@@ -9,14 +9,14 @@ use Rattle.std.specs.Str.{bytes_eq}
 use Rattle.std.proofs.lemmas.Bool.{false≢true, and_from, and_parts}
 use Rattle.std.proofs.lemmas.Bool.Decides.{Decides-ltb}
 use Rattle.std.proofs.lemmas.Slice.Eq.{bytes_eq-Decides}
-use Rattle.mb_load.specs.Changing.{cells_for, content_row, content_row_by, front, hash_cell, name_row_by, tile_row, tile_row_by}
+use Rattle.mb_loaded.specs.Changing.{cells_for, content_row, content_row_by, front, hash_cell, name_row_by, tile_row, tile_row_by}
 use Rattle.mb_lists.specs.Entries.{blob_cell, is_cache, text_cell}
 use Rattle.mb_constraints.specs.Hashes.{wrong_digest, wrong_hash, wrong_tile_hash}
 use Rattle.mb_tables.specs.CellKinds.{has_name_kinds, has_tile_kinds, is_id, is_number, is_text}
-use Rattle.mb_load.specs.Editable.{AreTimes, IsOnBoard}
+use Rattle.mb_loaded.specs.Editable.{AreTimes, IsOnBoard}
 use Rattle.mb_load.specs.LoadedFrom.{FitsPlace, IsContentOf, IsGoodContent, IsGoodRow, IsLoadable, at_place, found}
 use Rattle.mb_tables.specs.Refusals.{unless}
-use Rattle.mb_load.specs.State.{State}
+use Rattle.mb_loaded.specs.State.{State}
 use Rattle.mb_constraints.specs.TileRows.{bad_tile, dates_in, id_in, tile_in}
 use Rattle.mb_lists.specs.declared.dates.Dates.{Dates}
 use Rattle.mb_tables.proofs.TileLemmas.{places_total}

@@ -7,9 +7,9 @@ use Rattle.std.specs.Ordering.{is_eq}
 use Rattle.std.proofs.lemmas.List.Elements.{All-head, All-tail}
 use Rattle.std.proofs.lemmas.Option.{same_Some}
 use Rattle.mb_lists.specs.Contents.{Contents}
-use Rattle.mb_load.specs.Edits.{id_for, with_content, with_tile, with_tiles}
-use Rattle.mb_load.specs.Held.{Held}
-use Rattle.mb_load.specs.Editable.{IsFree, IsOnBoard, is_editable}
+use Rattle.mb_loaded.specs.Edits.{id_for, with_content, with_tile, with_tiles}
+use Rattle.mb_loaded.specs.Held.{Held}
+use Rattle.mb_loaded.specs.Editable.{IsFree, IsOnBoard, is_editable}
 use Rattle.mb_load.specs.LoadedFrom.{IsLoadedFrom}
 use Rattle.mb_load.proofs.EditedFrom.{from_with_tile}
 use Rattle.mb_tables.specs.CellOrder.{cells_total}

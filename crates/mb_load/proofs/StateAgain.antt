@@ -9,23 +9,23 @@ use Rattle.std.specs.FinMap.{contains_key, get, get-empty, get-from_entries, sam
 use Rattle.std.proofs.lemmas.Bool.{false≢true, and_parts}
 use Rattle.std.proofs.lemmas.Cmp.{nat_list_cmp_total}
 use Rattle.mb_constraints.specs.Algorithm.{algorithm_by, algorithm_of, algorithm_unknown, unknown_name}
-use Rattle.mb_load.specs.Changing.{content_row, content_table, tile_key}
+use Rattle.mb_loaded.specs.Changing.{content_row, content_table, tile_key}
 use Rattle.mb_lists.specs.Contents.{are_apart, content_entry, content_rows, contents_by_id, fronts}
 use Rattle.mb_lists.specs.Entries.{text_cell}
 use Rattle.mb_constraints.specs.Hashes.{wrong_content_hash, wrong_tile_hash}
-use Rattle.mb_load.specs.Held.{fresh}
+use Rattle.mb_loaded.specs.Held.{fresh}
 use Rattle.mb_tables.specs.CellKinds.{is_id, is_number, is_text}
 use Rattle.mb_load.specs.Loading.{due_by, held_by}
 use Rattle.mb_load.specs.LoadedFrom.{FitsPlace, IsGoodContent, IsLoadedFrom, NamesAlgorithm, at_place, found}
 use Rattle.mb_lists.specs.Metadata.{name_entry, names_of}
 use Rattle.mb_constraints.specs.References.{id_text, missing_reference}
 use Rattle.mb_tables.specs.Refusals.{unless}
-use Rattle.mb_load.specs.State.{State}
+use Rattle.mb_loaded.specs.State.{State}
 use Rattle.mb_load.specs.StateOf.{state_of}
 use Rattle.mb_constraints.specs.TileRows.{bad_tile, by_place, dates_in, id_in, tile_in}
 use Rattle.mb_constraints.proofs.ApartPlaces.{in_has_place, never_twice}
 use Rattle.mb_load.proofs.CommitLemmas.{no_contents}
-use Rattle.mb_load.proofs.Covering.{there}
+use Rattle.mb_loaded.proofs.Covering.{there}
 use Rattle.mb_lists.proofs.FrontLemmas.{any_from_filter, apart_from, begins, entry_from, entry_key, key_whole, names_as_entries, text_cells}
 use Rattle.mb_load.proofs.KeyReading.{at_place_placed, found_through, key_of_place, under_key}
 use Rattle.mb_load.proofs.LoadsFrom.{filter_begins, key_first, own_contents}

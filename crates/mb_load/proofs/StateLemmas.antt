@@ -8,11 +8,11 @@ use Rattle.mb_constraints.specs.Algorithm.{algorithm_of}
 use Rattle.mb_lists.specs.Contents.{content_rows, contents_by_id}
 use Rattle.mb_constraints.specs.Described.{index_missing, metadata_missing}
 use Rattle.mb_load.specs.Loading.{Loads, due_by, held_by, rows_due}
-use Rattle.mb_load.specs.Held.{Held}
+use Rattle.mb_loaded.specs.Held.{Held}
 use Rattle.mb_load.specs.LoadingOrder.{row_refusals}
 use Rattle.mb_lists.specs.Metadata.{names_of}
 use Rattle.mb_tables.specs.Refusals.{first_refusal, is_free}
-use Rattle.mb_load.specs.State.{State}
+use Rattle.mb_loaded.specs.State.{State}
 use Rattle.mb_load.specs.StateOf.{held_in, state_of, stated, unless_refused}
 use Rattle.mb_constraints.specs.TileRows.{by_place, dates_in, id_in, tile_in}
 use Rattle.mb_store.specs.Errors.{of_store}

@@ -1,8 +1,8 @@
 -- What a commit of a set's changes leaves of the tables that it was loaded from.
 use Rattle.std.specs.Prelude.{◌≡◌, ℕ, ◌&&◌, ◌||◌, Bool, true, false, List, [], ◌∷◌, Ok, filter, option_to_list}
 use Rattle.std.specs.FinMap.{contains_key}
-use Rattle.mb_load.specs.Changing.{content_row, content_table, name_row, tile_key, tile_row}
-use Rattle.mb_load.specs.Held.{Held, fresh}
+use Rattle.mb_loaded.specs.Changing.{content_row, content_table, name_row, tile_key, tile_row}
+use Rattle.mb_loaded.specs.Held.{Held, fresh}
 use Rattle.mb_load.specs.LoadedFrom.{IsLoadedFrom, NamesAlgorithm}
 use Rattle.mb_load.specs.StateOf.{state_of}
 use Rattle.mb_tables.specs.Cell.{is_null}

@@ -1,7 +1,7 @@
 -- What a commit of a loaded set's edits makes of tables.
 use Rattle.std.specs.Prelude.{List}
-use Rattle.mb_load.specs.Changing.{AreChangesOf}
-use Rattle.mb_load.specs.Held.{Held}
+use Rattle.mb_loaded.specs.Changing.{AreChangesOf}
+use Rattle.mb_loaded.specs.Held.{Held}
 use Rattle.mb_store.specs.Committing.{Commits}
 use Rattle.mb_store.specs.declared.change.Change.{Change}
 use Rattle.mb_tables.specs.Table.{Tables}

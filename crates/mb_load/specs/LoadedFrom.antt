@@ -2,16 +2,16 @@
 use Rattle.std.specs.Prelude.{◌≡◌, ℕ, codes, ◌≤◌, ◌&&◌, true, false, List, [], ◌∷◌, Option, Some, None, All, filter, filter_map, length, option_and_then, option_map, option_to_list}
 use Rattle.std.specs.FinMap.{contains_key, find, get}
 use Rattle.mb_constraints.specs.Algorithm.{algorithm_by, unknown_name}
-use Rattle.mb_load.specs.Changing.{content_row, content_table, name_row, tile_key}
+use Rattle.mb_loaded.specs.Changing.{content_row, content_table, name_row, tile_key}
 use Rattle.mb_lists.specs.Contents.{content_rows}
 use Rattle.mb_lists.specs.Entries.{is_cache}
 use Rattle.mb_constraints.specs.Described.{index_missing, metadata_missing}
 use Rattle.mb_constraints.specs.Hashes.{wrong_content_hash, wrong_tile_hash}
-use Rattle.mb_load.specs.Held.{Held}
+use Rattle.mb_loaded.specs.Held.{Held}
 use Rattle.mb_tables.specs.CellKinds.{has_name_kinds, has_tile_kinds, is_id}
 use Rattle.mb_lists.specs.Metadata.{text_at}
-use Rattle.mb_load.specs.State.{State}
-use Rattle.mb_load.specs.Editable.{AreTimes, IsOnBoard}
+use Rattle.mb_loaded.specs.State.{State}
+use Rattle.mb_loaded.specs.Editable.{AreTimes, IsOnBoard}
 use Rattle.mb_constraints.specs.TileRows.{bad_tile, dates_in, id_in, tile_in}
 use Rattle.mb_lists.specs.declared.dates.Dates.{Dates}
 use Rattle.mb_tables.specs.Cell.{is_null}

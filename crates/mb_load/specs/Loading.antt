@@ -3,11 +3,11 @@ use Rattle.std.specs.Prelude.{◌≡◌, false, List, Option, Some, None, Result
 use Rattle.std.specs.FinMap.{from_entries}
 use Rattle.mb_constraints.specs.Algorithm.{algorithm_of}
 use Rattle.mb_lists.specs.Contents.{contents_by_id}
-use Rattle.mb_load.specs.Held.{Held, nothing_edited}
+use Rattle.mb_loaded.specs.Held.{Held, nothing_edited}
 use Rattle.mb_load.specs.LoadingOrder.{row_refusals}
 use Rattle.mb_lists.specs.Metadata.{names_of}
 use Rattle.mb_tables.specs.Refusals.{first_refusal, is_free}
-use Rattle.mb_load.specs.State.{State}
+use Rattle.mb_loaded.specs.State.{State}
 use Rattle.mb_constraints.specs.TileRows.{by_place, dates_in, id_in, tile_in}
 use Rattle.mb_tables.specs.declared.cell.Cell.{Cell}
 use Rattle.mb_tables.specs.declared.error.MbtError.{MbtError}

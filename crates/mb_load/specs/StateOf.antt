@@ -3,7 +3,7 @@ use Rattle.std.specs.Prelude.{Option, Some, None, Result, Ok, Err}
 use Rattle.mb_constraints.specs.Algorithm.{algorithm_of}
 use Rattle.mb_lists.specs.Contents.{content_rows, contents_by_id}
 use Rattle.mb_load.specs.LoadingOrder.{refusals}
-use Rattle.mb_load.specs.State.{State}
+use Rattle.mb_loaded.specs.State.{State}
 use Rattle.mb_lists.specs.Metadata.{names_of}
 use Rattle.mb_tables.specs.Refusals.{first_refusal}
 use Rattle.mb_constraints.specs.TileRows.{by_place, dates_in, id_in}

@@ -5,7 +5,7 @@ ghost use Rattle.mb_load.specs.Committing.{MakesChanges};
 ghost use Rattle.mb_load.specs.LoadedFrom.{IsLoadedFrom};
 ghost use Rattle.mb_tables.specs.Refusals.{is_free};
 
-use crate::Loaded;
+use mb_loaded::Loaded;
 use mb_store::{MbtError, MbtResult, TileStore};
 use std::alloc::Global;
 

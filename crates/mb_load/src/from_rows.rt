@@ -18,14 +18,13 @@ ghost use Rattle.mb_lists.specs.declared.entries.Standing.TheVariants.{Kept};
 ghost use Rattle.mb_tables.specs.Kind.{is_normalized};
 ghost use Rattle.mb_tables.specs.declared.cell.Cell.{Cell};
 
-use crate::Loaded;
-use crate::assembling::set_of;
 use crate::tiles_of_rows::tiles_of;
 use base_values::TextVal;
 use mb_constraints::{
     algorithm_by, test_content_hashes, test_references, test_tile_hashes, test_tiles,
 };
 use mb_lists::{ContentList, NameList, contents_from, have_id_kinds, have_tile_kinds};
+use mb_loaded::{Loaded, set_of};
 use mb_store::{Cell, HASH_ALGORITHM, MbtError, MbtResult, MbtType, PatchType, Row};
 use std::alloc::Global;
 use tile_hash::HashAlgorithm;

@@ -1,15 +1,15 @@
 //! Laws of loading, and of commits of a loaded set's changes.
 ghost use Rattle.std.specs.Prelude.{◌≡◌, ℕ, All, List, Ok, Option, None, Some, false, true};
 ghost use Rattle.std.specs.FinMap.{contains_key, get};
-ghost use Rattle.mb_load.specs.Changing.{AreChangesOf};
+ghost use Rattle.mb_loaded.specs.Changing.{AreChangesOf};
 ghost use Rattle.mb_load.specs.Committed.{IsCommitted};
-ghost use Rattle.mb_load.specs.Edits.{only_referenced, removed_name, removed_tile, with_dates, with_name, with_null, with_tile, with_tiles, without_name, without_tile};
+ghost use Rattle.mb_loaded.specs.Edits.{only_referenced, removed_name, removed_tile, with_dates, with_name, with_null, with_tile, with_tiles, without_name, without_tile};
 ghost use Rattle.mb_load.specs.EmptyTables.{AreEmpty};
-ghost use Rattle.mb_load.specs.Empty.{empty_state};
-ghost use Rattle.mb_load.specs.Held.{Held, fresh};
-ghost use Rattle.mb_load.specs.Editable.{AreTimes, IsFree, IsOnBoard, is_editable};
+ghost use Rattle.mb_loaded.specs.Empty.{empty_state};
+ghost use Rattle.mb_loaded.specs.Held.{Held, fresh};
+ghost use Rattle.mb_loaded.specs.Editable.{AreTimes, IsFree, IsOnBoard, is_editable};
 ghost use Rattle.mb_load.specs.LoadedFrom.{IsLoadable, IsLoadedFrom, NamesAlgorithm};
-ghost use Rattle.mb_load.specs.State.{State};
+ghost use Rattle.mb_loaded.specs.State.{State};
 ghost use Rattle.mb_load.specs.StateOf.{state_of};
 ghost use Rattle.mb_constraints.specs.TileRows.{place_twice};
 ghost use Rattle.mb_lists.specs.declared.dates.Dates.{Dates};

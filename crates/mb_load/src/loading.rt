@@ -9,10 +9,10 @@ ghost use Rattle.mb_store.specs.MemStore.{told_of};
 ghost use Rattle.mb_tables.specs.Detection.{layout_of};
 ghost use Rattle.mb_tables.specs.Table.{Tables};
 
-use crate::Loaded;
 use crate::from_rows::loaded_from;
 use crate::reading::{read_all, take_all};
 use mb_constraints::has_metadata;
+use mb_loaded::Loaded;
 use mb_store::{
     MbtError, MbtResult, MbtType, MemStore, TableDesc, TileStore, detect_type, get_patch_type,
 };

@@ -14,13 +14,13 @@ use Rattle.mb_load.proofs.CommitLemmas.{committed, names_stand}
 use Rattle.mb_load.proofs.EditedFrom.{from_removed_name, from_with_name}
 use Rattle.mb_load.proofs.LoadsFrom.{state_whole}
 use Rattle.mb_load.proofs.StateAgain.{state_again}
-use Rattle.mb_load.specs.Changing.{AreChangesOf, content_table, id_edited, is_own_table, name_edited, place_edited}
+use Rattle.mb_loaded.specs.Changing.{AreChangesOf, content_table, id_edited, is_own_table, name_edited, place_edited}
 use Rattle.mb_load.specs.Committing.{MakesChanges}
-use Rattle.mb_load.specs.Edits.{removed_name, with_name}
-use Rattle.mb_load.specs.Held.{Edited, Held, fresh, nothing_edited}
+use Rattle.mb_loaded.specs.Edits.{removed_name, with_name}
+use Rattle.mb_loaded.specs.Held.{Edited, Held, fresh, nothing_edited}
 use Rattle.mb_load.specs.LoadedFrom.{IsLoadedFrom, NamesAlgorithm}
 use Rattle.mb_load.specs.Loading.{Loads}
-use Rattle.mb_load.specs.State.{State}
+use Rattle.mb_loaded.specs.State.{State}
 use Rattle.mb_load.specs.StateOf.{state_of}
 use Rattle.mb_metadata.specs.NameEdits.{AreEdited, EditsNames, IsFresh, held_edited, is_edited, names_edited, state_edited, with_text, with_touched}
 use Rattle.mb_metadata.specs.declared.name_edits.NameEdit.{NameEdit}

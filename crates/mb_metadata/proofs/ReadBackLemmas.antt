@@ -12,7 +12,7 @@ use Rattle.std.proofs.lemmas.Bool.Decides.{Decides-eqb}
 use Rattle.std.proofs.lemmas.Cmp.{nat_list_cmp_total}
 use Rattle.std.proofs.lemmas.Option.{none-some}
 use Rattle.mb_lists.specs.Metadata.{Names}
-use Rattle.mb_load.specs.State.{State}
+use Rattle.mb_loaded.specs.State.{State}
 use Rattle.mb_load.specs.StateOf.{state_of}
 use Rattle.mb_metadata.proofs.OthersLemmas.{Entry, R, is_less, is_true, other_name}
 use Rattle.mb_metadata.proofs.UpdateLemmas.{ok_same}

@@ -5,7 +5,7 @@ use Rattle.std.specs.FinMap.{FinMap}
 use Rattle.std.specs.Ordering.{nat_cmp}
 use Rattle.std.specs.Cmp.Lexicographic.{slice_cmp}
 use Rattle.mb_lists.specs.Metadata.{Names}
-use Rattle.mb_load.specs.State.{State}
+use Rattle.mb_loaded.specs.State.{State}
 use Rattle.mb_metadata.specs.Clamping.{document_within}
 use Rattle.mb_metadata.specs.Others.{others_said}
 use Rattle.mb_metadata.specs.Reading.{document_said, metadata_of}

@@ -4,7 +4,7 @@ use Rattle.std.specs.Prelude.{codes, option_to_list}
 use Rattle.std.specs.FinMap.{contains_key}
 use Rattle.std.specs.Fmt.{decimal}
 use Rattle.mb_lists.specs.Metadata.{Names}
-use Rattle.mb_load.specs.State.{State}
+use Rattle.mb_loaded.specs.State.{State}
 use Rattle.mb_load.specs.StateOf.{state_of}
 use Rattle.mb_metadata.specs.NameEdits.{AreEdited, is_edited}
 use Rattle.mb_metadata.specs.Updating.{is_set, state_updated, update_edits, zoom_edits}

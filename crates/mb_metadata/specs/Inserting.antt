@@ -4,7 +4,7 @@ use Rattle.std.specs.FinMap.{FinMap, entries}
 use Rattle.std.specs.Fmt.{decimal, signed_decimal}
 use Rattle.std.specs.Ordering.{nat_cmp}
 use Rattle.std.specs.Cmp.Lexicographic.{slice_cmp}
-use Rattle.mb_load.specs.State.{State}
+use Rattle.mb_loaded.specs.State.{State}
 use Rattle.mb_metadata.specs.LayerJson.{layers_data}
 use Rattle.mb_metadata.specs.NameEdits.{put_any, put_of}
 use Rattle.mb_metadata.specs.declared.name_edits.NameEdit.{NameEdit}

@@ -4,11 +4,11 @@ use Rattle.std.specs.FinMap.{FinMap, contains_key, insert, remove}
 use Rattle.std.specs.Ordering.{nat_cmp}
 use Rattle.std.specs.Cmp.Lexicographic.{slice_cmp}
 use Rattle.mb_lists.specs.Metadata.{Names}
-use Rattle.mb_load.specs.Changing.{name_row}
+use Rattle.mb_loaded.specs.Changing.{name_row}
 use Rattle.mb_load.specs.Committed.{rows_under}
-use Rattle.mb_load.specs.Held.{Held, fresh, nothing_edited}
+use Rattle.mb_loaded.specs.Held.{Held, fresh, nothing_edited}
 use Rattle.mb_load.specs.LoadedFrom.{IsLoadedFrom, NamesAlgorithm}
-use Rattle.mb_load.specs.State.{State}
+use Rattle.mb_loaded.specs.State.{State}
 use Rattle.mb_load.specs.StateOf.{state_of}
 use Rattle.mb_metadata.specs.declared.name_edits.NameEdit.{NameEdit}
 use Rattle.mb_tables.specs.Cell.{cell_eq}

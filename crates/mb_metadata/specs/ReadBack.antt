@@ -1,7 +1,7 @@
 -- What is read of a document that was put into the metadata of a set.
 use Rattle.std.specs.Prelude.{◌≡◌, ◌≢◌, ℕ, List, [], codes, Option, Some, None, option_map}
 use Rattle.std.specs.FinMap.{get}
-use Rattle.mb_load.specs.State.{State}
+use Rattle.mb_loaded.specs.State.{State}
 use Rattle.mb_metadata.specs.Inserting.{bounds_text, center_text, data_text, insert_edits}
 use Rattle.mb_metadata.specs.NameEdits.{state_edited}
 use Rattle.mb_metadata.specs.Reading.{metadata_of}

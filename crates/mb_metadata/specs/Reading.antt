@@ -1,7 +1,7 @@
 -- What a set says of itself: each name of its metadata in its field, and its zooms by those of its tiles.
 use Rattle.std.specs.Prelude.{ℕ, List, [], codes, None, Result, Ok}
 use Rattle.mb_lists.specs.Metadata.{Names}
-use Rattle.mb_load.specs.State.{State}
+use Rattle.mb_loaded.specs.State.{State}
 use Rattle.mb_metadata.specs.Clamping.{document_within}
 use Rattle.mb_metadata.specs.SaidJson.{json_said, layers_said}
 use Rattle.mb_metadata.specs.Others.{others_said}

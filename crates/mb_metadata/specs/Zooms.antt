@@ -1,7 +1,7 @@
 -- The zooms of a set.
 use Rattle.std.specs.Prelude.{ℕ, min, max, List, [], ◌∷◌, Option, Some, None, Result, Ok, fold, map}
 use Rattle.std.specs.FinMap.{entries}
-use Rattle.mb_load.specs.State.{State}
+use Rattle.mb_loaded.specs.State.{State}
 use Rattle.mb_tables.specs.Tiles.{TileSet}
 use Rattle.mb_tables.specs.declared.error.MbtError.{MbtError}
 

@@ -1,7 +1,7 @@
 //! Laws of documents that are put into the metadata of a set: what is read of them.
 ghost use Rattle.std.specs.Prelude.{◌≡◌, ◌<◌, ℕ, List, None, Ok, Some, codes, false};
 ghost use Rattle.std.specs.FinMap.{get};
-ghost use Rattle.mb_load.specs.State.{State};
+ghost use Rattle.mb_loaded.specs.State.{State};
 ghost use Rattle.mb_load.specs.StateOf.{state_of};
 ghost use Rattle.mb_metadata.specs.Clamping.{maxzoom_within, minzoom_within};
 ghost use Rattle.mb_metadata.specs.Inserting.{insert_edits};

@@ -5,7 +5,8 @@ ghost use Rattle.mb_metadata.specs.NameEdits.{AreEdited, IsFresh, held_edited, p
 ghost use Rattle.mb_tables.specs.Refusals.{is_free};
 
 use base_values::{OutOfMemory, TextVal};
-use mb_load::{Editing, Loaded, commit_loaded};
+use mb_load::commit_loaded;
+use mb_loaded::{Editing, Loaded};
 use mb_store::{Cell, MbtError, MbtResult, TileStore};
 use std::alloc::Global;
 

@@ -6,7 +6,7 @@ ghost use Rattle.mb_metadata.specs.Others.{has_field, is_read_name, is_text_name
 ghost use Rattle.serde_json.specs.Data.{string};
 
 use base_values::{OutOfMemory, TextVal};
-use mb_load::Loaded;
+use mb_loaded::Loaded;
 use mb_store::Cell;
 use serde_json::Value;
 use std::alloc::Global;

@@ -3,7 +3,7 @@ ghost use Rattle.std.specs.Prelude.{◌≡◌, IfOk, option_copied};
 ghost use Rattle.mb_metadata.specs.Said.{bounds_said, center_said, said};
 
 use base_values::{OutOfMemory, TextVal};
-use mb_load::Loaded;
+use mb_loaded::Loaded;
 use std::alloc::Global;
 use tile_json::{TileBounds, TileCenter};
 

@@ -6,7 +6,7 @@ ghost use Rattle.tile_json.specs.Reading.{whole_data};
 
 use crate::said::said;
 use base_values::OutOfMemory;
-use mb_load::Loaded;
+use mb_loaded::Loaded;
 use serde_json::Value;
 use std::alloc::Global;
 use tile_json::{DocumentError, JsonVal, LayerList};

@@ -2,7 +2,7 @@
 ghost use Rattle.mb_store.specs.Kept.{FaultsCounted, Keeps};
 ghost use Rattle.std.specs.Prelude.{◌≡◌, ◌≤◌, ◌++◌, Ok, IfOk, OnErr, OnOk, option_to_list, true};
 ghost use Rattle.mb_load.specs.Begun.{IsBegun};
-ghost use Rattle.mb_load.specs.State.{State};
+ghost use Rattle.mb_loaded.specs.State.{State};
 ghost use Rattle.mb_load.specs.StateOf.{state_of};
 ghost use Rattle.mb_metadata.specs.NameEdits.{EditsNames, done_answer, held_edited};
 ghost use Rattle.mb_metadata.specs.Updating.{both_edits, removals, state_updated, update_edits, zoom_edit, zoom_edits};
@@ -13,7 +13,8 @@ use crate::zoom_choice::is_set;
 use crate::zoom_text::zoom_at;
 use crate::zooms::zooms_in;
 use base_values::{OutOfMemory, TextVal};
-use mb_load::{Loaded, load};
+use mb_load::load;
+use mb_loaded::Loaded;
 use mb_store::{MbtError, MbtResult, TileStore};
 use std::alloc::Global;
 

@@ -11,7 +11,8 @@ ghost use Rattle.mb_tables.specs.Refusals.{Answers};
 use crate::name_edits::{NameEdit, commit_edits, push_any};
 use crate::zoom_text::zoom_of;
 use base_values::{OutOfMemory, TextVal};
-use mb_load::{Loaded, load};
+use mb_load::load;
+use mb_loaded::Loaded;
 use mb_store::{MbtError, MbtResult, TileStore};
 use std::alloc::Global;
 

@@ -4,7 +4,8 @@ ghost use Rattle.std.specs.Prelude.{◌≡◌};
 ghost use Rattle.mb_metadata.specs.Zooms.{span, with_zoom, zooms_answer, zooms_of};
 ghost use Rattle.mb_load.specs.Begun.{IsBegun};
 
-use mb_load::{Loaded, load};
+use mb_load::load;
+use mb_loaded::Loaded;
 use mb_store::{MbtError, MbtResult, TileStore};
 use std::alloc::Global;
 

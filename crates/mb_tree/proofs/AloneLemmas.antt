@@ -15,7 +15,7 @@ use Rattle.std.proofs.lemmas.Option.{none-some, same_Some}
 use Rattle.mb_insert.specs.Batch.{is_coord, place_in}
 use Rattle.mb_lists.specs.Keyed.{are_distinct}
 use Rattle.mb_load.proofs.EditedFrom.{less_apart}
-use Rattle.mb_load.specs.State.{State}
+use Rattle.mb_loaded.specs.State.{State}
 use Rattle.mb_tables.proofs.TileLemmas.{places_total}
 use Rattle.mb_tables.specs.Tiles.{Place, TileSet, place_cmp}
 use Rattle.mb_tables.specs.declared.error.MbtError.{MbtError}

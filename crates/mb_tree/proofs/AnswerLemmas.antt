@@ -2,8 +2,8 @@
 use Rattle.std.proofs.Common.{◌≡◌, ◌∙◌, ap, sym, subst, Bool, true, refl, Ok, Err, Result}
 use Rattle.std.proofs.lemmas.Bool.{false≢true}
 use Rattle.mb_constraints.specs.DiffHashes.{refused_by}
-use Rattle.mb_load.specs.Held.{Held}
-use Rattle.mb_load.specs.State.{State}
+use Rattle.mb_loaded.specs.Held.{Held}
+use Rattle.mb_loaded.specs.State.{State}
 use Rattle.mb_tables.specs.Refusals.{then}
 use Rattle.mb_tables.specs.Table.{Tables}
 use Rattle.mb_tables.specs.declared.error.MbtError.{MbtError}

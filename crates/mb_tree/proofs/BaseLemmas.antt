@@ -8,11 +8,11 @@ use Rattle.mb_constraints.specs.Algorithm.{algorithm_by, unknown_name}
 use Rattle.std.proofs.lemmas.Bool.{false≢true}
 use Rattle.mb_load.proofs.EmptyLemmas.{from_empty}
 use Rattle.mb_load.specs.EmptyTables.{AreEmpty}
-use Rattle.mb_load.specs.Empty.{empty_state}
-use Rattle.mb_load.specs.Held.{Held, fresh}
+use Rattle.mb_loaded.specs.Empty.{empty_state}
+use Rattle.mb_loaded.specs.Held.{Held, fresh}
 use Rattle.mb_load.specs.LoadedFrom.{IsLoadable, IsLoadedFrom, NamesAlgorithm}
 use Rattle.mb_load.specs.Loading.{Loads}
-use Rattle.mb_load.specs.State.{State}
+use Rattle.mb_loaded.specs.State.{State}
 use Rattle.mb_load.specs.StateOf.{state_of, stated}
 use Rattle.mb_store.specs.Store.{IsSound, created, no_rows, with_tables}
 use Rattle.mb_constraints.specs.Described.{index_missing, metadata_missing}

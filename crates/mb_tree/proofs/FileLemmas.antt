@@ -17,8 +17,8 @@ use Rattle.mb_insert.specs.Batch.{has_duplicates, place_in}
 use Rattle.mb_insert.specs.declared.new_tile.NewTile.{NewTile}
 use Rattle.mb_lists.specs.Keyed.{are_distinct}
 use Rattle.mb_load.proofs.EditedFrom.{less_apart}
-use Rattle.mb_load.specs.Edits.{with_tile}
-use Rattle.mb_load.specs.Held.{Held}
+use Rattle.mb_loaded.specs.Edits.{with_tile}
+use Rattle.mb_loaded.specs.Held.{Held}
 use Rattle.mb_store.specs.Kept.{ReadsOnly}
 use Rattle.mb_tables.specs.Tiles.{Place, TileSet, place_cmp}
 use Rattle.mb_tree.specs.Files.{File, Files, paths_in, paths_of}

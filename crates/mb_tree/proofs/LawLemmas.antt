@@ -4,9 +4,9 @@ use Rattle.std.specs.Prelude.{IfOk}
 use Rattle.std.specs.FinMap.{contains_key, empty, entries, retain_keys}
 use Rattle.mb_load.proofs.LoadsFrom.{state_whole}
 use Rattle.mb_load.specs.Begun.{begun}
-use Rattle.mb_load.specs.Empty.{empty_state}
-use Rattle.mb_load.specs.Held.{fresh}
-use Rattle.mb_load.specs.State.{State}
+use Rattle.mb_loaded.specs.Empty.{empty_state}
+use Rattle.mb_loaded.specs.Held.{fresh}
+use Rattle.mb_loaded.specs.State.{State}
 use Rattle.mb_load.specs.StateOf.{state_of}
 use Rattle.mb_metadata.proofs.UpdateLemmas.{ok_same}
 use Rattle.mb_tables.specs.Refusals.{then}

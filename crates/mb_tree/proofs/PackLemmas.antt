@@ -19,11 +19,11 @@ use Rattle.mb_load.proofs.CommittedLemmas.{is_committed}
 use Rattle.mb_load.proofs.EditedFrom.{from_with_name, from_with_tile}
 use Rattle.mb_load.specs.Committed.{IsCommitted}
 use Rattle.mb_load.specs.Committing.{MakesChanges}
-use Rattle.mb_load.specs.Edits.{with_tile}
-use Rattle.mb_load.specs.Held.{Held, fresh, nothing_edited}
-use Rattle.mb_load.specs.Editable.{IsFree, IsOnBoard, is_editable}
+use Rattle.mb_loaded.specs.Edits.{with_tile}
+use Rattle.mb_loaded.specs.Held.{Held, fresh, nothing_edited}
+use Rattle.mb_loaded.specs.Editable.{IsFree, IsOnBoard, is_editable}
 use Rattle.mb_load.specs.LoadedFrom.{IsLoadable, IsLoadedFrom, NamesAlgorithm}
-use Rattle.mb_load.specs.State.{State}
+use Rattle.mb_loaded.specs.State.{State}
 use Rattle.mb_metadata.proofs.NameEditLemmas.{edits_loaded, get_other}
 use Rattle.mb_metadata.specs.NameEdits.{is_edited}
 use Rattle.mb_metadata.specs.Updating.{is_set, update_edits, zoom_edits}

@@ -4,7 +4,7 @@ use Rattle.std.specs.Prelude.{option_and_then, pos}
 use Rattle.std.proofs.lemmas.Bool.{false≢true}
 use Rattle.mb_insert.specs.Batch.{is_coord}
 use Rattle.mb_insert.specs.Insertion.{bad_coord}
-use Rattle.mb_load.specs.State.{State}
+use Rattle.mb_loaded.specs.State.{State}
 use Rattle.mb_tables.specs.Refusals.{first_refusal, first_refused, is_free, unless}
 use Rattle.mb_tables.specs.declared.cell.Cell.TheVariants.{Int}
 use Rattle.mb_tables.specs.declared.error.MbtError.{MbtError}

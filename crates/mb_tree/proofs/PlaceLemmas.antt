@@ -14,7 +14,7 @@ use Rattle.mb_insert.specs.Batch.{has_duplicates, place_in}
 use Rattle.mb_insert.specs.declared.new_tile.NewTile.{NewTile}
 use Rattle.mb_lists.proofs.Places.{places_antisymmetric}
 use Rattle.mb_lists.specs.Keyed.{are_distinct}
-use Rattle.mb_load.specs.Editable.{IsOnBoard}
+use Rattle.mb_loaded.specs.Editable.{IsOnBoard}
 use Rattle.mb_tables.proofs.TileLemmas.{places_total}
 use Rattle.mb_tables.specs.Tiles.{Place, TileSet, place_cmp}
 use Rattle.mb_tree.proofs.CountLemmas.{any_after, has_after}

@@ -16,7 +16,7 @@ use Rattle.mb_lists.specs.Keyed.{are_distinct}
 use Rattle.mb_lists.specs.Metadata.{name_twice}
 use Rattle.mb_load.specs.Loading.{Loads}
 use Rattle.mb_load.specs.LoadingOrder.{refusals}
-use Rattle.mb_load.specs.State.{State}
+use Rattle.mb_loaded.specs.State.{State}
 use Rattle.mb_load.specs.StateOf.{state_of, stated, unless_refused}
 use Rattle.mb_tables.specs.Cell.{cell_eq, is_null}
 use Rattle.mb_tables.specs.CellKinds.{content_kind_wrong, has_name_kinds, has_tile_kinds, is_id, name_kind_wrong, tile_kind_wrong}

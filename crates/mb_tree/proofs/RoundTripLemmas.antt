@@ -15,8 +15,8 @@ use Rattle.mb_insert.specs.Batch.{has_duplicates, is_coord}
 use Rattle.mb_insert.specs.Insertion.{bad_coord, duplicates}
 use Rattle.mb_insert.specs.declared.mode.CopyDuplicateMode.TheVariants.{Abort}
 use Rattle.mb_lists.specs.Metadata.{text_at}
-use Rattle.mb_load.specs.Held.{Held, fresh}
-use Rattle.mb_load.specs.State.{State}
+use Rattle.mb_loaded.specs.Held.{Held, fresh}
+use Rattle.mb_loaded.specs.State.{State}
 use Rattle.mb_metadata.proofs.NameEditLemmas.{get_other}
 use Rattle.mb_metadata.specs.Updating.{update_edits}
 use Rattle.mb_metadata.specs.Zooms.{span, zooms_of}

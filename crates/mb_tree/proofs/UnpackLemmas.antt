@@ -8,9 +8,9 @@ use Rattle.std.proofs.lemmas.List.{take_all, take_more}
 use Rattle.std.proofs.lemmas.Option.{get_or_from_slice_get, none-some, slice_get-get_or}
 use Rattle.mb_lists.specs.Entries.{blob_cell, place_at}
 use Rattle.mb_load.specs.Begun.{begun}
-use Rattle.mb_load.specs.Held.{Held}
+use Rattle.mb_loaded.specs.Held.{Held}
 use Rattle.mb_load.specs.Loading.{Loads}
-use Rattle.mb_load.specs.State.{State}
+use Rattle.mb_loaded.specs.State.{State}
 use Rattle.mb_load.specs.StateOf.{state_of}
 use Rattle.mb_store.specs.Kept.{Keeps}
 use Rattle.mb_tables.specs.declared.cell.Cell.{Cell}

@@ -1,7 +1,7 @@
 -- The set that tiles are packed into.
 use Rattle.std.specs.Prelude.{◌≡◌, Bool, true, false, List, [], ◌∷◌, Result, Ok, Err, IfErr, IfOk}
-use Rattle.mb_load.specs.Empty.{empty_state}
-use Rattle.mb_load.specs.State.{State}
+use Rattle.mb_loaded.specs.Empty.{empty_state}
+use Rattle.mb_loaded.specs.State.{State}
 use Rattle.mb_load.specs.StateOf.{state_of}
 use Rattle.mb_store.specs.Store.{created}
 use Rattle.mb_tables.specs.Refusals.{then}

@@ -5,9 +5,9 @@ use Rattle.mb_insert.specs.Batch.{place_in}
 use Rattle.mb_insert.specs.declared.new_tile.NewTile.{NewTile}
 use Rattle.mb_load.specs.Committed.{IsCommitted}
 use Rattle.mb_load.specs.Committing.{MakesChanges}
-use Rattle.mb_load.specs.Edits.{with_name, with_tile}
-use Rattle.mb_load.specs.Held.{Held, fresh}
-use Rattle.mb_load.specs.State.{State}
+use Rattle.mb_loaded.specs.Edits.{with_name, with_tile}
+use Rattle.mb_loaded.specs.Held.{Held, fresh}
+use Rattle.mb_loaded.specs.State.{State}
 use Rattle.mb_load.specs.StateOf.{state_of}
 use Rattle.mb_metadata.specs.NameEdits.{held_edited}
 use Rattle.mb_metadata.specs.Updating.{update_edits}

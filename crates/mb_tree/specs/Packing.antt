@@ -4,7 +4,7 @@ use Rattle.mb_constraints.specs.DiffHashes.{refused_by}
 use Rattle.mb_insert.specs.Insertion.{bad_coord, duplicates}
 use Rattle.mb_insert.specs.declared.mode.CopyDuplicateMode.TheVariants.{Abort}
 use Rattle.mb_insert.specs.declared.new_tile.NewTile.{NewTile}
-use Rattle.mb_load.specs.State.{State}
+use Rattle.mb_loaded.specs.State.{State}
 use Rattle.mb_tables.specs.Refusals.{first_refusal, first_refused, unless}
 use Rattle.mb_tables.specs.declared.error.MbtError.{MbtError}
 use Rattle.mb_tables.specs.declared.error.MbtError.TheVariants.{InconsistentTileFormats, UnsupportedFileExtension}

@@ -5,7 +5,7 @@ use Rattle.std.specs.Fmt.{decimal}
 use Rattle.std.specs.Path.{dot, slash}
 use Rattle.mb_lists.specs.Metadata.{text_at}
 use Rattle.mb_load.specs.Begun.{begun}
-use Rattle.mb_load.specs.State.{State}
+use Rattle.mb_loaded.specs.State.{State}
 use Rattle.mb_load.specs.StateOf.{state_of}
 use Rattle.mb_tables.specs.Refusals.{then}
 use Rattle.mb_tables.specs.Table.{Tables}

@@ -3,7 +3,7 @@ ghost use Rattle.std.specs.Prelude.{◌≡◌, ◌<◌, ◌^◌, ◌++◌, ◌�
 ghost use Rattle.std.specs.FinMap.{contains_key, empty, retain_keys};
 ghost use Rattle.std.specs.Path.{slash};
 ghost use Rattle.mb_load.specs.Begun.{begun};
-ghost use Rattle.mb_load.specs.State.{State};
+ghost use Rattle.mb_loaded.specs.State.{State};
 ghost use Rattle.mb_load.specs.StateOf.{state_of};
 ghost use Rattle.mb_tables.specs.Table.{Tables};
 ghost use Rattle.mb_tree.specs.Base.{base_of};

@@ -4,7 +4,7 @@ ghost use Rattle.mb_tree.specs.Packed.{with_format, with_zooms};
 
 use crate::format::FileFormat;
 use base_values::{OutOfMemory, TextVal};
-use mb_load::Loaded;
+use mb_loaded::Loaded;
 use mb_metadata::{UpdateZoomType, with_zooms};
 use mb_store::Cell;
 use std::alloc::Global;

@@ -13,7 +13,7 @@ use crate::naming::with_names;
 use crate::packing::{put_files, test_apart};
 use crate::tests_of_paths::{first_format, test_paths};
 use crate::{TileScheme, TileTree};
-use mb_load::Loaded;
+use mb_loaded::Loaded;
 use mb_store::{MbtError, MbtResult, TileStore};
 use std::alloc::Global;
 

@@ -13,7 +13,8 @@ ghost use Rattle.mb_tree.specs.Unpacked.{IsFront, IsUnpacking, files_of, format_
 use crate::format::FileFormat;
 use crate::{TileScheme, TileTree, TreeError};
 use base_values::OutOfMemory;
-use mb_load::{Loaded, load};
+use mb_load::load;
+use mb_loaded::Loaded;
 use mb_store::{Cell, MbtError, MbtResult, TileStore};
 use std::alloc::Global;
 use tile_ids::TileCoord;

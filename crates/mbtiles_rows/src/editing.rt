@@ -1,6 +1,6 @@
 // One edit of a loaded set, of itself or of it opened for many edits.
 use base_values::BlobVal;
-use mb_load::Loaded;
+use mb_loaded::Loaded;
 use mb_store::MbtType;
 use mb_tables::Cell;
 use rows_shared::{Words, number};

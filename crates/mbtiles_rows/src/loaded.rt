@@ -1,6 +1,7 @@
 // Sets that are made of nothing, or loaded, then edited, printed and committed to the kept store.
 use crate::editing::edit;
-use mb_load::{Loaded, load};
+use mb_load::load;
+use mb_loaded::Loaded;
 use mb_store::{MbtType, MemStore, NormalizedSchema};
 use mb_tables::Cell;
 use rows_shared::{Words, number, say};

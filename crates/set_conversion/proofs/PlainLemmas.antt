@@ -1,6 +1,6 @@
 -- The options of a set label directories `None`.
 use Rattle.std.proofs.Common.{◌∙◌, ap, ℕ, Option, Some, None, refl}
-use Rattle.mb_load.specs.State.{State}
+use Rattle.mb_loaded.specs.State.{State}
 use Rattle.pm_format.specs.Options.{Options}
 use Rattle.set_options.specs.OptionsOfSet.{AreOptionsOfSet, said_by, with_bounds, with_center, with_center_zoom, writer_of}
 use Rattle.set_options.specs.declared.extents.SetBounds.{SetBounds}

@@ -4,7 +4,7 @@ ghost use Rattle.set_options.specs.OptionsOfSet.{AreOptionsOfSet};
 ghost use Rattle.tile_bridge.specs.Convert.{IsPlain};
 
 use base_values::OutOfMemory;
-use mb_load::Loaded;
+use mb_loaded::Loaded;
 use pm_writer::PmTilesWriter;
 use set_options::options_of_set;
 use std::alloc::Global;

@@ -2,7 +2,7 @@
 use Rattle.std.specs.Prelude.{◌≡◌, ℕ, List, Option, Some, None, codes, unwrap_or}
 use Rattle.std.specs.Option.{option_and_then}
 use Rattle.mb_lists.specs.Metadata.{text_at}
-use Rattle.mb_load.specs.State.{State}
+use Rattle.mb_loaded.specs.State.{State}
 use Rattle.pm_format.specs.Options.{Options, default_options}
 use Rattle.set_options.specs.ArchiveJson.{IsTextOf, archive_data}
 use Rattle.set_options.specs.Extents.{bounds_in, center_in}

@@ -7,7 +7,7 @@ ghost use Rattle.serde_json.specs.View.{members_view, view};
 ghost use Rattle.set_options.specs.ArchiveJson.{archive_data, archive_members, is_left_out, members_in, with_name, IsTextOf};
 
 use base_values::{OutOfMemory, TextVal};
-use mb_load::Loaded;
+use mb_loaded::Loaded;
 use mb_store::Cell;
 use serde_json::{Map, Value};
 use std::alloc::Global;

@@ -2,7 +2,7 @@
 ghost use Rattle.std.specs.Prelude.{◌≡◌};
 ghost use Rattle.set_options.specs.Facts.{facts_of, is_gzip, label_of, with_bytes, with_cell, with_zoom};
 
-use mb_load::Loaded;
+use mb_loaded::Loaded;
 use mb_store::Cell;
 use pm_format::{Compression, TileType};
 

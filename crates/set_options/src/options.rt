@@ -12,7 +12,7 @@ use crate::facts::{facts_of, label_of};
 use crate::format::type_of;
 use crate::{SetBounds, SetCenter};
 use base_values::{OutOfMemory, TextVal};
-use mb_load::Loaded;
+use mb_loaded::Loaded;
 use pm_format::{Compression, TileType};
 use pm_writer::PmTilesWriter;
 use std::alloc::Global;

@@ -1,6 +1,7 @@
 // Edits of the set that the kept store holds, one at a time, and the commit of their changes.
 use crate::loads::say_set;
-use mb_load::{Loaded, load};
+use mb_load::load;
+use mb_loaded::Loaded;
 use mb_store::{Changes, MemStore};
 use mb_tables::Cell;
 use rows_shared::{Words, number, say};

@@ -1,5 +1,6 @@
 // Loading of the store that is kept.
-use mb_load::{Loaded, load};
+use mb_load::load;
+use mb_loaded::Loaded;
 use mb_store::{MbtResult, MemStore};
 use rows_shared::{said, say};
 use std::alloc::Global;

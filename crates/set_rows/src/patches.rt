@@ -1,7 +1,8 @@
 // Patches of a second store that is kept beside the store.
 use crate::loads::said_loaded;
 use mb_edit::{apply_patch, patch_loaded};
-use mb_load::{Loaded, load};
+use mb_load::load;
+use mb_loaded::Loaded;
 use mb_store::{MbtResult, MemStore};
 use rows_shared::{Words, said};
 use std::alloc::Global;

@@ -10,10 +10,10 @@ use Rattle.mb_edit.specs.Applying.{stands_in}
 use Rattle.mb_load.specs.Committing.{MakesChanges}
 use Rattle.mb_load.proofs.CommittedLemmas.{is_committed}
 use Rattle.mb_load.specs.Committed.{IsCommitted}
-use Rattle.mb_load.specs.Held.{Held, fresh}
+use Rattle.mb_loaded.specs.Held.{Held, fresh}
 use Rattle.mb_load.specs.LoadedFrom.{IsLoadedFrom, NamesAlgorithm}
-use Rattle.mb_load.specs.Aggregate.{aggregate}
-use Rattle.mb_load.specs.State.{State}
+use Rattle.mb_loaded.specs.Aggregate.{aggregate}
+use Rattle.mb_loaded.specs.State.{State}
 use Rattle.mb_load.specs.StateOf.{state_of}
 use Rattle.mb_store.specs.Store.{IsSound}
 use Rattle.mb_tables.specs.Kind.{tile_table}

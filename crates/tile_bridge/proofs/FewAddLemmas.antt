@@ -7,7 +7,7 @@ use Rattle.std.proofs.lemmas.List.Sums.{sum_by-cons}
 use Rattle.std.specs.List.{cons_option, list_any}
 use Rattle.std.specs.List.Sorted.{IsPermutation}
 use Rattle.std.specs.FinMap.{entries}
-use Rattle.mb_load.specs.Aggregate.{bytes_of}
+use Rattle.mb_loaded.specs.Aggregate.{bytes_of}
 use Rattle.mb_tables.specs.Tiles.{Place, TileSet}
 use Rattle.pm_format.specs.Options.{Options}
 use Rattle.pm_writer.specs.Bounds.{AllSized}

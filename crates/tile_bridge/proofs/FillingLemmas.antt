@@ -10,7 +10,7 @@ use Rattle.std.specs.Option.{option_map}
 use Rattle.std.specs.FinMap.{entries, len, len-entries}
 use Rattle.tile_ids.specs.Coord.{Coord, IsCoord}
 use Rattle.tile_ids.specs.Hilbert.{id_of}
-use Rattle.mb_load.specs.Aggregate.{bytes_of}
+use Rattle.mb_loaded.specs.Aggregate.{bytes_of}
 use Rattle.mb_lists.specs.Entries.{blob_cell, place_at}
 use Rattle.mb_tables.specs.Tiles.{Place, TileSet}
 use Rattle.mb_tables.specs.declared.cell.Cell.{Cell}

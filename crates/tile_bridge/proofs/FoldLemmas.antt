@@ -9,9 +9,9 @@ use Rattle.std.specs.List.{list_all}
 use Rattle.base_values.specs.Counts.{Rose}
 use Rattle.mb_edit.specs.HeldPatched.{held_patched}
 use Rattle.mb_edit.specs.Step.{step}
-use Rattle.mb_load.specs.Held.{Held}
+use Rattle.mb_loaded.specs.Held.{Held}
 use Rattle.mb_load.specs.LoadedFrom.{IsLoadedFrom, NamesAlgorithm}
-use Rattle.mb_load.specs.State.{State}
+use Rattle.mb_loaded.specs.State.{State}
 use Rattle.mb_load.specs.StateOf.{state_of}
 use Rattle.mb_tables.specs.Table.{Tables}
 use Rattle.mb_store.specs.Kept.{ReadsOnly}

@@ -1,8 +1,8 @@
 -- What a conversion leaves whose options are given by its set.
 use Rattle.std.proofs.Common.{◌≡◌, inr, ℕ, Bool, true, List, Option, Some, IfOk, Result, Ok, refl}
 use Rattle.tile_ids.specs.Coord.{Coord}
-use Rattle.mb_load.specs.Aggregate.{aggregate}
-use Rattle.mb_load.specs.State.{State}
+use Rattle.mb_loaded.specs.Aggregate.{aggregate}
+use Rattle.mb_loaded.specs.State.{State}
 use Rattle.mb_tables.specs.Table.{Tables}
 use Rattle.pm_format.specs.Options.{Options}
 use Rattle.tile_bridge.proofs.OutcomeLemmas.{set_aggregate, set_leaves}

@@ -13,11 +13,11 @@ use Rattle.mb_edit.specs.Patched.{patched_at}
 use Rattle.mb_edit.specs.Step.{state_patched}
 use Rattle.mb_load.proofs.EditedFrom.{stay_named}
 use Rattle.mb_load.proofs.LoadsFrom.{state_whole}
-use Rattle.mb_load.specs.Changing.{cells_for, front, tile_row}
-use Rattle.mb_load.specs.Edits.{dates_for, id_for}
-use Rattle.mb_load.specs.Held.{Held}
-use Rattle.mb_load.specs.Editable.{IsOnBoard}
-use Rattle.mb_load.specs.State.{State}
+use Rattle.mb_loaded.specs.Changing.{cells_for, front, tile_row}
+use Rattle.mb_loaded.specs.Edits.{dates_for, id_for}
+use Rattle.mb_loaded.specs.Held.{Held}
+use Rattle.mb_loaded.specs.Editable.{IsOnBoard}
+use Rattle.mb_loaded.specs.State.{State}
 use Rattle.mb_load.specs.StateOf.{state_of}
 use Rattle.mb_lists.specs.declared.dates.Dates.{Dates}
 use Rattle.mb_tables.specs.Table.{Tables}

@@ -8,7 +8,7 @@ use Rattle.std.specs.Prelude.{slice_get, unwrap_or}
 use Rattle.std.specs.List.{list_any}
 use Rattle.std.specs.Option.{option_map}
 use Rattle.std.specs.FinMap.{entries, len, len-entries}
-use Rattle.mb_load.specs.Aggregate.{bytes_of}
+use Rattle.mb_loaded.specs.Aggregate.{bytes_of}
 use Rattle.mb_tables.specs.Tiles.{Place, TileSet}
 use Rattle.tile_bridge.specs.Adds.{bytes_at}
 use Rattle.tile_bridge.specs.Outcome.{overflows}

@@ -4,7 +4,7 @@ use Rattle.std.specs.Option.{option_map}
 use Rattle.std.specs.FinMap.{entries, find, get, is_sorted, len}
 use Rattle.std.specs.Ordering.{nat_cmp}
 use Rattle.tile_ids.specs.declared.id.TheConstants.{MAX_TILE_ID}
-use Rattle.mb_load.specs.Aggregate.{bytes_of}
+use Rattle.mb_loaded.specs.Aggregate.{bytes_of}
 use Rattle.mb_tables.specs.Tiles.{Place, TileSet, solid}
 use Rattle.mb_tables.specs.declared.cell.Cell.{Cell}
 use Rattle.mb_tables.specs.declared.cell.Cell.TheVariants.{Blob}

@@ -1,8 +1,8 @@
 -- What a conversion leaves of its base.
 use Rattle.std.specs.Prelude.{ℕ, ◌≡◌, ◌⊎◌, Bool, true, List, Option, Result, Ok, Err, IfSome}
 use Rattle.tile_ids.specs.Coord.{Coord}
-use Rattle.mb_load.specs.Aggregate.{aggregate}
-use Rattle.mb_load.specs.State.{State}
+use Rattle.mb_loaded.specs.Aggregate.{aggregate}
+use Rattle.mb_loaded.specs.State.{State}
 use Rattle.mb_tables.specs.Table.{Tables}
 use Rattle.tile_bridge.specs.Convert.{IsConverted}
 use Rattle.tile_bridge.specs.Outcome.{outcome}

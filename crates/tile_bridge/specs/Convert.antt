@@ -4,9 +4,9 @@ use Rattle.std.specs.FinMap.{FinMap, get}
 use Rattle.std.specs.Ordering.{nat_cmp}
 use Rattle.tile_ids.specs.Coord.{Coord}
 use Rattle.tile_ids.specs.Hilbert.{id_of, tile_id}
-use Rattle.mb_load.specs.Aggregate.{aggregate}
+use Rattle.mb_loaded.specs.Aggregate.{aggregate}
 use Rattle.mb_tables.specs.Refusals.{is_free}
-use Rattle.mb_load.specs.State.{State}
+use Rattle.mb_loaded.specs.State.{State}
 use Rattle.mb_tables.specs.Tiles.{Place, TileSet, solid}
 use Rattle.pm_contents.specs.Pieces.{BothTold}
 use Rattle.pm_format.specs.declared.compression.Compression.TheVariants as compression

@@ -1,7 +1,7 @@
 -- A conversion whose options are given by the set that it comes to.
 use Rattle.std.specs.Prelude.{ℕ, ◌≡◌, ◌⊎◌, Bool, true, List, Option, Some, Result, Ok, OnOk, IfOk}
 use Rattle.tile_ids.specs.Coord.{Coord}
-use Rattle.mb_load.specs.State.{State}
+use Rattle.mb_loaded.specs.State.{State}
 use Rattle.mb_tables.specs.Table.{Tables}
 use Rattle.pm_format.specs.Options.{Options, default_options}
 use Rattle.pm_format.specs.declared.tile_type.TileType.TheVariants as types

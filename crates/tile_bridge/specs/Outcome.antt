@@ -3,10 +3,10 @@ use Rattle.std.specs.Prelude.{ℕ, codes, suc, ◌^◌, Bool, cond, ◌&&◌, �
 use Rattle.std.specs.List.{list_all, list_any}
 use Rattle.std.specs.Str.{bytes_eq}
 use Rattle.std.specs.FinMap.{entries}
-use Rattle.mb_load.specs.Aggregate.{aggregate, bytes_of}
+use Rattle.mb_loaded.specs.Aggregate.{aggregate, bytes_of}
 use Rattle.mb_lists.specs.Metadata.{text_at}
 use Rattle.mb_tables.specs.Refusals.{unless}
-use Rattle.mb_load.specs.State.{State}
+use Rattle.mb_loaded.specs.State.{State}
 use Rattle.mb_load.specs.StateOf.{state_of}
 use Rattle.mb_edit.specs.Step.{step}
 use Rattle.mb_tables.specs.Table.{Tables}

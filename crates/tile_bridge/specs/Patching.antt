@@ -7,11 +7,11 @@ use Rattle.mb_edit.specs.Applying.{put_row}
 use Rattle.mb_load.specs.Committing.{MakesChanges}
 use Rattle.mb_edit.specs.HeldPatched.{held_patched}
 use Rattle.mb_edit.specs.Step.{step}
-use Rattle.mb_load.specs.Changing.{content_table, tile_key}
+use Rattle.mb_loaded.specs.Changing.{content_table, tile_key}
 use Rattle.mb_load.specs.Committed.{is_set_table, rows_under}
-use Rattle.mb_load.specs.Held.{Held, fresh}
+use Rattle.mb_loaded.specs.Held.{Held, fresh}
 use Rattle.mb_load.specs.LoadedFrom.{IsLoadedFrom, NamesAlgorithm}
-use Rattle.mb_load.specs.State.{State}
+use Rattle.mb_loaded.specs.State.{State}
 use Rattle.mb_load.specs.StateOf.{state_of}
 use Rattle.mb_tables.specs.Cell.{is_null}
 use Rattle.mb_tables.specs.Kind.{tile_table}

@@ -10,7 +10,7 @@ ghost use Rattle.tile_bridge.specs.Adds.{AreAddsOf, AreFilled, AreWithin, bytes_
 ghost use Rattle.tile_bridge.specs.Outcome.{overflows};
 
 use base_values::OutOfMemory;
-use mb_load::Loaded;
+use mb_loaded::Loaded;
 use mb_store::Cell;
 use std::alloc::Global;
 use tile_ids::{TileCoord, TileId};

@@ -2,7 +2,7 @@
 ghost use Rattle.std.specs.Prelude.{◌≡◌, ◌+◌, ◌∷◌, false, map, ℕ, IfOk, IsErrOf};
 ghost use Rattle.base_values.specs.Counts.{Rose};
 ghost use Rattle.byte_media.specs.Kept.{KeepsMedium};
-ghost use Rattle.mb_load.specs.Aggregate.{aggregate};
+ghost use Rattle.mb_loaded.specs.Aggregate.{aggregate};
 ghost use Rattle.mb_store.specs.Kept.{Keeps};
 ghost use Rattle.tile_bridge.specs.Base.{BaseLeaves};
 ghost use Rattle.tile_bridge.specs.Convert.{ConvertCauses, ConvertLeaves, HasAggregate, IsEmpty, IsPlain, SetCauses, SetLeaves};
@@ -18,7 +18,7 @@ use crate::resolving::resolve;
 use crate::writing::write_archive;
 use crate::{ConvertError, ConvertOptions, ConvertReport};
 use base_values::TextVal;
-use mb_load::Loaded;
+use mb_loaded::Loaded;
 use mb_store::TileStore;
 use pm_format::{Compression, Medium, PmtError, ReadCause};
 use pm_writer::PmTilesWriter;

@@ -1,11 +1,11 @@
 // Options of an archive that the set gives of which it is made.
 ghost use Rattle.std.specs.Prelude.{IfOk};
-ghost use Rattle.mb_load.specs.State.{State};
+ghost use Rattle.mb_loaded.specs.State.{State};
 ghost use Rattle.pm_format.specs.Options.{Options};
 ghost use Rattle.tile_bridge.specs.Convert.{IsPlain};
 
 use base_values::OutOfMemory;
-use mb_load::Loaded;
+use mb_loaded::Loaded;
 use pm_writer::PmTilesWriter;
 use std::alloc::Global;
 

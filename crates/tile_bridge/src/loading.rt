@@ -1,7 +1,7 @@
 // The stores of a conversion are loaded.
 ghost use Rattle.std.specs.Prelude.{◌≡◌, ◌≢◌, ℕ, true, Err, IfErr, IfOk, IsErrOf, Ok};
 ghost use Rattle.base_values.specs.Counts.{Rose};
-ghost use Rattle.mb_load.specs.Held.{nothing_edited};
+ghost use Rattle.mb_loaded.specs.Held.{nothing_edited};
 ghost use Rattle.mb_load.specs.StateOf.{state_of};
 ghost use Rattle.mb_load.specs.LoadedFrom.{IsLoadable, IsLoadedFrom, NamesAlgorithm};
 ghost use Rattle.mb_store.specs.Kept.{ReadsOnly};
@@ -10,7 +10,8 @@ ghost use Rattle.tile_bridge.specs.Patching.{HoldsState};
 ghost use Rattle.tile_bridge.specs.Stores.{Refuses, due_at, refusal_at};
 
 use crate::ConvertError;
-use mb_load::{Loaded, load, load_owned};
+use mb_load::{load, load_owned};
+use mb_loaded::Loaded;
 use mb_store::{MbtError, MemStore, TileStore};
 use std::alloc::Global;
 

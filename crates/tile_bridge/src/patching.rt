@@ -10,7 +10,7 @@ ghost use Rattle.tile_bridge.specs.Stores.{AreOnlyRead, IsDue, IsStoreError, Ref
 use crate::ConvertError;
 use crate::loading::{load_at, of_store};
 use mb_edit::{commit_loaded, patch_loaded};
-use mb_load::Loaded;
+use mb_loaded::Loaded;
 use mb_store::TileStore;
 use std::alloc::Global;
 

@@ -1,7 +1,7 @@
 // The set that is converted.
 ghost use Rattle.std.specs.Prelude.{◌≡◌, ◌≢◌, ◌∷◌, ℕ, cond, false, true, Err, IfErr, IfOk, IsErrOf, None, Ok, Some, map};
 ghost use Rattle.mb_tables.specs.Refusals.{is_free};
-ghost use Rattle.mb_load.specs.Aggregate.{aggregate};
+ghost use Rattle.mb_loaded.specs.Aggregate.{aggregate};
 ghost use Rattle.mb_store.specs.Kept.{ReadsOnly};
 ghost use Rattle.mb_store.specs.MemStore.{told_of};
 ghost use Rattle.tile_bridge.specs.Outcome.{due, overflows, tested, unverified};
@@ -13,7 +13,7 @@ use crate::loading::{load_at, load_base, of_store};
 use crate::patching::patch_all;
 use crate::{ConvertError, ConvertOptions};
 use base_values::TextVal;
-use mb_load::Loaded;
+use mb_loaded::Loaded;
 use mb_store::{AGG_TILES_HASH, MbtError, MbtResult, MemStore, TileStore};
 use std::alloc::Global;
 

@@ -14,7 +14,7 @@ ghost use Rattle.tile_bridge.specs.Writing.{CanBeWritten, WriteCauses};
 
 use crate::adds::{Add, tile_bytes};
 use base_values::OutOfMemory;
-use mb_load::Loaded;
+use mb_loaded::Loaded;
 use pm_format::{Medium, PmtResult};
 use pm_writer::{ArchivePlaces, PmTilesWriter, WriterState};
 use std::alloc::Global;

@@ -4,8 +4,8 @@ use Rattle.std.proofs.lemmas.Bool.{true≢false}
 use Rattle.std.specs.FinMap.{len}
 use Rattle.mb_edit.specs.Put.{may_put}
 use Rattle.mb_load.specs.Begun.{IsBegun, begun}
-use Rattle.mb_load.specs.Editable.{is_editable}
-use Rattle.mb_load.specs.State.{State}
+use Rattle.mb_loaded.specs.Editable.{is_editable}
+use Rattle.mb_loaded.specs.State.{State}
 use Rattle.mb_load.specs.StateOf.{state_of}
 use Rattle.mb_tables.specs.Refusals.{then}
 use Rattle.mb_tables.specs.Refusals as tests

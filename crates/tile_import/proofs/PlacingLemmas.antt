@@ -10,9 +10,9 @@ use Rattle.tile_ids.specs.Hilbert.{coord_of, hilbert, id_of, pyramid, tile_id}
 use Rattle.tile_ids.specs.declared.id.TheConstants.{MAX_TILE_ID}
 use Rattle.mb_lists.specs.Entries.{place_at}
 use Rattle.mb_load.proofs.EditedFrom.{same_place}
-use Rattle.mb_load.specs.Edits.{with_tile, with_tiles}
-use Rattle.mb_load.specs.Held.{Held}
-use Rattle.mb_load.specs.Editable.{IsOnBoard}
+use Rattle.mb_loaded.specs.Edits.{with_tile, with_tiles}
+use Rattle.mb_loaded.specs.Held.{Held}
+use Rattle.mb_loaded.specs.Editable.{IsOnBoard}
 use Rattle.mb_tables.proofs.TileLemmas.{places_total}
 use Rattle.mb_tables.specs.Tiles.{Place, TileSet, place_cmp}
 use Rattle.tile_bridge.proofs.PlaceLemmas.{coord_address, coord_placed, one_tie}

@@ -14,7 +14,7 @@ use Rattle.pm_writer.specs.Archive.{canon}
 use Rattle.mb_edit.proofs.LawLemmas.{get-patched}
 use Rattle.mb_edit.specs.Patched.{patched, patched_at}
 use Rattle.mb_edit.specs.Put.{state_put}
-use Rattle.mb_load.specs.State.{State}
+use Rattle.mb_loaded.specs.State.{State}
 use Rattle.mb_tables.proofs.TileLemmas.{get-solid}
 use Rattle.mb_tables.specs.Tiles.{Place, TileSet, is_solid, place_cmp, solid}
 use Rattle.tile_bridge.specs.Convert.{HoldsExactly, IsArchiveOf, address}

@@ -1,8 +1,8 @@
 -- Sets into which tiles can be put.
 use Rattle.std.proofs.Common.{◌≡◌, ◌∙◌, ap, sym, Bool, true, false, Some, None, Ok, Err, refl}
 use Rattle.std.proofs.lemmas.Option.{none-some}
-use Rattle.mb_load.specs.Editable.{is_editable}
-use Rattle.mb_load.specs.State.{State}
+use Rattle.mb_loaded.specs.Editable.{is_editable}
+use Rattle.mb_loaded.specs.State.{State}
 use Rattle.mb_tables.specs.Refusals.{unless}
 use Rattle.mb_tables.specs.declared.error.MbtError.{MbtError}
 use Rattle.mb_tables.specs.declared.error.MbtError.TheVariants.{UnsupportedCopyOperation}

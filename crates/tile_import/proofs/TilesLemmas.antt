@@ -20,7 +20,7 @@ use Rattle.pm_walk.specs.Collecting.{AllShallow, contents_of}
 use Rattle.pm_walk.specs.Parts.{full}
 use Rattle.pm_walk.specs.Walk.{all_walked}
 use Rattle.pm_walk.specs.declared.extent.TheConstants.{FIRST_TOO_DEEP}
-use Rattle.mb_load.specs.Editable.{IsOnBoard}
+use Rattle.mb_loaded.specs.Editable.{IsOnBoard}
 use Rattle.mb_tables.specs.Tiles.{Place, place_cmp}
 use Rattle.tile_bridge.specs.Adds.{InRange}
 use Rattle.tile_bridge.specs.Convert.{address}

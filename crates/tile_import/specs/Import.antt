@@ -12,8 +12,8 @@ use Rattle.pm_reader.specs.Opening.{IsOpenRefusal}
 use Rattle.pm_walk.specs.Walk.{all_walked}
 use Rattle.mb_edit.specs.Put.{may_put}
 use Rattle.mb_edit.specs.PutTables.{ArePut}
-use Rattle.mb_load.specs.Editable.{is_editable}
-use Rattle.mb_load.specs.State.{State}
+use Rattle.mb_loaded.specs.Editable.{is_editable}
+use Rattle.mb_loaded.specs.State.{State}
 use Rattle.mb_load.specs.StateOf.{state_of}
 use Rattle.mb_tables.specs.Table.{Tables}
 use Rattle.mb_tables.specs.Tiles.{TileSet}

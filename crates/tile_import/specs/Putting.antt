@@ -6,7 +6,7 @@ use Rattle.tile_ids.specs.Hilbert.{coord_of}
 use Rattle.pm_format.specs.declared.header.Header.{Header}
 use Rattle.pm_format.specs.Directory.{Entry}
 use Rattle.mb_lists.specs.Entries.{place_at}
-use Rattle.mb_load.specs.Editable.{IsOnBoard}
+use Rattle.mb_loaded.specs.Editable.{IsOnBoard}
 use Rattle.mb_tables.specs.Tiles.{Place, TileSet}
 use Rattle.pm_walk.specs.Collecting.{contents_of}
 

@@ -3,7 +3,7 @@ use Rattle.std.specs.Prelude.{◌≤◌, Result, Ok, Err}
 use Rattle.tile_ids.specs.declared.id.TheConstants.{MAX_TILE_ID}
 use Rattle.pm_walk.specs.declared.error.WalkError.{WalkError}
 use Rattle.pm_walk.specs.declared.error.WalkError.TheVariants.{TooDeep}
-use Rattle.mb_load.specs.Held.{Held}
+use Rattle.mb_loaded.specs.Held.{Held}
 use Rattle.mb_tables.specs.Tiles.{TileSet}
 use Rattle.tile_import.specs.declared.error.ImportError.{ImportError}
 

@@ -4,7 +4,7 @@ use Rattle.std.specs.Option.{option_map}
 use Rattle.std.specs.FinMap.{contains_key, get}
 use Rattle.tile_ids.specs.Hilbert.{pyramid}
 use Rattle.pm_format.specs.LookUp.{archive_map}
-use Rattle.mb_load.specs.Editable.{IsOnBoard}
+use Rattle.mb_loaded.specs.Editable.{IsOnBoard}
 use Rattle.mb_tables.specs.Tiles.{Place, TileSet}
 use Rattle.tile_bridge.specs.Convert.{address}
 

@@ -6,7 +6,7 @@ ghost use Rattle.pm_format.specs.LookUp.{archive_map};
 ghost use Rattle.pm_format.specs.Options.{Options};
 ghost use Rattle.pm_writer.specs.Archive.{canon};
 ghost use Rattle.mb_edit.specs.Put.{state_put};
-ghost use Rattle.mb_load.specs.State.{State};
+ghost use Rattle.mb_loaded.specs.State.{State};
 ghost use Rattle.mb_tables.specs.Tiles.{TileSet};
 ghost use Rattle.tile_bridge.specs.Convert.{HoldsExactly, IsArchiveOf};
 ghost use Rattle.tile_import.specs.Tiles.{HasTilesOf};

@@ -13,7 +13,7 @@ ghost use Rattle.tile_import.specs.Refusals.{Reads, of_read_error, of_walk_error
 
 use crate::ImportError;
 use crate::tiles::{no_tiles, settle_tiles};
-use mb_load::Loaded;
+use mb_loaded::Loaded;
 use pm_format::{Backend, PmtError};
 use pm_reader::ReaderState;
 use pm_walk::{WalkError, take_entries};

@@ -5,7 +5,7 @@ ghost use Rattle.base_values.specs.Counts.{Rose};
 ghost use Rattle.mb_edit.specs.Put.{may_put, tiles_put};
 ghost use Rattle.mb_edit.specs.PutTables.{ArePut};
 ghost use Rattle.mb_load.specs.Begun.{IsBegun};
-ghost use Rattle.mb_load.specs.Changing.{AreChangesOf};
+ghost use Rattle.mb_loaded.specs.Changing.{AreChangesOf};
 ghost use Rattle.mb_load.specs.Committing.{MakesChanges};
 ghost use Rattle.mb_load.specs.LoadedFrom.{AllOnBoard, IsLoadedFrom};
 ghost use Rattle.mb_tables.specs.Refusals.{is_free};
@@ -14,7 +14,8 @@ ghost use Rattle.tile_import.specs.Storing.{IsBase, editable, state_in};
 
 use base_values::OutOfMemory;
 use mb_edit::{move_tiles, test_editable};
-use mb_load::{Loaded, load};
+use mb_load::load;
+use mb_loaded::Loaded;
 use mb_store::{Changes, MbtError, MbtResult, TileStore};
 use std::alloc::Global;
 

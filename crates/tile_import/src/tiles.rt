@@ -6,7 +6,7 @@ ghost use Rattle.tile_import.specs.Putting.{IsMadeOf, ids_of, place_of_id, with_
 
 use base_values::{BlobVal, OutOfMemory};
 use bytes::Bytes;
-use mb_load::{Editing, Loaded};
+use mb_loaded::{Editing, Loaded};
 use mb_store::MbtType;
 use pm_format::DirEntry;
 use pm_walk::TakesEntries;

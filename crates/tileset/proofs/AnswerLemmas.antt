@@ -4,7 +4,7 @@ use Rattle.std.specs.Result.{IsErrAnd}
 use Rattle.std.proofs.lemmas.Bool.Decides.{nat_tests}
 use Rattle.byte_streams.specs.Input.{IsShort}
 use Rattle.pm_format.specs.declared.compression.Compression.TheVariants as compression
-use Rattle.mb_load.specs.State.{State}
+use Rattle.mb_loaded.specs.State.{State}
 use Rattle.tileset.specs.Run.{Given, Gives, IsScript, IsScriptOf, IsTold, IsValid, LoadCauses, ScriptCauses, Spells, TellsScript, Yields, answer, answer_command, answer_input, answer_label, answer_script, answer_set, converted, outcome_of}
 use Rattle.tileset_script.specs.Script.{Script, script_of}
 use Rattle.tileset_script.specs.Words.{command}

@@ -3,7 +3,7 @@ use Rattle.std.proofs.Common.{◌≡◌, ◌⊎◌, ℕ, inl, inr, List, [], ◌
 use Rattle.std.specs.Result.{IsErrAnd}
 use Rattle.tile_ids.specs.Coord.{Coord}
 use Rattle.pm_contents.specs.Pieces.{BothTold}
-use Rattle.mb_load.specs.State.{State}
+use Rattle.mb_loaded.specs.State.{State}
 use Rattle.tile_bridge.specs.Convert.{ConvertCauses, ConvertLeaves, HasAggregate, IsArchiveOf, IsEmpty, LeavesPart}
 use Rattle.tile_bridge.specs.declared.error.ConvertError.TheVariants.{MediumFault, ReadBack, OutOfMemory}
 use Rattle.tile_bridge.specs.declared.report.ConvertReport.{ConvertReport}

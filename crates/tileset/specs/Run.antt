@@ -8,8 +8,8 @@ use Rattle.pm_format.specs.declared.compression.Compression.TheVariants as compr
 use Rattle.pm_format.specs.LookUp.{archive_map}
 use Rattle.pm_writer.specs.Places.{places_read}
 use Rattle.mb_tables.specs.Refusals.{is_free}
-use Rattle.mb_load.specs.State.{State}
-use Rattle.mb_load.specs.Aggregate.{aggregate}
+use Rattle.mb_loaded.specs.State.{State}
+use Rattle.mb_loaded.specs.Aggregate.{aggregate}
 use Rattle.tile_bridge.specs.Convert.{IsArchiveOf, IsEmpty, IsPlain, LeavesPart}
 use Rattle.tile_bridge.specs.Outcome.{outcome}
 use Rattle.tile_bridge.specs.ReadingBack.{IsReadBack}

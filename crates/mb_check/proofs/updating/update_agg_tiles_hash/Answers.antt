@@ -4,7 +4,7 @@ use Rattle.mb_check.specs.AggregateHash.{own_hash_answer}
 use Rattle.mb_load.proofs.BegunLemmas.{begun_err, begun_free, begun_ok}
 use Rattle.mb_check.proofs.UpdatedLemmas.{hashed_loaded, hashed_updated}
 use Rattle.mb_load.specs.Committing.{MakesChanges}
-use Rattle.mb_load.specs.Held.{Held}
+use Rattle.mb_loaded.specs.Held.{Held}
 use Rattle.mb_load.specs.LoadedFrom.{IsLoadedFrom}
 use Rattle.mb_tables.specs.Table.{Tables}
 use Rattle.mb_check.proofs.updating.update_agg_tiles_hash.Goals as goal

@@ -6,7 +6,7 @@ use Rattle.mb_copy.specs.Clearing.{removed_all}
 use Rattle.mb_lists.proofs.NameLemmas.{names_antisymmetric}
 use Rattle.mb_lists.proofs.Places.{places_antisymmetric}
 use Rattle.mb_lists.specs.Entries.{place_at}
-use Rattle.mb_load.specs.Held.{Held}
+use Rattle.mb_loaded.specs.Held.{Held}
 use Rattle.mb_tables.proofs.TileLemmas.{places_total}
 use Rattle.mb_copy.proofs.chosen.put_of.Goals as goal
 

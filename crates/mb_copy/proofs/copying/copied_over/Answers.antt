@@ -4,7 +4,7 @@ use Rattle.mb_copy.proofs.CopiedLemmas.{both_passed, edit_refused, kind_refused,
 use Rattle.mb_copy.specs.CopyOrder.{may_copy, may_copy_over}
 use Rattle.mb_copy.specs.Target.{asked_type, kind_wrong}
 use Rattle.mb_edit.proofs.PassedLemmas.{holds}
-use Rattle.mb_load.specs.Editable.{is_editable}
+use Rattle.mb_loaded.specs.Editable.{is_editable}
 use Rattle.mb_tables.specs.Refusals.{unless}
 use Rattle.mb_tables.specs.declared.error.MbtError.TheVariants.{UnsupportedCopyOperation}
 use Rattle.mb_copy.proofs.copying.copied_over.Goals as goal

@@ -3,7 +3,7 @@ use Rattle.std.specs.FinMap.{contains_key, entries, len-entries}
 use Rattle.mb_copy.proofs.TileStateLemmas.{times_state_last}
 use Rattle.mb_copy.specs.HeldCopied.{time_put}
 use Rattle.mb_edit.proofs.FromLast.{none_made, one_before}
-use Rattle.mb_load.specs.State.{State}
+use Rattle.mb_loaded.specs.State.{State}
 use Rattle.mb_copy.proofs.edits.put_all_times.Goals as goal
 
 pub loop-left-init : goal.loop-left-init

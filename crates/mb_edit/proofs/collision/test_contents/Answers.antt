@@ -4,7 +4,7 @@ use Rattle.mb_edit.specs.Marks.{AreMarked}
 use Rattle.std.specs.Prelude.{slice_get}
 use Rattle.std.proofs.lemmas.List.{length-map}
 use Rattle.mb_lists.specs.Entries.{blob_cell}
-use Rattle.mb_load.specs.GivenIds.{cell_id}
+use Rattle.mb_loaded.specs.GivenIds.{cell_id}
 use Rattle.mb_tables.specs.declared.cell.Cell.{Cell}
 use Rattle.mb_edit.proofs.EntryLemmas.{id_read, past_end}
 use Rattle.mb_edit.proofs.MarkLemmas.{none_marked, none_put, put_before}

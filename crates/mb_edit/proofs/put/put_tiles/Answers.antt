@@ -1,7 +1,7 @@
 use Rattle.std.proofs.Common.{◌≡◌, ◌∙◌, ap, sym, subst, None}
 use Rattle.mb_edit.specs.Put.{may_put}
 use Rattle.mb_edit.proofs.PutLemmas.{both_pass, put_loaded, put_named, put_state}
-use Rattle.mb_load.specs.Held.{Held}
+use Rattle.mb_loaded.specs.Held.{Held}
 use Rattle.mb_load.specs.LoadedFrom.{IsLoadedFrom, NamesAlgorithm}
 use Rattle.mb_edit.proofs.put.put_tiles.Goals as goal
 

@@ -1,6 +1,6 @@
 use Rattle.std.proofs.Common.{◌∙◌, ap, sym}
 use Rattle.std.specs.FinMap.{get}
-use Rattle.mb_load.specs.Edits.{with_tile}
+use Rattle.mb_loaded.specs.Edits.{with_tile}
 use Rattle.mb_tables.specs.Tiles.{Place}
 use Rattle.mb_tree.proofs.FileLemmas.{passed, taken}
 use Rattle.mb_tree.specs.TilePath.{tile_path}

@@ -1,7 +1,7 @@
 use Rattle.std.proofs.Common.{◌∙◌, subst}
 use Rattle.mb_edit.proofs.PutTableLemmas.{are_put}
 use Rattle.mb_load.specs.Committing.{MakesChanges}
-use Rattle.mb_load.specs.Held.{Held}
+use Rattle.mb_loaded.specs.Held.{Held}
 use Rattle.tile_import.proofs.storing.store_tiles.Goals as goal
 
 pub returns-clause-put : goal.returns-clause-put

@@ -1,7 +1,0 @@
-use Rattle.std.proofs.Common.{◌≡◌, ◌++◌, take}
-use Rattle.std.specs.Prelude.{filter_map}
-use Rattle.mb_load.specs.PutRows.{listed_change}
-use Rattle.mb_load.proofs.changes.add_contents.Given as goal
-
-abbrev pub invariant-loop-index : goal.invariant-loop-index
-invariant-loop-index l = l.changes ≡ l.fn.changes ++ filter_map (listed_change l.layout l.contents) (take l.index-index l.order)

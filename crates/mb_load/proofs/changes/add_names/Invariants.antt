@@ -1,7 +1,0 @@
-use Rattle.std.proofs.Common.{◌≡◌, ◌++◌, take}
-use Rattle.std.specs.Prelude.{filter_map}
-use Rattle.mb_load.specs.PutRows.{name_change}
-use Rattle.mb_load.proofs.changes.add_names.Given as goal
-
-abbrev pub invariant-loop-entry : goal.invariant-loop-entry
-invariant-loop-entry l = l.changes ≡ l.fn.changes ++ filter_map name_change (take l.entry-index l.names)

@@ -1,6 +1,0 @@
-use Rattle.std.proofs.Common.{◌≡◌, map, take}
-use Rattle.mb_load.specs.GivenIds.{content_id}
-use Rattle.mb_load.proofs.given_ids.content_ids.Given as goal
-
-abbrev pub invariant-loop-content : goal.invariant-loop-content
-invariant-loop-content l = l.ids.items ≡ map (content_id l.layout l.algorithm) (take l.content-index l.contents)

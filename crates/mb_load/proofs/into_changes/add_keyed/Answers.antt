@@ -1,5 +1,0 @@
-use Rattle.mb_load.proofs.ChangeSteps.{id_cells, keyed_row}
-use Rattle.mb_load.proofs.into_changes.add_keyed.Goals as goal
-
-pub put-requires-clause-own : goal.put-requires-clause-own
-put-requires-clause-own c = keyed_row c.args.table c.args.key c.args.content.id c.args.content.cell c.in_ok-row-in-Put.row c.requires.keyed (id_cells c.args.content.id c.args.key c.requires.id) c.in_ok-row-in-Put.ensures

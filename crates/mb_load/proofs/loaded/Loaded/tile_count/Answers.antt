@@ -1,8 +1,0 @@
-use Rattle.std.proofs.Common.{◌∙◌, ap, sym}
-use Rattle.std.specs.FinMap.{len}
-use Rattle.mb_load.specs.Held.{Held}
-use Rattle.mb_lists.proofs.ReaderLemmas.{tiles_count}
-use Rattle.mb_load.proofs.loaded.Loaded.tile_count.Goals as goal
-
-pub returns : goal.returns
-returns c = sym (tiles_count c.self.inside.contents.items.items c.self.inside.tiles.live c.self.inside.tiles.items.items c.self.invariant.0 c.self.invariant.1) ∙ ap (λ (h : Held). len h.state.tiles) c.self.view_is

@@ -1,6 +1,0 @@
-use Rattle.std.proofs.Common.{◌≡◌, ◌++◌, map, take}
-use Rattle.mb_load.specs.Sharing.{tile_with}
-use Rattle.mb_load.proofs.sharing.push_tiles.Given as goal
-
-abbrev pub invariant-loop-coord : goal.invariant-loop-coord
-invariant-loop-coord l = l.tiles.items ≡ l.fn.tiles.items ++ map (tile_with l.layout l.contents) (take l.coord-index l.coords)

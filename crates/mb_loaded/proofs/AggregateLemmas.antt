@@ -1,0 +1,55 @@
+-- The texts of tiles, one after another.
+use Rattle.std.proofs.Common.{◌≡◌, ℕ, ◌+◌, ◌<◌, ◌≤◌, List, [], ◌∷◌, ◌++◌, Option, Some, None, Result, IfOk, length, take, flat_map, append_assoc, append-nil, refl, sym, ◌∙◌, ap, arith}
+use Rattle.std.specs.Prelude.{IfSome, slice_get}
+use Rattle.std.specs.FinMap.{entries, len, len-entries}
+use Rattle.std.proofs.lemmas.Grind.{flat_map-append}
+use Rattle.std.proofs.lemmas.List.{nil_from_length, take_all, take_more}
+use Rattle.std.proofs.lemmas.Option.{get_or_from_slice_get, none-some, slice_get-get_or, slice_get_within}
+use Rattle.mb_loaded.specs.Aggregate.{aggregate, hash_of, in_hexadecimal, tile_text}
+use Rattle.mb_lists.specs.Entries.{blob_cell, place_at}
+use Rattle.mb_tables.specs.Tiles.{Place, TileSet}
+use Rattle.mb_tables.specs.declared.cell.Cell.{Cell}
+use Rattle.tile_hash.specs.Digest.{digest}
+use Rattle.tile_hash.specs.HashStream.{HasTaken}
+use Rattle.tile_hash.specs.declared.algorithm.HashAlgorithm.{HashAlgorithm}
+use Rattle.tile_hash.specs.declared.hash_stream.HashStream.{HashStream}
+use Rattle.tile_ids.specs.Coord.{Coord}
+
+abbrev pub Tiles : Type 0
+Tiles = List (Place × Option (List ℕ))
+
+pub four_parts : (m z x y b : List ℕ) → m ++ (z ++ (x ++ (y ++ b))) ≡ (((m ++ z) ++ x) ++ y) ++ b
+four_parts m z x y b = sym (simp append_assoc)
+
+one_more : (es : Tiles) (i : ℕ) (e : Place × Option (List ℕ)) → slice_get es i ≡ Some e → flat_map tile_text (take (i + 1) es) ≡ flat_map tile_text (take i es) ++ tile_text e
+one_more es i e at =
+    let within : i < length es = slice_get_within es i e at in
+    let here = get_or_from_slice_get es i e e at in
+    ap (flat_map tile_text) (take_more es i e within) ∙ flat_map-append tile_text (take i es) _ ∙ ap (λ t. flat_map tile_text (take i es) ++ t) (append-nil _ ∙ ap tile_text here)
+
+-- the tile at an index, hashed behind those before it
+pub tile_hashed : (a : HashAlgorithm) (old new : HashStream) (es : Tiles) (i : ℕ) (coord : Coord) (cell : Cell) → i < length es
+    → IfSome (slice_get es i) (λ e. (e.0 ≡ place_at coord) × (blob_cell e.1 ≡ cell))
+    → ((a : HashAlgorithm) (m : List ℕ) (contents : Option (List ℕ)) → blob_cell contents ≡ cell → HasTaken a old m → HasTaken a new (m ++ tile_text (place_at coord, contents)))
+    → HasTaken a old (flat_map tile_text (take i es)) → HasTaken a new (flat_map tile_text (take (i + 1) es))
+tile_hashed a old new es i coord cell within is hashed before = by (slice_get es i) refl is
+  where
+    by : (o : Option (Place × Option (List ℕ))) → slice_get es i ≡ o → IfSome o (λ e. (e.0 ≡ place_at coord) × (blob_cell e.1 ≡ cell)) → HasTaken a new (flat_map tile_text (take (i + 1) es))
+    by None at h = absurd (none-some _ (sym at ∙ slice_get-get_or es i (record { zoom = 0; column = 0; row = 0 }, None) within))
+    by (Some e) at h =
+        let text : tile_text (place_at coord, e.1) ≡ tile_text e = ap (λ p. tile_text (p, e.1)) (sym h.0) in
+        rw (one_more es i e at, ← text) (hashed a _ e.1 h.1 before)
+
+-- none, and all of them
+pub none_hashed : {E : Type 0} (r : Result (List ℕ) E) (a : HashAlgorithm) (tiles : TileSet) → len tiles ≡ 0 → IfOk r (λ t. t ≡ digest a []) → IfOk r (λ t. t ≡ aggregate a tiles)
+unfolding aggregate
+none_hashed r a tiles none given = rw (nil_from_length (entries tiles) (sym (len-entries tiles) ∙ none)) given
+
+pub all_hashed : {E : Type 0} (r : Result (List ℕ) E) (a : HashAlgorithm) (tiles : TileSet) (n : ℕ) → (len tiles ≡ 0 → ⊥) → len tiles ≤ n
+    → IfOk r (λ t. t ≡ digest (in_hexadecimal a) (flat_map tile_text (take n (entries tiles)))) → IfOk r (λ t. t ≡ aggregate a tiles)
+unfolding aggregate
+all_hashed r a tiles n some all given = by (entries tiles) (λ none. some (len-entries tiles ∙ none)) (rw (take_all n (entries tiles) (omega (arith, len-entries tiles))) at given)
+  where
+    by : (es : Tiles) → (length es ≡ 0 → ⊥) → IfOk r (λ t. t ≡ digest (in_hexadecimal a) (flat_map tile_text es)) → IfOk r (λ t. t ≡ hash_of a es)
+    by [] some given = absurd (some refl)
+    by (e ∷ es) some given = given

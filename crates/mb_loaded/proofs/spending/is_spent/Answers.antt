@@ -1,0 +1,11 @@
+use Rattle.std.proofs.Common.{◌∙◌, sym}
+use Rattle.mb_lists.specs.Entries.{id_at}
+use Rattle.mb_loaded.proofs.TakenLemmas.{less_from, none_null}
+use Rattle.mb_loaded.proofs.spending.is_spent.Goals as goal
+use Rattle.mb_tables.specs.Cell.{is_null}
+
+pub returns-in-None : goal.returns-in-None
+returns-in-None c = λ holds. (
+  none_null (is_null (id_at c.args.contents.now c.args.at)) (id_at c.args.contents.now c.args.at) c.in-None.ensures,
+  λ m there. less_from m c.args.index (sym (c.is_past.ensures m there) ∙ holds),
+)

@@ -1,0 +1,16 @@
+pub mod State
+pub mod Aggregate
+pub mod Held
+pub mod HeldCode
+pub mod HeldEntries
+pub mod Edits
+pub mod Changing
+pub mod Editable
+pub mod PutRows
+pub mod FromLast
+pub mod GivenIds
+pub mod Copying
+pub mod Sharing
+pub mod Taking
+pub mod Moving
+pub mod Empty
