@@ -42,9 +42,14 @@ impl Model for Editing {
 
     ghost coded = { held_code };
 
-    ghost view = { λ l. held_of l.layout l.algorithm l.patch_type l.contents.items (newest_ids l.contents.items l.order.items) (newest_tiles l.tiles.items) (newest_names l.names.items) };
+    ghost view = { λ l. held_of l.layout l.algorithm l.patch_type l.contents.items
+        (newest_ids l.contents.items l.order.items)
+        (newest_tiles l.tiles.items) (newest_names l.names.items) };
 
-    ghost invariant = { λ l. All (IsTile l.contents.items) l.tiles.items × All (HasId l.contents.items) l.order.items × All (IsDated l.layout) l.tiles.items × All IsName l.names.items };
+    ghost invariant = { λ l. All (IsTile l.contents.items) l.tiles.items
+        × All (HasId l.contents.items) l.order.items
+        × All (IsDated l.layout) l.tiles.items
+        × All IsName l.names.items };
 }
 
 impl Loaded {

@@ -34,9 +34,16 @@ impl Model for Loaded {
 
     ghost coded = { held_code };
 
-    ghost view = { λ l. held_of l.layout l.algorithm l.patch_type l.contents.items.items l.contents.order.items l.tiles.items.items l.names.items.items };
+    ghost view = { λ l. held_of l.layout l.algorithm l.patch_type
+        l.contents.items.items l.contents.order.items l.tiles.items.items l.names.items.items };
 
-    ghost invariant = { λ l. AreInOrder l.tiles.live l.tiles.items.items × All (IsTile l.contents.items.items) l.tiles.items.items × AreContentsInOrder l.contents.items.items l.contents.live l.contents.order.items × AreNamesInOrder l.names.live l.names.items.items × All IsName l.names.items.items × All (HasId l.contents.items.items) l.contents.order.items × All (IsDated l.layout) l.tiles.items.items };
+    ghost invariant = { λ l. AreInOrder l.tiles.live l.tiles.items.items
+        × All (IsTile l.contents.items.items) l.tiles.items.items
+        × AreContentsInOrder l.contents.items.items l.contents.live l.contents.order.items
+        × AreNamesInOrder l.names.live l.names.items.items
+        × All IsName l.names.items.items
+        × All (HasId l.contents.items.items) l.contents.order.items
+        × All (IsDated l.layout) l.tiles.items.items };
 }
 
 // The three times, if there are any.

@@ -65,7 +65,8 @@ pub(crate) fn moved_row(
     tile: &StoredTile,
 ) -> Result<Row, OutOfMemory>
     ensures { IfOk result
-        (λ row. row ≡ front (place_of tile.now) ++ cells_kept layout algorithm content tile.now.dates) }
+        (λ row. row
+        ≡ front (place_of tile.now) ++ cells_kept layout algorithm content tile.now.dates) }
 {
     let mut cells = place_cells(alloc, layout, tile.coord)?;
     let dates = tile.dates.get();
