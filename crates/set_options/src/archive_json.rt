@@ -12,8 +12,8 @@ use mb_store::Cell;
 use serde_json::{Map, Value};
 use std::alloc::Global;
 
-// Whether a name is left out.
-fn is_left_out(name: &str) -> bool
+/// Whether a name of a set's metadata says nothing beside the tiles of its archive: the header says it, `json` stands for it, or it is of the set alone.
+pub fn is_left_out(name: &str) -> bool
     ensures { result ≡ is_left_out name.now }
 {
     matches!(

@@ -8,5 +8,6 @@ mod facts;
 mod format;
 mod options;
 
+pub use archive_json::is_left_out;
 pub use extents::{SetBounds, SetCenter};
 pub use options::{SetOptions, options_of_set};

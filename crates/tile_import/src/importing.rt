@@ -11,8 +11,8 @@ use mb_store::{MbtError, TileStore};
 use pm_format::Backend;
 use std::alloc::Global;
 
-// The import's word for an error of the store.
-fn of_store(error: MbtError) -> ImportError
+/// The import's word for an error of the store.
+pub fn of_store(error: MbtError) -> ImportError
     ensures { result ≡ of_store_error error }
 {
     match error {

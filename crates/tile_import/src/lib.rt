@@ -9,4 +9,5 @@ mod storing;
 mod tiles;
 
 pub use error::ImportError;
-pub use importing::import;
+pub use importing::{import, of_store};
+pub use reading::of_reader;

@@ -20,8 +20,8 @@ use pm_walk::{WalkError, take_entries};
 use std::alloc::Global;
 use tile_ids::{TileCoord, TileId};
 
-// The import's word for an error of the reader.
-fn of_reader(error: PmtError) -> ImportError
+/// The import's word for an error of the reader.
+pub fn of_reader(error: PmtError) -> ImportError
     ensures { result ≡ of_read_error error }
 {
     match error {
