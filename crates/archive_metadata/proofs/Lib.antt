@@ -1,0 +1,3 @@
+pub mod DegreesLemmas
+pub mod NameLemmas
+pub mod WholeLemmas

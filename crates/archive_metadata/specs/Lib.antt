@@ -1,0 +1,3 @@
+pub mod DegreesText
+pub mod Document
+pub mod Parting
