@@ -1,0 +1,5 @@
+pub mod Filling
+pub mod NewSet
+pub mod Said
+pub mod Status
+pub mod Words

@@ -1,0 +1,13 @@
+//! Sets that are made of archives, with what the archives say of themselves.
+#![tactic(auto)]
+
+mod filling;
+pub mod laws;
+mod making;
+mod said;
+mod status;
+mod words;
+
+pub use making::import_as_said;
+pub use status::import_status;
+pub use words::{MAX_TILES, limit_of};
