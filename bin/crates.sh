@@ -3,7 +3,8 @@
 . "$here/common.sh"
 
 top=$(dirname "$here")
-program=${tool}_program
+# a crate's name has no dash
+program=$(echo "$tool" | tr - _)_program
 out=$top/crates/$program/out
 
 # A text of the program's source, which alone has it: HELP or VERSION.

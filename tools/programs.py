@@ -1,5 +1,5 @@
 #!/usr/bin/env python3
-"""Writes the stored runs of tileset_program and tile_verify_program, and what is beside the examples.
+"""Writes the stored runs of tileset_program, tile_verify_program and pmtiles_to_mbtiles_program, and what is beside the examples.
 
     tools/programs.py
 
@@ -7,7 +7,9 @@ The report of a script is that of tools/tileset_rows.py. The script of examples/
 """
 import os
 
+from made_cases import DESCRIBED
 from mbtiles import script_of
+from rows import Rows
 from tileset_rows import ONE_TILE, report_of
 
 TOP = os.path.join(os.path.dirname(os.path.abspath(__file__)), '..')
@@ -33,6 +35,8 @@ def main():
     # one tile in the archive: no fault, and one id, entry and content
     write('one_tile.pmtiles\n', 'crates', 'tile_verify_program', 'args')
     write('sound 0 1 1 1\n', 'crates', 'tile_verify_program', 'stdout')
+    write('described.pmtiles\nmade.mbtiles\n2\n', 'crates', 'pmtiles_to_mbtiles_program', 'args')
+    Rows('pmtiles_to_mbtiles_program').write_data('described.pmtiles', DESCRIBED)
 
 
 if __name__ == '__main__':

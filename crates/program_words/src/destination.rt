@@ -1,8 +1,8 @@
 // The file that a program writes an archive to.
-use std::fs;
 use std::fs::{File, Metadata};
 use std::io::{ErrorKind, Write};
 use std::os::unix::fs::MetadataExt;
+use std::{fs, io};
 
 /// What stood at the path of an archive before the run.
 #[derive(Clone, Copy, Debug, PartialEq, Eq)]
@@ -78,13 +78,18 @@ pub fn leave_destination(rt: &HostRuntime, tool: &str, path: &str, before: Befor
 
 /// Says on standard error why a file that was taken can't be written, as a further write to it tells. Bytes may be added to it.
 pub fn say_medium_fault(rt: &HostRuntime, tool: &str, path: &str, before: Before) {
-    let opened = File::options().append(true).open(rt, path);
     let cause = match before {
-        Before::Full => opened.map(|_| ()),
-        _ => opened.and_then(|mut file| file.write_all(&[0u8; 4096])),
+        Before::Full => File::options().append(true).open(rt, path).map(|_| ()),
+        _ => tried_write(rt, path),
     };
     let _ = match cause {
         Err(error) => eprintln!(rt; "{tool}: {path}: the archive can't be written: {error}"),
         Ok(()) => eprintln!(rt; "{tool}: {path}: the archive can't be written or read"),
     };
+}
+
+// Adds bytes to a file.
+pub(crate) fn tried_write(rt: &HostRuntime, path: &str) -> io::Result<()> {
+    let opened = File::options().append(true).open(rt, path);
+    opened.and_then(|mut file| file.write_all(&[0u8; 4096]))
 }

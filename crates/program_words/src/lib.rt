@@ -1,6 +1,7 @@
 //! What the programs share: the words of the command line, the printing of texts, the standard streams and the file of an archive.
 #![tactic(auto)]
 
+mod beside;
 mod destination;
 mod said;
 mod streams;
@@ -10,6 +11,7 @@ ghost use Rattle.std.specs.Option.{option_copied};
 ghost use Rattle.program_words.specs.Text.{asked_text};
 
 use base_values::TextVal;
+pub use beside::{Put, Taken, put_beside, remove_made, say_beside_fault, take_beside};
 pub use destination::{Before, leave_destination, say_medium_fault, take_destination};
 pub use said::{say_opening, say_out_of_memory, say_output_fault, say_source_fault, say_usage};
 use std::alloc::{AllocError, Global};
