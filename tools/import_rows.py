@@ -6,6 +6,7 @@ import sys
 import faulty_cases
 import hostile_archives
 import import_cases
+import made_cases
 from rows import Rows
 
 ROWS = Rows('import_rows')
@@ -14,7 +15,7 @@ rows = ROWS.rows
 
 
 def main():
-    for cases in (import_cases, hostile_archives, faulty_cases):
+    for cases in (import_cases, made_cases, hostile_archives, faulty_cases):
         cases.write(sys.modules[__name__])
     ROWS.write()
 

@@ -23,6 +23,8 @@ WHOLE = ('ReadFault', 'WriteFault', 'SinkFault', 'StoreError', 'TreeError', 'Inp
          'ExtractOutcome')
 # Words of clauses that name a refusal.
 NAMING = {'IsUnfailing': 'StoreFault'}
+# Calls of a crate by whose name a program calls one of another crate.
+OTHERS = {('import_rows', 'mb_metadata', 'get_metadata')}
 BEGIN, END = '<!-- tables: tools/safety_table.py -->', '<!-- end of the tables -->'
 
 
@@ -180,7 +182,7 @@ def callers():
 
 
 def tried(call, programs, shared):
-    return [crate for crate, names in programs.items() if call.name in names and call.crate in shared[crate]]
+    return [crate for crate, names in programs.items() if call.name in names and call.crate in shared[crate] and (crate, call.crate, call.name) not in OTHERS]
 
 
 def failing(crate):

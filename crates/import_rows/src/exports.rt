@@ -23,13 +23,17 @@ fn exported<S: TileStore>(
     Ok(())
 }
 
+/// How long the archive on a medium is, and the digest of its bytes.
+pub fn say_archive(alloc: Global, out: &mut String, medium: &MemMedium) -> Option<()> {
+    say(out, &medium.as_bytes().len())?;
+    say_bytes(alloc, out, md5_text(medium.as_bytes()).as_slice())
+}
+
 /// How long the archive of a store is, and the digest of its bytes.
 pub fn answer<S: TileStore>(alloc: Global, out: &mut String, store: &mut S) -> Option<()> {
     let mut medium = MemMedium::new(alloc);
     match exported(alloc, store, &mut medium) {
-        Ok(()) => {}
-        Err(error) => return said(out, error),
+        Ok(()) => say_archive(alloc, out, &medium),
+        Err(error) => said(out, error),
     }
-    say(out, &medium.as_bytes().len())?;
-    say_bytes(alloc, out, md5_text(medium.as_bytes()).as_slice())
 }

@@ -22,8 +22,8 @@ fn of_bytes<S: TileStore>(
     said(out, import(alloc, &mut backend, store, max_tiles))
 }
 
-// A medium of bytes, of whose calls this one fails, or none where it is 0.
-fn medium(alloc: Global, held: &[u8], call: u64) -> Option<Counted> {
+/// A medium of bytes, of whose calls this one fails, or none where it is 0.
+pub fn medium(alloc: Global, held: &[u8], call: u64) -> Option<Counted> {
     let mut medium = MemMedium::from_bytes(held.to_vec(alloc).ok()?);
     let mut calls = Vec::new(alloc);
     calls.push(call).ok()?;

@@ -1,10 +1,11 @@
-//! Reads imports of archives into tile sets from standard input, one a line, and prints each line with its answer: calls of tile_import, and of a reader, a view, a check, an extraction and a server of the same bytes.
+//! Reads imports of archives into tile sets from standard input, one a line, and prints each line with its answer: calls of tile_import and set_import, and of a reader, a view, a check, an extraction and a server of the same bytes.
 #![tactic(auto)]
 
 mod archives;
 mod asked;
 mod exports;
 mod imports;
+mod made;
 mod neighbours;
 mod planted;
 mod sets;
@@ -44,6 +45,15 @@ impl Rows for Kept {
             "set" => sets::answer(alloc, out, &mut self.store, &mut words),
             "import" => {
                 imports::answer(
+                    alloc,
+                    out,
+                    self.held.as_slice(),
+                    &mut self.store,
+                    &mut words,
+                )
+            }
+            "made" => {
+                made::answer(
                     alloc,
                     out,
                     self.held.as_slice(),
