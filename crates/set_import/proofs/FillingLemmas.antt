@@ -3,7 +3,8 @@ use Rattle.std.proofs.Common.{◌≡◌, ◌∙◌, ◌⊎◌, ◌≤◌, ◌+�
 use Rattle.std.proofs.lemmas.Bool.{false≢true, true≢false}
 use Rattle.base_values.specs.Counts.{Rose}
 use Rattle.mb_load.specs.Begun.{IsBegun, begun}
-use Rattle.mb_load.specs.State.{State, state_of}
+use Rattle.mb_load.specs.StateOf.{state_of}
+use Rattle.mb_loaded.specs.State.{State}
 use Rattle.mb_metadata.specs.NameEdits.{done_answer}
 use Rattle.mb_tables.specs.Refusals as tests
 use Rattle.mb_tables.specs.Refusals.{then}

@@ -14,9 +14,11 @@ use Rattle.mb_edit.specs.Patched.{patched, patched_at}
 use Rattle.mb_edit.specs.Put.{state_put}
 use Rattle.mb_load.proofs.EmptyLemmas.{from_empty}
 use Rattle.mb_load.proofs.StateAgain.{state_again}
-use Rattle.mb_load.specs.Empty.{AreEmpty, empty_state}
+use Rattle.mb_load.specs.EmptyTables.{AreEmpty}
+use Rattle.mb_loaded.specs.Empty.{empty_state}
 use Rattle.mb_load.specs.LoadedFrom.{NamesAlgorithm}
-use Rattle.mb_load.specs.State.{State, state_of}
+use Rattle.mb_load.specs.StateOf.{state_of}
+use Rattle.mb_loaded.specs.State.{State}
 use Rattle.mb_metadata.proofs.ReadBackLemmas.{insert_loads}
 use Rattle.mb_metadata.proofs.UpdateLemmas.{ok_same}
 use Rattle.mb_metadata.specs.Inserting.{document_edits}

@@ -1,7 +1,7 @@
 -- What becomes of a store that is filled from an archive: its tables are made, tiles are imported, and a document is put into its metadata.
 use Rattle.std.specs.Prelude.{◌≡◌, ◌⊎◌, ℕ, Bool, true, false, List, Option, IfSome, Result, Ok, Err}
 use Rattle.base_values.specs.Counts.{Rose}
-use Rattle.mb_load.specs.State.{state_of}
+use Rattle.mb_load.specs.StateOf.{state_of}
 use Rattle.mb_metadata.specs.Inserting.{insert_edits}
 use Rattle.mb_metadata.specs.NameEdits.{EditsNames}
 use Rattle.mb_store.specs.Store.{created}

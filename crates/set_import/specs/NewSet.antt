@@ -1,7 +1,8 @@
 -- A set that was made of an archive in tables that described nothing.
 use Rattle.std.specs.Prelude.{◌≡◌, ℕ, List, Ok}
 use Rattle.std.specs.FinMap.{empty}
-use Rattle.mb_load.specs.State.{State, state_of}
+use Rattle.mb_load.specs.StateOf.{state_of}
+use Rattle.mb_loaded.specs.State.{State}
 use Rattle.mb_metadata.specs.Inserting.{document_edits}
 use Rattle.mb_metadata.specs.NameEdits.{names_edited}
 use Rattle.mb_tables.specs.Table.{Tables}
