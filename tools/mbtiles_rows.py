@@ -9,6 +9,7 @@ import loaded_cases
 import metadata_cases
 import option_cases
 import read_cases
+import reading_cases
 import stream_cases
 from rows import Rows, text_word
 
@@ -18,7 +19,7 @@ rows = ROWS.rows
 
 
 def main():
-    for cases in (read_cases, stream_cases, insert_cases, content_cases, metadata_cases, option_cases, loaded_cases):
+    for cases in (read_cases, stream_cases, insert_cases, content_cases, metadata_cases, option_cases, loaded_cases, reading_cases):
         cases.write(sys.modules[__name__])
     ROWS.write()
 

@@ -12,6 +12,7 @@ mod metadata;
 mod names;
 mod patches;
 mod printed;
+mod readings;
 mod reads;
 mod said;
 mod sets;
@@ -45,6 +46,7 @@ fn answer_further(
         "meta" => metadata::answer(alloc, out, &mut kept.store, words),
         "loaded" => loaded::answer(alloc, out, &mut kept.store, words),
         "patch" => patches::answer(alloc, out, &mut kept.store, words),
+        "reading" => readings::answer(alloc, out, &mut kept.store, words),
         "database" => databases::answer(alloc, out, &mut kept.database, words),
         _ => None,
     }

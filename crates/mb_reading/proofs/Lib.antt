@@ -1,0 +1,4 @@
+mod AskLemmas
+mod CellLemmas
+mod FillLemmas
+mod MasterLemmas

@@ -1,0 +1,6 @@
+pub mod Cells
+pub mod Rows
+pub mod Texts
+pub mod Filling
+pub mod Master
+pub mod Asking
