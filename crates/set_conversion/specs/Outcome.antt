@@ -1,0 +1,48 @@
+-- The status of each outcome, and the text that is printed of it.
+use Rattle.std.specs.Prelude.{◌≡◌, ℕ, ◌++◌, List, [], codes, refl}
+use Rattle.std.specs.Fmt.{decimal}
+use Rattle.tile_bridge.specs.declared.error.ConvertError.{ConvertError}
+use Rattle.tile_bridge.specs.declared.error.ConvertError.TheVariants as convert
+use Rattle.set_conversion.specs.declared.outcome.ConversionOutcome.{ConversionOutcome}
+use Rattle.set_conversion.specs.declared.outcome.ConversionOutcome.TheVariants.{Done, Refused, Taken, Unread, Usage, NoSet, OutputFault, MediumFault, OutOfMemory, ReadBack}
+
+-- the outcome that an error of the conversion ends a run in
+abbrev pub of_convert : ConvertError → ConversionOutcome
+of_convert (convert.MediumNotEmpty length) = Refused (convert.MediumNotEmpty length)
+of_convert (convert.UnsupportedCompression label) = Refused (convert.UnsupportedCompression label)
+of_convert (convert.Store place e) = Refused (convert.Store place e)
+of_convert convert.IndexEntryOverflow = Refused convert.IndexEntryOverflow
+of_convert (convert.StoreFault place) = Refused (convert.StoreFault place)
+of_convert convert.MediumFault = MediumFault
+of_convert (convert.ReadBack e) = ReadBack e
+of_convert convert.OutOfMemory = OutOfMemory
+
+abbrev pub status : ConversionOutcome → ℕ
+status (Done r) = 0
+status (Refused e) = 1
+status Taken = 1
+status Unread = 1
+status Usage = 2
+status NoSet = 3
+status OutputFault = 5
+status MediumFault = 6
+status OutOfMemory = 7
+status (ReadBack e) = 9
+
+-- the lines on an archive: its aggregate hash, how many tiles and different contents it has, and how long it is
+abbrev pub report_lines : List ℕ → ℕ → ℕ → ℕ → List ℕ
+report_lines aggregate addressed contents total =
+    codes "tiles " ++ (decimal addressed ++ (codes ", contents " ++ (decimal contents ++ (codes "\nbytes " ++ (decimal total ++ (codes "\naggregate " ++ (aggregate ++ codes "\n")))))))
+
+abbrev pub text : ConversionOutcome → List ℕ
+text (Done r) = report_lines r.aggregate r.places.addressed r.places.contents r.places.length
+text _ = []
+
+pub no_lines : text NoSet ≡ []
+no_lines = refl
+
+pub an_overflow : status (of_convert convert.IndexEntryOverflow) ≡ 1
+an_overflow = refl
+
+pub a_fault : status (of_convert convert.MediumFault) ≡ 6
+a_fault = refl

@@ -1,0 +1,78 @@
+// How a conversion of the sets in files ends.
+ghost use Rattle.std.specs.Prelude.{◌≡◌};
+ghost use Rattle.set_conversion.specs.Outcome.{status};
+
+use pm_format::PmtError;
+use std::alloc::AllocError;
+use tile_bridge::{ConvertError, ConvertReport};
+
+/// How a conversion of the sets in files ends.
+#[derive(Debug, Drop)]
+pub enum ConversionOutcome {
+    /// The archive is written and at its place.
+    Done(ConvertReport),
+    /// The conversion is refused.
+    Refused(ConvertError),
+    /// A file is there that isn't to be replaced, or is one of the sets.
+    Taken,
+    /// The file of a set is there, and isn't read as a set.
+    Unread,
+    /// The words ask for nothing.
+    Usage,
+    /// The file of a set isn't there, or has no set.
+    NoSet,
+    /// The text on the archive can't be written.
+    OutputFault,
+    /// The archive can't be written, or not put at its place.
+    MediumFault,
+    /// Memory ran out.
+    OutOfMemory,
+    /// The file of the archive gave something else back than what was written to it: why the archive can't be opened.
+    ReadBack(PmtError),
+}
+
+impl From<ConvertError> for ConversionOutcome {
+    ghost use Rattle.std.specs.Prelude.{◌≡◌};
+    ghost use Rattle.set_conversion.specs.Outcome.{of_convert};
+
+    ghost from_gives = { λ e o. o ≡ of_convert e };
+
+    fn from(error: ConvertError) -> ConversionOutcome {
+        match error {
+            ConvertError::MediumFault => ConversionOutcome::MediumFault,
+            ConvertError::ReadBack(error) => ConversionOutcome::ReadBack(error),
+            ConvertError::OutOfMemory => ConversionOutcome::OutOfMemory,
+            refusal => ConversionOutcome::Refused(refusal),
+        }
+    }
+}
+
+impl From<AllocError> for ConversionOutcome {
+    ghost use Rattle.std.specs.Prelude.{◌≡◌};
+    ghost use Rattle.set_conversion.specs.declared.outcome.ConversionOutcome.TheVariants as outcomes;
+
+    ghost from_gives = { λ _ o. o ≡ outcomes.OutOfMemory };
+
+    fn from(_: AllocError) -> ConversionOutcome {
+        ConversionOutcome::OutOfMemory
+    }
+}
+
+/// The status that a program ends with: 0 for `Done`, 1 for `Refused`, `Taken` and `Unread`, 2 for `Usage`, 3 for `NoSet`, 5 for `OutputFault`, 6 for `MediumFault`, 7 for
+/// `OutOfMemory` and 9 for `ReadBack`.
+pub fn conversion_status(outcome: &ConversionOutcome) -> u8
+    ensures { result ≡ status outcome.now }
+{
+    match outcome {
+        ConversionOutcome::Done(_) => 0,
+        ConversionOutcome::Refused(_) => 1,
+        ConversionOutcome::Taken => 1,
+        ConversionOutcome::Unread => 1,
+        ConversionOutcome::Usage => 2,
+        ConversionOutcome::NoSet => 3,
+        ConversionOutcome::OutputFault => 5,
+        ConversionOutcome::MediumFault => 6,
+        ConversionOutcome::OutOfMemory => 7,
+        ConversionOutcome::ReadBack(_) => 9,
+    }
+}
