@@ -43,6 +43,7 @@ fn failed(rt: &HostRuntime, tool: &str, path: &str, error: &io::Error) -> Taken 
     Taken::Failed
 }
 
+/// Makes an empty file beside a path, `PATH.new`, whatever is at the path itself.
 pub(crate) fn make_beside(rt: &HostRuntime, tool: &str, path: &str) -> Taken {
     let Ok(beside) = format!(in rt.alloc(); "{path}.new") else {
         return failed(rt, tool, path, &io::Error::from(ErrorKind::OutOfMemory));

@@ -43,7 +43,7 @@ fn take_file(rt: &HostRuntime, tool: &str, path: &str) -> Option<Before> {
         );
         return None;
     }
-    if is_stream(rt, "/proc/self/fd/0", &found) || is_stream(rt, "/proc/self/fd/1", &found) {
+    if is_file(rt, "/proc/self/fd/0", &found) || is_file(rt, "/proc/self/fd/1", &found) {
         let _ = eprintln!(rt;
             "{tool}: {path}: standard input or output is this file; give another name"
         );
@@ -56,9 +56,9 @@ fn take_file(rt: &HostRuntime, tool: &str, path: &str) -> Option<Before> {
     })
 }
 
-// Whether a stream is the file of some metadata.
-fn is_stream(rt: &HostRuntime, stream: &str, found: &Metadata) -> bool {
-    match fs::metadata(rt, stream) {
+/// Whether a path leads to the file of some metadata.
+pub(crate) fn is_file(rt: &HostRuntime, path: &str, found: &Metadata) -> bool {
+    match fs::metadata(rt, path) {
         Ok(other) => other.dev() == found.dev() && other.ino() == found.ino(),
         Err(_) => false,
     }

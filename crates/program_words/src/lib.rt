@@ -1,9 +1,11 @@
-//! What the programs share: the words of the command line, the printing of texts, the standard streams and the file of an archive.
+//! What the programs share: the words of the command line, the printing of texts, the standard streams, the file of an archive and the steps on the way to it.
 #![tactic(auto)]
 
 mod beside;
 mod destination;
+mod over;
 mod said;
+mod steps;
 mod streams;
 
 ghost use Rattle.std.specs.Prelude.{◌≡◌};
@@ -13,10 +15,12 @@ ghost use Rattle.program_words.specs.Text.{asked_text};
 use base_values::TextVal;
 pub use beside::{Put, Taken, put_beside, remove_made, say_beside_fault, take_beside};
 pub use destination::{Before, leave_destination, say_medium_fault, take_destination};
+pub use over::{are_one_file, put_over, take_over};
 pub use said::{say_opening, say_out_of_memory, say_output_fault, say_source_fault, say_usage};
 use std::alloc::{AllocError, Global};
 use std::env;
 use std::io::{ErrorKind, Write};
+pub use steps::{Step, begin_step};
 pub use streams::{HeldStreams, hold_streams};
 
 /// The status where a text can't be written.
