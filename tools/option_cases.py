@@ -30,20 +30,21 @@ def degrees(word):
 
 
 def bounds(text):
+    """West, south, east and north, or None."""
     parts = [degrees(part) for part in text.split(',')]
     if len(parts) != 4 or None in parts or abs(parts[1]) > 90 * 10 ** 7 or abs(parts[3]) > 90 * 10 ** 7 or parts[1] > parts[3]:
         return None
-    return 'SetBounds {{ west: {}, south: {}, east: {}, north: {} }}'.format(*parts)
+    return parts
 
 
 def center(text):
+    """Longitude and latitude, and a zoom or None; or None."""
     parts = text.split(',')
     lon, lat = (degrees(parts[0]), degrees(parts[1])) if len(parts) in (2, 3) else (None, None)
     if lon is None or lat is None or abs(lat) > 90 * 10 ** 7:
         return None
     zoom = parts[2].strip(BLANKS) if len(parts) == 3 else ''
-    zoom = zoom if re.fullmatch('0|[1-9][0-9]?', zoom) and int(zoom) <= 30 else None
-    return f'SetCenter {{ longitude: {lon}, latitude: {lat}, zoom: {option(zoom)} }}'
+    return lon, lat, int(zoom) if re.fullmatch('0|[1-9][0-9]?', zoom) and int(zoom) <= 30 else None
 
 
 def members(text):
@@ -71,15 +72,29 @@ def in_order(value):
     return json.dumps(value, ensure_ascii=False)
 
 
+def said(names, filled):
+    """What a set says of its archive, by its names and by its tiles of at least one byte: type, label, zooms, bounds, center and metadata."""
+    kind = TYPES.get((names.get('format') or '').strip(BLANKS).lower(), 'Unknown')
+    gzip = [data[:2] == b'\x1f\x8b' for data in filled.values()]
+    label = ('Gzip' if all(gzip) else 'Unknown' if any(gzip) else 'None') if kind == 'Mvt' else 'None'
+    zooms = [place[0] for place in filled] or [0]
+    extents = [read(names[name]) if names.get(name) is not None else None for name, read in (('bounds', bounds), ('center', center))]
+    return kind, label, (min(zooms), max(zooms)), *extents, metadata(names)
+
+
+def shown_bounds(of):
+    return option(of and 'SetBounds {{ west: {}, south: {}, east: {}, north: {} }}'.format(*of))
+
+
+def shown_center(of):
+    return option(of and f'SetCenter {{ longitude: {of[0]}, latitude: {of[1]}, zoom: {option(of[2])} }}')
+
+
 def options(held):
     state = held.state()
-    filled = [(place, data) for place, cell in state.tiles.items() if (data := data_of(cell))]
-    kind = TYPES.get((state.names.get('format') or '').strip(BLANKS).lower(), 'Unknown')
-    gzip = [data[:2] == b'\x1f\x8b' for _, data in filled]
-    label = ('Gzip' if all(gzip) else 'Unknown' if any(gzip) else 'None') if kind == 'Mvt' else 'None'
-    zooms = [place[0] for place, _ in filled] or [0]
-    parts = [option(read(state.names[name])) if state.names.get(name) is not None else 'None' for name, read in (('bounds', bounds), ('center', center))]
-    held.rows.row('meta options', kind, label, f'({min(zooms)}, {max(zooms)})', *parts, shown.text(metadata(state.names)))
+    filled = {place: data for place, cell in state.tiles.items() if (data := data_of(cell))}
+    kind, label, zooms, west, middle, text = said(state.names, filled)
+    held.rows.row('meta options', kind, label, str(zooms), shown_bounds(west), shown_center(middle), shown.text(text))
 
 
 def ask(rows, pushes, layout='flat'):

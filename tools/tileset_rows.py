@@ -16,11 +16,13 @@ import random
 import re
 import struct
 
+import option_cases
 import pmtiles
 from base_cases import base_after, spelled as rows_of, words as words_of
 from scripts import LABELS, TYPES, defaults, parsed
-from set_scripts import QUERY, bad_rows, four_ways, random_chains, refused_patches, refused_sets, removes_the_tile, verified_sets, worked_patches, worked_sets
-from sets import converted
+from set_scripts import (GOOD_LAYOUTS, PATCHED, QUERY, bad_rows, chain, four_ways, named, random_chains, refused_patches, refused_sets, removes_the_tile, store, text, verified_sets, worked_patches,
+                         worked_sets)
+from sets import AGG, converted
 
 MAX_ROOT = 16384 - 127
 USAGE = "usage: tileset convert hex | convert file PATH | bulk N K [L]"
@@ -454,15 +456,15 @@ def in_a_row(ends):
     return "".join(f"{end}|" for k, end in enumerate(ends) if k == 0 or end != ends[k - 1])
 
 
-def hindered(script):
+def hindered(script, name="hindered"):
     """Each call of each store and of the medium fails in a conversion of its own: the base's tables are those at the start, or wholly patched where the medium fails after the commit."""
     given = parsed(script.encode())
     refusal, after = base_after(given)
     assert refusal is None
     before, after = (rows_of(tables, escaped) for tables in (words_of(given.stores[0]), after))
     for place in range(len(given.stores)):
-        case(["hindered", str(place), escaped(script.encode())], in_a_row([f"1|refused: StoreFault {place}|{before}", f"0||{after}"]))
-    case(["hindered", "medium", escaped(script.encode())], in_a_row([f"1|refused: MediumFault|{before}", f"1|refused: MediumFault|{after}", f"0||{after}"]))
+        case([name, str(place), escaped(script.encode())], in_a_row([f"1|refused: StoreFault {place}|{before}", f"0||{after}"]))
+    case([name, "medium", escaped(script.encode())], in_a_row([f"1|refused: MediumFault|{before}", f"1|refused: MediumFault|{after}", f"0||{after}"]))
 
 
 def views(words, script, ids):
@@ -585,6 +587,99 @@ def many_rows():
     run("\n".join(["base flat", *rows, rows[17], ""]))
 
 
+def options_said(state):
+    """The options of a set's archive by what the set says of itself."""
+    names = {name.decode(): None if value is None else value.decode() for name, value in state.names.items()}
+    kind, label, zooms, bounds, center, metadata = option_cases.said(names, {place: data for place, data in state.tiles.items() if data})
+    said = {**defaults(), "type": pmtiles.TYPES.index(kind), "tile-compression": pmtiles.COMPRESSIONS.index(label), "min-zoom": zooms[0], "max-zoom": zooms[1], "metadata": metadata.encode()}
+    if bounds is not None:
+        said["bounds"] = bounds
+    if center is not None:
+        said["center"] = center[:2]
+        said["center-zoom"] = said["center-zoom"] if center[2] is None else center[2]
+    return said
+
+
+def told(state, numbers):
+    """The text on an archive."""
+    return f"tiles {numbers['addressed']}, contents {numbers['contents']}\nbytes {numbers['length']}\naggregate {state.aggregate().decode()}\n"
+
+
+def said(script, held=b""):
+    """A conversion over stores of a script's rows with the options that the set says of itself, whatever options of an archive the script has."""
+    given = parsed(script.encode())
+    refusal, after = base_after(given)
+    rows = rows_of(after, escaped)
+    fields = ["said", escaped(script.encode()), held.hex()]
+    if held:
+        return case(fields, f"1|refused: medium not empty {len(held)}|{rows_of(words_of(given.stores[0]), escaped)}|{len(held)}|{shown(held, 64)}")
+    if refusal is not None:
+        return case(fields, f"1|{shown(b'refused: ' + refusal, 4000)}|{rows}|0|")
+    state = converted(given.stores, given.options["force"], given.options["verify"])
+    adds = adds_of(state.tiles)
+    whole, numbers = archive(options_said(state), adds)
+    found, numbers = dict(adds), dict(numbers)
+    answers = [found.get(tile_id(z, x, y)) for z, x, y in given.queries]
+    tiles = "".join(("none" if it is None else shown(it, 4000)) + " " for it in answers)
+    case(fields, f"{tiles}|0|{shown(told(state, numbers).encode(), 4000)}|{rows}|{len(whole)}|{shown(whole, 64)}")
+
+
+def says_of_itself():
+    """Sets that say what their archives are, and patches that say something else."""
+    gzip, other = bytes.fromhex("1f8b08"), b"\x1a\x05"
+    names = {"format": b"pbf", "bounds": b"-1.5,-2,3,4", "center": b"1,2,3", "name": b"town", "minzoom": b"7", "maxzoom": b"9", "json": b'{"vector_layers":[],"a":[1,2]}', AGG.decode(): b"A"}
+    tiles = {(1, 0, 1): gzip, (2, 3, 0): gzip, (4, 1, 1): None, (0, 0, 0): b""}
+    query = ["query 1 0 0", "query 2 3 3", "query 0 0 0", "query 5 0 0"]
+    for layout in GOOD_LAYOUTS:
+        yield text(store("base", layout, tiles, named(**names)), query)
+    yield text(store("base", "flat", tiles, named(**{**names, "center": b"1,2"})), query)
+    yield text(store("base", "flat", tiles, named(**{**names, "center": b"180,-90,30", "bounds": b"1,2,3"})), query)
+    yield text(store("base", "flat", {**tiles, (3, 0, 0): other}, named(**names)), query)
+    yield text(store("base", "flat", {(3, 0, 0): other}, named(**{**names, "format": b" image/PNG"})), query)
+    # what the script says of an archive is nothing here
+    yield text("option type webp", "option min-zoom 3", "option metadata t{%22b%22:1}", "option internal-compression gzip", "option max-leaf-entries 16", store("base", "flat", tiles, named(**names)), query)
+    # a patch says the options of the archive, and zooms and labels are those of the tiles after it
+    put = {(5, 0, 0): other, (1, 0, 1): None}
+    for patch_names in [{"format": b"png", "bounds": b"0,0,1,1", "center": b"5,6,7", "name": b"city", "more": b"x"}, {"format": None, "bounds": None, "center": None, "json": None, "name": None}, {}]:
+        for layout in PATCHED:
+            yield text(store("base", layout, tiles, named(**names)), store("patch", "flat", put, [*chain(b"A", b"B"), *named(**patch_names)]), query)
+    after = [*chain(b"B", b"C"), *named(center=b"8,9", format=b"mlt")]
+    yield text(store("base", "normalized", tiles, named(**names)), store("patch", "flat", put, chain(b"A", b"B")), store("patch", "cache", {(1, 0, 1): gzip}, after), query)
+    # the two flags, each alone: patches without hashes, and a stored hash that isn't right
+    unchained = [store("base", "flat", tiles, named(**{**names, AGG.decode(): None})), store("patch", "flat", put, named(format=b"png")), query]
+    wrong = [store("base", "flat", tiles, named(**names)), query]
+    for flags in [[], ["option force"], ["option verify"], ["option force", "option verify"]]:
+        yield text(flags, *unchained)
+        yield text(flags, *wrong)
+
+
+def says():
+    """What such conversions come to, and the same of other sets; then each call of their objects fails in turn."""
+    for script in says_of_itself():
+        said(script)
+    for scripts in [worked_sets, verified_sets, refused_sets, worked_patches, refused_patches, four_ways]:
+        for script in scripts():
+            if not isinstance(parsed(script.encode()), int):
+                said(script)
+    for script in random_chains(25, 40):
+        if not isinstance(parsed(script.encode()), int):
+            said(script)
+    for script, held in [(ONE_TILE, b"a"), ("base none\n", b"c"), (removes_the_tile(), b"PMTiles")]:
+        said(script, held)
+    for script in [ONE_TILE, NO_TILE, removes_the_tile(), *four_ways()]:
+        if base_after(parsed(script.encode()))[0] is None:
+            hindered(script, "hindered-said")
+
+
+def asks():
+    """Words in front of files."""
+    for words, wanted in [([], "none"), (["a"], "none"), (["a", "b"], "2"), (["a", "b", "c"], "3"), (["--force", "a", "b"], "force 2"), (["--verify", "a", "b"], "verify 2"),
+                          (["--overwrite", "a", "b"], "overwrite 2"), (["--overwrite", "--verify", "--force", "--verify", "a", "b", "c", "d"], "force verify overwrite 4"), (["--force", "a"], "none"),
+                          (["--", "a", "b"], "2"), (["--force", "--", "--verify", "b"], "force 2"), (["--", "--", "b"], "2"), (["--", "a"], "none"), (["--"], "none"), (["--Force", "a", "b"], "none"),
+                          (["-force", "a", "b"], "none"), (["-", "a", "b"], "none"), (["a", "--force", "b"], "3"), (["a", "-"], "2"), (["--help", "a", "b"], "none"), (["--forced", "a", "b"], "none")]:
+        case(["asked", " ".join(words)], wanted)
+
+
 def main():
     good_scripts()
     for script, line in BAD_LINES:
@@ -598,6 +693,8 @@ def main():
     sets()
     many_rows()
     bases()
+    says()
+    asks()
     many_tiles()
     on_file()
     folder = os.path.join(os.path.dirname(os.path.abspath(__file__)), "..", "crates", "tileset_rows")

@@ -2,7 +2,7 @@
 use crate::answers::{say, say_other};
 use crate::counted::MOST_CALLS;
 use crate::fields::{Fields, bytes_of};
-use crate::stores::{script_of, shown};
+use crate::stores::{Options, script_of, shown};
 use pm_format::MemMedium;
 use std::alloc::Global;
 use tileset_script::ParsedScript;
@@ -54,25 +54,31 @@ fn say_hindered(
     alloc: Global,
     out: &mut String,
     script: &[u8],
+    options: Options,
     object: Object,
     number: u64,
 ) -> Option<bool> {
     let mut script = script_of(alloc, script)?;
     let mut medium = MemMedium::new(alloc);
     hinder(alloc, &mut script, &mut medium, object, number)?;
-    shown(alloc, out, script, medium)
+    shown(alloc, out, script, options, medium)
 }
 
 /// A case of an object and a script: each call of the object fails in a conversion of its own, until none is left. Ends that follow each other and are the same stand once.
 /// The calls that reading the script makes come first, and fail in no conversion.
-pub fn answer(alloc: Global, out: &mut String, fields: &mut Fields) -> Option<()> {
+pub fn answer(
+    alloc: Global,
+    out: &mut String,
+    fields: &mut Fields,
+    options: Options,
+) -> Option<()> {
     let object = object_of(fields.next())?;
     let script = bytes_of(alloc, fields.next())?;
     let mut last = String::new(alloc);
     let mut failed = false;
     for number in 1..MOST_CALLS {
         let mut text = String::new(alloc);
-        let done = say_hindered(alloc, &mut text, &script, object, number)?;
+        let done = say_hindered(alloc, &mut text, &script, options, object, number)?;
         if failed || !done {
             say_other(alloc, out, &mut last, text.as_str())?;
         }

@@ -13,6 +13,7 @@ mod many;
 mod on_file;
 mod other;
 mod running;
+mod said;
 mod short_medium;
 mod single_bytes;
 mod stores;
@@ -24,6 +25,7 @@ use fields::Fields;
 use rows_shared::{Rows, run};
 use std::alloc::Global;
 use std::io;
+use stores::Options;
 
 fn other_case(
     rt: &HostRuntime,
@@ -34,7 +36,10 @@ fn other_case(
 ) -> Option<()> {
     match call {
         "stores" => stores::answer(alloc, out, fields),
-        "hindered" => hindered::answer(alloc, out, fields),
+        "hindered" => hindered::answer(alloc, out, fields, Options::Script),
+        "said" => said::answer(alloc, out, fields),
+        "hindered-said" => hindered::answer(alloc, out, fields, Options::Set),
+        "asked" => said::asked(alloc, out, fields),
         "views" => views::answer(alloc, out, fields),
         "turned" => turned::answer(alloc, out, fields),
         "many" => many::answer(alloc, out, fields),

@@ -4,9 +4,10 @@ use crate::fields::{Fields, bytes_of};
 use mb_store::{Row, TileStore};
 use mb_tables::{Cell, TableName};
 use pm_format::{Medium, MemMedium};
+use set_conversion::convert_as_said;
 use std::alloc::Global;
 use std::fmt::Write;
-use tile_bridge::{ConvertOptions, convert};
+use tile_bridge::{ConvertError, ConvertOptions, ConvertReport, convert};
 use tile_ids::TileCoord;
 use tileset::{MAX_INPUT, Outcome};
 use tileset_script::{ParsedScript, ScriptOptions, parse_script};
@@ -61,7 +62,8 @@ fn say_rows<S: TileStore>(
     Some(())
 }
 
-fn say_store<S: TileStore>(alloc: Global, out: &mut String, store: &mut S) -> Option<()> {
+/// Appends all rows of all tables.
+pub fn say_store<S: TileStore>(alloc: Global, out: &mut String, store: &mut S) -> Option<()> {
     for table in TABLES {
         say_rows(alloc, out, store, table)?;
     }
@@ -77,19 +79,39 @@ pub fn options_of(options: ScriptOptions) -> ConvertOptions {
     }
 }
 
-// `tile_bridge::convert` with nothing said of it.
-fn converted<S: TileStore, P: TileStore, M: Medium>(
+/// Whose options a conversion takes.
+#[derive(Clone, Copy)]
+pub enum Options {
+    /// The script's.
+    Script,
+    /// Those that the set says of itself, beside the script's two flags.
+    Set,
+}
+
+/// `tile_bridge::convert` or `set_conversion::convert_as_said`, with nothing said of it.
+pub fn converted<S: TileStore, P: TileStore, M: Medium>(
     alloc: Global,
     base: &mut S,
     patches: &mut Vec<P>,
     coords: &[TileCoord],
-    options: ScriptOptions,
+    script: ScriptOptions,
+    options: Options,
     medium: &mut M,
-) -> Outcome {
-    let options = options_of(options);
-    match convert(alloc, base, patches, coords, &options, medium) {
-        Ok(_) => Outcome::Done,
-        Err(error) => Outcome::Refused(error),
+) -> Result<ConvertReport, ConvertError> {
+    let given = options_of(script);
+    match options {
+        Options::Script => convert(alloc, base, patches, coords, &given, medium),
+        Options::Set => {
+            convert_as_said(
+                alloc,
+                base,
+                patches,
+                coords,
+                given.force,
+                given.verify,
+                medium,
+            )
+        }
     }
 }
 
@@ -98,17 +120,29 @@ pub fn shown(
     alloc: Global,
     out: &mut String,
     script: ParsedScript,
+    options: Options,
     medium: MemMedium,
 ) -> Option<bool> {
     let ParsedScript {
-        options,
+        options: given,
         mut base,
         mut patches,
         queries,
     } = script;
     let mut medium = medium;
     let coords = queries.as_slice();
-    let outcome = converted(alloc, &mut base, &mut patches, coords, options, &mut medium);
+    let outcome = match converted(
+        alloc,
+        &mut base,
+        &mut patches,
+        coords,
+        given,
+        options,
+        &mut medium,
+    ) {
+        Ok(_) => Outcome::Done,
+        Err(error) => Outcome::Refused(error),
+    };
     let done = matches!(outcome, Outcome::Done);
     said_outcome(alloc, out, outcome)?;
     say(out, "|")?;
@@ -129,6 +163,6 @@ pub fn script_of(alloc: Global, script: &[u8]) -> Option<ParsedScript> {
 pub fn answer(alloc: Global, out: &mut String, fields: &mut Fields) -> Option<()> {
     let script = bytes_of(alloc, fields.next())?;
     let script = script_of(alloc, script.as_slice())?;
-    shown(alloc, out, script, MemMedium::new(alloc))?;
+    shown(alloc, out, script, Options::Script, MemMedium::new(alloc))?;
     Some(())
 }

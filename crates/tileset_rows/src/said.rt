@@ -1,0 +1,118 @@
+// Conversions with the options that a set says of itself, over stores of a script's rows, and the words that ask for them.
+use crate::answers::{said_outcome, say, say_bytes};
+use crate::fields::{Fields, bytes_of, words_of};
+use crate::stores::{Options, converted, say_store, script_of};
+use base_values::{BlobVal, TextVal};
+use pm_format::MemMedium;
+use set_conversion::{
+    ConversionFlags, ConversionOutcome, asked_of, conversion_status, conversion_text,
+};
+use std::alloc::Global;
+use std::fmt::Write;
+use tile_bridge::{ConvertError, ConvertReport};
+use tileset::Outcome;
+use tileset_script::ParsedScript;
+
+// Appends the tiles that were asked for, each with a blank behind it.
+fn say_tiles(alloc: Global, out: &mut String, tiles: &[Option<BlobVal>]) -> Option<()> {
+    for tile in tiles {
+        match tile {
+            Some(bytes) => say_bytes(alloc, out, bytes.as_bytes(), 4000)?,
+            None => say(out, "none")?,
+        }
+        say(out, " ")?;
+    }
+    Some(())
+}
+
+// Appends the status of an outcome, and the text that is printed of it.
+fn say_printed(alloc: Global, out: &mut String, outcome: &ConversionOutcome) -> Option<()> {
+    let status = conversion_status(outcome);
+    write!(out, "|{status}|").ok()?;
+    let text = conversion_text(alloc, outcome).ok()?;
+    say_bytes(alloc, out, text.as_str().as_bytes(), 4000)
+}
+
+fn said_printed(alloc: Global, out: &mut String, outcome: ConversionOutcome) -> Option<()> {
+    say_printed(alloc, out, &outcome)
+}
+
+fn said_done(alloc: Global, out: &mut String, report: ConvertReport) -> Option<()> {
+    say_tiles(alloc, out, report.answers.as_slice())?;
+    said_printed(alloc, out, ConversionOutcome::Done(report))
+}
+
+fn said_end(
+    alloc: Global,
+    out: &mut String,
+    answer: Result<ConvertReport, ConvertError>,
+) -> Option<()> {
+    match answer {
+        Ok(report) => said_done(alloc, out, report),
+        Err(error) => said_outcome(alloc, out, Outcome::Refused(error)),
+    }
+}
+
+// Appends how many bytes a medium has, and these or their digest.
+fn say_medium(alloc: Global, out: &mut String, medium: &MemMedium) -> Option<()> {
+    let length = medium.as_bytes().len();
+    write!(out, "|{length}|").ok()?;
+    say_bytes(alloc, out, medium.as_bytes(), 64)
+}
+
+fn shown(alloc: Global, out: &mut String, script: ParsedScript, medium: MemMedium) -> Option<()> {
+    let mut medium = medium;
+    let ParsedScript {
+        options,
+        mut base,
+        mut patches,
+        queries,
+    } = script;
+    let coords = queries.as_slice();
+    let answer = converted(
+        alloc,
+        &mut base,
+        &mut patches,
+        coords,
+        options,
+        Options::Set,
+        &mut medium,
+    );
+    said_end(alloc, out, answer)?;
+    say(out, "|")?;
+    say_store(alloc, out, &mut base)?;
+    say_medium(alloc, out, &medium)
+}
+
+/// A case of a script and what the medium holds at first: the tiles that are asked for, the status and the text on the archive, or the refusal; what the tables of the base then hold, and the medium.
+pub fn answer(alloc: Global, out: &mut String, fields: &mut Fields) -> Option<()> {
+    let script = bytes_of(alloc, fields.next())?;
+    let held = hex::decode(alloc, fields.next()).ok()?;
+    let script = script_of(alloc, script.as_slice())?;
+    shown(alloc, out, script, MemMedium::from_bytes(held))
+}
+
+// Appends flags by their names, and the number of files.
+fn say_asked(out: &mut String, flags: ConversionFlags, files: &[TextVal]) -> Option<()> {
+    let names = [
+        ("force", flags.force),
+        ("verify", flags.verify),
+        ("overwrite", flags.overwrite),
+    ];
+    for (name, is_set) in names {
+        if is_set {
+            write!(out, "{name} ").ok()?;
+        }
+    }
+    let count = files.len();
+    write!(out, "{count}").ok()
+}
+
+/// A case of words: the flags and how many files they ask for, or that it is nothing.
+pub fn asked(alloc: Global, out: &mut String, fields: &mut Fields) -> Option<()> {
+    let words = words_of(alloc, fields.next())?;
+    match asked_of(&words) {
+        Some((flags, files)) => say_asked(out, flags, files),
+        None => say(out, "none"),
+    }
+}
