@@ -1,16 +1,21 @@
 #!/usr/bin/env python3
-"""Writes the stored runs of tileset_program, tile_verify_program and pmtiles_to_mbtiles_program, and what is beside the examples.
+"""Writes the stored runs of tileset_program, tile_verify_program, mbtiles_to_pmtiles_program and pmtiles_to_mbtiles_program, and what is beside the examples.
 
     tools/programs.py
 
-The report of a script is that of tools/tileset_rows.py. The script of examples/places.mbtiles is worked out by tools/mbtiles.py.
+The report of a script is that of tools/tileset_rows.py. The script of examples/places.mbtiles is worked out by tools/mbtiles.py, and its tiles and its names are what
+mbtiles_to_pmtiles_program has to find in the same file.
 """
 import os
+import shutil
+import sqlite3
 
 from made_cases import DESCRIBED
 from mbtiles import script_of
 from rows import Rows
-from tileset_rows import ONE_TILE, report_of
+from scripts import parsed
+from sets import Text, converted
+from tileset_rows import ONE_TILE, adds_of, archive, options_said, report_of, told
 
 TOP = os.path.join(os.path.dirname(os.path.abspath(__file__)), '..')
 
@@ -22,6 +27,15 @@ def write(text, *path):
         file.write(text)
 
 
+def converted_file(path, script):
+    """The lines on the archive of a file, whose tiles are those of a script."""
+    state = converted(parsed(script.encode()).stores, False, False)
+    base = sqlite3.connect(f'file:{path}?mode=ro', uri=True)
+    state.names = {name.encode(): Text(value.encode()) for name, value in base.execute('select name, value from metadata')}
+    base.close()
+    return told(state, dict(archive(options_said(state), adds_of(state.tiles))[1]))
+
+
 def main():
     text, bytes_shown, _ = report_of(ONE_TILE)
     write('convert\nhex\n', 'crates', 'tileset_program', 'args')
@@ -29,9 +43,15 @@ def main():
     write(text + bytes_shown, 'crates', 'tileset_program', 'stdout')
     write(ONE_TILE, 'examples', 'one_tile.script')
     write(text + bytes_shown, 'examples', 'one_tile.out')
-    script = script_of(os.path.join(TOP, 'examples', 'places.mbtiles'))
+    places = os.path.join(TOP, 'examples', 'places.mbtiles')
+    script = script_of(places)
     write(script, 'examples', 'places.script')
     write(report_of(script)[0], 'examples', 'places.out')
+    write('places.mbtiles\nplaces.pmtiles\n', 'crates', 'mbtiles_to_pmtiles_program', 'args')
+    write(converted_file(places, script), 'crates', 'mbtiles_to_pmtiles_program', 'stdout')
+    held = os.path.join(TOP, 'crates', 'mbtiles_to_pmtiles_program', 'data')
+    os.makedirs(held, exist_ok=True)
+    shutil.copyfile(places, os.path.join(held, 'places.mbtiles'))
     # one tile in the archive: no fault, and one id, entry and content
     write('one_tile.pmtiles\n', 'crates', 'tile_verify_program', 'args')
     write('sound 0 1 1 1\n', 'crates', 'tile_verify_program', 'stdout')

@@ -3,53 +3,60 @@
 
 md5_of() { printf '%b' "$1" | md5sum | cut -d' ' -f1 | tr a-f A-F; }
 
-fresh 'a set of another tool'
-run "$bin/mbtiles-to-pmtiles" "$top/examples/places.mbtiles" places.pmtiles
-status 0
-holds [ "$(wc -l <out)" = 3 ]
-prints '^tiles 74, contents 74$'
-prints '^bytes [0-9]*$'
-prints '^aggregate EC2E17497F1A0710C140C58302E3A394$'
-holds same places.pmtiles "$top/examples/places.mbtiles"
-"$bin/mbtiles-script" "$top/examples/places.mbtiles" >script
-feed script "$bin/tileset" convert file piped.pmtiles
-status 0
-holds cmp -s out "$top/examples/places.out"
-holds cmp -s piped.pmtiles places.pmtiles
-holds same_has '74 0 4 1 2 '
-holds same_has '"vector_layers"'
-run "$bin/tile_verify" places.pmtiles
-status 0
-before=$(cksum places.pmtiles)
-run "$bin/mbtiles-to-pmtiles" "$top/examples/places.mbtiles" places.pmtiles
-status 1
-says 'places.pmtiles is there; --overwrite'
-run "$bin/mbtiles-to-pmtiles" --overwrite "$top/examples/places.mbtiles" places.pmtiles
-status 0
-holds [ "$(cksum places.pmtiles)" = "$before" ]
-echo no >broken.mbtiles
-run "$bin/mbtiles-to-pmtiles" --overwrite broken.mbtiles places.pmtiles
-status 3
-says 'broken.mbtiles is no SQLite database'
-run "$bin/mbtiles-to-pmtiles" missing.mbtiles other.pmtiles
-status 3
-says 'no file missing.mbtiles'
-run "$bin/mbtiles-to-pmtiles" places.pmtiles
-status 2
-run "$bin/mbtiles-to-pmtiles" --wrong a b
-status 2
-says '^mbtiles-to-pmtiles: usage'
-cp "$top/examples/places.mbtiles" a.mbtiles
-run "$bin/mbtiles-to-pmtiles" --overwrite a.mbtiles a.mbtiles
-status 1
-says 'one of the sets'
-holds [ "$(cksum places.pmtiles)" = "$before" ]
-holds [ -z "$(find . -name '.mbtiles-to*')" ]
-ends
+for way in '' --by-script; do
+    fresh "a set of another tool${way:+, $way}"
+    run "$bin/mbtiles-to-pmtiles" $way "$top/examples/places.mbtiles" places.pmtiles
+    status 0
+    holds [ "$(wc -l <out)" = 3 ]
+    prints '^tiles 74, contents 74$'
+    prints '^bytes [0-9]*$'
+    prints '^aggregate EC2E17497F1A0710C140C58302E3A394$'
+    holds same places.pmtiles "$top/examples/places.mbtiles"
+    holds same_has '74 0 4 1 2 '
+    holds same_has '"vector_layers"'
+    "$bin/mbtiles-script" "$top/examples/places.mbtiles" >script
+    feed script "$bin/tileset" convert file piped.pmtiles
+    status 0
+    holds cmp -s out "$top/examples/places.out"
+    [ -z "$way" ] || holds cmp -s piped.pmtiles places.pmtiles
+    run "$bin/tile_verify" places.pmtiles
+    status 0
+    before=$(cksum places.pmtiles)
+    run "$bin/mbtiles-to-pmtiles" $way "$top/examples/places.mbtiles" places.pmtiles
+    status 1
+    says 'places.pmtiles is there; --overwrite'
+    run "$bin/mbtiles-to-pmtiles" $way --overwrite "$top/examples/places.mbtiles" places.pmtiles
+    status 0
+    holds [ "$(cksum places.pmtiles)" = "$before" ]
+    echo no >broken.mbtiles
+    run "$bin/mbtiles-to-pmtiles" $way --overwrite broken.mbtiles places.pmtiles
+    status 3
+    says 'broken.mbtiles is no SQLite database'
+    run "$bin/mbtiles-to-pmtiles" $way missing.mbtiles other.pmtiles
+    status 3
+    says 'no file missing.mbtiles'
+    run "$bin/mbtiles-to-pmtiles" $way places.pmtiles
+    status 2
+    run "$bin/mbtiles-to-pmtiles" $way --wrong a b
+    status 2
+    says '^mbtiles-to-pmtiles: usage'
+    cp "$top/examples/places.mbtiles" a.mbtiles
+    run "$bin/mbtiles-to-pmtiles" $way --overwrite a.mbtiles a.mbtiles
+    status 1
+    says 'one of the sets'
+    holds [ "$(cksum places.pmtiles)" = "$before" ]
+    holds [ -z "$(find . -name '.mbtiles-to*' -o -name '*.new')" ]
+    ends
+done
 
 if command -v script >/dev/null; then
     fresh 'steps on a terminal'
     run script -qec "'$bin/mbtiles-to-pmtiles' '$top/examples/places.mbtiles' made.pmtiles" /dev/null
+    status 0
+    prints 'mbtiles_to_pmtiles: reading .*places.mbtiles'
+    prints 'mbtiles_to_pmtiles: done in [0-9]* s'
+    prints 'mbtiles_to_pmtiles: converting .*places.mbtiles'
+    run script -qec "'$bin/mbtiles-to-pmtiles' --by-script '$top/examples/places.mbtiles' other.pmtiles" /dev/null
     status 0
     prints 'mbtiles-to-pmtiles: reading .*places.mbtiles'
     prints 'mbtiles-to-pmtiles: done in [0-9]* s'
@@ -58,36 +65,38 @@ if command -v script >/dev/null; then
 fi
 
 # two patches whose hashes chain: the aggregate hash is md5 over zoom, column, row in decimal and the bytes of each tile in order
-fresh 'a base and two chained patches'
-h0=$(md5_of '000\x01100\x02'); h1=$(md5_of '000\x01100\x03201\x04'); h2=$(md5_of '000\x01100\x03')
-set_of base.mbtiles "insert into tiles values (0, 0, 0, x'01'), (1, 0, 0, x'02'); insert into metadata values ('agg_tiles_hash', '$h0'), ('name', 'old'), ('format', 'png'), ('legend', 'l'), ('bounds', '-1,-2,3,4')"
-set_of one.mbtiles "insert into tiles values (1, 0, 0, x'03'), (2, 0, 1, x'04'); insert into metadata values ('agg_tiles_hash', 'p'), ('agg_tiles_hash_before_apply', '$h0'), ('agg_tiles_hash_after_apply', '$h1'), ('name', 'new'), ('legend', null)"
-set_of two.mbtiles "insert into tiles values (2, 0, 1, null); insert into metadata values ('agg_tiles_hash_before_apply', '$h1'), ('agg_tiles_hash_after_apply', '$h2')"
-run "$bin/mbtiles-to-pmtiles" --verify base.mbtiles one.mbtiles two.mbtiles made.pmtiles
-status 0
-prints "^aggregate $h2$"
-prints '^tiles 2, contents 2$'
-holds same made.pmtiles base.mbtiles one.mbtiles two.mbtiles
-holds same_has '2 0 1 2 1 {"name": "new"}'
-run "$bin/mbtiles-to-pmtiles" base.mbtiles two.mbtiles one.mbtiles wrong.pmtiles
-status 1
-says 'two.mbtiles is refused: .*--force'
-holds [ ! -e wrong.pmtiles ]
-run "$bin/mbtiles-to-pmtiles" --force base.mbtiles two.mbtiles one.mbtiles forced.pmtiles
-status 0
-holds same forced.pmtiles base.mbtiles two.mbtiles one.mbtiles
-set_of plain.mbtiles "insert into tiles values (0, 0, 0, x'09')"
-run "$bin/mbtiles-to-pmtiles" plain.mbtiles plain.mbtiles wrong.pmtiles
-status 1
-says 'plain.mbtiles is refused: .*--force'
-run "$bin/mbtiles-to-pmtiles" --verify plain.mbtiles wrong.pmtiles
-status 1
-says 'no hashes that --verify could test'
-"$real" base.mbtiles "update metadata set value = '$h1' where name = 'agg_tiles_hash'"
-run "$bin/mbtiles-to-pmtiles" --verify base.mbtiles wrong.pmtiles
-status 1
-says 'base.mbtiles is refused: aggregate hash mismatch'
-ends
+for way in '' --by-script; do
+    fresh "a base and two chained patches${way:+, $way}"
+    h0=$(md5_of '000\x01100\x02'); h1=$(md5_of '000\x01100\x03201\x04'); h2=$(md5_of '000\x01100\x03')
+    set_of base.mbtiles "insert into tiles values (0, 0, 0, x'01'), (1, 0, 0, x'02'); insert into metadata values ('agg_tiles_hash', '$h0'), ('name', 'old'), ('format', 'png'), ('legend', 'l'), ('bounds', '-1,-2,3,4')"
+    set_of one.mbtiles "insert into tiles values (1, 0, 0, x'03'), (2, 0, 1, x'04'); insert into metadata values ('agg_tiles_hash', 'p'), ('agg_tiles_hash_before_apply', '$h0'), ('agg_tiles_hash_after_apply', '$h1'), ('name', 'new'), ('legend', null)"
+    set_of two.mbtiles "insert into tiles values (2, 0, 1, null); insert into metadata values ('agg_tiles_hash_before_apply', '$h1'), ('agg_tiles_hash_after_apply', '$h2')"
+    run "$bin/mbtiles-to-pmtiles" $way --verify base.mbtiles one.mbtiles two.mbtiles made.pmtiles
+    status 0
+    prints "^aggregate $h2$"
+    prints '^tiles 2, contents 2$'
+    holds same made.pmtiles base.mbtiles one.mbtiles two.mbtiles
+    holds same_has '2 0 1 2 1 {"name": "new"}'
+    run "$bin/mbtiles-to-pmtiles" $way base.mbtiles two.mbtiles one.mbtiles wrong.pmtiles
+    status 1
+    says 'two.mbtiles is refused: .*--force'
+    holds [ ! -e wrong.pmtiles ]
+    run "$bin/mbtiles-to-pmtiles" $way --force base.mbtiles two.mbtiles one.mbtiles forced.pmtiles
+    status 0
+    holds same forced.pmtiles base.mbtiles two.mbtiles one.mbtiles
+    set_of plain.mbtiles "insert into tiles values (0, 0, 0, x'09')"
+    run "$bin/mbtiles-to-pmtiles" $way plain.mbtiles plain.mbtiles wrong.pmtiles
+    status 1
+    says 'plain.mbtiles is refused: .*--force'
+    run "$bin/mbtiles-to-pmtiles" $way --verify plain.mbtiles wrong.pmtiles
+    status 1
+    if [ -n "$way" ]; then says 'no hashes that --verify could test'; else says 'plain.mbtiles is refused: .*without --verify none is asked for'; fi
+    "$real" base.mbtiles "update metadata set value = '$h1' where name = 'agg_tiles_hash'"
+    run "$bin/mbtiles-to-pmtiles" $way --verify base.mbtiles wrong.pmtiles
+    status 1
+    says 'base.mbtiles is refused: aggregate hash mismatch'
+    ends
+done
 
 fresh 'a set of map and images'
 a=$(md5_of '\x01'); b=$(md5_of '\x02' | tr A-F a-f)
@@ -95,19 +104,27 @@ a=$(md5_of '\x01'); b=$(md5_of '\x02' | tr A-F a-f)
     create unique index m on map (zoom_level, tile_column, tile_row); create unique index i on images (tile_id);
     create view tiles as select zoom_level, tile_column, tile_row, tile_data from map join images on images.tile_id = map.tile_id; create table metadata (name text, value text);
     insert into images values (x'01', '$a'), (x'02', '$b'); insert into map values (0, 0, 0, '$a'), (1, 0, 0, '$b'), (1, 1, 0, '$b')"
-run "$bin/mbtiles-to-pmtiles" --verify a.mbtiles made.pmtiles
+run "$bin/mbtiles-to-pmtiles" --by-script --verify a.mbtiles made.pmtiles
+status 0
+prints '^tiles 3, contents 2$'
+holds same made.pmtiles a.mbtiles
+run "$bin/mbtiles-to-pmtiles" --overwrite a.mbtiles made.pmtiles
 status 0
 prints '^tiles 3, contents 2$'
 holds same made.pmtiles a.mbtiles
 "$real" a.mbtiles "update images set tile_data = x'03' where tile_id = '$b'"
-run "$bin/mbtiles-to-pmtiles" --verify a.mbtiles wrong.pmtiles
+run "$bin/mbtiles-to-pmtiles" --by-script --verify a.mbtiles wrong.pmtiles
 status 1
 says 'a.mbtiles is refused: incorrect tile hash.*without --verify'
-run "$bin/mbtiles-to-pmtiles" a.mbtiles flat.pmtiles
+run "$bin/mbtiles-to-pmtiles" a.mbtiles wrong.pmtiles
+status 1
+says 'a.mbtiles is refused: incorrect tile hash.*--by-script'
+holds [ ! -e wrong.pmtiles ]
+run "$bin/mbtiles-to-pmtiles" --by-script a.mbtiles flat.pmtiles
 status 0
 holds same flat.pmtiles a.mbtiles
 "$real" a.mbtiles "update images set tile_id = 'my-' || tile_id; update map set tile_id = 'my-' || tile_id"
-run "$bin/mbtiles-to-pmtiles" a.mbtiles ids.pmtiles
+run "$bin/mbtiles-to-pmtiles" --by-script a.mbtiles ids.pmtiles
 status 0
 holds same ids.pmtiles a.mbtiles
 ends
@@ -116,11 +133,14 @@ fresh 'a flat set with hashes'
 "$real" a.mbtiles "create table tiles_with_hash (zoom_level integer, tile_column integer, tile_row integer, tile_data blob, tile_hash text);
     create unique index t on tiles_with_hash (zoom_level, tile_column, tile_row); create view tiles as select zoom_level, tile_column, tile_row, tile_data from tiles_with_hash;
     create table metadata (name text, value text); insert into tiles_with_hash values (0, 0, 0, x'01', '$(md5_of '\x01')'), (1, 0, 0, x'02', '$(md5_of '\x02')')"
-run "$bin/mbtiles-to-pmtiles" --verify a.mbtiles made.pmtiles
+run "$bin/mbtiles-to-pmtiles" --by-script --verify a.mbtiles made.pmtiles
+status 0
+holds same made.pmtiles a.mbtiles
+run "$bin/mbtiles-to-pmtiles" --overwrite a.mbtiles made.pmtiles
 status 0
 holds same made.pmtiles a.mbtiles
 "$real" a.mbtiles "update tiles_with_hash set tile_data = x'03' where zoom_level = 1"
-run "$bin/mbtiles-to-pmtiles" --verify a.mbtiles wrong.pmtiles
+run "$bin/mbtiles-to-pmtiles" --by-script --verify a.mbtiles wrong.pmtiles
 status 1
 says 'a.mbtiles is refused: incorrect tile hash'
 ends
@@ -134,17 +154,17 @@ cat >bin/tileset <<'TILESET'
 grep -v 'i1 i0 i0' | "$REAL" "$@"
 TILESET
 chmod +x bin/tileset
-run env REAL="$here/crates/tileset_program/out/tileset_program" bin/mbtiles-to-pmtiles a.mbtiles made.pmtiles
+run env REAL="$here/crates/tileset_program/out/tileset_program" bin/mbtiles-to-pmtiles --by-script a.mbtiles made.pmtiles
 status 1
 says 'has 1 tiles and the sets have 2'
 holds [ ! -e made.pmtiles ]
 ends
 
-fresh 'a command that is ended'
+fresh 'a command by script that is ended'
 set_of a.mbtiles "$one"
 echo '"$real" "$@"; sleep 20' | instead sqlite3
 mkdir to
-env --default-signal PATH="$t/path:$PATH" "$bin/mbtiles-to-pmtiles" a.mbtiles to/made.pmtiles >out 2>err </dev/null &
+env --default-signal PATH="$t/path:$PATH" "$bin/mbtiles-to-pmtiles" --by-script a.mbtiles to/made.pmtiles >out 2>err </dev/null &
 made=$!
 sleep 1
 kill -TERM $made
@@ -152,4 +172,29 @@ wait $made
 got=$?
 status 143
 holds nothing_in to
+ends
+
+fresh 'a command that is ended'
+set_of a.mbtiles "$one"
+cp -r "$bin" bin
+rm bin/mbtiles_to_pmtiles
+cat >bin/mbtiles_to_pmtiles <<'PROGRAM'
+#!/bin/bash
+for out; do :; done
+: >"$out.new"
+exec sleep 20
+PROGRAM
+chmod +x bin/mbtiles_to_pmtiles
+mkdir to
+for signal in HUP:129 INT:130 TERM:143; do
+    env --default-signal bin/mbtiles-to-pmtiles a.mbtiles to/made.pmtiles >out 2>err </dev/null &
+    made=$!
+    sleep 1
+    holds [ -e to/made.pmtiles.new ]
+    kill -"${signal%:*}" $made
+    wait $made
+    got=$?
+    status "${signal#*:}"
+    holds nothing_in to
+done
 ends

@@ -175,7 +175,7 @@ holds last_is_failed
 run env FATYNGU_MOST=100000 "$bin/mbtiles-script" a.mbtiles
 status 1
 says 'a.mbtiles needs a script of about .* bytes, more than the 100000'
-run env FATYNGU_MOST=100000 "$bin/mbtiles-to-pmtiles" a.mbtiles made.pmtiles
+run env FATYNGU_MOST=100000 "$bin/mbtiles-to-pmtiles" --by-script a.mbtiles made.pmtiles
 status 8
 says 'bytes, more than the 100000'
 holds [ ! -e made.pmtiles ]

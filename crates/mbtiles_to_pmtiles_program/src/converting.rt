@@ -1,0 +1,136 @@
+// Sets in files are converted to an archive, which is put at its place once it is whole.
+use crate::TOOL;
+use crate::reading::{read_set, read_sets};
+use crate::saying::say_outcome;
+use base_values::TextVal;
+use pm_format::FileMedium;
+use program_words::{
+    Put, Taken, are_one_file, begin_step, put_beside, put_over, remove_made, take_beside, take_over,
+};
+use set_conversion::{ConversionFlags, ConversionOutcome, convert_as_said};
+use std::fs;
+use tile_bridge::ConvertReport;
+
+// Reads the base and the patches, and converts them to a medium.
+fn convert_sets(
+    rt: &HostRuntime,
+    flags: ConversionFlags,
+    sets: &[TextVal],
+    medium: &mut FileMedium,
+) -> Result<ConvertReport, ConversionOutcome> {
+    let [first, rest @ ..] = sets else {
+        return Err(ConversionOutcome::Usage);
+    };
+    let mut base = read_set(rt, first.as_str())?;
+    let mut patches = read_sets(rt, rest)?;
+    let step = begin_step(rt, TOOL, "converting", first.as_str());
+    let report = convert_as_said(
+        rt.alloc(),
+        &mut base,
+        &mut patches,
+        &[],
+        flags.force,
+        flags.verify,
+        medium,
+    )?;
+    if medium.flush().is_err() {
+        return Err(ConversionOutcome::MediumFault);
+    }
+    step.end(rt, TOOL);
+    Ok(report)
+}
+
+// Converts into the file beside the archive's place.
+fn convert_beside(
+    rt: &HostRuntime,
+    flags: ConversionFlags,
+    sets: &[TextVal],
+    beside: &str,
+) -> Result<ConvertReport, ConversionOutcome> {
+    match FileMedium::open(rt, beside) {
+        Ok(mut medium) => convert_sets(rt, flags, sets, &mut medium),
+        Err(_) => Err(ConversionOutcome::MediumFault),
+    }
+}
+
+// Makes the file beside the archive's place.
+fn take(rt: &HostRuntime, flags: ConversionFlags, out: &str) -> Taken {
+    if flags.overwrite {
+        return take_over(rt, TOOL, out);
+    }
+    if fs::symlink_metadata(rt, out).is_ok() {
+        let _ = eprintln!(rt; "{TOOL}: {out} is there; --overwrite replaces it");
+        return Taken::There;
+    }
+    take_beside(rt, TOOL, out)
+}
+
+// Puts an archive that is whole at its place.
+fn put(
+    rt: &HostRuntime,
+    flags: ConversionFlags,
+    (beside, out): (&str, &str),
+    report: ConvertReport,
+) -> ConversionOutcome {
+    let put = if flags.overwrite {
+        put_over(rt, TOOL, beside, out)
+    } else {
+        put_beside(rt, TOOL, beside, out)
+    };
+    match put {
+        Put::Done => ConversionOutcome::Done(report),
+        Put::There => ConversionOutcome::Taken,
+        Put::Failed => ConversionOutcome::MediumFault,
+    }
+}
+
+// Converts by way of a file beside the archive's place, which is gone at the end.
+fn convert_by(
+    rt: &HostRuntime,
+    flags: ConversionFlags,
+    sets: &[TextVal],
+    (beside, out): (&str, &str),
+) -> ConversionOutcome {
+    let outcome = match convert_beside(rt, flags, sets, beside) {
+        Ok(report) => put(rt, flags, (beside, out), report),
+        Err(outcome) => {
+            say_outcome(rt, sets, (beside, out), &outcome);
+            outcome
+        }
+    };
+    remove_made(rt, TOOL, beside);
+    outcome
+}
+
+// Whether the place of the archive is that of one of the sets. Standard error says so.
+fn is_a_set(rt: &HostRuntime, sets: &[TextVal], out: &str) -> bool {
+    for set in sets {
+        if are_one_file(rt, set.as_str(), out) {
+            let _ = eprintln!(rt;
+                "{TOOL}: {out} is one of the sets; give another name for the archive"
+            );
+            return true;
+        }
+    }
+    false
+}
+
+/// Converts the sets in all files but the last to an archive in that one.
+pub fn convert_files(
+    rt: &HostRuntime,
+    flags: ConversionFlags,
+    files: &[TextVal],
+) -> ConversionOutcome {
+    let [sets @ .., last] = files else {
+        return ConversionOutcome::Usage;
+    };
+    let out = last.as_str();
+    if is_a_set(rt, sets, out) {
+        return ConversionOutcome::Taken;
+    }
+    match take(rt, flags, out) {
+        Taken::Made(beside) => convert_by(rt, flags, sets, (beside.as_str(), out)),
+        Taken::There => ConversionOutcome::Taken,
+        Taken::Failed => ConversionOutcome::MediumFault,
+    }
+}

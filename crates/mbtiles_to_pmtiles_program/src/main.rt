@@ -1,0 +1,105 @@
+//! Converts the sets of map tiles that the words of the command line name to an archive.
+#![tactic(auto)]
+
+mod converting;
+mod reading;
+mod saying;
+
+use base_values::TextVal;
+use converting::convert_files;
+use program_words::{
+    OUTPUT_FAULT, hold_streams, print, print_for, say_out_of_memory, say_output_fault, say_usage,
+    text_of, words_of,
+};
+use set_conversion::{ConversionOutcome, asked_of, conversion_status, conversion_text};
+use std::process::ExitCode;
+
+const HELP: &str = "Makes an archive of the PMTiles format of a set of map tiles in an MBTiles
+file, and of patches to it.
+
+usage: mbtiles_to_pmtiles [--force] [--verify] [--overwrite] BASE.mbtiles
+                          [PATCH.mbtiles ..] OUT.pmtiles
+
+Patches are put on the base in their order; no set's file is changed. Type and
+label of the tiles, zooms, bounds, center and metadata are those that the set
+says to which they come. OUT is written beside its place, as OUT.new, and put
+there once it is whole. Three lines at the end say how many tiles and different
+contents OUT has, its bytes, and the aggregate hash of its tiles. On a terminal
+each step is told.
+
+--force      takes patches without the hashes that chain them; without it each
+             has to name the aggregate hash of the set that it is for, and
+             that of what comes of it
+--verify     asks for the aggregate hash of what is converted, which has to be
+             stored and right; hashes of single tiles are always tested
+--overwrite  replaces OUT where it is there; without it that is refused
+--           what follows are files, also where they begin with a dash
+--help       prints this text
+--version    prints the version
+
+status: 0 done, 1 refused, 2 no command, 3 no such file or no set, 5 the lines
+can't be written, 6 OUT can't be written, 7 out of memory, 9 read back
+";
+
+const VERSION: &str = "mbtiles_to_pmtiles 0.1.0\n";
+
+/// The name before what is said on standard error.
+pub const TOOL: &str = "mbtiles_to_pmtiles";
+
+// Prints the text of an outcome. Where it finds no memory, or can't be written, that is the outcome.
+fn tell(rt: &HostRuntime, outcome: ConversionOutcome) -> ConversionOutcome {
+    let Ok(text) = conversion_text(rt.alloc(), &outcome) else {
+        say_out_of_memory(rt, TOOL);
+        return ConversionOutcome::OutOfMemory;
+    };
+    if text.as_str().is_empty() || print(rt, text.as_str()) {
+        return outcome;
+    }
+    say_output_fault(rt, TOOL);
+    ConversionOutcome::OutputFault
+}
+
+// Converts what the words ask for.
+fn convert_words(rt: &HostRuntime, words: &[TextVal]) -> ConversionOutcome {
+    match asked_of(words) {
+        Some((flags, files)) => convert_files(rt, flags, files),
+        None => {
+            say_usage(rt, TOOL);
+            ConversionOutcome::Usage
+        }
+    }
+}
+
+fn show(rt: &HostRuntime, text: &str) -> u8 {
+    let status = print_for(rt, text, 0);
+    if status == OUTPUT_FAULT {
+        say_output_fault(rt, TOOL);
+    }
+    status
+}
+
+fn run_words(rt: &HostRuntime, words: &[TextVal]) -> u8 {
+    match text_of(words, HELP, VERSION) {
+        Some(text) => show(rt, text),
+        None => conversion_status(&tell(rt, convert_words(rt, words))),
+    }
+}
+
+fn status_of(rt: &HostRuntime) -> u8 {
+    match words_of(rt, rt.alloc()) {
+        Err(_) => {
+            say_out_of_memory(rt, TOOL);
+            conversion_status(&ConversionOutcome::OutOfMemory)
+        }
+        Ok(None) => {
+            say_usage(rt, TOOL);
+            conversion_status(&ConversionOutcome::Usage)
+        }
+        Ok(Some(words)) => run_words(rt, words.as_slice()),
+    }
+}
+
+fn main(rt: HostRuntime) -> ExitCode {
+    let _streams = hold_streams(&rt);
+    ExitCode::from(status_of(&rt))
+}

@@ -1,0 +1,257 @@
+# Cases of tools/check_bin: files of sets that the converter reads by itself, made by hand. What SQLite and Python's sqlite3 read of them has to be in the archive, tile by tile.
+# shellcheck disable=SC2034,SC2154
+
+convert=$bin/mbtiles-to-pmtiles
+nothing_left() { [ -z "$(find . -name '*.new')" ]; }
+# the archive has this many tiles of this many contents, and those of the file
+whole() {
+    status 0
+    prints "^tiles $1, contents $2\$"
+    holds same made.pmtiles a.mbtiles
+    holds nothing_left
+}
+# A file is refused or has its tiles in the archive; nothing else may come.
+whole_or_refused() {
+    case $got in
+    0) holds same made.pmtiles a.mbtiles ;;
+    1 | 3) holds [ ! -e made.pmtiles ] && says 'a.mbtiles' ;;
+    *) problem="$problem; status $got" ;;
+    esac
+    holds nothing_left
+}
+# made NAME TILES CONTENTS SQL: a file by SQL, and what comes of it
+made() {
+    fresh "$1"
+    "$real" a.mbtiles "$4" >/dev/null
+    run "$convert" a.mbtiles made.pmtiles
+    whole "$2" "$3"
+    ends
+}
+names='create table metadata (name text, value text)'
+columns='zoom_level integer, tile_column integer, tile_row integer, tile_data blob'
+three="insert into tiles (zoom_level, tile_column, tile_row, tile_data) values (0, 0, 0, x'01'), (1, 1, 0, x'02'), (1, 0, 1, x'02')"
+
+# What tools of the field make.
+made 'a set as GDAL makes it' 3 2 "create table metadata (name text, value text);
+    create table tiles (zoom_level integer not null, tile_column integer not null, tile_row integer not null, tile_data blob not null, unique (zoom_level, tile_column, tile_row)); $three"
+made 'a set as tilemaker makes it' 3 2 "pragma page_size = 65536; create table metadata (name text, value text, unique (name)); create table tiles ($columns, unique (zoom_level, tile_column, tile_row)); $three"
+made 'a set with an index that was made at the end' 3 2 "$names; create table tiles ($columns); $three; create unique index tile_index on tiles (zoom_level, tile_column, tile_row)"
+made 'places and contents by numbers' 3 2 "$names; create table tiles_shallow (zoom_level integer, tile_column integer, tile_row integer, tile_data_id integer);
+    create unique index p on tiles_shallow (zoom_level, tile_column, tile_row); create table tiles_data (tile_data_id integer primary key, tile_data blob);
+    create view tiles as select zoom_level, tile_column, tile_row, tile_data from tiles_shallow join tiles_data on tiles_shallow.tile_data_id = tiles_data.tile_data_id;
+    insert into tiles_data values (1, x'01'), (7, x'02'); insert into tiles_shallow values (0, 0, 0, 1), (1, 1, 0, 7), (1, 0, 1, 7)"
+
+# How a table may lie in a file.
+# made_or_refused NAME SQL: forms that the converter may refuse in words, and that a script takes
+made_or_refused() {
+    fresh "$1"
+    "$real" a.mbtiles "$2" >/dev/null
+    run "$convert" a.mbtiles made.pmtiles
+    whole_or_refused
+    run "$convert" --by-script a.mbtiles scripted.pmtiles
+    status 0
+    holds same scripted.pmtiles a.mbtiles
+    ends
+}
+made_or_refused 'without rowid' "$names; create table tiles ($columns, primary key (zoom_level, tile_column, tile_row)) without rowid; $three"
+made_or_refused 'without rowid, the key last' "$names; create table tiles (tile_data blob, tile_row integer, tile_column integer, zoom_level integer, primary key (tile_row, zoom_level, tile_column)) without rowid; $three"
+made 'columns in another order' 3 2 "$names; create table tiles (tile_data blob, tile_row integer, tile_column integer, zoom_level integer); $three"
+made 'further columns' 3 2 "create table metadata (id integer primary key, name text, note text, value text);
+    create table tiles (id integer primary key, zoom_level integer, made text default 'now', tile_column integer, tile_row integer, tile_data blob, size integer default 5); $three"
+made_or_refused 'a column that was added to rows' "$names; create table tiles ($columns); $three; alter table tiles add column note text default 'none'"
+made 'a number that is the key of its row' 2 2 "$names; create table tiles (zoom_level integer, tile_column integer primary key, tile_row integer, tile_data blob); insert into tiles values (1, 0, 0, x'01'), (1, 1, 0, x'02')"
+made 'names in capitals and quotes' 3 2 "create table METADATA (\"Name\" text, [Value] text); create table \"TILES\" (\"Zoom_Level\" integer, [Tile_Column] integer, \`Tile_Row\` integer, Tile_Data blob); $three"
+made 'no rows' 0 0 "$names; create table tiles ($columns)"
+made 'contents of no byte' 1 1 "$names; create table tiles ($columns); insert into tiles values (0, 0, 0, x'01'), (1, 0, 0, x''), (1, 1, 0, null)"
+made 'numbers as texts' 3 2 "$names; create table tiles (zoom_level text, tile_column text, tile_row text, tile_data blob); $three"
+made 'rows outside the grid' 3 2 "$names; create table tiles ($columns); $three; insert into tiles values (1, 2, 0, x'03'), (31, 0, 0, x'03'), (-1, 0, 0, x'03')"
+made 'a row twice' 3 2 "$names; create table tiles ($columns); $three; insert into tiles values (0, 0, 0, x'01')"
+for size in 512 1024 65536; do
+    made "pages of $size bytes, contents over several of them" 400 400 "pragma page_size = $size; $names; create table tiles ($columns, unique (zoom_level, tile_column, tile_row));
+        with recursive n(v) as (values (0) union all select v + 1 from n where v < 399) insert into tiles select 6, v % 64, v / 64, randomblob(20 + v * v / 4) from n"
+done
+made 'rows that were deleted, and a file that grew' 300 300 "pragma page_size = 512; $names; create table tiles ($columns);
+    with recursive n(v) as (values (0) union all select v + 1 from n where v < 599) insert into tiles select 6, v % 64, v / 64, randomblob(200 + v) from n; delete from tiles where tile_column % 2 = 1; update tiles set tile_data = randomblob(900) where tile_row = 3"
+
+fresh 'contents of a normalised set once'
+"$real" a.mbtiles "$names; create table map (zoom_level integer, tile_column integer, tile_row integer, tile_id text); create table images (tile_data blob, tile_id text);
+    create unique index m on map (zoom_level, tile_column, tile_row); create unique index i on images (tile_id);
+    create view tiles as select zoom_level, tile_column, tile_row, tile_data from map join images on images.tile_id = map.tile_id;
+    insert into images values (zeroblob(5000000), '$(head -c 5000000 /dev/zero | md5sum | cut -d' ' -f1)');
+    with recursive n(v) as (values (0) union all select v + 1 from n where v < 99) insert into map select 6, v % 64, v / 64, (select tile_id from images) from n"
+run "$convert" a.mbtiles made.pmtiles
+whole 100 1
+ends
+
+# What stands beside a file, and what others do with it.
+fresh 'rows that stand in the log of a file'
+"$real" b.mbtiles "pragma journal_mode = wal; $names; create table tiles ($columns); insert into tiles values (0, 0, 0, x'09')" >/dev/null
+(echo "pragma wal_autocheckpoint = 0; delete from tiles; $three;"; sleep 3) | "$real" b.mbtiles >/dev/null &
+sleep 1
+cp b.mbtiles a.mbtiles
+[ ! -e b.mbtiles-wal ] || cp b.mbtiles-wal a.mbtiles-wal
+wait
+holds [ -s a.mbtiles-wal ]
+run "$convert" a.mbtiles made.pmtiles
+whole_or_refused
+ends
+
+fresh 'a set that another program writes'
+set_of a.mbtiles "$three"
+(echo 'begin exclusive;'; sleep 12) | "$real" a.mbtiles &
+sleep 1
+run "$convert" a.mbtiles made.pmtiles
+status 1
+says 'a.mbtiles is locked by another program'
+holds [ ! -e made.pmtiles ]
+kill %% 2>/dev/null
+wait
+ends
+
+fresh 'a set that changes between two statements'
+set_of a.mbtiles "create unique index t on tiles (zoom_level, tile_column, tile_row);
+    with recursive n(v) as (values (0) union all select v + 1 from n where v < 1999) insert into tiles select 6, v % 64, v / 64, zeroblob(100) from n"
+(n=0; while [ ! -e done ] && [ $n -lt 400 ]; do n=$((n + 1)); "$real" a.mbtiles ".timeout 2000" "update tiles set tile_data = cast('$n' || hex(zeroblob(50)) as blob)"; done) >/dev/null 2>&1 &
+taken=0
+for _ in 1 2 3 4 5 6 7 8 9 10 11 12; do
+    run "$convert" --overwrite a.mbtiles made.pmtiles
+    case $got in
+    0) prints '^tiles 2000, contents 1$' && taken=$((taken + 1)) ;;
+    1) says 'a.mbtiles \(is locked\|changed\)' ;;
+    *) problem="$problem; status $got" ;;
+    esac
+done
+: >done
+wait
+run "$convert" --overwrite a.mbtiles made.pmtiles
+whole 2000 1
+ends
+
+# Files that are damaged: never is another set taken for the one that they had.
+fresh 'pages that are damaged'
+"$real" whole.mbtiles "pragma page_size = 512; $names; create table tiles ($columns, unique (zoom_level, tile_column, tile_row));
+    with recursive n(v) as (values (0) union all select v + 1 from n where v < 99) insert into tiles select 6, v % 64, v / 64, randomblob(50 + 10 * v) from n"
+pages=$(($(wc -c <whole.mbtiles) / 512))
+for page in 0 1 2 3 4 5 6 7 8 9 $((pages / 3)) $((pages / 2)) $((pages - 1)); do
+    for filling in zero urandom; do
+        cp whole.mbtiles a.mbtiles
+        dd if=/dev/$filling of=a.mbtiles bs=512 seek="$page" count=1 conv=notrunc 2>/dev/null
+        rm -f made.pmtiles
+        run timeout 60 "$convert" a.mbtiles made.pmtiles
+        # a page of contents alone has no form that could be broken: then SQLite reads other bytes too
+        whole_or_refused
+    done
+done
+ends
+
+fresh 'files that are cut off'
+"$real" whole.mbtiles "pragma page_size = 512; $names; create table tiles ($columns); with recursive n(v) as (values (0) union all select v + 1 from n where v < 99) insert into tiles select 6, v % 64, v / 64, randomblob(50 + 10 * v) from n"
+for size in 0 1 99 100 511 512 1024 20000; do
+    head -c "$size" whole.mbtiles >a.mbtiles
+    rm -f made.pmtiles
+    run "$convert" a.mbtiles made.pmtiles
+    holds eval '[ $got = 1 ] || [ $got = 3 ]'
+    says 'a.mbtiles'
+    holds [ ! -e made.pmtiles ]
+    holds nothing_left
+done
+ends
+
+fresh 'files that hold no set for the converter'
+"$real" b.mbtiles 'create table t (a)'
+run "$convert" b.mbtiles made.pmtiles
+status 3
+says 'b.mbtiles has no table or view named tiles'
+mkdir folder
+run "$convert" folder made.pmtiles
+status 3
+says 'folder is no regular file'
+set_of c.mbtiles "insert into tiles values (0, 1, 0, x'01')"
+run "$convert" c.mbtiles made.pmtiles
+status 1
+says 'c.mbtiles'
+set_of d.mbtiles "insert into tiles values (0, 0, 0, x'01'), (0, 0, 0, x'02')"
+run "$convert" d.mbtiles made.pmtiles
+status 1
+says 'd.mbtiles'
+set_of a.mbtiles "$three"
+run "$convert" a.mbtiles missing.mbtiles made.pmtiles
+status 3
+says 'no file missing.mbtiles'
+holds [ ! -e made.pmtiles ]
+holds nothing_left
+ends
+
+# The place of the archive.
+fresh 'places that take no archive'
+set_of a.mbtiles "$three"
+mkdir folder
+run "$convert" a.mbtiles none/made.pmtiles
+status 6
+says 'none/made.pmtiles: the file can.t be made: No such file'
+run "$convert" a.mbtiles folder
+status 1
+says 'folder is there'
+run "$convert" --overwrite a.mbtiles folder
+status 1
+says 'folder is no regular file'
+ln -s nowhere dangling
+run "$convert" a.mbtiles dangling
+status 1
+says 'dangling is there'
+ln -s a.mbtiles link
+run "$convert" --overwrite a.mbtiles link
+status 1
+says 'one of the sets'
+echo other >made.pmtiles.new
+run "$convert" a.mbtiles made.pmtiles
+status 1
+says 'made.pmtiles.new is there: another run'
+holds [ "$(cat made.pmtiles.new)" = other ]
+rm made.pmtiles.new
+echo before >made.pmtiles
+run "$convert" a.mbtiles a.mbtiles made.pmtiles
+status 1
+holds [ "$(cat made.pmtiles)" = before ]
+run "$convert" --overwrite a.mbtiles a.mbtiles made.pmtiles
+status 1
+says 'a.mbtiles is refused: .*--force'
+holds [ "$(cat made.pmtiles)" = before ]
+run "$convert" --overwrite --force a.mbtiles a.mbtiles made.pmtiles
+whole 3 2
+holds nothing_left
+ends
+
+fresh 'names of files with dashes and other signs'
+set_of ./-dash.mbtiles "$three"
+run "$convert" -dash.mbtiles made.pmtiles
+status 0
+run "$convert" --overwrite -- -dash.mbtiles -made.pmtiles
+status 0
+holds [ -s ./-made.pmtiles ]
+set_of "it's 100%?#.mbtiles" "$three"
+run "$convert" "it's 100%?#.mbtiles" "it's 100%?#.pmtiles"
+status 0
+holds cmp -s made.pmtiles "it's 100%?#.pmtiles"
+run "$bin/mbtiles_to_pmtiles" -dash.mbtiles made.pmtiles
+status 2
+says 'mbtiles_to_pmtiles --help'
+ends
+
+fresh 'lines that find no room'
+set_of a.mbtiles "$three"
+for where in '>/dev/full' '>&-'; do
+    rm -f made.pmtiles
+    run bash -c "exec \"\$0\" a.mbtiles made.pmtiles $where" "$convert"
+    status 5
+    says "can't be written"
+    holds same made.pmtiles a.mbtiles
+done
+ends
+
+fresh 'all that a set says'
+set_of a.mbtiles "$three; insert into metadata values ('format', 'image/PNG'), ('bounds', '-1.5,-2,3,4'), ('center', '1,2,1'), ('name', 'town'), ('minzoom', '7'), ('json', '{\"vector_layers\":[],\"a\":[1,2]}'), ('empty', '')"
+run "$convert" a.mbtiles made.pmtiles
+whole 3 2
+holds same_has '3 0 1 2 1 {"a": [1, 2], "empty": "", "name": "town", "vector_layers": []}'
+ends
