@@ -96,13 +96,24 @@ run "$convert" a.mbtiles made.pmtiles
 whole_or_refused
 ends
 
-fresh 'a set that another program writes'
+fresh 'a set that another program has locked, and hasn't written yet'
 set_of a.mbtiles "$three"
 (echo 'begin exclusive;'; sleep 12) | "$real" a.mbtiles &
 sleep 1
 run "$convert" a.mbtiles made.pmtiles
+status 0
+prints '^tiles 3,'
+kill %% 2>/dev/null
+wait
+ends
+
+fresh 'a set that another program writes'
+set_of a.mbtiles "$three"
+(echo 'begin exclusive; update tiles set tile_data = 1;'; sleep 12) | "$real" a.mbtiles &
+sleep 1
+run "$convert" a.mbtiles made.pmtiles
 status 1
-says 'a.mbtiles is locked by another program'
+says 'a.mbtiles is written by another program'
 holds [ ! -e made.pmtiles ]
 kill %% 2>/dev/null
 wait
@@ -117,7 +128,7 @@ for _ in 1 2 3 4 5 6 7 8 9 10 11 12; do
     run "$convert" --overwrite a.mbtiles made.pmtiles
     case $got in
     0) prints '^tiles 2000, contents 1$' && taken=$((taken + 1)) ;;
-    1) says 'a.mbtiles \(is locked\|changed\)' ;;
+    1) says 'a.mbtiles \(is written\|changed\)' ;;
     *) problem="$problem; status $got" ;;
     esac
 done

@@ -16,10 +16,7 @@ pub enum ReadError {
     /// The file is missing, isn't a regular one, or can't be read.
     #[error("it can't be read")]
     Unread,
-    /// Another program writes the file.
-    #[error("it is locked by another program")]
-    Locked,
-    /// A write of the file was cut off or goes on: a rollback journal stands beside it.
+    /// Another program writes the file, or was cut off while it wrote it: a rollback journal stands beside it.
     #[error("it has a rollback journal, which SQLite has to play back first")]
     Unfinished,
     /// The file is another one now than when its first byte was read.

@@ -5,23 +5,16 @@ ghost use Rattle.mb_reading.specs.Filling.{IsSet, NeverFails};
 
 use crate::{ReadError, read_set};
 use mb_store::MemStore;
-use os::RangeLock;
 use sqlite::{Connection, Error, ErrorCode, FileStore, Files, Options};
 use sqlite_disk::{Disk, Memory};
 use std::alloc::Global;
 use std::fs;
 use std::fs::File;
 use std::io::{ErrorKind, Read};
-use std::os::fd::AsRawFd;
 use std::os::unix::fs::MetadataExt;
 
 // How many bytes are copied at once.
 const PIECE: usize = 65_536;
-
-// The bytes that a reader of SQLite locks, and a writer before it changes the file.
-const SHARED_FIRST: u64 = 1_073_741_826;
-
-const SHARED_SIZE: u64 = 510;
 
 // What tells two states of a file apart: its length, and when it was last changed.
 #[derive(Clone, Copy, Debug, PartialEq, Eq)]
@@ -121,21 +114,7 @@ fn test_journal(rt: &HostRuntime, path: &str) -> Result<(), ReadError> {
     }
 }
 
-// Locks a file as a reader of SQLite does, until it is closed.
-fn lock(file: &File) -> Result<(), ReadError> {
-    if os::try_lock_range(
-        file.as_raw_fd(),
-        RangeLock::Shared,
-        SHARED_FIRST,
-        SHARED_SIZE,
-    ) != 0
-    {
-        return Err(ReadError::Locked);
-    }
-    Ok(())
-}
-
-// Copies of a file and of the log beside it, of which neither changed meanwhile.
+// Copies of a file and of the log beside it, of which neither changed meanwhile, and beside which no rollback journal stood before or after.
 fn copies(rt: &HostRuntime, path: &str) -> Result<Files<Memory>, ReadError> {
     let alloc = rt.alloc();
     let log_path = beside(alloc, path, "-wal")?;
@@ -147,13 +126,13 @@ fn copies(rt: &HostRuntime, path: &str) -> Result<Files<Memory>, ReadError> {
     let Ok(mut file) = File::open(rt, path) else {
         return Err(ReadError::Unread);
     };
-    lock(&file)?;
     test_journal(rt, journal_path.as_str())?;
     let db = copy(alloc, &mut file, before.length)?;
     let log = copy_log(rt, log_path.as_str(), log_stamp)?;
     if stamp_of(rt, path) != stamp || stamp_of(rt, log_path.as_str()) != log_stamp {
         return Err(ReadError::Changed);
     }
+    test_journal(rt, journal_path.as_str())?;
     Ok(Files { log, db })
 }
 
@@ -170,10 +149,9 @@ fn open(alloc: Global, files: Files<Memory>) -> Result<Connection<FileStore<Memo
 }
 
 /// Reads the set of a file into a store in memory. The file is opened for reading alone, and nothing is written beside it: it and the log of
-/// SQLite beside it are copied into memory under SQLite's lock of a reader, and the database is opened over the copies.
+/// SQLite beside it are copied into memory, without a lock, and the database is opened over the copies.
 ///
-/// `Unread` where the file is missing, isn't a regular one or can't be read, `Locked` where a program writes it, `Unfinished` where a
-/// rollback journal stands beside it, `Changed` where it is another file after it was copied than before, `Unopened` with the cause where it is
+/// `Unread` where the file is missing, isn't a regular one or can't be read, `Unfinished` where a rollback journal stands beside it, `Changed` where it is another file after it was copied than before, `Unopened` with the cause where it is
 /// no database that is understood; and the refusals of `read_set`.
 pub fn read_file(rt: &HostRuntime, path: &str) -> Result<MemStore, ReadError>
     ensures told { IfOk result (λ store. IsSet (told_of store)) }

@@ -30,9 +30,9 @@ pub fn say_unread(rt: &HostRuntime, path: &str, error: &ReadError) {
         ReadError::Unopened(cause) => {
             eprintln!(rt; "{TOOL}: {path} is no SQLite database that is read: {cause}")
         }
-        ReadError::Locked => {
+        ReadError::Unfinished => {
             eprintln!(rt;
-                "{TOOL}: {path} is locked by another program; try again when that has ended"
+                "{TOOL}: {path} is written by another program, or a write of it was cut off: a rollback journal stands beside it"
             )
         }
         ReadError::Changed => {
