@@ -7,7 +7,7 @@ use pm_format::FileMedium;
 use program_words::{
     Put, Taken, are_one_file, begin_step, put_beside, put_over, remove_made, take_beside, take_over,
 };
-use set_conversion::{ConversionFlags, ConversionOutcome, convert_as_said};
+use set_conversion::{ConversionFlags, ConversionOutcome, convert_as_said_owned};
 use std::fs;
 use tile_bridge::ConvertReport;
 
@@ -21,13 +21,13 @@ fn convert_sets(
     let [first, rest @ ..] = sets else {
         return Err(ConversionOutcome::Usage);
     };
-    let mut base = read_set(rt, first.as_str())?;
-    let mut patches = read_sets(rt, rest)?;
+    let base = read_set(rt, first.as_str())?;
+    let patches = read_sets(rt, rest)?;
     let step = begin_step(rt, TOOL, "converting", first.as_str());
-    let report = convert_as_said(
+    let report = convert_as_said_owned(
         rt.alloc(),
-        &mut base,
-        &mut patches,
+        base,
+        patches,
         &[],
         flags.force,
         flags.verify,

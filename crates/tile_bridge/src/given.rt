@@ -20,7 +20,7 @@ use std::alloc::Global;
 use tile_ids::TileCoord;
 
 // How a set is converted whose options aren't known yet.
-fn asked(force: bool, verify: bool) -> ConvertOptions
+pub(crate) fn asked(force: bool, verify: bool) -> ConvertOptions
     ensures { result ≡ asked force verify }
 {
     ConvertOptions {
