@@ -37,7 +37,7 @@ use Rattle.pm_format.specs.LookUp.{archive_map}
 use Rattle.set_import.specs.Filling.{IsMade, flat_made}
 use Rattle.set_import.specs.NewSet.{IsNewSet}
 use Rattle.set_import.specs.Said.{IsSaidBy}
-use Rattle.tile_bridge.specs.Convert.{address}
+use Rattle.tile_places.specs.Places.{address}
 use Rattle.tile_hash.specs.declared.algorithm.HashAlgorithm.TheVariants.{Md5}
 use Rattle.tile_import.specs.Tiles.{HasTilesOf}
 use Rattle.tile_json.specs.declared.document.TileJson.{TileJson}

@@ -4,6 +4,7 @@
 mod filling;
 pub mod laws;
 mod making;
+pub mod round_trip;
 mod said;
 mod status;
 mod words;

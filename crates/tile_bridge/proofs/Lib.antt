@@ -8,7 +8,6 @@ pub mod GivenLemmas
 pub mod Members
 pub mod OutcomeLemmas
 pub mod PatchedRows
-pub mod PlaceLemmas
 pub mod ReadingBackLemmas
 pub mod ResolveLemmas
 pub mod SizeLemmas

@@ -1,5 +1,5 @@
 -- The adds of a tile set: the ids and bytes of its tiles of at least one byte.
-use Rattle.std.specs.Prelude.{◌≡◌, ◌≢◌, ◌≤◌, ◌<◌, ◌^◌, ℕ, true, List, [], ◌∷◌, map, filter_map, slice_get, take, unwrap_or, Option, Some, None, All}
+use Rattle.std.specs.Prelude.{◌≡◌, ◌≢◌, ◌≤◌, ◌<◌, ℕ, true, List, [], ◌∷◌, map, filter_map, slice_get, take, unwrap_or, Option, Some, None, All}
 use Rattle.std.specs.Option.{option_map}
 use Rattle.std.specs.FinMap.{entries, find, get, is_sorted, len}
 use Rattle.std.specs.Ordering.{nat_cmp}
@@ -8,7 +8,7 @@ use Rattle.mb_loaded.specs.Aggregate.{bytes_of}
 use Rattle.mb_tables.specs.Tiles.{Place, TileSet, solid}
 use Rattle.mb_tables.specs.declared.cell.Cell.{Cell}
 use Rattle.mb_tables.specs.declared.cell.Cell.TheVariants.{Blob}
-use Rattle.tile_bridge.specs.Convert.{address}
+use Rattle.tile_places.specs.Places.{InRange, address}
 use Rattle.tile_bridge.specs.declared.adds.Add.{Add}
 
 -- the bytes under an id, if any
@@ -44,12 +44,6 @@ shown tiles adds = map (λ a. (a.id, bytes_at tiles a.index)) adds
 -- each add is a tile of the set
 abbrev pub AreWithin : TileSet → List Add → Type 0
 AreWithin tiles adds = All (λ a. a.index < len tiles) adds
-
--- a place of zoom 0 to 31 in range
-pub record InRange (p : Place) : Type 0 where
-  pub zoom : p.zoom ≤ 31
-  pub column : p.column < 2 ^ p.zoom
-  pub row : p.row < 2 ^ p.zoom
 
 -- all places of entries are in range
 abbrev pub Ranged : List (Place × Option (List ℕ)) → Type 0

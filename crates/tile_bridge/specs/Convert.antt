@@ -1,9 +1,9 @@
 -- What a conversion answers, and what it leaves.
-use Rattle.std.specs.Prelude.{ℕ, ◌≡◌, ◌≢◌, ◌⊎◌, ◌-◌, ◌^◌, ◌<◌, true, false, List, [], ◌∷◌, length, map, Option, Some, None, Result, Ok, Err, IfSome, IsOk}
+use Rattle.std.specs.Prelude.{ℕ, ◌≡◌, ◌≢◌, ◌⊎◌, ◌-◌, ◌<◌, true, false, List, [], ◌∷◌, length, map, Option, Some, None, Result, Ok, Err, IfSome, IsOk}
 use Rattle.std.specs.FinMap.{FinMap, get}
 use Rattle.std.specs.Ordering.{nat_cmp}
 use Rattle.tile_ids.specs.Coord.{Coord}
-use Rattle.tile_ids.specs.Hilbert.{id_of, tile_id}
+use Rattle.tile_ids.specs.Hilbert.{id_of}
 use Rattle.mb_loaded.specs.Aggregate.{aggregate}
 use Rattle.mb_tables.specs.Refusals.{is_free}
 use Rattle.mb_loaded.specs.State.{State}
@@ -16,15 +16,12 @@ use Rattle.pm_format.specs.WellFormed.{WellFormed}
 use Rattle.pm_writer.specs.Archive.{canon}
 use Rattle.pm_writer.specs.Pieces.{IsHidden}
 use Rattle.pm_writer.specs.Places.{places_read}
+use Rattle.tile_places.specs.Places.{address}
 use Rattle.tile_bridge.specs.ReadingBack.{IsReadBack}
 use Rattle.tile_bridge.specs.Stores.{IsDue, IsRefused}
 use Rattle.tile_bridge.specs.declared.error.ConvertError.{ConvertError}
 use Rattle.tile_bridge.specs.declared.error.ConvertError.TheVariants.{MediumNotEmpty, UnsupportedCompression, Store, IndexEntryOverflow, StoreFault, MediumFault, ReadBack, OutOfMemory}
 use Rattle.tile_bridge.specs.declared.report.ConvertReport.{ConvertReport}
-
--- the id of a place, whose row is counted from the bottom
-abbrev pub address : Place → ℕ
-address p = tile_id p.zoom p.column (2 ^ p.zoom - 1 - p.row)
 
 -- the tiles of the archive are exactly those of at least one byte, each under its id
 pub record HoldsExactly (b : List ℕ) (tiles : TileSet) : Type 0 where

@@ -4,4 +4,3 @@ pub mod TilesLemmas
 pub mod RefusalLemmas
 pub mod StoringLemmas
 pub mod AnswerLemmas
-pub mod RoundTripLemmas

@@ -15,9 +15,8 @@ use Rattle.mb_loaded.specs.Held.{Held}
 use Rattle.mb_loaded.specs.Editable.{IsOnBoard}
 use Rattle.mb_tables.proofs.TileLemmas.{places_total}
 use Rattle.mb_tables.specs.Tiles.{Place, TileSet, place_cmp}
-use Rattle.tile_bridge.proofs.PlaceLemmas.{coord_address, coord_placed, one_tie}
-use Rattle.tile_bridge.specs.Adds.{InRange}
-use Rattle.tile_bridge.specs.Convert.{address}
+use Rattle.tile_places.proofs.PlaceLemmas.{coord_address, coord_placed, one_tie}
+use Rattle.tile_places.specs.Places.{InRange, address}
 use Rattle.pm_walk.specs.declared.extent.TheConstants.{FIRST_TOO_DEEP}
 use Rattle.tile_import.specs.Putting.{AreOnBoard, place_of_id, with_ids}
 

@@ -3,7 +3,6 @@
 
 mod error;
 mod importing;
-pub mod laws;
 mod reading;
 mod storing;
 mod tiles;

@@ -12,8 +12,7 @@ use Rattle.mb_lists.proofs.Items.{equal_of}
 use Rattle.mb_lists.specs.Entries.{place_at}
 use Rattle.mb_tables.proofs.TileLemmas.{places_total}
 use Rattle.mb_tables.specs.Tiles.{Place, place_cmp}
-use Rattle.tile_bridge.specs.Adds.{InRange}
-use Rattle.tile_bridge.specs.Convert.{address}
+use Rattle.tile_places.specs.Places.{InRange, address}
 use Rattle.mb_load.proofs.EditedFrom.{same_place}
 
 -- the coordinate of a place
@@ -43,7 +42,7 @@ same_row a b m n e f g h = omega arith
 coord_in_place : (p q : Place) → InRange p → InRange q → coord_at p ≡ coord_at q → p ≡ q
 coord_in_place p q hp hq c = from_parts p q (ap (λ d. d.z) c) (ap (λ d. d.x) c) (same_row p.row q.row (2 ^ p.zoom) (2 ^ q.zoom) (ap (λ d. 2 ^ d.z) c) hp.row hq.row (ap (λ d. d.y) c))
 
-same_address : (p q : Place) → InRange p → InRange q → address p ≡ address q → p ≡ q
+pub same_address : (p q : Place) → InRange p → InRange q → address p ≡ address q → p ≡ q
 same_address p q hp hq e = coord_in_place p q hp hq (one_id (coord_at p) (coord_at q) (coord_in_range p hp) (coord_in_range q hq) e)
 
 -- two places tie exactly where their ids do

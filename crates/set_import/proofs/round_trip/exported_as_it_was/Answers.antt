@@ -1,6 +1,6 @@
 use Rattle.std.proofs.Common.{◌∙◌, sym}
-use Rattle.tile_import.proofs.RoundTripLemmas.{canonical}
-use Rattle.tile_import.proofs.laws.exported_as_it_was.Goals as goal
+use Rattle.set_import.proofs.RoundTripLemmas.{canonical}
+use Rattle.set_import.proofs.round_trip.exported_as_it_was.Goals as goal
 
 pub returns-clause-map : goal.returns-clause-map
 returns-clause-map c = canonical

@@ -1,0 +1,4 @@
+//! Places of tiles, and their ids.
+#![tactic(auto)]
+
+pub mod laws;
