@@ -96,7 +96,7 @@ run "$convert" a.mbtiles made.pmtiles
 whole_or_refused
 ends
 
-fresh 'a set that another program has locked, and hasn't written yet'
+fresh 'a set that another program has locked and not written yet'
 set_of a.mbtiles "$three"
 (echo 'begin exclusive;'; sleep 12) | "$real" a.mbtiles &
 sleep 1
@@ -108,9 +108,9 @@ wait
 ends
 
 fresh 'a set that another program writes'
-set_of a.mbtiles "$three"
-(echo 'begin exclusive; update tiles set tile_data = 1;'; sleep 12) | "$real" a.mbtiles &
-sleep 1
+set_of a.mbtiles "with recursive n(v) as (values (0) union all select v + 1 from n where v < 1999) insert into tiles select 6, v % 64, v / 64, zeroblob(1000) from n"
+(echo 'pragma cache_size = 2; begin exclusive; update tiles set tile_data = zeroblob(900);'; sleep 12) | "$real" a.mbtiles &
+sleep 2
 run "$convert" a.mbtiles made.pmtiles
 status 1
 says 'a.mbtiles is written by another program'
