@@ -31,16 +31,11 @@ def degrees(number):
 
 
 def members(text):
-    """The members of an object of JSON that nests at most 127 deep, or the refusal of any other text."""
-    def refuse(_):
-        raise ValueError
-    try:
-        value = json.loads(text, parse_constant=refuse)
-    except (ValueError, RecursionError):
-        value = None
-    if not isinstance(value, dict) or shown.depth(value) > 127:
+    """The members of an object of JSON, or the refusal of any other text."""
+    of = shown.members(text)
+    if of is None:
         raise Ends('Archive(InvalidMetadata)')
-    return value
+    return of
 
 
 def said(data):

@@ -47,19 +47,8 @@ def center(text):
     return lon, lat, int(zoom) if re.fullmatch('0|[1-9][0-9]?', zoom) and int(zoom) <= 30 else None
 
 
-def members(text):
-    """The members of an object of JSON, none where the text is no object that nests at most 127 deep."""
-    def refuse(_):
-        raise ValueError
-    try:
-        value = json.loads(text, parse_constant=refuse)
-    except (ValueError, RecursionError):
-        return {}
-    return value if isinstance(value, dict) and shown.depth(value) <= 127 else {}
-
-
 def metadata(names):
-    kept = members(names.get('json') or '')
+    kept = shown.members(names.get('json') or '') or {}
     kept.update((name, text) for name, text in names.items() if name not in LEFT_OUT and text is not None)
     return in_order(kept)
 

@@ -92,6 +92,17 @@ def depth(of):
     return 0
 
 
+def members(text):
+    """The members of an object of JSON that nests at most 127 deep, None of any other text."""
+    def refuse(_):
+        raise ValueError
+    try:
+        of = json.loads(text, parse_constant=refuse)
+    except (ValueError, RecursionError):
+        return None
+    return of if isinstance(of, dict) and depth(of) <= 127 else None
+
+
 def said(metadata):
     """What metadata says: its fields, with `other`; None where it is refused."""
     try:

@@ -19,6 +19,14 @@ whole_or_refused() {
     esac
     holds nothing_left
 }
+# beside SQL: a conversion while another program has done the SQL and holds the file
+beside() {
+    (echo "$1"; sleep 12) | "$real" a.mbtiles &
+    sleep 2
+    run "$convert" a.mbtiles made.pmtiles
+    kill %% 2>/dev/null
+    wait
+}
 # made NAME TILES CONTENTS SQL: a file by SQL, and what comes of it
 made() {
     fresh "$1"
@@ -98,25 +106,17 @@ ends
 
 fresh 'a set that another program has locked and not written yet'
 set_of a.mbtiles "$three"
-(echo 'begin exclusive;'; sleep 12) | "$real" a.mbtiles &
-sleep 1
-run "$convert" a.mbtiles made.pmtiles
+beside 'begin exclusive;'
 status 0
 prints '^tiles 3,'
-kill %% 2>/dev/null
-wait
 ends
 
 fresh 'a set that another program writes'
 set_of a.mbtiles "with recursive n(v) as (values (0) union all select v + 1 from n where v < 1999) insert into tiles select 6, v % 64, v / 64, zeroblob(1000) from n"
-(echo 'pragma cache_size = 2; begin exclusive; update tiles set tile_data = zeroblob(900);'; sleep 12) | "$real" a.mbtiles &
-sleep 2
-run "$convert" a.mbtiles made.pmtiles
+beside 'pragma cache_size = 2; begin exclusive; update tiles set tile_data = zeroblob(900);'
 status 1
 says 'a.mbtiles is written by another program'
 holds [ ! -e made.pmtiles ]
-kill %% 2>/dev/null
-wait
 ends
 
 fresh 'a set that changes between two statements'
