@@ -1,5 +1,6 @@
 # Runs the program of a tool. Where it isn't built yet, or is older than its sources, its crates are proved and built first, those that don't wait for each
-# other side by side, and standard error shows how far that is. A start after an interrupt goes on with the crates that are left.
+# other side by side, and standard error shows how far that is. A start after an interrupt goes on with the crates that are left. mbtiles-to-pmtiles starts this as a
+# command of its own, with `here` and `tool` handed on.
 # shellcheck disable=SC2154
 . "$here/crates.sh"
 built=$out/$program

@@ -16,7 +16,7 @@ build() {
     mkfifo "$room/gate"
     case $tool in
     tileset) set -- bulk 100000 1 ;;
-    mbtiles_to_pmtiles | pmtiles-to-mbtiles) set -- "$room/gate" "$room/part" ;;
+    mbtiles-to-pmtiles | pmtiles-to-mbtiles) set -- "$room/gate" "$room/part" ;;
     *) set -- "$room/gate" "$room/part" 0 0 0 0 0 ;;
     esac
     (cd "$top/crates/$program" && TMPDIR=$room exec rt try -- "$@") </dev/null >"$room/said" 2>&1 &

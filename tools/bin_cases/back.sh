@@ -94,11 +94,11 @@ archive=$top/crates/tile_extract_program/data/two_tiles.pmtiles
 echo no >bad
 run "$back" bad made.mbtiles
 status 1
-says 'pmtiles_to_mbtiles: bad: .*PMTiles'
+says 'pmtiles-to-mbtiles: bad: .*PMTiles'
 head -c 16386 "$archive" >short
 run "$back" short made.mbtiles
 status 1
-says 'pmtiles_to_mbtiles: short: '
+says 'pmtiles-to-mbtiles: short: '
 cp "$archive" gzip
 printf '\002' | dd of=gzip bs=1 seek=97 conv=notrunc 2>/dev/null
 run "$back" gzip made.mbtiles
@@ -110,7 +110,7 @@ status 1
 says 'list: invalid metadata'
 run "$back" missing made.mbtiles
 status 6
-says 'pmtiles_to_mbtiles: missing: No such file'
+says 'pmtiles-to-mbtiles: missing: No such file'
 prints '^source fault$'
 run "$back" . made.mbtiles
 status 6
@@ -119,7 +119,7 @@ for words in "" "$archive" "$archive made.mbtiles ten" "$archive made.mbtiles 01
     # shellcheck disable=SC2086
     run "$back" $words
     status 2
-    says 'pmtiles_to_mbtiles --help'
+    says 'pmtiles-to-mbtiles --help'
     holds [ ! -s out ]
 done
 holds [ ! -e made.mbtiles ]

@@ -53,9 +53,9 @@ if command -v script >/dev/null; then
     fresh 'steps on a terminal'
     run script -qec "'$bin/mbtiles-to-pmtiles' '$top/examples/places.mbtiles' made.pmtiles" /dev/null
     status 0
-    prints 'mbtiles_to_pmtiles: reading .*places.mbtiles'
-    prints 'mbtiles_to_pmtiles: done in [0-9]* s'
-    prints 'mbtiles_to_pmtiles: converting .*places.mbtiles'
+    prints 'mbtiles-to-pmtiles: reading .*places.mbtiles'
+    prints 'mbtiles-to-pmtiles: done in [0-9]* s'
+    prints 'mbtiles-to-pmtiles: converting .*places.mbtiles'
     run script -qec "'$bin/mbtiles-to-pmtiles' --by-script '$top/examples/places.mbtiles' other.pmtiles" /dev/null
     status 0
     prints 'mbtiles-to-pmtiles: reading .*places.mbtiles'
@@ -177,14 +177,13 @@ ends
 fresh 'a command that is ended'
 set_of a.mbtiles "$one"
 cp -r "$bin" bin
-rm bin/mbtiles_to_pmtiles
-cat >bin/mbtiles_to_pmtiles <<'PROGRAM'
+cat >bin/mbtiles_to_pmtiles_program <<'PROGRAM'
 #!/bin/bash
 for out; do :; done
 : >"$out.new"
 exec sleep 20
 PROGRAM
-chmod +x bin/mbtiles_to_pmtiles
+chmod +x bin/mbtiles_to_pmtiles_program
 mkdir to
 for signal in HUP:129 INT:130 TERM:143; do
     env --default-signal bin/mbtiles-to-pmtiles a.mbtiles to/made.pmtiles >out 2>err </dev/null &

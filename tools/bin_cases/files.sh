@@ -244,9 +244,9 @@ set_of "it's 100%?#.mbtiles" "$three"
 run "$convert" "it's 100%?#.mbtiles" "it's 100%?#.pmtiles"
 status 0
 holds cmp -s made.pmtiles "it's 100%?#.pmtiles"
-run "$bin/mbtiles_to_pmtiles" -dash.mbtiles made.pmtiles
+run "$here/crates/mbtiles_to_pmtiles_program/out/mbtiles_to_pmtiles_program" -dash.mbtiles made.pmtiles
 status 2
-says 'mbtiles_to_pmtiles --help'
+says 'mbtiles-to-pmtiles --help'
 ends
 
 fresh 'lines that find no room'

@@ -17,7 +17,7 @@ use std::process::ExitCode;
 const HELP: &str = "Makes an archive of the PMTiles format of a set of map tiles in an MBTiles
 file, and of patches to it.
 
-usage: mbtiles_to_pmtiles [--force] [--verify] [--overwrite] BASE.mbtiles
+usage: mbtiles-to-pmtiles [--force] [--verify] [--overwrite] BASE.mbtiles
                           [PATCH.mbtiles ..] OUT.pmtiles
 
 Patches are put on the base in their order; no set's file is changed. Type and
@@ -41,10 +41,10 @@ status: 0 done, 1 refused, 2 no command, 3 no such file or no set, 5 the lines
 can't be written, 6 OUT can't be written, 7 out of memory, 9 read back
 ";
 
-const VERSION: &str = "mbtiles_to_pmtiles 0.1.0\n";
+const VERSION: &str = "mbtiles-to-pmtiles 0.1.0\n";
 
 /// The name before what is said on standard error.
-pub const TOOL: &str = "mbtiles_to_pmtiles";
+pub const TOOL: &str = "mbtiles-to-pmtiles";
 
 // Prints the text of an outcome. Where it finds no memory, or can't be written, that is the outcome.
 fn tell(rt: &HostRuntime, outcome: ConversionOutcome) -> ConversionOutcome {

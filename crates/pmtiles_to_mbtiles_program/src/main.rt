@@ -20,9 +20,9 @@ use tile_import::ImportError;
 
 const HELP: &str = "Makes MBTiles databases of archives of the PMTiles format.
 
-usage: pmtiles_to_mbtiles IN.pmtiles OUT.mbtiles [MAX_TILES]
+usage: pmtiles-to-mbtiles IN.pmtiles OUT.mbtiles [MAX_TILES]
 
-pmtiles_to_mbtiles IN.pmtiles OUT.mbtiles [MAX_TILES]
+pmtiles-to-mbtiles IN.pmtiles OUT.mbtiles [MAX_TILES]
                 writes to the new file OUT.mbtiles the flat set of the tiles
                 of the archive IN.pmtiles, of which there are MAX_TILES at
                 most, 10000000 where it isn't said. All tiles are in memory
@@ -46,9 +46,9 @@ status: 0 done, 1 refused, 2 no command, 5 the text can't be written, 6 a file
 can't be opened, read or written, 7 out of memory
 ";
 
-const VERSION: &str = "pmtiles_to_mbtiles 0.1.0\n";
+const VERSION: &str = "pmtiles-to-mbtiles 0.1.0\n";
 
-const TOOL: &str = "pmtiles_to_mbtiles";
+const TOOL: &str = "pmtiles-to-mbtiles";
 
 fn store_fault() -> ImportError {
     ImportError::Store(MbtError::StoreFault)
