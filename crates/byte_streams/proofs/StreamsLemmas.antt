@@ -55,12 +55,6 @@ Loses-tells (Some x) (Some y) xs p = refl
 pub Loses-told : (a b c : Option (List ℕ)) (xs : List ℕ) → Loses b c xs → is_some b ≡ is_some a → is_some c ≡ is_some a
 Loses-told a b c xs p same = Loses-tells b c xs p ∙ same
 
-pub Gains-tells : (a b : Option (List ℕ)) (xs : List ℕ) → Gains a b xs → is_some b ≡ is_some a
-Gains-tells None None xs p = refl
-Gains-tells None (Some y) xs p = absurd p
-Gains-tells (Some x) None xs p = absurd p
-Gains-tells (Some x) (Some y) xs p = refl
-
 pub Grew-nil : (t : ℕ) → Grew t t 0
 Grew-nil t = record { later = omega arith; most = omega arith; exact = λ h. omega arith }
 

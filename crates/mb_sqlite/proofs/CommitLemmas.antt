@@ -1,15 +1,13 @@
 -- Calls in a row that commit nothing, or once.
-use Rattle.std.proofs.Common.{◌≡◌, ℕ, false, true, List, refl, inl, inr, arith, subst, IsTrue, Result}
-use Rattle.std.proofs.lemmas.Bool.{cases_Bool}
+use Rattle.std.proofs.Common.{◌≡◌, false, true, refl, inl, inr, arith, subst, sym}
 use Rattle.sqlite.specs.declared.error.Error.{Error}
 use Rattle.sqlite.specs.Held.{Held, state}
-use Rattle.sqlite.specs.Order.{Row}
 use Rattle.sqlite.specs.Steps.{FailsToCommit}
-use Rattle.sqlite.specs.State.{HasCleanDisk, ExecutesInside, IsRolledBack, Shows, Survives}
+use Rattle.sqlite.specs.State.{HasCleanDisk, IsRolledBack, Shows, Survives}
 use Rattle.sqlite.specs.Store.{Ghosts}
 use Rattle.sqlite.specs.Tree.{Trees}
 use Rattle.sqlite.proofs.Callers.{survives_begin}
-use Rattle.sqlite.proofs.InsideLemmas.{inside_keeps, keeps_then, unchanged_keeps}
+use Rattle.sqlite.proofs.InsideLemmas.{keeps_then, unchanged_keeps}
 use Rattle.sqlite.proofs.StateLemmas.{survives_then, survives_weaker}
 use Rattle.mb_sqlite.specs.Committing.{CommitsNothing, CommitsOnce, KeepsCommitted}
 use Rattle.mb_sqlite.specs.Making.{Commits, begun}
@@ -32,15 +30,9 @@ module _ {S : Type 0} (g : Ghosts S) where
   pub seen_within : (P : Held S → Held S → Type 0) (old begun mid end : Held S) → begun ≡ record old { in_transaction = true } → (HasCleanDisk (state g mid) → P begun mid) → CommitsNothing g mid end → HasCleanDisk (state g end) → Within old P
   seen_within P old begun mid end is seen last clean = (mid, subst (λ h. P h mid) is (seen (omega (arith, last.clean))))
 
-  -- a statement inside a transaction
-  pub inside_keeps_committed : (sql : List ℕ) (params : Row) (old new : Held S) (r : Result ℕ Error)
-      → ((state g old).in_transaction ≡ false → new ≡ old)
-      → (HasCleanDisk (state g new) → IsTrue (state g old).in_transaction → ExecutesInside 0 sql params (state g old) (state g new) r)
-      → KeepsCommitted g old new
-  inside_keeps_committed sql params old new r ended runs clean = elim (cases_Bool (state g old).in_transaction) [
-    | inl within ↦ inside_keeps (state g old) (state g new) 0 false sql params r (runs clean within)
-    | inr outside ↦ rw (ended outside) (record { was_open = λ k. k; committed = λ _. refl })
-  ]
+  -- the same of what the call behind it is told of
+  pub seen_back : (P : Held S → Held S → Type 0) (old first mid last end : Held S) → first ≡ record old { in_transaction = true } → (HasCleanDisk (state g mid) → P first mid) → CommitsNothing g mid last → last ≡ end → HasCleanDisk (state g end) → Within old P
+  seen_back P old first mid last end opens seen step same clean = seen_within P old first mid last opens seen step (subst (λ h. HasCleanDisk (state g h)) (sym same) clean)
 
   -- a transaction that is rolled back
   pub undone_nothing : (old mid end : Held S) → CommitsNothing g (record old { in_transaction = true }) mid → CommitsNothing g mid end → CommitsNothing g old end
@@ -63,11 +55,11 @@ module _ {S : Type 0} (g : Ghosts S) where
       (unchanged_keeps (state g mid) (state g end) (elim (failed clean) [ inl fails ↦ inr fails.3 | inr late ↦ inl late.2 ]))
 
   -- a transaction that is committed
-  pub done_once : (Ends : Held S → Type 0) (old mid end : Held S) → CommitsNothing g (begun old) mid → (HasCleanDisk (state g mid) → Ends mid)
-      → Survives (state g mid) (state g end) (λ db. db ≡ (state g mid).now.trees) → CommitsOnce g Ends old end
-  done_once Ends old mid end inside ends last = record {
+  pub done_once : (Ends : Held S → Type 0) (old mid last end : Held S) → CommitsNothing g (begun old) mid → (HasCleanDisk (state g mid) → Ends mid)
+      → Survives (state g mid) (state g last) (λ db. db ≡ (state g mid).now.trees) → last ≡ end → CommitsOnce g Ends old end
+  done_once Ends old mid last end inside ends step same = subst (CommitsOnce g Ends old) same record {
     made = (state g mid).now.trees;
-    survives = survives_then (state g old) (state g mid) (state g end) _ _ _ (λ _ db none. absurd none) (λ clean db is. (is, (mid, ends (omega (arith, clean, last.clean)), is))) (survives_begin g old (state g mid) _ inside) last;
+    survives = survives_then (state g old) (state g mid) (state g last) _ _ _ (λ _ db none. absurd none) (λ clean db is. (is, (mid, ends (omega (arith, clean, step.clean)), is))) (survives_begin g old (state g mid) _ inside) step;
   }
 
   pub nothing_once : (Ends : Held S → Type 0) (old new : Held S) → CommitsNothing g old new → CommitsOnce g Ends old new

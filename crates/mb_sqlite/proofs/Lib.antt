@@ -1,5 +1,5 @@
 mod AskingLemmas
-mod CommitLemmas
+pub mod CommitLemmas
 mod PassingLemmas
 mod ReadingLemmas
 mod ReadyLemmas

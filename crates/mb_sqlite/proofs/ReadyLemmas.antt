@@ -1,6 +1,6 @@
 -- What comes of a call once the tables are made.
 use Rattle.std.proofs.Common.{◌≡◌, Bool, false, true, MatchBool, refl, subst, sym, Result, Ok, Err, ◌∙◌}
-use Rattle.std.specs.Prelude.{IfOk, OnErr, OnOk}
+use Rattle.std.specs.Prelude.{IfOk, OnErr}
 use Rattle.sqlite.specs.Held.{Held, state}
 use Rattle.sqlite.specs.State.{HasCleanDisk}
 use Rattle.sqlite.specs.Store.{Ghosts}
@@ -13,17 +13,6 @@ use Rattle.mb_sqlite.specs.Resting.{Rests}
 pub on_err : {X E : Type 0} (r : Result X E) (P : Type 0) → P → OnErr r P
 on_err (Ok x) P p = tt
 on_err (Err e) P p = p
-
--- an answer that is passed on
-pub answered : {X E F : Type 0} (r : Result X E) (a : Result X F) (P : X → Type 0) → IfOk r (λ x. a ≡ Ok x) → IfOk a P → IfOk r P
-answered (Ok x) a P is h = subst (λ a. IfOk a P) is h
-answered (Err e) a P is h = tt
-
--- a refusal that is passed on
-pub refused_as : {X E F : Type 0} (r : Result X E) (a : Result X F) (P : Type 0) → OnErr r (OnOk a ⊥) → OnErr a P → OnErr r P
-refused_as (Ok x) a P is h = tt
-refused_as (Err e) (Ok y) P is h = absurd is
-refused_as (Err e) (Err f) P is h = h
 
 pub by_true : (b : Bool) (A B : Type 0) → b ≡ true → A → MatchBool b A B
 by_true b A B is a = subst (λ b. MatchBool b A B) (sym is) a

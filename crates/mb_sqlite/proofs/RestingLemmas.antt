@@ -1,5 +1,5 @@
 -- What calls in a row leave of a transaction, and what it leaves when it ends.
-use Rattle.std.proofs.Common.{◌≡◌, false, arith, inl, inr, refl, ◌∙◌}
+use Rattle.std.proofs.Common.{◌≡◌, false, arith, inl, inr, refl, subst, ◌∙◌}
 use Rattle.std.proofs.lemmas.Bool.{both_ways}
 use Rattle.sqlite.specs.declared.error.Error.{Error}
 use Rattle.sqlite.specs.Held.{Held, state}
@@ -39,6 +39,10 @@ module _ {S : Type 0} (g : Ghosts S) where
     committed = λ clean is. ((undone clean).undone is).1 ∙ (kept (omega (arith, clean, last.clean)) refl).committed ((undone clean).was_open is);
     unmarked = λ clean. (undone clean).unmarked;
   }
+
+  -- the same of what the calls before and after are told of
+  pub rests_back : (old first mid last end : Held S) → first ≡ begun old → KeepsInside g first mid → CommitsNothing g mid last → (HasCleanDisk (state g last) → IsRolledBack (state g mid) (state g last)) → last.in_transaction ≡ false → last ≡ end → Rests g old end
+  rests_back old first mid last end opens kept step undone ended same = subst (Rests g old) same (rests_undone old mid last (subst (λ h. KeepsInside g h mid) opens kept) step undone ended)
 
   -- a transaction whose commit is refused
   pub rests_failed : (old mid end : Held S) (P : Trees → Type 0) (e : Error) → KeepsInside g (begun old) mid → StaysInside g (begun old) mid → Survives (state g mid) (state g end) P

@@ -58,10 +58,6 @@ capped sum None n ids runs lengths bs h = go (column 10 (2 ^ 64) n bs)
 abbrev after : List Entry → List Entry → List Entry
 after front es = front ++ es
 
-after_nothing : (x : Option (List Entry)) → x ≡ option_map (after []) x
-after_nothing None = refl
-after_nothing (Some es) = refl
-
 after_one : (front : List Entry) (e : Entry) (x : Option (List Entry)) → option_map (after front) (option_map (λ es. e ∷ es) x) ≡ option_map (after (front ++ e ∷ [])) x
 after_one front e None = refl
 after_one front e (Some es) = ap Some (sym (append_assoc front (e ∷ []) es))
@@ -70,12 +66,6 @@ after_one front e (Some es) = ap Some (sym (append_assoc front (e ∷ []) es))
 pub record EntriesReading (bytes ids runs lengths : List ℕ) (start i at : ℕ) (end : Option ℕ) (entries : List Entry) : Type 0 where
   pub within : at ≤ length bytes
   pub same : entries_at None (length ids) ids runs lengths (drop start bytes) ≡ option_map (after entries) (entries_at end (length ids - i) (drop i ids) (drop i runs) (drop i lengths) (drop at bytes))
-
-pub entries_first : (bytes ids runs lengths : List ℕ) (start : ℕ) → start ≤ length bytes → EntriesReading bytes ids runs lengths start 0 start None []
-entries_first bytes ids runs lengths start h = record {
-  within = h;
-  same = (let e : length ids ≡ length ids - 0 = omega arith in ap (λ k. entries_at None k ids runs lengths (drop start bytes)) e) ∙ after_nothing (entries_at None (length ids - 0) ids runs lengths (drop start bytes));
-}
 
 -- the heads of the three lists stand at i
 opened : (end : Option ℕ) (ids runs lengths bs : List ℕ) (i : ℕ) → i < length ids → length runs ≡ length ids → length lengths ≡ length ids

@@ -83,7 +83,8 @@ impl ReaderState {
             (λ b. IsTrusted self.now.header b self.now.root (C.held cache.old) (C.idle cache.old)
             → IsAtLevel self.now.header b self.now.root (6 - left) found
             → Follows self.now.header b self.now.root tile_id left found
-            (B.reads backend.old) (B.reads backend.new) (C.held cache.new) (C.idle cache.new) result) }
+            (B.reads backend.old) (B.reads backend.new) (C.held cache.new) (C.idle cache.new)
+            result) }
         ensures idle { C.idle cache.old → C.idle cache.new }
         ensures limits { (l : CacheLimits) → C.keeps_to cache.old l → C.keeps_to cache.new l }
         ensures causes { LookUpCauses (B.faults backend.old) (B.faults backend.new) result }

@@ -30,7 +30,8 @@ impl ReaderState {
         ensures found { IfSome (B.told backend.old)
             (λ b. IsTrusted self.now.header b self.now.root (C.held cache.old) (C.idle cache.old)
             → Finds self.now.header b self.now.root tile_id
-            (B.reads backend.old) (B.reads backend.new) (C.held cache.new) (C.idle cache.new) (tile_of result)) }
+            (B.reads backend.old) (B.reads backend.new) (C.held cache.new) (C.idle cache.new)
+            (tile_of result)) }
         ensures text { FoundTextAt (B.versions backend.new) (B.reads backend.new) result }
         ensures idle { C.idle cache.old → C.idle cache.new }
         ensures limits { (l : CacheLimits) → C.keeps_to cache.old l → C.keeps_to cache.new l }

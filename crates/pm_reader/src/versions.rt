@@ -44,7 +44,8 @@ impl ReaderState {
         ensures found { IfSome (B.told backend.old)
             (λ b. IsTrusted self.now.header b self.now.root (C.held cache.old) (C.idle cache.old)
             → FindsUnmodified self.now.header b self.now.root tile_id
-            (B.reads backend.old) (B.reads backend.new) (C.held cache.new) (C.idle cache.new) result) }
+            (B.reads backend.old) (B.reads backend.new) (C.held cache.new) (C.idle cache.new)
+            result) }
         ensures text { ComparesTexts (version_of self.now) (B.versions backend.new)
             (B.reads backend.new) result }
         ensures idle { C.idle cache.old → C.idle cache.new }

@@ -95,7 +95,7 @@ pub nothing_clipped : (e : Entry) (is : List (ℕ × ℕ)) (old : Collected) →
 nothing_clipped e is old none = subst (λ n. Collects old (if nat_eq n 0 then [] else clip_all e is) old) (sym none) (collects_nothing old)
 
 -- the parts of an entry are in order, and so are those of entries in order
-from_low : (low m : ℕ) (ps : List Entry) (end : Option ℕ) → low ≤ m → AreOrdered m ps end → AreOrdered low ps end
+pub from_low : (low m : ℕ) (ps : List Entry) (end : Option ℕ) → low ≤ m → AreOrdered m ps end → AreOrdered low ps end
 from_low low m ps end le o = ordered_append low m [] ps end (to_le low m le) o
 
 clips_ordered : (e : Entry) (low : ℕ) (is : List (ℕ × ℕ)) → 1 ≤ e.run_length → e.tile_id + e.run_length ≤ MAX_TILE_ID + 1 → AreApart low is → AreOrdered (reach e low) (clip_all e is) (Some (e.tile_id + e.run_length))

@@ -118,25 +118,18 @@ both_of t e i some fits has =
     let b = in_both t e.tile_id e.run_length i.0 i.1 (first_of_clip e i) (last_of_clip e i) some refl refl (le_by (first_of_clip e i) (last_of_clip e i) fits) (le_by (first_of_clip e i) t h.0) (lt_by t (first_of_clip e i + (last_of_clip e i - first_of_clip e i + 1)) h.1) in
     record { low = b.0; high = b.1; from = b.2; to = b.3 }
 
-pub clip_none : (t : ℕ) (e : Entry) (i : ℕ × ℕ) → 1 ≤ e.run_length → has_id t e ≡ false → covering t (clip e i) ≡ None
-clip_none t e i some not_in = by_test (nat_le (first_of_clip e i) (last_of_clip e i)) refl
+clip_apart : (t : ℕ) (e : Entry) (i : ℕ × ℕ) → 1 ≤ e.run_length → (IsInBoth t e i → ⊥) → covering t (clip e i) ≡ None
+clip_apart t e i some apart = by_test (nat_le (first_of_clip e i) (last_of_clip e i)) refl
   where
     by_test : (b : Bool) → nat_le (first_of_clip e i) (last_of_clip e i) ≡ b → covering t (if b then part_of e i ∷ [] else []) ≡ None
     by_test false fits = refl
-    by_test true fits =
-        covers_later t (part_of e i) [] (never (has_id t (part_of e i)) (λ has.
-        let b = both_of t e i some fits has in
-        true≢false (sym (and_from (nat_le e.tile_id t) (nat_lt t (e.tile_id + e.run_length)) (to_le e.tile_id t b.low) (to_lt t (e.tile_id + e.run_length) b.high)) ∙ not_in)))
+    by_test true fits = covers_later t (part_of e i) [] (never (has_id t (part_of e i)) (λ has. apart (both_of t e i some fits has)))
+
+pub clip_none : (t : ℕ) (e : Entry) (i : ℕ × ℕ) → 1 ≤ e.run_length → has_id t e ≡ false → covering t (clip e i) ≡ None
+clip_none t e i some not_in = clip_apart t e i some (λ b. true≢false (sym (and_from (nat_le e.tile_id t) (nat_lt t (e.tile_id + e.run_length)) (to_le e.tile_id t b.low) (to_lt t (e.tile_id + e.run_length) b.high)) ∙ not_in))
 
 pub clip_outside : (t : ℕ) (e : Entry) (i : ℕ × ℕ) → 1 ≤ e.run_length → lies_in t i ≡ false → covering t (clip e i) ≡ None
-clip_outside t e i some not_in = by_test (nat_le (first_of_clip e i) (last_of_clip e i)) refl
-  where
-    by_test : (b : Bool) → nat_le (first_of_clip e i) (last_of_clip e i) ≡ b → covering t (if b then part_of e i ∷ [] else []) ≡ None
-    by_test false fits = refl
-    by_test true fits =
-        covers_later t (part_of e i) [] (never (has_id t (part_of e i)) (λ has.
-        let b = both_of t e i some fits has in
-        true≢false (sym (and_from (nat_le i.0 t) (nat_le t i.1) (to_le i.0 t b.from) (to_le t i.1 b.to)) ∙ not_in)))
+clip_outside t e i some not_in = clip_apart t e i some (λ b. true≢false (sym (and_from (nat_le i.0 t) (nat_le t i.1) (to_le i.0 t b.from) (to_le t i.1 b.to)) ∙ not_in))
 
 -- a part of an entry has its contents
 pub record IsPartOf (e p : Entry) : Type 0 where

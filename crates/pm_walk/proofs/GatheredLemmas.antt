@@ -13,7 +13,7 @@ use Rattle.pm_walk.specs.declared.error.WalkError.TheVariants.{TooManyTiles}
 use Rattle.pm_walk.specs.declared.extent.Extent.{Extent}
 use Rattle.pm_walk.specs.declared.extent.Extent.TheVariants.{Whole}
 use Rattle.pm_walk.proofs.ContentsLemmas.{contents_first}
-use Rattle.pm_walk.proofs.GatheringLemmas.{told_gathered, told_refused, told_too_many}
+use Rattle.pm_walk.proofs.GatheringLemmas.{RootWalk, all_gathered, none_left, room_first, told_root, walk_refused}
 use Rattle.pm_walk.proofs.LyingLemmas.{kept_all}
 
 -- a walk from the root on, by what takes the parts, to which none was given before
@@ -29,7 +29,7 @@ root_gathered holds k told h is es root most first taker last room before now sa
     record {
       all = w.new;
       held = subst (λ t. holds t w.new.parts w.new.contents) (sym all.0) w.leaves.1;
-      gathered = told_gathered told k h is es root most (nothing most) w.new w.new.parts same (refl, refl) w.answer (refl, some);
+      gathered = told_root told k h is es root most (nothing most) w.new (Ok tt) (Ok w.new.parts) same (λ b v. all_gathered k (RootWalk k h is es b) is most (nothing most) w.new w.new.parts (refl, refl) v (refl, some)) w.answer;
       ordered = λ apart. w.ordered apart refl refl;
       few = kept.0;
       within = kept.1;
@@ -40,13 +40,13 @@ pub root_too_many : {T : Type 0} (holds : T → List Entry → List (List ℕ) �
     → es ≡ root → holds first [] [] → FromRoot holds k told h is es most first taker room before now (Ok tt) → (x ≡ TooManyTiles) × (room ≡ None) → IfSome told (λ b. Gathers k (walked k 6 h b is 0 None root) is most (Err x))
 root_too_many holds k told h is es root most first taker room before now x same begun walks none =
     let w = walks (nothing most) (begun, refl) in
-    told_too_many told k h is es root most (nothing most) w.new x same (refl, refl) w.answer (none.0, sym w.leaves.0 ∙ none.1)
+    told_root told k h is es root most (nothing most) w.new (Ok tt) (Err x) same (λ b v. none_left k (RootWalk k h is es b) is most (nothing most) w.new x refl v (none.0, sym w.leaves.0 ∙ none.1)) w.answer
 
 pub root_refused : {T : Type 0} (holds : T → List Entry → List (List ℕ) → Type 0) (k : Extent) (told : Option (List ℕ)) (h : Header) (is : List (ℕ × ℕ)) (es root : List Entry) (most : ℕ) (first taker : T) (room : Option ℕ) (before now : ℕ) (x : WalkError)
     → es ≡ root → holds first [] [] → FromRoot holds k told h is es most first taker room before now (Err x) → IfSome told (λ b. Gathers k (walked k 6 h b is 0 None root) is most (Err x))
 root_refused holds k told h is es root most first taker room before now x same begun walks =
     let w = walks (nothing most) (begun, refl) in
-    told_refused told k h is es root most (nothing most) w.new x same (refl, refl) w.answer w.kept.stop
+    told_root told k h is es root most (nothing most) w.new (Err x) (Err x) same (λ b v. walk_refused k (RootWalk k h is es b) is most (nothing most) w.new x refl v (w.kept.stop (room_first k (nothing most).room most refl))) w.answer
 
 pub root_reads : {T : Type 0} (holds : T → List Entry → List (List ℕ) → Type 0) (k : Extent) (told : Option (List ℕ)) (h : Header) (is : List (ℕ × ℕ)) (es root : List Entry) (most : ℕ) (first taker : T) (room : Option ℕ) (before now : ℕ) (r : Result Unit WalkError)
     → es ≡ root → holds first [] [] → FromRoot holds k told h is es most first taker room before now r → IfSome told (λ b. now ≤ before + (walked k 6 h b is 0 None root).reads)

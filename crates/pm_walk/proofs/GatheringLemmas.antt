@@ -1,5 +1,5 @@
 -- What a walk from the root comes to.
-use Rattle.std.proofs.Common.{◌≡◌, ◌∙◌, ◌<◌, ℕ, true, is_some, List, [], ◌++◌, Option, None, Some, IfSome, Ok, Err, refl, ap, sym, subst}
+use Rattle.std.proofs.Common.{◌≡◌, ◌∙◌, ◌<◌, ℕ, true, is_some, List, [], ◌++◌, Option, None, Some, IfSome, Result, Ok, Err, refl, ap, sym, subst}
 use Rattle.pm_format.specs.declared.error.PmtError.TheVariants as errors
 use Rattle.pm_format.specs.declared.error.ReadCause.TheVariants as causes
 use Rattle.pm_format.specs.declared.header.Header.{Header}
@@ -62,23 +62,10 @@ room_first Within room most is = tt
 room_first Whole room most is = ap is_some is
 
 -- the same over told bytes, with the root in the words of the code
-abbrev RootWalk : Extent → Header → List (ℕ × ℕ) → List Entry → List ℕ → Walked
+abbrev pub RootWalk : Extent → Header → List (ℕ × ℕ) → List Entry → List ℕ → Walked
 RootWalk ext h is es b = walked ext 6 h b is 0 None es
 
-pub told_gathered : (told : Option (List ℕ)) (ext : Extent) (h : Header) (is : List (ℕ × ℕ)) (es root : List Entry) (most : ℕ) (old new : Collected) (ps : List Entry) → es ≡ root → (old.parts ≡ []) × (old.room ≡ Some most)
-    → IfSome told (λ b. Walks ext (RootWalk ext h is es b) is old new (Ok tt)) → (ps ≡ new.parts) × (is_some new.room ≡ true) → IfSome told (λ b. Gathers ext (RootWalk ext h is root b) is most (Ok ps))
-told_gathered told ext h is es root most old new ps same begun walks all =
-    one_told (λ b. Walks ext (RootWalk ext h is es b) is old new (Ok tt)) (λ b. Gathers ext (RootWalk ext h is root b) is most (Ok ps)) told
-    (λ b w. subst (λ l. Gathers ext (RootWalk ext h is l b) is most (Ok ps)) same (all_gathered ext (RootWalk ext h is es b) is most old new ps begun w all)) walks
-
-pub told_too_many : (told : Option (List ℕ)) (ext : Extent) (h : Header) (is : List (ℕ × ℕ)) (es root : List Entry) (most : ℕ) (old new : Collected) (x : WalkError) → es ≡ root → (old.parts ≡ []) × (old.room ≡ Some most)
-    → IfSome told (λ b. Walks ext (RootWalk ext h is es b) is old new (Ok tt)) → (x ≡ TooManyTiles) × (new.room ≡ None) → IfSome told (λ b. Gathers ext (RootWalk ext h is root b) is most (Err x))
-told_too_many told ext h is es root most old new x same begun walks none =
-    one_told (λ b. Walks ext (RootWalk ext h is es b) is old new (Ok tt)) (λ b. Gathers ext (RootWalk ext h is root b) is most (Err x)) told
-    (λ b w. subst (λ l. Gathers ext (RootWalk ext h is l b) is most (Err x)) same (none_left ext (RootWalk ext h is es b) is most old new x begun.1 w none)) walks
-
-pub told_refused : (told : Option (List ℕ)) (ext : Extent) (h : Header) (is : List (ℕ × ℕ)) (es root : List Entry) (most : ℕ) (old new : Collected) (x : WalkError) → es ≡ root → (old.parts ≡ []) × (old.room ≡ Some most)
-    → IfSome told (λ b. Walks ext (RootWalk ext h is es b) is old new (Err x)) → (HasRoom ext old.room → StopsWith ext new.room x) → IfSome told (λ b. Gathers ext (RootWalk ext h is root b) is most (Err x))
-told_refused told ext h is es root most old new x same begun walks leaves =
-    one_told (λ b. Walks ext (RootWalk ext h is es b) is old new (Err x)) (λ b. Gathers ext (RootWalk ext h is root b) is most (Err x)) told
-    (λ b w. subst (λ l. Gathers ext (RootWalk ext h is l b) is most (Err x)) same (walk_refused ext (RootWalk ext h is es b) is most old new x begun.1 w (leaves (room_first ext old.room most begun.1)))) walks
+pub told_root : (told : Option (List ℕ)) (ext : Extent) (h : Header) (is : List (ℕ × ℕ)) (es root : List Entry) (most : ℕ) (old new : Collected) (r : Result Unit WalkError) (all : Result (List Entry) WalkError) → es ≡ root
+    → ((b : List ℕ) → Walks ext (RootWalk ext h is es b) is old new r → Gathers ext (RootWalk ext h is es b) is most all) → IfSome told (λ b. Walks ext (RootWalk ext h is es b) is old new r) → IfSome told (λ b. Gathers ext (RootWalk ext h is root b) is most all)
+told_root told ext h is es root most old new r all same gathers walks =
+    one_told (λ b. Walks ext (RootWalk ext h is es b) is old new r) (λ b. Gathers ext (RootWalk ext h is root b) is most all) told (λ b w. subst (λ l. Gathers ext (RootWalk ext h is l b) is most all) same (gathers b w)) walks

@@ -1,6 +1,6 @@
 -- What look-ups end at, by a walk that isn't refused.
 use Rattle.std.proofs.Common.{◌≡◌, ◌∙◌, ◌⊎◌, inl, inr, ◌-◌, ◌≤◌, ◌<◌, ℕ, zero, suc, Bool, true, false, not, nat_le, nat_lt, nat_eq, ◌&&◌, ◌||◌, if◌then◌else◌, List, [], ◌∷◌, Option, None, Some, Result, Ok, Err, refl, ap, sym, arith}
-use Rattle.std.proofs.lemmas.Bool.{and_parts}
+use Rattle.std.proofs.lemmas.Bool.{and_parts, cases_lt}
 use Rattle.std.proofs.lemmas.Bool.Decides.{nat_tests}
 use Rattle.std.proofs.lemmas.List.{append-nil}
 use Rattle.std.proofs.lemmas.Option.{none-some}
@@ -19,9 +19,6 @@ use Rattle.pm_walk.proofs.OrderLemmas.{IsOrderly, first_ordered, is_zero, orderl
 use Rattle.pm_walk.proofs.CoveringLemmas.{covering, covering_before, covering_behind, covers_here, covers_later, has_id, none_above, none_below}
 use Rattle.pm_walk.proofs.TestingLemmas.{tile_stands}
 use Rattle.pm_walk.proofs.WalkingLemmas.{met_goes, tile_goes, walked_is}
-
-lt_or : (m n : ℕ) → (m < n) ⊎ (n ≤ m)
-lt_or m n = grind arith
 
 -- entries behind one that begins behind an id begin behind it too
 stays_last : (t left : ℕ) (f : Entry → Option ℕ → Walked) (d : Entry) (low : ℕ) (limit : Option ℕ) (es : List Entry) (found : Option Entry) → t < d.tile_id → (walk_each left f (Some d) low limit es).refusal ≡ None → last_below t found es ≡ found
@@ -79,7 +76,7 @@ pub each_looked : (n : ℕ) (h : Header) (b : List ℕ) (t : ℕ) (f : Entry →
 each_looked n h b t f good looks before low limit [] fine within = ap (entry_from n h b t) (nothing_scanned t) ∙ found_none n h b t
 each_looked n h b t f good looks before low limit (e ∷ []) fine within =
     let u = unrefused n f before low limit e [] fine in
-    elim (lt_or t e.tile_id) [
+    elim (cases_lt t e.tile_id) [
       | inl less ↦ ap (entry_from n h b t) (scan_before t n f before low limit e [] less fine) ∙ found_none n h b t
           ∙ ap (λ o. Ok o) (sym (none_below t e.tile_id (walk_each n f before low limit (e ∷ [])).entries limit (first_ordered n f good before low limit e [] fine) less))
       | inr le ↦ ap (entry_from n h b t) (scan_only t e le) ∙ looks e limit u.stood.depth u.first le within ∙ ap (λ l. Ok (covering t l)) (sym (append-nil (f e limit).entries) ∙ sym u.entries)
@@ -87,10 +84,10 @@ each_looked n h b t f good looks before low limit (e ∷ []) fine within =
 each_looked n h b t f good looks before low limit (e ∷ d ∷ es) fine within =
     let u = unrefused n f before low limit e (d ∷ es) fine in
     let next : List Entry = (walk_each n f (Some e) low limit (d ∷ es)).entries in
-    elim (lt_or t e.tile_id) [
+    elim (cases_lt t e.tile_id) [
       | inl less ↦ ap (entry_from n h b t) (scan_before t n f before low limit e (d ∷ es) less fine) ∙ found_none n h b t
           ∙ ap (λ o. Ok o) (sym (none_below t e.tile_id (walk_each n f before low limit (e ∷ d ∷ es)).entries limit (first_ordered n f good before low limit e (d ∷ es) fine) less))
-      | inr le ↦ elim (lt_or t d.tile_id) [
+      | inr le ↦ elim (cases_lt t d.tile_id) [
         | inl less ↦
             let below_next : is_below (Some d.tile_id) t ≡ true = grind (arith, nat_tests) in
             ap (entry_from n h b t) (scan_first t n f (Some e) low limit e d es le less u.rest) ∙ looks e (Some d.tile_id) u.stood.depth u.first le below_next

@@ -1,6 +1,6 @@
 -- Parts in intervals, and how many tiles they have.
 use Rattle.std.proofs.Common.{◌≡◌, ◌∙◌, ◌+◌, ◌-◌, ◌≤◌, ℕ, Bool, true, false, ◌||◌, nat_le, nat_eq, max, min, if◌then◌else◌, List, [], ◌∷◌, ◌++◌, Option, None, Some, IfSome, is_some, refl, ap, sym, subst, arith}
-use Rattle.std.proofs.lemmas.Bool.{and_from}
+use Rattle.std.proofs.lemmas.Bool.{and_from, or_left, or_right}
 use Rattle.std.proofs.lemmas.Bool.Decides.{nat_tests}
 use Rattle.pm_format.specs.Directory.{Entry, entry}
 use Rattle.pm_walk.specs.Collecting.{AllLieIn, AllShallow, Collects, KeepWithin, KeepsTo}
@@ -16,14 +16,6 @@ use Rattle.pm_walk.proofs.CollectLemmas.{room_taken}
 pub lie_append : (is : List (ℕ × ℕ)) (ps qs : List Entry) → AllLieIn is ps → AllLieIn is qs → AllLieIn is (ps ++ qs)
 lie_append is [] qs p q = q
 lie_append is (x ∷ ps) qs p q = (p.0, lie_append is ps qs p.1 q)
-
-or_first : (a b : Bool) → a ≡ true → (a || b) ≡ true
-or_first true b is = refl
-or_first false b is = absurd (cc)
-
-or_second : (a b : Bool) → b ≡ true → (a || b) ≡ true
-or_second true b is = refl
-or_second false b is = is
 
 lies_between : (t : ℕ) (i : ℕ × ℕ) → i.0 ≤ t → t ≤ i.1 → lies_in t i ≡ true
 lies_between t i low high =
@@ -44,7 +36,7 @@ clip_lies is e i inside = by_test (nat_le (max e.tile_id i.0) (min (e.tile_id + 
 clips_lie : (is rest : List (ℕ × ℕ)) (e : Entry) → ((t : ℕ) → in_intervals t rest ≡ true → in_intervals t is ≡ true) → AllLieIn is (clip_all e rest)
 clips_lie is [] e inside = tt
 clips_lie is (i ∷ rest) e inside =
-    lie_append is (clip e i) (clip_all e rest) (clip_lies is e i (λ t at. inside t (or_first (lies_in t i) (in_intervals t rest) at))) (clips_lie is rest e (λ t at. inside t (or_second (lies_in t i) (in_intervals t rest) at)))
+    lie_append is (clip e i) (clip_all e rest) (clip_lies is e i (λ t at. inside t (or_left (lies_in t i) (in_intervals t rest) at))) (clips_lie is rest e (λ t at. inside t (or_right (lies_in t i) (in_intervals t rest) at)))
 
 pub parts_lie : (is : List (ℕ × ℕ)) (e : Entry) → AllLieIn is (parts_of is e)
 parts_lie is e = by_length (nat_eq e.length 0)

@@ -2,7 +2,7 @@
 use Rattle.std.proofs.Common.{◌≡◌, ◌∙◌, ◌+◌, ◌≤◌, ℕ, zero, suc, Bool, true, false, nat_eq, List, [], ◌∷◌, ◌++◌, Option, None, Some, Result, Ok, Err, refl, ap, sym, subst, arith}
 use Rattle.std.proofs.lemmas.Bool.Decides.{nat_tests}
 use Rattle.std.proofs.lemmas.List.{append-nil}
-use Rattle.std.proofs.lemmas.Option.{none-some}
+use Rattle.std.proofs.lemmas.Option.{none-some, same_Some}
 use Rattle.pm_format.specs.declared.error.PmtError.{PmtError}
 use Rattle.pm_format.specs.declared.error.PmtError.TheVariants as errors
 use Rattle.pm_format.specs.declared.header.Header.{Header}
@@ -121,14 +121,11 @@ entry_ordered ext below h b is deeper e end ends fine = by_run (nat_eq e.run_len
     by_run false run fine = tile_ordered ext h b e end run ends fine
     by_run true run fine = by_met (meets ext is e.tile_id end) (start_within end e.tile_id e.run_length (is_zero e.run_length run) ends) fine
 
-some_is : {A : Type 0} (x y : A) → Some x ≡ Some y → x ≡ y
-some_is x y e = cc
-
 -- what holds of the directories below holds of those that are named so
 pub deeper_ordered : (walk : ℕ → Option ℕ → List Entry → Walked)
     → ((low : ℕ) (limit : Option ℕ) (es : List Entry) → (walk low limit es).refusal ≡ None → stays_within limit low ≡ true → AreOrdered low (walk low limit es).entries limit)
     → (inner : ℕ → Option ℕ → List Entry → Walked) → Some walk ≡ Some inner → (low : ℕ) (limit : Option ℕ) (es : List Entry) → (inner low limit es).refusal ≡ None → stays_within limit low ≡ true → AreOrdered low (inner low limit es).entries limit
-deeper_ordered walk holds inner at low limit es = subst (λ w. (w low limit es).refusal ≡ None → stays_within limit low ≡ true → AreOrdered low (w low limit es).entries limit) (some_is walk inner at) (holds low limit es)
+deeper_ordered walk holds inner at low limit es = subst (λ w. (w low limit es).refusal ≡ None → stays_within limit low ≡ true → AreOrdered low (w low limit es).entries limit) (same_Some walk inner at) (holds low limit es)
 
 -- the walk of a directory, at any depth
 pub walked_ordered : (ext : Extent) (n : ℕ) (h : Header) (b : List ℕ) (is : List (ℕ × ℕ)) (low : ℕ) (limit : Option ℕ) (es : List Entry) → (walked ext n h b is low limit es).refusal ≡ None → stays_within limit low ≡ true → AreOrdered low (walked ext n h b is low limit es).entries limit

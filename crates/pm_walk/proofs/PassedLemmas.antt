@@ -1,18 +1,17 @@
 -- The tile entries of a whole walk that isn't refused pass their tests.
-use Rattle.std.proofs.Common.{◌≡◌, ◌≢◌, ◌∙◌, ◌+◌, ◌≤◌, ℕ, zero, suc, Bool, true, false, nat_eq, if◌then◌else◌, List, [], ◌∷◌, ◌++◌, Option, None, Some, IsSome, Result, Ok, Err, refl, ap, sym, subst, arith}
-use Rattle.std.proofs.lemmas.Bool.Decides.{nat_tests}
+use Rattle.std.proofs.Common.{◌≡◌, ◌≢◌, ◌∙◌, ◌+◌, ℕ, zero, suc, Bool, true, false, nat_eq, if◌then◌else◌, List, [], ◌∷◌, ◌++◌, Option, None, Some, IsSome, Result, Ok, Err, refl, ap, sym, subst, arith}
 use Rattle.std.proofs.lemmas.Bool.{true≢false}
-use Rattle.std.proofs.lemmas.Option.{none-some}
+use Rattle.std.proofs.lemmas.Option.{none-some, same_Some}
 use Rattle.pm_format.specs.declared.error.PmtError.{PmtError}
 use Rattle.pm_format.specs.declared.header.Header.{Header}
 use Rattle.pm_format.specs.Directory.{Entry}
 use Rattle.pm_format.specs.LookUp.{leaf_of, range_of}
 use Rattle.pm_format.specs.Opened.{Opened}
+use Rattle.pm_walk.proofs.ClippingLemmas.{from_low}
 use Rattle.pm_walk.proofs.OrderLemmas.{unrefused, walked_ordered}
 use Rattle.pm_walk.proofs.TestingLemmas.{run_shallow, tile_stands}
 use Rattle.pm_walk.proofs.WalkingLemmas.{walked_is}
 use Rattle.pm_walk.specs.Collecting.{AllShallow, AreOrdered}
-use Rattle.pm_walk.specs.Intervals.{stays_within}
 use Rattle.pm_walk.specs.Parts.{full}
 use Rattle.pm_walk.specs.Walk.{Walked, all_walked, end_before, entry_walk, leaf_walk, nothing_met, range_refusal, run_refusal, tile_refusal, tile_walk, walk_each, walked}
 use Rattle.pm_walk.specs.declared.error.WalkError.TheVariants.{Archive}
@@ -70,11 +69,8 @@ entry_passes below h b deeper e end fine = by_run (nat_eq e.run_length 0) refl f
         subst (AllPass h b) (sym s.1) (s.0, tt)
     by_run true run fine = by_depth below refl fine
 
-some_is : {A : Type 0} (x y : A) → Some x ≡ Some y → x ≡ y
-some_is x y e = cc
-
 deeper_passes : (h : Header) (b : List ℕ) (walk : ℕ → Option ℕ → List Entry → Walked) → PassBelow h b walk → (inner : ℕ → Option ℕ → List Entry → Walked) → Some walk ≡ Some inner → PassBelow h b inner
-deeper_passes h b walk holds inner at = subst (PassBelow h b) (some_is walk inner at) holds
+deeper_passes h b walk holds inner at = subst (PassBelow h b) (same_Some walk inner at) holds
 
 walked_passes : (n : ℕ) (h : Header) (b : List ℕ) → PassBelow h b (walked Whole n h b [])
 walked_passes zero h b low limit es fine =
@@ -111,20 +107,12 @@ full_shallow h b (e ∷ es) p = by_empty (nat_eq e.length 0) refl (full_shallow 
     by_empty false is rest = (run_shallow e is (there_passes (contents_at h b e) e p.0).1, rest)
 
 -- entries that have bytes are in order where all are
-within_less : (end : Option ℕ) (low first : ℕ) → low ≤ first → stays_within end first ≡ true → stays_within end low ≡ true
-within_less None low first le h = refl
-within_less (Some n) low first le h = grind (arith, nat_tests)
-
-lower : (low first : ℕ) (es : List Entry) (end : Option ℕ) → low ≤ first → AreOrdered first es end → AreOrdered low es end
-lower low first [] end le o = within_less end low first le o
-lower low first (e ∷ es) end le o = (omega (arith, le, o.0), o.1, o.2, o.3)
-
 pub full_ordered : (low : ℕ) (es : List Entry) (end : Option ℕ) → AreOrdered low es end → AreOrdered low (full es) end
 full_ordered low [] end o = o
 full_ordered low (e ∷ es) end o = by_empty (nat_eq e.length 0) (full_ordered (e.tile_id + e.run_length) es end o.3)
   where
     by_empty : (t : Bool) → AreOrdered (e.tile_id + e.run_length) (full es) end → AreOrdered low ((if t then [] else e ∷ []) ++ full es) end
-    by_empty true rest = lower low (e.tile_id + e.run_length) (full es) end (omega (arith, o.0)) rest
+    by_empty true rest = from_low low (e.tile_id + e.run_length) (full es) end (omega (arith, o.0)) rest
     by_empty false rest = (o.0, o.1, o.2, rest)
 
 -- all of that of an archive

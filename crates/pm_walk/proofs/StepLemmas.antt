@@ -13,7 +13,7 @@ use Rattle.pm_walk.specs.declared.error.WalkError.{WalkError}
 use Rattle.pm_walk.specs.declared.error.WalkError.TheVariants.{Archive}
 use Rattle.pm_walk.specs.declared.extent.Extent.{Extent}
 use Rattle.pm_walk.proofs.TakingLemmas.{same_kept}
-use Rattle.pm_walk.proofs.WalkToldLemmas.{AtFront, Goes, order_end, order_leaf, order_step, told_all_gone, told_fallen, told_past, told_past_leaf, told_stopped, told_stopped_below}
+use Rattle.pm_walk.proofs.WalkToldLemmas.{AtFront, Below, Goes, order_end, order_leaf, order_step, told_all_gone, told_fallen, told_past, told_past_leaf, told_stopped, told_stopped_below}
 use Rattle.pm_walk.proofs.WalkingLemmas.{SoFar, begun_at, reach}
 use Rattle.pm_walk.proofs.ToldLemmas.{any_told}
 
@@ -131,6 +131,27 @@ pub record Under {T : Type 0} (holds : T → List Entry → List (List ℕ) → 
   pub one : IfSome again (λ b. MeetReads (entry_walk k (below k left h b is) h b is e end) at after_leaf r)
   pub walks : (m : Collected) → Holds holds mid between m → WalksAll holds k last h is fewer id end leaf m next more after_leaf reads w
 
+-- the same in the words of a walk over told bytes
+below_it : {T : Type 0} (holds : T → List Entry → List (List ℕ) → Type 0) (k : Extent) (told again last : Option (List ℕ)) (h : Header) (is : List (ℕ × ℕ)) (left low : ℕ) (limit : Option ℕ) (es : List Entry) (before : Option Entry) (rest : List Entry) (e : Entry) (others leaf : List Entry)
+    (end : Option ℕ) (test : Bool) (c : Collected) (taker mid next : T) (room between more : Option ℕ) (first at after_leaf reads id fewer : ℕ) (r : Result (Option (List Entry)) WalkError) (w : Result Unit WalkError)
+    (u : Under holds k told again last h is left low limit es before rest e others leaf end test c taker mid next room between more first at after_leaf reads id fewer r w)
+    (m : MeetsEntry holds k again h is left e end u.way.now mid between (Ok (Some leaf))) (v : WalksAll holds k last h is fewer id end leaf m.new next more after_leaf reads w)
+    → Below told again last k h is left low limit es before rest e others leaf end test c u.way.now m.new v.new first at after_leaf reads id fewer (Ok (Some leaf)) w
+below_it holds k told again last h is left low limit es before rest e others leaf end test c taker mid next room between more first at after_leaf reads id fewer r w u m v = record {
+  same = u.same;
+  kept = u.kept;
+  front = u.front;
+  read_is = refl;
+  met_leaf = m.below;
+  fewer_is = u.fewer_is;
+  id_is = u.id_is;
+  goes = u.way.goes;
+  meets = m.answer;
+  one = subst (λ y. IfSome again (λ b. MeetReads (entry_walk k (below k left h b is) h b is e end) at after_leaf y)) u.read_is u.one;
+  walks = v.answer;
+  more = v.reads;
+}
+
 -- behind it
 pub passes_leaf : {T : Type 0} (holds : T → List Entry → List (List ℕ) → Type 0) (k : Extent) (told again last : Option (List ℕ)) (h : Header) (is : List (ℕ × ℕ)) (left low : ℕ) (limit : Option ℕ) (es : List Entry) (before : Option Entry) (rest : List Entry) (e : Entry) (others leaf : List Entry)
     (end : Option ℕ) (test : Bool) (c : Collected) (taker mid next : T) (room between more : Option ℕ) (first at after_leaf reads id fewer : ℕ) (r : Result (Option (List Entry)) WalkError)
@@ -142,20 +163,7 @@ passes_leaf holds k told again last h is left low limit es before rest e others 
       now = v.new;
       held = (v.leaves.1, v.leaves.0);
       goes = told_past_leaf told again last k h is left low limit es before rest e others leaf end test c u.way.now m.new v.new first at after_leaf reads id fewer (Ok (Some leaf))
-          record {
-            same = u.same;
-            kept = u.kept;
-            front = u.front;
-            read_is = refl;
-            met_leaf = m.below;
-            fewer_is = u.fewer_is;
-            id_is = u.id_is;
-            goes = u.way.goes;
-            meets = m.answer;
-            one = subst (λ y. IfSome again (λ b. MeetReads (entry_walk k (below k left h b is) h b is e end) at after_leaf y)) u.read_is u.one;
-            walks = v.answer;
-            more = v.reads;
-          };
+          (below_it holds k told again last h is left low limit es before rest e others leaf end test c taker mid next room between more first at after_leaf reads id fewer r (Ok tt) u m v);
       ordered = λ apart first. order_leaf left low limit before rest e others end test u.way.now m.new v.new id u.front (u.way.ordered apart first) m.below.kept u.id_is (λ ordered within. v.ordered apart ordered within);
       kept = kept_then {A = Unit {0}} k told last h is c m.new v.new tt (Ok tt) u.kept (kept_then {A = Unit {0}} {B = Unit {0}} k told again h is c u.way.now m.new tt (Ok tt) u.same u.way.kept (kept_as k again h is u.way.now m.new (Some leaf) (tt {0}) m.kept)) v.kept;
     }
@@ -168,20 +176,7 @@ stops_under holds k told again last h is left low limit es before rest e others 
     let m : MeetsEntry holds k again h is left e end u.way.now mid between (Ok (Some leaf)) = subst (λ y. MeetsEntry holds k again h is left e end u.way.now mid between y) u.read_is (u.meets u.way.now u.way.held) in
     let v = u.walks m.new (m.leaves.1, m.leaves.0) in
     let both = told_stopped_below told again last k h is left low limit es before rest e others leaf end test c u.way.now m.new v.new first at after_leaf reads id fewer (Ok (Some leaf)) x
-    record {
-      same = u.same;
-      kept = u.kept;
-      front = u.front;
-      read_is = refl;
-      met_leaf = m.below;
-      fewer_is = u.fewer_is;
-      id_is = u.id_is;
-      goes = u.way.goes;
-      meets = m.answer;
-      one = subst (λ y. IfSome again (λ b. MeetReads (entry_walk k (below k left h b is) h b is e end) at after_leaf y)) u.read_is u.one;
-      walks = v.answer;
-      more = v.reads;
-    } in
+    (below_it holds k told again last h is left low limit es before rest e others leaf end test c taker mid next room between more first at after_leaf reads id fewer r (Err x) u m v) in
     record {
       new = v.new;
       leaves = v.leaves;

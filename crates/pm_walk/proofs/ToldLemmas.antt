@@ -13,7 +13,3 @@ one_told P R (Some b) f p = f b p
 pub any_told : (R : List ℕ → Type 0) (told : Option (List ℕ)) → ((b : List ℕ) → R b) → IfSome told R
 any_told R None f = tt
 any_told R (Some b) f = f b
-
-pub all_told : (P Q S R : List ℕ → Type 0) (told again last : Option (List ℕ)) → again ≡ told → last ≡ told → ((b : List ℕ) → P b → Q b → S b → R b) → IfSome told P → IfSome again Q → IfSome last S → IfSome told R
-all_told P Q S R None again last same kept f p q s = tt
-all_told P Q S R (Some b) again last same kept f p q s = f b p (subst (λ a. IfSome a Q) same q) (subst (λ a. IfSome a S) kept s)

@@ -187,18 +187,15 @@ stopped ext h b is left low limit es before e others old mid now first between r
     }
 
 -- the walk of a leaf that is met
-pub leaf_goes : (ext : Extent) (h : Header) (b : List ℕ) (is : List (ℕ × ℕ)) (n : ℕ) (e : Entry) (end : Option ℕ) (leaf : List Entry) → e.run_length ≡ 0 → meets ext is e.tile_id end ≡ true → leaf_of h b e ≡ Ok leaf
-    → entry_walk ext (below ext (suc n) h b is) h b is e end ≡ leaf_read (walked ext n h b is e.tile_id end leaf)
-leaf_goes ext h b is n e end leaf run met found =
-    ap (λ k. elim (nat_eq k 0) as (λ _. Walked) [ false ↦ tile_walk ext h b e | true ↦ elim (meets ext is e.tile_id end) as (λ _. Walked) [ false ↦ nothing_met | true ↦ leaf_walk (walked ext n h b is e.tile_id end) (leaf_of h b e) ] ]) run
-    ∙ ap (λ t. elim t as (λ _. Walked) [ false ↦ nothing_met | true ↦ leaf_walk (walked ext n h b is e.tile_id end) (leaf_of h b e) ]) met
-    ∙ ap (leaf_walk (walked ext n h b is e.tile_id end)) found
-
 pub met_goes : (ext : Extent) (h : Header) (b : List ℕ) (is : List (ℕ × ℕ)) (n : ℕ) (e : Entry) (end : Option ℕ) → e.run_length ≡ 0 → meets ext is e.tile_id end ≡ true
     → entry_walk ext (below ext (suc n) h b is) h b is e end ≡ leaf_walk (walked ext n h b is e.tile_id end) (leaf_of h b e)
 met_goes ext h b is n e end run met =
     ap (λ k. elim (nat_eq k 0) as (λ _. Walked) [ false ↦ tile_walk ext h b e | true ↦ elim (meets ext is e.tile_id end) as (λ _. Walked) [ false ↦ nothing_met | true ↦ leaf_walk (walked ext n h b is e.tile_id end) (leaf_of h b e) ] ]) run
     ∙ ap (λ t. elim t as (λ _. Walked) [ false ↦ nothing_met | true ↦ leaf_walk (walked ext n h b is e.tile_id end) (leaf_of h b e) ]) met
+
+pub leaf_goes : (ext : Extent) (h : Header) (b : List ℕ) (is : List (ℕ × ℕ)) (n : ℕ) (e : Entry) (end : Option ℕ) (leaf : List Entry) → e.run_length ≡ 0 → meets ext is e.tile_id end ≡ true → leaf_of h b e ≡ Ok leaf
+    → entry_walk ext (below ext (suc n) h b is) h b is e end ≡ leaf_read (walked ext n h b is e.tile_id end leaf)
+leaf_goes ext h b is n e end leaf run met found = met_goes ext h b is n e end run met ∙ ap (leaf_walk (walked ext n h b is e.tile_id end)) found
 
 pub tile_goes : (ext : Extent) (h : Header) (b : List ℕ) (is : List (ℕ × ℕ)) (left : ℕ) (e : Entry) (end : Option ℕ) → nat_eq e.run_length 0 ≡ false → entry_walk ext (below ext left h b is) h b is e end ≡ tile_walk ext h b e
 tile_goes ext h b is left e end run =

@@ -35,10 +35,6 @@ abbrev pub pieces : Extent → List (ℕ × ℕ) → List Entry → List Entry
 pieces Within is es = parts is es
 pieces Whole is es = full es
 
-abbrev pub pieces_of : Extent → List (ℕ × ℕ) → Entry → List Entry
-pieces_of Within is e = parts_of is e
-pieces_of Whole is e = full_of e
-
 -- how many tiles they have
 abbrev pub tile_count : List Entry → ℕ
 tile_count [] = 0

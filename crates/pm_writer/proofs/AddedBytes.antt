@@ -19,7 +19,7 @@ use Rattle.pm_contents.proofs.PlaceLemmas.{flat_push, fresh_known, fresh_new}
 use Rattle.pm_writer.specs.Means.{Means}
 use Rattle.pm_writer.specs.Pieces.{IsHidden}
 use Rattle.pm_writer.specs.Took.{Took}
-use Rattle.pm_writer.specs.Writing.{FilledFits, IsStateOf, Writes, begun, data_end, data_of, has_failed, zeros}
+use Rattle.pm_writer.specs.Writing.{FilledFits, Writes, begun, data_end, data_of, has_failed, zeros}
 use Rattle.pm_writer.specs.declared.adds.Adds.{Adds}
 use Rattle.pm_contents.specs.declared.sought.Sought.TheVariants as sought
 use Rattle.pm_writer.specs.declared.state.WriterState.{WriterState}
@@ -149,7 +149,3 @@ told_contents o told s adds w alive = if_both (λ b. b ≡ begun o adds) (λ b. 
 
     behind : drop s.data_offset (begun o adds) ≡ data_of adds
     behind = ap (drop s.data_offset) (sym (append_assoc (zeros 16384) o.metadata (data_of adds))) ∙ drop_at (zeros 16384 ++ o.metadata) (data_of adds) s.data_offset (sym front)
-
--- where the data ends, by the state
-pub end_is : (o : Options) (s : WriterState) (adds : List (ℕ × List ℕ)) → IsStateOf o s adds → s.data_offset + s.adds.contents.total ≡ data_end o adds
-end_is o s adds i = omega (arith, i.of.place, i.means.contents.total)

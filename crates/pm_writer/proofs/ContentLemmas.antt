@@ -1,6 +1,5 @@
 -- Contents, once each, and their places.
-use Rattle.std.proofs.Common.{◌≡◌, ℕ, ◌+◌, ◌<◌, inl, inr, Bool, true, false, List, [], ◌∷◌, ◌++◌, length, flat_map, take, drop, ◌&&◌, nat_eq, refl, sym, ◌∙◌, ap, arith, append_assoc}
-use Rattle.std.proofs.lemmas.List.{take_at, drop_at, drop-drop}
+use Rattle.std.proofs.Common.{◌≡◌, ℕ, ◌+◌, ◌<◌, inl, inr, Bool, true, false, List, [], ◌∷◌, ◌++◌, length, flat_map, ◌&&◌, nat_eq, refl, sym, ◌∙◌, arith}
 use Rattle.std.specs.Str.{bytes_eq}
 use Rattle.std.specs.List.{list_any}
 use Rattle.pm_format.specs.Directory.{Entry}
@@ -15,20 +14,6 @@ use Rattle.pm_writer.proofs.Blocks.{one_more, AllBlocks}
 pub contents_push : (seen : List (List ℕ)) (adds : List (ℕ × List ℕ)) (a : ℕ × List ℕ) → contents_from seen (adds ++ a ∷ []) ≡ put_new (contents_from seen adds) a.1
 contents_push seen [] a = refl
 contents_push seen (x ∷ adds) a = contents_push (put_new seen x.1) adds a
-
--- what lies at a place: the range of a content is the content
-pub at_place : (x : List ℕ) (cs : List (List ℕ)) (rest : List ℕ) → Has cs x → take (length x) (drop (place_in cs x) (flat_map (λ c. c) cs ++ rest)) ≡ x
-at_place x [] rest h = absurd (cc)
-at_place x (c ∷ cs) rest h = elim (same_or c x) [
-  | inl s ↦ rw (place_here c x cs s.1, append_assoc c (flat_map (λ c. c) cs) rest, s.1) (take_at x (flat_map (λ c. c) cs ++ rest) (length x) refl)
-  | inr s ↦ elim (has_front c x cs h) [
-    | inl e ↦ absurd (s.1 (sym e))
-    | inr g ↦ rw (place_later c x cs s.1, append_assoc c (flat_map (λ c. c) cs) rest) (ap (take (length x)) (drop_behind c (place_in cs x) (flat_map (λ c. c) cs ++ rest)) ∙ at_place x cs rest g)
-  ]
-]
-  where
-    drop_behind : (c : List ℕ) (n : ℕ) (ys : List ℕ) → drop (length c + n) (c ++ ys) ≡ drop n ys
-    drop_behind c n ys = sym (drop-drop n (length c) (c ++ ys)) ∙ ap (drop n) (drop_at c ys (length c) refl)
 
 -- contents that aren't empty have places of their own
 abbrev pub Filled : List (List ℕ) → Type 0

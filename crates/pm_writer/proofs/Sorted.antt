@@ -1,5 +1,5 @@
 -- Adds whose ids strictly rise.
-use Rattle.std.proofs.Common.{◌≡◌, ◌≢◌, ℕ, suc, ◌+◌, ◌<◌, ◌≤◌, ◌^◌, inl, inr, true, false, cond, List, [], ◌∷◌, length, All, Some, nat_eq, nat_lt, refl, sym, ◌∙◌, ap, arith, subst}
+use Rattle.std.proofs.Common.{◌≡◌, ◌≢◌, ℕ, suc, ◌+◌, ◌<◌, ◌≤◌, inl, inr, true, false, cond, List, [], ◌∷◌, length, All, Some, nat_eq, nat_lt, refl, sym, ◌∙◌, ap, arith, subst}
 use Rattle.std.proofs.lemmas.Bool.{and_parts}
 use Rattle.std.proofs.lemmas.Bool.Decides.{nat_tests}
 use Rattle.std.proofs.lemmas.List.Elements.{All-head, All-tail}
@@ -13,7 +13,7 @@ use Rattle.pm_format.specs.Options.{Options}
 use Rattle.pm_format.specs.WellFormed.{WellFormed}
 use Rattle.pm_writer.specs.Archivable.{IsArchivable}
 use Rattle.pm_writer.specs.Archive.{archive, ids_of, parts_of, rising, tile_in}
-use Rattle.pm_writer.specs.Bounds.{AddsFilled, AllLow, AllSized, OptionsFit}
+use Rattle.pm_writer.specs.Bounds.{AddsFilled, AllLow, OptionsFit}
 use Rattle.pm_writer.specs.Few.{AreFew}
 use Rattle.pm_writer.specs.Maps.{RisingAdds}
 use Rattle.pm_writer.specs.Twice.{Distinct, adds_at}
@@ -84,10 +84,6 @@ all_filled (a ∷ adds) h = (some a.1 (All-head (λ (a : ℕ × List ℕ). a.1 �
 pub all_low : (adds : List (ℕ × List ℕ)) → All (λ a. a.0 ≤ MAX_TILE_ID) adds → AllLow adds
 all_low [] h = tt
 all_low (a ∷ adds) h = (All-head (λ (a : ℕ × List ℕ). a.0 ≤ MAX_TILE_ID) a adds h, all_low adds (All-tail (λ (a : ℕ × List ℕ). a.0 ≤ MAX_TILE_ID) a adds h))
-
-pub all_sized : (adds : List (ℕ × List ℕ)) → All (λ a. length a.1 < 2 ^ 32) adds → AllSized adds
-all_sized [] h = tt
-all_sized (a ∷ adds) h = (All-head (λ (a : ℕ × List ℕ). length a.1 < 2 ^ 32) a adds h, all_sized adds (All-tail (λ (a : ℕ × List ℕ). length a.1 < 2 ^ 32) a adds h))
 
 -- the adds are the pairs of a map
 pub rising_adds : (adds : List (ℕ × List ℕ)) → is_sorted nat_cmp adds ≡ true → All (λ a. a.0 ≤ MAX_TILE_ID) adds → All (λ a. a.1 ≢ []) adds → RisingAdds adds

@@ -64,10 +64,6 @@ pub record Writes (o : Options) (told : Option (List ℕ)) (s : WriterState) (ad
   pub hidden : IfSome told IsHidden
   pub held : has_failed s ≡ false → Held o told s adds
 
--- new data ends within u64
-abbrev pub EndFits : Options → List (ℕ × List ℕ) → List ℕ → Type 0
-EndFits o adds bytes = data_end o adds + length bytes < 2 ^ 64
-
 -- the same of data of at least one byte, known or new
 abbrev pub FilledFits : Options → List (ℕ × List ℕ) → ℕ → List ℕ → Type 0
 FilledFits o adds id bytes = (length bytes < 2 ^ 32) × (data_end o (adds ++ (id, bytes) ∷ []) < 2 ^ 64)

@@ -58,15 +58,17 @@ pub ends_add : (adds : List (ℕ × List ℕ)) (id : ℕ) (bytes : List ℕ) →
 ends_add adds id [] e = ends_later adds id (id + 1) (omega arith) e
 ends_add adds id (b ∷ bytes) e = λ more r. subst (Rises 0) (sym (append_assoc adds ((id, b ∷ bytes) ∷ []) more)) (e ((id, b ∷ bytes) ∷ more) (omega arith, r))
 
+-- adds that come to more all have room
+pub with_room : {P : Type 0} (t : Bool) (Q : Type 0) (more : List (ℕ × List ℕ)) → (Q → P) → ByRoom t Q (Ok more ≡ Err IndexEntryOverflow) → P
+with_room true Q more rest is = rest is
+with_room false Q more rest is = absurd (cc)
+
 -- all of them
 pub ends_all : (takes : List ℕ → List ℕ → Type 0) (o : Options) (bytes : List ℕ) (n id : ℕ) (done more : List (ℕ × List ℕ)) → PutsAll takes o bytes done (range_with_len id n) (Ok more) → EndsBy done id → EndsBy more (id + n)
 ends_all takes o bytes zero id done more is e = subst (λ l. EndsBy l (id + 0)) (sym (ok_is more done is)) (ends_later done id (id + 0) (omega arith) e)
-ends_all takes o bytes (suc n) id done more is e = by_room (has_room o done id is.0) (λ at. ends_all takes o bytes n (id + 1) (add_to done id is.0) more at (ends_add done id is.0 e)) is.2
-  where
-    by_room : (t : Bool) → (PutsAll takes o bytes (add_to done id is.0) (range_with_len (id + 1) n) (Ok more) → EndsBy more (id + 1 + n))
-        → ByRoom t (PutsAll takes o bytes (add_to done id is.0) (range_with_len (id + 1) n) (Ok more)) (Ok more ≡ Err IndexEntryOverflow) → EndsBy more (id + suc n)
-    by_room true rest is = ends_later more (id + 1 + n) (id + suc n) (omega arith) (rest is)
-    by_room false rest is = absurd (cc)
+ends_all takes o bytes (suc n) id done more is e =
+    with_room (has_room o done id is.0) (PutsAll takes o bytes (add_to done id is.0) (range_with_len (id + 1) n) (Ok more)) more
+    (λ at. ends_later more (id + 1 + n) (id + suc n) (omega arith) (ends_all takes o bytes n (id + 1) (add_to done id is.0) more at (ends_add done id is.0 e))) is.2
 
 -- an add that fits, and one that doesn't
 room_true : (o : Options) (done : List (ℕ × List ℕ)) (id : ℕ) (bytes : List ℕ) → AddFits o done id bytes → has_room o done id bytes ≡ true

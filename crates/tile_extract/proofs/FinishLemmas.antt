@@ -1,7 +1,6 @@
 -- The archive of parts, finished or refused.
 use Rattle.std.proofs.Common.{◌≡◌, ◌∙◌, inl, inr, ◌≤◌, ℕ, Bool, false, List, Option, None, Some, IfSome, is_some, Ok, Err, sym, arith}
 use Rattle.std.proofs.lemmas.Bool.{true≢false}
-use Rattle.pm_format.specs.declared.compression.Compression.TheVariants as compression
 use Rattle.pm_format.specs.declared.error.PmtError.{PmtError}
 use Rattle.pm_format.specs.declared.error.PmtError.TheVariants as errors
 use Rattle.pm_format.specs.declared.error.ReadCause.TheVariants as causes
@@ -9,7 +8,7 @@ use Rattle.pm_format.specs.declared.header.Header.{Header}
 use Rattle.pm_format.specs.Directory.{Entry}
 use Rattle.pm_format.specs.Options.{Options}
 use Rattle.pm_writer.specs.Archive.{archive}
-use Rattle.pm_writer.specs.Causes.{CreateCauses, FinishCauses}
+use Rattle.pm_writer.specs.Causes.{FinishCauses}
 use Rattle.pm_writer.specs.Pieces.{IsHiddenOr}
 use Rattle.pm_writer.specs.Places.{places_of}
 use Rattle.pm_writer.specs.declared.places.ArchivePlaces.{ArchivePlaces}
@@ -20,14 +19,6 @@ use Rattle.tile_extract.specs.declared.error.ExtractError.TheVariants.{IndexEntr
 use Rattle.tile_extract.proofs.AddedLemmas.{sorted_by}
 use Rattle.tile_extract.proofs.PartsLemmas.{comes_as}
 use Rattle.pm_walk.proofs.ToldLemmas.{one_told}
-
--- a writer that isn't begun
-pub start_refused : (o : Options) (h : Header) (source : Option (List ℕ)) (ps : List Entry) (told : Option (List ℕ)) (before now : ℕ) (e : PmtError) → o.internal_compression ≡ compression.None → CreateCauses {A = WriterState} o.internal_compression before now (Err e)
-    → WritesParts o h source ps told (Err (of_write_error e))
-start_refused o h source ps told before now (errors.UnsupportedCompression label) plain c = tt
-start_refused o h source ps told before now (errors.Reading causes.Fault) plain c = tt
-start_refused o h source ps told before now errors.OutOfMemory plain c = tt
-start_refused o h source ps told before now e plain c = absurd c
 
 -- an archive that is finished, or not
 pub finished : (o : Options) (h : Header) (source : Option (List ℕ)) (ps : List Entry) (mid told : Option (List ℕ)) (s : WriterState) (failed : Bool) (before now : ℕ) (p : ArchivePlaces) (a : PartsAdded o h source ps mid s) → is_some told ≡ is_some mid

@@ -1,5 +1,5 @@
 -- What an archive says beside its tiles lies within its types.
-use Rattle.std.proofs.Common.{◌≡◌, ◌∙◌, ◌+◌, ◌<◌, ◌^◌, ℕ, ℤ, zero, suc, Bool, true, false, nat_lt, if◌then◌else◌, codes, All, FitsSigned, w32, List, [], ◌∷◌, length, take, slice_get, slice_index, Option, None, Some, Result, Ok, Err, refl, ap, sym, subst, arith}
+use Rattle.std.proofs.Common.{◌≡◌, ◌∙◌, ◌+◌, ◌<◌, ◌^◌, ℕ, ℤ, zero, suc, Bool, true, false, nat_lt, if◌then◌else◌, codes, All, FitsSigned, w32, List, [], ◌∷◌, length, drop, take, slice_get, slice_index, Option, None, Some, Result, Ok, Err, refl, ap, sym, subst, arith}
 use Rattle.std.proofs.lemmas.List.Elements.{All-head, All-tail, All-take}
 use Rattle.std.specs.Int.{Width, cast_signed}
 use Rattle.std.specs.Str.{bytes_eq}
@@ -10,7 +10,7 @@ use Rattle.pm_format.specs.declared.error.PmtError.TheVariants as errors
 use Rattle.pm_format.specs.declared.header.Header.{Header}
 use Rattle.pm_format.specs.declared.header.TheConstants.{HEADER_SIZE, ROOT_END}
 use Rattle.pm_format.specs.declared.tile_type.TileType.{TileType}
-use Rattle.pm_format.specs.Directory.{Entry}
+use Rattle.pm_format.specs.Directory.{Entry, dir_of}
 use Rattle.pm_format.specs.Header.{byte_at, compressions, fields, head, labelled, magic, tile_types}
 use Rattle.pm_format.specs.Opened.{Opened, opened, root_decoded, root_labelled, root_placed}
 use Rattle.pm_writer.specs.Bounds.{OptionsFit}
@@ -34,7 +34,7 @@ if_first false true e f r x is = absurd (cc)
 if_first false false e f r x is = absurd (cc)
 
 -- a header is what stands at the places of its fields
-pub record IsRead (front : List ℕ) (h : Header) : Type 0 where
+record IsRead (front : List ℕ) (h : Header) : Type 0 where
   pub directories : Compression
   pub tiles : Compression
   pub type : TileType
@@ -54,25 +54,27 @@ head_read front h is =
     let c = if_ok (nat_lt (length front) HEADER_SIZE) errors.InvalidHeader _ h b in
     labelled_read front (slice_get compressions (byte_at 97 front)) (slice_get compressions (byte_at 98 front)) (slice_get tile_types (byte_at 99 front)) h c
 
--- and that of an archive is the header of its front
-decoded_head : (h : Header) (d : Option (List Entry)) (o : Opened) → root_decoded h d ≡ Ok o → o.0 ≡ h
-decoded_head h None o is = absurd (cc)
-decoded_head h (Some es) o is = let same : (h, es) ≡ o = cc in ap (λ p. p.0) (sym same)
+-- an archive that opens has the header of its front, and a root that some bytes spell
+decoded_parts : (h : Header) (bytes : List ℕ) (d : Option (List Entry)) (o : Opened) → dir_of bytes ≡ d → root_decoded h d ≡ Ok o → (o.0 ≡ h) × (dir_of bytes ≡ Some o.1)
+decoded_parts h bytes None o found is = absurd (cc)
+decoded_parts h bytes (Some es) o found is = let same : (h, es) ≡ o = cc in (ap (λ p. p.0) (sym same), found ∙ ap (λ p. Some p.1) same)
 
-labelled_head : (front : List ℕ) (h : Header) (label : Compression) (o : Opened) → root_labelled front h label ≡ Ok o → o.0 ≡ h
-labelled_head front h compression.None o is = decoded_head h _ o is
-labelled_head front h label o is = absurd (cc)
+labelled_parts : (front : List ℕ) (h : Header) (label : Compression) (o : Opened) → root_labelled front h label ≡ Ok o → (o.0 ≡ h) × (bytes : List ℕ) × (dir_of bytes ≡ Some o.1)
+labelled_parts front h compression.None o is =
+    let bytes : List ℕ = take h.root_length (drop h.root_offset front) in
+    let p = decoded_parts h bytes (dir_of bytes) o refl is in (p.0, bytes, p.1)
+labelled_parts front h label o is = absurd (cc)
 
-placed_read : (front : List ℕ) (r : Result Header PmtError) (o : Opened) → ((h : Header) → r ≡ Ok h → IsRead front h) → root_placed front r ≡ Ok o → IsRead front o.0
-placed_read front (Err e) o read is = absurd (cc)
-placed_read front (Ok h) o read is =
+placed_parts : (front : List ℕ) (r : Result Header PmtError) (o : Opened) → root_placed front r ≡ Ok o → (r ≡ Ok o.0) × (bytes : List ℕ) × (dir_of bytes ≡ Some o.1)
+placed_parts front (Err e) o is = absurd (cc)
+placed_parts front (Ok h) o is =
     let a = if_ok (nat_lt h.root_offset HEADER_SIZE) errors.InvalidHeader _ o is in
     let b = if_ok (nat_lt (length front) (h.root_offset + h.root_length)) errors.InvalidHeader _ o a in
-    subst (IsRead front) (sym (labelled_head front h h.internal_compression o b)) (read h refl)
+    let p = labelled_parts front h h.internal_compression o b in (ap Ok (sym p.0), p.1, p.2)
 
-pub opened_read : (b : List ℕ) (o : Opened) → opened b ≡ Ok o → IsRead (take ROOT_END b) o.0
+pub opened_parts : (b : List ℕ) (o : Opened) → opened b ≡ Ok o → (head (take ROOT_END b) ≡ Ok o.0) × (bytes : List ℕ) × (dir_of bytes ≡ Some o.1)
 unfolding opened
-opened_read b o is = placed_read (take ROOT_END b) (head (take ROOT_END b)) o (λ h at. head_read (take ROOT_END b) h at) (if_ok (nat_lt (length (take ROOT_END b)) HEADER_SIZE) errors.InvalidHeader _ o is)
+opened_parts b o is = placed_parts (take ROOT_END b) (head (take ROOT_END b)) o (if_ok (nat_lt (length (take ROOT_END b)) HEADER_SIZE) errors.InvalidHeader _ o is)
 
 -- each byte fits
 byte_fits : (b : List ℕ) (at : ℕ) → All (λ byte. byte < 256) b → slice_index b at < 256
@@ -83,7 +85,7 @@ byte_fits (x ∷ b) (suc at) all = byte_fits b at (All-tail (λ byte. byte < 256
 -- the options that are taken from an archive fit
 pub options_fit : (b : List ℕ) (o : Opened) (text : List ℕ) (c : Coord) (m : ℕ) → All (λ byte. byte < 256) b → opened b ≡ Ok o → IsValid c m → OptionsFit (options_from o.0 text c m)
 options_fit b o text c m all is zoom =
-    let r = opened_read b o is in
+    let r = head_read (take ROOT_END b) o.0 (opened_parts b o is).0 in
     let center : o.0.center_zoom < 2 ^ 8 = subst (λ z. z < 2 ^ 8) (sym (ap (λ h. h.center_zoom) r.is)) (byte_fits (take ROOT_END b) 118 (All-take (λ byte. byte < 256) ROOT_END b all)) in
     let degrees = λ (f : Header → ℤ) (n : ℕ) (at : f (fields (take ROOT_END b) r.directories r.tiles r.type) ≡ cast_signed w32 n). subst (FitsSigned w32) (sym (ap f r.is ∙ at)) (signed_fits w32 n) in
     record {

@@ -6,14 +6,12 @@ pub mod PartsLemmas
 pub mod FinishLemmas
 pub mod ExtractLemmas
 pub mod TileLemmas
-pub mod OpeningLemmas
 pub mod PlanLemmas
 pub mod DoneLemmas
 pub mod ShortLemmas
 pub mod SoundLemmas
 pub mod CompleteLemmas
 pub mod PlanToldLemmas
-pub mod TestedLemmas
 pub mod RunLemmas
 pub mod FitLemmas
 pub mod FewLemmas

@@ -1,5 +1,5 @@
 -- Adds in intervals, and how many they are.
-use Rattle.std.proofs.Common.{◌≡◌, ◌+◌, ◌-◌, ◌≤◌, ◌<◌, ℕ, zero, suc, Bool, true, false, cond, List, [], ◌∷◌, length, Some, Ok, Err, refl, ap, sym, subst, arith}
+use Rattle.std.proofs.Common.{◌≡◌, ◌+◌, ◌-◌, ◌≤◌, ◌<◌, ℕ, zero, suc, Bool, true, false, cond, List, [], ◌∷◌, length, Some, Ok, refl, ap, sym, subst, arith}
 use Rattle.std.proofs.lemmas.Bool.Decides.{nat_tests}
 use Rattle.std.proofs.lemmas.List.{length-append}
 use Rattle.std.specs.FinMap.{find}
@@ -8,9 +8,8 @@ use Rattle.std.specs.Ordering.{eq_by_cmp, nat_cmp}
 use Rattle.pm_format.specs.Options.{Options}
 use Rattle.pm_writer.specs.Writing.{add_to}
 use Rattle.pm_walk.specs.Intervals.{in_intervals}
-use Rattle.tile_extract.specs.Written.{Adds, AddsLieIn, ByRoom, PutsAll, has_room}
-use Rattle.tile_extract.specs.declared.error.ExtractError.TheVariants.{IndexEntryOverflow}
-use Rattle.tile_extract.proofs.AddedLemmas.{ok_is}
+use Rattle.tile_extract.specs.Written.{Adds, AddsLieIn, PutsAll, has_room}
+use Rattle.tile_extract.proofs.AddedLemmas.{ok_is, with_room}
 
 adds_add : (is : List (ℕ × ℕ)) (done : Adds) (id : ℕ) (taken : List ℕ) → in_intervals id is ≡ true → AddsLieIn is done → AddsLieIn is (add_to done id taken)
 adds_add is done id [] at w = w
@@ -23,23 +22,16 @@ count_add done id (b ∷ taken) = omega (arith, length-append done ((id, b ∷ t
 
 pub puts_few : (takes : List ℕ → List ℕ → Type 0) (o : Options) (bytes : List ℕ) (n id : ℕ) (done more : Adds) → PutsAll takes o bytes done (range_with_len id n) (Ok more) → length more ≤ length done + n
 puts_few takes o bytes zero id done more is = omega (arith, ap length (ok_is more done is))
-puts_few takes o bytes (suc n) id done more is = by_room (has_room o done id is.0) (λ at. puts_few takes o bytes n (id + 1) (add_to done id is.0) more at) is.2
-  where
-    by_room : (t : Bool) → (PutsAll takes o bytes (add_to done id is.0) (range_with_len (id + 1) n) (Ok more) → length more ≤ length (add_to done id is.0) + n)
-        → ByRoom t (PutsAll takes o bytes (add_to done id is.0) (range_with_len (id + 1) n) (Ok more)) (Ok more ≡ Err IndexEntryOverflow) → length more ≤ length done + suc n
-    by_room true rest put = let a = rest put in let b = count_add done id is.0 in omega (arith, a, b)
-    by_room false rest put = absurd (cc)
+puts_few takes o bytes (suc n) id done more is =
+    with_room (has_room o done id is.0) (PutsAll takes o bytes (add_to done id is.0) (range_with_len (id + 1) n) (Ok more)) more
+    (λ at. let a = puts_few takes o bytes n (id + 1) (add_to done id is.0) more at in let b = count_add done id is.0 in omega (arith, a, b)) is.2
 
 pub puts_lie : (takes : List ℕ → List ℕ → Type 0) (o : Options) (bytes : List ℕ) (is : List (ℕ × ℕ)) (n id : ℕ) (done more : Adds) → PutsAll takes o bytes done (range_with_len id n) (Ok more)
     → ((t : ℕ) → id ≤ t → t < id + n → in_intervals t is ≡ true) → AddsLieIn is done → AddsLieIn is more
 puts_lie takes o bytes is zero id done more put inside w = subst (AddsLieIn is) (sym (ok_is more done put)) w
 puts_lie takes o bytes is (suc n) id done more put inside w =
-    by_room (has_room o done id put.0) (λ at. puts_lie takes o bytes is n (id + 1) (add_to done id put.0) more at (λ t low high. inside t (omega (arith, low)) (omega (arith, high))) (adds_add is done id put.0 (inside id (omega arith) (omega arith)) w)) put.2
-  where
-    by_room : (t : Bool) → (PutsAll takes o bytes (add_to done id put.0) (range_with_len (id + 1) n) (Ok more) → AddsLieIn is more)
-        → ByRoom t (PutsAll takes o bytes (add_to done id put.0) (range_with_len (id + 1) n) (Ok more)) (Ok more ≡ Err IndexEntryOverflow) → AddsLieIn is more
-    by_room true rest is = rest is
-    by_room false rest is = absurd (cc)
+    with_room (has_room o done id put.0) (PutsAll takes o bytes (add_to done id put.0) (range_with_len (id + 1) n) (Ok more)) more
+    (λ at. puts_lie takes o bytes is n (id + 1) (add_to done id put.0) more at (λ t low high. inside t (omega (arith, low)) (omega (arith, high))) (adds_add is done id put.0 (inside id (omega arith) (omega arith)) w)) put.2
 
 -- an id that has a tile among adds is one of theirs
 pub found_lies : (is : List (ℕ × ℕ)) (adds : Adds) (id : ℕ) (bytes : List ℕ) → AddsLieIn is adds → find nat_cmp id adds ≡ Some bytes → in_intervals id is ≡ true

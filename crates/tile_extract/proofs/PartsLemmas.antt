@@ -14,7 +14,7 @@ use Rattle.pm_writer.specs.Writing.{Writes, add_to}
 use Rattle.pm_writer.specs.declared.state.WriterState.{WriterState}
 use Rattle.pm_walk.specs.Collecting.{AllLieIn, AreOrdered}
 use Rattle.pm_walk.specs.Parts.{tile_count}
-use Rattle.tile_extract.specs.Written.{Adds, AddsLieIn, ByRoom, ComesTo, EndsBy, PartsPut, PartsRefuse, Puts, PutsAll, PutsFound, PutsNext, PutsParts, WriteCauses, has_room, ids_of, of_read_error, put_all, put_next, put_parts}
+use Rattle.tile_extract.specs.Written.{Adds, AddsLieIn, ByRoom, ComesTo, EndsBy, PartsPut, PartsRefuse, Puts, PutsAll, PutsFound, PutsNext, PutsParts, has_room, ids_of, of_read_error, put_all, put_next, put_parts}
 use Rattle.tile_extract.specs.declared.error.ExtractError.{ExtractError}
 use Rattle.tile_extract.specs.declared.error.ExtractError.TheVariants.{Archive, IndexEntryOverflow, MediumFault, OutOfMemory}
 use Rattle.tile_extract.proofs.AddedLemmas.{ends_all, ends_later, ends_rise}
@@ -143,7 +143,6 @@ refused_by takes whole o h b p others mid before now (errors.Reading causes.Faul
 refused_by takes whole o h b p others mid before now (errors.Reading causes.PastEnd) so g c =
     so (Err (Archive (errors.Reading causes.PastEnd))) (parts_past takes o h b p others mid (errors.Reading causes.PastEnd) g)
 refused_by takes whole o h b p others mid before now (errors.UnexpectedNumberOfBytesReturned asked got) so g c = absurd g
-refused_by takes whole o h b p others mid before now errors.InvalidEntry so g c = absurd c
 refused_by takes whole o h b p others mid before now e so g c = absurd c
 
 pub read_refused : (o : Options) (h : Header) (source again : Option (List ℕ)) (ps rest : List Entry) (p : Entry) (others : List Entry) (told : Option (List ℕ)) (s new : WriterState) (before after : ℕ) (e : PmtError) → PutSoFar o h source ps rest told s
@@ -151,14 +150,6 @@ pub read_refused : (o : Options) (h : Header) (source again : Option (List ℕ))
 read_refused o h source again ps rest p others told s new before after e s1 same first read c =
     both_told (PartsOn (Took told) o h ps rest s1.mid) (λ b. Gives (range_read b (h.data_offset + p.offset) p.length) (Err e)) (λ b. PartsRefuse (ComesTo told o h b ps) (of_read_error e)) source again same
     (λ b whole g. refused_by (Took told) (ComesTo told o h b ps) o h b p others s1.mid before after e (λ r is. comes told o h b ps r (whole r (subst (λ l. PutsParts (Took told) o h b l s1.mid r) (sym first) is))) g c) s1.so read
-
-pub read_causes : (start before now old new : ℕ) (e : PmtError) → start ≤ before → RangeCauses {A = List ℕ} before now (Err e) → WriteCauses {A = Unit {0}} start now old new (Err (of_read_error e))
-read_causes start before now old new errors.OutOfMemory le c = tt
-read_causes start before now old new (errors.Reading causes.Fault) le c = omega (arith, le, c)
-read_causes start before now old new (errors.Reading causes.PastEnd) le c = tt
-read_causes start before now old new (errors.UnexpectedNumberOfBytesReturned asked got) le c = c
-read_causes start before now old new errors.InvalidEntry le c = absurd c
-read_causes start before now old new e le c = absurd c
 
 -- a part that isn't added
 put_by : (whole : Result Adds ExtractError → Type 0) (o : Options) (h : Header) (b : List ℕ) (p : Entry) (others : List Entry) (mid : Adds) (bytes : List ℕ) (told : Option (List ℕ)) (s : WriterState) (x : ExtractError)

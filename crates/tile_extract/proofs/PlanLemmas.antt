@@ -1,5 +1,5 @@
 -- What an extraction answers and leaves, by what is found of the source.
-use Rattle.std.proofs.Common.{◌≡◌, inl, inr, ◌≤◌, ℕ, List, [], slice_index, Option, None, IfSome, Result, Ok, Err, ap, arith}
+use Rattle.std.proofs.Common.{◌≡◌, inl, inr, ◌≤◌, ℕ, List, [], slice_index, Option, None, IfSome, Ok, Err, ap, arith}
 use Rattle.std.specs.Str.{IsUtf8}
 use Rattle.tile_ids.specs.Coord.{Coord}
 use Rattle.pm_format.specs.declared.error.PmtError.{PmtError}
@@ -7,13 +7,12 @@ use Rattle.pm_format.specs.declared.error.PmtError.TheVariants as errors
 use Rattle.pm_format.specs.declared.error.ReadCause.TheVariants as causes
 use Rattle.pm_format.specs.declared.header.Header.{Header}
 use Rattle.pm_format.specs.Directory.{Entry}
-use Rattle.pm_format.specs.Opened.{Opened, opened}
+use Rattle.pm_format.specs.Opened.{opened}
 use Rattle.pm_reader.specs.Metadata.{metadata_read}
 use Rattle.tile_extract.specs.Cut.{intervals}
-use Rattle.tile_extract.specs.Extract.{Answers, CollectCauses, CollectRefuses, IntoBytes, IntoCauses, IntoLeaves, IsEarly, IsEmpty, ReadCauses, Refuses, Source, reads_at_most, reads_opened}
+use Rattle.tile_extract.specs.Extract.{Answers, CollectCauses, CollectRefuses, IntoBytes, IntoCauses, IntoLeaves, IsEarly, IsEmpty, ReadCauses, Refuses, Source}
 use Rattle.pm_walk.specs.Walk.{walked}
 use Rattle.pm_walk.specs.declared.extent.Extent.TheVariants.{Within}
-use Rattle.tile_extract.specs.Opening.{IsUnread, SourceRead, opening_reads}
 use Rattle.tile_extract.specs.declared.error.ExtractError.{ExtractError}
 use Rattle.tile_extract.specs.declared.error.ExtractError.TheVariants.{Archive, InvalidZoom, MediumNotEmpty, OutOfMemory, TooManyTiles}
 use Rattle.pm_walk.proofs.ToldLemmas.{one_told}
@@ -24,18 +23,6 @@ ComesEarly b c m most (Archive e) = IsEarly b c m e
 ComesEarly b c m most (TooManyTiles n) = Answers None b c m most (Err (TooManyTiles n))
 ComesEarly b c m most OutOfMemory = Unit {0}
 ComesEarly b c m most e = ⊥
-
-unread_early : (b : List ℕ) (c : Coord) (m : ℕ) (e : PmtError) → IsUnread b e → IsEarly b c m e
-unread_early b c m (errors.Reading causes.Fault) is = tt
-unread_early b c m (errors.UnexpectedNumberOfBytesReturned asked got) is = is
-unread_early b c m errors.OutOfMemory is = is
-unread_early b c m e (inl is) = inl is
-unread_early b c m e (inr is) = inr (inl is)
-
-pub source_early : (b : List ℕ) (c : Coord) (m most : ℕ) (x : ExtractError) → SourceRead b (Err x) → ComesEarly b c m most x
-source_early b c m most (Archive e) is = unread_early b c m e is
-source_early b c m most OutOfMemory is = tt
-source_early b c m most x is = absurd is
 
 -- what is found of a source that tells its bytes
 pub record Found (b : List ℕ) (h : Header) (es : List Entry) (text : List ℕ) : Type 0 where
@@ -64,7 +51,6 @@ pub collect_causes : (most first before now old new : ℕ) (x : ExtractError) �
 collect_causes most first before now old new (Archive e) le c = read_causes e c
   where
     read_causes : (e : PmtError) → CollectCauses most before now (Archive e) → ReadCauses first now e
-    read_causes errors.OutOfMemory c = absurd c
     read_causes errors.InvalidEntry c = tt
     read_causes (errors.Reading causes.PastEnd) c = tt
     read_causes (errors.Reading causes.Fault) c = omega (arith, le, c)
@@ -90,11 +76,3 @@ early_bytes source c m most before now old new x b cause is empty = inl (ap (λ 
 
 pub early_leaves : (source : Option (List ℕ)) (c : Coord) (m most before now old new : ℕ) (x : ExtractError) (held : Option (List ℕ)) → IntoCauses most before now old new (Err x) → IfSome source (λ s. ComesEarly s c m most x) → IsEmpty held → IntoLeaves source c m most (Err x) held
 early_leaves source c m most before now old new x held cause is empty = one_told (λ b. b ≡ []) (IntoBytes source c m most (Err x)) held (λ b e. early_bytes source c m most before now old new x b cause is e) empty
-
--- how often the source is read until then
-pub opening_most : (b : List ℕ) (c : Coord) (m : ℕ) → opening_reads (opened b) ≤ reads_at_most b c m
-opening_most b c m = most (opened b)
-  where
-    most : (r : Result Opened PmtError) → opening_reads r ≤ reads_opened b c m r
-    most (Ok o) = omega arith
-    most (Err e) = omega arith

@@ -1,18 +1,17 @@
 -- The steps of an extraction over a source that may tell its bytes.
-use Rattle.std.proofs.Common.{◌≡◌, ◌+◌, ◌≤◌, ℕ, List, Option, None, Some, IfSome, Ok, Err, subst, arith}
+use Rattle.std.proofs.Common.{◌≡◌, ℕ, List, Option, None, Some, IfSome, Ok, Err, subst}
 use Rattle.tile_ids.specs.Coord.{Coord}
 use Rattle.pm_format.specs.Directory.{Entry}
-use Rattle.pm_format.specs.Opened.{opened}
 use Rattle.pm_reader.specs.Opening.{header_of, root_of}
 use Rattle.pm_reader.specs.declared.state.ReaderState.{ReaderState}
 use Rattle.tile_extract.specs.Cut.{intervals}
-use Rattle.tile_extract.specs.Extract.{Answers, CollectCauses, CollectRefuses, IsCollected, reads_at_most}
+use Rattle.tile_extract.specs.Extract.{Answers, CollectCauses, CollectRefuses, IsCollected}
 use Rattle.pm_walk.specs.Walk.{Walked, walked}
 use Rattle.pm_walk.specs.declared.extent.Extent.TheVariants.{Within}
-use Rattle.tile_extract.specs.Opening.{SourceRead, opening_reads}
+use Rattle.tile_extract.specs.Opening.{SourceRead}
 use Rattle.tile_extract.specs.declared.error.ExtractError.{ExtractError}
 use Rattle.tile_extract.proofs.DoneLemmas.{Planned}
-use Rattle.tile_extract.proofs.PlanLemmas.{ComesEarly, Found, collect_early, early_answers, opening_most, source_early}
+use Rattle.tile_extract.proofs.PlanLemmas.{ComesEarly, Found, collect_early, early_answers}
 use Rattle.pm_walk.proofs.ToldLemmas.{one_told}
 
 -- the walk of an opened reader
@@ -29,9 +28,6 @@ planned c m most s text ps None again same read are = tt
 planned c m most s text ps (Some b) again same read are = record { found = found_of b s text read; collected = subst (λ a. IfSome a (λ b. IsCollected (walk_of c m s b) (intervals c m) most ps)) same are }
 
 -- refusals before the archive is begun
-pub unread : (c : Coord) (m most : ℕ) (x : ExtractError) (told : Option (List ℕ)) → IfSome told (λ b. SourceRead b (Err x)) → IfSome told (λ b. ComesEarly b c m most x)
-unread c m most x told read = one_told (λ b. SourceRead b (Err x)) (λ b. ComesEarly b c m most x) told (λ b is. source_early b c m most x is) read
-
 pub uncollected : (c : Coord) (m most before now : ℕ) (s : ReaderState) (text : List ℕ) (x : ExtractError) (told again : Option (List ℕ)) → again ≡ told → IfSome told (λ b. SourceRead b (Ok (s, text))) → CollectCauses most before now x
     → IfSome again (λ b. CollectRefuses (walk_of c m s b) (intervals c m) most x) → IfSome told (λ b. ComesEarly b c m most x)
 uncollected c m most before now s text x None again same read cause refused = tt
@@ -40,7 +36,3 @@ uncollected c m most before now s text x (Some b) again same read cause refused 
 
 pub answered : (c : Coord) (m most : ℕ) (x : ExtractError) (told held : Option (List ℕ)) → IfSome told (λ b. ComesEarly b c m most x) → IfSome told (λ b. Answers held b c m most (Err x))
 answered c m most x told held early = one_told (λ b. ComesEarly b c m most x) (λ b. Answers held b c m most (Err x)) told (λ b is. early_answers held b c m most x is) early
-
--- how often the source is read
-pub reads_opened : (c : Coord) (m first now : ℕ) (told : Option (List ℕ)) → IfSome told (λ b. now ≤ first + opening_reads (opened b)) → IfSome told (λ b. now ≤ first + reads_at_most b c m)
-reads_opened c m first now told reads = one_told (λ b. now ≤ first + opening_reads (opened b)) (λ b. now ≤ first + reads_at_most b c m) told (λ b is. omega (arith, is, opening_most b c m)) reads

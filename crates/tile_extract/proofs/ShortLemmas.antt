@@ -1,20 +1,17 @@
 -- Entries of directories have lengths below 2^32.
-use Rattle.std.proofs.Common.{◌≡◌, ◌+◌, ◌^◌, ◌<◌, ℕ, zero, suc, Bool, true, false, nat_lt, if◌then◌else◌, List, [], ◌∷◌, length, take, drop, Option, None, Some, option_map, Result, Ok, Err, refl, ap, subst}
+use Rattle.std.proofs.Common.{◌≡◌, ◌+◌, ◌^◌, ◌<◌, ℕ, zero, suc, Bool, true, false, nat_lt, if◌then◌else◌, List, [], ◌∷◌, length, Option, None, Some, option_map, Result, Ok, Err, refl, ap, subst}
 use Rattle.std.proofs.lemmas.Option.{none-some}
-use Rattle.pm_format.specs.declared.compression.Compression.{Compression}
-use Rattle.pm_format.specs.declared.compression.Compression.TheVariants as compression
 use Rattle.pm_format.specs.declared.error.PmtError.{PmtError}
 use Rattle.pm_format.specs.declared.error.PmtError.TheVariants as errors
 use Rattle.pm_format.specs.declared.error.ReadCause.TheVariants as causes
 use Rattle.pm_format.specs.declared.header.Header.{Header}
-use Rattle.pm_format.specs.declared.header.TheConstants.{HEADER_SIZE, ROOT_END}
 use Rattle.pm_format.specs.Directory.{Entry, column, dir_of, entries_of, ids_from, offsets_from}
-use Rattle.pm_format.specs.Header.{head}
 use Rattle.pm_format.specs.LookUp.{leaf_of, range_of}
-use Rattle.pm_format.specs.Opened.{Opened, opened, root_decoded, root_labelled, root_placed}
+use Rattle.pm_format.specs.Opened.{Opened, opened}
 use Rattle.pm_format.specs.Varint.{below, number_at, spelled, u64_at}
 use Rattle.pm_format.proofs.OptionLemmas.{bind_some, map_some}
 use Rattle.pm_walk.proofs.CoveringLemmas.{lt_by}
+use Rattle.tile_extract.proofs.FitLemmas.{opened_parts}
 
 -- each length fits u32
 abbrev pub AreShort : List Entry → Type 0
@@ -76,25 +73,5 @@ leaf_short h b e leaf is = by_range (range_of b (h.leaf_offset + e.offset) e.len
     by_range (Some bytes) is = by_dir bytes (dir_of bytes) refl is
 
 -- and those of a root
-decoded_short : (h : Header) (bytes : List ℕ) (d : Option (List Entry)) (o : Opened) → dir_of bytes ≡ d → root_decoded h d ≡ Ok o → AreShort o.1
-decoded_short h bytes None o found is = absurd (cc)
-decoded_short h bytes (Some es) o found is = let same : (h, es) ≡ o = cc in subst (λ p. AreShort p.1) same (dir_short bytes es found)
-
-labelled_short : (front : List ℕ) (h : Header) (l : Compression) (o : Opened) → root_labelled front h l ≡ Ok o → AreShort o.1
-labelled_short front h compression.None o is = decoded_short h (take h.root_length (drop h.root_offset front)) (dir_of (take h.root_length (drop h.root_offset front))) o refl is
-labelled_short front h l o is = absurd (cc)
-
-if_ok : (t : Bool) (e : PmtError) (r : Result Opened PmtError) (o : Opened) → (if t then Err e else r) ≡ Ok o → r ≡ Ok o
-if_ok true e r o is = absurd (cc)
-if_ok false e r o is = is
-
-placed_short : (front : List ℕ) (r : Result Header PmtError) (o : Opened) → root_placed front r ≡ Ok o → AreShort o.1
-placed_short front (Err e) o is = absurd (cc)
-placed_short front (Ok h) o is =
-    let a = if_ok (nat_lt h.root_offset HEADER_SIZE) errors.InvalidHeader _ o is in
-    let b = if_ok (nat_lt (length front) (h.root_offset + h.root_length)) errors.InvalidHeader _ o a in
-    labelled_short front h h.internal_compression o b
-
 pub root_short : (b : List ℕ) (o : Opened) → opened b ≡ Ok o → AreShort o.1
-unfolding opened
-root_short b o is = placed_short (take ROOT_END b) (head (take ROOT_END b)) o (if_ok (nat_lt (length (take ROOT_END b)) HEADER_SIZE) errors.InvalidHeader _ o is)
+root_short b o is = let p = opened_parts b o is in dir_short p.1 o.1 p.2

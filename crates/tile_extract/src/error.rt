@@ -1,5 +1,6 @@
 // Why an extraction ends without an archive.
 ghost use Rattle.std.specs.Prelude.{◌≡◌};
+ghost use Rattle.tile_extract.specs.declared.error.ExtractError.TheVariants as errors;
 
 use base_values::OutOfMemory;
 use pm_format::{MediumFault, PmtError};
@@ -32,9 +33,6 @@ pub enum ExtractError {
 }
 
 impl From<OutOfMemory> for ExtractError {
-    ghost use Rattle.std.specs.Prelude.{◌≡◌};
-    ghost use Rattle.tile_extract.specs.declared.error.ExtractError.TheVariants as errors;
-
     ghost from_gives = { λ _ e. e ≡ errors.OutOfMemory };
 
     fn from(_: OutOfMemory) -> Self {
@@ -43,9 +41,6 @@ impl From<OutOfMemory> for ExtractError {
 }
 
 impl From<MediumFault> for ExtractError {
-    ghost use Rattle.std.specs.Prelude.{◌≡◌};
-    ghost use Rattle.tile_extract.specs.declared.error.ExtractError.TheVariants as errors;
-
     ghost from_gives = { λ _ e. e ≡ errors.MediumFault };
 
     fn from(_: MediumFault) -> Self {

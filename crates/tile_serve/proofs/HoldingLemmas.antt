@@ -10,7 +10,7 @@ use Rattle.tile_serve.specs.Tiles.{AreTiles, LeavesFound, is_held, tiles_asked, 
 use Rattle.tile_serve.specs.declared.error.ServeError.{ServeError}
 use Rattle.tile_serve.specs.declared.error.ServeError.TheVariants as errors
 use Rattle.tile_serve.specs.declared.found.Found.{Found}
-use Rattle.tile_serve.specs.declared.found.Found.TheVariants.{Tile, Missing, InvalidEntry, PastEnd}
+use Rattle.tile_serve.specs.declared.found.Found.TheVariants.{Tile}
 
 abbrev Tiles : Type 0
 Tiles = Bounded (List ℕ)
@@ -54,9 +54,7 @@ tiles_put b old k d is all false = all
 -- what is kept is what the archive has
 pub tiles_found : (b : List ℕ) (old : Tiles) (k : ℕ) (found : Found) → found ≡ found_at b k → AreTiles b old.pairs → AreTiles b (with_found old k found).pairs
 tiles_found b old k (Tile d) is all = tiles_put b old k d (sym is) all (fits length old.limit d)
-tiles_found b old k Missing is all = all
-tiles_found b old k InvalidEntry is all = all
-tiles_found b old k PastEnd is all = all
+tiles_found b old k x is all = all
 
 bounds_put : (old : Tiles) (k : ℕ) (d : List ℕ) (fit : Bool) → ((if fit then with_pair length old k d else old).capacity ≡ old.capacity) × ((if fit then with_pair length old k d else old).limit ≡ old.limit)
 bounds_put old k d true = (refl, refl)
@@ -64,9 +62,7 @@ bounds_put old k d false = (refl, refl)
 
 pub bounds_found : (old : Tiles) (k : ℕ) (found : Found) → ((with_found old k found).capacity ≡ old.capacity) × ((with_found old k found).limit ≡ old.limit)
 bounds_found old k (Tile d) = bounds_put old k d (fits length old.limit d)
-bounds_found old k Missing = (refl, refl)
-bounds_found old k InvalidEntry = (refl, refl)
-bounds_found old k PastEnd = (refl, refl)
+bounds_found old k x = (refl, refl)
 
 bounds_asked : (old : Tiles) (k : ℕ) (found : Found) (held : Bool) → ((if held then used old k else with_found old k found).capacity ≡ old.capacity) × ((if held then used old k else with_found old k found).limit ≡ old.limit)
 bounds_asked old k found true = (refl, refl)
@@ -80,9 +76,7 @@ bounds_stay old new k (Err errors.OutOfMemory) q = elim q [
   | inr same ↦ (ap (λ (b : Tiles). b.capacity) same, ap (λ (b : Tiles). b.limit) same)
 ]
 bounds_stay old new k (Err (errors.Opening e)) same = (ap (λ (b : Tiles). b.capacity) same, ap (λ (b : Tiles). b.limit) same)
-bounds_stay old new k (Err errors.Fault) same = (ap (λ (b : Tiles). b.capacity) same, ap (λ (b : Tiles). b.limit) same)
-bounds_stay old new k (Err (errors.Modified x y)) same = (ap (λ (b : Tiles). b.capacity) same, ap (λ (b : Tiles). b.limit) same)
-bounds_stay old new k (Err (errors.Short x y)) same = (ap (λ (b : Tiles). b.capacity) same, ap (λ (b : Tiles). b.limit) same)
+bounds_stay old new k x same = (ap (λ (b : Tiles). b.capacity) same, ap (λ (b : Tiles). b.limit) same)
 
 by_held : (old new : Tiles) (k : ℕ) (found : Found) (held : Bool) → is_held old k ≡ held → new ≡ used old k → (new ≡ old) ⊎ (new ≡ (if held then used old k else with_found old k found))
 by_held old new k found true is q = inr q

@@ -21,7 +21,7 @@ use Rattle.tile_serve.specs.Tiles.{is_read, tiles_after}
 use Rattle.tile_serve.specs.declared.error.ServeError.{ServeError}
 use Rattle.tile_serve.specs.declared.error.ServeError.TheVariants as errors
 use Rattle.tile_serve.specs.declared.outcome.ServeOutcome.{ServeOutcome}
-use Rattle.tile_serve.specs.declared.outcome.ServeOutcome.TheVariants.{Done, Refused, Usage, InputFault, OutputFault, InputTooLong, OutOfMemory}
+use Rattle.tile_serve.specs.declared.outcome.ServeOutcome.TheVariants.{Done, Refused, OutputFault, OutOfMemory}
 use Rattle.tile_serve.proofs.CourseLemmas.{GoesTold, answered_more, tiles_more}
 
 abbrev Held : Type 0
@@ -37,10 +37,7 @@ outcome_is (Err e) o h = h
 
 serve_by : (e : ServeError) → of_serve e ≡ OutputFault → ⊥
 serve_by errors.OutOfMemory q = absurd (cc)
-serve_by (errors.Opening e) q = absurd (cc)
-serve_by errors.Fault q = absurd (cc)
-serve_by (errors.Modified x y) q = absurd (cc)
-serve_by (errors.Short x y) q = absurd (cc)
+serve_by x q = absurd (cc)
 
 -- an error of the archive is no fault of the output
 pub serve_no_fault : (e : ServeError) (o : ServeOutcome) → o ≡ of_serve e → o ≡ OutputFault → ⊥
@@ -54,10 +51,7 @@ front_none held text = (0, omega arith, Gains-nil held)
 
 refused_by : (b line : List ℕ) (held : Held) (e : ServeError) → Answers b line (Err e) → WritesLine b line held held (of_serve e)
 refused_by b line held errors.OutOfMemory q = front_none held (reply b line)
-refused_by b line held (errors.Opening e) q = (refl, q)
-refused_by b line held errors.Fault q = (refl, q)
-refused_by b line held (errors.Modified x y) q = (refl, q)
-refused_by b line held (errors.Short x y) q = (refl, q)
+refused_by b line held x q = (refl, q)
 
 pub line_refused : (told : Option (List ℕ)) (line : List ℕ) (held : Held) (e : ServeError) (o : ServeOutcome) → o ≡ of_serve e → IfSome told (λ b. UsesOneLength b → Answers b line (Err e)) → IfSome told (λ b. UsesOneLength b → WritesLine b line held held o)
 line_refused None line held e o is q = tt
@@ -191,9 +185,7 @@ stop_by b c all rest behind line held kept before now old mid new Done parts not
 stop_by b c all rest behind line held kept before now old mid new (Refused e) parts not goes s q = refused_at b c all rest behind line held kept before now old mid new e parts goes s q
 stop_by b c all rest behind line held kept before now old mid new OutputFault parts not goes s q = served_front b c all rest behind line held before old mid new parts s q
 stop_by b c all rest behind line held kept before now old mid new OutOfMemory parts not goes s q = served_front b c all rest behind line held before old mid new parts s q
-stop_by b c all rest behind line held kept before now old mid new Usage parts not goes s q = absurd q
-stop_by b c all rest behind line held kept before now old mid new InputFault parts not goes s q = absurd q
-stop_by b c all rest behind line held kept before now old mid new InputTooLong parts not goes s q = absurd q
+stop_by b c all rest behind line held kept before now old mid new x parts not goes s q = absurd q
 
 -- a line at which it ends; a line that is Done doesn't
 pub serving_stopped : (told opened : Option (List ℕ)) (texts : Texts) (tiles : Tiles) (reads : ℕ) (all rest behind line : List ℕ) (held kept : Tiles) (before now : ℕ) (old mid new : Held) (o : ServeOutcome) → lines_of rest ≡ line ∷ lines_of behind → IsStop o
@@ -205,10 +197,7 @@ serving_stopped (Some b) opened texts tiles reads all rest behind line held kept
 
 stop_serve : (e : ServeError) → IsStop (of_serve e)
 stop_serve errors.OutOfMemory = tt
-stop_serve (errors.Opening e) = tt
-stop_serve errors.Fault = tt
-stop_serve (errors.Modified x y) = tt
-stop_serve (errors.Short x y) = tt
+stop_serve x = tt
 
 stop_sink : (f : SinkFault) → IsStop (of_sink f)
 stop_sink sink.Fault = tt
@@ -228,20 +217,12 @@ pub rose_before : (start before now : ℕ) → start ≤ before → Rose before 
 rose_before start before now low r = omega (arith, low, r)
 
 refused_later : (told : Option (List ℕ)) (start before now : ℕ) (e : ServeError) → start ≤ before → RefusalCauses told before now e → RefusalCauses told start now e
-refused_later told start before now (errors.Opening e) low q = q
 refused_later told start before now errors.Fault low q = rose_before start before now low q
-refused_later told start before now (errors.Modified x y) low q = q
-refused_later told start before now (errors.Short x y) low q = q
-refused_later told start before now errors.OutOfMemory low q = q
+refused_later told start before now x low q = q
 
 later_by : (told : Option (List ℕ)) (start before now : ℕ) (o : ServeOutcome) → start ≤ before → LinesEnd told before now o → LinesEnd told start now o
-later_by told start before now Done low q = q
 later_by told start before now (Refused e) low q = refused_later told start before now e low q
-later_by told start before now OutputFault low q = q
-later_by told start before now OutOfMemory low q = q
-later_by told start before now Usage low q = q
-later_by told start before now InputFault low q = q
-later_by told start before now InputTooLong low q = q
+later_by told start before now x low q = q
 
 -- the same end, seen from an earlier count
 pub end_later : (told again : Option (List ℕ)) (start before now : ℕ) (o p : ServeOutcome) → again ≡ told → p ≡ o → start ≤ before → LinesEnd again before now o → LinesEnd told start now p

@@ -8,23 +8,19 @@ use Rattle.tile_serve.specs.Serving.{LinesTexts, RunTexts, Writes, WritesLines}
 use Rattle.tile_serve.specs.declared.error.ServeError.TheVariants as errors
 use Rattle.tile_serve.specs.declared.limits.ServeLimits.{ServeLimits}
 use Rattle.tile_serve.specs.declared.outcome.ServeOutcome.{ServeOutcome}
-use Rattle.tile_serve.specs.declared.outcome.ServeOutcome.TheVariants.{Done, Refused, Usage, InputFault, OutputFault, InputTooLong, OutOfMemory}
+use Rattle.tile_serve.specs.declared.outcome.ServeOutcome.TheVariants.{Refused, Usage, InputFault, OutputFault, InputTooLong, OutOfMemory}
 
 abbrev Held : Type 0
 Held = Option (List ℕ)
 
 writes_opened : (limits : ServeLimits) (texts : Texts) (start now : ℕ) (c : Course) (b requests : List ℕ) (old new : Held) (o : ServeOutcome) → IsBegun limits texts start c → WritesLines b c requests now old new o → Writes limits texts start now b requests old new o
-writes_opened limits texts start now c b requests old new Done begun q = (c, begun, q)
 writes_opened limits texts start now c b requests old new (Refused (errors.Opening e)) begun q = absurd q.refused
-writes_opened limits texts start now c b requests old new (Refused errors.Fault) begun q = (c, begun, q)
-writes_opened limits texts start now c b requests old new (Refused (errors.Modified x y)) begun q = (c, begun, q)
-writes_opened limits texts start now c b requests old new (Refused (errors.Short x y)) begun q = (c, begun, q)
-writes_opened limits texts start now c b requests old new (Refused errors.OutOfMemory) begun q = (c, begun, q)
 writes_opened limits texts start now c b requests old new OutputFault begun q = q
 writes_opened limits texts start now c b requests old new OutOfMemory begun q = q
 writes_opened limits texts start now c b requests old new Usage begun q = absurd q
 writes_opened limits texts start now c b requests old new InputFault begun q = absurd q
 writes_opened limits texts start now c b requests old new InputTooLong begun q = absurd q
+writes_opened limits texts start now c b requests old new x begun q = (c, begun, q)
 
 told_opened : (told : Option (List ℕ)) (limits : ServeLimits) (texts : Texts) (start now : ℕ) (c : Course) (requests : List ℕ) (old new : Held) (o : ServeOutcome) → IsBegun limits texts start c
     → IfSome told (λ b. UsesOneLength b → WritesLines b c requests now old new o) → IfSome told (λ b. UsesOneLength b → Writes limits texts start now b requests old new o)
@@ -50,17 +46,8 @@ texts_two None start reads now first a b grew later text one two = tt
 texts_two (Some text) start reads now first a b grew later is one two = (reads, grew, later, sym is ∙ one, two)
 
 texts_by : (texts : Texts) (start reads now : ℕ) (first : Option (List ℕ)) (o : ServeOutcome) → Grew start reads 1 → reads ≤ now → IfSome texts (λ text. first ≡ text reads) → LinesTexts first texts now o → RunTexts texts start now o
-texts_by texts start reads now first Done grew later text q = tt
-texts_by texts start reads now first (Refused (errors.Opening e)) grew later text q = tt
-texts_by texts start reads now first (Refused errors.Fault) grew later text q = tt
 texts_by texts start reads now first (Refused (errors.Modified a b)) grew later text q = (q.1, texts_two texts start reads now first a b grew later text q.0 q.2)
-texts_by texts start reads now first (Refused (errors.Short x y)) grew later text q = tt
-texts_by texts start reads now first (Refused errors.OutOfMemory) grew later text q = tt
-texts_by texts start reads now first OutputFault grew later text q = tt
-texts_by texts start reads now first OutOfMemory grew later text q = tt
-texts_by texts start reads now first Usage grew later text q = tt
-texts_by texts start reads now first InputFault grew later text q = tt
-texts_by texts start reads now first InputTooLong grew later text q = tt
+texts_by texts start reads now first x grew later text q = tt
 
 pub lines_texts : (texts again : Texts) (start reads now : ℕ) (first : Option (List ℕ)) (o : ServeOutcome) → again ≡ texts → Grew start reads 1 → reads ≤ now → IfSome again (λ text. first ≡ text reads) → LinesTexts first again now o
     → RunTexts texts start now o

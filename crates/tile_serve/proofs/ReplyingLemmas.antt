@@ -41,10 +41,7 @@ leaves_fetched old mid new t (Ok found) m none ok err =
     let same : mid ≡ old = m ∙ used-none old t none in
     asked_unheld old new t found (none_held old t none) (ok ∙ ap (λ (x : Tiles). with_found x t found) same)
 leaves_fetched old mid new t (Err errors.OutOfMemory) m none ok err = inl (err ∙ (m ∙ used-none old t none))
-leaves_fetched old mid new t (Err (errors.Opening e)) m none ok err = err ∙ (m ∙ used-none old t none)
-leaves_fetched old mid new t (Err errors.Fault) m none ok err = err ∙ (m ∙ used-none old t none)
-leaves_fetched old mid new t (Err (errors.Modified x y)) m none ok err = err ∙ (m ∙ used-none old t none)
-leaves_fetched old mid new t (Err (errors.Short x y)) m none ok err = err ∙ (m ∙ used-none old t none)
+leaves_fetched old mid new t x m none ok err = err ∙ (m ∙ used-none old t none)
 
 unheld : (held : Bool) → (if held then false else true) ≡ true → held ≡ false
 unheld true q = absurd (cc)
@@ -72,9 +69,7 @@ left_by b line tag old new t errors.OutOfMemory some q = elim q [
   | inr again ↦ elim (used_or_same old new t (found_at b t) again) [ inl same ↦ inl same | inr after ↦ inr (after_found b line tag old new t (found_at b t) some refl after) ]
 ]
 left_by b line tag old new t (errors.Opening e) some q = q
-left_by b line tag old new t errors.Fault some q = q
-left_by b line tag old new t (errors.Modified x y) some q = q
-left_by b line tag old new t (errors.Short x y) some q = q
+left_by b line tag old new t x some q = q
 
 pub tiles_error : (told : Option (List ℕ)) (line tag : List ℕ) (old new : Tiles) (t : ℕ) (e : ServeError) → request_of line ≡ Some (asked t tag) → LeavesFound old new t (Err e) → IfSome told (λ b. UsesOneLength b → LeavesTiles b (request_of line) old new (Err e))
 tiles_error None line tag old new t e some q = tt
@@ -84,12 +79,8 @@ texts_differ : (opened : Option (List ℕ)) (text : ℕ → Option (List ℕ)) (
 texts_differ opened text n number a b is one differ two same = let q : Some a ≡ Some b = sym one ∙ (is ∙ (same ∙ two)) in let r : a ≡ b = cc in differ r
 
 same_text : {A : Type 0} (opened : Option (List ℕ)) (text : ℕ → Option (List ℕ)) (number : ℕ) (r : Result A ServeError) → (n : ℕ) × (opened ≡ text n) → HasTexts opened (Some text) number r → ((m n : ℕ) → text m ≡ text n) → IsUnmodified r
-same_text opened text number (Ok x) first texts uniform = tt
-same_text opened text number (Err (errors.Opening e)) first texts uniform = tt
-same_text opened text number (Err errors.Fault) first texts uniform = tt
 same_text opened text number (Err (errors.Modified a b)) first texts uniform = texts_differ opened text first.0 number a b first.1 texts.0 texts.1 texts.2 (uniform first.0 number)
-same_text opened text number (Err (errors.Short a b)) first texts uniform = tt
-same_text opened text number (Err errors.OutOfMemory) first texts uniform = tt
+same_text opened text number x first texts uniform = tt
 
 pub unmodified_by : {A : Type 0} (opened : Option (List ℕ)) (versions : Option (ℕ → Option (List ℕ))) (number : ℕ) (r : Result A ServeError) → IfSome versions (λ text. (n : ℕ) × (opened ≡ text n)) → HasTexts opened versions number r → IsUniform versions → IsUnmodified r
 unmodified_by opened None number r first texts uniform = absurd uniform
@@ -120,10 +111,7 @@ held_unread line tag old t some unread = was_held (is_held old t) (sym (ap (λ r
 
 wanting_error : (e : ServeError) → IsWanting {A = Found} (Err e) → IsWanting {A = List ℕ} (Err e)
 wanting_error (errors.Opening e) q = q
-wanting_error errors.Fault q = q
-wanting_error (errors.Modified a b) q = q
-wanting_error (errors.Short a b) q = q
-wanting_error errors.OutOfMemory q = q
+wanting_error x q = q
 
 pub wanting_asked : (line tag : List ℕ) (old : Tiles) (t : ℕ) (e : ServeError) → request_of line ≡ Some (asked t tag) → (is_held old t ≡ true → IsWanting {A = Found} (Err e)) → is_read (request_of line) old ≡ false → IsWanting {A = List ℕ} (Err e)
 wanting_asked line tag old t e some held unread = wanting_error e (held (held_unread line tag old t some unread))

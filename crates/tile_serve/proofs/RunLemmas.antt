@@ -65,9 +65,7 @@ unopened_by told before now (errors.Opening e) q c =
     record { writes = told_writes told (Refused (errors.Opening e)) (λ limits texts start end b requests held. refl); texts = λ texts start end. tt; opens = told_opens told e q; read = tt; causes = c; unmodified = tt; other = no_fault e }
 unopened_by told before now errors.OutOfMemory q c =
     record { writes = told_writes told OutOfMemory (λ limits texts start end b requests held. front_none held (replies b requests)); texts = λ texts start end. tt; opens = told_free told; read = tt; causes = tt; unmodified = tt; other = memory_fault }
-unopened_by told before now errors.Fault q c = absurd c
-unopened_by told before now (errors.Modified x y) q c = absurd c
-unopened_by told before now (errors.Short x y) q c = absurd c
+unopened_by told before now x q c = absurd c
 
 pub unopened : (told : Option (List ℕ)) (before now : ℕ) (e : ServeError) (o : ServeOutcome) → o ≡ of_serve e → IfSome told (λ b. RefusesOpening (opened b) e) → OpeningCauses before now e → Unopened told before now o
 unopened told before now e o is q c = let P : ServeOutcome → Type 0 = λ x. Unopened told before now x in subst P (sym is) (unopened_by told before now e q c)
@@ -75,67 +73,52 @@ unopened told before now e o is q c = let P : ServeOutcome → Type 0 = λ x. Un
 -- Lines over an archive that opened.
 
 refusal_before : (told : Option (List ℕ)) (start before now : ℕ) (e : ServeError) → start ≤ before → RefusalCauses told before now e → SourceCauses told start now (Refused e)
-refusal_before told start before now (errors.Opening e) low q = absurd q
 refusal_before told start before now errors.Fault low q = rose_before start before now low q
 refusal_before told start before now (errors.Modified x y) low q = tt
 refusal_before told start before now (errors.Short x y) low q = q
-refusal_before told start before now errors.OutOfMemory low q = absurd q
+refusal_before told start before now x low q = absurd q
 
 causes_by : (told : Option (List ℕ)) (start before now : ℕ) (o : ServeOutcome) → start ≤ before → LinesEnd told before now o → SourceCauses told start now o
-causes_by told start before now Done low q = tt
 causes_by told start before now (Refused e) low q = refusal_before told start before now e low q
-causes_by told start before now OutputFault low q = tt
-causes_by told start before now OutOfMemory low q = tt
 causes_by told start before now Usage low q = absurd q
 causes_by told start before now InputFault low q = absurd q
 causes_by told start before now InputTooLong low q = absurd q
+causes_by told start before now x low q = tt
 
 pub lines_cause : (told again : Option (List ℕ)) (start before now : ℕ) (o : ServeOutcome) → again ≡ told → start ≤ before → LinesEnd again before now o → SourceCauses told start now o
 lines_cause told again start before now o same low q = let P : Option (List ℕ) → Type 0 = λ x. LinesEnd x before now o in causes_by told start before now o low (subst P same q)
 
 pub lines_read : (told : Option (List ℕ)) (before now : ℕ) (o : ServeOutcome) → LinesEnd told before now o → IsRead o
-lines_read told before now Done q = tt
-lines_read told before now (Refused e) q = tt
-lines_read told before now OutputFault q = tt
-lines_read told before now OutOfMemory q = tt
 lines_read told before now Usage q = absurd q
 lines_read told before now InputFault q = absurd q
 lines_read told before now InputTooLong q = absurd q
+lines_read told before now x q = tt
 
 loud : (told : Option (List ℕ)) (before now : ℕ) (e : ServeError) → RefusalCauses told before now e → IsSilent (Refused e) → ⊥
 loud told before now (errors.Opening e) q s = q
-loud told before now errors.Fault q s = s
-loud told before now (errors.Modified x y) q s = s
-loud told before now (errors.Short x y) q s = s
-loud told before now errors.OutOfMemory q s = s
+loud told before now x q s = s
 
 pub lines_loud : (told : Option (List ℕ)) (before now : ℕ) (o : ServeOutcome) → LinesEnd told before now o → IsSilent o → ⊥
-lines_loud told before now Done q s = s
 lines_loud told before now (Refused e) q s = loud told before now e q s
-lines_loud told before now OutputFault q s = s
-lines_loud told before now OutOfMemory q s = s
 lines_loud told before now Usage q s = q
 lines_loud told before now InputFault q s = q
 lines_loud told before now InputTooLong q s = q
+lines_loud told before now x q s = s
 
 ok_is : {A E : Type 0} (r : Result A E) (x : A) → r ≡ Ok x → IsOk r
 ok_is r x q = let P : Result _ _ → Type 0 = λ y. IsOk y in subst P (sym q) refl
 
 opens_refused : (told : Option (List ℕ)) (before now : ℕ) (b : List ℕ) (e : ServeError) → RefusalCauses told before now e → IsOk (opened b) → OpensFor (opened b) (Refused e)
 opens_refused told before now b (errors.Opening e) q ok = absurd q
-opens_refused told before now b errors.Fault q ok = ok
-opens_refused told before now b (errors.Modified x y) q ok = ok
-opens_refused told before now b (errors.Short x y) q ok = ok
 opens_refused told before now b errors.OutOfMemory q ok = absurd q
+opens_refused told before now b x q ok = ok
 
 opens_by : (told : Option (List ℕ)) (before now : ℕ) (b : List ℕ) (o : ServeOutcome) → LinesEnd told before now o → IsOk (opened b) → OpensFor (opened b) o
 opens_by told before now b Done q ok = ok
 opens_by told before now b (Refused e) q ok = opens_refused told before now b e q ok
 opens_by told before now b OutputFault q ok = ok
 opens_by told before now b OutOfMemory q ok = tt
-opens_by told before now b Usage q ok = absurd q
-opens_by told before now b InputFault q ok = absurd q
-opens_by told before now b InputTooLong q ok = absurd q
+opens_by told before now b x q ok = absurd q
 
 pub lines_open : (told again : Option (List ℕ)) (versions : Option (ℕ → Option (List ℕ))) (before now : ℕ) (s : ServerState) (o : ServeOutcome) → again ≡ told → IsServing again versions s → LinesEnd again before now o → IfSome told (λ b. OpensFor (opened b) o)
 lines_open None again versions before now s o same is q = tt
@@ -148,33 +131,19 @@ lines_open (Some b) again versions before now s o same is q =
 
 for_by : (l : ServeLimits) (o : ServeOutcome) → (o ≡ Usage → ⊥) → IsFor (Some l) o
 for_by l Usage not = not refl
-for_by l Done not = tt
-for_by l (Refused e) not = tt
-for_by l InputFault not = tt
-for_by l OutputFault not = tt
-for_by l InputTooLong not = tt
-for_by l OutOfMemory not = tt
+for_by l x not = tt
 
 pub for_some : (words : Option ServeLimits) (l : ServeLimits) (o : ServeOutcome) → words ≡ Some l → (o ≡ Usage → ⊥) → IsFor words o
 for_some words l o q not = let P : Option ServeLimits → Type 0 = λ x. IsFor x o in subst P (sym q) (for_by l o not)
 
-pub read_usage : (o : ServeOutcome) → IsRead o → o ≡ Usage → ⊥
-read_usage o read q = subst IsRead q read
-
-pub read_long : (o : ServeOutcome) → IsRead o → o ≡ InputTooLong → ⊥
-read_long o read q = subst IsRead q read
-
-pub read_input_fault : (o : ServeOutcome) → IsRead o → o ≡ InputFault → ⊥
-read_input_fault o read q = subst IsRead q read
+pub read_as : (o p : ServeOutcome) → IsRead o → o ≡ p → IsRead p
+read_as o p read q = subst IsRead q read
 
 pub read_opened : (o : ServeOutcome) → IsRead o → IsUnopened o → ⊥
-read_opened Done read u = u
-read_opened (Refused e) read u = u
-read_opened OutputFault read u = u
-read_opened OutOfMemory read u = u
 read_opened Usage read u = read
 read_opened InputFault read u = read
 read_opened InputTooLong read u = read
+read_opened x read u = u
 
 -- what is written, where the words are limits and the input is told
 abbrev pub WritesAsked : Option ServeLimits → Option (List ℕ) → Texts → ℕ → ℕ → Option (List ℕ) → Held → Held → ServeOutcome → Type 0
@@ -203,31 +172,21 @@ input_opens None o is = tt
 input_opens (Some b) o is = is b
 
 unread_by : (told : Option (List ℕ)) (e : InputError) → Unread told (of_input e)
-unread_by told input.Fault = record {
-  words = λ q. absurd (cc);
-  writes = input_writes InputFault (λ limits texts start end b requests held. refl) told;
-  texts = λ texts start end. tt;
-  opens = input_opens told InputFault (λ b. tt);
-  done = λ q. absurd (cc);
-  causes = λ before now. tt;
-  unmodified = tt;
-  other = λ q. absurd (cc);
-}
-unread_by told input.TooLong = record {
-  words = λ q. absurd (cc);
-  writes = input_writes InputTooLong (λ limits texts start end b requests held. refl) told;
-  texts = λ texts start end. tt;
-  opens = input_opens told InputTooLong (λ b. tt);
-  done = λ q. absurd (cc);
-  causes = λ before now. tt;
-  unmodified = tt;
-  other = λ q. absurd (cc);
-}
 unread_by told input.OutOfMemory = record {
   words = λ q. absurd (cc);
   writes = input_writes OutOfMemory (λ limits texts start end b requests held. front_none held (replies b requests)) told;
   texts = λ texts start end. tt;
   opens = input_opens told OutOfMemory (λ b. tt);
+  done = λ q. absurd (cc);
+  causes = λ before now. tt;
+  unmodified = tt;
+  other = λ q. absurd (cc);
+}
+unread_by told x = record {
+  words = λ q. absurd (cc);
+  writes = input_writes (of_input x) (λ limits texts start end b requests held. refl) told;
+  texts = λ texts start end. tt;
+  opens = input_opens told (of_input x) (λ b. tt);
   done = λ q. absurd (cc);
   causes = λ before now. tt;
   unmodified = tt;
@@ -239,20 +198,16 @@ unread told e o is = let P : ServeOutcome → Type 0 = λ x. Unread told x in su
 
 taken_input : (before now : ℕ) (e : InputError) → InputCounts before now (Err e) → Taken before now (of_input e)
 taken_input before now input.Fault q = q
-taken_input before now input.TooLong q = q
-taken_input before now input.OutOfMemory q = q
+taken_input before now x q = q
 
 pub taken_unread : (before now : ℕ) (e : InputError) (o : ServeOutcome) → o ≡ of_input e → InputCounts before now (Err e) → Taken before now o
 taken_unread before now e o is q = let P : ServeOutcome → Type 0 = λ x. Taken before now x in subst P (sym is) (taken_input before now e q)
 
 taken_by : (before now n : ℕ) (o : ServeOutcome) → Grew before now n → n ≤ MAX_INPUT → IsRead o → Taken before now o
-taken_by before now n Done g low read = omega (arith, g.most, low)
-taken_by before now n (Refused e) g low read = omega (arith, g.most, low)
-taken_by before now n OutputFault g low read = omega (arith, g.most, low)
-taken_by before now n OutOfMemory g low read = omega (arith, g.most, low)
 taken_by before now n Usage g low read = absurd read
 taken_by before now n InputFault g low read = absurd read
 taken_by before now n InputTooLong g low read = absurd read
+taken_by before now n x g low read = omega (arith, g.most, low)
 
 pub taken_read : (before now n : ℕ) (o : ServeOutcome) → Grew before now n × (n ≤ MAX_INPUT) → IsRead o → Taken before now o
 taken_read before now n o q read = taken_by before now n o q.0 q.1 read

@@ -27,7 +27,6 @@ pub enum ServeError {
 }
 
 impl From<OutOfMemory> for ServeError {
-    ghost use Rattle.std.specs.Prelude.{◌≡◌};
     ghost use Rattle.tile_serve.specs.declared.error.ServeError.TheVariants as errors;
 
     ghost from_gives = { λ _ e. e ≡ errors.OutOfMemory };

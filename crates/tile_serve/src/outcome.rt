@@ -1,6 +1,6 @@
 // How a run of the server ends.
 ghost use Rattle.std.specs.Prelude.{◌≡◌};
-ghost use Rattle.tile_serve.specs.Outcomes.{refused_status, status};
+ghost use Rattle.tile_serve.specs.Outcomes.{of_input, of_serve, of_sink, refused_status, status};
 
 use crate::ServeError;
 use byte_streams::{InputError, SinkFault};
@@ -26,9 +26,6 @@ pub enum ServeOutcome {
 }
 
 impl From<ServeError> for ServeOutcome {
-    ghost use Rattle.std.specs.Prelude.{◌≡◌};
-    ghost use Rattle.tile_serve.specs.Outcomes.{of_serve};
-
     ghost from_gives = { λ e o. o ≡ of_serve e };
 
     fn from(error: ServeError) -> ServeOutcome {
@@ -40,9 +37,6 @@ impl From<ServeError> for ServeOutcome {
 }
 
 impl From<InputError> for ServeOutcome {
-    ghost use Rattle.std.specs.Prelude.{◌≡◌};
-    ghost use Rattle.tile_serve.specs.Outcomes.{of_input};
-
     ghost from_gives = { λ e o. o ≡ of_input e };
 
     fn from(error: InputError) -> ServeOutcome {
@@ -55,9 +49,6 @@ impl From<InputError> for ServeOutcome {
 }
 
 impl From<SinkFault> for ServeOutcome {
-    ghost use Rattle.std.specs.Prelude.{◌≡◌};
-    ghost use Rattle.tile_serve.specs.Outcomes.{of_sink};
-
     ghost from_gives = { λ e o. o ≡ of_sink e };
 
     fn from(fault: SinkFault) -> ServeOutcome {

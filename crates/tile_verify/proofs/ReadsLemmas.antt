@@ -5,15 +5,12 @@ use Rattle.base_values.specs.Counts.{Grew, Rose}
 use Rattle.tile_verify.specs.Checking.{ReadsMade}
 use Rattle.tile_verify.specs.Walking.{WalkCauses, WalkReads}
 use Rattle.tile_verify.specs.declared.error.VerifyError.{VerifyError}
-use Rattle.tile_verify.specs.declared.error.VerifyError.TheVariants.{Opening, Broken, Fault, Short, OutOfMemory}
+use Rattle.tile_verify.specs.declared.error.VerifyError.TheVariants.{Opening, Fault, Short}
 
 -- the same end, seen from an earlier count
 pub made_later : (start before now : ℕ) (e : VerifyError) → start ≤ before → WalkReads {A = Unit {0}} before now (Err e) → WalkReads {A = Unit {0}} start now (Err e)
 made_later start before now (Opening e) low r = omega (arith, low, r)
-made_later start before now (Broken at why directories) low r = omega (arith, low, r)
-made_later start before now Fault low r = omega (arith, low, r)
-made_later start before now (Short asked got) low r = omega (arith, low, r)
-made_later start before now OutOfMemory low r = omega (arith, low, r)
+made_later start before now x low r = omega (arith, low, r)
 
 -- a count that grew by one did so exactly, or stands at its end
 one_read : (start now : ℕ) → Grew start now 1 → (b : Bool) → nat_lt now (2 ^ 64 - 1) ≡ b → (now ≡ start + 1) ⊎ (2 ^ 64 - 1 ≤ now)
@@ -38,7 +35,6 @@ read_again start before now g rose = elim (one start before g) [
 -- a walk behind the read that opens
 pub made_opened : (start before now faults failed : ℕ) (e : VerifyError) → Grew start before 1 → WalkCauses {A = Unit {0}} faults failed (Err e) → WalkReads {A = Unit {0}} before now (Err e) → ReadsMade {A = Unit {0}} start now (Err e)
 made_opened start before now faults failed (Opening e) g c r = absurd c
-made_opened start before now faults failed (Broken at why directories) g c r = opened_once start before now g r
 made_opened start before now faults failed Fault g c r = read_again start before now g r
 made_opened start before now faults failed (Short asked got) g c r = read_again start before now g r
-made_opened start before now faults failed OutOfMemory g c r = opened_once start before now g r
+made_opened start before now faults failed x g c r = opened_once start before now g r

@@ -13,7 +13,7 @@ use Rattle.tile_verify.specs.declared.broken.Place.{Place}
 use Rattle.tile_verify.specs.declared.broken.Reason.{Reason}
 use Rattle.tile_verify.specs.declared.broken.Reason.TheVariants as reason
 use Rattle.tile_verify.specs.declared.error.VerifyError.{VerifyError}
-use Rattle.tile_verify.specs.declared.error.VerifyError.TheVariants.{Opening, Broken, Fault, Short, OutOfMemory}
+use Rattle.tile_verify.specs.declared.error.VerifyError.TheVariants.{Broken, Fault, OutOfMemory}
 use Rattle.tile_verify.specs.declared.walk.Met.{Met}
 use Rattle.tile_verify.specs.declared.walk.Spot.{Spot}
 use Rattle.tile_verify.proofs.MeetingLemmas.{leaf_met, tile_met, not_leaf}
@@ -84,10 +84,9 @@ pub broken_on : (w next whole : Walked) (d t old mid : ℕ) (x : VerifyError) �
 broken_on w next whole d t old mid (Broken at why n) is counts breaks =
     let same : whole ≡ after d t w = is ∙ ap (after d t) (then_broken w next (at, why) breaks.0) in
     (ap (λ v. v.broken) same ∙ breaks.0, breaks.1 ∙ ap (λ m. counted m w.directories) counts ∙ counted_twice old d w.directories ∙ ap (λ v. counted old v.directories) (sym same))
-broken_on w next whole d t old mid (Opening e) is counts breaks = absurd breaks
-broken_on w next whole d t old mid (Short asked got) is counts breaks = absurd breaks
 broken_on w next whole d t old mid Fault is counts breaks = tt
 broken_on w next whole d t old mid OutOfMemory is counts breaks = tt
+broken_on w next whole d t old mid x is counts breaks = absurd breaks
 
 pub adds_twice : (a b c : Met) (j k : ℕ) (xs ys : List Entry) → Adds a j xs b → Adds b k ys c → Adds a (j + k) (xs ++ ys) c
 adds_twice a b c j k xs ys v w = record {
@@ -105,10 +104,9 @@ pub broken_leaf : (inner : Walked) (mid read : Met) (es : List Entry) (x : Verif
 broken_leaf inner mid read es (Broken at why n) adds breaks =
     let p : 1 + inner.directories ≡ suc inner.directories = omega arith in
     (breaks.0, breaks.1 ∙ ap (λ m. counted m inner.directories) adds.directories ∙ counted_twice mid.directories 1 inner.directories ∙ ap (counted mid.directories) p)
-broken_leaf inner mid read es (Opening e) adds breaks = absurd breaks
-broken_leaf inner mid read es (Short asked got) adds breaks = absurd breaks
 broken_leaf inner mid read es Fault adds breaks = tt
 broken_leaf inner mid read es OutOfMemory adds breaks = tt
+broken_leaf inner mid read es x adds breaks = absurd breaks
 
 -- what was walked of a directory's entries: so many leaves and tiles, no break, and what is left makes the rest of the whole
 pub record SoFar (h : Header) (b : List ℕ) (at : Spot) (left limit : ℕ) (es rest : List Entry) (old now : Met) (before reads : ℕ) : Type 0 where

@@ -34,7 +34,6 @@ pub enum VerifyError {
 }
 
 impl<T: Drop> From<AllocFailed<T>> for VerifyError {
-    ghost use Rattle.std.specs.Prelude.{◌≡◌};
     ghost use Rattle.tile_verify.specs.declared.error.VerifyError.TheVariants as errors;
 
     ghost from_gives = { λ _ e. e ≡ errors.OutOfMemory };

@@ -1,5 +1,5 @@
 -- Rows of words, a cell at a time, and rows that are added.
-use Rattle.std.proofs.Common.{Bor, ◌≡◌, ℕ, suc, ◌+◌, ◌-◌, ◌<◌, Bool, true, false, not, ◌&&◌, if◌then◌else◌, List, [], ◌∷◌, ◌++◌, length, Option, Some, None, MatchOption, refl, sym, ◌∙◌, ap, arith, append_assoc, append-nil}
+use Rattle.std.proofs.Common.{Bor, ◌≡◌, ℕ, suc, ◌+◌, ◌-◌, ◌<◌, Bool, true, false, not, ◌&&◌, if◌then◌else◌, List, [], ◌∷◌, ◌++◌, length, Option, Some, None, MatchOption, refl, sym, ◌∙◌, ap, arith, append_assoc}
 use Rattle.std.specs.Option.{option_and_then, option_copied, option_map}
 use Rattle.mb_store.specs.Store.{is_duplicate, with_row}
 use Rattle.mb_tables.specs.Described.{is_table}
@@ -60,11 +60,6 @@ none_for_more front (word ∷ words) l = refl
 
 pub word_left : (front : List Cell) (line : List ℕ) (whole : Option (List Cell)) → behind_cells front 0 (words_of line) ≡ whole → None ≡ whole
 word_left front line whole w = sym (none_for_more front (words_of line) (some_part 32 line)) ∙ w
-
-pub row_whole : (front : List Cell) (whole : Option (List Cell)) → behind_cells front 0 [] ≡ whole → Some front ≡ whole
-row_whole front whole w = ap Some (sym (append-nil front)) ∙ w
-
-pub ruleset cell_by_cell = (cell_more, cell_bad, word_missing, word_left, row_whole)
 
 -- a row that is taken stands
 pub row_stands : (table : TableName) (row : List Cell) (t new : Tables) → Takes (row_added table row t) true new → new ≡ with_row t table row

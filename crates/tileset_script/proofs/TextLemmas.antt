@@ -1,5 +1,5 @@
 -- Texts, a byte at a time.
-use Rattle.std.proofs.Common.{◌≡◌, ℕ, ◌-◌, ◌<◌, ◌≤◌, Bool, true, false, List, [], ◌∷◌, ◌++◌, length, take, drop, get_or, nat_eq, if◌then◌else◌, Option, Some, None, refl, sym, ◌∙◌, ap, arith, append_assoc, append-nil}
+use Rattle.std.proofs.Common.{◌≡◌, ℕ, ◌-◌, ◌<◌, ◌≤◌, Bool, true, false, List, [], ◌∷◌, ◌++◌, length, take, drop, get_or, nat_eq, if◌then◌else◌, Option, Some, None, refl, sym, ◌∙◌, ap, arith, append-nil}
 use Rattle.std.proofs.lemmas.Bool.Decides.{nat_tests}
 use Rattle.std.proofs.lemmas.List.{take_all}
 use Rattle.std.proofs.lemmas.Str.{IsUtf8-from_is_utf8, is_utf8-from_IsUtf8}
@@ -45,18 +45,6 @@ digits_missing (c ∷ d ∷ tail) l = absurd (omega arith)
 pub ruleset next_bytes = (plain_taken, plain_refused)
 
 pub ruleset escapes = (digits_taken, digits_refused, digits_missing)
-
--- bytes so far, and one more
-pub byte_more : (front : List ℕ) (b : ℕ) (word tail : List ℕ) (whole : Option (List ℕ)) → unescaped word ≡ option_map (λ bytes. b ∷ bytes) (unescaped tail)
-    → option_map (λ bytes. front ++ bytes) (unescaped word) ≡ whole → option_map (λ bytes. (front ++ b ∷ []) ++ bytes) (unescaped tail) ≡ whole
-byte_more front b word tail whole e w = go (unescaped tail) refl
-  where
-    go : (o : Option (List ℕ)) → unescaped tail ≡ o → option_map (λ bytes. (front ++ b ∷ []) ++ bytes) (unescaped tail) ≡ whole
-    go None f = ap (option_map (λ bytes. (front ++ b ∷ []) ++ bytes)) f ∙ sym (ap (λ o. option_map (λ bytes. front ++ bytes) (option_map (λ bytes. b ∷ bytes) o)) f) ∙ sym (ap (option_map (λ bytes. front ++ bytes)) e) ∙ w
-    go (Some bytes) f = ap (option_map (λ bytes. (front ++ b ∷ []) ++ bytes)) f ∙ ap Some (append_assoc front (b ∷ []) bytes) ∙ sym (ap (λ o. option_map (λ bytes. front ++ bytes) (option_map (λ bytes. b ∷ bytes) o)) f) ∙ sym (ap (option_map (λ bytes. front ++ bytes)) e) ∙ w
-
-pub byte_refused : (front word : List ℕ) (whole : Option (List ℕ)) → unescaped word ≡ None → option_map (λ bytes. front ++ bytes) (unescaped word) ≡ whole → None ≡ whole
-byte_refused front word whole e w = sym (ap (option_map (λ bytes. front ++ bytes)) e) ∙ w
 
 pub bytes_end : (front word : List ℕ) (whole : Option (List ℕ)) → word ≡ [] → option_map (λ bytes. front ++ bytes) (unescaped word) ≡ whole → Some front ≡ whole
 unfolding unescaped

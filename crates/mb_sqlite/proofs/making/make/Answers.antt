@@ -1,23 +1,18 @@
 use Rattle.std.proofs.Common.{rules, ◌≡◌, arith, inl, inr, subst}
 use Rattle.sqlite.specs.Held.{state}
 use Rattle.sqlite.specs.State.{HasCleanDisk}
-use Rattle.mb_sqlite.specs.Committing.{CommitsOnce}
 use Rattle.mb_sqlite.specs.Making.{AreMade, ArePrepared, Commits, begun}
 use Rattle.mb_sqlite.specs.Resting.{Rests}
 use Rattle.mb_sqlite.proofs.CommitLemmas.{commits_made, done_once}
 use Rattle.mb_sqlite.proofs.ReadyLemmas.{on_err}
-use Rattle.mb_sqlite.proofs.RestingLemmas.{rests_failed, rests_undone}
+use Rattle.mb_sqlite.proofs.RestingLemmas.{rests_back, rests_failed, rests_undone}
 use Rattle.mb_sqlite.proofs.making.make.Goals as goal
 
 pub returns-in_err-commit-clause-once : goal.returns-in_err-commit-clause-once
 returns-in_err-commit-clause-once g c =
     let old = c.args.connection.now in
-    let Ends = AreMade g.S.Store c.args.layout (begun old) in
-    let end = c.commit.new.self.0 in
     let began = c.transaction-transaction.ensures.begun in
-    let whole = done_once g.S.Store Ends old c.make_missing.new.transaction.conn.now end (rw began at c.make_missing.ensures.survives) (λ clean. (rw began at c.in_ok-make_missing.ensures.passed clean).passed) c.commit.ensures.survives in
-    let same : end ≡ c.connection-then-branch-1.given.0 = search rules in
-    subst (λ h. CommitsOnce g.S.Store Ends old h) same whole
+    done_once g.S.Store (AreMade g.S.Store c.args.layout (begun old)) old c.make_missing.new.transaction.conn.now c.commit.new.self.0 _ (rw began at c.make_missing.ensures.survives) (λ clean. (rw began at c.in_ok-make_missing.ensures.passed clean).passed) c.commit.ensures.survives (search rules)
 
 pub returns-in_err-commit-clause-rests : goal.returns-in_err-commit-clause-rests
 returns-in_err-commit-clause-rests g c outside =
@@ -32,12 +27,8 @@ returns-in_err-commit-clause-rests g c outside =
 pub returns-in_ok-commit-clause-once : goal.returns-in_ok-commit-clause-once
 returns-in_ok-commit-clause-once g c =
     let old = c.args.connection.now in
-    let Ends = AreMade g.S.Store c.args.layout (begun old) in
-    let end = c.commit.new.self.0 in
     let began = c.transaction-transaction.ensures.begun in
-    let whole = done_once g.S.Store Ends old c.make_missing.new.transaction.conn.now end (rw began at c.make_missing.ensures.survives) (λ clean. (rw began at c.in_ok-make_missing.ensures.passed clean).passed) c.commit.ensures.survives in
-    let same : end ≡ c.connection-then-branch-1.given.0 = search rules in
-    subst (λ h. CommitsOnce g.S.Store Ends old h) same whole
+    done_once g.S.Store (AreMade g.S.Store c.args.layout (begun old)) old c.make_missing.new.transaction.conn.now c.commit.new.self.0 _ (rw began at c.make_missing.ensures.survives) (λ clean. (rw began at c.in_ok-make_missing.ensures.passed clean).passed) c.commit.ensures.survives (search rules)
 
 pub returns-in_ok-commit-clause-prepared : goal.returns-in_ok-commit-clause-prepared
 unfolding ArePrepared
@@ -67,7 +58,5 @@ returns-else-branch-clause-prepared g c =
 
 pub returns-in_err-make_missing-clause-rests : goal.returns-in_err-make_missing-clause-rests
 returns-in_err-make_missing-clause-rests g c outside =
-    let old = c.args.connection.now in
-    let end = c.drop-transaction.new.self.0 in
-    let same : end ≡ c.connection-1.given.0 = search rules in
-    on_err _ _ (subst (λ h. Rests g.S.Store old h) same (rests_undone g.S.Store old c.make_missing.new.transaction.conn.now end (rw c.transaction-transaction.ensures.begun at c.make_missing.ensures.kept) c.drop-transaction.ensures.survives c.drop-transaction.ensures.undone c.drop-transaction.ensures.ended))
+    let d = c.drop-transaction in
+    on_err _ _ (rests_back g.S.Store c.args.connection.now _ c.make_missing.new.transaction.conn.now d.new.self.0 _ c.transaction-transaction.ensures.begun c.make_missing.ensures.kept d.ensures.survives d.ensures.undone d.ensures.ended (search rules))

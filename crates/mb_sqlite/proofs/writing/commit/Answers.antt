@@ -1,4 +1,4 @@
-use Rattle.std.proofs.Common.{rules, ◌≡◌, subst}
+use Rattle.std.proofs.Common.{rules, ◌≡◌, refl, subst}
 use Rattle.sqlite.specs.Held.{state}
 use Rattle.sqlite.specs.State.{HasCleanDisk}
 use Rattle.mb_sqlite.specs.Committing.{CommitsOnce, KeepsCommitted}
@@ -6,7 +6,7 @@ use Rattle.mb_sqlite.specs.Making.{AreChanged, Commits, begun}
 use Rattle.mb_sqlite.specs.Resting.{Rests}
 use Rattle.mb_sqlite.proofs.CommitLemmas.{commits_made, nothing_once, undone_nothing, undone_keeps, failed_keeps, done_once}
 use Rattle.mb_sqlite.proofs.ReadyLemmas.{on_err}
-use Rattle.mb_sqlite.proofs.RestingLemmas.{kept_inside, rests_failed, rests_undone}
+use Rattle.mb_sqlite.proofs.RestingLemmas.{kept_inside, rests_back, rests_failed}
 use Rattle.mb_sqlite.proofs.writing.commit.Goals as goal
 
 pub returns-in_err-change-clause-once : goal.returns-in_err-change-clause-once
@@ -33,12 +33,8 @@ returns-in_err-change-clause-refused g c =
 pub returns-in_err-commit-clause-once : goal.returns-in_err-commit-clause-once
 returns-in_err-commit-clause-once g c =
     let old = c.args.connection.now in
-    let Ends = AreChanged g.S.Store c.args.layout c.args.changes.now (begun old) in
-    let end = c.commit.new.self.0 in
     let began = c.transaction-transaction.ensures.begun in
-    let whole = done_once g.S.Store Ends old c.change.new.transaction.conn.now end (rw began at c.change.ensures.survives) (rw began at c.in_ok-change.ensures.changed) c.commit.ensures.survives in
-    let same : end ≡ c.connection-2-1.given.0 = search rules in
-    subst (λ h. CommitsOnce g.S.Store Ends old h) same whole
+    done_once g.S.Store (AreChanged g.S.Store c.args.layout c.args.changes.now (begun old)) old c.change.new.transaction.conn.now c.commit.new.self.0 _ (rw began at c.change.ensures.survives) (rw began at c.in_ok-change.ensures.changed) c.commit.ensures.survives (search rules)
 
 pub returns-in_err-commit-clause-refused : goal.returns-in_err-commit-clause-refused
 returns-in_err-commit-clause-refused g c =
@@ -53,12 +49,8 @@ returns-in_err-commit-clause-refused g c =
 pub returns-clause-once : goal.returns-clause-once
 returns-clause-once g c =
     let old = c.args.connection.now in
-    let Ends = AreChanged g.S.Store c.args.layout c.args.changes.now (begun old) in
-    let end = c.commit.new.self.0 in
     let began = c.transaction-transaction.ensures.begun in
-    let whole = done_once g.S.Store Ends old c.change.new.transaction.conn.now end (rw began at c.change.ensures.survives) (rw began at c.in_ok-change.ensures.changed) c.commit.ensures.survives in
-    let same : end ≡ c.connection-2-1.given.0 = search rules in
-    subst (λ h. CommitsOnce g.S.Store Ends old h) same whole
+    done_once g.S.Store (AreChanged g.S.Store c.args.layout c.args.changes.now (begun old)) old c.change.new.transaction.conn.now c.commit.new.self.0 _ (rw began at c.change.ensures.survives) (rw began at c.in_ok-change.ensures.changed) c.commit.ensures.survives (search rules)
 
 pub returns-clause-changed : goal.returns-clause-changed
 returns-clause-changed g c clean =
@@ -73,10 +65,9 @@ returns-clause-changed g c clean =
 pub returns-in_err-change-clause-rests : goal.returns-in_err-change-clause-rests
 returns-in_err-change-clause-rests g c outside =
     let old = c.args.connection.now in
-    let end = c.drop-transaction.new.self.0 in
-    let same : end ≡ c.connection-1.given.0 = search rules in
+    let d = c.drop-transaction in
     let kept = kept_inside g.S.Store (begun old) c.change.new.transaction.conn.now (rw c.transaction-transaction.ensures.begun at c.change.ensures.kept) in
-    on_err _ _ (subst (λ h. Rests g.S.Store old h) same (rests_undone g.S.Store old c.change.new.transaction.conn.now end kept c.drop-transaction.ensures.survives c.drop-transaction.ensures.undone c.drop-transaction.ensures.ended))
+    on_err _ _ (rests_back g.S.Store old (begun old) c.change.new.transaction.conn.now d.new.self.0 _ refl kept d.ensures.survives d.ensures.undone d.ensures.ended (search rules))
 
 pub returns-in_err-commit-clause-rests : goal.returns-in_err-commit-clause-rests
 returns-in_err-commit-clause-rests g c outside =

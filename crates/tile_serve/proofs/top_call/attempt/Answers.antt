@@ -2,7 +2,8 @@ use Rattle.std.proofs.Common.{rules, ◌≡◌, Some}
 use Rattle.tile_serve.specs.Limits.{limits_in}
 use Rattle.tile_serve.specs.Outcomes.{outcome_of}
 use Rattle.tile_serve.proofs.LinesLemmas.{outcome_is}
-use Rattle.tile_serve.proofs.RunLemmas.{for_some, read_input_fault, read_long, read_opened, read_usage, taken_read, taken_unread, unread, writes_input}
+use Rattle.tile_serve.proofs.RunLemmas.{for_some, read_as, read_opened, taken_read, taken_unread, unread, writes_input}
+use Rattle.tile_serve.specs.declared.outcome.ServeOutcome.TheVariants.{InputFault, InputTooLong, Usage}
 use Rattle.tile_serve.proofs.top_call.attempt.Goals as goal
 
 pub returns-in_err-requests-clause-words : goal.returns-in_err-requests-clause-words
@@ -40,7 +41,7 @@ returns-in_err-requests-clause-output_fault g c = λ fault. absurd ((unread (g.B
 pub returns-clause-words : goal.returns-clause-words
 returns-clause-words g c =
     let some : limits_in c.args.words.now ≡ Some c.in-Some.limits = search rules in
-    for_some (limits_in c.args.words.now) c.in-Some.limits (outcome_of c.serve_requests.result) some (read_usage (outcome_of c.serve_requests.result) c.serve_requests.ensures.read)
+    for_some (limits_in c.args.words.now) c.in-Some.limits (outcome_of c.serve_requests.result) some (read_as (outcome_of c.serve_requests.result) Usage c.serve_requests.ensures.read)
 
 pub returns-clause-writes : goal.returns-clause-writes
 returns-clause-writes g c =
@@ -52,13 +53,13 @@ pub returns-clause-taken : goal.returns-clause-taken
 returns-clause-taken g c = taken_read _ _ _ (outcome_of c.serve_requests.result) c.in_ok-requests.ensures.counted c.serve_requests.ensures.read
 
 pub returns-clause-too_long : goal.returns-clause-too_long
-returns-clause-too_long g c = λ long. absurd (read_long (outcome_of c.serve_requests.result) c.serve_requests.ensures.read long)
+returns-clause-too_long g c = λ long. absurd (read_as (outcome_of c.serve_requests.result) InputTooLong c.serve_requests.ensures.read long)
 
 pub returns-clause-untaken : goal.returns-clause-untaken
-returns-clause-untaken g c = λ usage. absurd (read_usage (outcome_of c.serve_requests.result) c.serve_requests.ensures.read usage)
+returns-clause-untaken g c = λ usage. absurd (read_as (outcome_of c.serve_requests.result) Usage c.serve_requests.ensures.read usage)
 
 pub returns-clause-unread : goal.returns-clause-unread
 returns-clause-unread g c = λ unopened. absurd (read_opened (outcome_of c.serve_requests.result) c.serve_requests.ensures.read unopened)
 
 pub returns-clause-input_fault : goal.returns-clause-input_fault
-returns-clause-input_fault g c = λ fault. absurd (read_input_fault (outcome_of c.serve_requests.result) c.serve_requests.ensures.read fault)
+returns-clause-input_fault g c = λ fault. absurd (read_as (outcome_of c.serve_requests.result) InputFault c.serve_requests.ensures.read fault)

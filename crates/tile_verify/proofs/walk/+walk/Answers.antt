@@ -1,4 +1,5 @@
 use Rattle.std.proofs.Common.{◌∙◌, ◌≢◌, ◌+◌, ap, sym, subst, Ok, IfSome, refl, arith}
+use Rattle.std.proofs.lemmas.Grind.{common_steps}
 use Rattle.byte_media.proofs.KeptLemmas.{reads_same, reads_then}
 use Rattle.pm_reader.specs.Opening.{header_of}
 use Rattle.tile_verify.proofs.ReadsLemmas.{made_later}
@@ -20,24 +21,18 @@ loop-entry-init g t c = (
   omega arith,
 )
 
-pub returns-in-Err-clause-answer : goal.returns-in-Err-clause-answer
-returns-in-Err-clause-answer g t c =
+pub returns-in-Err : goal.returns-in-Err
+returns-in-Err g t c =
     let i = c.loop-entry.invariant in
-    (told_stopped (g.B.Backend.told c.args.backend.now) (g.B.Backend.told c.loop-entry.backend) (header_of c.args.state.now) c.args.at c.args.left c.args.low c.args.limit c.entries-entries.result.now c.loop-entry.rest.now c.args.directory.now
+    let x = told_stopped (g.B.Backend.told c.args.backend.now) (g.B.Backend.told c.loop-entry.backend) (header_of c.args.state.now) c.args.at c.args.left c.args.low c.args.limit c.entries-entries.result.now c.loop-entry.rest.now c.args.directory.now
     c.in-Some-split_first.entry.now c.in-Some-split_first.others.now c.args.met.now c.loop-entry.met c.meet.new.met c.args.met.now (g.B.Backend.reads c.args.backend.now) (g.B.Backend.reads c.loop-entry.backend) (g.B.Backend.reads c.meet.new.backend) _ c.meet.result c.in-Err.error
-    i.3.told i.2 c.in-Some-split_first.ensures.cases.0 refl c.in-Err.is i.1 i.4 c.meet.ensures.answer c.meet.ensures.reads).0
+    i.3.told i.2 c.in-Some-split_first.ensures.cases.0 refl c.in-Err.is i.1 i.4 c.meet.ensures.answer c.meet.ensures.reads in
+    record { answer = x.0; causes = grind (arith, common_steps); made = made_later _ _ _ c.in-Err.error c.loop-entry.invariant.5 c.in-Err.ensures.made; kept = reads_then _ _ _ _ _ _ _ i.3 c.meet.ensures.kept; reads = x.1 }
 
-pub returns-in-Err-clause-reads : goal.returns-in-Err-clause-reads
-returns-in-Err-clause-reads g t c =
+pub returns-in-Err-walk : goal.returns-in-Err-walk
+returns-in-Err-walk g t c =
     let i = c.loop-entry.invariant in
-    (told_stopped (g.B.Backend.told c.args.backend.now) (g.B.Backend.told c.loop-entry.backend) (header_of c.args.state.now) c.args.at c.args.left c.args.low c.args.limit c.entries-entries.result.now c.loop-entry.rest.now c.args.directory.now
-    c.in-Some-split_first.entry.now c.in-Some-split_first.others.now c.args.met.now c.loop-entry.met c.meet.new.met c.args.met.now (g.B.Backend.reads c.args.backend.now) (g.B.Backend.reads c.loop-entry.backend) (g.B.Backend.reads c.meet.new.backend) _ c.meet.result c.in-Err.error
-    i.3.told i.2 c.in-Some-split_first.ensures.cases.0 refl c.in-Err.is i.1 i.4 c.meet.ensures.answer c.meet.ensures.reads).1
-
-pub returns-in-Err-walk-clause-answer : goal.returns-in-Err-walk-clause-answer
-returns-in-Err-walk-clause-answer g t c =
-    let i = c.loop-entry.invariant in
-    (told_stopped_below (g.B.Backend.told c.args.backend.now) (g.B.Backend.told c.loop-entry.backend) (g.B.Backend.told c.meet.new.backend) (header_of c.args.state.now) c.args.at c.args.left c.args.low c.args.limit c.entries-entries.result.now c.loop-entry.rest.now c.args.directory.now
+    let x = told_stopped_below (g.B.Backend.told c.args.backend.now) (g.B.Backend.told c.loop-entry.backend) (g.B.Backend.told c.meet.new.backend) (header_of c.args.state.now) c.args.at c.args.left c.args.low c.args.limit c.entries-entries.result.now c.loop-entry.rest.now c.args.directory.now
     c.in-Some-split_first.entry.now c.in-Some-split_first.others.now c.in-Ok-Some.leaf c.args.met.now c.loop-entry.met c.meet.new.met c.walk.new.met c.args.met.now
     (g.B.Backend.reads c.args.backend.now) (g.B.Backend.reads c.loop-entry.backend) (g.B.Backend.reads c.meet.new.backend) (g.B.Backend.reads c.walk.new.backend) _ _ _ _ _ c.meet.result c.in-Err-walk.error i.2 i.1 record {
       same = i.3.told;
@@ -56,43 +51,15 @@ returns-in-Err-walk-clause-answer g t c =
       one = c.meet.ensures.reads;
       walks = c.in-Err-walk.ensures.answer;
       more = c.in-Err-walk.ensures.reads;
-    }).0
+    } in
+    record { answer = x.0; causes = grind (arith, common_steps); made = made_later _ _ _ c.in-Err-walk.error (omega (arith, c.loop-entry.invariant.5, c.in-Ok-Some.ensures.made)) c.in-Err-walk.ensures.made; kept = reads_then _ _ _ _ _ _ _ (reads_then _ _ _ _ _ _ _ i.3 c.meet.ensures.kept) c.walk.ensures.kept; reads = x.1 }
 
-pub returns-in-Err-walk-clause-reads : goal.returns-in-Err-walk-clause-reads
-returns-in-Err-walk-clause-reads g t c =
+pub returns : goal.returns
+returns g t c =
     let i = c.loop-entry.invariant in
-    (told_stopped_below (g.B.Backend.told c.args.backend.now) (g.B.Backend.told c.loop-entry.backend) (g.B.Backend.told c.meet.new.backend) (header_of c.args.state.now) c.args.at c.args.left c.args.low c.args.limit c.entries-entries.result.now c.loop-entry.rest.now c.args.directory.now
-    c.in-Some-split_first.entry.now c.in-Some-split_first.others.now c.in-Ok-Some.leaf c.args.met.now c.loop-entry.met c.meet.new.met c.walk.new.met c.args.met.now
-    (g.B.Backend.reads c.args.backend.now) (g.B.Backend.reads c.loop-entry.backend) (g.B.Backend.reads c.meet.new.backend) (g.B.Backend.reads c.walk.new.backend) _ _ _ _ _ c.meet.result c.in-Err-walk.error i.2 i.1 record {
-      same = i.3.told;
-      kept = c.meet.ensures.kept.told ∙ i.3.told;
-      first = c.in-Some-split_first.ensures.cases.0;
-      fits = i.0;
-      place = refl;
-      is = c.in-Ok-Some.is ∙ ap (λ o. Ok o) c.in-Ok-Some.field-0-is;
-      deep = subst (λ o. IfSome o (λ x. c.args.left ≢ 0)) c.in-Ok-Some.field-0-is c.in-Ok-Some.ensures.deep;
-      fewer_is = refl;
-      deeper_is = ap (λ o. record { depth = c.args.at.depth + 1; offset = o }) c.offset.ensures;
-      id_is = c.tile_id-id.ensures;
-      end_is = c.end_of-end.ensures;
-      goes = i.4;
-      meets = c.meet.ensures.answer;
-      one = c.meet.ensures.reads;
-      walks = c.in-Err-walk.ensures.answer;
-      more = c.in-Err-walk.ensures.reads;
-    }).1
-
-pub returns-clause-answer : goal.returns-clause-answer
-returns-clause-answer g t c =
-    let i = c.loop-entry.invariant in
-    (told_all_gone (g.B.Backend.told c.args.backend.now) (header_of c.args.state.now) c.args.at c.args.left c.args.low c.args.limit c.entries-entries.result.now c.loop-entry.rest.now c.args.directory.now c.args.met.now c.loop-entry.met
-    (g.B.Backend.reads c.args.backend.now) (g.B.Backend.reads c.loop-entry.backend) i.2 c.in_default-split_first.ensures.cases i.1 i.4).0
-
-pub returns-clause-reads : goal.returns-clause-reads
-returns-clause-reads g t c =
-    let i = c.loop-entry.invariant in
-    (told_all_gone (g.B.Backend.told c.args.backend.now) (header_of c.args.state.now) c.args.at c.args.left c.args.low c.args.limit c.entries-entries.result.now c.loop-entry.rest.now c.args.directory.now c.args.met.now c.loop-entry.met
-    (g.B.Backend.reads c.args.backend.now) (g.B.Backend.reads c.loop-entry.backend) i.2 c.in_default-split_first.ensures.cases i.1 i.4).1
+    let x = told_all_gone (g.B.Backend.told c.args.backend.now) (header_of c.args.state.now) c.args.at c.args.left c.args.low c.args.limit c.entries-entries.result.now c.loop-entry.rest.now c.args.directory.now c.args.met.now c.loop-entry.met
+    (g.B.Backend.reads c.args.backend.now) (g.B.Backend.reads c.loop-entry.backend) i.2 c.in_default-split_first.ensures.cases i.1 i.4 in
+    record { answer = x.0; causes = tt; made = i.5; kept = i.3; reads = x.1 }
 
 pub loop-entry-preserved-in-Ok-None : goal.loop-entry-preserved-in-Ok-None
 loop-entry-preserved-in-Ok-None g t c =
@@ -138,9 +105,3 @@ loop-entry-preserved g t c =
           },
       omega (arith, i.5, c.in-Ok-Some.ensures.made, c.in_default-walk.ensures.made),
     )
-
-pub returns-in-Err-clause-made : goal.returns-in-Err-clause-made
-returns-in-Err-clause-made g t c = made_later _ _ _ c.in-Err.error c.loop-entry.invariant.5 c.in-Err.ensures.made
-
-pub returns-in-Err-walk-clause-made : goal.returns-in-Err-walk-clause-made
-returns-in-Err-walk-clause-made g t c = made_later _ _ _ c.in-Err-walk.error (omega (arith, c.loop-entry.invariant.5, c.in-Ok-Some.ensures.made)) c.in-Err-walk.ensures.made
