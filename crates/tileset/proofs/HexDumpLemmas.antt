@@ -1,5 +1,6 @@
 -- one line of a dump after another
-use Rattle.std.proofs.Common.{◌≡◌, ◌≢◌, ℕ, zero, suc, ◌+◌, ◌*◌, ◌/◌, ◌%◌, ◌^◌, ◌<◌, ◌≤◌, min, List, [], ◌∷◌, ◌++◌, length, take, drop, nat_eq, false, refl, sym, ◌∙◌, ap, arith, length-drop, length-append, append_assoc, append-nil}
+use Rattle.std.proofs.Common.{◌≡◌, ◌≢◌, ℕ, zero, suc, ◌+◌, ◌*◌, ◌/◌, ◌%◌, ◌^◌, ◌<◌, ◌≤◌, min, List, [], ◌∷◌, ◌++◌, length, take, drop, nat_eq, false, refl, sym, ◌∙◌, ap, arith, length-drop, length-append, append_assoc, append-nil, replicate}
+use Rattle.std.proofs.Math.Seq.{take-append-add}
 use Rattle.std.proofs.lemmas.Bool.Decides.{nat_tests}
 use Rattle.std.proofs.lemmas.List.{take_all, drop_all, take-append-le, drop-append-le}
 use Rattle.std.specs.Int.{to_be_bytes, w32}
@@ -111,3 +112,14 @@ near_place at h =
     let c : at / 256 ^ 5 % 256 ≡ 0 = omega (arith, h) in
     let d : at / 256 ^ 4 % 256 ≡ 0 = omega (arith, h) in
     sym (four_zeros (at / 256 ^ 7 % 256) (at / 256 ^ 6 % 256) (at / 256 ^ 5 % 256) (at / 256 ^ 4 % 256) (to_be_bytes w32 at) a b c d)
+
+-- a list of one number, behind some of it
+line_feeds : (n m : ℕ) → n < m → take {A = ℕ} 1 (drop n (replicate m 10)) ≡ 10 ∷ []
+line_feeds zero zero h = absurd (omega arith)
+line_feeds zero (suc m) h = refl
+line_feeds (suc n) zero h = absurd (omega arith)
+line_feeds (suc n) (suc m) h = line_feeds n m (omega arith)
+
+-- digits in front of line feeds, with the first of them
+pub ended : (n : ℕ) (digits : List ℕ) → length digits ≡ n → n < 65 → take (n + 1) (digits ++ drop n (replicate 65 10)) ≡ digits ++ 10 ∷ []
+ended n digits l h = rw (sym l) (take-append-add digits (drop (length digits) (replicate 65 10)) 1 ∙ ap (λ r. digits ++ r) (line_feeds (length digits) 65 (omega (arith, l))))

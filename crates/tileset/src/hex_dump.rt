@@ -1,6 +1,7 @@
 // The lines of an archive's bytes in hexadecimal.
-ghost use Rattle.std.specs.Prelude.{◌≡◌, ◌≤◌, ◌<◌, ◌+◌, ◌*◌, ◌^◌, ◌++◌, length, nat_eq, OnOk};
+ghost use Rattle.std.specs.Prelude.{◌≡◌, ◌≤◌, ◌<◌, ◌+◌, ◌*◌, ◌^◌, ◌++◌, codes, length, nat_eq, take, OnOk};
 ghost use Rattle.std.specs.List.{list_all};
+ghost use Rattle.hex.specs.Hex.{encode_lower};
 ghost use Rattle.tileset.specs.HexDump.{hex_dump, shown_line, hex_line, place_text, trimmed};
 
 use hex_pairs::encode_into;
@@ -27,32 +28,44 @@ fn without_zeros(digits: &[u8]) -> &[u8]
     rest
 }
 
-// Appends a place in hexadecimal, by its sixteen digits without zeros in front.
+// Appends a place in hexadecimal, by its sixteen digits without zeros in front, and a space.
 fn push_far_place(text: &mut Vec<u8>, at: u64) -> Result<(), AllocError>
-    ensures { OnOk result (text.new.items ≡ text.old.items ++ place_text at) }
+    ensures { OnOk result (text.new.items ≡ text.old.items ++ (place_text at ++ codes " ")) }
 {
     let mut digits = [48u8; 16];
     let _ = hex::encode_to_slice(&at.to_be_bytes(), &mut digits);
-    text.extend_from_slice(without_zeros(&digits))
+    text.extend_from_slice(without_zeros(&digits))?;
+    text.push(b' ')?;
+    Ok(())
 }
 
-// The eight digits of a place below 2^32.
-fn near_digits(at: u32) -> [u8; 8]
-    ensures { result ≡ place_text at }
+// The eight digits of a place below 2^32, and a space.
+fn near_place(at: u32) -> [u8; 9]
+    ensures { result ≡ place_text at ++ codes " " }
 {
-    let mut digits = [48u8; 8];
-    encode_into(&at.to_be_bytes(), &mut digits);
+    let mut digits = [b' '; 9];
+    encode_into(&at.to_be_bytes(), &mut digits[..8]);
     digits
 }
 
-// Appends a place in hexadecimal, by at least eight digits.
+// Appends a place in hexadecimal, by at least eight digits, and a space.
 fn push_place(text: &mut Vec<u8>, at: u64) -> Result<(), AllocError>
-    ensures { OnOk result (text.new.items ≡ text.old.items ++ place_text at) }
+    ensures { OnOk result (text.new.items ≡ text.old.items ++ (place_text at ++ codes " ")) }
 {
     match u32::try_from(at) {
-        Ok(near) => text.extend_from_slice(&near_digits(near)),
+        Ok(near) => text.extend_from_slice(&near_place(near)),
         Err(_) => push_far_place(text, at),
     }
+}
+
+// The digits of some bytes, and line feeds behind them.
+fn ended_digits(bytes: &[u8]) -> [u8; 65]
+    requires { length bytes.now ≤ 32 }
+    ensures { take (2 * length bytes.now + 1) result ≡ encode_lower bytes.now ++ codes "\n" }
+{
+    let mut line = [b'\n'; 65];
+    encode_into(bytes, &mut line[..2 * bytes.len()]);
+    line
 }
 
 // Appends the line of some bytes at a place.
@@ -60,13 +73,8 @@ fn push_line(text: &mut Vec<u8>, at: u64, bytes: &[u8]) -> Result<(), AllocError
     requires { length bytes.now ≤ 32 }
     ensures { OnOk result (text.new.items ≡ text.old.items ++ hex_line at bytes.now) }
 {
-    let mut digits = [48u8; 64];
-    encode_into(bytes, &mut digits[..2 * bytes.len()]);
     push_place(text, at)?;
-    text.push(b' ')?;
-    text.extend_from_slice(&digits[..2 * bytes.len()])?;
-    text.push(b'\n')?;
-    Ok(())
+    text.extend_from_slice(&ended_digits(bytes)[..2 * bytes.len() + 1])
 }
 
 fn is_blank(bytes: &[u8]) -> bool

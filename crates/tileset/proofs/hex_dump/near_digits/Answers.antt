@@ -1,7 +1,0 @@
-use Rattle.std.proofs.Common.{ap, ◌∙◌}
-use Rattle.hex.specs.Hex.{encode_lower}
-use Rattle.tileset.proofs.HexDumpLemmas.{near_place}
-use Rattle.tileset.proofs.hex_dump.near_digits.Goals as goal
-
-pub returns : goal.returns
-returns c = c.encode_into.ensures ∙ ap encode_lower c.to_be_bytes.ensures ∙ near_place c.args.at c.ranges.at.fits
