@@ -1,5 +1,7 @@
 -- Tables that are filled with the rows of answers, and those of a set.
-use Rattle.std.proofs.Common.{◌≡◌, Bool, true, false, List, MatchBool, refl, subst, sym}
+use Rattle.std.proofs.Common.{◌≡◌, Bool, true, false, ◌&&◌, List, [], ◌∷◌, ◌++◌, Option, Some, None, MatchBool, MatchOption, is_some, ap, refl, subst, sym, ◌∙◌}
+use Rattle.std.proofs.lemmas.List.Sums.{fold_push}
+use Rattle.mb_store.specs.MemStore.{told_of}
 use Rattle.mb_store.specs.Store.{no_rows}
 use Rattle.mb_tables.specs.Described.{is_table}
 use Rattle.mb_tables.specs.Kind.{tile_table}
@@ -12,7 +14,10 @@ use Rattle.mb_tables.specs.declared.kind.NormalizedSchema.TheVariants.{Hash, Ded
 use Rattle.mb_tables.specs.declared.table.TableName.{TableName}
 use Rattle.mb_tables.specs.declared.table.TableName.TheVariants.{Metadata}
 use Rattle.sqlite_value.specs.Order.{Row}
-use Rattle.mb_reading.specs.Filling.{IsFilled, IsRead, IsSet, content_table, filled, has_contents}
+use Rattle.mb_reading.specs.declared.error.ReadError.{ReadError}
+use Rattle.mb_reading.specs.declared.filling.Filling.{Filling}
+use Rattle.mb_reading.specs.Filling.{Fits, HasTaken, IsFilled, IsFull, IsOdd, IsRead, IsSet, Misfits, Takes, content_table, filled, fits, fits_one, has_contents, may_lack, taken}
+use Rattle.mb_reading.specs.Rows.{row_in}
 
 pub filled_by : (has : Bool) (table : TableName) (old new : Tables) (answers : List Row) → has ≡ true → new ≡ filled table old answers → IsFilled has table old new
 unfolding IsFilled
@@ -67,3 +72,60 @@ is_read layout has_names has contents tiles none names more all empty same is la
 pub is_set : (layout : MbtType) (t : Tables) → IsRead layout t → IsSet t
 unfolding IsSet
 is_set layout t read = (layout, read)
+
+-- what a test says of an optional value
+pub some_by : (o : Option ReadError) → is_some o ≡ true → (e : ReadError) × (o ≡ Some e)
+some_by (Some e) is = (e, refl)
+some_by None is = absurd (let e = is in cc)
+
+pub none_by : (o : Option ReadError) → is_some o ≡ false → o ≡ None
+none_by None is = refl
+none_by (Some e) is = absurd (let e = is in cc)
+
+-- one more answer
+and_true : (b : Bool) → (b && true) ≡ b
+and_true true = refl
+and_true false = refl
+
+and_assoc : (a b c : Bool) → (a && (b && c)) ≡ ((a && b) && c)
+and_assoc true b c = refl
+and_assoc false b c = refl
+
+fits_push : (table : TableName) (t : Tables) (answers : List Row) (answer : Row) → fits table t (answers ++ answer ∷ []) ≡ (fits table t answers && fits_one table (filled table t answers) (row_in table answer))
+fits_push table t [] answer = and_true (fits_one table t (row_in table answer))
+fits_push table t (r ∷ answers) answer = ap (λ b. fits_one table t (row_in table r) && b) (fits_push table (taken table t r) answers answer)
+    ∙ and_assoc (fits_one table t (row_in table r)) (fits table (taken table t r) answers) (fits_one table (filled table (taken table t r) answers) (row_in table answer))
+
+module _ (table : TableName) (answer : Row) (old new : Filling) where
+  pub takes_over : (e : ReadError) → old.refused ≡ Some e → new.refused ≡ old.refused → Takes table answer old new
+  unfolding HasTaken
+  takes_over e was is t answers h =
+      let odd : Misfits table t answers = rw was at h in
+      rw (is, was) (λ may. fits_push table t answers answer ∙ ap (λ b. b && fits_one table (filled table t answers) (row_in table answer)) (odd may))
+
+  pub takes_row : old.refused ≡ None → new.refused ≡ None → told_of new.store ≡ taken table (told_of old.store) answer
+      → (may_lack table ≡ true → fits_one table (told_of old.store) (row_in table answer) ≡ true) → Takes table answer old new
+  unfolding HasTaken
+  takes_row was is took fit t answers h =
+      let before : (told_of old.store ≡ filled table t answers) × Fits table t answers = rw was at h in
+      rw is (
+        took ∙ ap (λ u. taken table u answer) before.0 ∙ sym (fold_push (taken table) t answers answer),
+        λ may. fits_push table t answers answer ∙ ap (λ b. b && fits_one table (filled table t answers) (row_in table answer)) (before.1 may)
+            ∙ ap (λ u. fits_one table u (row_in table answer)) (sym before.0) ∙ fit may,
+      )
+
+  pub takes_odd : (e : ReadError) → old.refused ≡ None → new.refused ≡ Some e → (may_lack table ≡ true → fits_one table (told_of old.store) (row_in table answer) ≡ false) → Takes table answer old new
+  unfolding HasTaken
+  takes_odd e was is odd t answers h =
+      let before : (told_of old.store ≡ filled table t answers) × Fits table t answers = rw was at h in
+      rw is (λ may. fits_push table t answers answer ∙ ap (λ b. b && fits_one table (filled table t answers) (row_in table answer)) (before.1 may)
+      ∙ ap (λ u. fits_one table u (row_in table answer)) (sym before.0) ∙ odd may)
+
+module _ (table : TableName) (f : Filling) where
+  pub full_store : f.refused ≡ None → IsFull table f f.store
+  unfolding HasTaken
+  full_store is t answers h = rw is at h
+
+  pub odd_answers : (e : ReadError) → f.refused ≡ Some e → may_lack table ≡ true → IsOdd table f
+  unfolding HasTaken
+  odd_answers e is may t answers h = (may, (rw is at h) may)

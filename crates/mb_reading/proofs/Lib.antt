@@ -1,4 +1,7 @@
 mod AskLemmas
 mod CellLemmas
+mod DiskLemmas
 mod FillLemmas
 mod MasterLemmas
+mod ReadLemmas
+mod TextLemmas

@@ -1,8 +1,14 @@
--- The questions by which a set is read, one after another in a transaction, and what comes of their answers.
-use Rattle.std.specs.Prelude.{ℕ, ◌≡◌, ◌⊎◌, Bool, true, List, [], MatchBool}
+-- The questions by which a set is read, all of one state of a database, and what comes of their answers.
+use Rattle.std.specs.Prelude.{ℕ, ◌≡◌, ◌⊎◌, Bool, true, false, List, [], Ok, Err, None, IsTrue, MatchBool}
 use Rattle.sqlite.specs.Held.{Held, state}
-use Rattle.sqlite.specs.State.{Shown, Survives}
+use Rattle.sqlite.specs.Listing.{understood}
+use Rattle.sqlite.specs.Schema.{Schema}
+use Rattle.sqlite.specs.State.{State, IsUnchanged, Shown, Survives}
 use Rattle.sqlite.specs.Store.{Ghosts}
+use Rattle.sqlite.specs.declared.error.Error.{Error}
+use Rattle.sqlite.specs.declared.error.Error.TheVariants.{SqlInputError}
+use Rattle.sqlite_resolve.specs.declared.compiled.Compiled.{Compiled}
+use Rattle.sqlite_resolve.specs.declared.error.CompileError.{CompileError}
 use Rattle.sqlite_value.specs.Order.{Row}
 use Rattle.mb_store.specs.Store.{no_rows}
 use Rattle.mb_tables.specs.Kind.{tile_table}
@@ -12,39 +18,63 @@ use Rattle.mb_tables.specs.declared.kind.MbtType.{MbtType}
 use Rattle.mb_tables.specs.declared.kind.MbtType.TheVariants.{Flat}
 use Rattle.mb_tables.specs.declared.table.TableName.{TableName}
 use Rattle.mb_tables.specs.declared.table.TableName.TheVariants.{Metadata, Tiles}
-use Rattle.mb_reading.specs.Filling.{content_table, filled, has_contents}
+use Rattle.mb_reading.specs.Filling.{Fits, content_table, filled, fits, has_contents, may_lack}
 use Rattle.mb_reading.specs.Master.{first_layout, is_there}
 use Rattle.mb_reading.specs.Texts.{master_text, rows_text}
 
-module _ {S : Type 0} (g : Ghosts S) where
-  -- nothing is committed: a crash leaves what it could leave before
-  abbrev pub CommitsNothing : Held S → Held S → Type 0
-  CommitsNothing old new = Survives (state g old) (state g new) (λ _. ⊥)
+-- nothing is committed: a crash leaves what it could leave before
+abbrev pub CommitsNothing : {S : Type 0} → Ghosts S → Held S → Held S → Type 0
+CommitsNothing g old new = Survives (state g old) (state g new) (λ _. ⊥)
 
-  -- the database shows these rows to a text
-  abbrev pub Shows : List ℕ → Held S → Held S → List Row → Type 0
-  Shows text old new rows = Shown text [] (state g old) (state g new) rows
+-- a database is as it was, and so is a connection that is open
+pub record Stays (old new : State) : Type 0 where
+  pub now : new.now ≡ old.now
+  pub same : IsTrue new.is_open → IsUnchanged old new
 
-  -- a table is filled with the rows that the database shows to its statement; or it isn't asked for
-  unfoldable pub ReadsTable : Bool → TableName → Held S → Held S → Tables → Tables → Type 0
-  ReadsTable has table old new t u = MatchBool has ((rows : List Row) × Shows (rows_text table) old new rows × (u ≡ filled table t rows)) ((new ≡ old) × (u ≡ t))
+-- the text asks for rows and writes none, whatever the schema
+abbrev pub OnlyAsks : List ℕ → Type 0
+OnlyAsks text = (schema : Schema) (c : Compiled) → understood schema text ≡ Ok c → c.returning ≡ None
 
-  -- the metadata, if there is one, the contents, if the layout has a table of them, and the tiles are read one after another
-  unfoldable pub ReadsLayout : MbtType → Bool → Held S → Held S → Tables → Type 0
-  ReadsLayout layout has_names old new t =
-      (b : Held S) × (c : Held S) × (names : Tables) × (contents : Tables) × ReadsTable has_names Metadata old b (no_rows (set_tables layout)) names
-      × ReadsTable (has_contents layout) (content_table layout) b c names contents × ReadsTable true (tile_table layout) c new contents t
+-- a database in this state shows these rows to a text
+abbrev pub Shows : List ℕ → State → List Row → Type 0
+Shows text s rows = Shown text [] s s rows
 
-  -- a set is read in a layout, or flat behind questions that came to no set of that layout
-  unfoldable pub ReadsEither : MbtType → Bool → Held S → Held S → Tables → Type 0
-  ReadsEither layout has_names old new t = ReadsLayout layout has_names old new t ⊎ (mid : Held S) × CommitsNothing old mid × ReadsLayout Flat has_names mid new t
+-- a refusal of a text itself leaves all as it was
+abbrev pub Refuses : List ℕ → State → State → Error → Type 0
+Refuses text old new e = (fault : CompileError) → e ≡ SqlInputError fault → (understood old.now.schema text ≡ Err fault) × IsUnchanged old new
 
-  -- something is named `tiles`, and a set is read in the layout of its tables, or flat
-  unfoldable pub ReadsSet : Held S → Held S → Tables → Type 0
-  ReadsSet old new t =
-      (master : List Row) × (mid : Held S) × Shows master_text old mid master × (is_there master Tiles ≡ true)
-      × ReadsEither (first_layout master) (is_there master Metadata) mid new t
+-- whether it is one
+abbrev pub is_input : Error → Bool
+is_input (SqlInputError fault) = true
+is_input _ = false
 
--- in a transaction that is begun on a connection
-abbrev pub Within : {S : Type 0} → Held S → (Held S → Held S → Type 0) → Type 0
-Within {S} old P = (seen : Held S) × P (record old { in_transaction = true }) seen
+-- a table is filled with the rows that the database shows to its statement; or it isn't asked for
+unfoldable pub ReadsTable : Bool → TableName → State → Tables → Tables → Type 0
+ReadsTable has table s t u = MatchBool has ((rows : List Row) × Shows (rows_text table) s rows × (u ≡ filled table t rows) × Fits table t rows) (u ≡ t)
+
+-- a table is none of its layout: its statement isn't understood, or an answer has a value that no set has there, or a key twice
+unfoldable pub IsUnfit : Bool → TableName → State → Tables → Type 0
+IsUnfit has table s t =
+    (has ≡ true) × (may_lack table ≡ true)
+    × (((fault : CompileError) × (understood s.now.schema (rows_text table) ≡ Err fault)) ⊎ ((rows : List Row) × Shows (rows_text table) s rows × (fits table t rows ≡ false)))
+
+-- the metadata, if there is one, the contents, if the layout has a table of them, and the tiles are read
+unfoldable pub ReadsLayout : MbtType → Bool → State → Tables → Type 0
+ReadsLayout layout has_names s t =
+    (names : Tables) × (contents : Tables) × ReadsTable has_names Metadata s (no_rows (set_tables layout)) names
+    × ReadsTable (has_contents layout) (content_table layout) s names contents × ReadsTable true (tile_table layout) s contents t
+
+-- the table of contents, or that of tiles, is none of the layout
+unfoldable pub LacksLayout : MbtType → Bool → State → Type 0
+LacksLayout layout has_names s =
+    (names : Tables) × ReadsTable has_names Metadata s (no_rows (set_tables layout)) names
+    × (IsUnfit (has_contents layout) (content_table layout) s names
+    ⊎ ((contents : Tables) × ReadsTable (has_contents layout) (content_table layout) s names contents × IsUnfit true (tile_table layout) s contents))
+
+-- a set is read in a layout, or flat where a table is none of that layout
+unfoldable pub ReadsEither : MbtType → Bool → State → Tables → Type 0
+ReadsEither layout has_names s t = ReadsLayout layout has_names s t ⊎ LacksLayout layout has_names s × ReadsLayout Flat has_names s t
+
+-- something is named `tiles`, and a set is read in the layout of its tables, or flat
+unfoldable pub ReadsSet : State → Tables → Type 0
+ReadsSet s t = (master : List Row) × Shows master_text s master × (is_there master Tiles ≡ true) × ReadsEither (first_layout master) (is_there master Metadata) s t

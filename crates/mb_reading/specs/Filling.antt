@@ -1,6 +1,6 @@
 -- What answers of a file leave in a store.
-use Rattle.std.specs.Prelude.{◌≡◌, Bool, true, false, cond, List, Option, Some, None, fold, MatchBool}
-use Rattle.mb_store.specs.MemStore.{IsSteady, faults_of}
+use Rattle.std.specs.Prelude.{◌≡◌, Bool, true, false, not, ◌&&◌, ◌++◌, cond, List, [], ◌∷◌, Option, Some, None, fold, MatchBool, MatchOption}
+use Rattle.mb_store.specs.MemStore.{IsSteady, faults_of, told_of}
 use Rattle.mb_store.specs.Store.{is_duplicate, no_rows, with_row}
 use Rattle.mb_store.specs.declared.mem_store.MemStore.{MemStore}
 use Rattle.mb_tables.specs.Kind.{contents_of, tile_table}
@@ -10,7 +10,10 @@ use Rattle.mb_tables.specs.declared.cell.Cell.{Cell}
 use Rattle.mb_tables.specs.declared.kind.MbtType.{MbtType}
 use Rattle.mb_tables.specs.declared.kind.MbtType.TheVariants.{Normalized}
 use Rattle.mb_tables.specs.declared.table.TableName.{TableName}
-use Rattle.mb_tables.specs.declared.table.TableName.TheVariants.{Images, Metadata}
+use Rattle.mb_tables.specs.declared.table.TableName.TheVariants.{Images, Metadata, Tiles}
+use Rattle.mb_reading.specs.declared.filling.Filling.{Filling}
+use Rattle.mb_reading.specs.declared.filling.Step.{Step}
+use Rattle.mb_reading.specs.declared.filling.Step.TheVariants.{Added, Outside, Repeated, Odd}
 use Rattle.sqlite_value.specs.Order.{Row}
 use Rattle.mb_reading.specs.Rows.{is_placed, row_in}
 
@@ -34,6 +37,53 @@ taken table t answer = with_read table t (row_in table answer)
 -- with the rows of answers, the first of each key
 abbrev pub filled : TableName → Tables → List Row → Tables
 filled table t answers = fold (taken table) t answers
+
+-- the tables of whose own layout a set may be none: `tiles` is read of any set, and a row of the metadata may be left out
+abbrev pub may_lack : TableName → Bool
+may_lack Tiles = false
+may_lack Metadata = false
+may_lack _ = true
+
+-- an answer is a row of its table, which has none of its key yet, or one without a place
+abbrev pub fits_one : TableName → Tables → Option (List Cell) → Bool
+fits_one table t None = false
+fits_one table t (Some row) = not (is_placed table row && is_duplicate t table row)
+
+-- each answer is a row of its table, and none with a place has a key of an earlier one
+abbrev pub fits : TableName → Tables → List Row → Bool
+fits table t [] = true
+fits table t (answer ∷ answers) = fits_one table t (row_in table answer) && fits table (taken table t answer) answers
+
+-- nothing is left out of a table of a layout but rows without a place
+abbrev pub Fits : TableName → Tables → List Row → Type 0
+Fits table t answers = may_lack table ≡ true → fits table t answers ≡ true
+
+-- an answer is no row of a table of a layout, or has a key twice
+abbrev pub Misfits : TableName → Tables → List Row → Type 0
+Misfits table t answers = may_lack table ≡ true → fits table t answers ≡ false
+
+-- the answers were taken one after another: their rows are in the store, or one of them was refused
+unfoldable pub HasTaken : TableName → Tables → List Row → Filling → Type 0
+HasTaken table t answers f = MatchOption f.refused ((told_of f.store ≡ filled table t answers) × Fits table t answers) (λ _. Misfits table t answers)
+
+-- one more answer is taken
+abbrev pub Takes : TableName → Row → Filling → Filling → Type 0
+Takes table answer old new = (t : Tables) (answers : List Row) → HasTaken table t answers old → HasTaken table t (answers ++ answer ∷ []) new
+
+-- a store has the rows of all answers that were taken
+abbrev pub IsFull : TableName → Filling → MemStore → Type 0
+IsFull table f s = (t : Tables) (answers : List Row) → HasTaken table t answers f → (told_of s ≡ filled table t answers) × Fits table t answers
+
+-- the answers that were taken aren't those of a table that a set may lack
+abbrev pub IsOdd : TableName → Filling → Type 0
+IsOdd table f = (t : Tables) (answers : List Row) → HasTaken table t answers f → (may_lack table ≡ true) × (fits table t answers ≡ false)
+
+-- whether an answer of which this became is a row of its table, with a key of its own
+abbrev pub is_fit : Step → Bool
+is_fit Added = true
+is_fit Outside = true
+is_fit Repeated = false
+is_fit Odd = false
 
 -- a table is filled with the rows of some answers, where it is to be; else the tables stand
 unfoldable pub IsFilled : Bool → TableName → Tables → Tables → Type 0

@@ -4,3 +4,5 @@ pub mod Texts
 pub mod Filling
 pub mod Master
 pub mod Asking
+pub mod ReadOnly
+pub mod DiskFile

@@ -1,12 +1,19 @@
-// Questions to the database inside a transaction.
-ghost use Rattle.std.specs.Prelude.{◌≡◌, IfOk};
+// Questions to a database, whose answers come all at once, or one after another into a store.
+ghost use Rattle.std.specs.Prelude.{◌≡◌, true, List, IfErr, IfOk, OnOk};
 ghost use Rattle.sqlite.specs.Held.{state};
-ghost use Rattle.sqlite.specs.State.{HasCleanDisk};
-ghost use Rattle.mb_reading.specs.Asking.{CommitsNothing, Shows};
+ghost use Rattle.sqlite.specs.State.{HasCleanDisk, IsUnchanged};
+ghost use Rattle.sqlite_value.specs.Order.{Row};
+ghost use Rattle.mb_store.specs.MemStore.{told_of};
+ghost use Rattle.mb_tables.specs.Described.{is_table};
+ghost use Rattle.mb_reading.specs.Asking.{CommitsNothing, OnlyAsks, Refuses, Shows};
+ghost use Rattle.mb_reading.specs.Filling.{HasTaken, NeverFails};
 
 use crate::ReadError;
+use crate::filling::Filling;
+use mb_store::MemStore;
 use mb_tables::TableName;
-use sqlite::{Alter, Error, ErrorCode, Transaction};
+use sqlite::{Alter, Connection, Error, ErrorCode};
+use std::alloc::Global;
 
 // What a refusal of the database comes to.
 pub(crate) fn refusal(table: TableName, cause: Error) -> ReadError {
@@ -17,15 +24,56 @@ pub(crate) fn refusal(table: TableName, cause: Error) -> ReadError {
 }
 
 // All rows that a text asks for.
+#[tactic(auto, using(crate::proofs::AskLemmas::asked))]
 pub(crate) fn ask<S: Alter>(
-    transaction: &mut Transaction<'_, S>,
+    connection: &mut Connection<S>,
     text: &str,
 ) -> Result<Vec<sqlite::Row>, Error>
-    ensures same_reference { transaction.new.conn.ghost_name ≡ transaction.old.conn.ghost_name }
-    ensures survives { CommitsNothing S.Store transaction.old.conn.now transaction.new.conn.now }
-    ensures shown { HasCleanDisk (state S.Store transaction.new.conn.now) → IfOk result
-        (λ rows. Shows S.Store text.now transaction.old.conn.now transaction.new.conn.now
-        rows.items) }
+    requires { OnlyAsks text.now }
+    ensures survives { CommitsNothing S.Store connection.old connection.new }
+    ensures same { HasCleanDisk (state S.Store connection.new) → OnOk result
+        (IsUnchanged (state S.Store connection.old) (state S.Store connection.new)) }
+    ensures shown { HasCleanDisk (state S.Store connection.new) → IfOk result
+        (λ rows. Shows text.now (state S.Store connection.old) rows.items) }
 {
-    transaction.query_all(text, &[])
+    connection.query_all(text, &[])
+}
+
+// Takes the rows that a text asks for, each before the next one is read.
+pub(crate) fn take_rows<S: Alter>(
+    alloc: Global,
+    connection: &mut Connection<S>,
+    text: &str,
+    table: TableName,
+    store: MemStore,
+) -> Result<Filling, Error>
+    requires asks { OnlyAsks text.now }
+    requires described { is_table (told_of store).descriptions table ≡ true }
+    requires unfailing { NeverFails store }
+    ensures survives { CommitsNothing S.Store connection.old connection.new }
+    ensures same { HasCleanDisk (state S.Store connection.new) → OnOk result
+        (IsUnchanged (state S.Store connection.old) (state S.Store connection.new)) }
+    ensures refuses { HasCleanDisk (state S.Store connection.new) → IfErr result
+        (Refuses text.now (state S.Store connection.old) (state S.Store connection.new)) }
+    ensures shown { HasCleanDisk (state S.Store connection.new) → IfOk result
+        (λ full. (rows : List Row) × Shows text.now (state S.Store connection.old) rows
+        × HasTaken table (told_of store) rows full) }
+    ensures taken { IfOk result
+        (λ full. (rows : List Row) × HasTaken table (told_of store) rows full) }
+    ensures described { IfOk result
+        (λ full. (told_of full.store).descriptions ≡ (told_of store).descriptions) }
+    ensures unfailing { IfOk result (λ full. NeverFails full.store) }
+{
+    let mut filling = Filling::new(store);
+    let mut rows = connection.query(text, &[])?;
+    'rows: for _ in 0..u64::MAX {
+        rows.advance()?;
+        let Some(answer) = rows.get() else {
+            return Ok(filling);
+        };
+        if filling.take(alloc, table, answer).is_err() {
+            break 'rows;
+        }
+    }
+    Err(Error::SqliteFailure(ErrorCode::OutOfMemory))
 }

@@ -1,63 +1,31 @@
-// A file that is opened for reading alone. It and the log beside it are copied into memory, and the database is opened over the copies.
+// A file that is opened for reading alone. The database is read where it lies; the log beside it is copied into memory, since opening a database may write the log.
 ghost use Rattle.std.specs.Prelude.{IfOk};
 ghost use Rattle.mb_store.specs.MemStore.{told_of};
 ghost use Rattle.mb_reading.specs.Filling.{IsSet, NeverFails};
 
+use crate::disk_file::DiskFile;
+use crate::read_only::ReadOnly;
+use crate::stamps::{Paths, Stamp, Stamps, stamps_of, test_journal, test_still};
 use crate::{ReadError, read_set};
 use mb_store::MemStore;
 use sqlite::{Connection, Error, ErrorCode, FileStore, Files, Options};
 use sqlite_disk::{Disk, Memory};
 use std::alloc::Global;
-use std::fs;
 use std::fs::File;
+use std::hash::{BuildHasher, RandomState};
 use std::io::{ErrorKind, Read};
-use std::os::unix::fs::MetadataExt;
+use std::os::unix::fs::FileExt;
 
-// How many bytes are copied at once.
-const PIECE: usize = 65_536;
+// A shorter file is copied into memory: opening an empty file, or one that SQLite has just begun, writes it.
+const LEAST_ON_DISK: u64 = 65_536;
 
-// What tells two states of a file apart: its length, and when it was last changed.
-#[derive(Clone, Copy, Debug, PartialEq, Eq)]
-struct Stamp {
-    length: u64,
-    seconds: i64,
-    nanoseconds: i64,
-}
+// How many bytes of pages that were read are kept in memory.
+const CACHE: usize = 8_388_608;
 
-// The state of a regular file, None where there is no such file.
-fn stamp_of(rt: &HostRuntime, path: &str) -> Option<Stamp> {
-    let Ok(found) = fs::metadata(rt, path) else {
-        return None;
-    };
-    if !found.is_file() {
-        return None;
-    }
-    Some(Stamp {
-        length: found.len(),
-        seconds: found.mtime(),
-        nanoseconds: found.mtime_nsec(),
-    })
-}
+// A file as `sqlite` reads it, and its log.
+type FilesToRead = Files<DiskFile<Memory>>;
 
-// A path with letters behind it.
-fn beside(alloc: Global, path: &str, letters: &str) -> Result<String, ReadError> {
-    let mut name = String::from_str(alloc, path)?;
-    name.push_str(letters)?;
-    Ok(name)
-}
-
-// Makes room for a file in memory.
-fn make_room(memory: &mut Memory, length: u64) -> Result<(), ReadError> {
-    if !memory.may_be_used() {
-        return Err(ReadError::OutOfMemory);
-    }
-    match memory.set_len(length as usize) {
-        Ok(()) => Ok(()),
-        Err(_) => Err(ReadError::OutOfMemory),
-    }
-}
-
-// Puts a piece into a file in memory.
+// Puts bytes into a file in memory.
 fn put(memory: &mut Memory, at: usize, piece: &[u8]) -> Result<(), ReadError> {
     if !memory.may_be_used() {
         return Err(ReadError::OutOfMemory);
@@ -68,33 +36,44 @@ fn put(memory: &mut Memory, at: usize, piece: &[u8]) -> Result<(), ReadError> {
     }
 }
 
-// A copy of a file in memory, which has room for its length from the start.
-fn copy(alloc: Global, file: &mut File, length: u64) -> Result<Memory, ReadError> {
-    let mut memory = Memory::new(alloc);
-    make_room(&mut memory, length)?;
-    let mut piece = [0u8; PIECE];
-    let mut at = 0usize;
-    for _ in 0..u64::MAX {
-        match file.read(&mut piece) {
-            Ok(0) => break,
-            Ok(count) => {
-                put(&mut memory, at, &piece[..count])?;
-                at = at.saturating_add(count);
-            }
-            Err(error) => {
-                if error.kind() != ErrorKind::Interrupted {
-                    return Err(ReadError::Unread);
-                }
-            }
-        }
+// The bytes of a file as a disk in memory.
+fn copy(alloc: Global, file: &mut File, length: u64) -> Result<DiskFile<Memory>, ReadError> {
+    let mut held = Vec::with_capacity(alloc, length as usize)?;
+    match file.read_to_end(&mut held) {
+        Ok(_) => {}
+        Err(error) if error.kind() == ErrorKind::OutOfMemory => return Err(ReadError::OutOfMemory),
+        Err(_) => return Err(ReadError::Unread),
     }
-    Ok(memory)
+    let mut memory = Memory::new(alloc);
+    put(&mut memory, 0, held.as_slice())?;
+    Ok(DiskFile::InMemory(memory))
 }
 
-// A copy of the log, empty where there is none.
-fn copy_log(rt: &HostRuntime, path: &str, stamp: Option<Stamp>) -> Result<Memory, ReadError> {
+// A file to read, whose digests are taken under a key, and how many pages are to be kept of it. A short one is copied into memory.
+fn db_of(
+    rt: &HostRuntime,
+    path: &str,
+    stamp: Stamp,
+    key: u64,
+) -> Result<(DiskFile<Memory>, usize), ReadError> {
+    let Ok(mut file) = File::open(rt, path) else {
+        return Err(ReadError::Unread);
+    };
+    let pages = cache_pages(&file);
+    if stamp.length >= LEAST_ON_DISK {
+        return Ok((DiskFile::OnDisk(ReadOnly::new(file, key)), pages));
+    }
+    Ok((copy(rt.alloc(), &mut file, stamp.length)?, pages))
+}
+
+// The log, without bytes where there is none.
+fn log_of(
+    rt: &HostRuntime,
+    path: &str,
+    stamp: Option<Stamp>,
+) -> Result<DiskFile<Memory>, ReadError> {
     let Some(stamp) = stamp else {
-        return Ok(Memory::new(rt.alloc()));
+        return Ok(DiskFile::InMemory(Memory::new(rt.alloc())));
     };
     match File::open(rt, path) {
         Ok(mut file) => copy(rt.alloc(), &mut file, stamp.length),
@@ -102,62 +81,80 @@ fn copy_log(rt: &HostRuntime, path: &str, stamp: Option<Stamp>) -> Result<Memory
     }
 }
 
-// The test that no rollback journal stands at a path: one that is empty or begins with a zero has nothing to play back.
-fn test_journal(rt: &HostRuntime, path: &str) -> Result<(), ReadError> {
-    let Ok(mut journal) = File::open(rt, path) else {
-        return Ok(());
+// How many pages the cache has room for, by the page size that a file's header names, where 1 is 65,536.
+fn cache_pages(file: &File) -> usize {
+    let mut field = [0u8; 2];
+    let named = match file.read_at(&mut field, 16) {
+        Ok(2) => u16::from_be_bytes(field) as usize,
+        _ => 1,
     };
-    let mut first = [0u8; 1];
-    match journal.read(&mut first) {
-        Ok(1) if first[0] != 0 => Err(ReadError::Unfinished),
-        _ => Ok(()),
+    if named < 512 {
+        CACHE / 65_536
+    } else {
+        CACHE / named
     }
 }
 
-// Copies of a file and of the log beside it, of which neither changed meanwhile, and beside which no rollback journal stood before or after.
-fn copies(rt: &HostRuntime, path: &str) -> Result<Files<Memory>, ReadError> {
-    let alloc = rt.alloc();
-    let log_path = beside(alloc, path, "-wal")?;
-    let journal_path = beside(alloc, path, "-journal")?;
-    let (stamp, log_stamp) = (stamp_of(rt, path), stamp_of(rt, log_path.as_str()));
-    let Some(before) = stamp else {
+// A file and its log, under a key of digests that is drawn at random, and how many pages are to be kept of it.
+fn files_to_read(
+    rt: &HostRuntime,
+    paths: &Paths,
+    before: Stamps,
+) -> Result<(FilesToRead, usize), ReadError> {
+    let Some(stamp) = before.file else {
         return Err(ReadError::Unread);
     };
-    let Ok(mut file) = File::open(rt, path) else {
+    let Ok(random) = RandomState::new(rt) else {
         return Err(ReadError::Unread);
     };
-    test_journal(rt, journal_path.as_str())?;
-    let db = copy(alloc, &mut file, before.length)?;
-    let log = copy_log(rt, log_path.as_str(), log_stamp)?;
-    if stamp_of(rt, path) != stamp || stamp_of(rt, log_path.as_str()) != log_stamp {
-        return Err(ReadError::Changed);
-    }
-    test_journal(rt, journal_path.as_str())?;
-    Ok(Files { log, db })
+    let (db, pages) = db_of(rt, paths.file.as_str(), stamp, random.hash_one(&0u8))?;
+    test_journal(rt, paths)?;
+    let log = log_of(rt, paths.log.as_str(), before.log)?;
+    Ok((Files { log, db }, pages))
 }
 
-// A connection over files in memory.
-fn open(alloc: Global, files: Files<Memory>) -> Result<Connection<FileStore<Memory>>, ReadError> {
+// A connection over a file and its log.
+fn open(
+    alloc: Global,
+    files: FilesToRead,
+    cache_pages: usize,
+) -> Result<Connection<FileStore<DiskFile<Memory>>>, ReadError> {
     if !files.log.may_be_used() || !files.db.may_be_used() {
         return Err(ReadError::OutOfMemory);
     }
-    match Connection::open_files(alloc, files, Options::new(0)) {
+    let options = Options {
+        cache_pages,
+        ..Options::new(0)
+    };
+    match Connection::open_files(alloc, files, options) {
         Ok(connection) => Ok(connection),
         Err((Error::SqliteFailure(ErrorCode::OutOfMemory), _)) => Err(ReadError::OutOfMemory),
         Err((error, _)) => Err(ReadError::Unopened(error)),
     }
 }
 
-/// Reads the set of a file into a store in memory. The file is opened for reading alone, and nothing is written beside it: it and the log of
-/// SQLite beside it are copied into memory, without a lock, and the database is opened over the copies.
+// Reads the set of a file and its log, whether or not they change meanwhile.
+fn read_files(alloc: Global, files: FilesToRead, cache_pages: usize) -> Result<MemStore, ReadError>
+    ensures told { IfOk result (λ store. IsSet (told_of store)) }
+    ensures unfailing { IfOk result NeverFails }
+{
+    let mut connection = open(alloc, files, cache_pages)?;
+    read_set(alloc, &mut connection)
+}
+
+/// Reads the set of a file into a store in memory. The file is opened for reading alone, and nothing is written to it or beside it: the database is read where it lies, without a lock, and the log of
+/// SQLite beside it is copied into memory.
 ///
-/// `Unread` where the file is missing, isn't a regular one or can't be read, `Unfinished` where a rollback journal stands beside it, `Changed` where it is another file after it was copied than before, `Unopened` with the cause where it is
-/// no database that is understood; and the refusals of `read_set`.
+/// `Unread` where the file is missing, isn't a regular one or can't be read, `Unfinished` where a rollback journal stands beside it before or after, `Changed` where the file or its log is another one after the
+/// reading than before, `Unopened` with the cause where it is no database that is understood; and the refusals of `read_set`. A file that changed is told as `Changed`, whatever else was met.
 pub fn read_file(rt: &HostRuntime, path: &str) -> Result<MemStore, ReadError>
     ensures told { IfOk result (λ store. IsSet (told_of store)) }
     ensures unfailing { IfOk result NeverFails }
 {
-    let files = copies(rt, path)?;
-    let mut connection = open(rt.alloc(), files)?;
-    read_set(rt.alloc(), &mut connection)
+    let paths = Paths::new(rt.alloc(), path)?;
+    let before = stamps_of(rt, &paths)?;
+    let (files, pages) = files_to_read(rt, &paths, before)?;
+    let answer = read_files(rt.alloc(), files, pages);
+    test_still(rt, &paths, before)?;
+    answer
 }

@@ -1,13 +1,17 @@
 // Rows of a file that go into a store, one answer after another.
-ghost use Rattle.std.specs.Prelude.{◌≡◌, true, length, IfOk, IfSome};
+ghost use Rattle.std.specs.Prelude.{◌≡◌, true, false, not, [], length, IfOk, IfSome, IfNone, OnOk, OnErr};
 ghost use Rattle.mb_store.specs.MemStore.{told_of};
+ghost use Rattle.mb_store.specs.Store.{is_duplicate};
 ghost use Rattle.mb_tables.specs.Described.{is_table};
 ghost use Rattle.mb_tables.specs.Table.{width};
-ghost use Rattle.mb_reading.specs.Filling.{NeverFails, filled, taken, with_new};
+ghost use Rattle.mb_tables.specs.declared.table.TableName.{TableName};
+ghost use Rattle.mb_reading.specs.Filling.{HasTaken, IsFull, IsOdd, NeverFails, Takes, fits_one, is_fit, may_lack, taken, with_new};
+ghost use Rattle.mb_reading.specs.Rows.{row_in};
 
 use crate::rows::{is_placed, row_of};
 use crate::value_kind::kind_of;
 use crate::{ReadError, ValueKind};
+use base_values::OutOfMemory;
 use mb_lists::coord_of;
 use mb_store::{MbtError, MemStore, TileStore};
 use mb_tables::{Row, RowKey, TableName};
@@ -28,18 +32,19 @@ enum Step {
 }
 
 // Adds a row, where the table has none of its key, and says whether it had none.
-fn push(store: &mut MemStore, table: TableName, row: Row) -> Result<bool, ReadError>
+fn push(store: &mut MemStore, table: TableName, row: Row) -> Result<bool, OutOfMemory>
     requires described { is_table (told_of store.old).descriptions table ≡ true }
     requires wide { length row ≡ width table }
-    ensures told { IfOk result
-        (λ _. told_of store.new ≡ with_new table row (told_of store.old)) }
+    ensures told { OnOk result (told_of store.new ≡ with_new table row (told_of store.old)) }
+    ensures new { IfOk result
+        (λ is_new. is_new ≡ not (is_duplicate (told_of store.old) table row)) }
     ensures described { (told_of store.new).descriptions ≡ (told_of store.old).descriptions }
     ensures unfailing { NeverFails store.old → NeverFails store.new }
 {
     match store.push_row(table, row) {
         Ok(()) => Ok(true),
         Err(MbtError::DuplicateRow(_)) => Ok(false),
-        Err(_) => Err(ReadError::OutOfMemory),
+        Err(_) => Err(OutOfMemory),
     }
 }
 
@@ -49,10 +54,11 @@ fn take_answer(
     store: &mut MemStore,
     table: TableName,
     answer: &sqlite::Row,
-) -> Result<Step, ReadError>
+) -> Result<Step, OutOfMemory>
     requires { is_table (told_of store.old).descriptions table ≡ true }
-    ensures told { IfOk result
-        (λ _. told_of store.new ≡ taken table (told_of store.old) answer.now) }
+    ensures told { OnOk result (told_of store.new ≡ taken table (told_of store.old) answer.now) }
+    ensures fits { IfOk result
+        (λ step. is_fit step ≡ fits_one table (told_of store.old) (row_in table answer.now)) }
     ensures described { (told_of store.new).descriptions ≡ (told_of store.old).descriptions }
     ensures unfailing { NeverFails store.old → NeverFails store.new }
 {
@@ -120,6 +126,8 @@ fn test_step(
     answer: &sqlite::Row,
     step: Step,
 ) -> Result<(), ReadError>
+    ensures fits { OnOk result (may_lack table ≡ true → is_fit step ≡ true) }
+    ensures odd { OnErr result (may_lack table ≡ true → is_fit step ≡ false) }
     ensures told { told_of store.new ≡ told_of store.old }
     ensures unfailing { NeverFails store.old → NeverFails store.new }
 {
@@ -135,31 +143,57 @@ fn test_step(
     }
 }
 
-// Fills a table with the rows of answers, which are let go one by one.
-fn fill(
-    alloc: Global,
+// A store whose table takes answers one after another.
+#[derive(Drop)]
+pub(crate) struct Filling {
     store: MemStore,
-    table: TableName,
-    answers: Vec<sqlite::Row>,
-) -> Result<MemStore, ReadError>
-    requires described { is_table (told_of store).descriptions table ≡ true }
-    requires unfailing { NeverFails store }
-    ensures told { IfOk result
-        (λ full. told_of full ≡ filled table (told_of store) answers.items) }
-    ensures described { IfOk result
-        (λ full. (told_of full).descriptions ≡ (told_of store).descriptions) }
-    ensures unfailing { IfOk result NeverFails }
-{
-    let mut store = store;
-    for answer in answers {
-        let step = take_answer(alloc, &mut store, table, &answer)?;
-        test_step(alloc, &mut store, table, &answer, step)?;
+    // Whether there was an answer.
+    any: bool,
+    // The first refusal. Answers behind it are passed over.
+    refused: Option<ReadError>,
+}
+
+impl Filling {
+    // A store before the first answer.
+    #[tactic(auto, unfolding(crate::specs::Filling::HasTaken))]
+    pub(crate) fn new(store: MemStore) -> Filling
+        ensures taken { (table : TableName) → HasTaken table (told_of store) [] result }
+        ensures same { result.store ≡ store }
+    {
+        Filling {
+            store,
+            any: false,
+            refused: None,
+        }
     }
-    Ok(store)
+
+    // Takes an answer.
+    pub(crate) fn take(
+        &mut self,
+        alloc: Global,
+        table: TableName,
+        answer: &sqlite::Row,
+    ) -> Result<(), OutOfMemory>
+        requires { is_table (told_of self.old.store).descriptions table ≡ true }
+        ensures taken { OnOk result (Takes table answer.now self.old self.new) }
+        ensures described { (told_of self.new.store).descriptions ≡
+            (told_of self.old.store).descriptions }
+        ensures unfailing { NeverFails self.old.store → NeverFails self.new.store }
+    {
+        self.any = true;
+        if self.refused.is_some() {
+            return Ok(());
+        }
+        let step = take_answer(alloc, &mut self.store, table, answer)?;
+        if let Err(error) = test_step(alloc, &mut self.store, table, answer, step) {
+            self.refused = Some(error);
+        }
+        Ok(())
+    }
 }
 
 // Whether a table has tiles by their places, and answers that came of it left it without rows.
-fn is_outside(store: &mut MemStore, table: TableName, count: usize) -> Result<bool, ReadError>
+fn is_outside(store: &mut MemStore, table: TableName, any: bool) -> Result<bool, ReadError>
     ensures told { told_of store.new ≡ told_of store.old }
     ensures unfailing { NeverFails store.old → NeverFails store.new }
 {
@@ -170,14 +204,16 @@ fn is_outside(store: &mut MemStore, table: TableName, count: usize) -> Result<bo
         return Ok(false);
     }
     match store.count_rows(table) {
-        Ok(kept) => Ok(kept == 0 && count > 0),
+        Ok(kept) => Ok(kept == 0 && any),
         Err(_) => Err(ReadError::OutOfMemory),
     }
 }
 
-// The refusal of a table's rows, unless they are odd and of another table than `tiles`, behind which a view may stand.
-fn test_odd(table: TableName, error: ReadError) -> Result<(), ReadError> {
-    if matches!(table, TableName::Tiles) {
+// The refusal of a table's answers, unless they are odd ones and the set may have another layout.
+fn test_odd(table: TableName, error: ReadError) -> Result<(), ReadError>
+    ensures { OnOk result (may_lack table ≡ true) }
+{
+    if matches!(table, TableName::Tiles | TableName::Metadata) {
         return Err(error);
     }
     match error {
@@ -186,32 +222,26 @@ fn test_odd(table: TableName, error: ReadError) -> Result<(), ReadError> {
     }
 }
 
-// Fills a table with the rows of answers. None where it isn't `tiles` and they aren't rows of such a table.
-pub(crate) fn fill_own(
-    alloc: Global,
-    store: MemStore,
-    table: TableName,
-    answers: Vec<sqlite::Row>,
-) -> Result<Option<MemStore>, ReadError>
-    requires described { is_table (told_of store).descriptions table ≡ true }
-    requires unfailing { NeverFails store }
-    ensures told { IfOk result (λ full. IfSome full
-        (λ full. told_of full ≡ filled table (told_of store) answers.items)) }
+// The store once all answers on a table are taken. None where they aren't rows of a table that the set may lack.
+pub(crate) fn finish(filling: Filling, table: TableName) -> Result<Option<MemStore>, ReadError>
+    requires { NeverFails filling.store }
+    ensures full { IfOk result (λ full. IfSome full (λ full. IsFull table filling full)) }
+    ensures odd { IfOk result (λ full. IfNone full (IsOdd table filling)) }
     ensures described { IfOk result (λ full. IfSome full
-        (λ full. (told_of full).descriptions ≡ (told_of store).descriptions)) }
+        (λ full. (told_of full).descriptions ≡ (told_of filling.store).descriptions)) }
     ensures unfailing { IfOk result (λ full. IfSome full NeverFails) }
 {
-    let count = answers.len();
-    match fill(alloc, store, table, answers) {
-        Ok(mut full) => {
-            if is_outside(&mut full, table, count)? {
-                return Err(ReadError::OutsideGrid);
-            }
-            Ok(Some(full))
-        }
-        Err(error) => {
-            test_odd(table, error)?;
-            Ok(None)
-        }
+    let Filling {
+        mut store,
+        any,
+        refused,
+    } = filling;
+    if let Some(error) = refused {
+        test_odd(table, error)?;
+        return Ok(None);
     }
+    if is_outside(&mut store, table, any)? {
+        return Err(ReadError::OutsideGrid);
+    }
+    Ok(Some(store))
 }

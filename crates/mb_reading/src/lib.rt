@@ -3,12 +3,15 @@
 
 mod asking;
 mod cells;
+mod disk_file;
 mod error;
 mod file;
 mod filling;
 mod master;
+mod read_only;
 mod reading;
 mod rows;
+mod stamps;
 mod texts;
 mod value_kind;
 

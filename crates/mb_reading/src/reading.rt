@@ -1,20 +1,20 @@
-// Reading a set of a database in one transaction, one statement a table.
-ghost use Rattle.std.specs.Prelude.{◌≡◌, true, IfOk, IfSome};
+// Reading a set of a database, one statement a table.
+ghost use Rattle.std.specs.Prelude.{◌≡◌, true, IfNone, IfOk, IfSome, OnOk};
 ghost use Rattle.sqlite.specs.Held.{state};
 ghost use Rattle.sqlite.specs.State.{HasCleanDisk};
 ghost use Rattle.mb_store.specs.MemStore.{told_of};
 ghost use Rattle.mb_tables.specs.Described.{is_table};
-ghost use Rattle.mb_reading.specs.Asking.{CommitsNothing, ReadsEither, ReadsLayout, ReadsSet, ReadsTable, Within};
-ghost use Rattle.mb_reading.specs.Filling.{IsFilled, IsRead, IsSet, NeverFails, content_table, has_contents};
+ghost use Rattle.mb_reading.specs.Asking.{CommitsNothing, IsUnfit, LacksLayout, ReadsEither, ReadsLayout, ReadsSet, ReadsTable, Stays, is_input};
+ghost use Rattle.mb_reading.specs.Filling.{IsFilled, IsRead, IsSet, NeverFails, content_table, has_contents, may_lack};
 
 use crate::ReadError;
-use crate::asking::{ask, refusal};
-use crate::filling::fill_own;
+use crate::asking::{ask, refusal, take_rows};
+use crate::filling::finish;
 use crate::master::{first_layout, is_there};
 use crate::texts::{of_master, rows_of};
 use mb_store::MemStore;
 use mb_tables::{MbtType, TableName};
-use sqlite::{Alter, Connection, Error, ErrorCode, Transaction};
+use sqlite::{Alter, Connection, Error, ErrorCode};
 use std::alloc::Global;
 
 // Whether a layout has a table of contents.
@@ -35,7 +35,10 @@ fn content_table(layout: MbtType) -> TableName
 }
 
 // The refusal of a statement on a table, unless it lacks a column and is another one than `tiles`, behind which a view may stand.
-fn test_lacking(table: TableName, cause: Error) -> Result<(), ReadError> {
+fn test_lacking(table: TableName, cause: Error) -> Result<(), ReadError>
+    ensures named { OnOk result (may_lack table ≡ true) }
+    ensures input { OnOk result (is_input cause ≡ true) }
+{
     if matches!(table, TableName::Tiles | TableName::Metadata) {
         return Err(refusal(table, cause));
     }
@@ -46,21 +49,24 @@ fn test_lacking(table: TableName, cause: Error) -> Result<(), ReadError> {
 }
 
 // Reads a table, where it is to be read. None where it lacks a column, or its rows aren't those of such a table.
-#[tactic(auto, using(crate::proofs::FillLemmas::filled_by, crate::proofs::FillLemmas::filled_not, crate::proofs::AskLemmas::nothing_yet))]
+#[tactic(auto, using(crate::proofs::FillLemmas::filled_by, crate::proofs::FillLemmas::filled_not, crate::proofs::AskLemmas::nothing_yet, crate::proofs::AskLemmas::stays_here, crate::proofs::AskLemmas::stays_by))]
 fn read_table<S: Alter>(
     alloc: Global,
-    transaction: &mut Transaction<'_, S>,
+    connection: &mut Connection<S>,
     store: MemStore,
     has: bool,
     table: TableName,
 ) -> Result<Option<MemStore>, ReadError>
     requires described { has ≡ true → is_table (told_of store).descriptions table ≡ true }
     requires unfailing { NeverFails store }
-    ensures same_reference { transaction.new.conn.ghost_name ≡ transaction.old.conn.ghost_name }
-    ensures survives { CommitsNothing S.Store transaction.old.conn.now transaction.new.conn.now }
-    ensures read { HasCleanDisk (state S.Store transaction.new.conn.now) → IfOk result
-        (λ full. IfSome full (λ full. ReadsTable S.Store has table transaction.old.conn.now
-        transaction.new.conn.now (told_of store) (told_of full))) }
+    ensures survives { CommitsNothing S.Store connection.old connection.new }
+    ensures same { HasCleanDisk (state S.Store connection.new) → OnOk result
+        (Stays (state S.Store connection.old) (state S.Store connection.new)) }
+    ensures read { HasCleanDisk (state S.Store connection.new) → IfOk result
+        (λ full. IfSome full (λ full. ReadsTable has table (state S.Store connection.old)
+        (told_of store) (told_of full))) }
+    ensures unfit { HasCleanDisk (state S.Store connection.new) → IfOk result
+        (λ full. IfNone full (IsUnfit has table (state S.Store connection.old) (told_of store))) }
     ensures told { IfOk result (λ full. IfSome full
         (λ full. IsFilled has table (told_of store) (told_of full))) }
     ensures described { IfOk result (λ full. IfSome full
@@ -70,47 +76,46 @@ fn read_table<S: Alter>(
     if !has {
         return Ok(Some(store));
     }
-    let answers = match ask(transaction, rows_of(table)) {
-        Ok(answers) => answers,
+    match take_rows(alloc, connection, rows_of(table), table, store) {
+        Ok(filling) => finish(filling, table),
         Err(cause) => {
             test_lacking(table, cause)?;
-            return Ok(None);
+            Ok(None)
         }
-    };
-    let Some(full) = fill_own(alloc, store, table, answers)? else {
-        return Ok(None);
-    };
-    Ok(Some(full))
+    }
 }
 
 // Reads all tables of a layout. None where one of them can't be read so.
 #[tactic(auto, using(crate::proofs::AskLemmas::nothing_yet, crate::proofs::FillLemmas::has_names_table, crate::proofs::FillLemmas::has_content_table, crate::proofs::FillLemmas::has_tile_table))]
 fn read_layout<S: Alter>(
     alloc: Global,
-    transaction: &mut Transaction<'_, S>,
+    connection: &mut Connection<S>,
     layout: MbtType,
     has_names: bool,
 ) -> Result<Option<MemStore>, ReadError>
-    ensures same_reference { transaction.new.conn.ghost_name ≡ transaction.old.conn.ghost_name }
-    ensures survives { CommitsNothing S.Store transaction.old.conn.now transaction.new.conn.now }
-    ensures read { HasCleanDisk (state S.Store transaction.new.conn.now) → IfOk result
-        (λ full. IfSome full (λ full. ReadsLayout S.Store layout has_names
-        transaction.old.conn.now transaction.new.conn.now (told_of full))) }
+    ensures survives { CommitsNothing S.Store connection.old connection.new }
+    ensures same { HasCleanDisk (state S.Store connection.new) → OnOk result
+        (Stays (state S.Store connection.old) (state S.Store connection.new)) }
+    ensures read { HasCleanDisk (state S.Store connection.new) → IfOk result
+        (λ full. IfSome full (λ full. ReadsLayout layout has_names (state S.Store connection.old)
+        (told_of full))) }
+    ensures lacks { HasCleanDisk (state S.Store connection.new) → IfOk result
+        (λ full. IfNone full (LacksLayout layout has_names (state S.Store connection.old))) }
     ensures told { IfOk result (λ full. IfSome full (λ full. IsRead layout (told_of full))) }
     ensures unfailing { IfOk result (λ full. IfSome full NeverFails) }
 {
     let Ok(store) = MemStore::with_layout(alloc, layout) else {
         return Err(ReadError::OutOfMemory);
     };
-    let Some(named) = read_table(alloc, transaction, store, has_names, TableName::Metadata)? else {
+    let Some(named) = read_table(alloc, connection, store, has_names, TableName::Metadata)? else {
         return Ok(None);
     };
     let has = has_contents(layout);
     let table = content_table(layout);
-    let Some(held) = read_table(alloc, transaction, named, has, table)? else {
+    let Some(held) = read_table(alloc, connection, named, has, table)? else {
         return Ok(None);
     };
-    let Some(full) = read_table(alloc, transaction, held, true, layout.tile_table())? else {
+    let Some(full) = read_table(alloc, connection, held, true, layout.tile_table())? else {
         return Ok(None);
     };
     Ok(Some(full))
@@ -119,41 +124,39 @@ fn read_layout<S: Alter>(
 // Reads a set in a layout, or flat where it can't be read so.
 fn read_either<S: Alter>(
     alloc: Global,
-    transaction: &mut Transaction<'_, S>,
+    connection: &mut Connection<S>,
     layout: MbtType,
     has_names: bool,
 ) -> Result<MemStore, ReadError>
-    ensures same_reference { transaction.new.conn.ghost_name ≡ transaction.old.conn.ghost_name }
-    ensures survives { CommitsNothing S.Store transaction.old.conn.now transaction.new.conn.now }
-    ensures read { HasCleanDisk (state S.Store transaction.new.conn.now) → IfOk result
-        (λ store. ReadsEither S.Store layout has_names transaction.old.conn.now
-        transaction.new.conn.now (told_of store)) }
+    ensures survives { CommitsNothing S.Store connection.old connection.new }
+    ensures same { HasCleanDisk (state S.Store connection.new) → OnOk result
+        (Stays (state S.Store connection.old) (state S.Store connection.new)) }
+    ensures read { HasCleanDisk (state S.Store connection.new) → IfOk result
+        (λ store. ReadsEither layout has_names (state S.Store connection.old) (told_of store)) }
     ensures told { IfOk result (λ store. IsSet (told_of store)) }
     ensures unfailing { IfOk result NeverFails }
 {
-    if let Some(store) = read_layout(alloc, transaction, layout, has_names)? {
+    if let Some(store) = read_layout(alloc, connection, layout, has_names)? {
         return Ok(store);
     }
-    match read_layout(alloc, transaction, MbtType::Flat, has_names)? {
+    match read_layout(alloc, connection, MbtType::Flat, has_names)? {
         Some(store) => Ok(store),
         None => Err(ReadError::NotASet),
     }
 }
 
 // Reads a set in the layout that its tables are of, or as a flat one through `tiles`.
-fn read_all<S: Alter>(
-    alloc: Global,
-    transaction: &mut Transaction<'_, S>,
-) -> Result<MemStore, ReadError>
-    ensures same_reference { transaction.new.conn.ghost_name ≡ transaction.old.conn.ghost_name }
-    ensures survives { CommitsNothing S.Store transaction.old.conn.now transaction.new.conn.now }
-    ensures read { HasCleanDisk (state S.Store transaction.new.conn.now) → IfOk result
-        (λ store. ReadsSet S.Store transaction.old.conn.now transaction.new.conn.now
-        (told_of store)) }
+#[tactic(auto, using(crate::proofs::TextLemmas::master_asks))]
+fn read_all<S: Alter>(alloc: Global, connection: &mut Connection<S>) -> Result<MemStore, ReadError>
+    ensures survives { CommitsNothing S.Store connection.old connection.new }
+    ensures same { HasCleanDisk (state S.Store connection.new) → OnOk result
+        (Stays (state S.Store connection.old) (state S.Store connection.new)) }
+    ensures read { HasCleanDisk (state S.Store connection.new) → IfOk result
+        (λ store. ReadsSet (state S.Store connection.old) (told_of store)) }
     ensures told { IfOk result (λ store. IsSet (told_of store)) }
     ensures unfailing { IfOk result NeverFails }
 {
-    let master = match ask(transaction, of_master()) {
+    let master = match ask(connection, of_master()) {
         Ok(master) => master,
         Err(cause) => return Err(refusal(TableName::Tiles, cause)),
     };
@@ -162,11 +165,11 @@ fn read_all<S: Alter>(
     }
     let layout = first_layout(alloc, master.as_slice())?;
     let has_names = is_there(master.as_slice(), TableName::Metadata);
-    let store = read_either(alloc, transaction, layout, has_names)?;
+    let store = read_either(alloc, connection, layout, has_names)?;
     Ok(store)
 }
 
-/// Reads a set of a database into a store in memory, in one transaction that is rolled back, by one statement for each table. A connection
+/// Reads a set of a database into a store in memory, by one statement for each table, whose rows go into the store one after another. A connection
 /// inside a transaction is a `Fault`. The store has the tables of the layout that the set is read in: that which `detect_type` finds by the
 /// names of its tables, and `Flat`, through the table or view `tiles`, for a set of no such layout, for a cache, and where one of its own tables
 /// lacks a column, has a key twice, or has a value that isn't of its column.
@@ -179,9 +182,10 @@ pub fn read_set<S: Alter>(
     connection: &mut Connection<S>,
 ) -> Result<MemStore, ReadError>
     ensures survives { CommitsNothing S.Store connection.old connection.new }
+    ensures same { HasCleanDisk (state S.Store connection.new) → OnOk result
+        (Stays (state S.Store connection.old) (state S.Store connection.new)) }
     ensures read { HasCleanDisk (state S.Store connection.new) → IfOk result
-        (λ store. Within connection.old
-        (λ old seen. ReadsSet S.Store old seen (told_of store))) }
+        (λ store. ReadsSet (state S.Store connection.old) (told_of store)) }
     ensures told { IfOk result (λ store. IsSet (told_of store)) }
     ensures unfailing { IfOk result NeverFails }
 {
@@ -191,7 +195,5 @@ pub fn read_set<S: Alter>(
             cause: Error::SqliteFailure(ErrorCode::TransactionState),
         });
     }
-    let mut transaction = connection.transaction();
-    let store = read_all(alloc, &mut transaction)?;
-    Ok(store)
+    read_all(alloc, connection)
 }

@@ -6,40 +6,32 @@ ghost use Rattle.sqlite_value.specs.Order.{column};
 ghost use Rattle.sqlite_value.specs.Value.{owned};
 ghost use Rattle.mb_reading.specs.Rows.{hashed_row, is_placed, pair_of, placed_row, row_in};
 
-use crate::ReadError;
 use crate::cells::{data_cell, digest_cell, name_cell, number_cell, place_cell, value_cell};
+use base_values::OutOfMemory;
 use mb_lists::coord_of;
 use mb_tables::{Cell, Row, TableName};
 use sqlite::types::ValueRef;
 use std::alloc::Global;
 
-// The value of an answer in a column.
-fn value_at<'a>(
-    table: TableName,
-    answer: &'a sqlite::Row,
-    at: usize,
-) -> Result<ValueRef<'a>, ReadError>
-    ensures { IfOk result (λ value. owned value ≡ column answer.now at) }
+// The value of an answer in a column, null behind its last one.
+#[tactic(auto, using(crate::proofs::MasterLemmas::past_end))]
+fn value_at(answer: &sqlite::Row, at: usize) -> ValueRef<'_>
+    ensures { owned result ≡ column answer.now at }
 {
     match answer.get_ref(at) {
-        Ok(value) => Ok(value),
-        Err(cause) => Err(ReadError::Fault { table, cause }),
+        Ok(value) => value,
+        Err(_) => ValueRef::Null,
     }
 }
 
 // A place, and a cell behind it.
-fn placed_row(
-    alloc: Global,
-    table: TableName,
-    answer: &sqlite::Row,
-    last: Cell,
-) -> Result<Row, ReadError>
+fn placed_row(alloc: Global, answer: &sqlite::Row, last: Cell) -> Result<Row, OutOfMemory>
     ensures row { IfOk result (λ row. row ≡ placed_row answer.now last) }
     ensures wide { IfOk result (λ row. length row ≡ 4) }
 {
-    let zoom = place_cell(value_at(table, answer, 0)?);
-    let column = place_cell(value_at(table, answer, 1)?);
-    let line = place_cell(value_at(table, answer, 2)?);
+    let zoom = place_cell(value_at(answer, 0));
+    let column = place_cell(value_at(answer, 1));
+    let line = place_cell(value_at(answer, 2));
     let cells = vec![in alloc; zoom, column, line, last]?;
     Ok(Row::new(cells))
 }
@@ -47,15 +39,14 @@ fn placed_row(
 // A place, and a cell behind it, if there is one.
 fn with_place(
     alloc: Global,
-    table: TableName,
     answer: &sqlite::Row,
     last: Option<Cell>,
-) -> Result<Option<Row>, ReadError>
+) -> Result<Option<Row>, OutOfMemory>
     ensures row { IfOk result (λ row. row ≡ option_map (placed_row answer.now) last) }
     ensures wide { IfOk result (λ row. IfSome row (λ row. length row ≡ 4)) }
 {
     match last {
-        Some(last) => Ok(Some(placed_row(alloc, table, answer, last)?)),
+        Some(last) => Ok(Some(placed_row(alloc, answer, last)?)),
         None => Ok(None),
     }
 }
@@ -65,7 +56,7 @@ fn pair_of(
     alloc: Global,
     first: Option<Cell>,
     second: Option<Cell>,
-) -> Result<Option<Row>, ReadError>
+) -> Result<Option<Row>, OutOfMemory>
     ensures row { IfOk result (λ row. row ≡ pair_of first second) }
     ensures wide { IfOk result (λ row. IfSome row (λ row. length row ≡ 2)) }
 {
@@ -80,12 +71,12 @@ fn pair_of(
 }
 
 // A tile.
-fn tile_row(alloc: Global, answer: &sqlite::Row) -> Result<Option<Row>, ReadError>
+fn tile_row(alloc: Global, answer: &sqlite::Row) -> Result<Option<Row>, OutOfMemory>
     ensures row { IfOk result (λ row. row ≡ row_in TableName.Tiles answer.now) }
     ensures wide { IfOk result (λ row. IfSome row (λ row. length row ≡ 4)) }
 {
-    let data = data_cell(alloc, value_at(TableName::Tiles, answer, 3)?)?;
-    with_place(alloc, TableName::Tiles, answer, data)
+    let data = data_cell(alloc, value_at(answer, 3))?;
+    with_place(alloc, answer, data)
 }
 
 // A place, contents and their digest.
@@ -94,27 +85,27 @@ fn five_cells(
     answer: &sqlite::Row,
     bytes: Cell,
     hash: Cell,
-) -> Result<Row, ReadError>
+) -> Result<Row, OutOfMemory>
     ensures row { IfOk result (λ row. Some row ≡ hashed_row answer.now (Some bytes) (Some hash)) }
     ensures wide { IfOk result (λ row. length row ≡ 5) }
 {
-    let zoom = place_cell(value_at(TableName::TilesWithHash, answer, 0)?);
-    let column = place_cell(value_at(TableName::TilesWithHash, answer, 1)?);
-    let line = place_cell(value_at(TableName::TilesWithHash, answer, 2)?);
+    let zoom = place_cell(value_at(answer, 0));
+    let column = place_cell(value_at(answer, 1));
+    let line = place_cell(value_at(answer, 2));
     let cells = vec![in alloc; zoom, column, line, bytes, hash]?;
     Ok(Row::new(cells))
 }
 
 // A tile with the digest of its contents.
-fn hashed_row(alloc: Global, answer: &sqlite::Row) -> Result<Option<Row>, ReadError>
+fn hashed_row(alloc: Global, answer: &sqlite::Row) -> Result<Option<Row>, OutOfMemory>
     ensures row { IfOk result (λ row. row ≡ row_in TableName.TilesWithHash answer.now) }
     ensures wide { IfOk result (λ row. IfSome row (λ row. length row ≡ 5)) }
 {
-    let data = data_cell(alloc, value_at(TableName::TilesWithHash, answer, 3)?)?;
+    let data = data_cell(alloc, value_at(answer, 3))?;
     let Some(data) = data else {
         return Ok(None);
     };
-    let hash = digest_cell(alloc, value_at(TableName::TilesWithHash, answer, 4)?)?;
+    let hash = digest_cell(alloc, value_at(answer, 4))?;
     let Some(hash) = hash else {
         return Ok(None);
     };
@@ -122,51 +113,51 @@ fn hashed_row(alloc: Global, answer: &sqlite::Row) -> Result<Option<Row>, ReadEr
 }
 
 // A place with the digest of its contents.
-fn map_row(alloc: Global, answer: &sqlite::Row) -> Result<Option<Row>, ReadError>
+fn map_row(alloc: Global, answer: &sqlite::Row) -> Result<Option<Row>, OutOfMemory>
     ensures row { IfOk result (λ row. row ≡ row_in TableName.Map answer.now) }
     ensures wide { IfOk result (λ row. IfSome row (λ row. length row ≡ 4)) }
 {
-    let id = digest_cell(alloc, value_at(TableName::Map, answer, 3)?)?;
-    with_place(alloc, TableName::Map, answer, id)
+    let id = digest_cell(alloc, value_at(answer, 3))?;
+    with_place(alloc, answer, id)
 }
 
 // Contents with their digest.
-fn image_row(alloc: Global, answer: &sqlite::Row) -> Result<Option<Row>, ReadError>
+fn image_row(alloc: Global, answer: &sqlite::Row) -> Result<Option<Row>, OutOfMemory>
     ensures row { IfOk result (λ row. row ≡ row_in TableName.Images answer.now) }
     ensures wide { IfOk result (λ row. IfSome row (λ row. length row ≡ 2)) }
 {
-    let id = digest_cell(alloc, value_at(TableName::Images, answer, 0)?)?;
-    let data = data_cell(alloc, value_at(TableName::Images, answer, 1)?)?;
+    let id = digest_cell(alloc, value_at(answer, 0))?;
+    let data = data_cell(alloc, value_at(answer, 1))?;
     pair_of(alloc, id, data)
 }
 
 // A place with the number of its contents.
-fn shallow_row(alloc: Global, answer: &sqlite::Row) -> Result<Option<Row>, ReadError>
+fn shallow_row(alloc: Global, answer: &sqlite::Row) -> Result<Option<Row>, OutOfMemory>
     ensures row { IfOk result (λ row. row ≡ row_in TableName.TilesShallow answer.now) }
     ensures wide { IfOk result (λ row. IfSome row (λ row. length row ≡ 4)) }
 {
-    let id = number_cell(value_at(TableName::TilesShallow, answer, 3)?);
-    with_place(alloc, TableName::TilesShallow, answer, id)
+    let id = number_cell(value_at(answer, 3));
+    with_place(alloc, answer, id)
 }
 
 // Contents with their number.
-fn data_row(alloc: Global, answer: &sqlite::Row) -> Result<Option<Row>, ReadError>
+fn data_row(alloc: Global, answer: &sqlite::Row) -> Result<Option<Row>, OutOfMemory>
     ensures row { IfOk result (λ row. row ≡ row_in TableName.TilesData answer.now) }
     ensures wide { IfOk result (λ row. IfSome row (λ row. length row ≡ 2)) }
 {
-    let id = number_cell(value_at(TableName::TilesData, answer, 0)?);
-    let data = data_cell(alloc, value_at(TableName::TilesData, answer, 1)?)?;
+    let id = number_cell(value_at(answer, 0));
+    let data = data_cell(alloc, value_at(answer, 1))?;
     pair_of(alloc, id, data)
 }
 
 // A text or null under a name.
-fn name_row(alloc: Global, answer: &sqlite::Row) -> Result<Option<Row>, ReadError>
+fn name_row(alloc: Global, answer: &sqlite::Row) -> Result<Option<Row>, OutOfMemory>
     ensures row { IfOk result (λ row. row ≡ row_in TableName.Metadata answer.now) }
     ensures wide { IfOk result (λ row. IfSome row (λ row. length row ≡ 2)) }
 {
-    let name = name_cell(alloc, value_at(TableName::Metadata, answer, 0)?)?;
-    let value = value_at(TableName::Metadata, answer, 1)?;
-    let spelling = value_at(TableName::Metadata, answer, 2)?;
+    let name = name_cell(alloc, value_at(answer, 0))?;
+    let value = value_at(answer, 1);
+    let spelling = value_at(answer, 2);
     let value = value_cell(alloc, value, spelling)?;
     pair_of(alloc, name, value)
 }
@@ -176,7 +167,7 @@ pub(crate) fn row_of(
     alloc: Global,
     table: TableName,
     answer: &sqlite::Row,
-) -> Result<Option<Row>, ReadError>
+) -> Result<Option<Row>, OutOfMemory>
     ensures row { IfOk result (λ row. row ≡ row_in table answer.now) }
     ensures wide { IfOk result (λ row. IfSome row (λ row. length row ≡ width table)) }
 {

@@ -1,18 +1,32 @@
 use Rattle.std.proofs.Common.{rules, ◌≡◌, true, subst}
+use Rattle.sqlite.specs.Held.{state}
 use Rattle.mb_store.specs.MemStore.{told_of}
 use Rattle.mb_tables.specs.declared.table.TableName.TheVariants.{Metadata, Tiles}
 use Rattle.mb_reading.specs.Master.{first_layout, is_there}
-use Rattle.mb_reading.proofs.AskLemmas.{clean_before, reads_set}
+use Rattle.mb_reading.proofs.AskLemmas.{clean_before, stays_by, stays_then}
+use Rattle.mb_reading.proofs.ReadLemmas.{reads_set}
 use Rattle.mb_reading.proofs.reading.read_all.Goals as goal
+
+pub returns-clause-same : goal.returns-clause-same
+returns-clause-same g c clean =
+    let s = state g.S.Store c.args.connection.now in
+    let mid = c.ask.new.connection in
+    let new = c.read_either.new.connection in
+    let a = state g.S.Store mid in
+    let clean_mid = clean_before g.S.Store mid new c.read_either.ensures.survives clean in
+    stays_then s a (state g.S.Store new) (stays_by s a (c.in-Ok.ensures.same clean_mid)) (c.in_ok-store.ensures.same clean)
 
 pub returns-clause-read : goal.returns-clause-read
 returns-clause-read g c clean =
-    let mid = c.ask.new.transaction.conn.now in
-    let new = c.read_either.new.transaction.conn.now in
+    let s = state g.S.Store c.args.connection.now in
+    let mid = c.ask.new.connection in
+    let new = c.read_either.new.connection in
+    let a = state g.S.Store mid in
+    let clean_mid = clean_before g.S.Store mid new c.read_either.ensures.survives clean in
     let master = c.in-Ok.master.items in
     let found : is_there c.as_slice.result.now Tiles ≡ true = search rules in
     let there = subst (λ rows. is_there rows Tiles ≡ true) c.as_slice.ensures.value found in
     let layout = subst (λ rows. c.in_ok-layout.layout ≡ first_layout rows) c.as_slice-2.ensures.value c.in_ok-layout.ensures in
     let has = subst (λ rows. c.is_there-has_names.result ≡ is_there rows Metadata) c.as_slice-3.ensures.value c.is_there-has_names.ensures in
-    reads_set g.S.Store master c.of_master.result.now c.in_ok-layout.layout c.is_there-has_names.result c.args.transaction.now.conn.now mid new (told_of c.in_ok-store.store) c.of_master.ensures
-    (c.in-Ok.ensures.shown (clean_before g.S.Store mid new c.read_either.ensures.survives clean)) there layout has (c.in_ok-store.ensures.read clean)
+    reads_set master c.of_master.result.now c.in_ok-layout.layout c.is_there-has_names.result s a (told_of c.in_ok-store.store) c.of_master.ensures (c.in-Ok.ensures.shown clean_mid) there layout has
+    (stays_by s a (c.in-Ok.ensures.same clean_mid)) (c.in_ok-store.ensures.read clean)

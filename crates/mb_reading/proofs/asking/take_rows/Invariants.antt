@@ -1,0 +1,17 @@
+-- the rows so far are taken, and begin the answer of the first state, which stays
+use Rattle.std.proofs.Common.{◌≡◌, List, []}
+use Rattle.sqlite.specs.Given.{HasGiven}
+use Rattle.sqlite.specs.Held.{state}
+use Rattle.sqlite.specs.State.{HasCleanDisk, IsUnchanged}
+use Rattle.sqlite_value.specs.Order.{Row}
+use Rattle.mb_store.specs.MemStore.{told_of}
+use Rattle.mb_reading.specs.Asking.{CommitsNothing}
+use Rattle.mb_reading.specs.Filling.{HasTaken, NeverFails}
+use Rattle.mb_reading.proofs.asking.take_rows.Given as goal
+
+abbrev pub invariant-rows : goal.invariant-rows
+invariant-rows g l =
+    let old = l.fn.connection in
+    let now = l.rows.conn.now in
+    (l.rows.conn.ghost_name ≡ l.initial.rows.conn.ghost_name) × CommitsNothing g.S.Store old now × ((told_of l.filling.store).descriptions ≡ (told_of l.fn.store).descriptions) × NeverFails l.filling.store
+    × (given : List Row) × HasTaken l.table (told_of l.fn.store) given l.filling × (HasCleanDisk (state g.S.Store now) → HasGiven g.S.Store l.text [] now given × IsUnchanged (state g.S.Store old) (state g.S.Store now))
