@@ -1,5 +1,5 @@
 -- Tables that are filled with the rows of answers, and those of a set.
-use Rattle.std.proofs.Common.{◌≡◌, Bool, true, false, ◌&&◌, List, [], ◌∷◌, ◌++◌, Option, Some, None, MatchBool, MatchOption, is_some, ap, refl, subst, sym, ◌∙◌}
+use Rattle.std.proofs.Common.{◌≡◌, Bool, true, false, ◌&&◌, List, [], ◌∷◌, ◌++◌, Option, Some, None, MatchBool, is_some, ap, refl, subst, sym, ◌∙◌}
 use Rattle.std.proofs.lemmas.List.Sums.{fold_push}
 use Rattle.mb_store.specs.MemStore.{told_of}
 use Rattle.mb_store.specs.Store.{no_rows}

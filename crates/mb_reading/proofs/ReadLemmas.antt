@@ -1,7 +1,7 @@
 -- A set that is read of one state of a database.
-use Rattle.std.proofs.Common.{◌≡◌, ℕ, Bool, true, false, List, MatchBool, Ok, Err, inl, inr, refl, subst, sym}
+use Rattle.std.proofs.Common.{◌≡◌, ℕ, Bool, true, false, List, MatchBool, Err, inl, inr, refl, subst, sym}
 use Rattle.sqlite.specs.Listing.{understood}
-use Rattle.sqlite.specs.State.{State, IsUnchanged}
+use Rattle.sqlite.specs.State.{State}
 use Rattle.sqlite_resolve.specs.declared.error.CompileError.{CompileError}
 use Rattle.sqlite_value.specs.Order.{Row}
 use Rattle.mb_store.specs.Store.{no_rows}

@@ -1,5 +1,5 @@
 -- The texts ask for rows, whatever the schema.
-use Rattle.std.proofs.Common.{◌≡◌, ℕ, ◌+◌, Bool, true, false, List, None, Option, Ok, Err, inl, inr, refl, sym, subst, ap, ◌∙◌, if◌then◌else◌}
+use Rattle.std.proofs.Common.{◌≡◌, ℕ, ◌+◌, Bool, true, false, List, None, Option, Ok, Err, inl, inr, refl, sym, subst, ap, ◌∙◌}
 use Rattle.std.proofs.lemmas.Bool.{cases_Bool}
 use Rattle.sqlite.specs.Compile.{command, compiled, first, meaning, planned, returning, returning_by, small, timed, with_command}
 use Rattle.sqlite.specs.Command.{Command}

@@ -1,5 +1,5 @@
 -- The rows of a set that answers of a file are read as.
-use Rattle.std.specs.Prelude.{ℕ, Bool, true, List, [], ◌∷◌, Option, Some, None, is_some}
+use Rattle.std.specs.Prelude.{Bool, true, List, [], ◌∷◌, Option, Some, None, is_some}
 use Rattle.std.specs.Option.{option_map}
 use Rattle.mb_lists.specs.FromRows.{coord_in}
 use Rattle.mb_tables.specs.declared.cell.Cell.{Cell}

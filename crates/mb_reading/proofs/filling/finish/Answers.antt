@@ -1,4 +1,4 @@
-use Rattle.std.proofs.Common.{rules, ◌≡◌, None, Some, ◌∙◌}
+use Rattle.std.proofs.Common.{rules, ◌≡◌, None, ◌∙◌}
 use Rattle.mb_reading.proofs.FillLemmas.{full_store, odd_answers}
 use Rattle.mb_reading.proofs.filling.finish.Goals as goal
 

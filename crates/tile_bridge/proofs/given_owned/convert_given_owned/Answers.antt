@@ -1,4 +1,4 @@
-use Rattle.std.proofs.Common.{◌≡◌, ap, map, refl, rules, subst, sym, true, false, Err}
+use Rattle.std.proofs.Common.{ap, map, refl, subst, sym, true, false, Err}
 use Rattle.mb_store.specs.MemStore.{told_of}
 use Rattle.mb_store.specs.declared.mem_store.MemStore.{MemStore}
 use Rattle.tile_bridge.specs.Convert.{ConvertCauses, IsEmpty, SetCauses, SetLeaves}
