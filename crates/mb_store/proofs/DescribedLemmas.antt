@@ -6,10 +6,11 @@ use Rattle.std.specs.Str.{bytes_eq}
 use Rattle.std.proofs.lemmas.Bool.{false≢true, and_from, and_left, and_parts, cases_Bool}
 use Rattle.std.proofs.lemmas.List.Folds.{list_any-append}
 use Rattle.std.proofs.lemmas.Slice.Eq.{bytes_eq-Decides}
-use Rattle.mb_store.specs.MemTables.{IsKept, MemTables, rows_at}
 use Rattle.mb_tables.specs.Key.{clash}
 use Rattle.mb_tables.specs.Described.{is_key_index, is_keyed, is_table, is_table_kind, names_apart}
-use Rattle.mb_store.specs.Store.{with_tables}
+use Rattle.mb_tables.specs.declared.cell.Cell.{Cell}
+use Rattle.mb_store.proofs.HeldLemmas.{tables_as}
+use Rattle.mb_store.specs.Store.{IsSound, with_tables}
 use Rattle.mb_tables.specs.Table.{table_text}
 use Rattle.mb_tables.specs.declared.description.TableDesc.{TableDesc}
 use Rattle.mb_tables.specs.declared.table.TableName.{TableName}
@@ -56,41 +57,38 @@ first : (b : Bool) → (b || false) ≡ true → b ≡ true
 first true h = refl
 first false h = h
 
-module _ (m : MemTables) (ds : List TableDesc) (e : TableDesc) (new : list_any (λ d. bytes_eq d.name e.name) ds ≡ false) (kept : IsKept ds m) where
+module _ (f : TableName → List (List Cell)) (ds : List TableDesc) (e : TableDesc) (new : list_any (λ d. bytes_eq d.name e.name) ds ≡ false) (sound : IsSound (tables_as ds f)) where
   -- a test of descriptions, with one more
   one_more : (q : TableDesc → Bool) → list_any q (ds ++ e ∷ []) ≡ (list_any q ds || (q e || false))
   one_more q = list_any-append q ds (e ∷ [])
 
-  keys_added : (u : TableName) → is_keyed (ds ++ e ∷ []) u ≡ true → AllPairs (λ r s. clash u r s ≡ false) (rows_at m u)
+  keys_added : (u : TableName) → is_keyed (ds ++ e ∷ []) u ≡ true → AllPairs (λ r s. clash u r s ≡ false) (f u)
   keys_added u keyed = by (cases_Bool (is_keyed ds u))
     where
       own : (b : Bool) → b ≡ false → (b || ((bytes_eq e.name (table_text u) && list_any (is_key_index u) e.indexes) || false)) ≡ true → bytes_eq e.name (table_text u) ≡ true
       own true h k = absurd (false≢true (sym h))
       own false h k = (and_parts (bytes_eq e.name (table_text u)) (list_any (is_key_index u) e.indexes) (first (bytes_eq e.name (table_text u) && list_any (is_key_index u) e.indexes) k)).0
 
-      by : (is_keyed ds u ≡ true) ⊎ (is_keyed ds u ≡ false) → AllPairs (λ r s. clash u r s ≡ false) (rows_at m u)
-      by (inl was) = kept.sound.keys u was
+      by : (is_keyed ds u ≡ true) ⊎ (is_keyed ds u ≡ false) → AllPairs (λ r s. clash u r s ≡ false) (f u)
+      by (inl was) = sound.keys u was
       by (inr wasnt) =
           let named : bytes_eq e.name (table_text u) ≡ true = own (is_keyed ds u) wasnt (sym (one_more (λ d. bytes_eq d.name (table_text u) && list_any (is_key_index u) d.indexes)) ∙ keyed) in
           let none : is_table ds u ≡ false = unnamed (λ d. is_table_kind d.kind) ds e.name (table_text u) ((bytes_eq-Decides e.name (table_text u)).0 named) new in
-          subst (AllPairs (λ r s. clash u r s ≡ false)) (sym (kept.sound.described u none)) (AllPairs-nil (λ r s. clash u r s ≡ false))
+          subst (AllPairs (λ r s. clash u r s ≡ false)) (sym (sound.described u none)) (AllPairs-nil (λ r s. clash u r s ≡ false))
 
-  kept_added : IsKept (ds ++ e ∷ []) m
-  kept_added = record {
-    sound = record {
-      names = names-push ds e new kept.sound.names;
-      described = λ u none. kept.sound.described u ((or_false (is_table ds u) _ (sym (one_more (λ d. bytes_eq d.name (table_text u) && is_table_kind d.kind)) ∙ none)).0);
-      keys = keys_added;
-      widths = kept.sound.widths;
-      counts = kept.sound.counts;
-    };
-    stored = kept.stored;
+  sound_added : IsSound (tables_as (ds ++ e ∷ []) f)
+  sound_added = record {
+    names = names-push ds e new sound.names;
+    described = λ u none. sound.described u ((or_false (is_table ds u) _ (sym (one_more (λ d. bytes_eq d.name (table_text u) && is_table_kind d.kind)) ∙ none)).0);
+    keys = keys_added;
+    widths = sound.widths;
+    counts = sound.counts;
   }
 
-pub kept_tables : (m : MemTables) (ds es : List TableDesc) → IsKept ds m → IsKept (with_tables ds es) m
-kept_tables m ds [] kept = kept
-kept_tables m ds (e ∷ es) kept = by (list_any (λ d. bytes_eq d.name e.name) ds) refl (λ fs h. kept_tables m fs es h)
+pub sound_tables : (f : TableName → List (List Cell)) (ds es : List TableDesc) → IsSound (tables_as ds f) → IsSound (tables_as (with_tables ds es) f)
+sound_tables f ds [] sound = sound
+sound_tables f ds (e ∷ es) sound = by (list_any (λ d. bytes_eq d.name e.name) ds) refl (λ fs h. sound_tables f fs es h)
   where
-    by : (b : Bool) → list_any (λ d. bytes_eq d.name e.name) ds ≡ b → ((fs : List TableDesc) → IsKept fs m → IsKept (with_tables fs es) m) → IsKept (with_tables (cond b ds (ds ++ e ∷ [])) es) m
-    by true h rest = rest ds kept
-    by false h rest = rest (ds ++ e ∷ []) (kept_added m ds e h kept)
+    by : (b : Bool) → list_any (λ d. bytes_eq d.name e.name) ds ≡ b → ((fs : List TableDesc) → IsSound (tables_as fs f) → IsSound (tables_as (with_tables fs es) f)) → IsSound (tables_as (with_tables (cond b ds (ds ++ e ∷ [])) es) f)
+    by true h rest = rest ds sound
+    by false h rest = rest (ds ++ e ∷ []) (sound_added f ds e h sound)

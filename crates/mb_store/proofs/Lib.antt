@@ -10,4 +10,8 @@ pub mod KeptCommit
 pub mod DescribedLemmas
 pub mod Committed
 pub mod PushLemmas
+pub mod RowsPut
+pub mod GatheredLemmas
+pub mod GatheringLemmas
+pub mod HeldLemmas
 mod ReadingLemmas

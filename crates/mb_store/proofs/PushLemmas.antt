@@ -30,7 +30,7 @@ tied_first Less n lt = refl
 tied_first Equal n lt = let zero : 0 ≡ n = omega arith in ap (λ m. is_eq (nat_cmp 0 m)) zero
 tied_first Greater n lt = refl
 
-any_tested : (q : List Cell → Bool) (p : Stored → Bool) (keys : List Stored) → All (λ s. q s.0 ≡ p s) keys → list_any q (rows_of keys) ≡ list_any p keys
+pub any_tested : (q : List Cell → Bool) (p : Stored → Bool) (keys : List Stored) → All (λ s. q s.0 ≡ p s) keys → list_any q (rows_of keys) ≡ list_any p keys
 any_tested q p [] all = refl
 any_tested q p (s ∷ ss) all = λ i. All-head (λ s. q s.0 ≡ p s) s ss all i || any_tested q p ss (All-tail (λ s. q s.0 ≡ p s) s ss all) i
 

@@ -10,5 +10,7 @@ pub mod Editing
 pub mod Sizes
 pub mod ByTable
 pub mod MemTables
+pub mod GatheredRows
+pub mod Gathered
 pub mod MemStore
 pub mod Kept

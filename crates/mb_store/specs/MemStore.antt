@@ -4,12 +4,17 @@ use Rattle.base_values.specs.FailingCalls.{next_fails}
 use Rattle.base_values.specs.declared.failing_calls.FailingCalls.{FailingCalls}
 use Rattle.mb_tables.specs.Table.{Tables}
 use Rattle.mb_store.specs.Store.{IsSound}
+use Rattle.mb_store.specs.Gathered.{told_tables}
 use Rattle.mb_store.specs.MemTables.{tables_of}
 use Rattle.mb_store.specs.declared.mem_store.MemStore.{MemStore}
 
 -- its descriptions and rows
 unfoldable pub told_of : MemStore → Tables
-told_of s = tables_of s.descriptions.items s.tables
+told_of s = told_tables s.descriptions.items s.tables s.gathered
+
+-- it tells what is in its ordered sets
+abbrev pub IsPlain : MemStore → Type 0
+IsPlain s = told_of s ≡ tables_of s.descriptions.items s.tables
 
 -- which of its calls fail, and what is counted
 unfoldable pub failing_of : MemStore → FailingCalls

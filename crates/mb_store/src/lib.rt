@@ -8,6 +8,8 @@ mod committing;
 mod creating;
 mod describing;
 mod editing;
+mod gathered;
+mod gathering;
 pub mod laws;
 mod mem_store;
 mod mem_tables;
@@ -16,6 +18,7 @@ mod store;
 mod stored_row;
 mod table_key;
 mod table_rows;
+mod taking;
 
 pub use changes::Changes;
 pub use creating::{

@@ -1,41 +1,44 @@
 // A store of tables in memory.
-ghost use Rattle.std.specs.Prelude.{◌≡◌, ◌↔◌, ◌⊎◌, ◌≤◌, true, [], All, drop, find, length, take, IfErr, IfOk, IfSome, IsOkUnless, IsTrue, OnErr, OnOk};
+ghost use Rattle.std.specs.Prelude.{◌≡◌, ◌↔◌, ◌⊎◌, ◌≤◌, false, true, [], All, drop, find, length, take, IfErr, IfOk, IfSome, IsOkUnless, IsTrue, OnErr, OnOk};
 ghost use Rattle.base_values.specs.FailingCalls.{called, next_fails};
 ghost use Rattle.mb_tables.specs.Described.{is_table, names_apart};
 ghost use Rattle.mb_tables.specs.Key.{IsInOrder, has_key};
 ghost use Rattle.mb_tables.specs.Schema.{set_tables};
 ghost use Rattle.mb_tables.specs.Table.{width};
 ghost use Rattle.mb_store.specs.Committing.{AreOfTables, Commits};
-ghost use Rattle.mb_store.specs.MemTables.{AreKeyed, IsKept};
+ghost use Rattle.mb_store.specs.Gathered.{IsHeld};
+ghost use Rattle.mb_store.specs.MemTables.{AreKeyed};
 ghost use Rattle.mb_store.specs.Sizes.{live_size_of};
 ghost use Rattle.mb_store.specs.Store.{created, is_duplicate, no_rows, with_row, without_rows};
 ghost use Rattle.mb_store.specs.Errors.{IsRowError, RefusesTwice};
 ghost use Rattle.mb_store.specs.Kept.{FaultsCounted};
 
 use crate::by_table::ByTable;
+use crate::gathered::Gathered;
 use crate::mem_tables::MemTables;
 use crate::{
     Changes, MbtError, MbtResult, MbtType, Row, RowKey, StoreError, TableDesc, TableName,
-    TileStore, committing, describing, mem_tables, reading, table_rows,
+    TileStore, committing, describing, gathering, mem_tables, reading, table_rows, taking,
 };
 use base_values::{FailingCalls, OutOfMemory};
 use std::alloc::Global;
 
-/// A store of tables in memory. The rows of a table stand in the order of their keys, rows of equal keys in order of arrival. A row
-/// goes to its place, and is found, by a number of comparisons that grows as the logarithm of the number of rows; so does each change of a commit.
+/// A store of tables in memory. The rows of a table stand in the order of their keys, rows of equal keys in order of arrival. A row is found, and goes to its place, by
+/// a number of comparisons that grows as the logarithm of the number of rows; so does each change of a commit. Rows of places that are pushed into an empty table are sorted once.
 #[derive(Debug, Drop)]
 pub struct MemStore {
     descriptions: Vec<TableDesc>,
     keyed: ByTable<bool>,
     tables: MemTables,
+    gathered: Gathered,
     failing: FailingCalls,
     ghost keys: { AreKeyed descriptions.items keyed },
-    ghost kept: { IsKept descriptions.items tables },
+    ghost kept: { IsHeld descriptions.items tables gathered },
 }
 
 #[tactic(auto, unfolding(crate::specs::MemStore::told_of, crate::specs::MemStore::failing_of, crate::specs::MemStore::faults_of, crate::specs::MemStore::IsSteady))]
 impl MemStore {
-    ghost use Rattle.mb_store.specs.MemStore.{told_of, failing_of, faults_of, IsSteady};
+    ghost use Rattle.mb_store.specs.MemStore.{told_of, failing_of, faults_of, IsPlain, IsSteady};
 
     /// A store without tables. No call of it fails.
     pub fn new(alloc: Global) -> MemStore
@@ -70,6 +73,7 @@ impl MemStore {
             keyed: mem_tables::keyed_tables(descriptions.as_slice()),
             descriptions,
             tables: mem_tables::no_rows(alloc),
+            gathered: Gathered::none(alloc),
             failing: FailingCalls::none(alloc),
         }
     }
@@ -88,7 +92,18 @@ impl MemStore {
         ensures steady { IsSteady self.new ↔ IsSteady self.old }
     {
         let keyed = *self.keyed.of(table);
-        mem_tables::push(&mut self.tables, table, keyed, row)
+        gathering::push(&mut self.tables, &mut self.gathered, table, keyed, row)
+    }
+
+    // Moves the rows that are gathered into the ordered sets. Refused, all is told as before.
+    fn settle(&mut self) -> Result<(), OutOfMemory>
+        ensures told { told_of self.new ≡ told_of self.old }
+        ensures plain { OnOk result (IsPlain self.new) }
+        ensures none { OnOk result (self.new.gathered.rows.items ≡ []) }
+        ensures closed { self.new.gathered.is_open ≡ false }
+        ensures failing { self.new.failing ≡ self.old.failing }
+    {
+        gathering::settle(&mut self.tables, &mut self.gathered)
     }
 
     /// The descriptions of all tables and views.
@@ -108,15 +123,14 @@ impl MemStore {
         ensures failing { failing_of self.new ≡ failing_of self.old }
         ensures steady { IsSteady self.new ↔ IsSteady self.old }
     {
-        let rows = mem_tables::take(alloc, &mut self.tables, table);
-        reading::into_rows(alloc, rows)
+        taking::take(alloc, &mut self.tables, &mut self.gathered, table)
     }
 
     /// The rows of a table stand in the order of their keys, whatever was pushed and committed.
     pub fn rows_in_order(&self, table: TableName)
         ensures { IsInOrder table ((told_of self.now).rows table) }
     {
-        let _ = self.tables.of(table).iter();
+        taking::in_order(&self.tables, &self.gathered, table);
     }
 
     /// From here on the calls of a store with these numbers fail, counted from 1 over all calls that this store has been asked.
@@ -172,6 +186,7 @@ impl TileStore for MemStore {
         if self.failing.fails() {
             return Err(StoreError::Fault);
         }
+        self.settle()?;
         Ok(self.tables.of(table).len())
     }
 
@@ -197,8 +212,8 @@ impl TileStore for MemStore {
         if self.failing.fails() {
             return Err(StoreError::Fault);
         }
-        let rows = self.tables.of(table);
-        Ok(reading::page_of(alloc, rows, from, limit)?)
+        self.settle()?;
+        Ok(reading::page_of(alloc, self.tables.of(table), from, limit)?)
     }
 
     fn find(
@@ -221,6 +236,7 @@ impl TileStore for MemStore {
         if self.failing.fails() {
             return Err(StoreError::Fault);
         }
+        self.settle()?;
         Ok(table_rows::find_in(alloc, table, key, self.tables.of(table))?)
     }
 
@@ -257,6 +273,7 @@ impl TileStore for MemStore {
         if self.failing.fails() {
             return Err(StoreError::Fault);
         }
+        self.settle()?;
         committing::commit_all(alloc, changes.as_slice(), &mut self.tables)?;
         Ok(())
     }
@@ -274,6 +291,7 @@ impl TileStore for MemStore {
         if self.failing.fails() {
             return Err(StoreError::Fault);
         }
+        self.settle()?;
         Ok(mem_tables::live_size(&self.tables))
     }
 

@@ -1,9 +1,10 @@
 // The rows of the tables in memory.
-ghost use Rattle.std.specs.Prelude.{◌≡◌, length, ◌+◌, ◌-◌, ◌^◌, ◌&&◌, ◌↔◌, ◌⊎◌, true, [], IfErr, IsErrOf, OnErr, OnOk, min, sum_by};
+ghost use Rattle.std.specs.Prelude.{◌≡◌, length, ◌+◌, ◌-◌, ◌^◌, ◌&&◌, ◌↔◌, ◌⊎◌, true, [], cond, false, IfErr, IsErrOf, OnErr, OnOk, min, sum_by};
 ghost use Rattle.std.specs.List.{list_any};
 ghost use Rattle.mb_tables.specs.Key.{clash};
-ghost use Rattle.mb_tables.specs.Table.{width};
+ghost use Rattle.mb_tables.specs.Table.{table_eq, width};
 ghost use Rattle.mb_tables.specs.declared.table.TableName.{TableName};
+ghost use Rattle.mb_store.specs.ByTable.{at};
 ghost use Rattle.mb_store.specs.MemTables.{AreAllStored, AreKeyed, rows_at};
 ghost use Rattle.mb_store.specs.Sizes.{all_tables, row_size};
 ghost use Rattle.mb_store.specs.Store.{placed, with_rows};
@@ -16,6 +17,7 @@ use crate::table_rows::TableRows;
 use crate::{MbtError, MbtResult, Row, TableDesc, TableName, table_rows};
 use mb_tables::is_keyed;
 use std::alloc::Global;
+use std::mem;
 
 // The rows of each table.
 pub(crate) type MemTables = ByTable<TableRows>;
@@ -65,6 +67,8 @@ pub(crate) fn push(tables: &mut MemTables, table: TableName, keyed: bool, row: R
         (placed table row (rows_at tables.old table)) other) }
     ensures err { OnErr result ((other : TableName)
         → rows_at tables.new other ≡ rows_at tables.old other) }
+    ensures others { (other : TableName) → table_eq other table ≡ false
+        → at tables.new other ≡ at tables.old other }
     ensures stored { AreAllStored tables.new }
 {
     match table {
@@ -90,6 +94,8 @@ pub(crate) fn take(alloc: Global, tables: &mut MemTables, table: TableName) -> T
     ensures taken { rows_in result ≡ rows_at tables.old table }
     ensures left { (other : TableName)
         → rows_at tables.new other ≡ with_rows (rows_at tables.old) table [] other }
+    ensures others { (other : TableName) → table_eq other table ≡ false
+        → at tables.new other ≡ at tables.old other }
     ensures stored { AreAllStored tables.new }
 {
     match table {
@@ -101,6 +107,24 @@ pub(crate) fn take(alloc: Global, tables: &mut MemTables, table: TableName) -> T
         TableName::TilesData => tables.tiles_data.take(alloc),
         TableName::TileCache => tables.tile_cache.take(alloc),
         TableName::Metadata => tables.metadata.take(alloc),
+    }
+}
+
+// Puts other rows in the place of a table's, which are given back.
+pub(crate) fn exchange(tables: &mut MemTables, table: TableName, rows: TableRows) -> TableRows
+    ensures given { result ≡ at tables.old table }
+    ensures put { (other : TableName)
+        → at tables.new other ≡ cond (table_eq other table) rows (at tables.old other) }
+{
+    match table {
+        TableName::Tiles => mem::replace(&mut tables.tiles, rows),
+        TableName::TilesWithHash => mem::replace(&mut tables.tiles_with_hash, rows),
+        TableName::Map => mem::replace(&mut tables.map, rows),
+        TableName::Images => mem::replace(&mut tables.images, rows),
+        TableName::TilesShallow => mem::replace(&mut tables.tiles_shallow, rows),
+        TableName::TilesData => mem::replace(&mut tables.tiles_data, rows),
+        TableName::TileCache => mem::replace(&mut tables.tile_cache, rows),
+        TableName::Metadata => mem::replace(&mut tables.metadata, rows),
     }
 }
 

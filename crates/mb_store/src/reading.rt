@@ -1,6 +1,7 @@
 // Reading rows in the order of their keys.
 ghost use Rattle.std.specs.Prelude.{◌≡◌, ◌+◌, ◌-◌, ◌^◌, IfOk, drop, min, sum_by, take};
 ghost use Rattle.mb_store.specs.Sizes.{cell_size, row_size};
+ghost use Rattle.mb_store.specs.StoredRow.{rows_of};
 ghost use Rattle.mb_store.specs.TableRows.{rows_in};
 
 use crate::stored_row::StoredRow;
@@ -54,6 +55,17 @@ pub(crate) fn into_rows(alloc: Global, rows: TableRows) -> Result<Vec<Row>, OutO
     let TableRows { stored, next: _ } = rows;
     let mut all = Vec::with_capacity(alloc, stored.len())?;
     for row in stored {
+        all.push(row.into_row(alloc)?)?;
+    }
+    Ok(all)
+}
+
+// The rows of a list themselves, whose cells are moved.
+pub(crate) fn listed(alloc: Global, list: Vec<StoredRow>) -> Result<Vec<Row>, OutOfMemory>
+    ensures { IfOk result (λ all. all.items ≡ rows_of list.items) }
+{
+    let mut all = Vec::with_capacity(alloc, list.len())?;
+    for row in list {
         all.push(row.into_row(alloc)?)?;
     }
     Ok(all)

@@ -65,7 +65,7 @@ fn small_numbers(first: i64, second: i64, third: i64) -> Option<(u32, u32, u32)>
 }
 
 // The three numbers of a row's key, None where it isn't three numbers from 0 to 2^32 - 1.
-fn numbers_of(row: &[Cell]) -> Option<(u32, u32, u32)>
+pub(crate) fn numbers_of(row: &[Cell]) -> Option<(u32, u32, u32)>
     ensures { IfSome result (λ numbers. own_key row.now ≡ numbers_cells numbers) }
 {
     match row {
@@ -220,7 +220,7 @@ impl StoredRow {
     }
 
     // The order of two rows by their keys.
-    fn compare_keys(&self, other: &StoredRow) -> Ordering
+    pub fn compare_keys(&self, other: &StoredRow) -> Ordering
         ensures { result ≡ cells_cmp (own_key self.now.0) (own_key other.now.0) }
     {
         if self.is_numbered && other.is_numbered {

@@ -7,6 +7,7 @@ ghost use Rattle.mb_tables.specs.Cell.{is_null};
 ghost use Rattle.mb_tables.specs.Key.{IsInOrder, clash, has_key};
 ghost use Rattle.mb_tables.specs.Table.{key_of, width};
 ghost use Rattle.mb_store.specs.Store.{placed};
+ghost use Rattle.mb_store.specs.GatheredRows.{AreFirst, all_rows};
 ghost use Rattle.mb_store.specs.StoredRow.{Stored, is_early, stored_cmp};
 ghost use Rattle.mb_store.specs.TableRows.{AreStored, has_equal, rows_in};
 ghost use Rattle.mb_tables.specs.declared.table.TableName.{TableName};
@@ -120,14 +121,14 @@ fn has_null_key(table: TableName, row: &[Cell]) -> bool
 }
 
 // Whether a table that is keyed or not has at most one row of the row's key.
-fn is_single(table: TableName, keyed: bool, row: &[Cell]) -> bool
+pub(crate) fn is_single(table: TableName, keyed: bool, row: &[Cell]) -> bool
     ensures { result ≡ (keyed && not (list_any is_null (key_of table row.now))) }
 {
     keyed && !has_null_key(table, row)
 }
 
 // Whether rows have one with the key of this one, which has no number yet.
-fn has_equal(table: TableName, row: &StoredRow, rows: &TableRows) -> bool
+pub(crate) fn has_equal(table: TableName, row: &StoredRow, rows: &TableRows) -> bool
     requires wide { length row.now.0 ≡ width table }
     requires first { row.now.1 ≡ 0 }
     requires stored { AreStored table rows.now }
@@ -224,4 +225,48 @@ pub(crate) fn push(table: TableName, keyed: bool, row: Row, rows: &mut TableRows
         Ok(()) => Ok(()),
         Err(_) => Err(MbtError::OutOfMemory),
     }
+}
+
+// Puts a row of the number 0 at its place. Where memory is wanting it is given back.
+fn put(table: TableName, row: StoredRow, rows: &mut TableRows) -> Result<(), StoredRow>
+    requires wide { length row.0 ≡ width table }
+    requires first { row.1 ≡ 0 }
+    requires stored { AreStored table rows.old }
+    ensures ok { OnOk result
+        (rows.new.stored.keys ≡ insert_key stored_cmp rows.old.stored.keys row) }
+    ensures err { OnErr result (rows.new.stored.keys ≡ rows.old.stored.keys) }
+    ensures back { IfErr result (λ refused. refused ≡ row) }
+    ensures stored { AreStored table rows.new }
+{
+    if rows.stored.len() == usize::MAX {
+        return Err(row);
+    }
+    rows.next = rows.next.max(1);
+    match rows.stored.insert(row) {
+        Ok(_) => Ok(()),
+        Err(refused) => Err(refused.value),
+    }
+}
+
+// Puts the rows of a list at their places, the last first. Where memory is wanting those that are left stay in the list.
+pub(crate) fn put_all(
+    table: TableName,
+    list: &mut Vec<StoredRow>,
+    rows: &mut TableRows,
+) -> Result<(), OutOfMemory>
+    requires first { AreFirst table list.old.items }
+    requires stored { AreStored table rows.old }
+    ensures told { all_rows rows.new.stored.keys list.new.items
+        ≡ all_rows rows.old.stored.keys list.old.items }
+    ensures ok { OnOk result (list.new.items ≡ []) }
+    ensures first { AreFirst table list.new.items }
+    ensures stored { AreStored table rows.new }
+{
+    while let Some(row) = list.pop() {
+        if let Err(row) = put(table, row, rows) {
+            list.push_reserved(row);
+            return Err(OutOfMemory);
+        }
+    }
+    Ok(())
 }

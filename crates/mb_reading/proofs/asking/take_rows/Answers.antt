@@ -7,6 +7,7 @@ use Rattle.mb_reading.specs.Asking.{Refuses}
 use Rattle.mb_reading.specs.Filling.{NeverFails}
 use Rattle.mb_reading.proofs.AskLemmas.{begun, clean_before, commits_nothing, commits_then, ends, goes_on, refuses, refuses_on}
 use Rattle.mb_reading.proofs.asking.take_rows.Goals as goal
+use Rattle.mb_reading.proofs.asking.take_rows.Goals.{else-rows-test, then-rows-test+in_ok-advance+in-Some+then-is_err}
 
 pub returns-in_err-rows-clause-survives : goal.returns-in_err-rows-clause-survives
 returns-in_err-rows-clause-survives g c =
@@ -46,6 +47,25 @@ returns-in_err-advance-clause-refuses g c clean =
     let refused : Refuses c.args.text.now (state g.S.Store old) (state g.S.Store now) c.in_err-advance.field-0.0 =
     refuses_on c.args.text.now c.requires.asks g.S.Store old c.rows.rows.conn.now now c.rows.invariant.4 _ was.0 was.1 (c.in_err-advance.ensures.err late) in
     search rules
+
+pub returns-in_err-advance-clause-survives : goal.returns-in_err-advance-clause-survives
+returns-in_err-advance-clause-survives g c =
+    let now = c.advance.new.self.conn.now in
+    let kept = commits_then g.S.Store c.args.connection.now c.rows.rows.conn.now now c.rows.invariant.1 c.advance.ensures.survives in
+    search rules
+
+pub returns-in_default-clause-survives : goal.returns-in_default-clause-survives
+returns-in_default-clause-survives g c =
+    let now = c.advance.new.self.conn.now in
+    let kept = commits_then g.S.Store c.args.connection.now c.rows.rows.conn.now now c.rows.invariant.1 c.advance.ensures.survives in
+    search rules
+
+pub returns-clause-survives : goal.returns-clause-survives
+returns-clause-survives g c =
+    elim c.rows-test.branch [
+      | else-rows-test w ↦ search rules
+      | then-rows-test+in_ok-advance+in-Some+then-is_err w ↦ let kept = commits_then g.S.Store c.args.connection.now c.rows.rows.conn.now w.advance.new.self.conn.now c.rows.invariant.1 w.advance.ensures.survives in search rules
+    ]
 
 pub returns-in_default-clause-shown : goal.returns-in_default-clause-shown
 returns-in_default-clause-shown g c clean =

@@ -1,11 +1,11 @@
-use Rattle.std.proofs.Common.{◌≡◌, true, IfNone, IfSome, refl, subst}
+use Rattle.std.proofs.Common.{◌≡◌, ◌∙◌, true, ap, IfNone, IfSome, refl, subst}
 use Rattle.sqlite.specs.Held.{state}
 use Rattle.mb_store.specs.MemStore.{told_of}
 use Rattle.mb_tables.specs.declared.table.TableName.TheVariants.{Metadata}
 use Rattle.mb_reading.specs.Asking.{IsUnfit, ReadsTable}
 use Rattle.mb_reading.specs.Filling.{IsFilled}
-use Rattle.mb_reading.proofs.AskLemmas.{clean_before, stays_then}
-use Rattle.mb_reading.proofs.FillLemmas.{is_read}
+use Rattle.mb_reading.proofs.AskLemmas.{clean_before, commits_then, stays_then}
+use Rattle.mb_reading.proofs.FillLemmas.{has_tile_table, is_read}
 use Rattle.mb_reading.proofs.ReadLemmas.{lacks_contents, lacks_tiles, never_unfit, reads_layout}
 use Rattle.mb_reading.proofs.reading.read_layout.Goals as goal
 
@@ -91,3 +91,20 @@ returns-clause-told g c =
     let three = subst (λ o. IfSome o (λ full. IsFilled true c.tile_table.result more (told_of full))) c.in-Some-3.is c.in_ok-full.ensures.told in
     is_read c.args.layout c.args.has_names c.has_contents-has.result c.content_table-table.result c.tile_table.result none names more (told_of c.in-Some-3.full) c.in-Ok.ensures.told c.has_contents-has.ensures c.content_table-table.ensures
     c.tile_table.ensures one two three
+
+pub read_table-requires-3-clause-described : goal.read_table-requires-3-clause-described
+read_table-requires-3-clause-described g c _ =
+    let none = told_of c.in-Ok.store in
+    let names = told_of c.in-Some.named in
+    let held = told_of c.in-Some-2.held in
+    let one = subst (λ o. IfSome o (λ full. (told_of full).descriptions ≡ none.descriptions)) c.in-Some.is c.in_ok-named.ensures.described in
+    let two = subst (λ o. IfSome o (λ full. (told_of full).descriptions ≡ names.descriptions)) c.in-Some-2.is c.in_ok-held.ensures.described in
+    has_tile_table held.descriptions c.args.layout c.tile_table.result (two ∙ (one ∙ ap (λ t. t.descriptions) c.in-Ok.ensures.told)) c.tile_table.ensures
+
+pub returns-clause-survives : goal.returns-clause-survives
+returns-clause-survives g c =
+    let old = c.args.connection.now in
+    let first = c.read_table.new.connection in
+    let second = c.read_table-2.new.connection in
+    let to_second = commits_then g.S.Store old first second c.read_table.ensures.survives c.read_table-2.ensures.survives in
+    commits_then g.S.Store old second c.read_table-3.new.connection to_second c.read_table-3.ensures.survives

@@ -1,13 +1,13 @@
 use Rattle.std.proofs.Common.{◌∙◌}
 use Rattle.mb_store.specs.MemStore.{told_of}
-use Rattle.mb_store.proofs.Kept.{kept_pushed}
+use Rattle.mb_store.proofs.HeldLemmas.{held_pushed}
 use Rattle.mb_store.proofs.mem_store.MemStore.push_row.Goals as goal
 
 pub invariant_of-self : goal.invariant_of-self
 unfolding told_of
 invariant_of-self c = record {
   keys = c.args.self.now.keys;
-  kept = kept_pushed c.push.result c.args.self.now.descriptions.items c.args.self.now.tables c.push.new.tables c.args.table c.of-keyed.result.now c.args.row
-      (c.of-keyed.ensures ∙ c.args.self.now.keys c.args.table)
-      c.push.ensures.duplicate c.push.ensures.ok c.push.ensures.err c.push.ensures.stored c.requires.described c.requires.wide c.args.self.now.kept;
+  kept = held_pushed c.args.self.now.descriptions.items c.args.self.now.tables c.push.new.tables c.args.self.now.gathered c.push.new.gathered c.args.self.now.kept c.push.ensures.stored c.push.ensures.gathered
+      c.push.result c.args.table c.of-keyed.result.now c.args.row (c.of-keyed.ensures ∙ c.args.self.now.keys c.args.table)
+      c.push.ensures.duplicate c.push.ensures.ok c.push.ensures.err c.push.ensures.count c.requires.described c.requires.wide;
 }

@@ -1,0 +1,9 @@
+use Rattle.std.proofs.Common.{subst}
+use Rattle.std.specs.List.Sorted.{IsStrictlySortedBy}
+use Rattle.mb_store.specs.StoredRow.{stored_cmp}
+use Rattle.mb_store.specs.declared.table_rows.TableRows.{TableRows}
+use Rattle.mb_store.proofs.GatheredLemmas.{told_order}
+use Rattle.mb_store.proofs.taking.in_order.Goals as goal
+
+pub returns : goal.returns
+returns c = told_order c.args.tables.now c.args.gathered.now c.args.table (subst (λ (r : TableRows). IsStrictlySortedBy stored_cmp r.stored.keys) c.of.ensures c.iter.ensures.ordered) (c.requires.stored c.args.table) c.requires.gathered.rows
