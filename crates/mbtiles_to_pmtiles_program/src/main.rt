@@ -8,8 +8,8 @@ mod saying;
 use base_values::TextVal;
 use converting::convert_files;
 use program_words::{
-    OUTPUT_FAULT, hold_streams, print, print_for, say_out_of_memory, say_output_fault, say_usage,
-    text_of, words_of,
+    hold_streams, print, print_for, say_out_of_memory, say_output_fault, say_usage, text_of,
+    with_words, words_of,
 };
 use set_conversion::{ConversionOutcome, asked_of, conversion_status, conversion_text};
 use std::process::ExitCode;
@@ -70,31 +70,17 @@ fn convert_words(rt: &HostRuntime, words: &[TextVal]) -> ConversionOutcome {
     }
 }
 
-fn show(rt: &HostRuntime, text: &str) -> u8 {
-    let status = print_for(rt, text, 0);
-    if status == OUTPUT_FAULT {
-        say_output_fault(rt, TOOL);
-    }
-    status
-}
-
 fn run_words(rt: &HostRuntime, words: &[TextVal]) -> u8 {
     match text_of(words, HELP, VERSION) {
-        Some(text) => show(rt, text),
+        Some(text) => with_words(rt, TOOL, print_for(rt, text, 0)),
         None => conversion_status(&tell(rt, convert_words(rt, words))),
     }
 }
 
 fn status_of(rt: &HostRuntime) -> u8 {
-    match words_of(rt, rt.alloc()) {
-        Err(_) => {
-            say_out_of_memory(rt, TOOL);
-            conversion_status(&ConversionOutcome::OutOfMemory)
-        }
-        Ok(None) => {
-            say_usage(rt, TOOL);
-            conversion_status(&ConversionOutcome::Usage)
-        }
+    match words_of(rt, TOOL) {
+        Err(_) => conversion_status(&ConversionOutcome::OutOfMemory),
+        Ok(None) => conversion_status(&ConversionOutcome::Usage),
         Ok(Some(words)) => run_words(rt, words.as_slice()),
     }
 }

@@ -6,9 +6,8 @@ use mb_sqlite::SqliteStore;
 use mb_store::{MbtError, MbtType};
 use pm_format::FileBackend;
 use program_words::{
-    OUTPUT_FAULT, Put, Taken, hold_streams, print_for, put_beside, remove_made, say_beside_fault,
-    say_opening, say_out_of_memory, say_output_fault, say_source_fault, say_usage, take_beside,
-    text_of, words_of,
+    Put, Taken, hold_streams, print_for, put_beside, remove_made, say_beside_fault, say_opening,
+    say_out_of_memory, say_source_fault, say_usage, take_beside, text_of, with_words, words_of,
 };
 use set_import::{import_as_said, import_status, limit_of};
 use sqlite::{Connection, Error, ErrorCode};
@@ -153,14 +152,6 @@ fn say_refusal(rt: &HostRuntime, (from, to): (&str, &str), beside: &str, error: 
     };
 }
 
-// Says that a text can't be written, where that is the status.
-fn with_words(rt: &HostRuntime, status: u8) -> u8 {
-    if status == OUTPUT_FAULT {
-        say_output_fault(rt, TOOL);
-    }
-    status
-}
-
 // Whether a file stands beside the place of a database by whose name SQLite would take it for its log; 1 where it does.
 fn log_status(rt: &HostRuntime, to: &str, end: &str) -> u8 {
     let Ok(path) = format!(in rt.alloc(); "{to}{end}") else {
@@ -191,7 +182,7 @@ fn make_at(rt: &HostRuntime, source: &mut FileBackend, from: &str, to: &str, lim
     match take_beside(rt, TOOL, to) {
         Taken::Made(beside) => make(rt, source, (from, to), beside.as_str(), limit),
         Taken::There => 1,
-        Taken::Failed => with_words(rt, print_for(rt, "store fault\n", 6)),
+        Taken::Failed => with_words(rt, TOOL, print_for(rt, "store fault\n", 6)),
     }
 }
 
@@ -199,7 +190,7 @@ fn make_at(rt: &HostRuntime, source: &mut FileBackend, from: &str, to: &str, lim
 fn convert(rt: &HostRuntime, from: &str, to: &str, limit: u64) -> u8 {
     let Ok(mut source) = FileBackend::open(rt, from) else {
         say_source_fault(rt, TOOL, from);
-        return with_words(rt, print_for(rt, "source fault\n", 6));
+        return with_words(rt, TOOL, print_for(rt, "source fault\n", 6));
     };
     match logs_status(rt, to) {
         0 => make_at(rt, &mut source, from, to, limit),
@@ -224,16 +215,13 @@ fn run_words(rt: &HostRuntime, words: &[TextVal]) -> u8 {
 }
 
 fn status_of(rt: &HostRuntime) -> u8 {
-    let words = match words_of(rt, rt.alloc()) {
-        Err(_) => {
-            say_out_of_memory(rt, TOOL);
-            return import_status(&Err(ImportError::OutOfMemory));
-        }
-        Ok(None) => return usage(rt),
+    let words = match words_of(rt, TOOL) {
+        Err(_) => return import_status(&Err(ImportError::OutOfMemory)),
+        Ok(None) => return 2,
         Ok(Some(words)) => words,
     };
     match text_of(words.as_slice(), HELP, VERSION) {
-        Some(text) => with_words(rt, print_for(rt, text, 0)),
+        Some(text) => with_words(rt, TOOL, print_for(rt, text, 0)),
         None => run_words(rt, words.as_slice()),
     }
 }

@@ -16,7 +16,9 @@ use base_values::TextVal;
 pub use beside::{Put, Taken, put_beside, remove_made, say_beside_fault, take_beside};
 pub use destination::{Before, leave_destination, say_medium_fault, take_destination};
 pub use over::{are_one_file, put_over, take_over};
-pub use said::{say_opening, say_out_of_memory, say_output_fault, say_source_fault, say_usage};
+pub use said::{
+    say_opening, say_out_of_memory, say_output_fault, say_source_fault, say_usage, with_words,
+};
 use std::alloc::{AllocError, Global};
 use std::env;
 use std::io::{ErrorKind, Write};
@@ -29,8 +31,18 @@ pub const OUTPUT_FAULT: u8 = 5;
 /// The line of a run that memory ran out for. It stands here since making it may find no memory either.
 pub const OUT_OF_MEMORY: &str = "out of memory\n";
 
-/// The words after the program's name, where each of them is a text; refused where memory runs out.
-pub fn words_of(rt: &HostRuntime, alloc: Global) -> Result<Option<Vec<TextVal>>, AllocError> {
+/// The words after the program's name, where each of them is a text; refused where memory runs out. Standard error says why none are given.
+pub fn words_of(rt: &HostRuntime, tool: &str) -> Result<Option<Vec<TextVal>>, AllocError> {
+    let words = given_words(rt, rt.alloc());
+    match &words {
+        Err(_) => say_out_of_memory(rt, tool),
+        Ok(None) => say_usage(rt, tool),
+        Ok(Some(_)) => {}
+    }
+    words
+}
+
+fn given_words(rt: &HostRuntime, alloc: Global) -> Result<Option<Vec<TextVal>>, AllocError> {
     let args = match env::args(rt) {
         Ok(args) => args,
         Err(error) if error.kind() == ErrorKind::OutOfMemory => return Err(AllocError),

@@ -1,4 +1,5 @@
 // What programs say on standard error. Where that can't be written, nothing is said.
+use crate::OUTPUT_FAULT;
 use pm_format::{PmtError, ReadCause};
 use std::fs::File;
 
@@ -31,6 +32,14 @@ pub fn say_output_fault(rt: &HostRuntime, tool: &str) {
     let _ = eprintln!(rt;
         "{tool}: standard output can't be written: it is closed, nobody reads it, or its disk is full"
     );
+}
+
+/// Says that a text can't be written, where that is the status, and gives the status.
+pub fn with_words(rt: &HostRuntime, tool: &str, status: u8) -> u8 {
+    if status == OUTPUT_FAULT {
+        say_output_fault(rt, tool);
+    }
+    status
 }
 
 /// Says that the words of the command line are none of the program's.

@@ -4,9 +4,9 @@
 use base_values::TextVal;
 use pm_format::{FileBackend, FileMedium};
 use program_words::{
-    Before, OUTPUT_FAULT, hold_streams, leave_destination, print_for, say_medium_fault,
-    say_opening, say_out_of_memory, say_output_fault, say_source_fault, say_usage,
-    take_destination, text_of, words_of,
+    Before, hold_streams, leave_destination, print_for, say_medium_fault, say_opening,
+    say_out_of_memory, say_source_fault, say_usage, take_destination, text_of, with_words,
+    words_of,
 };
 use std::process::ExitCode;
 use tile_extract::{ExtractError, ExtractOutcome, extract_status, run_extract};
@@ -108,23 +108,15 @@ fn say_refusal(rt: &HostRuntime, (from, to): (&str, &str), error: &ExtractError)
     };
 }
 
-// Says that a text can't be written, where that is the status.
-fn with_words(rt: &HostRuntime, status: u8) -> u8 {
-    if status == OUTPUT_FAULT {
-        say_output_fault(rt, TOOL);
-    }
-    status
-}
-
 // Extracts from a file to a file, which are opened first.
 fn extract_files(rt: &HostRuntime, from: &str, to: &str, words: &[TextVal]) -> u8 {
     let fault = extract_status(&medium_fault());
     let Ok(mut source) = FileBackend::open(rt, from) else {
         say_source_fault(rt, TOOL, from);
-        return with_words(rt, print_for(rt, "source fault\n", fault));
+        return with_words(rt, TOOL, print_for(rt, "source fault\n", fault));
     };
     let Some(before) = take_destination(rt, TOOL, to) else {
-        return with_words(rt, print_for(rt, "medium fault\n", fault));
+        return with_words(rt, TOOL, print_for(rt, "medium fault\n", fault));
     };
     extract_status(&extract_taken(rt, &mut source, (from, to), words, before))
 }
@@ -141,19 +133,13 @@ fn run_words(rt: &HostRuntime, words: &[TextVal]) -> u8 {
 }
 
 fn status_of(rt: &HostRuntime) -> u8 {
-    let words = match words_of(rt, rt.alloc()) {
-        Err(_) => {
-            say_out_of_memory(rt, TOOL);
-            return extract_status(&ExtractOutcome::OutOfMemory);
-        }
-        Ok(None) => {
-            say_usage(rt, TOOL);
-            return extract_status(&ExtractOutcome::Usage);
-        }
+    let words = match words_of(rt, TOOL) {
+        Err(_) => return extract_status(&ExtractOutcome::OutOfMemory),
+        Ok(None) => return extract_status(&ExtractOutcome::Usage),
         Ok(Some(words)) => words,
     };
     match text_of(words.as_slice(), HELP, VERSION) {
-        Some(text) => with_words(rt, print_for(rt, text, 0)),
+        Some(text) => with_words(rt, TOOL, print_for(rt, text, 0)),
         None => run_words(rt, words.as_slice()),
     }
 }

@@ -5,8 +5,8 @@ use base_values::TextVal;
 use byte_streams::{StdSink, StdSource};
 use pm_format::FileBackend;
 use program_words::{
-    OUTPUT_FAULT, hold_streams, print_for, say_opening, say_out_of_memory, say_output_fault,
-    say_source_fault, say_usage, text_of, words_of,
+    hold_streams, print_for, say_opening, say_out_of_memory, say_output_fault, say_source_fault,
+    say_usage, text_of, with_words, words_of,
 };
 use std::process::ExitCode;
 use tile_serve::{ServeError, ServeOutcome, run_serve, serve_status};
@@ -45,8 +45,8 @@ const TOOL: &str = "tile_serve";
 fn serve_file(rt: &HostRuntime, path: &str, words: &[TextVal]) -> u8 {
     let Ok(mut source) = FileBackend::open(rt, path) else {
         say_source_fault(rt, TOOL, path);
-        let fault = ServeOutcome::Refused(ServeError::Fault);
-        return with_words(rt, print_for(rt, "source fault\n", serve_status(&fault)));
+        let fault = serve_status(&ServeOutcome::Refused(ServeError::Fault));
+        return with_words(rt, TOOL, print_for(rt, "source fault\n", fault));
     };
     let mut input = StdSource::new(rt.stdin());
     let mut output = StdSink::new(rt.stdout());
@@ -81,14 +81,6 @@ fn say_refusal(rt: &HostRuntime, path: &str, error: &ServeError) {
     };
 }
 
-// Says that a text can't be written, where that is the status.
-fn with_words(rt: &HostRuntime, status: u8) -> u8 {
-    if status == OUTPUT_FAULT {
-        say_output_fault(rt, TOOL);
-    }
-    status
-}
-
 // Without a word for the file nothing is printed on standard output.
 fn run_words(rt: &HostRuntime, words: &[TextVal]) -> u8 {
     match words.split_first() {
@@ -101,19 +93,13 @@ fn run_words(rt: &HostRuntime, words: &[TextVal]) -> u8 {
 }
 
 fn status_of(rt: &HostRuntime) -> u8 {
-    let words = match words_of(rt, rt.alloc()) {
-        Err(_) => {
-            say_out_of_memory(rt, TOOL);
-            return serve_status(&ServeOutcome::OutOfMemory);
-        }
-        Ok(None) => {
-            say_usage(rt, TOOL);
-            return serve_status(&ServeOutcome::Usage);
-        }
+    let words = match words_of(rt, TOOL) {
+        Err(_) => return serve_status(&ServeOutcome::OutOfMemory),
+        Ok(None) => return serve_status(&ServeOutcome::Usage),
         Ok(Some(words)) => words,
     };
     match text_of(words.as_slice(), HELP, VERSION) {
-        Some(text) => with_words(rt, print_for(rt, text, 0)),
+        Some(text) => with_words(rt, TOOL, print_for(rt, text, 0)),
         None => run_words(rt, words.as_slice()),
     }
 }

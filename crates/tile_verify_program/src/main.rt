@@ -4,8 +4,8 @@
 use base_values::TextVal;
 use pm_format::FileBackend;
 use program_words::{
-    OUT_OF_MEMORY, OUTPUT_FAULT, hold_streams, print_for, say_opening, say_out_of_memory,
-    say_output_fault, say_source_fault, say_usage, text_of, words_of,
+    OUT_OF_MEMORY, hold_streams, print_for, say_opening, say_out_of_memory, say_source_fault,
+    say_usage, text_of, with_words, words_of,
 };
 use std::process::ExitCode;
 use tile_verify::{VerifyError, VerifyOutcome, run_verify, verify_line, verify_status};
@@ -93,21 +93,13 @@ fn say_refusal(rt: &HostRuntime, path: &str, error: &VerifyError) {
     };
 }
 
-// Says that a text can't be written, where that is the status.
-fn with_words(rt: &HostRuntime, status: u8) -> u8 {
-    if status == OUTPUT_FAULT {
-        say_output_fault(rt, TOOL);
-    }
-    status
-}
-
 // Without a word for the file nothing is printed on standard output.
 fn run_words(rt: &HostRuntime, words: &[TextVal]) -> u8 {
     match words.split_first() {
         Some((path, rest)) => {
             let outcome = verify_file(rt, path.as_str(), rest);
             say_outcome(rt, path.as_str(), &outcome);
-            with_words(rt, tell(rt, &outcome))
+            with_words(rt, TOOL, tell(rt, &outcome))
         }
         None => {
             say_usage(rt, TOOL);
@@ -117,19 +109,13 @@ fn run_words(rt: &HostRuntime, words: &[TextVal]) -> u8 {
 }
 
 fn status_of(rt: &HostRuntime) -> u8 {
-    let words = match words_of(rt, rt.alloc()) {
-        Err(_) => {
-            say_out_of_memory(rt, TOOL);
-            return tell(rt, &VerifyOutcome::OutOfMemory);
-        }
-        Ok(None) => {
-            say_usage(rt, TOOL);
-            return tell(rt, &VerifyOutcome::Usage);
-        }
+    let words = match words_of(rt, TOOL) {
+        Err(_) => return tell(rt, &VerifyOutcome::OutOfMemory),
+        Ok(None) => return tell(rt, &VerifyOutcome::Usage),
         Ok(Some(words)) => words,
     };
     match text_of(words.as_slice(), HELP, VERSION) {
-        Some(text) => with_words(rt, print_for(rt, text, 0)),
+        Some(text) => with_words(rt, TOOL, print_for(rt, text, 0)),
         None => run_words(rt, words.as_slice()),
     }
 }

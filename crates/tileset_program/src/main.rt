@@ -189,30 +189,14 @@ fn advice_on(error: &MbtError) -> &'static str {
     }
 }
 
-// Prints a text that was asked for.
-fn show(rt: &HostRuntime, text: &str) -> Outcome {
-    if print(rt, text) {
-        Outcome::Done
-    } else {
-        say_output_fault(rt, TOOL);
-        Outcome::OutputFault
-    }
-}
-
 fn outcome_of(rt: &HostRuntime) -> Outcome {
-    let words = match words_of(rt, rt.alloc()) {
-        Err(_) => {
-            say_out_of_memory(rt, TOOL);
-            return tell(rt, Outcome::OutOfMemory);
-        }
-        Ok(None) => {
-            say_usage(rt, TOOL);
-            return tell(rt, Outcome::Usage);
-        }
+    let words = match words_of(rt, TOOL) {
+        Err(_) => return tell(rt, Outcome::OutOfMemory),
+        Ok(None) => return tell(rt, Outcome::Usage),
         Ok(Some(words)) => words,
     };
     match text_of(words.as_slice(), HELP, VERSION) {
-        Some(text) => show(rt, text),
+        Some(text) => tell_line(rt, Outcome::Done, text),
         None => tell(rt, convert_words(rt, words.as_slice())),
     }
 }
