@@ -77,12 +77,6 @@ module _ (layout : MbtType) (has_names has : Bool) (contents tiles : TableName) 
   unfolding LacksLayout
   lacks_tiles two odd = (names, named, inr (more, held two, subst (λ table. IsUnfit true table s more) last (unfit_before true tiles s b more to_b odd)))
 
--- a flat set lacks no table
-pub never_lacks : (has_names : Bool) (s : State) → ¬ LacksLayout Flat has_names s
-unfolding LacksLayout IsUnfit
-never_lacks has_names s (names, read, inl odd) = let e = odd.0 in cc
-never_lacks has_names s (names, read, inr (contents, more, odd)) = let e = odd.1 in cc
-
 pub reads_layout_before : (layout : MbtType) (has_names : Bool) (s a : State) (t : Tables) → Stays s a → ReadsLayout layout has_names a t → ReadsLayout layout has_names s t
 unfolding ReadsLayout
 reads_layout_before layout has_names s a t stays (names, contents, one, two, three) =

@@ -14,9 +14,9 @@ use Rattle.mb_tables.specs.declared.error.MbtError.TheVariants as stores
 use Rattle.pm_format.specs.declared.error.PmtError.{PmtError}
 use Rattle.pm_format.specs.declared.error.PmtError.TheVariants as errors
 use Rattle.pm_format.specs.declared.error.ReadCause.TheVariants as causes
-use Rattle.set_import.specs.Filling.{DoesntLoad, IsAnsweredAs, IsFilledAs, IsWriteFailure, MadeCauses}
+use Rattle.set_import.specs.Filling.{DoesntLoad, IsAnsweredAs, IsFilledAs, IsWriteFailure}
 use Rattle.set_import.specs.Said.{SaidAnswers, SaidCauses}
-use Rattle.tile_import.specs.Import.{ArchiveCauses, ImportCauses, IsAnswered, IsImported, import_due, of_store_error}
+use Rattle.tile_import.specs.Import.{ImportCauses, IsAnswered, IsImported, import_due, of_store_error}
 use Rattle.tile_import.specs.Refusals.{IsRead, is_free}
 use Rattle.tile_import.specs.declared.error.ImportError.{ImportError}
 use Rattle.tile_import.specs.declared.error.ImportError.TheVariants.{Archive, Store, OutOfMemory}
@@ -99,11 +99,6 @@ unmade_causes most before now f new (Store e) c = absurd c
 unmade_causes most before now f new e c = absurd c
 
 -- an import that ends with fewer faults counted at the start
-archive_from : (f m now : ℕ) (e : PmtError) → f ≤ m → ArchiveCauses m now e → ArchiveCauses f now e
-archive_from f m now (errors.Reading causes.Fault) le c = rose_before f m now le c
-archive_from f m now (errors.Reading causes.PastEnd) le c = c
-archive_from f m now e le c = c
-
 store_from : (most before now f m new : ℕ) (e : MbtError) → f ≤ m → ImportCauses most before now m new (Err (Store e)) → ImportCauses most before now f new (Err (Store e))
 store_from most before now f m new stores.StoreFault le c = rose_before f m new le c
 store_from most before now f m new e le c = c
@@ -113,30 +108,6 @@ pub later_store : (most before now f m new : ℕ) (r : Result ℕ ImportError) �
 later_store most before now f m new (Ok n) le c = c
 later_store most before now f m new (Err (Store e)) le c = store_from most before now f m new e le c
 later_store most before now f m new (Err e) le c = c
-
--- and where the archive was read before
-made_archive : (most f m now old new : ℕ) (e : PmtError) → f ≤ m → ArchiveCauses m now e → MadeCauses most f now old new (Err (Archive e))
-made_archive most f m now old new errors.InvalidMetadata le c = tt
-made_archive most f m now old new errors.InvalidMetadataUtf8Encoding le c = tt
-made_archive most f m now old new (errors.Reading causes.Fault) le c = rose_before f m now le c
-made_archive most f m now old new (errors.Reading causes.PastEnd) le c = c
-made_archive most f m now old new e le c = c
-
-pub later_archive : (most f m now old new : ℕ) (r : Result ℕ ImportError) → f ≤ m → ImportCauses most m now old new r → MadeCauses most f now old new r
-later_archive most f m now old new (Ok n) le c = c
-later_archive most f m now old new (Err (Archive e)) le c = made_archive most f m now old new e le c
-later_archive most f m now old new (Err e) le c = c
-
--- what the archive says of itself can't be read
-unsaid_causes : (most before now old new : ℕ) (e : PmtError) → SaidCauses before now (Archive e) → MadeCauses most before now old new (Err (Archive e))
-unsaid_causes most before now old new errors.InvalidMetadata c = tt
-unsaid_causes most before now old new errors.InvalidMetadataUtf8Encoding c = tt
-unsaid_causes most before now old new e c = c
-
-pub unread_causes : (most before now old new : ℕ) (e : ImportError) → SaidCauses before now e → MadeCauses most before now old new (Err e)
-unread_causes most before now old new (Archive e) c = unsaid_causes most before now old new e c
-unread_causes most before now old new OutOfMemory c = tt
-unread_causes most before now old new e c = absurd c
 
 unsaid_answer : (told : Option (List ℕ)) (most : ℕ) (tells : Bool) (store : Tables) (e : PmtError) → IfSome told (λ b. SaidAnswers b (Err (Archive e))) → IsAnsweredAs most told tells store (Err (Archive e))
 unsaid_answer told most tells store (errors.Reading causes.Fault) h = inr (inl refl)
