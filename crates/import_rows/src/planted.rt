@@ -1,5 +1,4 @@
 // Archives in which faults are planted, by edits of the bytes that are held, and what is said of each.
-ghost use Rattle.std.specs.Prelude.{◌≡◌};
 ghost use Rattle.pm_reader.specs.Tied.{IsTied};
 
 use crate::archives::{backend_of, by_reader, by_view};

@@ -1,5 +1,5 @@
 // A database file or its log as `sqlite` calls it: a file that is only read, or another disk.
-ghost use Rattle.std.specs.Prelude.{◌≡◌, false};
+ghost use Rattle.std.specs.Prelude.{false};
 ghost use Rattle.mb_reading.specs.DiskFile.{fair_when_clean, faults_of, is_clean_of, is_fair_of, is_usable_of, key_of, may_leave_of, seen_of, seen_stays, tally_of};
 
 use crate::read_only::ReadOnly;

@@ -1,13 +1,11 @@
 // What each call does, with an answer whose fault isn't counted yet. The first one makes the tables that aren't there.
 ghost use Rattle.std.specs.Prelude.{◌≡◌, ◌≤◌, false, true, [], All, IfOk, IfSome, IsErrOf, OnErr, OnOk, length};
 ghost use Rattle.mb_tables.specs.Schema.{set_tables};
-ghost use Rattle.mb_tables.specs.Described.{is_table};
 ghost use Rattle.mb_tables.specs.Table.{width};
 ghost use Rattle.mb_sqlite.specs.Calls.{ChangesOnce, CommitsChanges, HasTable, IsInside, IsPrepared, LeavesStore, MakesOnce, OnlyMakes, RefusesStore, Saw};
 ghost use Rattle.mb_sqlite.specs.Committing.{KeepsCommitted};
 ghost use Rattle.mb_sqlite.specs.Creation.{are_named};
 ghost use Rattle.mb_sqlite.specs.Cursor.{MovesPast};
-ghost use Rattle.mb_sqlite.specs.Making.{AreChanged, AreMade, begun};
 ghost use Rattle.mb_sqlite.specs.Reading.{IsCounted, IsFound};
 ghost use Rattle.mb_sqlite.specs.Sizing.{IsLiveSize};
 

@@ -1,7 +1,5 @@
 // Making the tables and views of a layout that aren't there.
 ghost use Rattle.std.specs.Prelude.{◌≡◌, Ok, false, true, IfOk, IsErrOf, MatchBool, OnErr, OnOk};
-ghost use Rattle.sqlite.specs.Held.{state};
-ghost use Rattle.sqlite.specs.State.{HasCleanDisk};
 ghost use Rattle.mb_sqlite.specs.Committing.{CommitsNothing, CommitsOnce};
 ghost use Rattle.mb_sqlite.specs.Creation.{making_order};
 ghost use Rattle.mb_sqlite.specs.Making.{AreMade, ArePassed, ArePrepared, Arises, IsThere, Stays, begun};

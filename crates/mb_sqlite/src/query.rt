@@ -1,7 +1,7 @@
 // Questions to the database inside a transaction.
 ghost use Rattle.std.specs.Prelude.{◌≡◌, Ok, IfOk, IfSome, OnOk, length};
 ghost use Rattle.sqlite.specs.Held.{state};
-ghost use Rattle.sqlite.specs.State.{HasCleanDisk, QueriesRowInside, Shown};
+ghost use Rattle.sqlite.specs.State.{QueriesRowInside, Shown};
 ghost use Rattle.sqlite.specs.Values.{bound};
 ghost use Rattle.mb_tables.specs.Table.{width};
 ghost use Rattle.mb_sqlite.specs.Committing.{CommitsNothing};

@@ -1,10 +1,8 @@
 // Reading the database. Each call reads in a transaction that is rolled back, so that it commits nothing.
-ghost use Rattle.std.specs.Prelude.{◌≡◌, ◌≤◌, false, true, All, IfOk, IfSome, IsErrOf, OnErr, length};
+ghost use Rattle.std.specs.Prelude.{◌≡◌, ◌≤◌, true, All, IfOk, IfSome, IsErrOf, OnErr, length};
 ghost use Rattle.mb_tables.specs.Table.{width};
-ghost use Rattle.sqlite.specs.Held.{state};
-ghost use Rattle.sqlite.specs.State.{HasCleanDisk};
 ghost use Rattle.mb_sqlite.specs.Committing.{CommitsNothing};
-ghost use Rattle.mb_sqlite.specs.Resting.{IdleRests, IfClean, Rests};
+ghost use Rattle.mb_sqlite.specs.Resting.{IdleRests, IfClean};
 ghost use Rattle.mb_sqlite.specs.Sizing.{IsLiveSize};
 ghost use Rattle.mb_sqlite.specs.Cursor.{MovesPast};
 ghost use Rattle.mb_sqlite.specs.Reading.{ArePaged, IsCounted, IsFound, Within};

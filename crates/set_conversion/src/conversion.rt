@@ -1,5 +1,5 @@
 // The conversion of a set with the options that it says of itself.
-ghost use Rattle.std.specs.Prelude.{◌≡◌, ◌+◌, ◌∷◌, map, ℕ, IfOk, IsErrOf};
+ghost use Rattle.std.specs.Prelude.{◌+◌, ◌∷◌, map, ℕ, IfOk, IsErrOf};
 ghost use Rattle.base_values.specs.Counts.{Rose};
 ghost use Rattle.byte_media.specs.Kept.{KeepsMedium};
 ghost use Rattle.mb_store.specs.Kept.{Keeps};

@@ -1,5 +1,5 @@
 -- Refusals of an archive, and why they come.
-use Rattle.std.proofs.Common.{◌≡◌, ◌∙◌, ◌+◌, ◌≤◌, ◌<◌, ◌^◌, inl, inr, ℕ, true, false, nat_le, if◌then◌else◌, List, [], Option, Some, None, IfSome, Result, Ok, Err, refl, ap, sym, subst, arith}
+use Rattle.std.proofs.Common.{◌≡◌, ◌∙◌, ◌+◌, ◌≤◌, ◌<◌, ◌^◌, inl, inr, ℕ, false, nat_le, if◌then◌else◌, List, [], Option, Some, None, IfSome, Result, Ok, Err, refl, ap, sym, subst, arith}
 use Rattle.std.proofs.lemmas.Bool.{true≢false}
 use Rattle.std.proofs.lemmas.Bool.Decides.{nat_tests}
 use Rattle.std.specs.Option.{option_map}

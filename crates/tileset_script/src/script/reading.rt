@@ -1,5 +1,5 @@
 // Scripts, a line at a time.
-ghost use Rattle.std.specs.Prelude.{◌≡◌, ◌<◌, ◌≤◌, ◌+◌, ◌-◌, ◌^◌, List, ℕ, IfOk, IfSome, MatchOption, OnOk, length};
+ghost use Rattle.std.specs.Prelude.{◌<◌, ◌+◌, ◌-◌, ◌^◌, IfOk, IfSome, OnOk, length};
 ghost use Rattle.std.specs.Option.{option_and_then, option_copied};
 ghost use Rattle.line_words.specs.Lines.{lines_of};
 ghost use Rattle.line_words.specs.Parting.{HasNo};
