@@ -10,7 +10,7 @@ use Rattle.archive_metadata.specs.Document.{IsOfMembers, document_of, format_of,
 use Rattle.archive_metadata.specs.Parting.{names_in, with_name, with_names}
 use Rattle.mb_metadata.specs.Inserting.{JsonMap}
 use Rattle.pm_format.specs.declared.header.Header.{Header}
-use Rattle.serde_json.specs.Data.{Data, null, boolean, number, string, array, object, Members, no_members, member}
+use Rattle.serde_json.specs.Data.{Data, string, Members, no_members, member}
 use Rattle.set_options.specs.ArchiveJson.{is_left_out}
 use Rattle.tile_json.specs.declared.document.TileJson.{TileJson}
 
@@ -36,12 +36,8 @@ text_unnamed true m k text is h = h
 text_unnamed false m k text is h = put_other m k (string text) (apart_from k is) h
 
 name_unnamed : (m : JsonMap) (k : List ℕ) (d : Data) → get m hash_name ≡ None → get (with_name m k d) hash_name ≡ None
-name_unnamed m k null h = h
-name_unnamed m k (boolean b) h = h
-name_unnamed m k (number n) h = h
 name_unnamed m k (string text) h = text_unnamed (is_left_out k) m k text refl h
-name_unnamed m k (array ds) h = h
-name_unnamed m k (object ms) h = h
+name_unnamed m k x h = h
 
 names_unnamed : (m : JsonMap) (ms : Members) → get m hash_name ≡ None → get (with_names m ms) hash_name ≡ None
 names_unnamed m no_members h = h

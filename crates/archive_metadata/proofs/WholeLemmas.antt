@@ -10,7 +10,7 @@ use Rattle.archive_metadata.specs.Document.{IsOfMembers, document_of, format_of,
 use Rattle.archive_metadata.specs.Parting.{names_in, with_name, with_names}
 use Rattle.mb_metadata.specs.Inserting.{HasNoFloat, IsWithoutFloat, JsonMap}
 use Rattle.pm_format.specs.declared.header.Header.{Header}
-use Rattle.serde_json.specs.Data.{Data, null, boolean, number, string, array, object, Members, no_members, member}
+use Rattle.serde_json.specs.Data.{Data, string, Members, no_members, member}
 use Rattle.serde_json.specs.Written.{has_float}
 use Rattle.set_options.specs.ArchiveJson.{is_left_out}
 use Rattle.tile_json.specs.declared.document.TileJson.{TileJson}
@@ -38,12 +38,8 @@ text_whole true m k text h = h
 text_whole false m k text h = insert_whole m k (string text) refl h
 
 name_whole : (m : JsonMap) (k : List ℕ) (d : Data) → HasNoFloat m → HasNoFloat (with_name m k d)
-name_whole m k null h = h
-name_whole m k (boolean b) h = h
-name_whole m k (number n) h = h
 name_whole m k (string text) h = text_whole (is_left_out k) m k text h
-name_whole m k (array ds) h = h
-name_whole m k (object ms) h = h
+name_whole m k x h = h
 
 names_whole : (m : JsonMap) (ms : Members) → HasNoFloat m → HasNoFloat (with_names m ms)
 names_whole m no_members h = h

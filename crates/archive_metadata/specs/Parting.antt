@@ -7,12 +7,8 @@ use Rattle.set_options.specs.ArchiveJson.{is_left_out}
 
 -- the names with a member more: a text, unless the header says it, or it says nothing of an archive
 abbrev pub with_name : JsonMap → List ℕ → Data → JsonMap
-with_name names name null = names
-with_name names name (boolean b) = names
-with_name names name (number n) = names
 with_name names name (string text) = cond (is_left_out name) names (insert names name (string text))
-with_name names name (array ds) = names
-with_name names name (object ms) = names
+with_name names name _ = names
 
 -- what `json` keeps with a member more: any that becomes no name
 abbrev pub with_kept : Members → List ℕ → Data → Members

@@ -61,18 +61,14 @@ is_digest t = (length t == 16 || length t == 32) && list_all is_ascii_hexdigit t
 -- a digest, or null
 abbrev pub digest_cell : Value → Option Cell
 digest_cell sql.Null = Some Null
-digest_cell (sql.Int n) = None
-digest_cell (sql.Real x) = None
 digest_cell (sql.Text t) = cond (is_digest t) (text_cell t) None
-digest_cell (sql.Blob b) = None
+digest_cell _ = None
 
 -- the number of contents, or null
 abbrev pub number_cell : Value → Option Cell
 number_cell sql.Null = Some Null
 number_cell (sql.Int n) = Some (Int n)
-number_cell (sql.Real x) = None
-number_cell (sql.Text t) = None
-number_cell (sql.Blob b) = None
+number_cell _ = None
 
 -- a text of the metadata: UTF-8 without a zero byte
 abbrev pub plain_cell : List ℕ → Option Cell
@@ -80,19 +76,13 @@ plain_cell t = cond (list_any (λ b. b == 0) t) None (text_cell t)
 
 -- a name of the metadata
 abbrev pub name_cell : Value → Option Cell
-name_cell sql.Null = None
-name_cell (sql.Int n) = None
-name_cell (sql.Real x) = None
 name_cell (sql.Text t) = cond (length t == 0) None (plain_cell t)
-name_cell (sql.Blob b) = None
+name_cell _ = None
 
 -- the text of a value, where it is one
 abbrev pub spelling_cell : Value → Option Cell
-spelling_cell sql.Null = None
-spelling_cell (sql.Int n) = None
-spelling_cell (sql.Real x) = None
 spelling_cell (sql.Text t) = plain_cell t
-spelling_cell (sql.Blob b) = None
+spelling_cell _ = None
 
 -- a value of the metadata: a number by the text that SQLite spells it in
 abbrev pub value_cell : Value → Value → Option Cell

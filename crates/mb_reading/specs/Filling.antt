@@ -13,7 +13,7 @@ use Rattle.mb_tables.specs.declared.table.TableName.{TableName}
 use Rattle.mb_tables.specs.declared.table.TableName.TheVariants.{Images, Metadata, Tiles}
 use Rattle.mb_reading.specs.declared.filling.Filling.{Filling}
 use Rattle.mb_reading.specs.declared.filling.Step.{Step}
-use Rattle.mb_reading.specs.declared.filling.Step.TheVariants.{Added, Outside, Repeated, Odd}
+use Rattle.mb_reading.specs.declared.filling.Step.TheVariants.{Added, Outside}
 use Rattle.sqlite_value.specs.Order.{Row}
 use Rattle.mb_reading.specs.Rows.{is_placed, row_in}
 
@@ -82,8 +82,7 @@ IsOdd table f = (t : Tables) (answers : List Row) → HasTaken table t answers f
 abbrev pub is_fit : Step → Bool
 is_fit Added = true
 is_fit Outside = true
-is_fit Repeated = false
-is_fit Odd = false
+is_fit _ = false
 
 -- a table is filled with the rows of some answers, where it is to be; else the tables stand
 unfoldable pub IsFilled : Bool → TableName → Tables → Tables → Type 0

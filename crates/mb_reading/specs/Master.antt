@@ -17,11 +17,8 @@ use Rattle.sqlite_value.specs.declared.value.Value.TheVariants as sql
 
 -- whether a value is this text
 abbrev pub is_text : Value → List ℕ → Bool
-is_text sql.Null text = false
-is_text (sql.Int n) text = false
-is_text (sql.Real x) text = false
 is_text (sql.Text t) text = bytes_eq t text
-is_text (sql.Blob b) text = false
+is_text _ text = false
 
 -- whether an answer names a table or a view of this name, and whether it names a table
 abbrev pub names_it : TableName → Row → Bool

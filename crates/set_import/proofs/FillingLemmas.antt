@@ -51,7 +51,6 @@ put_causes tells told old new e began fault = inr record {
 write_free : (old new : ℕ) (e : ImportError) → IsWriteFailure old new e → is_free e ≡ true
 write_free old new (Store stores.StoreFault) h = refl
 write_free old new OutOfMemory h = refl
-write_free old new (Store e) h = absurd h
 write_free old new e h = absurd h
 
 apart : (r : Result State MbtError) (s : State) (e : MbtError) → r ≡ Ok s → r ≡ Err e → ⊥
@@ -80,7 +79,6 @@ rose_before f m now le rose = omega (arith, le, rose)
 write_causes : (most before now f m new : ℕ) (e : ImportError) → f ≤ m → IsWriteFailure m new e → ImportCauses most before now f new (Err e)
 write_causes most before now f m new (Store stores.StoreFault) le c = rose_before f m new le c
 write_causes most before now f m new OutOfMemory le c = tt
-write_causes most before now f m new (Store e) le c = absurd c
 write_causes most before now f m new e le c = absurd c
 
 refusal_causes : (most before now f new : ℕ) (e : MbtError) → tests.is_free e ≡ false → ImportCauses most before now f new (Err (Store e))
@@ -95,7 +93,6 @@ unput_causes most before now f m new tells told e le (inr unloaded) = subst (λ 
 pub unmade_causes : (most before now f new : ℕ) (e : ImportError) → IsWriteFailure f new e → ImportCauses most before now f new (Err e)
 unmade_causes most before now f new (Store stores.StoreFault) c = c
 unmade_causes most before now f new OutOfMemory c = tt
-unmade_causes most before now f new (Store e) c = absurd c
 unmade_causes most before now f new e c = absurd c
 
 -- an import that ends with fewer faults counted at the start

@@ -10,7 +10,7 @@ use Rattle.tileset_script.specs.Script.{Script, script_of}
 use Rattle.tileset_script.specs.Words.{command}
 use Rattle.byte_streams.specs.declared.input.TheConstants.{MAX_INPUT}
 use Rattle.tileset.specs.declared.outcome.Outcome.{Outcome}
-use Rattle.tileset.specs.declared.outcome.Outcome.TheVariants.{Done, Refused, Usage, BadScript, InputFault, OutputFault, MediumFault, OutOfMemory, InputTooLong, ReadBack}
+use Rattle.tileset.specs.declared.outcome.Outcome.TheVariants.{Done, BadScript, InputFault, OutputFault, MediumFault, OutOfMemory, InputTooLong}
 use Rattle.tileset_script.specs.declared.words.Command.{Command}
 use Rattle.tileset_script.specs.declared.words.Command.TheVariants.{ConvertHex, ConvertFile, Bulk}
 use Rattle.tileset.proofs.RunLemmas.{err_outcome}
@@ -58,12 +58,7 @@ load_answer (Some bytes) medium (BadScript line) c = subst (λ w. Gives w (BadSc
 load_answer (Some bytes) medium InputTooLong c = subst (λ w. Gives w InputTooLong) (sym (long_answer bytes medium c)) (inl refl)
 load_answer (Some bytes) medium InputFault c = yields (answer_input (Some bytes) medium) InputFault tt
 load_answer (Some bytes) medium OutOfMemory c = yields (answer_input (Some bytes) medium) OutOfMemory tt
-load_answer (Some bytes) medium Done c = absurd c
-load_answer (Some bytes) medium (Refused e) c = absurd c
-load_answer (Some bytes) medium Usage c = absurd c
-load_answer (Some bytes) medium OutputFault c = absurd c
-load_answer (Some bytes) medium MediumFault c = absurd c
-load_answer (Some bytes) medium (ReadBack e) c = absurd c
+load_answer (Some bytes) medium x c = absurd c
 
 unread_answer : (asked : Command) (input medium : Option (List ℕ)) (e : Outcome) → ScriptCauses asked input e → Gives (answer_command (Some asked) input medium) e
 unread_answer ConvertHex input medium e c = load_answer input medium e c

@@ -53,12 +53,7 @@ reported_by asked s old told new outcomes.OutputFault empty h same c = h
 reported_by asked s old told new outcomes.OutOfMemory empty h same c = no_part s old new empty h
 reported_by asked s old told new outcomes.MediumFault empty h same c = no_part s old new empty h
 reported_by asked s old told new (outcomes.ReadBack e) empty h same c = same ∙ c.0 ∙ sym (untold_before old new (λ before b. (final : State) × (converted s ≡ Ok final) × IsArchiveOf b s.options.writer final.tiles) h (same ∙ c.0))
-reported_by asked s old told new outcomes.Done empty h same c = absurd c
-reported_by asked s old told new (outcomes.Refused e) empty h same c = absurd c
-reported_by asked s old told new outcomes.Usage empty h same c = absurd c
-reported_by asked s old told new (outcomes.BadScript n) empty h same c = absurd c
-reported_by asked s old told new outcomes.InputFault empty h same c = absurd c
-reported_by asked s old told new outcomes.InputTooLong empty h same c = absurd c
+reported_by asked s old told new x empty h same c = absurd c
 
 pub reported_medium : (asked : Command) (s : Script) (coords : List Coord) (report : ConvertReport) (old told new : Option (List ℕ)) (e : Outcome) (r : Result Unit Outcome) → IsEmpty old → ConvertLeaves s.options.writer (Some (converted s)) coords (Ok report) old told → new ≡ told → ReportCauses told e → IsErrAnd r (λ x. x ≡ e) → LeftBy s old new (outcome_of r)
 reported_medium asked s coords report old told new e r empty leaves same causes ended =
@@ -75,12 +70,7 @@ reported_answer s coords report old told outcomes.OutputFault can h c = can
 reported_answer s coords report old told outcomes.OutOfMemory can h c = tt
 reported_answer s coords report old told outcomes.MediumFault can h c = tt
 reported_answer s coords report old told (outcomes.ReadBack e) can h c = (untold_before old told _ h c.0, can, other_range e c.1)
-reported_answer s coords report old told outcomes.Done can h c = absurd c
-reported_answer s coords report old told (outcomes.Refused e) can h c = absurd c
-reported_answer s coords report old told outcomes.Usage can h c = absurd c
-reported_answer s coords report old told (outcomes.BadScript n) can h c = absurd c
-reported_answer s coords report old told outcomes.InputFault can h c = absurd c
-reported_answer s coords report old told outcomes.InputTooLong can h c = absurd c
+reported_answer s coords report old told x can h c = absurd c
 
 pub reported_causes : (s : Script) (coords : List Coord) (report : ConvertReport) (old told : Option (List ℕ)) (e : Outcome) (r : Result Unit Outcome) → ConvertCauses s.options.writer (Some (converted s)) old (Ok report) → ConvertLeaves s.options.writer (Some (converted s)) coords (Ok report) old told → ReportCauses told e → IsErrAnd r (λ x. x ≡ e) → AnsweredBy s old (outcome_of r)
 reported_causes s coords report old told e r can leaves causes ended = subst (AnsweredBy s old) (sym (err_outcome r e ended)) (reported_answer s coords report old told e can leaves causes)
@@ -90,12 +80,7 @@ begun_written asked s told medium left old new outcomes.OutputFault c h = h
 begun_written asked s told medium left old new outcomes.OutOfMemory c h = inr h
 begun_written asked s told medium left old new outcomes.MediumFault c h = inr h
 begun_written asked s told medium left old new (outcomes.ReadBack e) c h = inr h
-begun_written asked s told medium left old new outcomes.Done c h = absurd c
-begun_written asked s told medium left old new (outcomes.Refused e) c h = absurd c
-begun_written asked s told medium left old new outcomes.Usage c h = absurd c
-begun_written asked s told medium left old new (outcomes.BadScript n) c h = absurd c
-begun_written asked s told medium left old new outcomes.InputFault c h = absurd c
-begun_written asked s told medium left old new outcomes.InputTooLong c h = absurd c
+begun_written asked s told medium left old new x c h = absurd c
 
 pub reported_output : (asked : Command) (s : Script) (coords : List Coord) (report : ConvertReport) (medium told left old new : Option (List ℕ)) (e : Outcome) (r : Result Unit Outcome) → ConvertCauses s.options.writer (Some (converted s)) medium (Ok report) → ConvertLeaves s.options.writer (Some (converted s)) coords (Ok report) medium told → left ≡ told → ReportCauses told e → IsErrAnd r (λ x. x ≡ e)
     → HasAggregate (Some (converted s)) report → IfSome left (λ b. GainsFront old new (command_text asked s.queries report.aggregate b)) → WrittenBy asked s medium left old new (outcome_of r)
@@ -116,22 +101,14 @@ causes_by given s outcomes.OutputFault is h = (s, is, h)
 causes_by given s outcomes.MediumFault is h = (s, is, h)
 causes_by given s (outcomes.ReadBack e) is h = (s, is, h)
 causes_by given s outcomes.OutOfMemory is h = tt
-causes_by given s outcomes.Usage is h = absurd h
-causes_by given s (outcomes.BadScript n) is h = absurd h
-causes_by given s outcomes.InputFault is h = absurd h
-causes_by given s outcomes.InputTooLong is h = absurd h
+causes_by given s x is h = absurd h
 
 pub medium_by : (given : Given) (s : Script) (new : Option (List ℕ)) (o : Outcome) → IsScript given s → LeftBy s given.medium new o → LeavesMedium given new o
 medium_by given s new outcomes.Done is h = (s, is, h)
-medium_by given s new (outcomes.Refused e) is h = h
 medium_by given s new outcomes.OutputFault is h = (s, is, h)
 medium_by given s new outcomes.MediumFault is h = (s, is, h)
-medium_by given s new (outcomes.ReadBack e) is h = h
 medium_by given s new outcomes.OutOfMemory is h = inr (s, is, h)
-medium_by given s new outcomes.Usage is h = h
-medium_by given s new (outcomes.BadScript n) is h = h
-medium_by given s new outcomes.InputFault is h = h
-medium_by given s new outcomes.InputTooLong is h = h
+medium_by given s new x is h = h
 
 begun_by : (given : Given) (s : Script) (left old new : Option (List ℕ)) → (is : IsScript given s) → (new ≡ old) ⊎ HasBegun is.asked s given.medium left old new → (new ≡ old) ⊎ SomeBegun given left old new
 begun_by given s left old new is (inl same) = inl same
@@ -139,15 +116,11 @@ begun_by given s left old new is (inr begun) = inr (s, is, begun)
 
 pub output_by : (given : Given) (s : Script) (left old new : Option (List ℕ)) (o : Outcome) → (is : IsScript given s) → WrittenBy is.asked s given.medium left old new o → LeavesOutput given left old new o
 output_by given s left old new outcomes.Done is h = (s, is, h)
-output_by given s left old new (outcomes.Refused e) is h = h
 output_by given s left old new outcomes.OutputFault is h = (s, is, h)
 output_by given s left old new outcomes.MediumFault is h = begun_by given s left old new is h
 output_by given s left old new (outcomes.ReadBack e) is h = begun_by given s left old new is h
 output_by given s left old new outcomes.OutOfMemory is h = begun_by given s left old new is h
-output_by given s left old new outcomes.Usage is h = h
-output_by given s left old new (outcomes.BadScript n) is h = h
-output_by given s left old new outcomes.InputFault is h = h
-output_by given s left old new outcomes.InputTooLong is h = h
+output_by given s left old new x is h = h
 
 -- what holds of a text, on equal queries and equal bytes
 pub text_moved : (asked : Command) (P : List ℕ → Type 0) (told next : Option (List ℕ)) (qs queries : List Coord) (hash : List ℕ) → qs ≡ queries → next ≡ told

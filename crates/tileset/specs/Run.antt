@@ -132,10 +132,7 @@ RefusedBy s medium (refusals.MediumNotEmpty n) = (0 < n) × IfSome medium (λ by
 RefusedBy s medium (refusals.UnsupportedCompression label) = IsEmpty medium × (label ≡ s.options.writer.internal_compression) × (label ≢ compression.None)
 RefusedBy s medium (refusals.Store place e) = IsEmpty medium × IsPlain s.options.writer × (converted s ≡ Err (refusals.Store place e)) × (is_free e ≡ false)
 RefusedBy s medium refusals.IndexEntryOverflow = IsEmpty medium × IsPlain s.options.writer × (converted s ≡ Err refusals.IndexEntryOverflow)
-RefusedBy s medium (refusals.StoreFault place) = ⊥
-RefusedBy s medium refusals.MediumFault = ⊥
-RefusedBy s medium (refusals.ReadBack e) = ⊥
-RefusedBy s medium refusals.OutOfMemory = ⊥
+RefusedBy s medium _ = ⊥
 
 -- the script can be converted: the medium is empty, where it tells, directories are plain, and the set comes to a state
 abbrev pub IsConvertible : Script → Option (List ℕ) → Type 0
@@ -155,8 +152,7 @@ AnsweredBy s medium _ = ⊥
 abbrev pub ReadsInput : Option Command → Type 0
 ReadsInput (Some ConvertHex) = Unit {0}
 ReadsInput (Some ConvertFile) = Unit {0}
-ReadsInput (Some (Bulk tiles repeat leaf)) = ⊥
-ReadsInput None = ⊥
+ReadsInput _ = ⊥
 
 -- When each answer comes. The faults have their causes by the counts, and want of memory is free.
 abbrev pub Causes : Given → Outcome → Type 0
@@ -272,8 +268,7 @@ IsReadFor None left = ⊥
 abbrev pub IsUntaken : Option Command → Option (List ℕ) → Option (List ℕ) → ℕ → ℕ → Type 0
 IsUntaken (Some ConvertHex) old new before now = Unit {0}
 IsUntaken (Some ConvertFile) old new before now = Unit {0}
-IsUntaken (Some (Bulk tiles repeat leaf)) old new before now = (new ≡ old) × (now ≡ before)
-IsUntaken None old new before now = (new ≡ old) × (now ≡ before)
+IsUntaken _ old new before now = (new ≡ old) × (now ≡ before)
 
 abbrev pub LoadTakes : {T : Type 0} → ℕ → ℕ → Result T Outcome → Type 0
 LoadTakes before now (Ok _) = now ≤ before + MAX_INPUT
