@@ -6,6 +6,7 @@ ghost use Rattle.mb_store.specs.Gathered.{AreSeen, Sees};
 ghost use Rattle.mb_store.specs.GatheredRows.{AreFirst, has_own};
 ghost use Rattle.mb_store.specs.StoredRow.{numbers_cells, own_key};
 
+use crate::spread::Spread;
 use crate::stored_row::StoredRow;
 use crate::{MbtError, MbtResult, Row, TableName};
 use std::alloc::Global;
@@ -17,6 +18,7 @@ pub(crate) struct Gathered {
     pub table: TableName,
     pub rows: Vec<StoredRow>,
     pub seen: HashSet<(u32, u32, u32)>,
+    pub spread: Spread,
     pub is_open: bool,
 }
 
@@ -27,6 +29,7 @@ impl Drop for Gathered {
             table: _,
             rows: _,
             seen: _,
+            spread: _,
             is_open: _,
         } = self;
     }
@@ -42,6 +45,7 @@ impl Gathered {
             table: TableName::Tiles,
             rows: Vec::new(alloc),
             seen: HashSet::new(alloc),
+            spread: Spread::none(alloc),
             is_open: false,
         }
     }
@@ -54,6 +58,7 @@ impl Gathered {
             table: _,
             rows,
             seen: _,
+            spread: _,
             is_open: _,
         } = self;
         rows
@@ -69,6 +74,7 @@ impl Gathered {
     {
         self.table = table;
         self.seen.clear();
+        self.spread = Spread::none(*self.rows.allocator());
         self.is_open = true;
     }
 
@@ -80,6 +86,7 @@ impl Gathered {
     {
         self.is_open = false;
         self.seen = HashSet::new(*self.rows.allocator());
+        self.spread = Spread::none(*self.rows.allocator());
     }
 
     // Lets go of the room of the list, which has no rows any more.

@@ -1,5 +1,5 @@
 // The tables in memory with the rows that are gathered beside them.
-ghost use Rattle.std.specs.Prelude.{◌≡◌, ◌<◌, ◌^◌, ◌&&◌, ◌↔◌, [], false, true, length, IfErr, IfSome, OnErr, OnOk};
+ghost use Rattle.std.specs.Prelude.{◌≡◌, ◌<◌, ◌^◌, ◌&&◌, ◌↔◌, [], false, true, length, IfErr, OnErr, OnOk};
 ghost use Rattle.std.specs.List.{list_any};
 ghost use Rattle.mb_tables.specs.Key.{clash};
 ghost use Rattle.mb_tables.specs.Table.{table_eq, width};
@@ -9,7 +9,7 @@ ghost use Rattle.mb_store.specs.Gathered.{AreGathered, told_at};
 ghost use Rattle.mb_store.specs.GatheredRows.{has_own};
 ghost use Rattle.mb_store.specs.MemTables.{AreAllStored};
 ghost use Rattle.mb_store.specs.Store.{placed, with_rows};
-ghost use Rattle.mb_store.specs.StoredRow.{numbers_cells, own_key};
+ghost use Rattle.mb_store.specs.StoredRow.{own_key};
 ghost use Rattle.mb_store.specs.TableRows.{has_equal};
 
 use crate::gathered::Gathered;
@@ -19,11 +19,6 @@ use crate::table_rows::TableRows;
 use crate::{Cell, MbtError, MbtResult, Row, TableName, mem_tables, stored_row, table_rows};
 use base_values::OutOfMemory;
 
-// The greatest first number of a key whose row is gathered, and the number that the others are below. The hash has a fixed seed: among all keys too many could be picked that share a digest.
-const LAST_FIRST: u32 = 30;
-
-const NUMBERS_END: u32 = 1 << 14;
-
 // Whether two tables are the same.
 pub(crate) fn same_table(table: TableName, other: TableName) -> bool
     ensures { result ≡ table_eq table other }
@@ -31,23 +26,13 @@ pub(crate) fn same_table(table: TableName, other: TableName) -> bool
     table.number() == other.number()
 }
 
-// The numbers of a row's key, if the row is one that can be gathered: its table is keyed and its numbers are small.
-fn numbers_for(keyed: bool, row: &[Cell]) -> Option<(u32, u32, u32)>
-    ensures keyed { IfSome result (λ numbers. keyed ≡ true) }
-    ensures numbers { IfSome result (λ numbers. own_key row.now ≡ numbers_cells numbers) }
-{
-    if !keyed {
-        return None;
-    }
-    let numbers = stored_row::numbers_of(row)?;
-    if numbers.0 > LAST_FIRST || numbers.1 >= NUMBERS_END || numbers.2 >= NUMBERS_END {
-        return None;
-    }
-    Some(numbers)
-}
-
-// Whether a row of a table can be gathered: the list is open for this table, or nothing is gathered and the table has no rows, so that it is opened.
-fn opens(tables: &MemTables, gathered: &mut Gathered, table: TableName) -> bool
+// Whether a row of a table can be gathered: the list is open for this table and its hash set has room where these numbers begin, or nothing is gathered and the table has no rows, so that it is opened.
+fn opens(
+    tables: &MemTables,
+    gathered: &mut Gathered,
+    table: TableName,
+    numbers: (u32, u32, u32),
+) -> bool
     requires gathered { AreGathered tables.now gathered.old }
     ensures told { told_at tables.now gathered.new ≡ told_at tables.now gathered.old }
     ensures gathered { AreGathered tables.now gathered.new }
@@ -55,7 +40,7 @@ fn opens(tables: &MemTables, gathered: &mut Gathered, table: TableName) -> bool
     ensures open { result ≡ true → gathered.new.is_open ≡ true }
 {
     if gathered.is_open && same_table(table, gathered.table) {
-        return true;
+        return gathered.spread.admits(&gathered.seen, numbers);
     }
     if gathered.rows.is_empty() && tables.of(table).stored.is_empty() {
         gathered.begin(table);
@@ -113,7 +98,8 @@ fn stands(
     requires stored { AreAllStored tables.now }
     requires gathered { AreGathered tables.now gathered.now }
     requires own { gathered.now.table ≡ table }
-    ensures { result ≡ (single && has_equal table row.now.0 (told_at tables.now gathered.now table)) }
+    ensures { result ≡ (single
+        && has_equal table row.now.0 (told_at tables.now gathered.now table)) }
 {
     single
         && (table_rows::has_equal(table, row, tables.of(table))
@@ -257,10 +243,10 @@ pub(crate) fn push(
     ensures stored { AreAllStored tables.new }
     ensures gathered { AreGathered tables.new gathered.new }
 {
-    let Some(numbers) = numbers_for(keyed, row.cells()) else {
+    let Some(numbers) = stored_row::numbers_of(row.cells()) else {
         return push_ordered(tables, gathered, table, keyed, row);
     };
-    if opens(tables, gathered, table) {
+    if keyed && opens(tables, gathered, table, numbers) {
         gathered.add(numbers, row)
     } else {
         push_ordered(tables, gathered, table, keyed, row)

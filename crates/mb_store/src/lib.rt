@@ -14,6 +14,7 @@ pub mod laws;
 mod mem_store;
 mod mem_tables;
 mod reading;
+mod spread;
 mod store;
 mod stored_row;
 mod table_key;

@@ -17,8 +17,8 @@ empty c = subst (λ (t : TableName). (at c.args.tables.now t).stored.keys ≡ []
 pub returns-then-opens-clause-duplicate : goal.returns-then-opens-clause-duplicate
 returns-then-opens-clause-duplicate c =
     let d = (goal.at.returns-then-opens-clause-duplicate c).After-add in
-    gathered_duplicate c.args.tables.now c.opens.new.gathered c.add.new.self (told_at c.args.tables.now c.args.gathered.now) c.args.table c.args.row c.opens.ensures.told (own d) (empty d) c.requires.wide c.opens.ensures.gathered.rows c.add.result c.args.keyed c.in-Some.numbers c.in-Some.ensures.keyed
-    (ap (λ (row : List Cell). own_key row) (sym c.cells.ensures) ∙ c.in-Some.ensures.numbers) (c.opens.ensures.gathered.seen (c.opens.ensures.open c.if-opens.true)) c.add.ensures.duplicate
+    gathered_duplicate c.args.tables.now c.opens.new.gathered c.add.new.self (told_at c.args.tables.now c.args.gathered.now) c.args.table c.args.row c.opens.ensures.told (own d) (empty d) c.requires.wide c.opens.ensures.gathered.rows c.add.result c.args.keyed c.in-Some.numbers c.if-keyed.true
+    (ap (λ (row : List Cell). own_key row) (sym c.cells.ensures) ∙ c.in-Some.ensures) (c.opens.ensures.gathered.seen (c.opens.ensures.open c.if-opens.true)) c.add.ensures.duplicate
 
 pub returns-then-opens-clause-ok : goal.returns-then-opens-clause-ok
 returns-then-opens-clause-ok c =

@@ -18,7 +18,7 @@ returns-in-Ok-clause-told c =
 
 pub returns-in-Err-clause-told : goal.returns-in-Err-clause-told
 returns-in-Err-clause-told c =
-    (λ i u. put_told c.args.tables.now c.exchange.new.tables c.close.new.self (record { table = c.close.new.self.table; rows = c.put_all-settled.new.list; seen = c.close.new.self.seen; is_open = c.close.new.self.is_open }) c.put_all-settled.new.rows
+    (λ i u. put_told c.args.tables.now c.exchange.new.tables c.close.new.self (record { table = c.close.new.self.table; rows = c.put_all-settled.new.list; seen = c.close.new.self.seen; spread = c.close.new.self.spread; is_open = c.close.new.self.is_open }) c.put_all-settled.new.rows
     (put_again c.args.tables.now c.exchange-rows.new.tables c.exchange.new.tables c.close.new.self.table c.none-none.result c.put_all-settled.new.rows c.exchange-rows.ensures.put c.exchange.ensures.put)
     refl
     (c.put_all-settled.ensures.told ∙ ap (λ (r : TableRows). all_rows r.stored.keys c.close.new.self.rows.items) c.exchange-rows.ensures.given) u i)
