@@ -9,7 +9,7 @@ use Rattle.std.specs.List.{AllByRecursion, list_any}
 use Rattle.std.specs.List.Sorted.{IsStrictlySortedBy}
 use Rattle.std.proofs.lemmas.Bool.{false≢true, and_from, and_parts, eqb-true, eq-eqb}
 use Rattle.std.proofs.lemmas.List.{length-map}
-use Rattle.std.proofs.lemmas.List.Elements.{All-append, All-cons, All-head, All-nil, All-tail, recursion_from_All}
+use Rattle.std.proofs.lemmas.List.Elements.{All-cons, All-head, All-nil, All-tail, recursion_from_All}
 use Rattle.std.proofs.lemmas.List.Folds.{list_any-append}
 use Rattle.std.proofs.lemmas.List.Sorted.{length_permutation, list_any-IsPermutation}
 use Rattle.std.proofs.lemmas.Map.Keys.{IsDistinct-from_apart, IsDistinct-push, apart_from_distinct}
@@ -27,7 +27,7 @@ use Rattle.mb_tables.proofs.TableLemmas.{same_table, table_eq-refl}
 use Rattle.mb_store.specs.ByTable.{at}
 use Rattle.mb_store.specs.Gathered.{AreSeen, Sees, gathered_at, same_numbers, told_at, told_tables}
 use Rattle.mb_store.specs.GatheredRows.{AreFirst, all_rows, has_own}
-use Rattle.mb_store.specs.MemTables.{AreAllStored, MemTables, rows_at, tables_of}
+use Rattle.mb_store.specs.MemTables.{MemTables, rows_at, tables_of}
 use Rattle.mb_store.specs.Store.{no_rows, placed, with_rows}
 use Rattle.mb_store.specs.StoredRow.{Stored, numbers_cells, own_key, rows_of, stored_cmp, stored_total}
 use Rattle.mb_store.specs.TableRows.{AreStored}
@@ -75,13 +75,6 @@ put_again m n l table first second e f u = f u ∙ (ap (λ r. cond (table_eq u t
     by : (b : Bool) → cond b second (cond b first (at m u)) ≡ cond b second (at m u)
     by true = refl
     by false = refl
-
-pub put_stored : (m n : MemTables) (table : TableName) (rows : TableRows) → ((u : TableName) → at n u ≡ cond (table_eq u table) rows (at m u)) → AreStored table rows → AreAllStored m → AreAllStored n
-put_stored m n table rows put own stored u = subst (AreStored u) (sym (put u)) (by (table_eq u table) refl)
-  where
-    by : (b : Bool) → table_eq u table ≡ b → AreStored u (cond b rows (at m u))
-    by true e = subst (λ t. AreStored t rows) (sym (same_table u table e)) own
-    by false e = stored u
 
 -- rows that go from the list to their places are told as before
 pub put_told : (m n : MemTables) (g h : Gathered) (rows : TableRows) → ((u : TableName) → at n u ≡ cond (table_eq u g.table) rows (at m u)) → h.table ≡ g.table → all_rows rows.stored.keys h.rows.items ≡ all_rows (at m g.table).stored.keys g.rows.items → (u : TableName) → told_at n h u ≡ told_at m g u
@@ -214,13 +207,6 @@ pub seen_pushed : (g h : Gathered) (numbers : ℕ × ℕ × ℕ) (row : List Cel
 seen_pushed g h numbers row e seen none sees more = record {
   apart = subst AreApart (sym more) (apart_more g.rows.items row seen.apart none);
   seen = λ n. sees n ∙ (ap (cond (same_numbers numbers n) true) (seen.seen n) ∙ (seen_more numbers n g.rows.items row e ∙ ap (has_own (numbers_cells n)) (sym more)));
-}
-
--- a row more is as wide, and has the number 0
-pub first_pushed : (table : TableName) (xs : List Stored) (row : List Cell) → length row ≡ width table → AreFirst table xs → AreFirst table (xs ++ (row, 0) ∷ [])
-first_pushed table xs row own first = record {
-  wide = All-append (λ (s : Stored). length s.0 ≡ width table) xs ((row, 0) ∷ []) first.wide (All-cons (λ (s : Stored). length s.0 ≡ width table) (row, 0) [] own (All-nil (λ (s : Stored). length s.0 ≡ width table)));
-  first = All-append (λ (s : Stored). s.1 ≡ 0) xs ((row, 0) ∷ []) first.first (All-cons (λ (s : Stored). s.1 ≡ 0) (row, 0) [] refl (All-nil (λ (s : Stored). s.1 ≡ 0)));
 }
 
 -- of more rows, those in front

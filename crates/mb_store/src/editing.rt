@@ -8,6 +8,7 @@ ghost use Rattle.mb_store.specs.TableRows.{AreStored};
 
 use crate::TableName;
 use crate::change::Change;
+use crate::gathering::same_table;
 use crate::stored_row::StoredRow;
 use crate::table_rows::{TableRows, add, first_early};
 use base_values::OutOfMemory;
@@ -23,7 +24,7 @@ pub(crate) fn keys_of(
 {
     let mut keys = Vec::new(alloc);
     for change in changes {
-        if change.table.number() == table.number() {
+        if same_table(change.table, table) {
             keys.push(StoredRow::of_key(alloc, &change.key)?)?;
         }
     }
@@ -46,7 +47,7 @@ fn put(
     ensures later { rows.old.next ≤ rows.new.next }
     ensures stored { AreStored table rows.new }
 {
-    if change.table.number() != table.number() {
+    if !same_table(change.table, table) {
         return Ok(());
     }
     match &change.row {

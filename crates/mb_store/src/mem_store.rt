@@ -1,6 +1,6 @@
 // A store of tables in memory.
-ghost use Rattle.std.specs.Prelude.{◌≡◌, ◌↔◌, ◌⊎◌, ◌≤◌, false, true, [], All, drop, find, length, take, IfErr, IfOk, IfSome, IsOkUnless, IsTrue, OnErr, OnOk};
-ghost use Rattle.base_values.specs.FailingCalls.{called, next_fails};
+ghost use Rattle.std.specs.Prelude.{◌≡◌, ◌↔◌, ◌≤◌, false, true, [], All, drop, find, length, take, IfErr, IfOk, IfSome, IsOkUnless, OnErr, OnOk};
+ghost use Rattle.base_values.specs.FailingCalls.{called};
 ghost use Rattle.mb_tables.specs.Described.{is_table, names_apart};
 ghost use Rattle.mb_tables.specs.Key.{IsInOrder, has_key};
 ghost use Rattle.mb_tables.specs.Schema.{set_tables};
@@ -25,7 +25,7 @@ use std::alloc::Global;
 
 /// A store of tables in memory. The rows of a table stand in the order of their keys, rows of equal keys in order of arrival. A row is found, and goes to its place, by
 /// a number of comparisons that grows as the logarithm of the number of rows; so does each change of a commit. Rows of places that are pushed into an empty table are sorted once.
-#[derive(Debug, Drop)]
+#[derive(Debug)]
 pub struct MemStore {
     descriptions: Vec<TableDesc>,
     keyed: ByTable<bool>,
@@ -34,6 +34,19 @@ pub struct MemStore {
     failing: FailingCalls,
     ghost keys: { AreKeyed descriptions.items keyed },
     ghost kept: { IsHeld descriptions.items tables gathered },
+}
+
+// By hand, so that one that is let go is one step for who owned it.
+impl Drop for MemStore {
+    fn drop(self) {
+        let MemStore {
+            descriptions: _,
+            keyed: _,
+            tables: _,
+            gathered: _,
+            failing: _,
+        } = self;
+    }
 }
 
 #[tactic(auto, unfolding(crate::specs::MemStore::told_of, crate::specs::MemStore::failing_of, crate::specs::MemStore::faults_of, crate::specs::MemStore::IsSteady))]

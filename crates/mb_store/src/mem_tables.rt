@@ -1,5 +1,5 @@
 // The rows of the tables in memory.
-ghost use Rattle.std.specs.Prelude.{◌≡◌, length, ◌+◌, ◌-◌, ◌^◌, ◌&&◌, ◌↔◌, ◌⊎◌, true, [], cond, false, IfErr, IsErrOf, OnErr, OnOk, min, sum_by};
+ghost use Rattle.std.specs.Prelude.{◌≡◌, length, ◌+◌, ◌-◌, ◌^◌, ◌&&◌, [], cond, false, IfErr, OnErr, OnOk, min, sum_by};
 ghost use Rattle.std.specs.List.{list_any};
 ghost use Rattle.mb_tables.specs.Key.{clash};
 ghost use Rattle.mb_tables.specs.Table.{table_eq, width};

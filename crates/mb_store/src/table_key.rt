@@ -1,5 +1,4 @@
 // Keys in their tables.
-ghost use Rattle.std.specs.Prelude.{◌≡◌};
 
 use crate::{RowKey, TableName};
 use std::cmp::Ordering;
