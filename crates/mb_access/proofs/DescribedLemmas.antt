@@ -1,5 +1,5 @@
 -- Answers from descriptions, and want of memory and faults in their place.
-use Rattle.std.proofs.Common.{◌∙◌, sym, Bool, true, List, Result, Err, refl}
+use Rattle.std.proofs.Common.{◌∙◌, sym, Bool, List, Result, Err, refl}
 use Rattle.std.proofs.lemmas.Bool.{false≢true}
 use Rattle.mb_access.specs.Described.{IsDescribed}
 use Rattle.mb_store.specs.Errors.{of_store}

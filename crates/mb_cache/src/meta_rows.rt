@@ -1,5 +1,5 @@
 // The rows that a cache puts.
-ghost use Rattle.std.specs.Prelude.{◌≡◌, ◌++◌, ◌∷◌, [], IfOk, length, option_copied};
+ghost use Rattle.std.specs.Prelude.{◌≡◌, IfOk, length, option_copied};
 ghost use Rattle.mb_cache.specs.Setting.{meta_row, moment_cell};
 ghost use Rattle.mb_lists.specs.Entries.{place_at, text_cell};
 ghost use Rattle.mb_loaded.specs.Changing.{front};

@@ -1,6 +1,6 @@
 // The hash of all tiles of a set: as it is stored, as it is computed, and whether these agree.
 ghost use Rattle.mb_store.specs.Kept.{FaultsCounted, ReadsOnly};
-ghost use Rattle.std.specs.Prelude.{◌≡◌, ◌≢◌, ◌≤◌, Err, IfOk};
+ghost use Rattle.std.specs.Prelude.{◌≡◌, ◌≢◌, Err, IfOk};
 ghost use Rattle.mb_check.specs.AggregateHash.{algorithm_answer, checked_answer, hash_answer, stored_answer};
 ghost use Rattle.mb_load.specs.Begun.{IsBegun};
 ghost use Rattle.mb_lists.specs.Metadata.{text_at};

@@ -1,6 +1,6 @@
 // Counts and sizes of the tiles of a set.
 ghost use Rattle.mb_store.specs.Kept.{FaultsCounted, ReadsOnly};
-ghost use Rattle.std.specs.Prelude.{◌≡◌, ◌≢◌, ◌≤◌, ◌<◌, ◌^◌, ◌++◌, [], ℕ, List, Option, Err, IfOk, IfSome, OnOk, length, map, option_map, slice_get, slice_index_or};
+ghost use Rattle.std.specs.Prelude.{◌≡◌, ◌≢◌, ◌<◌, ◌^◌, ◌++◌, [], ℕ, List, Option, Err, IfOk, IfSome, OnOk, length, map, option_map, slice_get, slice_index_or};
 ghost use Rattle.std.specs.FinMap.{entries, len};
 ghost use Rattle.std.specs.List.{cons_option, filter_map};
 ghost use Rattle.mb_load.specs.Begun.{IsBegun};

@@ -4,7 +4,7 @@ use Rattle.std.specs.Prelude.{IfSome, slice_get}
 use Rattle.std.specs.Ordering.{eq_by_cmp, is_eq}
 use Rattle.std.specs.Cmp.{tied_itself}
 use Rattle.std.specs.FinMap as fin
-use Rattle.std.specs.FinMap.{contains_key, entries, get, get-entries}
+use Rattle.std.specs.FinMap.{contains_key, entries, get-entries}
 use Rattle.mb_tables.proofs.TileLemmas.{places_total}
 use Rattle.std.specs.List.{list_any}
 use Rattle.mb_copy.proofs.TouchLemmas.{Tile}

@@ -1,5 +1,5 @@
 // What of a source is put into a set.
-ghost use Rattle.std.specs.Prelude.{◌≡◌, ◌++◌, IfOk, OnOk, [], ◌∷◌, cond, filter, map, not};
+ghost use Rattle.std.specs.Prelude.{◌≡◌, ◌++◌, IfOk, OnOk, [], ◌∷◌, cond, map};
 ghost use Rattle.std.specs.FinMap.{entries, get};
 ghost use Rattle.mb_copy.specs.Chosen.{is_copied_name, is_put, is_put_name, names_to_put, tiles_to_put, times_to_put, wins};
 ghost use Rattle.mb_copy.specs.Clearing.{IsSource, removed_all, unput_names, unput_places};

@@ -1,6 +1,6 @@
 // Applying a patch to a store.
 ghost use Rattle.mb_store.specs.Kept.{FaultsCounted, Keeps, ReadsOnly};
-ghost use Rattle.std.specs.Prelude.{◌≡◌, ◌≤◌, ◌⊎◌, true, false, OnOk, OnErr, IfErr};
+ghost use Rattle.std.specs.Prelude.{◌≡◌, ◌⊎◌, true, false, OnOk, OnErr, IfErr};
 ghost use Rattle.mb_edit.specs.Applying.{IsAppliedBy, IsRefusedBy};
 ghost use Rattle.mb_tables.specs.Refusals.{is_free};
 ghost use Rattle.base_values.specs.Counts.{Rose};

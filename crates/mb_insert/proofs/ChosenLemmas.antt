@@ -1,5 +1,5 @@
 -- Tiles of a batch that are put one after another.
-use Rattle.std.proofs.Common.{◌≡◌, ◌∙◌, ap, sym, ℕ, ◌≤◌, ◌+◌, ◌-◌, ◌++◌, Bool, true, false, ◌||◌, List, [], ◌∷◌, Option, Some, Result, Ok, Err, cond, drop, filter, is_some, length, map, refl, append-nil, append_assoc}
+use Rattle.std.proofs.Common.{◌≡◌, ◌∙◌, ap, sym, ℕ, ◌≤◌, ◌++◌, Bool, true, false, ◌||◌, List, [], ◌∷◌, Option, Some, Result, Ok, Err, cond, drop, filter, is_some, length, map, refl, append-nil, append_assoc}
 use Rattle.std.specs.Prelude.{IfOk, reverse}
 use Rattle.std.specs.List.{list_any}
 use Rattle.std.specs.Ordering.{eq_by_cmp}

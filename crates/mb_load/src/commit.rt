@@ -1,6 +1,6 @@
 // Committing the edits of a loaded set.
 ghost use Rattle.mb_store.specs.Kept.{FaultsCounted, Keeps};
-ghost use Rattle.std.specs.Prelude.{◌≡◌, ◌≤◌, true, OnOk, OnErr, IfErr};
+ghost use Rattle.std.specs.Prelude.{◌≡◌, true, OnOk, OnErr, IfErr};
 ghost use Rattle.mb_load.specs.Committing.{MakesChanges};
 ghost use Rattle.mb_load.specs.LoadedFrom.{IsLoadedFrom};
 ghost use Rattle.mb_tables.specs.Refusals.{is_free};

@@ -1,6 +1,6 @@
 // All rows of a table.
 ghost use Rattle.mb_store.specs.Kept.{FaultsCounted, ReadsOnly};
-ghost use Rattle.std.specs.Prelude.{◌≡◌, ◌≤◌, All, [], false, true, IfOk, length};
+ghost use Rattle.std.specs.Prelude.{◌≡◌, All, [], false, true, IfOk, length};
 ghost use Rattle.mb_lists.specs.Contents.{content_rows};
 ghost use Rattle.mb_store.specs.MemStore.{told_of};
 ghost use Rattle.mb_tables.specs.Kind.{is_normalized, tile_table};

@@ -1,5 +1,5 @@
 // Tiles of another set that are put, each of its contents moved.
-ghost use Rattle.std.specs.Prelude.{◌≡◌, ◌<◌, ◌+◌, ℕ, All, IfOk, List, OnOk, false, length, map, set};
+ghost use Rattle.std.specs.Prelude.{◌≡◌, ◌<◌, ◌+◌, All, IfOk, List, OnOk, false, length, map, set};
 ghost use Rattle.mb_loaded.specs.Copying.{Adds, Edits, IsCopied, IsCopying, id_of, tile_copied, tiles_copied};
 ghost use Rattle.mb_loaded.specs.FromLast.{tiles_put};
 ghost use Rattle.mb_loaded.specs.GivenIds.{cell_id, ids_given};

@@ -1,7 +1,7 @@
 // Edits of names of metadata, in one commit.
 ghost use Rattle.mb_store.specs.Kept.{FaultsCounted, Keeps};
-ghost use Rattle.std.specs.Prelude.{◌≡◌, ◌≤◌, ◌++◌, ◌∷◌, [], List, true, IfErr, IfOk, IsOk, OnErr, OnOk, option_copied, option_to_list};
-ghost use Rattle.mb_metadata.specs.NameEdits.{AreEdited, IsFresh, held_edited, put_any, put_of, removal};
+ghost use Rattle.std.specs.Prelude.{◌≡◌, ◌++◌, ◌∷◌, [], List, true, IfErr, IfOk, IsOk, OnErr, OnOk, option_to_list};
+ghost use Rattle.mb_metadata.specs.NameEdits.{AreEdited, IsFresh, held_edited, put_of, removal};
 ghost use Rattle.mb_tables.specs.Refusals.{is_free};
 
 use base_values::{OutOfMemory, TextVal};

@@ -1,6 +1,6 @@
 // Single values of metadata: read, put and removed.
 ghost use Rattle.mb_store.specs.Kept.{FaultsCounted, Keeps, ReadsOnly};
-ghost use Rattle.std.specs.Prelude.{◌≡◌, ◌≢◌, ◌≤◌, ◌∷◌, [], Err, IfOk, OnErr, OnOk, true};
+ghost use Rattle.std.specs.Prelude.{◌≡◌, ◌≢◌, ◌∷◌, [], Err, IfOk, OnErr, OnOk, true};
 ghost use Rattle.mb_lists.specs.Metadata.{text_at};
 ghost use Rattle.mb_load.specs.Begun.{IsBegun};
 ghost use Rattle.mb_metadata.specs.NameEdits.{EditsNames, done_answer, put_of};

@@ -1,10 +1,7 @@
 // Packing a tree of files into a tile set.
 ghost use Rattle.std.specs.Prelude.{◌≡◌, ◌≢◌, true, IfErr, IfOk, IsErrOf, OnOk};
 ghost use Rattle.base_values.specs.Counts.{Rose};
-ghost use Rattle.mb_load.specs.LoadedFrom.{IsLoadable, IsLoadedFrom, NamesAlgorithm};
 ghost use Rattle.mb_store.specs.Kept.{FaultsCounted, Keeps, ReadsOnly};
-ghost use Rattle.mb_tables.specs.Table.{Tables};
-ghost use Rattle.mb_tables.specs.declared.kind.MbtType.TheVariants.{Flat};
 ghost use Rattle.mb_tree.specs.PackSteps.{Packs, RefusesPaths};
 ghost use Rattle.mb_tree.specs.Packed.{IsLeft, IsPacked, IsPacking};
 

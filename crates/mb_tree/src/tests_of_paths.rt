@@ -3,7 +3,6 @@ ghost use Rattle.std.specs.Prelude.{◌≡◌, filter_map, length};
 ghost use Rattle.mb_insert.specs.Batch.{is_coord};
 ghost use Rattle.mb_insert.specs.Insertion.{bad_coord};
 ghost use Rattle.mb_tables.specs.Refusals.{Tests, first_refusal, first_refused};
-ghost use Rattle.mb_tree.specs.Format.{same_format};
 ghost use Rattle.mb_tree.specs.Packing.{as_given, first_format, path_refused, tile_refusals};
 ghost use Rattle.mb_tree.specs.TilePath.{tile_path};
 
