@@ -33,10 +33,9 @@ below_each p (y ∷ es) (suc k) e h at = below_each p es k e (and_parts _ _ h).1
 
 rises : (es : List Tile) (j k : ℕ) (x y : Tile) → is_sorted place_cmp es ≡ true → j < k → slice_get es j ≡ Some x → slice_get es k ≡ Some y → place_cmp x.0 y.0 ≡ Less
 rises [] j k x y s lt a b = absurd (none-some x a)
-rises (e ∷ es) zero zero x y s lt a b = absurd (omega (arith, lt))
-rises (e ∷ es) (suc j) zero x y s lt a b = absurd (omega (arith, lt))
 rises (e ∷ es) zero (suc k) x y s lt a b = ap (λ (z : Tile). place_cmp z.0 y.0) (sym (same_Some e x a)) ∙ below_each e.0 es k y (and_parts _ _ s).0 b
 rises (e ∷ es) (suc j) (suc k) x y s lt a b = rises es j k x y (and_parts _ _ s).1 (omega (arith, lt)) a b
+rises _ _ _ x y s lt a b = absurd (omega (arith, lt))
 
 -- what stands at an index is found
 found_there : (es : List Tile) (i : ℕ) (e : Tile) → is_sorted place_cmp es ≡ true → slice_get es i ≡ Some e → find place_cmp e.0 es ≡ Some e.1

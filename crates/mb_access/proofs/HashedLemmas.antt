@@ -13,8 +13,8 @@ use Rattle.mb_tables.specs.Table.{Tables}
 use Rattle.mb_tables.specs.declared.cell.Cell.{Cell}
 use Rattle.mb_tables.specs.declared.error.MbtError.{MbtError}
 use Rattle.mb_tables.specs.declared.kind.MbtType.{MbtType}
-use Rattle.mb_tables.specs.declared.kind.MbtType.TheVariants.{Flat, FlatWithHash, Normalized, Cache}
-use Rattle.mb_tables.specs.declared.kind.NormalizedSchema.TheVariants.{Hash, DedupId}
+use Rattle.mb_tables.specs.declared.kind.MbtType.TheVariants.{Normalized}
+use Rattle.mb_tables.specs.declared.kind.NormalizedSchema.TheVariants.{Hash}
 use Rattle.tile_ids.specs.Coord.{Coord}
 
 abbrev Hashed : Type 0
@@ -22,11 +22,8 @@ Hashed = Option (List ℕ × Option (List ℕ))
 
 -- in the other layouts the row doesn't matter
 same_hash : (layout : MbtType) (t : Tables) (c : Option Coord) (id : Option Cell) → hash_by layout (row_by layout t c) id ≡ hash_by layout (row_at t c) id
-same_hash Flat t c id = refl
-same_hash FlatWithHash t c id = refl
 same_hash (Normalized view Hash) t c id = refl
-same_hash (Normalized view DedupId) t c id = refl
-same_hash Cache t c id = refl
+same_hash _ t c id = refl
 
 -- the row that was asked for, by what the layout, the tables and the coordinate are
 pub row_by_same : (row : Option (List Cell)) (l m : MbtType) (t u : Tables) (c d : Option Coord) → row ≡ row_by l t c → l ≡ m → t ≡ u → c ≡ d → row ≡ row_by m u d

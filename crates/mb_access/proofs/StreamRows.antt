@@ -33,7 +33,7 @@ use Rattle.mb_tables.specs.declared.cell.Cell.{Cell}
 use Rattle.mb_tables.specs.declared.error.MbtError.{MbtError}
 use Rattle.mb_tables.specs.declared.error.MbtError.TheVariants.{InvalidDataFormat, InvalidTileIndex, NoUniquenessConstraint}
 use Rattle.mb_tables.specs.declared.kind.MbtType.{MbtType}
-use Rattle.mb_tables.specs.declared.kind.MbtType.TheVariants.{Flat, FlatWithHash, Normalized, Cache}
+use Rattle.mb_tables.specs.declared.kind.MbtType.TheVariants.{Normalized, Cache}
 use Rattle.mb_tables.specs.declared.kind.NormalizedSchema.TheVariants.{Hash, DedupId}
 use Rattle.mb_tables.specs.declared.table.TableName.TheVariants.{Metadata}
 use Rattle.mb_metadata.proofs.UpdateLemmas.{ok_same}
@@ -44,11 +44,9 @@ module _ (s : State) (row : List Cell) where
 
 -- the tiles of tables by their rows
 pairs_same : (layout : MbtType) (t : Tables) → pairs_of layout t ≡ filter_map (tile_in layout (content_rows layout t)) (t.rows (tile_table layout))
-pairs_same Flat t = refl
-pairs_same FlatWithHash t = refl
-pairs_same Cache t = refl
 pairs_same (Normalized view Hash) t = named_rows view Hash (content_rows (Normalized view Hash) t) (t.rows (tile_table (Normalized view Hash)))
 pairs_same (Normalized view DedupId) t = named_rows view DedupId (content_rows (Normalized view DedupId) t) (t.rows (tile_table (Normalized view DedupId)))
+pairs_same _ t = refl
 
 abbrev places : List Tile → List Place
 places es = map (λ (e : Tile). e.0) es
@@ -108,8 +106,6 @@ refused_without : (row : List Cell) (cell : Cell) → unless (is_some (tile_of r
 refused_without row cell good none = false≢true (sym (ap is_some none) ∙ holds (is_some (tile_of row cell)) (InvalidTileIndex (cell_at 0 row) (cell_at 1 row) (cell_at 2 row)) good)
 
 without_tile : (layout : MbtType) (ids : List (List Cell)) (row : List Cell) → bad_tile layout ids row ≡ None → tile_in layout ids row ≡ None → is_tile_row layout row ≡ false
-without_tile Flat ids row good none = absurd (refused_without row (cell_at 3 row) good none)
-without_tile FlatWithHash ids row good none = absurd (refused_without row (cell_at 3 row) good none)
 without_tile Cache ids row good none = absurd (refused_without row (cell_at 6 row) good none)
 without_tile (Normalized view schema) ids row good none = by (is_null (cell_at 3 row)) good none
   where
@@ -119,16 +115,15 @@ without_tile (Normalized view schema) ids row good none = by (is_null (cell_at 3
         → not b ≡ false
     by true good none = refl
     by false good none = absurd (refused_without row (content_of ids (cell_at 3 row)) good none)
+without_tile _ ids row good none = absurd (refused_without row (cell_at 3 row) good none)
 
 with_tile : (layout : MbtType) (ids : List (List Cell)) (row : List Cell) (e : Tile) → tile_in layout ids row ≡ Some e → is_tile_row layout row ≡ true
-with_tile Flat ids row e h = refl
-with_tile FlatWithHash ids row e h = refl
-with_tile Cache ids row e h = refl
 with_tile (Normalized view schema) ids row e h = by (is_null (cell_at 3 row)) h
   where
     by : (b : Bool) → option_and_then (tile_of row) (cond b None (Some (content_of ids (cell_at 3 row)))) ≡ Some e → not b ≡ true
     by true h = absurd (none-some e h)
     by false h = refl
+with_tile _ ids row e h = refl
 
 module _ (s : State) (ids : List (List Cell)) where
   same_none : (row : List Cell) → bad_tile s.layout ids row ≡ None → tile_in s.layout ids row ≡ None → tile_by_row s row ≡ None

@@ -20,16 +20,15 @@ use Rattle.mb_cache.specs.declared.entries.Entry.{Entry}
 use Rattle.mb_cache.specs.declared.moments.UnixSeconds.{UnixSeconds}
 use Rattle.mb_tables.specs.Tiles.{Place}
 use Rattle.mb_tables.specs.declared.cell.Cell.{Cell}
-use Rattle.mb_tables.specs.declared.cell.Cell.TheVariants.{Null, Int, Text, Blob, Other}
+use Rattle.mb_tables.specs.declared.cell.Cell.TheVariants.{Null}
 use Rattle.mb_lists.proofs.Items.{equal_of}
 
 pub equal_entries : IsEquivalence (eq_by_cmp entry_cmp)
 equal_entries = eq_by_cmp_equiv entries_total
 
 then_equal : (a b : Ordering) → ordering_then a b ≡ Equal → (a ≡ Equal) × (b ≡ Equal)
-then_equal Less b h = cc
 then_equal Equal b h = (refl, h)
-then_equal Greater b h = cc
+then_equal _ b h = cc
 
 same_parts : (a b : Entry) → a.group ≡ b.group → a.expires ≡ b.expires → a.zoom ≡ b.zoom → a.column ≡ b.column → a.row ≡ b.row → a ≡ b
 same_parts a b g e z c r = λ i. record { group = g i; expires = e i; zoom = z i; column = c i; row = r i }
@@ -59,10 +58,7 @@ other_entry a b apart = by (eq_by_cmp entry_cmp a b) refl
 -- the entry of a place stands there
 pub placed_there : (p : Place) (cell : Cell) → place_in (entry_at p cell) ≡ p
 placed_there p Null = refl
-placed_there p (Int n) = refl
-placed_there p (Text bytes) = refl
-placed_there p (Blob bytes) = refl
-placed_there p Other = refl
+placed_there p _ = refl
 
 -- one more entry
 pub has-insert_key : (es : List Entry) (k e : Entry) → has_entry (insert_key entry_cmp es k) e ≡ (eq_by_cmp entry_cmp e k || has_entry es e)
@@ -71,8 +67,7 @@ has-insert_key (x ∷ xs) k e = by (entry_cmp k x) refl (has-insert_key xs k e)
   where
     swap : (a b c : Bool) → (a || (b || c)) ≡ (b || (a || c))
     swap true true c = refl
-    swap true false c = refl
-    swap false b c = refl
+    swap _ _ c = refl
 
     twice : (a c : Bool) → (a || c) ≡ (a || (a || c))
     twice true c = refl
@@ -103,9 +98,8 @@ after_first x (y ∷ ys) e all h =
     rw (ap is_eq (ap (λ z. entry_cmp z y) same ∙ all.0)) (after_first x ys e all.1 h)
 
 pub sorted_drop : (n : ℕ) (es : List Entry) → IsStrictlySortedBy entry_cmp es → IsStrictlySortedBy entry_cmp (drop n es)
-sorted_drop zero es sorted = sorted
-sorted_drop (suc n) [] sorted = sorted
 sorted_drop (suc n) (e ∷ es) sorted = sorted_drop n es (sorted_tail entry_cmp e es sorted)
+sorted_drop _ _ sorted = sorted
 
 pub sorted_take : (n : ℕ) (es : List Entry) → IsStrictlySortedBy entry_cmp es → IsStrictlySortedBy entry_cmp (take n es)
 unfolding IsStrictlySortedBy
@@ -120,24 +114,21 @@ sorted_take (suc n) (e ∷ es) sorted = (some n es sorted.0, sorted_take n es so
 
 -- the entries from one on are those that aren't before it
 pub has-drop : (n : ℕ) (es : List Entry) (e : Entry) → IsStrictlySortedBy entry_cmp es → has_entry (drop n es) e ≡ (not (has_entry (take n es) e) && has_entry es e)
-has-drop zero es e sorted = refl
-has-drop (suc n) [] e sorted = refl
 has-drop (suc n) (x ∷ xs) e sorted = by (eq_by_cmp entry_cmp e x) refl (has-drop n xs e (sorted_tail entry_cmp x xs sorted))
   where
     within : (m : ℕ) (ys : List Entry) → has_entry ys e ≡ false → has_entry (drop m ys) e ≡ false
-    within zero ys h = h
-    within (suc m) [] h = h
     within (suc m) (y ∷ ys) h = within m ys (or_parts (eq_by_cmp entry_cmp e y) (has_entry ys e) h).1
+    within _ _ h = h
 
     by : (b : Bool) → eq_by_cmp entry_cmp e x ≡ b → has_entry (drop n xs) e ≡ (not (has_entry (take n xs) e) && has_entry xs e) → has_entry (drop n xs) e ≡ (not (eq_by_cmp entry_cmp e x || has_entry (take n xs) e) && (eq_by_cmp entry_cmp e x || has_entry xs e))
     by true f next = rw (f) (within n xs (after_first x xs e (sorted_head entry_cmp x xs sorted) f))
     by false f next = rw (f) next
+has-drop _ _ e sorted = refl
 
 -- an order by parts that isn't above in the whole isn't above in the first part
 part_below : (a b : Ordering) → is_gt (ordering_then a b) ≡ false → is_gt a ≡ false
-part_below Less b h = refl
-part_below Equal b h = refl
 part_below Greater b h = h
+part_below _ b h = refl
 
 less_int : (x y : ℤ) → int_cmp x y ≡ Less → int_lt x y ≡ true
 less_int x y h = by (int_lt x y) refl (int_lt y x) h

@@ -55,9 +55,8 @@ module _ (cs : List Change) (c : Change) (row : List Cell) where
       λ i. table_eq (tables i) TileCache && cells_eq (key_of TileCache row) (keys i)
 
   one_more : (a b : Bool) → (b ≡ true → a ≡ true) → a ≡ (a || b)
-  one_more true b h = refl
   one_more false true h = h refl
-  one_more false false h = refl
+  one_more _ _ h = refl
 
   pub changed_more : is_changed (with_change cs c) TileCache row ≡ (is_changed cs TileCache row || test c)
   changed_more = by (position (λ d. same_key d c) cs) refl

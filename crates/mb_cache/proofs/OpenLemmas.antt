@@ -22,7 +22,7 @@ use Rattle.mb_tables.specs.declared.description.TableDesc.{TableDesc}
 use Rattle.mb_tables.specs.declared.error.MbtError.{MbtError}
 use Rattle.mb_tables.specs.declared.error.MbtError.TheVariants.{InvalidDataFormat, NoUniquenessConstraint, NotACacheFile}
 use Rattle.mb_tables.specs.declared.kind.MbtType.{MbtType}
-use Rattle.mb_tables.specs.declared.kind.MbtType.TheVariants.{Flat, FlatWithHash, Normalized, Cache}
+use Rattle.mb_tables.specs.declared.kind.MbtType.TheVariants.{Cache}
 use Rattle.mb_tables.specs.declared.table.TableName.TheVariants.{Metadata, TileCache}
 
 -- the tables that opening begins with are those of a cache
@@ -31,10 +31,7 @@ begun_layout t h = by t.descriptions refl
   where
     cache : (o : Option MbtType) → is_cache_layout o ≡ true → o ≡ Some Cache
     cache (Some Cache) h = refl
-    cache (Some Flat) h = cc
-    cache (Some FlatWithHash) h = cc
-    cache (Some (Normalized view schema)) h = cc
-    cache None h = cc
+    cache _ h = cc
 
     by : (ds : List TableDesc) → t.descriptions ≡ ds → layout_of (begun_with t).descriptions ≡ Some Cache
     by [] e = ap (λ b. layout_of (cond b (created t (set_tables Cache)) t).descriptions) (ap is_bare e) ∙ ap (λ ds. layout_of (with_tables ds (set_tables Cache))) e
@@ -50,10 +47,7 @@ begun_may ds h = by (may_begin ds) refl h
 -- tables of a cache open as they load
 pub is_cache : (o : Option MbtType) → is_cache_layout o ≡ true → o ≡ Some Cache
 is_cache (Some Cache) h = refl
-is_cache (Some Flat) h = cc
-is_cache (Some FlatWithHash) h = cc
-is_cache (Some (Normalized view schema)) h = cc
-is_cache None h = cc
+is_cache _ h = cc
 
 loads_first : (t u : Tables) → begin_answer t.descriptions ≡ Ok tt → u ≡ begun_with t → open_answer t ≡ then (state_of u) (λ _. Ok tt)
 loads_first t u first same = ap (λ r. then r (λ _. then (state_of (begun_with t)) (λ _. Ok tt))) first ∙ ap (λ (x : Tables). then (state_of x) (λ _. Ok tt)) (sym same)
@@ -110,9 +104,7 @@ described_parts ds h = by (is_cache_layout (layout_of ds)) refl (list_any is_met
   where
     by : (a : Bool) → is_cache_layout (layout_of ds) ≡ a → (b : Bool) → list_any is_metadata ds ≡ b → (c : Bool) → is_keyed ds TileCache ≡ c → ◌≡◌ {A = Result (Unit {0}) MbtError} (cond a (cond b (cond c (Ok tt) (Err NoUniquenessConstraint)) (Err InvalidDataFormat)) (Err NotACacheFile)) (Ok tt) → (layout_of ds ≡ Some Cache) × (metadata_missing ds ≡ None) × (index_missing ds Cache ≡ None)
     by true e true f true g h = (is_cache (layout_of ds) e, ap (λ b. unless b InvalidDataFormat) f, ap (λ b. unless b NoUniquenessConstraint) g)
-    by true e true f false g h = cc
-    by true e false f c g h = cc
-    by false e b f c g h = cc
+    by _ e _ f _ g h = cc
 
 -- tables with these descriptions and rows
 module _ (t : Tables) (described : described_answer t.descriptions ≡ Ok tt) where

@@ -67,9 +67,7 @@ described_no_fault ds f refused fault = by (is_cache_layout (layout_of ds)) (lis
   where
     by : (a b c : Bool) → ◌≡◌ {A = Result (Unit {0}) MbtError} (cond a (cond b (cond c (Ok tt) (Err NoUniquenessConstraint)) (Err InvalidDataFormat)) (Err NotACacheFile)) (Err StoreFault) → ⊥
     by true true true h = cc
-    by true true false h = cc
-    by true false c h = cc
-    by false b c h = cc
+    by _ _ _ h = cc
 
 -- rows with a cell of another kind
 abbrev bad_rows : List (List Cell)

@@ -32,16 +32,13 @@ use Rattle.mb_tables.specs.Key.{clash}
 use Rattle.mb_tables.specs.Table.{Tables, key_of}
 use Rattle.mb_tables.specs.Tiles.{Place, cell_at}
 use Rattle.mb_tables.specs.declared.cell.Cell.{Cell}
-use Rattle.mb_tables.specs.declared.cell.Cell.TheVariants.{Null, Int, Text, Blob, Other}
+use Rattle.mb_tables.specs.declared.cell.Cell.TheVariants.{Null}
 use Rattle.mb_tables.specs.declared.table.TableName.TheVariants.{TileCache}
 
 -- an entry expires by its cell
 by_cell : (now : UnixSeconds) (p : Place) (cell : Cell) → is_expired_entry now (entry_at p cell) ≡ is_expired now cell
 by_cell now p Null = refl
-by_cell now p (Int n) = refl
-by_cell now p (Text bytes) = refl
-by_cell now p (Blob bytes) = refl
-by_cell now p Other = refl
+by_cell now p _ = refl
 
 by_row : (now : UnixSeconds) (row : List Cell) → is_expired_entry now (entry_of row) ≡ is_expired now (cell_at 4 row)
 by_row now row = by_cell now (row_place row) (cell_at 4 row)

@@ -56,14 +56,11 @@ at_place e new (Some row) =
     ∙ bools (eq_by_cmp entry_cmp e new) (eq_by_cmp entry_cmp e (entry_of row)) (eq_by_cmp entry_cmp (entry_of row) new) (λ h. ap (λ k. eq_by_cmp entry_cmp k new) (sym (same_entry e (entry_of row) h)))
   where
     bools : (x y z : Bool) → (y ≡ true → z ≡ x) → ((x || (y || false)) && not (not z && y)) ≡ (x || false)
-    bools true true true h = refl
     bools true true false h = absurd (false≢true (h refl))
-    bools false true false h = refl
     bools false true true h = absurd (false≢true (sym (h refl)))
     bools true false true h = refl
-    bools true false false h = refl
     bools false false true h = refl
-    bools false false false h = refl
+    bools _ _ _ h = refl
 
 -- elsewhere nothing is new, and nothing replaced
 elsewhere : (e new : Entry) (o : Option (List Cell)) (has : Bool) → eq_by_cmp entry_cmp e new ≡ false → IfSome o (λ row. eq_by_cmp entry_cmp (entry_of row) e ≡ false) → ((eq_by_cmp entry_cmp e new || has) && not (is_replaced (option_map entry_of o) new e)) ≡ has

@@ -98,14 +98,12 @@ round_last xs rest all n whole none least = sym (take_all n xs least) ∙ ap (ta
 
 -- a round is as long as it is
 pub take_round : {X : Type 0} (n : ℕ) (xs : List X) → take (length (take n xs)) xs ≡ take n xs
-take_round zero xs = refl
-take_round (suc n) [] = refl
 take_round (suc n) (x ∷ xs) = ap (λ ys. x ∷ ys) (take_round n xs)
+take_round _ _ = refl
 
 pub drop_round : {X : Type 0} (n : ℕ) (xs : List X) → drop (length (take n xs)) xs ≡ drop n xs
-drop_round zero xs = refl
-drop_round (suc n) [] = refl
 drop_round (suc n) (x ∷ xs) = drop_round n xs
+drop_round _ _ = refl
 
 take_add : {X : Type 0} (n m : ℕ) (xs : List X) → take (n + m) xs ≡ take n xs ++ take m (drop n xs)
 take_add n m xs = sym (take-append-drop n (take (n + m) xs)) ∙ (ap (λ ys. ys ++ drop n (take (n + m) xs)) (take-take n (n + m) xs (omega arith)) ∙ ap (λ ys. take n xs ++ ys) (drop-take n m xs))

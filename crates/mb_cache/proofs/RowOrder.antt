@@ -5,7 +5,7 @@ use Rattle.std.specs.List.{cons_option, list_any}
 use Rattle.std.specs.Option.{option_or}
 use Rattle.std.specs.Ordering.{eq_by_cmp, ordering_then}
 use Rattle.std.specs.declared.cmp.Ordering.{Ordering}
-use Rattle.std.specs.declared.cmp.Ordering.TheVariants.{Less, Equal, Greater}
+use Rattle.std.specs.declared.cmp.Ordering.TheVariants.{Less}
 use Rattle.std.specs.Ordering.{is_eq, nat_cmp}
 use Rattle.std.proofs.lemmas.Option.{none-some}
 use Rattle.mb_cache.specs.Entries.{row_place}
@@ -34,15 +34,10 @@ none_refused [] = refl
 none_refused (x ∷ xs) = none_refused xs
 
 in_parts : (a b c d e f g h : Option MbtError) → f ≡ None → g ≡ None → option_or a (option_or b (option_or c (option_or d (option_or e (option_or f (option_or g (option_or h None))))))) ≡ option_or a (option_or (option_or (option_or b c) d) (option_or e h))
-in_parts (Some x) b c d e f g h p q = refl
-in_parts None (Some x) c d e f g h p q = refl
-in_parts None None (Some x) d e f g h p q = refl
-in_parts None None None (Some x) e f g h p q = refl
-in_parts None None None None (Some x) f g h p q = refl
 in_parts None None None None None (Some x) g h p q = cc
 in_parts None None None None None None (Some x) h p q = cc
 in_parts None None None None None None None (Some x) p q = refl
-in_parts None None None None None None None None p q = refl
+in_parts _ _ _ _ _ _ _ _ p q = refl
 
 -- references and stored digests refuse no row of a cache
 pub by_parts : (metadata rows : List (List Cell)) → row_refusal metadata rows ≡ option_or (tile_kind_wrong Cache rows) (option_or (names_refused metadata) (tiles_refused rows))
@@ -56,8 +51,7 @@ same_spot p q = ap is_eq (by (nat_cmp p.zoom q.zoom))
   where
     by : (r : Ordering) → ordering_then (ordering_then r (nat_cmp p.column q.column)) (nat_cmp p.row q.row) ≡ ordering_then r (ordering_then (nat_cmp p.column q.column) (nat_cmp p.row q.row))
     by Less = refl
-    by Equal = refl
-    by Greater = refl
+    by _ = refl
 
 distinct_spots : (rows : List (List Cell)) → are_distinct spot_cmp (map spot_of rows) ≡ are_distinct place_cmp (map row_place rows)
 distinct_spots [] = refl

@@ -65,10 +65,8 @@ distinct_more R equal (x ∷ ks) k =
     ∙ parts (list_any (eq_by_cmp R x) ks) (eq_by_cmp R k x) (list_any (eq_by_cmp R k) ks) (are_distinct R ks)))
   where
     parts : (a b c d : Bool) → (not (a || (b || false)) && (d && not c)) ≡ ((not a && d) && not (b || c))
-    parts true b c d = refl
     parts false true c true = refl
-    parts false true c false = refl
-    parts false false c d = refl
+    parts _ _ c _ = refl
 
 -- the tile of one row more
 pub tile_more : (rows : Rows) (row : List Cell) (old new : SeenTiles) (s : ℕ × ℕ × ℕ) (k : Entry) (added : Bool) → s ≡ spot_of row → k ≡ entry_of row → added ≡ not (list_any (eq_by_cmp spot_cmp s) old.places.keys)

@@ -14,15 +14,12 @@ use Rattle.mb_constraints.specs.Algorithm.{algorithms, stored_algorithm}
 use Rattle.mb_tables.specs.declared.cell.Cell.{Cell}
 use Rattle.tile_hash.specs.Digest.{name_of}
 use Rattle.tile_hash.specs.declared.algorithm.HashAlgorithm.{HashAlgorithm}
-use Rattle.tile_hash.specs.declared.algorithm.HashAlgorithm.TheVariants.{Md5, Fnv1a, Fnv1aDecimal, Xxh64, Xxh3}
+use Rattle.tile_hash.specs.declared.algorithm.HashAlgorithm.TheVariants.{Md5}
 
 -- each name is found
 own_name : (a : HashAlgorithm) → find (λ b. bytes_eq (name_of a) (name_of b)) algorithms ≡ Some a
 own_name Md5 = refl
-own_name Fnv1a = refl
-own_name Fnv1aDecimal = refl
-own_name Xxh64 = refl
-own_name Xxh3 = refl
+own_name _ = refl
 
 -- an answer that has the name, where one has it, is the one that is found
 pub named_is : (low : List ℕ) (r : Option HashAlgorithm) → IfSome r (λ a. low ≡ name_of a) → ((a : HashAlgorithm) → low ≡ name_of a → r ≡ Some a) → r ≡ find (λ a. bytes_eq low (name_of a)) algorithms

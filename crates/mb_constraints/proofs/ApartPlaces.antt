@@ -1,5 +1,5 @@
 -- Rows that a unique index keeps apart have no place twice.
-use Rattle.std.proofs.Common.{◌≡◌, ◌∙◌, ap, sym, ℕ, ℤ, ◌^◌, List, [], ◌∷◌, Option, Some, None, Bool, true, false, not, ◌&&◌, cond, filter_map, map, take, pos, negsuc, refl, suc, nat_lt, arith}
+use Rattle.std.proofs.Common.{◌≡◌, ◌∙◌, ap, sym, ℕ, ℤ, ◌^◌, List, [], ◌∷◌, Option, Some, None, Bool, true, false, not, ◌&&◌, cond, filter_map, map, take, pos, refl, suc, nat_lt, arith}
 use Rattle.std.specs.Prelude.{AllPairs, option_and_then, slice_get}
 use Rattle.std.specs.List.{cons_option, list_any}
 use Rattle.std.specs.Ordering.{eq_by_cmp}
@@ -19,11 +19,11 @@ use Rattle.mb_tables.specs.Key.{clash}
 use Rattle.mb_tables.specs.Table.{Tables, key_of}
 use Rattle.mb_tables.specs.Tiles.{Place, cell_at, contents_of, number_below, place_cmp, place_of, tile_of}
 use Rattle.mb_tables.specs.declared.cell.Cell.{Cell}
-use Rattle.mb_tables.specs.declared.cell.Cell.TheVariants.{Null, Int, Text, Blob, Other}
+use Rattle.mb_tables.specs.declared.cell.Cell.TheVariants.{Int}
 use Rattle.mb_tables.specs.declared.error.MbtError.TheVariants.{NoUniquenessConstraint}
 use Rattle.mb_tables.specs.declared.kind.MbtType.{MbtType}
-use Rattle.mb_tables.specs.declared.kind.MbtType.TheVariants.{Flat, FlatWithHash, Normalized, Cache}
-use Rattle.mb_tables.specs.declared.kind.NormalizedSchema.TheVariants.{Hash, DedupId}
+use Rattle.mb_tables.specs.declared.kind.MbtType.TheVariants.{Normalized}
+use Rattle.mb_tables.specs.declared.kind.NormalizedSchema.TheVariants.{Hash}
 
 -- a place's numbers are its row's first three cells
 number_is : (limit : ℕ) (c : Cell) (n : ℕ) → number_below limit c ≡ Some n → c ≡ Int (pos n)
@@ -32,17 +32,11 @@ number_is limit (Int (pos m)) n h = by (nat_lt m limit) h
     by : (b : Bool) → cond b (Some m) None ≡ Some n → Int (pos m) ≡ Int (pos n)
     by true k = let same : m ≡ n = cc in ap (λ x. Int (pos x)) same
     by false k = absurd (none-some n k)
-number_is limit (Int (negsuc m)) n h = absurd (none-some n h)
-number_is limit Null n h = absurd (none-some n h)
-number_is limit (Text t) n h = absurd (none-some n h)
-number_is limit (Blob b) n h = absurd (none-some n h)
-number_is limit Other n h = absurd (none-some n h)
+number_is limit _ n h = absurd (none-some n h)
 
 three : (row : List Cell) (a b c : ℤ) → cell_at 0 row ≡ Int a → cell_at 1 row ≡ Int b → cell_at 2 row ≡ Int c → take 3 row ≡ Int a ∷ Int b ∷ Int c ∷ []
-three [] a b c h k l = cc
-three (x ∷ []) a b c h k l = cc
-three (x ∷ y ∷ []) a b c h k l = cc
 three (x ∷ y ∷ z ∷ rest) a b c h k l = λ i. h i ∷ k i ∷ l i ∷ []
+three _ a b c h k l = cc
 
 abbrev place_cells : Place → List Cell
 place_cells p = Int (pos p.zoom) ∷ Int (pos p.column) ∷ Int (pos p.row) ∷ []
@@ -86,11 +80,8 @@ in_has_place layout ids row t h = by (contents_in layout ids row) h
 
 -- the key of a tile table is its place
 pub key_is : (layout : MbtType) (row : List Cell) → key_of (tile_table layout) row ≡ take 3 row
-key_is Flat row = refl
-key_is FlatWithHash row = refl
-key_is Cache row = refl
 key_is (Normalized view Hash) row = refl
-key_is (Normalized view DedupId) row = refl
+key_is _ row = refl
 
 unclashed : (layout : MbtType) (ids : List (List Cell)) (r s : List Cell) (p q : Place × Option (List ℕ)) → tile_in layout ids r ≡ Some p → tile_in layout ids s ≡ Some q → clash (tile_table layout) r s ≡ false → eq_by_cmp place_cmp p.0 q.0 ≡ false
 unclashed layout ids r s p q e f apart = by (eq_by_cmp place_cmp p.0 q.0) refl

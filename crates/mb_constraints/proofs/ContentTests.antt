@@ -25,8 +25,8 @@ use Rattle.mb_tables.specs.declared.cell.Cell.{Cell}
 use Rattle.mb_tables.specs.declared.error.MbtError.{MbtError}
 use Rattle.mb_tables.specs.declared.error.MbtError.TheVariants.{InvalidDataFormat, NoUniquenessConstraint}
 use Rattle.mb_tables.specs.declared.kind.MbtType.{MbtType}
-use Rattle.mb_tables.specs.declared.kind.MbtType.TheVariants.{Flat, FlatWithHash, Normalized, Cache}
-use Rattle.mb_tables.specs.declared.kind.NormalizedSchema.TheVariants.{Hash, DedupId}
+use Rattle.mb_tables.specs.declared.kind.MbtType.TheVariants.{Normalized}
+use Rattle.mb_tables.specs.declared.kind.NormalizedSchema.TheVariants.{Hash}
 use Rattle.tile_hash.specs.declared.algorithm.HashAlgorithm.{HashAlgorithm}
 
 fronts_kept : (rows : List (List Cell)) → map (λ (c : Content). c.id) (map content_from rows) ≡ fronts rows
@@ -55,23 +55,19 @@ kinds_pass layout contents ids rows e t h = ap (λ o. option_or o (option_or (ti
   where
     go : (a b : Bool) → (a && b) ≡ true → option_or (unless a InvalidDataFormat) (unless b InvalidDataFormat) ≡ None
     go true true h = refl
-    go true false h = absurd (false≢true h)
-    go false b h = absurd (false≢true h)
+    go _ _ h = absurd (false≢true h)
 
 pub kinds_refused : (layout : MbtType) (contents : List Content) (ids rows : List (List Cell)) → contents ≡ map content_from ids → id_twice ids ≡ None → (list_all (has_tile_kinds layout) rows && list_all (λ (c : Content). is_id layout c.id) contents) ≡ false → option_or (id_twice ids) (option_or (tile_kind_wrong layout rows) (content_kind_wrong layout ids)) ≡ Some InvalidDataFormat
 kinds_refused layout contents ids rows e t h = ap (λ o. option_or o (option_or (tile_kind_wrong layout rows) (content_kind_wrong layout ids))) t ∙ go (list_all (has_tile_kinds layout) rows) (list_all (λ row. is_id layout (cell_at 0 row)) ids) (ap (λ b. list_all (has_tile_kinds layout) rows && b) (sym (ap (list_all (λ (c : Content). is_id layout c.id)) e ∙ ids_kept layout ids)) ∙ h)
   where
     go : (a b : Bool) → (a && b) ≡ false → option_or (unless a InvalidDataFormat) (unless b InvalidDataFormat) ≡ Some InvalidDataFormat
     go true true h = absurd (false≢true (sym h))
-    go true false h = refl
-    go false b h = refl
+    go _ _ h = refl
 
 -- rows of two cells are kept whole
 row_back : (row : List Cell) → length row ≡ 2 → row_kept (content_from row) ≡ row
-row_back [] h = absurd (omega (arith, h))
-row_back (a ∷ []) h = absurd (omega (arith, h))
 row_back (a ∷ b ∷ []) h = refl
-row_back (a ∷ b ∷ c ∷ rest) h = absurd (omega (arith, h))
+row_back _ h = absurd (omega (arith, h))
 
 rows_back : (rows : List (List Cell)) → All (λ row. length row ≡ 2) rows → rows_kept (map content_from rows) ≡ rows
 rows_back [] h = refl
@@ -92,11 +88,8 @@ all_present contents rows e = λ i d lt. ap is_removed (all_new contents rows e 
 
 -- the tests of the digests of contents are those of their rows
 one_id : (layout : MbtType) (a : HashAlgorithm) (c : Content) → wrong_content_hash layout a (row_kept c) ≡ wrong_id layout a c
-one_id Flat a c = refl
-one_id FlatWithHash a c = refl
-one_id Cache a c = refl
 one_id (Normalized view Hash) a c = refl
-one_id (Normalized view DedupId) a c = refl
+one_id _ a c = refl
 
 pub ids_tested : (layout : MbtType) (a : HashAlgorithm) (contents : List Content) → first_refused (wrong_content_hash layout a) (rows_kept contents) ≡ first_refused (wrong_id layout a) contents
 ids_tested layout a [] = refl

@@ -152,9 +152,8 @@ pub by_id_if : (P : StoredTile → Type 0) (contents : List Content) (order : Li
 by_id_if P contents order row some = go (is_null (cell_at 3 row)) (index_by contents order (cell_at 3 row)) refl refl
   where
     go : (b : Bool) (o : Option ℕ) → is_null (cell_at 3 row) ≡ b → index_by contents order (cell_at 3 row) ≡ o → IfSome (cond b None (by_index row o)) P
-    go true o e g = tt
     go false (Some i) e g = some i e g
-    go false None e g = tt
+    go _ _ e g = tt
 
 -- the three values of a row by an id
 pub tile_by_id : (contents : List Content) (live : ℕ) (order : List ℕ) → AreIndexed contents live order → (view : Bool) (schema : NormalizedSchema) (row : List Cell) → missing_reference (Normalized view schema) (rows_kept contents) row ≡ None → option_and_then (entry (tile_value contents)) (stored_by_id contents order row) ≡ tile_in (Normalized view schema) (rows_kept contents) row

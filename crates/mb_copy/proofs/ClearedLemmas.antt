@@ -105,12 +105,11 @@ module _ {K : Type 0} {R : K → K → Ordering} (total : IsTotalOrder R) where
 
   module _ (anti : IsAntisymmetric R) (test : K → Bool) where
     step : (b c d f l : Bool) → (b ≡ true → d ≡ c) → f ≡ (not d && l) → cond (not c) (b || f) f ≡ (not d && (b || l))
-    step true true true f l same ih = ih
     step true true false f l same ih = absurd (false≢true (same refl))
     step true false true f l same ih = absurd (false≢true (sym (same refl)))
     step true false false f l same ih = refl
     step false true d f l same ih = ih
-    step false false d f l same ih = ih
+    step _ _ _ f l same ih = ih
 
     any_cond : (q k : K) (b : Bool) (ks : List K) → list_any (eq_by_cmp R q) (cond b (k ∷ ks) ks) ≡ cond b (eq_by_cmp R q k || list_any (eq_by_cmp R q) ks) (list_any (eq_by_cmp R q) ks)
     any_cond q k true ks = refl
@@ -144,10 +143,8 @@ module _ {K : Type 0} {R : K → K → Ordering} (total : IsTotalOrder R) where
         ∙ sym (get-retain_keys m test q (λ x tie. ap test (sym (anti q x tie)))))))
       where
         by : (b c : Bool) (o : Option V) → (is_some o ≡ true → c ≡ true) → cond (not b && c) None o ≡ cond b o None
-        by true c o h = refl
-        by false true o h = refl
-        by false false None h = refl
         by false false (Some v) h = absurd (false≢true (h refl))
+        by _ _ _ h = refl
 
     -- what a map has that passes, it had
     pub was_there : {V : Type 0} (m : FinMap R V) (q : K) (v : V) → get (retain_keys m test) q ≡ Some v → get m q ≡ Some v

@@ -20,7 +20,7 @@ use Rattle.mb_copy.specs.declared.copier.MbtilesCopier.{MbtilesCopier}
 use Rattle.mb_edit.proofs.PatchedLemmas.{get-over, or_none}
 use Rattle.mb_edit.specs.PatchingOrder.{bytes_put, id_collides}
 use Rattle.mb_insert.specs.declared.mode.CopyDuplicateMode.{CopyDuplicateMode}
-use Rattle.mb_insert.specs.declared.mode.CopyDuplicateMode.TheVariants.{Override, Ignore, Abort}
+use Rattle.mb_insert.specs.declared.mode.CopyDuplicateMode.TheVariants.{Override}
 use Rattle.mb_lists.specs.Metadata.{agg_hash}
 use Rattle.mb_loaded.specs.Aggregate.{aggregate}
 use Rattle.mb_loaded.specs.Held.{Held, fresh}
@@ -71,8 +71,7 @@ no_name_there c source (e ∷ es) =
 
 never : (mode : CopyDuplicateMode) → duplicates mode false ≡ None
 never Override = refl
-never Ignore = refl
-never Abort = refl
+never _ = refl
 
 none_twice : (c : MbtilesCopier) (source : State) → duplicates (mode_of c) (has_both c source.tiles source.metadata (made_state c source)) ≡ None
 none_twice c source =

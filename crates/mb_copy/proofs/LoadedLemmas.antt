@@ -32,7 +32,7 @@ use Rattle.mb_tables.specs.Kind.{is_normalized}
 use Rattle.mb_tables.specs.Table.{Tables}
 use Rattle.mb_tables.specs.Tiles.{Place, TileSet, place_cmp}
 use Rattle.mb_tables.specs.declared.kind.MbtType.{MbtType}
-use Rattle.mb_tables.specs.declared.kind.MbtType.TheVariants.{Flat, FlatWithHash, Normalized, Cache}
+use Rattle.mb_tables.specs.declared.kind.MbtType.TheVariants.{Normalized, Cache}
 
 -- a fact of each place of a list
 abbrev AtAll : (Place → Type 0) → List Tile → Type 0
@@ -74,9 +74,7 @@ module _ (t : Tables) where
 
   is_cache_layout : (l : MbtType) → is_cache l ≡ true → l ≡ Cache
   is_cache_layout Cache h = refl
-  is_cache_layout Flat h = absurd (false≢true h)
-  is_cache_layout FlatWithHash h = absurd (false≢true h)
-  is_cache_layout (Normalized view schema) h = absurd (false≢true h)
+  is_cache_layout _ h = absurd (false≢true h)
 
   all_times_loaded : (b : Bool) (times : FinMap place_cmp Dates) (h : Held) (put : TileSet) → is_cache h.state.layout ≡ b → IsPutIn put h → ((p : Place) (d : Dates) → get times p ≡ Some d → AreTimes d) → IsLoadedFrom t h → IsLoadedFrom t (cond b (from_last (time_put times) h (entries put)) h)
   all_times_loaded false times h put k there are l = l
@@ -84,10 +82,8 @@ module _ (t : Tables) where
 
 -- a set that isn't normalised has each tile that is put, once nulls are
 flat_cache : (l : MbtType) → is_cache l ≡ true → is_normalized l ≡ false
-flat_cache Cache h = refl
-flat_cache Flat h = refl
-flat_cache FlatWithHash h = refl
 flat_cache (Normalized view schema) h = absurd (false≢true h)
+flat_cache _ h = refl
 
 -- the tiles are the same before and after times
 timed_tiles : (b : Bool) (times : FinMap place_cmp Dates) (h : Held) (es : List Tile) → (cond b (from_last (time_put times) h es) h).state.tiles ≡ h.state.tiles

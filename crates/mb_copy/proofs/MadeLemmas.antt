@@ -35,11 +35,9 @@ no_rows : (t : Tables) → IsSound t → t.descriptions ≡ [] → (table : Tabl
 no_rows t sound none table = sound.described table (ap (λ ds. is_table ds table) none)
 
 no_contents : (l : MbtType) (t : Tables) → ((table : TableName) → t.rows table ≡ []) → content_rows l t ≡ []
-no_contents Flat t none = refl
-no_contents FlatWithHash t none = refl
 no_contents (Normalized view Hash) t none = none _
 no_contents (Normalized view DedupId) t none = none _
-no_contents Cache t none = refl
+no_contents _ t none = refl
 
 pub made_empty : (t : Tables) (l : MbtType) → IsSound t → t.descriptions ≡ [] → AreEmpty (started_as l) (created t (set_tables (started_as l)))
 made_empty t l sound none =

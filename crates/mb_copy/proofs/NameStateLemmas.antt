@@ -103,8 +103,7 @@ module _ (c : MbtilesCopier) (made : Bool) (s : State) (tiles : TileSet) (names 
 
   not_made : (a b d : Bool) → (a || b || d) ≡ false → b ≡ false
   not_made false false d h = refl
-  not_made false true d h = cc
-  not_made true b d h = cc
+  not_made _ _ d h = cc
 
   pub named_by : (made ≡ false → NamesAlgorithm s) → (unknown_name (text_at (copied_metadata c made s.algorithm tiles names s.metadata) algorithm_name) ≡ None) × (algorithm_by (text_at (copied_metadata c made s.algorithm tiles names s.metadata) algorithm_name) ≡ s.algorithm)
   named_by had = by (copies_metadata c.copy || made || stores_aggregate c) refl

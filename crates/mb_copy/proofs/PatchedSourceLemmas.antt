@@ -58,30 +58,15 @@ hashes_at m q =
     gone m k = get-remove nat_list_cmp_total m k q ∙ ap (λ b. cond b None (get m q)) (is_eq-slice_cmp q k)
 
 patched_name : (a b c : Bool) (o : Option (Option (List ℕ))) (had : Option (Option (List ℕ))) (q : List ℕ) → unless_any a b c (over_by (option_and_then (name_touch q) o) had) ≡ cond (not (is_null_at o) && not (a || b || c)) (option_or o had) None
-patched_name false false false None had q = refl
 patched_name false false false (Some None) had q = refl
-patched_name false false false (Some (Some text)) had q = refl
-patched_name true false false None had q = refl
 patched_name true false false (Some None) had q = refl
-patched_name true false false (Some (Some text)) had q = refl
-patched_name false true false None had q = refl
 patched_name false true false (Some None) had q = refl
-patched_name false true false (Some (Some text)) had q = refl
-patched_name true true false None had q = refl
 patched_name true true false (Some None) had q = refl
-patched_name true true false (Some (Some text)) had q = refl
-patched_name false false true None had q = refl
 patched_name false false true (Some None) had q = refl
-patched_name false false true (Some (Some text)) had q = refl
-patched_name true false true None had q = refl
 patched_name true false true (Some None) had q = refl
-patched_name true false true (Some (Some text)) had q = refl
-patched_name false true true None had q = refl
 patched_name false true true (Some None) had q = refl
-patched_name false true true (Some (Some text)) had q = refl
-patched_name true true true None had q = refl
 patched_name true true true (Some None) had q = refl
-patched_name true true true (Some (Some text)) had q = refl
+patched_name _ _ _ _ had q = refl
 
 names_same : (names patch : Names) → without_hashes (touches name_touch names (entries patch)) ≡ names_patched names patch
 names_same names patch = same_map nat_list_cmp_total names_antisymmetric _ _ (λ q.

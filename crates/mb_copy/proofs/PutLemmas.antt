@@ -43,7 +43,7 @@ use Rattle.mb_tables.specs.Tiles.{Place, TileSet}
 use Rattle.mb_tables.specs.declared.error.MbtError.{MbtError}
 use Rattle.mb_tables.specs.declared.error.MbtError.TheVariants.{UnsupportedCopyOperation}
 use Rattle.mb_tables.specs.declared.kind.MbtType.{MbtType}
-use Rattle.mb_tables.specs.declared.kind.MbtType.TheVariants.{Flat, FlatWithHash, Normalized, Cache}
+use Rattle.mb_tables.specs.declared.kind.MbtType.TheVariants.{Flat}
 
 -- the name of the algorithm isn't put
 pub algorithm_not_put : (c : MbtilesCopier) (source base : State) → get (names_to_put c source.metadata base.metadata) (codes "hash_algorithm") ≡ None
@@ -135,15 +135,11 @@ module _ (c : MbtilesCopier) (source : State) (whole : IsSource source) (set nex
 -- into a set that was made
 pub made_editable : (l : MbtType) → is_editable (started_as l) ≡ true
 made_editable Flat = refl
-made_editable FlatWithHash = refl
-made_editable (Normalized view schema) = refl
-made_editable Cache = refl
+made_editable _ = refl
 
 started_twice : (l : MbtType) → started_as (started_as l) ≡ started_as l
 started_twice Flat = refl
-started_twice FlatWithHash = refl
-started_twice (Normalized view schema) = refl
-started_twice Cache = refl
+started_twice _ = refl
 
 module _ (c : MbtilesCopier) (source : State) (whole : IsSource source) (next : Held) (may : may_copy c source (made_state c source) ≡ None) (value : next ≡ held_copied c true source (fresh (made_state c source))) where
   pub anew_layout : next.state.layout ≡ made_type c source.layout

@@ -108,9 +108,8 @@ module _ (put : TileSet) where
       ∙ sym (get-over places_total (entries put) tiles q))))
     where
       by : (q : Place) (o : Option (Option (List ℕ))) (had : Option (Option (List ℕ))) → over_by (option_and_then (null_touch (Some None) q) o) (patched_at (λ bytes. Some (Some bytes)) o had) ≡ option_or o had
-      by q None had = refl
       by q (Some None) had = refl
-      by q (Some (Some bytes)) had = refl
+      by q _ had = refl
 
   ids_same : {A : Type 0} (given : List ℕ → Option A) (b : Bool) (ids : FinMap place_cmp A) → cond b (patched_by given put ids) (touches (null_touch None) (patched_by given put ids) (entries put)) ≡ patched_by given put ids
   ids_same given true ids = refl
@@ -119,9 +118,8 @@ module _ (put : TileSet) where
       ∙ by q (find place_cmp q (entries put)) (get ids q) (get (patched_by given put ids) q) (get-patched_by given q put ids ∙ ap (λ o. patched_at given o (get ids q)) (get-entries put q)))
     where
       by : (q : Place) (o : Option (Option (List ℕ))) (had has : Option A) → has ≡ patched_at given o had → over_by (option_and_then (null_touch {A = A} None q) o) has ≡ has
-      by q None had has e = refl
       by q (Some None) had has e = sym e
-      by q (Some (Some bytes)) had has e = refl
+      by q _ had has e = refl
 
   -- times that entries give
   found_time : (t : Place → Option Dates) (q : Place) (es : List Tile) → find place_cmp q (filter_map (λ e. option_map (λ d. (e.0, d)) (t e.0)) es) ≡ option_and_then (λ o. t q) (find place_cmp q es)
@@ -175,20 +173,12 @@ module _ (put : TileSet) where
       times_got (is_cache l) times second q ∙ ap (λ o. cond (is_cache l) (over_by (option_and_then (λ x. option_map (λ d. Some d) (get times q)) (get put q)) o) o) at_second
 
   by_layout : (l : MbtType) (q : Place) (time : Option Dates) (o : Option (Option (List ℕ))) (had : Option Dates) → at_all l q time o had ≡ option_or (option_and_then (λ x. option_map (unwrap_or time) (dates_for l)) o) (cond (not (is_some o)) had None)
-  by_layout Flat q time None had = refl
   by_layout Flat q time (Some None) had = refl
-  by_layout Flat q time (Some (Some bytes)) had = refl
-  by_layout FlatWithHash q time None had = refl
   by_layout FlatWithHash q time (Some None) had = refl
-  by_layout FlatWithHash q time (Some (Some bytes)) had = refl
-  by_layout (Normalized view schema) q time None had = refl
   by_layout (Normalized view schema) q time (Some None) had = refl
-  by_layout (Normalized view schema) q time (Some (Some bytes)) had = refl
-  by_layout Cache q time None had = refl
   by_layout Cache q None (Some None) had = refl
   by_layout Cache q (Some d) (Some None) had = refl
-  by_layout Cache q None (Some (Some bytes)) had = refl
-  by_layout Cache q (Some d) (Some (Some bytes)) had = refl
+  by_layout _ q _ _ had = refl
 
   times_same : (l : MbtType) (times dates : FinMap place_cmp Dates) → after_all l times dates ≡ times_over l times put dates
   times_same l times dates = same_map places_total places_antisymmetric _ _ (λ q.
@@ -251,9 +241,8 @@ module _ (put : TileSet) (q : Place) where
       ∙ by (get put q) (get h.edited.places q) same)
     where
       by : (o : Option (Option (List ℕ))) (x : Option (Unit {0})) → is_some x ≡ is_some o → is_some (over_by (option_and_then (null_touch (Some tt) q) o) x) ≡ is_some o
-      by None x e = e
       by (Some None) x e = refl
-      by (Some (Some bytes)) x e = e
+      by _ x e = e
 
   times_key : (b : Bool) (times : FinMap place_cmp Dates) (h : Held) → contains_key h.edited.places q ≡ contains_key put q → contains_key (cond b (from_last (time_put times) h (entries put)) h).edited.places q ≡ contains_key put q
   times_key false times h same = same
@@ -263,9 +252,8 @@ module _ (put : TileSet) (q : Place) where
       ∙ by (get put q) (get times q) (get h.edited.places q) same)
     where
       by : (o : Option (Option (List ℕ))) (t : Option Dates) (x : Option (Unit {0})) → is_some x ≡ is_some o → is_some (over_by (option_and_then (λ y. option_map (λ d. Some tt) t) o) x) ≡ is_some o
-      by None t x e = e
-      by (Some y) None x e = e
       by (Some y) (Some d) x e = refl
+      by _ _ x e = e
 
 pub tiles_edited_with : (h : Held) (put : TileSet) (times : FinMap place_cmp Dates) → h.edited ≡ nothing_edited → (q : Place) → contains_key (all_times_put times (nulls_put (tiles_put h put) put) put).edited.places q ≡ contains_key put q
 tiles_edited_with h put times clean q =

@@ -65,9 +65,8 @@ module _ (name : List ℕ) (n : IsOwn name) where
       ∙ by (get p name)
     where
       by : (o : Option (Option (List ℕ))) → option_and_then (λ v. v) (cond (not (is_null_at o)) (option_or o (get m name)) None) ≡ elim o as (λ _. Option (List ℕ)) [ Some v ↦ v | None ↦ text_at m name ]
-      by None = refl
       by (Some None) = refl
-      by (Some (Some text)) = refl
+      by _ = refl
 
 algorithm_own : IsOwn (codes "hash_algorithm")
 algorithm_own = record { own = refl; only = λ x h. by x (bytes_eq x (codes "agg_tiles_hash") || bytes_eq x (codes "agg_tiles_hash_before_apply")) (bytes_eq x (codes "agg_tiles_hash_after_apply")) h }

@@ -17,7 +17,7 @@ use Rattle.mb_tables.specs.declared.cell.Cell.{Cell}
 use Rattle.mb_tables.specs.Kind.{is_normalized}
 use Rattle.mb_tables.specs.declared.cell.Cell.TheVariants.{Blob, Text}
 use Rattle.mb_tables.specs.declared.kind.MbtType.{MbtType}
-use Rattle.mb_tables.specs.declared.kind.MbtType.TheVariants.{Flat, FlatWithHash, Normalized, Cache}
+use Rattle.mb_tables.specs.declared.kind.MbtType.TheVariants.{Normalized}
 use Rattle.tile_hash.specs.Digest.{digest}
 use Rattle.tile_hash.specs.declared.algorithm.HashAlgorithm.{HashAlgorithm}
 
@@ -64,9 +64,7 @@ value_is_text (e ∷ es) (suc i) name c cell lt h is = value_is_text es i name c
 -- the id of bytes in a normalised set is their digest
 digest_of : (l : MbtType) (a : HashAlgorithm) (bytes : List ℕ) → is_normalized l ≡ true → cell_id l a (Blob bytes) ≡ Text (digest a bytes)
 digest_of (Normalized view schema) a bytes n = refl
-digest_of Flat a bytes n = absurd (false≢true n)
-digest_of FlatWithHash a bytes n = absurd (false≢true n)
-digest_of Cache a bytes n = absurd (false≢true n)
+digest_of _ a bytes n = absurd (false≢true n)
 
 pub id_read : (l : MbtType) (a : HashAlgorithm) (es : Entries) (i : ℕ) (id : Cell) → is_normalized l ≡ true → slice_get (map (λ e. cell_id l a (blob_cell e.1)) es) i ≡ Some id → IfSome (bytes_of es i) (λ bytes. id ≡ Text (digest a bytes))
 id_read l a [] i id n h = tt

@@ -23,8 +23,8 @@ use Rattle.mb_tables.specs.declared.cell.Cell.TheVariants.{Text}
 use Rattle.mb_tables.specs.declared.key.RowKey.{RowKey}
 use Rattle.mb_tables.specs.declared.key.RowKey.TheVariants.{Tile, TextId, IntId}
 use Rattle.mb_tables.specs.declared.kind.MbtType.{MbtType}
-use Rattle.mb_tables.specs.declared.kind.MbtType.TheVariants.{Flat, FlatWithHash, Normalized, Cache}
-use Rattle.mb_tables.specs.declared.kind.NormalizedSchema.TheVariants.{Hash, DedupId}
+use Rattle.mb_tables.specs.declared.kind.MbtType.TheVariants.{Normalized}
+use Rattle.mb_tables.specs.declared.kind.NormalizedSchema.TheVariants.{Hash}
 use Rattle.mb_tables.specs.declared.table.TableName.{TableName}
 use Rattle.mb_tables.specs.declared.table.TableName.TheVariants.{Metadata}
 
@@ -38,11 +38,8 @@ frame t t' changes made table q apart = others_stay changes table (t.rows table)
     list_any_none (λ c. table_eq c.table table && has_key table c.key row) changes (λ k d lt. none_of (table_eq (get_or changes k d).table table) (has_key table (get_or changes k d).key row) (apart row kept k d lt)))
 
 three_columns : (l : MbtType) → key_width (tile_table l) ≡ 3
-three_columns Flat = refl
-three_columns FlatWithHash = refl
-three_columns Cache = refl
 three_columns (Normalized view Hash) = refl
-three_columns (Normalized view DedupId) = refl
+three_columns _ = refl
 
 -- a row under the key of a place begins with the place
 begins : (row : List Cell) (p : Place) → take 3 row ≡ front p → row ≡ front p ++ drop 3 row
@@ -50,9 +47,8 @@ begins row p e = sym (take_drop 3 row) ∙ ap (λ l. l ++ drop 3 row) e
   where
     take_drop : (n : ℕ) (xs : List Cell) → take n xs ++ drop n xs ≡ xs
     take_drop zero [] = refl
-    take_drop zero (x ∷ xs) = refl
-    take_drop (suc n) [] = refl
     take_drop (suc n) (x ∷ xs) = ap (λ l. x ∷ l) (take_drop n xs)
+    take_drop _ _ = refl
 
 place_in : {A : Type 0} (m : FinMap place_cmp A) (row : List Cell) (p : Place) → place_of row ≡ Some p → contains_key m p ≡ true → stands_in m row ≡ true
 place_in m row p at has = ap (λ o. is_some (option_and_then (get m) o)) at ∙ has
@@ -72,8 +68,7 @@ module _ (h : Held) (t t' : Tables) (changes : List Change) (are : AreChangesOf 
       other : (row : List Cell) → not (stands_in h.edited.places row) ≡ true → (key : RowKey) → place_edited h.edited key ≡ true → (b : Bool) → has_key (tile_table h.state.layout) key row ≡ b → has_key (tile_table h.state.layout) key row ≡ false
       other row kept key edited false e = e
       other row kept (Tile zoom column line) edited true e = absurd (at row (record { zoom = zoom; column = column; row = line }) kept edited e)
-      other row kept (TextId text) edited true e = absurd (false≢true edited)
-      other row kept (IntId n) edited true e = absurd (false≢true edited)
+      other row kept _ edited true e = absurd (false≢true edited)
 
   -- rows of a null name stay
   pub null_names_stay : filter (λ row. is_null (cell_at 0 row)) (t'.rows Metadata) ≡ filter (λ row. is_null (cell_at 0 row)) (t.rows Metadata)

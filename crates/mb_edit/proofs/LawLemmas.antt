@@ -16,9 +16,8 @@ pub get-patched : (tiles patch : TileSet) (place : Place) → get (patched tiles
 get-patched tiles patch place = get-patched_by kept place patch tiles
 
 twice : (o had : Option (Option (List ℕ))) → patched_at kept o (patched_at kept o had) ≡ patched_at kept o had
-twice None had = refl
 twice (Some None) had = refl
-twice (Some (Some bytes)) had = refl
+twice _ had = refl
 
 pub patched-patched : (tiles patch : TileSet) → patched (patched tiles patch) patch ≡ patched tiles patch
 patched-patched tiles patch = same_map places_total places_antisymmetric _ _ (λ place.

@@ -27,7 +27,7 @@ use Rattle.mb_tables.specs.Table.{Tables}
 use Rattle.mb_tables.specs.Tiles.{Place, place_cmp}
 use Rattle.mb_tables.specs.declared.cell.Cell.TheVariants.{Text, Blob}
 use Rattle.mb_tables.specs.declared.kind.MbtType.{MbtType}
-use Rattle.mb_tables.specs.declared.kind.MbtType.TheVariants.{Flat, FlatWithHash, Normalized, Cache}
+use Rattle.mb_tables.specs.declared.kind.MbtType.TheVariants.{Normalized}
 use Rattle.tile_hash.specs.Digest.{digest}
 
 -- the places of a list of tiles are on the board
@@ -61,9 +61,7 @@ free_in s es bytes n a cell e =
   where
     by : (layout : MbtType) → is_normalized layout ≡ true → get (contents_over layout s.algorithm (filter_map (λ e. e.1) es) s.contents) (Text (digest s.algorithm bytes)) ≡ Some cell → collides (digest s.algorithm) s.contents (filter_map (λ e. e.1) es) bytes ≡ false → cell ≡ Blob bytes
     by (Normalized view schema) n e h = put_free view schema s.algorithm s.contents (filter_map (λ e. e.1) es) bytes h cell e
-    by Flat n e h = absurd (false≢true n)
-    by FlatWithHash n e h = absurd (false≢true n)
-    by Cache n e h = absurd (false≢true n)
+    by _ n e h = absurd (false≢true n)
 
 -- a set without ids has no contents under any
 free_without : (t : Tables) (h : Held) (bytes : List ℕ) → is_normalized h.state.layout ≡ false → IsLoadedFrom t h → IsFree h.state bytes
@@ -116,6 +114,4 @@ module _ (t : Tables) where
     where
       apart : (layout : MbtType) → is_normalized layout ≡ true → id_collides layout h.state.algorithm h.state.contents (bytes_put q.tiles) ≡ None → find (collides (digest h.state.algorithm) h.state.contents (bytes_put q.tiles)) (bytes_put q.tiles) ≡ None
       apart (Normalized view schema) n k = none_collide h.state q view schema k
-      apart Flat n k = absurd (false≢true n)
-      apart FlatWithHash n k = absurd (false≢true n)
-      apart Cache n k = absurd (false≢true n)
+      apart _ n k = absurd (false≢true n)

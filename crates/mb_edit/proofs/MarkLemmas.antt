@@ -22,9 +22,8 @@ use Rattle.mb_tables.specs.declared.cell.Cell.TheVariants.{Text}
 use Rattle.mb_load.proofs.PutRowLemmas.{itself}
 
 last_false : (a b c : Bool) → (a || (b || c)) ≡ false → c ≡ false
-last_false true b c h = absurd (false≢true (sym h))
-last_false false true c h = absurd (false≢true (sym h))
 last_false false false c h = h
+last_false _ _ c h = absurd (false≢true (sym h))
 
 turned : (a b : List ℕ) → bytes_eq a b ≡ bytes_eq b a
 turned a b = by (bytes_eq a b) refl (bytes_eq b a) refl

@@ -15,9 +15,9 @@ use Rattle.mb_loaded.specs.State.{State}
 use Rattle.mb_tables.specs.declared.error.MbtError.{MbtError}
 use Rattle.mb_tables.specs.declared.error.MbtError.TheVariants.{IdCollision, UnsupportedCopyOperation, UnsupportedHashAlgorithm, UnsupportedPatchType}
 use Rattle.mb_tables.specs.declared.kind.MbtType.{MbtType}
-use Rattle.mb_tables.specs.declared.kind.MbtType.TheVariants.{Flat, FlatWithHash, Normalized, Cache}
+use Rattle.mb_tables.specs.declared.kind.MbtType.TheVariants.{Normalized}
 use Rattle.mb_tables.specs.declared.kind.NormalizedSchema.{NormalizedSchema}
-use Rattle.mb_tables.specs.declared.kind.NormalizedSchema.TheVariants.{Hash, DedupId}
+use Rattle.mb_tables.specs.declared.kind.NormalizedSchema.TheVariants.{DedupId}
 use Rattle.tile_hash.specs.Digest.{digest, name_of}
 use Rattle.tile_hash.specs.declared.algorithm.HashAlgorithm.{HashAlgorithm}
 
@@ -31,11 +31,8 @@ pass_rest None rest h = h
 pass_rest (Some e) rest h = cc
 
 editable : (layout : MbtType) → can_be_patched layout ≡ true → is_editable layout ≡ true
-editable Flat h = refl
-editable FlatWithHash h = refl
-editable (Normalized view Hash) h = refl
 editable (Normalized view DedupId) h = absurd (false≢true h)
-editable Cache h = refl
+editable _ h = refl
 
 -- a patch that passes: its set can be edited, both have one algorithm, and no contents collide
 pub record IsPassed (base patch : State) : Type 0 where

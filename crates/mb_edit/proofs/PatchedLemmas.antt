@@ -96,9 +96,8 @@ module _ {A : Type 0} (given : List ℕ → Option A) (q : Place) where
       ∙ by (get p q)))
     where
       by : (o : Option (Option (List ℕ))) → option_or (patched_at given o None) (cond (not (is_some o)) (get m q) None) ≡ patched_at given o (get m q)
-      by None = refl
-      by (Some None) = refl
       by (Some (Some bytes)) = or_none (given bytes)
+      by _ = refl
 
 -- what patched metadata has under a name
 pub get-meta_patched : (m n : Names) (name : List ℕ) → get (meta_patched m n) name ≡ cond (not (is_null_at (get n name))) (option_or (find (slice_cmp nat_cmp) name (filter_map landed (entries n))) (get m name)) None

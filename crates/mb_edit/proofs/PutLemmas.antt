@@ -20,7 +20,7 @@ use Rattle.mb_tables.specs.Table.{Tables}
 use Rattle.mb_tables.specs.Tiles.{Place, TileSet}
 use Rattle.mb_tables.specs.declared.error.MbtError.TheVariants.{UnsupportedCopyOperation}
 use Rattle.mb_tables.specs.declared.kind.MbtType.{MbtType}
-use Rattle.mb_tables.specs.declared.kind.MbtType.TheVariants.{Flat, FlatWithHash, Normalized, Cache}
+use Rattle.mb_tables.specs.declared.kind.MbtType.TheVariants.{Normalized}
 use Rattle.tile_hash.specs.Digest.{digest}
 
 pub put_state : (h : Held) (tiles : TileSet) → (tiles_put h tiles).state ≡ state_put h.state tiles
@@ -53,9 +53,7 @@ put_apart s tiles may = record { none = λ n. by s.layout n none }
 
     by : (layout : MbtType) → is_normalized layout ≡ true → id_collides layout s.algorithm s.contents (bytes_put tiles) ≡ None → find (collides (digest s.algorithm) s.contents (bytes_put tiles)) (bytes_put tiles) ≡ None
     by (Normalized view schema) n k = none_collide s (record s { tiles = tiles }) view schema k
-    by Flat n k = absurd (false≢true n)
-    by FlatWithHash n k = absurd (false≢true n)
-    by Cache n k = absurd (false≢true n)
+    by _ n k = absurd (false≢true n)
 
 pub put_loaded : (t : Tables) (h : Held) (tiles : TileSet) → may_put h.state tiles ≡ None → ((p : Place) → contains_key tiles p ≡ true → IsOnBoard p) → IsLoadedFrom t h → IsLoadedFrom t (tiles_put h tiles)
 put_loaded t h tiles may on l =

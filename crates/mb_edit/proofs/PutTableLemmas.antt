@@ -142,8 +142,7 @@ module _ (h : Held) (tiles : TileSet) (clean : h.edited ≡ nothing_edited) wher
 
   no_name : (key : RowKey) → name_edited (tiles_put h tiles).edited key ≡ false
   no_name (TextId name) = ap (λ names. is_some (get names name)) (names_unedited h (entries tiles)) ∙ (ap (λ (e : Edited). contains_key e.names name) clean ∙ ap is_some (get-empty (slice_cmp nat_cmp) name))
-  no_name (Tile zoom column row) = refl
-  no_name (IntId n) = refl
+  no_name _ = refl
 
   module _ (t t' : Tables) (changes : List Change) (are : AreChangesOf (tiles_put h tiles) changes) (made : Commits changes t t') where
     -- rows of contents under other ids

@@ -13,7 +13,7 @@ use Rattle.mb_insert.proofs.ChosenLemmas.{contained}
 use Rattle.mb_insert.specs.Batch.{chosen, is_coord, is_missing, place_in, put_of}
 use Rattle.mb_insert.specs.Insertion.{bad_coord}
 use Rattle.mb_insert.specs.declared.mode.CopyDuplicateMode.{CopyDuplicateMode}
-use Rattle.mb_insert.specs.declared.mode.CopyDuplicateMode.TheVariants.{Override, Ignore, Abort}
+use Rattle.mb_insert.specs.declared.mode.CopyDuplicateMode.TheVariants.{Override}
 use Rattle.mb_insert.specs.declared.new_tile.NewTile.{NewTile}
 use Rattle.mb_lists.proofs.Places.{places_antisymmetric}
 use Rattle.mb_loaded.specs.Editable.{IsOnBoard}
@@ -57,8 +57,7 @@ all_left test (t ∷ ts) all = by (test t) (all_left test ts (All-tail (λ t. is
 
 all_chosen : (mode : CopyDuplicateMode) (tiles : TileSet) (ts : List NewTile) → All (λ t. is_coord t ≡ true) ts → All (λ t. is_coord t ≡ true) (chosen mode tiles ts)
 all_chosen Override tiles ts all = All-permutation (λ t. is_coord t ≡ true) ts (reverse ts) (IsPermutation-reverse ts) all
-all_chosen Ignore tiles ts all = all_left (is_missing tiles) ts all
-all_chosen Abort tiles ts all = all_left (is_missing tiles) ts all
+all_chosen _ tiles ts all = all_left (is_missing tiles) ts all
 
 listed_on_board : (ts : List NewTile) → All (λ t. is_coord t ≡ true) ts → (p : Place) → list_any (eq_by_cmp place_cmp p) (map place_in ts) ≡ true → IsOnBoard p
 listed_on_board [] all p h = absurd (false≢true h)

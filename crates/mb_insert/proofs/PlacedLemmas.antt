@@ -48,9 +48,8 @@ neither false o h = refl
 
 found_step : (a e c : Bool) (bytes : List ℕ) (left all : Held_at) → (e ≡ true → c ≡ a) → left ≡ cond c None all → cond (not a) (cond e (Some (Some bytes)) left) left ≡ cond c None (cond e (Some (Some bytes)) all)
 found_step true true c bytes left all same h = h ∙ (ap (λ b. cond b None all) (same refl) ∙ ap (λ b. cond b None (Some (Some bytes))) (sym (same refl)))
-found_step true false c bytes left all same h = h
 found_step false true c bytes left all same h = ap (λ b. cond b None (Some (Some bytes))) (sym (same refl))
-found_step false false c bytes left all same h = h
+found_step _ _ c bytes left all same h = h
 
 found_cond : (p : Place) (t : NewTile) (ts : List NewTile) (b : Bool) → find_in p (cond b (t ∷ ts) ts) ≡ cond b (cond (eq_by_cmp place_cmp p (place_in t)) (Some (Some t.tile_data)) (find_in p ts)) (find_in p ts)
 found_cond p t ts true = refl

@@ -26,21 +26,17 @@ use Rattle.mb_tables.specs.declared.cell.Cell.TheVariants.{Int, Text}
 use Rattle.mb_tables.specs.declared.key.RowKey.{RowKey}
 use Rattle.mb_tables.specs.declared.key.RowKey.TheVariants.{Tile, TextId, IntId}
 use Rattle.mb_tables.specs.declared.kind.MbtType.{MbtType}
-use Rattle.mb_tables.specs.declared.kind.MbtType.TheVariants.{Flat, FlatWithHash, Normalized, Cache}
+use Rattle.mb_tables.specs.declared.kind.MbtType.TheVariants.{Normalized}
 use Rattle.mb_tables.specs.declared.table.TableName.TheVariants.{Metadata}
 
 -- the rows of contents are those of their table, or none
 pub rows_of_contents : (layout : MbtType) (t : Tables) → is_normalized layout ≡ true → content_rows layout t ≡ t.rows (content_table layout)
 rows_of_contents (Normalized view schema) t h = refl
-rows_of_contents Flat t h = absurd (false≢true h)
-rows_of_contents FlatWithHash t h = absurd (false≢true h)
-rows_of_contents Cache t h = absurd (false≢true h)
+rows_of_contents _ t h = absurd (false≢true h)
 
 pub no_contents : (layout : MbtType) (t : Tables) → is_normalized layout ≡ false → content_rows layout t ≡ []
 no_contents (Normalized view schema) t h = absurd (false≢true (sym h))
-no_contents Flat t h = refl
-no_contents FlatWithHash t h = refl
-no_contents Cache t h = refl
+no_contents _ t h = refl
 
 -- a key of an id stands for it
 pub by_id : {A : Type 0} (f : RowKey → A) (g : Cell → A) → ((text : List ℕ) → f (TextId text) ≡ g (Text text)) → ((n : ℤ) → f (IntId n) ≡ g (Int n)) → (id : Cell) (key : RowKey) → key_cells key ≡ id ∷ [] → f key ≡ g id

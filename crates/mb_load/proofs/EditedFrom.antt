@@ -5,7 +5,7 @@ use Rattle.std.specs.Prelude.{T, option_and_then, option_map, option_to_list}
 use Rattle.std.specs.List.{list_any}
 use Rattle.std.specs.Option.{option_or}
 use Rattle.std.specs.declared.cmp.Ordering.{Ordering}
-use Rattle.std.specs.declared.cmp.Ordering.TheVariants.{Less, Equal, Greater}
+use Rattle.std.specs.declared.cmp.Ordering.TheVariants.{Less}
 use Rattle.std.specs.Ordering.{eq_by_cmp, is_eq, is_lt, nat_cmp}
 use Rattle.std.specs.Cmp.{IsTotalOrder, tied_itself}
 use Rattle.std.specs.Cmp.Lexicographic.{slice_cmp}
@@ -41,7 +41,7 @@ use Rattle.mb_tables.specs.Tiles.{Place, contents_of, place_cmp}
 use Rattle.mb_tables.specs.declared.cell.Cell.{Cell}
 use Rattle.mb_tables.specs.declared.cell.Cell.TheVariants.{Text, Blob}
 use Rattle.mb_tables.specs.declared.kind.MbtType.{MbtType}
-use Rattle.mb_tables.specs.declared.kind.MbtType.TheVariants.{Flat, FlatWithHash, Normalized, Cache}
+use Rattle.mb_tables.specs.declared.kind.MbtType.TheVariants.{Normalized}
 use Rattle.mb_tables.specs.declared.kind.NormalizedSchema.TheVariants.{Hash, DedupId}
 use Rattle.tile_hash.specs.Digest.{digest}
 use Rattle.tile_hash.specs.declared.algorithm.HashAlgorithm.{HashAlgorithm}
@@ -194,22 +194,16 @@ from_without_tile t h p loaded = elim (contains_key h.state.tiles p) as (λ b. I
 -- bytes that are put
 id_some : (l : MbtType) (a : HashAlgorithm) (bytes : List ℕ) → is_some (id_for l a bytes) ≡ is_normalized l
 id_some (Normalized view schema) a bytes = refl
-id_some Flat a bytes = refl
-id_some FlatWithHash a bytes = refl
-id_some Cache a bytes = refl
+id_some _ a bytes = refl
 
 id_is : (l : MbtType) (a : HashAlgorithm) (bytes : List ℕ) (id : Cell) → id_for l a bytes ≡ Some id → id ≡ Text (digest a bytes)
 id_is (Normalized view schema) a bytes id h = let e : Text (digest a bytes) ≡ id = cc in sym e
-id_is Flat a bytes id h = cc
-id_is FlatWithHash a bytes id h = cc
-id_is Cache a bytes id h = cc
+id_is _ a bytes id h = cc
 
 stored_under : (l : MbtType) (a : HashAlgorithm) (bytes : List ℕ) → is_editable l ≡ true → is_normalized l ≡ true → IsContentOf l a (Text (digest a bytes)) (Blob bytes)
 stored_under (Normalized view Hash) a bytes e n = record { normalised = refl; present = refl; kind = refl; digest = digest_right a bytes }
 stored_under (Normalized view DedupId) a bytes e n = absurd (false≢true e)
-stored_under Flat a bytes e n = absurd (false≢true n)
-stored_under FlatWithHash a bytes e n = absurd (false≢true n)
-stored_under Cache a bytes e n = absurd (false≢true n)
+stored_under _ a bytes e n = absurd (false≢true n)
 
 module _ (t : Tables) (h : Held) (p : Place) (bytes : List ℕ) (on : IsOnBoard p) (editable : is_editable h.state.layout ≡ true) (free : IsFree h.state bytes) (loaded : IsLoadedFrom t h) where
   abbrev s : State
@@ -344,14 +338,12 @@ module _ (t : Tables) (h : Held) (loaded : IsLoadedFrom t h) where
   was_there false o cell e = cc
 
   either : (b : Bool) (o : Option Cell) (e : Option (Unit {0})) → is_some (option_or (any_unit (cond (not b) o None)) e) ≡ false → (cond b o None ≡ o) × (is_some e ≡ false)
-  either true o e k = (refl, k)
-  either false None e k = (refl, k)
   either false (Some c) e k = absurd (false≢true (sym k))
+  either _ _ e k = (refl, k)
 
   one_of : (b : Bool) (o : Option Cell) (e : Option (Unit {0})) → is_some (option_or (any_unit (cond (not b) o None)) e) ≡ true → ((c : Cell) × (o ≡ Some c)) ⊎ (is_some e ≡ true)
-  one_of true o e k = inr k
-  one_of false None e k = inr k
   one_of false (Some c) e k = inl (c, refl)
+  one_of _ _ e k = inr k
 
   left_state : IsLoadable (only_referenced h).state
   left_state = record {
@@ -398,8 +390,7 @@ both_of false b h = absurd h
 
 pub less_apart : (o : Ordering) → T (is_lt o) → is_eq o ≡ false
 less_apart Less h = refl
-less_apart Equal h = absurd h
-less_apart Greater h = absurd h
+less_apart _ h = absurd h
 
 find_below : (p : Place) (es : List (Place × Cell)) → T (below_all place_cmp p es) → fin.find place_cmp p es ≡ None
 find_below p [] h = refl

@@ -121,12 +121,10 @@ module _ (h : Held) (t t' : Tables) (changes : List Change) (are : AreChangesOf 
   null_ids_stay = others_stay changes (content_table h.state.layout) (t.rows (content_table h.state.layout)) (t'.rows (content_table h.state.layout)) (made.tables (content_table h.state.layout)) (λ row. is_null (cell_at 0 row)) (λ row null. list_any_none (λ c. table_eq c.table (content_table h.state.layout) && has_key (content_table h.state.layout) c.key row) changes (λ k d lt. and_right (table_eq (get_or changes k d).table (content_table h.state.layout)) (has_key (content_table h.state.layout) (get_or changes k d).key row) (no_key (content_table h.state.layout) (key_first h.state.layout) (get_or changes k d).key row null)))
     where
       no_cells : (key : RowKey) (row : List Cell) → is_null (cell_at 0 row) ≡ true → take 1 row ≡ key_cells key → ⊥
-      no_cells (TextId text) [] n e = cc
       no_cells (TextId text) (x ∷ row) n e = let s : x ≡ Text text = cc in false≢true (ap is_null (sym s) ∙ n)
-      no_cells (IntId m) [] n e = cc
       no_cells (IntId m) (x ∷ row) n e = let s : x ≡ Int m = cc in false≢true (ap is_null (sym s) ∙ n)
       no_cells (Tile zoom column line) [] n e = cc
-      no_cells (Tile zoom column line) (x ∷ row) n e = cc
+      no_cells _ _ n e = cc
 
       no_key : (table : TableName) → key_width table ≡ 1 → (key : RowKey) (row : List Cell) → is_null (cell_at 0 row) ≡ true → has_key table key row ≡ false
       no_key table w key row n = by (has_key table key row) refl

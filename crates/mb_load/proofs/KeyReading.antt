@@ -1,5 +1,5 @@
 -- What is read at a place is read of the rows under its key.
-use Rattle.std.proofs.Common.{◌≡◌, ◌∙◌, ap, sym, subst, ℕ, ◌<◌, ◌≤◌, ◌^◌, Option, Some, None, List, [], ◌∷◌, Bool, true, false, ◌⊎◌, inl, inr, cond, not, filter, filter_map, refl, pos, negsuc, is_some, length, get_or, nat_lt, arith}
+use Rattle.std.proofs.Common.{◌≡◌, ◌∙◌, ap, sym, subst, ℕ, ◌<◌, ◌≤◌, ◌^◌, Option, Some, None, List, [], ◌∷◌, Bool, true, false, ◌⊎◌, inl, inr, cond, not, filter, filter_map, refl, pos, is_some, length, get_or, nat_lt, arith}
 use Rattle.std.specs.Prelude.{All, AllPairs, option_and_then, option_map}
 use Rattle.std.specs.List.{cons_option, list_any}
 use Rattle.std.specs.Ordering.{eq_by_cmp, is_eq}
@@ -25,7 +25,7 @@ use Rattle.mb_tables.specs.Key.{clash, has_key, key_cells}
 use Rattle.mb_tables.specs.Table.{key_of}
 use Rattle.mb_tables.specs.Tiles.{Place, cell_at, number_below, place_cmp, place_of}
 use Rattle.mb_tables.specs.declared.cell.Cell.{Cell}
-use Rattle.mb_tables.specs.declared.cell.Cell.TheVariants.{Null, Int, Text, Blob, Other}
+use Rattle.mb_tables.specs.declared.cell.Cell.TheVariants.{Int}
 use Rattle.mb_tables.specs.declared.key.RowKey.{RowKey}
 use Rattle.mb_tables.specs.declared.kind.MbtType.{MbtType}
 use Rattle.mb_tables.specs.declared.table.TableName.{TableName}
@@ -66,8 +66,7 @@ at_place_placed {A} value row e h = by (place_of row) refl (value row) h
   where
     by : (o : Option Place) → place_of row ≡ o → (v : Option A) → option_and_then (λ place. option_map (λ v. (place, v)) v) o ≡ Some e → place_of row ≡ Some e.0
     by (Some p) f (Some v) h = let same : (p, v) ≡ e = cc in f ∙ ap (λ (x : Place × A). Some x.0) same
-    by (Some p) f None h = cc
-    by None f v h = cc
+    by _ f _ h = cc
 
 -- rows that a unique index keeps apart are alone under their keys
 pub alone_under : (table : TableName) (key : RowKey) → list_any is_null (key_cells key) ≡ false → (rows : List (List Cell)) → AllPairs (λ r s. clash table r s ≡ false) rows → length (filter (has_key table key) rows) ≤ 1
@@ -151,11 +150,7 @@ below limit (Int (pos m)) n h = by (nat_lt m limit) refl h
     by : (b : Bool) → nat_lt m limit ≡ b → cond b (Some m) None ≡ Some n → n < limit
     by true e k = let same : m ≡ n = cc in subst (λ z. z < limit) same ((Decides-ltb m limit).0 e)
     by false e k = absurd (none-some n k)
-below limit (Int (negsuc m)) n h = absurd (none-some n h)
-below limit Null n h = absurd (none-some n h)
-below limit (Text t) n h = absurd (none-some n h)
-below limit (Blob b) n h = absurd (none-some n h)
-below limit Other n h = absurd (none-some n h)
+below limit _ n h = absurd (none-some n h)
 
 pub place_on_board : (row : List Cell) (p : Place) → place_of row ≡ Some p → IsOnBoard p
 place_on_board row p h = zoomed (number_below 31 (cell_at 0 row)) refl

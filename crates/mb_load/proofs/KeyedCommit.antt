@@ -22,12 +22,7 @@ pub same_keys : (k l : RowKey) → key_cells k ≡ key_cells l → k ≡ l
 same_keys (Tile a b c) (Tile d e f) h = let x : a ≡ d = cc in let y : b ≡ e = cc in let z : c ≡ f = cc in λ i. Tile (x i) (y i) (z i)
 same_keys (TextId s) (TextId t) h = let e : s ≡ t = cc in ap TextId e
 same_keys (IntId m) (IntId n) h = let e : m ≡ n = cc in ap IntId e
-same_keys (Tile a b c) (TextId t) h = cc
-same_keys (Tile a b c) (IntId n) h = cc
-same_keys (TextId s) (Tile d e f) h = cc
-same_keys (TextId s) (IntId n) h = cc
-same_keys (IntId m) (Tile d e f) h = cc
-same_keys (IntId m) (TextId t) h = cc
+same_keys _ _ h = cc
 
 at : {X : Type 0} (P : X → Type 0) (xs : List X) → All P xs → (i : ℕ) (x : X) → slice_get xs i ≡ Some x → P x
 at P xs all i x h = subst P (get_or_from_slice_get xs i x x h) (all i x (slice_get_within xs i x h))

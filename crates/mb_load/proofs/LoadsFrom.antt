@@ -50,7 +50,7 @@ use Rattle.mb_tables.specs.declared.key.RowKey.{RowKey}
 use Rattle.mb_tables.specs.declared.key.RowKey.TheVariants.{TextId}
 use Rattle.mb_tables.specs.declared.kind.MbtType.{MbtType}
 use Rattle.mb_tables.specs.declared.kind.MbtType.TheVariants.{Flat, FlatWithHash, Normalized, Cache}
-use Rattle.mb_tables.specs.declared.kind.NormalizedSchema.TheVariants.{Hash, DedupId}
+use Rattle.mb_tables.specs.declared.kind.NormalizedSchema.TheVariants.{Hash}
 use Rattle.mb_tables.specs.declared.patch_type.PatchType.{PatchType}
 use Rattle.mb_tables.specs.declared.table.TableName.{TableName}
 use Rattle.mb_tables.specs.declared.table.TableName.TheVariants.{Metadata}
@@ -61,28 +61,22 @@ never_id l row h = by (place_of row) (id_in l row) (none l row h)
   where
     none : (l : MbtType) (row : List Cell) → is_normalized l ≡ false → id_in l row ≡ None
     none (Normalized view schema) row h = absurd (false≢true (sym h))
-    none Flat row h = refl
-    none FlatWithHash row h = refl
-    none Cache row h = refl
+    none _ row h = refl
 
     by : (o : Option Place) (v : Option Cell) → v ≡ None → option_and_then {U = Place × Cell} (λ place. option_map {U = Place × Cell} (λ v. (place, v)) v) o ≡ None
-    by (Some p) None h = refl
     by (Some p) (Some v) h = cc
-    by None v h = refl
+    by _ _ h = refl
 
 never_dates : (l : MbtType) (row : List Cell) → is_cache l ≡ false → at_place (dates_in l) row ≡ None
 never_dates l row h = by (place_of row) (dates_in l row) (none l row h)
   where
     none : (l : MbtType) (row : List Cell) → is_cache l ≡ false → dates_in l row ≡ None
     none Cache row h = absurd (false≢true (sym h))
-    none (Normalized view schema) row h = refl
-    none Flat row h = refl
-    none FlatWithHash row h = refl
+    none _ row h = refl
 
     by : (o : Option Place) (v : Option Dates) → v ≡ None → option_and_then {U = Place × Dates} (λ place. option_map {U = Place × Dates} (λ v. (place, v)) v) o ≡ None
-    by (Some p) None h = refl
     by (Some p) (Some v) h = cc
-    by None v h = refl
+    by _ _ h = refl
 
 no_dates_found : (l : MbtType) (row : List Cell) (e : Place × Dates) → is_cache l ≡ false → at_place (dates_in l) row ≡ Some e → ⊥
 no_dates_found l row e n h = nothing e (sym (never_dates l row n) ∙ h)
@@ -176,10 +170,7 @@ module _ (layout : MbtType) (patch : Option PatchType) (metadata contents rows :
         where
           hash_same : (l : MbtType) (a : HashAlgorithm) (row : List Cell) (id cell : Cell) → id ≡ cell_at 0 row → cell_at 1 row ≡ cell → wrong_content_hash l a (id ∷ cell ∷ []) ≡ wrong_content_hash l a row
           hash_same (Normalized view Hash) a row id cell e f = ap (λ c. wrong_hash a c id) (sym f) ∙ ap (wrong_hash a (cell_at 1 row)) e
-          hash_same (Normalized view DedupId) a row id cell e f = refl
-          hash_same Flat a row id cell e f = refl
-          hash_same FlatWithHash a row id cell e f = refl
-          hash_same Cache a row id cell e f = refl
+          hash_same _ a row id cell e f = refl
       by false n = absurd (nothing (ap (λ l. fin.find cell_cmp id (filter_map content_entry l)) (sym (none n)) ∙ (sym (content_get id) ∙ h)))
         where
           nothing : None ≡ Some cell → ⊥
@@ -208,24 +199,16 @@ module _ (layout : MbtType) (patch : Option PatchType) (metadata contents rows :
       record { known = ap unknown_name same ∙ pass.known; named = ap algorithm_by same }
 
 pub key_first : (layout : MbtType) → key_width (content_table layout) ≡ 1
-key_first Flat = refl
-key_first FlatWithHash = refl
-key_first Cache = refl
 key_first (Normalized view Hash) = refl
-key_first (Normalized view DedupId) = refl
+key_first _ = refl
 
 content_width : (layout : MbtType) → width (content_table layout) ≡ 2
-content_width Flat = refl
-content_width FlatWithHash = refl
-content_width Cache = refl
 content_width (Normalized view Hash) = refl
-content_width (Normalized view DedupId) = refl
+content_width _ = refl
 
 pub own_contents : (layout : MbtType) (ids : List (List Cell)) (row : List Cell) → is_normalized layout ≡ false → tile_in layout [] row ≡ tile_in layout ids row
-own_contents Flat ids row h = refl
-own_contents FlatWithHash ids row h = refl
-own_contents Cache ids row h = refl
 own_contents (Normalized view schema) ids row h = absurd (false≢true (sym h))
+own_contents _ ids row h = refl
 
 -- rows under a key of one cell begin with it
 pub filter_begins : (table : TableName) (key : RowKey) (id : Cell) → key_width table ≡ 1 → key_cells key ≡ id ∷ [] → (rows : List (List Cell)) → filter (has_key table key) rows ≡ filter (begins id) rows

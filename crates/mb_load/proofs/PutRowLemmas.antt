@@ -89,27 +89,19 @@ row_tile (Normalized view schema) a p o id dates h on = absurd (false≢true (sy
 
 row_id : (l : MbtType) (a : HashAlgorithm) (p : Place) (o : Option (List ℕ)) (id : Cell) (dates : Option Dates) → is_normalized l ≡ true → is_null id ≡ false → id_in l (front p ++ cells_for l a o (Some id) dates) ≡ Some id
 row_id (Normalized view schema) a p o id dates h k = ap (λ b. cond b None (Some id)) k
-row_id Flat a p o id dates h k = absurd (false≢true h)
-row_id FlatWithHash a p o id dates h k = absurd (false≢true h)
-row_id Cache a p o id dates h k = absurd (false≢true h)
+row_id _ a p o id dates h k = absurd (false≢true h)
 
 no_id : (l : MbtType) (row : List Cell) → is_normalized l ≡ false → id_in l row ≡ None
 no_id (Normalized view schema) row h = absurd (false≢true (sym h))
-no_id Flat row h = refl
-no_id FlatWithHash row h = refl
-no_id Cache row h = refl
+no_id _ row h = refl
 
 row_dates : (l : MbtType) (a : HashAlgorithm) (p : Place) (o : Option (List ℕ)) (id : Option Cell) (d : Dates) → is_cache l ≡ true → dates_in l (front p ++ cells_for l a o id (Some d)) ≡ Some d
 row_dates Cache a p o id d h = refl
-row_dates (Normalized view schema) a p o id d h = absurd (false≢true h)
-row_dates Flat a p o id d h = absurd (false≢true h)
-row_dates FlatWithHash a p o id d h = absurd (false≢true h)
+row_dates _ a p o id d h = absurd (false≢true h)
 
 no_times : (l : MbtType) (row : List Cell) → is_cache l ≡ false → dates_in l row ≡ None
 no_times Cache row h = absurd (false≢true (sym h))
-no_times (Normalized view schema) row h = refl
-no_times Flat row h = refl
-no_times FlatWithHash row h = refl
+no_times _ row h = refl
 
 -- tests of the row of a tile
 pub itself : (xs : List ℕ) → bytes_eq xs xs ≡ true
@@ -127,18 +119,15 @@ hash_kind a (Some bytes) = refl
 hash_kind a None = refl
 
 tests_digest : (l : MbtType) (a : HashAlgorithm) (p : Place) (o : Option (List ℕ)) (id : Option Cell) (dates : Option Dates) → wrong_tile_hash l a (front p ++ cells_for l a o id dates) ≡ None
-tests_digest Flat a p o id dates = refl
 tests_digest FlatWithHash a p o id dates = hash_right a o
-tests_digest (Normalized view schema) a p o id dates = refl
-tests_digest Cache a p o id dates = refl
+tests_digest _ a p o id dates = refl
 
 tests_kinds : (l : MbtType) (a : HashAlgorithm) (p : Place) (o : Option (List ℕ)) (id : Option Cell) (dates : Option Dates) → ((i : Cell) → is_normalized l ≡ true → id ≡ Some i → is_id l i ≡ true) → (is_normalized l ≡ true → is_some id ≡ true) → ((d : Dates) → dates ≡ Some d → AreTimes d) → has_tile_kinds l (front p ++ cells_for l a o id dates) ≡ true
-tests_kinds Flat a p o id dates k n t = refl
 tests_kinds FlatWithHash a p o id dates k n t = hash_kind a o
 tests_kinds (Normalized view schema) a p o (Some i) dates k n t = k i refl refl
 tests_kinds (Normalized view schema) a p o None dates k n t = absurd (false≢true (n refl))
 tests_kinds Cache a p o id (Some d) k n t = let times = t d refl in and_from (is_number d.fetched && is_number d.expires) (is_text d.etag) (and_from (is_number d.fetched) (is_number d.expires) times.fetched times.expires) times.etag
-tests_kinds Cache a p o id None k n t = refl
+tests_kinds _ a p o id _ k n t = refl
 
 tests_place : (l : MbtType) (a : HashAlgorithm) (p : Place) (o : Option (List ℕ)) (id : Option Cell) (dates : Option Dates) → IsOnBoard p → bad_tile l [] (front p ++ cells_for l a o id dates) ≡ None
 tests_place Flat a p o id dates on = ap (λ t. unless (is_some t) (InvalidTileIndex (Int (pos p.zoom)) (Int (pos p.column)) (Int (pos p.row)))) (tile_read p (cells_for Flat a o id dates) o on)
@@ -236,5 +225,4 @@ module _ (s : State) (ok : IsLoadable s) where
       by : (o : Option (Option (List ℕ))) → IfSome (option_map (λ v. Text name ∷ text_cell v ∷ []) o) (λ row. has_name_kinds row ≡ true)
       by (Some v) = value v
       by None = tt
-  name_put (Tile zoom column row) = tt
-  name_put (IntId n) = tt
+  name_put _ = tt

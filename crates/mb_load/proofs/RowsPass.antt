@@ -152,9 +152,7 @@ joins_row (Normalized view schema) contents row n bad missing = by (is_null (cel
           ap (λ b. option_and_then (tile_of row) (cond b None (Some (content_of contents id)))) e ∙ t.2,
           ap (option_and_then contents_of) (content_found id e contents there) ∙ t.4,
         )
-joins_row Flat contents row n bad missing = absurd (false≢true n)
-joins_row FlatWithHash contents row n bad missing = absurd (false≢true n)
-joins_row Cache contents row n bad missing = absurd (false≢true n)
+joins_row _ contents row n bad missing = absurd (false≢true n)
 
 -- in a cache each row has a tile and its times
 pub dates_row : (l : MbtType) (contents : List (List Cell)) (row : List Cell) → is_cache l ≡ true → bad_tile l contents row ≡ None → Agrees (at_place (dates_in l)) (tile_in l contents) row
@@ -168,9 +166,6 @@ dates_row (Normalized view schema) contents row n bad = absurd (false≢true n)
 
 -- the test of a row's place alone
 pub place_tested : (l : MbtType) (contents : List (List Cell)) (row : List Cell) → bad_tile l contents row ≡ None → bad_tile l [] row ≡ None
-place_tested Flat contents row h = h
-place_tested FlatWithHash contents row h = h
-place_tested Cache contents row h = h
 place_tested (Normalized view schema) contents row h = by (is_null (cell_at 3 row)) h
   where
     at : (q : Place) → place_of row ≡ Some q → is_some (tile_of row Null) ≡ true
@@ -179,3 +174,4 @@ place_tested (Normalized view schema) contents row h = by (is_null (cell_at 3 ro
     by : (b : Bool) → option_and_then (λ cell. unless (is_some (tile_of row cell)) (InvalidTileIndex (cell_at 0 row) (cell_at 1 row) (cell_at 2 row))) (cond b None (Some (content_of contents (cell_at 3 row)))) ≡ None → option_and_then (λ cell. unless (is_some (tile_of row cell)) (InvalidTileIndex (cell_at 0 row) (cell_at 1 row) (cell_at 2 row))) (cond b None (Some Null)) ≡ None
     by true h = refl
     by false h = let t = some_tile row (content_of contents (cell_at 3 row)) (holds _ _ h) in ap (λ b. unless b (InvalidTileIndex (cell_at 0 row) (cell_at 1 row) (cell_at 2 row))) (at t.0 t.3)
+place_tested _ contents row h = h

@@ -18,18 +18,16 @@ use Rattle.mb_tables.specs.Tiles.{Place}
 use Rattle.mb_tables.specs.declared.cell.Cell.{Cell}
 use Rattle.mb_tables.specs.declared.cell.Cell.TheVariants.{Text, Blob}
 use Rattle.mb_tables.specs.declared.kind.MbtType.{MbtType}
-use Rattle.mb_tables.specs.declared.kind.MbtType.TheVariants.{Flat, FlatWithHash, Normalized, Cache}
+use Rattle.mb_tables.specs.declared.kind.MbtType.TheVariants.{Normalized}
 use Rattle.tile_hash.specs.Digest.{digest}
 use Rattle.tile_hash.specs.declared.algorithm.HashAlgorithm.{HashAlgorithm}
 
 -- no other contents stand under the digest of bytes that were put
 free_with : (contents : Contents) (l : MbtType) (a : HashAlgorithm) (bytes : List ℕ) → ((cell : Cell) → get contents (Text (digest a bytes)) ≡ Some cell → cell ≡ Blob bytes) → (cell : Cell) → get (with_content contents (id_for l a bytes) bytes) (Text (digest a bytes)) ≡ Some cell → cell ≡ Blob bytes
-free_with contents Flat a bytes free = free
-free_with contents FlatWithHash a bytes free = free
-free_with contents Cache a bytes free = free
 free_with contents (Normalized view schema) a bytes free = λ cell at.
     let id : Cell = Text (digest a bytes) in
     sym (same_Some (Blob bytes) cell (sym (get-insert cells_total contents id (Blob bytes) id ∙ ap (λ o. cond (is_eq o) (Some (Blob bytes)) (get contents id)) (tied_itself cells_total id)) ∙ at))
+free_with contents _ a bytes free = free
 
 pub from_with_tiles : (t : Tables) (h : Held) (ps : List Place) (bytes : List ℕ) → All IsOnBoard ps → is_editable h.state.layout ≡ true → IsFree h.state bytes → IsLoadedFrom t h → IsLoadedFrom t (with_tiles h ps bytes)
 from_with_tiles t h [] bytes on editable free loaded = loaded

@@ -48,12 +48,12 @@ use Rattle.mb_tables.specs.Kind as kind
 use Rattle.mb_tables.specs.Table.{Tables}
 use Rattle.mb_tables.specs.Tiles.{Place, cell_at, content_of, contents_of, place_cmp, place_of, tile_of}
 use Rattle.mb_tables.specs.declared.cell.Cell.{Cell}
-use Rattle.mb_tables.specs.declared.cell.Cell.TheVariants.{Null, Int, Text, Blob, Other}
+use Rattle.mb_tables.specs.declared.cell.Cell.TheVariants.{Null, Int, Text}
 use Rattle.mb_tables.specs.declared.error.MbtError.TheVariants.{InvalidTileIndex, MissingTileReference, NoUniquenessConstraint}
 use Rattle.mb_tables.specs.declared.key.RowKey.{RowKey}
 use Rattle.mb_tables.specs.declared.key.RowKey.TheVariants.{TextId, IntId}
 use Rattle.mb_tables.specs.declared.kind.MbtType.{MbtType}
-use Rattle.mb_tables.specs.declared.kind.MbtType.TheVariants.{Flat, FlatWithHash, Normalized, Cache}
+use Rattle.mb_tables.specs.declared.kind.MbtType.TheVariants.{Normalized}
 use Rattle.mb_tables.specs.declared.kind.NormalizedSchema.TheVariants.{Hash, DedupId}
 use Rattle.mb_tables.specs.declared.table.TableName.TheVariants.{Metadata}
 
@@ -64,23 +64,17 @@ IsKeyed id = (key : RowKey) × (key_cells key ≡ id ∷ [])
 text_keyed : (id : Cell) → is_text id ≡ true → is_null id ≡ false → IsKeyed id
 text_keyed (Text t) h n = (TextId t, refl)
 text_keyed Null h n = absurd (false≢true (sym n))
-text_keyed (Int m) h n = absurd (false≢true h)
-text_keyed (Blob b) h n = absurd (false≢true h)
-text_keyed Other h n = absurd (false≢true h)
+text_keyed _ h n = absurd (false≢true h)
 
 number_keyed : (id : Cell) → is_number id ≡ true → is_null id ≡ false → IsKeyed id
 number_keyed (Int m) h n = (IntId m, refl)
 number_keyed Null h n = absurd (false≢true (sym n))
-number_keyed (Text t) h n = absurd (false≢true h)
-number_keyed (Blob b) h n = absurd (false≢true h)
-number_keyed Other h n = absurd (false≢true h)
+number_keyed _ h n = absurd (false≢true h)
 
 id_keyed : (l : MbtType) (id : Cell) → is_normalized l ≡ true → is_id l id ≡ true → is_null id ≡ false → IsKeyed id
 id_keyed (Normalized view Hash) id n k w = text_keyed id k w
 id_keyed (Normalized view DedupId) id n k w = number_keyed id k w
-id_keyed Flat id n k w = absurd (false≢true n)
-id_keyed FlatWithHash id n k w = absurd (false≢true n)
-id_keyed Cache id n k w = absurd (false≢true n)
+id_keyed _ id n k w = absurd (false≢true n)
 
 short : {X : Type 0} (o : Option X) → length (option_to_list o) ≤ 1
 short None = omega arith
@@ -171,9 +165,7 @@ module _ (t : Tables) (s : State) (sound : IsSound t) (loaded : IsLoadedFrom t (
     where
       read : (l : MbtType) → is_normalized l ≡ true → (row : List Cell) → place_of row ≡ Some p → is_null (cell_at 3 row) ≡ false → at_place (id_in l) row ≡ Some (p, cell_at 3 row)
       read (Normalized view schema) n row e w = ap (λ o. option_and_then (λ place. option_map (λ v. (place, v)) (cond (is_null (cell_at 3 row)) None (Some (cell_at 3 row)))) o) e ∙ ap (λ b. option_map (λ v. (p, v)) (cond b None (Some (cell_at 3 row)))) w
-      read Flat n row e w = absurd (false≢true n)
-      read FlatWithHash n row e w = absurd (false≢true n)
-      read Cache n row e w = absurd (false≢true n)
+      read _ n row e w = absurd (false≢true n)
 
       one : (row : List Cell) → at_place (id_in layout) row ≡ Some (p, cell_at 3 row) → found (at_place (id_in layout)) p (row ∷ []) ≡ Some (cell_at 3 row)
       one row e = rw (e, tied p) refl
@@ -190,9 +182,6 @@ module _ (t : Tables) (s : State) (sound : IsSound t) (loaded : IsLoadedFrom t (
       (any_from_filter (begins id) contents (id ∷ c.0 ∷ []) [] only, (tile.0, ap (λ o. contents_of (cell_at 1 (unwrap_or o []))) first ∙ (sym c.2 ∙ tile.1)))
 
   passes_row : (l : MbtType) (ids : List (List Cell)) (row : List Cell) → bad_tile l [] row ≡ None → ((p : Place) → is_normalized l ≡ true → place_of row ≡ Some p → is_null (cell_at 3 row) ≡ false → (list_any (begins (cell_at 3 row)) ids ≡ true) × ((c : Option (List ℕ)) × (contents_of (content_of ids (cell_at 3 row)) ≡ Some c))) → (bad_tile l ids row ≡ None) × (missing_reference l ids row ≡ None)
-  passes_row Flat ids row h f = (h, refl)
-  passes_row FlatWithHash ids row h f = (h, refl)
-  passes_row Cache ids row h f = (h, refl)
   passes_row (Normalized view schema) ids row h f = by (is_null (cell_at 3 row)) refl h
     where
       id : Cell
@@ -206,6 +195,7 @@ module _ (t : Tables) (s : State) (sound : IsSound t) (loaded : IsLoadedFrom t (
             ap (λ t. unless (is_some t) (InvalidTileIndex (cell_at 0 row) (cell_at 1 row) (cell_at 2 row))) (tile_at row (content_of ids (cell_at 3 row)) p.0 c.1.0 p.1 c.1.1),
             ap (λ b. unless b (MissingTileReference (id_text (cell_at 3 row)) (kind.contents_of schema))) c.0,
           )
+  passes_row _ ids row h f = (h, refl)
 
   passes_at : (k : ℕ) (d : List Cell) → k < length rows → (bad_tile layout contents (get_or rows k d) ≡ None) × (missing_reference layout contents (get_or rows k d) ≡ None)
   passes_at k d lt = passes_row layout contents (get_or rows k d) (loaded.tile_rows k d lt).place (λ p n place whole. known_contents n p (cell_at 3 (get_or rows k d)) (named_row n k d lt p place whole))
@@ -223,9 +213,7 @@ module _ (t : Tables) (s : State) (sound : IsSound t) (loaded : IsLoadedFrom t (
       text_of_front : (c : Cell) → is_text c ≡ true → is_null c ≡ false → (name : List ℕ) × (c ≡ Text name)
       text_of_front (Text t) h w = (t, refl)
       text_of_front Null h w = absurd (false≢true (sym w))
-      text_of_front (Int n) h w = absurd (false≢true h)
-      text_of_front (Blob b) h w = absurd (false≢true h)
-      text_of_front Other h w = absurd (false≢true h)
+      text_of_front _ h w = absurd (false≢true h)
 
   are_passing : ArePassing layout metadata contents rows
   are_passing = record {

@@ -28,7 +28,7 @@ use Rattle.mb_tables.specs.declared.description.TableDesc.{TableDesc}
 use Rattle.mb_tables.specs.declared.error.MbtError.{MbtError}
 use Rattle.mb_tables.specs.declared.error.MbtError.TheVariants.{StoreFault}
 use Rattle.mb_tables.specs.declared.kind.MbtType.{MbtType}
-use Rattle.mb_tables.specs.declared.kind.MbtType.TheVariants.{Flat, FlatWithHash, Normalized, Cache}
+use Rattle.mb_tables.specs.declared.kind.MbtType.TheVariants.{Flat, Normalized}
 use Rattle.mb_tables.specs.declared.kind.NormalizedSchema.{NormalizedSchema}
 use Rattle.mb_tables.specs.declared.kind.NormalizedSchema.TheVariants.{Hash, DedupId}
 use Rattle.mb_tables.specs.declared.patch_type.PatchType.{PatchType}
@@ -46,11 +46,9 @@ pub named_rows : (view : Bool) (schema : NormalizedSchema) (contents rows : List
 named_rows view schema contents rows = λ i. filter_map (λ row. named_row view schema contents row i) rows
 
 tiles_same : (layout : MbtType) (t : Tables) → tiles_of layout t ≡ from_entries (filter_map (tile_in layout (content_rows layout t)) (t.rows (tile_table layout)))
-tiles_same Flat t = refl
-tiles_same FlatWithHash t = refl
-tiles_same Cache t = refl
 tiles_same (Normalized view Hash) t = ap (from_entries {R = place_cmp}) (named_rows view Hash (content_rows (Normalized view Hash) t) (t.rows (tile_table (Normalized view Hash))))
 tiles_same (Normalized view DedupId) t = ap (from_entries {R = place_cmp}) (named_rows view DedupId (content_rows (Normalized view DedupId) t) (t.rows (tile_table (Normalized view DedupId))))
+tiles_same _ t = refl
 
 held_same : (layout : MbtType) (t : Tables) → held_in layout t ≡ held_by layout (patch_type_of t.descriptions) (t.rows Metadata) (content_rows layout t) (t.rows (tile_table layout))
 held_same layout t = λ i. record {
@@ -82,18 +80,13 @@ abbrev pub made : List TableDesc → MbtType → List (List Cell) → List (List
 made ds layout metadata contents rows = record { descriptions = ds; rows = λ table. cond (table_eq table Metadata) metadata (cond (table_eq table (tile_table layout)) rows contents) }
 
 made_rows : (ds : List TableDesc) (layout : MbtType) (metadata contents rows : List (List Cell)) → (made ds layout metadata contents rows).rows (tile_table layout) ≡ rows
-made_rows ds Flat metadata contents rows = refl
-made_rows ds FlatWithHash metadata contents rows = refl
-made_rows ds Cache metadata contents rows = refl
 made_rows ds (Normalized view Hash) metadata contents rows = refl
-made_rows ds (Normalized view DedupId) metadata contents rows = refl
+made_rows ds _ metadata contents rows = refl
 
 made_contents : (ds : List TableDesc) (layout : MbtType) (metadata contents rows : List (List Cell)) → (is_normalized layout ≡ false → contents ≡ []) → content_rows layout (made ds layout metadata contents rows) ≡ contents
-made_contents ds Flat metadata contents rows h = sym (h refl)
-made_contents ds FlatWithHash metadata contents rows h = sym (h refl)
-made_contents ds Cache metadata contents rows h = sym (h refl)
 made_contents ds (Normalized view Hash) metadata contents rows h = refl
 made_contents ds (Normalized view DedupId) metadata contents rows h = refl
+made_contents ds _ metadata contents rows h = sym (h refl)
 
 -- an answer that is due of rows is due of the tables that have them
 pub answer_of : (t : Tables) (layout : MbtType) (r : Result Held MbtError) (ds : List TableDesc) (patch_type : Option PatchType) (metadata contents rows : List (List Cell)) → ds ≡ t.descriptions → patch_type ≡ patch_type_of ds → layout_of ds ≡ Some layout → metadata_missing ds ≡ None → index_missing ds layout ≡ None → metadata ≡ t.rows Metadata → contents ≡ content_rows layout t → rows ≡ t.rows (tile_table layout) → Loads (rows_due layout patch_type metadata contents rows) r → Loads (state_of t) r

@@ -29,7 +29,7 @@ use Rattle.mb_tables.specs.Key.{has_key, key_cells}
 use Rattle.mb_tables.specs.Table.{key_width, table_eq}
 use Rattle.mb_tables.specs.Tiles.{Place, place_cmp}
 use Rattle.mb_tables.specs.declared.cell.Cell.{Cell}
-use Rattle.mb_tables.specs.declared.cell.Cell.TheVariants.{Null, Int, Text, Blob, Other}
+use Rattle.mb_tables.specs.declared.cell.Cell.TheVariants.{Int, Text}
 use Rattle.mb_tables.specs.declared.key.RowKey.{RowKey}
 use Rattle.mb_tables.specs.declared.key.RowKey.TheVariants.{TextId, IntId}
 use Rattle.mb_tables.specs.declared.kind.MbtType.{MbtType}
@@ -45,8 +45,7 @@ change_cases Removed row change c h = (None, cc, inr (refl, refl))
 
 and_second : (a b : Bool) → (b ≡ true → ⊥) → (a && b) ≡ false
 and_second true true h = absurd (h refl)
-and_second true false h = refl
-and_second false b h = refl
+and_second _ _ h = refl
 
 module _ {K X : Type 0} {R : K → K → Ordering} (key : X → K) (cells : K → List Cell) (apart_cells : (k l : K) → cells k ≡ cells l → eq_by_cmp R k l ≡ true) (table : TableName) (change : X → Option Change) (of : (x : X) (c : Change) → change x ≡ Some c → (c.table ≡ table) × (key_cells c.key ≡ cells (key x))) where
   pub step : (base : List Change) → All (λ c. table_eq c.table table ≡ false) base → (xs : List X) (i : ℕ) (x : X) (old new : List Change) → Apart R key xs → i < length xs → x ≡ get_or xs i x → old ≡ base ++ filter_map change (take i xs) → new ≡ with_any old (change x) → new ≡ base ++ filter_map change (take (i + 1) xs)
@@ -83,9 +82,7 @@ of_tile layout a contents t c h =
 pub id_cells : (id : Cell) (key : RowKey) → id_key id ≡ Some key → key_cells key ≡ id ∷ []
 id_cells (Text text) key h = let e : TextId text ≡ key = cc in ap key_cells (sym e)
 id_cells (Int n) key h = let e : IntId n ≡ key = cc in ap key_cells (sym e)
-id_cells Null key h = cc
-id_cells (Blob bytes) key h = cc
-id_cells Other key h = cc
+id_cells _ key h = cc
 
 pub of_content : (layout : MbtType) (c : Content) (d : Change) → content_change layout c ≡ Some d → (d.table ≡ content_table layout) × (key_cells d.key ≡ c.id ∷ [])
 of_content layout c d h = by (id_key c.id) refl h

@@ -26,7 +26,7 @@ use Rattle.mb_loaded.proofs.MoreContents.{at_end, at_left, id_kept, tile_content
 use Rattle.mb_tables.specs.Cell.{is_null}
 use Rattle.mb_tables.specs.Tiles.{Place, contents_of}
 use Rattle.mb_tables.specs.declared.cell.Cell.{Cell}
-use Rattle.mb_tables.specs.declared.cell.Cell.TheVariants.{Null, Int, Text, Blob, Other}
+use Rattle.mb_tables.specs.declared.cell.Cell.TheVariants.{Null, Blob}
 use Rattle.mb_tables.specs.declared.kind.MbtType.{MbtType}
 use Rattle.mb_tables.specs.declared.patch_type.PatchType.{PatchType}
 use Rattle.tile_hash.specs.declared.algorithm.HashAlgorithm.{HashAlgorithm}
@@ -101,9 +101,8 @@ module _ (others : List Content) where
   set_found : {X : Type 0} (xs : List X) (i k : ℕ) (x y : X) → slice_get (set xs i x) k ≡ Some y → ((k ≡ i) × (x ≡ y)) ⊎ (slice_get xs k ≡ Some y)
   set_found [] i k x y h = absurd (none-some y h)
   set_found (z ∷ xs) zero zero x y h = inl (refl, same_Some x y h)
-  set_found (z ∷ xs) zero (suc k) x y h = inr h
-  set_found (z ∷ xs) (suc i) zero x y h = inr h
   set_found (z ∷ xs) (suc i) (suc k) x y h = elim (set_found xs i k x y h) [ inl p ↦ inl (ap suc p.0, p.1) | inr q ↦ inr q ]
+  set_found (z ∷ xs) _ _ x y h = inr h
 
   blob_same : (x y : List ℕ) → Blob x ≡ Blob y → x ≡ y
   blob_same x y h = cc
@@ -218,9 +217,7 @@ tile_put others t bytes id copy null old mid new live cell is n copied put =
 no_bytes : (c : Cell) → is_some (contents_of c) ≡ true → ((b : List ℕ) → c ≢ Blob b) → unwrap_or (contents_of c) None ≡ None
 no_bytes Null h away = refl
 no_bytes (Blob b) h away = absurd (away b refl)
-no_bytes (Int n) h away = absurd (false≢true h)
-no_bytes (Text t) h away = absurd (false≢true h)
-no_bytes Other h away = absurd (false≢true h)
+no_bytes _ h away = absurd (false≢true h)
 
 pub tile_removed : (others : List Content) (t : StoredTile) (cell : Cell) (old new : Copying) → IsTile others t → is_gone t ≡ false → (content_at others t.contents).cell ≡ cell → ((b : List ℕ) → cell ≢ Blob b) → IsCopying others old → Removes t.coord old new → IsCopying others new × Edits (tile_copied others t) old new
 tile_removed others t cell old new whole live at away is gone =

@@ -33,9 +33,7 @@ use Rattle.tile_ids.specs.Coord.{Coord}
 -- the id of a tile, which is null where the layout gives none
 given : (l : MbtType) (a : HashAlgorithm) (bytes : List ℕ) → cond {A = Option Cell} (is_null (cell_id l a (Blob bytes))) None (Some (cell_id l a (Blob bytes))) ≡ id_for l a bytes
 given Flat a bytes = refl
-given FlatWithHash a bytes = refl
-given Cache a bytes = refl
-given (Normalized view schema) a bytes = refl
+given _ a bytes = refl
 
 -- the ids that were edited
 abbrev pub ids_edited : List Content → List ℕ → FinMap cell_cmp (Unit {0})

@@ -41,12 +41,12 @@ use Rattle.mb_tables.specs.Kind.{tile_table}
 use Rattle.mb_tables.specs.Table.{table_eq, table_number}
 use Rattle.mb_tables.specs.Tiles.{contents_of, place_cmp}
 use Rattle.mb_tables.specs.declared.cell.Cell.{Cell}
-use Rattle.mb_tables.specs.declared.cell.Cell.TheVariants.{Null, Int, Text, Blob, Other}
+use Rattle.mb_tables.specs.declared.cell.Cell.TheVariants.{Null, Int, Text, Blob}
 use Rattle.mb_tables.specs.declared.key.RowKey.{RowKey}
 use Rattle.mb_tables.specs.declared.key.RowKey.TheVariants.{Tile, TextId, IntId}
 use Rattle.mb_tables.specs.declared.kind.MbtType.{MbtType}
 use Rattle.mb_tables.specs.declared.kind.MbtType.TheVariants.{Flat, FlatWithHash, Normalized, Cache}
-use Rattle.mb_tables.specs.declared.kind.NormalizedSchema.TheVariants.{Hash, DedupId}
+use Rattle.mb_tables.specs.declared.kind.NormalizedSchema.TheVariants.{Hash}
 use Rattle.mb_tables.specs.declared.patch_type.PatchType.{PatchType}
 use Rattle.mb_tables.specs.declared.table.TableName.{TableName}
 use Rattle.mb_tables.specs.declared.table.TableName.TheVariants.{Metadata}
@@ -57,18 +57,12 @@ pub table_itself : (t u : TableName) → t ≡ u → table_eq t u ≡ true
 table_itself t u h = (Decides-eqb (table_number t) (table_number u)).1 (ap table_number h)
 
 pub contents_apart : (layout : MbtType) → table_eq (tile_table layout) (content_table layout) ≡ false
-contents_apart Flat = refl
-contents_apart FlatWithHash = refl
 contents_apart (Normalized view Hash) = refl
-contents_apart (Normalized view DedupId) = refl
-contents_apart Cache = refl
+contents_apart _ = refl
 
 pub names_apart : (layout : MbtType) → (table_eq (tile_table layout) Metadata ≡ false) × (table_eq (content_table layout) Metadata ≡ false)
-names_apart Flat = (refl, refl)
-names_apart FlatWithHash = (refl, refl)
 names_apart (Normalized view Hash) = (refl, refl)
-names_apart (Normalized view DedupId) = (refl, refl)
-names_apart Cache = (refl, refl)
+names_apart _ = (refl, refl)
 
 other : (t u : TableName) → table_eq t u ≡ false → table_eq u t ≡ false
 other t u h = by (table_eq u t) refl
@@ -93,8 +87,7 @@ made_by Removed row change h = (None, refl)
 
 was_edited : (s : Standing) (row : List Cell) (change : Option (List Cell) → Change) (c : Change) → change_by s row change ≡ Some c → is_some (if_edited s) ≡ true
 was_edited Kept row change c h = cc
-was_edited Put row change c h = refl
-was_edited Removed row change c h = refl
+was_edited _ row change c h = refl
 
 module _ {K X : Type 0} {R : K → K → Ordering} (total : IsTotalOrder R) (anti : IsAntisymmetric R) (key : X → K) (xs : List X) (apart : Apart R key xs) where
   edited_item : (standing : X → Standing) (k : K) → contains_key (from_entries {R = R} (entries_by key (λ x. if_edited (standing x)) xs)) k ≡ true → (i : ℕ) × (x : X) × (slice_get xs i ≡ Some x) × (k ≡ key x) × (is_some (if_edited (standing x)) ≡ true)
@@ -110,16 +103,11 @@ module _ {K X : Type 0} {R : K → K → Ordering} (total : IsTotalOrder R) (ant
 hash_of : (a : HashAlgorithm) (cell : Cell) (o : Option (List ℕ)) → contents_of cell ≡ Some o → (blob_cell o ≡ cell) × (hash_cell a o ≡ digest_cell a cell)
 hash_of a (Blob bytes) o h = let e : Some bytes ≡ o = cc in (ap blob_cell (sym e), ap (hash_cell a) (sym e))
 hash_of a Null o h = let e : None ≡ o = cc in (ap blob_cell (sym e), ap (hash_cell a) (sym e))
-hash_of a (Int n) o h = cc
-hash_of a (Text text) o h = cc
-hash_of a Other o h = cc
+hash_of a _ o h = cc
 
 own_id : (id : Cell) → unwrap_or (cond (is_null id) None (Some id)) Null ≡ id
 own_id Null = refl
-own_id (Int n) = refl
-own_id (Text text) = refl
-own_id (Blob bytes) = refl
-own_id Other = refl
+own_id _ = refl
 
 same_cells : (layout : MbtType) (a : HashAlgorithm) (c : Content) (dates : Option Dates) (o : Option (List ℕ)) → contents_of c.cell ≡ Some o → cells_for layout a o (cond (is_null c.id) None (Some c.id)) dates ≡ cells_kept layout a c dates
 same_cells Flat a c dates o h = ap (λ x. x ∷ []) (hash_of a c.cell o h).0
@@ -141,9 +129,7 @@ row_is layout a contents t whole r (inl (put, some)) =
 own_text : (value : Cell) → is_text value ≡ true → text_cell (text_of value) ≡ value
 own_text (Text text) h = refl
 own_text Null h = refl
-own_text (Int n) h = absurd (false≢true h)
-own_text (Blob bytes) h = absurd (false≢true h)
-own_text Other h = absurd (false≢true h)
+own_text _ h = absurd (false≢true h)
 
 -- each change of a list of three parts is of one of them
 in_three : (a b c : List Change) (k : ℕ) (x : Change) → slice_get ((a ++ b) ++ c) k ≡ Some x → ((i : ℕ) × (slice_get a i ≡ Some x)) ⊎ (((i : ℕ) × (slice_get b i ≡ Some x)) ⊎ ((i : ℕ) × (slice_get c i ≡ Some x)))
@@ -246,9 +232,7 @@ module _ (layout : MbtType) (a : HashAlgorithm) (p : Option PatchType) (contents
   of_id : {A : Type 0} (f : RowKey → A) (g : Cell → A) → ((text : List ℕ) → f (TextId text) ≡ g (Text text)) → ((n : ℤ) → f (IntId n) ≡ g (Int n)) → (id : Cell) (key : RowKey) → id_key id ≡ Some key → f key ≡ g id
   of_id f g t n (Text text) key h = let e : TextId text ≡ key = cc in ap f (sym e) ∙ t text
   of_id f g t n (Int m) key h = let e : IntId m ≡ key = cc in ap f (sym e) ∙ n m
-  of_id f g t n Null key h = cc
-  of_id f g t n (Blob bytes) key h = cc
-  of_id f g t n Other key h = cc
+  of_id f g t n _ key h = cc
 
   value_put : (i : ℕ) (r : Option (List Cell)) → (((content_at contents i).standing ≡ Put) × (r ≡ Some (row_of_content (content_at contents i)))) ⊎ (((content_at contents i).standing ≡ Removed) × (r ≡ None)) → is_some (id_key (content_at contents i).id) ≡ true → r ≡ option_map (λ cell. id_at contents i ∷ cell ∷ []) (content_value contents i)
   value_put i r h keyed = by (slice_get contents i) refl h keyed

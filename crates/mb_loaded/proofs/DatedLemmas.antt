@@ -13,7 +13,7 @@ use Rattle.mb_lists.specs.declared.entries.Content.{Content}
 use Rattle.mb_lists.proofs.ContentLemmas.{at_middle, longer}
 use Rattle.mb_tables.specs.Cell.{is_null}
 use Rattle.mb_tables.specs.declared.kind.MbtType.{MbtType}
-use Rattle.mb_tables.specs.declared.kind.MbtType.TheVariants.{Flat, FlatWithHash, Normalized, Cache}
+use Rattle.mb_tables.specs.declared.kind.MbtType.TheVariants.{Cache}
 
 ids_after : (pre cs : List Content) → All (HasId (pre ++ cs)) (ids_from (length pre) cs)
 ids_after pre [] = All-nil (HasId (pre ++ []))
@@ -32,15 +32,11 @@ listed_have_ids contents live order h = All-permutation (HasId contents) (ids_fr
 -- a layout gives times to a tile that is put exactly where it has any, of their kinds
 pub dates_some : (l : MbtType) → is_some (dates_for l) ≡ is_cache l
 dates_some Cache = refl
-dates_some (Normalized view schema) = refl
-dates_some Flat = refl
-dates_some FlatWithHash = refl
+dates_some _ = refl
 
 pub dates_are : (l : MbtType) (d : Dates) → dates_for l ≡ Some d → AreTimes d
 dates_are Cache d h = let e : no_dates ≡ d = cc in subst AreTimes e (record { fetched = refl; expires = refl; etag = refl })
-dates_are (Normalized view schema) d h = cc
-dates_are Flat d h = cc
-dates_are FlatWithHash d h = cc
+dates_are _ d h = cc
 
 -- other times are there exactly where times were
 pub times_stay : (d : Dates) (o : Option Dates) → is_some (option_map (λ old. d) o) ≡ is_some o

@@ -19,7 +19,7 @@ use Rattle.mb_loaded.specs.HeldEntries.{held_of}
 use Rattle.mb_lists.specs.Keyed.{Apart, at_key, entries_by}
 use Rattle.mb_lists.specs.declared.entries.Content.{Content}
 use Rattle.mb_lists.specs.declared.entries.Standing.{Standing}
-use Rattle.mb_lists.specs.declared.entries.Standing.TheVariants.{Kept, Put, Removed}
+use Rattle.mb_lists.specs.declared.entries.Standing.TheVariants.{Kept, Removed}
 use Rattle.mb_lists.specs.declared.entries.StoredName.{StoredName}
 use Rattle.mb_lists.specs.declared.entries.StoredTile.{StoredTile}
 use Rattle.mb_lists.proofs.Dropped.{AreLike, gone_after, kept_after, like_all}
@@ -97,11 +97,8 @@ value_of false s c = refl
 
 edited_of : (b : Bool) (s : Standing) (c : Cell) → if_edited (cond b s Removed) ≡ option_or (any_unit (cond (not b) (unless_removed s (Some c)) None)) (if_edited s)
 edited_of true Kept c = refl
-edited_of true Put c = refl
-edited_of true Removed c = refl
 edited_of false Kept c = refl
-edited_of false Put c = refl
-edited_of false Removed c = refl
+edited_of _ _ c = refl
 
 module _ (contents : List Content) (order : List ℕ) (tiles sorted : List StoredTile) (n : ℕ) (ids : All (HasId contents) order) (apart : Apart cell_cmp (id_at contents) order) (places : Apart place_cmp place_of tiles) (sort : IsPermutation tiles sorted) (le : n ≤ length sorted) (point : IsPartitionPoint (λ (t : StoredTile). not (is_gone t) ≡ true) (λ (t : StoredTile). not (is_gone t) ≡ false) sorted n) where
   abbrev live : List StoredTile

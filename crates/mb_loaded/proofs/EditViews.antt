@@ -32,9 +32,9 @@ use Rattle.mb_tables.specs.Cell.{cell_cmp, is_null}
 use Rattle.mb_tables.specs.CellOrder.{cells_total}
 use Rattle.mb_tables.specs.Tiles.{TileSet, contents_of, place_cmp}
 use Rattle.mb_tables.specs.declared.cell.Cell.{Cell}
-use Rattle.mb_tables.specs.declared.cell.Cell.TheVariants.{Null, Int, Text, Blob, Other}
+use Rattle.mb_tables.specs.declared.cell.Cell.TheVariants.{Null, Text, Blob}
 use Rattle.mb_tables.specs.declared.kind.MbtType.{MbtType}
-use Rattle.mb_tables.specs.declared.kind.MbtType.TheVariants.{Flat, FlatWithHash, Normalized, Cache}
+use Rattle.mb_tables.specs.declared.kind.MbtType.TheVariants.{Normalized}
 use Rattle.mb_tables.specs.declared.patch_type.PatchType.{PatchType}
 use Rattle.tile_ids.specs.Coord.{Coord}
 use Rattle.tile_hash.specs.Digest.{digest}
@@ -145,17 +145,12 @@ module _ (layout : MbtType) (a : HashAlgorithm) (p : Option PatchType) (contents
   present_for bytes id h = by layout h
     where
       by : (l : MbtType) → id_for l a bytes ≡ Some id → is_null id ≡ false
-      by Flat h = cc
-      by FlatWithHash h = cc
-      by Cache h = cc
       by (Normalized view schema) h = text id h
         where
           text : (i : Cell) → Some (Text (digest a bytes)) ≡ Some i → is_null i ≡ false
-          text (Text t) h = refl
           text Null h = cc
-          text (Int n) h = refl
-          text (Blob b) h = refl
-          text Other h = refl
+          text _ h = refl
+      by _ h = cc
 
   -- the parts of a tile that is put with new contents
   abbrev same_keys : All (λ t. place_of t ≡ place_of t) tiles

@@ -19,16 +19,14 @@ use Rattle.mb_loaded.proofs.MoreContents.{tile_contents}
 use Rattle.mb_tables.proofs.TileLemmas.{places_total}
 use Rattle.mb_tables.specs.Tiles.{contents_of}
 use Rattle.mb_tables.specs.declared.cell.Cell.{Cell}
-use Rattle.mb_tables.specs.declared.cell.Cell.TheVariants.{Null, Int, Text, Blob, Other}
+use Rattle.mb_tables.specs.declared.cell.Cell.TheVariants.{Null, Blob}
 use Rattle.mb_tables.specs.declared.kind.MbtType.{MbtType}
 use Rattle.tile_hash.specs.declared.algorithm.HashAlgorithm.{HashAlgorithm}
 
 blob_shown : (c : Cell) → is_some (contents_of c) ≡ true → blob_cell (unwrap_or (contents_of c) None) ≡ c
 blob_shown Null h = refl
 blob_shown (Blob b) h = refl
-blob_shown (Int n) h = absurd (false≢true h)
-blob_shown (Text t) h = absurd (false≢true h)
-blob_shown Other h = absurd (false≢true h)
+blob_shown _ h = absurd (false≢true h)
 
 -- tiles that are no marks
 module _ (layout : MbtType) (a : HashAlgorithm) (contents : List Content) where

@@ -40,10 +40,9 @@ keeps_mapped {X} {Y} f (z ∷ xs) (suc i) x y h e = let r = keeps_mapped f xs i 
 
 in_take : {X : Type 0} (xs : List X) (i j : ℕ) (x : X) → slice_get (take i xs) j ≡ Some x → (j < i) × (slice_get xs j ≡ Some x)
 in_take [] zero j x h = cc
-in_take [] (suc i) j x h = cc
-in_take (z ∷ xs) zero j x h = cc
 in_take (z ∷ xs) (suc i) zero x h = (omega arith, h)
 in_take (z ∷ xs) (suc i) (suc j) x h = let r = in_take xs i j x h in (omega (arith, r.0), r.1)
+in_take _ _ j x h = cc
 
 far : {X : Type 0} (p : X → Bool) (xs : List X) → ((k : ℕ) (x : X) → slice_get xs k ≡ Some x → p x ≡ false) → position_or_len p xs ≡ length xs
 far p [] h = refl

@@ -18,7 +18,7 @@ use Rattle.mb_loaded.proofs.TakenLemmas.{set_apart, set_here}
 use Rattle.mb_tables.specs.Cell.{is_null}
 use Rattle.mb_tables.specs.Tiles.{contents_of}
 use Rattle.mb_tables.specs.declared.cell.Cell.{Cell}
-use Rattle.mb_tables.specs.declared.cell.Cell.TheVariants.{Null, Int, Text, Blob, Other}
+use Rattle.mb_tables.specs.declared.cell.Cell.TheVariants.{Null, Blob}
 use Rattle.mb_tables.specs.declared.kind.MbtType.{MbtType}
 use Rattle.mb_tables.specs.declared.patch_type.PatchType.{PatchType}
 use Rattle.tile_hash.specs.declared.algorithm.HashAlgorithm.{HashAlgorithm}
@@ -26,9 +26,7 @@ use Rattle.tile_hash.specs.declared.algorithm.HashAlgorithm.{HashAlgorithm}
 null_cell : (c : Cell) → is_some (contents_of c) ≡ true → ((b : List ℕ) → c ≢ Blob b) → c ≡ Null
 null_cell Null h away = refl
 null_cell (Blob b) h away = absurd (away b refl)
-null_cell (Int n) h away = absurd (false≢true h)
-null_cell (Text t) h away = absurd (false≢true h)
-null_cell Other h away = absurd (false≢true h)
+null_cell _ h away = absurd (false≢true h)
 
 not_suc : (i : ℕ) → suc i ≡ 0 → ⊥
 not_suc i e = omega (arith, e)

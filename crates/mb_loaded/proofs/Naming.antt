@@ -22,7 +22,7 @@ use Rattle.mb_lists.specs.Entries.{id_at, is_gone, is_removed, place_of, tile_id
 use Rattle.mb_lists.specs.Keyed.{Apart, at_key, entries_by}
 use Rattle.mb_lists.specs.declared.entries.Content.{Content}
 use Rattle.mb_lists.specs.declared.entries.Standing.{Standing}
-use Rattle.mb_lists.specs.declared.entries.Standing.TheVariants.{Kept, Put, Removed}
+use Rattle.mb_lists.specs.declared.entries.Standing.TheVariants.{Removed}
 use Rattle.mb_lists.specs.declared.entries.StoredTile.{StoredTile}
 use Rattle.mb_lists.proofs.Finding.{find_none}
 use Rattle.mb_lists.proofs.Items.{Apart-tail, look_up, others_apart}
@@ -30,7 +30,7 @@ use Rattle.mb_tables.proofs.TileLemmas.{places_total}
 use Rattle.mb_tables.specs.Cell.{cell_eq, is_null}
 use Rattle.mb_tables.specs.Tiles.{place_cmp}
 use Rattle.mb_tables.specs.declared.cell.Cell.{Cell}
-use Rattle.mb_tables.specs.declared.cell.Cell.TheVariants.{Null, Int, Text, Blob, Other}
+use Rattle.mb_tables.specs.declared.cell.Cell.TheVariants.{Null}
 
 abbrev pub any_some : {V : Type 0} → (V → Bool) → Option V → Bool
 any_some test None = false
@@ -38,8 +38,7 @@ any_some test (Some v) = test v
 
 or_swap : (a b c : Bool) → (a || (b || c)) ≡ (b || (a || c))
 or_swap true true c = refl
-or_swap true false c = refl
-or_swap false b c = refl
+or_swap _ _ c = refl
 
 pub any_agree : {X : Type 0} (p q : X → Bool) (xs : List X) → All (λ x. p x ≡ q x) xs → list_any p xs ≡ list_any q xs
 any_agree p q [] h = refl
@@ -76,14 +75,8 @@ module _ {K X V : Type 0} {R : K → K → Ordering} (total : IsTotalOrder R) (k
 -- null is no id
 null_other : (c id : Cell) → is_null id ≡ false → is_null c ≡ true → cell_eq c id ≡ false
 null_other Null Null h k = absurd (false≢true (sym h))
-null_other Null (Int n) h k = refl
-null_other Null (Text t) h k = refl
-null_other Null (Blob b) h k = refl
-null_other Null Other h k = refl
-null_other (Int n) id h k = absurd (false≢true k)
-null_other (Text t) id h k = absurd (false≢true k)
-null_other (Blob b) id h k = absurd (false≢true k)
-null_other Other id h k = absurd (false≢true k)
+null_other Null _ h k = refl
+null_other _ id h k = absurd (false≢true k)
 
 module _ (contents : List Content) (id : Cell) (present : is_null id ≡ false) where
   abbrev has : StoredTile → Bool
@@ -97,9 +90,8 @@ module _ (contents : List Content) (id : Cell) (present : is_null id ≡ false) 
       by false e = refl
 
   of_tile : (s : Standing) (c : Cell) → any_some (λ c. cell_eq c id) (unless_removed s (cond (is_null c) None (Some c))) ≡ (not (is_removed s) && cell_eq c id)
-  of_tile Kept c = of_id c
-  of_tile Put c = of_id c
   of_tile Removed c = refl
+  of_tile _ c = of_id c
 
   named_in : (tiles : List StoredTile) → Apart place_cmp place_of tiles → is_named (tiles_held (tile_id contents) tiles) id ≡ list_any has tiles
   named_in tiles a = any_values places_total place_of (λ c. cell_eq c id) (tile_id contents) tiles a ∙ (λ k. list_any (λ (t : StoredTile). of_tile t.standing (id_at contents t.contents) k) tiles)

@@ -29,11 +29,9 @@ use Rattle.tile_hash.specs.declared.algorithm.HashAlgorithm.{HashAlgorithm}
 
 -- what stands in a list after one item was replaced
 pub set_apart : {X : Type 0} (xs : List X) (i k : ℕ) (x : X) → k ≢ i → slice_get (set xs i x) k ≡ slice_get xs k
-set_apart [] i k x h = refl
 set_apart (z ∷ xs) zero zero x h = absurd (h refl)
-set_apart (z ∷ xs) zero (suc k) x h = refl
-set_apart (z ∷ xs) (suc i) zero x h = refl
 set_apart (z ∷ xs) (suc i) (suc k) x h = set_apart xs i k x (λ e. h (ap suc e))
+set_apart _ _ _ x h = refl
 
 pub set_here : {X : Type 0} (xs : List X) (i : ℕ) (x : X) → i < length xs → slice_get (set xs i x) i ≡ Some x
 set_here [] i x h = absurd (omega (arith, h))
@@ -41,11 +39,9 @@ set_here (z ∷ xs) zero x h = refl
 set_here (z ∷ xs) (suc i) x h = set_here xs i x (omega (arith, h))
 
 set_either : {X : Type 0} (xs : List X) (i k : ℕ) (x y : X) → slice_get xs k ≡ Some y → (slice_get (set xs i x) k ≡ Some x) ⊎ (slice_get (set xs i x) k ≡ Some y)
-set_either [] i k x y h = inr h
 set_either (z ∷ xs) zero zero x y h = inl refl
-set_either (z ∷ xs) zero (suc k) x y h = inr h
-set_either (z ∷ xs) (suc i) zero x y h = inr h
 set_either (z ∷ xs) (suc i) (suc k) x y h = set_either xs i k x y h
+set_either _ _ _ x y h = inr h
 
 -- the last uses by the tiles before an index
 abbrev pub LastBelow : ℕ → List StoredTile → List ℕ → Type 0
@@ -117,11 +113,10 @@ less_from m n h = grind (arith, nat_tests)
 -- what stands at an index of a list that was cut, or that it was cut before it
 cut_at : {X : Type 0} (xs : List X) (n k : ℕ) → (slice_get (take n xs) k ≡ slice_get xs k) ⊎ ((n ≤ k) × (k < length xs))
 cut_at [] zero k = inl refl
-cut_at [] (suc n) k = inl refl
 cut_at (x ∷ xs) zero zero = inr (omega arith, omega arith)
 cut_at (x ∷ xs) zero (suc k) = elim (cut_at xs zero k) [ inl e ↦ inl e | inr p ↦ inr (omega arith, omega (arith, p.1)) ]
-cut_at (x ∷ xs) (suc n) zero = inl refl
 cut_at (x ∷ xs) (suc n) (suc k) = elim (cut_at xs n k) [ inl e ↦ inl e | inr p ↦ inr (omega (arith, p.0), omega (arith, p.1)) ]
+cut_at _ (suc n) _ = inl refl
 
 -- contents that are spent are cut off
 pub cut_unspent : (first now : List Content) (last : List ℕ) (n left : ℕ) → ((k : ℕ) → left ≤ k → k < length now → IsSpent now last k n) → AreUnspent first now last n → AreUnspent first (take left now) last n
@@ -160,9 +155,8 @@ pub same_change : (layout : MbtType) (a : HashAlgorithm) (first now : List Conte
 same_change layout a first now t same = by t.standing same
   where
     by : (s : Standing) → (s ≡ Put → slice_get now t.contents ≡ slice_get first t.contents) → tile_change layout a now (record t { standing = s }) ≡ tile_change layout a first (record t { standing = s })
-    by Kept h = refl
-    by Removed h = refl
     by Put h = ap (λ (o : Option Content). change_by Put (front (place_of t) ++ cells_kept layout a (unwrap_or o nothing) t.dates) (λ row. record { table = tile_table layout; key = tile_key (place_of t); row = row })) (h refl)
+    by _ h = refl
 
 -- the change of a tile that is taken, whose contents are spent at their last use
 pub spent_next : (layout : MbtType) (a : HashAlgorithm) (first now new : List Content) (ts q r : List StoredTile) (last : List ℕ) (i : ℕ) (t : StoredTile) (b : Bool) (old next : List Change) → Apart place_cmp place_of ts → AreLast ts last → q ≡ drop i ts → q ≡ t ∷ r

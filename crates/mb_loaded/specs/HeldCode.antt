@@ -40,13 +40,9 @@ layout_at (suc (suc (suc (suc (suc zero))))) = Normalized false DedupId
 layout_at _ = Normalized true DedupId
 
 pub layout_back : (l : MbtType) → layout_at (layout_number l) ≡ l
-layout_back Flat = refl
-layout_back FlatWithHash = refl
-layout_back Cache = refl
 layout_back (Normalized false Hash) = refl
 layout_back (Normalized true Hash) = refl
-layout_back (Normalized false DedupId) = refl
-layout_back (Normalized true DedupId) = refl
+layout_back _ = refl
 
 abbrev pub algorithm_number : HashAlgorithm → ℕ
 algorithm_number Md5 = 0
@@ -64,10 +60,7 @@ algorithm_at _ = Xxh3
 
 pub algorithm_back : (a : HashAlgorithm) → algorithm_at (algorithm_number a) ≡ a
 algorithm_back Md5 = refl
-algorithm_back Fnv1a = refl
-algorithm_back Fnv1aDecimal = refl
-algorithm_back Xxh64 = refl
-algorithm_back Xxh3 = refl
+algorithm_back _ = refl
 
 abbrev pub patch_number : PatchType → ℕ
 patch_number BinDiffGz = 0

@@ -98,8 +98,7 @@ touched names (e ∷ es) q =
 module _ (h : Held) (es : List NameEdit) (clean : h.edited ≡ nothing_edited) where
   no_place : (key : RowKey) → place_edited (held_edited h es).edited key ≡ false
   no_place (Tile zoom column row) = ap (λ (e : Edited). contains_key e.places (record { zoom = zoom; column = column; row = row })) clean ∙ ap is_some (get-empty place_cmp (record { zoom = zoom; column = column; row = row }))
-  no_place (TextId text) = refl
-  no_place (IntId n) = refl
+  no_place _ = refl
 
   no_id : (key : RowKey) → id_edited (held_edited h es).edited key ≡ false
   no_id (TextId text) = ap (λ (e : Edited). contains_key e.ids (Text text)) clean ∙ ap is_some (get-empty cell_cmp (Text text))
@@ -136,8 +135,7 @@ module _ (h : Held) (es : List NameEdit) (clean : h.edited ≡ nothing_edited) w
       where
         keyed : (row : List Cell) → not (is_edited es (cell_at 0 row)) ≡ true → (key : RowKey) → name_edited (held_edited h es).edited key ≡ true → has_key Metadata key row ≡ false
         keyed row kept (TextId name) e = row_apart row kept name (sym (edited_are name) ∙ e)
-        keyed row kept (Tile zoom column line) e = absurd (false≢true e)
-        keyed row kept (IntId n) e = absurd (false≢true e)
+        keyed row kept _ e = absurd (false≢true e)
 
     -- all changes are of metadata
     of_metadata : (c : Change) → is_own_table h.state.layout c.table ≡ true → (table_eq c.table (tile_table h.state.layout) ≡ true → place_edited (held_edited h es).edited c.key ≡ true) → (table_eq c.table (content_table h.state.layout) ≡ true → id_edited (held_edited h es).edited c.key ≡ true) → table_eq c.table Metadata ≡ true

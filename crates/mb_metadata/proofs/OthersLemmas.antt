@@ -1,5 +1,5 @@
 -- The names without a field of their own, one after another.
-use Rattle.std.proofs.Common.{◌≡◌, ◌∙◌, ap, sym, ℕ, zero, suc, ◌+◌, ◌<◌, ◌≤◌, List, [], ◌∷◌, ◌++◌, append-nil, Bool, true, false, cond, T, Option, Some, None, option_map, refl, length, take, is_eq, Ordering, Less, Equal, Greater}
+use Rattle.std.proofs.Common.{◌≡◌, ◌∙◌, ap, sym, ℕ, zero, suc, ◌+◌, ◌<◌, ◌≤◌, List, [], ◌∷◌, ◌++◌, append-nil, Bool, true, false, cond, T, Option, Some, None, option_map, refl, length, take, is_eq, Ordering, Less, Greater}
 use Rattle.std.specs.Prelude.{IfSome, option_and_then, slice_get, unwrap_or}
 use Rattle.std.specs.Cmp.Lexicographic.{nat_list_cmp_total, slice_cmp}
 use Rattle.std.specs.FinMap.{FinMap, entries, entries_sorted, find, from_entries, from_entries_push, is_sorted, nat_cmp-IsAntisymmetric, slice_cmp-IsAntisymmetric}
@@ -31,14 +31,12 @@ pub other_name : (e : Entry) (x : List ℕ × Data) → other_entry e ≡ Some x
 other_name e x h = by (has_field e.0) (option_and_then unless_empty e.1) h
   where
     by : (b : Bool) (o : Option (List ℕ)) → cond b None (option_map (λ text. (e.0, string text)) o) ≡ Some x → x.0 ≡ e.0
-    by true o h = absurd (none-some x h)
-    by false None h = absurd (none-some x h)
     by false (Some text) h = sym (ap (λ q. (unwrap_or q x).0) h)
+    by _ _ h = absurd (none-some x h)
 
 pub is_less : (o : Ordering) → is_lt o ≡ true → o ≡ Less
 is_less Less h = refl
-is_less Equal h = absurd (true≢false (sym h))
-is_less Greater h = absurd (true≢false (sym h))
+is_less _ h = absurd (true≢false (sym h))
 
 above : (x : List ℕ) (es : List Entry) (i : ℕ) (e : Entry) → below_all R x es ≡ true → slice_get es i ≡ Some e → R x e.0 ≡ Less
 above x [] i e h at = absurd (none-some e at)

@@ -12,7 +12,7 @@ use Rattle.mb_metadata.specs.ZoomText.{zoom_at}
 use Rattle.mb_metadata.specs.Zooms.{span, zooms_of}
 use Rattle.mb_metadata.specs.declared.name_edits.NameEdit.{NameEdit}
 use Rattle.mb_metadata.specs.declared.zoom_choice.UpdateZoomType.{UpdateZoomType}
-use Rattle.mb_metadata.specs.declared.zoom_choice.UpdateZoomType.TheVariants.{Reset, GrowOnly, Skip}
+use Rattle.mb_metadata.specs.declared.zoom_choice.UpdateZoomType.TheVariants.{Reset}
 use Rattle.mb_tables.specs.Table.{Tables}
 use Rattle.mb_tables.specs.declared.cell.Cell.TheVariants.{Text}
 use Rattle.mb_tables.specs.declared.error.MbtError.{MbtError}
@@ -27,8 +27,7 @@ two_names false false t u = refl
 unnamed : (mode : UpdateZoomType) (names : Names) (zooms : Option (ℕ × ℕ)) → is_edited (zoom_edits mode names zooms) (Text (codes "hash_algorithm")) ≡ false
 unnamed mode names (Some zooms) = two_names (is_set mode false (zoom_at names (codes "minzoom")) zooms.0) (is_set mode true (zoom_at names (codes "maxzoom")) zooms.1) (Some (decimal zooms.0)) (Some (decimal zooms.1))
 unnamed Reset names None = two_names (contains_key names (codes "minzoom")) (contains_key names (codes "maxzoom")) None None
-unnamed GrowOnly names None = refl
-unnamed Skip names None = refl
+unnamed _ names None = refl
 
 pub ok_same : (s r : State) → ◌≡◌ {A = Result State MbtError} (Ok s) (Ok r) → s ≡ r
 ok_same s r e = cc

@@ -124,8 +124,7 @@ own_tree tree h = same_map nat_list_cmp_total (slice_cmp-IsAntisymmetric nat_cmp
   where
     only : (b : Bool) (o : Option (List ℕ)) → over b o None ≡ cond b o None
     only true (Some v) = refl
-    only true None = refl
-    only false o = refl
+    only _ _ = refl
 
 -- the place that a plain path names
 abbrev place_from : TileScheme → Option TilePath → Place

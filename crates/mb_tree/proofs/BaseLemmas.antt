@@ -26,7 +26,7 @@ use Rattle.mb_tables.specs.declared.description.TableKind.TheVariants.{Table}
 use Rattle.mb_tables.specs.declared.error.MbtError.{MbtError}
 use Rattle.mb_tables.specs.declared.error.MbtError.TheVariants.{MismatchedTargetType, OutOfMemory, StoreFault}
 use Rattle.mb_tables.specs.declared.kind.MbtType.{MbtType}
-use Rattle.mb_tables.specs.declared.kind.MbtType.TheVariants.{Flat, FlatWithHash, Normalized, Cache}
+use Rattle.mb_tables.specs.declared.kind.MbtType.TheVariants.{Flat}
 use Rattle.mb_tables.specs.declared.table.TableName.TheVariants.{Tiles, Metadata}
 use Rattle.mb_tree.proofs.RefusalLemmas.{not_free}
 use Rattle.mb_tree.specs.Base.{IsBaseOf, IsFlatOf, base_by, base_of, flat_alone, if_flat, made, made_by, made_if}
@@ -110,9 +110,7 @@ is_old false told r some f = by f.tables.descriptions refl
 -- the answers of a store whose set is loaded
 pub other_layout : (layout : MbtType) (s : State) → layout ≢ Flat → if_flat layout s ≡ Err (MismatchedTargetType layout Flat)
 other_layout Flat s h = absurd (h refl)
-other_layout FlatWithHash s h = refl
-other_layout (Normalized view schema) s h = refl
-other_layout Cache s h = refl
+other_layout _ s h = refl
 
 pub loads_refused : (tells : Bool) (told : Tables) (e : MbtError) → (tells ≡ true → Loads (state_of told) (Err e)) → ((t : Tables) × Loads (state_of t) (Err e)) → IsFlatOf tells told (Err e)
 loads_refused true told e it own = record { tables = told; is_told = λ _. refl; state = tt; refused = λ w. ap (λ (d : Result State MbtError). then d flat_alone) (it refl (not_free e w)) }

@@ -31,11 +31,9 @@ has_after tiles t q =
     ∙ ap (λ b. b || contains_key tiles q) ((eq_by_cmp_equiv places_total).symm q (place_in t)))
 
 four : (a b x y : Bool) → ((a || b) || (x || y)) ≡ ((a || x) || (b || y))
-four true b x y = refl
 four false true true y = refl
-four false true false y = refl
 four false false true y = refl
-four false false false y = refl
+four _ _ _ y = refl
 
 pub any_after : (tiles : TileSet) (t : NewTile) (ts : List NewTile) → list_any (λ u. contains_key (insert tiles (place_in t) (Some t.tile_data)) (place_in u)) ts ≡ (list_any (eq_by_cmp place_cmp (place_in t)) (map place_in ts) || list_any (λ u. contains_key tiles (place_in u)) ts)
 any_after tiles t [] = refl
@@ -47,10 +45,8 @@ any_after tiles t (u ∷ us) =
 step : (a x y z : Bool) (n m k l : ℕ) → IsCount ((y || x) || not z) n (k + l) → k ≡ cond a m (m + 1) → IsCount ((a || x) || not (not y && z)) n (m + suc l)
 step true x y z n m k l h e = let le : n ≤ k + l = at_most ((y || x) || not z) n (k + l) h in let same : k ≡ m = e in omega arith
 step false true true z n m k l h e = let lt : n < k + l = h in let more : k ≡ m + 1 = e in omega arith
-step false true false z n m k l h e = let lt : n < k + l = h in let more : k ≡ m + 1 = e in omega arith
-step false false true z n m k l h e = let lt : n < k + l = h in let more : k ≡ m + 1 = e in omega arith
-step false false false false n m k l h e = let lt : n < k + l = h in let more : k ≡ m + 1 = e in omega arith
 step false false false true n m k l h e = let all : n ≡ k + l = h in let more : k ≡ m + 1 = e in omega arith
+step false _ _ _ n m k l h e = let lt : n < k + l = h in let more : k ≡ m + 1 = e in omega arith
 
 counted : (tiles : TileSet) (ts : List NewTile) → IsCount (has_duplicates tiles ts) (len (put_in_turn tiles ts)) (len tiles + length ts)
 counted tiles [] = omega arith

@@ -14,7 +14,7 @@ use Rattle.mb_tables.specs.Table.{Tables}
 use Rattle.mb_tables.specs.declared.description.TableDesc.{TableDesc}
 use Rattle.mb_tables.specs.declared.error.MbtError.{MbtError}
 use Rattle.mb_tables.specs.declared.kind.MbtType.{MbtType}
-use Rattle.mb_tables.specs.declared.kind.MbtType.TheVariants.{Flat, FlatWithHash, Normalized, Cache}
+use Rattle.mb_tables.specs.declared.kind.MbtType.TheVariants.{Flat}
 use Rattle.mb_tree.proofs.AloneLemmas.{alone, has_tiles, own_tree}
 use Rattle.mb_tree.proofs.BaseLemmas.{new_due, new_whole}
 use Rattle.mb_tree.proofs.PlaceLemmas.{AreOnBoard}
@@ -36,9 +36,7 @@ base_placed t s e = by t.descriptions e
   where
     flat : (u : State) (layout : MbtType) → state_of t ≡ Ok u → if_flat layout u ≡ Ok s → AreOnBoard s.tiles
     flat u Flat loads is = (state_whole t s (loads ∙ is)).0.on_board
-    flat u FlatWithHash loads is = cc
-    flat u (Normalized view schema) loads is = cc
-    flat u Cache loads is = cc
+    flat u _ loads is = cc
 
     loaded : (r : Result State MbtError) → state_of t ≡ r → then r flat_alone ≡ Ok s → AreOnBoard s.tiles
     loaded (Ok u) loads is = flat u u.layout loads is

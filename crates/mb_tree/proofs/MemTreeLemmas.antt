@@ -5,7 +5,7 @@ use Rattle.std.specs.BTreeMap.{BTreeMap, IsOrdered, Updates, get_by, is_at}
 use Rattle.std.specs.Map.{keys_of, lookup}
 use Rattle.std.specs.Ordering.{eq_by_cmp, is_eq, is_lt, nat_cmp}
 use Rattle.std.specs.declared.cmp.Ordering.{Ordering}
-use Rattle.std.specs.declared.cmp.Ordering.TheVariants.{Less, Equal, Greater}
+use Rattle.std.specs.declared.cmp.Ordering.TheVariants.{Less}
 use Rattle.std.specs.Cmp.{eq_by_cmp_equiv}
 use Rattle.std.specs.Cmp.Lexicographic.{slice_cmp}
 use Rattle.std.specs.List.{AllByRecursion}
@@ -25,8 +25,7 @@ both false b p q = absurd p
 
 less : (o : Ordering) → o ≡ Less → T (is_lt o)
 less Less e = tt
-less Equal e = cc
-less Greater e = cc
+less _ e = cc
 
 below : (path : List ℕ) (es : List File) → AllByRecursion (λ other. by_bytes path other ≡ Less) (keys_of es) → T (below_all by_bytes path es)
 below path [] h = tt

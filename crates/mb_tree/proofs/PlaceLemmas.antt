@@ -93,11 +93,8 @@ on_after tiles t on placed q there = by (eq_by_cmp place_cmp (place_in t) q) ref
     by false same h = on q h
 
 halves : (a x y z : Bool) → ((a || x) || not (not y && z)) ≡ false → (a ≡ false) × (((y || x) || not z) ≡ false)
-halves true x y z h = absurd (false≢true (sym h))
-halves false true y z h = absurd (false≢true (sym h))
-halves false false true z h = absurd (false≢true (sym h))
 halves false false false true h = (refl, refl)
-halves false false false false h = absurd (false≢true (sym h))
+halves _ _ _ _ h = absurd (false≢true (sym h))
 
 apart_rest : (tiles : TileSet) (t : NewTile) (ts : List NewTile) → has_duplicates tiles (t ∷ ts) ≡ false → (contains_key tiles (place_in t) ≡ false) × (has_duplicates (insert tiles (place_in t) (Some t.tile_data)) ts ≡ false)
 apart_rest tiles t ts h =

@@ -16,7 +16,7 @@ use Rattle.mb_metadata.specs.ZoomText.{number_within}
 use Rattle.mb_tree.specs.TilePath.{format_in, last_part, stem, tile_named, tile_path}
 use Rattle.mb_tree.specs.Unpacked.{path_text}
 use Rattle.mb_tree.specs.declared.format.FileFormat.{FileFormat}
-use Rattle.mb_tree.specs.declared.format.FileFormat.TheVariants.{Png, Jpg, Webp, Avif, Pbf, Mlt}
+use Rattle.mb_tree.specs.declared.format.FileFormat.TheVariants.{Png}
 use Rattle.mb_tree.specs.declared.tile_path.TilePath.{TilePath}
 
 -- whether no byte is of a kind
@@ -75,28 +75,16 @@ unsplit c text none = ap (option_map (λ i. (take i text, drop (i + 1) text))) (
 -- the words of formats
 words_lack : (f : FileFormat) → lacks slash (dot ∷ format_word f) ≡ true
 words_lack Png = refl
-words_lack Jpg = refl
-words_lack Webp = refl
-words_lack Avif = refl
-words_lack Pbf = refl
-words_lack Mlt = refl
+words_lack _ = refl
 
 no_dot : (f : FileFormat) → lacks dot (format_word f) ≡ true
 no_dot Png = refl
-no_dot Jpg = refl
-no_dot Webp = refl
-no_dot Avif = refl
-no_dot Pbf = refl
-no_dot Mlt = refl
+no_dot _ = refl
 
 pub named : (f : FileFormat) → format_of (format_word f) ≡ Some f
 unfolding format_of
 named Png = refl
-named Jpg = refl
-named Webp = refl
-named Avif = refl
-named Pbf = refl
-named Mlt = refl
+named _ = refl
 
 -- what three numbers and a format say
 abbrev pub tile_made : FileFormat → ℕ → ℕ → ℕ → TilePath

@@ -27,12 +27,12 @@ use Rattle.mb_tables.specs.Refusals.{first_refusal, first_refused, is_free, unle
 use Rattle.mb_tables.specs.Table.{Tables}
 use Rattle.mb_tables.specs.Tiles.{cell_at, place_cmp, tile_of}
 use Rattle.mb_tables.specs.declared.cell.Cell.{Cell}
-use Rattle.mb_tables.specs.declared.cell.Cell.TheVariants.{Null, Int, Text, Blob, Other}
+use Rattle.mb_tables.specs.declared.cell.Cell.TheVariants.{Text, Blob}
 use Rattle.mb_tables.specs.declared.error.MbtError.{MbtError}
 use Rattle.mb_tables.specs.declared.error.MbtError.TheVariants.{IncorrectTileHash, InvalidDataFormat, InvalidTileIndex, MissingTileReference, NoUniquenessConstraint, TreeFault, UnsupportedHashAlgorithm}
 use Rattle.mb_tables.specs.declared.kind.MbtType.{MbtType}
-use Rattle.mb_tables.specs.declared.kind.MbtType.TheVariants.{Flat, FlatWithHash, Normalized, Cache}
-use Rattle.mb_tables.specs.declared.kind.NormalizedSchema.TheVariants.{Hash, DedupId}
+use Rattle.mb_tables.specs.declared.kind.MbtType.TheVariants.{FlatWithHash, Normalized}
+use Rattle.mb_tables.specs.declared.kind.NormalizedSchema.TheVariants.{Hash}
 use Rattle.mb_tables.specs.declared.table.TableName.TheVariants.{Metadata}
 use Rattle.mb_tree.specs.Wanting.{is_tree_fault, is_wanting}
 use Rattle.tile_hash.specs.Digest.{digest}
@@ -71,33 +71,19 @@ bad_no layout contents row = bad_by row (contents_in layout contents row)
 
 missing_no : (layout : MbtType) (contents : List (List Cell)) (row : List Cell) → tree_in (missing_reference layout contents row) ≡ false
 missing_no (Normalized view schema) contents row = unless_no (is_null (cell_at 3 row) || list_any (λ c. cell_eq (cell_at 0 c) (cell_at 3 row)) contents) (MissingTileReference (id_text (cell_at 3 row)) (contents_of schema)) refl
-missing_no Flat contents row = refl
-missing_no FlatWithHash contents row = refl
-missing_no Cache contents row = refl
+missing_no _ contents row = refl
 
 hash_no : (a : HashAlgorithm) (c d : Cell) → tree_in (wrong_hash a c d) ≡ false
 hash_no a (Blob bytes) (Text stored) = unless_no (bytes_eq (map to_ascii_uppercase stored) (digest a bytes)) (IncorrectTileHash (map to_ascii_uppercase stored) (digest a bytes)) refl
-hash_no a (Blob bytes) Null = refl
-hash_no a (Blob bytes) (Int n) = refl
-hash_no a (Blob bytes) (Blob other) = refl
-hash_no a (Blob bytes) Other = refl
-hash_no a Null d = refl
-hash_no a (Int n) d = refl
-hash_no a (Text t) d = refl
-hash_no a Other d = refl
+hash_no a _ _ = refl
 
 tile_hash_no : (layout : MbtType) (a : HashAlgorithm) (row : List Cell) → tree_in (wrong_tile_hash layout a row) ≡ false
 tile_hash_no FlatWithHash a row = hash_no a (cell_at 3 row) (cell_at 4 row)
-tile_hash_no Flat a row = refl
-tile_hash_no (Normalized view schema) a row = refl
-tile_hash_no Cache a row = refl
+tile_hash_no _ a row = refl
 
 content_hash_no : (layout : MbtType) (a : HashAlgorithm) (row : List Cell) → tree_in (wrong_content_hash layout a row) ≡ false
 content_hash_no (Normalized view Hash) a row = hash_no a (cell_at 1 row) (cell_at 0 row)
-content_hash_no (Normalized view DedupId) a row = refl
-content_hash_no Flat a row = refl
-content_hash_no FlatWithHash a row = refl
-content_hash_no Cache a row = refl
+content_hash_no _ a row = refl
 
 pub none_of : (r : Option MbtError) (rs : List (Option MbtError)) → tree_in r ≡ false → tree_in (first_refusal rs) ≡ false → tree_in (first_refusal (r ∷ rs)) ≡ false
 none_of r rs h k = or_no r (first_refusal rs) h k

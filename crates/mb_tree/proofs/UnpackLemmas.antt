@@ -77,9 +77,8 @@ take_front (x ∷ xs) ys = ap (λ l. x ∷ l) (take_front xs ys)
 
 join_back : (i : ℕ) (es : List Entry) → take i es ++ drop i es ≡ es
 join_back zero [] = refl
-join_back zero (e ∷ es) = refl
-join_back (suc i) [] = refl
 join_back (suc i) (e ∷ es) = ap (λ l. e ∷ l) (join_back i es)
+join_back _ _ = refl
 
 -- what is written so far is a front
 pub front_of : (f : Entry → Option File) (es : List Entry) (i : ℕ) (first now : Files) → now ≡ written first (filter_map f (take i es)) → IsFront (filter_map f es) first now

@@ -20,9 +20,8 @@ tied_same p q e = slice_cmp-IsAntisymmetric nat_cmp-IsAntisymmetric p q ((Equal-
 
 swapped : {A : Type 0} (a b : Bool) (x y z : A) → (a ≡ true → b ≡ true → ⊥) → cond a x (cond b y z) ≡ cond b y (cond a x z)
 swapped true true x y z apart = absurd (apart refl refl)
-swapped true false x y z apart = refl
 swapped false true x y z apart = refl
-swapped false false x y z apart = refl
+swapped _ _ x y z apart = refl
 
 swap : (m : Files) (p q a b : List ℕ) → p ≢ q → insert (insert m p a) q b ≡ insert (insert m q b) p a
 swap m p q a b apart = same_map nat_list_cmp_total (slice_cmp-IsAntisymmetric nat_cmp-IsAntisymmetric) _ _ (λ x.
