@@ -25,6 +25,5 @@ validated Off s = Ok []
 
 -- the tables hold the computed hash where it is to be stored, and are as they were otherwise
 abbrev pub IsLeft : AggHashType → Tables → Tables → Type 0
-IsLeft Verify old new = new ≡ old
 IsLeft Update old new = IsUpdated old new
-IsLeft Off old new = new ≡ old
+IsLeft _ old new = new ≡ old

@@ -10,14 +10,13 @@ use Rattle.mb_tables.specs.declared.cell.Cell.{Cell}
 use Rattle.mb_tables.specs.declared.error.MbtError.{MbtError}
 use Rattle.mb_tables.specs.declared.error.MbtError.TheVariants.{InvalidTileIndex, NoUniquenessConstraint}
 use Rattle.mb_tables.specs.declared.kind.MbtType.{MbtType}
-use Rattle.mb_tables.specs.declared.kind.MbtType.TheVariants.{Flat, FlatWithHash, Normalized, Cache}
+use Rattle.mb_tables.specs.declared.kind.MbtType.TheVariants.{Normalized, Cache}
 
 -- the contents of a row: its own, or those of its id among these contents. A row without an id is no row of a tile, and has none
 abbrev pub contents_in : MbtType → List (List Cell) → List Cell → Option Cell
-contents_in Flat contents row = Some (cell_at 3 row)
-contents_in FlatWithHash contents row = Some (cell_at 3 row)
 contents_in (Normalized view schema) contents row = cond (is_null (cell_at 3 row)) None (Some (content_of contents (cell_at 3 row)))
 contents_in Cache contents row = Some (cell_at 6 row)
+contents_in _ contents row = Some (cell_at 3 row)
 
 -- the refusal of a row of a tile whose place is none, or whose contents are neither bytes nor null
 abbrev pub bad_tile : MbtType → List (List Cell) → List Cell → Option MbtError

@@ -1,5 +1,5 @@
 -- Tables that are made where nothing was described hold no set.
-use Rattle.std.proofs.Common.{◌≡◌, ◌∙◌, ap, sym, subst, List, [], Some, None, true, false, refl}
+use Rattle.std.proofs.Common.{◌≡◌, ◌∙◌, ap, sym, subst, List, [], Some, None, true, refl}
 use Rattle.mb_constraints.specs.Described.{index_missing, metadata_missing}
 use Rattle.mb_lists.specs.Contents.{content_rows}
 use Rattle.mb_load.specs.EmptyTables.{AreEmpty}
@@ -11,7 +11,7 @@ use Rattle.mb_tables.specs.Schema.{set_tables, started_as}
 use Rattle.mb_tables.specs.Table.{Tables}
 use Rattle.mb_tables.specs.declared.description.TableDesc.{TableDesc}
 use Rattle.mb_tables.specs.declared.kind.MbtType.{MbtType}
-use Rattle.mb_tables.specs.declared.kind.MbtType.TheVariants.{Flat, FlatWithHash, Normalized, Cache}
+use Rattle.mb_tables.specs.declared.kind.MbtType.TheVariants.{Normalized}
 use Rattle.mb_tables.specs.declared.kind.NormalizedSchema.TheVariants.{Hash, DedupId}
 use Rattle.mb_tables.specs.declared.table.TableName.{TableName}
 use Rattle.mb_tables.specs.declared.table.TableName.TheVariants.{Metadata}
@@ -24,11 +24,8 @@ record Describes (layout : MbtType) (ds : List TableDesc) : Type 0 where
   indexed : index_missing ds layout ≡ None
 
 describes : (l : MbtType) → Describes (started_as l) (with_tables [] (set_tables (started_as l)))
-describes Flat = record { is_layout = refl; whole = refl; described = refl; indexed = refl }
-describes FlatWithHash = record { is_layout = refl; whole = refl; described = refl; indexed = refl }
 describes (Normalized true schema) = record { is_layout = refl; whole = refl; described = refl; indexed = refl }
-describes (Normalized false schema) = record { is_layout = refl; whole = refl; described = refl; indexed = refl }
-describes Cache = record { is_layout = refl; whole = refl; described = refl; indexed = refl }
+describes _ = record { is_layout = refl; whole = refl; described = refl; indexed = refl }
 
 -- a table that isn't described has no rows
 no_rows : (t : Tables) → IsSound t → t.descriptions ≡ [] → (table : TableName) → t.rows table ≡ []

@@ -9,7 +9,7 @@ use Rattle.mb_copy.specs.Wanted.{is_chosen}
 use Rattle.mb_copy.specs.declared.copier.MbtilesCopier.{MbtilesCopier}
 use Rattle.mb_edit.specs.Patched.{is_null_at}
 use Rattle.mb_insert.specs.declared.mode.CopyDuplicateMode.{CopyDuplicateMode}
-use Rattle.mb_insert.specs.declared.mode.CopyDuplicateMode.TheVariants.{Override, Ignore, Abort}
+use Rattle.mb_insert.specs.declared.mode.CopyDuplicateMode.TheVariants.{Override, Abort}
 use Rattle.mb_lists.specs.Metadata.{Names}
 use Rattle.mb_lists.specs.declared.dates.Dates.{Dates}
 use Rattle.mb_loaded.specs.State.{State}
@@ -26,8 +26,7 @@ chosen c tiles = retain_keys tiles (is_chosen c)
 -- whether what is copied is put, by whether the set has something there, and whether nothing is left of it there
 abbrev pub wins : CopyDuplicateMode → Bool → Bool → Bool
 wins Override there nothing = there || not nothing
-wins Ignore there nothing = not there && not nothing
-wins Abort there nothing = not there && not nothing
+wins _ there nothing = not there && not nothing
 
 -- whether a tile is put: null leaves no row in a normalised set, so that it is put only where it removes one
 abbrev pub is_put : MbtilesCopier → TileSet → State → Place → Bool
@@ -63,6 +62,5 @@ has_both c tiles names base = list_any (tile_there c base) (entries tiles) || li
 
 -- something is there already, where the mode forbids that
 abbrev pub duplicates : CopyDuplicateMode → Bool → Option MbtError
-duplicates Override both = None
-duplicates Ignore both = None
 duplicates Abort both = unless (not both) DuplicateValues
+duplicates _ both = None

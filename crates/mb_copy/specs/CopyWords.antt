@@ -9,11 +9,9 @@ copy_words Metadata = codes "metadata"
 copy_words Tiles = codes "tiles"
 
 abbrev pub copies_tiles : CopyType → Bool
-copies_tiles All = true
 copies_tiles Metadata = false
-copies_tiles Tiles = true
+copies_tiles _ = true
 
 abbrev pub copies_metadata : CopyType → Bool
-copies_metadata All = true
-copies_metadata Metadata = true
 copies_metadata Tiles = false
+copies_metadata _ = true

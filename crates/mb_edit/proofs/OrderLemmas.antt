@@ -11,14 +11,11 @@ same_three f x a y b z c p q r = same_two (λ u v. f u v z) x a y b p q ∙ ap (
 
 -- the tests of digests
 pub patch_tests : (force before after : Bool) → Tests (unless_forced force (patch_refused before after)) (refused_by (unless_forced force (patch_refused before after)))
-patch_tests true before after = refl
 patch_tests false before false = ((λ free. refl), (λ e. cc))
 patch_tests false false true = ((λ free. refl), (λ e. cc))
-patch_tests false true true = refl
+patch_tests _ _ _ = refl
 
 pub base_tests : (force agg before after : Bool) → Tests (unless_forced force (base_refused agg before after)) (refused_by (unless_forced force (base_refused agg before after)))
 base_tests true agg before after = refl
-base_tests false false before after = ((λ free. refl), (λ e. cc))
-base_tests false true true after = ((λ free. refl), (λ e. cc))
-base_tests false true false true = ((λ free. refl), (λ e. cc))
 base_tests false true false false = refl
+base_tests false _ _ _ = ((λ free. refl), (λ e. cc))

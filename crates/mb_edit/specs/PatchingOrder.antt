@@ -13,18 +13,16 @@ use Rattle.mb_tables.specs.Tiles.{TileSet}
 use Rattle.mb_tables.specs.declared.error.MbtError.{MbtError}
 use Rattle.mb_tables.specs.declared.error.MbtError.TheVariants.{AggHashMismatchWithDiff, UnsupportedCopyOperation, UnsupportedHashAlgorithm, UnsupportedPatchType}
 use Rattle.mb_tables.specs.declared.kind.MbtType.{MbtType}
-use Rattle.mb_tables.specs.declared.kind.MbtType.TheVariants.{Flat, FlatWithHash, Normalized, Cache}
-use Rattle.mb_tables.specs.declared.kind.NormalizedSchema.TheVariants.{Hash, DedupId}
+use Rattle.mb_tables.specs.declared.kind.MbtType.TheVariants.{Normalized, Cache}
+use Rattle.mb_tables.specs.declared.kind.NormalizedSchema.TheVariants.{DedupId}
 use Rattle.tile_hash.specs.Digest.{digest, name_of}
 use Rattle.tile_hash.specs.declared.algorithm.HashAlgorithm.{HashAlgorithm}
 
 -- whether a set of the layout can be patched
 abbrev pub can_be_patched : MbtType → Bool
-can_be_patched Flat = true
-can_be_patched FlatWithHash = true
-can_be_patched (Normalized view Hash) = true
 can_be_patched (Normalized view DedupId) = false
 can_be_patched Cache = false
+can_be_patched _ = true
 
 -- a patch and its set: both have the digest of the set before the patch, and they differ
 abbrev pub wrong_base : Option (List ℕ) → Option (List ℕ) → Option MbtError

@@ -3,7 +3,7 @@ use Rattle.std.specs.Prelude.{ℕ, ◌^◌, ◌&&◌, ◌||◌, Bool, not, nat_l
 use Rattle.std.specs.FinMap.{contains_key, from_entries}
 use Rattle.std.specs.List.{list_any}
 use Rattle.mb_insert.specs.declared.mode.CopyDuplicateMode.{CopyDuplicateMode}
-use Rattle.mb_insert.specs.declared.mode.CopyDuplicateMode.TheVariants.{Override, Ignore, Abort}
+use Rattle.mb_insert.specs.declared.mode.CopyDuplicateMode.TheVariants.{Override}
 use Rattle.mb_insert.specs.declared.new_tile.NewTile.{NewTile}
 use Rattle.mb_lists.specs.Entries.{place_at}
 use Rattle.mb_lists.specs.Keyed.{are_distinct}
@@ -28,8 +28,7 @@ is_missing tiles t = not (contains_key tiles (place_in t))
 -- the tiles that a mode puts into a set, where the first of a place counts: all from the last to the first, or those of places at which the set has none
 abbrev pub chosen : CopyDuplicateMode → TileSet → List NewTile → List NewTile
 chosen Override tiles batch = reverse batch
-chosen Ignore tiles batch = filter (is_missing tiles) batch
-chosen Abort tiles batch = filter (is_missing tiles) batch
+chosen _ tiles batch = filter (is_missing tiles) batch
 
 -- the same by places
 abbrev pub put_of : CopyDuplicateMode → TileSet → List NewTile → TileSet

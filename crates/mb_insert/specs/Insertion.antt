@@ -5,7 +5,7 @@ use Rattle.mb_edit.specs.PatchingOrder.{bytes_put, id_collides}
 use Rattle.mb_edit.specs.Put.{state_put}
 use Rattle.mb_insert.specs.Batch.{has_duplicates, is_coord, put_of}
 use Rattle.mb_insert.specs.declared.mode.CopyDuplicateMode.{CopyDuplicateMode}
-use Rattle.mb_insert.specs.declared.mode.CopyDuplicateMode.TheVariants.{Override, Ignore, Abort}
+use Rattle.mb_insert.specs.declared.mode.CopyDuplicateMode.TheVariants.{Abort}
 use Rattle.mb_insert.specs.declared.new_tile.NewTile.{NewTile}
 use Rattle.mb_loaded.specs.Editable.{is_editable}
 use Rattle.mb_loaded.specs.State.{State}
@@ -21,9 +21,8 @@ bad_coord t = unless (is_coord t) (InvalidTileIndex (Int (pos t.z)) (Int (pos t.
 
 -- a place that is there already, or comes twice, where the mode forbids that
 abbrev pub duplicates : CopyDuplicateMode → TileSet → List NewTile → Option MbtError
-duplicates Override tiles batch = None
-duplicates Ignore tiles batch = None
 duplicates Abort tiles batch = unless (not (has_duplicates tiles batch)) DuplicateValues
+duplicates _ tiles batch = None
 
 -- the refusal of each test, in the order of the tests
 abbrev pub insert_refusals : CopyDuplicateMode → List NewTile → State → List (Option MbtError)

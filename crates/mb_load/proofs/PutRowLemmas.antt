@@ -200,8 +200,7 @@ module _ (s : State) (ok : IsLoadable s) where
 
   pub good_put : (key : RowKey) → IfSome (tile_row_by s key) (IsGoodRow s.layout s.algorithm)
   good_put (Tile zoom column row) = good_at (record { zoom = zoom; column = column; row = row })
-  good_put (TextId text) = tt
-  good_put (IntId n) = tt
+  good_put _ = tt
 
   content_good : (id : Cell) → IfSome (content_row s id) (IsGoodContent s.layout s.algorithm)
   content_good id = by (get s.contents id) refl

@@ -2,7 +2,7 @@
 use Rattle.std.specs.Prelude.{◌≡◌, refl, Bool, true, false, List, codes, Option, Some, None, option_and_then, if◌then◌else◌}
 use Rattle.mb_lists.specs.Metadata.{Names}
 use Rattle.mb_metadata.specs.Said.{said}
-use Rattle.serde_json.specs.Data.{Data, null, boolean, number, string, array, object, no_members, member}
+use Rattle.serde_json.specs.Data.{Data, null, object, no_members, member}
 use Rattle.serde_json.specs.Find.{get}
 use Rattle.tile_json.specs.JsonReading.{without_member}
 use Rattle.tile_json.specs.LayerReading.{layers_of}
@@ -18,13 +18,8 @@ abbrev pub layers_in : Data → Option (List VectorLayer)
 layers_in d = option_and_then layers_of (get (codes "vector_layers") d)
 
 abbrev pub is_bare : Data → Bool
-is_bare null = false
-is_bare (boolean b) = false
-is_bare (number n) = false
-is_bare (string text) = false
-is_bare (array ds) = false
 is_bare (object no_members) = true
-is_bare (object (member k d ms)) = false
+is_bare _ = false
 
 -- an object without members says nothing
 abbrev pub unless_bare : Data → Option Data

@@ -41,8 +41,7 @@ removals names = option_to_list (removal names (codes "minzoom")) ++ option_to_l
 abbrev pub zoom_edits : UpdateZoomType → Names → Option (ℕ × ℕ) → List NameEdit
 zoom_edits mode names (Some zooms) = both_edits mode names zooms
 zoom_edits Reset names None = removals names
-zoom_edits GrowOnly names None = []
-zoom_edits Skip names None = []
+zoom_edits _ names None = []
 
 abbrev pub update_edits : UpdateZoomType → State → List NameEdit
 update_edits mode s = zoom_edits mode s.metadata (span (zooms_of s.tiles))

@@ -34,12 +34,8 @@ bounds_at a b c d =
 
 -- west, south, east and north
 abbrev pub bounds_of : List (List ℕ) → Option SetBounds
-bounds_of [] = None
-bounds_of (a ∷ []) = None
-bounds_of (a ∷ b ∷ []) = None
-bounds_of (a ∷ b ∷ c ∷ []) = None
 bounds_of (a ∷ b ∷ c ∷ d ∷ []) = bounds_at a b c d
-bounds_of (a ∷ b ∷ c ∷ d ∷ e ∷ parts) = None
+bounds_of _ = None
 
 abbrev pub center_at : List ℕ → List ℕ → Option ℕ → Option SetCenter
 center_at a b zoom = option_and_then (λ lon. option_and_then (λ lat. Some (record { longitude = lon; latitude = lat; zoom = zoom })) (latitude_of b)) (longitude_of a)
@@ -50,11 +46,9 @@ zoom_said part = number_to 30 (trimmed part)
 
 -- longitude, latitude, and a zoom or none
 abbrev pub center_of : List (List ℕ) → Option SetCenter
-center_of [] = None
-center_of (a ∷ []) = None
 center_of (a ∷ b ∷ []) = center_at a b None
 center_of (a ∷ b ∷ c ∷ []) = center_at a b (zoom_said c)
-center_of (a ∷ b ∷ c ∷ d ∷ parts) = None
+center_of _ = None
 
 -- numbers parted by commas
 abbrev pub bounds_in : List ℕ → Option SetBounds

@@ -13,9 +13,8 @@ use Rattle.set_options.specs.declared.facts.TileFacts.{TileFacts}
 
 -- bytes that begin as gzip begins (RFC 1952)
 abbrev pub is_gzip : List ℕ → Bool
-is_gzip [] = false
-is_gzip (a ∷ []) = false
 is_gzip (a ∷ b ∷ bytes) = nat_eq a 31 && nat_eq b 139
+is_gzip _ = false
 
 -- the least and the greatest zoom, with one more
 abbrev pub with_zoom : Option (ℕ × ℕ) → ℕ → Option (ℕ × ℕ)
