@@ -25,17 +25,17 @@ use Rattle.mb_tables.specs.declared.kind.MbtType.{MbtType}
 use Rattle.mb_tables.specs.declared.kind.MbtType.TheVariants.{Cache}
 use Rattle.mb_tables.specs.declared.table.TableName.TheVariants.{Metadata, TileCache}
 
+pub is_cache : (o : Option MbtType) → is_cache_layout o ≡ true → o ≡ Some Cache
+is_cache (Some Cache) h = refl
+is_cache _ h = cc
+
 -- the tables that opening begins with are those of a cache
 pub begun_layout : (t : Tables) → may_begin t.descriptions ≡ true → layout_of (begun_with t).descriptions ≡ Some Cache
 begun_layout t h = by t.descriptions refl
   where
-    cache : (o : Option MbtType) → is_cache_layout o ≡ true → o ≡ Some Cache
-    cache (Some Cache) h = refl
-    cache _ h = cc
-
     by : (ds : List TableDesc) → t.descriptions ≡ ds → layout_of (begun_with t).descriptions ≡ Some Cache
     by [] e = ap (λ b. layout_of (cond b (created t (set_tables Cache)) t).descriptions) (ap is_bare e) ∙ ap (λ ds. layout_of (with_tables ds (set_tables Cache))) e
-    by (d ∷ ds) e = ap (λ b. layout_of (cond b (created t (set_tables Cache)) t).descriptions) (ap is_bare e) ∙ cache (layout_of t.descriptions) (ap (λ xs. is_bare xs || is_cache_layout (layout_of t.descriptions)) (sym e) ∙ h)
+    by (d ∷ ds) e = ap (λ b. layout_of (cond b (created t (set_tables Cache)) t).descriptions) (ap is_bare e) ∙ is_cache (layout_of t.descriptions) (ap (λ xs. is_bare xs || is_cache_layout (layout_of t.descriptions)) (sym e) ∙ h)
 
 pub begun_may : (ds : List TableDesc) → begin_answer ds ≡ Ok tt → may_begin ds ≡ true
 begun_may ds h = by (may_begin ds) refl h
@@ -45,10 +45,6 @@ begun_may ds h = by (may_begin ds) refl h
     by false e h = cc
 
 -- tables of a cache open as they load
-pub is_cache : (o : Option MbtType) → is_cache_layout o ≡ true → o ≡ Some Cache
-is_cache (Some Cache) h = refl
-is_cache _ h = cc
-
 loads_first : (t u : Tables) → begin_answer t.descriptions ≡ Ok tt → u ≡ begun_with t → open_answer t ≡ then (state_of u) (λ _. Ok tt)
 loads_first t u first same = ap (λ r. then r (λ _. then (state_of (begun_with t)) (λ _. Ok tt))) first ∙ ap (λ (x : Tables). then (state_of x) (λ _. Ok tt)) (sym same)
 

@@ -30,6 +30,7 @@ use Rattle.mb_constraints.proofs.ApartPlaces.{in_has_place}
 use Rattle.mb_load.proofs.CommitLemmas.{no_contents, rows_of_contents}
 use Rattle.mb_lists.proofs.FrontLemmas.{begins, entry_key, filter_entry, key_begins, key_whole, names_as_entries}
 use Rattle.mb_load.proofs.KeyReading.{Agrees, Joins, agree_if_joined, alone_under, at_place_placed, found_both, found_never, found_row, found_through, place_on_board, under_key}
+use Rattle.mb_load.proofs.PutRowLemmas.{no_id, no_times}
 use Rattle.mb_load.proofs.RowsPass.{ArePassing, both_none, cell_under, dates_row, holds, joins_row, passing, place_tested}
 use Rattle.mb_load.proofs.StateLemmas.{state_is}
 use Rattle.mb_store.specs.Store.{IsSound}
@@ -57,23 +58,15 @@ use Rattle.mb_tables.specs.declared.table.TableName.TheVariants.{Metadata}
 use Rattle.tile_hash.specs.declared.algorithm.HashAlgorithm.{HashAlgorithm}
 
 pub never_id : (l : MbtType) (row : List Cell) → is_normalized l ≡ false → at_place (id_in l) row ≡ None
-never_id l row h = by (place_of row) (id_in l row) (none l row h)
+never_id l row h = by (place_of row) (id_in l row) (no_id l row h)
   where
-    none : (l : MbtType) (row : List Cell) → is_normalized l ≡ false → id_in l row ≡ None
-    none (Normalized view schema) row h = absurd (false≢true (sym h))
-    none _ row h = refl
-
     by : (o : Option Place) (v : Option Cell) → v ≡ None → option_and_then {U = Place × Cell} (λ place. option_map {U = Place × Cell} (λ v. (place, v)) v) o ≡ None
     by (Some p) (Some v) h = cc
     by _ _ h = refl
 
 never_dates : (l : MbtType) (row : List Cell) → is_cache l ≡ false → at_place (dates_in l) row ≡ None
-never_dates l row h = by (place_of row) (dates_in l row) (none l row h)
+never_dates l row h = by (place_of row) (dates_in l row) (no_times l row h)
   where
-    none : (l : MbtType) (row : List Cell) → is_cache l ≡ false → dates_in l row ≡ None
-    none Cache row h = absurd (false≢true (sym h))
-    none _ row h = refl
-
     by : (o : Option Place) (v : Option Dates) → v ≡ None → option_and_then {U = Place × Dates} (λ place. option_map {U = Place × Dates} (λ v. (place, v)) v) o ≡ None
     by (Some p) (Some v) h = cc
     by _ _ h = refl

@@ -91,7 +91,7 @@ row_id : (l : MbtType) (a : HashAlgorithm) (p : Place) (o : Option (List ℕ)) (
 row_id (Normalized view schema) a p o id dates h k = ap (λ b. cond b None (Some id)) k
 row_id _ a p o id dates h k = absurd (false≢true h)
 
-no_id : (l : MbtType) (row : List Cell) → is_normalized l ≡ false → id_in l row ≡ None
+pub no_id : (l : MbtType) (row : List Cell) → is_normalized l ≡ false → id_in l row ≡ None
 no_id (Normalized view schema) row h = absurd (false≢true (sym h))
 no_id _ row h = refl
 
@@ -99,7 +99,7 @@ row_dates : (l : MbtType) (a : HashAlgorithm) (p : Place) (o : Option (List ℕ)
 row_dates Cache a p o id d h = refl
 row_dates _ a p o id d h = absurd (false≢true h)
 
-no_times : (l : MbtType) (row : List Cell) → is_cache l ≡ false → dates_in l row ≡ None
+pub no_times : (l : MbtType) (row : List Cell) → is_cache l ≡ false → dates_in l row ≡ None
 no_times Cache row h = absurd (false≢true (sym h))
 no_times _ row h = refl
 

@@ -9,7 +9,7 @@ use Rattle.mb_tables.specs.Table.{Tables}
 use Rattle.mb_tables.specs.declared.error.MbtError.{MbtError}
 use Rattle.mb_tree.specs.Base.{IsBaseOf, base_of}
 use Rattle.mb_tree.specs.Files.{Files, paths_in, paths_of}
-use Rattle.mb_tree.specs.PackSteps.{Packs, RefusesPaths}
+use Rattle.mb_tree.specs.PackSteps.{Packs}
 use Rattle.mb_tree.specs.Packed.{IsPacking}
 use Rattle.mb_tree.specs.Packing.{packing}
 use Rattle.mb_tree.specs.Wanting.{is_wanting}
@@ -27,15 +27,6 @@ module _ (scheme : TileScheme) (shows : Bool) (files : Files) (tells : Bool) (to
   }
 
   module _ (base : Base) (b : IsBaseOf tells told (Ok base)) where
-    pub packing_refused : (e : MbtError) → RefusesPaths scheme shows files base.set.state e → IsPacking scheme shows files tells told (Err e)
-    packing_refused e r = record {
-      paths = r.paths;
-      listed = r.listed;
-      tables = b.tables;
-      is_told = b.is_told;
-      answers = λ w. ap (λ (d : Result State MbtError). then d (packing scheme r.paths)) b.state ∙ ap refused_by (r.due w);
-    }
-
     -- want of memory, and a fault
     pub ended : (e : MbtError) → is_wanting e ≡ true → IsPacking scheme shows files tells told (Err e)
     ended e wants = record {
