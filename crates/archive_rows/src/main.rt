@@ -23,35 +23,11 @@ mod writing;
 
 use kept::Kept;
 use rows_shared::{Rows, Words, run};
-use std::alloc::Global;
 use std::io;
 
-// A call over the bytes that are held.
-fn answer_held(
-    alloc: Global,
-    out: &mut String,
-    kept: &mut Kept,
-    call: &str,
-    words: &mut Words,
-) -> Option<()> {
-    match call {
-        "bytes" => reading::shared(alloc, out, kept.backend.medium.as_bytes(), words),
-        "view" => viewing::answer(alloc, out, kept.backend.medium.as_bytes(), words),
-        "changes" => verifying::changes(alloc, out, kept.backend.medium.as_bytes(), words),
-        "short" => shorts::answer(alloc, out, kept, words),
-        "extract" => extracting::answer(alloc, out, kept, words),
-        call => asking::answer(alloc, out, &mut kept.backend, call, words),
-    }
-}
-
 impl Rows for Kept {
-    fn answer(
-        &mut self,
-        _rt: &HostRuntime,
-        alloc: Global,
-        out: &mut String,
-        line: &str,
-    ) -> Option<()> {
+    fn answer(&mut self, rt: &HostRuntime, out: &mut String, line: &str) -> Option<()> {
+        let alloc = rt.alloc();
         let mut words: Words = line.split_whitespace();
         match words.next()? {
             "medium" => media::answer(alloc, out, &mut self.backend, &mut words),
@@ -60,7 +36,12 @@ impl Rows for Kept {
             "contents" => contents::answer(alloc, out, &mut words),
             "bulk" => bulk::answer(alloc, out, &mut self.backend, &mut words),
             "cache" => caches::answer(alloc, out, &mut self.map, &mut self.recent, &mut words),
-            call => answer_held(alloc, out, self, call, &mut words),
+            "bytes" => reading::shared(alloc, out, self.backend.medium.as_bytes(), &mut words),
+            "view" => viewing::answer(alloc, out, self.backend.medium.as_bytes(), &mut words),
+            "changes" => verifying::changes(alloc, out, self.backend.medium.as_bytes(), &mut words),
+            "short" => shorts::answer(alloc, out, self, &mut words),
+            "extract" => extracting::answer(alloc, out, self, &mut words),
+            call => asking::answer(alloc, out, &mut self.backend, call, &mut words),
         }
     }
 }

@@ -13,7 +13,6 @@ use mb_sqlite::SqliteStore;
 use mb_store::MemStore;
 use rows_shared::{Rows, Words, run};
 use shelf::Shelf;
-use std::alloc::Global;
 use std::io;
 
 // What is kept from line to line: a store in memory, and a database where the calls are of one.
@@ -24,13 +23,8 @@ struct Kept {
 }
 
 impl Rows for Kept {
-    fn answer(
-        &mut self,
-        _rt: &HostRuntime,
-        alloc: Global,
-        out: &mut String,
-        line: &str,
-    ) -> Option<()> {
+    fn answer(&mut self, rt: &HostRuntime, out: &mut String, line: &str) -> Option<()> {
+        let alloc = rt.alloc();
         let mut words: Words = line.split_whitespace();
         match words.next()? {
             "new" => stores::new(alloc, self, &mut words),

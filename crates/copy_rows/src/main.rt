@@ -8,7 +8,6 @@ mod stores;
 
 use mb_store::MemStore;
 use rows_shared::{Rows, Words, run};
-use std::alloc::Global;
 use std::io;
 
 // The stores that are kept from line to line: the source of a copy, its destination, and a patch.
@@ -20,13 +19,8 @@ pub struct Kept {
 }
 
 impl Rows for Kept {
-    fn answer(
-        &mut self,
-        _rt: &HostRuntime,
-        alloc: Global,
-        out: &mut String,
-        line: &str,
-    ) -> Option<()> {
+    fn answer(&mut self, rt: &HostRuntime, out: &mut String, line: &str) -> Option<()> {
+        let alloc = rt.alloc();
         let mut words: Words = line.split_whitespace();
         match words.next()? {
             "src" => stores::answer(alloc, out, &mut self.src, &mut words),

@@ -69,13 +69,8 @@ fn reads<B: Backend>(
     }
 }
 
-pub fn answer(
-    rt: &HostRuntime,
-    alloc: Global,
-    out: &mut String,
-    kept: &mut Kept,
-    line: &str,
-) -> Option<()> {
+pub fn answer(rt: &HostRuntime, out: &mut String, kept: &mut Kept, line: &str) -> Option<()> {
+    let alloc = rt.alloc();
     let mut words: Words = line.split_whitespace();
     match words.next()? {
         "response" => response(alloc, out, &mut words),

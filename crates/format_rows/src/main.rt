@@ -15,17 +15,11 @@ mod varints;
 
 use media::Kept;
 use rows_shared::{Rows, Words, run};
-use std::alloc::Global;
 use std::io;
 
 impl Rows for Kept {
-    fn answer(
-        &mut self,
-        rt: &HostRuntime,
-        alloc: Global,
-        out: &mut String,
-        line: &str,
-    ) -> Option<()> {
+    fn answer(&mut self, rt: &HostRuntime, out: &mut String, line: &str) -> Option<()> {
+        let alloc = rt.alloc();
         let mut words: Words = line.split_whitespace();
         match words.next()? {
             "ids" => ids::answer(alloc, out, &mut words),
@@ -36,7 +30,7 @@ impl Rows for Kept {
             "header" => headers::answer(alloc, out, &mut words),
             "label" => labels::answer(alloc, out, &mut words),
             "medium" => media::answer(alloc, out, &mut self.medium, &mut words),
-            _ => backends::answer(rt, alloc, out, self, line),
+            _ => backends::answer(rt, out, self, line),
         }
     }
 }

@@ -32,44 +32,23 @@ fn hold(alloc: Global, held: &mut Vec<u8>, words: &mut Words) -> Option<()> {
 }
 
 impl Rows for Kept {
-    fn answer(
-        &mut self,
-        _rt: &HostRuntime,
-        alloc: Global,
-        out: &mut String,
-        line: &str,
-    ) -> Option<()> {
+    fn answer(&mut self, rt: &HostRuntime, out: &mut String, line: &str) -> Option<()> {
+        let alloc = rt.alloc();
         let mut words: Words = line.split_whitespace();
         match words.next()? {
             "hold" => hold(alloc, &mut self.held, &mut words),
             "set" => sets::answer(alloc, out, &mut self.store, &mut words),
-            "import" => {
-                imports::answer(
-                    alloc,
-                    out,
-                    self.held.as_slice(),
-                    &mut self.store,
-                    &mut words,
-                )
-            }
-            "made" => {
-                made::answer(
-                    alloc,
-                    out,
-                    self.held.as_slice(),
-                    &mut self.store,
-                    &mut words,
-                )
-            }
+            "import" => imports::answer(alloc, out, &self.held, &mut self.store, &mut words),
+            "made" => made::answer(alloc, out, &self.held, &mut self.store, &mut words),
             "fresh" => imports::fresh(alloc, out, &mut words),
-            "tiles" => archives::answer(alloc, out, self.held.as_slice(), &mut words),
+            "tiles" => archives::answer(alloc, out, &self.held, &mut words),
             "export" => exports::answer(alloc, out, &mut self.store),
             "ask" => asked::answer(alloc, &mut self.asked, &mut words),
             "planted" => {
                 planted::answer(
                     alloc,
                     out,
-                    self.held.as_slice(),
+                    &self.held,
                     &self.asked,
                     &mut self.last,
                     &mut words,

@@ -23,7 +23,6 @@ mod zoom_values;
 use databases::Database;
 use mb_store::MemStore;
 use rows_shared::{Rows, Words, run};
-use std::alloc::Global;
 use std::io;
 
 // What is kept from line to line.
@@ -33,40 +32,22 @@ struct Kept {
     database: Database,
 }
 
-// A call that changes the store, or is one of a database.
-fn answer_further(
-    alloc: Global,
-    out: &mut String,
-    kept: &mut Kept,
-    call: &str,
-    words: &mut Words,
-) -> Option<()> {
-    match call {
-        "insert" => inserts::answer(alloc, out, &mut kept.store, words),
-        "meta" => metadata::answer(alloc, out, &mut kept.store, words),
-        "loaded" => loaded::answer(alloc, out, &mut kept.store, words),
-        "patch" => patches::answer(alloc, out, &mut kept.store, words),
-        "reading" => readings::answer(alloc, out, &mut kept.store, words),
-        "database" => databases::answer(alloc, out, &mut kept.database, words),
-        _ => None,
-    }
-}
-
 impl Rows for Kept {
-    fn answer(
-        &mut self,
-        _rt: &HostRuntime,
-        alloc: Global,
-        out: &mut String,
-        line: &str,
-    ) -> Option<()> {
+    fn answer(&mut self, rt: &HostRuntime, out: &mut String, line: &str) -> Option<()> {
+        let alloc = rt.alloc();
         let mut words: Words = line.split_whitespace();
         match words.next()? {
             "set" => sets::answer(alloc, out, &mut self.store, &mut words),
             "read" => reads::answer(alloc, out, &mut self.store, &mut words),
             "name" => names::answer(alloc, out, &mut self.store, &mut words),
             "stream" => streams::answer(alloc, out, &mut self.store, &mut words),
-            call => answer_further(alloc, out, self, call, &mut words),
+            "insert" => inserts::answer(alloc, out, &mut self.store, &mut words),
+            "meta" => metadata::answer(alloc, out, &mut self.store, &mut words),
+            "loaded" => loaded::answer(alloc, out, &mut self.store, &mut words),
+            "patch" => patches::answer(alloc, out, &mut self.store, &mut words),
+            "reading" => readings::answer(alloc, out, &mut self.store, &mut words),
+            "database" => databases::answer(alloc, out, &mut self.database, &mut words),
+            _ => None,
         }
     }
 }

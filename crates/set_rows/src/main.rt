@@ -17,7 +17,6 @@ use databases::Database;
 use mb_store::MemStore;
 use mb_tables::TableDesc;
 use rows_shared::{Rows, Words, run};
-use std::alloc::Global;
 use std::io;
 
 // What is kept from line to line.
@@ -30,13 +29,8 @@ struct Kept {
 }
 
 impl Rows for Kept {
-    fn answer(
-        &mut self,
-        _rt: &HostRuntime,
-        alloc: Global,
-        out: &mut String,
-        line: &str,
-    ) -> Option<()> {
+    fn answer(&mut self, rt: &HostRuntime, out: &mut String, line: &str) -> Option<()> {
+        let alloc = rt.alloc();
         let mut words: Words = line.split_whitespace();
         match words.next()? {
             "store" => stores::answer(alloc, out, &mut self.store, &mut words),

@@ -23,44 +23,16 @@ mod views;
 
 use fields::Fields;
 use rows_shared::{Rows, run};
-use std::alloc::Global;
 use std::io;
 use stores::Options;
-
-fn other_case(
-    rt: &HostRuntime,
-    alloc: Global,
-    out: &mut String,
-    fields: &mut Fields,
-    call: &str,
-) -> Option<()> {
-    match call {
-        "stores" => stores::answer(alloc, out, fields),
-        "hindered" => hindered::answer(alloc, out, fields, Options::Script),
-        "said" => said::answer(alloc, out, fields),
-        "hindered-said" => hindered::answer(alloc, out, fields, Options::Set),
-        "asked" => said::asked(alloc, out, fields),
-        "views" => views::answer(alloc, out, fields),
-        "turned" => turned::answer(alloc, out, fields),
-        "many" => many::answer(alloc, out, fields),
-        "file" => on_file::answer(rt, alloc, out, fields),
-        "outcome" => answers::named(alloc, out, fields.next()),
-        _ => None,
-    }
-}
 
 // The cases. Nothing is kept from line to line.
 #[derive(Drop)]
 struct Cases;
 
 impl Rows for Cases {
-    fn answer(
-        &mut self,
-        rt: &HostRuntime,
-        alloc: Global,
-        out: &mut String,
-        line: &str,
-    ) -> Option<()> {
+    fn answer(&mut self, rt: &HostRuntime, out: &mut String, line: &str) -> Option<()> {
+        let alloc = rt.alloc();
         let mut fields = Fields::new(line);
         match fields.next() {
             "run" => in_memory::answer(alloc, out, &mut fields),
@@ -70,7 +42,17 @@ impl Rows for Cases {
             "single" => other::single(alloc, out, &mut fields),
             "streams" => other::streams(alloc, out, &mut fields),
             "versions" => other::versions(alloc, out, &mut fields),
-            call => other_case(rt, alloc, out, &mut fields, call),
+            "stores" => stores::answer(alloc, out, &mut fields),
+            "hindered" => hindered::answer(alloc, out, &mut fields, Options::Script),
+            "said" => said::answer(alloc, out, &mut fields),
+            "hindered-said" => hindered::answer(alloc, out, &mut fields, Options::Set),
+            "asked" => said::asked(alloc, out, &mut fields),
+            "views" => views::answer(alloc, out, &mut fields),
+            "turned" => turned::answer(alloc, out, &mut fields),
+            "many" => many::answer(alloc, out, &mut fields),
+            "file" => on_file::answer(rt, alloc, out, &mut fields),
+            "outcome" => answers::named(alloc, out, fields.next()),
+            _ => None,
         }
     }
 

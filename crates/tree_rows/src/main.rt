@@ -9,7 +9,6 @@ mod trees;
 use mb_store::MemStore;
 use mb_tree::{FolderTree, MemTree};
 use rows_shared::{Rows, Words, run};
-use std::alloc::Global;
 use std::io;
 
 // What is kept from line to line.
@@ -21,13 +20,8 @@ struct Kept {
 }
 
 impl Rows for Kept {
-    fn answer(
-        &mut self,
-        rt: &HostRuntime,
-        alloc: Global,
-        out: &mut String,
-        line: &str,
-    ) -> Option<()> {
+    fn answer(&mut self, rt: &HostRuntime, out: &mut String, line: &str) -> Option<()> {
+        let alloc = rt.alloc();
         let mut words: Words = line.split_whitespace();
         match words.next()? {
             "set" => sets::answer(alloc, out, &mut self.store, &mut words),
