@@ -1,43 +1,21 @@
 // Throwing tiles out of a cache by size.
-ghost use Rattle.std.specs.Prelude.{◌≡◌, ◌+◌, ◌-◌, ◌^◌, ◌<◌, true, IfErr, IfOk, Ok, OnErr, OnOk, drop, length, min, sum_by, take};
+ghost use Rattle.std.specs.Prelude.{◌≡◌, ◌+◌, ◌-◌, ◌^◌, ◌<◌, true, IfErr, IfOk, Ok, OnErr, OnOk, drop, length, min, take};
 ghost use Rattle.mb_cache.specs.Sizing.{SomeRounds, WithoutRounds, oversize, size_at, sizes_at};
 ghost use Rattle.mb_cache.specs.State.{Agrees, without};
 ghost use Rattle.mb_store.specs.Kept.{FaultsCounted, Keeps, ReadsOnly};
-ghost use Rattle.mb_store.specs.Sizes.{cell_size, live_size_of};
+ghost use Rattle.mb_store.specs.Sizes.{live_size_of};
 ghost use Rattle.mb_tables.specs.Refusals.{is_free};
 
 use crate::CacheState;
 use crate::entries::Entry;
 use crate::evicting::evict;
 use base_values::OutOfMemory;
-use mb_store::{Cell, MbtError, MbtResult, TableName, TileStore};
+use mb_store::{MbtError, MbtResult, TableName, TileStore, size_with_cells};
 use std::alloc::Global;
 use std::collections::BTreeSet;
 
 // How many entries a round throws out.
 const ROUND: usize = 64;
-
-// The bytes of a text or blob, and 8 for each other cell.
-fn size_of_cell(cell: &Cell) -> u64
-    ensures { result ≡ cell_size cell.now }
-{
-    match cell {
-        Cell::Text(text) => text.as_str().len() as u64,
-        Cell::Blob(bytes) => bytes.as_bytes().len() as u64,
-        _ => 8,
-    }
-}
-
-// A size and that of cells, at most the greatest count.
-fn with_cells(size: u64, cells: &[Cell]) -> u64
-    ensures { result ≡ min (size + sum_by cell_size cells.now) (2 ^ 64 - 1) }
-{
-    let mut sum = size;
-    for cell in cells {
-        sum = sum.saturating_add(size_of_cell(cell));
-    }
-    sum
-}
 
 // A size and that of the row of an entry, at most the greatest count.
 fn with_row_of<S: TileStore>(
@@ -53,7 +31,7 @@ fn with_row_of<S: TileStore>(
     ensures fault { FaultsCounted S.faults store.old store.new result MbtError.StoreFault }
 {
     match store.find(alloc, TableName::TileCache, &entry.key())? {
-        Some(row) => Ok(with_cells(size, row.cells())),
+        Some(row) => Ok(size_with_cells(size, row.cells())),
         None => Ok(size),
     }
 }

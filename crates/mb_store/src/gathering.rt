@@ -16,7 +16,7 @@ use crate::gathered::Gathered;
 use crate::mem_tables::MemTables;
 use crate::stored_row::StoredRow;
 use crate::table_rows::TableRows;
-use crate::{Cell, MbtError, MbtResult, Row, TableName, mem_tables, stored_row, table_rows};
+use crate::{MbtError, MbtResult, Row, TableName, mem_tables, stored_row, table_rows};
 use base_values::OutOfMemory;
 
 // Whether two tables are the same.

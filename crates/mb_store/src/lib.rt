@@ -14,6 +14,7 @@ pub mod laws;
 mod mem_store;
 mod mem_tables;
 mod reading;
+mod sizes;
 mod spread;
 mod store;
 mod stored_row;
@@ -36,4 +37,5 @@ pub use mb_tables::{
     is_normalized_tables_type, missing_tile_index,
 };
 pub use mem_store::MemStore;
+pub use sizes::size_with_cells;
 pub use store::{StoreError, TileStore};

@@ -11,7 +11,7 @@ ghost use Rattle.mb_store.specs.MemTables.{AreKeyed};
 ghost use Rattle.mb_store.specs.Sizes.{live_size_of};
 ghost use Rattle.mb_store.specs.Store.{created, is_duplicate, no_rows, with_row, without_rows};
 ghost use Rattle.mb_store.specs.Errors.{IsRowError, RefusesTwice};
-ghost use Rattle.mb_store.specs.Kept.{FaultsCounted};
+ghost use Rattle.mb_store.specs.Kept.{FaultsCounted, Keeps, ReadsOnly};
 
 use crate::by_table::ByTable;
 use crate::gathered::Gathered;
@@ -25,7 +25,7 @@ use std::alloc::Global;
 
 /// A store of tables in memory. The rows of a table stand in the order of their keys, rows of equal keys in order of arrival. A row is found, and goes to its place, by
 /// a number of comparisons that grows as the logarithm of the number of rows; so does each change of a commit. Rows of places that are pushed into an empty table are sorted once.
-#[derive(Debug)]
+#[derive(Debug, Drop)]
 pub struct MemStore {
     descriptions: Vec<TableDesc>,
     keyed: ByTable<bool>,
@@ -34,19 +34,6 @@ pub struct MemStore {
     failing: FailingCalls,
     ghost keys: { AreKeyed descriptions.items keyed },
     ghost kept: { IsHeld descriptions.items tables gathered },
-}
-
-// By hand, so that one that is let go is one step for who owned it.
-impl Drop for MemStore {
-    fn drop(self) {
-        let MemStore {
-            descriptions: _,
-            keyed: _,
-            tables: _,
-            gathered: _,
-            failing: _,
-        } = self;
-    }
 }
 
 #[tactic(auto, unfolding(crate::specs::MemStore::told_of, crate::specs::MemStore::failing_of, crate::specs::MemStore::faults_of, crate::specs::MemStore::IsSteady))]
@@ -172,13 +159,10 @@ impl TileStore for MemStore {
 
     fn describe(&mut self, alloc: Global) -> Result<Vec<TableDesc>, StoreError>
         ensures answer { IfOk result (λ tables. tables.items ≡ (told_of self.old).descriptions) }
-        ensures told { told_of self.new ≡ told_of self.old }
         ensures fails { FailsAsListed self.old result StoreError.Fault }
         ensures after { failing_of self.new ≡ called (failing_of self.old) }
-        ensures faults { faults_of self.old ≤ faults_of self.new }
+        ensures kept { ReadsOnly told_of (λ _. true) faults_of IsSteady self.old self.new }
         ensures fault { FaultsCounted faults_of self.old self.new result StoreError.Fault }
-        ensures steady { IsSteady self.old → IsSteady self.new }
-        ensures calm { IsSteady self.old → faults_of self.new ≡ faults_of self.old }
     {
         if self.failing.fails() {
             return Err(StoreError::Fault);
@@ -188,13 +172,10 @@ impl TileStore for MemStore {
 
     fn count_rows(&mut self, table: TableName) -> Result<u64, StoreError>
         ensures answer { IfOk result (λ count. count ≡ length ((told_of self.old).rows table)) }
-        ensures told { told_of self.new ≡ told_of self.old }
         ensures fails { FailsAsListed self.old result StoreError.Fault }
         ensures after { failing_of self.new ≡ called (failing_of self.old) }
-        ensures faults { faults_of self.old ≤ faults_of self.new }
+        ensures kept { ReadsOnly told_of (λ _. true) faults_of IsSteady self.old self.new }
         ensures fault { FaultsCounted faults_of self.old self.new result StoreError.Fault }
-        ensures steady { IsSteady self.old → IsSteady self.new }
-        ensures calm { IsSteady self.old → faults_of self.new ≡ faults_of self.old }
     {
         if self.failing.fails() {
             return Err(StoreError::Fault);
@@ -214,13 +195,10 @@ impl TileStore for MemStore {
             (λ rows. rows.items ≡ take limit (drop from ((told_of self.old).rows table))) }
         ensures widths { IfOk result (λ rows. All (λ row. length row ≡ width table) rows.items) }
         ensures limit { IfOk result (λ rows. length rows.items ≤ limit) }
-        ensures told { told_of self.new ≡ told_of self.old }
         ensures fails { FailsAsListed self.old result StoreError.Fault }
         ensures after { failing_of self.new ≡ called (failing_of self.old) }
-        ensures faults { faults_of self.old ≤ faults_of self.new }
+        ensures kept { ReadsOnly told_of (λ _. true) faults_of IsSteady self.old self.new }
         ensures fault { FaultsCounted faults_of self.old self.new result StoreError.Fault }
-        ensures steady { IsSteady self.old → IsSteady self.new }
-        ensures calm { IsSteady self.old → faults_of self.new ≡ faults_of self.old }
     {
         if self.failing.fails() {
             return Err(StoreError::Fault);
@@ -238,13 +216,10 @@ impl TileStore for MemStore {
         ensures answer { IfOk result
             (λ row. row ≡ find (has_key table key.now) ((told_of self.old).rows table)) }
         ensures widths { IfOk result (λ row. IfSome row (λ row. length row ≡ width table)) }
-        ensures told { told_of self.new ≡ told_of self.old }
         ensures fails { FailsAsListed self.old result StoreError.Fault }
         ensures after { failing_of self.new ≡ called (failing_of self.old) }
-        ensures faults { faults_of self.old ≤ faults_of self.new }
+        ensures kept { ReadsOnly told_of (λ _. true) faults_of IsSteady self.old self.new }
         ensures fault { FaultsCounted faults_of self.old self.new result StoreError.Fault }
-        ensures steady { IsSteady self.old → IsSteady self.new }
-        ensures calm { IsSteady self.old → faults_of self.new ≡ faults_of self.old }
     {
         if self.failing.fails() {
             return Err(StoreError::Fault);
@@ -258,10 +233,8 @@ impl TileStore for MemStore {
         ensures err { OnErr result (told_of self.new ≡ told_of self.old) }
         ensures fails { FailsAsListed self.old result StoreError.Fault }
         ensures after { failing_of self.new ≡ called (failing_of self.old) }
-        ensures faults { faults_of self.old ≤ faults_of self.new }
+        ensures kept { Keeps (λ _. true) faults_of IsSteady self.old self.new }
         ensures fault { FaultsCounted faults_of self.old self.new result StoreError.Fault }
-        ensures steady { IsSteady self.old → IsSteady self.new }
-        ensures calm { IsSteady self.old → faults_of self.new ≡ faults_of self.old }
     {
         if self.failing.fails() {
             return Err(StoreError::Fault);
@@ -278,10 +251,8 @@ impl TileStore for MemStore {
         ensures err { OnErr result (told_of self.new ≡ told_of self.old) }
         ensures fails { FailsAsListed self.old result StoreError.Fault }
         ensures after { failing_of self.new ≡ called (failing_of self.old) }
-        ensures faults { faults_of self.old ≤ faults_of self.new }
+        ensures kept { Keeps (λ _. true) faults_of IsSteady self.old self.new }
         ensures fault { FaultsCounted faults_of self.old self.new result StoreError.Fault }
-        ensures steady { IsSteady self.old → IsSteady self.new }
-        ensures calm { IsSteady self.old → faults_of self.new ≡ faults_of self.old }
     {
         if self.failing.fails() {
             return Err(StoreError::Fault);
@@ -293,13 +264,10 @@ impl TileStore for MemStore {
 
     fn live_size(&mut self) -> Result<u64, StoreError>
         ensures answer { IfOk result (λ size. size ≡ live_size_of (told_of self.old)) }
-        ensures told { told_of self.new ≡ told_of self.old }
         ensures fails { FailsAsListed self.old result StoreError.Fault }
         ensures after { failing_of self.new ≡ called (failing_of self.old) }
-        ensures faults { faults_of self.old ≤ faults_of self.new }
+        ensures kept { ReadsOnly told_of (λ _. true) faults_of IsSteady self.old self.new }
         ensures fault { FaultsCounted faults_of self.old self.new result StoreError.Fault }
-        ensures steady { IsSteady self.old → IsSteady self.new }
-        ensures calm { IsSteady self.old → faults_of self.new ≡ faults_of self.old }
     {
         if self.failing.fails() {
             return Err(StoreError::Fault);

@@ -12,7 +12,7 @@ ghost use Rattle.mb_store.specs.TableRows.{rows_in};
 ghost use Rattle.mb_store.specs.Errors.{IsRowError, RefusesTwice};
 
 use crate::by_table::ByTable;
-use crate::reading::with_rows;
+use crate::sizes::with_rows;
 use crate::table_rows::TableRows;
 use crate::{MbtError, MbtResult, Row, TableDesc, TableName, table_rows};
 use mb_tables::is_keyed;

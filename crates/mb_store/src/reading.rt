@@ -1,12 +1,11 @@
 // Reading rows in the order of their keys.
-ghost use Rattle.std.specs.Prelude.{◌≡◌, ◌+◌, ◌-◌, ◌^◌, IfOk, drop, min, sum_by, take};
-ghost use Rattle.mb_store.specs.Sizes.{cell_size, row_size};
+ghost use Rattle.std.specs.Prelude.{◌≡◌, IfOk, drop, take};
 ghost use Rattle.mb_store.specs.StoredRow.{rows_of};
 ghost use Rattle.mb_store.specs.TableRows.{rows_in};
 
+use crate::Row;
 use crate::stored_row::StoredRow;
 use crate::table_rows::TableRows;
-use crate::{Cell, Row};
 use base_values::OutOfMemory;
 use std::alloc::Global;
 use std::collections::btree_set::Iter;
@@ -69,47 +68,4 @@ pub(crate) fn listed(alloc: Global, list: Vec<StoredRow>) -> Result<Vec<Row>, Ou
         all.push(row.into_row(alloc)?)?;
     }
     Ok(all)
-}
-
-// The bytes of a text or blob, and 8 for another cell.
-fn size_of_cell(cell: &Cell) -> u64
-    ensures { result ≡ cell_size cell.now }
-{
-    match cell {
-        Cell::Text(text) => text.as_str().len() as u64,
-        Cell::Blob(blob) => blob.as_bytes().len() as u64,
-        _ => 8,
-    }
-}
-
-// A size and that of cells, at most the greatest count.
-fn with_cells(size: u64, cells: &[Cell]) -> u64
-    ensures { result ≡ min (size + sum_by cell_size cells.now) (2 ^ 64 - 1) }
-{
-    let mut sum = size;
-    for cell in cells {
-        sum = sum.saturating_add(size_of_cell(cell));
-    }
-    sum
-}
-
-// A size and that of a row, at most the greatest count.
-fn with_row(size: u64, row: &StoredRow) -> u64
-    ensures { result ≡ min (size + row_size row.now.0) (2 ^ 64 - 1) }
-{
-    let (numbers, cells) = row.parts();
-    let numbers_size = if numbers.is_some() { 24 } else { 0 };
-    with_cells(size.saturating_add(numbers_size), cells)
-}
-
-// A size and that of rows, at most the greatest count.
-pub(crate) fn with_rows(size: u64, rows: &TableRows) -> u64
-    ensures { result ≡ min (size + sum_by row_size (rows_in rows.now)) (2 ^ 64 - 1) }
-{
-    let mut rest = rows.iter();
-    let mut sum = size;
-    while let Some(row) = rest.next() {
-        sum = with_row(sum, row);
-    }
-    sum
 }

@@ -1,6 +1,6 @@
 use Rattle.std.proofs.Common.{◌≡◌, ◌+◌, ◌-◌, ◌^◌, min, take, sum_by}
 use Rattle.mb_store.specs.Sizes.{cell_size}
-use Rattle.mb_store.proofs.reading.with_cells.Given as goal
+use Rattle.mb_store.proofs.sizes.size_with_cells.Given as goal
 
 abbrev pub invariant-loop-cell : goal.invariant-loop-cell
 invariant-loop-cell l = l.sum ≡ min (l.size + sum_by cell_size (take l.cell-index l.cells)) (2 ^ 64 - 1)

@@ -1,7 +1,7 @@
 use Rattle.std.proofs.Common.{◌≡◌, ◌+◌, ◌-◌, ◌<◌, ◌^◌, length, min, sum_by}
 use Rattle.mb_store.specs.Sizes.{row_size}
 use Rattle.mb_store.specs.StoredRow.{rows_of}
-use Rattle.mb_store.proofs.reading.with_rows.Given as goal
+use Rattle.mb_store.proofs.sizes.with_rows.Given as goal
 
 -- the sum so far with the rows that are left
 abbrev pub invariant-loop-row : goal.invariant-loop-row

@@ -1,6 +1,0 @@
-use Rattle.std.proofs.Common.{◌≡◌, ◌+◌, ◌-◌, ◌^◌, min, take, sum_by}
-use Rattle.mb_store.specs.Sizes.{cell_size}
-use Rattle.mb_cache.proofs.sizing.with_cells.Given as goal
-
-abbrev pub invariant-loop-cell : goal.invariant-loop-cell
-invariant-loop-cell l = l.sum ≡ min (l.size + sum_by cell_size (take l.cell-index l.cells)) (2 ^ 64 - 1)
