@@ -1,52 +1,26 @@
 // A set by the path of its file: its name, and its methods on the store.
+use crate::reads::place;
 use mb_access::Mbtiles;
 use mb_store::TileStore;
-use rows_shared::{Words, number, said, say, say_text, text};
+use rows_shared::{Words, said, say, say_text, text};
 use std::alloc::Global;
 
+// A read of the tile at the place of the next words.
 fn tile<S: TileStore>(
     alloc: Global,
     out: &mut String,
     set: &Mbtiles,
     store: &mut S,
+    call: &str,
     words: &mut Words,
 ) -> Option<()> {
-    let zoom = number(words)?;
-    let column = number(words)?;
-    said(
-        out,
-        set.get_tile(alloc, store, zoom, column, number(words)?),
-    )
-}
-
-fn hash<S: TileStore>(
-    alloc: Global,
-    out: &mut String,
-    set: &Mbtiles,
-    store: &mut S,
-    words: &mut Words,
-) -> Option<()> {
-    let zoom = number(words)?;
-    let column = number(words)?;
-    said(
-        out,
-        set.get_tile_and_hash(alloc, store, zoom, column, number(words)?),
-    )
-}
-
-fn has<S: TileStore>(
-    alloc: Global,
-    out: &mut String,
-    set: &Mbtiles,
-    store: &mut S,
-    words: &mut Words,
-) -> Option<()> {
-    let zoom = number(words)?;
-    let column = number(words)?;
-    said(
-        out,
-        set.contains(alloc, store, zoom, column, number(words)?),
-    )
+    let (zoom, column, row) = place(words)?;
+    match call {
+        "tile" => said(out, set.get_tile(alloc, store, zoom, column, row)),
+        "hash" => said(out, set.get_tile_and_hash(alloc, store, zoom, column, row)),
+        "has" => said(out, set.contains(alloc, store, zoom, column, row)),
+        _ => None,
+    }
 }
 
 // The path, the name in it, and the path once more as it is displayed.
@@ -72,12 +46,9 @@ fn method<S: TileStore>(
     words: &mut Words,
 ) -> Option<()> {
     match call {
-        "tile" => tile(alloc, out, set, store, words),
-        "hash" => hash(alloc, out, set, store, words),
-        "has" => has(alloc, out, set, store, words),
         "type" => said(out, set.detect_type(alloc, store)),
         "index" => said(out, set.missing_tile_index(alloc, store)),
-        _ => None,
+        _ => tile(alloc, out, set, store, call, words),
     }
 }
 

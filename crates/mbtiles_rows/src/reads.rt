@@ -4,40 +4,28 @@ use mb_store::TileStore;
 use rows_shared::{Words, number, said};
 use std::alloc::Global;
 
+/// The zoom, column and row of the next words.
+pub fn place(words: &mut Words) -> Option<(u8, u32, u32)> {
+    let zoom = number(words)?;
+    let column = number(words)?;
+    Some((zoom, column, number(words)?))
+}
+
+// A read of the tile at the place of the next words.
 fn tile<S: TileStore>(
     alloc: Global,
     out: &mut String,
     store: &mut S,
+    call: &str,
     words: &mut Words,
 ) -> Option<()> {
-    let zoom = number(words)?;
-    let column = number(words)?;
-    said(out, get_tile(alloc, store, zoom, column, number(words)?))
-}
-
-fn hash<S: TileStore>(
-    alloc: Global,
-    out: &mut String,
-    store: &mut S,
-    words: &mut Words,
-) -> Option<()> {
-    let zoom = number(words)?;
-    let column = number(words)?;
-    said(
-        out,
-        get_tile_and_hash(alloc, store, zoom, column, number(words)?),
-    )
-}
-
-fn has<S: TileStore>(
-    alloc: Global,
-    out: &mut String,
-    store: &mut S,
-    words: &mut Words,
-) -> Option<()> {
-    let zoom = number(words)?;
-    let column = number(words)?;
-    said(out, contains(alloc, store, zoom, column, number(words)?))
+    let (zoom, column, row) = place(words)?;
+    match call {
+        "tile" => said(out, get_tile(alloc, store, zoom, column, row)),
+        "hash" => said(out, get_tile_and_hash(alloc, store, zoom, column, row)),
+        "has" => said(out, contains(alloc, store, zoom, column, row)),
+        _ => None,
+    }
 }
 
 pub fn answer<S: TileStore>(
@@ -47,10 +35,7 @@ pub fn answer<S: TileStore>(
     words: &mut Words,
 ) -> Option<()> {
     match words.next()? {
-        "tile" => tile(alloc, out, store, words),
-        "hash" => hash(alloc, out, store, words),
-        "has" => has(alloc, out, store, words),
         "zooms" => said(out, compute_min_max_zoom(alloc, store)),
-        _ => None,
+        call => tile(alloc, out, store, call, words),
     }
 }
