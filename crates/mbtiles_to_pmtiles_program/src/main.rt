@@ -8,8 +8,8 @@ mod saying;
 use base_values::TextVal;
 use converting::convert_files;
 use program_words::{
-    hold_streams, print, print_for, say_out_of_memory, say_output_fault, say_usage, text_of,
-    with_words, words_of,
+    hold_streams, print, print_for, say_out_of_memory, say_output_fault, say_unwritten, say_usage,
+    text_of, words_of,
 };
 use set_conversion::{ConversionOutcome, asked_of, conversion_status, conversion_text};
 use std::process::ExitCode;
@@ -72,7 +72,7 @@ fn convert_words(rt: &HostRuntime, words: &[TextVal]) -> ConversionOutcome {
 
 fn run_words(rt: &HostRuntime, words: &[TextVal]) -> u8 {
     match text_of(words, HELP, VERSION) {
-        Some(text) => with_words(rt, TOOL, print_for(rt, text, 0)),
+        Some(text) => say_unwritten(rt, TOOL, print_for(rt, text, 0)),
         None => conversion_status(&tell(rt, convert_words(rt, words))),
     }
 }

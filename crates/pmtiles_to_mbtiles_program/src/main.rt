@@ -7,7 +7,7 @@ use mb_store::{MbtError, MbtType};
 use pm_format::FileBackend;
 use program_words::{
     Put, Taken, hold_streams, print_for, put_beside, remove_made, say_beside_fault, say_opening,
-    say_out_of_memory, say_source_fault, say_usage, take_beside, text_of, with_words, words_of,
+    say_out_of_memory, say_source_fault, say_unwritten, say_usage, take_beside, text_of, words_of,
 };
 use set_import::{import_as_said, import_status, limit_of};
 use sqlite::{Connection, Error, ErrorCode};
@@ -182,7 +182,7 @@ fn make_at(rt: &HostRuntime, source: &mut FileBackend, from: &str, to: &str, lim
     match take_beside(rt, TOOL, to) {
         Taken::Made(beside) => make(rt, source, (from, to), beside.as_str(), limit),
         Taken::There => 1,
-        Taken::Failed => with_words(rt, TOOL, print_for(rt, "store fault\n", 6)),
+        Taken::Failed => say_unwritten(rt, TOOL, print_for(rt, "store fault\n", 6)),
     }
 }
 
@@ -190,7 +190,7 @@ fn make_at(rt: &HostRuntime, source: &mut FileBackend, from: &str, to: &str, lim
 fn convert(rt: &HostRuntime, from: &str, to: &str, limit: u64) -> u8 {
     let Ok(mut source) = FileBackend::open(rt, from) else {
         say_source_fault(rt, TOOL, from);
-        return with_words(rt, TOOL, print_for(rt, "source fault\n", 6));
+        return say_unwritten(rt, TOOL, print_for(rt, "source fault\n", 6));
     };
     match logs_status(rt, to) {
         0 => make_at(rt, &mut source, from, to, limit),
@@ -221,7 +221,7 @@ fn status_of(rt: &HostRuntime) -> u8 {
         Ok(Some(words)) => words,
     };
     match text_of(words.as_slice(), HELP, VERSION) {
-        Some(text) => with_words(rt, TOOL, print_for(rt, text, 0)),
+        Some(text) => say_unwritten(rt, TOOL, print_for(rt, text, 0)),
         None => run_words(rt, words.as_slice()),
     }
 }

@@ -17,7 +17,7 @@ pub use beside::{Put, Taken, put_beside, remove_made, say_beside_fault, take_bes
 pub use destination::{Before, leave_destination, say_medium_fault, take_destination};
 pub use over::{are_one_file, put_over, take_over};
 pub use said::{
-    say_opening, say_out_of_memory, say_output_fault, say_source_fault, say_usage, with_words,
+    say_opening, say_out_of_memory, say_output_fault, say_source_fault, say_unwritten, say_usage,
 };
 use std::alloc::{AllocError, Global};
 use std::env;

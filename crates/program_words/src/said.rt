@@ -35,7 +35,7 @@ pub fn say_output_fault(rt: &HostRuntime, tool: &str) {
 }
 
 /// Says that a text can't be written, where that is the status, and gives the status.
-pub fn with_words(rt: &HostRuntime, tool: &str, status: u8) -> u8 {
+pub fn say_unwritten(rt: &HostRuntime, tool: &str, status: u8) -> u8 {
     if status == OUTPUT_FAULT {
         say_output_fault(rt, tool);
     }

@@ -5,7 +5,7 @@ use base_values::TextVal;
 use pm_format::{FileBackend, FileMedium};
 use program_words::{
     Before, hold_streams, leave_destination, print_for, say_medium_fault, say_opening,
-    say_out_of_memory, say_source_fault, say_usage, take_destination, text_of, with_words,
+    say_out_of_memory, say_source_fault, say_unwritten, say_usage, take_destination, text_of,
     words_of,
 };
 use std::process::ExitCode;
@@ -113,10 +113,10 @@ fn extract_files(rt: &HostRuntime, from: &str, to: &str, words: &[TextVal]) -> u
     let fault = extract_status(&medium_fault());
     let Ok(mut source) = FileBackend::open(rt, from) else {
         say_source_fault(rt, TOOL, from);
-        return with_words(rt, TOOL, print_for(rt, "source fault\n", fault));
+        return say_unwritten(rt, TOOL, print_for(rt, "source fault\n", fault));
     };
     let Some(before) = take_destination(rt, TOOL, to) else {
-        return with_words(rt, TOOL, print_for(rt, "medium fault\n", fault));
+        return say_unwritten(rt, TOOL, print_for(rt, "medium fault\n", fault));
     };
     extract_status(&extract_taken(rt, &mut source, (from, to), words, before))
 }
@@ -139,7 +139,7 @@ fn status_of(rt: &HostRuntime) -> u8 {
         Ok(Some(words)) => words,
     };
     match text_of(words.as_slice(), HELP, VERSION) {
-        Some(text) => with_words(rt, TOOL, print_for(rt, text, 0)),
+        Some(text) => say_unwritten(rt, TOOL, print_for(rt, text, 0)),
         None => run_words(rt, words.as_slice()),
     }
 }

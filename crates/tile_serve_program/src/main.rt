@@ -6,7 +6,7 @@ use byte_streams::{StdSink, StdSource};
 use pm_format::FileBackend;
 use program_words::{
     hold_streams, print_for, say_opening, say_out_of_memory, say_output_fault, say_source_fault,
-    say_usage, text_of, with_words, words_of,
+    say_unwritten, say_usage, text_of, words_of,
 };
 use std::process::ExitCode;
 use tile_serve::{ServeError, ServeOutcome, run_serve, serve_status};
@@ -46,7 +46,7 @@ fn serve_file(rt: &HostRuntime, path: &str, words: &[TextVal]) -> u8 {
     let Ok(mut source) = FileBackend::open(rt, path) else {
         say_source_fault(rt, TOOL, path);
         let fault = serve_status(&ServeOutcome::Refused(ServeError::Fault));
-        return with_words(rt, TOOL, print_for(rt, "source fault\n", fault));
+        return say_unwritten(rt, TOOL, print_for(rt, "source fault\n", fault));
     };
     let mut input = StdSource::new(rt.stdin());
     let mut output = StdSink::new(rt.stdout());
@@ -99,7 +99,7 @@ fn status_of(rt: &HostRuntime) -> u8 {
         Ok(Some(words)) => words,
     };
     match text_of(words.as_slice(), HELP, VERSION) {
-        Some(text) => with_words(rt, TOOL, print_for(rt, text, 0)),
+        Some(text) => say_unwritten(rt, TOOL, print_for(rt, text, 0)),
         None => run_words(rt, words.as_slice()),
     }
 }

@@ -5,7 +5,7 @@ use base_values::TextVal;
 use pm_format::FileBackend;
 use program_words::{
     OUT_OF_MEMORY, hold_streams, print_for, say_opening, say_out_of_memory, say_source_fault,
-    say_usage, text_of, with_words, words_of,
+    say_unwritten, say_usage, text_of, words_of,
 };
 use std::process::ExitCode;
 use tile_verify::{VerifyError, VerifyOutcome, run_verify, verify_line, verify_status};
@@ -99,7 +99,7 @@ fn run_words(rt: &HostRuntime, words: &[TextVal]) -> u8 {
         Some((path, rest)) => {
             let outcome = verify_file(rt, path.as_str(), rest);
             say_outcome(rt, path.as_str(), &outcome);
-            with_words(rt, TOOL, tell(rt, &outcome))
+            say_unwritten(rt, TOOL, tell(rt, &outcome))
         }
         None => {
             say_usage(rt, TOOL);
@@ -115,7 +115,7 @@ fn status_of(rt: &HostRuntime) -> u8 {
         Ok(Some(words)) => words,
     };
     match text_of(words.as_slice(), HELP, VERSION) {
-        Some(text) => with_words(rt, TOOL, print_for(rt, text, 0)),
+        Some(text) => say_unwritten(rt, TOOL, print_for(rt, text, 0)),
         None => run_words(rt, words.as_slice()),
     }
 }
