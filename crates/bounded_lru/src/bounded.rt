@@ -1,5 +1,5 @@
 // Pairs within two bounds, the latest used first.
-ghost use Rattle.std.specs.Prelude.{◌≡◌, ◌≤◌, [], None, Some, IfOk, IfSome, is_some, nat_eq, option_copied, option_map, slice_get};
+ghost use Rattle.std.specs.Prelude.{◌≡◌, ◌≤◌, [], None, Some, IfNone, IfOk, IfSome, is_some, nat_eq, option_copied, option_map, slice_get};
 ghost use Rattle.std.specs.Map.{lookup};
 ghost use Rattle.bounded_lru.specs.Bounded.{IsWithin, Puts, bounded, used, weight_of as weight_of_pairs};
 
@@ -57,9 +57,13 @@ impl<V: Weigh> BoundedLru<V> {
     pub fn weight(&self) -> u64
         ensures limited { IfSome self.now.limit
             (λ _. result ≡ weight_of_pairs V.weight self.now.pairs) }
+        ensures unlimited { IfNone self.now.limit (result ≡ 0) }
         ensures within { IsWithin V.weight self.now }
     {
-        self.weight
+        match self.limit {
+            None => 0,
+            Some(_) => self.weight,
+        }
     }
 
     /// Makes the pair of a key the latest used, and says whether there is one.
