@@ -3,24 +3,25 @@
 
     tools/safety_table.py
 
-A call's refusals are the variants of error enums that its documentation and its clauses name, and `OutOfMemory` where its error has it. Its clauses are told apart by what they speak of: those
-on the answer alone, and those on what stands afterwards. The programs of rows that call it are found by its name in their sources, and whether one of them has objects fail call by call, by its
-lines. What is tried with refused memory stands in
-tools/refused_memory.py; of its rows those count that are in the page's table. A call without a clause on what stands, that takes an object to write on, or without a program is marked by `none`.
-Whatever stands between the two marks of docs/SAFETY.md is written anew.
+A call's refusals are the variants of error enums that its documentation, its clauses, its body and the bodies of the functions below it name, as far as these aren't public calls: of those with the
+same error it has `those of` the call, where they have a refusal more. `StoreFault` is named too where a store is asked, and `OutOfMemory` where the error has it. Its clauses are told apart by what
+they speak of: those on the answer alone, and those on what stands afterwards. The programs of rows that call it are found by its name in their sources, and whether one of them has objects fail call
+by call, by its lines. What is tried with refused memory stands in tools/refused_memory.py; of its rows those count that are in the page's table. A call without a clause on what stands, that takes an
+object to write on, or without a program is marked by `none`. Whatever stands between the two marks of docs/SAFETY.md is written anew.
 """
+import functools
 import os
 import re
 
 import refused_memory
+import specs
 
 TOP = os.path.dirname(os.path.dirname(os.path.abspath(__file__)))
 CRATES = os.path.join(TOP, 'crates')
 PROGRAMS = ('_rows', '_program')
 SHARED = ('refused', 'refused_sets', 'rows_shared', 'archive_words', 'set_words', 'program_words')
 # Errors that are listed whole: those of the objects of the outside, and those of calls that one of their own belongs to.
-WHOLE = ('ReadFault', 'WriteFault', 'SinkFault', 'StoreError', 'TreeError', 'InputError', 'ConvertError', 'ImportError', 'ExtractError', 'ServeError', 'Outcome', 'VerifyOutcome', 'ServeOutcome',
-         'ExtractOutcome')
+WHOLE = ('ReadFault', 'WriteFault', 'SinkFault', 'StoreError', 'TreeError', 'InputError', 'ConvertError', 'ImportError', 'ExtractError', 'Outcome', 'VerifyOutcome', 'ServeOutcome', 'ExtractOutcome')
 # Words of clauses that name a refusal.
 NAMING = {'IsUnfailing': 'StoreFault'}
 # Calls of a crate by whose name a program calls one of another crate.
@@ -28,6 +29,7 @@ OTHERS = {('import_rows', 'mb_metadata', 'get_metadata')}
 BEGIN, END = '<!-- tables: tools/safety_table.py -->', '<!-- end of the tables -->'
 
 
+@functools.lru_cache(None)
 def text(path):
     with open(path, encoding='utf-8') as file:
         return file.read()
@@ -40,6 +42,7 @@ def sources(crate):
                 yield os.path.join(at, name)
 
 
+@functools.lru_cache(None)
 def crate_names():
     lines = (line.split('#')[0] for line in text(f'{TOP}/crates.txt').splitlines())
     return [line.split(':')[0].split()[0] for line in lines if ':' in line]
@@ -55,6 +58,7 @@ def errors():
     return found
 
 
+@functools.lru_cache(None)
 def exported(crate):
     """The names that a crate lends to others."""
     names = set()
@@ -64,10 +68,11 @@ def exported(crate):
 
 
 class Call:
-    """A public call: its head, its documentation and its clauses."""
+    """A function: its head, its documentation, its clauses and its body, and whether it is a public call."""
 
-    def __init__(self, crate, owner, block, name, head, words, clauses):
+    def __init__(self, crate, owner, block, name, head, words, clauses, body, public):
         self.crate, self.owner, self.block, self.name, self.head, self.words, self.clauses = crate, owner, block, name, head, words, clauses
+        self.body, self.public = body, public
 
     def plain(self):
         return f'{self.owner}::{self.name}' if self.owner else self.name
@@ -91,15 +96,36 @@ class Call:
         found = re.search(r'^(?:io::)?Result<.*?(\w+)>$', answer)
         return found[1] if found else answer if answer.endswith('Outcome') else None
 
-    def refusals(self, known):
-        error = self.error()
-        variants = known.get(error, [])
+    def variants(self, known):
+        return [it for it in known.get(self.error(), []) if it != 'OutOfMemory' and not (self.error().endswith('Outcome') and it == 'Done')]
+
+    def named(self, known):
+        """The refusals that its documentation and its clauses name."""
         said = self.words + ' '.join(re.sub(r'≢ (Err )?\w+\.\w+', '', body) for _, body in self.clauses)
         said += ''.join(f' {it}' for word, it in NAMING.items() if word in said)
-        named = [it for it in variants if (error in WHOLE or re.search(rf'\b{it}\b', said)) and it != 'OutOfMemory' and not (error.endswith('Outcome') and it == 'Done')]
-        handed = [f'those of {it}' for it in dict.fromkeys(re.findall(r'(?:refusals of|those of) (`[\w:]+`)', self.words))]
+        return {it for it in self.variants(known) if self.error() in WHOLE or re.search(rf'(?<!causes\.)\b{it}\b', said)}
+
+    def own(self, below, known):
+        """The refusals that it names itself, and those of the bodies below it, as long as its documentation doesn't list all tests in their order."""
+        return self.named(known) | (below & {'StoreFault'} if re.search(r'\b1\. ', self.words) else below)
+
+    def refusals(self, known):
+        error = self.error()
+        own, handed = below_call(self, known)
+        own = self.own(own, known)
+        named = [it for it in self.variants(known) if it in own]
+        said = dict.fromkeys(re.findall(r'(?:refusals of|those of) `([\w:]+)`', self.words))
+        said = {name for name in said if not any(name in (it.plain(), it.name) for it in handed)}
+        for name in said:
+            handed += [it for it in asked_by(self.crate).get(name.split('::')[-1], []) if it.public and it.error() == error and name in (it.plain(), it.name)][:1]
+        others = []
+        for it in sorted(handed, key=lambda it: (-len(all_refusals(it, known)), it.plain())):
+            if all_refusals(it, known) - own - set().union(*(all_refusals(other, known) for other in others)):
+                others.append(it)
+        more = [f'those of `{name}`' for name in sorted(dict.fromkeys(f'{it.plain()}` of `{it.crate}' if it.plain() == self.plain() else it.plain() for it in others))]
+        variants = known.get(error, [])
         last = ['`OutOfMemory`'] if 'OutOfMemory' in variants or error in ('OutOfMemory', 'AllocError') else [f'`{error}`'] if error in ('MediumFault', 'SourceFault') else []
-        return ', '.join([f'`{it}`' for it in named] + handed + last)
+        return ', '.join([f'`{it}`' for it in named] + more + last)
 
     def writes(self):
         return bool(re.search(r"&(?:'\w+ )?mut", self.head.split('->')[0].replace('steps: &mut', '')))
@@ -113,7 +139,14 @@ class Call:
 
 def calls_of(crate):
     """The public calls of a crate: those of exported names, those of exported types, and the methods of exported traits."""
+    return [it for it in functions_of(crate) if it.public]
+
+
+@functools.lru_cache(None)
+def functions_of(crate):
+    """The functions of a crate."""
     names = exported(crate)
+    found = []
     for path in sources(crate):
         source = text(path)
         lines = source.splitlines(keepends=True)
@@ -126,22 +159,86 @@ def calls_of(crate):
                 is_trait_impl = ' for ' in line
             elif line == '}':
                 owner = ''
-            found = re.match(r'( *)(pub (?:const )?)?(?:final )?fn (\w+)', line)
+            head = re.match(r'( *)(pub(?:\(crate\))? (?:const )?)?(?:final )?fn (\w+)', line)
             if re.match(r' *///', line):
                 words.append(line.strip()[3:])
-            elif found:
-                inner = bool(found[1])
-                public = bool(found[2]) or inner and is_trait
-                head, clauses = read_call(source[place - len(line) - 1:])
-                if public and (owner in names and not (inner and not is_trait and is_trait_impl) if inner else found[3] in names):
-                    yield Call(crate, owner if inner else '', opening if inner else '', found[3], head, ' '.join(words), clauses)
+            elif head:
+                inner = bool(head[1])
+                shown = (head[2] or '').startswith('pub ') or inner and is_trait
+                public = shown and (owner in names and not (inner and not is_trait and is_trait_impl) if inner else head[3] in names)
+                told, clauses, body = read_call(source[place - len(line) - 1:])
+                found.append(Call(crate, owner if inner else '', opening if inner else '', head[3], told, ' '.join(words), clauses, body, public))
                 words = []
             elif not re.match(r' *(#\[|//)', line):
                 words = []
+    return found
+
+
+@functools.lru_cache(None)
+def asked_by(crate):
+    """The functions that a crate may call, by name: its own, and the public ones of the crates that it names."""
+    found = {}
+    for it in functions_of(crate):
+        found.setdefault(it.name, []).append(it)
+    for other in sorted(direct()[crate]):
+        for it in calls_of(other):
+            found.setdefault(it.name, []).append(it)
+    return found
+
+
+def callees(call):
+    """The functions that a body calls: by `Type::name`, by `name` alone, or as methods."""
+    asked = asked_by(call.crate)
+    for before, name in re.findall(r'(\w+::|\w*\.)?\b([a-z]\w*)(?:::<[^;{]*?>)?\(', call.body):
+        if before.endswith('::') and (before[0].isupper()):
+            owner = call.owner if before == 'Self::' else before[:-2]
+            found = [it for it in asked.get(name, []) if it.owner == owner]
+        elif before.endswith('.'):
+            found = [it for it in asked.get(name, []) if it.owner]
+            near = before[:-1].lower()
+            found = [it for it in found if near == 'self' and it.owner == call.owner] or [it for it in found if near and near != 'self' and near in it.owner.lower()] or found
+        else:
+            found = [it for it in asked.get(name, []) if not it.owner]
+            crate = before[:-2] if before[:-2] in crate_names() else call.crate
+            found = [it for it in found if it.crate == crate] or found
+        yield from (it for it in found if it is not call)
+
+
+def below_call(call, known):
+    """The refusals that a body and the bodies below it name, up to public calls, and these."""
+    error = call.error()
+    own, handed, seen, open_ = set(), [], [call], [call]
+    while open_:
+        at = open_.pop()
+        named = set(re.findall(rf'\b{error}::(\w+)\b(?!\([^()]*\) *(?:=>|\|)|(?: \{{[^}}]*\}})? *(?:=>|\|)|\)+ *(?:=>|\|))', at.body))
+        own |= named & set(call.variants(known))
+        for it in callees(at):
+            if it.error() == 'StoreError' and it.owner == 'TileStore' and 'StoreFault' in known.get(error, []):
+                own.add('StoreFault')
+            if it in seen or it.error() is None:
+                continue
+            seen.append(it)
+            if it.public and it.error() == error:
+                handed.append(it)
+            elif it.crate == call.crate and not it.public:
+                open_.append(it)
+    return own, handed
+
+
+ALL = {}
+
+
+def all_refusals(call, known):
+    """All refusals of a call, with those of the calls below it."""
+    if call not in ALL:
+        ALL[call] = call.named(known)
+        own, handed = below_call(call, known)
+        ALL[call] = call.own(own, known).union(*(all_refusals(it, known) for it in handed))
+    return ALL[call]
 
 
 def read_call(source):
-    """The head of the call that a text begins with, and its clauses by name."""
+    """The head of the call that a text begins with, its clauses by name, and its body."""
     source = re.sub(r'//.*', '', source[:20000])
     at, depth, head, clauses = 0, 0, None, []
     while at < len(source):
@@ -164,7 +261,11 @@ def read_call(source):
             break
         at += 1
     head = ' '.join((source[:at] if head is None else head).split())
-    return head.split(' where ')[0].strip(), clauses
+    end, open_ = at + 1, 1 if source[at:at + 1] == '{' else 0
+    while open_ and end < len(source):
+        open_ += {'{': 1, '}': -1}.get(source[end], 0)
+        end += 1
+    return head.split(' where ')[0].strip(), clauses, source[at:end]
 
 
 def called(crate):
@@ -190,21 +291,15 @@ def failing(crate):
     return bool(re.search(r'^(?:\w+ )?(?:fail|hindered|each|import medium)\b', text(f'{CRATES}/{crate}/stdin'), re.M)) if os.path.exists(f'{CRATES}/{crate}/stdin') else False
 
 
+@functools.lru_cache(None)
+def direct():
+    """The crates that each crate names in crates.txt."""
+    return {name: [it for it in needs if it in crate_names()] for name, needs in specs.crate_lines(TOP).items()}
+
+
 def below():
     """The crates below each crate, by crates.txt."""
-    needs = {}
-    for line in text(f'{TOP}/crates.txt').splitlines():
-        line = line.split('#')[0]
-        if ':' in line:
-            name, rest = line.split(':', 1)
-            needs[name.split()[0]] = rest.split()
-    def all_below(name, seen):
-        for it in needs.get(name, []):
-            if it not in seen:
-                seen.add(it)
-                all_below(it, seen)
-        return seen
-    return {name: all_below(name, set()) for name in needs}
+    return {name: specs.below(specs.crate_lines(TOP), name) for name in crate_names()}
 
 
 def cell(items):
