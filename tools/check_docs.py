@@ -1,70 +1,270 @@
 #!/usr/bin/env python3
-"""Checks what the documents name: definitions in docs/DEFINITIONS.md stand in the crate and file beside them, crates and
-files of docs/ARCHITECTURE.md are there, and each crate has a row. Prints a line for each place that is wrong."""
+"""Checks what the documents name and count against the sources, and prints a line for each place that is wrong.
+
+    tools/check_docs.py
+
+- A path has to be there: a file named in a row or a README of a crate in that crate, under the folder that stands before it.
+- A name has to be defined: in the file of its row (docs/DEFINITIONS.md), in the crate that it is given as of, and else somewhere in the sources.
+- The table of files behind `tileset::run` in docs/TRUST.md is what tools/behind_run.py prints, and the kit's crates there are those of crates.txt.
+- The tables of docs/SAFETY.md are what tools/safety_table.py writes, and the labels of docs/DEFINITIONS.md those that tools/labels.py counts.
+- No line is longer than 120 columns, but those of tables.
+"""
 import glob
 import os
 import re
 import sys
 
-TOP = os.path.dirname(os.path.dirname(os.path.abspath(__file__)))
+import behind_run
+import labels
+import safety_table
+import specs
+from specs import TOP
+
+# Names of std, of the kit, of databases and of other programs, which no source here defines.
+FOREIGN = set("""
+    BTreeMap Connection Connection::open Connection::query Copy Data Disk Err FinMap HANDLES Ok Some Transaction::query alloc b8fe6c3923a44bbe cp decode_of encode_lower
+    hex_digit_value i impl jpeg malloc_consolidate mbtiles n on open_files perf pmtiles proofs python3 requires result rt specs sqlite3 sqlite_master src static stdin stdout t
+    Display Examples PMxxxxx the_type u32 u64 u64::from u8 unknown
+""".split())
+# Pages that name what others have, or what was tried: the crates beside these names, the toolchain, older bodies.
+LOOSE = ("docs/DIFFERENCES.md", "docs/PROOFS.md", "docs/SCRIPT.md", "CHANGELOG.md")
+NAME = re.compile(r"[A-Za-z_]\w*(?:::[A-Za-z_]\w*)*")
+LISTED = re.compile(r"((?:`[^`]+`(?:, | and | or ))*)`([^`]+)` (?:of|in) (?:the crate )?`(\w+)`")
 
 
-def text(path):
-    with open(os.path.join(TOP, path), encoding="utf-8") as file:
-        return file.read()
+def pages():
+    """The documents: those of the project, and the README of each crate."""
+    paths = ["README.md", "CONTRIBUTING.md", "CHANGELOG.md", *glob.glob("docs/*.md", root_dir=TOP), *glob.glob("crates/*/README.md", root_dir=TOP)]
+    return {path: specs.text(f"{TOP}/{path}") for path in sorted(paths)}
 
 
 def crates():
-    return [line.split(":")[0].split()[0] for line in text("crates.txt").splitlines() if ":" in line and not line.startswith("#")]
+    return list(specs.crate_lines())
 
 
-def is_defined(name, specs):
-    """Whether a name is defined in a spec's text: as a word of its own, by its own line or as a field."""
-    return re.search(rf"^\s*(?:pub |abbrev |record |data |unfoldable )*{re.escape(name)}\b", specs, re.M) is not None
+def lines(page):
+    return enumerate(page.splitlines(), 1)
 
 
-def definitions():
-    wrong = []
-    crate = None
-    known = crates()
-    for number, line in enumerate(text("docs/DEFINITIONS.md").splitlines(), 1):
+def quoted(line):
+    return re.findall(r"`([^`]+)`", line)
+
+
+def is_there(path):
+    return os.path.exists(os.path.join(TOP, path))
+
+
+def definitions(docs):
+    """The rows of docs/DEFINITIONS.md: each name in a file of its row."""
+    wrong, crate = [], None
+    for number, line in lines(docs["docs/DEFINITIONS.md"]):
+        place = f"docs/DEFINITIONS.md:{number}"
         if line.startswith("## "):
-            crate = line[3:].strip().split(",")[0]
-        elif line.startswith("| `") and crate in known:
+            crate = line[3:].strip()
+        elif line.startswith("| `") and crate in crates():
             cells = [cell.strip() for cell in line.strip("|").split("|")]
-            names = re.findall(r"`([^`]+)`", cells[0])
-            files = re.findall(r"`([\w/]+\.antt)`", cells[1])
-            specs = ""
-            for file in files:
-                path = f"crates/{crate}/specs/{file}"
-                if os.path.exists(os.path.join(TOP, path)):
-                    specs += text(path)
-                else:
-                    wrong.append(f"docs/DEFINITIONS.md:{number}: no file {path}")
-            wrong += [f"docs/DEFINITIONS.md:{number}: no {name} in {crate}: {', '.join(files)}" for name in names if specs and not is_defined(name, specs)]
+            files = [f"crates/{crate}/specs/{file}" for file in re.findall(r"`([\w/]+\.antt)`", cells[1])]
+            wrong += [f"{place}: no file {file}" for file in files if not is_there(file)]
+            found = set()
+            for file in filter(is_there, files):
+                found |= set(specs.blocks(f"{TOP}/{file}")) | set(specs.owners(f"{TOP}/{file}"))
+            wrong += [f"{place}: no {name} in {', '.join(files)}" for name in quoted(cells[0]) if name not in found]
     return wrong
 
 
-def architecture():
-    wrong = []
-    page = text("docs/ARCHITECTURE.md")
+def file_at(token, state):
+    """The file that a path names, by the crate and the folder of the path before it."""
+    parts = token.split("/")
+    if parts[0] in crates():
+        state["crate"], parts = parts[0], parts[1:]
+        state["folder"] = None
+    crate = state.get("crate")
+    if not crate or not parts:
+        return None
+    if parts[0] in ("src", "specs", "proofs", "must-fail"):
+        found = "/".join(parts)
+    else:
+        found = f"{'specs' if token.endswith('.antt') else 'src'}/{'/'.join(parts)}"
+        near = f"{state.get('folder')}/{token}"
+        if state.get("folder") and is_there(f"crates/{crate}/{near}") and not is_there(f"crates/{crate}/{found}"):
+            found = near
+    state["folder"] = os.path.dirname(found)
+    return f"crates/{crate}/{found}"
+
+
+def architecture(docs):
+    """The rows of docs/ARCHITECTURE.md: files in their crates, and names behind a file in its crate."""
+    wrong, page = [], docs["docs/ARCHITECTURE.md"]
     for crate in crates():
         if f"`{crate}`" not in page:
             wrong.append(f"docs/ARCHITECTURE.md: no row for {crate}")
-        if not os.path.exists(os.path.join(TOP, f"crates/{crate}/README.md")):
+        if f"crates/{crate}/README.md" not in docs:
             wrong.append(f"crates/{crate}/README.md: missing")
-    names = {os.path.basename(path) for path in glob.glob(f"{TOP}/crates/*/*/**/*.rt", recursive=True)}
-    names |= {os.path.basename(path) for path in glob.glob(f"{TOP}/crates/*/specs/**/*.antt", recursive=True)}
-    for number, line in enumerate(page.splitlines(), 1):
-        for name in re.findall(r"`(?:[\w/]*/)?(\w+\.(?:rt|antt))`", line):
-            if name not in names:
-                wrong.append(f"docs/ARCHITECTURE.md:{number}: no file {name}")
+    of_crates = False
+    for number, line in lines(page):
+        if not line.startswith("| "):
+            of_crates = False if not line.startswith("|") else of_crates
+            continue
+        of_crates = of_crates or line.startswith("| Crate |")
+        first = line.split("|")[1].strip()
+        several = quoted(first) if re.fullmatch(r"`\w+`(?:, `\w+`)*", first) else []
+        wrong += [f"docs/ARCHITECTURE.md:{number}: no crate {it}" for it in several if of_crates and it not in crates()]
+        several = [it for it in several if it in crates()]
+        state = {"crate": several[0]} if several else {}
+        for token, behind in re.findall(r"`([^`]+)`(?: \((`\w+`(?:, `\w+`)*)\))?", line):
+            if not re.fullmatch(r"[\w/.-]+\.(?:rt|antt)", token):
+                continue
+            if len(several) > 1:
+                found = [f"crates/{crate}/src/{token}" for crate in several]
+            else:
+                found = [file_at(token, state)] if several or token != "main.rt" else []
+            for path in found:
+                if not path or not is_there(path):
+                    wrong.append(f"docs/ARCHITECTURE.md:{number}: no file {path or token}")
+            if state.get("crate"):
+                wrong += [f"docs/ARCHITECTURE.md:{number}: no {name} in {state['crate']}" for name in quoted(behind) if not specs.crate(state["crate"]).has(name)]
     return wrong
 
 
+def paths(docs):
+    """Paths in the other documents."""
+    wrong = []
+    everywhere = {os.path.basename(file) for crate in crates() for file in specs.crate(crate).files}
+    for page, body in docs.items():
+        own = page.split("/")[1] if page.startswith("crates/") else None
+        for number, line in lines(body):
+            for token in quoted(line):
+                path = None
+                if re.fullmatch(r"(?:crates|tools|docs|bin|examples)/[\w/.-]*\w", token):
+                    path = token
+                elif re.fullmatch(r"\w+/[\w/.-]+\.(?:rt|antt)", token):
+                    path = file_at(token, {"crate": own})
+                elif own and re.fullmatch(r"\w+\.(?:rt|antt)", token) or re.fullmatch(r"[A-Z]\w+\.antt|\w+\.rt", token):
+                    if token not in everywhere:
+                        path = token
+                elif re.fullmatch(r"\w+\.py", token):
+                    path = f"tools/{token}"
+                if path and not is_there(path) and not (page == "docs/ARCHITECTURE.md" and not path.startswith(("tools", "bin", "docs"))):
+                    wrong.append(f"{page}:{number}: no file {path}")
+    return wrong
+
+
+def names(docs):
+    """Names: each defined somewhere, and in the crate that it is given as of."""
+    wrong = []
+    index = {crate: specs.crate(crate) for crate in crates()}
+    members = {}
+    for crate in index.values():
+        for owner, found in crate.members.items():
+            members.setdefault(owner, set()).update(found)
+    defined = set().union(*(it.names | it.labels for it in index.values()), index, behind_run.kit_crates())
+    for path in glob.glob(f"{TOP}/tools/*.py"):
+        defined |= set(re.findall(r"\bdef (\w+)|^([A-Z_]+) =", specs.text(path), re.M)) and {it for pair in re.findall(r"\bdef (\w+)|^([A-Z_]+) =", specs.text(path), re.M) for it in pair}
+    for page, body in docs.items():
+        for number, line in lines(body):
+            place = f"{page}:{number}"
+            for before, last, crate in LISTED.findall(line):
+                known = index.get(crate)
+                if known and NAME.fullmatch(last) and not known.has(last) and last not in known.labels:
+                    wrong.append(f"{place}: no {last} in {crate}")
+                if known:
+                    wrong += [f"{place}: no {it} in {crate}" for it in quoted(before) if NAME.fullmatch(it) and not known.has(it) and it not in known.labels and it not in defined]
+            for token in quoted(line):
+                if not NAME.fullmatch(token) or token in FOREIGN:
+                    continue
+                parts = token.split("::")
+                if len(parts) > 1 and parts[0] in index:
+                    if not index[parts[0]].has(token):
+                        wrong.append(f"{place}: no {token}")
+                elif page in LOOSE or page.startswith("crates/"):
+                    continue
+                elif not all(it in defined for it in parts):
+                    wrong.append(f"{place}: {token} is defined nowhere")
+                elif len(parts) > 1 and parts[-2] in members and parts[-1] not in members[parts[-2]]:
+                    wrong.append(f"{place}: no {parts[-1]} in {parts[-2]}")
+    return wrong
+
+
+def readmes(docs):
+    """The tables `Call | Clause` of the crates' READMEs: each call is one of the crate."""
+    wrong = []
+    for page, body in docs.items():
+        if not page.startswith("crates/"):
+            continue
+        crate, in_table = specs.crate(page.split("/")[1]), False
+        for number, line in lines(body):
+            if not line.startswith("|"):
+                in_table = False
+            elif re.match(r"\| Calls? \|", line):
+                in_table = True
+            elif in_table:
+                cell = re.sub(r"`[^`]+` of `\w+`", "", line.split("|")[1])
+                wrong += [f"{page}:{number}: no {name} in {crate.name}" for name in quoted(cell) if NAME.fullmatch(name) and name not in FOREIGN and not crate.has(name)]
+    return wrong
+
+
+def trust(docs):
+    """docs/TRUST.md: the table of files behind `run`, and the kit's crates."""
+    page = docs["docs/TRUST.md"]
+    wrong = []
+    fresh, shown = behind_run.table().splitlines(), behind_run.between(page).splitlines()
+    for line in fresh:
+        if line not in shown:
+            wrong.append(f"docs/TRUST.md: not as tools/behind_run.py prints it, which has: {line[:200]}")
+    wrong += [f"docs/TRUST.md: a line that tools/behind_run.py doesn't print: {line[:200]}" for line in shown if line not in fresh]
+    said = re.search(r"\*\*The contracts of the crates\*\*(.*?)(?:\n- |\n\n)", page, re.S)
+    named = set(re.findall(r"`(\w+)`", said[1].split(", among")[0])) if said else set()
+    wrong += [f"docs/TRUST.md: the crate {name} of the kit isn't named as assumed" for name in sorted(behind_run.kit_crates() - named)]
+    wrong += [f"docs/TRUST.md: no crate of crates.txt names {name}" for name in sorted(named - behind_run.kit_crates())]
+    return wrong
+
+
+def safety(docs):
+    """docs/SAFETY.md: a row for each public call that can refuse, as the script writes it."""
+    page = docs["docs/SAFETY.md"]
+    fresh, shown = safety_table.written(page).splitlines(), safety_table.between(page).splitlines()
+    missing, more = set(fresh) - set(shown), set(shown) - set(fresh)
+    return [f"docs/SAFETY.md: tools/safety_table.py writes: {line[:200]}" for line in fresh if line in missing] + [
+        f"docs/SAFETY.md: tools/safety_table.py doesn't write: {line[:200]}" for line in shown if line in more]
+
+
+def defined_labels(docs):
+    """docs/DEFINITIONS.md: the labels that are used most are defined, and each that is defined is used."""
+    counts = labels.counts()
+    told = labels.told(docs["docs/DEFINITIONS.md"])
+    wrong = [f"docs/DEFINITIONS.md: the label {name}, of {counts[name]} clauses, isn't defined" for name in labels.most(counts) if name not in told]
+    return wrong + [f"docs/DEFINITIONS.md: no clause has the label {name}" for name in told if name not in counts]
+
+
+def widths(docs):
+    wrong = []
+    for page, body in docs.items():
+        if not page.startswith("crates/"):
+            wrong += [f"{page}:{number}: {len(line)} columns" for number, line in lines(body) if len(line) > 120 and not line.startswith("|")]
+    return wrong
+
+
+def laws(docs):
+    """docs/DEFINITIONS.md: each module of laws, which are public functions that do nothing, has a row, and each row a module."""
+    page = docs["docs/DEFINITIONS.md"].split("## Laws")[1]
+    found = set()
+    for name in crates():
+        crate = specs.crate(name)
+        for file in crate.files:
+            if file.endswith(".rt") and re.search(r"^pub fn \w+(?:<[^(]*>)?\(\)\n(?:[^{}]|\{[^{}]*\})*\{\}", specs.text(f"{crate.folder}/{file}"), re.M):
+                found.add(f"{name}::{file[4:-3].replace('/', '::')}")
+    told = {token for line in page.splitlines() if line.startswith("| `") for token in quoted(line.split("|")[1])}
+    return [f"docs/DEFINITIONS.md: no row for the laws of {it}" for it in sorted(found - told)] + [
+        f"docs/DEFINITIONS.md: {it} has no laws" for it in sorted(told - found)]
+
+
+CHECKS = (definitions, laws, architecture, paths, names, readmes, trust, safety, defined_labels, widths)
+
+
 def main():
-    wrong = definitions() + architecture()
-    for line in wrong:
+    docs = pages()
+    wrong = [line for check in CHECKS for line in check(docs)]
+    for line in dict.fromkeys(wrong):
         print(line)
     return 1 if wrong else 0
 

@@ -12,6 +12,7 @@ object to write on, or without a program is marked by `none`. Whatever stands be
 import functools
 import os
 import re
+import textwrap
 
 import refused_memory
 import specs
@@ -341,14 +342,29 @@ def tables(ran):
     for crate in libraries:
         named = ', '.join(dict.fromkeys(call.shown() for call in silent if call.crate == crate))
         if named:
-            out.append(f'- {crate}: {named}')
+            out.append(textwrap.fill(f'- {crate}: {named}', 118, subsequent_indent='  ', break_long_words=False, break_on_hyphens=False))
     return out, holes, silent
+
+
+def ran(page):
+    """The rows with refused memory that a page's table has."""
+    return set(re.findall(r'^\| (\w+) \| \w+ \| \d+ \|', page.split(BEGIN)[0], re.M))
+
+
+def written(page):
+    """What is to stand between the two marks of a page."""
+    return '\n'.join(tables(ran(page))[0]).strip()
+
+
+def between(page):
+    """What stands there."""
+    return page.split(BEGIN)[1].split(END)[0].strip() if BEGIN in page and END in page else ''
 
 
 def main():
     path = f'{TOP}/docs/SAFETY.md'
     front, rest = text(path).split(BEGIN)
-    out, holes, _ = tables(set(re.findall(r'^\| (\w+) \| \w+ \| \d+ \|', front, re.M)))
+    out, holes, _ = tables(ran(text(path)))
     with open(path, 'w', encoding='utf-8') as file:
         file.write(front + BEGIN + '\n'.join(out) + '\n\n' + END + rest.split(END)[1])
     for hole in holes:

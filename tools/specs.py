@@ -6,7 +6,7 @@ import re
 TOP = os.path.dirname(os.path.dirname(os.path.abspath(__file__)))
 WORD = re.compile(r"[^\W\d]\w*(?:\.[^\W\d]\w*)*")
 MODIFIERS = r"(?:pub |abbrev |unfoldable |record |data )"
-OPENING = re.compile(rf"^( *)({MODIFIERS}*)([^\W\d]\w*)(.*)")
+OPENING = re.compile(rf"^( *)({MODIFIERS}*)([^\W\d]\w*|◌\S*)(.*)")
 
 
 @functools.lru_cache(None)
@@ -54,10 +54,10 @@ def blocks(path):
     """The definitions of a specs file by name: the text of each, fields and constructors by that of their type."""
     found, name = {}, None
     for line in text(path).splitlines():
-        if line.startswith("--") or re.match(r"(?:ghost )?use |module ", line):
+        if line.lstrip().startswith("--") or re.match(r"(?:ghost )?use | *module ", line):
             continue
         opening = OPENING.match(line)
-        if opening and len(opening[1]) <= 2 and opening[2] and not (opening[1] and name and is_type(found[name][0])):
+        if opening and opening[2] and not (opening[2] == "pub " and name and is_field(opening[1], found[name][0])):
             name = opening[3]
             found[name] = [line]
         elif opening and not opening[1] and re.match(r"\s*:", opening[4]):
@@ -66,6 +66,11 @@ def blocks(path):
         elif name:
             found[name].append(line)
     return {name: "\n".join(re.sub(r"--.*", "", line) for line in lines) for name, lines in found.items()}
+
+
+def is_field(indent, line):
+    """Whether a line with this indentation is of the type that another line opens."""
+    return is_type(line) and len(indent) > len(line) - len(line.lstrip())
 
 
 def is_type(line):
@@ -142,3 +147,50 @@ def contract(path, function):
     at = re.search(rf"^(?:pub )?fn {function}\b", source, re.M).start()
     end = source.index("\n{", at)
     return re.sub(r"//.*", "", source[at:end])
+
+
+class Crate:
+    """The names that a crate defines."""
+
+    def __init__(self, name, top=TOP):
+        self.name, self.folder = name, f"{top}/crates/{name}"
+        self.files = {
+            os.path.relpath(os.path.join(at, file), self.folder): None
+            for part in ("src", "specs", "proofs", "must-fail")
+            for at, _, files in os.walk(f"{self.folder}/{part}") for file in files
+        }
+        self.names, self.labels, self.members = set(), set(), {}
+        for file in self.files:
+            path = f"{self.folder}/{file}"
+            if file.endswith(".rt"):
+                self.read_source(text(path))
+            elif file.endswith(".antt"):
+                self.names |= set(blocks(path)) | set(owners(path))
+            self.names.add(os.path.splitext(os.path.basename(file))[0])
+
+    def read_source(self, source):
+        self.labels |= set(re.findall(r"^\s*(?:ensures|requires)\*? (\w+) \{", source, re.M))
+        self.names |= set(re.findall(r"\b(?:fn|struct|enum|trait|type|const|static|macro_rules!|mod) (\w+)", source))
+        for group in re.findall(r"^pub use ([^;]*);", source, re.M):
+            self.names |= set(re.findall(r"(\w+)\s*(?=[,}]|$)", group))
+        self.names |= set(re.findall(r"^\s*(?:pub )?ghost (?:fn |const )?(\w+)", source, re.M))
+        for kind, owner, body in re.findall(r"^(?:pub(?:\(crate\))? )?(struct|enum) (\w+)[^{;\n]*\{\n(.*?)^\}", source, re.M | re.S):
+            self.members.setdefault(owner, set()).update(re.findall(r"^ +(?:pub(?:\(crate\))? )?(\w+)", body, re.M))
+        for owner, body in re.findall(r"^(?:#\[.*\] *)?(?:pub trait|impl)(?:<[^{\n]*?>)? (?:[^{\n]*? for )?(\w+)[^{]*\{\n(.*?)^\}", source, re.M | re.S):
+            self.members.setdefault(owner, set()).update(re.findall(r"\bfn (\w+)", body))
+        for found in self.members.values():
+            self.names |= found
+
+    def has(self, name):
+        """Whether it defines a name, or a member of a type or a module."""
+        parts = name.split("::")
+        if parts[0] == self.name:
+            parts = parts[1:]
+        if len(parts) >= 2 and parts[-2] in self.members and parts[-1] not in self.members[parts[-2]]:
+            return False
+        return all(it in self.names for it in parts)
+
+
+@functools.lru_cache(None)
+def crate(name, top=TOP):
+    return Crate(name, top)
