@@ -203,6 +203,21 @@ def readmes(docs):
     return wrong
 
 
+def proofs(docs):
+    """The tables of docs/PROOFS.md by crates: the clauses and functions of the last cell are of that crate or of one below it."""
+    wrong, needs = [], specs.crate_lines()
+    for number, line in lines(docs["docs/PROOFS.md"]):
+        of = quoted(line.split("|")[1]) if line.startswith("| `") else []
+        if not of or not all(it in needs for it in of):
+            continue
+        of = set(of).union(*(specs.below(needs, it) for it in of)) & set(needs)
+        said = re.sub(r"(?:`[^`]+`(?:, | and ))*`[^`]+` of the kit's `\w+`", "", line.rstrip().rstrip("|").split("|")[-1])
+        for name in quoted(said):
+            if NAME.fullmatch(name) and name not in needs and name not in FOREIGN and not any(specs.crate(it).has(name) or name in specs.crate(it).labels for it in of):
+                wrong.append(f"docs/PROOFS.md:{number}: no {name} in {line.split('|')[1].strip()}")
+    return wrong
+
+
 def trust(docs):
     """docs/TRUST.md: the table of files behind `run`, and the kit's crates."""
     page = docs["docs/TRUST.md"]
@@ -258,7 +273,7 @@ def laws(docs):
         f"docs/DEFINITIONS.md: {it} has no laws" for it in sorted(told - found)]
 
 
-CHECKS = (definitions, laws, architecture, paths, names, readmes, trust, safety, defined_labels, widths)
+CHECKS = (definitions, laws, proofs, architecture, paths, names, readmes, trust, safety, defined_labels, widths)
 
 
 def main():
