@@ -5,6 +5,7 @@
 
 It begins with the names in the clauses of `run` and follows each name to its definition and those that this names, by the imports of the files. A file that no subject below has is named at the end.
 """
+import functools
 import os
 import sys
 
@@ -31,6 +32,7 @@ SUBJECTS = (
 )
 
 
+@functools.lru_cache(None)
 def kit_crates():
     """The crates of the kit that a line of crates.txt names."""
     needs = specs.crate_lines()
@@ -81,6 +83,7 @@ def row(subject, files):
 ORDER = list(specs.crate_lines())
 
 
+@functools.lru_cache(None)
 def table():
     files, kit = behind()
     out = ["| What | Files | Lines |", "|---|---|---|"]

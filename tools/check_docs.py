@@ -9,6 +9,7 @@
 - The tables of docs/SAFETY.md are what tools/safety_table.py writes, and the labels of docs/DEFINITIONS.md those that tools/labels.py counts.
 - No line is longer than 120 columns, but those of tables.
 """
+import functools
 import glob
 import os
 import re
@@ -29,7 +30,7 @@ FOREIGN = set("""
 # Pages that name what others have, or what was tried: the crates beside these names, the toolchain, older bodies.
 LOOSE = ("docs/DIFFERENCES.md", "docs/PROOFS.md", "docs/SCRIPT.md", "CHANGELOG.md")
 NAME = re.compile(r"[A-Za-z_]\w*(?:::[A-Za-z_]\w*)*")
-LISTED = re.compile(r"((?:`[^`]+`(?:, | and | or ))*)`([^`]+)` (?:of|in) (?:the crate )?`(\w+)`")
+LISTED = re.compile(r"((?:`[^`\n]+`(?:,\s+|\s+and\s+|\s+or\s+))*)`([^`\n]+)`\s+(?:of|in)\s+(?:the\s+crate\s+)?`(\w+)`")
 
 
 def pages():
@@ -149,27 +150,38 @@ def paths(docs):
     return wrong
 
 
+@functools.lru_cache(None)
+def defined_names():
+    """All names that the sources define, and the members of each type."""
+    index = [specs.crate(it) for it in crates()]
+    members = {}
+    for crate in index:
+        for owner, found in crate.members.items():
+            members.setdefault(owner, set()).update(found)
+    defined = set(crates()).union(behind_run.kit_crates(), *(it.names | it.labels for it in index))
+    for path in glob.glob(f"{TOP}/tools/*.py"):
+        defined |= set(re.findall(r"\bdef (\w+)", specs.text(path))) | set(re.findall(r"^([A-Z_]+) =", specs.text(path), re.M))
+    return defined, members
+
+
 def names(docs):
     """Names: each defined somewhere, and in the crate that it is given as of."""
     wrong = []
     index = {crate: specs.crate(crate) for crate in crates()}
-    members = {}
-    for crate in index.values():
-        for owner, found in crate.members.items():
-            members.setdefault(owner, set()).update(found)
-    defined = set().union(*(it.names | it.labels for it in index.values()), index, behind_run.kit_crates())
-    for path in glob.glob(f"{TOP}/tools/*.py"):
-        defined |= set(re.findall(r"\bdef (\w+)|^([A-Z_]+) =", specs.text(path), re.M)) and {it for pair in re.findall(r"\bdef (\w+)|^([A-Z_]+) =", specs.text(path), re.M) for it in pair}
+    defined, members = defined_names()
     for page, body in docs.items():
+        for found in LISTED.finditer(body):
+            before, last, crate = found.groups()
+            known, place = index.get(crate), f"{page}:{body.count(chr(10), 0, found.start()) + 1}"
+            if known and NAME.fullmatch(last) and not known.has(last) and last not in known.labels:
+                wrong.append(f"{place}: no {last} in {crate}")
+            if known:
+                wrong += [f"{place}: no {it} in {crate}" for it in quoted(before) if NAME.fullmatch(it) and not known.has(it) and it not in known.labels and it not in defined]
         for number, line in lines(body):
             place = f"{page}:{number}"
-            for before, last, crate in LISTED.findall(line):
-                known = index.get(crate)
-                if known and NAME.fullmatch(last) and not known.has(last) and last not in known.labels:
-                    wrong.append(f"{place}: no {last} in {crate}")
-                if known:
-                    wrong += [f"{place}: no {it} in {crate}" for it in quoted(before) if NAME.fullmatch(it) and not known.has(it) and it not in known.labels and it not in defined]
-            for token in quoted(line):
+            # the first cell has names of the original crates
+            own = line.split("|", 2)[2] if page == "docs/LIBRARY.md" and line.startswith("|") else line
+            for token in quoted(own):
                 if not NAME.fullmatch(token) or token in FOREIGN:
                     continue
                 parts = token.split("::")

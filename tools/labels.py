@@ -4,6 +4,7 @@
     tools/labels.py
 """
 import collections
+import functools
 import os
 import re
 
@@ -12,6 +13,7 @@ import specs
 MOST = 40
 
 
+@functools.lru_cache(None)
 def counts():
     """How many clauses have each label."""
     found = collections.Counter()

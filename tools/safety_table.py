@@ -74,6 +74,7 @@ class Call:
     def __init__(self, crate, owner, block, name, head, words, clauses, body, public):
         self.crate, self.owner, self.block, self.name, self.head, self.words, self.clauses = crate, owner, block, name, head, words, clauses
         self.body, self.public = body, public
+        self.error_type = self.find_error()
 
     def plain(self):
         return f'{self.owner}::{self.name}' if self.owner else self.name
@@ -89,6 +90,9 @@ class Call:
         return self.head.split('->')[-1].strip() if '->' in self.head else ''
 
     def error(self):
+        return self.error_type
+
+    def find_error(self):
         answer = re.sub(r'^Option<(.*)>$', r'\1', self.answer())
         if answer.startswith('PmtResult'):
             return 'PmtError'
@@ -151,6 +155,7 @@ def functions_of(crate):
     for path in sources(crate):
         source = text(path)
         lines = source.splitlines(keepends=True)
+        plain = re.sub(r'//.*', lambda it: ' ' * len(it[0]), source)
         owner, is_trait, is_trait_impl, opening, words, place = '', False, False, '', [], 0
         for line in lines:
             place, line = place + len(line), line.rstrip('\n')
@@ -167,7 +172,7 @@ def functions_of(crate):
                 inner = bool(head[1])
                 shown = (head[2] or '').startswith('pub ') or inner and is_trait
                 public = shown and (owner in names and not (inner and not is_trait and is_trait_impl) if inner else head[3] in names)
-                told, clauses, body = read_call(source[place - len(line) - 1:])
+                told, clauses, body = read_call(plain, place - len(line) - 1)
                 found.append(Call(crate, owner if inner else '', opening if inner else '', head[3], told, ' '.join(words), clauses, body, public))
                 words = []
             elif not re.match(r' *(#\[|//)', line):
@@ -205,8 +210,18 @@ def callees(call):
         yield from (it for it in found if it is not call)
 
 
+BELOW = {}
+
+
 def below_call(call, known):
     """The refusals that a body and the bodies below it name, up to public calls, and these."""
+    if call not in BELOW:
+        BELOW[call] = find_below(call, known)
+    own, handed = BELOW[call]
+    return set(own), list(handed)
+
+
+def find_below(call, known):
     error = call.error()
     own, handed, seen, open_ = set(), [], [call], [call]
     while open_:
@@ -238,34 +253,46 @@ def all_refusals(call, known):
     return ALL[call]
 
 
-def read_call(source):
-    """The head of the call that a text begins with, its clauses by name, and its body."""
-    source = re.sub(r'//.*', '', source[:20000])
-    at, depth, head, clauses = 0, 0, None, []
-    while at < len(source):
-        clause = re.compile(r'(requires|ensures|decreases)\*?(?: (\w+))? \{').match(source, at) if source[at - 1:at].isspace() else None
-        if clause:
-            head = source[:at] if head is None else head
-            end, open_ = clause.end(), 1
-            while open_:
-                open_ += {'{': 1, '}': -1}.get(source[end], 0)
-                end += 1
-            if clause[1] == 'ensures':
-                clauses.append((clause[2] or 'its contract', source[clause.end():end - 1]))
-            at = end
-            continue
-        if source[at] in '([':
-            depth += 1
-        elif source[at] in ')]':
-            depth -= 1
-        elif source[at] in '{;' and depth == 0:
+TOKEN = re.compile(r'(?<=\s)(requires|ensures|decreases)\*?(?: (\w+))? \{|[(\[\])]|[{;]')
+BRACE = re.compile(r'[{}]')
+
+
+def closed(source, at):
+    """The place behind the brace that closes the one before a place."""
+    open_ = 1
+    while open_:
+        found = BRACE.search(source, at)
+        if not found:
+            return len(source)
+        open_ += 1 if found[0] == '{' else -1
+        at = found.end()
+    return at
+
+
+def read_call(source, begin):
+    """The head of the call that stands at a place of a text without comments, its clauses by name, and its body."""
+    at, depth, head, clauses = begin, 0, None, []
+    while True:
+        found = TOKEN.search(source, at)
+        if not found:
+            at = end = len(source)
             break
-        at += 1
-    head = ' '.join((source[:at] if head is None else head).split())
-    end, open_ = at + 1, 1 if source[at:at + 1] == '{' else 0
-    while open_ and end < len(source):
-        open_ += {'{': 1, '}': -1}.get(source[end], 0)
-        end += 1
+        if found[1]:
+            head = source[begin:found.start()] if head is None else head
+            at = closed(source, found.end())
+            if found[1] == 'ensures':
+                clauses.append((found[2] or 'its contract', source[found.end():at - 1]))
+            continue
+        at = found.start()
+        if found[0] in '([':
+            depth += 1
+        elif found[0] in ')]':
+            depth -= 1
+        elif depth == 0:
+            end = closed(source, at + 1) if found[0] == '{' else at + 1
+            break
+        at = found.end()
+    head = ' '.join((source[begin:at] if head is None else head).split())
     return head.split(' where ')[0].strip(), clauses, source[at:end]
 
 
@@ -351,9 +378,14 @@ def ran(page):
     return set(re.findall(r'^\| (\w+) \| \w+ \| \d+ \|', page.split(BEGIN)[0], re.M))
 
 
+@functools.lru_cache(None)
+def lines_of(rows):
+    return '\n'.join(tables(set(rows))[0]).strip()
+
+
 def written(page):
     """What is to stand between the two marks of a page."""
-    return '\n'.join(tables(ran(page))[0]).strip()
+    return lines_of(frozenset(ran(page)))
 
 
 def between(page):

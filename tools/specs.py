@@ -15,6 +15,7 @@ def text(path):
         return file.read()
 
 
+@functools.lru_cache(None)
 def crate_lines(top=TOP):
     """The crates of crates.txt, each with those that it names."""
     found = {}
@@ -54,6 +55,10 @@ def blocks(path):
     """The definitions of a specs file by name: the text of each, fields and constructors by that of their type."""
     found, name = {}, None
     for line in text(path).splitlines():
+        begun = line.lstrip()
+        if name and (begun != line and not begun.startswith(("pub ", "abbrev ", "unfoldable ", "record ", "data ", "module ", "--"))):
+            found[name].append(line)
+            continue
         if line.lstrip().startswith("--") or re.match(r"(?:ghost )?use | *module ", line):
             continue
         opening = OPENING.match(line)
