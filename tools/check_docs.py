@@ -230,6 +230,20 @@ def proofs(docs):
     return wrong
 
 
+def differences(docs):
+    """The tables of docs/DIFFERENCES.md: what stands under `Here` is of the section's crates or of one below them."""
+    wrong, needs, of = [], specs.crate_lines(), set()
+    beside = FOREIGN | behind_run.kit_crates() | set("Bytes Clone Debug Eq From PartialEq compression has_ i32 is_ PmtError Mbtiles".split())
+    for number, line in lines(docs["docs/DIFFERENCES.md"]):
+        if line.startswith("## "):
+            of = set(re.findall(r"\w+", line)) & set(needs)
+            of = of.union(*(specs.below(needs, it) for it in of)) & set(needs)
+        elif line.startswith("| ") and of and line.count("|") > 2:
+            wrong += [f"docs/DIFFERENCES.md:{number}: no {name} in the section's crates" for name in quoted(line.split("|")[2])
+                      if NAME.fullmatch(name) and name not in beside and name not in needs and not any(specs.crate(it).has(name) or name in specs.crate(it).labels for it in of)]
+    return wrong
+
+
 def trust(docs):
     """docs/TRUST.md: the table of files behind `run`, and the kit's crates."""
     page = docs["docs/TRUST.md"]
@@ -285,7 +299,7 @@ def laws(docs):
         f"docs/DEFINITIONS.md: {it} has no laws" for it in sorted(told - found)]
 
 
-CHECKS = (definitions, laws, proofs, architecture, paths, names, readmes, trust, safety, defined_labels, widths)
+CHECKS = (definitions, laws, proofs, differences, architecture, paths, names, readmes, trust, safety, defined_labels, widths)
 
 
 def main():

@@ -7,7 +7,7 @@ import functools
 import sys
 
 import check_docs
-from check_docs import architecture, defined_labels, definitions, laws, names, paths, proofs, readmes, safety, trust, widths
+from check_docs import architecture, defined_labels, definitions, differences, laws, names, paths, proofs, readmes, safety, trust, widths
 
 # Kind of error: the check, the page, what stands there, what is put in its place, and what has to be said.
 PLANTS = (
@@ -26,6 +26,7 @@ PLANTS = (
     ("a label that isn't defined", defined_labels, "docs/DEFINITIONS.md", "| `unfailing` |", "| `unfaulted` |", "the label unfailing, of"),
     ("a clause of another crate", proofs, "docs/PROOFS.md", "`valid` of `TileCoord::new`", "`hidden` of `TileCoord::new`", "no hidden in `tile_ids`"),
     ("a function of another crate", proofs, "docs/PROOFS.md", "`value` of `hilbert_number`", "`value` of `finalize`", "no finalize in `tile_ids`"),
+    ("a call of another crate beside those of the original", differences, "docs/DIFFERENCES.md", "`subtree_interval`", "`subtree_of`", "no subtree_of in the section's crates"),
     ("a name of another crate", names, "docs/ARCHITECTURE.md", "`mb_reading` reads each file", "`mb_sqlite` reads each file", "no read_file in mb_sqlite"),
     ("a path of names that isn't there", names, "README.md", "`tileset::run`", "`tileset::runs`", "no tileset::runs"),
     ("a name that is defined nowhere", names, "docs/ARCHITECTURE.md", "`make_adds`", "`make_add`", "make_add is defined nowhere"),
