@@ -285,6 +285,36 @@ def widths(docs):
     return wrong
 
 
+@functools.lru_cache(None)
+def public_definitions():
+    """The definitions that clauses of public calls name: (crate, file, name)."""
+    found = set()
+    for crate in safety_table.libraries():
+        known = {}
+        for path in safety_table.sources(crate):
+            for module, group in re.findall(r"^\s*ghost use ([\w.]+?)\.\{([^}]*)\}", specs.text(path), re.M):
+                known.update({item.strip(): module for item in group.split(",")})
+        words = set().union(*(specs.words(body) for call in safety_table.calls_of(crate) for _, body in call.clauses))
+        for name in {it.split(".")[0] for it in words} & set(known):
+            path = specs.file_of(known[name])
+            if path and name in specs.blocks(path):
+                own, file = os.path.relpath(path, f"{TOP}/crates").split("/specs/")
+                found.add((own, file, name))
+    return found
+
+
+def rows_of_definitions(docs):
+    """docs/DEFINITIONS.md: a row for each definition that a clause of a public call names. What is printed can be put there."""
+    told, crate = set(), None
+    for line in docs["docs/DEFINITIONS.md"].splitlines():
+        if line.startswith("## "):
+            crate = line[3:].strip()
+        elif line.startswith("| `"):
+            told |= {(crate, name) for name in quoted(line.split("|")[1])}
+    return [f"docs/DEFINITIONS.md: under {own} a row is missing: | `{name}` | `{file}` | {specs.comment_of(f'{TOP}/crates/{own}/specs/{file}', name)} | own words |"
+            for own, file, name in sorted(public_definitions()) if (own, name) not in told]
+
+
 def laws(docs):
     """docs/DEFINITIONS.md: each module of laws, which are public functions that do nothing, has a row, and each row a module."""
     page = docs["docs/DEFINITIONS.md"].split("## Laws")[1]
@@ -299,7 +329,7 @@ def laws(docs):
         f"docs/DEFINITIONS.md: {it} has no laws" for it in sorted(told - found)]
 
 
-CHECKS = (definitions, laws, proofs, differences, architecture, paths, names, readmes, trust, safety, defined_labels, widths)
+CHECKS = (definitions, rows_of_definitions, laws, proofs, differences, architecture, paths, names, readmes, trust, safety, defined_labels, widths)
 
 
 def main():

@@ -7,7 +7,7 @@ import functools
 import sys
 
 import check_docs
-from check_docs import architecture, defined_labels, definitions, differences, laws, names, paths, proofs, readmes, safety, trust, widths
+from check_docs import architecture, defined_labels, definitions, differences, laws, names, paths, proofs, readmes, rows_of_definitions, safety, trust, widths
 
 # Kind of error: the check, the page, what stands there, what is put in its place, and what has to be said.
 PLANTS = (
@@ -20,6 +20,7 @@ PLANTS = (
     ("a definition of another file", definitions, "docs/DEFINITIONS.md", "| `Rose`, ", "| `Coord`, ", "no Coord in crates/base_values/specs/Counts.antt"),
     ("a definition that isn't there", definitions, "docs/DEFINITIONS.md", "`words_of`", "`words_off`", "no words_off in crates/line_words/specs/Parting.antt"),
     ("a specs file that isn't there", definitions, "docs/DEFINITIONS.md", "`Parting.antt`", "`Partings.antt`", "no file crates/line_words/specs/Partings.antt"),
+    ("a definition of a public call without a row", rows_of_definitions, "docs/DEFINITIONS.md", "| `unless_forced` |", "| `unforced` |", "| `unless_forced` | `DiffHashes.antt` |"),
     ("laws without a row", laws, "docs/DEFINITIONS.md", "| `mb_cache::laws` |", "| `mb_edit::laws` |", "no row for the laws of mb_cache::laws"),
     ("laws of a crate without any", laws, "docs/DEFINITIONS.md", "| `mb_cache::laws` |", "| `mb_check::laws` |", "mb_check::laws has no laws"),
     ("a label that no clause has", defined_labels, "docs/DEFINITIONS.md", "| `unfailing` |", "| `unfailling` |", "no clause has the label unfailling"),

@@ -60,6 +60,12 @@ def errors():
 
 
 @functools.lru_cache(None)
+def libraries():
+    """The crates that lend calls to others."""
+    return [it for it in crate_names() if not it.endswith(PROGRAMS) and it not in SHARED]
+
+
+@functools.lru_cache(None)
 def exported(crate):
     """The names that a crate lends to others."""
     names = set()
@@ -334,9 +340,9 @@ def cell(items):
     return ', '.join(it if it == 'its contract' else f'`{it}`' for it in items) or '**none**'
 
 
-def callers_of(call, libraries):
+def callers_of(call, naming):
     """The library crates that call it."""
-    return [crate for crate, names in libraries.items() if call.name in names]
+    return [crate for crate, names in naming.items() if call.name in names]
 
 
 def tables(ran):
@@ -347,16 +353,16 @@ def tables(ran):
     for row, (program, *_, names) in refused_memory.LINES.items():
         for name in names.split() if row in ran else ():
             memory.setdefault(name, []).append(row)
-    libraries = {crate: called(crate) for crate in crate_names() if not crate.endswith(PROGRAMS) and crate not in SHARED}
+    naming = {crate: called(crate) for crate in libraries()}
     out, holes, silent = [], [], []
-    for crate in libraries:
+    for crate in naming:
         rows = []
         for call in calls_of(crate):
             if not call.error():
                 silent.append(call)
                 continue
             where = tried(call, programs, shared)
-            used = [it for it in callers_of(call, libraries) if it == crate or crate in shared[it]]
+            used = [it for it in callers_of(call, naming) if it == crate or crate in shared[it]]
             shown = cell(where) if where or not used else 'by calls of ' + cell(used)
             after = cell(call.after()) if call.writes() else 'takes nothing to write on'
             calls = '' if not call.asks_outside() else cell([it for it in where if it in fails]) if where else 'as those' if used else '**none**'
@@ -366,7 +372,7 @@ def tables(ran):
         if rows:
             out += ['', f'### {crate}', '', '| Call | Refusals | Clauses on the answer | Clauses on what stands afterwards | Rows | Rows in which objects fail | Refused memory |', '|---|---|---|---|---|---|---|', *rows]
     out += ['', '### Calls that refuse nothing', '']
-    for crate in libraries:
+    for crate in naming:
         named = ', '.join(dict.fromkeys(call.shown() for call in silent if call.crate == crate))
         if named:
             out.append(textwrap.fill(f'- {crate}: {named}', 118, subsequent_indent='  ', break_long_words=False, break_on_hyphens=False))

@@ -73,6 +73,16 @@ def blocks(path):
     return {name: "\n".join(re.sub(r"--.*", "", line) for line in lines) for name, lines in found.items()}
 
 
+def comment_of(path, name):
+    """The comment above a definition."""
+    above = []
+    for line in text(path).splitlines():
+        if re.match(rf"\s*{MODIFIERS}+{re.escape(name)}\b", line):
+            return " ".join(above)
+        above = above + [line.strip(" -")] if line.lstrip().startswith("--") else []
+    return ""
+
+
 def is_field(indent, line):
     """Whether a line with this indentation is of the type that another line opens."""
     return is_type(line) and len(indent) > len(line) - len(line.lstrip())
