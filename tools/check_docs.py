@@ -25,7 +25,7 @@ from specs import TOP
 FOREIGN = set("""
     BTreeMap Connection Connection::open Connection::query Copy Data Disk Err FinMap HANDLES Ok Some Transaction::query alloc b8fe6c3923a44bbe cp decode_of encode_lower
     hex_digit_value i impl jpeg malloc_consolidate mbtiles n on open_files perf pmtiles proofs python3 requires result rt specs sqlite3 sqlite_master src static stdin stdout t
-    Display Examples PMxxxxx the_type u32 u64 u64::from u8 unknown
+    Display Examples PMxxxxx malloc the_type u32 u64 u64::from u8 unknown
 """.split())
 # Pages that name what others have, or what was tried: the crates beside these names, the toolchain, older bodies.
 LOOSE = ("docs/DIFFERENCES.md", "docs/PROOFS.md", "docs/SCRIPT.md", "CHANGELOG.md")
@@ -198,13 +198,17 @@ def names(docs):
 
 
 def readmes(docs):
-    """The tables `Call | Clause` of the crates' READMEs: each call is one of the crate."""
-    wrong = []
+    """The READMEs of the crates: each call of a table `Call | Clause` is one of the crate, and what is explained behind a colon, as a clause, of the crate or of one below it."""
+    wrong, needs = [], specs.crate_lines()
+    beside = FOREIGN | behind_run.kit_crates() | set(needs)
     for page, body in docs.items():
         if not page.startswith("crates/"):
             continue
         crate, in_table = specs.crate(page.split("/")[1]), False
+        of = [crate, *map(specs.crate, specs.below(needs, crate.name) & set(needs))]
         for number, line in lines(body):
+            for names in re.findall(r"((?:`\w+`(?:, | and ))*`\w+`): ", line):
+                wrong += [f"{page}:{number}: no {name} in {crate.name}" for name in quoted(names) if name not in beside and not any(name in it.labels or it.has(name) for it in of)]
             if not line.startswith("|"):
                 in_table = False
             elif re.match(r"\| Calls? \|", line):

@@ -36,6 +36,7 @@ PLANTS = (
     ("a tool that isn't there", paths, "CONTRIBUTING.md", "`tools/make_cases`", "`tools/make_case`", "no file tools/make_case"),
     ("a page that isn't there", paths, "CONTRIBUTING.md", "`docs/TRUST.md`", "`docs/TRUTH.md`", "no file docs/TRUTH.md"),
     ("a call of another crate in a README", readmes, "crates/tile_ids/README.md", "| `parse_tile_index`", "| `parse_script`", "no parse_script in tile_ids"),
+    ("a clause in a README that the crate hasn't", readmes, "crates/tileset/README.md", "`untaken`", "`untakken`", "no untakken in tileset"),
     ("another count of lines", trust, "docs/TRUST.md", "`Hilbert` 84", "`Hilbert` 85", "`Hilbert` 84"),
     ("a file behind `run` that is left out", trust, "docs/TRUST.md", "; `pm_contents`: `Pieces` 22", "", "`pm_contents`: `Pieces`"),
     ("another sum", trust, "docs/TRUST.md", "| 156 |", "| 165 |", "| 156 |"),
