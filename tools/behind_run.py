@@ -3,16 +3,19 @@
 
     tools/behind_run.py [--write]
 
-It begins with the names in the clauses of `run` and follows each name to its definition and those that this names, by the imports of the files. A file that no subject below has is named at the end.
+It begins with the names in the clauses of `run` and of the traits of its objects, and follows each name to its definition and those that this names, by the imports of the files. A file that no
+subject below has is named at the end.
 """
 import functools
 import os
+import re
 import sys
 
 import specs
 from specs import TOP
 
 RUN = f"{TOP}/crates/tileset/src/top_call.rt"
+TRAITS = [f"{TOP}/crates/{it}.rt" for it in ("byte_streams/src/source", "byte_streams/src/sink", "byte_media/src/backend", "byte_media/src/medium")]
 PAGE = f"{TOP}/docs/TRUST.md"
 BEGIN, END = "<!-- table: tools/behind_run.py -->", "<!-- end of the table -->"
 HEADLINE = (("tile_bridge", "Convert", "HoldsExactly"), ("mb_edit", "Patched", "patched"))
@@ -39,9 +42,15 @@ def kit_crates():
     return {name for named in needs.values() for name in named} - set(needs)
 
 
-def behind(clauses=None):
-    """The files behind the clauses of `run`, as `crate/File`, and the kit's crates that they name."""
-    seen, others = specs.closure([(RUN, clauses or specs.contract(RUN, "run"))])
+def clauses(path):
+    """All clauses and ghost members of a source."""
+    source = re.sub(r"//.*", "", specs.text(path))
+    return "\n".join(re.findall(r"(?:ensures|requires)\*?(?: \w+)? \{[^}]*\}|^ +ghost .*", source, re.M))
+
+
+def behind():
+    """The files behind the clauses of `run` and of the traits of its objects, as `crate/File`, and the kit's crates that they name."""
+    seen, others = specs.closure([(RUN, specs.contract(RUN, "run")), *((path, clauses(path)) for path in TRAITS)])
     files = {short(path) for path, _ in seen}
     return files, {module.split(".")[1] for module, _ in others} & kit_crates()
 
