@@ -9,8 +9,6 @@
 - The tables of docs/SAFETY.md are what tools/safety_table.py writes, and the labels of docs/DEFINITIONS.md those that tools/labels.py counts.
 - No line is longer than 120 columns, but those of tables.
 """
-import functools
-import glob
 import os
 import re
 import sys
@@ -19,112 +17,12 @@ import behind_run
 import labels
 import safety_table
 import specs
-from specs import TOP
+from document_tables import architecture, definitions, differences, laws, proofs, rows_of_definitions
+from documents import FOREIGN, NAME, crates, defined_names, file_at, is_there, lines, pages, quoted
 
-# Names of std, of the kit, of databases and of other programs, which no source here defines.
-FOREIGN = set("""
-    BTreeMap Connection Connection::open Connection::query Copy Data Disk Err FinMap HANDLES Ok Some Transaction::query alloc b8fe6c3923a44bbe cp decode_of encode_lower
-    hex_digit_value i impl jpeg malloc_consolidate mbtiles n on open_files perf pmtiles proofs python3 requires result rt specs sqlite3 sqlite_master src static stdin stdout t
-    Display Examples PMxxxxx malloc the_type u32 u64 u64::from u8 unknown
-""".split())
 # Pages that name what others have, or what was tried: the crates beside these names, the toolchain, older bodies.
 LOOSE = ("docs/DIFFERENCES.md", "docs/PROOFS.md", "docs/SCRIPT.md", "CHANGELOG.md")
-NAME = re.compile(r"[A-Za-z_]\w*(?:::[A-Za-z_]\w*)*")
 LISTED = re.compile(r"((?:`[^`\n]+`(?:,\s+|\s+and\s+|\s+or\s+))*)`([^`\n]+)`\s+(?:of|in)\s+(?:the\s+crate\s+)?`(\w+)`")
-
-
-def pages():
-    """The documents: those of the project, and the README of each crate."""
-    paths = ["README.md", "CONTRIBUTING.md", "CHANGELOG.md", *glob.glob("docs/*.md", root_dir=TOP), *glob.glob("crates/*/README.md", root_dir=TOP)]
-    return {path: specs.text(f"{TOP}/{path}") for path in sorted(paths)}
-
-
-def crates():
-    return list(specs.crate_lines())
-
-
-def lines(page):
-    return enumerate(page.splitlines(), 1)
-
-
-def quoted(line):
-    return re.findall(r"`([^`]+)`", line)
-
-
-def is_there(path):
-    return os.path.exists(os.path.join(TOP, path))
-
-
-def definitions(docs):
-    """The rows of docs/DEFINITIONS.md: each name in a file of its row."""
-    wrong, crate = [], None
-    for number, line in lines(docs["docs/DEFINITIONS.md"]):
-        place = f"docs/DEFINITIONS.md:{number}"
-        if line.startswith("## "):
-            crate = line[3:].strip()
-        elif line.startswith("| `") and crate in crates():
-            cells = [cell.strip() for cell in line.strip("|").split("|")]
-            files = [f"crates/{crate}/specs/{file}" for file in re.findall(r"`([\w/]+\.antt)`", cells[1])]
-            wrong += [f"{place}: no file {file}" for file in files if not is_there(file)]
-            found = set()
-            for file in filter(is_there, files):
-                found |= set(specs.blocks(f"{TOP}/{file}")) | set(specs.owners(f"{TOP}/{file}"))
-            wrong += [f"{place}: no {name} in {', '.join(files)}" for name in quoted(cells[0]) if name not in found]
-    return wrong
-
-
-def file_at(token, state):
-    """The file that a path names, by the crate and the folder of the path before it."""
-    parts = token.split("/")
-    if parts[0] in crates():
-        state["crate"], parts = parts[0], parts[1:]
-        state["folder"] = None
-    crate = state.get("crate")
-    if not crate or not parts:
-        return None
-    if parts[0] in ("src", "specs", "proofs", "must-fail"):
-        found = "/".join(parts)
-    else:
-        found = f"{'specs' if token.endswith('.antt') else 'src'}/{'/'.join(parts)}"
-        near = f"{state.get('folder')}/{token}"
-        if state.get("folder") and is_there(f"crates/{crate}/{near}") and not is_there(f"crates/{crate}/{found}"):
-            found = near
-    state["folder"] = os.path.dirname(found)
-    return f"crates/{crate}/{found}"
-
-
-def architecture(docs):
-    """The rows of docs/ARCHITECTURE.md: files in their crates, and names behind a file in its crate."""
-    wrong, page = [], docs["docs/ARCHITECTURE.md"]
-    for crate in crates():
-        if f"`{crate}`" not in page:
-            wrong.append(f"docs/ARCHITECTURE.md: no row for {crate}")
-        if f"crates/{crate}/README.md" not in docs:
-            wrong.append(f"crates/{crate}/README.md: missing")
-    of_crates = False
-    for number, line in lines(page):
-        if not line.startswith("| "):
-            of_crates = False if not line.startswith("|") else of_crates
-            continue
-        of_crates = of_crates or line.startswith("| Crate |")
-        first = line.split("|")[1].strip()
-        several = quoted(first) if re.fullmatch(r"`\w+`(?:, `\w+`)*", first) else []
-        wrong += [f"docs/ARCHITECTURE.md:{number}: no crate {it}" for it in several if of_crates and it not in crates()]
-        several = [it for it in several if it in crates()]
-        state = {"crate": several[0]} if several else {}
-        for token, behind in re.findall(r"`([^`]+)`(?: \((`\w+`(?:, `\w+`)*)\))?", line):
-            if not re.fullmatch(r"[\w/.-]+\.(?:rt|antt)", token):
-                continue
-            if len(several) > 1:
-                found = [f"crates/{crate}/src/{token}" for crate in several]
-            else:
-                found = [file_at(token, state)] if several or token != "main.rt" else []
-            for path in found:
-                if not path or not is_there(path):
-                    wrong.append(f"docs/ARCHITECTURE.md:{number}: no file {path or token}")
-            if state.get("crate"):
-                wrong += [f"docs/ARCHITECTURE.md:{number}: no {name} in {state['crate']}" for name in quoted(behind) if not specs.crate(state["crate"]).has(name)]
-    return wrong
 
 
 def paths(docs):
@@ -148,20 +46,6 @@ def paths(docs):
                 if path and not is_there(path) and not (page == "docs/ARCHITECTURE.md" and not path.startswith(("tools", "bin", "docs"))):
                     wrong.append(f"{page}:{number}: no file {path}")
     return wrong
-
-
-@functools.lru_cache(None)
-def defined_names():
-    """All names that the sources define, and the members of each type."""
-    index = [specs.crate(it) for it in crates()]
-    members = {}
-    for crate in index:
-        for owner, found in crate.members.items():
-            members.setdefault(owner, set()).update(found)
-    defined = set(crates()).union(behind_run.kit_crates(), *(it.names | it.labels for it in index))
-    for path in glob.glob(f"{TOP}/tools/*.py"):
-        defined |= set(re.findall(r"\bdef (\w+)", specs.text(path))) | set(re.findall(r"^([A-Z_]+) =", specs.text(path), re.M))
-    return defined, members
 
 
 def names(docs):
@@ -219,35 +103,6 @@ def readmes(docs):
     return wrong
 
 
-def proofs(docs):
-    """The tables of docs/PROOFS.md by crates: the clauses and functions of the last cell are of that crate or of one below it."""
-    wrong, needs = [], specs.crate_lines()
-    for number, line in lines(docs["docs/PROOFS.md"]):
-        of = quoted(line.split("|")[1]) if line.startswith("| `") else []
-        if not of or not all(it in needs for it in of):
-            continue
-        of = set(of).union(*(specs.below(needs, it) for it in of)) & set(needs)
-        said = re.sub(r"(?:`[^`]+`(?:, | and ))*`[^`]+` of the kit's `\w+`", "", line.rstrip().rstrip("|").split("|")[-1])
-        for name in quoted(said):
-            if NAME.fullmatch(name) and name not in needs and name not in FOREIGN and not any(specs.crate(it).has(name) or name in specs.crate(it).labels for it in of):
-                wrong.append(f"docs/PROOFS.md:{number}: no {name} in {line.split('|')[1].strip()}")
-    return wrong
-
-
-def differences(docs):
-    """The tables of docs/DIFFERENCES.md: what stands under `Here` is of the section's crates or of one below them."""
-    wrong, needs, of = [], specs.crate_lines(), set()
-    beside = FOREIGN | behind_run.kit_crates() | set("Bytes Clone Debug Eq From PartialEq compression has_ i32 is_ PmtError Mbtiles".split())
-    for number, line in lines(docs["docs/DIFFERENCES.md"]):
-        if line.startswith("## "):
-            of = set(re.findall(r"\w+", line)) & set(needs)
-            of = of.union(*(specs.below(needs, it) for it in of)) & set(needs)
-        elif line.startswith("| ") and of and line.count("|") > 2:
-            wrong += [f"docs/DIFFERENCES.md:{number}: no {name} in the section's crates" for name in quoted(line.split("|")[2])
-                      if NAME.fullmatch(name) and name not in beside and name not in needs and not any(specs.crate(it).has(name) or name in specs.crate(it).labels for it in of)]
-    return wrong
-
-
 def trust(docs):
     """docs/TRUST.md: the table of files behind `run`, and the kit's crates."""
     page = docs["docs/TRUST.md"]
@@ -287,50 +142,6 @@ def widths(docs):
         if not page.startswith("crates/"):
             wrong += [f"{page}:{number}: {len(line)} columns" for number, line in lines(body) if len(line) > 120 and not line.startswith("|")]
     return wrong
-
-
-@functools.lru_cache(None)
-def public_definitions():
-    """The definitions that clauses of public calls name: (crate, file, name)."""
-    found = set()
-    for crate in safety_table.libraries():
-        known = {}
-        for path in safety_table.sources(crate):
-            for module, group in re.findall(r"^\s*ghost use ([\w.]+?)\.\{([^}]*)\}", specs.text(path), re.M):
-                known.update({item.strip(): module for item in group.split(",")})
-        words = set().union(*(specs.words(body) for call in safety_table.calls_of(crate) for _, body in call.clauses))
-        for name in {it.split(".")[0] for it in words} & set(known):
-            path = specs.file_of(known[name])
-            if path and name in specs.blocks(path):
-                own, file = os.path.relpath(path, f"{TOP}/crates").split("/specs/")
-                found.add((own, file, name))
-    return found
-
-
-def rows_of_definitions(docs):
-    """docs/DEFINITIONS.md: a row for each definition that a clause of a public call names. What is printed can be put there."""
-    told, crate = set(), None
-    for line in docs["docs/DEFINITIONS.md"].splitlines():
-        if line.startswith("## "):
-            crate = line[3:].strip()
-        elif line.startswith("| `"):
-            told |= {(crate, name) for name in quoted(line.split("|")[1])}
-    return [f"docs/DEFINITIONS.md: under {own} a row is missing: | `{name}` | `{file}` | {specs.comment_of(f'{TOP}/crates/{own}/specs/{file}', name)} | own words |"
-            for own, file, name in sorted(public_definitions()) if (own, name) not in told]
-
-
-def laws(docs):
-    """docs/DEFINITIONS.md: each module of laws, which are public functions that do nothing, has a row, and each row a module."""
-    page = docs["docs/DEFINITIONS.md"].split("## Laws")[1]
-    found = set()
-    for name in crates():
-        crate = specs.crate(name)
-        for file in crate.files:
-            if file.endswith(".rt") and re.search(r"^pub fn \w+(?:<[^(]*>)?\(\)\n(?:[^{}]|\{[^{}]*\})*\{\}", specs.text(f"{crate.folder}/{file}"), re.M):
-                found.add(f"{name}::{file[4:-3].replace('/', '::')}")
-    told = {token for line in page.splitlines() if line.startswith("| `") for token in quoted(line.split("|")[1])}
-    return [f"docs/DEFINITIONS.md: no row for the laws of {it}" for it in sorted(found - told)] + [
-        f"docs/DEFINITIONS.md: {it} has no laws" for it in sorted(told - found)]
 
 
 CHECKS = (definitions, rows_of_definitions, laws, proofs, differences, architecture, paths, names, readmes, trust, safety, defined_labels, widths)
