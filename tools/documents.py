@@ -12,7 +12,7 @@ from specs import TOP
 FOREIGN = set("""
     BTreeMap Connection Connection::open Connection::query Copy Data Disk Err FinMap HANDLES Ok Some Transaction::query alloc b8fe6c3923a44bbe cp decode_of encode_lower
     hex_digit_value i impl jpeg malloc_consolidate mbtiles n on open_files perf pmtiles proofs python3 requires result rt specs sqlite3 sqlite_master src static stdin stdout t
-    Display Examples PMxxxxx malloc the_type u32 u64 u64::from u8 unknown
+    Display Examples InvalidInput PMxxxxx flock malloc the_type u32 u64 u64::from u8 unknown
 """.split())
 NAME = re.compile(r"[A-Za-z_]\w*(?:::[A-Za-z_]\w*)*")
 
