@@ -3,10 +3,11 @@
 
     tools/safety_table.py
 
-A call's refusals are the variants of error enums that its documentation and its clauses name, and `OutOfMemory` where its error has it. Its clauses are told apart by what they speak of: those
-on the answer alone, and those on what stands afterwards. The programs of rows that call it are found by its name in their sources, and whether one of them has objects fail call by call, by its
-lines. What is tried with refused memory stands in
-tools/refused_memory.py; of its rows those count that are in the page's table. A call without a clause on what stands, that takes an object to write on, or without a program is marked by `none`.
+A call's refusals are the variants of error enums that its documentation and its clauses name, and `OutOfMemory` where
+its error has it and no clause equates the answer with that of a test (`refused_by`). Its clauses are told apart by what
+they speak of: those on the answer alone, and those on what stands afterwards. The programs of rows that call it are found
+by its name in their sources, and whether one of them has objects fail call by call, by its lines. What is tried with
+refused memory stands in tools/refused_memory.py; of its rows those count that are in the page's table. A call without a clause on what stands, that takes an object to write on, or without a program is marked by `none`.
 Whatever stands between the two marks of docs/SAFETY.md is written anew.
 """
 import os
@@ -98,7 +99,8 @@ class Call:
         said += ''.join(f' {it}' for word, it in NAMING.items() if word in said)
         named = [it for it in variants if (error in WHOLE or re.search(rf'\b{it}\b', said)) and it != 'OutOfMemory' and not (error.endswith('Outcome') and it == 'Done')]
         handed = [f'those of {it}' for it in dict.fromkeys(re.findall(r'(?:refusals of|those of) (`[\w:]+`)', self.words))]
-        last = ['`OutOfMemory`'] if 'OutOfMemory' in variants or error in ('OutOfMemory', 'AllocError') else [f'`{error}`'] if error in ('MediumFault', 'SourceFault') else []
+        exact = any(re.match(r'result ≡ refused_by\b', body.strip()) for _, body in self.clauses)
+        last = [] if exact else ['`OutOfMemory`'] if 'OutOfMemory' in variants or error in ('OutOfMemory', 'AllocError') else [f'`{error}`'] if error in ('MediumFault', 'SourceFault') else []
         return ', '.join([f'`{it}`' for it in named] + handed + last)
 
     def writes(self):
