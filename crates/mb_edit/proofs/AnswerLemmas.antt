@@ -1,8 +1,8 @@
 -- Answers over stores that tell their tables or not.
-use Rattle.std.proofs.Common.{◌≡◌, ◌∙◌, ap, Bool, true, false, Ok, Err, refl}
+use Rattle.std.proofs.Common.{◌≡◌, ◌∙◌, ap, subst, sym, Bool, true, false, Result, Ok, Err, refl}
 use Rattle.std.proofs.lemmas.Bool.{false≢true}
-use Rattle.mb_edit.specs.Applying.{IsRefusedBy}
-use Rattle.mb_tables.specs.Refusals.{then}
+use Rattle.mb_edit.specs.Applying.{IsAnsweredBy, answer_of, applied}
+use Rattle.mb_tables.specs.Refusals.{Answers, is_free, then}
 use Rattle.mb_edit.specs.Step.{step}
 use Rattle.mb_loaded.specs.State.{State}
 use Rattle.mb_load.specs.StateOf.{state_of}
@@ -19,15 +19,37 @@ pub some_tables : (tells : Bool) (told : Tables) (P : Tables → Type 0) → (te
 some_tables true told P it own = record { tables = told; is = λ _. refl; fact = it refl }
 some_tables false told P it own = record { tables = own.0; is = λ e. absurd (false≢true e); fact = own.1 }
 
-module _ (force base_tells : Bool) (base_told : Tables) (patch_tells : Bool) (patch_told : Tables) (e : MbtError) where
+module _ (force base_tells : Bool) (base_told : Tables) (patch_tells : Bool) (patch_told : Tables) where
   -- the set is refused
-  pub base_refused : SomeTables base_tells base_told (λ t. state_of t ≡ Err e) → IsRefusedBy force base_tells base_told patch_tells patch_told e
-  base_refused b = record { base = b.tables; is_base = b.is; patch = patch_told; is_patch = λ _. refl; refused = ap (λ r. then r (λ s. then (state_of patch_told) (λ q. step force s q))) b.fact }
+  pub base_refused : (e : MbtError) → SomeTables base_tells base_told (λ t. is_free e ≡ false → state_of t ≡ Err e) → IsAnsweredBy force base_tells base_told patch_tells patch_told (Err e)
+  base_refused e b = record {
+    base = b.tables;
+    is_base = b.is;
+    patch = patch_told;
+    is_patch = λ _. refl;
+    answers = λ free. ap (λ (r : Result State MbtError). answer_of (then r (λ s. then (state_of patch_told) (λ q. step force s q)))) (b.fact free);
+  }
 
   -- the patch is refused
-  pub patch_refused : (s : State) → SomeTables base_tells base_told (λ t. state_of t ≡ Ok s) → SomeTables patch_tells patch_told (λ t. state_of t ≡ Err e) → IsRefusedBy force base_tells base_told patch_tells patch_told e
-  patch_refused s b p = record { base = b.tables; is_base = b.is; patch = p.tables; is_patch = p.is; refused = ap (λ r. then r (λ s. then (state_of p.tables) (λ q. step force s q))) b.fact ∙ ap (λ r. then r (λ q. step force s q)) p.fact }
+  pub patch_refused : (e : MbtError) (s : State) → SomeTables base_tells base_told (λ t. state_of t ≡ Ok s) → SomeTables patch_tells patch_told (λ t. is_free e ≡ false → state_of t ≡ Err e) → IsAnsweredBy force base_tells base_told patch_tells patch_told (Err e)
+  patch_refused e s b p = record {
+    base = b.tables;
+    is_base = b.is;
+    patch = p.tables;
+    is_patch = p.is;
+    answers = λ free. ap (λ (r : Result State MbtError). answer_of (then r (λ s. then (state_of p.tables) (λ q. step force s q)))) b.fact
+        ∙ ap (λ (r : Result State MbtError). answer_of (then r (λ q. step force s q))) (p.fact free);
+  }
 
-  -- the step is refused
-  pub step_refused : (s q : State) → SomeTables base_tells base_told (λ t. state_of t ≡ Ok s) → SomeTables patch_tells patch_told (λ t. state_of t ≡ Ok q) → step force s q ≡ Err e → IsRefusedBy force base_tells base_told patch_tells patch_told e
-  step_refused s q b p h = record { base = b.tables; is_base = b.is; patch = p.tables; is_patch = p.is; refused = ap (λ r. then r (λ s. then (state_of p.tables) (λ q. step force s q))) b.fact ∙ (ap (λ r. then r (λ q. step force s q)) p.fact ∙ h) }
+  -- both are loaded: the answer of the step
+  pub step_answered : (r : Result (Unit {0}) MbtError) (s q : State) → SomeTables base_tells base_told (λ t. state_of t ≡ Ok s) → SomeTables patch_tells patch_told (λ t. state_of t ≡ Ok q) → Answers (answer_of (step force s q)) r → IsAnsweredBy force base_tells base_told patch_tells patch_told r
+  step_answered r s q b p h =
+      let same : applied force b.tables p.tables ≡ step force s q =
+      ap (λ (r : Result State MbtError). then r (λ s. then (state_of p.tables) (λ q. step force s q))) b.fact ∙ ap (λ (r : Result State MbtError). then r (λ q. step force s q)) p.fact in
+      record {
+        base = b.tables;
+        is_base = b.is;
+        patch = p.tables;
+        is_patch = p.is;
+        answers = subst (λ (x : Result State MbtError). Answers (answer_of x) r) (sym same) h;
+      }

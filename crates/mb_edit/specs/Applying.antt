@@ -10,7 +10,7 @@ use Rattle.mb_load.specs.StateOf.{state_of}
 use Rattle.mb_tables.specs.Cell.{is_null}
 use Rattle.mb_tables.specs.Kind.{tile_table}
 use Rattle.mb_tables.specs.Key.{has_key}
-use Rattle.mb_tables.specs.Refusals.{then}
+use Rattle.mb_tables.specs.Refusals.{Answers, then}
 use Rattle.mb_tables.specs.Table.{Tables}
 use Rattle.mb_tables.specs.Tiles.{Place, cell_at, place_cmp, place_of}
 use Rattle.mb_tables.specs.declared.cell.Cell.{Cell}
@@ -58,10 +58,15 @@ pub record IsAppliedBy (force : Bool) (tells : Bool) (told old new : Tables) : T
   pub is_told : tells ≡ true → patch ≡ told
   pub applied : IsApplied force old patch new
 
--- a refusal that is due of a set and a patch: of what they tell, and of some tables where they tell nothing
-pub record IsRefusedBy (force : Bool) (base_tells : Bool) (base_told : Tables) (patch_tells : Bool) (patch_told : Tables) (e : MbtError) : Type 0 where
+-- what a call answers that keeps the set after the patch to itself
+abbrev pub answer_of : Result State MbtError → Result (Unit {0}) MbtError
+answer_of r = then r (λ next. Ok tt)
+
+-- the answer that is due of a set and a patch: of what they tell, and of some tables that their answers could be of, where they tell nothing. Only want of memory
+-- and a fault of a store may come in its place
+pub record IsAnsweredBy (force : Bool) (base_tells : Bool) (base_told : Tables) (patch_tells : Bool) (patch_told : Tables) (answer : Result (Unit {0}) MbtError) : Type 0 where
   pub base : Tables
   pub is_base : base_tells ≡ true → base ≡ base_told
   pub patch : Tables
   pub is_patch : patch_tells ≡ true → patch ≡ patch_told
-  pub refused : applied force base patch ≡ Err e
+  pub answers : Answers (answer_of (applied force base patch)) answer

@@ -1,8 +1,7 @@
 // Applying a patch to a store.
 ghost use Rattle.mb_store.specs.Kept.{FaultsCounted, Keeps, ReadsOnly};
-ghost use Rattle.std.specs.Prelude.{◌≡◌, ◌⊎◌, true, false, OnOk, OnErr, IfErr};
-ghost use Rattle.mb_edit.specs.Applying.{IsAppliedBy, IsRefusedBy};
-ghost use Rattle.mb_tables.specs.Refusals.{is_free};
+ghost use Rattle.std.specs.Prelude.{◌≡◌, ◌⊎◌, true, OnOk, OnErr};
+ghost use Rattle.mb_edit.specs.Applying.{IsAnsweredBy, IsAppliedBy};
 ghost use Rattle.base_values.specs.Counts.{Rose};
 
 use crate::patch_loaded;
@@ -15,17 +14,16 @@ use std::alloc::Global;
 /// It answers the first refusal of these: that of loading the set, that of loading the patch, that of `patch_loaded`. Refused, both stores hold what they
 /// held; the patch does so always. After Ok the tables load again as the patched set. Rows of places that the patch doesn't name stay as they
 /// were, also stored digests; rows of bytes that it puts carry the digest of these, where the layout has one. A store that tells nothing is
-/// answered as tables are that its answers could be of. `StoreFault` comes only where the count of faults of one of the two stores rose.
+/// answered as tables are that its answers could be of, at Ok too: a patch that tells its tables then loads and passes its tests.
+/// `StoreFault` comes only where the count of faults of one of the two stores rose.
 pub fn apply_patch<S: TileStore, P: TileStore>(
     alloc: Global,
     base: &mut S,
     patch: &mut P,
     force: bool,
 ) -> MbtResult<()>
-    ensures answer { IfErr result
-        (λ e. is_free e ≡ false
-        → IsRefusedBy force (S.tells base.old) (S.told base.old) (P.tells patch.old)
-        (P.told patch.old) e) }
+    ensures answer { IsAnsweredBy force (S.tells base.old) (S.told base.old) (P.tells patch.old)
+        (P.told patch.old) result }
     ensures applied { S.tells base.old ≡ true
         → OnOk result (IsAppliedBy force (P.tells patch.old) (P.told patch.old) (S.told base.old)
         (S.told base.new)) }

@@ -3,7 +3,7 @@ ghost use Rattle.std.specs.Prelude.{◌≡◌, IfOk, is_some, not};
 ghost use Rattle.mb_edit.specs.PatchingOrder.{can_be_patched, may_patch, wrong_algorithm, wrong_base};
 ghost use Rattle.mb_lists.specs.Metadata.{after_hash, agg_hash, before_hash};
 ghost use Rattle.mb_lists.specs.Metadata.{text_at};
-ghost use Rattle.mb_constraints.specs.DiffHashes.{base_refused, patch_refused, unless_forced};
+ghost use Rattle.mb_constraints.specs.DiffHashes.{base_refused, patch_refused, refused_by, unless_forced};
 ghost use Rattle.mb_loaded.specs.GivenIds.{ids_given};
 ghost use Rattle.mb_tables.specs.Refusals.{Tests, unless};
 
@@ -20,7 +20,9 @@ use tile_hash::HashAlgorithm;
 
 /// The test that a patch describes no table of binary differences, `UnsupportedPatchType` if not.
 pub fn test_whole_tiles(patch: &Loaded) -> MbtResult<()>
-    ensures { Tests (unless (not (is_some patch.now.state.patch_type))
+    ensures answer { result ≡ refused_by (unless (not (is_some patch.now.state.patch_type))
+        MbtError.UnsupportedPatchType) }
+    ensures tests { Tests (unless (not (is_some patch.now.state.patch_type))
         MbtError.UnsupportedPatchType) result }
 {
     if patch.patch_type().is_some() {
@@ -31,7 +33,10 @@ pub fn test_whole_tiles(patch: &Loaded) -> MbtResult<()>
 
 /// The test that sets of a layout can be patched, `UnsupportedCopyOperation` if not: those that are no caches, and whose ids are no numbers.
 pub fn test_patchable(layout: MbtType) -> MbtResult<()>
-    ensures { Tests (unless (can_be_patched layout) MbtError.UnsupportedCopyOperation) result }
+    ensures answer { result ≡ refused_by (unless (can_be_patched layout)
+        MbtError.UnsupportedCopyOperation) }
+    ensures tests { Tests (unless (can_be_patched layout) MbtError.UnsupportedCopyOperation)
+        result }
 {
     match layout {
         MbtType::Flat
@@ -53,7 +58,10 @@ fn has_text(set: &Loaded, name: &str) -> bool
 
 /// The test of the digests of all tiles that a patch has: `PatchFileHasNoHashes`, `PatchFileHasNoBeforeHash`. Forced, it passes.
 pub fn test_hashes_of_patch(patch: &Loaded, force: bool) -> MbtResult<()>
-    ensures { Tests (unless_forced force
+    ensures answer { result ≡ refused_by (unless_forced force
+        (patch_refused (is_some (before_hash patch.now.state.metadata))
+        (is_some (after_hash patch.now.state.metadata)))) }
+    ensures tests { Tests (unless_forced force
         (patch_refused (is_some (before_hash patch.now.state.metadata))
         (is_some (after_hash patch.now.state.metadata)))) result }
 {
@@ -64,7 +72,11 @@ pub fn test_hashes_of_patch(patch: &Loaded, force: bool) -> MbtResult<()>
 
 /// The test of those that a set has: `CannotDiffFileWithoutHash`, `DiffingDiffFile`. Forced, it passes.
 pub fn test_hashes_of_base(base: &Loaded, force: bool) -> MbtResult<()>
-    ensures { Tests (unless_forced force
+    ensures answer { result ≡ refused_by (unless_forced force
+        (base_refused (is_some (agg_hash base.now.state.metadata))
+        (is_some (before_hash base.now.state.metadata))
+        (is_some (after_hash base.now.state.metadata)))) }
+    ensures tests { Tests (unless_forced force
         (base_refused (is_some (agg_hash base.now.state.metadata))
         (is_some (before_hash base.now.state.metadata))
         (is_some (after_hash base.now.state.metadata)))) result }

@@ -1,5 +1,6 @@
 // Putting tiles into a loaded set.
 ghost use Rattle.std.specs.Prelude.{◌≡◌, ◌≢◌, IfErr, IfOk, None, Some, false};
+ghost use Rattle.mb_constraints.specs.DiffHashes.{refused_by};
 ghost use Rattle.mb_edit.specs.Put.{may_put, state_put, tiles_put};
 ghost use Rattle.mb_loaded.specs.GivenIds.{ids_given};
 ghost use Rattle.mb_load.specs.LoadedFrom.{AllOnBoard, IsLoadedFrom, NamesAlgorithm};
@@ -15,7 +16,9 @@ use std::alloc::Global;
 
 /// The test that tiles can be put into sets of a layout: `UnsupportedCopyOperation` where its ids are numbers.
 pub fn test_editable(layout: MbtType) -> MbtResult<()>
-    ensures { Tests (unless (is_editable layout) MbtError.UnsupportedCopyOperation) result }
+    ensures answer { result ≡ refused_by (unless (is_editable layout)
+        MbtError.UnsupportedCopyOperation) }
+    ensures tests { Tests (unless (is_editable layout) MbtError.UnsupportedCopyOperation) result }
 {
     match layout {
         MbtType::Normalized {

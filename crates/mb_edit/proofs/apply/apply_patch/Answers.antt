@@ -1,11 +1,13 @@
-use Rattle.std.proofs.Common.{◌≡◌, ◌∙◌, sym, subst, true, Ok, Err}
+use Rattle.std.proofs.Common.{◌≡◌, ◌∙◌, ap, sym, subst, true, false, Ok, Err}
 use Rattle.std.proofs.lemmas.Bool.{false≢true}
 use Rattle.std.proofs.lemmas.Result.{err_from_is_err_and}
 use Rattle.mb_load.specs.Committing.{MakesChanges}
-use Rattle.mb_edit.proofs.AnswerLemmas.{base_refused, patch_refused, some_tables, step_refused}
+use Rattle.mb_edit.proofs.AnswerLemmas.{base_refused, patch_refused, some_tables, step_answered}
+use Rattle.mb_edit.specs.Applying.{answer_of}
 use Rattle.mb_edit.proofs.ApplyLemmas.{next_applied, next_loaded}
 use Rattle.mb_load.specs.LoadedFrom.{IsLoadedFrom}
 use Rattle.mb_load.specs.StateOf.{state_of}
+use Rattle.mb_tables.specs.Refusals.{is_free}
 use Rattle.mb_tables.specs.Table.{Tables}
 use Rattle.mb_edit.proofs.apply.apply_patch.Goals as goal
 
@@ -18,28 +20,38 @@ commit_loaded-requires g c tells =
 pub returns-in_err-set-clause-answer : goal.returns-in_err-set-clause-answer
 returns-in_err-set-clause-answer g c =
     let p = err_from_is_err_and c.from_residual.result c.from_residual.ensures.1 in
-    rw (p.1, p.2) (λ free. base_refused c.args.force (g.S.TileStore.tells c.args.base.now) (g.S.TileStore.told c.args.base.now) (g.P.TileStore.tells c.args.patch.now) (g.P.TileStore.told c.args.patch.now) _
-    (some_tables (g.S.TileStore.tells c.args.base.now) (g.S.TileStore.told c.args.base.now) (λ t. state_of t ≡ Err _) (λ told. c.in_err-set.ensures.answer told free) (c.in_err-set.ensures.own.0, c.in_err-set.ensures.own.1 free)))
+    rw (p.1, p.2) (base_refused c.args.force (g.S.TileStore.tells c.args.base.now) (g.S.TileStore.told c.args.base.now) (g.P.TileStore.tells c.args.patch.now) (g.P.TileStore.told c.args.patch.now) _
+    (some_tables (g.S.TileStore.tells c.args.base.now) (g.S.TileStore.told c.args.base.now) (λ t. is_free _ ≡ false → state_of t ≡ Err _) c.in_err-set.ensures.answer c.in_err-set.ensures.own))
 
 pub returns-in_err-other-clause-answer : goal.returns-in_err-other-clause-answer
 returns-in_err-other-clause-answer g c =
     let p = err_from_is_err_and c.from_residual-in_err-other.result c.from_residual-in_err-other.ensures.1 in
-    rw (p.1, p.2) (λ free. patch_refused c.args.force (g.S.TileStore.tells c.args.base.now) (g.S.TileStore.told c.args.base.now) (g.P.TileStore.tells c.args.patch.now) (g.P.TileStore.told c.args.patch.now) _ c.in_ok-set.set.state
+    rw (p.1, p.2) (patch_refused c.args.force (g.S.TileStore.tells c.args.base.now) (g.S.TileStore.told c.args.base.now) (g.P.TileStore.tells c.args.patch.now) (g.P.TileStore.told c.args.patch.now) _ c.in_ok-set.set.state
     (some_tables (g.S.TileStore.tells c.args.base.now) (g.S.TileStore.told c.args.base.now) (λ t. state_of t ≡ Ok c.in_ok-set.set.state) (λ told. (c.in_ok-set.ensures.answer told).0) (c.in_ok-set.ensures.own.0, c.in_ok-set.ensures.own.1.0))
-    (some_tables (g.P.TileStore.tells c.args.patch.now) (g.P.TileStore.told c.args.patch.now) (λ t. state_of t ≡ Err _) (λ told. c.in_err-other.ensures.answer told free) (c.in_err-other.ensures.own.0, c.in_err-other.ensures.own.1 free)))
+    (some_tables (g.P.TileStore.tells c.args.patch.now) (g.P.TileStore.told c.args.patch.now) (λ t. is_free _ ≡ false → state_of t ≡ Err _) c.in_err-other.ensures.answer c.in_err-other.ensures.own))
 
 pub returns-in_err-patched-clause-answer : goal.returns-in_err-patched-clause-answer
 returns-in_err-patched-clause-answer g c =
     let p = err_from_is_err_and c.from_residual-in_err-patched.result c.from_residual-in_err-patched.ensures.1 in
-    rw (p.1, p.2) (λ free. step_refused c.args.force (g.S.TileStore.tells c.args.base.now) (g.S.TileStore.told c.args.base.now) (g.P.TileStore.tells c.args.patch.now) (g.P.TileStore.told c.args.patch.now) _ c.in_ok-set.set.state c.in_ok-other.other.state
+    rw (p.1, p.2) (step_answered c.args.force (g.S.TileStore.tells c.args.base.now) (g.S.TileStore.told c.args.base.now) (g.P.TileStore.tells c.args.patch.now) (g.P.TileStore.told c.args.patch.now) (Err _) c.in_ok-set.set.state c.in_ok-other.other.state
     (some_tables (g.S.TileStore.tells c.args.base.now) (g.S.TileStore.told c.args.base.now) (λ t. state_of t ≡ Ok c.in_ok-set.set.state) (λ told. (c.in_ok-set.ensures.answer told).0) (c.in_ok-set.ensures.own.0, c.in_ok-set.ensures.own.1.0))
     (some_tables (g.P.TileStore.tells c.args.patch.now) (g.P.TileStore.told c.args.patch.now) (λ t. state_of t ≡ Ok c.in_ok-other.other.state) (λ told. (c.in_ok-other.ensures.answer told).0) (c.in_ok-other.ensures.own.0, c.in_ok-other.ensures.own.1.0))
-    (c.in_err-patched.ensures.refused free))
+    (λ free. ap answer_of (c.in_err-patched.ensures.refused free)))
 
 pub returns-in_err-commit_loaded-clause-answer : goal.returns-in_err-commit_loaded-clause-answer
 returns-in_err-commit_loaded-clause-answer g c =
     let p = err_from_is_err_and c.from_residual-in_err-commit_loaded.result c.from_residual-in_err-commit_loaded.ensures.1 in
-    rw (p.1, p.2) (λ free. absurd (false≢true (sym free ∙ c.in_err-commit_loaded.ensures.free)))
+    rw (p.1, p.2) (step_answered c.args.force (g.S.TileStore.tells c.args.base.now) (g.S.TileStore.told c.args.base.now) (g.P.TileStore.tells c.args.patch.now) (g.P.TileStore.told c.args.patch.now) (Err _) c.in_ok-set.set.state c.in_ok-other.other.state
+    (some_tables (g.S.TileStore.tells c.args.base.now) (g.S.TileStore.told c.args.base.now) (λ t. state_of t ≡ Ok c.in_ok-set.set.state) (λ told. (c.in_ok-set.ensures.answer told).0) (c.in_ok-set.ensures.own.0, c.in_ok-set.ensures.own.1.0))
+    (some_tables (g.P.TileStore.tells c.args.patch.now) (g.P.TileStore.told c.args.patch.now) (λ t. state_of t ≡ Ok c.in_ok-other.other.state) (λ told. (c.in_ok-other.ensures.answer told).0) (c.in_ok-other.ensures.own.0, c.in_ok-other.ensures.own.1.0))
+    (λ free. absurd (false≢true (sym free ∙ c.in_err-commit_loaded.ensures.free))))
+
+pub returns-clause-answer : goal.returns-clause-answer
+returns-clause-answer g c =
+    step_answered c.args.force (g.S.TileStore.tells c.args.base.now) (g.S.TileStore.told c.args.base.now) (g.P.TileStore.tells c.args.patch.now) (g.P.TileStore.told c.args.patch.now) (Ok tt) c.in_ok-set.set.state c.in_ok-other.other.state
+    (some_tables (g.S.TileStore.tells c.args.base.now) (g.S.TileStore.told c.args.base.now) (λ t. state_of t ≡ Ok c.in_ok-set.set.state) (λ told. (c.in_ok-set.ensures.answer told).0) (c.in_ok-set.ensures.own.0, c.in_ok-set.ensures.own.1.0))
+    (some_tables (g.P.TileStore.tells c.args.patch.now) (g.P.TileStore.told c.args.patch.now) (λ t. state_of t ≡ Ok c.in_ok-other.other.state) (λ told. (c.in_ok-other.ensures.answer told).0) (c.in_ok-other.ensures.own.0, c.in_ok-other.ensures.own.1.0))
+    (ap answer_of c.in_ok-patched.ensures.answer)
 
 pub returns-clause-applied : goal.returns-clause-applied
 returns-clause-applied g c told =

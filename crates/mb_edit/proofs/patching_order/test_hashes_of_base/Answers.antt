@@ -1,4 +1,4 @@
-use Rattle.std.proofs.Common.{◌≡◌, ◌∙◌, is_some, subst, sym, Result}
+use Rattle.std.proofs.Common.{◌∙◌, is_some, subst, sym, Result}
 use Rattle.mb_constraints.specs.DiffHashes.{base_refused, refused_by, unless_forced}
 use Rattle.mb_tables.specs.Refusals.{Tests}
 use Rattle.mb_tables.specs.declared.error.MbtError.{MbtError}
@@ -6,13 +6,16 @@ use Rattle.mb_lists.specs.Metadata.{after_hash, agg_hash, before_hash}
 use Rattle.mb_edit.proofs.OrderLemmas.{base_tests, same_three}
 use Rattle.mb_edit.proofs.patching_order.test_hashes_of_base.Goals as goal
 
-pub returns : goal.returns
-returns c =
-    let answer : c.test_base_hashes.result ≡ refused_by (unless_forced c.args.force (base_refused (is_some (agg_hash c.args.base.now.state.metadata)) (is_some (before_hash c.args.base.now.state.metadata)) (is_some (after_hash c.args.base.now.state.metadata)))) =
+pub returns-clause-answer : goal.returns-clause-answer
+returns-clause-answer c =
     c.test_base_hashes.ensures
     ∙ same_three (λ agg before after. refused_by (unless_forced c.args.force (base_refused agg before after)))
     c.has_text-agg.result (is_some (agg_hash c.args.base.now.state.metadata))
     c.has_text-before.result (is_some (before_hash c.args.base.now.state.metadata))
     c.has_text-after.result (is_some (after_hash c.args.base.now.state.metadata))
-    c.has_text-agg.ensures c.has_text-before.ensures c.has_text-after.ensures in
-    subst (λ (r : Result (Unit {0}) MbtError). Tests (unless_forced c.args.force (base_refused (is_some (agg_hash c.args.base.now.state.metadata)) (is_some (before_hash c.args.base.now.state.metadata)) (is_some (after_hash c.args.base.now.state.metadata)))) r) (sym answer) (base_tests c.args.force (is_some (agg_hash c.args.base.now.state.metadata)) (is_some (before_hash c.args.base.now.state.metadata)) (is_some (after_hash c.args.base.now.state.metadata)))
+    c.has_text-agg.ensures c.has_text-before.ensures c.has_text-after.ensures
+
+pub returns-clause-tests : goal.returns-clause-tests
+returns-clause-tests c =
+    subst (λ (r : Result (Unit {0}) MbtError). Tests (unless_forced c.args.force (base_refused (is_some (agg_hash c.args.base.now.state.metadata)) (is_some (before_hash c.args.base.now.state.metadata)) (is_some (after_hash c.args.base.now.state.metadata)))) r) (sym (returns-clause-answer c))
+    (base_tests c.args.force (is_some (agg_hash c.args.base.now.state.metadata)) (is_some (before_hash c.args.base.now.state.metadata)) (is_some (after_hash c.args.base.now.state.metadata)))

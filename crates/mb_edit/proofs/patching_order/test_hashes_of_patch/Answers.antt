@@ -1,4 +1,4 @@
-use Rattle.std.proofs.Common.{◌≡◌, ◌∙◌, is_some, subst, sym, Result}
+use Rattle.std.proofs.Common.{◌∙◌, is_some, subst, sym, Result}
 use Rattle.mb_constraints.specs.DiffHashes.{patch_refused, refused_by, unless_forced}
 use Rattle.mb_tables.specs.Refusals.{Tests}
 use Rattle.mb_tables.specs.declared.error.MbtError.{MbtError}
@@ -6,12 +6,15 @@ use Rattle.mb_lists.specs.Metadata.{after_hash, before_hash}
 use Rattle.mb_edit.proofs.OrderLemmas.{patch_tests, same_two}
 use Rattle.mb_edit.proofs.patching_order.test_hashes_of_patch.Goals as goal
 
-pub returns : goal.returns
-returns c =
-    let answer : c.test_patch_hashes.result ≡ refused_by (unless_forced c.args.force (patch_refused (is_some (before_hash c.args.patch.now.state.metadata)) (is_some (after_hash c.args.patch.now.state.metadata)))) =
+pub returns-clause-answer : goal.returns-clause-answer
+returns-clause-answer c =
     c.test_patch_hashes.ensures
     ∙ same_two (λ before after. refused_by (unless_forced c.args.force (patch_refused before after)))
     c.has_text-before.result (is_some (before_hash c.args.patch.now.state.metadata))
     c.has_text-after.result (is_some (after_hash c.args.patch.now.state.metadata))
-    c.has_text-before.ensures c.has_text-after.ensures in
-    subst (λ (r : Result (Unit {0}) MbtError). Tests (unless_forced c.args.force (patch_refused (is_some (before_hash c.args.patch.now.state.metadata)) (is_some (after_hash c.args.patch.now.state.metadata)))) r) (sym answer) (patch_tests c.args.force (is_some (before_hash c.args.patch.now.state.metadata)) (is_some (after_hash c.args.patch.now.state.metadata)))
+    c.has_text-before.ensures c.has_text-after.ensures
+
+pub returns-clause-tests : goal.returns-clause-tests
+returns-clause-tests c =
+    subst (λ (r : Result (Unit {0}) MbtError). Tests (unless_forced c.args.force (patch_refused (is_some (before_hash c.args.patch.now.state.metadata)) (is_some (after_hash c.args.patch.now.state.metadata)))) r) (sym (returns-clause-answer c))
+    (patch_tests c.args.force (is_some (before_hash c.args.patch.now.state.metadata)) (is_some (after_hash c.args.patch.now.state.metadata)))

@@ -10,7 +10,7 @@ returns-clause-state c = ap (λ (h : Held). h.state) c.in_ok-put.ensures ∙ put
 
 pub returns-clause-loaded : goal.returns-clause-loaded
 returns-clause-loaded c t loaded on =
-    let may : may_put c.args.base.state c.args.tiles.state.tiles ≡ None = both_pass c.args.base.state c.args.tiles.state.tiles c.mbt_type.result c.mbt_type.ensures c.in_ok-test_editable.ensures c.in_ok-ids.ensures.tests in
+    let may : may_put c.args.base.state c.args.tiles.state.tiles ≡ None = both_pass c.args.base.state c.args.tiles.state.tiles c.mbt_type.result c.mbt_type.ensures c.in_ok-test_editable.ensures.tests c.in_ok-ids.ensures.tests in
     subst (IsLoadedFrom t) (sym c.in_ok-put.ensures) (put_loaded t c.args.base c.args.tiles.state.tiles may on loaded)
 
 pub returns-clause-named : goal.returns-clause-named
