@@ -126,7 +126,8 @@ class Call:
                 others.append(it)
         more = [f'those of `{name}`' for name in sorted(dict.fromkeys(f'{it.plain()}` of `{it.crate}' if it.plain() == self.plain() else it.plain() for it in others))]
         variants = known.get(error, [])
-        last = ['`OutOfMemory`'] if 'OutOfMemory' in variants or error in ('OutOfMemory', 'AllocError') else [f'`{error}`'] if error in ('MediumFault', 'SourceFault') else []
+        exact = any(re.match(r'result ≡ refused_by\b', body.strip()) for _, body in self.clauses)
+        last = [] if exact else ['`OutOfMemory`'] if 'OutOfMemory' in variants or error in ('OutOfMemory', 'AllocError') else [f'`{error}`'] if error in ('MediumFault', 'SourceFault') else []
         return ', '.join([f'`{it}`' for it in named] + more + last)
 
     def writes(self):

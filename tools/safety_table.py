@@ -4,7 +4,7 @@
     tools/safety_table.py
 
 A call's refusals are the variants of error enums that its documentation, its clauses, its body and the bodies of the functions below it name, as far as these aren't public calls: of those with the
-same error it has `those of` the call, where they have a refusal more. `StoreFault` is named too where a store is asked, and `OutOfMemory` where the error has it. Its clauses are told apart by what
+same error it has `those of` the call, where they have a refusal more. `StoreFault` is named too where a store is asked, and `OutOfMemory` where the error has it and no clause equates the answer with that of a test (`refused_by`). Its clauses are told apart by what
 they speak of: those on the answer alone, and those on what stands afterwards. The programs of rows that call it are found by its name in their sources, and whether one of them has objects fail call
 by call, by its lines. What is tried with refused memory stands in tools/refused_memory.py; of its rows those count that are in the page's table. A call without a clause on what stands, that takes an
 object to write on, or without a program is marked by `none`. Whatever stands between the two marks of docs/SAFETY.md is written anew.
