@@ -40,6 +40,10 @@ class Cases:
             return self.rows.row(f'{place} tables')
         self.rows.row(f"{place} rows {' '.join(of.tables)}", *(f"{name} Ok([{', '.join(map(show_row, cells))}])" for name, cells in of.tables.items()))
 
+    def say_metadata(self, place, of):
+        cells = of.tables['metadata']
+        self.rows.row(f'{place} rows metadata', f"metadata Ok([{', '.join(map(show_row, cells))}])")
+
     def say_tables(self, place, of):
         self.rows.row(f'{place} tables', *(f'{name} {word}' for name, word in of.described()))
 
@@ -366,8 +370,21 @@ def random_copies(cases):
             cases.run(Copier(**{**fields, 'mode': chance.choice(MODES)}), source, target)
 
 
+def large(cases):
+    """Some thousands of tiles, into a set that is made and over one that is there. The hash of all tiles, which metadata has then, tells them."""
+    tiles = [('tiles', 'i6', f'i{n // 64}', f'i{n % 64}', 'x' + (b'%d' % (n % 997)).hex()) for n in reversed(range(4096))]
+    source = Set('flat', tiles)
+    cases.make('src', source)
+    for copier, target in ((Copier(type='normalized'), Set(None)), (Copier(mode='ignore'), Set('flat', tiles[::9]))):
+        cases.make('dst', target)
+        answer = copy(copier, source, target)
+        assert answer == 'Ok(())'
+        cases.rows.row(' '.join(['run', *copier.words()]), answer)
+        cases.say_metadata('dst', target)
+
+
 def write(rows):
     labels(rows)
     cases = Cases(rows)
-    for part in (one_tile, expiring, into_nothing, over_others, zooms, boxes, validated, algorithms, kinds, duplicates, nulls, collisions, order_of_refusals, faults, random_copies):
+    for part in (one_tile, expiring, into_nothing, over_others, zooms, boxes, validated, algorithms, kinds, duplicates, nulls, collisions, order_of_refusals, faults, random_copies, large):
         part(cases)

@@ -176,6 +176,13 @@ def large(rows):
         assert insert(held, 'override', batch) == 'Ok(())'
         rows.row(line('override', batch), 'Ok(())')
         held.say_digests()
+    # all tiles of a zoom
+    for layout in ('flat', 'normalized'):
+        held = Held(rows, layout, [])
+        batch = [(6, n // 64, 63 - n % 64, b'%d' % (n % 997)) for n in reversed(range(4096))]
+        assert insert(held, 'abort', batch) == 'Ok(())'
+        rows.row(line('abort', batch), 'Ok(())')
+        held.say_digests()
 
 
 def labels(rows):

@@ -1,6 +1,7 @@
 # What patches make of the tables of a set, by the rules of patches, for tools/set_rows.py and tools/base_cases.py.
 # tools/sets.py has these rules a second time, on sets that are loaded; tools/base_cases.py holds one against the other.
 import hashlib
+from bisect import bisect_right
 
 import shown
 from hashes import fnv1a, xxh3, xxh64
@@ -84,10 +85,10 @@ def order(cell):
 
 
 def put_row(rows, width, order, cells):
-    """One row in place of those of its key."""
-    rows[:] = [r for r in rows if list(r[:width]) != list(cells[:width])]
-    key = [order(c) for c in cells[:width]]
-    rows.insert(next((i for i, r in enumerate(rows) if [order(c) for c in r[:width]] > key), len(rows)), tuple(cells))
+    """One row in place of those of its key. The rows are in the order of their keys."""
+    own = list(cells[:width])
+    rows[:] = [r for r in rows if list(r[:width]) != own]
+    rows.insert(bisect_right(rows, [order(c) for c in own], key=lambda r: [order(c) for c in r[:width]]), tuple(cells))
 
 
 def remove(rows, key):

@@ -209,6 +209,36 @@ def written(rows, tree, path, data):
     tree.files[path] = data
 
 
+def beside(rows, tree):
+    """What has one of the names beside a file stays, after Ok and after a refusal, and no file is left beside."""
+    there = 'made/here/8/1'
+    rows.row(f'link folder {there}/.2.png.part1')
+    rows.row(f'link file {there}/.2.png.part')
+    rows.row(f'link made nowhere {there}/.2.png.part2')
+    written(rows, tree, '8/1/2.png', b'beside')
+    tree.files['8/1/.2.png.part'] = b'1'
+    tree.say()
+    rows.row(f'link there {there}/.2.png.part1', 'true')
+    rows.row(f'link is_link {there}/.2.png.part2', 'true')
+    rows.row(f'link there {there}/nowhere', 'false')
+    # a folder has the name that the file is to have
+    rows.row(f'link folder {there}/3.png')
+    rows.row(f'link file {there}/.3.png.part')
+    rows.row('folder write t8/1/3.png x01', 'Err(Fault)')
+    rows.row('folder write t8/1/3.png x01', 'Err(Fault)')
+    tree.files['8/1/.3.png.part'] = b'1'
+    tree.say()
+    # all names are taken but one, and then all
+    for number in ('', *range(1, 99)):
+        rows.row(f'link file {there}/.4.png.part{number}')
+        tree.files[f'8/1/.4.png.part{number}'] = b'1'
+    written(rows, tree, '8/1/4.png', b'last name')
+    rows.row(f'link file {there}/.4.png.part99')
+    tree.files['8/1/.4.png.part99'] = b'1'
+    rows.row('folder write t8/1/4.png x01', 'Err(Fault)')
+    tree.say()
+
+
 def folders():
     rows = ROWS
     # a root that is missing, and one that is a file
@@ -259,10 +289,13 @@ def folders():
     rows.row('link is_link made/here/to_file', 'false')
     rows.row('link made ../../other/folder/file made/here/.to_nothing.part')
     written(rows, tree, 'to_nothing', b'own')
-    rows.row('link there made/here/.to_nothing.part', 'false')
+    rows.row('link is_link made/here/.to_nothing.part', 'true')
+    tree.files['.to_nothing.part'] = b'1'
     tree.say()
     rows.row('folder open other')
     Tree(rows, {'folder/file': b'1'}, 'folder').say()
+    rows.row('folder open made/here')
+    beside(rows, tree)
     # packed, and unpacked into another folder
     rows.row('folder open made/here')
     store = Store(rows)

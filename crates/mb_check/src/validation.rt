@@ -12,15 +12,24 @@ use std::alloc::Global;
 use std::fmt;
 
 /// What a validation does with the hash of all tiles in a set's metadata.
-#[derive(Clone, Copy, Debug, Default, PartialEq, Eq)]
+#[derive(Clone, Copy, Debug, PartialEq, Eq)]
 pub enum AggHashType {
     /// It has to be the computed one.
-    #[default]
     Verify,
     /// The computed one is stored.
     Update,
     /// It isn't looked at.
     Off,
+}
+
+impl Default for AggHashType {
+    ghost use Rattle.mb_check.specs.declared.validation.AggHashType.TheVariants.{Verify};
+
+    ghost is_default = { λ kind. kind ≡ Verify };
+
+    fn default() -> AggHashType {
+        AggHashType::Verify
+    }
 }
 
 impl AggHashType {

@@ -5,15 +5,24 @@ ghost use Rattle.mb_copy.specs.CopyWords.{copies_metadata, copies_tiles, copy_wo
 use std::fmt;
 
 /// What of a set is copied.
-#[derive(Clone, Copy, Debug, Default, PartialEq, Eq, Hash)]
+#[derive(Clone, Copy, Debug, PartialEq, Eq, Hash)]
 pub enum CopyType {
     /// Its tiles and its metadata.
-    #[default]
     All,
     /// Its metadata alone.
     Metadata,
     /// Its tiles alone.
     Tiles,
+}
+
+impl Default for CopyType {
+    ghost use Rattle.mb_copy.specs.declared.copy_type.CopyType.TheVariants.{All};
+
+    ghost is_default = { λ copy. copy ≡ All };
+
+    fn default() -> CopyType {
+        CopyType::All
+    }
 }
 
 impl CopyType {

@@ -1,9 +1,9 @@
-// Files below a folder of the system.
+// Files below a folder of the system: their list, and their bytes.
 use crate::TreeError;
 use base_values::{BlobVal, TextVal};
 use std::alloc::Global;
 use std::fs::{DirEntry, File};
-use std::io::{Error, ErrorKind, Read, Write};
+use std::io::{Error, ErrorKind, Read};
 use std::{fs, io};
 
 // What is found below a root: the paths of files, and folders that are yet to be listed.
@@ -13,23 +13,24 @@ struct Found {
     folders: Vec<TextVal>,
 }
 
-// What a refusal of the system comes to.
-fn refusal(error: Error) -> TreeError {
+/// What a refusal of the system comes to.
+pub(crate) fn refusal(error: Error) -> TreeError {
     if error.kind() == ErrorKind::OutOfMemory {
         return TreeError::OutOfMemory;
     }
     TreeError::Fault
 }
 
-fn done<T>(answer: io::Result<T>) -> Result<T, TreeError> {
+/// An answer of the system, with what its refusal comes to.
+pub(crate) fn done<T>(answer: io::Result<T>) -> Result<T, TreeError> {
     match answer {
         Ok(value) => Ok(value),
         Err(error) => Err(refusal(error)),
     }
 }
 
-// The path of a name in a folder below the root, which is empty for the root itself.
-fn joined(alloc: Global, folder: &str, name: &str) -> Result<String, TreeError> {
+/// The path of a name in a folder below the root, which is empty for the root itself.
+pub(crate) fn joined(alloc: Global, folder: &str, name: &str) -> Result<String, TreeError> {
     let mut path = String::from_str(alloc, folder)?;
     if !folder.is_empty() && !folder.ends_with('/') {
         path.push('/')?;
@@ -38,16 +39,16 @@ fn joined(alloc: Global, folder: &str, name: &str) -> Result<String, TreeError> 
     Ok(path)
 }
 
-// The path by which the system finds what lies below a root.
-fn full_path(alloc: Global, root: &str, path: &str) -> Result<String, TreeError> {
+/// The path by which the system finds what lies below a root.
+pub(crate) fn full_path(alloc: Global, root: &str, path: &str) -> Result<String, TreeError> {
     if root.is_empty() {
         return joined(alloc, ".", path);
     }
     joined(alloc, root, path)
 }
 
-// Whether a path leads below the root: no part of it is empty or leads up.
-fn is_inside(path: &str) -> bool {
+/// Whether a path leads below the root: no part of it is empty or leads up.
+pub(crate) fn is_inside(path: &str) -> bool {
     for part in path.split('/') {
         if part.is_empty() || part == "." || part == ".." {
             return false;
@@ -149,74 +150,4 @@ pub(crate) fn read_file(
     }
     let path = full_path(alloc, root, path)?;
     Ok(BlobVal::new(done(bytes_of(rt, alloc, path.as_str()))?))
-}
-
-// Makes a folder, where there is none. A link to a folder is none.
-fn make_folder(rt: &HostRuntime, path: &str) -> io::Result<()> {
-    match fs::create_dir(rt, path) {
-        Ok(()) => Ok(()),
-        Err(error) if error.kind() == ErrorKind::AlreadyExists => {
-            if fs::symlink_metadata(rt, path)?.is_dir() {
-                return Ok(());
-            }
-            Err(error)
-        }
-        Err(error) => Err(error),
-    }
-}
-
-// Makes the folder that ends at a slash of a path, if one stands there.
-fn make_folder_at(rt: &HostRuntime, path: &str, end: usize) -> io::Result<()> {
-    match path.split_at_checked(end) {
-        Some((folder, rest)) if rest.starts_with('/') => make_folder(rt, folder),
-        _ => Ok(()),
-    }
-}
-
-// Makes a root and the folders of a path below it. The path begins with the root, of this length, and a slash.
-fn make_folders(rt: &HostRuntime, root: &str, path: &str) -> io::Result<()> {
-    fs::create_dir_all(rt, root)?;
-    for end in root.len().saturating_add(1)..path.len() {
-        make_folder_at(rt, path, end)?;
-    }
-    Ok(())
-}
-
-// Writes a file that isn't there yet, and gives it a name.
-fn write_beside(rt: &HostRuntime, beside: &str, path: &str, bytes: &[u8]) -> io::Result<()> {
-    let mut file = File::create_new(rt, beside)?;
-    file.write_all(bytes)?;
-    drop(file);
-    fs::rename(rt, beside, path)
-}
-
-// The name of the file beside the one at a path.
-fn beside(alloc: Global, path: &str) -> Result<String, TreeError> {
-    let (folder, name) = path.rsplit_once('/').unwrap_or(("", path));
-    let mut beside = joined(alloc, folder, ".")?;
-    beside.push_str(name)?;
-    beside.push_str(".part")?;
-    Ok(beside)
-}
-
-/// Puts a file at a path below a root, with the folders that are missing.
-pub(crate) fn write_file(
-    rt: &HostRuntime,
-    alloc: Global,
-    root: &str,
-    path: &str,
-    bytes: &[u8],
-) -> Result<(), TreeError> {
-    if !is_inside(path) {
-        return Err(TreeError::Fault);
-    }
-    let path = full_path(alloc, root, path)?;
-    let beside = beside(alloc, path.as_str())?;
-    done(make_folders(rt, root, path.as_str()))?;
-    let _ = fs::remove_file(rt, beside.as_str());
-    let written = write_beside(rt, beside.as_str(), path.as_str(), bytes);
-    if written.is_err() {
-        let _ = fs::remove_file(rt, beside.as_str());
-    }
-    done(written)
 }

@@ -2,7 +2,8 @@
 ghost use Rattle.std.specs.Prelude.{◌≡◌, IfOk};
 ghost use Rattle.std.specs.FinMap.{empty};
 
-use crate::folder_files::{list_all, read_file, write_file};
+use crate::folder_files::{list_all, read_file};
+use crate::folder_writing::write_file;
 use crate::{TileTree, TreeError};
 use base_values::{BlobVal, OutOfMemory, TextVal};
 use std::alloc::Global;
@@ -13,8 +14,14 @@ use std::alloc::Global;
 /// aren't UTF-8, links to nothing, and what is neither a file nor a folder are passed over. A root that is missing or no folder is a fault of `list`, and an entry that is gone
 /// when it is read is a fault too.
 ///
-/// A file that is written is whole or not there: its bytes go to a file beside it, whose name has a dot in front and `.part` behind, and that is renamed. Folders
-/// that are missing are made, the root too. Nothing is written outside the root: a path with a part that is empty, `.` or `..` is a fault, and so is one through a symbolic link.
+/// A file that is written is whole or not there: its bytes go to a file that is made beside it, are put on the disk, and that
+/// file is renamed. It has the first of the names `.NAME.part`, `.NAME.part1`, .. `.NAME.part99` that nothing has; there is a
+/// fault where all are taken, and what has one of them stays. Refused, it is gone again. At last the folder is put on the disk
+/// with its names; where that alone fails, the fault comes with the file in its place. A run that is stopped may leave the file
+/// beside.
+///
+/// Folders that are missing are made, the root too. Nothing is written outside the root: a path with a part that is empty, `.`
+/// or `..` is a fault, and so is one through a symbolic link.
 #[derive(Drop)]
 pub struct FolderTree {
     runtime: HostRuntime,

@@ -4,6 +4,7 @@
 mod base;
 mod folder_files;
 mod folder_tree;
+mod folder_writing;
 mod format;
 pub mod laws;
 mod mem_tree;

@@ -5,13 +5,22 @@ ghost use Rattle.mb_tree.specs.Scheme.{turned};
 use tile_ids::invert_y_value;
 
 /// How the paths of a tree count the rows of a zoom.
-#[derive(Clone, Copy, Debug, Default, PartialEq, Eq)]
+#[derive(Clone, Copy, Debug, PartialEq, Eq)]
 pub enum TileScheme {
     /// From the top, as addresses of tiles on the web do.
-    #[default]
     Xyz,
     /// From the bottom, as the Tile Map Service does.
     Tms,
+}
+
+impl Default for TileScheme {
+    ghost use Rattle.mb_tree.specs.declared.scheme.TileScheme.TheVariants.{Xyz};
+
+    ghost is_default = { λ scheme. scheme ≡ Xyz };
+
+    fn default() -> TileScheme {
+        TileScheme::Xyz
+    }
 }
 
 impl TileScheme {

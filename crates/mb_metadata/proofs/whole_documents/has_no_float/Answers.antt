@@ -1,6 +1,6 @@
-use Rattle.std.proofs.Common.{arith}
+use Rattle.std.proofs.Common.{arith, refl}
 use Rattle.std.specs.FinMap.{len-entries}
 use Rattle.mb_metadata.proofs.whole_documents.has_no_float.Goals as goal
 
 pub returns : goal.returns
-returns c = λ t k d within. c.loop-index.invariant k d (omega (arith, within, len-entries c.args.fields.now))
+returns c = (λ t k d within. c.loop-index.invariant k d (omega (arith, within, len-entries c.args.fields.now)), λ _. refl)
