@@ -20,6 +20,7 @@ use Rattle.mb_edit.proofs.PassedLemmas.{holds, pass_first, pass_rest}
 use Rattle.mb_edit.proofs.PutLemmas.{both_pass}
 use Rattle.mb_edit.specs.PatchingOrder.{bytes_put, id_collides}
 use Rattle.mb_edit.specs.Put.{may_put}
+use Rattle.mb_insert.proofs.InsertedLemmas.{fresh_is}
 use Rattle.mb_lists.proofs.NameLemmas.{names_antisymmetric}
 use Rattle.mb_lists.proofs.Places.{places_antisymmetric}
 use Rattle.mb_lists.specs.Entries.{is_cache}
@@ -98,15 +99,13 @@ is_put_by c made source base old new next value whole edit may from named sound 
     record {
       again = rows.again (named_with c made (fresh base) (tiles_to_put c source.tiles base) (times_to_put c source base) (names_to_put c source.metadata base.metadata) (algorithm_not_put c source base) named) ∙ ap Ok (copied_state c made source (fresh base));
       rows = rows;
+      commits = are;
       places = edited_with c made (fresh base) (tiles_to_put c source.tiles base) (times_to_put c source base) (names_to_put c source.metadata base.metadata) refl;
     }
 
 -- a set that was loaded, with nothing edited, is its state
 pub as_fresh : (P : Held → Type 0) (h : Held) → h.edited ≡ nothing_edited → P h → P (fresh h.state)
 as_fresh P h clean p = subst (λ (e : Edited). P (record { state = h.state; edited = e })) clean p
-
-fresh_is : (h : Held) → h.edited ≡ nothing_edited → h ≡ fresh h.state
-fresh_is h clean = ap (λ (e : Edited). record { state = h.state; edited = e }) clean
 
 -- over a set that was loaded
 pub over_passes : (c : MbtilesCopier) (source base : State) → may_copy_over c source base ≡ None → (is_editable base.layout ≡ true) × (may_copy c source base ≡ None)

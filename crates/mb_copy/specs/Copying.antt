@@ -9,6 +9,7 @@ use Rattle.mb_copy.specs.Target.{made_type}
 use Rattle.mb_copy.specs.declared.copier.MbtilesCopier.{MbtilesCopier}
 use Rattle.mb_load.specs.Begun.{begun}
 use Rattle.mb_load.specs.Committed.{IsCommitted}
+use Rattle.mb_load.specs.Committing.{MakesChanges}
 use Rattle.mb_loaded.specs.Held.{fresh}
 use Rattle.mb_loaded.specs.State.{State}
 use Rattle.mb_load.specs.StateOf.{state_of}
@@ -49,6 +50,8 @@ pub record IsPut (c : MbtilesCopier) (made : Bool) (source base : State) (old ne
   pub again : state_of new ≡ Ok (copied c made source base)
   -- under each key that was put stands its row, with the digest of its bytes where the layout has one; all other rows are as before
   pub rows : IsCommitted (held_copied c made source (fresh base)) old new
+  -- one commit made of them exactly what the set with the copies asks for, also of rows without a place or a name
+  pub commits : MakesChanges (held_copied c made source (fresh base)) old new
   -- the places that were put
   pub places : (p : Place) → contains_key (held_copied c made source (fresh base)).edited.places p ≡ contains_key (tiles_to_put c source.tiles base) p
 

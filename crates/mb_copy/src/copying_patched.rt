@@ -94,7 +94,7 @@ impl MbtilesCopier {
     /// 9. `AggHashMismatchAfterApply`: the hash that the patch says isn't the computed one, where that is stored, with both hashes; not with `force`.
     ///
     /// The source and the patch are only read. Refused, the destination holds what it held; or only its tables were made, where memory or the store was wanting. After Ok it loads
-    /// again as the copy; the rows are one commit. A store that tells nothing is answered as tables are that its answers could be of. `StoreFault` comes only where the count
+    /// again as the copy; the rows are one commit. A store that tells nothing is answered as is due of some tables. `StoreFault` comes only where the count
     /// of faults of one of the three stores rose.
     pub fn run_with_patch<S: TileStore, D: TileStore, P: TileStore>(
         &self,

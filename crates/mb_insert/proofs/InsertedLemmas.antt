@@ -1,5 +1,5 @@
 -- A set with a batch, and its tables after the commit.
-use Rattle.std.proofs.Common.{◌≡◌, subst, List, [], ◌∷◌, Option, None, Ok, refl}
+use Rattle.std.proofs.Common.{◌≡◌, ◌∙◌, ap, subst, List, [], ◌∷◌, Option, None, Ok, refl}
 use Rattle.mb_edit.proofs.PassedLemmas.{pass_first, pass_rest}
 use Rattle.mb_edit.proofs.PutLemmas.{both_pass}
 use Rattle.mb_edit.proofs.PutTableLemmas.{are_put}
@@ -13,7 +13,7 @@ use Rattle.mb_insert.specs.Insertion.{bad_coord, duplicates, may_insert}
 use Rattle.mb_insert.specs.declared.mode.CopyDuplicateMode.{CopyDuplicateMode}
 use Rattle.mb_insert.specs.declared.new_tile.NewTile.{NewTile}
 use Rattle.mb_load.specs.Committing.{MakesChanges}
-use Rattle.mb_loaded.specs.Held.{Held, nothing_edited}
+use Rattle.mb_loaded.specs.Held.{Edited, Held, fresh, nothing_edited}
 use Rattle.mb_load.specs.LoadedFrom.{IsLoadedFrom, NamesAlgorithm}
 use Rattle.mb_loaded.specs.Editable.{is_editable}
 use Rattle.mb_loaded.specs.State.{State}
@@ -46,6 +46,10 @@ module _ (mode : CopyDuplicateMode) (batch : List NewTile) (s : State) where
       both_pass s (put_of mode s.tiles batch) s.layout refl (pass_first edit (coords ∷ twice ∷ ids ∷ []) h)
       (pass_first ids [] (pass_rest twice (ids ∷ []) (pass_rest coords (twice ∷ ids ∷ []) (pass_rest edit (coords ∷ twice ∷ ids ∷ []) h))))
 
+-- a set that was loaded, with nothing edited, is its state
+pub fresh_is : (h : Held) → h.edited ≡ nothing_edited → h ≡ fresh h.state
+fresh_is h clean = ap (λ (e : Edited). record { state = h.state; edited = e }) clean
+
 -- the tables after the commit of a set that was loaded, with a batch
 pub is_inserted : (mode : CopyDuplicateMode) (batch : List NewTile) (old new : Tables) (h next : Held) → h.edited ≡ nothing_edited → state_of old ≡ Ok h.state → IsLoadedFrom old h → NamesAlgorithm h.state → may_insert mode batch h.state ≡ None → next ≡ tiles_put h (put_of mode h.state.tiles batch) → IsSound new → MakesChanges next old new → IsInserted mode batch old new
 is_inserted mode batch old new h next clean loaded from named may value sound made = record {
@@ -54,6 +58,7 @@ is_inserted mode batch old new h next clean loaded from named may value sound ma
   tested = may;
   again = rows.again;
   rows = rows;
+  commits = subst (λ (x : Held). MakesChanges x old new) (value ∙ ap (λ (k : Held). tiles_put k (put_of mode h.state.tiles batch)) (fresh_is h clean)) made;
 }
   where
     rows : ArePut (put_of mode h.state.tiles batch) h.state old new

@@ -52,8 +52,9 @@ fn insert_loaded(
 /// 4. `IdCollision`: contents that are put have the id of others in a normalised set, with the id of the first such tile.
 ///
 /// Refused, the store holds what it held. After Ok the tables load again as the set with the batch. Rows of places that aren't put stay, and so do contents that
-/// no tile has any more, and all metadata. Rows of bytes that are put carry the digest of these, where the layout has one, and in a cache no times. A store
-/// that tells nothing is answered as tables are that its answers could be of. `StoreFault` comes only where the store's count of faults rose.
+/// no tile has any more, and all metadata. Rows of bytes that are put carry the digest of these, where the layout has one, and in
+/// a cache no times. A store that tells nothing is answered as is due of some tables. `StoreFault` comes only where the store's
+/// count of faults rose.
 pub fn insert_tiles<S: TileStore>(
     alloc: Global,
     store: &mut S,

@@ -10,6 +10,7 @@ use Rattle.std.proofs.lemmas.Cmp.{nat_list_cmp_total}
 use Rattle.std.proofs.lemmas.List.Elements.{All-cons, All-head, All-nil, All-tail}
 use Rattle.mb_constraints.specs.Algorithm.{algorithm_by, unknown_name}
 use Rattle.mb_edit.proofs.PassedLemmas.{holds, pass_first, pass_rest}
+use Rattle.mb_insert.proofs.InsertedLemmas.{fresh_is}
 use Rattle.mb_insert.specs.Batch.{has_duplicates, is_coord, place_in}
 use Rattle.mb_insert.specs.Insertion.{bad_coord, duplicates}
 use Rattle.mb_insert.specs.declared.mode.CopyDuplicateMode.TheVariants.{Abort}
@@ -143,17 +144,13 @@ both_pass scheme paths s a b =
 pub paths_pass : (scheme : TileScheme) (paths : List (List ℕ)) (s : State) → may_pack scheme paths s ≡ None → first_refused (path_refused (first_format paths)) paths ≡ None
 paths_pass scheme paths s h = pass_first (first_refused (path_refused (first_format paths)) paths) (duplicates Abort s.tiles (batch_of scheme (empty_files paths)) ∷ []) h
 
--- a set as it was loaded
-pub as_loaded : (h : Held) → h.edited ≡ nothing_edited → h ≡ fresh h.state
-as_loaded h clean = λ i. record { state = h.state; edited = clean i }
-
 -- the tables after the commit of a set with the tiles of files
 pub is_packed : (scheme : TileScheme) (shows : Bool) (told : Files) (old new : Tables) (h next : Held) → base_of old ≡ Ok h.state → h.edited ≡ nothing_edited → h.state.layout ≡ Flat → NamesAlgorithm h.state → IsLoadedFrom (made old) h → Packs scheme shows told h next → IsSound new → MakesChanges next (made old) new → IsPacked scheme shows told old new
 is_packed scheme shows told old new h next from clean flat named loaded packs sound made_of =
-    let same : next ≡ held_packed scheme packs.files (fresh h.state) = packs.value ∙ ap (held_packed scheme packs.files) (as_loaded h clean) in
+    let same : next ≡ held_packed scheme packs.files (fresh h.state) = packs.value ∙ ap (held_packed scheme packs.files) (fresh_is h clean) in
     let changes : MakesChanges (held_packed scheme packs.files (fresh h.state)) (made old) new = subst (λ (k : Held). MakesChanges k (made old) new) same made_of in
     let fit : All IsFit (paths_in packs.files) = all_fit (paths_in packs.files) (paths_pass scheme (paths_in packs.files) h.state packs.tested) in
-    let before : IsLoadedFrom (made old) (held_packed scheme packs.files (fresh h.state)) = packed_loaded scheme (made old) (fresh h.state) packs.files fit flat (subst (IsLoadedFrom (made old)) (as_loaded h clean) loaded) in
+    let before : IsLoadedFrom (made old) (held_packed scheme packs.files (fresh h.state)) = packed_loaded scheme (made old) (fresh h.state) packs.files fit flat (subst (IsLoadedFrom (made old)) (fresh_is h clean) loaded) in
     let after : IsCommitted (held_packed scheme packs.files (fresh h.state)) (made old) new = is_committed (held_packed scheme packs.files (fresh h.state)) (made old) new changes.changes before changes.are changes.made sound in
     record {
       files = packs.files;
