@@ -10,7 +10,7 @@ nothing_left() { [ -z "$(find . -name '*.new' -o -name '.mbtiles-to-*')" ]; }
 # read_all_the_same NAME SQL: a set of three tiles that is converted, whatever its form
 read_all_the_same() {
     fresh "$1"
-    "$real" a.mbtiles "$2" >/dev/null 2>err || problem="$problem; $(cat err)"
+    echo "$2;" | "$real" a.mbtiles >/dev/null 2>err || problem="$problem; $(cat err)"
     before=$(cksum a.mbtiles)
     run "$convert" a.mbtiles made.pmtiles
     status 0
