@@ -10,7 +10,7 @@ import random
 import sqlite3
 import sys
 
-from read_sets import Twice, converted, side_by_side, tiles_of
+from read_sets import Twice, converted, place_of, side_by_side, tiles_of
 
 COLUMNS = ('zoom_level', 'tile_column', 'tile_row', 'tile_data')
 KINDS = ('integer', 'INTEGER NOT NULL', 'int', 'bigint', 'numeric', '', 'real', 'text', 'INTEGER DEFAULT 0', 'integer check (1)')
@@ -64,9 +64,11 @@ def fill(base, r, name, columns, contents):
     odd = r.random() < 0.4
     for _ in range(r.randrange(60)):
         row = cells(r, odd)
-        if repr(row) in seen and r.random() < 0.9:
+        # a place that comes again is refused where its contents differ
+        key = place_of([cell.encode() if isinstance(cell, str) else cell for cell in row])
+        if key in seen and r.random() < 0.99:
             continue
-        seen.add(repr(row))
+        seen.add(key)
         try:
             base.execute(f'insert into {name} ({", ".join(columns)}) values (?, ?, ?, ?)', (*row, contents()))
         except sqlite3.IntegrityError:
@@ -164,7 +166,7 @@ def main():
         print('odd_sets:', line)
     taken = [sum(ways[at] for _, ways in found if len(ways) > at) for at in (0, 1)]
     # sets that are refused alone would show nothing
-    few = min(taken) * 2 < count
+    few = min(taken) * 3 < count
     print(f'odd_sets: of {count} sets {taken[0]} were converted by the program and {taken[1]} by a script, {len(problems)} wrong' + (', too few' if few else ''))
     sys.exit(bool(problems or few))
 
