@@ -1,4 +1,4 @@
-# Makes an archive of .mbtiles files by way of a script, for bin/mbtiles-to-pmtiles --by-script, which has set `force`, `verify` and `overwrite`. The words are
+# Makes an archive of .mbtiles files by way of a script, for bin/mbtiles-to-pmtiles --by-script, which has set `force`, `verify`, `overwrite` and `strict`. The words are
 # the sets and OUT.
 #
 # Only the table or view `tiles` of each file is read, and the stored hashes of tiles alone where --verify asks for them and they have the form of digests. The three lines at the end
@@ -21,26 +21,20 @@ trap 'exit 130' INT
 trap 'exit 131' QUIT
 trap 'exit 143' TERM
 
-# On a terminal each step is told, and how long it took.
-begin_step() {
-    begun=$(date +%s)
-    [ ! -t 2 ] || say "$1"
-}
-end_step() {
-    [ ! -t 2 ] || say "done in $(($(date +%s) - begun)) s"
-}
-
 # the last word is OUT
 sets=$(($# - 1))
 eval "out=\${$#}"
 # shellcheck disable=SC2154
 shown_out=$out
-out=$(plain_path "$out")
+case $out in
+/*) ;;
+*) out=./$out ;;
+esac
+test_sqlite3
 number=0
 for file; do
     number=$((number + 1))
     [ $number -le $sets ] || break
-    test_set "$file"
     ! [ "$file" -ef "$out" ] || fail 1 "$shown_out is one of the sets; give another name for the archive"
 done
 if [ -e "$out" ] || [ -L "$out" ]; then
@@ -48,7 +42,8 @@ if [ -e "$out" ] || [ -L "$out" ]; then
     [ -f "$out" ] || fail 1 "$shown_out is no regular file"
 fi
 work=$(mktemp -d) || fail 1 'no folder for files that are needed for a while; TMPDIR says where'
-folder=$(dirname "$out")
+folder=${out%/*}
+folder=${folder:-/}
 [ -d "$folder" ] || fail 6 "there is no folder $folder"
 room=$(mktemp -d "$folder/.mbtiles-to-pmtiles.XXXXXX") || {
     room=
@@ -72,6 +67,7 @@ for file; do
     [ -z "$verify" ] || layout=$(own_layout "$file")
     start_set "$file" "$work/kept" "$layout"
     read_facts "$file"
+    [ -z "$strict" ] || [ ! -e "$work/left" ] || fail 1 "$file is refused: --strict takes no set of which rows or metadata are left out"
     mv "$work/facts" "$work/$number.facts"
     facts="$facts $number.facts"
     layout=$(sed -n 's/^layout //p' "$work/$number.facts")
@@ -158,11 +154,13 @@ reported() {
     sed -n "s/^$1 //p" "$work/report"
 }
 [ "$(reported addressed)" = "${said%% *}" ] || fail 1 "the archive has $(reported addressed) tiles and the sets have ${said%% *}; nothing is left of it"
+sync "$room/out" || fail 6 "$shown_out can't be synced to its disk"
 if [ -n "$overwrite" ]; then
-    mv -f "$room/out" "$out"
+    mv -fT "$room/out" "$out"
 else
-    ln "$room/out" "$out" 2>/dev/null || { [ ! -e "$out" ] && mv "$room/out" "$out"; } || fail 1 "$shown_out came meanwhile, and stays as it is"
+    ln -T "$room/out" "$out" 2>/dev/null || { [ ! -e "$out" ] && mv -T "$room/out" "$out"; } || fail 1 "$shown_out came meanwhile, and stays as it is"
 fi || fail 6 "$shown_out can't be put in place"
+sync "$folder" || fail 6 "$shown_out is in its place, but its folder can't be synced to its disk"
 echo "tiles $(reported addressed), contents $(reported contents)"
 echo "bytes $(reported length)"
 echo "aggregate $(reported aggregate)"

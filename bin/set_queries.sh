@@ -20,14 +20,13 @@ is_digest() {
 
 # attaches the file $1, with empty tables behind its own for those that it lacks
 sql_attach() {
-    uri=$(plain_path "$1" | sed "s/%/%25/g; s/?/%3f/g; s/#/%23/g; s/'/''/g")
     cat <<SQL
 .bail on
 .mode list
 .headers off
 .nullvalue -
 .timeout 5000
-attach 'file:$uri?mode=ro' as s;
+attach '$(uri "$1")' as s;
 attach ':memory:' as none;
 create table none.tiles (zoom_level, tile_column, tile_row, tile_data);
 create table none.metadata (name, value);
@@ -79,6 +78,8 @@ select 'refuse it needs a script of about ' || (3 * n) || ' bytes for its metada
 create temp table given as select name, value, typeof(value) as kind from metadata where typeof(name) = 'text' and name <> '';
 create temp table named as select name, kind, case when kind in ('integer', 'real') then cast(value as text) else value end as value from given
     where rowid in (select min(rowid) from given group by name);
+select 'warn ' || n || ' rows of the metadata have no text for a name, and are left out' from
+    (select count(*) as n from metadata where typeof(name) <> 'text' or name = '') where n > 0;
 select 'warn the name ' || $(shown name) || ' stands in the metadata more than once; its first value counts' from given group by name having count(*) > 1;
 select 'warn the value of ' || $(shown name) || ' in the metadata is no text, and is left out' from named where kind = 'blob';
 delete from named where kind = 'blob';

@@ -11,6 +11,7 @@
 # shellcheck disable=SC2154
 most=${FATYNGU_MOST:-268435456}
 . "$here/set_queries.sh"
+. "$here/explaining.sh"
 
 # the layout of the file $1 that has hashes, or flat
 own_layout() {
@@ -23,31 +24,9 @@ own_layout() {
     } | sqlite3 -init /dev/null -batch ':memory:' 2>/dev/null || echo flat
 }
 
-# why sqlite3 ended, from the words in the file $2, for the file $1
-explain() {
-    words=$(sed -n 's/^[A-Za-z ]*[Ee]rror[^:]*: *//; /./p' "$2" | tail -n 1)
-    case $words in
-    *locked* | *busy*) fail 1 "$1 is locked by another program; try again when that has ended" ;;
-    *'not a database'* | *encrypted*) fail 3 "$1 is no SQLite database" ;;
-    *'same text encoding'*) fail 1 "$1 has its texts in UTF-16, which isn't read; dump it into a database of UTF-8" ;;
-    *'disk is full'*) fail_room ;;
-    *malformed* | *corrupt*) fail 1 "$1 is damaged: $words" ;;
-    *'unable to open'* | *readonly*)
-        [ "$(od -An -tu1 -j18 -N1 "$1" | tr -d ' ')" != 2 ] ||
-            fail 1 "$1 is in WAL mode, and SQLite can't read that where it can't write the folder: copy the file into a folder of your own"
-        fail 1 "$1 can't be opened by SQLite: $words"
-        ;;
-    '') fail 1 "$1: sqlite3 ended before its last row" ;;
-    *) fail 1 "$1 isn't read: $words" ;;
-    esac
-}
-
-# test_set FILE: a file that can be read, or the end
-test_set() {
+# ends where there is no sqlite3
+test_sqlite3() {
     command -v sqlite3 >/dev/null || fail 1 'the command sqlite3 is missing (package sqlite3)'
-    [ -e "$1" ] || fail 3 "there is no file $1"
-    [ -f "$1" ] || fail 3 "$1 is no regular file"
-    [ -r "$1" ] || fail 3 "$1 can't be read: permission denied"
 }
 
 # ends where a file that is needed for a while can't be written
@@ -67,7 +46,7 @@ start_set() {
     rm "$work/lines"
 }
 
-# read_facts FILE: reads the facts into the folder's file `facts`, and says what is to be said.
+# read_facts FILE: reads the facts into the folder's file `facts`, and says what is to be said. The file `left` is there where anything is left out.
 read_facts() {
     ended=
     : >"$work/found"
@@ -76,7 +55,10 @@ read_facts() {
         rows) ended=1 ;;
         none) fail 3 "$1 has no table or view named tiles" ;;
         'refuse '*) fail 1 "$1: ${line#refuse }" ;;
-        'warn '*) say "$1: ${line#warn }" ;;
+        'warn '*)
+            say "$1: ${line#warn }"
+            case $line in *'left out'* | *'more than once'*) : >"$work/left" ;; esac
+            ;;
         *) printf '%s\n' "$line" || fail_room ;;
         esac
     done >>"$work/found"
@@ -89,7 +71,7 @@ read_facts() {
 
 # hands on the facts whose texts are UTF-8 without zero bytes, and names the others on standard error
 only_utf8() {
-    LC_ALL=C awk -v tool="$tool" -v file="$1" '
+    LC_ALL=C FILE=$1 LEFT=$work/left awk -v tool="$tool" '
         function byte(at) { return 16 * (index(digits, substr(text, at, 1)) - 1) + index(digits, substr(text, at + 1, 1)) - 1 }
         function is_utf8(given,   at, first, more, low, high, next_byte) {
             text = given
@@ -117,10 +99,11 @@ only_utf8() {
             for (at = 1; at < length(text); at += 2) { code = byte(at); out = out (code > 32 && code < 127 ? sprintf("%c", code) : "?") }
             return out
         }
-        BEGIN { digits = "0123456789ABCDEF" }
+        BEGIN { digits = "0123456789ABCDEF"; file = ENVIRON["FILE"] }
         $1 == "plain" || $1 == "row" || $1 == "json" || $1 == "format" {
             if (!is_utf8($2) || $3 != "-" && !is_utf8($3)) {
                 if ($1 != "row" && $1 != "format") print tool ": " file ": " shown($2) " in the metadata is no text in UTF-8, and is left out" | "cat >&2"
+                printf "" >ENVIRON["LEFT"]
                 next
             }
         }
@@ -187,6 +170,11 @@ print_options() {
                 parts = split(special["center"], center, " ")
                 print "option center " center[1] " " center[2]
                 if (parts > 2) print "option center-zoom " center[3]
+            } else if ("bounds" in special) {
+                # the middle of the bounds at the least zoom
+                split(special["bounds"], bound, " ")
+                print "option center " int((bound[1] + bound[3]) / 2) + 0 " " int((bound[2] + bound[4]) / 2) + 0
+                print "option center-zoom " zoom[1] + 0
             }
             for (at = 1; at <= names; at++) {
                 name = name_at[at]

@@ -19,6 +19,9 @@ from tileset_rows import ONE_TILE, adds_of, archive, options_said, report_of, to
 
 TOP = os.path.join(os.path.dirname(os.path.abspath(__file__)), '..')
 
+# A base and its patches. Both patches have the tiles (1, 0, 0) and (1, 0, 1), so that their order shows, and no hashes, so that --force does.
+FILES = ('places.mbtiles', 'places_update.mbtiles', 'places_removal.mbtiles')
+
 
 def write(text, *path):
     path = os.path.join(TOP, *path)
@@ -27,12 +30,27 @@ def write(text, *path):
         file.write(text)
 
 
-def converted_file(path, script):
-    """The lines on the archive of a file, whose tiles are those of a script."""
-    state = converted(parsed(script.encode()).stores, False, False)
+def rows_of(path, query):
+    """The rows of a file."""
     base = sqlite3.connect(f'file:{path}?mode=ro', uri=True)
-    state.names = {name.encode(): Text(value.encode()) for name, value in base.execute('select name, value from metadata')}
+    rows = base.execute(query).fetchall()
     base.close()
+    return rows
+
+
+def patch_of(path):
+    """The tiles of a file as a patch of a script."""
+    yield 'patch flat\n'
+    for z, x, y, content in rows_of(path, 'select zoom_level, tile_column, tile_row, tile_data from tiles'):
+        yield f'row tiles i{z} i{x} i{y} ' + ('n' if content is None else 'x' + content.hex().upper()) + '\n'
+
+
+def converted_files(script, path, patches):
+    """The lines on the archive of a file, whose tiles are those of a script, and of patches without metadata, which are taken without hashes."""
+    for patch in patches:
+        script += ''.join(patch_of(patch))
+    state = converted(parsed(script.encode()).stores, True, False)
+    state.names = {name.encode(): Text(value.encode()) for name, value in rows_of(path, 'select name, value from metadata')}
     return told(state, dict(archive(options_said(state), adds_of(state.tiles))[1]))
 
 
@@ -43,15 +61,17 @@ def main():
     write(text + bytes_shown, 'crates', 'tileset_program', 'stdout')
     write(ONE_TILE, 'examples', 'one_tile.script')
     write(text + bytes_shown, 'examples', 'one_tile.out')
-    places = os.path.join(TOP, 'examples', 'places.mbtiles')
+    files = [os.path.join(TOP, 'examples', name) for name in FILES]
+    places = files[0]
     script = script_of(places)
     write(script, 'examples', 'places.script')
     write(report_of(script)[0], 'examples', 'places.out')
-    write('places.mbtiles\nplaces.pmtiles\n', 'crates', 'mbtiles_to_pmtiles_program', 'args')
-    write(converted_file(places, script), 'crates', 'mbtiles_to_pmtiles_program', 'stdout')
+    write(''.join(word + '\n' for word in ('--force', *FILES, 'places.pmtiles')), 'crates', 'mbtiles_to_pmtiles_program', 'args')
+    write(converted_files(script, places, files[1:]), 'crates', 'mbtiles_to_pmtiles_program', 'stdout')
     held = os.path.join(TOP, 'crates', 'mbtiles_to_pmtiles_program', 'data')
     os.makedirs(held, exist_ok=True)
-    shutil.copyfile(places, os.path.join(held, 'places.mbtiles'))
+    for path in files:
+        shutil.copyfile(path, os.path.join(held, os.path.basename(path)))
     # one tile in the archive: no fault, and one id, entry and content
     write('one_tile.pmtiles\n', 'crates', 'tile_verify_program', 'args')
     write('sound 0 1 1 1\n', 'crates', 'tile_verify_program', 'stdout')

@@ -10,9 +10,18 @@ import pmtiles as pm
 with open(sys.argv[1], 'rb') as file:
     data = file.read()
 tiles = {}
+
+
+def whole(cell):
+    """The whole number in a cell, or one of no tile."""
+    if isinstance(cell, str):
+        return int(cell) if cell.strip(' ').isascii() and cell.strip(' ').isdigit() and len(cell.strip(' ')) < 10 else -1
+    return int(cell) if isinstance(cell, (int, float)) and cell == cell // 1 else -1
+
+
 for name in sys.argv[2:]:
     for z, x, y, content in sqlite3.connect(name).execute('select zoom_level, tile_column, tile_row, tile_data from tiles'):
-        z, x, y = int(z), int(x), int(y)
+        z, x, y = whole(z), whole(x), whole(y)
         if 0 <= z <= 30 and 0 <= x < 1 << z and 0 <= y < 1 << z:
             key = pm.tile_id(z, x, (1 << z) - 1 - y)
             tiles.pop(key, None)

@@ -40,6 +40,16 @@ for way in '' --by-script; do
     run "$bin/mbtiles-to-pmtiles" $way --wrong a b
     status 2
     says '^mbtiles-to-pmtiles: usage'
+    run "$bin/mbtiles-to-pmtiles" "$top/examples/places.mbtiles" flagged.pmtiles $way --wrong
+    status 2
+    run "$bin/mbtiles-to-pmtiles" "$top/examples/places.mbtiles" flagged.pmtiles $way --force
+    status 0
+    holds cmp -s flagged.pmtiles places.pmtiles
+    run "$bin/mbtiles-to-pmtiles" $way "$top/examples/places.mbtiles" --overwrite flagged.pmtiles
+    status 0
+    run "$bin/mbtiles-to-pmtiles" $way -- "$top/examples/places.mbtiles" --overwrite
+    status 0
+    holds cmp -s ./--overwrite places.pmtiles
     cp "$top/examples/places.mbtiles" a.mbtiles
     run "$bin/mbtiles-to-pmtiles" $way --overwrite a.mbtiles a.mbtiles
     status 1
@@ -180,7 +190,7 @@ cp -r "$bin" bin
 cat >bin/mbtiles_to_pmtiles_program <<'PROGRAM'
 #!/bin/bash
 for out; do :; done
-: >"$out.new"
+exec 9>"$out.new"
 exec sleep 20
 PROGRAM
 chmod +x bin/mbtiles_to_pmtiles_program
@@ -196,4 +206,15 @@ for signal in HUP:129 INT:130 TERM:143; do
     status "${signal#*:}"
     holds nothing_in to
 done
+# a file that another run made meanwhile stays
+printf '#!/bin/bash\nexec sleep 20\n' >bin/mbtiles_to_pmtiles_program
+env --default-signal bin/mbtiles-to-pmtiles a.mbtiles to/made.pmtiles >out 2>err </dev/null &
+made=$!
+sleep 1
+echo other >to/made.pmtiles.new
+kill -TERM $made
+wait $made
+got=$?
+status 143
+holds [ "$(cat to/made.pmtiles.new)" = other ]
 ends

@@ -128,7 +128,7 @@ if [ "$(id -u)" = 0 ] && command -v setpriv >/dev/null; then
     holds eval '[ $got = 0 ] && grep -q "# rows 1" out || { [ $got = 1 ] && grep -q "WAL mode" err; }'
     ends
 else
-    echo 'check_bin: no other user can be taken here, so WAL in a folder that is only read is not tried'
+    skips 'no other user can be taken here, so WAL in a folder that is only read is not tried'
 fi
 
 fresh 'names and settings of a user'

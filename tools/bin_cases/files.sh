@@ -2,6 +2,7 @@
 # shellcheck disable=SC2034,SC2154
 
 convert=$bin/mbtiles-to-pmtiles
+program=$here/crates/mbtiles_to_pmtiles_program/out/mbtiles_to_pmtiles_program
 nothing_left() { [ -z "$(find . -name '*.new')" ]; }
 # the archive has this many tiles of this many contents, and those of the file
 whole() {
@@ -50,23 +51,22 @@ made 'places and contents by numbers' 3 2 "$names; create table tiles_shallow (z
     insert into tiles_data values (1, x'01'), (7, x'02'); insert into tiles_shallow values (0, 0, 0, 1), (1, 1, 0, 7), (1, 0, 1, 7)"
 
 # How a table may lie in a file.
-# made_or_refused NAME SQL: forms that the converter may refuse in words, and that a script takes
-made_or_refused() {
-    fresh "$1"
+# taken NAME SQL: a form that the program may not read by itself, and the command has rewritten then; a script takes it too
+taken() {
+    made "$1" 3 2 "$2"
+    fresh "$1, by script"
     "$real" a.mbtiles "$2" >/dev/null
-    run "$convert" a.mbtiles made.pmtiles
-    whole_or_refused
     run "$convert" --by-script a.mbtiles scripted.pmtiles
     status 0
     holds same scripted.pmtiles a.mbtiles
     ends
 }
-made_or_refused 'without rowid' "$names; create table tiles ($columns, primary key (zoom_level, tile_column, tile_row)) without rowid; $three"
-made_or_refused 'without rowid, the key last' "$names; create table tiles (tile_data blob, tile_row integer, tile_column integer, zoom_level integer, primary key (tile_row, zoom_level, tile_column)) without rowid; $three"
+taken 'without rowid' "$names; create table tiles ($columns, primary key (zoom_level, tile_column, tile_row)) without rowid; $three"
+taken 'without rowid, the key last' "$names; create table tiles (tile_data blob, tile_row integer, tile_column integer, zoom_level integer, primary key (tile_row, zoom_level, tile_column)) without rowid; $three"
 made 'columns in another order' 3 2 "$names; create table tiles (tile_data blob, tile_row integer, tile_column integer, zoom_level integer); $three"
 made 'further columns' 3 2 "create table metadata (id integer primary key, name text, note text, value text);
     create table tiles (id integer primary key, zoom_level integer, made text default 'now', tile_column integer, tile_row integer, tile_data blob, size integer default 5); $three"
-made_or_refused 'a column that was added to rows' "$names; create table tiles ($columns); $three; alter table tiles add column note text default 'none'"
+taken 'a column that was added to rows' "$names; create table tiles ($columns); $three; alter table tiles add column note text default 'none'"
 made 'a number that is the key of its row' 2 2 "$names; create table tiles (zoom_level integer, tile_column integer primary key, tile_row integer, tile_data blob); insert into tiles values (1, 0, 0, x'01'), (1, 1, 0, x'02')"
 made 'names in capitals and quotes' 3 2 "create table METADATA (\"Name\" text, [Value] text); create table \"TILES\" (\"Zoom_Level\" integer, [Tile_Column] integer, \`Tile_Row\` integer, Tile_Data blob); $three"
 made 'no rows' 0 0 "$names; create table tiles ($columns)"
@@ -175,8 +175,18 @@ status 3
 says 'b.mbtiles has no table or view named tiles'
 mkdir folder
 run "$convert" folder made.pmtiles
-status 3
+status 4
 says 'folder is no regular file'
+mkfifo pipe
+run timeout 20 "$convert" pipe made.pmtiles
+status 4
+says 'pipe is no regular file'
+run timeout 20 "$program" pipe made.pmtiles
+status 4
+says 'pipe: no regular file'
+run "$program" none.mbtiles made.pmtiles
+status 3
+says 'no file none.mbtiles'
 set_of c.mbtiles "insert into tiles values (0, 1, 0, x'01')"
 run "$convert" c.mbtiles made.pmtiles
 status 1
@@ -214,12 +224,12 @@ ln -s a.mbtiles link
 run "$convert" --overwrite a.mbtiles link
 status 1
 says 'one of the sets'
-echo other >made.pmtiles.new
+mkdir made.pmtiles.new
 run "$convert" a.mbtiles made.pmtiles
 status 1
-says 'made.pmtiles.new is there: another run'
-holds [ "$(cat made.pmtiles.new)" = other ]
-rm made.pmtiles.new
+says 'made.pmtiles.new is there'
+holds [ -d made.pmtiles.new ]
+rmdir made.pmtiles.new
 echo before >made.pmtiles
 run "$convert" a.mbtiles a.mbtiles made.pmtiles
 status 1
@@ -244,9 +254,17 @@ set_of "it's 100%?#.mbtiles" "$three"
 run "$convert" "it's 100%?#.mbtiles" "it's 100%?#.pmtiles"
 status 0
 holds cmp -s made.pmtiles "it's 100%?#.pmtiles"
-run "$here/crates/mbtiles_to_pmtiles_program/out/mbtiles_to_pmtiles_program" -dash.mbtiles made.pmtiles
+run "$program" -dash.mbtiles made.pmtiles
 status 2
-says 'mbtiles-to-pmtiles --help'
+says '^mbtiles-to-pmtiles: usage: mbtiles-to-pmtiles '
+set_of "two
+lines.mbtiles" "$three"
+run "$convert" "two
+lines.mbtiles" "two
+lines.pmtiles"
+status 0
+holds cmp -s -- -made.pmtiles "two
+lines.pmtiles"
 ends
 
 fresh 'lines that find no room'

@@ -1,0 +1,29 @@
+# Why sqlite3 couldn't read the file of a set.
+# shellcheck disable=SC2154
+
+# explain FILE ERRORS: says it by the words that sqlite3 left in a file, and ends
+explain() {
+    words=$(sed -n 's/^[A-Za-z ]*[Ee]rror[^:]*: *//; /./p' "$2" | tail -n 1)
+    case $words in
+    *locked* | *busy*) fail 1 "$1 is locked by another program; try again when that has ended" ;;
+    *'not a database'* | *encrypted*) fail 3 "$1 is no SQLite database" ;;
+    *'same text encoding'*) fail 1 "$1 has its texts in UTF-16, which a script can't hold; without --by-script it is rewritten first" ;;
+    *'disk is full'* | *'disk I/O error'*) fail_room ;;
+    *malformed* | *corrupt*) fail 1 "$1 is damaged: $words" ;;
+    *'unable to open'* | *readonly*) explain_unopened "$1" "$words" ;;
+    '') fail 1 "$1: sqlite3 ended before its last row" ;;
+    *) fail 1 "$1 isn't read: $words" ;;
+    esac
+}
+
+# why SQLite can't open a file that is there
+explain_unopened() {
+    beside=$(readlink -f "$1" 2>/dev/null) || beside=$1
+    if [ -e "$beside-journal" ]; then
+        fail 1 "$1 has a rollback journal beside it: another program writes it, or was cut off; a program that may write it, as sqlite3, has to open it once"
+    fi
+    if [ "$(od -An -tu1 -j18 -N1 "$1" | tr -d ' ')" = 2 ]; then
+        fail 1 "$1 is in WAL mode, and SQLite can't read that where it can't write the folder or open the log: copy the file and its log into a folder of your own"
+    fi
+    fail 1 "$1 can't be opened by SQLite: $2"
+}

@@ -1,0 +1,180 @@
+# Cases of tools/check_bin: tables whose names mislead, rows without a place, and files beside that a reader may miss. Each set is converted as SQLite reads its `tiles`, or refused in words.
+# shellcheck disable=SC2034,SC2154
+
+convert=$bin/mbtiles-to-pmtiles
+program=$here/crates/mbtiles_to_pmtiles_program/out/mbtiles_to_pmtiles_program
+names='create table metadata (name text, value text)'
+columns='zoom_level integer, tile_column integer, tile_row integer, tile_data blob'
+three="insert into tiles (zoom_level, tile_column, tile_row, tile_data) values (0, 0, 0, x'01'), (1, 1, 0, x'02'), (1, 0, 1, x'02')"
+hashes="create table tiles_with_hash ($columns, tile_hash text)"
+normal="create table map (zoom_level integer, tile_column integer, tile_row integer, tile_id text); create table images (tile_id text, tile_data blob);
+    create unique index m on map (zoom_level, tile_column, tile_row); create unique index i on images (tile_id)"
+shallow="create table tiles_shallow (zoom_level integer, tile_column integer, tile_row integer, tile_data_id integer); create table tiles_data (tile_data_id integer primary key, tile_data blob)"
+digest() { printf '%b' "$1" | md5sum | cut -d' ' -f1 | tr a-f A-F; }
+
+# right_or_refused: what a run came to
+right_or_refused() {
+    case $got in
+    0) holds same made.pmtiles a.mbtiles ;;
+    1 | 3 | 4) holds [ ! -e made.pmtiles ] && says "${1:-a.mbtiles}" ;;
+    *) problem="$problem; status $got: $(tail -n 1 err)" ;;
+    esac
+    rm -f made.pmtiles
+}
+# misleads NAME SQL: a set that is converted both ways, where a script always takes it
+misleads() {
+    fresh "$1"
+    "$real" a.mbtiles "$names; $2" >/dev/null
+    run "$convert" a.mbtiles made.pmtiles
+    right_or_refused
+    run "$program" a.mbtiles made.pmtiles
+    case $got in 10) ;; *) right_or_refused ;; esac
+    run "$convert" --by-script a.mbtiles made.pmtiles
+    status 0
+    right_or_refused
+    ends
+}
+# must NAME SQL: a set that has to be converted
+must() {
+    misleads "$1" "$2"
+    fresh "$1, converted"
+    "$real" a.mbtiles "$names; $2" >/dev/null
+    run "$convert" a.mbtiles made.pmtiles
+    status 0
+    holds same made.pmtiles a.mbtiles
+    ends
+}
+must 'a table of tiles beside an empty one with hashes' "create table tiles ($columns); $three; $hashes"
+must 'a table of tiles beside empty map and images' "create table tiles ($columns); $three; $normal"
+must 'a table of tiles beside empty places and contents' "create table tiles ($columns); $three; $shallow"
+must 'a table of tiles beside map and images of one row' "create table tiles ($columns); $three; $normal; insert into images values ('$(digest '\x09')', x'09'); insert into map values (0, 0, 0, '$(digest '\x09')')"
+must 'a table of tiles beside one with hashes of one row' "create table tiles ($columns); $three; $hashes; insert into tiles_with_hash values (0, 0, 0, x'09', '$(digest '\x09')')"
+misleads 'a view of another table beside empty map and images' "create table my_tiles ($columns); create view tiles as select * from my_tiles; $normal;
+    insert into my_tiles values (0, 0, 0, x'01'), (1, 1, 0, x'02'), (1, 0, 1, x'02')"
+misleads 'a view of another table beside an empty one with hashes' "create table my_tiles ($columns); create view tiles as select * from my_tiles; $hashes; insert into my_tiles values (0, 0, 0, x'01')"
+some="insert into images values ('$(digest '\x01')', x'01'), ('$(digest '\x02')', x'02'); insert into map values (0, 0, 0, '$(digest '\x01')'), (1, 1, 0, '$(digest '\x02')'), (3, 1, 2, '$(digest '\x02')'), (4, 1, 2, '$(digest '\x01')')"
+misleads 'a view of the zooms below 3' "$normal; $some; create view tiles as select zoom_level, tile_column, tile_row, tile_data from map join images on map.tile_id = images.tile_id where zoom_level < 3"
+misleads 'a view that turns rows over' "$normal; $some; create view tiles as select zoom_level, tile_column, (1 << zoom_level) - 1 - tile_row as tile_row, tile_data from map join images on map.tile_id = images.tile_id"
+misleads 'a view that swaps rows and columns' "$normal; $some; create view tiles as select zoom_level, tile_row as tile_column, tile_column as tile_row, tile_data from map join images on map.tile_id = images.tile_id"
+misleads 'a view of a table with hashes that leaves rows out' "$hashes; insert into tiles_with_hash values (0, 0, 0, x'01', '$(digest '\x01')'), (1, 0, 0, x'02', '$(digest '\x02')');
+    create view tiles as select zoom_level, tile_column, tile_row, tile_data from tiles_with_hash where zoom_level = 0"
+misleads 'a view of places and contents that leaves rows out' "$shallow; insert into tiles_data values (1, x'01'); insert into tiles_shallow values (0, 0, 0, 1), (1, 0, 0, 1), (2, 0, 0, 1);
+    create view tiles as select zoom_level, tile_column, tile_row, tile_data from tiles_shallow join tiles_data on tiles_shallow.tile_data_id = tiles_data.tile_data_id limit 2"
+misleads 'a view with contents of its own' "$normal; $some; create view tiles as select zoom_level, tile_column, tile_row, x'07' as tile_data from map"
+misleads 'a view of two tables' "create table a ($columns); create table b ($columns); insert into a values (0, 0, 0, x'01'); insert into b values (1, 0, 0, x'02'); create view tiles as select * from a union all select * from b"
+
+# Rows that have no place among tiles are named, and --strict takes none.
+for way in '' --by-script; do
+    for rows in '2, 5, 0' '31, 0, 0' '-1, 0, 0' 'null, 0, 0' '1, null, 0' "1, 0, 'x'" '1, 0, 0.5' '1, -1, 0'; do
+        fresh "a row of the place ($rows)${way:+, $way}"
+        "$real" a.mbtiles "$names; create table tiles (zoom_level, tile_column, tile_row, tile_data); $three; insert into tiles values ($rows, x'03')"
+        run "$convert" $way a.mbtiles made.pmtiles
+        case $got in
+        0)
+            holds same made.pmtiles a.mbtiles
+            holds [ "$(grep -c 'a.mbtiles: 1 row' err)" = 1 ]
+            says 'left out'
+            ;;
+        esac
+        right_or_refused
+        run "$convert" $way --strict a.mbtiles made.pmtiles
+        status 1
+        says 'a.mbtiles'
+        holds [ ! -e made.pmtiles ]
+        ends
+    done
+    fresh "nothing is left out${way:+, $way}"
+    "$real" a.mbtiles "$names; create table tiles ($columns); $three; insert into metadata values ('format', 'png'), ('bounds', '-1,-2,3,4')"
+    run "$convert" $way --strict a.mbtiles made.pmtiles
+    status 0
+    holds same made.pmtiles a.mbtiles
+    # a center that isn't said is the middle of the bounds, at the least zoom
+    holds [ "$(od -An -j118 -N1 -tu1 made.pmtiles | tr -d ' ')" = 0 ]
+    holds [ "$(od -An -j119 -N8 -td4 made.pmtiles | xargs)" = '10000000 10000000' ]
+    ends
+    fresh "metadata that is left out${way:+, $way}"
+    "$real" a.mbtiles "$names; create table tiles ($columns); $three; insert into metadata values ('format', 'png'), ('bounds', '-500,-2,3,4')"
+    run "$convert" $way a.mbtiles made.pmtiles
+    right_or_refused
+    run "$convert" $way --strict a.mbtiles made.pmtiles
+    status 1
+    holds [ ! -e made.pmtiles ]
+    ends
+done
+
+# What stands beside a file is read too, whatever name leads to it.
+fresh 'links that hide a log and a journal'
+mkdir beyond
+printf '%s\n' 'pragma journal_mode = wal; pragma wal_autocheckpoint = 0;' "$names; create table tiles ($columns); $three;" '.shell cp b.mbtiles beyond/a.mbtiles && cp b.mbtiles-wal beyond/a.mbtiles-wal' | "$real" b.mbtiles >/dev/null
+ln -s beyond/a.mbtiles link.mbtiles
+cp beyond/a.mbtiles beyond/a.mbtiles-wal .
+for reader in "$convert" "$program" "$convert --by-script"; do
+    # shellcheck disable=SC2086
+    run $reader link.mbtiles made.pmtiles
+    right_or_refused link.mbtiles
+done
+rm -r a.mbtiles* beyond
+mkdir beyond
+set_of b2.mbtiles "$three"
+printf '%s\n' 'pragma cache_size = 2; begin exclusive; create table spilled (x); insert into spilled values (zeroblob(300000));' \
+    "update tiles set tile_data = x'09';" '.shell cp b2.mbtiles beyond/a.mbtiles && cp b2.mbtiles-journal beyond/a.mbtiles-journal' | "$real" b2.mbtiles >/dev/null
+cp beyond/a.mbtiles beyond/a.mbtiles-journal .
+for reader in "$convert" "$program" "$convert --by-script"; do
+    # shellcheck disable=SC2086
+    run $reader link.mbtiles made.pmtiles
+    status 1
+    says 'link.mbtiles'
+    holds [ ! -e made.pmtiles ]
+done
+ends
+
+fresh 'a set on standard input'
+printf '%s\n' 'pragma journal_mode = wal; pragma wal_autocheckpoint = 0;' "$names; create table tiles ($columns); $three;" '.shell cp b.mbtiles a.mbtiles && cp b.mbtiles-wal a.mbtiles-wal' | "$real" b.mbtiles >/dev/null
+for reader in "$convert" "$program" "$convert --by-script"; do
+    for name in /dev/stdin /proc/self/fd/0; do
+        # shellcheck disable=SC2086
+        feed a.mbtiles $reader $name made.pmtiles
+        right_or_refused "$name"
+    done
+done
+ends
+
+if [ "$(id -u)" = 0 ] && command -v setpriv >/dev/null; then
+    fresh 'a log and a journal that only another user reads'
+    chmod 755 . "$here" "$room"
+    chmod -R a+rX "$here"
+    mkdir to
+    chmod 777 to
+    as_nobody() { run setpriv --reuid=65534 --regid=65534 --clear-groups env TMPDIR=/tmp "$@"; }
+    printf '%s\n' 'pragma journal_mode = wal; pragma wal_autocheckpoint = 0;' "$names; create table tiles ($columns); $three;" '.shell cp b.mbtiles a.mbtiles && cp b.mbtiles-wal a.mbtiles-wal' | "$real" b.mbtiles >/dev/null
+    chmod 600 a.mbtiles-wal
+    for reader in "$convert" "$program" "$convert --by-script"; do
+        # shellcheck disable=SC2086
+        as_nobody $reader a.mbtiles to/made.pmtiles
+        [ ! -e to/made.pmtiles ] || mv to/made.pmtiles .
+        right_or_refused
+    done
+    rm a.mbtiles*
+    set_of b2.mbtiles "$three"
+    printf '%s\n' 'pragma cache_size = 2; begin exclusive; create table spilled (x); insert into spilled values (zeroblob(300000));' \
+        "update tiles set tile_data = x'09';" '.shell cp b2.mbtiles a.mbtiles && cp b2.mbtiles-journal a.mbtiles-journal' | "$real" b2.mbtiles >/dev/null
+    chmod 600 a.mbtiles-journal
+    for reader in "$convert" "$program" "$convert --by-script"; do
+        # shellcheck disable=SC2086
+        as_nobody $reader a.mbtiles to/made.pmtiles
+        status 1
+        says 'a.mbtiles'
+        holds [ ! -e to/made.pmtiles ]
+    done
+    set_of c.mbtiles "$three"
+    chmod 600 c.mbtiles
+    for reader in "$convert" "$program" "$convert --by-script"; do
+        # shellcheck disable=SC2086
+        as_nobody $reader c.mbtiles to/made.pmtiles
+        status 4
+        says 'c.mbtiles'
+    done
+    ends
+else
+    skips 'no other user can be taken here, so logs that only another user reads are not tried'
+fi

@@ -1,0 +1,154 @@
+# Cases of tools/check_bin: files in forms that the program doesn't read by itself, which sqlite3 rewrites first, or that are refused in words.
+# shellcheck disable=SC2034,SC2154
+
+convert=$bin/mbtiles-to-pmtiles
+names="create table metadata (name text, value text); insert into metadata values ('format', 'png'), ('name', 'a set'), ('bounds', '-1,-2,3,4')"
+columns='zoom_level integer, tile_column integer, tile_row integer, tile_data blob'
+three="insert into tiles (zoom_level, tile_column, tile_row, tile_data) values (0, 0, 0, x'01'), (1, 1, 0, x'02'), (1, 0, 1, x'02')"
+nothing_left() { [ -z "$(find . -name '*.new' -o -name '.mbtiles-to-*')" ]; }
+
+# read_all_the_same NAME SQL: a set of three tiles that is converted, whatever its form
+read_all_the_same() {
+    fresh "$1"
+    echo "$2;" | "$real" a.mbtiles >/dev/null 2>err || problem="$problem; $(cat err)"
+    before=$(cksum a.mbtiles)
+    run "$convert" a.mbtiles made.pmtiles
+    status 0
+    prints '^tiles 3, contents 2$'
+    holds same made.pmtiles a.mbtiles
+    holds same_has '3 0 1 2 1 {"name": "a set"}'
+    holds nothing_left
+    holds [ "$(cksum a.mbtiles)" = "$before" ]
+    ends
+}
+shallow="create table tiles_shallow (zoom_level integer, tile_column integer, tile_row integer, tile_data_id integer, primary key (zoom_level, tile_column, tile_row)) without rowid;
+    create table tiles_data (tile_data_id integer primary key, tile_data blob);
+    create view tiles as select tiles_shallow.zoom_level as zoom_level, tiles_shallow.tile_column as tile_column, tiles_shallow.tile_row as tile_row, tiles_data.tile_data as tile_data
+        from tiles_shallow join tiles_data on tiles_shallow.tile_data_id = tiles_data.tile_data_id;
+    insert into tiles_data values (1, x'01'), (2, x'02'); insert into tiles_shallow values (0, 0, 0, 1), (1, 1, 0, 2), (1, 0, 1, 2)"
+read_all_the_same 'tiles without rowid' "$names; create table tiles ($columns, primary key (zoom_level, tile_column, tile_row)) without rowid; $three"
+read_all_the_same 'places without rowid' "$names; $shallow"
+read_all_the_same 'metadata without rowid' "create table metadata (name text primary key, value text) without rowid; insert into metadata values ('format', 'png'), ('name', 'a set');
+    create table tiles ($columns); $three"
+for vacuum in 1 2; do
+    read_all_the_same "auto_vacuum $vacuum" "pragma auto_vacuum = $vacuum; $names; create table tiles ($columns); $three"
+done
+for encoding in UTF-16le UTF-16be; do
+    read_all_the_same "texts in $encoding" "pragma encoding = '$encoding'; $names; create table tiles ($columns); $three"
+    read_all_the_same "texts in $encoding, a table without rowid" "pragma encoding = '$encoding'; $names; create table tiles ($columns, primary key (zoom_level, tile_column, tile_row)) without rowid; $three"
+done
+read_all_the_same 'bytes of pages that are reserved' ".filectrl reserve_bytes 8
+$names; create table tiles ($columns); $three"
+read_all_the_same 'a column that was added' "$names; create table tiles ($columns); $three; alter table tiles add column note text default 'none'"
+read_all_the_same 'a column of contents that was added' "$names; create table tiles (zoom_level integer, tile_column integer, tile_row integer); insert into tiles values (0, 0, 0), (1, 1, 0);
+    alter table tiles add column tile_data blob default x'02'; update tiles set tile_data = x'01' where zoom_level = 0; insert into tiles values (1, 0, 1, x'02')"
+read_all_the_same 'an rtree beside' "$names; create table tiles ($columns); $three; create virtual table places using rtree (id, a, b)"
+read_all_the_same 'a table of texts beside' "$names; create table tiles ($columns); $three; create virtual table texts using fts5 (body); insert into texts values ('x')"
+read_all_the_same 'references with match full' "$names; create table zooms (z integer primary key); create table tiles (zoom_level integer references zooms (z) match full, tile_column integer, tile_row integer, tile_data blob); $three"
+read_all_the_same 'a trigger on tiles' "$names; create table tiles ($columns); $three; create table changes (n); create trigger t after insert on tiles begin insert into changes values (1); end"
+read_all_the_same 'a partial index' "$names; create table tiles ($columns); $three; create index p on tiles (zoom_level) where zoom_level > 0"
+read_all_the_same 'an index of an expression' "$names; create table tiles ($columns); $three; create index p on tiles (zoom_level + 1)"
+read_all_the_same 'a generated column' "$names; create table tiles (zoom_level integer, tile_column integer, tile_row integer, raw blob, tile_data blob generated always as (raw) virtual);
+    insert into tiles (zoom_level, tile_column, tile_row, raw) values (0, 0, 0, x'01'), (1, 1, 0, x'02'), (1, 0, 1, x'02')"
+read_all_the_same 'a strict table' "$names; create table tiles ($columns) strict; $three"
+
+# a form that the program answers 10 on, whatever it reads by itself: a program that does so for one file first
+fresh 'what is said of a set that is rewritten, and its end'
+set_of a.mbtiles "$one"
+cp -r "$bin" bin
+cat >bin/mbtiles_to_pmtiles_program <<'PROGRAM'
+#!/bin/bash
+for word; do case $word in *.mbtiles) set=$word; break ;; esac; done
+case $set in
+*/.mbtiles-to-pmtiles.*) ;;
+*) exit 10 ;;
+esac
+[ -z "$SAYS" ] || { echo "mbtiles-to-pmtiles: $set is refused: $SAYS" >&2; exit 1; }
+[ -z "$SLEEPS" ] || { for out; do :; done; exec 9>"$out.new"; exec sleep 20; }
+exec "$PROGRAM" "$@"
+PROGRAM
+chmod +x bin/mbtiles_to_pmtiles_program
+export PROGRAM=$here/crates/mbtiles_to_pmtiles_program/out/mbtiles_to_pmtiles_program SAYS= SLEEPS=
+run bin/mbtiles-to-pmtiles a.mbtiles made.pmtiles
+status 0
+holds [ "$(cat err)" = "mbtiles-to-pmtiles: a.mbtiles is rewritten by sqlite3 first: it is in a form that isn't read directly" ]
+holds same made.pmtiles a.mbtiles
+holds nothing_left
+SAYS='it has no sense' run bin/mbtiles-to-pmtiles --overwrite a.mbtiles made.pmtiles
+status 1
+says 'mbtiles-to-pmtiles: a.mbtiles is refused: it has no sense'
+holds nothing_left
+mkdir path
+for word in sh dirname readlink sed awk od tr mktemp rm mkfifo date stat id cat grep sleep bash; do ln -s "$(command -v $word)" path/$word; done
+run env PATH="$t/path" bin/mbtiles-to-pmtiles --overwrite a.mbtiles made.pmtiles
+status 1
+says 'the command sqlite3 (package sqlite3) would rewrite it, and is missing'
+holds same made.pmtiles a.mbtiles
+rm -r path
+for signal in HUP:129 INT:130 TERM:143; do
+    mkdir to
+    SLEEPS=1 env --default-signal bin/mbtiles-to-pmtiles a.mbtiles to/made.pmtiles >out 2>err </dev/null &
+    made=$!
+    sleep 1
+    holds [ -e to/made.pmtiles.new ]
+    kill -"${signal%:*}" $made
+    wait $made
+    got=$?
+    status "${signal#*:}"
+    holds nothing_in to
+    rmdir to
+done
+# sqlite3 that doesn't end, one that loses a row, and one that finds no room
+echo 'case "$*" in *:memory:* | *file:*) exec "$real" "$@" ;; esac; sleep 20' | instead sqlite3
+mkdir to
+env --default-signal PATH="$t/path:$PATH" bin/mbtiles-to-pmtiles a.mbtiles to/made.pmtiles >out 2>err </dev/null &
+made=$!
+sleep 1
+kill -TERM $made
+wait $made
+got=$?
+status 143
+holds nothing_in to
+echo 'case "$*" in *file:*) exec "$real" "$@" ;; esac; sed "s/from s.tiles;/from s.tiles limit 0;/" | "$real" "$@"' | instead sqlite3
+run env PATH="$t/path:$PATH" bin/mbtiles-to-pmtiles a.mbtiles to/made.pmtiles
+status 1
+says 'a.mbtiles: not all of its rows came'
+holds nothing_in to
+ends
+
+fresh 'a base and patches in several forms'
+"$real" a.mbtiles "create table metadata (name text primary key, value text) without rowid; insert into metadata values ('name', 'base'), ('legend', 'l'); create table tiles ($columns, primary key (zoom_level, tile_column, tile_row)) without rowid; $three"
+"$real" b.mbtiles "pragma encoding = 'UTF-16'; create table metadata (name text, value text); insert into metadata values ('name', 'né'); create table tiles ($columns); insert into tiles values (1, 1, 0, null), (2, 0, 0, x'07')"
+run "$convert" a.mbtiles b.mbtiles made.pmtiles
+status 1
+says 'b.mbtiles is refused: .*--force'
+holds [ ! -e made.pmtiles ]
+run "$convert" a.mbtiles b.mbtiles --force made.pmtiles
+status 0
+holds same made.pmtiles a.mbtiles b.mbtiles
+holds same_has '{"legend": "l", "name": "n\u00e9"}'
+holds nothing_left
+ends
+
+fresh 'sets of such forms that can not be read'
+"$real" a.mbtiles "$names; create table tiles ($columns, primary key (zoom_level, tile_column, tile_row)) without rowid; $three"
+(echo 'begin exclusive; update tiles set tile_data = zeroblob(900000);'; sleep 12) | "$real" a.mbtiles &
+sleep 2
+run "$convert" a.mbtiles made.pmtiles
+status 1
+says 'a.mbtiles'
+holds [ ! -e made.pmtiles ]
+holds nothing_left
+kill %% 2>/dev/null
+wait
+"$real" b.mbtiles "create table t (a); create table metadata (name text primary key, value text) without rowid"
+run "$convert" b.mbtiles made.pmtiles
+status 3
+says 'b.mbtiles has no table or view named tiles'
+"$real" c.mbtiles "pragma encoding = 'UTF-16'; $names; create table tiles (zoom_level, tile_column, tile_row, tile_data); insert into tiles values (0, 0, 0, 'text')"
+run "$convert" c.mbtiles made.pmtiles
+holds [ "$got" != 0 ]
+says 'c.mbtiles'
+holds [ ! -e made.pmtiles ]
+holds nothing_left
+ends

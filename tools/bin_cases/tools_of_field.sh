@@ -1,0 +1,107 @@
+# Cases of tools/check_bin: sets in the tables that the tools of the field make, each as a file alone, through a link, with a log of writes beside it, and with a write that was cut off.
+# shellcheck disable=SC2034,SC2154
+
+convert=$bin/mbtiles-to-pmtiles
+# some 40 tiles, of which several have one content, into a table
+rows_of() { echo "with recursive n(v) as (values (0) union all select v + 1 from n where v < 39) insert into $1 (zoom_level, tile_column, tile_row, $2) select 5, v % 8, v / 8, $3 from n"; }
+content="cast('content ' || (v % 7) || hex(zeroblob(150 + 10 * (v % 7))) as blob)"
+says_of_itself="insert into metadata values ('name', 'field'), ('format', 'png'), ('minzoom', '5'), ('maxzoom', '5')"
+# digests in small letters, as md5 prints them
+ids_by_digest() {
+    for v in 0 1 2 3 4 5 6; do
+        echo "insert into images (tile_data, tile_id) select $content, '$(printf %s "$("$real" :memory: "select $content from (select $v as v)")" | md5sum | cut -d' ' -f1)' from (select $v as v);"
+    done
+    rows_of map tile_id "(select tile_id from images where tile_data = $content)"
+}
+view_of_map="create view tiles as select map.zoom_level as zoom_level, map.tile_column as tile_column, map.tile_row as tile_row, images.tile_data as tile_data from map join images on images.tile_id = map.tile_id"
+
+tables_of() {
+    case $1 in
+    Planetiler) echo "pragma application_id = 0x4d504258; create table metadata (name text, value text); create unique index name on metadata (name);
+        create table tiles_shallow (zoom_level integer, tile_column integer, tile_row integer, tile_data_id integer, primary key (zoom_level, tile_column, tile_row)) without rowid;
+        create table tiles_data (tile_data_id integer primary key, tile_data blob);
+        create view tiles as select tiles_shallow.zoom_level as zoom_level, tiles_shallow.tile_column as tile_column, tiles_shallow.tile_row as tile_row, tiles_data.tile_data as tile_data
+            from tiles_shallow join tiles_data on tiles_shallow.tile_data_id = tiles_data.tile_data_id;
+        with recursive n(v) as (values (0) union all select v + 1 from n where v < 6) insert into tiles_data select v, $content from n; $(rows_of tiles_shallow tile_data_id 'v % 7'); $says_of_itself" ;;
+    'Planetiler, not compact') echo "pragma application_id = 0x4d504258; create table metadata (name text, value text); create unique index name on metadata (name);
+        create table tiles (zoom_level integer, tile_column integer, tile_row integer, tile_data blob, primary key (zoom_level, tile_column, tile_row)) without rowid; $(rows_of tiles tile_data "$content"); $says_of_itself" ;;
+    'GDAL, images') echo "pragma application_id = 1297105496; create table metadata (name text, value text);
+        create table tiles (zoom_level integer not null, tile_column integer not null, tile_row integer not null, tile_data blob not null, unique (zoom_level, tile_column, tile_row)); $(rows_of tiles tile_data "$content"); $says_of_itself;
+        insert into metadata values ('type', 'overlay'), ('version', '1.1'), ('description', 'field'), ('bounds', '-180.0000000,-85,180.0000000,85')" ;;
+    'GDAL, vectors') echo "create table metadata (name text, value text); create table tiles (zoom_level integer, tile_column integer, tile_row integer, tile_data blob, unique (zoom_level, tile_column, tile_row));
+        $(rows_of tiles tile_data "x'1f8b' || $content"); insert into metadata values ('format', 'pbf'), ('json', '{\"vector_layers\":[]}'), ('center', '0,0,5'), ('bounds', '-180,-85,180,85'), ('scheme', 'tms')" ;;
+    tilemaker) echo "pragma page_size = 65536; create table if not exists metadata (name text, value text, unique (name)); create table if not exists tiles (zoom_level integer, tile_column integer, tile_row integer, tile_data blob, unique (zoom_level, tile_column, tile_row));
+        $(rows_of tiles tile_data "$content"); $says_of_itself" ;;
+    tippecanoe) echo "create table metadata (name text, value text); create unique index name on metadata (name); create table map (zoom_level integer, tile_column integer, tile_row integer, tile_id text); create table images (tile_data blob, tile_id text);
+        create unique index map_index on map (zoom_level, tile_column, tile_row); create unique index images_id on images (tile_id); $view_of_map;
+        with recursive n(v) as (values (0) union all select v + 1 from n where v < 6) insert into images (tile_data, tile_id) select $content, printf('%016x', 1000003 * (v + 1)) from n; $(rows_of map tile_id "printf('%016x', 1000003 * (v % 7 + 1))"); $says_of_itself" ;;
+    'tippecanoe, flat') echo "create table metadata (name text, value text); create table tiles (zoom_level integer, tile_column integer, tile_row integer, tile_data blob); $(rows_of tiles tile_data "$content");
+        create unique index name on metadata (name); create unique index tile_index on tiles (zoom_level, tile_column, tile_row); $says_of_itself" ;;
+    mbutil) echo "create table tiles (zoom_level integer, tile_column integer, tile_row integer, tile_data blob); create table metadata (name text, value text); create table grids (zoom_level integer, tile_column integer, tile_row integer, grid blob);
+        create table grid_data (zoom_level integer, tile_column integer, tile_row integer, key_name text, key_json text); create unique index name on metadata (name); create unique index tile_index on tiles (zoom_level, tile_column, tile_row);
+        $(rows_of tiles tile_data "$content"); $says_of_itself; analyze" ;;
+    MapTiler) echo "create table metadata (name text, value text); create table map (zoom_level integer, tile_column integer, tile_row integer, tile_id text, grid_id text); create table grid_key (grid_id text, key_name text);
+        create table keymap (key_name text, key_json text); create table grid_utfgrid (grid_id text, grid_utfgrid blob); create table images (tile_data blob, tile_id text);
+        create unique index map_index on map (zoom_level, tile_column, tile_row); create unique index grid_key_lookup on grid_key (grid_id, key_name); create unique index keymap_lookup on keymap (key_name);
+        create unique index grid_utfgrid_lookup on grid_utfgrid (grid_id); create unique index images_id on images (tile_id); create unique index name on metadata (name); $view_of_map;
+        create view grids as select map.zoom_level as zoom_level, map.tile_column as tile_column, map.tile_row as tile_row, grid_utfgrid.grid_utfgrid as grid from map join grid_utfgrid on grid_utfgrid.grid_id = map.grid_id;
+        $(ids_by_digest); $says_of_itself" ;;
+    esac
+}
+
+# equal FILE WORDS..: each tile is that of SQLite
+equal() {
+    file=$1
+    shift
+    run "$convert" --overwrite "$@" "$file" made.pmtiles
+    status 0
+    prints '^tiles 40, contents 7$'
+    holds same made.pmtiles whole.mbtiles
+    holds same_has '40 5 5 '
+}
+
+for maker in Planetiler 'Planetiler, not compact' 'GDAL, images' 'GDAL, vectors' tilemaker tippecanoe 'tippecanoe, flat' mbutil MapTiler; do
+    sql=$(tables_of "$maker")
+    fresh "a file as $maker makes it"
+    "$real" whole.mbtiles "$sql" >/dev/null
+    equal whole.mbtiles
+    equal whole.mbtiles --by-script
+    ends
+    fresh "a file as $maker makes it, through a link"
+    mkdir beyond
+    "$real" whole.mbtiles "$sql" >/dev/null
+    mv whole.mbtiles beyond/
+    ln -s beyond/whole.mbtiles whole.mbtiles
+    ln -s whole.mbtiles again.mbtiles
+    equal again.mbtiles
+    equal again.mbtiles --by-script
+    ends
+    fresh "a file as $maker makes it, whose rows stand in the log"
+    mkdir beyond
+    printf '%s\n' 'pragma page_size = 1024; pragma journal_mode = wal; pragma wal_autocheckpoint = 0;' "$sql;" '.shell cp b.mbtiles beyond/whole.mbtiles && cp b.mbtiles-wal beyond/whole.mbtiles-wal' | "$real" b.mbtiles >/dev/null
+    holds [ -s beyond/whole.mbtiles-wal ]
+    ln -s beyond/whole.mbtiles a.mbtiles
+    cp beyond/whole.mbtiles beyond/whole.mbtiles-wal .
+    for file in beyond/whole.mbtiles a.mbtiles; do
+        equal $file
+        equal $file --by-script
+    done
+    ends
+    fresh "a file as $maker makes it, whose last write was cut off"
+    mkdir beyond
+    "$real" b.mbtiles "$sql" >/dev/null
+    printf '%s\n' 'pragma cache_size = 2; pragma cache_spill = 1; begin exclusive; create table spilled (x); insert into spilled values (zeroblob(300000));' \
+        "update metadata set value = 'cut';" '.shell cp b.mbtiles beyond/whole.mbtiles && cp b.mbtiles-journal beyond/whole.mbtiles-journal' | "$real" b.mbtiles >/dev/null
+    holds [ -s beyond/whole.mbtiles-journal ]
+    ln -s beyond/whole.mbtiles a.mbtiles
+    for file in beyond/whole.mbtiles a.mbtiles; do
+        run "$convert" $file made.pmtiles
+        status 1
+        says "$file .*journal"
+        run "$convert" --by-script $file made.pmtiles
+        status 1
+        says "$file .*journal"
+    done
+    holds [ ! -e made.pmtiles ]
+    ends
+done
