@@ -47,6 +47,19 @@ def center(text):
     return lon, lat, int(zoom) if re.fullmatch('0|[1-9][0-9]?', zoom) and int(zoom) <= 30 else None
 
 
+def middle(low, high):
+    """Half of a sum, towards 0."""
+    return (low + high) // 2 if low + high >= 0 else -(-(low + high) // 2)
+
+
+def center_of(extent, at, zoom):
+    """The center of an archive: that which is said, at zoom 0 where it says none, or the middle of the bounds at the least zoom. Without bounds it is that of the world."""
+    if at is not None:
+        return at[0], at[1], at[2] or 0
+    west, south, east, north = extent or (0, 0, 0, 0)
+    return middle(west, east), middle(south, north), zoom
+
+
 def metadata(names):
     kept = shown.members(names.get('json') or '') or {}
     kept.update((name, text) for name, text in names.items() if name not in LEFT_OUT and text is not None)

@@ -594,9 +594,7 @@ def options_said(state):
     said = {**defaults(), "type": pmtiles.TYPES.index(kind), "tile-compression": pmtiles.COMPRESSIONS.index(label), "min-zoom": zooms[0], "max-zoom": zooms[1], "metadata": metadata.encode()}
     if bounds is not None:
         said["bounds"] = bounds
-    if center is not None:
-        said["center"] = center[:2]
-        said["center-zoom"] = said["center-zoom"] if center[2] is None else center[2]
+    *said["center"], said["center-zoom"] = option_cases.center_of(bounds, center, zooms[0])
     return said
 
 
@@ -633,6 +631,11 @@ def says_of_itself():
     for layout in GOOD_LAYOUTS:
         yield text(store("base", layout, tiles, named(**names)), query)
     yield text(store("base", "flat", tiles, named(**{**names, "center": b"1,2"})), query)
+    # without a center, or with one that isn't in form: the middle of the bounds, or of the world, at the least zoom
+    for bounds in (b"-1.5,-2,3,4", b"8.4,47.3,8.6000001,47.4", b"-8.6000001,-47.4,-8.4,-47.3000001", b"-180,-90,180,90", b"170,5,-170,5", b"x"):
+        for center in ({}, {"center": b"1"}):
+            yield text(store("base", "flat", tiles, named(**{**{n: v for n, v in names.items() if n != "center"}, "bounds": bounds, **center})), query)
+    yield text(store("base", "flat", {(3, 0, 0): other}, named(format=b"pbf")), query)
     yield text(store("base", "flat", tiles, named(**{**names, "center": b"180,-90,30", "bounds": b"1,2,3"})), query)
     yield text(store("base", "flat", {**tiles, (3, 0, 0): other}, named(**names)), query)
     yield text(store("base", "flat", {(3, 0, 0): other}, named(**{**names, "format": b" image/PNG"})), query)

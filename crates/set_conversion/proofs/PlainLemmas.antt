@@ -1,8 +1,9 @@
 -- The options of a set label directories `None`.
 use Rattle.std.proofs.Common.{◌∙◌, ap, ℕ, Option, Some, None, refl}
+use Rattle.std.specs.Prelude.{unwrap_or}
 use Rattle.mb_loaded.specs.State.{State}
 use Rattle.pm_format.specs.Options.{Options}
-use Rattle.set_options.specs.OptionsOfSet.{AreOptionsOfSet, said_by, with_bounds, with_center, with_center_zoom, writer_of}
+use Rattle.set_options.specs.OptionsOfSet.{AreOptionsOfSet, said_by, unsaid_center, with_bounds, with_center, with_center_zoom, writer_of}
 use Rattle.set_options.specs.declared.extents.SetBounds.{SetBounds}
 use Rattle.set_options.specs.declared.extents.SetCenter.{SetCenter}
 use Rattle.set_options.specs.declared.options.SetOptions.{SetOptions}
@@ -16,12 +17,11 @@ zoomed : (zoom : Option ℕ) (o : Options) → IsPlain o → IsPlain (with_cente
 zoomed None o plain = plain
 zoomed (Some zoom) o plain = plain
 
-centered : (c : Option SetCenter) (o : Options) → IsPlain o → IsPlain (with_center c o)
-centered None o plain = plain
-centered (Some c) o plain = zoomed c.zoom (record o { center_longitude = c.longitude; center_latitude = c.latitude }) plain
+centered : (c : SetCenter) (o : Options) → IsPlain o → IsPlain (with_center c o)
+centered c o plain = zoomed c.zoom (record o { center_longitude = c.longitude; center_latitude = c.latitude }) plain
 
 said_plain : (o : SetOptions) → IsPlain (writer_of o)
-said_plain o = centered o.center (with_bounds o.bounds _) (bounded o.bounds _ refl)
+said_plain o = centered (unwrap_or o.center (unsaid_center o.bounds o.zooms.0)) (with_bounds o.bounds _) (bounded o.bounds _ refl)
 
 pub plain_of_set : (s : State) (o : Options) → AreOptionsOfSet s o → IsPlain o
 plain_of_set s o of = ap (λ (o : Options). o.internal_compression) of.are ∙ said_plain (said_by s of.text)

@@ -1,5 +1,5 @@
 -- The bounds and the center that texts of metadata say (MBTiles 1.3).
-use Rattle.std.specs.Prelude.{◌≡◌, ℕ, ◌-◌, ◌&&◌, ℤ, pos, negsuc, Bool, not, List, [], ◌∷◌, length, take, drop, cond, Option, Some, None, codes, refl}
+use Rattle.std.specs.Prelude.{◌≡◌, ℕ, ◌-◌, ◌&&◌, ℤ, pos, negsuc, ◌+ℤ◌, int_div, Bool, not, List, [], ◌∷◌, length, take, drop, cond, Option, Some, None, codes, refl}
 use Rattle.std.specs.Char.{is_ascii_whitespace}
 use Rattle.std.specs.List.{prefix_len, suffix_len}
 use Rattle.std.specs.Option.{option_and_then}
@@ -56,6 +56,17 @@ bounds_in text = bounds_of (parted 44 text)
 
 abbrev pub center_in : List ℕ → Option SetCenter
 center_in text = center_of (parted 44 text)
+
+-- half of a sum, towards 0
+abbrev pub middle : ℤ → ℤ → ℤ
+middle a b = int_div (a +ℤ b) (pos 2)
+
+-- the middle of bounds, at a zoom
+abbrev pub middle_of : SetBounds → ℕ → SetCenter
+middle_of b zoom = record { longitude = middle b.west b.east; latitude = middle b.south b.north; zoom = Some zoom }
+
+pub a_middle : middle_of (record { west = pos 84000000; south = negsuc 8; east = pos 86000001; north = pos 4 }) 3 ≡ record { longitude = pos 85000000; latitude = negsuc 1; zoom = Some 3 }
+a_middle = refl
 
 pub a_city : bounds_in (codes "8.4, 47.3,8.6 ,47.4") ≡ Some (record { west = pos 84000000; south = pos 473000000; east = pos 86000000; north = pos 474000000 })
 unfolding parted

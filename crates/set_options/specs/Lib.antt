@@ -4,3 +4,4 @@ pub mod Extents
 pub mod Facts
 pub mod Format
 pub mod OptionsOfSet
+pub mod Understood

@@ -1,11 +1,11 @@
 -- The options of an archive that a set gives.
-use Rattle.std.specs.Prelude.{◌≡◌, ℕ, List, Option, Some, None, codes, unwrap_or}
+use Rattle.std.specs.Prelude.{◌≡◌, ℕ, pos, List, Option, Some, None, codes, unwrap_or, refl}
 use Rattle.std.specs.Option.{option_and_then}
 use Rattle.mb_lists.specs.Metadata.{text_at}
 use Rattle.mb_loaded.specs.State.{State}
 use Rattle.pm_format.specs.Options.{Options, default_options}
 use Rattle.set_options.specs.ArchiveJson.{IsTextOf, archive_data}
-use Rattle.set_options.specs.Extents.{bounds_in, center_in}
+use Rattle.set_options.specs.Extents.{bounds_in, center_in, middle_of}
 use Rattle.set_options.specs.Facts.{facts_of, label_of}
 use Rattle.set_options.specs.Format.{type_of}
 use Rattle.set_options.specs.declared.extents.SetBounds.{SetBounds}
@@ -36,14 +36,18 @@ abbrev pub with_center_zoom : Option ℕ → Options → Options
 with_center_zoom None o = o
 with_center_zoom (Some zoom) o = record o { center_zoom = zoom }
 
--- a center that isn't said is at zoom 0 and degrees 0
-abbrev pub with_center : Option SetCenter → Options → Options
-with_center None o = o
-with_center (Some c) o = with_center_zoom c.zoom (record o { center_longitude = c.longitude; center_latitude = c.latitude })
+-- the center of a set that says none, at its least zoom: the middle of its bounds, and degrees 0, the middle of the world, where it says none either
+abbrev pub unsaid_center : Option SetBounds → ℕ → SetCenter
+unsaid_center None zoom = record { longitude = pos 0; latitude = pos 0; zoom = Some zoom }
+unsaid_center (Some b) zoom = middle_of b zoom
+
+-- a center without a zoom is at zoom 0
+abbrev pub with_center : SetCenter → Options → Options
+with_center c o = with_center_zoom c.zoom (record o { center_longitude = c.longitude; center_latitude = c.latitude })
 
 -- the options of the archive's writer
 abbrev pub writer_of : SetOptions → Options
-writer_of o = with_center o.center (with_bounds o.bounds (record (default_options o.tile_type) {
+writer_of o = with_center (unwrap_or o.center (unsaid_center o.bounds o.zooms.0)) (with_bounds o.bounds (record (default_options o.tile_type) {
   tile_compression = o.tile_compression;
   min_zoom = o.zooms.0;
   max_zoom = o.zooms.1;

@@ -1,7 +1,7 @@
 // The bounds and the center that texts of metadata say.
 ghost use Rattle.std.specs.Prelude.{◌≡◌, ◌∷◌, [], MatchOption};
 ghost use Rattle.line_words.specs.Parting.{parted};
-ghost use Rattle.set_options.specs.Extents.{bounds_at, bounds_in, bounds_within, center_at, center_in, is_latitude, latitude_of, longitude_of, trimmed, zoom_said};
+ghost use Rattle.set_options.specs.Extents.{bounds_at, bounds_in, bounds_within, center_at, center_in, is_latitude, latitude_of, longitude_of, middle_of, trimmed, zoom_said};
 
 use crate::degrees::degrees_of;
 use line_words::{first_separator, parse_number};
@@ -17,6 +17,20 @@ pub struct SetBounds {
     pub east: i32,
     /// The northern side.
     pub north: i32,
+}
+
+impl SetBounds {
+    /// The middle of these bounds as a place to begin with, at a zoom: half the sum of the longitudes and half that of
+    /// the latitudes, towards 0.
+    pub fn middle(self, zoom: u8) -> SetCenter
+        ensures { result ≡ middle_of self zoom }
+    {
+        SetCenter {
+            longitude: self.west.midpoint(self.east),
+            latitude: self.south.midpoint(self.north),
+            zoom: Some(zoom),
+        }
+    }
 }
 
 /// The place of a set to begin with, in ten millionths of a degree.

@@ -1,5 +1,5 @@
 // The type of tiles that a text under the name `format` says.
-ghost use Rattle.std.specs.Prelude.{◌≡◌, option_copied};
+ghost use Rattle.std.specs.Prelude.{◌≡◌, option_copied, Some};
 ghost use Rattle.set_options.specs.Extents.{trimmed};
 ghost use Rattle.set_options.specs.Format.{is_image, is_jpeg, is_mvt, is_name, type_named, type_of};
 
@@ -44,12 +44,19 @@ fn trimmed(text: &str) -> &str
     text.trim_ascii()
 }
 
-/// The type that a text says, blanks around it aside; `Unknown` where there is none.
+/// The type that a text says, blanks around it aside.
+pub(crate) fn type_said(text: &str) -> TileType
+    ensures { result ≡ type_of (Some text.now) }
+{
+    type_named(trimmed(text))
+}
+
+/// The same of a text that there may be; `Unknown` where there is none.
 pub(crate) fn type_of(text: Option<&TextVal>) -> TileType
     ensures { result ≡ type_of (option_copied text.entry) }
 {
     match text {
-        Some(text) => type_named(trimmed(text.as_str())),
+        Some(text) => type_said(text.as_str()),
         None => TileType::Unknown,
     }
 }

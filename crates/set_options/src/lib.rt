@@ -7,7 +7,9 @@ mod extents;
 mod facts;
 mod format;
 mod options;
+mod understood;
 
 pub use archive_json::is_left_out;
 pub use extents::{SetBounds, SetCenter};
 pub use options::{SetOptions, options_of_set};
+pub use understood::is_understood;

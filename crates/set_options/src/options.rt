@@ -4,7 +4,7 @@ ghost use Rattle.std.specs.Option.{option_and_then};
 ghost use Rattle.mb_lists.specs.Metadata.{text_at};
 ghost use Rattle.set_options.specs.Extents.{bounds_in, center_in};
 ghost use Rattle.set_options.specs.Format.{type_of};
-ghost use Rattle.set_options.specs.OptionsOfSet.{AreOptionsOfSet, IsSaidBy, with_bounds, with_center, with_center_zoom, writer_of};
+ghost use Rattle.set_options.specs.OptionsOfSet.{AreOptionsOfSet, IsSaidBy, unsaid_center, with_bounds, with_center, with_center_zoom, writer_of};
 
 use crate::archive_json::archive_text;
 use crate::extents::{bounds_in, center_in};
@@ -80,7 +80,8 @@ impl SetOptions {
         })
     }
 
-    /// The writer of the archive that these options are of.
+    /// The writer of the archive that these options are of. Where they say no bounds, it has those of the world; where
+    /// they say no center, the middle of the bounds at the least zoom.
     pub fn into_writer(self) -> PmTilesWriter
         ensures { result ≡ writer_of self }
     {
@@ -90,7 +91,8 @@ impl SetOptions {
             .min_zoom(min_zoom)
             .max_zoom(max_zoom)
             .metadata(self.metadata);
-        with_center(with_bounds(writer, self.bounds), self.center)
+        let center = self.center.unwrap_or(unsaid_center(self.bounds, min_zoom));
+        with_center(with_bounds(writer, self.bounds), center)
     }
 }
 
@@ -114,14 +116,28 @@ fn with_center_zoom(writer: PmTilesWriter, zoom: Option<u8>) -> PmTilesWriter
     }
 }
 
-// With a center, if there is one.
-fn with_center(writer: PmTilesWriter, center: Option<SetCenter>) -> PmTilesWriter
+// The center of a set that says none.
+fn unsaid_center(bounds: Option<SetBounds>, zoom: u8) -> SetCenter
+    ensures { result ≡ unsaid_center bounds zoom }
+{
+    match bounds {
+        Some(b) => b.middle(zoom),
+        None => SetCenter {
+            longitude: 0,
+            latitude: 0,
+            zoom: Some(zoom),
+        },
+    }
+}
+
+// With a center.
+fn with_center(writer: PmTilesWriter, center: SetCenter) -> PmTilesWriter
     ensures { result ≡ with_center center writer }
 {
-    match center {
-        Some(c) => with_center_zoom(writer.center(c.longitude, c.latitude), c.zoom),
-        None => writer,
-    }
+    with_center_zoom(
+        writer.center(center.longitude, center.latitude),
+        center.zoom,
+    )
 }
 
 /// The options that a loaded set gives its archive, those of `SetOptions::of_set`.
