@@ -5,7 +5,8 @@ use crate::saying::say_outcome;
 use base_values::TextVal;
 use pm_format::FileMedium;
 use program_words::{
-    Put, Taken, are_one_file, begin_step, put_beside, put_over, remove_made, take_beside, take_over,
+    Beside, Put, Taken, are_one_file, begin_step, put_beside, put_over, remove_beside, take_beside,
+    take_over,
 };
 use set_conversion::{ConversionFlags, ConversionOutcome, convert_as_said_owned};
 use std::fs;
@@ -69,7 +70,7 @@ fn take(rt: &HostRuntime, flags: ConversionFlags, out: &str) -> Taken {
 fn put(
     rt: &HostRuntime,
     flags: ConversionFlags,
-    (beside, out): (&str, &str),
+    (beside, out): (&Beside, &str),
     report: ConvertReport,
 ) -> ConversionOutcome {
     let put = if flags.overwrite {
@@ -89,16 +90,16 @@ fn convert_by(
     rt: &HostRuntime,
     flags: ConversionFlags,
     sets: &[TextVal],
-    (beside, out): (&str, &str),
+    (beside, out): (&Beside, &str),
 ) -> ConversionOutcome {
-    let outcome = match convert_beside(rt, flags, sets, beside) {
+    let outcome = match convert_beside(rt, flags, sets, beside.path()) {
         Ok(report) => put(rt, flags, (beside, out), report),
         Err(outcome) => {
-            say_outcome(rt, sets, (beside, out), &outcome);
+            say_outcome(rt, sets, (beside.path(), out), &outcome);
             outcome
         }
     };
-    remove_made(rt, TOOL, beside);
+    remove_beside(rt, TOOL, beside);
     outcome
 }
 
@@ -129,7 +130,7 @@ pub fn convert_files(
         return ConversionOutcome::Taken;
     }
     match take(rt, flags, out) {
-        Taken::Made(beside) => convert_by(rt, flags, sets, (beside.as_str(), out)),
+        Taken::Made(beside) => convert_by(rt, flags, sets, (&beside, out)),
         Taken::There => ConversionOutcome::Taken,
         Taken::Failed => ConversionOutcome::MediumFault,
     }

@@ -4,14 +4,18 @@
 mod converting;
 mod reading;
 mod saying;
+mod sources;
 
 use base_values::TextVal;
 use converting::convert_files;
 use program_words::{
-    hold_streams, print, print_for, say_out_of_memory, say_output_fault, say_unwritten, say_usage,
-    text_of, words_of,
+    hold_streams, print, print_for, say_out_of_memory, say_output_fault, say_unwritten, text_of,
+    words_of,
 };
-use set_conversion::{ConversionOutcome, asked_of, conversion_status, conversion_text};
+use set_conversion::{
+    ConversionFlags, ConversionOutcome, asked_of, conversion_status, conversion_text,
+};
+use sources::source_status;
 use std::process::ExitCode;
 
 const HELP: &str = "Makes an archive of the PMTiles format of a set of map tiles in an MBTiles
@@ -34,11 +38,16 @@ each step is told.
              stored and right; hashes of single tiles are always tested
 --overwrite  replaces OUT where it is there; without it that is refused
 --           what follows are files, also where they begin with a dash
---help       prints this text
+--help, -h   prints this text
 --version    prints the version
 
-status: 0 done, 1 refused, 2 no command, 3 no such file or no set, 5 the lines
-can't be written, 6 OUT can't be written, 7 out of memory, 9 read back
+status: 0 done, 1 refused, 2 no command, 3 no such file or no set, 4 a set's
+file can't be read, 5 the lines can't be written, 6 OUT can't be written, 7 out
+of memory, 9 read back
+";
+
+const USAGE: &str =
+    "usage: mbtiles-to-pmtiles [--force] [--verify] [--overwrite] BASE.mbtiles [PATCH.mbtiles ..] OUT.pmtiles
 ";
 
 const VERSION: &str = "mbtiles-to-pmtiles 0.1.0\n";
@@ -59,13 +68,21 @@ fn tell(rt: &HostRuntime, outcome: ConversionOutcome) -> ConversionOutcome {
     ConversionOutcome::OutputFault
 }
 
+// Converts the sets of files that can be read.
+fn convert_read(rt: &HostRuntime, flags: ConversionFlags, files: &[TextVal]) -> u8 {
+    match source_status(rt, files) {
+        0 => conversion_status(&tell(rt, convert_files(rt, flags, files))),
+        status => status,
+    }
+}
+
 // Converts what the words ask for.
-fn convert_words(rt: &HostRuntime, words: &[TextVal]) -> ConversionOutcome {
+fn convert_words(rt: &HostRuntime, words: &[TextVal]) -> u8 {
     match asked_of(words) {
-        Some((flags, files)) => convert_files(rt, flags, files),
+        Some((flags, files)) => convert_read(rt, flags, files),
         None => {
-            say_usage(rt, TOOL);
-            ConversionOutcome::Usage
+            let _ = eprint!(rt; "{TOOL}: {USAGE}");
+            conversion_status(&ConversionOutcome::Usage)
         }
     }
 }
@@ -73,7 +90,7 @@ fn convert_words(rt: &HostRuntime, words: &[TextVal]) -> ConversionOutcome {
 fn run_words(rt: &HostRuntime, words: &[TextVal]) -> u8 {
     match text_of(words, HELP, VERSION) {
         Some(text) => say_unwritten(rt, TOOL, print_for(rt, text, 0)),
-        None => conversion_status(&tell(rt, convert_words(rt, words))),
+        None => convert_words(rt, words),
     }
 }
 

@@ -4,10 +4,11 @@
 use base_values::TextVal;
 use mb_sqlite::SqliteStore;
 use mb_store::{MbtError, MbtType};
-use pm_format::FileBackend;
+use pm_format::{FileBackend, PmtError, ReadCause};
 use program_words::{
-    Put, Taken, hold_streams, print_for, put_beside, remove_made, say_beside_fault, say_opening,
-    say_out_of_memory, say_source_fault, say_unwritten, say_usage, take_beside, text_of, words_of,
+    Beside, Put, SourceFile, Taken, hold_streams, print_for, put_beside, remove_beside,
+    remove_made, say_beside_fault, say_opening, say_out_of_memory, say_source_fault, say_unwritten,
+    source_file, take_beside, text_of, words_of,
 };
 use set_import::{import_as_said, import_status, limit_of};
 use sqlite::{Connection, Error, ErrorCode};
@@ -32,22 +33,32 @@ pmtiles-to-mbtiles IN.pmtiles OUT.mbtiles [MAX_TILES]
                 compressed or not. The file IN.pmtiles isn't changed. Nothing
                 is printed where both files can be opened. OUT.mbtiles is
                 made as OUT.mbtiles.new, beside which OUT.mbtiles.new-wal
-                stands meanwhile, and put in place when it is whole. One
-                that is there is refused. A run that ends with another status
-                than 0 leaves none of these; one that is killed may leave
-                OUT.mbtiles.new, which the next one refuses
+                stands meanwhile, and put in place when it is whole and
+                synced. One that is there is refused. A run that ends with
+                another status than 0 leaves none of these; one that is
+                killed may leave OUT.mbtiles.new, which the next one makes
+                anew
 source fault    the file IN.pmtiles can't be opened
 store fault     the file OUT.mbtiles can't be made
---help          prints this text
+--help, -h      prints this text
 --version       prints the version
 
-status: 0 done, 1 refused, 2 no command, 5 the text can't be written, 6 a file
-can't be opened, read or written, 7 out of memory
+status: 0 done, 1 refused, 2 no command, 3 no such file, 4 IN.pmtiles can't be
+read, 5 the text can't be written, 6 OUT.mbtiles can't be made or written, 7 out
+of memory
+";
+
+const USAGE: &str = "usage: pmtiles-to-mbtiles IN.pmtiles OUT.mbtiles [MAX_TILES]
 ";
 
 const VERSION: &str = "pmtiles-to-mbtiles 0.1.0\n";
 
 const TOOL: &str = "pmtiles-to-mbtiles";
+
+// The statuses where the archive isn't there, and where it can't be read.
+const NO_FILE: u8 = 3;
+
+const INPUT_FAULT: u8 = 4;
 
 fn store_fault() -> ImportError {
     ImportError::Store(MbtError::StoreFault)
@@ -102,7 +113,7 @@ fn remove_log(rt: &HostRuntime, beside: &str) {
 }
 
 // Puts a whole database in its place.
-fn put(rt: &HostRuntime, beside: &str, to: &str) -> u8 {
+fn put(rt: &HostRuntime, beside: &Beside, to: &str) -> u8 {
     match put_beside(rt, TOOL, beside, to) {
         Put::Done => 0,
         Put::There => 1,
@@ -115,24 +126,32 @@ fn make(
     rt: &HostRuntime,
     source: &mut FileBackend,
     (from, to): (&str, &str),
-    beside: &str,
+    beside: &Beside,
     limit: u64,
 ) -> u8 {
     // the log of a run that was stopped, whose database is gone
-    remove_log(rt, beside);
-    let answer = fill(rt, source, beside, limit);
+    remove_log(rt, beside.path());
+    let answer = fill(rt, source, beside.path(), limit);
     if let Err(error) = &answer {
-        say_refusal(rt, (from, to), beside, error);
+        say_refusal(rt, (from, to), beside.path(), error);
     }
-    remove_log(rt, beside);
-    let status = match import_status(&answer) {
+    remove_log(rt, beside.path());
+    let status = match status_of_answer(&answer) {
         0 => put(rt, beside, to),
         status => status,
     };
     if status != 0 {
-        remove_made(rt, TOOL, beside);
+        remove_beside(rt, TOOL, beside);
     }
     status
+}
+
+// The status of an import; that of a fault of the source is its own.
+fn status_of_answer(answer: &Result<u64, ImportError>) -> u8 {
+    match answer {
+        Err(ImportError::Archive(PmtError::Reading(ReadCause::Fault))) => INPUT_FAULT,
+        other => import_status(other),
+    }
 }
 
 fn say_refusal(rt: &HostRuntime, (from, to): (&str, &str), beside: &str, error: &ImportError) {
@@ -180,17 +199,27 @@ fn logs_status(rt: &HostRuntime, to: &str) -> u8 {
 // Makes a database of an archive at a place beside which no log stands.
 fn make_at(rt: &HostRuntime, source: &mut FileBackend, from: &str, to: &str, limit: u64) -> u8 {
     match take_beside(rt, TOOL, to) {
-        Taken::Made(beside) => make(rt, source, (from, to), beside.as_str(), limit),
+        Taken::Made(beside) => make(rt, source, (from, to), &beside, limit),
         Taken::There => 1,
         Taken::Failed => say_unwritten(rt, TOOL, print_for(rt, "store fault\n", 6)),
     }
 }
 
+// Says why an archive can't be opened.
+fn source_fault(rt: &HostRuntime, from: &str, status: u8) -> u8 {
+    say_source_fault(rt, TOOL, from);
+    say_unwritten(rt, TOOL, print_for(rt, "source fault\n", status))
+}
+
 // Makes a database of an archive, which is opened first.
 fn convert(rt: &HostRuntime, from: &str, to: &str, limit: u64) -> u8 {
+    match source_file(rt, from) {
+        SourceFile::Readable => {}
+        SourceFile::Missing => return source_fault(rt, from, NO_FILE),
+        SourceFile::Unreadable => return source_fault(rt, from, INPUT_FAULT),
+    }
     let Ok(mut source) = FileBackend::open(rt, from) else {
-        say_source_fault(rt, TOOL, from);
-        return say_unwritten(rt, TOOL, print_for(rt, "source fault\n", 6));
+        return source_fault(rt, from, INPUT_FAULT);
     };
     match logs_status(rt, to) {
         0 => make_at(rt, &mut source, from, to, limit),
@@ -199,7 +228,7 @@ fn convert(rt: &HostRuntime, from: &str, to: &str, limit: u64) -> u8 {
 }
 
 fn usage(rt: &HostRuntime) -> u8 {
-    say_usage(rt, TOOL);
+    let _ = eprint!(rt; "{TOOL}: {USAGE}");
     2
 }
 

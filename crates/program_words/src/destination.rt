@@ -1,14 +1,14 @@
 // The file that a program writes an archive to.
+use crate::folder::{FileId, open_folder, sync_folder};
 use std::fs::{File, Metadata};
 use std::io::{ErrorKind, Write};
-use std::os::unix::fs::MetadataExt;
 use std::{fs, io};
 
 /// What stood at the path of an archive before the run.
 #[derive(Clone, Copy, Debug, PartialEq, Eq)]
 pub enum Before {
-    /// Nothing: the file was made for the run.
-    Nothing,
+    /// Nothing: this file was made for the run.
+    Nothing(FileId),
     /// An empty file.
     Empty,
     /// A file of at least one byte.
@@ -20,8 +20,8 @@ pub enum Before {
 /// Standard error says why a path isn't taken: one that leads to no file that can be made, to anything but a regular file, or to the
 /// file that standard input or output is.
 pub fn take_destination(rt: &HostRuntime, tool: &str, path: &str) -> Option<Before> {
-    match File::create_new(rt, path) {
-        Ok(_) => Some(Before::Nothing),
+    match File::create_new(rt, path).and_then(|file| file.metadata()) {
+        Ok(made) => Some(Before::Nothing(FileId::of(&made))),
         Err(error) if error.kind() == ErrorKind::AlreadyExists => take_file(rt, tool, path),
         Err(error) => {
             let _ = eprintln!(rt; "{tool}: {path}: the file can't be made: {error}");
@@ -59,15 +59,33 @@ fn take_file(rt: &HostRuntime, tool: &str, path: &str) -> Option<Before> {
 /// Whether a path leads to the file of some metadata.
 pub(crate) fn is_file(rt: &HostRuntime, path: &str, found: &Metadata) -> bool {
     match fs::metadata(rt, path) {
-        Ok(other) => other.dev() == found.dev() && other.ino() == found.ino(),
+        Ok(other) => FileId::of(&other) == FileId::of(found),
         Err(_) => false,
     }
 }
 
-/// Leaves the path of a run that failed as it was before: a file that was made is removed, and one that was empty is emptied.
+/// Has the system write the bytes of a file that was taken, and its name, to its disk. Whether it did; standard error says why not.
+pub fn sync_destination(rt: &HostRuntime, tool: &str, path: &str) -> bool {
+    let synced = match sync_file(rt, path) {
+        Ok(()) => open_folder(rt, path).and_then(|folder| sync_folder(&folder)),
+        Err(error) => Err(error),
+    };
+    if let Err(error) = &synced {
+        let _ = eprintln!(rt; "{tool}: {path}: the file can't be synced to its disk: {error}");
+    }
+    synced.is_ok()
+}
+
+fn sync_file(rt: &HostRuntime, path: &str) -> io::Result<()> {
+    let file = File::options().append(true).open(rt, path)?;
+    file.sync_all()
+}
+
+/// Leaves the path of a run that failed as it was before: a file that was made is removed where it is still the one there, and one that was empty is emptied.
 pub fn leave_destination(rt: &HostRuntime, tool: &str, path: &str, before: Before) {
     let left = match before {
-        Before::Nothing => fs::remove_file(rt, path),
+        Before::Nothing(made) if made.is_at(rt, path) => fs::remove_file(rt, path),
+        Before::Nothing(_) => Ok(()),
         Before::Empty => File::create(rt, path).map(|_| ()),
         Before::Full => Ok(()),
     };

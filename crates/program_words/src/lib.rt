@@ -3,8 +3,11 @@
 
 mod beside;
 mod destination;
+mod folder;
+mod locked;
 mod over;
 mod said;
+mod sources;
 mod steps;
 mod streams;
 
@@ -13,12 +16,18 @@ ghost use Rattle.std.specs.Option.{option_copied};
 ghost use Rattle.program_words.specs.Text.{asked_text};
 
 use base_values::TextVal;
-pub use beside::{Put, Taken, put_beside, remove_made, say_beside_fault, take_beside};
-pub use destination::{Before, leave_destination, say_medium_fault, take_destination};
+pub use beside::{
+    Beside, Put, Taken, put_beside, remove_beside, remove_made, say_beside_fault, take_beside,
+};
+pub use destination::{
+    Before, leave_destination, say_medium_fault, sync_destination, take_destination,
+};
+pub use folder::FileId;
 pub use over::{are_one_file, put_over, take_over};
 pub use said::{
     say_opening, say_out_of_memory, say_output_fault, say_source_fault, say_unwritten, say_usage,
 };
+pub use sources::{SourceFile, source_file};
 use std::alloc::{AllocError, Global};
 use std::env;
 use std::io::{ErrorKind, Write};
@@ -55,13 +64,13 @@ fn given_words(rt: &HostRuntime, alloc: Global) -> Result<Option<Vec<TextVal>>, 
     Ok(Some(words))
 }
 
-/// The text that a single word, `--help` or `--version`, asks for in place of a run.
+/// The text that a single word, `--help`, `-h` or `--version`, asks for in place of a run.
 pub fn text_of(words: &[TextVal], help: &'static str, version: &'static str) -> Option<&'static str>
     ensures { option_copied result ≡ asked_text words.now help.now version.now }
 {
     match words {
         [word] => match word.as_str() {
-            "--help" => Some(help),
+            "--help" | "-h" => Some(help),
             "--version" => Some(version),
             _ => None,
         },

@@ -1,7 +1,7 @@
 // A file that is put in the place of another one once it is whole.
-use crate::beside::{Put, Taken, make_beside};
+use crate::beside::{Beside, Put, Taken, make_beside, put_named};
 use crate::destination::is_file;
-use std::fs;
+use std::{fs, io};
 
 /// Makes an empty file beside a path, `PATH.new`, where nothing or a regular file is at the path, also through links. Standard error says why none is made.
 pub fn take_over(rt: &HostRuntime, tool: &str, path: &str) -> Taken {
@@ -17,15 +17,16 @@ pub fn take_over(rt: &HostRuntime, tool: &str, path: &str) -> Taken {
     }
 }
 
-/// Puts a file at a path, in the place of what is there: in one step for all that look. Standard error says why it isn't put there.
-pub fn put_over(rt: &HostRuntime, tool: &str, beside: &str, path: &str) -> Put {
-    match fs::rename(rt, beside, path) {
-        Ok(()) => Put::Done,
-        Err(error) => {
-            let _ = eprintln!(rt; "{tool}: {path}: the file can't be put in its place: {error}");
-            Put::Failed
-        }
-    }
+// Gives a file that was synced the name of a path, whatever is there.
+fn rename_over(rt: &HostRuntime, beside: &Beside, path: &str) -> io::Result<()> {
+    beside.sync(rt)?;
+    fs::rename(rt, beside.path(), path)
+}
+
+/// Puts a file at a path, in the place of what is there: in one step for all that look, once its bytes are synced. Its folder is synced then. Standard error says why it isn't put there.
+pub fn put_over(rt: &HostRuntime, tool: &str, beside: &Beside, path: &str) -> Put {
+    let named = rename_over(rt, beside, path);
+    put_named(rt, tool, beside, path, named)
 }
 
 /// Whether two paths lead to one file.

@@ -1,13 +1,21 @@
 // What programs say on standard error. Where that can't be written, nothing is said.
 use crate::OUTPUT_FAULT;
 use pm_format::{PmtError, ReadCause};
+use std::fs;
 use std::fs::File;
 
-/// Says why a file can't be opened or read.
+/// Says why a file can't be opened or read. What is no regular file isn't opened, since that may wait for another program.
 pub fn say_source_fault(rt: &HostRuntime, tool: &str, path: &str) {
-    let _ = match File::open(rt, path).and_then(|file| file.metadata()) {
+    let opened = match fs::metadata(rt, path) {
+        Ok(found) if !found.is_file() => {
+            let _ = eprintln!(rt; "{tool}: {path}: no regular file");
+            return;
+        }
+        Ok(_) => File::open(rt, path),
+        Err(error) => Err(error),
+    };
+    let _ = match opened {
         Err(error) => eprintln!(rt; "{tool}: {path}: {error}"),
-        Ok(found) if !found.is_file() => eprintln!(rt; "{tool}: {path}: no regular file"),
         Ok(_) => eprintln!(rt; "{tool}: {path}: the file can't be read"),
     };
 }

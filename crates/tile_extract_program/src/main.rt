@@ -4,9 +4,9 @@
 use base_values::TextVal;
 use pm_format::{FileBackend, FileMedium};
 use program_words::{
-    Before, hold_streams, leave_destination, print_for, say_medium_fault, say_opening,
-    say_out_of_memory, say_source_fault, say_unwritten, say_usage, take_destination, text_of,
-    words_of,
+    Before, SourceFile, hold_streams, leave_destination, print_for, say_medium_fault, say_opening,
+    say_out_of_memory, say_source_fault, say_unwritten, say_usage, source_file, sync_destination,
+    take_destination, text_of, words_of,
 };
 use std::process::ExitCode;
 use tile_extract::{ExtractError, ExtractOutcome, extract_status, run_extract};
@@ -23,7 +23,7 @@ tile_extract IN OUT Z X Y M T  writes to the file OUT, which is new or empty,
                 that ends with another status than 0 leaves OUT as it was
 source fault    the file IN can't be opened
 medium fault    the file OUT can't be opened, or is no regular file
---help          prints this text
+--help, -h      prints this text
 --version       prints the version
 
 status: 0 done, 1 refused, 2 no command, 5 the text can't be written, 6 a file
@@ -38,16 +38,18 @@ fn medium_fault() -> ExtractOutcome {
     ExtractOutcome::Refused(ExtractError::MediumFault)
 }
 
-// Extracts to a file, and writes what its medium has gathered.
+// Extracts to a file, and has what its medium has gathered written to the disk.
 fn extract_to(
     rt: &HostRuntime,
     words: &[TextVal],
     source: &mut FileBackend,
-    medium: &mut FileMedium,
+    (to, medium): (&str, &mut FileMedium),
 ) -> ExtractOutcome {
     let outcome = run_extract(rt.alloc(), words, source, medium);
-    if matches!(outcome, ExtractOutcome::Done(_)) && medium.flush().is_err() {
-        return medium_fault();
+    if matches!(outcome, ExtractOutcome::Done(_)) {
+        if medium.flush().is_err() || !sync_destination(rt, TOOL, to) {
+            return medium_fault();
+        }
     }
     outcome
 }
@@ -61,7 +63,7 @@ fn extract_taken(
     before: Before,
 ) -> ExtractOutcome {
     let outcome = match FileMedium::open(rt, to) {
-        Ok(mut medium) => extract_to(rt, words, source, &mut medium),
+        Ok(mut medium) => extract_to(rt, words, source, (to, &mut medium)),
         Err(_) => medium_fault(),
     };
     if !matches!(outcome, ExtractOutcome::Done(_)) {
@@ -108,10 +110,18 @@ fn say_refusal(rt: &HostRuntime, (from, to): (&str, &str), error: &ExtractError)
     };
 }
 
+// Opens an archive in a regular file.
+fn open_source(rt: &HostRuntime, path: &str) -> Option<FileBackend> {
+    match source_file(rt, path) {
+        SourceFile::Readable => FileBackend::open(rt, path).ok(),
+        _ => None,
+    }
+}
+
 // Extracts from a file to a file, which are opened first.
 fn extract_files(rt: &HostRuntime, from: &str, to: &str, words: &[TextVal]) -> u8 {
     let fault = extract_status(&medium_fault());
-    let Ok(mut source) = FileBackend::open(rt, from) else {
+    let Some(mut source) = open_source(rt, from) else {
         say_source_fault(rt, TOOL, from);
         return say_unwritten(rt, TOOL, print_for(rt, "source fault\n", fault));
     };

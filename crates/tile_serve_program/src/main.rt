@@ -5,8 +5,8 @@ use base_values::TextVal;
 use byte_streams::{StdSink, StdSource};
 use pm_format::FileBackend;
 use program_words::{
-    hold_streams, print_for, say_opening, say_out_of_memory, say_output_fault, say_source_fault,
-    say_unwritten, say_usage, text_of, words_of,
+    SourceFile, hold_streams, print_for, say_opening, say_out_of_memory, say_output_fault,
+    say_source_fault, say_unwritten, say_usage, source_file, text_of, words_of,
 };
 use std::process::ExitCode;
 use tile_serve::{ServeError, ServeOutcome, run_serve, serve_status};
@@ -29,7 +29,7 @@ GET Z X Y TAG   asks for a tile that isn't the one of a tag: 16 digits, 0 to 9
 404             there is no such tile
 500 InvalidEntry, 500 PastEnd
                 the archive is broken on the way to the tile
---help          prints this text
+--help, -h      prints this text
 --version       prints the version
 
 status: 0 all is answered, 1 refused, 2 no command, 4 the input can't be read,
@@ -41,9 +41,17 @@ const VERSION: &str = "tile_serve 0.1.0\n";
 
 const TOOL: &str = "tile_serve";
 
+// Opens an archive in a regular file.
+fn open_source(rt: &HostRuntime, path: &str) -> Option<FileBackend> {
+    match source_file(rt, path) {
+        SourceFile::Readable => FileBackend::open(rt, path).ok(),
+        _ => None,
+    }
+}
+
 // Serves a file, which is opened first.
 fn serve_file(rt: &HostRuntime, path: &str, words: &[TextVal]) -> u8 {
-    let Ok(mut source) = FileBackend::open(rt, path) else {
+    let Some(mut source) = open_source(rt, path) else {
         say_source_fault(rt, TOOL, path);
         let fault = serve_status(&ServeOutcome::Refused(ServeError::Fault));
         return say_unwritten(rt, TOOL, print_for(rt, "source fault\n", fault));

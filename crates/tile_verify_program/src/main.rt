@@ -4,8 +4,8 @@
 use base_values::TextVal;
 use pm_format::FileBackend;
 use program_words::{
-    OUT_OF_MEMORY, hold_streams, print_for, say_opening, say_out_of_memory, say_source_fault,
-    say_unwritten, say_usage, text_of, words_of,
+    OUT_OF_MEMORY, SourceFile, hold_streams, print_for, say_opening, say_out_of_memory,
+    say_source_fault, say_unwritten, say_usage, source_file, text_of, words_of,
 };
 use std::process::ExitCode;
 use tile_verify::{VerifyError, VerifyOutcome, run_verify, verify_line, verify_status};
@@ -29,7 +29,7 @@ tile_verify IN  reads the file IN, which isn't changed, and prints one line:
                 short ASKED GOT
                     the file gave other numbers of bytes than it was asked
                 out of memory
---help          prints this text
+--help, -h      prints this text
 --version       prints the version
 
 status: 0 sound, 1 refused, 2 no command, 5 the line can't be written,
@@ -58,8 +58,11 @@ fn tell(rt: &HostRuntime, outcome: &VerifyOutcome) -> u8 {
     print_for(rt, line.as_str(), verify_status(outcome))
 }
 
-// Checks a file, which is opened first.
+// Checks a regular file, which is opened first.
 fn verify_file(rt: &HostRuntime, path: &str, words: &[TextVal]) -> VerifyOutcome {
+    if !matches!(source_file(rt, path), SourceFile::Readable) {
+        return VerifyOutcome::Refused(VerifyError::Fault);
+    }
     match FileBackend::open(rt, path) {
         Ok(mut source) => run_verify(rt.alloc(), words, &mut source),
         Err(_) => VerifyOutcome::Refused(VerifyError::Fault),

@@ -6,7 +6,8 @@ use mb_tables::MbtError;
 use pm_format::{FileMedium, Medium, MemMedium};
 use program_words::{
     Before, OUT_OF_MEMORY, hold_streams, leave_destination, print, say_medium_fault,
-    say_out_of_memory, say_output_fault, say_usage, take_destination, text_of, words_of,
+    say_out_of_memory, say_output_fault, say_usage, sync_destination, take_destination, text_of,
+    words_of,
 };
 use std::process::ExitCode;
 use tile_bridge::ConvertError;
@@ -32,7 +33,7 @@ bulk N K [L]       converts the tiles of the ids 0 to N - 1, whose contents
                    parts lie; N is 0 to 100000, K is 1 to 1000000, and L, 16
                    to 65536, is how many entries a leaf may have, 4096 where
                    it isn't said
---help             prints this text
+--help, -h         prints this text
 --version          prints the version
 
 status: 0 done, 1 refused, 2 no command, 3 bad script, 4 input fault,
@@ -78,8 +79,10 @@ fn convert_taken(rt: &HostRuntime, words: &[TextVal], path: &str) -> Outcome {
         return Outcome::MediumFault;
     };
     let outcome = convert(rt, words, &mut medium);
-    if matches!(outcome, Outcome::Done) && medium.flush().is_err() {
-        return Outcome::MediumFault;
+    if matches!(outcome, Outcome::Done) {
+        if medium.flush().is_err() || !sync_destination(rt, TOOL, path) {
+            return Outcome::MediumFault;
+        }
     }
     outcome
 }
