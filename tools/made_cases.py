@@ -10,11 +10,12 @@ import pmtiles as pm
 import shown
 from import_cases import Set, counted, hold
 from imported import Ends, imported, of_archive
-from option_cases import LEFT_OUT, in_order
+from option_cases import LEFT_OUT, bounds, center, center_of, in_order
 from patch_cases import named
 
 WORDS = {'Mvt': 'pbf', 'Png': 'png', 'Jpeg': 'jpg', 'Webp': 'webp', 'Avif': 'avif', 'Mlt': 'mlt'}
 GZIP = b'\x1f\x8b\x08'
+WORLD = [-1800000000, -850511290, 1800000000, 850511290]
 NUMBERS = (0, 1, -1, 5, -5, 10, -10, 100, 1234567, -1234567, 1000000, 9999999, 10000000, -10000000, 10000001, 85000000, -850511287, 850511290, 899999999, 900000000, -900000000, 1799999999, 1800000000, -1800000000,
            1800000001, -1800000001, 2147483647, -2147483648)
 TEXTS = ['{}', ' { } ', '{"name":"town"}', '{"name":""}', '{"name":"a","name":"b"}', '{"name":null}', '{"name":1}', '{"name":{"en":"town"}}', '{"version":"1","type":"overlay","legend":"l","template":"t","description":"d","attribution":"\\u00a9 x"}',
@@ -38,6 +39,15 @@ def members(text):
     return of
 
 
+def is_unsaid(h):
+    """Whether a set says no center: its own is the middle of bounds that it can say, at its least zoom; those of the world are at zoom 0 too."""
+    sides = [h[side] for side in pm.DEGREES]
+    west, south, east, north = sides
+    sayable = abs(west) <= 180 * 10 ** 7 and abs(east) <= 180 * 10 ** 7 and -90 * 10 ** 7 <= south <= north <= 90 * 10 ** 7
+    middle = center_of(sides, None, h['min_zoom'])
+    return sayable and middle[:2] == (h['center_lon'], h['center_lat']) and (h['center_zoom'] == h['min_zoom'] or h['center_zoom'] == 0 and sides == WORLD)
+
+
 def said(data):
     """What an archive says of itself, by the names of a set."""
     h, _ = of_archive(lambda: pm.opened(data))
@@ -48,8 +58,11 @@ def said(data):
         names['json'] = in_order(kept)
     if h['type'] != 0:
         names['format'] = WORDS[pm.TYPES[h['type']]]
-    names['bounds'] = ','.join(degrees(h[side]) for side in pm.DEGREES)
-    names['center'] = f"{degrees(h['center_lon'])},{degrees(h['center_lat'])},{h['center_zoom']}"
+    sides = [h[side] for side in pm.DEGREES]
+    if sides != WORLD:
+        names['bounds'] = ','.join(map(degrees, sides))
+    if not is_unsaid(h):
+        names['center'] = f"{degrees(h['center_lon'])},{degrees(h['center_lat'])},{h['center_zoom']}"
     names['minzoom'], names['maxzoom'] = str(h['min_zoom']), str(h['max_zoom'])
     return names
 
@@ -88,6 +101,12 @@ def run(rows, held, data, most=100):
 
 
 def back(rows, data):
+    """The archive of the set that was made: the same again, but for bounds and a center that the set doesn't say, or not in form."""
+    h, names = pm.read_header(data), said(data)
+    extent, at = (names.get(name) and read(names[name]) for name, read in (('bounds', bounds), ('center', center)))
+    h.update(zip(pm.DEGREES, extent or WORLD))
+    h['center_lon'], h['center_lat'], h['center_zoom'] = center_of(extent, at, h['min_zoom'])
+    data = pm.header(h) + data[127:]
     rows.row('made back', len(data), 'x' + hashlib.md5(data).hexdigest().upper().encode().hex())
 
 
@@ -130,9 +149,23 @@ def texts(rows):
 def extents(rows):
     for number in NUMBERS:
         for side in (*pm.DEGREES, 'center_lon', 'center_lat'):
-            run(rows, Made(rows), archive([(0, b'a')], **{side: number}))
+            data = archive([(0, b'a')], **{side: number})
+            run(rows, Made(rows), data)
+            back(rows, data)
     for low, high, zoom in ((0, 0, 0), (3, 9, 30), (5, 2, 31), (255, 255, 255)):
         run(rows, Made(rows), archive([(0, b'a')], min_zoom=low, max_zoom=high, center_zoom=zoom))
+    # the middle of bounds, at the least zoom and at others; bounds of the world, and some that no set says
+    for sides in (WORLD, [84000000, 473000000, 86000000, 474000000], [-86000001, -474000000, -84000000, -473000001], [1, 2, 2, 3], [1700000000, 0, -1700000000, 10], [0, 10, 10, 0], [0, -900000001, 0, 900000001], [0, 0, 1800000001, 0]):
+        lon, lat, _ = center_of(sides, None, 0)
+        for zoom in (0, 2, 3, 30, 31, 255):
+            for away in (0, 1, -1):
+                data = archive([(21, b'a')], **dict(zip(pm.DEGREES, sides)), center_lon=lon + away, center_lat=lat, center_zoom=zoom)
+                run(rows, Made(rows), data)
+                back(rows, data)
+    for place in (0, 1, 900000001):
+        data = archive([(21, b'a')], center_lon=place, center_lat=place, center_zoom=1)
+        run(rows, Made(rows), data)
+        back(rows, data)
 
 
 def refused(rows):

@@ -145,6 +145,20 @@ def documents(rows):
     ask(rows, named(('name', 'town'), ('type', 'overlay'), ('version', '2'), ('format', 'pbf'), ('agg_tiles_hash', '0')) + [('metadata', 'n', 'tnobody'), ('metadata', 'n', 'n')])
 
 
+def understood(rows):
+    """Whether texts are in the form that their names ask for."""
+    texts = ['', ' ', 'pbf', ' Image/PNG ', 'gif', 'PBFS', '{}', '{"a":[1.5,null]}', '[]', '"a"', 'null', '1', 'x', '{"a":1,}', '1,2', '1,2,3', '1,2,31', '1,2,3,4', '3,2,1,4', '1,4,3,2', '1,2,3,4,5', '-180,-90,180,90', '-180.1,0,1,1',
+             '0,91', '0,90,x', '8.4, 47.3,8.6 ,47.4', *('{"a":' * n + '1' + '}' * n for n in (127, 128)), *(f'{n},4' for n in NUMBERS), *(f'-8,{n},8,90' for n in NUMBERS)]
+    reads = {'format': lambda text: text.strip(BLANKS).lower() in TYPES, 'bounds': bounds, 'center': center, 'json': shown.members}
+    for text in texts:
+        for name in ('format', 'bounds', 'center', 'json', 'name', 'minzoom', 'Format', ''):
+            read = reads.get(name)
+            answer = read is None or read(text) not in (None, False)
+            rows.row(f'meta understood {rows.text_word(name)} {rows.text_word(text)}', f'Ok({str(answer).lower()})')
+    for call in ('meta understood', 'meta understood x61'):
+        rows.refused(call)
+
+
 def layouts(rows):
     for layout in TILE_TABLES:
         ask(rows, named(('name', 'town'), ('format', 'png')), layout)
@@ -168,5 +182,5 @@ def some(rows):
 
 
 def write(rows):
-    for cases in (types, labels, extents, documents, layouts, some):
+    for cases in (types, labels, extents, documents, understood, layouts, some):
         cases(rows)

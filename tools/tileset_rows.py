@@ -675,11 +675,13 @@ def says():
 
 
 def asks():
-    """Words in front of files."""
+    """Words and files."""
     for words, wanted in [([], "none"), (["a"], "none"), (["a", "b"], "2"), (["a", "b", "c"], "3"), (["--force", "a", "b"], "force 2"), (["--verify", "a", "b"], "verify 2"),
                           (["--overwrite", "a", "b"], "overwrite 2"), (["--overwrite", "--verify", "--force", "--verify", "a", "b", "c", "d"], "force verify overwrite 4"), (["--force", "a"], "none"),
                           (["--", "a", "b"], "2"), (["--force", "--", "--verify", "b"], "force 2"), (["--", "--", "b"], "2"), (["--", "a"], "none"), (["--"], "none"), (["--Force", "a", "b"], "none"),
-                          (["-force", "a", "b"], "none"), (["-", "a", "b"], "none"), (["a", "--force", "b"], "3"), (["a", "-"], "2"), (["--help", "a", "b"], "none"), (["--forced", "a", "b"], "none")]:
+                          (["-force", "a", "b"], "none"), (["-", "a", "b"], "3"), (["a", "-"], "2"), (["--help", "a", "b"], "none"), (["--forced", "a", "b"], "none"),
+                          (["a", "--force", "b"], "force 2"), (["a", "b", "--strict"], "strict 2"), (["--strict", "a", "--overwrite", "b", "--force", "c"], "force overwrite strict 3"), (["a", "--strict", "--", "--force"], "strict 2"),
+                          (["a", "--", "b", "--strict"], "3"), (["a", "b", "--", "--", "-x"], "4"), (["a", "b", "-x"], "none"), (["a", "b", "--nothing"], "none"), (["a", "--strict"], "none"), (["a", "b", "--"], "2")]:
         case(["asked", " ".join(words)], wanted)
 
 

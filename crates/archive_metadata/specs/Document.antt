@@ -1,9 +1,8 @@
 -- What an archive says of itself, by its header and the text of its metadata, as the document that is put into a set.
-use Rattle.std.specs.Prelude.{◌≡◌, ℕ, true, false, ◌++◌, List, [], Option, Some, None, Result, Ok, Err, codes, refl}
+use Rattle.std.specs.Prelude.{◌≡◌, ℕ, true, false, List, [], Option, Some, None, Result, Ok, Err, codes, refl}
 use Rattle.std.specs.FinMap.{insert}
-use Rattle.std.specs.Fmt.{decimal}
 use Rattle.std.specs.Option.{option_and_then}
-use Rattle.archive_metadata.specs.DegreesText.{degrees_text}
+use Rattle.archive_metadata.specs.Extents.{bounds_said, center_said}
 use Rattle.archive_metadata.specs.Parting.{kept_in, names_in}
 use Rattle.mb_metadata.specs.Inserting.{JsonMap}
 use Rattle.mb_metadata.specs.SaidJson.{is_bare}
@@ -19,8 +18,6 @@ use Rattle.set_options.specs.Format.{type_named, type_of}
 use Rattle.tile_json.specs.declared.document.TileJson.{TileJson}
 use Rattle.tile_json.specs.declared.error.DocumentError.{DocumentError}
 use Rattle.tile_json.specs.declared.error.DocumentError.TheVariants as errors
-use Rattle.tile_json.specs.declared.extent.TileBounds.TheVariants as bounds
-use Rattle.tile_json.specs.declared.extent.TileCenter.TheVariants as center
 
 -- the text of `format`; none where the type isn't known
 abbrev pub format_of : TileType → Option (List ℕ)
@@ -43,14 +40,6 @@ says_type types.Webp = refl
 says_type types.Avif = refl
 says_type types.Mlt = refl
 
--- west, south, east and north in degrees
-abbrev pub bounds_text : Header → List ℕ
-bounds_text h = degrees_text h.min_longitude ++ (codes "," ++ (degrees_text h.min_latitude ++ (codes "," ++ (degrees_text h.max_longitude ++ (codes "," ++ degrees_text h.max_latitude)))))
-
--- longitude and latitude in degrees, and the zoom
-abbrev pub center_text : Header → List ℕ
-center_text h = degrees_text h.center_longitude ++ (codes "," ++ (degrees_text h.center_latitude ++ (codes "," ++ decimal h.center_zoom)))
-
 -- a text at a name, if there is one
 abbrev pub with_any : JsonMap → List ℕ → Option (List ℕ) → JsonMap
 with_any names name None = names
@@ -60,11 +49,12 @@ with_any names name (Some text) = insert names name (string text)
 abbrev pub names_of : TileType → JsonMap → Option (List ℕ) → JsonMap
 names_of kind names json = with_any (with_any names (codes "format") (format_of kind)) (codes "json") json
 
--- zooms, bounds and center as the header says them, and these names; the texts of the metadata stand among the names, and fill no fields
+-- zooms as the header says them, bounds and center where a set has to say them, and these names; the texts of the metadata
+-- stand among the names, and fill no fields
 abbrev pub document_of : Header → JsonMap → Option (List ℕ) → TileJson
 document_of h names json = record (tilejson_of h []) {
-  bounds = Some (bounds.Text (bounds_text h));
-  center = Some (center.Text (center_text h));
+  bounds = bounds_said h;
+  center = center_said h;
   other = names_of h.tile_type names json;
 }
 

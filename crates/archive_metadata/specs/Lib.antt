@@ -1,3 +1,4 @@
 pub mod DegreesText
 pub mod Document
+pub mod Extents
 pub mod Parting

@@ -1,7 +1,7 @@
 // The document that an archive says of itself.
 ghost use Rattle.std.specs.Prelude.{◌≡◌, IfOk, IsErrOf, None, OnOk, Some, codes, option_copied, option_map};
 ghost use Rattle.std.specs.FinMap.{insert};
-ghost use Rattle.archive_metadata.specs.Document.{IsAnswered, IsJsonOf, IsOfMembers, bounds_text, center_text, document_of, format_of, names_of, object_in, with_any};
+ghost use Rattle.archive_metadata.specs.Document.{IsAnswered, IsJsonOf, IsOfMembers, document_of, format_of, names_of, object_in, with_any};
 ghost use Rattle.mb_metadata.specs.Inserting.{IsWithoutFloat};
 ghost use Rattle.mb_metadata.specs.SaidJson.{is_bare};
 ghost use Rattle.serde_json.specs.Data.{object, string};
@@ -9,13 +9,13 @@ ghost use Rattle.serde_json.specs.Find.{as_object};
 ghost use Rattle.serde_json.specs.View.{members_view, view};
 ghost use Rattle.set_options.specs.ArchiveJson.{IsTextOf};
 
-use crate::degrees_text::degrees_text;
+use crate::extents::{bounds_said, center_said};
 use crate::parting::{Parts, parted};
 use base_values::{OutOfMemory, TextVal};
 use pm_format::{Header, TileType};
 use serde_json::{Map, Value};
 use std::alloc::Global;
-use tile_json::{DocumentError, JsonFields, JsonVal, TileBounds, TileCenter, TileJson};
+use tile_json::{DocumentError, JsonFields, JsonVal, TileJson};
 
 // The word under `format` for a type of tiles.
 fn format_of(tile_type: TileType) -> Option<&'static str>
@@ -30,27 +30,6 @@ fn format_of(tile_type: TileType) -> Option<&'static str>
         TileType::Avif => Some("avif"),
         TileType::Mlt => Some("mlt"),
     }
-}
-
-// The bounds of a header in degrees.
-fn bounds_text(alloc: Global, header: &Header) -> Result<TextVal, OutOfMemory>
-    ensures { IfOk result (λ text. text ≡ bounds_text header.now) }
-{
-    let west = degrees_text(alloc, header.min_longitude)?;
-    let south = degrees_text(alloc, header.min_latitude)?;
-    let east = degrees_text(alloc, header.max_longitude)?;
-    let north = degrees_text(alloc, header.max_latitude)?;
-    Ok(TextVal::new(format!(in alloc; "{west},{south},{east},{north}")?))
-}
-
-// The center of a header in degrees, with its zoom.
-fn center_text(alloc: Global, header: &Header) -> Result<TextVal, OutOfMemory>
-    ensures { IfOk result (λ text. text ≡ center_text header.now) }
-{
-    let longitude = degrees_text(alloc, header.center_longitude)?;
-    let latitude = degrees_text(alloc, header.center_latitude)?;
-    let zoom = header.center_zoom;
-    Ok(TextVal::new(format!(in alloc; "{longitude},{latitude},{zoom}")?))
 }
 
 // Puts a text at a name.
@@ -112,11 +91,11 @@ fn document_of(
     ensures { IfOk result (λ t. t ≡ document_of header.now names json) }
 {
     let other = names_of(alloc, header.tile_type, names, json)?;
-    let bounds = bounds_text(alloc, header)?;
-    let center = center_text(alloc, header)?;
+    let bounds = bounds_said(alloc, header)?;
+    let center = center_said(alloc, header)?;
     let mut document = header.get_tilejson(alloc, Vec::new(alloc));
-    document.bounds = Some(TileBounds::Text(bounds));
-    document.center = Some(TileCenter::Text(center));
+    document.bounds = bounds;
+    document.center = center;
     document.other = other;
     Ok(document)
 }
@@ -189,7 +168,10 @@ fn object_in(alloc: Global, text: &str) -> Result<Map<String, Value>, DocumentEr
 /// What an archive says of itself, by its header and the text of its metadata, as the document that `mb_metadata::insert_metadata` puts into a set. `Invalid` comes exactly
 /// where the text isn't an object of JSON, nested at most 127 deep.
 ///
-/// - `minzoom` and `maxzoom` are those of the header, `bounds` and `center` its degrees as decimals, parted by commas, the center with its zoom;
+/// - `minzoom` and `maxzoom` are those of the header, `bounds` and `center` its degrees as decimals, parted by commas, the
+///   center with its zoom;
+/// - bounds of the world, with which a header begins, are none; a center is none where it is the middle of bounds that a
+///   set can say, at the least zoom, or in the bounds of the world at zoom 0;
 /// - `format` is the word for its type of tiles: `pbf`, `png`, `jpg`, `webp`, `avif` or `mlt`, and none where the type isn't known;
 /// - a member of the metadata that is a text stands under its name, unless `set_options::is_left_out` names it;
 /// - all other members stand in the object under `json`, where there are any.

@@ -3,6 +3,7 @@
 
 mod degrees_text;
 mod document;
+mod extents;
 pub mod laws;
 mod parting;
 

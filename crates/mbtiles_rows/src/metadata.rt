@@ -15,6 +15,7 @@ pub fn answer<S: TileStore>(
         "zoom" => zoom_values::zoom(alloc, out, store, words),
         "insert" => documents::insert(alloc, out, store, words),
         "options" => archive_options::answer(alloc, out, store),
+        "understood" => archive_options::understood(alloc, out, words),
         call => values::answer(alloc, out, store, call, words),
     }
 }

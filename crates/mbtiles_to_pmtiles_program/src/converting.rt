@@ -22,8 +22,8 @@ fn convert_sets(
     let [first, rest @ ..] = sets else {
         return Err(ConversionOutcome::Usage);
     };
-    let base = read_set(rt, first.as_str())?;
-    let patches = read_sets(rt, rest)?;
+    let base = read_set(rt, first.as_str(), flags.strict)?;
+    let patches = read_sets(rt, rest, flags.strict)?;
     let step = begin_step(rt, TOOL, "converting", first.as_str());
     let report = convert_as_said_owned(
         rt.alloc(),

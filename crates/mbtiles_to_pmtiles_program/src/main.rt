@@ -2,9 +2,9 @@
 #![tactic(auto)]
 
 mod converting;
+mod left_out;
 mod reading;
 mod saying;
-mod sources;
 
 use base_values::TextVal;
 use converting::convert_files;
@@ -12,17 +12,14 @@ use program_words::{
     hold_streams, print, print_for, say_out_of_memory, say_output_fault, say_unwritten, text_of,
     words_of,
 };
-use set_conversion::{
-    ConversionFlags, ConversionOutcome, asked_of, conversion_status, conversion_text,
-};
-use sources::source_status;
+use set_conversion::{ConversionOutcome, asked_of, conversion_status, conversion_text};
 use std::process::ExitCode;
 
 const HELP: &str = "Makes an archive of the PMTiles format of a set of map tiles in an MBTiles
 file, and of patches to it.
 
-usage: mbtiles-to-pmtiles [--force] [--verify] [--overwrite] BASE.mbtiles
-                          [PATCH.mbtiles ..] OUT.pmtiles
+usage: mbtiles-to-pmtiles [--force] [--verify] [--overwrite] [--strict]
+                          BASE.mbtiles [PATCH.mbtiles ..] OUT.pmtiles
 
 Patches are put on the base in their order; no set's file is changed. Type and
 label of the tiles, zooms, bounds, center and metadata are those that the set
@@ -37,17 +34,20 @@ each step is told.
 --verify     asks for the aggregate hash of what is converted, which has to be
              stored and right; hashes of single tiles are always tested
 --overwrite  replaces OUT where it is there; without it that is refused
+--strict     refuses a set of which rows of tiles or metadata would be left out
 --           what follows are files, also where they begin with a dash
 --help, -h   prints this text
 --version    prints the version
 
+Flags may stand anywhere in front of --.
+
 status: 0 done, 1 refused, 2 no command, 3 no such file or no set, 4 a set's
 file can't be read, 5 the lines can't be written, 6 OUT can't be written, 7 out
-of memory, 9 read back
+of memory, 9 read back, 10 a set's file is in a form that isn't read here
 ";
 
 const USAGE: &str =
-    "usage: mbtiles-to-pmtiles [--force] [--verify] [--overwrite] BASE.mbtiles [PATCH.mbtiles ..] OUT.pmtiles
+    "usage: mbtiles-to-pmtiles [--force] [--verify] [--overwrite] [--strict] BASE.mbtiles [PATCH.mbtiles ..] OUT.pmtiles
 ";
 
 const VERSION: &str = "mbtiles-to-pmtiles 0.1.0\n";
@@ -68,21 +68,17 @@ fn tell(rt: &HostRuntime, outcome: ConversionOutcome) -> ConversionOutcome {
     ConversionOutcome::OutputFault
 }
 
-// Converts the sets of files that can be read.
-fn convert_read(rt: &HostRuntime, flags: ConversionFlags, files: &[TextVal]) -> u8 {
-    match source_status(rt, files) {
-        0 => conversion_status(&tell(rt, convert_files(rt, flags, files))),
-        status => status,
-    }
-}
-
 // Converts what the words ask for.
-fn convert_words(rt: &HostRuntime, words: &[TextVal]) -> u8 {
-    match asked_of(words) {
-        Some((flags, files)) => convert_read(rt, flags, files),
-        None => {
+fn convert_words(rt: &HostRuntime, words: &[TextVal]) -> ConversionOutcome {
+    match asked_of(rt.alloc(), words) {
+        Ok(Some((flags, files))) => convert_files(rt, flags, files.as_slice()),
+        Ok(None) => {
             let _ = eprint!(rt; "{TOOL}: {USAGE}");
-            conversion_status(&ConversionOutcome::Usage)
+            ConversionOutcome::Usage
+        }
+        Err(_) => {
+            say_out_of_memory(rt, TOOL);
+            ConversionOutcome::OutOfMemory
         }
     }
 }
@@ -90,7 +86,7 @@ fn convert_words(rt: &HostRuntime, words: &[TextVal]) -> u8 {
 fn run_words(rt: &HostRuntime, words: &[TextVal]) -> u8 {
     match text_of(words, HELP, VERSION) {
         Some(text) => say_unwritten(rt, TOOL, print_for(rt, text, 0)),
-        None => convert_words(rt, words),
+        None => conversion_status(&tell(rt, convert_words(rt, words))),
     }
 }
 

@@ -24,11 +24,20 @@ fn say_no_file(rt: &HostRuntime, path: &str) {
 /// Says why the file of a set isn't read; nothing where memory ran out, which is said of the run.
 pub fn say_unread(rt: &HostRuntime, path: &str, error: &ReadError) {
     let _ = match error {
+        ReadError::Missing => eprintln!(rt; "{TOOL}: there is no file {path}"),
         ReadError::Unread => return say_no_file(rt, path),
         ReadError::OutOfMemory => Ok(()),
-        ReadError::NotASet => eprintln!(rt; "{TOOL}: {path} has no table or view named tiles"),
-        ReadError::Unopened(cause) => {
-            eprintln!(rt; "{TOOL}: {path} is no SQLite database that is read: {cause}")
+        ReadError::NotRegular => eprintln!(rt; "{TOOL}: {path} is no regular file"),
+        ReadError::NotADatabase => eprintln!(rt; "{TOOL}: {path} is no SQLite database"),
+        ReadError::NotASet => {
+            eprintln!(rt;
+                "{TOOL}: {path} has no table or view named tiles, and no tables of a tile set"
+            )
+        }
+        ReadError::Unopened(cause) | ReadError::Fault { cause, .. } => {
+            eprintln!(rt;
+                "{TOOL}: {path} is in a form that isn't read directly, or damaged ({cause}); sqlite3 may read it"
+            )
         }
         ReadError::Unfinished => {
             eprintln!(rt;

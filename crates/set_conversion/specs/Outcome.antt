@@ -4,7 +4,7 @@ use Rattle.std.specs.Fmt.{decimal}
 use Rattle.tile_bridge.specs.declared.error.ConvertError.{ConvertError}
 use Rattle.tile_bridge.specs.declared.error.ConvertError.TheVariants as convert
 use Rattle.set_conversion.specs.declared.outcome.ConversionOutcome.{ConversionOutcome}
-use Rattle.set_conversion.specs.declared.outcome.ConversionOutcome.TheVariants.{Done, Refused, Taken, Unread, Usage, NoSet, OutputFault, MediumFault, OutOfMemory, ReadBack}
+use Rattle.set_conversion.specs.declared.outcome.ConversionOutcome.TheVariants.{Done, Refused, Taken, Unread, LeftOut, Usage, NoSet, InputFault, OutputFault, MediumFault, OutOfMemory, ReadBack, OtherForm}
 
 -- the outcome that an error of the conversion ends a run in
 abbrev pub of_convert : ConvertError → ConversionOutcome
@@ -22,12 +22,15 @@ status (Done r) = 0
 status (Refused e) = 1
 status Taken = 1
 status Unread = 1
+status LeftOut = 1
 status Usage = 2
 status NoSet = 3
+status InputFault = 4
 status OutputFault = 5
 status MediumFault = 6
 status OutOfMemory = 7
 status (ReadBack e) = 9
+status OtherForm = 10
 
 -- the lines on an archive: its aggregate hash, how many tiles and different contents it has, and how long it is
 abbrev pub report_lines : List ℕ → ℕ → ℕ → ℕ → List ℕ
@@ -40,6 +43,9 @@ text _ = []
 
 pub no_lines : text NoSet ≡ []
 no_lines = refl
+
+pub another_form : text OtherForm ≡ []
+another_form = refl
 
 pub an_overflow : status (of_convert convert.IndexEntryOverflow) ≡ 1
 an_overflow = refl

@@ -1,9 +1,10 @@
 -- What the words of a conversion of sets ask for.
-use Rattle.std.specs.Prelude.{◌≡◌, ℕ, Bool, true, false, List, [], ◌∷◌, if◌then◌else◌, nat_eq, Option, Some, None, codes, refl}
+use Rattle.std.specs.Prelude.{◌≡◌, ℕ, Bool, true, false, List, [], ◌∷◌, ◌++◌, if◌then◌else◌, nat_eq, Option, Some, None, codes, refl}
+use Rattle.std.specs.Option.{option_and_then}
 use Rattle.std.specs.Str.{bytes_eq}
 use Rattle.set_conversion.specs.declared.words.ConversionFlags.{ConversionFlags}
 
--- flags, and the files behind them: that of the base, those of its patches in their order, and that of the archive
+-- flags, and files: that of the base, those of its patches in their order, and that of the archive
 pub record Asked : Type 0 where
   pub flags : ConversionFlags
   pub files : List (List ℕ)
@@ -11,43 +12,58 @@ pub record Asked : Type 0 where
 abbrev pub asked : ConversionFlags → List (List ℕ) → Asked
 asked flags files = record { flags = flags; files = files }
 
--- whether a word begins with a dash
+-- whether a word begins with a dash, and has more
 abbrev pub is_option : List ℕ → Bool
-is_option [] = false
-is_option (b ∷ word) = nat_eq b 45
+is_option (b ∷ c ∷ word) = nat_eq b 45
+is_option _ = false
 
 -- files are two at least
-abbrev pub files_behind : ConversionFlags → List (List ℕ) → Option Asked
-files_behind flags (base ∷ next ∷ files) = Some (asked flags (base ∷ next ∷ files))
-files_behind flags _ = None
+abbrev pub enough : ConversionFlags → List (List ℕ) → Option Asked
+enough flags (base ∷ next ∷ files) = Some (asked flags (base ∷ next ∷ files))
+enough flags _ = None
 
--- what words behind flags ask for
-abbrev pub asked_behind : ConversionFlags → List (List ℕ) → Option Asked
-asked_behind flags [] = None
-asked_behind flags (word ∷ words) =
-    if bytes_eq word (codes "--force") then asked_behind (record flags { force = true }) words
-    else (if bytes_eq word (codes "--verify") then asked_behind (record flags { verify = true }) words
-    else (if bytes_eq word (codes "--overwrite") then asked_behind (record flags { overwrite = true }) words
-    else (if bytes_eq word (codes "--") then files_behind flags words
-    else (if is_option word then None else files_behind flags (word ∷ words)))))
+-- flags with one more, by its word
+abbrev pub with_flag : ConversionFlags → List ℕ → Option ConversionFlags
+with_flag flags word =
+    if bytes_eq word (codes "--force") then Some (record flags { force = true })
+    else (if bytes_eq word (codes "--verify") then Some (record flags { verify = true })
+    else (if bytes_eq word (codes "--overwrite") then Some (record flags { overwrite = true })
+    else (if bytes_eq word (codes "--strict") then Some (record flags { strict = true }) else None)))
+
+-- words as files, behind others
+abbrev pub with_files : List (List ℕ) → List (List ℕ) → List (List ℕ)
+with_files files [] = files
+with_files files (word ∷ words) = with_files (files ++ (word ∷ [])) words
+
+-- what words ask for that stand behind these flags and files: flags anywhere in front of `--`, and behind it files alone
+abbrev pub asked_after : ConversionFlags → List (List ℕ) → List (List ℕ) → Option Asked
+asked_after flags files [] = enough flags files
+asked_after flags files (word ∷ words) =
+    if bytes_eq word (codes "--") then enough flags (with_files files words)
+    else (if is_option word then option_and_then (λ f. asked_after f files words) (with_flag flags word)
+    else asked_after flags (files ++ (word ∷ [])) words)
 
 abbrev pub no_flags : ConversionFlags
-no_flags = record { force = false; verify = false; overwrite = false }
+no_flags = record { force = false; verify = false; overwrite = false; strict = false }
 
--- flags in any order, `--` or not, and two files at least
+-- flags in any order, in front of files, among them or behind, and two files at least
 abbrev pub asked_in : List (List ℕ) → Option Asked
-asked_in words = asked_behind no_flags words
+asked_in words = asked_after no_flags [] words
 
 pub a_base_and_a_patch : asked_in (codes "--verify" ∷ codes "--force" ∷ codes "a" ∷ codes "b" ∷ codes "c" ∷ []) ≡
-    Some (asked (record { force = true; verify = true; overwrite = false }) (codes "a" ∷ codes "b" ∷ codes "c" ∷ []))
+    Some (asked (record { force = true; verify = true; overwrite = false; strict = false }) (codes "a" ∷ codes "b" ∷ codes "c" ∷ []))
 a_base_and_a_patch = refl
 
 pub files_with_dashes : asked_in (codes "--overwrite" ∷ codes "--" ∷ codes "--force" ∷ codes "-b" ∷ []) ≡
-    Some (asked (record { force = false; verify = false; overwrite = true }) (codes "--force" ∷ codes "-b" ∷ []))
+    Some (asked (record { force = false; verify = false; overwrite = true; strict = false }) (codes "--force" ∷ codes "-b" ∷ []))
 files_with_dashes = refl
 
-pub flags_behind_files : asked_in (codes "a" ∷ codes "--force" ∷ []) ≡ Some (asked no_flags (codes "a" ∷ codes "--force" ∷ []))
+pub flags_behind_files : asked_in (codes "a" ∷ codes "--strict" ∷ codes "b" ∷ codes "--force" ∷ []) ≡
+    Some (asked (record { force = true; verify = false; overwrite = false; strict = true }) (codes "a" ∷ codes "b" ∷ []))
 flags_behind_files = refl
+
+pub a_lone_dash : asked_in (codes "a" ∷ codes "-" ∷ []) ≡ Some (asked no_flags (codes "a" ∷ codes "-" ∷ []))
+a_lone_dash = refl
 
 pub one_file : asked_in (codes "--force" ∷ codes "a" ∷ []) ≡ None
 one_file = refl

@@ -17,10 +17,14 @@ pub enum ConversionOutcome {
     Taken,
     /// The file of a set is there, and isn't read as a set.
     Unread,
+    /// The archive would leave something out that the set has, and the words ask that nothing is.
+    LeftOut,
     /// The words ask for nothing.
     Usage,
     /// The file of a set isn't there, or has no set.
     NoSet,
+    /// The file of a set is there, and can't be read.
+    InputFault,
     /// The text on the archive can't be written.
     OutputFault,
     /// The archive can't be written, or not put at its place.
@@ -29,6 +33,8 @@ pub enum ConversionOutcome {
     OutOfMemory,
     /// The file of the archive gave something else back than what was written to it: why the archive can't be opened.
     ReadBack(PmtError),
+    /// The set is in a form that isn't read here.
+    OtherForm,
 }
 
 impl From<ConvertError> for ConversionOutcome {
@@ -58,8 +64,9 @@ impl From<AllocError> for ConversionOutcome {
     }
 }
 
-/// The status that a program ends with: 0 for `Done`, 1 for `Refused`, `Taken` and `Unread`, 2 for `Usage`, 3 for `NoSet`, 5 for `OutputFault`, 6 for `MediumFault`, 7 for
-/// `OutOfMemory` and 9 for `ReadBack`.
+/// The status that a program ends with: 0 for `Done`, 1 for `Refused`, `Taken`, `Unread` and `LeftOut`, 2 for `Usage`,
+/// 3 for `NoSet`, 4 for `InputFault`, 5 for `OutputFault`, 6 for `MediumFault`, 7 for `OutOfMemory`, 9 for `ReadBack`
+/// and 10 for `OtherForm`.
 pub fn conversion_status(outcome: &ConversionOutcome) -> u8
     ensures { result ≡ status outcome.now }
 {
@@ -68,11 +75,14 @@ pub fn conversion_status(outcome: &ConversionOutcome) -> u8
         ConversionOutcome::Refused(_) => 1,
         ConversionOutcome::Taken => 1,
         ConversionOutcome::Unread => 1,
+        ConversionOutcome::LeftOut => 1,
         ConversionOutcome::Usage => 2,
         ConversionOutcome::NoSet => 3,
+        ConversionOutcome::InputFault => 4,
         ConversionOutcome::OutputFault => 5,
         ConversionOutcome::MediumFault => 6,
         ConversionOutcome::OutOfMemory => 7,
         ConversionOutcome::ReadBack(_) => 9,
+        ConversionOutcome::OtherForm => 10,
     }
 }

@@ -1,10 +1,11 @@
 // What the words of a conversion of sets ask for.
-ghost use Rattle.std.specs.Prelude.{◌≡◌, ◌≤◌, length, None, Some, IfSome, MatchOption};
-ghost use Rattle.set_conversion.specs.Words.{asked, asked_behind, asked_in, files_behind, is_option};
+ghost use Rattle.std.specs.Prelude.{◌≡◌, ◌≤◌, ◌++◌, ◌∷◌, [], length, None, Some, IfOk, IfSome, MatchOption};
+ghost use Rattle.set_conversion.specs.Words.{asked, asked_after, asked_in, enough, is_option, no_flags, with_flag, with_files};
 
-use base_values::TextVal;
+use base_values::{OutOfMemory, TextVal};
+use std::alloc::Global;
 
-/// What the words in front of the files of a conversion say.
+/// What the words beside the files of a conversion say.
 #[derive(Clone, Copy, Debug, PartialEq, Eq)]
 pub struct ConversionFlags {
     /// Whether patches are taken without the hashes that chain them.
@@ -13,67 +14,126 @@ pub struct ConversionFlags {
     pub verify: bool,
     /// Whether an archive that is there is replaced.
     pub overwrite: bool,
+    /// Whether nothing that the set says may be left out of the archive.
+    pub strict: bool,
 }
 
-// Whether a word begins with a dash.
+// Whether a word begins with a dash, and has more.
 fn is_option(word: &[u8]) -> bool
     ensures { result ≡ is_option word.now }
 {
-    matches!(word, [b'-', ..])
+    matches!(word, [b'-', _, ..])
 }
 
-// The words behind flags as files, which are two at least.
-fn files_behind(flags: ConversionFlags, words: &[TextVal]) -> Option<(ConversionFlags, &[TextVal])>
-    ensures value { MatchOption result (files_behind flags words.now ≡ None)
-        (λ r. files_behind flags words.now ≡ Some (asked r.0 r.1.now)) }
-    ensures files { IfSome result (λ r. 2 ≤ length r.1.now) }
+fn no_flags() -> ConversionFlags
+    ensures { result ≡ no_flags }
 {
-    match words {
-        [_, _, ..] => Some((flags, words)),
+    ConversionFlags {
+        force: false,
+        verify: false,
+        overwrite: false,
+        strict: false,
+    }
+}
+
+// Flags with one more, by its word; None for any other word.
+fn with_flag(flags: ConversionFlags, word: &str) -> Option<ConversionFlags>
+    ensures { result ≡ with_flag flags word.now }
+{
+    let mut flags = flags;
+    match word {
+        "--force" => flags.force = true,
+        "--verify" => flags.verify = true,
+        "--overwrite" => flags.overwrite = true,
+        "--strict" => flags.strict = true,
+        _ => return None,
+    }
+    Some(flags)
+}
+
+// A file behind others.
+fn with_file(
+    alloc: Global,
+    files: Vec<TextVal>,
+    word: &TextVal,
+) -> Result<Vec<TextVal>, OutOfMemory>
+    ensures { IfOk result (λ r. r.items ≡ files.items ++ (word.now ∷ [])) }
+{
+    let mut files = files;
+    let word = word.try_clone(alloc)?;
+    files.push(word)?;
+    Ok(files)
+}
+
+// Words as files, behind others.
+fn with_files(
+    alloc: Global,
+    files: Vec<TextVal>,
+    words: &[TextVal],
+) -> Result<Vec<TextVal>, OutOfMemory>
+    ensures { IfOk result (λ r. r.items ≡ with_files files.items words.now) }
+{
+    let [word, rest @ ..] = words else {
+        return Ok(files);
+    };
+    let files = with_file(alloc, files, word)?;
+    with_files(alloc, files, rest)
+}
+
+// Files, which are two at least.
+fn enough(flags: ConversionFlags, files: Vec<TextVal>) -> Option<(ConversionFlags, Vec<TextVal>)>
+    ensures value { MatchOption result (enough flags files.items ≡ None)
+        (λ r. enough flags files.items ≡ Some (asked r.0 r.1.items)) }
+    ensures files { IfSome result (λ r. 2 ≤ length r.1.items) }
+{
+    match files.as_slice() {
+        [_, _, ..] => Some((flags, files)),
         _ => None,
     }
 }
 
-// What words behind flags ask for.
-fn asked_behind(flags: ConversionFlags, words: &[TextVal]) -> Option<(ConversionFlags, &[TextVal])>
-    ensures value { MatchOption result (asked_behind flags words.now ≡ None)
-        (λ r. asked_behind flags words.now ≡ Some (asked r.0 r.1.now)) }
-    ensures files { IfSome result (λ r. 2 ≤ length r.1.now) }
+// What words ask for behind flags and files.
+fn asked_after(
+    alloc: Global,
+    flags: ConversionFlags,
+    files: Vec<TextVal>,
+    words: &[TextVal],
+) -> Result<Option<(ConversionFlags, Vec<TextVal>)>, OutOfMemory>
+    ensures value { IfOk result (λ r. MatchOption r
+        (asked_after flags files.items words.now ≡ None)
+        (λ a. asked_after flags files.items words.now ≡ Some (asked a.0 a.1.items))) }
+    ensures files { IfOk result (λ r. IfSome r (λ a. 2 ≤ length a.1.items)) }
 {
     let [word, rest @ ..] = words else {
-        return None;
+        return Ok(enough(flags, files));
     };
-    let ConversionFlags {
-        force,
-        verify,
-        overwrite,
-    } = flags;
     match word.as_str() {
-        "--force" => asked_behind(flags_of(true, verify, overwrite), rest),
-        "--verify" => asked_behind(flags_of(force, true, overwrite), rest),
-        "--overwrite" => asked_behind(flags_of(force, verify, true), rest),
-        "--" => files_behind(flags, rest),
-        text if is_option(text.as_bytes()) => None,
-        _ => files_behind(flags, words),
+        "--" => {
+            let files = with_files(alloc, files, rest)?;
+            Ok(enough(flags, files))
+        }
+        text if is_option(text.as_bytes()) => match with_flag(flags, text) {
+            Some(flags) => asked_after(alloc, flags, files, rest),
+            None => Ok(None),
+        },
+        _ => {
+            let files = with_file(alloc, files, word)?;
+            asked_after(alloc, flags, files, rest)
+        }
     }
 }
 
-fn flags_of(force: bool, verify: bool, overwrite: bool) -> ConversionFlags
-    ensures { result ≡ record { force = force; verify = verify; overwrite = overwrite } }
+/// The flags and the files that words ask for: `--force`, `--verify`, `--overwrite` and `--strict` anywhere in front of
+/// `--`, and the file of the base, those of its patches in their order, and that of the archive. Words behind `--` are
+/// files, also where they begin with a dash, and a dash alone is one anywhere. None for other words: without two files at
+/// least, or where another word in front of `--` begins with a dash.
+pub fn asked_of(
+    alloc: Global,
+    words: &[TextVal],
+) -> Result<Option<(ConversionFlags, Vec<TextVal>)>, OutOfMemory>
+    ensures value { IfOk result (λ r. MatchOption r (asked_in words.now ≡ None)
+        (λ a. asked_in words.now ≡ Some (asked a.0 a.1.items))) }
+    ensures files { IfOk result (λ r. IfSome r (λ a. 2 ≤ length a.1.items)) }
 {
-    ConversionFlags {
-        force,
-        verify,
-        overwrite,
-    }
-}
-
-/// The flags and the files that words ask for: `--force`, `--verify` and `--overwrite` in front in any order, `--` behind them or not, and then the file of the base, those
-/// of its patches in their order, and that of the archive. None for other words: without two files at least, or where another word in front of them begins with a dash.
-pub fn asked_of(words: &[TextVal]) -> Option<(ConversionFlags, &[TextVal])>
-    ensures value { MatchOption result (asked_in words.now ≡ None)
-        (λ r. asked_in words.now ≡ Some (asked r.0 r.1.now)) }
-    ensures files { IfSome result (λ r. 2 ≤ length r.1.now) }
-{
-    asked_behind(flags_of(false, false, false), words)
+    asked_after(alloc, no_flags(), Vec::new(alloc), words)
 }

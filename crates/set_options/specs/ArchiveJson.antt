@@ -10,7 +10,9 @@ use Rattle.mb_tables.specs.declared.cell.Cell.TheVariants.{Text}
 use Rattle.serde_json.specs.Data.{Data, string, object, Members, no_members, member, put, depth}
 use Rattle.serde_json.specs.Find.{as_object}
 use Rattle.serde_json.specs.Read.{max_depth, read}
-use Rattle.serde_json.specs.Written.{compact_text, has_float}
+use Rattle.json.specs.Lex.{tokens}
+use Rattle.json.specs.Print.{print}
+use Rattle.serde_json.specs.Written.{compact_text, has_float, IsInOrder}
 
 -- names that the header says, that `json` stands for, or that say nothing of an archive
 abbrev pub is_left_out : List ℕ → Bool
@@ -39,9 +41,12 @@ archive_members names = fold with_entry (members_in (text_at names (codes "json"
 abbrev pub archive_data : Names → Data
 archive_data names = object (archive_members names)
 
--- A text of a value. It is the one compact text, but for the digits of numbers that are held as floats, and it reads back as the value.
+-- A text of a value. It is the one compact text, but for the digits of numbers that are held as floats: nothing stands
+-- between its tokens, and its items and members are those of the value, each once and in order. It reads back as it.
 pub record IsTextOf (text : List ℕ) (d : Data) : Type 0 where
   pub compact : has_float d ≡ false → text ≡ compact_text d
+  pub spaced : text ≡ print (tokens text)
+  pub order : IsInOrder text d
   pub reads_back : depth d ≤ max_depth → read text ≡ Some d
 
 pub over_a_member : (d : Data) → with_entry (member (codes "name") d no_members) (codes "name", Some (codes "x")) ≡ member (codes "name") (string (codes "x")) no_members

@@ -98,6 +98,7 @@ fn say_asked(out: &mut String, flags: ConversionFlags, files: &[TextVal]) -> Opt
         ("force", flags.force),
         ("verify", flags.verify),
         ("overwrite", flags.overwrite),
+        ("strict", flags.strict),
     ];
     for (name, is_set) in names {
         if is_set {
@@ -111,8 +112,8 @@ fn say_asked(out: &mut String, flags: ConversionFlags, files: &[TextVal]) -> Opt
 /// A case of words: the flags and how many files they ask for, or that it is nothing.
 pub fn asked(alloc: Global, out: &mut String, fields: &mut Fields) -> Option<()> {
     let words = words_of(alloc, fields.next())?;
-    match asked_of(&words) {
-        Some((flags, files)) => say_asked(out, flags, files),
+    match asked_of(alloc, &words).ok()? {
+        Some((flags, files)) => say_asked(out, flags, files.as_slice()),
         None => say(out, "none"),
     }
 }
