@@ -29,7 +29,7 @@ tables_of() {
         create table tiles (zoom_level integer not null, tile_column integer not null, tile_row integer not null, tile_data blob not null, unique (zoom_level, tile_column, tile_row)); $(rows_of tiles tile_data "$content"); $says_of_itself;
         insert into metadata values ('type', 'overlay'), ('version', '1.1'), ('description', 'field'), ('bounds', '-180.0000000,-85,180.0000000,85')" ;;
     'GDAL, vectors') echo "create table metadata (name text, value text); create table tiles (zoom_level integer, tile_column integer, tile_row integer, tile_data blob, unique (zoom_level, tile_column, tile_row));
-        $(rows_of tiles tile_data "x'1f8b' || $content"); insert into metadata values ('format', 'pbf'), ('json', '{\"vector_layers\":[]}'), ('center', '0,0,5'), ('bounds', '-180,-85,180,85'), ('scheme', 'tms')" ;;
+        $(rows_of tiles tile_data "cast(x'1f8b' || $content as blob)"); insert into metadata values ('format', 'pbf'), ('json', '{\"vector_layers\":[]}'), ('center', '0,0,5'), ('bounds', '-180,-85,180,85'), ('scheme', 'tms')" ;;
     tilemaker) echo "pragma page_size = 65536; create table if not exists metadata (name text, value text, unique (name)); create table if not exists tiles (zoom_level integer, tile_column integer, tile_row integer, tile_data blob, unique (zoom_level, tile_column, tile_row));
         $(rows_of tiles tile_data "$content"); $says_of_itself" ;;
     tippecanoe) echo "create table metadata (name text, value text); create unique index name on metadata (name); create table map (zoom_level integer, tile_column integer, tile_row integer, tile_id text); create table images (tile_data blob, tile_id text);
