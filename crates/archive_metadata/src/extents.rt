@@ -1,7 +1,6 @@
 // The bounds and the center of a header, where a set has to say them.
 ghost use Rattle.std.specs.Prelude.{◌≡◌, IfOk};
-ghost use Rattle.archive_metadata.specs.Extents.{are_in_range, are_of_world, are_sayable, bounds_of, bounds_said, bounds_text, center_said, center_text, has_own_center, is_above, is_at, is_longitude, same};
-ghost use Rattle.set_options.specs.Extents.{is_latitude};
+ghost use Rattle.archive_metadata.specs.Extents.{are_in_range, are_of_world, are_sayable, bounds_of, bounds_said, bounds_text, center_said, center_text, has_own_center, is_above, is_at, is_at_first_zoom, is_longitude, is_middle_of, is_said_latitude, same};
 
 use crate::degrees_text::degrees_text;
 use base_values::{OutOfMemory, TextVal};
@@ -42,6 +41,7 @@ fn bounds_of(header: &Header) -> SetBounds
     }
 }
 
+#[tactic(auto, unfolding(crate::specs::Extents::same))]
 fn same(one: i32, other: i32) -> bool
     ensures { result ≡ same one other }
 {
@@ -49,6 +49,7 @@ fn same(one: i32, other: i32) -> bool
 }
 
 // Whether bounds are those of the world, with which a header begins.
+#[tactic(auto, unfolding(crate::specs::Extents::are_of_world))]
 fn are_of_world(bounds: SetBounds) -> bool
     ensures { result ≡ are_of_world bounds }
 {
@@ -58,24 +59,28 @@ fn are_of_world(bounds: SetBounds) -> bool
         && same(bounds.north, 850_511_290)
 }
 
+#[tactic(auto, unfolding(crate::specs::Extents::is_longitude))]
 fn is_longitude(degrees: i32) -> bool
     ensures { result ≡ is_longitude degrees }
 {
     !degrees.cmp(&1_800_000_000).is_gt() && !degrees.cmp(&-1_800_000_000).is_lt()
 }
 
+#[tactic(auto, unfolding(crate::specs::Extents::is_said_latitude))]
 fn is_latitude(degrees: i32) -> bool
-    ensures { result ≡ is_latitude degrees }
+    ensures { result ≡ is_said_latitude degrees }
 {
     !degrees.cmp(&900_000_000).is_gt() && !degrees.cmp(&-900_000_000).is_lt()
 }
 
+#[tactic(auto, unfolding(crate::specs::Extents::is_above))]
 fn is_above(one: i32, other: i32) -> bool
     ensures { result ≡ is_above one other }
 {
     one.cmp(&other).is_gt()
 }
 
+#[tactic(auto, unfolding(crate::specs::Extents::are_in_range))]
 fn are_in_range(bounds: SetBounds) -> bool
     ensures { result ≡ are_in_range bounds }
 {
@@ -86,6 +91,7 @@ fn are_in_range(bounds: SetBounds) -> bool
 }
 
 // Whether bounds are read back from what a set says.
+#[tactic(auto, unfolding(crate::specs::Extents::are_sayable))]
 fn are_sayable(bounds: SetBounds) -> bool
     ensures { result ≡ are_sayable bounds }
 {
@@ -93,21 +99,37 @@ fn are_sayable(bounds: SetBounds) -> bool
 }
 
 // Whether the center is at the place of another.
+#[tactic(auto, unfolding(crate::specs::Extents::is_at))]
 fn is_at(header: &Header, center: SetCenter) -> bool
     ensures { result ≡ is_at header.now center }
 {
     same(header.center_longitude, center.longitude) && same(header.center_latitude, center.latitude)
 }
 
+// Whether the center is at the least zoom, or at zoom 0 in the bounds of the world.
+#[tactic(auto, unfolding(crate::specs::Extents::is_at_first_zoom))]
+fn is_at_first_zoom(header: &Header, bounds: SetBounds) -> bool
+    ensures { result ≡ is_at_first_zoom header.now bounds }
+{
+    let zoom = header.center_zoom;
+    zoom == header.min_zoom || zoom == 0 && are_of_world(bounds)
+}
+
+// Whether the center is the one that a set of these bounds has without a word.
+#[tactic(auto, unfolding(crate::specs::Extents::is_middle_of))]
+fn is_middle_of(header: &Header, bounds: SetBounds) -> bool
+    ensures { result ≡ is_middle_of header.now bounds }
+{
+    is_at(header, bounds.middle(header.min_zoom)) && is_at_first_zoom(header, bounds)
+}
+
 // Whether a set without a center has another one than the header.
+#[tactic(auto, unfolding(crate::specs::Extents::has_own_center))]
 fn has_own_center(header: &Header) -> bool
     ensures { result ≡ has_own_center header.now }
 {
     let bounds = bounds_of(header);
-    let zoom = header.center_zoom;
-    !(are_sayable(bounds)
-        && is_at(header, bounds.middle(header.min_zoom))
-        && (zoom == header.min_zoom || zoom == 0 && are_of_world(bounds)))
+    !(are_sayable(bounds) && is_middle_of(header, bounds))
 }
 
 /// The bounds that a set has to say.
