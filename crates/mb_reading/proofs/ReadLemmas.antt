@@ -1,5 +1,5 @@
 -- A set that is read of one state of a database.
-use Rattle.std.proofs.Common.{◌≡◌, ℕ, Bool, true, false, List, MatchBool, Err, inl, inr, refl, subst, sym}
+use Rattle.std.proofs.Common.{◌≡◌, ℕ, Bool, true, false, List, MatchBool, Err, Some, inl, inr, refl, subst, sym}
 use Rattle.sqlite.specs.Listing.{understood}
 use Rattle.sqlite.specs.State.{State}
 use Rattle.sqlite_resolve.specs.declared.error.CompileError.{CompileError}
@@ -12,7 +12,7 @@ use Rattle.mb_tables.specs.declared.kind.MbtType.{MbtType}
 use Rattle.mb_tables.specs.declared.kind.MbtType.TheVariants.{Flat}
 use Rattle.mb_tables.specs.declared.table.TableName.{TableName}
 use Rattle.mb_tables.specs.declared.table.TableName.TheVariants.{Metadata, Tiles}
-use Rattle.mb_reading.specs.Asking.{IsUnfit, LacksLayout, ReadsEither, ReadsLayout, ReadsSet, ReadsTable, Shows, Stays}
+use Rattle.mb_reading.specs.Asking.{IsUnfit, LacksLayout, ReadsBy, ReadsEither, ReadsLayout, ReadsSet, ReadsTable, Shows, Stays}
 use Rattle.mb_reading.specs.Filling.{Fits, content_table, filled, fits, has_contents, may_lack}
 use Rattle.mb_reading.specs.Master.{first_layout, is_there}
 use Rattle.mb_reading.specs.Texts.{master_text, rows_text}
@@ -100,12 +100,23 @@ unfolding ReadsEither
 either_before layout has_names s a t stays (inl read) = inl (reads_layout_before layout has_names s a t stays read)
 either_before layout has_names s a t stays (inr (lacks, read)) = inr (lacks_before layout has_names s a stays lacks, reads_layout_before Flat has_names s a t stays read)
 
-pub reads_set : (master : List Row) (text : List ℕ) (layout : MbtType) (has_names : Bool) (s a : State) (t : Tables) → text ≡ master_text → Shows text s master → is_there master Tiles ≡ true → layout ≡ first_layout master
-    → has_names ≡ is_there master Metadata → Stays s a → ReadsEither layout has_names a t → ReadsSet s t
+by_before : (has_tiles : Bool) (layout : MbtType) (has_names : Bool) (s a : State) (t : Tables) → Stays s a → ReadsBy has_tiles layout has_names a t → ReadsBy has_tiles layout has_names s t
+by_before true layout has_names s a t stays read = either_before layout has_names s a t stays read
+by_before false layout has_names s a t stays read = reads_layout_before layout has_names s a t stays read
+
+pub reads_by_either : (has_tiles : Bool) (layout : MbtType) (has_names : Bool) (s : State) (t : Tables) → has_tiles ≡ true → ReadsEither layout has_names s t → ReadsBy has_tiles layout has_names s t
+reads_by_either has_tiles layout has_names s t is read = subst (λ b. ReadsBy b layout has_names s t) (sym is) read
+
+pub reads_by_layout : (has_tiles : Bool) (layout : MbtType) (has_names : Bool) (s : State) (t : Tables) → has_tiles ≡ false → ReadsLayout layout has_names s t → ReadsBy has_tiles layout has_names s t
+reads_by_layout has_tiles layout has_names s t isnt read = subst (λ b. ReadsBy b layout has_names s t) (sym isnt) read
+
+pub reads_set : (master : List Row) (text : List ℕ) (has_tiles : Bool) (layout : MbtType) (has_names : Bool) (s a : State) (t : Tables) → text ≡ master_text → Shows text s master → has_tiles ≡ is_there master Tiles
+    → first_layout master ≡ Some layout → has_names ≡ is_there master Metadata → Stays s a → ReadsBy has_tiles layout has_names a t → ReadsSet s t
 unfolding ReadsSet
-reads_set master text layout has_names s a t named shown there is has stays read = (
+reads_set master text has_tiles layout has_names s a t named shown there is has stays read = (
   master,
+  layout,
   subst (λ text. Shows text s master) named shown,
-  there,
-  subst (λ b. ReadsEither (first_layout master) b s t) has (subst (λ l. ReadsEither l has_names s t) is (either_before layout has_names s a t stays read)),
+  is,
+  subst (λ b. ReadsBy (is_there master Tiles) layout b s t) has (subst (λ b. ReadsBy b layout has_names s t) there (by_before has_tiles layout has_names s a t stays read)),
 )

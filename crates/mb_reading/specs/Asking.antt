@@ -1,5 +1,5 @@
 -- The questions by which a set is read, all of one state of a database, and what comes of their answers.
-use Rattle.std.specs.Prelude.{ℕ, ◌≡◌, ◌⊎◌, Bool, true, false, List, [], Ok, Err, None, IsTrue, MatchBool}
+use Rattle.std.specs.Prelude.{ℕ, ◌≡◌, ◌⊎◌, Bool, true, false, List, [], Ok, Err, Some, None, IsTrue, MatchBool}
 use Rattle.sqlite.specs.Held.{Held, state}
 use Rattle.sqlite.specs.Listing.{understood}
 use Rattle.sqlite.specs.Schema.{Schema}
@@ -75,6 +75,11 @@ LacksLayout layout has_names s =
 unfoldable pub ReadsEither : MbtType → Bool → State → Tables → Type 0
 ReadsEither layout has_names s t = ReadsLayout layout has_names s t ⊎ LacksLayout layout has_names s × ReadsLayout Flat has_names s t
 
--- something is named `tiles`, and a set is read in the layout of its tables, or flat
+-- a set is read in a layout, and where something is named `tiles` it may be read flat instead
+abbrev pub ReadsBy : Bool → MbtType → Bool → State → Tables → Type 0
+ReadsBy has_tiles layout has_names s t = MatchBool has_tiles (ReadsEither layout has_names s t) (ReadsLayout layout has_names s t)
+
+-- a set is read in the layout that its tables and its view `tiles` tell, or flat through that view
 unfoldable pub ReadsSet : State → Tables → Type 0
-ReadsSet s t = (master : List Row) × Shows master_text s master × (is_there master Tiles ≡ true) × ReadsEither (first_layout master) (is_there master Metadata) s t
+ReadsSet s t =
+    (master : List Row) × (layout : MbtType) × Shows master_text s master × (first_layout master ≡ Some layout) × ReadsBy (is_there master Tiles) layout (is_there master Metadata) s t

@@ -2,6 +2,7 @@ pub mod Cells
 pub mod Rows
 pub mod Texts
 pub mod Filling
+pub mod Views
 pub mod Master
 pub mod Asking
 pub mod ReadOnly

@@ -1,5 +1,5 @@
--- What `sqlite_master` says of the tables of a set. Its answers are kinds and names in lower case.
-use Rattle.std.specs.Prelude.{ℕ, codes, Bool, false, ◌&&◌, ◌++◌, cond, List, [], ◌∷◌, Result, Ok, Err}
+-- What `sqlite_master` says of the tables of a set. Its answers are kinds, names in lower case and texts.
+use Rattle.std.specs.Prelude.{ℕ, codes, Bool, false, ◌&&◌, ◌++◌, cond, List, [], ◌∷◌, Option, Some, None, Result, Ok, Err}
 use Rattle.std.specs.List.{list_any}
 use Rattle.std.specs.Str.{bytes_eq}
 use Rattle.mb_tables.specs.Detection.{detected}
@@ -14,6 +14,7 @@ use Rattle.mb_tables.specs.declared.table.TableName.TheVariants.{Tiles, TilesWit
 use Rattle.sqlite_value.specs.Order.{Row, column}
 use Rattle.sqlite_value.specs.declared.value.Value.{Value}
 use Rattle.sqlite_value.specs.declared.value.Value.TheVariants as sql
+use Rattle.mb_reading.specs.Views.{is_view_text}
 
 -- whether a value is this text
 abbrev pub is_text : Value → List ℕ → Bool
@@ -42,10 +43,27 @@ abbrev pub descriptions : List Row → List TableDesc
 descriptions master =
     ((((([] ++ described master Map) ++ described master Images) ++ described master TilesShallow) ++ described master TilesData) ++ described master TilesWithHash) ++ described master Tiles
 
--- the layout in which a set is read first: flat where its tables are those of no other
-abbrev pub layout_by : Result MbtType MbtError → MbtType
-layout_by (Ok layout) = layout
-layout_by (Err e) = Flat
+-- the layout of the tables that are there
+abbrev pub layout_by : Result MbtType MbtError → Option MbtType
+layout_by (Ok layout) = Some layout
+layout_by (Err e) = None
 
-unfoldable pub first_layout : List Row → MbtType
-first_layout master = layout_by (detected (descriptions master))
+unfoldable pub named_layout : List Row → Option MbtType
+named_layout master = layout_by (detected (descriptions master))
+
+-- whether an answer names `tiles`, and its text makes a view of exactly the tiles of a layout's tables
+abbrev pub is_view_value : MbtType → Value → Bool
+is_view_value layout (sql.Text t) = is_view_text layout t
+is_view_value layout _ = false
+
+abbrev pub views : MbtType → Row → Bool
+views layout r = names_it Tiles r && is_view_value layout (column r 2)
+
+-- the layout behind a view `tiles`: that of the tables, where the view has exactly their tiles; else flat
+abbrev pub behind_view : List Row → Option MbtType → MbtType
+behind_view master None = Flat
+behind_view master (Some layout) = cond (list_any (views layout) master) layout Flat
+
+-- the layout in which a set is read first: a table `tiles` as itself, a view by what it has, and without either by the tables; None where there is no set
+unfoldable pub first_layout : List Row → Option MbtType
+first_layout master = cond (is_own master Tiles) (Some Flat) (cond (is_there master Tiles) (Some (behind_view master (named_layout master))) (named_layout master))

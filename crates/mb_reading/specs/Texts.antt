@@ -3,9 +3,9 @@ use Rattle.std.specs.Prelude.{ℕ, codes, List}
 use Rattle.mb_tables.specs.declared.table.TableName.{TableName}
 use Rattle.mb_tables.specs.declared.table.TableName.TheVariants.{Tiles, TilesWithHash, Map, Images, TilesShallow, TilesData, TileCache, Metadata}
 
--- all tables and views, each by its kind and its name in lower case
+-- all tables and views, each by its kind, its name in lower case and the text that makes it
 unfoldable pub master_text : List ℕ
-master_text = codes "SELECT type, lower(name) FROM sqlite_master WHERE type IN ('table', 'view')"
+master_text = codes "SELECT type, lower(name), sql FROM sqlite_master WHERE type IN ('table', 'view')"
 
 -- all rows of a table, by the names of its columns; of the metadata each value also as a text
 unfoldable pub rows_text : TableName → List ℕ

@@ -6,7 +6,7 @@ ghost use Rattle.mb_reading.specs.Filling.{IsSet, NeverFails};
 use crate::disk_file::DiskFile;
 use crate::read_only::ReadOnly;
 use crate::stamps::{Paths, Stamp, Stamps, stamps_of, test_journal, test_still};
-use crate::{ReadError, read_set};
+use crate::{BesideFile, ReadError, read_set};
 use mb_store::MemStore;
 use sqlite::{Connection, Error, ErrorCode, FileStore, Files, Options};
 use sqlite_disk::{Disk, Memory};
@@ -18,6 +18,9 @@ use std::os::unix::fs::FileExt;
 
 // A shorter file is copied into memory: opening an empty file, or one that SQLite has just begun, writes it.
 const LEAST_ON_DISK: u64 = 65_536;
+
+// The first bytes of a database.
+const HEAD: &[u8; 16] = b"SQLite format 3\0";
 
 // How many bytes of pages that were read are kept in memory.
 const CACHE: usize = 8_388_608;
@@ -49,6 +52,28 @@ fn copy(alloc: Global, file: &mut File, length: u64) -> Result<DiskFile<Memory>,
     Ok(DiskFile::InMemory(memory))
 }
 
+// The test that a file that was opened is the one that was found by its path.
+fn test_opened(file: &File, stamp: Stamp) -> Result<(), ReadError> {
+    match file.metadata() {
+        Ok(found) if Stamp::of(&found).is_of_file(stamp) => Ok(()),
+        Ok(_) => Err(ReadError::Changed),
+        Err(_) => Err(ReadError::Unread),
+    }
+}
+
+// The test that a file is empty or begins as each database of SQLite.
+fn test_head(file: &File, stamp: Stamp) -> Result<(), ReadError> {
+    if stamp.length == 0 {
+        return Ok(());
+    }
+    let mut head = [0u8; 16];
+    match file.read_at(&mut head, 0) {
+        Ok(16) if head == *HEAD => Ok(()),
+        Ok(_) => Err(ReadError::NotADatabase),
+        Err(_) => Err(ReadError::Unread),
+    }
+}
+
 // A file to read, whose digests are taken under a key, and how many pages are to be kept of it. A short one is copied into memory.
 fn db_of(
     rt: &HostRuntime,
@@ -59,6 +84,8 @@ fn db_of(
     let Ok(mut file) = File::open(rt, path) else {
         return Err(ReadError::Unread);
     };
+    test_opened(&file, stamp)?;
+    test_head(&file, stamp)?;
     let pages = cache_pages(&file);
     if stamp.length >= LEAST_ON_DISK {
         return Ok((DiskFile::OnDisk(ReadOnly::new(file, key)), pages));
@@ -75,9 +102,13 @@ fn log_of(
     let Some(stamp) = stamp else {
         return Ok(DiskFile::InMemory(Memory::new(rt.alloc())));
     };
-    match File::open(rt, path) {
-        Ok(mut file) => copy(rt.alloc(), &mut file, stamp.length),
-        Err(_) => Err(ReadError::Unread),
+    let file = BesideFile::Log;
+    let Ok(mut log) = File::open(rt, path) else {
+        return Err(ReadError::Beside { file });
+    };
+    match copy(rt.alloc(), &mut log, stamp.length) {
+        Err(ReadError::Unread) => Err(ReadError::Beside { file }),
+        copied => copied,
     }
 }
 
@@ -101,13 +132,10 @@ fn files_to_read(
     paths: &Paths,
     before: Stamps,
 ) -> Result<(FilesToRead, usize), ReadError> {
-    let Some(stamp) = before.file else {
-        return Err(ReadError::Unread);
-    };
     let Ok(random) = RandomState::new(rt) else {
         return Err(ReadError::Unread);
     };
-    let (db, pages) = db_of(rt, paths.file.as_str(), stamp, random.hash_one(&0u8))?;
+    let (db, pages) = db_of(rt, paths.file.as_str(), before.file, random.hash_one(&0u8))?;
     test_journal(rt, paths)?;
     let log = log_of(rt, paths.log.as_str(), before.log)?;
     Ok((Files { log, db }, pages))
@@ -145,13 +173,17 @@ fn read_files(alloc: Global, files: FilesToRead, cache_pages: usize) -> Result<M
 /// Reads the set of a file into a store in memory. The file is opened for reading alone, and nothing is written to it or beside it: the database is read where it lies, without a lock, and the log of
 /// SQLite beside it is copied into memory.
 ///
-/// `Unread` where the file is missing, isn't a regular one or can't be read, `Unfinished` where a rollback journal stands beside it before or after, `Changed` where the file or its log is another one after the
-/// reading than before, `Unopened` with the cause where it is no database that is understood; and the refusals of `read_set`. A file that changed is told as `Changed`, whatever else was met.
+/// Links are followed first, as SQLite follows them, and the log and the rollback journal are those beside the file that the path leads to.
+///
+/// `Missing` where there is no such file; `NotRegular` where it isn't a regular one, which isn't opened; `Unnamed` where its links lead to no name of it; `Unread` where it can't be read; `NotADatabase`
+/// where it isn't empty and doesn't begin as a database of SQLite; `Beside` where a log or a rollback journal is there and can't be read; `Unfinished` where a rollback journal stands beside it before or
+/// after; `Changed` where the file or its log is another one after the reading than before; `Unopened` with the cause where it is no database that is understood; and the refusals of `read_set`. A file
+/// that changed is told as `Changed`, whatever else was met.
 pub fn read_file(rt: &HostRuntime, path: &str) -> Result<MemStore, ReadError>
     ensures told { IfOk result (λ store. IsSet (told_of store)) }
     ensures unfailing { IfOk result NeverFails }
 {
-    let paths = Paths::new(rt.alloc(), path)?;
+    let paths = Paths::new(rt, path)?;
     let before = stamps_of(rt, &paths)?;
     let (files, pages) = files_to_read(rt, &paths, before)?;
     let answer = read_files(rt.alloc(), files, pages);

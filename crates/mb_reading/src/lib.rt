@@ -14,8 +14,9 @@ mod rows;
 mod stamps;
 mod texts;
 mod value_kind;
+mod views;
 
-pub use error::ReadError;
+pub use error::{BesideFile, ReadError};
 pub use file::read_file;
 pub use reading::read_set;
 pub use value_kind::ValueKind;

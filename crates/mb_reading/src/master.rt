@@ -1,9 +1,11 @@
 // What `sqlite_master` says of the tables of a set.
 ghost use Rattle.std.specs.Prelude.{◌≡◌, ◌++◌, IfOk, OnOk};
-ghost use Rattle.mb_reading.specs.Master.{described, first_layout, is_own, is_text, is_there, names_it, names_own};
+ghost use Rattle.std.specs.List.{list_any};
+ghost use Rattle.mb_reading.specs.Master.{behind_view, described, first_layout, is_own, is_text, is_there, is_view_value, named_layout, names_it, names_own, views};
 ghost use Rattle.sqlite_value.specs.Order.{column};
 ghost use Rattle.sqlite_value.specs.Value.{owned};
 
+use crate::views::is_view_text;
 use base_values::OutOfMemory;
 use mb_tables::{MbtType, TableDesc, TableName, detect_type, table_of, view_of};
 use sqlite::types::ValueRef;
@@ -76,10 +78,10 @@ fn describe(
     Ok(())
 }
 
-// The layout in which a set is read first: flat where its tables are those of no other.
-#[tactic(auto, unfolding(crate::specs::Master::first_layout))]
-pub(crate) fn first_layout(alloc: Global, master: &[sqlite::Row]) -> Result<MbtType, OutOfMemory>
-    ensures { IfOk result (λ layout. layout ≡ first_layout master.now) }
+// The layout of the tables that are there.
+#[tactic(auto, unfolding(crate::specs::Master::named_layout))]
+fn named_layout(alloc: Global, master: &[sqlite::Row]) -> Result<Option<MbtType>, OutOfMemory>
+    ensures { IfOk result (λ layout. layout ≡ named_layout master.now) }
 {
     let mut tables = Vec::new(alloc);
     describe(alloc, &mut tables, master, TableName::Map)?;
@@ -89,7 +91,97 @@ pub(crate) fn first_layout(alloc: Global, master: &[sqlite::Row]) -> Result<MbtT
     describe(alloc, &mut tables, master, TableName::TilesWithHash)?;
     describe(alloc, &mut tables, master, TableName::Tiles)?;
     match detect_type(tables.as_slice()) {
-        Ok(layout) => Ok(layout),
-        Err(_) => Ok(MbtType::Flat),
+        Ok(layout) => Ok(Some(layout)),
+        Err(_) => Ok(None),
+    }
+}
+
+// Whether a value is a text that makes a view of exactly the tiles of a layout's tables.
+fn is_view_value(alloc: Global, layout: MbtType, value: ValueRef<'_>) -> Result<bool, OutOfMemory>
+    ensures { IfOk result (λ is. is ≡ is_view_value layout (owned value.entry)) }
+{
+    match value {
+        ValueRef::Text(text) => is_view_text(alloc, layout, text),
+        ValueRef::Null | ValueRef::Int(_) | ValueRef::Real(_) | ValueRef::Blob(_) => Ok(false),
+    }
+}
+
+// Whether an answer has such a text in its third column.
+#[tactic(auto, using(crate::proofs::MasterLemmas::past_end))]
+fn has_view_text(
+    alloc: Global,
+    layout: MbtType,
+    answer: &sqlite::Row,
+) -> Result<bool, OutOfMemory>
+    ensures { IfOk result (λ is. is ≡ is_view_value layout (column answer.now 2)) }
+{
+    match answer.get_ref(2) {
+        Ok(value) => is_view_value(alloc, layout, value),
+        Err(_) => Ok(false),
+    }
+}
+
+// Whether an answer names `tiles`, and makes such a view.
+fn views(alloc: Global, layout: MbtType, answer: &sqlite::Row) -> Result<bool, OutOfMemory>
+    ensures { IfOk result (λ is. is ≡ views layout answer.now) }
+{
+    if names_it(TableName::Tiles, answer) {
+        has_view_text(alloc, layout, answer)
+    } else {
+        Ok(false)
+    }
+}
+
+// Whether one of the answers does.
+#[tactic(auto, using(crate::proofs::MasterLemmas::none_more, crate::proofs::MasterLemmas::one_passes, crate::proofs::MasterLemmas::none_passes))]
+fn any_views(
+    alloc: Global,
+    layout: MbtType,
+    master: &[sqlite::Row],
+) -> Result<bool, OutOfMemory>
+    ensures { IfOk result (λ is. is ≡ list_any (views layout) master.now) }
+{
+    for index in 0..master.len() {
+        if views(alloc, layout, &master[index])? {
+            return Ok(true);
+        }
+    }
+    Ok(false)
+}
+
+// The layout behind a view `tiles`: that of the tables, where the view has exactly their tiles; else flat.
+fn behind_view(
+    alloc: Global,
+    master: &[sqlite::Row],
+    named: Option<MbtType>,
+) -> Result<MbtType, OutOfMemory>
+    ensures { IfOk result (λ layout. layout ≡ behind_view master.now named) }
+{
+    let Some(layout) = named else {
+        return Ok(MbtType::Flat);
+    };
+    if any_views(alloc, layout, master)? {
+        Ok(layout)
+    } else {
+        Ok(MbtType::Flat)
+    }
+}
+
+// The layout in which a set is read first: a table `tiles` as itself, a view by what it has, and without either by the tables.
+#[tactic(auto, unfolding(crate::specs::Master::first_layout))]
+pub(crate) fn first_layout(
+    alloc: Global,
+    master: &[sqlite::Row],
+) -> Result<Option<MbtType>, OutOfMemory>
+    ensures { IfOk result (λ layout. layout ≡ first_layout master.now) }
+{
+    if is_own(master, TableName::Tiles) {
+        return Ok(Some(MbtType::Flat));
+    }
+    let named = named_layout(alloc, master)?;
+    if is_there(master, TableName::Tiles) {
+        Ok(Some(behind_view(alloc, master, named)?))
+    } else {
+        Ok(named)
     }
 }

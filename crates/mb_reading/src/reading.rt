@@ -4,7 +4,7 @@ ghost use Rattle.sqlite.specs.Held.{state};
 ghost use Rattle.sqlite.specs.State.{HasCleanDisk};
 ghost use Rattle.mb_store.specs.MemStore.{told_of};
 ghost use Rattle.mb_tables.specs.Described.{is_table};
-ghost use Rattle.mb_reading.specs.Asking.{CommitsNothing, IsUnfit, LacksLayout, ReadsEither, ReadsLayout, ReadsSet, ReadsTable, Stays, is_input};
+ghost use Rattle.mb_reading.specs.Asking.{CommitsNothing, IsUnfit, LacksLayout, ReadsBy, ReadsEither, ReadsLayout, ReadsSet, ReadsTable, Stays, is_input};
 ghost use Rattle.mb_reading.specs.Filling.{IsFilled, IsRead, IsSet, NeverFails, content_table, has_contents, may_lack};
 
 use crate::ReadError;
@@ -145,7 +145,34 @@ fn read_either<S: Alter>(
     }
 }
 
-// Reads a set in the layout that its tables are of, or as a flat one through `tiles`.
+// Reads a set in a layout, and where something is named `tiles` flat instead, where it can't be read so.
+#[tactic(auto, using(crate::proofs::ReadLemmas::reads_by_either, crate::proofs::ReadLemmas::reads_by_layout, crate::proofs::FillLemmas::is_set))]
+fn read_by<S: Alter>(
+    alloc: Global,
+    connection: &mut Connection<S>,
+    has_tiles: bool,
+    layout: MbtType,
+    has_names: bool,
+) -> Result<MemStore, ReadError>
+    ensures survives { CommitsNothing S.Store connection.old connection.new }
+    ensures same { HasCleanDisk (state S.Store connection.new) → OnOk result
+        (Stays (state S.Store connection.old) (state S.Store connection.new)) }
+    ensures read { HasCleanDisk (state S.Store connection.new) → IfOk result
+        (λ store. ReadsBy has_tiles layout has_names (state S.Store connection.old)
+        (told_of store)) }
+    ensures told { IfOk result (λ store. IsSet (told_of store)) }
+    ensures unfailing { IfOk result NeverFails }
+{
+    if has_tiles {
+        return read_either(alloc, connection, layout, has_names);
+    }
+    match read_layout(alloc, connection, layout, has_names)? {
+        Some(store) => Ok(store),
+        None => Err(ReadError::NotASet),
+    }
+}
+
+// Reads a set in the layout that its tables and its view `tiles` tell, or flat through that view.
 #[tactic(auto, using(crate::proofs::TextLemmas::master_asks))]
 fn read_all<S: Alter>(alloc: Global, connection: &mut Connection<S>) -> Result<MemStore, ReadError>
     ensures survives { CommitsNothing S.Store connection.old connection.new }
@@ -160,12 +187,12 @@ fn read_all<S: Alter>(alloc: Global, connection: &mut Connection<S>) -> Result<M
         Ok(master) => master,
         Err(cause) => return Err(refusal(TableName::Tiles, cause)),
     };
-    if !is_there(master.as_slice(), TableName::Tiles) {
+    let Some(layout) = first_layout(alloc, master.as_slice())? else {
         return Err(ReadError::NotASet);
-    }
-    let layout = first_layout(alloc, master.as_slice())?;
+    };
+    let has_tiles = is_there(master.as_slice(), TableName::Tiles);
     let has_names = is_there(master.as_slice(), TableName::Metadata);
-    let store = read_either(alloc, connection, layout, has_names)?;
+    let store = read_by(alloc, connection, has_tiles, layout, has_names)?;
     Ok(store)
 }
 

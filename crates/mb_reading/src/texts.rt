@@ -4,12 +4,12 @@ ghost use Rattle.mb_reading.specs.Texts.{master_text, rows_text};
 
 use mb_tables::TableName;
 
-// All tables and views, each by its kind and its name in lower case.
+// All tables and views, each by its kind, its name in lower case and the text that makes it.
 #[tactic(auto, unfolding(crate::specs::Texts::master_text))]
 pub(crate) fn of_master() -> &'static str
     ensures { result.now ≡ master_text }
 {
-    "SELECT type, lower(name) FROM sqlite_master WHERE type IN ('table', 'view')"
+    "SELECT type, lower(name), sql FROM sqlite_master WHERE type IN ('table', 'view')"
 }
 
 // All rows of a table, by the names of its columns. Of the metadata each value comes as a text too.

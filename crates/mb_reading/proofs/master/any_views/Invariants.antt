@@ -1,0 +1,8 @@
+-- none so far makes such a view
+use Rattle.std.proofs.Common.{◌≡◌, false, take}
+use Rattle.std.specs.List.{list_any}
+use Rattle.mb_reading.specs.Master.{views}
+use Rattle.mb_reading.proofs.master.any_views.Given as goal
+
+abbrev pub invariant-loop-index : goal.invariant-loop-index
+invariant-loop-index l = list_any (views l.layout) (take l.index l.master) ≡ false
