@@ -1,6 +1,0 @@
--- the rest is shorter
-use Rattle.std.proofs.Common.{length}
-use Rattle.set_conversion.proofs.words.+asked_behind.Given as goal
-
-abbrev pub decreases-asked_behind : goal.decreases-asked_behind
-decreases-asked_behind l = length l.words.now
