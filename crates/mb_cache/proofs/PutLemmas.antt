@@ -1,5 +1,5 @@
 -- A cache agrees with its tables after a row was put.
-use Rattle.std.proofs.Common.{◌≡◌, ◌∙◌, ap, sym, subst, refl, ℕ, Result, ◌&&◌, ◌||◌, Bool, true, false, not, List, [], ◌∷◌, Option, Some, None, filter, is_some}
+use Rattle.std.proofs.Common.{◌≡◌, ◌∙◌, ap, sym, subst, refl, ℕ, Result, Ok, Err, ◌&&◌, ◌||◌, Bool, true, false, not, List, [], ◌∷◌, Option, Some, None, filter, is_some}
 use Rattle.std.specs.Prelude.{All, IfSome, OnOk, option_map, option_to_list}
 use Rattle.std.specs.Bool.{OnFalse}
 use Rattle.std.specs.BTreeMap.{is_at}
@@ -15,10 +15,11 @@ use Rattle.mb_cache.proofs.RowLemmas.{entry_elsewhere, entry_there, entry_under,
 use Rattle.mb_cache.proofs.SetLemmas.{set_after}
 use Rattle.mb_cache.specs.Entries.{IsCacheRow, entry_at, entry_of, has_entry, place_in, row_place}
 use Rattle.mb_cache.specs.EntryOrder.{entry_cmp}
-use Rattle.mb_cache.specs.Setting.{SetsTile, is_replaced, meta_row, moment_cell, put_row, taken_back}
+use Rattle.mb_cache.specs.Setting.{ReplacesEntry, SetsEntry, SetsTile, UpdatesEntry, is_replaced, meta_row, moment_cell, old_entry, put_row, taken_back}
 use Rattle.mb_cache.specs.State.{Agrees, row_at}
 use Rattle.mb_cache.specs.declared.entries.Entry.{Entry}
 use Rattle.mb_cache.specs.declared.moments.CacheEntryMeta.{CacheEntryMeta}
+use Rattle.mb_cache.specs.declared.moments.UnixSeconds.{UnixSeconds}
 use Rattle.mb_lists.specs.Entries.{place_at}
 use Rattle.mb_lists.proofs.Items.{equal_of}
 use Rattle.mb_lists.proofs.Places.{places_antisymmetric}
@@ -111,6 +112,21 @@ module _ (t : Tables) (es : List Entry) (agrees : Agrees t es) (sound : IsSound 
 pub back_as : (added : Bool) (es fs : List Entry) (k : Entry) → added ≡ not (has_entry es k) → fs ≡ insert_key entry_cmp es k → OnFalse added (fs ≡ es) → taken_back added k fs ≡ es
 back_as true es fs k new is same = ap (remove_key (is_at (entry_cmp k))) is ∙ back_again es k (not-true (has_entry es k) (sym new))
 back_as false es fs k new is same = same
+
+-- what memory has gained and lost by a put
+pub replaced : (p : Place) (expires : Option UnixSeconds) (old : Option Entry) (es fs gs : List Entry) → fs ≡ insert_key entry_cmp es (entry_at p (moment_cell expires)) → ((e : Entry) → has_entry gs e ≡ (has_entry fs e && not (is_replaced old (entry_at p (moment_cell expires)) e))) → IsStrictlySortedBy entry_cmp gs → ReplacesEntry p expires old es gs
+replaced p expires old es fs gs added left ordered = record {
+  members = λ e. left e ∙ (ap (λ ks. has_entry ks e && not (is_replaced old (entry_at p (moment_cell expires)) e)) added ∙ ap (λ b. b && not (is_replaced old (entry_at p (moment_cell expires)) e)) (has-insert_key es (entry_at p (moment_cell expires)) e));
+  ordered = ordered;
+}
+
+-- the same as the clause of a tile, and as that of times and a tag
+pub sets_entry : {E : Type 0} (o : Option Coord) (c : Coord) (m : CacheEntryMeta) (row : Option (List Cell)) (old : Option Entry) (es fs : List Entry) (r : Result (Unit {0}) E) → o ≡ Some c → old ≡ old_entry (place_at c) row → OnOk r (ReplacesEntry (place_at c) m.expires old es fs) → OnOk r (SetsEntry o m es fs)
+sets_entry o c m row old es fs (Ok x) at was h = subst (λ (x : Option Coord). SetsEntry x m es fs) (sym at) (row, subst (λ (k : Option Entry). ReplacesEntry (place_at c) m.expires k es fs) was h)
+sets_entry o c m row old es fs (Err e) at was h = tt
+
+pub updates_entry : (o : Option Coord) (c : Coord) (m : CacheEntryMeta) (row : List Cell) (old : Option Entry) (es fs : List Entry) → o ≡ Some c → old ≡ old_entry (place_at c) (Some row) → ReplacesEntry (place_at c) m.expires old es fs → UpdatesEntry o m true es fs
+updates_entry o c m row old es fs at was h = subst (λ (x : Option Coord). UpdatesEntry x m true es fs) (sym at) (row, subst (λ (k : Option Entry). ReplacesEntry (place_at c) m.expires k es fs) was h)
 
 -- the clause of a put as that of a tile
 pub sets : {E : Type 0} (o : Option Coord) (c : Coord) (m : CacheEntryMeta) (t t' u : Tables) (bytes bytes' : List ℕ) (r : Result (Unit {0}) E) → o ≡ Some c → t' ≡ t → bytes' ≡ bytes → OnOk r (Commits (put_row (place_at c) (meta_row (place_at c) m (Blob bytes'))) t' u) → OnOk r (SetsTile o m bytes t u)

@@ -1,8 +1,10 @@
 -- What is put into a cache.
-use Rattle.std.specs.Prelude.{ℕ, ◌≡◌, ◌++◌, pos, ◌&&◌, Bool, true, false, cond, not, List, [], ◌∷◌, Option, Some, None, Result, Ok, Err, option_copied}
+use Rattle.std.specs.Prelude.{ℕ, ◌≡◌, ◌++◌, pos, ◌&&◌, ◌||◌, Bool, true, false, cond, not, List, [], ◌∷◌, Option, Some, None, Result, Ok, Err, option_copied, option_map}
 use Rattle.std.specs.BTreeMap.{is_at}
+use Rattle.std.specs.List.Sorted.{IsStrictlySortedBy}
 use Rattle.std.specs.Ordering.{eq_by_cmp}
 use Rattle.std.specs.Set.{remove_key}
+use Rattle.mb_cache.specs.Entries.{entry_at, has_entry}
 use Rattle.mb_cache.specs.EntryOrder.{entry_cmp}
 use Rattle.mb_cache.specs.declared.entries.Entry.{Entry}
 use Rattle.mb_cache.specs.Finding.{coord_in}
@@ -65,3 +67,23 @@ is_replaced (Some old) new e = not (eq_by_cmp entry_cmp old new) && eq_by_cmp en
 -- entries without one that was added
 abbrev pub taken_back : Bool → Entry → List Entry → List Entry
 taken_back added e es = cond added (remove_key (is_at (entry_cmp e)) es) es
+
+-- entries of a cache after a row was put at a place: that of its expiry is there, and the old one of the place is gone, if there was one
+pub record ReplacesEntry (p : Place) (expires : Option UnixSeconds) (old : Option Entry) (es fs : List Entry) : Type 0 where
+  pub members : (e : Entry) → has_entry fs e ≡ ((eq_by_cmp entry_cmp e (entry_at p (moment_cell expires)) || has_entry es e) && not (is_replaced old (entry_at p (moment_cell expires)) e))
+  pub ordered : IsStrictlySortedBy entry_cmp fs
+
+-- the old entry of a place, by the row that was found there, if one was
+abbrev pub old_entry : Place → Option (List Cell) → Option Entry
+old_entry p row = option_map (λ row. entry_at p (cell_at 4 row)) row
+
+-- what memory has gained and lost where a tile was put, also over a store that tells nothing: then the old entry is that of some row, or of none
+abbrev pub SetsEntry : Option Coord → CacheEntryMeta → List Entry → List Entry → Type 0
+SetsEntry None m es fs = ⊥
+SetsEntry (Some c) m es fs = (row : Option (List Cell)) × ReplacesEntry (place_at c) m.expires (old_entry (place_at c) row) es fs
+
+-- the same where times and a tag were put: nothing where no row was found
+abbrev pub UpdatesEntry : Option Coord → CacheEntryMeta → Bool → List Entry → List Entry → Type 0
+UpdatesEntry None m is es fs = (is ≡ false) × (fs ≡ es)
+UpdatesEntry (Some c) m false es fs = fs ≡ es
+UpdatesEntry (Some c) m true es fs = (row : List Cell) × ReplacesEntry (place_at c) m.expires (old_entry (place_at c) (Some row)) es fs

@@ -1,5 +1,5 @@
 // A cache that borrows its store.
-ghost use Rattle.std.specs.Prelude.{◌≡◌, ◌≢◌, ◌<◌, ◌+◌, ◌-◌, ◌^◌, Err, IfErr, IfOk, None, Ok, OnErr, OnOk, codes, false, length, true};
+ghost use Rattle.std.specs.Prelude.{◌≡◌, ◌≢◌, ◌<◌, ◌+◌, ◌-◌, ◌^◌, Err, IfErr, IfOk, None, Ok, OnErr, OnOk, codes, drop, false, length, true};
 ghost use Rattle.std.specs.Borrow.{sem, RestsIfErr};
 ghost use Rattle.std.specs.List.{take_while};
 ghost use Rattle.mb_cache.specs.Entries.{is_expired_entry};
@@ -8,7 +8,7 @@ ghost use Rattle.mb_cache.specs.Opening.{OpensAs, begun_with, done, open_answer}
 ghost use Rattle.mb_cache.specs.Purging.{expired_rows, without_expired};
 ghost use Rattle.mb_cache.specs.Reading.{IsRead, bytes_of, cached_of};
 ghost use Rattle.mb_cache.specs.Refused.{LeftByOpening};
-ghost use Rattle.mb_cache.specs.Setting.{SetsTile, UpdatesMeta, set_answer};
+ghost use Rattle.mb_cache.specs.Setting.{SetsEntry, SetsTile, UpdatesEntry, UpdatesMeta, set_answer};
 ghost use Rattle.mb_cache.specs.Sizing.{SomeRounds, WithoutRounds, oversize};
 ghost use Rattle.mb_cache.specs.State.{Agrees, without};
 ghost use Rattle.mb_load.specs.Begun.{IsBegun};
@@ -104,6 +104,8 @@ impl<'a, S: TileStore> MbtilesCache<'a, S> {
             (S.told self.old.store.now) (S.told self.new.store.now)) }
         ensures agrees { S.tells self.old.store.now ≡ true →
             Agrees (S.told self.new.store.now) self.new.state }
+        ensures own { OnOk result (SetsEntry (coord_in z x y) meta.entry self.old.state
+            self.new.state) }
         ensures answer { Answers (set_answer z x y) result }
         ensures err { OnErr result (S.told self.new.store.now ≡ S.told self.old.store.now) }
         ensures same { OnErr result (self.new.state ≡ self.old.state) }
@@ -130,6 +132,8 @@ impl<'a, S: TileStore> MbtilesCache<'a, S> {
             (S.told self.old.store.now) (S.told self.new.store.now)) }
         ensures agrees { S.tells self.old.store.now ≡ true →
             Agrees (S.told self.new.store.now) self.new.state }
+        ensures own { IfOk result (λ is. UpdatesEntry (coord_in z x y) meta.entry is
+            self.old.state self.new.state) }
         ensures nowhere { coord_in z x y ≡ None → result ≡ Ok false }
         ensures free { IfErr result (λ e. is_free e ≡ true) }
         ensures err { OnErr result (S.told self.new.store.now ≡ S.told self.old.store.now) }
@@ -155,6 +159,7 @@ impl<'a, S: TileStore> MbtilesCache<'a, S> {
             Agrees (S.told self.new.store.now) self.new.state }
         ensures own { IfOk result (λ count. count ≡
             length (take_while (is_expired_entry now) self.old.state)) }
+        ensures left { IfOk result (λ count. self.new.state ≡ drop count self.old.state) }
         ensures free { IfErr result (λ e. is_free e ≡ true) }
         ensures err { OnErr result (S.told self.new.store.now ≡ S.told self.old.store.now) }
         ensures same { OnErr result (self.new.state ≡ self.old.state) }

@@ -66,6 +66,10 @@ impl<'m> CacheEntryMeta<'m> {
 }
 
 impl Default for CacheEntryMeta<'_> {
+    ghost use Rattle.std.specs.Prelude.{None};
+
+    ghost is_default = { λ m. m ≡ record { fetched = None; expires = None; etag = None } };
+
     fn default() -> Self {
         CacheEntryMeta {
             fetched: None,

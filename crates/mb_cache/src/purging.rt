@@ -1,5 +1,5 @@
 // Throwing tiles out of a cache by age.
-ghost use Rattle.std.specs.Prelude.{◌≡◌, true, IfErr, IfOk, length, OnErr, OnOk};
+ghost use Rattle.std.specs.Prelude.{◌≡◌, true, drop, IfErr, IfOk, length, OnErr, OnOk};
 ghost use Rattle.std.specs.List.{take_while};
 ghost use Rattle.mb_cache.specs.Entries.{is_expired_entry};
 ghost use Rattle.mb_cache.specs.Purging.{expired_rows, without_expired};
@@ -45,6 +45,7 @@ impl CacheState {
         ensures agrees { S.tells store.old ≡ true → Agrees (S.told store.new) self.new }
         ensures own { IfOk result (λ count. count ≡
             length (take_while (is_expired_entry now) self.old)) }
+        ensures left { IfOk result (λ count. self.new ≡ drop count self.old) }
         ensures free { IfErr result (λ e. is_free e ≡ true) }
         ensures err { OnErr result (S.told store.new ≡ S.told store.old) }
         ensures same { OnErr result (self.new ≡ self.old) }

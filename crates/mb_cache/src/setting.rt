@@ -5,7 +5,7 @@ ghost use Rattle.mb_cache.specs.Entries.{entry_at, entry_of, has_entry};
 ghost use Rattle.mb_cache.specs.EntryOrder.{entry_cmp};
 ghost use Rattle.mb_cache.specs.declared.entries.Entry.{Entry};
 ghost use Rattle.mb_cache.specs.Finding.{coord_in};
-ghost use Rattle.mb_cache.specs.Setting.{SetsTile, UpdatesMeta, is_replaced, meta_row, put_row, set_answer, taken_back};
+ghost use Rattle.mb_cache.specs.Setting.{ReplacesEntry, SetsEntry, SetsTile, UpdatesEntry, UpdatesMeta, is_replaced, meta_row, put_row, set_answer, taken_back};
 ghost use Rattle.mb_cache.specs.State.{Agrees, row_at};
 ghost use Rattle.mb_lists.specs.Entries.{place_at};
 ghost use Rattle.mb_loaded.specs.Changing.{tile_key};
@@ -99,6 +99,8 @@ fn put<S: TileStore>(
         OnOk result (Commits (put_row (place_at coord)
         (meta_row (place_at coord) meta.entry contents)) (S.told store.old) (S.told store.new)) }
     ensures agrees { S.tells store.old ≡ true → Agrees (S.told store.new) entries.new.keys }
+    ensures own { OnOk result (ReplacesEntry (place_at coord) meta.entry.expires old
+        entries.old.keys entries.new.keys) }
     ensures err { OnErr result (S.told store.new ≡ S.told store.old) }
     ensures same { OnErr result (entries.new.keys ≡ entries.old.keys) }
     ensures free { IfErr result (λ e. is_free e ≡ true) }
@@ -124,7 +126,7 @@ fn put<S: TileStore>(
 impl CacheState {
     /// Keeps a tile at a zoom, a column from the left and a row from the top: its bytes, and what is kept beside them, in place of what the cache had there. It is one
     /// commit of one row, after one row is read for the old expiry. `InvalidTileIndex` comes exactly where the three are no coordinate of zoom 0 to 30, with these
-    /// numbers. Refused, nothing is changed.
+    /// numbers. Refused, nothing is changed. Memory gains the entry of the new expiry and loses that of the row that was found, also over a store that tells nothing.
     pub fn set_cached<S: TileStore>(
         &mut self,
         store: &mut S,
@@ -139,6 +141,7 @@ impl CacheState {
             OnOk result (SetsTile (coord_in z x y) meta.entry bytes.now (S.told store.old)
             (S.told store.new)) }
         ensures agrees { S.tells store.old ≡ true → Agrees (S.told store.new) self.new }
+        ensures own { OnOk result (SetsEntry (coord_in z x y) meta.entry self.old self.new) }
         ensures answer { Answers (set_answer z x y) result }
         ensures err { OnErr result (S.told store.new ≡ S.told store.old) }
         ensures same { OnErr result (self.new ≡ self.old) }
@@ -177,6 +180,8 @@ impl CacheState {
             IfOk result (λ is. UpdatesMeta (coord_in z x y) meta.entry is (S.told store.old)
             (S.told store.new)) }
         ensures agrees { S.tells store.old ≡ true → Agrees (S.told store.new) self.new }
+        ensures own { IfOk result
+            (λ is. UpdatesEntry (coord_in z x y) meta.entry is self.old self.new) }
         ensures nowhere { coord_in z x y ≡ None → result ≡ Ok false }
         ensures free { IfErr result (λ e. is_free e ≡ true) }
         ensures err { OnErr result (S.told store.new ≡ S.told store.old) }

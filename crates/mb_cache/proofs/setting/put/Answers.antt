@@ -1,6 +1,6 @@
 use Rattle.std.proofs.Common.{◌≡◌, ◌∙◌, ◌&&◌, List, ap, not, subst}
 use Rattle.std.specs.BTreeSet.{insert_key}
-use Rattle.mb_cache.proofs.PutLemmas.{back_as, still_agrees}
+use Rattle.mb_cache.proofs.PutLemmas.{back_as, replaced, still_agrees}
 use Rattle.mb_cache.proofs.StillLemmas.{still}
 use Rattle.mb_cache.specs.Entries.{entry_at, has_entry}
 use Rattle.mb_cache.specs.EntryOrder.{entry_cmp}
@@ -23,6 +23,15 @@ returns-in-Ok-clause-agrees g c t =
     (λ e. c.replace.ensures.members e ∙ ap (λ k. has_entry c.insert.new.self.keys e && not (is_replaced c.args.old k e)) is)
     (c.replace.ensures.ordered c.in_ok-added.ensures.ordered)
     (g.met.S.TileStore.sound c.commit.new.self (c.in-Ok.ensures.kept.tells ∙ t))
+
+pub returns-in-Ok-clause-own : goal.returns-in-Ok-clause-own
+returns-in-Ok-clause-own g c =
+    let p = place_at c.args.coord in
+    let is : c.at-new.result ≡ entry_at p (moment_cell c.args.meta.expires) = c.at-new.ensures ∙ ap (entry_at p) c.expiry_cell.ensures in
+    replaced p c.args.meta.expires c.args.old c.args.entries.now.keys c.insert.new.self.keys c.replace.new.entries.keys
+    (c.in_ok-added.ensures.keys ∙ ap (insert_key entry_cmp c.args.entries.now.keys) is)
+    (λ e. c.replace.ensures.members e ∙ ap (λ k. has_entry c.insert.new.self.keys e && not (is_replaced c.args.old k e)) is)
+    (c.replace.ensures.ordered c.in_ok-added.ensures.ordered)
 
 pub returns-clause-same : goal.returns-clause-same
 returns-clause-same g c = c.take_back.ensures ∙ back_as c.in_ok-added.added c.args.entries.now.keys c.insert.new.self.keys c.at-new.result c.in_ok-added.ensures.added c.in_ok-added.ensures.keys c.in_ok-added.ensures.unchanged

@@ -1,4 +1,4 @@
-use Rattle.std.proofs.Common.{◌≡◌, ◌∙◌, List, ap, length, rules, sym, subst}
+use Rattle.std.proofs.Common.{◌≡◌, ◌∙◌, List, ap, drop, length, rules, sym, subst}
 use Rattle.mb_cache.proofs.PurgeLemmas.{purged_count, purged_same}
 use Rattle.mb_cache.specs.State.{Agrees, without}
 use Rattle.mb_cache.specs.declared.entries.Entry.{Entry}
@@ -16,3 +16,9 @@ returns-clause-purged g c t =
     let old = g.S.TileStore.told c.args.store.now in
     let agrees = subst (λ (es : List Entry). Agrees old es) (sym c.self.view_is) (c.requires t) in
     c.in_ok-evict.ensures.evicted t ∙ (ap (λ (ks : List Entry). without ks old) (c.deref.ensures.value ∙ c.in_ok-expired.ensures) ∙ purged_same c.args.now old c.self.inside.entries.keys agrees (g.met.S.TileStore.sound c.args.store.now t))
+
+pub returns-clause-left : goal.returns-clause-left
+returns-clause-left g c =
+    let count : c.len.result ≡ length c.in_ok-expired.expired.items = search rules in
+    let es = c.self.inside.entries.keys in
+    c.in_ok-evict.ensures.left ∙ (ap (λ (ks : List Entry). drop (length ks) es) c.deref.ensures.value ∙ (ap (λ n. drop n es) (sym count) ∙ ap (drop c.len.result) c.self.view_is))

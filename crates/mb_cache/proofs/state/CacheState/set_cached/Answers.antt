@@ -1,9 +1,11 @@
-use Rattle.std.proofs.Common.{◌≡◌, ◌∙◌, List, ap, sym, true}
-use Rattle.std.specs.Prelude.{option_map}
-use Rattle.mb_cache.proofs.PutLemmas.{found_entry, sets}
+use Rattle.std.proofs.Common.{◌≡◌, ◌∙◌, List, ap, subst, sym, true}
+use Rattle.std.specs.Prelude.{OnOk, option_map}
+use Rattle.mb_cache.proofs.PutLemmas.{found_entry, sets, sets_entry}
 use Rattle.mb_cache.specs.Entries.{entry_at, entry_of}
 use Rattle.mb_cache.specs.Finding.{coord_in}
+use Rattle.mb_cache.specs.Setting.{ReplacesEntry, old_entry}
 use Rattle.mb_cache.specs.State.{row_at}
+use Rattle.mb_cache.specs.declared.entries.Entry.{Entry}
 use Rattle.mb_lists.specs.Entries.{place_at}
 use Rattle.mb_tables.specs.Table.{Tables}
 use Rattle.mb_tables.specs.Tiles.{cell_at}
@@ -24,3 +26,9 @@ returns-clause-set g c t =
     let kept = c.in_ok-found.ensures.kept in
     sets (coord_in c.args.z c.args.x c.args.y) c.in-Some.coord c.args.meta (g.S.TileStore.told c.args.store.now) (g.S.TileStore.told c.find_row.new.store) (g.S.TileStore.told c.put.new.store) c.args.bytes.now c.new.result c.put.result
     (sym c.coord_in.ensures ∙ c.in-Some.is) kept.told (c.new.ensures ∙ c.in_ok-from_slice.ensures.items) (c.put.ensures.put (kept.tells ∙ t))
+
+pub returns-clause-own : goal.returns-clause-own
+returns-clause-own g c =
+    sets_entry (coord_in c.args.z c.args.x c.args.y) c.in-Some.coord c.args.meta c.in_ok-found.found c.entry_of_found-old.result c.args.self.now c.put.new.entries.keys c.put.result
+    (sym c.coord_in.ensures ∙ c.in-Some.is) (c.entry_of_found-old.ensures ∙ ap (old_entry (place_at c.in-Some.coord)) c.as_ref.ensures.value)
+    (subst (λ (es : List Entry). OnOk c.put.result (ReplacesEntry (place_at c.in-Some.coord) c.args.meta.expires c.entry_of_found-old.result es c.put.new.entries.keys)) c.self.view_is c.put.ensures.own)

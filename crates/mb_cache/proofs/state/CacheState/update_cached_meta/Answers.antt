@@ -1,8 +1,11 @@
-use Rattle.std.proofs.Common.{◌≡◌, ◌∙◌, Some, ap, is_some, sym, true}
+use Rattle.std.proofs.Common.{◌≡◌, ◌∙◌, List, Some, ap, is_some, subst, sym, true}
 use Rattle.std.specs.Prelude.{option_map}
-use Rattle.mb_cache.proofs.PutLemmas.{found_contents, found_entry}
+use Rattle.mb_cache.proofs.PutLemmas.{found_contents, found_entry, updates_entry}
 use Rattle.mb_cache.specs.Entries.{entry_of}
+use Rattle.mb_cache.specs.Finding.{coord_in}
+use Rattle.mb_cache.specs.Setting.{ReplacesEntry}
 use Rattle.mb_cache.specs.State.{row_at}
+use Rattle.mb_cache.specs.declared.entries.Entry.{Entry}
 use Rattle.mb_lists.specs.Entries.{place_at}
 use Rattle.mb_tables.specs.Table.{Tables}
 use Rattle.mb_tables.specs.Tiles.{contents_of}
@@ -22,3 +25,9 @@ put-requires-clause-contents g c t =
     let told : g.S.TileStore.tells c.args.store.now ≡ true = sym c.in_ok-found.ensures.kept.tells ∙ t in
     ap (λ x. is_some (contents_of x)) c.contents_of-contents.ensures
     ∙ found_contents (g.S.TileStore.told c.args.store.now) c.args.self.now (c.requires told) (g.met.S.TileStore.sound c.args.store.now told) (place_at c.in-Some.coord) c.in-Some-2.found (sym c.in-Some-2.is ∙ c.in_ok-found.ensures.answer told)
+
+pub returns-clause-own : goal.returns-clause-own
+returns-clause-own g c =
+    updates_entry (coord_in c.args.z c.args.x c.args.y) c.in-Some.coord c.args.meta c.in-Some-2.found c.entry_of_found-old.result c.args.self.now c.put.new.entries.keys
+    (sym c.coord_in.ensures ∙ c.in-Some.is) c.entry_of_found-old.ensures
+    (subst (λ (es : List Entry). ReplacesEntry (place_at c.in-Some.coord) c.args.meta.expires c.entry_of_found-old.result es c.put.new.entries.keys) c.self.view_is c.in_ok-put.ensures.own)
