@@ -1,6 +1,7 @@
 # Rows that read a set of a database, for tools/mbtiles_rows.py, which hands itself in as `rows`. The same statements make the database by Python's sqlite3, which answers what it holds; what becomes of
 # that is worked out here by the rules of crates/mb_reading/README.md.
 import random
+import re
 import sqlite3
 
 from held_sets import say_rows
@@ -10,8 +11,9 @@ from set_rows import KEYS, TABLES
 PLACE = ('zoom_level', 'tile_column', 'tile_row')
 COLUMNS = {'tiles': (*PLACE, 'tile_data'), 'tiles_with_hash': (*PLACE, 'tile_data', 'tile_hash'), 'map': (*PLACE, 'tile_id'), 'images': ('tile_id', 'tile_data'),
            'tiles_shallow': (*PLACE, 'tile_data_id'), 'tiles_data': ('tile_data_id', 'tile_data'), 'metadata': ('name', 'value', 'CAST(value AS TEXT)')}
-# the layouts that are read in tables of their own, the first that is there
-LAYOUTS = (('images', 'map'), ('tiles_data', 'tiles_shallow'), ('tiles_with_hash',), ('tiles',))
+# the layouts that have tables of their own, the first that is there
+LAYOUTS = (('images', 'map'), ('tiles_data', 'tiles_shallow'), ('tiles_with_hash',))
+LINKS = {'map': 'tile_id', 'tiles_shallow': 'tile_data_id'}
 
 
 class Odd(Exception):
@@ -89,6 +91,68 @@ def cells(table, row):
     return None if place is None else place + own
 
 
+def words_of(text):
+    """The words and signs of a text of SQL, names without their quotes and in lower case."""
+    return [next(filter(None, found)).lower() for found in re.findall(r'"([^"]*)"|`([^`]*)`|\[([^\]]*)\]|(\w+|[^\w\s])', text)]
+
+
+def split_at(words, sign):
+    parts = [[]]
+    for word in words:
+        parts.append([]) if word == sign else parts[-1].append(word)
+    return parts
+
+
+def is_shown(words, table, column):
+    """Whether a column is shown under its own name: of its table or of none, AS that name or without it."""
+    if words[1:2] == ['.']:
+        if words[0] != table:
+            return False
+        words = words[2:]
+    return words in ([column], [column, 'as', column], [column, column])
+
+
+def has_tiles_of(text, layout):
+    """Whether a text makes a view that has exactly the tiles of a layout's tables."""
+    words = words_of(text)
+    if words[:2] != ['create', 'view'] or words[3:5] != ['as', 'select'] or words.count('from') != 1:
+        return False
+    at = words.index('from')
+    columns, sources = split_at(words[5:at], ','), [word for word in words[at + 1:] if word != 'inner']
+    contents, places = layout[0], layout[-1]
+    wanted = [(places, column) for column in PLACE] + [(contents, 'tile_data')]
+    if len(columns) != 4 or not all(any(is_shown(column, *one) for column in columns) for one in wanted):
+        return False
+    if len(layout) == 1:
+        return sources == list(layout)
+    if sources[1:2] != ['join'] or sorted((sources[0], sources[2])) != sorted(layout):
+        return False
+    link, how = LINKS[places], [word for word in sources[3:] if word not in '()']
+    return how in (['using', link], *(['on', a, '.', link, '=', b, '.', link] for a, b in ((places, contents), (contents, places))))
+
+
+def said_place(kind, value):
+    return {'null': 'NULL', 'text': 'a text', 'blob': 'bytes'}.get(kind) or str(value)
+
+
+class Left:
+    """How many rows are left out: of tiles without a number, too deep and outside the grid, of the metadata without a text and of a name that stood before; and the place of the first tile."""
+
+    def __init__(self):
+        self.counts, self.first = [0, 0, 0, 0, 0], None
+
+    def add(self, table, row):
+        if table == 'metadata':
+            self.counts[3] += 1
+            return
+        place = [whole(*cell) for cell in row[:3]]
+        self.counts[0 if None in place else 1 if place[0] > 30 else 2] += 1
+        self.first = self.first or ','.join(said_place(*cell) for cell in row[:3])
+
+    def words(self):
+        return f" left {' '.join(map(str, self.counts))} {self.first or 'none'}" if any(self.counts) else ''
+
+
 class File:
     """A database that statements make."""
 
@@ -97,7 +161,9 @@ class File:
         self.base.text_factory = bytes
         for statement in statements:
             self.base.execute(statement)
-        self.kinds = {name.decode().lower(): kind for kind, name in self.base.execute("SELECT type, name FROM sqlite_master WHERE type IN ('table', 'view')")}
+        listed = self.base.execute("SELECT type, name, sql FROM sqlite_master WHERE type IN ('table', 'view')").fetchall()
+        self.kinds = {name.decode().lower(): kind for kind, name, _ in listed}
+        self.texts = {name.decode().lower(): text.decode() for _, name, text in listed}
 
     def has(self, table):
         return self.kinds.get(table) == b'table'
@@ -120,36 +186,46 @@ class File:
         for row in answers:
             found = cells(table, row)
             if found is None:
+                self.left.add(table, row)
                 continue
             key = tuple(found[:KEYS[table]])
             if 'n' in key:
                 kept[key + (len(kept),)] = found
             elif key not in kept:
                 kept[key] = found
-            elif table != 'metadata' and (table != 'tiles' or kept[key] != found):
+            elif table == 'metadata':
+                self.left.counts[4] += 1
+            elif table != 'tiles' or kept[key] != found:
                 raise Odd('Twice')
         if answers and not kept and table not in ('metadata', 'images', 'tiles_data'):
             raise ValueError('OutsideGrid')
         return sorted(kept.values(), key=lambda row: [order(cell) for cell in row[:KEYS[table]]])
 
     def tables(self, layout):
+        self.left = Left()
         names = {'metadata': self.filled('metadata')} if 'metadata' in self.kinds else {}
         return {**names, **{table: self.filled(table) for table in layout}}
 
+    def layout(self):
+        """The tables that are read first, None where it is no set."""
+        named = next((layout for layout in LAYOUTS if all(map(self.has, layout))), None)
+        if 'tiles' not in self.kinds:
+            return named
+        return named if named and not self.has('tiles') and has_tiles_of(self.texts['tiles'], named) else ('tiles',)
+
     def read(self):
         """The refusal or `ok`, and the tables."""
-        if 'tiles' not in self.kinds:
-            return 'NotASet', None
-        layout = next((layout for layout in LAYOUTS if all(map(self.has, layout))), ('tiles',))
-        for tables in (layout, ('tiles',)):
+        layout = self.layout()
+        for tables in (layout, ('tiles',)) if 'tiles' in self.kinds else (layout,) if layout else ():
             try:
-                return 'ok', self.tables(tables)
+                read = self.tables(tables)
+                return 'ok' + self.left.words(), read
             except Odd as refusal:
                 if tables == ('tiles',):
                     return f'{refusal} tiles', None
             except ValueError as refusal:
                 return str(refusal), None
-        raise AssertionError
+        return 'NotASet', None
 
 
 def case(rows, *statements):
@@ -264,6 +340,60 @@ def name_cases(rows):
     case(rows, FLAT, 'CREATE TABLE metadata (id INTEGER, value TEXT, name TEXT)', put('metadata', ('1', "'a'", "'name'")))
 
 
+def view_cases(rows):
+    hello, other = "x'68656c6c6f'", "x'30'"
+    tiles = put('tiles', ('1', '0', '1', hello), ('0', '0', '0', other))
+    # a table of the name is the set, whatever stands beside it
+    for beside in ((HASHED,), (MAP, IMAGES), (SHALLOW, DATA)):
+        case(rows, FLAT, *beside, tiles)
+    case(rows, FLAT, HASHED, tiles, put('tiles_with_hash', ('2', '0', '1', hello, said(hello))))
+    # a view over another table, beside the empty ones of a layout
+    others = ('CREATE TABLE others (a, b, c, d)', 'CREATE VIEW tiles AS SELECT a AS zoom_level, b AS tile_column, c AS tile_row, d AS tile_data FROM others', put('others', ('1', '0', '1', hello)))
+    for beside in ((HASHED,), (MAP, IMAGES), (SHALLOW, DATA)):
+        case(rows, *beside, *others)
+    # the tables of a layout without the name
+    case(rows, SHALLOW, DATA, put('tiles_data', ('1', hello)), put('tiles_shallow', ('1', '0', '1', '1')))
+    case(rows, HASHED, put('tiles_with_hash', ('1', '0', '1', hello, "'none'")))
+    case(rows, CACHE)
+    case(rows, MAP, put('map', ('1', '0', '1', said(hello))))
+    # views over the tables of a layout: those that have exactly its tiles, and those that don't
+    kept = put('images', (said(hello), hello), (said(other), other))
+    places = put('map', ('1', '0', '1', said(hello)), ('3', '0', '1', said(other)), ('2', '1', '3', said(other)))
+    columns = 'map.zoom_level, map.tile_column, map.tile_row, images.tile_data'
+    named = 'map.zoom_level AS zoom_level, map.tile_column AS tile_column, map.tile_row AS tile_row, images.tile_data AS tile_data'
+    linked = 'ON images.tile_id = map.tile_id'
+    for text in (f'SELECT {columns} FROM map JOIN images {linked}', f'SELECT {named} FROM images JOIN map {linked}', f'SELECT {columns} FROM map INNER JOIN images ON map.tile_id = images.tile_id',
+                 f'SELECT {columns} FROM map JOIN images USING (tile_id)', f'SELECT {columns} FROM images JOIN map USING ("TILE_ID")',
+                 f'SELECT tile_data, tile_row, tile_column, zoom_level FROM Map JOIN "images" {linked}', f'select MAP.ZOOM_LEVEL zoom_level, [tile_column], `tile_row`, Images.tile_data as tile_data from map join images on (images.tile_id = map.tile_id)',
+                 f'SELECT {named} FROM map JOIN images {linked} WHERE zoom_level < 3', f'SELECT {columns} FROM map JOIN images {linked} WHERE 1', f'SELECT DISTINCT {columns} FROM map JOIN images {linked}',
+                 f'SELECT {columns} FROM map JOIN images {linked} LIMIT 1', f'SELECT {columns} FROM map JOIN images {linked} ORDER BY map.zoom_level', f'SELECT {columns} FROM map JOIN images {linked} GROUP BY map.zoom_level',
+                 f'SELECT {columns} FROM map LEFT JOIN images {linked}', f'SELECT {columns} FROM map JOIN images ON images.tile_id = map.tile_id AND map.zoom_level < 3', f'SELECT {columns} FROM map, images WHERE images.tile_id = map.tile_id',
+                 'SELECT map.zoom_level, map.tile_column, (1 << map.zoom_level) - 1 - map.tile_row AS tile_row, images.tile_data FROM map JOIN images USING (tile_id)',
+                 'SELECT map.zoom_level, map.tile_row AS tile_column, map.tile_column AS tile_row, images.tile_data FROM map JOIN images USING (tile_id)',
+                 f'SELECT {columns}, map.tile_id FROM map JOIN images {linked}', f'SELECT m.zoom_level, m.tile_column, m.tile_row, i.tile_data FROM map m JOIN images i ON i.tile_id = m.tile_id',
+                 f'SELECT {columns} FROM map JOIN images {linked} UNION ALL SELECT 4, 0, 0, images.tile_data FROM images'):
+        case(rows, MAP, IMAGES, f'CREATE VIEW tiles AS {text}', kept, places)
+    case(rows, MAP, IMAGES, f'CREATE VIEW IF NOT EXISTS "Tiles" AS SELECT {named} FROM map JOIN images {linked}', kept, places)
+    case(rows, MAP, IMAGES, f'CREATE VIEW tiles (zoom_level, tile_row, tile_column, tile_data) AS SELECT {columns} FROM map JOIN images {linked}', kept, places)
+    case(rows, MAP, IMAGES, SHALLOW, DATA, OF_SHALLOW, kept, places, put('tiles_data', ('1', hello)), put('tiles_shallow', ('1', '0', '1', '1')))
+    contents, shallow = put('tiles_data', ('1', hello), ('2', other)), put('tiles_shallow', ('1', '0', '1', '1'), ('3', '0', '1', '2'))
+    columns = 'tiles_shallow.zoom_level, tiles_shallow.tile_column, tiles_shallow.tile_row, tiles_data.tile_data'
+    for text in (f'select {columns} from tiles_shallow join tiles_data on tiles_shallow.tile_data_id = tiles_data.tile_data_id', f'SELECT {columns} FROM tiles_shallow JOIN tiles_data USING (tile_data_id)',
+                 f'SELECT {columns} FROM tiles_shallow JOIN tiles_data USING (tile_data_id) WHERE zoom_level < 3'):
+        case(rows, SHALLOW, DATA, f'CREATE VIEW tiles AS {text}', contents, shallow)
+    hashed = put('tiles_with_hash', ('1', '0', '1', hello, said(hello)), ('3', '0', '1', other, said(other)))
+    for text in ('SELECT tiles_with_hash.zoom_level, tile_column AS tile_column, tile_row, tile_data FROM tiles_with_hash', 'SELECT zoom_level, tile_column, tile_row, tile_data FROM tiles_with_hash WHERE zoom_level < 3',
+                 'SELECT zoom_level, tile_column, (1 << zoom_level) - 1 - tile_row AS tile_row, tile_data FROM tiles_with_hash', 'SELECT * FROM tiles_with_hash'):
+        case(rows, HASHED, f'CREATE VIEW tiles AS {text}', hashed)
+
+
+def test_cases(rows):
+    # two contents of one length and first byte at one place; a number that stands behind one that is right
+    case(rows, FLAT, put('tiles', ('1', '0', '1', "x'30313233'"), ('1', '0', '1', "x'30313234'")))
+    case(rows, LOOSE, put('tiles', ('1', '0', '1', "x'30'"), ('1', '1', '1', '0')))
+    case(rows, LOOSE, put('tiles', ('1', '0', '1', "x'30'"), ('31', '1', '1', '7')))
+
+
 def random_cases(rows):
     rng = random.Random(20)
     places = [(z, x, y) for z in (0, 1, 2) for x in range(2 ** z) for y in range(2 ** z)]
@@ -287,6 +417,8 @@ def write(rows):
     normalized_cases(rows)
     other_cases(rows)
     name_cases(rows)
+    view_cases(rows)
+    test_cases(rows)
     random_cases(rows)
     for line in ('reading', 'reading CREATE~NOTHING'):
         rows.refused(line)

@@ -2,7 +2,6 @@
 use Rattle.std.proofs.Common.{◌≡◌, Bool, true, false, ◌&&◌, List, [], ◌∷◌, ◌++◌, Option, Some, None, MatchBool, is_some, ap, refl, subst, sym, ◌∙◌}
 use Rattle.std.proofs.lemmas.List.Sums.{fold_push}
 use Rattle.mb_store.specs.MemStore.{told_of}
-use Rattle.mb_store.specs.Store.{no_rows}
 use Rattle.mb_tables.specs.Described.{is_table}
 use Rattle.mb_tables.specs.Kind.{tile_table}
 use Rattle.mb_tables.specs.Schema.{set_tables}
@@ -15,17 +14,20 @@ use Rattle.mb_tables.specs.declared.table.TableName.{TableName}
 use Rattle.mb_tables.specs.declared.table.TableName.TheVariants.{Metadata}
 use Rattle.sqlite_value.specs.Order.{Row}
 use Rattle.mb_reading.specs.declared.error.ReadError.{ReadError}
+use Rattle.mb_reading.specs.LeftOut.{counted}
 use Rattle.mb_reading.specs.declared.filling.Filling.{Filling}
-use Rattle.mb_reading.specs.Filling.{Fits, HasTaken, IsFilled, IsFull, IsOdd, IsRead, IsSet, Misfits, Takes, content_table, filled, fits, fits_one, has_contents, may_lack, taken}
+use Rattle.mb_reading.specs.declared.filling.Step.{Step}
+use Rattle.mb_reading.specs.declared.set_read.SetRead.{SetRead}
+use Rattle.mb_reading.specs.Filling.{Read, Fits, HasTaken, IsFilled, IsFull, IsOdd, IsRead, IsSet, Misfits, Takes, content_table, filled, fits, fits_one, has_contents, may_lack, noted, read_of, read_on, start, step_of, taken}
 use Rattle.mb_reading.specs.Rows.{row_in}
 
-pub filled_by : (has : Bool) (table : TableName) (old new : Tables) (answers : List Row) → has ≡ true → new ≡ filled table old answers → IsFilled has table old new
+pub filled_by : (has : Bool) (table : TableName) (old new : Read) (answers : List Row) → has ≡ true → new ≡ read_on table old answers → IsFilled has table old new
 unfolding IsFilled
-filled_by has table old new answers is fills = subst (λ b. MatchBool b ((answers : List Row) × (new ≡ filled table old answers)) (new ≡ old)) (sym is) (answers, fills)
+filled_by has table old new answers is fills = subst (λ b. MatchBool b ((answers : List Row) × (new ≡ read_on table old answers)) (new ≡ old)) (sym is) (answers, fills)
 
-pub filled_not : (has : Bool) (table : TableName) (t : Tables) → has ≡ false → IsFilled has table t t
+pub filled_not : (has : Bool) (table : TableName) (t : Read) → has ≡ false → IsFilled has table t t
 unfolding IsFilled
-filled_not has table t isnt = subst (λ b. MatchBool b ((answers : List Row) × (t ≡ filled table t answers)) (t ≡ t)) (sym isnt) refl
+filled_not has table t isnt = subst (λ b. MatchBool b ((answers : List Row) × (t ≡ read_on table t answers)) (t ≡ t)) (sym isnt) refl
 
 -- the tables that a layout has
 pub has_names_table : (ds : List TableDesc) (layout : MbtType) → ds ≡ set_tables layout → is_table ds Metadata ≡ true
@@ -57,7 +59,7 @@ pub has_tile_table : (ds : List TableDesc) (layout : MbtType) (table : TableName
 has_tile_table ds layout table is named = subst (λ ds. is_table ds table ≡ true) (sym is) (subst (λ t. is_table (set_tables layout) t ≡ true) (sym named) (tile_of layout))
 
 -- the metadata, the contents and the tiles of a layout
-pub is_read : (layout : MbtType) (has_names has : Bool) (contents tiles : TableName) (none names more all : Tables) → none ≡ no_rows (set_tables layout) → has ≡ has_contents layout → contents ≡ content_table layout → tiles ≡ tile_table layout
+pub is_read : (layout : MbtType) (has_names has : Bool) (contents tiles : TableName) (none names more all : Read) → none ≡ start layout → has ≡ has_contents layout → contents ≡ content_table layout → tiles ≡ tile_table layout
     → IsFilled has_names Metadata none names → IsFilled has contents names more → IsFilled true tiles more all → IsRead layout all
 unfolding IsRead
 is_read layout has_names has contents tiles none names more all empty same is last one two three = (
@@ -69,7 +71,7 @@ is_read layout has_names has contents tiles none names more all empty same is la
   subst (λ table. IsFilled true table more all) last three,
 )
 
-pub is_set : (layout : MbtType) (t : Tables) → IsRead layout t → IsSet t
+pub is_set : (layout : MbtType) (t : Read) → IsRead layout t → IsSet t
 unfolding IsSet
 is_set layout t read = (layout, read)
 
@@ -96,36 +98,50 @@ fits_push table t [] answer = and_true (fits_one table t (row_in table answer))
 fits_push table t (r ∷ answers) answer = ap (λ b. fits_one table t (row_in table r) && b) (fits_push table (taken table t r) answers answer)
     ∙ and_assoc (fits_one table t (row_in table r)) (fits table (taken table t r) answers) (fits_one table (filled table (taken table t r) answers) (row_in table answer))
 
+-- the tables of what is read are filled
+read_tables : (table : TableName) (x : Read) (answers : List Row) → (read_on table x answers).0 ≡ filled table x.0 answers
+read_tables table x [] = refl
+read_tables table x (r ∷ answers) = read_tables table (noted table x r) answers
+
+-- what is read with one more answer
+pub noted_by : (table : TableName) (answer : Row) (old new : SetRead) (step : Step) → told_of new.store ≡ taken table (told_of old.store) answer → step ≡ step_of table (told_of old.store) answer
+    → new.left_out ≡ counted table answer step old.left_out → read_of new ≡ noted table (read_of old) answer
+noted_by table answer old new step took is counts =
+    ap (λ t. (t, new.left_out)) took ∙ ap (λ l. (taken table (told_of old.store) answer, l)) (counts ∙ ap (λ s. counted table answer s old.left_out) is)
+
 module _ (table : TableName) (answer : Row) (old new : Filling) where
   pub takes_over : (e : ReadError) → old.refused ≡ Some e → new.refused ≡ old.refused → Takes table answer old new
   unfolding HasTaken
-  takes_over e was is t answers h =
-      let odd : Misfits table t answers = rw was at h in
-      rw (is, was) (λ may. fits_push table t answers answer ∙ ap (λ b. b && fits_one table (filled table t answers) (row_in table answer)) (odd may))
+  takes_over e was is x answers h =
+      let odd : Misfits table x.0 answers = rw was at h in
+      rw (is, was) (λ may. fits_push table x.0 answers answer ∙ ap (λ b. b && fits_one table (filled table x.0 answers) (row_in table answer)) (odd may))
 
-  pub takes_row : old.refused ≡ None → new.refused ≡ None → told_of new.store ≡ taken table (told_of old.store) answer
-      → (may_lack table ≡ true → fits_one table (told_of old.store) (row_in table answer) ≡ true) → Takes table answer old new
+  told_before : (x : Read) (answers : List Row) → read_of old.so_far ≡ read_on table x answers → told_of old.so_far.store ≡ filled table x.0 answers
+  told_before x answers e = ap (λ (y : Read). y.0) e ∙ read_tables table x answers
+
+  pub takes_row : old.refused ≡ None → new.refused ≡ None → read_of new.so_far ≡ noted table (read_of old.so_far) answer
+      → (may_lack table ≡ true → fits_one table (told_of old.so_far.store) (row_in table answer) ≡ true) → Takes table answer old new
   unfolding HasTaken
-  takes_row was is took fit t answers h =
-      let before : (told_of old.store ≡ filled table t answers) × Fits table t answers = rw was at h in
+  takes_row was is took fit x answers h =
+      let before : (read_of old.so_far ≡ read_on table x answers) × Fits table x.0 answers = rw was at h in
       rw is (
-        took ∙ ap (λ u. taken table u answer) before.0 ∙ sym (fold_push (taken table) t answers answer),
-        λ may. fits_push table t answers answer ∙ ap (λ b. b && fits_one table (filled table t answers) (row_in table answer)) (before.1 may)
-            ∙ ap (λ u. fits_one table u (row_in table answer)) (sym before.0) ∙ fit may,
+        took ∙ ap (λ u. noted table u answer) before.0 ∙ sym (fold_push (noted table) x answers answer),
+        λ may. fits_push table x.0 answers answer ∙ ap (λ b. b && fits_one table (filled table x.0 answers) (row_in table answer)) (before.1 may)
+            ∙ ap (λ u. fits_one table u (row_in table answer)) (sym (told_before x answers before.0)) ∙ fit may,
       )
 
-  pub takes_odd : (e : ReadError) → old.refused ≡ None → new.refused ≡ Some e → (may_lack table ≡ true → fits_one table (told_of old.store) (row_in table answer) ≡ false) → Takes table answer old new
+  pub takes_odd : (e : ReadError) → old.refused ≡ None → new.refused ≡ Some e → (may_lack table ≡ true → fits_one table (told_of old.so_far.store) (row_in table answer) ≡ false) → Takes table answer old new
   unfolding HasTaken
-  takes_odd e was is odd t answers h =
-      let before : (told_of old.store ≡ filled table t answers) × Fits table t answers = rw was at h in
-      rw is (λ may. fits_push table t answers answer ∙ ap (λ b. b && fits_one table (filled table t answers) (row_in table answer)) (before.1 may)
-      ∙ ap (λ u. fits_one table u (row_in table answer)) (sym before.0) ∙ odd may)
+  takes_odd e was is odd x answers h =
+      let before : (read_of old.so_far ≡ read_on table x answers) × Fits table x.0 answers = rw was at h in
+      rw is (λ may. fits_push table x.0 answers answer ∙ ap (λ b. b && fits_one table (filled table x.0 answers) (row_in table answer)) (before.1 may)
+      ∙ ap (λ u. fits_one table u (row_in table answer)) (sym (told_before x answers before.0)) ∙ odd may)
 
 module _ (table : TableName) (f : Filling) where
-  pub full_store : f.refused ≡ None → IsFull table f f.store
+  pub full_store : f.refused ≡ None → IsFull table f f.so_far
   unfolding HasTaken
-  full_store is t answers h = rw is at h
+  full_store is x answers h = rw is at h
 
   pub odd_answers : (e : ReadError) → f.refused ≡ Some e → may_lack table ≡ true → IsOdd table f
   unfolding HasTaken
-  odd_answers e is may t answers h = (may, (rw is at h) may)
+  odd_answers e is may x answers h = (may, (rw is at h) may)

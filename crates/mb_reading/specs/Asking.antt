@@ -10,15 +10,12 @@ use Rattle.sqlite.specs.declared.error.Error.TheVariants.{SqlInputError}
 use Rattle.sqlite_resolve.specs.declared.compiled.Compiled.{Compiled}
 use Rattle.sqlite_resolve.specs.declared.error.CompileError.{CompileError}
 use Rattle.sqlite_value.specs.Order.{Row}
-use Rattle.mb_store.specs.Store.{no_rows}
 use Rattle.mb_tables.specs.Kind.{tile_table}
-use Rattle.mb_tables.specs.Schema.{set_tables}
-use Rattle.mb_tables.specs.Table.{Tables}
 use Rattle.mb_tables.specs.declared.kind.MbtType.{MbtType}
 use Rattle.mb_tables.specs.declared.kind.MbtType.TheVariants.{Flat}
 use Rattle.mb_tables.specs.declared.table.TableName.{TableName}
 use Rattle.mb_tables.specs.declared.table.TableName.TheVariants.{Metadata, Tiles}
-use Rattle.mb_reading.specs.Filling.{Fits, content_table, filled, fits, has_contents, may_lack}
+use Rattle.mb_reading.specs.Filling.{Fits, Read, content_table, fits, has_contents, may_lack, read_on, start}
 use Rattle.mb_reading.specs.Master.{first_layout, is_there}
 use Rattle.mb_reading.specs.Texts.{master_text, rows_text}
 
@@ -49,37 +46,37 @@ is_input (SqlInputError fault) = true
 is_input _ = false
 
 -- a table is filled with the rows that the database shows to its statement; or it isn't asked for
-unfoldable pub ReadsTable : Bool → TableName → State → Tables → Tables → Type 0
-ReadsTable has table s t u = MatchBool has ((rows : List Row) × Shows (rows_text table) s rows × (u ≡ filled table t rows) × Fits table t rows) (u ≡ t)
+unfoldable pub ReadsTable : Bool → TableName → State → Read → Read → Type 0
+ReadsTable has table s t u = MatchBool has ((rows : List Row) × Shows (rows_text table) s rows × (u ≡ read_on table t rows) × Fits table t.0 rows) (u ≡ t)
 
 -- a table is none of its layout: its statement isn't understood, or an answer has a value that no set has there, or a key twice
-unfoldable pub IsUnfit : Bool → TableName → State → Tables → Type 0
+unfoldable pub IsUnfit : Bool → TableName → State → Read → Type 0
 IsUnfit has table s t =
     (has ≡ true) × (may_lack table ≡ true)
-    × (((fault : CompileError) × (understood s.now.schema (rows_text table) ≡ Err fault)) ⊎ ((rows : List Row) × Shows (rows_text table) s rows × (fits table t rows ≡ false)))
+    × (((fault : CompileError) × (understood s.now.schema (rows_text table) ≡ Err fault)) ⊎ ((rows : List Row) × Shows (rows_text table) s rows × (fits table t.0 rows ≡ false)))
 
 -- the metadata, if there is one, the contents, if the layout has a table of them, and the tiles are read
-unfoldable pub ReadsLayout : MbtType → Bool → State → Tables → Type 0
+unfoldable pub ReadsLayout : MbtType → Bool → State → Read → Type 0
 ReadsLayout layout has_names s t =
-    (names : Tables) × (contents : Tables) × ReadsTable has_names Metadata s (no_rows (set_tables layout)) names
+    (names : Read) × (contents : Read) × ReadsTable has_names Metadata s (start layout) names
     × ReadsTable (has_contents layout) (content_table layout) s names contents × ReadsTable true (tile_table layout) s contents t
 
 -- the table of contents, or that of tiles, is none of the layout
 unfoldable pub LacksLayout : MbtType → Bool → State → Type 0
 LacksLayout layout has_names s =
-    (names : Tables) × ReadsTable has_names Metadata s (no_rows (set_tables layout)) names
+    (names : Read) × ReadsTable has_names Metadata s (start layout) names
     × (IsUnfit (has_contents layout) (content_table layout) s names
-    ⊎ ((contents : Tables) × ReadsTable (has_contents layout) (content_table layout) s names contents × IsUnfit true (tile_table layout) s contents))
+    ⊎ ((contents : Read) × ReadsTable (has_contents layout) (content_table layout) s names contents × IsUnfit true (tile_table layout) s contents))
 
 -- a set is read in a layout, or flat where a table is none of that layout
-unfoldable pub ReadsEither : MbtType → Bool → State → Tables → Type 0
+unfoldable pub ReadsEither : MbtType → Bool → State → Read → Type 0
 ReadsEither layout has_names s t = ReadsLayout layout has_names s t ⊎ LacksLayout layout has_names s × ReadsLayout Flat has_names s t
 
 -- a set is read in a layout, and where something is named `tiles` it may be read flat instead
-abbrev pub ReadsBy : Bool → MbtType → Bool → State → Tables → Type 0
+abbrev pub ReadsBy : Bool → MbtType → Bool → State → Read → Type 0
 ReadsBy has_tiles layout has_names s t = MatchBool has_tiles (ReadsEither layout has_names s t) (ReadsLayout layout has_names s t)
 
 -- a set is read in the layout that its tables and its view `tiles` tell, or flat through that view
-unfoldable pub ReadsSet : State → Tables → Type 0
+unfoldable pub ReadsSet : State → Read → Type 0
 ReadsSet s t =
     (master : List Row) × (layout : MbtType) × Shows master_text s master × (first_layout master ≡ Some layout) × ReadsBy (is_there master Tiles) layout (is_there master Metadata) s t

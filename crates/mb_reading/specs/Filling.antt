@@ -1,5 +1,5 @@
 -- What answers of a file leave in a store.
-use Rattle.std.specs.Prelude.{◌≡◌, Bool, true, false, not, ◌&&◌, ◌++◌, cond, List, [], ◌∷◌, Option, Some, None, fold, MatchBool, MatchOption}
+use Rattle.std.specs.Prelude.{◌≡◌, pos, int_lt, Bool, true, false, not, ◌&&◌, ◌++◌, cond, List, [], ◌∷◌, Option, Some, None, fold, MatchBool, MatchOption}
 use Rattle.mb_store.specs.MemStore.{IsSteady, faults_of, told_of}
 use Rattle.mb_store.specs.Store.{is_duplicate, no_rows, with_row}
 use Rattle.mb_store.specs.declared.mem_store.MemStore.{MemStore}
@@ -7,15 +7,19 @@ use Rattle.mb_tables.specs.Kind.{contents_of, tile_table}
 use Rattle.mb_tables.specs.Schema.{set_tables}
 use Rattle.mb_tables.specs.Table.{Tables}
 use Rattle.mb_tables.specs.declared.cell.Cell.{Cell}
+use Rattle.mb_tables.specs.declared.cell.Cell.TheVariants.{Int}
 use Rattle.mb_tables.specs.declared.kind.MbtType.{MbtType}
 use Rattle.mb_tables.specs.declared.kind.MbtType.TheVariants.{Normalized}
 use Rattle.mb_tables.specs.declared.table.TableName.{TableName}
 use Rattle.mb_tables.specs.declared.table.TableName.TheVariants.{Images, Metadata, Tiles}
 use Rattle.mb_reading.specs.declared.filling.Filling.{Filling}
 use Rattle.mb_reading.specs.declared.filling.Step.{Step}
-use Rattle.mb_reading.specs.declared.filling.Step.TheVariants.{Added, Outside}
+use Rattle.mb_reading.specs.declared.filling.Step.TheVariants.{Added, NoNumber, TooDeep, Outside, Repeated, Odd}
 use Rattle.sqlite_value.specs.Order.{Row}
+use Rattle.mb_reading.specs.LeftOut.{counted, nothing_left}
 use Rattle.mb_reading.specs.Rows.{is_placed, row_in}
+use Rattle.mb_reading.specs.declared.left_out.LeftOut.{LeftOut}
+use Rattle.mb_reading.specs.declared.set_read.SetRead.{SetRead}
 
 -- no call of a store failed, and none is to fail
 pub record NeverFails (s : MemStore) : Type 0 where
@@ -37,6 +41,37 @@ taken table t answer = with_read table t (row_in table answer)
 -- with the rows of answers, the first of each key
 abbrev pub filled : TableName → Tables → List Row → Tables
 filled table t answers = fold (taken table) t answers
+
+-- what becomes of a row without a place of zoom 0 to 30
+abbrev pub misplaced : List Cell → Step
+misplaced (Int zoom ∷ Int column ∷ Int row ∷ more) = cond (int_lt zoom (pos 31)) Outside TooDeep
+misplaced _ = NoNumber
+
+-- what becomes of the row of an answer
+abbrev pub step_by : TableName → Tables → Option (List Cell) → Step
+step_by table t None = Odd
+step_by table t (Some row) = cond (is_placed table row) (cond (is_duplicate t table row) Repeated Added) (misplaced row)
+
+abbrev pub step_of : TableName → Tables → Row → Step
+step_of table t answer = step_by table t (row_in table answer)
+
+-- tables that are read, and what is left out of them
+abbrev pub Read : Type 0
+Read = Tables × LeftOut
+
+abbrev pub read_of : SetRead → Read
+read_of r = (told_of r.store, r.left_out)
+
+-- before the first answer
+abbrev pub start : MbtType → Read
+start layout = (no_rows (set_tables layout), nothing_left)
+
+-- with an answer, and with all answers
+abbrev pub noted : TableName → Read → Row → Read
+noted table x answer = (taken table x.0 answer, counted table answer (step_of table x.0 answer) x.1)
+
+abbrev pub read_on : TableName → Read → List Row → Read
+read_on table x answers = fold (noted table) x answers
 
 -- the tables of whose own layout a set may be none: `tiles` is read of any set, and a row of the metadata may be left out
 abbrev pub may_lack : TableName → Bool
@@ -63,30 +98,32 @@ abbrev pub Misfits : TableName → Tables → List Row → Type 0
 Misfits table t answers = may_lack table ≡ true → fits table t answers ≡ false
 
 -- the answers were taken one after another: their rows are in the store, or one of them was refused
-unfoldable pub HasTaken : TableName → Tables → List Row → Filling → Type 0
-HasTaken table t answers f = MatchOption f.refused ((told_of f.store ≡ filled table t answers) × Fits table t answers) (λ _. Misfits table t answers)
+unfoldable pub HasTaken : TableName → Read → List Row → Filling → Type 0
+HasTaken table x answers f = MatchOption f.refused ((read_of f.so_far ≡ read_on table x answers) × Fits table x.0 answers) (λ _. Misfits table x.0 answers)
 
 -- one more answer is taken
 abbrev pub Takes : TableName → Row → Filling → Filling → Type 0
-Takes table answer old new = (t : Tables) (answers : List Row) → HasTaken table t answers old → HasTaken table t (answers ++ answer ∷ []) new
+Takes table answer old new = (x : Read) (answers : List Row) → HasTaken table x answers old → HasTaken table x (answers ++ answer ∷ []) new
 
 -- a store has the rows of all answers that were taken
-abbrev pub IsFull : TableName → Filling → MemStore → Type 0
-IsFull table f s = (t : Tables) (answers : List Row) → HasTaken table t answers f → (told_of s ≡ filled table t answers) × Fits table t answers
+abbrev pub IsFull : TableName → Filling → SetRead → Type 0
+IsFull table f s = (x : Read) (answers : List Row) → HasTaken table x answers f → (read_of s ≡ read_on table x answers) × Fits table x.0 answers
 
 -- the answers that were taken aren't those of a table that a set may lack
 abbrev pub IsOdd : TableName → Filling → Type 0
-IsOdd table f = (t : Tables) (answers : List Row) → HasTaken table t answers f → (may_lack table ≡ true) × (fits table t answers ≡ false)
+IsOdd table f = (x : Read) (answers : List Row) → HasTaken table x answers f → (may_lack table ≡ true) × (fits table x.0 answers ≡ false)
 
 -- whether an answer of which this became is a row of its table, with a key of its own
 abbrev pub is_fit : Step → Bool
 is_fit Added = true
+is_fit NoNumber = true
+is_fit TooDeep = true
 is_fit Outside = true
 is_fit _ = false
 
 -- a table is filled with the rows of some answers, where it is to be; else the tables stand
-unfoldable pub IsFilled : Bool → TableName → Tables → Tables → Type 0
-IsFilled has table old new = MatchBool has ((answers : List Row) × (new ≡ filled table old answers)) (new ≡ old)
+unfoldable pub IsFilled : Bool → TableName → Read → Read → Type 0
+IsFilled has table old new = MatchBool has ((answers : List Row) × (new ≡ read_on table old answers)) (new ≡ old)
 
 -- the table that has the contents of a normalised layout; the others have none
 abbrev pub content_table : MbtType → TableName
@@ -98,11 +135,11 @@ has_contents (Normalized view schema) = true
 has_contents _ = false
 
 -- these are tables of a layout with the rows of some answers: of the metadata, if there is one, of the contents, if the layout has a table of them, and of the tiles
-unfoldable pub IsRead : MbtType → Tables → Type 0
+unfoldable pub IsRead : MbtType → Read → Type 0
 IsRead layout t =
-    (has_names : Bool) × (names : Tables) × (contents : Tables) × IsFilled has_names Metadata (no_rows (set_tables layout)) names
+    (has_names : Bool) × (names : Read) × (contents : Read) × IsFilled has_names Metadata (start layout) names
     × IsFilled (has_contents layout) (content_table layout) names contents × IsFilled true (tile_table layout) contents t
 
 -- the tables of a set that was read, in one of the layouts
-unfoldable pub IsSet : Tables → Type 0
+unfoldable pub IsSet : Read → Type 0
 IsSet t = (layout : MbtType) × IsRead layout t

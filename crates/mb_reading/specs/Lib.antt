@@ -1,6 +1,7 @@
 pub mod Cells
 pub mod Rows
 pub mod Texts
+pub mod LeftOut
 pub mod Filling
 pub mod Views
 pub mod Master

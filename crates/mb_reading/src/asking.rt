@@ -6,11 +6,10 @@ ghost use Rattle.sqlite_value.specs.Order.{Row};
 ghost use Rattle.mb_store.specs.MemStore.{told_of};
 ghost use Rattle.mb_tables.specs.Described.{is_table};
 ghost use Rattle.mb_reading.specs.Asking.{CommitsNothing, OnlyAsks, Refuses, Shows};
-ghost use Rattle.mb_reading.specs.Filling.{HasTaken, NeverFails};
+ghost use Rattle.mb_reading.specs.Filling.{HasTaken, NeverFails, read_of};
 
-use crate::ReadError;
 use crate::filling::Filling;
-use mb_store::MemStore;
+use crate::{ReadError, SetRead};
 use mb_tables::TableName;
 use sqlite::{Alter, Connection, Error, ErrorCode};
 use std::alloc::Global;
@@ -45,11 +44,11 @@ pub(crate) fn take_rows<S: Alter>(
     connection: &mut Connection<S>,
     text: &str,
     table: TableName,
-    store: MemStore,
+    so_far: SetRead,
 ) -> Result<Filling, Error>
     requires asks { OnlyAsks text.now }
-    requires described { is_table (told_of store).descriptions table ≡ true }
-    requires unfailing { NeverFails store }
+    requires described { is_table (told_of so_far.store).descriptions table ≡ true }
+    requires unfailing { NeverFails so_far.store }
     ensures survives { CommitsNothing S.Store connection.old connection.new }
     ensures same { HasCleanDisk (state S.Store connection.new) → OnOk result
         (IsUnchanged (state S.Store connection.old) (state S.Store connection.new)) }
@@ -57,14 +56,15 @@ pub(crate) fn take_rows<S: Alter>(
         (Refuses text.now (state S.Store connection.old) (state S.Store connection.new)) }
     ensures shown { HasCleanDisk (state S.Store connection.new) → IfOk result
         (λ full. (rows : List Row) × Shows text.now (state S.Store connection.old) rows
-        × HasTaken table (told_of store) rows full) }
+        × HasTaken table (read_of so_far) rows full) }
     ensures taken { IfOk result
-        (λ full. (rows : List Row) × HasTaken table (told_of store) rows full) }
+        (λ full. (rows : List Row) × HasTaken table (read_of so_far) rows full) }
     ensures described { IfOk result
-        (λ full. (told_of full.store).descriptions ≡ (told_of store).descriptions) }
-    ensures unfailing { IfOk result (λ full. NeverFails full.store) }
+        (λ full. (told_of full.so_far.store).descriptions ≡
+        (told_of so_far.store).descriptions) }
+    ensures unfailing { IfOk result (λ full. NeverFails full.so_far.store) }
 {
-    let mut filling = Filling::new(store);
+    let mut filling = Filling::new(so_far);
     let mut rows = connection.query(text, &[])?;
     'rows: for _ in 0..u64::MAX {
         rows.advance()?;

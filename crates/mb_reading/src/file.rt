@@ -1,13 +1,11 @@
 // A file that is opened for reading alone. The database is read where it lies; the log beside it is copied into memory, since opening a database may write the log.
 ghost use Rattle.std.specs.Prelude.{IfOk};
-ghost use Rattle.mb_store.specs.MemStore.{told_of};
-ghost use Rattle.mb_reading.specs.Filling.{IsSet, NeverFails};
+ghost use Rattle.mb_reading.specs.Filling.{IsSet, NeverFails, read_of};
 
 use crate::disk_file::DiskFile;
 use crate::read_only::ReadOnly;
 use crate::stamps::{Paths, Stamp, Stamps, stamps_of, test_journal, test_still};
-use crate::{BesideFile, ReadError, read_set};
-use mb_store::MemStore;
+use crate::{BesideFile, ReadError, SetRead, read_set};
 use sqlite::{Connection, Error, ErrorCode, FileStore, Files, Options};
 use sqlite_disk::{Disk, Memory};
 use std::alloc::Global;
@@ -162,9 +160,9 @@ fn open(
 }
 
 // Reads the set of a file and its log, whether or not they change meanwhile.
-fn read_files(alloc: Global, files: FilesToRead, cache_pages: usize) -> Result<MemStore, ReadError>
-    ensures told { IfOk result (λ store. IsSet (told_of store)) }
-    ensures unfailing { IfOk result NeverFails }
+fn read_files(alloc: Global, files: FilesToRead, cache_pages: usize) -> Result<SetRead, ReadError>
+    ensures told { IfOk result (λ set. IsSet (read_of set)) }
+    ensures unfailing { IfOk result (λ set. NeverFails set.store) }
 {
     let mut connection = open(alloc, files, cache_pages)?;
     read_set(alloc, &mut connection)
@@ -179,9 +177,9 @@ fn read_files(alloc: Global, files: FilesToRead, cache_pages: usize) -> Result<M
 /// where it isn't empty and doesn't begin as a database of SQLite; `Beside` where a log or a rollback journal is there and can't be read; `Unfinished` where a rollback journal stands beside it before or
 /// after; `Changed` where the file or its log is another one after the reading than before; `Unopened` with the cause where it is no database that is understood; and the refusals of `read_set`. A file
 /// that changed is told as `Changed`, whatever else was met.
-pub fn read_file(rt: &HostRuntime, path: &str) -> Result<MemStore, ReadError>
-    ensures told { IfOk result (λ store. IsSet (told_of store)) }
-    ensures unfailing { IfOk result NeverFails }
+pub fn read_file(rt: &HostRuntime, path: &str) -> Result<SetRead, ReadError>
+    ensures told { IfOk result (λ set. IsSet (read_of set)) }
+    ensures unfailing { IfOk result (λ set. NeverFails set.store) }
 {
     let paths = Paths::new(rt, path)?;
     let before = stamps_of(rt, &paths)?;

@@ -5,30 +5,50 @@ ghost use Rattle.mb_store.specs.Store.{is_duplicate};
 ghost use Rattle.mb_tables.specs.Described.{is_table};
 ghost use Rattle.mb_tables.specs.Table.{width};
 ghost use Rattle.mb_tables.specs.declared.table.TableName.{TableName};
-ghost use Rattle.mb_reading.specs.Filling.{HasTaken, IsFull, IsOdd, NeverFails, Takes, fits_one, is_fit, may_lack, taken, with_new};
+ghost use Rattle.mb_reading.specs.Filling.{HasTaken, IsFull, IsOdd, NeverFails, Takes, fits_one, is_fit, may_lack, misplaced, read_of, step_of, taken, with_new};
 ghost use Rattle.mb_reading.specs.Rows.{row_in};
 
 use crate::rows::{is_placed, row_of};
 use crate::value_kind::kind_of;
-use crate::{ReadError, ValueKind};
+use crate::{ReadError, SetRead, ValueKind};
 use base_values::OutOfMemory;
 use mb_lists::coord_of;
 use mb_store::{MbtError, MemStore, TileStore};
-use mb_tables::{Row, RowKey, TableName};
+use mb_tables::{Cell, Row, RowKey, TableName};
 use std::alloc::Global;
 use tile_ids::invert_y_value;
 
 // What became of an answer.
 #[derive(Clone, Copy, Debug, PartialEq, Eq)]
-enum Step {
+pub(crate) enum Step {
     // Its row was added.
     Added,
-    // Its row has no place of zoom 0 to 30.
+    // Its zoom, column or row is no whole number.
+    NoNumber,
+    // Its zoom is 31 or more.
+    TooDeep,
+    // It lies outside the grid of its zoom.
     Outside,
     // The table has a row of its key.
     Repeated,
     // It has a value that no set has there.
     Odd,
+}
+
+// What becomes of a row without a place of zoom 0 to 30.
+fn misplaced(row: &Row) -> Step
+    ensures { result ≡ misplaced row.now }
+{
+    match row.cells() {
+        [Cell::Int(zoom), Cell::Int(_), Cell::Int(_), ..] => {
+            if *zoom < 31 {
+                Step::Outside
+            } else {
+                Step::TooDeep
+            }
+        }
+        _ => Step::NoNumber,
+    }
 }
 
 // Adds a row, where the table has none of its key, and says whether it had none.
@@ -59,6 +79,7 @@ fn take_answer(
     ensures told { OnOk result (told_of store.new ≡ taken table (told_of store.old) answer.now) }
     ensures fits { IfOk result
         (λ step. is_fit step ≡ fits_one table (told_of store.old) (row_in table answer.now)) }
+    ensures step { IfOk result (λ step. step ≡ step_of table (told_of store.old) answer.now) }
     ensures described { (told_of store.new).descriptions ≡ (told_of store.old).descriptions }
     ensures unfailing { NeverFails store.old → NeverFails store.new }
 {
@@ -66,7 +87,7 @@ fn take_answer(
         return Ok(Step::Odd);
     };
     if !is_placed(table, &row) {
-        return Ok(Step::Outside);
+        return Ok(misplaced(&row));
     }
     if push(store, table, row)? {
         Ok(Step::Added)
@@ -132,7 +153,7 @@ fn test_step(
     ensures unfailing { NeverFails store.old → NeverFails store.new }
 {
     match (table, step) {
-        (_, Step::Added | Step::Outside) => Ok(()),
+        (_, Step::Added | Step::NoNumber | Step::TooDeep | Step::Outside) => Ok(()),
         (TableName::Metadata, _) => Ok(()),
         (TableName::Tiles, Step::Repeated) => test_repeated(alloc, store, answer),
         (_, Step::Repeated) => Err(ReadError::Twice { table }),
@@ -146,7 +167,7 @@ fn test_step(
 // A store whose table takes answers one after another.
 #[derive(Drop)]
 pub(crate) struct Filling {
-    store: MemStore,
+    so_far: SetRead,
     // Whether there was an answer.
     any: bool,
     // The first refusal. Answers behind it are passed over.
@@ -156,12 +177,12 @@ pub(crate) struct Filling {
 impl Filling {
     // A store before the first answer.
     #[tactic(auto, unfolding(crate::specs::Filling::HasTaken))]
-    pub(crate) fn new(store: MemStore) -> Filling
-        ensures taken { (table : TableName) → HasTaken table (told_of store) [] result }
-        ensures same { result.store ≡ store }
+    pub(crate) fn new(so_far: SetRead) -> Filling
+        ensures taken { (table : TableName) → HasTaken table (read_of so_far) [] result }
+        ensures same { result.so_far ≡ so_far }
     {
         Filling {
-            store,
+            so_far,
             any: false,
             refused: None,
         }
@@ -174,18 +195,19 @@ impl Filling {
         table: TableName,
         answer: &sqlite::Row,
     ) -> Result<(), OutOfMemory>
-        requires { is_table (told_of self.old.store).descriptions table ≡ true }
+        requires { is_table (told_of self.old.so_far.store).descriptions table ≡ true }
         ensures taken { OnOk result (Takes table answer.now self.old self.new) }
-        ensures described { (told_of self.new.store).descriptions ≡
-            (told_of self.old.store).descriptions }
-        ensures unfailing { NeverFails self.old.store → NeverFails self.new.store }
+        ensures described { (told_of self.new.so_far.store).descriptions ≡
+            (told_of self.old.so_far.store).descriptions }
+        ensures unfailing { NeverFails self.old.so_far.store → NeverFails self.new.so_far.store }
     {
         self.any = true;
         if self.refused.is_some() {
             return Ok(());
         }
-        let step = take_answer(alloc, &mut self.store, table, answer)?;
-        if let Err(error) = test_step(alloc, &mut self.store, table, answer, step) {
+        let step = take_answer(alloc, &mut self.so_far.store, table, answer)?;
+        self.so_far.left_out = self.so_far.left_out.counted(table, answer, step);
+        if let Err(error) = test_step(alloc, &mut self.so_far.store, table, answer, step) {
             self.refused = Some(error);
         }
         Ok(())
@@ -223,16 +245,17 @@ fn test_odd(table: TableName, error: ReadError) -> Result<(), ReadError>
 }
 
 // The store once all answers on a table are taken. None where they aren't rows of a table that the set may lack.
-pub(crate) fn finish(filling: Filling, table: TableName) -> Result<Option<MemStore>, ReadError>
-    requires { NeverFails filling.store }
+pub(crate) fn finish(filling: Filling, table: TableName) -> Result<Option<SetRead>, ReadError>
+    requires { NeverFails filling.so_far.store }
     ensures full { IfOk result (λ full. IfSome full (λ full. IsFull table filling full)) }
     ensures odd { IfOk result (λ full. IfNone full (IsOdd table filling)) }
     ensures described { IfOk result (λ full. IfSome full
-        (λ full. (told_of full).descriptions ≡ (told_of filling.store).descriptions)) }
-    ensures unfailing { IfOk result (λ full. IfSome full NeverFails) }
+        (λ full. (told_of full.store).descriptions ≡
+        (told_of filling.so_far.store).descriptions)) }
+    ensures unfailing { IfOk result (λ full. IfSome full (λ full. NeverFails full.store)) }
 {
     let Filling {
-        mut store,
+        mut so_far,
         any,
         refused,
     } = filling;
@@ -240,8 +263,8 @@ pub(crate) fn finish(filling: Filling, table: TableName) -> Result<Option<MemSto
         test_odd(table, error)?;
         return Ok(None);
     }
-    if is_outside(&mut store, table, any)? {
+    if is_outside(&mut so_far.store, table, any)? {
         return Err(ReadError::OutsideGrid);
     }
-    Ok(Some(store))
+    Ok(Some(so_far))
 }

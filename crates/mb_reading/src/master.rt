@@ -108,11 +108,7 @@ fn is_view_value(alloc: Global, layout: MbtType, value: ValueRef<'_>) -> Result<
 
 // Whether an answer has such a text in its third column.
 #[tactic(auto, using(crate::proofs::MasterLemmas::past_end))]
-fn has_view_text(
-    alloc: Global,
-    layout: MbtType,
-    answer: &sqlite::Row,
-) -> Result<bool, OutOfMemory>
+fn has_view_text(alloc: Global, layout: MbtType, answer: &sqlite::Row) -> Result<bool, OutOfMemory>
     ensures { IfOk result (λ is. is ≡ is_view_value layout (column answer.now 2)) }
 {
     match answer.get_ref(2) {
@@ -134,11 +130,7 @@ fn views(alloc: Global, layout: MbtType, answer: &sqlite::Row) -> Result<bool, O
 
 // Whether one of the answers does.
 #[tactic(auto, using(crate::proofs::MasterLemmas::none_more, crate::proofs::MasterLemmas::one_passes, crate::proofs::MasterLemmas::none_passes))]
-fn any_views(
-    alloc: Global,
-    layout: MbtType,
-    master: &[sqlite::Row],
-) -> Result<bool, OutOfMemory>
+fn any_views(alloc: Global, layout: MbtType, master: &[sqlite::Row]) -> Result<bool, OutOfMemory>
     ensures { IfOk result (λ is. is ≡ list_any (views layout) master.now) }
 {
     for index in 0..master.len() {

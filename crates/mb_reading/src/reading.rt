@@ -5,13 +5,13 @@ ghost use Rattle.sqlite.specs.State.{HasCleanDisk};
 ghost use Rattle.mb_store.specs.MemStore.{told_of};
 ghost use Rattle.mb_tables.specs.Described.{is_table};
 ghost use Rattle.mb_reading.specs.Asking.{CommitsNothing, IsUnfit, LacksLayout, ReadsBy, ReadsEither, ReadsLayout, ReadsSet, ReadsTable, Stays, is_input};
-ghost use Rattle.mb_reading.specs.Filling.{IsFilled, IsRead, IsSet, NeverFails, content_table, has_contents, may_lack};
+ghost use Rattle.mb_reading.specs.Filling.{IsFilled, IsRead, IsSet, NeverFails, content_table, has_contents, may_lack, read_of};
 
-use crate::ReadError;
 use crate::asking::{ask, refusal, take_rows};
 use crate::filling::finish;
 use crate::master::{first_layout, is_there};
 use crate::texts::{of_master, rows_of};
+use crate::{LeftOut, ReadError, SetRead};
 use mb_store::MemStore;
 use mb_tables::{MbtType, TableName};
 use sqlite::{Alter, Connection, Error, ErrorCode};
@@ -53,30 +53,31 @@ fn test_lacking(table: TableName, cause: Error) -> Result<(), ReadError>
 fn read_table<S: Alter>(
     alloc: Global,
     connection: &mut Connection<S>,
-    store: MemStore,
+    so_far: SetRead,
     has: bool,
     table: TableName,
-) -> Result<Option<MemStore>, ReadError>
-    requires described { has ≡ true → is_table (told_of store).descriptions table ≡ true }
-    requires unfailing { NeverFails store }
+) -> Result<Option<SetRead>, ReadError>
+    requires described { has ≡ true → is_table (told_of so_far.store).descriptions table ≡ true }
+    requires unfailing { NeverFails so_far.store }
     ensures survives { CommitsNothing S.Store connection.old connection.new }
     ensures same { HasCleanDisk (state S.Store connection.new) → OnOk result
         (Stays (state S.Store connection.old) (state S.Store connection.new)) }
     ensures read { HasCleanDisk (state S.Store connection.new) → IfOk result
         (λ full. IfSome full (λ full. ReadsTable has table (state S.Store connection.old)
-        (told_of store) (told_of full))) }
+        (read_of so_far) (read_of full))) }
     ensures unfit { HasCleanDisk (state S.Store connection.new) → IfOk result
-        (λ full. IfNone full (IsUnfit has table (state S.Store connection.old) (told_of store))) }
+        (λ full. IfNone full (IsUnfit has table (state S.Store connection.old)
+        (read_of so_far))) }
     ensures told { IfOk result (λ full. IfSome full
-        (λ full. IsFilled has table (told_of store) (told_of full))) }
+        (λ full. IsFilled has table (read_of so_far) (read_of full))) }
     ensures described { IfOk result (λ full. IfSome full
-        (λ full. (told_of full).descriptions ≡ (told_of store).descriptions)) }
-    ensures unfailing { IfOk result (λ full. IfSome full NeverFails) }
+        (λ full. (told_of full.store).descriptions ≡ (told_of so_far.store).descriptions)) }
+    ensures unfailing { IfOk result (λ full. IfSome full (λ full. NeverFails full.store)) }
 {
     if !has {
-        return Ok(Some(store));
+        return Ok(Some(so_far));
     }
-    match take_rows(alloc, connection, rows_of(table), table, store) {
+    match take_rows(alloc, connection, rows_of(table), table, so_far) {
         Ok(filling) => finish(filling, table),
         Err(cause) => {
             test_lacking(table, cause)?;
@@ -92,22 +93,26 @@ fn read_layout<S: Alter>(
     connection: &mut Connection<S>,
     layout: MbtType,
     has_names: bool,
-) -> Result<Option<MemStore>, ReadError>
+) -> Result<Option<SetRead>, ReadError>
     ensures survives { CommitsNothing S.Store connection.old connection.new }
     ensures same { HasCleanDisk (state S.Store connection.new) → OnOk result
         (Stays (state S.Store connection.old) (state S.Store connection.new)) }
     ensures read { HasCleanDisk (state S.Store connection.new) → IfOk result
         (λ full. IfSome full (λ full. ReadsLayout layout has_names (state S.Store connection.old)
-        (told_of full))) }
+        (read_of full))) }
     ensures lacks { HasCleanDisk (state S.Store connection.new) → IfOk result
         (λ full. IfNone full (LacksLayout layout has_names (state S.Store connection.old))) }
-    ensures told { IfOk result (λ full. IfSome full (λ full. IsRead layout (told_of full))) }
-    ensures unfailing { IfOk result (λ full. IfSome full NeverFails) }
+    ensures told { IfOk result (λ full. IfSome full (λ full. IsRead layout (read_of full))) }
+    ensures unfailing { IfOk result (λ full. IfSome full (λ full. NeverFails full.store)) }
 {
     let Ok(store) = MemStore::with_layout(alloc, layout) else {
         return Err(ReadError::OutOfMemory);
     };
-    let Some(named) = read_table(alloc, connection, store, has_names, TableName::Metadata)? else {
+    let none = SetRead {
+        store,
+        left_out: LeftOut::NOTHING,
+    };
+    let Some(named) = read_table(alloc, connection, none, has_names, TableName::Metadata)? else {
         return Ok(None);
     };
     let has = has_contents(layout);
@@ -127,14 +132,14 @@ fn read_either<S: Alter>(
     connection: &mut Connection<S>,
     layout: MbtType,
     has_names: bool,
-) -> Result<MemStore, ReadError>
+) -> Result<SetRead, ReadError>
     ensures survives { CommitsNothing S.Store connection.old connection.new }
     ensures same { HasCleanDisk (state S.Store connection.new) → OnOk result
         (Stays (state S.Store connection.old) (state S.Store connection.new)) }
     ensures read { HasCleanDisk (state S.Store connection.new) → IfOk result
-        (λ store. ReadsEither layout has_names (state S.Store connection.old) (told_of store)) }
-    ensures told { IfOk result (λ store. IsSet (told_of store)) }
-    ensures unfailing { IfOk result NeverFails }
+        (λ set. ReadsEither layout has_names (state S.Store connection.old) (read_of set)) }
+    ensures told { IfOk result (λ set. IsSet (read_of set)) }
+    ensures unfailing { IfOk result (λ set. NeverFails set.store) }
 {
     if let Some(store) = read_layout(alloc, connection, layout, has_names)? {
         return Ok(store);
@@ -153,15 +158,15 @@ fn read_by<S: Alter>(
     has_tiles: bool,
     layout: MbtType,
     has_names: bool,
-) -> Result<MemStore, ReadError>
+) -> Result<SetRead, ReadError>
     ensures survives { CommitsNothing S.Store connection.old connection.new }
     ensures same { HasCleanDisk (state S.Store connection.new) → OnOk result
         (Stays (state S.Store connection.old) (state S.Store connection.new)) }
     ensures read { HasCleanDisk (state S.Store connection.new) → IfOk result
-        (λ store. ReadsBy has_tiles layout has_names (state S.Store connection.old)
-        (told_of store)) }
-    ensures told { IfOk result (λ store. IsSet (told_of store)) }
-    ensures unfailing { IfOk result NeverFails }
+        (λ set. ReadsBy has_tiles layout has_names (state S.Store connection.old)
+        (read_of set)) }
+    ensures told { IfOk result (λ set. IsSet (read_of set)) }
+    ensures unfailing { IfOk result (λ set. NeverFails set.store) }
 {
     if has_tiles {
         return read_either(alloc, connection, layout, has_names);
@@ -174,14 +179,14 @@ fn read_by<S: Alter>(
 
 // Reads a set in the layout that its tables and its view `tiles` tell, or flat through that view.
 #[tactic(auto, using(crate::proofs::TextLemmas::master_asks))]
-fn read_all<S: Alter>(alloc: Global, connection: &mut Connection<S>) -> Result<MemStore, ReadError>
+fn read_all<S: Alter>(alloc: Global, connection: &mut Connection<S>) -> Result<SetRead, ReadError>
     ensures survives { CommitsNothing S.Store connection.old connection.new }
     ensures same { HasCleanDisk (state S.Store connection.new) → OnOk result
         (Stays (state S.Store connection.old) (state S.Store connection.new)) }
     ensures read { HasCleanDisk (state S.Store connection.new) → IfOk result
-        (λ store. ReadsSet (state S.Store connection.old) (told_of store)) }
-    ensures told { IfOk result (λ store. IsSet (told_of store)) }
-    ensures unfailing { IfOk result NeverFails }
+        (λ set. ReadsSet (state S.Store connection.old) (read_of set)) }
+    ensures told { IfOk result (λ set. IsSet (read_of set)) }
+    ensures unfailing { IfOk result (λ set. NeverFails set.store) }
 {
     let master = match ask(connection, of_master()) {
         Ok(master) => master,
@@ -201,20 +206,21 @@ fn read_all<S: Alter>(alloc: Global, connection: &mut Connection<S>) -> Result<M
 /// names of its tables, and `Flat`, through the table or view `tiles`, for a set of no such layout, for a cache, and where one of its own tables
 /// lacks a column, has a key twice, or has a value that isn't of its column.
 ///
-/// Rows of tiles outside the grid of zooms 0 to 30 are left out, and so are rows of the metadata whose name or value is no text. `NotASet`
+/// Rows of tiles outside the grid of zooms 0 to 30 are left out and counted, and so are rows of the metadata whose name
+/// or value is no text, or whose name stood before. `NotASet`
 /// where nothing has the name `tiles`; `OutsideGrid` where all rows are left out; `Cell` where `tile_data` of `tiles` is a number; `Twice`
 /// where two of its rows of one place differ; `Fault` with the table where the database refuses a statement.
 pub fn read_set<S: Alter>(
     alloc: Global,
     connection: &mut Connection<S>,
-) -> Result<MemStore, ReadError>
+) -> Result<SetRead, ReadError>
     ensures survives { CommitsNothing S.Store connection.old connection.new }
     ensures same { HasCleanDisk (state S.Store connection.new) → OnOk result
         (Stays (state S.Store connection.old) (state S.Store connection.new)) }
     ensures read { HasCleanDisk (state S.Store connection.new) → IfOk result
-        (λ store. ReadsSet (state S.Store connection.old) (told_of store)) }
-    ensures told { IfOk result (λ store. IsSet (told_of store)) }
-    ensures unfailing { IfOk result NeverFails }
+        (λ set. ReadsSet (state S.Store connection.old) (read_of set)) }
+    ensures told { IfOk result (λ set. IsSet (read_of set)) }
+    ensures unfailing { IfOk result (λ set. NeverFails set.store) }
 {
     if !connection.is_autocommit() {
         return Err(ReadError::Fault {

@@ -1,11 +1,10 @@
 // Whether a file and what SQLite writes beside it stand as they stood.
 use crate::{BesideFile, ReadError};
 use std::alloc::Global;
-use std::fs;
 use std::fs::{File, Metadata};
-use std::io;
 use std::io::{ErrorKind, Read};
 use std::os::unix::fs::MetadataExt;
+use std::{fs, io};
 
 // The paths of a file, and of the log and the rollback journal beside it. SQLite follows links first and makes these names of the path that it comes to.
 #[derive(Drop)]

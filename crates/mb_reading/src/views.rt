@@ -211,11 +211,7 @@ fn makes(layout: MbtType, statement: &Statement) -> bool
 
 // Whether a text does. One that isn't understood doesn't.
 #[tactic(auto, unfolding(crate::specs::Views::is_view_text))]
-pub(crate) fn is_view_text(
-    alloc: Global,
-    layout: MbtType,
-    text: &[u8],
-) -> Result<bool, OutOfMemory>
+pub(crate) fn is_view_text(alloc: Global, layout: MbtType, text: &[u8]) -> Result<bool, OutOfMemory>
     ensures { IfOk result (λ is. is ≡ is_view_text layout text.now) }
 {
     match parse(alloc, text) {

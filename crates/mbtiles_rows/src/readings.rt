@@ -1,5 +1,5 @@
 // A set that is read of a database in memory, after the statements of a word. It is the kept store then.
-use mb_reading::{ReadError, read_set};
+use mb_reading::{LeftOut, PlaceValues, ReadError, read_set};
 use mb_store::MemStore;
 use mb_tables::TableName;
 use rows_shared::Words;
@@ -29,6 +29,31 @@ fn say_refusal(out: &mut String, error: ReadError) -> Option<()> {
     }
 }
 
+fn say_first(out: &mut String, first: Option<PlaceValues>) -> Option<()> {
+    let Some(at) = first else {
+        return write!(out, "none ").ok();
+    };
+    write!(out, "{},{},{} ", at.zoom_level, at.tile_column, at.tile_row).ok()
+}
+
+// What was left out: rows of tiles without a number, of zooms above 30 and outside the grid, rows of the metadata
+// without a text and those of a name that stood before, and the first place. Nothing where nothing was.
+fn say_left_out(out: &mut String, left: LeftOut) -> Option<()> {
+    write!(out, "ok ").ok()?;
+    let tiles = (left.without_number, left.too_deep, left.outside_grid);
+    let names = (left.without_text, left.repeated_names);
+    if tiles == (0, 0, 0) && names == (0, 0) {
+        return Some(());
+    }
+    write!(
+        out,
+        "left {} {} {} {} {} ",
+        tiles.0, tiles.1, tiles.2, names.0, names.1
+    )
+    .ok()?;
+    say_first(out, left.first)
+}
+
 pub fn answer(
     alloc: Global,
     out: &mut String,
@@ -40,8 +65,8 @@ pub fn answer(
     connection.execute_batch(text.as_str()).ok()?;
     match read_set(alloc, &mut connection) {
         Ok(read) => {
-            *store = read;
-            write!(out, "ok ").ok()
+            *store = read.store;
+            say_left_out(out, read.left_out)
         }
         Err(error) => say_refusal(out, error),
     }

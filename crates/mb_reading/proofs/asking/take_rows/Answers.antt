@@ -31,8 +31,8 @@ rows-init g c =
     let made = c.in_ok-rows.ensures in (
       refl,
       commits_nothing c.args.text.now c.requires.asks _ _ made.survives,
-      ap (λ s. (told_of s).descriptions) c.new-filling.ensures.same,
-      subst NeverFails (sym c.new-filling.ensures.same) c.requires.unfailing,
+      ap (λ s. (told_of s.store).descriptions) c.new-filling.ensures.same,
+      subst (λ s. NeverFails s.store) (sym c.new-filling.ensures.same) c.requires.unfailing,
       [],
       c.new-filling.ensures.taken c.args.table,
       λ clean. begun c.args.text.now c.requires.asks g.S.Store c.args.connection.now _ (made.begun clean),

@@ -6,12 +6,12 @@ use Rattle.sqlite.specs.State.{HasCleanDisk, IsUnchanged}
 use Rattle.sqlite_value.specs.Order.{Row}
 use Rattle.mb_store.specs.MemStore.{told_of}
 use Rattle.mb_reading.specs.Asking.{CommitsNothing}
-use Rattle.mb_reading.specs.Filling.{HasTaken, NeverFails}
+use Rattle.mb_reading.specs.Filling.{HasTaken, NeverFails, read_of}
 use Rattle.mb_reading.proofs.asking.take_rows.Given as goal
 
 abbrev pub invariant-rows : goal.invariant-rows
 invariant-rows g l =
     let old = l.fn.connection in
     let now = l.rows.conn.now in
-    (l.rows.conn.ghost_name ≡ l.initial.rows.conn.ghost_name) × CommitsNothing g.S.Store old now × ((told_of l.filling.store).descriptions ≡ (told_of l.fn.store).descriptions) × NeverFails l.filling.store
-    × (given : List Row) × HasTaken l.table (told_of l.fn.store) given l.filling × (HasCleanDisk (state g.S.Store now) → HasGiven g.S.Store l.text [] now given × IsUnchanged (state g.S.Store old) (state g.S.Store now))
+    (l.rows.conn.ghost_name ≡ l.initial.rows.conn.ghost_name) × CommitsNothing g.S.Store old now × ((told_of l.filling.so_far.store).descriptions ≡ (told_of l.fn.so_far.store).descriptions) × NeverFails l.filling.so_far.store
+    × (given : List Row) × HasTaken l.table (read_of l.fn.so_far) given l.filling × (HasCleanDisk (state g.S.Store now) → HasGiven g.S.Store l.text [] now given × IsUnchanged (state g.S.Store old) (state g.S.Store now))

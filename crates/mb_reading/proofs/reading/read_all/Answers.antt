@@ -1,7 +1,7 @@
 use Rattle.std.proofs.Common.{◌≡◌, ◌∙◌, Some, subst, sym}
 use Rattle.sqlite.specs.Held.{state}
-use Rattle.mb_store.specs.MemStore.{told_of}
 use Rattle.mb_tables.specs.declared.table.TableName.TheVariants.{Metadata, Tiles}
+use Rattle.mb_reading.specs.Filling.{read_of}
 use Rattle.mb_reading.specs.Master.{first_layout, is_there}
 use Rattle.mb_reading.proofs.AskLemmas.{clean_before, stays_by, stays_then}
 use Rattle.mb_reading.proofs.ReadLemmas.{reads_set}
@@ -28,5 +28,5 @@ returns-clause-read g c clean =
     let layout = subst (λ rows. first_layout rows ≡ Some c.in-Some.layout) c.as_slice.ensures.value (sym found ∙ c.in-Some.is) in
     let there = subst (λ rows. c.is_there-has_tiles.result ≡ is_there rows Tiles) c.as_slice-2.ensures.value c.is_there-has_tiles.ensures in
     let has = subst (λ rows. c.is_there-has_names.result ≡ is_there rows Metadata) c.as_slice-3.ensures.value c.is_there-has_names.ensures in
-    reads_set master c.of_master.result.now c.is_there-has_tiles.result c.in-Some.layout c.is_there-has_names.result s a (told_of c.in_ok-store.store) c.of_master.ensures (c.in-Ok.ensures.shown clean_mid) there layout has
+    reads_set master c.of_master.result.now c.is_there-has_tiles.result c.in-Some.layout c.is_there-has_names.result s a (read_of c.in_ok-store.store) c.of_master.ensures (c.in-Ok.ensures.shown clean_mid) there layout has
     (stays_by s a (c.in-Ok.ensures.same clean_mid)) (c.in_ok-store.ensures.read clean)

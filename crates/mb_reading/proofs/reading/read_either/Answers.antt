@@ -1,9 +1,8 @@
 use Rattle.std.proofs.Common.{IfNone, IfSome, subst}
 use Rattle.sqlite.specs.Held.{state}
-use Rattle.mb_store.specs.MemStore.{told_of}
 use Rattle.mb_tables.specs.declared.kind.MbtType.TheVariants.{Flat}
 use Rattle.mb_reading.specs.Asking.{LacksLayout, ReadsLayout}
-use Rattle.mb_reading.specs.Filling.{IsRead}
+use Rattle.mb_reading.specs.Filling.{IsRead, read_of}
 use Rattle.mb_reading.proofs.AskLemmas.{clean_before, stays_then}
 use Rattle.mb_reading.proofs.FillLemmas.{is_set}
 use Rattle.mb_reading.proofs.ReadLemmas.{reads_first, reads_flat}
@@ -12,10 +11,10 @@ use Rattle.mb_reading.proofs.reading.read_either.Goals as goal
 pub returns-in-Some-clause-read : goal.returns-in-Some-clause-read
 returns-in-Some-clause-read g c clean =
     let s = state g.S.Store c.args.connection.now in
-    reads_first c.args.layout c.args.has_names s (told_of c.in-Some.store) (subst (λ o. IfSome o (λ full. ReadsLayout c.args.layout c.args.has_names s (told_of full))) c.in-Some.is (c.in_ok-store.ensures.read clean))
+    reads_first c.args.layout c.args.has_names s (read_of c.in-Some.store) (subst (λ o. IfSome o (λ full. ReadsLayout c.args.layout c.args.has_names s (read_of full))) c.in-Some.is (c.in_ok-store.ensures.read clean))
 
 pub returns-in-Some-clause-told : goal.returns-in-Some-clause-told
-returns-in-Some-clause-told g c = is_set c.args.layout (told_of c.in-Some.store) (subst (λ o. IfSome o (λ full. IsRead c.args.layout (told_of full))) c.in-Some.is c.in_ok-store.ensures.told)
+returns-in-Some-clause-told g c = is_set c.args.layout (read_of c.in-Some.store) (subst (λ o. IfSome o (λ full. IsRead c.args.layout (read_of full))) c.in-Some.is c.in_ok-store.ensures.told)
 
 pub returns-in-Some-2-clause-read : goal.returns-in-Some-2-clause-read
 returns-in-Some-2-clause-read g c clean =
@@ -24,8 +23,8 @@ returns-in-Some-2-clause-read g c clean =
     let new = c.read_layout-2.new.connection in
     let a = state g.S.Store mid in
     let clean_mid = clean_before g.S.Store mid new c.read_layout-2.ensures.survives clean in
-    reads_flat c.args.layout c.args.has_names s a (told_of c.in-Some-2.store) (subst (λ o. IfNone o (LacksLayout c.args.layout c.args.has_names s)) c.in_default.is (c.in_ok-store.ensures.lacks clean_mid))
-    (c.in_ok-store.ensures.same clean_mid) (subst (λ o. IfSome o (λ full. ReadsLayout Flat c.args.has_names a (told_of full))) c.in-Some-2.is (c.in_ok-store-2.ensures.read clean))
+    reads_flat c.args.layout c.args.has_names s a (read_of c.in-Some-2.store) (subst (λ o. IfNone o (LacksLayout c.args.layout c.args.has_names s)) c.in_default.is (c.in_ok-store.ensures.lacks clean_mid))
+    (c.in_ok-store.ensures.same clean_mid) (subst (λ o. IfSome o (λ full. ReadsLayout Flat c.args.has_names a (read_of full))) c.in-Some-2.is (c.in_ok-store-2.ensures.read clean))
 
 pub returns-in-Some-2-clause-same : goal.returns-in-Some-2-clause-same
 returns-in-Some-2-clause-same g c clean =
@@ -36,4 +35,4 @@ returns-in-Some-2-clause-same g c clean =
     stays_then s (state g.S.Store mid) (state g.S.Store new) (c.in_ok-store.ensures.same clean_mid) (c.in_ok-store-2.ensures.same clean)
 
 pub returns-in-Some-2-clause-told : goal.returns-in-Some-2-clause-told
-returns-in-Some-2-clause-told g c = is_set Flat (told_of c.in-Some-2.store) (subst (λ o. IfSome o (λ full. IsRead Flat (told_of full))) c.in-Some-2.is c.in_ok-store-2.ensures.told)
+returns-in-Some-2-clause-told g c = is_set Flat (read_of c.in-Some-2.store) (subst (λ o. IfSome o (λ full. IsRead Flat (read_of full))) c.in-Some-2.is c.in_ok-store-2.ensures.told)

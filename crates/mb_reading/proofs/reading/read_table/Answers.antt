@@ -1,8 +1,7 @@
 use Rattle.std.proofs.Common.{rules, ◌≡◌, true, false, IfNone, IfOk, IfSome, Result, Option, Ok, Err, Some, None}
 use Rattle.sqlite.specs.Held.{state}
-use Rattle.mb_store.specs.MemStore.{told_of}
 use Rattle.mb_reading.specs.Asking.{IsUnfit, ReadsTable, is_input}
-use Rattle.mb_reading.specs.Filling.{IsFull, IsOdd, may_lack}
+use Rattle.mb_reading.specs.Filling.{IsFull, IsOdd, may_lack, read_of}
 use Rattle.mb_reading.proofs.AskLemmas.{input_by}
 use Rattle.mb_reading.proofs.ReadLemmas.{reads_nothing, reads_table, unfit_by_rows, unfit_by_text}
 use Rattle.mb_reading.proofs.TextLemmas.{rows_ask}
@@ -22,7 +21,7 @@ if_none (Err e) P Q f h = tt
 pub returns-then-not-has-clause-read : goal.returns-then-not-has-clause-read
 returns-then-not-has-clause-read g c clean =
     let isnt : c.args.has ≡ false = search rules in
-    reads_nothing c.args.has c.args.table (state g.S.Store c.args.connection.now) (told_of c.args.store) isnt
+    reads_nothing c.args.has c.args.table (state g.S.Store c.args.connection.now) (read_of c.args.so_far) isnt
 
 pub take_rows-requires-clause-asks : goal.take_rows-requires-clause-asks
 take_rows-requires-clause-asks g c = rows_ask c.args.table c.rows_of.result.now c.rows_of.ensures
@@ -31,15 +30,15 @@ pub returns-in-Ok-clause-read : goal.returns-in-Ok-clause-read
 returns-in-Ok-clause-read g c clean =
     let is : c.args.has ≡ true = search rules in
     let shown = c.in-Ok.ensures.shown clean in
-    let t = told_of c.args.store in
-    if_some c.finish.result (IsFull c.args.table c.in-Ok.filling) (λ full. ReadsTable c.args.has c.args.table (state g.S.Store c.args.connection.now) t (told_of full))
-    (λ full h. (let it = h t shown.0 shown.2 in reads_table c.args.has c.args.table c.rows_of.result.now (state g.S.Store c.args.connection.now) t (told_of full) shown.0 is c.rows_of.ensures shown.1 it.0 it.1)) c.finish.ensures.full
+    let t = read_of c.args.so_far in
+    if_some c.finish.result (IsFull c.args.table c.in-Ok.filling) (λ full. ReadsTable c.args.has c.args.table (state g.S.Store c.args.connection.now) t (read_of full))
+    (λ full h. (let it = h t shown.0 shown.2 in reads_table c.args.has c.args.table c.rows_of.result.now (state g.S.Store c.args.connection.now) t (read_of full) shown.0 is c.rows_of.ensures shown.1 it.0 it.1)) c.finish.ensures.full
 
 pub returns-in-Ok-clause-unfit : goal.returns-in-Ok-clause-unfit
 returns-in-Ok-clause-unfit g c clean =
     let is : c.args.has ≡ true = search rules in
     let shown = c.in-Ok.ensures.shown clean in
-    let t = told_of c.args.store in
+    let t = read_of c.args.so_far in
     if_none c.finish.result (IsOdd c.args.table c.in-Ok.filling) (IsUnfit c.args.has c.args.table (state g.S.Store c.args.connection.now) t)
     (λ h. (let it = h t shown.0 shown.2 in unfit_by_rows c.args.has c.args.table c.rows_of.result.now (state g.S.Store c.args.connection.now) t shown.0 is it.0 c.rows_of.ensures shown.1 it.1)) c.finish.ensures.odd
 
@@ -51,4 +50,4 @@ returns-in_ok-test_lacking-in-Err-clause-unfit g c clean =
     let input : is_input c.in-Err.cause ≡ true = search rules in
     let fault = input_by c.in-Err.cause input in
     let refused = c.in-Err.ensures.refuses clean fault.0 fault.1 in
-    unfit_by_text c.args.has c.args.table c.rows_of.result.now (state g.S.Store c.args.connection.now) (told_of c.args.store) fault.0 is may c.rows_of.ensures refused.0
+    unfit_by_text c.args.has c.args.table c.rows_of.result.now (state g.S.Store c.args.connection.now) (read_of c.args.so_far) fault.0 is may c.rows_of.ensures refused.0
