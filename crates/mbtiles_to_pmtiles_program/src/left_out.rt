@@ -39,7 +39,9 @@ fn say_names(rt: &HostRuntime, path: &str, count: u64, reason: &str) -> bool {
         return true;
     }
     let (rows, are) = counted(count);
-    let _ = eprintln!(rt; "{TOOL}: {path}: {count} {rows} of the metadata {are} left out: {reason}");
+    let _ = eprintln!(rt;
+        "{TOOL}: {path}: {count} {rows} of the metadata {are} left out: {reason}"
+    );
     false
 }
 
@@ -99,7 +101,12 @@ pub fn say_left_out(
     left: &LeftOut,
 ) -> Result<bool, ConversionOutcome> {
     let tiles = say_misplaced(rt, path, left);
-    let texts = say_names(rt, path, left.without_text, "their name or value is no text");
+    let texts = say_names(
+        rt,
+        path,
+        left.without_text,
+        "their name or value is no text",
+    );
     let once = say_names(rt, path, left.repeated_names, "their name stood before");
     let names = say_metadata(rt, path, store)?;
     Ok(tiles && texts && once && names)

@@ -14,10 +14,8 @@ fn outcome_of(error: &ReadError) -> ConversionOutcome {
         ReadError::NotASet | ReadError::Missing | ReadError::NotADatabase => {
             ConversionOutcome::NoSet
         }
-        ReadError::NotRegular
-        | ReadError::Unnamed
-        | ReadError::Unread
-        | ReadError::Beside { .. } => ConversionOutcome::InputFault,
+        ReadError::NotRegular | ReadError::Unnamed | ReadError::Unread | ReadError::Beside { .. } =>
+            ConversionOutcome::InputFault,
         ReadError::Unopened(_) | ReadError::Fault { .. } => ConversionOutcome::OtherForm,
         ReadError::OutOfMemory => ConversionOutcome::OutOfMemory,
         _ => ConversionOutcome::Unread,
@@ -43,7 +41,9 @@ fn told(
     if say_left_out(rt, path, &mut store, &left_out)? || !is_strict {
         return Ok(store);
     }
-    let _ = eprintln!(rt; "{TOOL}: {path} is refused: --strict takes no set that something is left out of");
+    let _ = eprintln!(rt;
+        "{TOOL}: {path} is refused: --strict takes no set that something is left out of"
+    );
     Err(ConversionOutcome::LeftOut)
 }
 
