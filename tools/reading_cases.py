@@ -23,7 +23,8 @@ class Odd(Exception):
 def whole(kind, value):
     if kind == 'integer':
         return value
-    if kind == 'real' and value == int(value):
+    # a number of a place has 64 bits
+    if kind == 'real' and value == int(value) and -2 ** 63 <= value < 2 ** 63:
         return int(value)
     if kind == 'text' and value.isdigit() and len(value) < 10 and (value == b'0' or value[:1] != b'0'):
         return int(value)

@@ -183,7 +183,7 @@ status 4
 says 'pipe is no regular file'
 run timeout 20 "$program" pipe made.pmtiles
 status 4
-says 'pipe: no regular file'
+says 'pipe is no regular file'
 run "$program" none.mbtiles made.pmtiles
 status 3
 says 'no file none.mbtiles'
