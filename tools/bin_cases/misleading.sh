@@ -162,7 +162,7 @@ if [ "$(id -u)" = 0 ] && command -v setpriv >/dev/null; then
     for reader in "$convert" "$program" "$convert --by-script"; do
         # shellcheck disable=SC2086
         as_nobody $reader a.mbtiles to/made.pmtiles
-        status 1
+        case $reader in *--by-script) status 1 ;; *) status 4 ;; esac
         says 'a.mbtiles'
         holds [ ! -e to/made.pmtiles ]
     done
