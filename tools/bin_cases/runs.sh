@@ -144,7 +144,7 @@ if command -v strace >/dev/null && strace -o "$room/traced" true 2>/dev/null; th
     run strace -f -e trace=fsync -e inject=fsync:error=EIO:when=2 -o trace "$program" a.mbtiles other.pmtiles
     status 6
     says "the folder can't be synced"
-    run strace -f -e trace=fsync -e inject=fsync:error=EIO -o trace bash -c '"$0" convert file new.pmtiles <script' "$here/crates/tileset_program/out/tileset_program"
+    run strace -f -e trace=fsync -e inject=fsync:error=EIO -o trace bash -c '"$0" convert file unsynced.pmtiles <script' "$here/crates/tileset_program/out/tileset_program"
     status 6
     ends
 else
