@@ -1,10 +1,10 @@
 # The queries that `sets.sh` has sqlite3 answer on an .mbtiles file, which is attached as `s`. Each function prints some of them.
 # shellcheck disable=SC2154
-# an expression: the whole number in a column, or null
+# an expression: the whole number in a column, or null; a text spells one in at most nine digits, without a zero in front
 whole() {
     echo "case typeof($1) when 'integer' then $1
         when 'real' then case when $1 = cast($1 as integer) then cast($1 as integer) end
-        when 'text' then case when trim($1) <> '' and trim($1) not glob '*[^0-9]*' and length(trim($1)) < 10 then cast(trim($1) as integer) end end"
+        when 'text' then case when $1 = '0' or $1 glob '[1-9]*' and $1 not glob '*[^0-9]*' and length($1) < 10 then cast($1 as integer) end end"
 }
 
 # an expression: a text for a line of words

@@ -14,8 +14,7 @@ class Twice(Exception):
 def whole(cell):
     """The whole number in a cell, or None."""
     if isinstance(cell, bytes):
-        text = cell.strip(b' ')
-        return int(text) if text.isdigit() and len(text) < 10 else None
+        return int(cell) if cell.isdigit() and len(cell) < 10 and (cell == b'0' or cell[:1] != b'0') else None
     return int(cell) if isinstance(cell, (int, float)) and cell == cell // 1 else None
 
 

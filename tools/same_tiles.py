@@ -15,7 +15,7 @@ tiles = {}
 def whole(cell):
     """The whole number in a cell, or one of no tile."""
     if isinstance(cell, str):
-        return int(cell) if cell.strip(' ').isascii() and cell.strip(' ').isdigit() and len(cell.strip(' ')) < 10 else -1
+        return int(cell) if cell.isascii() and cell.isdigit() and len(cell) < 10 and (cell == '0' or cell[:1] != '0') else -1
     return int(cell) if isinstance(cell, (int, float)) and cell == cell // 1 else -1
 
 

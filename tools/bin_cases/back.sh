@@ -10,6 +10,7 @@ delete" ]; }
 no_rest_of() { [ -z "$(find . -name "$1.new*")" ] && [ ! -e "$1-wal" ] && [ ! -e "$1-journal" ]; }
 back=$bin/pmtiles-to-mbtiles
 
+# a center in the middle of the bounds at the least zoom is what an archive has of a set that says none
 fresh 'an archive of a set of another tool, and back'
 "$bin/mbtiles-to-pmtiles" "$top/examples/places.mbtiles" places.pmtiles >/dev/null
 before=$(cksum places.pmtiles)
@@ -24,12 +25,11 @@ holds same_has '74 0 4 1 2 '
 holds is_flat back.mbtiles
 holds is_whole back.mbtiles
 holds [ "$("$real" back.mbtiles 'select count(*), count(distinct tile_data) from tiles')" = '74|74' ]
-holds names_are back.mbtiles "$("$real" "$top/examples/places.mbtiles" "select group_concat(name, ' ') from (select name from metadata where name <> 'scheme' order by name)")"
+holds names_are back.mbtiles "$("$real" "$top/examples/places.mbtiles" "select group_concat(name, ' ') from (select name from metadata where name not in ('scheme', 'center') order by name)")"
 for name in name version type format minzoom maxzoom description; do
     holds [ "$(value_of back.mbtiles $name)" = "$(value_of "$top/examples/places.mbtiles" $name)" ]
 done
 holds [ "$(value_of back.mbtiles bounds)" = '-169.397,-66.799,164.023,65.319' ]
-holds [ "$(value_of back.mbtiles center)" = '-2.687,-0.74,0' ]
 # the same way once more, from the database that the program made: byte for byte what it gave before
 run "$bin/mbtiles-to-pmtiles" back.mbtiles again.pmtiles
 status 0
@@ -86,7 +86,7 @@ run "$back" none.pmtiles none.mbtiles 0
 status 0
 holds is_flat none.mbtiles
 holds [ "$("$real" none.mbtiles 'select count(*) from tiles')" = 0 ]
-holds names_are none.mbtiles 'bounds center maxzoom minzoom'
+holds names_are none.mbtiles 'maxzoom minzoom'
 ends
 
 fresh 'refused archives leave no database'

@@ -54,6 +54,12 @@ equal() {
     file=$1
     shift
     run "$convert" --overwrite "$@" "$file" made.pmtiles
+    # ids of 16 or 32 digits that are no digests are refused, in words that name the way that takes them
+    if [ "$maker $*" = 'tippecanoe ' ]; then
+        status 1
+        says '--by-script takes it without its hashes'
+        return
+    fi
     status 0
     prints '^tiles 40, contents 7$'
     holds same made.pmtiles whole.mbtiles
