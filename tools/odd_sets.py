@@ -89,7 +89,7 @@ def by_view(base, r):
     for at in range(count):
         base.execute(f'insert into {names[1]} ({names[2]}, tile_data) values (?, ?)', (at, content(r)))
     fill(base, r, names[0], (*COLUMNS[:3], names[2]), lambda: r.randrange(count + (r.random() < 0.1)))
-    end = r.choice(('', '', '', ' where zoom_level < 3', ' where a.tile_row >= 0', ' limit 5'))
+    end = r.choice(('', '', '', ' where zoom_level < 3', ' where a.tile_row >= 0', ' order by 1, 2, 3 limit 5'))
     row = r.choice(('a.tile_row', 'a.tile_row', 'a.tile_row', '(1 << a.zoom_level) - 1 - a.tile_row'))
     join = r.choice(('join', 'join', 'left join'))
     base.execute(f'create view tiles as select a.zoom_level as zoom_level, a.tile_column as tile_column, {row} as tile_row, b.tile_data as tile_data '
