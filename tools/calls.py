@@ -7,7 +7,6 @@ import specs
 
 TOP = os.path.dirname(os.path.dirname(os.path.abspath(__file__)))
 CRATES = os.path.join(TOP, 'crates')
-PROGRAMS = ('_rows', '_program')
 SHARED = ('refused', 'refused_sets', 'rows_shared', 'archive_words', 'set_words', 'program_words')
 # Errors that are listed whole: those of the objects of the outside, and those of calls that one of their own belongs to.
 WHOLE = ('ReadFault', 'WriteFault', 'SinkFault', 'StoreError', 'TreeError', 'InputError', 'ConvertError', 'ImportError', 'ExtractError', 'Outcome', 'VerifyOutcome', 'ServeOutcome', 'ExtractOutcome')
@@ -47,7 +46,7 @@ def errors():
 @functools.lru_cache(None)
 def libraries():
     """The crates that lend calls to others."""
-    return [it for it in crate_names() if not it.endswith(PROGRAMS) and it not in SHARED]
+    return [it for it in crate_names() if os.path.exists(f'{CRATES}/{it}/src/lib.rt') and it not in SHARED]
 
 
 @functools.lru_cache(None)
