@@ -29,6 +29,7 @@ finish() {
         end_process "$converter"
         [ -z "$made" ] || [ "$(stat -c %d:%i "$out.new" 2>/dev/null)" != "$made" ] || rm -f "$out.new"
     fi
+    [ -z "${follower-}" ] || end_process "$follower"
     [ -z "${namer-}" ] || wait "$namer" 2>/dev/null || true
     [ -z "${room-}" ] || rm -rf "$room"
     exit "$status"
@@ -43,8 +44,36 @@ trap 'exit 130' INT
 trap 'exit 131' QUIT
 trap 'exit 143' TERM
 
+# bytes_to_read FILE.. OUT: how many bytes the program reads of sets. A file above the 8 MiB that it keeps is read five times while it is opened, and once for its rows.
+bytes_to_read() {
+    bytes=0
+    while [ $# -gt 1 ]; do
+        size=$(stat -Lc %s "$1" 2>/dev/null) || size=0
+        [ "$size" -le 8388608 ] || size=$((6 * size))
+        bytes=$((bytes + size))
+        shift
+    done
+    echo "$bytes"
+}
+
+# follow PROCESS BYTES: shows each second how much the program has read of so many bytes, and then how long OUT.new is. The cursor stays in front, so that the next line covers it.
+follow() {
+    while sleep 1 && kill -0 "$1" 2>/dev/null; do
+        # a build before it shows by itself how far it is
+        [ "$(cat "/proc/$1/comm" 2>/dev/null)" != sh ] || continue
+        read=0
+        while read -r key value; do [ "$key" != rchar: ] || read=$value; done 2>/dev/null <"/proc/$1/io" || return 0
+        if [ "$read" -lt "$2" ]; then
+            printf '%s: %s %% read\r' "$tool" $((100 * read / $2)) >&2
+        else
+            printf '%s: %s MB written\r' "$tool" $(($(stat -c %s "$out.new" 2>/dev/null || echo 0) / 1000000)) >&2
+        fi
+    done
+}
+
 # convert FILE..: runs the program, and sets `ended` to its status
 convert() {
+    expected=$(bytes_to_read "$@")
     set -- ${force:+--force} ${verify:+--verify} ${overwrite:+--overwrite} ${strict:+--strict} -- "$@"
     # where it is installed the program stands beside this script
     if [ -x "$here/mbtiles_to_pmtiles_program" ]; then
@@ -53,9 +82,16 @@ convert() {
         here=$here tool=$tool sh "$here/run.sh" "$@" &
     fi
     converter=$!
+    follower=
+    [ ! -t 2 ] || {
+        follow "$converter" "$expected" &
+        follower=$!
+    }
     ended=0
     wait "$converter" || ended=$?
     converter=
+    [ -z "$follower" ] || end_process "$follower"
+    follower=
     # what the program can't be built for was said
     [ "$ended" != 70 ] || ended=1
 }

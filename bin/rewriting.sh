@@ -107,7 +107,7 @@ number=0
 for file; do
     number=$((number + 1))
     [ $number -le $sets ] || break
-    say "$file is rewritten by sqlite3 first: it is in a form that isn't read directly"
+    say "$file is rewritten by sqlite3 first, to a plain file beside OUT"
     begin_step "rewriting $file"
     rewrite "$file" "$room/$number.mbtiles"
     end_step

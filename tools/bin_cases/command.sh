@@ -72,6 +72,28 @@ if command -v script >/dev/null; then
     prints 'mbtiles-to-pmtiles: done in [0-9]* s'
     prints 'mbtiles-to-pmtiles: converting a script of [0-9]* bytes'
     ends
+
+    # a program that reads a quarter of what the real one reads of a set above 8 MiB, and then all and more
+    fresh 'how far it is, on a terminal'
+    head -c 10000000 /dev/zero >a.mbtiles
+    cp -r "$bin" bin
+    cat >bin/mbtiles_to_pmtiles_program <<'PROGRAM'
+#!/bin/bash
+head -c 10000000 a.mbtiles | cat >/dev/null
+head -c 5000000 a.mbtiles >/dev/null
+sleep 2.5
+for again in 1 2 3 4 5; do cat a.mbtiles >/dev/null; done
+head -c 3000000 a.mbtiles >made.pmtiles.new
+sleep 2.5
+PROGRAM
+    chmod +x bin/mbtiles_to_pmtiles_program
+    run script -qec 'bin/mbtiles-to-pmtiles a.mbtiles made.pmtiles' /dev/null
+    status 0
+    prints 'mbtiles-to-pmtiles: [0-9]* % read'
+    prints 'mbtiles-to-pmtiles: 3 MB written'
+    run script -qec 'bin/mbtiles-to-pmtiles a.mbtiles made.pmtiles 2>err' /dev/null
+    holds [ ! -s err ]
+    ends
 fi
 
 # two patches whose hashes chain: the aggregate hash is md5 over zoom, column, row in decimal and the bytes of each tile in order
@@ -194,18 +216,8 @@ exec 9>"$out.new"
 exec sleep 20
 PROGRAM
 chmod +x bin/mbtiles_to_pmtiles_program
+ends_by_signals bin/mbtiles-to-pmtiles a.mbtiles to/made.pmtiles
 mkdir to
-for signal in HUP:129 INT:130 TERM:143; do
-    env --default-signal bin/mbtiles-to-pmtiles a.mbtiles to/made.pmtiles >out 2>err </dev/null &
-    made=$!
-    sleep 1
-    holds [ -e to/made.pmtiles.new ]
-    kill -"${signal%:*}" $made
-    wait $made
-    got=$?
-    status "${signal#*:}"
-    holds nothing_in to
-done
 # a file that another run made meanwhile stays
 printf '#!/bin/bash\nexec sleep 20\n' >bin/mbtiles_to_pmtiles_program
 env --default-signal bin/mbtiles-to-pmtiles a.mbtiles to/made.pmtiles >out 2>err </dev/null &

@@ -257,6 +257,13 @@ holds cmp -s made.pmtiles "it's 100%?#.pmtiles"
 run "$program" -dash.mbtiles made.pmtiles
 status 2
 says '^mbtiles-to-pmtiles: usage: mbtiles-to-pmtiles '
+cp ./-dash.mbtiles $'caf\xe9.mbtiles'
+run "$convert" $'caf\xe9.mbtiles' made.pmtiles
+status 2
+says "^mbtiles-to-pmtiles: a word isn't text in UTF-8"
+run "$convert" --by-script $'caf\xe9.mbtiles' latin.pmtiles
+status 0
+holds same latin.pmtiles ./-dash.mbtiles
 set_of "two
 lines.mbtiles" "$three"
 run "$convert" "two

@@ -71,7 +71,7 @@ chmod +x bin/mbtiles_to_pmtiles_program
 export PROGRAM=$here/crates/mbtiles_to_pmtiles_program/out/mbtiles_to_pmtiles_program SAYS= SLEEPS=
 run bin/mbtiles-to-pmtiles a.mbtiles made.pmtiles
 status 0
-holds [ "$(cat err)" = "mbtiles-to-pmtiles: a.mbtiles is rewritten by sqlite3 first: it is in a form that isn't read directly" ]
+holds [ "$(cat err)" = "mbtiles-to-pmtiles: a.mbtiles is rewritten by sqlite3 first, to a plain file beside OUT" ]
 holds same made.pmtiles a.mbtiles
 holds nothing_left
 SAYS='it has no sense' run bin/mbtiles-to-pmtiles --overwrite a.mbtiles made.pmtiles
@@ -85,19 +85,9 @@ status 1
 says 'the command sqlite3 (package sqlite3) would rewrite it, and is missing'
 holds same made.pmtiles a.mbtiles
 rm -r path
-for signal in HUP:129 INT:130 TERM:143; do
-    mkdir to
-    SLEEPS=1 env --default-signal bin/mbtiles-to-pmtiles a.mbtiles to/made.pmtiles >out 2>err </dev/null &
-    made=$!
-    sleep 1
-    holds [ -e to/made.pmtiles.new ]
-    kill -"${signal%:*}" $made
-    wait $made
-    got=$?
-    status "${signal#*:}"
-    holds nothing_in to
-    rmdir to
-done
+export SLEEPS=1
+ends_by_signals bin/mbtiles-to-pmtiles a.mbtiles to/made.pmtiles
+unset SLEEPS
 # sqlite3 that doesn't end, one that loses a row, and one that finds no room
 echo 'case "$*" in *:memory:* | *file:*) exec "$real" "$@" ;; esac; sleep 20' | instead sqlite3
 mkdir to

@@ -6,10 +6,22 @@ convert=$bin/mbtiles-to-pmtiles
 rows_of() { echo "with recursive n(v) as (values (0) union all select v + 1 from n where v < 39) insert into $1 (zoom_level, tile_column, tile_row, $2) select 5, v % 8, v / 8, $3 from n"; }
 content="cast('content ' || (v % 7) || hex(zeroblob(150 + 10 * (v % 7))) as blob)"
 says_of_itself="insert into metadata values ('name', 'field'), ('format', 'png'), ('minzoom', '5'), ('maxzoom', '5')"
-# digests in small letters, as md5 prints them
-ids_by_digest() {
+# id_of MAKER BYTES: the 64-bit FNV-1a in decimal; a number of 16 digits; the MD5 in small letters
+id_of() {
+    case $1 in
+    tippecanoe)
+        hash=$((0xcbf29ce484222325))
+        for byte in $(printf %s "$2" | od -An -v -tu1); do hash=$(((hash ^ byte) * 0x100000001b3)); done
+        printf '%u' "$hash"
+        ;;
+    'a tool whose ids look like digests') printf '%016x' "$(printf %s "$2" | cksum | cut -d' ' -f1)" ;;
+    *) printf %s "$2" | md5sum | cut -d' ' -f1 ;;
+    esac
+}
+# contents with such ids, and their places
+ids_by() {
     for v in 0 1 2 3 4 5 6; do
-        echo "insert into images (tile_data, tile_id) select $content, '$(printf %s "$("$real" :memory: "select $content from (select $v as v)")" | md5sum | cut -d' ' -f1)' from (select $v as v);"
+        echo "insert into images (tile_data, tile_id) select $content, '$(id_of "$1" "$("$real" :memory: "select $content from (select $v as v)")")' from (select $v as v);"
     done
     rows_of map tile_id "(select tile_id from images where tile_data = $content)"
 }
@@ -32,9 +44,9 @@ tables_of() {
         $(rows_of tiles tile_data "cast(x'1f8b' || $content as blob)"); insert into metadata values ('format', 'pbf'), ('json', '{\"vector_layers\":[]}'), ('center', '0,0,5'), ('bounds', '-180,-85,180,85'), ('scheme', 'tms')" ;;
     tilemaker) echo "pragma page_size = 65536; create table if not exists metadata (name text, value text, unique (name)); create table if not exists tiles (zoom_level integer, tile_column integer, tile_row integer, tile_data blob, unique (zoom_level, tile_column, tile_row));
         $(rows_of tiles tile_data "$content"); $says_of_itself" ;;
-    tippecanoe) echo "create table metadata (name text, value text); create unique index name on metadata (name); create table map (zoom_level integer, tile_column integer, tile_row integer, tile_id text); create table images (tile_data blob, tile_id text);
+    tippecanoe | 'a tool whose ids look like digests') echo "create table metadata (name text, value text); create unique index name on metadata (name); create table map (zoom_level integer, tile_column integer, tile_row integer, tile_id text); create table images (tile_data blob, tile_id text);
         create unique index map_index on map (zoom_level, tile_column, tile_row); create unique index images_id on images (tile_id); $view_of_map;
-        with recursive n(v) as (values (0) union all select v + 1 from n where v < 6) insert into images (tile_data, tile_id) select $content, printf('%016x', 1000003 * (v + 1)) from n; $(rows_of map tile_id "printf('%016x', 1000003 * (v % 7 + 1))"); $says_of_itself" ;;
+        $(ids_by "$1"); $says_of_itself" ;;
     'tippecanoe, flat') echo "create table metadata (name text, value text); create table tiles (zoom_level integer, tile_column integer, tile_row integer, tile_data blob); $(rows_of tiles tile_data "$content");
         create unique index name on metadata (name); create unique index tile_index on tiles (zoom_level, tile_column, tile_row); $says_of_itself" ;;
     mbutil) echo "create table tiles (zoom_level integer, tile_column integer, tile_row integer, tile_data blob); create table metadata (name text, value text); create table grids (zoom_level integer, tile_column integer, tile_row integer, grid blob);
@@ -45,7 +57,7 @@ tables_of() {
         create unique index map_index on map (zoom_level, tile_column, tile_row); create unique index grid_key_lookup on grid_key (grid_id, key_name); create unique index keymap_lookup on keymap (key_name);
         create unique index grid_utfgrid_lookup on grid_utfgrid (grid_id); create unique index images_id on images (tile_id); create unique index name on metadata (name); $view_of_map;
         create view grids as select map.zoom_level as zoom_level, map.tile_column as tile_column, map.tile_row as tile_row, grid_utfgrid.grid_utfgrid as grid from map join grid_utfgrid on grid_utfgrid.grid_id = map.grid_id;
-        $(ids_by_digest); $says_of_itself" ;;
+        $(ids_by "$1"); $says_of_itself" ;;
     esac
 }
 
@@ -55,7 +67,7 @@ equal() {
     shift
     run "$convert" --overwrite "$@" "$file" made.pmtiles
     # ids of 16 or 32 digits that are no digests are refused, in words that name the way that takes them
-    if [ "$maker $*" = 'tippecanoe ' ]; then
+    if [ "$maker $*" = 'a tool whose ids look like digests ' ]; then
         status 1
         says '--by-script takes it without its hashes'
         return
@@ -66,7 +78,7 @@ equal() {
     holds same_has '40 5 5 '
 }
 
-for maker in Planetiler 'Planetiler, not compact' 'GDAL, images' 'GDAL, vectors' tilemaker tippecanoe 'tippecanoe, flat' mbutil MapTiler; do
+for maker in Planetiler 'Planetiler, not compact' 'GDAL, images' 'GDAL, vectors' tilemaker tippecanoe 'a tool whose ids look like digests' 'tippecanoe, flat' mbutil MapTiler; do
     sql=$(tables_of "$maker")
     fresh "a file as $maker makes it"
     "$real" whole.mbtiles "$sql" >/dev/null

@@ -38,7 +38,7 @@ pub struct PlaceValues {
 /// How many rows a reading leaves out, and why. A count stays at the greatest number of 64 bits.
 #[derive(Clone, Copy, Debug)]
 pub struct LeftOut {
-    /// Rows of tiles of which the zoom, the column or the row is no whole number.
+    /// Rows of tiles of which the zoom, the column or the row is no whole number of 64 bits.
     pub without_number: u64,
     /// Rows of tiles of a zoom of 31 or more.
     pub too_deep: u64,

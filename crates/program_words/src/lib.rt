@@ -45,7 +45,7 @@ pub fn words_of(rt: &HostRuntime, tool: &str) -> Result<Option<Vec<TextVal>>, Al
     let words = given_words(rt, rt.alloc());
     match &words {
         Err(_) => say_out_of_memory(rt, tool),
-        Ok(None) => say_usage(rt, tool),
+        Ok(None) => said::say_unread_words(rt, tool),
         Ok(Some(_)) => {}
     }
     words

@@ -55,6 +55,13 @@ pub fn say_usage(rt: &HostRuntime, tool: &str) {
     let _ = eprintln!(rt; "{tool}: these words are no command; {tool} --help tells all");
 }
 
+/// Says that the words of the command line can't be read, as where one of them isn't text in UTF-8.
+pub(crate) fn say_unread_words(rt: &HostRuntime, tool: &str) {
+    let _ = eprintln!(rt;
+        "{tool}: a word isn't text in UTF-8; give the file a name that is, or a link with such a name"
+    );
+}
+
 /// Says that memory ran out.
 pub fn say_out_of_memory(rt: &HostRuntime, tool: &str) {
     let _ = eprintln!(rt; "{tool}: out of memory; a smaller set needs less");
