@@ -30,7 +30,7 @@ SUBJECTS = (
     ("coordinates and Hilbert ids", "tile_ids"),
     ("reading an archive", "pm_format/Varint pm_format/Directory pm_format/Scan pm_format/Header pm_format/Opened pm_format/LookUp pm_format/Sound pm_reader"),
     ("a well-formed archive, and the one archive of a map of tiles", "pm_format/Options pm_format/WellFormed pm_writer pm_contents"),
-    ("that the archive has exactly the tiles", "tile_places tile_bridge/Convert"),
+    ("that the archive has exactly the tiles", "mb_lists/Places tile_bridge/Convert"),
     ("what is printed", "tileset"),
 )
 

@@ -7,7 +7,7 @@ import specs
 
 TOP = os.path.dirname(os.path.dirname(os.path.abspath(__file__)))
 CRATES = os.path.join(TOP, 'crates')
-SHARED = ('refused', 'refused_sets', 'rows_shared', 'archive_words', 'set_words', 'program_words')
+SHARED = ('refused', 'refused_sets', 'rows_shared', 'set_words', 'program_words')
 # Errors that are listed whole: those of the objects of the outside, and those of calls that one of their own belongs to.
 WHOLE = ('ReadFault', 'WriteFault', 'SinkFault', 'StoreError', 'TreeError', 'InputError', 'ConvertError', 'ImportError', 'ExtractError', 'Outcome', 'VerifyOutcome', 'ServeOutcome', 'ExtractOutcome')
 # Words of clauses that name a refusal.

@@ -99,7 +99,7 @@ def public_definitions():
         known = {}
         for path in calls.sources(crate):
             for module, group in re.findall(r"^\s*ghost use ([\w.]+?)\.\{([^}]*)\}", specs.text(path), re.M):
-                known.update({item.strip(): module for item in group.split(",")})
+                known.update({item.strip(): specs.home(module, item.strip()) for item in group.split(",")})
         words = set().union(*(specs.words(body) for call in calls.calls_of(crate) for _, body in call.clauses))
         for name in {it.split(".")[0] for it in words} & set(known):
             path = specs.file_of(known[name])

@@ -23,22 +23,45 @@ OTHERS = {('import_rows', 'mb_metadata', 'get_metadata')}
 BEGIN, END = '<!-- tables: tools/safety_table.py -->', '<!-- end of the tables -->'
 
 
-def called(crate):
-    """The names of all calls that stand in a crate's sources."""
-    return {name for path in sources(crate) for name in re.findall(r'(?<!fn )\b(\w+)(?:::<[^;{]*?>)?\(', text(path))}
+def called(paths):
+    """The names of all calls that stand in these files."""
+    return {name for path in paths for name in re.findall(r'(?<!fn )\b(\w+)(?:::<[^;{]*?>)?\(', text(path))}
+
+
+def used(paths, crate):
+    """The names that files take from a crate, or from their own where it is `crate`."""
+    uses = (group for path in paths for group in re.findall(rf'^use {crate}::([^;]*);', text(path), re.M))
+    return {name for group in uses for name in re.findall(r'\w+', group)}
+
+
+def reached(paths, shared):
+    """The files of a shared crate that these files use, by the names that its lib.rt lends, and those that they use."""
+    lib = text(f'{CRATES}/{shared}/src/lib.rt')
+    lends = {module: set(re.findall(r'\w+', names)) for module, names in re.findall(r'^pub use (\w+)::([^;]*);', lib, re.M)}
+    files = {os.path.basename(path)[:-3]: path for path in sources(shared)}
+    found, open_ = set(), used(paths, shared)
+    while open_:
+        more = {files[module] for module in files if module in open_ or lends.get(module, set()) & open_} - found
+        found |= more
+        open_ = used(more, 'crate')
+    return found
 
 
 def callers():
-    """What each program of rows calls, also by what it shares with others."""
-    under = below()
-    return {
-        crate: called(crate).union(*(called(it) for it in SHARED if it in under[crate]))
-        for crate in crate_names() if crate.endswith('_rows')
-    }
+    """What each program of rows calls, also by what it shares with others, and the crates that it stands on by these files."""
+    needs, found = specs.crate_lines(TOP), {}
+    for crate in crate_names():
+        if crate.endswith('_rows'):
+            files = set(sources(crate))
+            for it in reversed([it for it in crate_names() if it in SHARED and it in needs[crate]]):
+                files |= reached(files, it)
+            named = set().union(*(re.findall(r'^use (\w+)\b', text(path), re.M) for path in files)) & set(needs) - set(SHARED)
+            found[crate] = called(files), named.union(*(specs.below(needs, it) for it in named))
+    return found
 
 
-def tried(call, programs, shared):
-    return [crate for crate, names in programs.items() if call.name in names and call.crate in shared[crate] and (crate, call.crate, call.name) not in OTHERS]
+def tried(call, programs):
+    return [crate for crate, (names, under) in programs.items() if call.name in names and call.crate in under and (crate, call.crate, call.name) not in OTHERS]
 
 
 def failing(crate):
@@ -68,7 +91,7 @@ def tables(ran):
     for row, (program, *_, names) in refused_memory.LINES.items():
         for name in names.split() if row in ran else ():
             memory.setdefault(name, []).append(row)
-    naming = {crate: called(crate) for crate in libraries()}
+    naming = {crate: called(sources(crate)) for crate in libraries()}
     out, holes, silent = [], [], []
     for crate in naming:
         rows = []
@@ -76,7 +99,7 @@ def tables(ran):
             if not call.error():
                 silent.append(call)
                 continue
-            where = tried(call, programs, shared)
+            where = tried(call, programs)
             used = [it for it in callers_of(call, naming) if it == crate or crate in shared[it]]
             shown = cell(where) if where or not used else 'by calls of ' + cell(used)
             after = cell(call.after()) if call.writes() else 'takes nothing to write on'

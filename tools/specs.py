@@ -38,13 +38,28 @@ def below(needs, crate):
     return seen
 
 
+@functools.lru_cache(None)
+def handed_on(module):
+    """The names that a module passes on, each with where it has it from."""
+    path = file_of(module)
+    groups = re.findall(r"^(?:unfoldable )?pub use ([\w.]+?)\.\{([^}]*)\}", text(path), re.M) if path else []
+    return {name.strip(): origin for origin, group in groups for name in group.split(",")}
+
+
+def home(module, name):
+    """The module that a name comes from."""
+    while name in handed_on(module):
+        module = handed_on(module)[name]
+    return module
+
+
 def imports(source):
     """What each name of a file is imported as: name -> (module, name there), and alias -> module."""
     names, aliases = {}, {}
     for module, group in re.findall(r"^(?:ghost )?use ([\w.]+?)\.\{([^}]*)\}", source, re.M):
         for item in group.split(","):
             there, _, here = item.strip().partition(" as ")
-            names[(here or there).strip()] = (module, there.strip())
+            names[(here or there).strip()] = (home(module, there.strip()), there.strip())
     for module, alias in re.findall(r"^(?:ghost )?use ([\w.]+) as (\w+)", source, re.M):
         aliases[alias] = module
     return names, aliases

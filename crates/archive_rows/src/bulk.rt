@@ -3,10 +3,9 @@ ghost use Rattle.std.specs.Prelude.{◌≡◌, ◌≤◌, ◌<◌, ℕ, List, If
 ghost use Rattle.pm_format.specs.Options.{Options};
 ghost use Rattle.pm_writer.specs.Stream.{IsTied};
 
-use archive_words::Counted;
 use pm_format::{Backend, MemMedium, PmtResult, TileType};
 use pm_writer::{ArchivePlaces, PmTilesStreamWriter, PmTilesWriter};
-use rows_shared::{Words, number, said};
+use rows_shared::{Counted, Words, number, said};
 use std::alloc::Global;
 use tile_ids::{TileCoord, TileId};
 

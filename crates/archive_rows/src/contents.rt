@@ -2,9 +2,8 @@
 ghost use Rattle.std.specs.Prelude.{ℕ, List};
 ghost use Rattle.pm_contents.specs.Contents.{Holds};
 
-use archive_words::{Mode, Mute};
 use pm_contents::Contents;
-use rows_shared::{Words, bytes, number};
+use rows_shared::{Mode, Mute, Words, bytes, number};
 use std::alloc::Global;
 use std::fmt::Write;
 

@@ -1,9 +1,8 @@
 // Extractions from a source to a new medium.
 use crate::kept::Kept;
 use crate::media::{digest, holding, part};
-use archive_words::Counted;
 use pm_format::{Backend, MemMedium};
-use rows_shared::{Words, bytes, number, said, say, texts};
+use rows_shared::{Counted, Words, bytes, number, said, say, texts};
 use std::alloc::Global;
 use tile_extract::{ExtractOutcome, extract, extract_status, run_extract};
 use tile_ids::TileCoord;

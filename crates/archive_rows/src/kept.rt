@@ -1,8 +1,8 @@
 // What is kept from line to line.
-use archive_words::Counted;
 use pm_format::{MemMedium, TileType};
 use pm_reader::{HashMapCache, LruDirCache};
 use pm_writer::PmTilesWriter;
+use rows_shared::Counted;
 use std::alloc::Global;
 
 // The medium of most calls, the options of a writer, two caches, what each medium of an extraction has at first, and the medium of the last one.

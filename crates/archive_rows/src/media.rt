@@ -1,7 +1,6 @@
 // Calls of the medium that is kept.
-use archive_words::Counted;
 use pm_format::MemMedium;
-use rows_shared::{Words, bytes, number, say, say_bytes, texts};
+use rows_shared::{Counted, Words, bytes, number, say, say_bytes, texts};
 use std::alloc::Global;
 use tile_hash::md5_text;
 

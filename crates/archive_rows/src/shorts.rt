@@ -1,8 +1,7 @@
 // Calls over a medium that tells nothing, one of whose reads is answered by numbers in place of bytes.
 use crate::kept::Kept;
 use crate::{asking, extracting};
-use archive_words::{Mode, Mute};
-use rows_shared::{Words, number, say};
+use rows_shared::{Mode, Mute, Words, number, say};
 use std::alloc::Global;
 
 // Which read, and the numbers: how many bytes are said to be asked for, `-` for as many as were, and how many came.

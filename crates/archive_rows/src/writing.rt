@@ -2,10 +2,9 @@
 use crate::adds::{all_stated, all_streamed};
 use crate::kept::Kept;
 use crate::media::failing;
-use archive_words::Counted;
 use pm_format::MemMedium;
 use pm_writer::{PmTilesStreamWriter, PmTilesWriter};
-use rows_shared::{Words, number, said};
+use rows_shared::{Counted, Words, number, said};
 use std::alloc::Global;
 
 // A writer that borrows its medium from the beginning.

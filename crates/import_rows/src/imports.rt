@@ -1,11 +1,10 @@
 // Imports of archives.
 use crate::archives::backend_of;
 use crate::sets::say_all;
-use archive_words::{Counted, Mode, Mute};
 use mb_store::{MemStore, TileStore};
 use mb_tables::MbtType;
 use pm_format::MemMedium;
-use rows_shared::{Words, bytes, number, said, say};
+use rows_shared::{Counted, Mode, Mute, Words, bytes, number, said, say};
 use std::alloc::Global;
 use tile_import::import;
 

@@ -20,3 +20,4 @@ pub mod StandsLemmas
 pub mod FrontLemmas
 pub mod Dropped
 pub mod DatingLemmas
+pub mod AddressLemmas

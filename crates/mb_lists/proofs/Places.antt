@@ -1,9 +1,10 @@
 -- Places that the order doesn't tell apart are equal.
-use Rattle.std.proofs.Common.{◌≡◌, refl}
+use Rattle.std.proofs.Common.{◌≡◌, true, refl}
 use Rattle.std.specs.declared.cmp.Ordering.{Ordering}
 use Rattle.std.specs.declared.cmp.Ordering.TheVariants.{Less, Equal, Greater}
-use Rattle.std.specs.Ordering.{nat_cmp, ordering_then}
+use Rattle.std.specs.Ordering.{eq_by_cmp, nat_cmp, ordering_then}
 use Rattle.std.specs.FinMap.{IsAntisymmetric, nat_cmp-IsAntisymmetric}
+use Rattle.mb_lists.proofs.Items.{equal_of}
 use Rattle.mb_tables.specs.Tiles.{Place, place_cmp}
 
 then_equal : (a b : Ordering) → ordering_then a b ≡ Equal → (a ≡ Equal) × (b ≡ Equal)
@@ -11,11 +12,14 @@ then_equal Less b h = cc
 then_equal Equal b h = (refl, h)
 then_equal Greater b h = cc
 
-same_place : (p q : Place) → p.zoom ≡ q.zoom → p.column ≡ q.column → p.row ≡ q.row → p ≡ q
-same_place p q z c r = λ i. record { zoom = z i; column = c i; row = r i }
+pub from_parts : (p q : Place) → p.zoom ≡ q.zoom → p.column ≡ q.column → p.row ≡ q.row → p ≡ q
+from_parts p q z c r = λ i. record { zoom = z i; column = c i; row = r i }
 
 pub places_antisymmetric : IsAntisymmetric place_cmp
 places_antisymmetric p q h =
     let zs = then_equal (nat_cmp p.zoom q.zoom) (ordering_then (nat_cmp p.column q.column) (nat_cmp p.row q.row)) h in
     let cs = then_equal (nat_cmp p.column q.column) (nat_cmp p.row q.row) zs.1 in
-    same_place p q (nat_cmp-IsAntisymmetric p.zoom q.zoom zs.0) (nat_cmp-IsAntisymmetric p.column q.column cs.0) (nat_cmp-IsAntisymmetric p.row q.row cs.1)
+    from_parts p q (nat_cmp-IsAntisymmetric p.zoom q.zoom zs.0) (nat_cmp-IsAntisymmetric p.column q.column cs.0) (nat_cmp-IsAntisymmetric p.row q.row cs.1)
+
+pub same_place : (p q : Place) → eq_by_cmp place_cmp p q ≡ true → p ≡ q
+same_place p q h = places_antisymmetric p q (equal_of (place_cmp p q) h)

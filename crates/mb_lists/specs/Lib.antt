@@ -7,3 +7,4 @@ pub mod Clearing
 pub mod CellCode
 pub mod Dating
 pub mod Dropping
+pub mod Places

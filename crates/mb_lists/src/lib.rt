@@ -8,6 +8,7 @@ mod dating;
 mod dropping;
 mod entries;
 mod kinds;
+pub mod laws;
 mod name_list;
 mod placing;
 mod row_coord;

@@ -29,7 +29,7 @@ use Rattle.mb_loaded.proofs.DatedLemmas.{dates_are, dates_some}
 use Rattle.mb_loaded.proofs.DroppedHeld.{any_unit, contents_with, edited_with}
 use Rattle.mb_loaded.proofs.EditMaps.{get-with_value}
 use Rattle.mb_lists.proofs.Items.{equal_of}
-use Rattle.mb_lists.proofs.Places.{places_antisymmetric}
+use Rattle.mb_lists.proofs.Places.{same_place}
 use Rattle.mb_load.proofs.PutRowLemmas.{digest_right, id_known}
 use Rattle.mb_tables.proofs.CellLemmas.{cell_cmp-IsAntisymmetric}
 use Rattle.mb_tables.proofs.TileLemmas.{places_total}
@@ -69,9 +69,6 @@ fits_same s s' p rows l t i d fits = record {
 pub by_test : {A : Type 0} (b : Bool) → (b ≡ true → A) → (b ≡ false → A) → A
 by_test true f g = f refl
 by_test false f g = g refl
-
-pub same_place : (p q : Place) → eq_by_cmp place_cmp p q ≡ true → p ≡ q
-same_place p q h = places_antisymmetric p q (equal_of (place_cmp p q) h)
 
 -- of two tests that agree in a set, and at a place
 pub put_placed : (b : Bool) (l c : Bool) (x y : Bool) → l ≡ c → x ≡ (c && y) → cond b l x ≡ (c && cond b true y)

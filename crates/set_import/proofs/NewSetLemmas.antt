@@ -5,8 +5,8 @@ use Rattle.std.specs.FinMap.{empty, get, get-empty}
 use Rattle.std.specs.Ordering.{nat_cmp}
 use Rattle.std.specs.Cmp.Lexicographic.{slice_cmp}
 use Rattle.std.proofs.lemmas.Bool.{false≢true}
-use Rattle.archive_metadata.proofs.NameLemmas.{algorithm_unsaid}
-use Rattle.archive_metadata.specs.Document.{IsDocumentOf}
+use Rattle.set_options.proofs.NameLemmas.{algorithm_unsaid}
+use Rattle.set_options.specs.Document.{IsDocumentOf}
 use Rattle.mb_constraints.specs.Algorithm.{algorithm_by, unknown_name}
 use Rattle.mb_constraints.specs.Described.{index_missing, metadata_missing}
 use Rattle.mb_edit.proofs.LawLemmas.{get-patched}
@@ -37,7 +37,7 @@ use Rattle.pm_format.specs.LookUp.{archive_map}
 use Rattle.set_import.specs.Filling.{IsMade, flat_made}
 use Rattle.set_import.specs.NewSet.{IsNewSet}
 use Rattle.set_import.specs.Said.{IsSaidBy}
-use Rattle.tile_places.specs.Places.{address}
+use Rattle.mb_lists.specs.Places.{address}
 use Rattle.tile_hash.specs.declared.algorithm.HashAlgorithm.TheVariants.{Md5}
 use Rattle.tile_import.specs.Tiles.{HasTilesOf}
 use Rattle.tile_json.specs.declared.document.TileJson.{TileJson}

@@ -18,7 +18,7 @@ use Rattle.mb_loaded.specs.State.{State}
 use Rattle.mb_tables.proofs.TileLemmas.{get-solid}
 use Rattle.mb_tables.specs.Tiles.{Place, TileSet, is_solid, place_cmp, solid}
 use Rattle.tile_bridge.specs.Convert.{HoldsExactly, IsArchiveOf}
-use Rattle.tile_places.specs.Places.{address}
+use Rattle.mb_lists.specs.Places.{address}
 use Rattle.tile_import.proofs.PlacingLemmas.{At, place_address, place_on_board}
 use Rattle.tile_import.specs.Putting.{place_of_id}
 use Rattle.tile_import.specs.Tiles.{HasTilesOf}

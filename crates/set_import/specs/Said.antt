@@ -1,7 +1,7 @@
 -- What an archive says of itself, read out of its bytes.
 use Rattle.std.specs.Prelude.{◌≡◌, ◌⊎◌, ℕ, List, None, Result, Ok, Err}
 use Rattle.std.specs.Str.{IsUtf8}
-use Rattle.archive_metadata.specs.Document.{IsDocumentOf, object_in}
+use Rattle.set_options.specs.Document.{IsDocumentOf, object_in}
 use Rattle.pm_format.specs.Opened.{Opened, opened}
 use Rattle.pm_format.specs.declared.error.PmtError.{PmtError}
 use Rattle.pm_format.specs.declared.error.PmtError.TheVariants as errors

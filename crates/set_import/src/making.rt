@@ -13,7 +13,7 @@ use std::alloc::Global;
 use tile_import::ImportError;
 
 /// Makes a flat set of an archive in a store: the tables that aren't there, the archive's tiles, and in the metadata what the archive says of itself by its header and its own metadata
-/// (`archive_metadata::document_of_archive`). It answers how many tiles there are. These are three commits.
+/// (`set_options::document_of_archive`). It answers how many tiles there are. These are three commits.
 ///
 /// The first of these that holds is answered: `Archive` with a refusal of opening, with `InvalidMetadataUtf8Encoding` or the range's refusal for metadata that isn't there or isn't UTF-8, or
 /// with `InvalidMetadata` where it isn't an object of JSON, nested at most 127 deep; then the answers of `tile_import::import` into the set as its tables are made.

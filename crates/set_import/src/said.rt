@@ -7,9 +7,9 @@ ghost use Rattle.pm_reader.specs.Reads.{GrewBetween, ReadsOnly};
 ghost use Rattle.pm_reader.specs.TileJson.{DocumentCauses};
 ghost use Rattle.set_import.specs.Said.{DocumentAnswers, IsDocumentBy, SaidAnswers, SaidCauses};
 
-use archive_metadata::document_of_archive;
 use pm_format::{Backend, Header, PmtError, PmtResult};
 use pm_reader::ReaderState;
+use set_options::document_of_archive;
 use std::alloc::Global;
 use tile_import::{ImportError, of_reader};
 use tile_json::{DocumentError, TileJson};

@@ -1,3 +1,6 @@
 pub mod ExtentLemmas
 pub mod FoldLemmas
 pub mod StepLemmas
+pub mod DegreesLemmas
+pub mod NameLemmas
+pub mod WholeLemmas

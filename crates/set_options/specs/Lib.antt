@@ -5,3 +5,7 @@ pub mod Facts
 pub mod Format
 pub mod OptionsOfSet
 pub mod Understood
+pub mod DegreesText
+pub mod Document
+pub mod ExtentsText
+pub mod Parting

@@ -16,11 +16,11 @@ use Rattle.mb_tables.proofs.TileLemmas.{places_total, get-solid}
 use Rattle.mb_tables.specs.Tiles.{Place, TileSet, is_solid, place_cmp, solid}
 use Rattle.pm_format.specs.LookUp.{archive_map}
 use Rattle.tile_bridge.specs.Adds.{AreAddsOf, Ranged, add_of, bytes_at, content_at, shown}
-use Rattle.tile_places.specs.Places.{InRange, address}
+use Rattle.mb_lists.specs.Places.{InRange, address}
 use Rattle.tile_bridge.specs.Convert.{HoldsExactly}
 use Rattle.tile_bridge.specs.declared.adds.Add.{Add}
 use Rattle.tile_bridge.proofs.Members.{Has, find_has, has_back, has_find, has_permuted, sorted_true}
-use Rattle.tile_places.proofs.PlaceLemmas.{address_within, one_tie}
+use Rattle.mb_lists.proofs.AddressLemmas.{address_within, one_tie}
 use Rattle.mb_load.proofs.EditedFrom.{same_place}
 
 abbrev pub Pairs : Type 0

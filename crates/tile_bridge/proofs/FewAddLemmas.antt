@@ -13,7 +13,7 @@ use Rattle.pm_format.specs.Options.{Options}
 use Rattle.pm_writer.specs.Bounds.{AllSized}
 use Rattle.pm_writer.specs.Few.{AreFew}
 use Rattle.tile_bridge.specs.Adds.{add_of}
-use Rattle.tile_places.specs.Places.{address}
+use Rattle.mb_lists.specs.Places.{address}
 use Rattle.tile_bridge.specs.Outcome.{overflows}
 use Rattle.tile_bridge.proofs.AddLemmas.{Pairs, added}
 

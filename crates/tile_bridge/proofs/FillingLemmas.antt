@@ -15,10 +15,10 @@ use Rattle.mb_lists.specs.Entries.{blob_cell, place_at}
 use Rattle.mb_tables.specs.Tiles.{Place, TileSet}
 use Rattle.mb_tables.specs.declared.cell.Cell.{Cell}
 use Rattle.tile_bridge.specs.Adds.{AreFilled, AreWithin, Ranged, add_of, bytes_at, cell_bytes, shown}
-use Rattle.tile_places.specs.Places.{InRange, address}
+use Rattle.mb_lists.specs.Places.{InRange, address}
 use Rattle.tile_bridge.specs.declared.adds.Add.{Add}
 use Rattle.tile_bridge.proofs.AddLemmas.{Pairs, added}
-use Rattle.tile_places.proofs.PlaceLemmas.{coord_address, coord_placed}
+use Rattle.mb_lists.proofs.AddressLemmas.{coord_address, coord_placed}
 
 -- what a tile's cell has
 cell_has : (c : Option (List ℕ)) (cell : Cell) → blob_cell c ≡ cell → cell_bytes cell ≡ bytes_of c

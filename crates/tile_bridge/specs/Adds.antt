@@ -8,7 +8,7 @@ use Rattle.mb_loaded.specs.Aggregate.{bytes_of}
 use Rattle.mb_tables.specs.Tiles.{Place, TileSet, solid}
 use Rattle.mb_tables.specs.declared.cell.Cell.{Cell}
 use Rattle.mb_tables.specs.declared.cell.Cell.TheVariants.{Blob}
-use Rattle.tile_places.specs.Places.{InRange, address}
+use Rattle.mb_lists.specs.Places.{InRange, address}
 use Rattle.tile_bridge.specs.declared.adds.Add.{Add}
 
 -- the bytes under an id, if any

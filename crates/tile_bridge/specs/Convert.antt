@@ -16,7 +16,7 @@ use Rattle.pm_format.specs.WellFormed.{WellFormed}
 use Rattle.pm_writer.specs.Archive.{canon}
 use Rattle.pm_writer.specs.Pieces.{IsHidden}
 use Rattle.pm_writer.specs.Places.{places_read}
-use Rattle.tile_places.specs.Places.{address}
+use Rattle.mb_lists.specs.Places.{address}
 use Rattle.tile_bridge.specs.ReadingBack.{IsReadBack}
 use Rattle.tile_bridge.specs.Stores.{IsDue, IsRefused}
 use Rattle.tile_bridge.specs.declared.error.ConvertError.{ConvertError}

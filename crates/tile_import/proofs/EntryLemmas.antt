@@ -7,7 +7,7 @@ use Rattle.std.specs.FinMap.{empty, get, len}
 use Rattle.pm_format.specs.Directory.{Entry}
 use Rattle.pm_format.specs.declared.header.Header.{Header}
 use Rattle.mb_tables.specs.Tiles.{Place, TileSet}
-use Rattle.tile_places.specs.Places.{InRange, address}
+use Rattle.mb_lists.specs.Places.{InRange, address}
 use Rattle.pm_walk.specs.Collecting.{AllShallow, AreOrdered, contents_of}
 use Rattle.pm_walk.specs.Parts.{tile_count}
 use Rattle.pm_walk.proofs.CoveringLemmas.{covering, covers_here, covers_later, has_id, none_below}

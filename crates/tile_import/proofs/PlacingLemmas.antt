@@ -9,14 +9,14 @@ use Rattle.tile_ids.specs.Coord.{Coord, IsCoord}
 use Rattle.tile_ids.specs.Hilbert.{coord_of, hilbert, id_of, pyramid, tile_id}
 use Rattle.tile_ids.specs.declared.id.TheConstants.{MAX_TILE_ID}
 use Rattle.mb_lists.specs.Entries.{place_at}
-use Rattle.mb_load.proofs.EditedFrom.{same_place}
+use Rattle.mb_lists.proofs.Places.{same_place}
 use Rattle.mb_loaded.specs.Edits.{with_tile, with_tiles}
 use Rattle.mb_loaded.specs.Held.{Held}
 use Rattle.mb_loaded.specs.Editable.{IsOnBoard}
 use Rattle.mb_tables.proofs.TileLemmas.{places_total}
 use Rattle.mb_tables.specs.Tiles.{Place, TileSet, place_cmp}
-use Rattle.tile_places.proofs.PlaceLemmas.{coord_address, coord_placed, one_tie}
-use Rattle.tile_places.specs.Places.{InRange, address}
+use Rattle.mb_lists.proofs.AddressLemmas.{coord_address, coord_placed, one_tie}
+use Rattle.mb_lists.specs.Places.{InRange, address}
 use Rattle.pm_walk.specs.declared.extent.TheConstants.{FIRST_TOO_DEEP}
 use Rattle.tile_import.specs.Putting.{AreOnBoard, place_of_id, with_ids}
 

@@ -22,7 +22,7 @@ use Rattle.pm_walk.specs.Walk.{all_walked}
 use Rattle.pm_walk.specs.declared.extent.TheConstants.{FIRST_TOO_DEEP}
 use Rattle.mb_loaded.specs.Editable.{IsOnBoard}
 use Rattle.mb_tables.specs.Tiles.{Place, place_cmp}
-use Rattle.tile_places.specs.Places.{InRange, address}
+use Rattle.mb_lists.specs.Places.{InRange, address}
 use Rattle.tile_import.proofs.EntryLemmas.{contents_on_board, found_at, get_entries}
 use Rattle.pm_walk.proofs.PassedLemmas.{AllThere, all_ordered, all_shallow, all_there, contents_at}
 use Rattle.tile_import.specs.Putting.{AreOnBoard, with_entries}

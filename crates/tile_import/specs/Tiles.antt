@@ -6,7 +6,7 @@ use Rattle.tile_ids.specs.Hilbert.{pyramid}
 use Rattle.pm_format.specs.LookUp.{archive_map}
 use Rattle.mb_loaded.specs.Editable.{IsOnBoard}
 use Rattle.mb_tables.specs.Tiles.{Place, TileSet}
-use Rattle.tile_places.specs.Places.{address}
+use Rattle.mb_lists.specs.Places.{address}
 
 -- A set has exactly the tiles of at least one byte of an archive, each at the place of its id, and the archive has none of zoom 31.
 pub record HasTilesOf (b : List ℕ) (tiles : TileSet) : Type 0 where

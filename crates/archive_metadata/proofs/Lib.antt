@@ -1,3 +1,0 @@
-pub mod DegreesLemmas
-pub mod NameLemmas
-pub mod WholeLemmas

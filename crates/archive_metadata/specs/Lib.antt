@@ -1,4 +1,0 @@
-pub mod DegreesText
-pub mod Document
-pub mod Extents
-pub mod Parting

@@ -1,4 +1,0 @@
-//! Places of tiles, and their ids.
-#![tactic(auto)]
-
-pub mod laws;
