@@ -2,10 +2,10 @@
 # a copy.
 import random
 
-from cases.check_cases import aggregate
 from cases.insert_cases import SAME_FNV, SAME_MD5
 from cases.patch_cases import named, some_set
 from models import shown
+from models.aggregates import aggregate
 from models.copied import SIDE, Copier, Set, copy, kind
 from models.hashes import digest
 from models.held_sets import cell_word

@@ -1,11 +1,11 @@
 # Rows that copy a set with a patch, for tools/cases/copy_rows.py. The source, the patch and the destination are made by a line each; the tables of the destination are printed after a copy.
 import random
 
-from cases.check_cases import aggregate
 from cases.copy_cases import COPIES, LAYOUTS, MODES, TYPES, Cases, other_of, zooms_of
 from cases.insert_cases import SAME_FNV, SAME_MD5
 from cases.patch_cases import named, some_set
 from models import shown
+from models.aggregates import aggregate
 from models.copied import SIDE, Copier, Set, copy_patched, made, patched
 from models.names import AFTER, AGG, BEFORE
 from models.tables import bad_index

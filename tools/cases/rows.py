@@ -1,5 +1,7 @@
 # Lines of a rows program: calls, and what must be printed.
+import functools
 import os
+import re
 
 TOP = os.path.dirname(os.path.dirname(os.path.dirname(os.path.abspath(__file__))))
 
@@ -30,21 +32,20 @@ class Rows:
             file.write(data)
 
 
+ZEROS = re.compile(rb'\0{40,}')
+
+
+@functools.lru_cache(1024)
 def word(data):
     """Bytes as a word: hexadecimal digits, and long rows of zeros by their number."""
     pieces, at = [], 0
-    while at < len(data):
-        end = at
-        while end < len(data) and data[end] == 0:
-            end += 1
-        if end - at >= 40:
-            pieces.append(f'x00*{end - at}')
-            at = end
-            continue
-        zeros = data.find(bytes(40), at)
-        end = len(data) if zeros < 0 else zeros
-        pieces.append('x' + data[at:end].hex())
-        at = end
+    for zeros in ZEROS.finditer(data):
+        if at < zeros.start():
+            pieces.append('x' + data[at:zeros.start()].hex())
+        pieces.append(f'x00*{len(zeros[0])}')
+        at = zeros.end()
+    if at < len(data):
+        pieces.append('x' + data[at:].hex())
     return ','.join(pieces) or 'x'
 
 

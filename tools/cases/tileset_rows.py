@@ -9,6 +9,7 @@ Ids and archives are laid out here a second time, apart from tools/models/pmtile
 made there: an error in one of the two alone fails. The same holds of sets: tools/models/sets.py loads and patches them as they are
 converted, tools/models/patches.py works on the rows of the tables, and tools/models/bases.py holds one against the other.
 """
+import functools
 import hashlib
 import os
 import random
@@ -70,6 +71,7 @@ def coord(number):
 
 # Archives.
 
+@functools.lru_cache(65536)
 def varint(n):
     if n < 128:
         return n.to_bytes(1, "little")

@@ -1,6 +1,8 @@
 # What copying one set into another makes of the tables of its destination, and when it is refused, for tools/cases/copy_cases.py. The rules are worked out on rows of tables.
-from cases.check_cases import aggregate, hash_refusal
+import collections
+
 from models import shown
+from models.aggregates import aggregate, hash_refusal
 from models.hashes import digest
 from models.names import AFTER, AGG, BEFORE, CONTENT_TABLES, KEYS, LAYOUTS, TILE_TABLES
 from models.patches import State, order, put_row
@@ -114,11 +116,12 @@ def bytes_of(cell):
 def collision(state, algorithm, put):
     """The id of the first tile that is put, by zoom, column and row from the bottom, whose contents stand under an id of another cell, or of other contents that are put."""
     ids = {cell: digest(algorithm, bytes_of(cell)) for cell in put.values() if cell != 'n'}
+    shared = collections.Counter(ids.values())
     for place in sorted(put):
         cell = put[place]
         if cell == 'n':
             continue
-        if state.contents.get('t' + ids[cell]) not in (None, cell) or any(ids[other] == ids[cell] and other != cell for other in ids):
+        if state.contents.get('t' + ids[cell]) not in (None, cell) or shared[ids[cell]] > 1:
             return ids[cell]
     return None
 

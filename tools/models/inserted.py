@@ -1,4 +1,6 @@
 # What putting a batch of tiles makes of the tables of a set, and when it is refused, for tools/cases/insert_cases.py.
+import collections
+
 from models import shown
 from models.hashes import digest
 from models.held_sets import tile_row
@@ -22,9 +24,10 @@ def chosen(tiles, mode, batch):
 def collision(state, put):
     """The id of the first tile by zoom, column and row from the bottom whose contents stand under an id of other contents, of another cell, or of other contents of the batch."""
     ids = {data: digest(state.algorithm, data) for data in put.values()}
+    shared = collections.Counter(ids.values())
     for place in sorted(put):
         data = put[place]
-        if state.contents.get('t' + ids[data]) not in (None, 'x' + data.hex()) or any(ids[other] == ids[data] and other != data for other in ids):
+        if state.contents.get('t' + ids[data]) not in (None, 'x' + data.hex()) or shared[ids[data]] > 1:
             return ids[data]
     return None
 

@@ -1,10 +1,12 @@
 # What patches make of the tables of a set, by the rules of patches, for tools/cases/set_rows.py and tools/models/bases.py.
 # tools/models/sets.py has these rules a second time, on sets that are loaded; tools/models/bases.py holds one against the other.
-from bisect import bisect_right
+import functools
+from bisect import bisect_left, bisect_right
 
 from models import shown
 from models.hashes import digest
 from models.names import AFTER, AGG, BEFORE, CONTENT_TABLES, DATA_COLUMNS, TILE_TABLES
+
 
 class PatchRefused(Exception):
     pass
@@ -63,6 +65,7 @@ def tests(base, patch, force):
                 raise PatchRefused(f'IdCollision {{ id: {text(ids[cell])} }}')
 
 
+@functools.lru_cache(65536)
 def order(cell):
     """The place of a cell among others: nothing, numbers, texts, bytes, other values."""
     kind, value = cell[0], cell[1:]
@@ -71,9 +74,10 @@ def order(cell):
 
 def put_row(rows, width, order, cells):
     """One row in place of those of its key. The rows are in the order of their keys."""
-    own = list(cells[:width])
-    rows[:] = [r for r in rows if list(r[:width]) != own]
-    rows.insert(bisect_right(rows, [order(c) for c in own], key=lambda r: [order(c) for c in r[:width]]), tuple(cells))
+    own, place = list(cells[:width]), [order(c) for c in cells[:width]]
+    first = bisect_left(rows, place, key=lambda r: [order(c) for c in r[:width]])
+    end = bisect_right(rows, place, first, key=lambda r: [order(c) for c in r[:width]])
+    rows[first:end] = [*(r for r in rows[first:end] if list(r[:width]) != own), tuple(cells)]
 
 
 def remove(rows, key):

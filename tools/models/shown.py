@@ -1,10 +1,12 @@
 # Debug texts of values that the rows programs print, and what a document says by the rules of metadata.
+import functools
 import json
 
 
 ESCAPES = {'\\': '\\\\', '"': '\\"', '\0': '\\0', '\t': '\\t', '\n': '\\n', '\r': '\\r'}
 
 
+@functools.lru_cache(65536)
 def quoted(text):
     return '"' + ''.join(ESCAPES.get(c) or (f'\\u{{{ord(c):x}}}' if ord(c) < 32 or ord(c) == 127 else c) for c in text) + '"'
 
