@@ -42,7 +42,7 @@ def paths(docs):
                     if token not in everywhere:
                         path = token
                 elif re.fullmatch(r"\w+\.py", token):
-                    path = f"tools/{token}"
+                    path = next((it for it in (f"tools/{folder}/{token}" for folder in ("models", "cases", "checks")) if is_there(it)), f"tools/{token}")
                 if path and not is_there(path) and not (page == "docs/ARCHITECTURE.md" and not path.startswith(("tools", "bin", "docs"))):
                     wrong.append(f"{page}:{number}: no file {path}")
     return wrong

@@ -68,6 +68,6 @@ def defined_names():
         for owner, found in crate.members.items():
             members.setdefault(owner, set()).update(found)
     defined = set(crates()).union(behind_run.kit_crates(), *(it.names | it.labels for it in index))
-    for path in glob.glob(f"{TOP}/tools/*.py"):
+    for path in glob.glob(f"{TOP}/tools/*/*.py"):
         defined |= set(re.findall(r"\bdef (\w+)", specs.text(path))) | set(re.findall(r"^([A-Z_]+) =", specs.text(path), re.M))
     return defined, members

@@ -108,14 +108,20 @@ def make(folder):
     return crate
 
 
+def is_refused(status, said):
+    """Whether the borrow checker alone refuses, in each of the three functions."""
+    errors = [line for line in said.splitlines() if 'error[' in line or 'error:' in line]
+    refused = [re.match(r'src/main\.rt:\d+:\d+: error\[borrow-e0597\]: `(\w+)` does not live long enough', line) for line in errors]
+    return status != 0 and all(refused) and {match.group(1) for match in refused} == MISUSED
+
+
 def main():
     with tempfile.TemporaryDirectory() as folder:
         tried = subprocess.run(['rt', 'try'], cwd=make(folder), stdin=subprocess.DEVNULL, capture_output=True, text=True)
     said = tried.stdout + tried.stderr
-    errors = [line for line in said.splitlines() if 'error[' in line or 'error:' in line]
-    refused = [re.match(r'src/main\.rt:\d+:\d+: error\[borrow-e0597\]: `(\w+)` does not live long enough', line) for line in errors]
-    if tried.returncode == 0 or not all(refused) or {match.group(1) for match in refused} != MISUSED:
+    if not is_refused(tried.returncode, said):
         sys.exit('kept_slices: not refused by the borrow checker alone, in each of three functions:\n' + said)
 
 
-main()
+if __name__ == '__main__':
+    main()

@@ -3,8 +3,10 @@ import concurrent.futures
 import os
 import sqlite3
 import subprocess
+import sys
 
-import pmtiles as pm
+sys.path.append(os.path.dirname(os.path.dirname(os.path.abspath(__file__))))
+from models import pmtiles as pm  # noqa: E402
 
 
 class Twice(Exception):

@@ -1,11 +1,13 @@
 # Compares an archive with the sets that it was made of: same_tiles.py ARCHIVE BASE.mbtiles [PATCH.mbtiles ..]
 # Each tile of the sets, after the patches, has to be in the archive with equal bytes, and no other. Prints how many there are, the zooms of the header and
-# the metadata. It reads the sets by python's sqlite3 and the archive by `pmtiles.py`.
+# the metadata. It reads the sets by python's sqlite3 and the archive by `tools/models/pmtiles.py`.
 import json
+import os
 import sqlite3
 import sys
 
-import pmtiles as pm
+sys.path.append(os.path.dirname(os.path.dirname(os.path.abspath(__file__))))
+from models import pmtiles as pm  # noqa: E402
 
 with open(sys.argv[1], 'rb') as file:
     data = file.read()
