@@ -3,12 +3,12 @@
 
 if command -v python3 >/dev/null; then
     fresh 'sets of odd schemas'
-    run python3 -B "$top/tools/odd_sets.py" "$bin/mbtiles-to-pmtiles" "$t/sets"
+    run python3 -B "$top/tools/checks/odd_sets.py" "$bin/mbtiles-to-pmtiles" "$t/sets"
     [ "$got" = 0 ] || problem="$problem; $(grep -v '^odd_sets: of ' out | head -n 5)"
     tail -n 1 out
     ends
     fresh 'changed bytes of files and logs'
-    run python3 -B "$top/tools/changed_bytes.py" "$bin/mbtiles-to-pmtiles" "$t/sets"
+    run python3 -B "$top/tools/checks/changed_bytes.py" "$bin/mbtiles-to-pmtiles" "$t/sets"
     [ "$got" = 0 ] || problem="$problem; $(grep -v '^changed_bytes: of ' out | head -n 5)"
     tail -n 1 out
     ends
