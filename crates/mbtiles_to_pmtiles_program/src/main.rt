@@ -8,10 +8,7 @@ mod saying;
 
 use base_values::TextVal;
 use converting::convert_files;
-use program_words::{
-    hold_streams, print, print_for, say_out_of_memory, say_output_fault, say_unwritten, text_of,
-    words_of,
-};
+use program_words::{hold_streams, print, say_out_of_memory, say_output_fault, words_to_run};
 use set_conversion::{ConversionOutcome, asked_of, conversion_status, conversion_text};
 use std::process::ExitCode;
 
@@ -83,22 +80,10 @@ fn convert_words(rt: &HostRuntime, words: &[TextVal]) -> ConversionOutcome {
     }
 }
 
-fn run_words(rt: &HostRuntime, words: &[TextVal]) -> u8 {
-    match text_of(words, HELP, VERSION) {
-        Some(text) => say_unwritten(rt, TOOL, print_for(rt, text, 0)),
-        None => conversion_status(&tell(rt, convert_words(rt, words))),
-    }
-}
-
-fn status_of(rt: &HostRuntime) -> u8 {
-    match words_of(rt, TOOL) {
-        Err(_) => conversion_status(&ConversionOutcome::OutOfMemory),
-        Ok(None) => conversion_status(&ConversionOutcome::Usage),
-        Ok(Some(words)) => run_words(rt, words.as_slice()),
-    }
-}
-
 fn main(rt: HostRuntime) -> ExitCode {
     let _streams = hold_streams(&rt);
-    ExitCode::from(status_of(&rt))
+    ExitCode::from(match words_to_run(&rt, TOOL, HELP, VERSION) {
+        Ok(words) => conversion_status(&tell(&rt, convert_words(&rt, words.as_slice()))),
+        Err(status) => status,
+    })
 }

@@ -3,7 +3,7 @@ use crate::TOOL;
 use base_values::TextVal;
 use mb_reading::ReadError;
 use mb_tables::MbtError;
-use program_words::{say_beside_fault, say_out_of_memory};
+use program_words::{say_beside_fault, say_out_of_memory, say_read_back};
 use set_conversion::ConversionOutcome;
 use std::fs::File;
 use std::io::ErrorKind;
@@ -92,11 +92,7 @@ pub fn say_outcome(
         }
         ConversionOutcome::MediumFault => say_beside_fault(rt, TOOL, out, beside),
         ConversionOutcome::OutOfMemory => say_out_of_memory(rt, TOOL),
-        ConversionOutcome::ReadBack(error) => {
-            let _ = eprintln!(rt;
-                "{TOOL}: {out}: the file gave other bytes back than were written to it: {error}"
-            );
-        }
+        ConversionOutcome::ReadBack(error) => say_read_back(rt, TOOL, out, error),
         _ => {}
     }
 }

@@ -92,7 +92,7 @@ pub scan_at : (es : List Entry) (t n : ℕ) (d : Entry) → n < length es → Pa
 unfolding scan
 scan_at es t n d h p = ap (λ x. x >>= covers t) (last_is t None es (suc n) p ∙ before_at None es n d h)
 
-le_or : (m n : ℕ) → (m ≤ n) ⊎ (n < m)
+pub le_or : (m n : ℕ) → (m ≤ n) ⊎ (n < m)
 le_or m n = grind arith
 
 pub not_yet : (b : Bool) (m n : ℕ) → (IsTrue b ↔ (m ≤ n)) → b ≡ false → n < m

@@ -11,6 +11,7 @@ pub mod Opened
 pub mod Options
 pub mod Scan
 pub mod Sound
+pub mod Status
 pub mod TileJson
 pub mod TileType
 pub mod Varint

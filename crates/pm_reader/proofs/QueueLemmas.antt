@@ -76,7 +76,7 @@ tails_same h b Y Z [] m same = same m (omega arith)
 tails_same h b Y Z (e ∷ X) m same =
     step_same h b m e (X ++ Y) (X ++ Z) (nat_eq e.run_length 0) refl (λ tile. tails_same h b Y Z X m same) (λ n is. tails_same h b Y Z X n (λ k low. same k (omega arith)))
 
-is_tile : (run : ℕ) → run ≢ 0 → nat_eq run 0 ≡ false
+pub is_tile : (run : ℕ) → run ≢ 0 → nat_eq run 0 ≡ false
 is_tile run some = grind (arith, nat_tests)
 
 pub is_some : (run : ℕ) → nat_eq run 0 ≡ false → run ≢ 0

@@ -1,5 +1,5 @@
 -- Look-ups in sound archives end well.
-use Rattle.std.proofs.Common.{◌≡◌, ◌≢◌, inl, inr, ℕ, zero, suc, ◌+◌, Bool, true, false, List, [], ◌∷◌, nat_eq, Option, None, Some, Result, Ok, Err, refl, sym, ap, subst, arith}
+use Rattle.std.proofs.Common.{◌≡◌, ◌≢◌, inl, inr, ℕ, zero, suc, ◌+◌, ◌≤◌, ◌<◌, Bool, true, false, List, [], ◌∷◌, nat_eq, Option, None, Some, Result, Ok, Err, refl, sym, ap, subst, arith}
 use Rattle.std.specs.Prelude.{Contains, IsOk, IsSome}
 use Rattle.std.proofs.lemmas.Bool.Decides.{nat_tests}
 use Rattle.std.proofs.lemmas.List.Elements.{Contains-append_cases}
@@ -15,6 +15,11 @@ use Rattle.pm_format.specs.declared.error.ReadCause.TheVariants as causes
 use Rattle.pm_format.specs.declared.header.Header.{Header}
 use Rattle.pm_reader.proofs.LevelLemmas.{scan_is_in, single_is}
 use Rattle.pm_reader.proofs.QueueLemmas.{is_some}
+
+-- an entry among others lies below the limit, and so does its run
+pub head_below : (P : Entry → ℕ → Type 0) (lo limit : ℕ) (e : Entry) (es : List Entry) → EachEntry P lo limit (e ∷ es) → (lo ≤ e.tile_id) × (e.tile_id < limit) × (e.tile_id + e.run_length ≤ limit)
+head_below P lo limit e [] h = (h.0, h.1, h.2)
+head_below P lo limit e (d ∷ es) h = let next = head_below P d.tile_id limit d es h.4 in (h.0, omega (arith, h.1, next.1), omega (arith, h.2, next.1))
 
 -- what holds of each entry holds of one of them
 each_of : (P : Entry → ℕ → Type 0) (low limit : ℕ) (es : List Entry) (e : Entry) → EachEntry P low limit es → Contains es e → (end : ℕ) × P e end
@@ -42,7 +47,7 @@ found_ok n h b t (Some e) leaf tile = by_test (nat_eq e.run_length 0) refl
         let Q : Reached → Type 0 = λ r. IsOk (data_behind h b r.entry) in
         subst Q (sym (reached_tile n h b t e q)) (data_ok (range_of b (h.data_offset + e.offset) e.length) (tile e refl q))
 
-is_zero : (run : ℕ) → nat_eq run 0 ≡ true → run ≡ 0
+pub is_zero : (run : ℕ) → nat_eq run 0 ≡ true → run ≡ 0
 is_zero run e = grind (arith, nat_tests)
 
 found_is : (es : List Entry) (t : ℕ) (P : Entry → ℕ → Type 0) (low limit : ℕ) → EachEntry P low limit es → (e : Entry) → scan es t ≡ Some e → (end : ℕ) × P e end

@@ -20,6 +20,7 @@ mod walk;
 
 pub use cache::{DirCacheResult, DirectoryCache, HashMapCache, LruDirCache, NoCache};
 pub use entries::Entries;
+pub use look_up::MAX_LEAVES;
 pub use reader::PmTilesReader;
 pub use state::ReaderState;
 pub use view::ArchiveView;

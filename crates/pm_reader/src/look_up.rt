@@ -16,8 +16,8 @@ use bytes::Bytes;
 use pm_format::{Backend, BackendResponse, PmtResult};
 use tile_ids::TileId;
 
-/// Through how many leaves a tile is looked for.
-pub(crate) const MAX_LEAVES: u32 = 6;
+/// How many leaves may lead to a tile: through so many it is looked for, and walks go so deep.
+pub const MAX_LEAVES: u32 = 6;
 
 impl ReaderState {
     /// The contents of a tile, with the version text of their read; none where there is no tile.

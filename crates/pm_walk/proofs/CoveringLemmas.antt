@@ -9,9 +9,13 @@ use Rattle.pm_walk.specs.Collecting.{AreOrdered}
 use Rattle.pm_walk.specs.Intervals.{in_intervals, lies_in, stays_within}
 use Rattle.pm_walk.specs.Parts.{clip, clip_all, parts, parts_of}
 
+-- whether an id lies in a run
+abbrev pub in_run : ℕ → ℕ → ℕ → Bool
+in_run t id n = nat_le id t && nat_lt t (id + n)
+
 -- the first entry whose run has an id
 abbrev pub has_id : ℕ → Entry → Bool
-has_id t e = nat_le e.tile_id t && nat_lt t (e.tile_id + e.run_length)
+has_id t e = in_run t e.tile_id e.run_length
 
 abbrev pub covering : ℕ → List Entry → Option Entry
 covering t [] = None

@@ -15,7 +15,8 @@ use Rattle.pm_walk.specs.Walk.{Walked, below, entry_walk, fits_depth, leaf_walk,
 use Rattle.pm_walk.specs.declared.error.WalkError.TheVariants.{Archive}
 use Rattle.pm_walk.specs.declared.extent.Extent.{Extent}
 use Rattle.pm_walk.specs.declared.extent.Extent.TheVariants.{Within, Whole}
-use Rattle.pm_walk.proofs.OrderLemmas.{IsOrderly, first_ordered, is_zero, orderly, unrefused}
+use Rattle.pm_reader.proofs.SoundTileLemmas.{is_zero}
+use Rattle.pm_walk.proofs.OrderLemmas.{IsOrderly, first_ordered, orderly, unrefused}
 use Rattle.pm_walk.proofs.CoveringLemmas.{covering, covering_before, covering_behind, covers_here, covers_later, has_id, none_above, none_below}
 use Rattle.pm_walk.proofs.TestingLemmas.{tile_stands}
 use Rattle.pm_walk.proofs.WalkingLemmas.{met_goes, tile_goes, walked_is}

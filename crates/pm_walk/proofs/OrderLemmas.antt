@@ -8,6 +8,7 @@ use Rattle.pm_format.specs.declared.error.PmtError.TheVariants as errors
 use Rattle.pm_format.specs.declared.header.Header.{Header}
 use Rattle.pm_format.specs.Directory.{Entry}
 use Rattle.pm_format.specs.LookUp.{leaf_of}
+use Rattle.pm_reader.proofs.SoundTileLemmas.{is_zero}
 use Rattle.pm_walk.specs.Collecting.{AreOrdered}
 use Rattle.pm_walk.specs.Intervals.{stays_within}
 use Rattle.pm_walk.specs.Walk.{Walked, below, end_before, entry_walk, leaf_walk, meets, nothing_met, refuses, stands, then_walk, tile_walk, walk_each, walked}
@@ -81,9 +82,6 @@ each_ordered left f good before low limit (e ∷ es) fine within =
 -- a range that an id ends is one that begins within it
 start_within : (end : Option ℕ) (id run : ℕ) → run ≡ 0 → stays_within end (id + run) ≡ true → stays_within end id ≡ true
 start_within end id run is within = let p : id + run ≡ id = omega (arith, is) in subst (λ n. stays_within end n ≡ true) p within
-
-pub is_zero : (run : ℕ) → nat_eq run 0 ≡ true → run ≡ 0
-is_zero run e = grind (arith, nat_tests)
 
 not_zero : (run : ℕ) → nat_eq run 0 ≡ false → 1 ≤ run
 not_zero run e = grind (arith, nat_tests)

@@ -11,6 +11,7 @@ use Rattle.pm_format.specs.declared.header.Header.{Header}
 use Rattle.pm_format.specs.Directory.{Entry}
 use Rattle.pm_format.specs.LookUp.{archive_map, archive_tile, data_behind, filled, range_of, tile_by, tile_opened}
 use Rattle.pm_format.specs.Opened.{Opened, opened}
+use Rattle.pm_format.proofs.SearchLemmas.{le_or}
 use Rattle.pm_walk.specs.Collecting.{AreOrdered}
 use Rattle.pm_walk.specs.Parts.{full}
 use Rattle.pm_walk.specs.Walk.{all_walked, walked}
@@ -46,9 +47,6 @@ pub tile_found : (ext : Extent) (is : List (ℕ × ℕ)) (b : List ℕ) (o : Ope
 unfolding tile_by
 tile_found ext is b o t opens fine lies =
     ap (λ x. filled (tile_opened b t x)) opens ∙ ap (λ x. filled (data_behind o.0 b x)) (walked_looked ext 6 o.0 b is t lies 0 None o.1 fine refl)
-
-pub le_or : (m n : ℕ) → (m ≤ n) ⊎ (n < m)
-le_or m n = grind arith
 
 -- entries that have bytes lead to what all of them do
 full_none : (t : ℕ) (es : List Entry) → covering t es ≡ None → covering t (full es) ≡ None

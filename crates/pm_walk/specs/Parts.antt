@@ -1,5 +1,6 @@
 -- The parts of tile entries that lie in intervals.
 use Rattle.std.specs.Prelude.{◌≡◌, ℕ, ◌+◌, ◌-◌, List, [], ◌∷◌, ◌++◌, flat_map, max, min, nat_le, nat_eq, if◌then◌else◌, refl}
+use Rattle.std.specs.List.{range_with_len}
 use Rattle.pm_format.specs.Directory.{Entry, entry}
 use Rattle.pm_walk.specs.declared.extent.Extent.{Extent}
 use Rattle.pm_walk.specs.declared.extent.Extent.TheVariants.{Within, Whole}
@@ -18,6 +19,10 @@ clip_all e (i ∷ is) = clip e i ++ clip_all e is
 -- those of an entry; one without a byte has no tiles
 abbrev pub parts_of : List (ℕ × ℕ) → Entry → List Entry
 parts_of is e = if nat_eq e.length 0 then [] else clip_all e is
+
+-- the ids of an entry's run
+abbrev pub ids_of : Entry → List ℕ
+ids_of e = range_with_len e.tile_id e.run_length
 
 -- those of tile entries
 abbrev pub parts : List (ℕ × ℕ) → List Entry → List Entry

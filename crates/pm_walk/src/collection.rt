@@ -10,12 +10,12 @@ ghost use Rattle.pm_walk.specs.Parts.{tile_count};
 ghost use Rattle.pm_walk.specs.Walk.{all_walked, walked};
 
 use crate::taker::Collecting;
-use crate::walk::{MAX_DEPTH, walk};
+use crate::walk::walk;
 use crate::{Extent, TakesEntries, WalkError};
 use base_values::OutOfMemory;
 use bytes::Bytes;
 use pm_format::{Backend, DirEntry};
-use pm_reader::ReaderState;
+use pm_reader::{MAX_LEAVES, ReaderState};
 use std::alloc::Global;
 
 // What has taken all parts, where there was room for all of them.
@@ -66,7 +66,7 @@ fn gather<B: Backend, T: TakesEntries + Drop>(
         backend,
         0,
         None,
-        MAX_DEPTH,
+        MAX_LEAVES,
         root,
     ) {
         Ok(()) => {}

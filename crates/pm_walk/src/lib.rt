@@ -15,3 +15,4 @@ pub use collection::{collect, take_entries};
 pub use error::WalkError;
 pub use extent::{Extent, FIRST_TOO_DEEP};
 pub use taker::TakesEntries;
+pub use testing::test_range;

@@ -1,9 +1,9 @@
 // The tests of a tile entry where the whole is walked.
-ghost use Rattle.std.specs.Prelude.{◌≡◌, ◌≢◌, ◌+◌, ◌≤◌, IfSome};
+ghost use Rattle.std.specs.Prelude.{◌≡◌, ◌≢◌, ◌+◌, IfSome};
 ghost use Rattle.pm_format.specs.LookUp.{range_of};
-ghost use Rattle.pm_reader.specs.Answers.{LookUpCauses};
+ghost use Rattle.pm_reader.specs.Answers.{RangeCauses};
 ghost use Rattle.pm_reader.specs.Opening.{header_of};
-ghost use Rattle.pm_reader.specs.Reads.{ReadsOnly};
+ghost use Rattle.pm_reader.specs.Reads.{GrewBetween, ReadsOnly, reads_done};
 ghost use Rattle.pm_walk.specs.Testing.{IsOfRun, RangeTests};
 ghost use Rattle.pm_walk.specs.Walk.{run_refusal};
 
@@ -12,8 +12,12 @@ use pm_format::{Backend, DirEntry, PmtError, PmtResult, ReadCause};
 use pm_reader::ReaderState;
 use tile_ids::MAX_TILE_ID;
 
-/// Whether the contents of a tile entry lie in the archive: no bytes are read at their end.
-pub(crate) fn test_range<B: Backend>(
+/// Tests that the contents of a tile entry lie in the archive that was opened, by one read at most: of no bytes, at their
+/// end.
+///
+/// `Reading(PastEnd)` comes exactly where they pass the end of the bytes or u64. `UnexpectedNumberOfBytesReturned` comes
+/// only over a backend that tells no bytes, and `Reading(Fault)` only where the backend's count of faults rose.
+pub fn test_range<B: Backend>(
     state: &ReaderState,
     backend: &mut B,
     entry: DirEntry,
@@ -21,9 +25,9 @@ pub(crate) fn test_range<B: Backend>(
     ensures answer { IfSome (B.told backend.old)
         (λ b. RangeTests (range_of b ((header_of state.now).data_offset + entry.offset)
         entry.length) result) }
-    ensures causes { LookUpCauses (B.faults backend.old) (B.faults backend.new) result }
+    ensures causes { RangeCauses (B.faults backend.old) (B.faults backend.new) result }
     ensures kept { ReadsOnly B.told B.versions B.faults B.steady backend.old backend.new }
-    ensures reads { B.reads backend.new ≤ B.reads backend.old + 1 }
+    ensures reads { GrewBetween (B.reads backend.old) (B.reads backend.new) (reads_done result) 1 }
 {
     let Some(end) = entry.offset().checked_add(u64::from(entry.length())) else {
         return Err(PmtError::Reading(ReadCause::PastEnd));

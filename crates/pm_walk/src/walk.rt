@@ -16,9 +16,6 @@ use crate::{Extent, TakesEntries, WalkError};
 use pm_format::{Backend, DirEntry, Directory, PmtError};
 use pm_reader::ReaderState;
 
-/// How many leaves may lead to a directory.
-pub(crate) const MAX_DEPTH: u8 = 6;
-
 // Whether an entry's id is above that of the one before it.
 fn rises(before: Option<DirEntry>, id: u64) -> bool
     ensures { result ≡ rises before id }
@@ -30,7 +27,7 @@ fn rises(before: Option<DirEntry>, id: u64) -> bool
 }
 
 // Whether behind a leaf entry there may be a leaf.
-fn fits_depth(left: u8, entry: DirEntry) -> bool
+fn fits_depth(left: u32, entry: DirEntry) -> bool
     ensures { result ≡ fits_depth left entry }
 {
     if entry.is_leaf() { left != 0 } else { true }
@@ -38,7 +35,7 @@ fn fits_depth(left: u8, entry: DirEntry) -> bool
 
 // The tests of an entry.
 fn stands(
-    left: u8,
+    left: u32,
     before: Option<DirEntry>,
     low: u64,
     limit: Option<u64>,
@@ -73,7 +70,7 @@ fn meet<B: Backend, T: TakesEntries>(
     backend: &mut B,
     entry: DirEntry,
     end: Option<u64>,
-    left: u8,
+    left: u32,
 ) -> Result<Option<Directory>, WalkError>
     requires fits { fits_depth left entry ≡ true }
     ensures meets { (c : Collected) → Holds T.holds collecting.old.taker collecting.old.room c
@@ -112,7 +109,7 @@ pub(crate) fn walk<B: Backend, T: TakesEntries>(
     backend: &mut B,
     low: u64,
     limit: Option<u64>,
-    left: u8,
+    left: u32,
     directory: &Directory,
 ) -> Result<(), WalkError>
     ensures walks { (c : Collected) → Holds T.holds collecting.old.taker collecting.old.room c

@@ -4,11 +4,11 @@
 use base_values::TextVal;
 use mb_sqlite::SqliteStore;
 use mb_store::{MbtError, MbtType};
-use pm_format::{FileBackend, PmtError, ReadCause};
+use pm_format::{FileBackend, PmtError, ReadCause, status};
 use program_words::{
     Beside, Put, SourceFile, Taken, hold_streams, print_for, put_beside, remove_beside,
-    remove_made, say_beside_fault, say_opening, say_out_of_memory, say_source_fault, say_unwritten,
-    source_file, take_beside, text_of, words_of,
+    remove_made, say_beside_fault, say_opening, say_out_of_memory, say_unwritten, source_file,
+    take_beside, tell_source_fault, words_to_run,
 };
 use set_import::{import_as_said, import_status, limit_of};
 use sqlite::{Connection, Error, ErrorCode};
@@ -54,11 +54,6 @@ const USAGE: &str = "usage: pmtiles-to-mbtiles IN.pmtiles OUT.mbtiles [MAX_TILES
 const VERSION: &str = "pmtiles-to-mbtiles 0.1.0\n";
 
 const TOOL: &str = "pmtiles-to-mbtiles";
-
-// The statuses where the archive isn't there, and where it can't be read.
-const NO_FILE: u8 = 3;
-
-const INPUT_FAULT: u8 = 4;
 
 fn store_fault() -> ImportError {
     ImportError::Store(MbtError::StoreFault)
@@ -115,9 +110,9 @@ fn remove_log(rt: &HostRuntime, beside: &str) {
 // Puts a whole database in its place.
 fn put(rt: &HostRuntime, beside: &Beside, to: &str) -> u8 {
     match put_beside(rt, TOOL, beside, to) {
-        Put::Done => 0,
-        Put::There => 1,
-        Put::Failed => 6,
+        Put::Done => status::DONE,
+        Put::There => status::REFUSED,
+        Put::Failed => status::FAULT,
     }
 }
 
@@ -137,10 +132,10 @@ fn make(
     }
     remove_log(rt, beside.path());
     let status = match status_of_answer(&answer) {
-        0 => put(rt, beside, to),
+        status::DONE => put(rt, beside, to),
         status => status,
     };
-    if status != 0 {
+    if status != status::DONE {
         remove_beside(rt, TOOL, beside);
     }
     status
@@ -149,7 +144,7 @@ fn make(
 // The status of an import; that of a fault of the source is its own.
 fn status_of_answer(answer: &Result<u64, ImportError>) -> u8 {
     match answer {
-        Err(ImportError::Archive(PmtError::Reading(ReadCause::Fault))) => INPUT_FAULT,
+        Err(ImportError::Archive(PmtError::Reading(ReadCause::Fault))) => status::INPUT_FAULT,
         other => import_status(other),
     }
 }
@@ -175,23 +170,23 @@ fn say_refusal(rt: &HostRuntime, (from, to): (&str, &str), beside: &str, error: 
 fn log_status(rt: &HostRuntime, to: &str, end: &str) -> u8 {
     let Ok(path) = format!(in rt.alloc(); "{to}{end}") else {
         say_out_of_memory(rt, TOOL);
-        return 7;
+        return status::OUT_OF_MEMORY;
     };
     match fs::symlink_metadata(rt, path.as_str()) {
         Ok(_) => {
             let _ = eprintln!(rt;
                 "{TOOL}: {path} is there, the log of another database; remove it, or give another name"
             );
-            1
+            status::REFUSED
         }
-        Err(_) => 0,
+        Err(_) => status::DONE,
     }
 }
 
 // The same of both kinds of log.
 fn logs_status(rt: &HostRuntime, to: &str) -> u8 {
     match log_status(rt, to, "-wal") {
-        0 => log_status(rt, to, "-journal"),
+        status::DONE => log_status(rt, to, "-journal"),
         status => status,
     }
 }
@@ -200,36 +195,30 @@ fn logs_status(rt: &HostRuntime, to: &str) -> u8 {
 fn make_at(rt: &HostRuntime, source: &mut FileBackend, from: &str, to: &str, limit: u64) -> u8 {
     match take_beside(rt, TOOL, to) {
         Taken::Made(beside) => make(rt, source, (from, to), &beside, limit),
-        Taken::There => 1,
-        Taken::Failed => say_unwritten(rt, TOOL, print_for(rt, "store fault\n", 6)),
+        Taken::There => status::REFUSED,
+        Taken::Failed => say_unwritten(rt, TOOL, print_for(rt, "store fault\n", status::FAULT)),
     }
-}
-
-// Says why an archive can't be opened.
-fn source_fault(rt: &HostRuntime, from: &str, status: u8) -> u8 {
-    say_source_fault(rt, TOOL, from);
-    say_unwritten(rt, TOOL, print_for(rt, "source fault\n", status))
 }
 
 // Makes a database of an archive, which is opened first.
 fn convert(rt: &HostRuntime, from: &str, to: &str, limit: u64) -> u8 {
     match source_file(rt, from) {
         SourceFile::Readable => {}
-        SourceFile::Missing => return source_fault(rt, from, NO_FILE),
-        SourceFile::Unreadable => return source_fault(rt, from, INPUT_FAULT),
+        SourceFile::Missing => return tell_source_fault(rt, TOOL, from, status::NO_INPUT),
+        SourceFile::Unreadable => return tell_source_fault(rt, TOOL, from, status::INPUT_FAULT),
     }
     let Ok(mut source) = FileBackend::open(rt, from) else {
-        return source_fault(rt, from, INPUT_FAULT);
+        return tell_source_fault(rt, TOOL, from, status::INPUT_FAULT);
     };
     match logs_status(rt, to) {
-        0 => make_at(rt, &mut source, from, to, limit),
+        status::DONE => make_at(rt, &mut source, from, to, limit),
         status => status,
     }
 }
 
 fn usage(rt: &HostRuntime) -> u8 {
     let _ = eprint!(rt; "{TOOL}: {USAGE}");
-    2
+    status::USAGE
 }
 
 // For words that are no command nothing is opened.
@@ -243,19 +232,10 @@ fn run_words(rt: &HostRuntime, words: &[TextVal]) -> u8 {
     }
 }
 
-fn status_of(rt: &HostRuntime) -> u8 {
-    let words = match words_of(rt, TOOL) {
-        Err(_) => return import_status(&Err(ImportError::OutOfMemory)),
-        Ok(None) => return 2,
-        Ok(Some(words)) => words,
-    };
-    match text_of(words.as_slice(), HELP, VERSION) {
-        Some(text) => say_unwritten(rt, TOOL, print_for(rt, text, 0)),
-        None => run_words(rt, words.as_slice()),
-    }
-}
-
 fn main(rt: HostRuntime) -> ExitCode {
     let _streams = hold_streams(&rt);
-    ExitCode::from(status_of(&rt))
+    ExitCode::from(match words_to_run(&rt, TOOL, HELP, VERSION) {
+        Ok(words) => run_words(&rt, words.as_slice()),
+        Err(status) => status,
+    })
 }

@@ -24,18 +24,17 @@ pub use destination::{
 };
 pub use folder::FileId;
 pub use over::{are_one_file, put_over, take_over};
+use pm_format::status;
 pub use said::{
-    say_opening, say_out_of_memory, say_output_fault, say_source_fault, say_unwritten, say_usage,
+    say_input_fault, say_not_empty, say_opening, say_out_of_memory, say_output_fault,
+    say_read_back, say_source_fault, say_unwritten, say_usage, tell_source_fault,
 };
-pub use sources::{SourceFile, source_file};
+pub use sources::{SourceFile, open_archive, source_file};
 use std::alloc::{AllocError, Global};
 use std::env;
 use std::io::{ErrorKind, Write};
 pub use steps::{Step, begin_step};
 pub use streams::{HeldStreams, hold_streams};
-
-/// The status where a text can't be written.
-pub const OUTPUT_FAULT: u8 = 5;
 
 /// The line of a run that memory ran out for. It stands here since making it may find no memory either.
 pub const OUT_OF_MEMORY: &str = "out of memory\n";
@@ -78,17 +77,36 @@ pub fn text_of(words: &[TextVal], help: &'static str, version: &'static str) -> 
     }
 }
 
+/// The words of a run, or the status of one that ends before it begins: where they are no texts, memory runs out for them,
+/// or a single one asks for the help text or the version, which is printed.
+pub fn words_to_run(
+    rt: &HostRuntime,
+    tool: &str,
+    help: &'static str,
+    version: &'static str,
+) -> Result<Vec<TextVal>, u8> {
+    let words = match words_of(rt, tool) {
+        Err(_) => return Err(status::OUT_OF_MEMORY),
+        Ok(None) => return Err(status::USAGE),
+        Ok(Some(words)) => words,
+    };
+    match text_of(words.as_slice(), help, version) {
+        Some(text) => Err(say_unwritten(rt, tool, print_for(rt, text, status::DONE))),
+        None => Ok(words),
+    }
+}
+
 /// Prints a text on standard output. Whether all of it is out.
 pub fn print(rt: &HostRuntime, text: &str) -> bool {
     let mut out = rt.stdout();
     out.write_all(text.as_bytes()).is_ok() && out.flush().is_ok()
 }
 
-/// Prints a text on standard output, and gives the status, or `OUTPUT_FAULT` where it isn't all out.
+/// Prints a text on standard output, and gives the status, or `status::OUTPUT_FAULT` where it isn't all out.
 pub fn print_for(rt: &HostRuntime, text: &str, status: u8) -> u8 {
     if print(rt, text) {
         status
     } else {
-        OUTPUT_FAULT
+        status::OUTPUT_FAULT
     }
 }

@@ -1,6 +1,6 @@
 // What programs say on standard error. Where that can't be written, nothing is said.
-use crate::OUTPUT_FAULT;
-use pm_format::{PmtError, ReadCause};
+use crate::print_for;
+use pm_format::{PmtError, ReadCause, status};
 use std::fs;
 use std::fs::File;
 
@@ -20,6 +20,12 @@ pub fn say_source_fault(rt: &HostRuntime, tool: &str, path: &str) {
     };
 }
 
+/// Says why an archive can't be opened or read, prints `source fault`, and gives the status.
+pub fn tell_source_fault(rt: &HostRuntime, tool: &str, path: &str, status: u8) -> u8 {
+    say_source_fault(rt, tool, path);
+    say_unwritten(rt, tool, print_for(rt, "source fault\n", status))
+}
+
 /// Says why a file isn't taken as an archive.
 pub fn say_opening(rt: &HostRuntime, tool: &str, path: &str, error: &PmtError) {
     let advice = match error {
@@ -35,6 +41,25 @@ pub fn say_opening(rt: &HostRuntime, tool: &str, path: &str, error: &PmtError) {
     let _ = eprintln!(rt; "{tool}: {path}: {error}{advice}");
 }
 
+/// Says that the file of an archive has bytes, and isn't written to.
+pub fn say_not_empty(rt: &HostRuntime, tool: &str, path: &str, length: u64) {
+    let _ = eprintln!(rt;
+        "{tool}: {path}: the file has {length} bytes and stays as it is; give the name of a file that is new or empty"
+    );
+}
+
+/// Says that the file of an archive gave something else back than was written to it.
+pub fn say_read_back(rt: &HostRuntime, tool: &str, path: &str, error: &PmtError) {
+    let _ = eprintln!(rt;
+        "{tool}: {path}: the file gave other bytes back than were written to it: {error}"
+    );
+}
+
+/// Says that standard input can't be read.
+pub fn say_input_fault(rt: &HostRuntime, tool: &str) {
+    let _ = eprintln!(rt; "{tool}: standard input can't be read");
+}
+
 /// Says that standard output can't be written.
 pub fn say_output_fault(rt: &HostRuntime, tool: &str) {
     let _ = eprintln!(rt;
@@ -44,7 +69,7 @@ pub fn say_output_fault(rt: &HostRuntime, tool: &str) {
 
 /// Says that a text can't be written, where that is the status, and gives the status.
 pub fn say_unwritten(rt: &HostRuntime, tool: &str, status: u8) -> u8 {
-    if status == OUTPUT_FAULT {
+    if status == status::OUTPUT_FAULT {
         say_output_fault(rt, tool);
     }
     status

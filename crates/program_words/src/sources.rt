@@ -1,4 +1,5 @@
 // What is at the path of a file that is read.
+use pm_format::FileBackend;
 use std::fs;
 use std::fs::File;
 use std::io::ErrorKind;
@@ -25,5 +26,13 @@ pub fn source_file(rt: &HostRuntime, path: &str) -> SourceFile {
         Ok(_) => SourceFile::Readable,
         Err(error) if error.kind() == ErrorKind::NotFound => SourceFile::Missing,
         Err(_) => SourceFile::Unreadable,
+    }
+}
+
+/// Opens an archive in a regular file, where one is at the path.
+pub fn open_archive(rt: &HostRuntime, path: &str) -> Option<FileBackend> {
+    match source_file(rt, path) {
+        SourceFile::Readable => FileBackend::open(rt, path).ok(),
+        _ => None,
     }
 }

@@ -1,6 +1,7 @@
 -- The status of each outcome, and the text that is printed of it.
 use Rattle.std.specs.Prelude.{◌≡◌, ℕ, ◌++◌, List, [], codes, refl}
 use Rattle.std.specs.Fmt.{decimal}
+use Rattle.pm_format.specs.declared.status.TheConstants.{DONE, REFUSED, USAGE, NO_INPUT, INPUT_FAULT, OUTPUT_FAULT, FAULT, OUT_OF_MEMORY, READ_BACK, OTHER_FORM}
 use Rattle.tile_bridge.specs.declared.error.ConvertError.{ConvertError}
 use Rattle.tile_bridge.specs.declared.error.ConvertError.TheVariants as convert
 use Rattle.set_conversion.specs.declared.outcome.ConversionOutcome.{ConversionOutcome}
@@ -18,19 +19,19 @@ of_convert (convert.ReadBack e) = ReadBack e
 of_convert convert.OutOfMemory = OutOfMemory
 
 abbrev pub status : ConversionOutcome → ℕ
-status (Done r) = 0
-status (Refused e) = 1
-status Taken = 1
-status Unread = 1
-status LeftOut = 1
-status Usage = 2
-status NoSet = 3
-status InputFault = 4
-status OutputFault = 5
-status MediumFault = 6
-status OutOfMemory = 7
-status (ReadBack e) = 9
-status OtherForm = 10
+status (Done r) = DONE
+status (Refused e) = REFUSED
+status Taken = REFUSED
+status Unread = REFUSED
+status LeftOut = REFUSED
+status Usage = USAGE
+status NoSet = NO_INPUT
+status InputFault = INPUT_FAULT
+status OutputFault = OUTPUT_FAULT
+status MediumFault = FAULT
+status OutOfMemory = OUT_OF_MEMORY
+status (ReadBack e) = READ_BACK
+status OtherForm = OTHER_FORM
 
 -- the lines on an archive: its aggregate hash, how many tiles and different contents it has, and how long it is
 abbrev pub report_lines : List ℕ → ℕ → ℕ → ℕ → List ℕ

@@ -2,7 +2,7 @@
 ghost use Rattle.std.specs.Prelude.{◌≡◌};
 ghost use Rattle.set_conversion.specs.Outcome.{status};
 
-use pm_format::PmtError;
+use pm_format::{PmtError, status};
 use std::alloc::AllocError;
 use tile_bridge::{ConvertError, ConvertReport};
 
@@ -71,18 +71,18 @@ pub fn conversion_status(outcome: &ConversionOutcome) -> u8
     ensures { result ≡ status outcome.now }
 {
     match outcome {
-        ConversionOutcome::Done(_) => 0,
-        ConversionOutcome::Refused(_) => 1,
-        ConversionOutcome::Taken => 1,
-        ConversionOutcome::Unread => 1,
-        ConversionOutcome::LeftOut => 1,
-        ConversionOutcome::Usage => 2,
-        ConversionOutcome::NoSet => 3,
-        ConversionOutcome::InputFault => 4,
-        ConversionOutcome::OutputFault => 5,
-        ConversionOutcome::MediumFault => 6,
-        ConversionOutcome::OutOfMemory => 7,
-        ConversionOutcome::ReadBack(_) => 9,
-        ConversionOutcome::OtherForm => 10,
+        ConversionOutcome::Done(_) => status::DONE,
+        ConversionOutcome::Refused(_) => status::REFUSED,
+        ConversionOutcome::Taken => status::REFUSED,
+        ConversionOutcome::Unread => status::REFUSED,
+        ConversionOutcome::LeftOut => status::REFUSED,
+        ConversionOutcome::Usage => status::USAGE,
+        ConversionOutcome::NoSet => status::NO_INPUT,
+        ConversionOutcome::InputFault => status::INPUT_FAULT,
+        ConversionOutcome::OutputFault => status::OUTPUT_FAULT,
+        ConversionOutcome::MediumFault => status::FAULT,
+        ConversionOutcome::OutOfMemory => status::OUT_OF_MEMORY,
+        ConversionOutcome::ReadBack(_) => status::READ_BACK,
+        ConversionOutcome::OtherForm => status::OTHER_FORM,
     }
 }

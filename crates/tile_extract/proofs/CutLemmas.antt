@@ -21,7 +21,8 @@ use Rattle.pm_walk.proofs.CoveringLemmas.{IsPartOf, clips_inside, clips_none, co
 use Rattle.pm_walk.proofs.ClippingLemmas.{parts_ordered}
 use Rattle.tile_extract.proofs.IntervalLemmas.{apart}
 use Rattle.pm_walk.proofs.OrderLemmas.{walked_ordered}
-use Rattle.pm_walk.proofs.WholeLemmas.{empty_held, held, le_or, none_past, tile_found}
+use Rattle.pm_format.proofs.SearchLemmas.{le_or}
+use Rattle.pm_walk.proofs.WholeLemmas.{empty_held, held, none_past, tile_found}
 
 -- a part of an entry leads to the same bytes
 part_held : (h : Header) (b : List ℕ) (e p : Entry) → IsPartOf e p → held h b (Some p) ≡ held h b (Some e)

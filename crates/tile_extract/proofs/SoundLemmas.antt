@@ -17,7 +17,8 @@ use Rattle.pm_walk.specs.declared.extent.Extent.TheVariants.{Within}
 use Rattle.tile_extract.specs.Met.{met_of}
 use Rattle.pm_walk.specs.Parts.{clip, clip_all, parts, parts_of}
 use Rattle.pm_walk.proofs.CoveringLemmas.{to_le, to_lt}
-use Rattle.pm_walk.proofs.OrderLemmas.{is_zero}
+use Rattle.pm_reader.proofs.QueueLemmas.{is_tile}
+use Rattle.pm_reader.proofs.SoundTileLemmas.{head_below, is_zero}
 use Rattle.tile_extract.proofs.ShortLemmas.{AreShort, leaf_short, root_short}
 use Rattle.pm_walk.proofs.WalkingLemmas.{leaf_goes, stood, then_on, tile_goes, unmet_goes, walked_is}
 
@@ -64,11 +65,6 @@ stands_by left before low limit end e a b c d f =
 abbrev pub GoesOn : ℕ → Header → List ℕ → (Entry → Option ℕ → Walked) → (Entry → ℕ → Type 0) → Type 0
 GoesOn n h b f P = (e : Entry) (end : Option ℕ) (last : ℕ) → EndsAt end last → last ≤ MAX_TILE_ID + 1 → e.tile_id + e.run_length ≤ last → P e last → e.length < 2 ^ 32 → (fits_depth n e ≡ true) × GoesWell h b (f e end)
 
--- an entry among others lies below the limit, and so does its run
-head_below : (P : Entry → ℕ → Type 0) (lo limit : ℕ) (e : Entry) (es : List Entry) → EachEntry P lo limit (e ∷ es) → (lo ≤ e.tile_id) × (e.tile_id < limit) × (e.tile_id + e.run_length ≤ limit)
-head_below P lo limit e [] h = (h.0, h.1, h.2)
-head_below P lo limit e (d ∷ es) h = let next = head_below P d.tile_id limit d es h.4 in (h.0, omega (arith, h.1, next.1), omega (arith, h.2, next.1))
-
 pub each_well : (n : ℕ) (h : Header) (b : List ℕ) (f : Entry → Option ℕ → Walked) (P : Entry → ℕ → Type 0) → GoesOn n h b f P → (before : Option Entry) (low lo : ℕ) (limit : Option ℕ) (last : ℕ) (e : Entry) (es : List Entry)
     → low ≤ lo → rises before e.tile_id ≡ true → EndsAt limit last → last ≤ MAX_TILE_ID + 1 → EachEntry P lo last (e ∷ es) → AreShort (e ∷ es) → GoesWell h b (walk_each n f before low limit (e ∷ es))
 each_well n h b f P step before low lo limit last e [] le up at most s short =
@@ -88,9 +84,6 @@ all_well n h b f P step low limit last [] at most s short = record { fine = refl
 all_well n h b f P step low limit last (e ∷ es) at most s short = each_well n h b f P step None low low limit last e es (omega arith) refl at most s short
 
 -- a tile entry
-no_leaf : (n : ℕ) → n ≢ 0 → nat_eq n 0 ≡ false
-no_leaf n some = grind (arith, nat_tests)
-
 tile_depth : (n : ℕ) (e : Entry) → nat_eq e.run_length 0 ≡ false → fits_depth n e ≡ true
 tile_depth n e tile = ap (λ t. if t then not (nat_eq n 0) else true) tile
 
@@ -111,7 +104,7 @@ pub sound_well : (n : ℕ) (h : Header) (b : List ℕ) (is : List (ℕ × ℕ)) 
 sound_well zero h b is low limit last es at most s short =
     subst (GoesWell h b) (sym (walked_is Within zero h b is low limit es))
     (all_well zero h b (entry_walk Within None h b is) (λ e end. (e.run_length ≢ 0) × HasData h b e)
-    (λ e end m ends top within p few. (tile_depth zero e (no_leaf e.run_length p.0), tile_well zero h b is e end (no_leaf e.run_length p.0) (omega (arith, top, within)) p.1 few))
+    (λ e end m ends top within p few. (tile_depth zero e (is_tile e.run_length p.0), tile_well zero h b is e end (is_tile e.run_length p.0) (omega (arith, top, within)) p.1 few))
     low limit last es at most s short)
 sound_well (suc n) h b is low limit last es at most s short =
     subst (GoesWell h b) (sym (walked_is Within (suc n) h b is low limit es))
@@ -135,7 +128,7 @@ sound_well (suc n) h b is low limit last es at most s short =
     by_run deeper e end m ends top within p few true zero_run =
         let run : e.run_length ≡ 0 = is_zero e.run_length zero_run in
         let leaf = p.1 run in
-        (ap (λ t. if t then not (nat_eq (suc n) 0) else true) zero_run ∙ ap not (no_leaf (suc n) (λ z. absurd (omega (arith, z)))), by_met deeper e end m ends top leaf.0 run leaf.1 leaf.2 (is_met is e.tile_id end) refl)
+        (ap (λ t. if t then not (nat_eq (suc n) 0) else true) zero_run ∙ ap not (is_tile (suc n) (λ z. absurd (omega (arith, z)))), by_met deeper e end m ends top leaf.0 run leaf.1 leaf.2 (is_met is e.tile_id end) refl)
 
 -- that of a sound archive
 pub archive_well : (b : List ℕ) (s : Sound b) (c : Coord) (m : ℕ) → GoesWell s.found.0 b (met_of b s.found c m)

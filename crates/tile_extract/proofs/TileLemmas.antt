@@ -18,7 +18,7 @@ use Rattle.tile_extract.specs.Written.{Adds, EndsBy, Rises, has_room, ids_of, pu
 use Rattle.tile_extract.specs.declared.error.ExtractError.{ExtractError}
 use Rattle.tile_extract.specs.declared.error.ExtractError.TheVariants.{Archive, IndexEntryOverflow}
 use Rattle.tile_extract.proofs.AddedLemmas.{at_each, ends_add, ends_later, ends_rise, ok_is}
-use Rattle.pm_walk.proofs.CoveringLemmas.{covering, has_id, lt_by, none_below}
+use Rattle.pm_walk.proofs.CoveringLemmas.{covering, has_id, in_run, lt_by, none_below}
 use Rattle.pm_walk.proofs.WholeLemmas.{held}
 
 -- the bytes that an entry leads to, none where they aren't there
@@ -69,9 +69,6 @@ each_filled byte bytes [] done = sym (append-nil done)
 each_filled byte bytes (id ∷ ids) done = each_filled byte bytes ids (done ++ (id, byte ∷ bytes) ∷ []) ∙ append_assoc done ((id, byte ∷ bytes) ∷ []) (at_each (byte ∷ bytes) ids)
 
 -- bytes at ids in a row, before other adds
-abbrev pub in_run : ℕ → ℕ → ℕ → Bool
-in_run t id n = nat_le id t && nat_lt t (id + n)
-
 each_at : (bytes : List ℕ) (t n id : ℕ) (rest : Adds) → tile_in (at_each bytes (range_with_len id n) ++ rest) t ≡ (if in_run t id n then Some bytes else tile_in rest t)
 each_at bytes t zero id rest = let none : in_run t id 0 ≡ false = grind (arith, nat_tests) in sym (ap (λ b. if b then Some bytes else tile_in rest t) none)
 each_at bytes t (suc n) id rest = by_test (nat_eq id t) refl (each_at bytes t n (id + 1) rest)

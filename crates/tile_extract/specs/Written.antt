@@ -1,6 +1,5 @@
 -- The tiles of parts in order, added to an archive that is begun.
 use Rattle.std.specs.Prelude.{◌≡◌, ◌≢◌, ◌⊎◌, ◌+◌, ◌≤◌, ℕ, ◌^◌, Bool, true, false, List, [], ◌∷◌, ◌++◌, length, nat_lt, ◌&&◌, Option, Some, None, Result, Ok, Err, IfSome}
-use Rattle.std.specs.List.{range_with_len}
 use Rattle.base_values.specs.Counts.{Rose}
 use Rattle.pm_format.specs.declared.error.PmtError.{PmtError}
 use Rattle.pm_format.specs.declared.error.PmtError.TheVariants as errors
@@ -21,6 +20,7 @@ use Rattle.pm_writer.specs.declared.state.WriterState.{WriterState}
 use Rattle.pm_walk.specs.Collecting.{AllLieIn}
 use Rattle.pm_walk.specs.Intervals.{in_intervals}
 use Rattle.pm_walk.specs.Parts.{tile_count}
+pub use Rattle.pm_walk.specs.Parts.{ids_of}
 use Rattle.pm_walk.specs.declared.error.WalkError.{WalkError}
 use Rattle.pm_walk.specs.declared.error.WalkError.TheVariants as walk
 use Rattle.tile_extract.specs.declared.error.ExtractError.{ExtractError}
@@ -38,9 +38,6 @@ has_room o done id bytes = nat_lt (length bytes) (2 ^ 32) && nat_lt (data_end o 
 abbrev pub put_all : Options → List ℕ → Adds → List ℕ → Result Adds ExtractError
 put_all o bytes done [] = Ok done
 put_all o bytes done (id ∷ ids) = elim (has_room o done id bytes) [ true ↦ put_all o bytes (add_to done id bytes) ids | false ↦ Err IndexEntryOverflow ]
-
-abbrev pub ids_of : Entry → List ℕ
-ids_of p = range_with_len p.tile_id p.run_length
 
 abbrev pub put_next : (Adds → Result Adds ExtractError) → Result Adds ExtractError → Result Adds ExtractError
 put_next f (Ok done) = f done

@@ -1,9 +1,9 @@
 // How a run of the extractor ends.
 ghost use Rattle.std.specs.Prelude.{◌≡◌};
-ghost use Rattle.tile_extract.specs.Outcome.{refused_status, status};
+ghost use Rattle.tile_extract.specs.Outcome.{status};
 
 use crate::ExtractError;
-use pm_format::{PmtError, ReadCause};
+use pm_format::{archive_status, status};
 use pm_writer::ArchivePlaces;
 
 /// How a run of the extractor ends.
@@ -24,25 +24,11 @@ pub fn extract_status(outcome: &ExtractOutcome) -> u8
     ensures { result ≡ status outcome.now }
 {
     match outcome {
-        ExtractOutcome::Done(_) => 0,
-        ExtractOutcome::Refused(error) => status_of(error),
-        ExtractOutcome::Usage => 2,
-        ExtractOutcome::OutOfMemory => 7,
-    }
-}
-
-fn status_of(error: &ExtractError) -> u8
-    ensures { result ≡ refused_status error.now }
-{
-    match error {
-        ExtractError::Archive(refusal) => match refusal {
-            PmtError::Reading(cause) => match cause {
-                ReadCause::Fault => 6,
-                ReadCause::PastEnd => 1,
-            },
-            _ => 1,
-        },
-        ExtractError::MediumFault => 6,
-        _ => 1,
+        ExtractOutcome::Done(_) => status::DONE,
+        ExtractOutcome::Refused(ExtractError::Archive(error)) => archive_status(error),
+        ExtractOutcome::Refused(ExtractError::MediumFault) => status::FAULT,
+        ExtractOutcome::Refused(_) => status::REFUSED,
+        ExtractOutcome::Usage => status::USAGE,
+        ExtractOutcome::OutOfMemory => status::OUT_OF_MEMORY,
     }
 }

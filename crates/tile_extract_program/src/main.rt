@@ -4,9 +4,9 @@
 use base_values::TextVal;
 use pm_format::{FileBackend, FileMedium};
 use program_words::{
-    Before, SourceFile, hold_streams, leave_destination, print_for, say_medium_fault, say_opening,
-    say_out_of_memory, say_source_fault, say_unwritten, say_usage, source_file, sync_destination,
-    take_destination, text_of, words_of,
+    Before, hold_streams, leave_destination, open_archive, print_for, say_medium_fault,
+    say_not_empty, say_opening, say_out_of_memory, say_unwritten, say_usage, sync_destination,
+    take_destination, tell_source_fault, words_to_run,
 };
 use std::process::ExitCode;
 use tile_extract::{ExtractError, ExtractOutcome, extract_status, run_extract};
@@ -97,9 +97,7 @@ fn say_outcome(
 fn say_refusal(rt: &HostRuntime, (from, to): (&str, &str), error: &ExtractError) {
     let _ = match error {
         ExtractError::MediumNotEmpty { length } => {
-            eprintln!(rt;
-                "{TOOL}: {to}: the file has {length} bytes and stays as it is; give the name of a file that is new or empty"
-            )
+            return say_not_empty(rt, TOOL, to, *length);
         }
         ExtractError::TooManyTiles(limit) => {
             eprintln!(rt;
@@ -110,20 +108,11 @@ fn say_refusal(rt: &HostRuntime, (from, to): (&str, &str), error: &ExtractError)
     };
 }
 
-// Opens an archive in a regular file.
-fn open_source(rt: &HostRuntime, path: &str) -> Option<FileBackend> {
-    match source_file(rt, path) {
-        SourceFile::Readable => FileBackend::open(rt, path).ok(),
-        _ => None,
-    }
-}
-
 // Extracts from a file to a file, which are opened first.
 fn extract_files(rt: &HostRuntime, from: &str, to: &str, words: &[TextVal]) -> u8 {
     let fault = extract_status(&medium_fault());
-    let Some(mut source) = open_source(rt, from) else {
-        say_source_fault(rt, TOOL, from);
-        return say_unwritten(rt, TOOL, print_for(rt, "source fault\n", fault));
+    let Some(mut source) = open_archive(rt, from) else {
+        return tell_source_fault(rt, TOOL, from, fault);
     };
     let Some(before) = take_destination(rt, TOOL, to) else {
         return say_unwritten(rt, TOOL, print_for(rt, "medium fault\n", fault));
@@ -142,19 +131,10 @@ fn run_words(rt: &HostRuntime, words: &[TextVal]) -> u8 {
     }
 }
 
-fn status_of(rt: &HostRuntime) -> u8 {
-    let words = match words_of(rt, TOOL) {
-        Err(_) => return extract_status(&ExtractOutcome::OutOfMemory),
-        Ok(None) => return extract_status(&ExtractOutcome::Usage),
-        Ok(Some(words)) => words,
-    };
-    match text_of(words.as_slice(), HELP, VERSION) {
-        Some(text) => say_unwritten(rt, TOOL, print_for(rt, text, 0)),
-        None => run_words(rt, words.as_slice()),
-    }
-}
-
 fn main(rt: HostRuntime) -> ExitCode {
     let _streams = hold_streams(&rt);
-    ExitCode::from(status_of(&rt))
+    ExitCode::from(match words_to_run(&rt, TOOL, HELP, VERSION) {
+        Ok(words) => run_words(&rt, words.as_slice()),
+        Err(status) => status,
+    })
 }

@@ -10,8 +10,8 @@ use Rattle.mb_tables.specs.Tiles.{Place, TileSet}
 use Rattle.mb_lists.specs.Places.{InRange, address}
 use Rattle.pm_walk.specs.Collecting.{AllShallow, AreOrdered, contents_of}
 use Rattle.pm_walk.specs.Parts.{tile_count}
-use Rattle.pm_walk.proofs.CoveringLemmas.{covering, covers_here, covers_later, has_id, none_below}
-use Rattle.tile_import.proofs.PlacingLemmas.{At, get_run, in_run, run_few, run_on_board}
+use Rattle.pm_walk.proofs.CoveringLemmas.{covering, covers_here, covers_later, has_id, in_run, none_below}
+use Rattle.tile_import.proofs.PlacingLemmas.{At, get_run, run_few, run_on_board}
 use Rattle.tile_import.specs.Putting.{AreOnBoard, IsMadeOf, ids_of, with_contents, with_entries, with_ids}
 
 -- the contents of an entry that was found, or what was there

@@ -4,7 +4,7 @@ use Rattle.std.proofs.lemmas.Bool.Decides.{nat_tests}
 use Rattle.std.specs.List.{range_with_len}
 use Rattle.std.specs.Ordering.{eq_by_cmp, nat_cmp}
 use Rattle.std.specs.FinMap.{contains_key, get, get-insert, insert, len, len-insert}
-use Rattle.tile_ids.proofs.Bijection.{has_id, is_coord_of, id_within}
+use Rattle.tile_ids.proofs.Bijection.{has_id, is_coord_of, id_within, lt_or}
 use Rattle.tile_ids.specs.Coord.{Coord, IsCoord}
 use Rattle.tile_ids.specs.Hilbert.{coord_of, hilbert, id_of, pyramid, tile_id}
 use Rattle.tile_ids.specs.declared.id.TheConstants.{MAX_TILE_ID}
@@ -17,6 +17,7 @@ use Rattle.mb_tables.proofs.TileLemmas.{places_total}
 use Rattle.mb_tables.specs.Tiles.{Place, TileSet, place_cmp}
 use Rattle.mb_lists.proofs.AddressLemmas.{coord_address, coord_placed, one_tie}
 use Rattle.mb_lists.specs.Places.{InRange, address}
+use Rattle.pm_walk.proofs.CoveringLemmas.{in_run}
 use Rattle.pm_walk.specs.declared.extent.TheConstants.{FIRST_TOO_DEEP}
 use Rattle.tile_import.specs.Putting.{AreOnBoard, place_of_id, with_ids}
 
@@ -43,13 +44,6 @@ after_one tiles bytes p t range le = get-insert places_total tiles (place_of_id 
 
 same_or : (m n : ℕ) → (m ≡ n) ⊎ (m ≢ n)
 same_or m n = grind arith
-
-pub lt_or : (m n : ℕ) → (m < n) ⊎ (n ≤ m)
-lt_or m n = grind arith
-
--- whether an id lies in a run
-abbrev pub in_run : ℕ → ℕ → ℕ → Bool
-in_run t a n = nat_le a t && nat_lt t (a + n)
 
 next_le : (t a : ℕ) → t ≢ a → nat_le (a + 1) t ≡ nat_le a t
 next_le t a other = elim (lt_or t a) [

@@ -25,7 +25,7 @@ use Rattle.pm_walk.specs.declared.error.WalkError.TheVariants as walks
 use Rattle.pm_walk.specs.declared.extent.Extent.TheVariants.{Whole}
 use Rattle.pm_walk.specs.declared.extent.TheConstants.{FIRST_TOO_DEEP}
 use Rattle.mb_tables.specs.Tiles.{TileSet}
-use Rattle.tile_import.proofs.PlacingLemmas.{lt_or}
+use Rattle.tile_ids.proofs.Bijection.{lt_or}
 use Rattle.tile_import.proofs.TilesLemmas.{tiles_are}
 use Rattle.tile_import.specs.Import.{ReadCauses}
 use Rattle.tile_import.specs.Putting.{with_contents, with_entries}

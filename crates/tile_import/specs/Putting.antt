@@ -1,7 +1,6 @@
 -- The tiles of tile entries, put one after another into a set.
 use Rattle.std.specs.Prelude.{◌≡◌, ℕ, true, List, [], ◌∷◌, length, map, Some}
 use Rattle.std.specs.FinMap.{contains_key, empty, insert}
-use Rattle.std.specs.List.{range_with_len}
 use Rattle.tile_ids.specs.Hilbert.{coord_of}
 use Rattle.pm_format.specs.declared.header.Header.{Header}
 use Rattle.pm_format.specs.Directory.{Entry}
@@ -9,6 +8,7 @@ use Rattle.mb_lists.specs.Entries.{place_at}
 use Rattle.mb_loaded.specs.Editable.{IsOnBoard}
 use Rattle.mb_tables.specs.Tiles.{Place, TileSet}
 use Rattle.pm_walk.specs.Collecting.{contents_of}
+pub use Rattle.pm_walk.specs.Parts.{ids_of}
 
 -- the place of an id: that of its coordinate
 abbrev pub place_of_id : ℕ → Place
@@ -18,10 +18,6 @@ place_of_id t = place_at (coord_of t)
 abbrev pub with_ids : TileSet → List ℕ → List ℕ → TileSet
 with_ids tiles bytes [] = tiles
 with_ids tiles bytes (t ∷ ts) = with_ids (insert tiles (place_of_id t) (Some bytes)) bytes ts
-
--- the ids of an entry's run
-abbrev pub ids_of : Entry → List ℕ
-ids_of e = range_with_len e.tile_id e.run_length
 
 -- a set with the tiles of entries, in order, of the contents beside them
 abbrev pub with_contents : TileSet → List Entry → List (List ℕ) → TileSet

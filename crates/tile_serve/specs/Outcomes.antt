@@ -1,11 +1,11 @@
 -- The outcome that each error ends in, and the status of each outcome.
-use Rattle.std.specs.Prelude.{◌≡◌, ℕ, Result, Ok, Err, refl}
+use Rattle.std.specs.Prelude.{ℕ, Result, Ok, Err}
 use Rattle.byte_streams.specs.declared.input.InputError.{InputError}
 use Rattle.byte_streams.specs.declared.input.InputError.TheVariants as input
 use Rattle.byte_streams.specs.declared.sink.SinkFault.{SinkFault}
 use Rattle.byte_streams.specs.declared.sink.SinkFault.TheVariants as sink
-use Rattle.pm_format.specs.declared.error.PmtError.TheVariants as errors
-use Rattle.pm_format.specs.declared.error.ReadCause.TheVariants as causes
+use Rattle.pm_format.specs.Status.{archive_status}
+use Rattle.pm_format.specs.declared.status.TheConstants.{DONE, REFUSED, USAGE, INPUT_FAULT, OUTPUT_FAULT, FAULT, OUT_OF_MEMORY, INPUT_TOO_LONG}
 use Rattle.tile_serve.specs.declared.error.ServeError.{ServeError}
 use Rattle.tile_serve.specs.declared.error.ServeError.TheVariants as serve
 use Rattle.tile_serve.specs.declared.outcome.ServeOutcome.{ServeOutcome}
@@ -29,23 +29,13 @@ abbrev pub outcome_of : {T : Type 0} → Result T ServeOutcome → ServeOutcome
 outcome_of (Ok x) = Done
 outcome_of (Err e) = e
 
--- a refusal that the backend's failing brought
-abbrev pub refused_status : ServeError → ℕ
-refused_status (serve.Opening (errors.Reading causes.Fault)) = 6
-refused_status serve.Fault = 6
-refused_status e = 1
-
 abbrev pub status : ServeOutcome → ℕ
-status Done = 0
-status (Refused e) = refused_status e
-status Usage = 2
-status InputFault = 4
-status OutputFault = 5
-status InputTooLong = 8
-status OutOfMemory = 7
-
-pub unreadable : status (Refused (serve.Opening (errors.Reading causes.Fault))) ≡ 6
-unreadable = refl
-
-pub past_end : status (Refused (serve.Opening (errors.Reading causes.PastEnd))) ≡ 1
-past_end = refl
+status Done = DONE
+status (Refused (serve.Opening e)) = archive_status e
+status (Refused serve.Fault) = FAULT
+status (Refused e) = REFUSED
+status Usage = USAGE
+status InputFault = INPUT_FAULT
+status OutputFault = OUTPUT_FAULT
+status InputTooLong = INPUT_TOO_LONG
+status OutOfMemory = OUT_OF_MEMORY

@@ -1,10 +1,10 @@
 // How a run of the server ends.
 ghost use Rattle.std.specs.Prelude.{◌≡◌};
-ghost use Rattle.tile_serve.specs.Outcomes.{of_input, of_serve, of_sink, refused_status, status};
+ghost use Rattle.tile_serve.specs.Outcomes.{of_input, of_serve, of_sink, status};
 
 use crate::ServeError;
 use byte_streams::{InputError, SinkFault};
-use pm_format::{PmtError, ReadCause};
+use pm_format::{archive_status, status};
 
 /// How a run of the server ends.
 #[derive(Debug, Drop)]
@@ -64,28 +64,14 @@ pub fn serve_status(outcome: &ServeOutcome) -> u8
     ensures { result ≡ status outcome.now }
 {
     match outcome {
-        ServeOutcome::Done => 0,
-        ServeOutcome::Refused(error) => status_of(error),
-        ServeOutcome::Usage => 2,
-        ServeOutcome::InputFault => 4,
-        ServeOutcome::OutputFault => 5,
-        ServeOutcome::InputTooLong => 8,
-        ServeOutcome::OutOfMemory => 7,
-    }
-}
-
-fn status_of(error: &ServeError) -> u8
-    ensures { result ≡ refused_status error.now }
-{
-    match error {
-        ServeError::Opening(refusal) => match refusal {
-            PmtError::Reading(cause) => match cause {
-                ReadCause::Fault => 6,
-                ReadCause::PastEnd => 1,
-            },
-            _ => 1,
-        },
-        ServeError::Fault => 6,
-        _ => 1,
+        ServeOutcome::Done => status::DONE,
+        ServeOutcome::Refused(ServeError::Opening(error)) => archive_status(error),
+        ServeOutcome::Refused(ServeError::Fault) => status::FAULT,
+        ServeOutcome::Refused(_) => status::REFUSED,
+        ServeOutcome::Usage => status::USAGE,
+        ServeOutcome::InputFault => status::INPUT_FAULT,
+        ServeOutcome::OutputFault => status::OUTPUT_FAULT,
+        ServeOutcome::InputTooLong => status::INPUT_TOO_LONG,
+        ServeOutcome::OutOfMemory => status::OUT_OF_MEMORY,
     }
 }

@@ -3,10 +3,9 @@
 
 use base_values::TextVal;
 use byte_streams::{StdSink, StdSource};
-use pm_format::FileBackend;
 use program_words::{
-    SourceFile, hold_streams, print_for, say_opening, say_out_of_memory, say_output_fault,
-    say_source_fault, say_unwritten, say_usage, source_file, text_of, words_of,
+    hold_streams, open_archive, say_input_fault, say_opening, say_out_of_memory, say_output_fault,
+    say_source_fault, say_usage, tell_source_fault, words_to_run,
 };
 use std::process::ExitCode;
 use tile_serve::{ServeError, ServeOutcome, run_serve, serve_status};
@@ -41,20 +40,11 @@ const VERSION: &str = "tile_serve 0.1.0\n";
 
 const TOOL: &str = "tile_serve";
 
-// Opens an archive in a regular file.
-fn open_source(rt: &HostRuntime, path: &str) -> Option<FileBackend> {
-    match source_file(rt, path) {
-        SourceFile::Readable => FileBackend::open(rt, path).ok(),
-        _ => None,
-    }
-}
-
 // Serves a file, which is opened first.
 fn serve_file(rt: &HostRuntime, path: &str, words: &[TextVal]) -> u8 {
-    let Some(mut source) = open_source(rt, path) else {
-        say_source_fault(rt, TOOL, path);
+    let Some(mut source) = open_archive(rt, path) else {
         let fault = serve_status(&ServeOutcome::Refused(ServeError::Fault));
-        return say_unwritten(rt, TOOL, print_for(rt, "source fault\n", fault));
+        return tell_source_fault(rt, TOOL, path, fault);
     };
     let mut input = StdSource::new(rt.stdin());
     let mut output = StdSink::new(rt.stdout());
@@ -69,7 +59,7 @@ fn say_outcome(rt: &HostRuntime, path: &str, outcome: &ServeOutcome) {
         ServeOutcome::Done => Ok(()),
         ServeOutcome::Refused(error) => return say_refusal(rt, path, error),
         ServeOutcome::Usage => return say_usage(rt, TOOL),
-        ServeOutcome::InputFault => eprintln!(rt; "{TOOL}: standard input can't be read"),
+        ServeOutcome::InputFault => return say_input_fault(rt, TOOL),
         ServeOutcome::OutputFault => return say_output_fault(rt, TOOL),
         ServeOutcome::InputTooLong => {
             eprintln!(rt;
@@ -100,19 +90,10 @@ fn run_words(rt: &HostRuntime, words: &[TextVal]) -> u8 {
     }
 }
 
-fn status_of(rt: &HostRuntime) -> u8 {
-    let words = match words_of(rt, TOOL) {
-        Err(_) => return serve_status(&ServeOutcome::OutOfMemory),
-        Ok(None) => return serve_status(&ServeOutcome::Usage),
-        Ok(Some(words)) => words,
-    };
-    match text_of(words.as_slice(), HELP, VERSION) {
-        Some(text) => say_unwritten(rt, TOOL, print_for(rt, text, 0)),
-        None => run_words(rt, words.as_slice()),
-    }
-}
-
 fn main(rt: HostRuntime) -> ExitCode {
     let _streams = hold_streams(&rt);
-    ExitCode::from(status_of(&rt))
+    ExitCode::from(match words_to_run(&rt, TOOL, HELP, VERSION) {
+        Ok(words) => run_words(&rt, words.as_slice()),
+        Err(status) => status,
+    })
 }

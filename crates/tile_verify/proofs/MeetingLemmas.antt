@@ -4,6 +4,7 @@ use Rattle.std.proofs.lemmas.Bool.Decides.{nat_tests}
 use Rattle.pm_format.specs.Directory.{Entry}
 use Rattle.pm_format.specs.LookUp.{leaf_of}
 use Rattle.pm_format.specs.declared.header.Header.{Header}
+use Rattle.pm_reader.proofs.QueueLemmas.{is_tile}
 use Rattle.tile_verify.specs.FirstBreak.{Walked, below, entry_walk, leaf_walk, one_deeper, place, tile_walk, walked}
 use Rattle.tile_verify.specs.Walking.{IsBreak, LeafRead, Meets}
 use Rattle.tile_verify.specs.declared.error.VerifyError.{VerifyError}
@@ -16,13 +17,10 @@ pub leaf_met : (inner : Spot → ℕ → ℕ → List Entry → Walked) (h : Hea
 leaf_met inner h b at index e end is_leaf =
     ap (λ n. elim (nat_eq n 0) as (λ _. Walked) [ false ↦ tile_walk h b (place at index) e | true ↦ leaf_walk (inner (one_deeper at e) e.tile_id end) (place at index) (leaf_of h b e) ]) is_leaf
 
-pub not_leaf : (run : ℕ) → run ≢ 0 → nat_eq run 0 ≡ false
-not_leaf run n = grind (arith, nat_tests)
-
 pub tile_met : (below : Option (Spot → ℕ → ℕ → List Entry → Walked)) (h : Header) (b : List ℕ) (at : Spot) (index : ℕ) (e : Entry) (end : ℕ) → e.run_length ≢ 0
     → entry_walk below h b at index e end ≡ tile_walk h b (place at index) e
-tile_met below h b at index e end is_tile =
-    ap (λ t. elim t as (λ _. Walked) [ false ↦ tile_walk h b (place at index) e | true ↦ entry_walk below h b at index (record e { run_length = 0 }) end ]) (not_leaf e.run_length is_tile)
+tile_met below h b at index e end tile =
+    ap (λ t. elim t as (λ _. Walked) [ false ↦ tile_walk h b (place at index) e | true ↦ entry_walk below h b at index (record e { run_length = 0 }) end ]) (is_tile e.run_length tile)
 
 -- a leaf that is refused breaks the walk at its entry
 leaf_refused : (h : Header) (b : List ℕ) (at : Spot) (index left : ℕ) (e : Entry) (old new : Met) (x : VerifyError) → e.run_length ≡ 0 → left ≢ 0

@@ -10,6 +10,7 @@ use Rattle.pm_format.specs.Sound.{EachEntry, HasData, Sound, SoundDirectory}
 use Rattle.pm_format.specs.declared.error.PmtError.{PmtError}
 use Rattle.pm_format.specs.declared.error.PmtError.TheVariants as errors
 use Rattle.pm_format.specs.declared.header.Header.{Header}
+use Rattle.pm_reader.proofs.SoundTileLemmas.{head_below}
 use Rattle.tile_verify.specs.FirstBreak.{Walked, breaks, entry_break, entry_walk, falls, first_break, intact, leaf_walk, limits_break, one_deeper, overlaps, place, root_spot, then_walk, tile_walk, two_turns, walk_each, walked}
 use Rattle.tile_verify.specs.declared.broken.Place.{Place}
 use Rattle.tile_verify.specs.declared.broken.Reason.{Reason}
@@ -107,11 +108,6 @@ each_sound f P low limit step i j lo before e (d ∷ es) least limits walks =
 
     behind : (id end : ℕ) → nat_lt id end ≡ false → end ≤ id
     behind id end h = grind (arith, nat_tests)
-
--- an entry among others lies below the limit, and so does its run
-head_below : (P : Entry → ℕ → Type 0) (lo limit : ℕ) (e : Entry) (es : List Entry) → EachEntry P lo limit (e ∷ es) → (lo ≤ e.tile_id) × (e.tile_id < limit) × (e.tile_id + e.run_length ≤ limit)
-head_below P lo limit e [] h = (h.0, h.1, h.2)
-head_below P lo limit e (d ∷ es) h = let next = head_below P d.tile_id limit d es h.4 in (h.0, omega (arith, h.1, next.1), omega (arith, h.2, next.1))
 
 -- no id or run breaks
 limits_none : (P : Entry → ℕ → Type 0) (low limit : ℕ) → limit ≤ MAX_TILE_ID + 1

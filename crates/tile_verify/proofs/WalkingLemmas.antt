@@ -16,7 +16,8 @@ use Rattle.tile_verify.specs.declared.error.VerifyError.{VerifyError}
 use Rattle.tile_verify.specs.declared.error.VerifyError.TheVariants.{Broken, Fault, OutOfMemory}
 use Rattle.tile_verify.specs.declared.walk.Met.{Met}
 use Rattle.tile_verify.specs.declared.walk.Spot.{Spot}
-use Rattle.tile_verify.proofs.MeetingLemmas.{leaf_met, tile_met, not_leaf}
+use Rattle.pm_reader.proofs.QueueLemmas.{is_tile}
+use Rattle.tile_verify.proofs.MeetingLemmas.{leaf_met, tile_met}
 
 pub counted_twice : (n j k : ℕ) → counted (counted n j) k ≡ counted n (j + k)
 counted_twice n zero k = let p : k ≡ 0 + k = omega arith in ap (counted n) p
@@ -164,7 +165,7 @@ pub past_tile : (h : Header) (b : List ℕ) (at : Spot) (left limit : ℕ) (es :
 past_tile h b at left limit es e others old mid now before between reads fits s m most =
     went_on h b at left limit es e others old mid now before between reads 0 1 (e ∷ []) fits s
     (tile_met (below left h b) h b at _ e _ m.0 ∙ tile_gone h b at _ e m.1)
-    (ap (λ t. elim t as (λ _. List Entry) [ false ↦ e ∷ [] | true ↦ elim (inside left h b) as (λ _. List Entry) [ None ↦ [] | Some inner ↦ in_leaf inner (leaf_of h b e) ] ]) (not_leaf e.run_length m.0))
+    (ap (λ t. elim t as (λ _. List Entry) [ false ↦ e ∷ [] | true ↦ elim (inside left h b) as (λ _. List Entry) [ None ↦ [] | Some inner ↦ in_leaf inner (leaf_of h b e) ] ]) (is_tile e.run_length m.0))
     m.2 most
 
 -- the walk of a leaf that was intact

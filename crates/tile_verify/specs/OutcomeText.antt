@@ -2,8 +2,9 @@
 use Rattle.std.specs.Prelude.{◌≡◌, ℕ, ◌++◌, List, codes, refl}
 use Rattle.std.specs.Fmt.{decimal}
 use Rattle.pm_format.specs.ErrorName.{error_name}
+use Rattle.pm_format.specs.Status.{archive_status}
 use Rattle.pm_format.specs.declared.error.PmtError.TheVariants as errors
-use Rattle.pm_format.specs.declared.error.ReadCause.TheVariants as causes
+use Rattle.pm_format.specs.declared.status.TheConstants.{DONE, REFUSED, USAGE, FAULT, OUT_OF_MEMORY}
 use Rattle.tile_verify.specs.declared.broken.Reason.{Reason}
 use Rattle.tile_verify.specs.declared.broken.Reason.TheVariants as reasons
 use Rattle.tile_verify.specs.declared.error.VerifyError.{VerifyError}
@@ -12,17 +13,13 @@ use Rattle.tile_verify.specs.declared.outcome.VerifyOutcome.{VerifyOutcome}
 use Rattle.tile_verify.specs.declared.outcome.VerifyOutcome.TheVariants.{Done, Refused, Usage, OutOfMemory}
 use Rattle.tile_verify.specs.declared.report.VerifyReport.{VerifyReport}
 
--- a refusal that the source's failing brought
-abbrev pub refused_status : VerifyError → ℕ
-refused_status (verify.Opening (errors.Reading causes.Fault)) = 6
-refused_status verify.Fault = 6
-refused_status e = 1
-
 abbrev pub status : VerifyOutcome → ℕ
-status (Done r) = 0
-status (Refused e) = refused_status e
-status Usage = 2
-status OutOfMemory = 7
+status (Done r) = DONE
+status (Refused (verify.Opening e)) = archive_status e
+status (Refused verify.Fault) = FAULT
+status (Refused e) = REFUSED
+status Usage = USAGE
+status OutOfMemory = OUT_OF_MEMORY
 
 abbrev pub reason_name : Reason → List ℕ
 reason_name reasons.IdsFall = codes "IdsFall"
@@ -56,9 +53,3 @@ line OutOfMemory = codes "out of memory\n"
 
 pub cut_header : line (Refused (verify.Opening errors.InvalidHeader)) ≡ codes "opening InvalidHeader\n"
 cut_header = refl
-
-pub unreadable : status (Refused (verify.Opening (errors.Reading causes.Fault))) ≡ 6
-unreadable = refl
-
-pub past_end : status (Refused (verify.Opening (errors.Reading causes.PastEnd))) ≡ 1
-past_end = refl

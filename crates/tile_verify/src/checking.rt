@@ -4,10 +4,10 @@ ghost use Rattle.pm_format.specs.Opened.{opened};
 ghost use Rattle.pm_reader.specs.Reads.{ReadsOnly};
 ghost use Rattle.tile_verify.specs.Checking.{Answers, Causes, ReadsMade, reads_at_most};
 
-use crate::walk::{MAX_DEPTH, Met, Spot, walk};
+use crate::walk::{Met, Spot, walk};
 use crate::{VerifyError, VerifyReport};
 use pm_format::{Backend, PmtError};
-use pm_reader::ReaderState;
+use pm_reader::{MAX_LEAVES, ReaderState};
 use std::alloc::Global;
 use tile_ids::MAX_TILE_ID;
 
@@ -42,7 +42,7 @@ pub fn verify<B: Backend>(alloc: Global, source: &mut B) -> Result<VerifyReport,
         root,
         0,
         end,
-        MAX_DEPTH,
+        MAX_LEAVES,
         state.root(),
     ) {
         Ok(()) => Ok(met.report()),

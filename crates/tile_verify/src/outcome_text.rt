@@ -1,10 +1,10 @@
 // How outcomes are shown: a status and a line.
 ghost use Rattle.std.specs.Prelude.{◌≡◌, IfOk, string_bytes};
-ghost use Rattle.tile_verify.specs.OutcomeText.{line, reason_name, refusal, refused_status, status};
+ghost use Rattle.tile_verify.specs.OutcomeText.{line, reason_name, refusal, status};
 
 use crate::{Reason, VerifyError, VerifyOutcome};
 use base_values::{OutOfMemory, TextVal};
-use pm_format::{PmtError, ReadCause};
+use pm_format::{archive_status, status};
 use std::alloc::Global;
 
 /// The status that a program ends with: 0 for `Done`, 1 or, where the source failed, 6 for `Refused`, 2 for `Usage` and 7 for `OutOfMemory`.
@@ -12,26 +12,12 @@ pub fn verify_status(outcome: &VerifyOutcome) -> u8
     ensures { result ≡ status outcome.now }
 {
     match outcome {
-        VerifyOutcome::Done(_) => 0,
-        VerifyOutcome::Refused(error) => status_of(error),
-        VerifyOutcome::Usage => 2,
-        VerifyOutcome::OutOfMemory => 7,
-    }
-}
-
-fn status_of(error: &VerifyError) -> u8
-    ensures { result ≡ refused_status error.now }
-{
-    match error {
-        VerifyError::Opening(refusal) => match refusal {
-            PmtError::Reading(cause) => match cause {
-                ReadCause::Fault => 6,
-                ReadCause::PastEnd => 1,
-            },
-            _ => 1,
-        },
-        VerifyError::Fault => 6,
-        _ => 1,
+        VerifyOutcome::Done(_) => status::DONE,
+        VerifyOutcome::Refused(VerifyError::Opening(error)) => archive_status(error),
+        VerifyOutcome::Refused(VerifyError::Fault) => status::FAULT,
+        VerifyOutcome::Refused(_) => status::REFUSED,
+        VerifyOutcome::Usage => status::USAGE,
+        VerifyOutcome::OutOfMemory => status::OUT_OF_MEMORY,
     }
 }
 

@@ -10,10 +10,8 @@ use crate::tests_of_entries::limits_reason;
 use crate::{Place, Reason, VerifyError};
 use pm_format::{Backend, DirEntry, Directory, PmtError, ReadCause};
 use pm_reader::ReaderState;
+use pm_walk::test_range;
 use std::alloc::Global;
-
-/// How many leaves may lead to a directory.
-pub(crate) const MAX_DEPTH: u8 = 6;
 
 /// Where a directory lies: how many leaves lead to it, and its place in the leaf part.
 #[derive(Clone, Copy)]
@@ -128,11 +126,8 @@ fn read_tile<B: Backend>(
     ensures reads { B.reads backend.new ≤ B.reads backend.old + 1 }
 {
     met.add_tile(entry)?;
-    let Some(end) = entry.offset().checked_add(u64::from(entry.length())) else {
-        return Err(met.broken(at, index, Reason::TilePastEnd));
-    };
-    match state.read_contents(backend, end, 0) {
-        Ok(_) => Ok(()),
+    match test_range(state, backend, entry) {
+        Ok(()) => Ok(()),
         Err(PmtError::Reading(ReadCause::PastEnd)) => {
             Err(met.broken(at, index, Reason::TilePastEnd))
         }
@@ -153,7 +148,7 @@ fn meet<B: Backend>(
     at: Spot,
     index: u64,
     entry: DirEntry,
-    left: u8,
+    left: u32,
 ) -> Result<Option<Directory>, VerifyError>
     ensures answer { IfSome (B.told backend.old)
         (λ b. Meets (header_of state.now) b at index entry left met.old met.new result) }
@@ -184,7 +179,7 @@ pub(crate) fn walk<B: Backend>(
     at: Spot,
     low: u64,
     limit: u64,
-    left: u8,
+    left: u32,
     directory: &Directory,
 ) -> Result<(), VerifyError>
     requires { at.depth + left ≡ 6 }

@@ -2,10 +2,9 @@
 #![tactic(auto)]
 
 use base_values::TextVal;
-use pm_format::FileBackend;
 use program_words::{
-    OUT_OF_MEMORY, SourceFile, hold_streams, print_for, say_opening, say_out_of_memory,
-    say_source_fault, say_unwritten, say_usage, source_file, text_of, words_of,
+    OUT_OF_MEMORY, hold_streams, open_archive, print_for, say_opening, say_out_of_memory,
+    say_source_fault, say_unwritten, say_usage, text_of, words_of,
 };
 use std::process::ExitCode;
 use tile_verify::{VerifyError, VerifyOutcome, run_verify, verify_line, verify_status};
@@ -60,12 +59,9 @@ fn tell(rt: &HostRuntime, outcome: &VerifyOutcome) -> u8 {
 
 // Checks a regular file, which is opened first.
 fn verify_file(rt: &HostRuntime, path: &str, words: &[TextVal]) -> VerifyOutcome {
-    if !matches!(source_file(rt, path), SourceFile::Readable) {
-        return VerifyOutcome::Refused(VerifyError::Fault);
-    }
-    match FileBackend::open(rt, path) {
-        Ok(mut source) => run_verify(rt.alloc(), words, &mut source),
-        Err(_) => VerifyOutcome::Refused(VerifyError::Fault),
+    match open_archive(rt, path) {
+        Some(mut source) => run_verify(rt.alloc(), words, &mut source),
+        None => VerifyOutcome::Refused(VerifyError::Fault),
     }
 }
 

@@ -5,6 +5,7 @@ use Rattle.pm_format.specs.declared.compression.Compression.{Compression}
 use Rattle.pm_format.specs.declared.compression.Compression.TheVariants as compression
 use Rattle.pm_format.specs.ErrorName.{error_name}
 use Rattle.pm_format.specs.declared.error.PmtError.TheVariants as errors
+use Rattle.pm_format.specs.declared.status.TheConstants.{DONE, REFUSED, USAGE, NO_INPUT, INPUT_FAULT, OUTPUT_FAULT, FAULT, OUT_OF_MEMORY, INPUT_TOO_LONG, READ_BACK}
 use Rattle.tile_bridge.specs.declared.error.ConvertError.{ConvertError}
 use Rattle.tile_bridge.specs.declared.error.ConvertError.TheVariants as convert
 use Rattle.tileset.specs.RefusalText.{store_text}
@@ -12,16 +13,16 @@ use Rattle.tileset.specs.declared.outcome.Outcome.{Outcome}
 use Rattle.tileset.specs.declared.outcome.Outcome.TheVariants.{Done, Refused, Usage, BadScript, InputFault, OutputFault, MediumFault, OutOfMemory, InputTooLong, ReadBack}
 
 abbrev pub status : Outcome → ℕ
-status Done = 0
-status (Refused e) = 1
-status Usage = 2
-status (BadScript n) = 3
-status InputFault = 4
-status OutputFault = 5
-status MediumFault = 6
-status OutOfMemory = 7
-status InputTooLong = 8
-status (ReadBack e) = 9
+status Done = DONE
+status (Refused e) = REFUSED
+status Usage = USAGE
+status (BadScript n) = NO_INPUT
+status InputFault = INPUT_FAULT
+status OutputFault = OUTPUT_FAULT
+status MediumFault = FAULT
+status OutOfMemory = OUT_OF_MEMORY
+status InputTooLong = INPUT_TOO_LONG
+status (ReadBack e) = READ_BACK
 
 -- a label as a script says it
 abbrev pub label_name : Compression → List ℕ

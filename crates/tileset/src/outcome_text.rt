@@ -5,7 +5,7 @@ ghost use Rattle.tileset.specs.OutcomeText.{label_name, line, refusal, status};
 use crate::Outcome;
 use crate::refusal_text::store_text;
 use base_values::{OutOfMemory, TextVal};
-use pm_format::Compression;
+use pm_format::{Compression, status};
 use std::alloc::Global;
 use tile_bridge::ConvertError;
 
@@ -14,16 +14,16 @@ pub fn outcome_status(outcome: &Outcome) -> u8
     ensures { result ≡ status outcome.now }
 {
     match outcome {
-        Outcome::Done => 0,
-        Outcome::Refused(_) => 1,
-        Outcome::Usage => 2,
-        Outcome::BadScript { .. } => 3,
-        Outcome::InputFault => 4,
-        Outcome::OutputFault => 5,
-        Outcome::MediumFault => 6,
-        Outcome::OutOfMemory => 7,
-        Outcome::InputTooLong => 8,
-        Outcome::ReadBack(_) => 9,
+        Outcome::Done => status::DONE,
+        Outcome::Refused(_) => status::REFUSED,
+        Outcome::Usage => status::USAGE,
+        Outcome::BadScript { .. } => status::NO_INPUT,
+        Outcome::InputFault => status::INPUT_FAULT,
+        Outcome::OutputFault => status::OUTPUT_FAULT,
+        Outcome::MediumFault => status::FAULT,
+        Outcome::OutOfMemory => status::OUT_OF_MEMORY,
+        Outcome::InputTooLong => status::INPUT_TOO_LONG,
+        Outcome::ReadBack(_) => status::READ_BACK,
     }
 }
 

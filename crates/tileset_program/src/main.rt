@@ -5,9 +5,9 @@ use base_values::TextVal;
 use mb_tables::MbtError;
 use pm_format::{FileMedium, Medium, MemMedium};
 use program_words::{
-    Before, OUT_OF_MEMORY, hold_streams, leave_destination, print, say_medium_fault,
-    say_out_of_memory, say_output_fault, say_usage, sync_destination, take_destination, text_of,
-    words_of,
+    Before, OUT_OF_MEMORY, hold_streams, leave_destination, print, say_input_fault,
+    say_medium_fault, say_not_empty, say_out_of_memory, say_output_fault, say_read_back, say_usage,
+    sync_destination, take_destination, text_of, words_of,
 };
 use std::process::ExitCode;
 use tile_bridge::ConvertError;
@@ -105,15 +105,9 @@ fn say_file(rt: &HostRuntime, path: &str, before: Before, outcome: &Outcome) {
     match outcome {
         Outcome::MediumFault => say_medium_fault(rt, TOOL, path, before),
         Outcome::Refused(ConvertError::MediumNotEmpty { length }) => {
-            let _ = eprintln!(rt;
-                "{TOOL}: {path}: the file has {length} bytes and stays as it is; give the name of a file that is new or empty"
-            );
+            say_not_empty(rt, TOOL, path, *length)
         }
-        Outcome::ReadBack(error) => {
-            let _ = eprintln!(rt;
-                "{TOOL}: {path}: the file gave other bytes back than were written to it: {error}"
-            );
-        }
+        Outcome::ReadBack(error) => say_read_back(rt, TOOL, path, error),
         _ => say_outcome(rt, outcome),
     }
 }
@@ -141,7 +135,7 @@ fn say_outcome(rt: &HostRuntime, outcome: &Outcome) {
                 "{TOOL}: line {line} of the script on standard input is no line that can stand there, or the script ends before its base"
             )
         }
-        Outcome::InputFault => eprintln!(rt; "{TOOL}: standard input can't be read"),
+        Outcome::InputFault => return say_input_fault(rt, TOOL),
         Outcome::OutputFault => return say_output_fault(rt, TOOL),
         Outcome::MediumFault => eprintln!(rt; "{TOOL}: the archive can't be written"),
         Outcome::OutOfMemory => return say_out_of_memory(rt, TOOL),
