@@ -72,7 +72,7 @@ get_other names (e ∷ es) q h =
     let two = or_parts (cell_eq (Text q) (Text e.name)) (is_edited es (Text q)) h in
     get_other (with_text names e.name e.text) es q two.1 ∙ get_after names e.name e.text q two.0
 
-named_still : (s : State) (es : List NameEdit) → is_edited es (Text (codes "hash_algorithm")) ≡ false → NamesAlgorithm s → NamesAlgorithm (state_edited s es)
+pub named_still : (s : State) (es : List NameEdit) → is_edited es (Text (codes "hash_algorithm")) ≡ false → NamesAlgorithm s → NamesAlgorithm (state_edited s es)
 named_still s es h n =
     let same : text_at (names_edited s.metadata es) (codes "hash_algorithm") ≡ text_at s.metadata (codes "hash_algorithm") =
     ap (λ (o : Option (Option (List ℕ))). option_and_then (λ (value : Option (List ℕ)). value) o) (get_other s.metadata es (codes "hash_algorithm") h) in
@@ -96,11 +96,11 @@ touched names (e ∷ es) q =
     ∙ joined (cell_eq (Text q) (Text e.name)) (get names q) (is_edited es (Text q)))
 
 module _ (h : Held) (es : List NameEdit) (clean : h.edited ≡ nothing_edited) where
-  no_place : (key : RowKey) → place_edited (held_edited h es).edited key ≡ false
+  pub no_place : (key : RowKey) → place_edited (held_edited h es).edited key ≡ false
   no_place (Tile zoom column row) = ap (λ (e : Edited). contains_key e.places (record { zoom = zoom; column = column; row = row })) clean ∙ ap is_some (get-empty place_cmp (record { zoom = zoom; column = column; row = row }))
   no_place _ = refl
 
-  no_id : (key : RowKey) → id_edited (held_edited h es).edited key ≡ false
+  pub no_id : (key : RowKey) → id_edited (held_edited h es).edited key ≡ false
   no_id (TextId text) = ap (λ (e : Edited). contains_key e.ids (Text text)) clean ∙ ap is_some (get-empty cell_cmp (Text text))
   no_id (IntId n) = ap (λ (e : Edited). contains_key e.ids (Int n)) clean ∙ ap is_some (get-empty cell_cmp (Int n))
   no_id (Tile zoom column row) = refl

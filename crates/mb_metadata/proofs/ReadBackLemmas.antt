@@ -237,9 +237,11 @@ unnamed (e ∷ es) q h = by (eq_by_cmp R q e.0) h (unnamed es q)
     by true h rest = absurd (none-some e.1 (sym h))
     by false h rest = rest h
 
+-- no edit of a document names the algorithm, where nothing without a field does
+pub algorithm_unnamed : (t : TileJson) → get t.other (codes "hash_algorithm") ≡ None → is_edited (document_edits t) (Text (codes "hash_algorithm")) ≡ false
+algorithm_unnamed t free = unedited (other_edits t.other) (fields t) (codes "hash_algorithm") refl (unnamed (entries t.other) (codes "hash_algorithm") (sym (get-entries t.other (codes "hash_algorithm")) ∙ free))
+
 -- the tables load again
 pub insert_loads : (t : TileJson) (old new : Tables) (s : State) → state_of old ≡ Ok s → EditsNames (insert_edits t) old new → get t.other (codes "hash_algorithm") ≡ None → state_of new ≡ Ok (state_edited s (insert_edits t s))
 insert_loads t old new s e was free =
-    let none : is_edited (document_edits t) (Text (codes "hash_algorithm")) ≡ false =
-    unedited (other_edits t.other) (fields t) (codes "hash_algorithm") refl (unnamed (entries t.other) (codes "hash_algorithm") (sym (get-entries t.other (codes "hash_algorithm")) ∙ free)) in
-    subst (λ (x : State). state_of new ≡ Ok (state_edited x (document_edits t))) (ok_same was.state s (sym was.loaded ∙ e)) (was.edited.unnamed none)
+    subst (λ (x : State). state_of new ≡ Ok (state_edited x (document_edits t))) (ok_same was.state s (sym was.loaded ∙ e)) (was.edited.unnamed (algorithm_unnamed t free))

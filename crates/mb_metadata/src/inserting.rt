@@ -3,12 +3,13 @@ ghost use Rattle.mb_store.specs.Kept.{FaultsCounted, Keeps};
 ghost use Rattle.std.specs.Prelude.{◌≡◌, IfOk, OnErr, OnOk, option_copied, true};
 ghost use Rattle.mb_load.specs.Begun.{IsBegun};
 ghost use Rattle.mb_metadata.specs.Inserting.{HasNoFloat, IsWithoutFloat, document_edits, insert_edits, other_edits, then_extents, then_put, then_texts};
-ghost use Rattle.mb_metadata.specs.NameEdits.{EditsNames, done_answer};
+ghost use Rattle.mb_metadata.specs.NameEdits.{EditsNames, done_answer, held_edited};
 
 use crate::document_text::{any_bounds, any_center, any_layers, any_zoom, data_text};
-use crate::name_edits::{NameEdit, commit_edits};
+use crate::name_edits::{NameEdit, after_edits, commit_edits};
 use base_values::{OutOfMemory, TextVal};
 use mb_load::load;
+use mb_loaded::Loaded;
 use mb_store::{MbtError, MbtResult, TileStore};
 use std::alloc::Global;
 use tile_json::{JsonFields, TileJson};
@@ -103,6 +104,21 @@ fn document_edits(alloc: Global, document: &TileJson) -> Result<Vec<NameEdit>, O
     let layers = any_layers(alloc, document.vector_layers.as_ref())?;
     then_put(alloc, &mut edits, "json", layers)?;
     Ok(edits)
+}
+
+/// A loaded set with what a document says in its metadata, as `insert_metadata` puts it into that of a store. Nothing is committed. Only want of memory refuses it.
+///
+/// No number of the given values of JSON is held as a float by `serde_json`.
+pub fn with_document(
+    alloc: Global,
+    set: Loaded,
+    tile_json: &TileJson,
+) -> Result<Loaded, OutOfMemory>
+    requires { IsWithoutFloat tile_json.now }
+    ensures { IfOk result (λ h. h ≡ held_edited set (document_edits tile_json.now)) }
+{
+    let edits = document_edits(alloc, tile_json)?;
+    Ok(after_edits(set, edits)?)
 }
 
 /// Puts what a document says into the metadata of a set, in one commit: each entry of `other` under its name, a text as it is and another value as its compact JSON;

@@ -20,7 +20,7 @@ mod zoom_choice;
 mod zoom_text;
 mod zooms;
 
-pub use inserting::insert_metadata;
+pub use inserting::{insert_metadata, with_document};
 pub use metadata::Metadata;
 pub use reading::get_metadata;
 pub use updating::{update_metadata, with_zooms};

@@ -49,15 +49,24 @@ impl fmt::Display for PatchType {
 }
 
 /// The kinds of patches that a command line names.
-#[derive(Clone, Copy, Debug, Default, PartialEq, Eq)]
+#[derive(Clone, Copy, Debug, PartialEq, Eq)]
 pub enum PatchTypeCli {
     /// Whole tiles.
-    #[default]
     Whole,
     /// Differences of tiles that are decoded as gzip first.
     BinDiffGz,
     /// Differences of tiles as they are.
     BinDiffRaw,
+}
+
+impl Default for PatchTypeCli {
+    ghost use Rattle.mb_tables.specs.declared.patch_type.PatchTypeCli.TheVariants.{Whole};
+
+    ghost is_default = { λ kind. kind ≡ Whole };
+
+    fn default() -> PatchTypeCli {
+        PatchTypeCli::Whole
+    }
 }
 
 impl PatchTypeCli {

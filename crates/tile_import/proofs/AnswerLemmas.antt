@@ -14,7 +14,8 @@ use Rattle.mb_tables.specs.Tiles.{TileSet}
 use Rattle.mb_tables.specs.declared.error.MbtError.{MbtError}
 use Rattle.mb_tables.specs.declared.error.MbtError.TheVariants as stores
 use Rattle.tile_import.proofs.RefusalLemmas.{something_read}
-use Rattle.tile_import.specs.Import.{IsAnswered, editable_due, found_due, import_due, of_store_error, put_due}
+use Rattle.tile_import.specs.Import.{Answers, ImportCauses, IsAnswered, StoreCauses, editable_due, found_due, import_due, of_store_error, put_due}
+use Rattle.tile_import.specs.PutOver.{IsPutAnswer, PutCauses}
 use Rattle.tile_import.specs.Refusals.{IsRead, Reads, is_free}
 use Rattle.tile_import.specs.Tiles.{HasTilesOf}
 use Rattle.tile_import.specs.Storing.{editable, unless_numbered}
@@ -84,47 +85,70 @@ module _ (most : ℕ) (told : Option (List ℕ)) (tells : Bool) (store : Tables)
         answers = λ free. let s = store_error e free in begun_refused began.tables e any.0 (began.answers s.0) ∙ ap Err (sym s.1);
       }
 
+  -- a set was loaded, and the archive put over it or refused
+  pub put_answered : (base : State) (r : Result ℕ ImportError) → IsBegun editable tells store (Ok base) → IsPutAnswer most told base r → IsAnswered most told tells store r
+  put_answered base r began put = record {
+    tables = began.tables;
+    is_store = began.is_told;
+    found = put.found;
+    is_archive = put.is_archive;
+    answers = subst (λ (due : Result ℕ ImportError). Answers due r) (sym (begun_taken began.tables base put.found began.answers)) put.answers;
+  }
+
+  -- the store doesn't take the set
+  pub commit_answered : (base : State) (e : MbtError) → IsBegun editable tells store (Ok base) → tests.is_free e ≡ true → IsAnswered most told tells store (Err (of_store_error e))
+  commit_answered base e began failed =
+      let any = anything told most in
+      record {
+        tables = began.tables;
+        is_store = began.is_told;
+        found = any.0;
+        is_archive = any.1;
+        answers = λ free. absurd (true≢false (sym failed ∙ (store_error e free).0));
+      }
+
+module _ (most : ℕ) (told : Option (List ℕ)) (base : State) where
   -- the archive is refused
-  pub read_answered : (base : State) (e : ImportError) → IsBegun editable tells store (Ok base) → IfSome told (λ b. Reads most b (Err e)) → IsAnswered most told tells store (Err e)
-  read_answered base e began is = by (is_free e) refl
+  pub read_answered : (e : ImportError) → IfSome told (λ b. Reads most b (Err e)) → IsPutAnswer most told base (Err e)
+  read_answered e is = by (is_free e) refl
     where
       read : (o : Option (List ℕ)) → is_free e ≡ false → IfSome o (λ b. Reads most b (Err e)) → IfSome o (λ b. IsRead most b (Err e))
       read None free is = tt
       read (Some b) free is = is free
 
-      by : (b : Bool) → is_free e ≡ b → IsAnswered most told tells store (Err e)
+      by : (b : Bool) → is_free e ≡ b → IsPutAnswer most told base (Err e)
       by true at =
           let any = anything told most in
-          record { tables = began.tables; is_store = began.is_told; found = any.0; is_archive = any.1; answers = λ free. absurd (true≢false (sym at ∙ free)) }
-      by false at = record {
-        tables = began.tables;
-        is_store = began.is_told;
-        found = Err e;
-        is_archive = read told at is;
-        answers = λ free. begun_taken began.tables base (Err e) began.answers;
-      }
+          record { found = any.0; is_archive = any.1; answers = λ free. absurd (true≢false (sym at ∙ free)) }
+      by false at = record { found = Err e; is_archive = read told at is; answers = λ free. refl }
 
   -- the set doesn't take its tiles
-  pub put_answered : (base : State) (tiles : TileSet) (e : MbtError) → IsBegun editable tells store (Ok base) → IfSome told (λ b. Reads most b (Ok tiles)) → (tests.is_free e ≡ false → may_put base tiles ≡ Some e) → IsAnswered most told tells store (Err (of_store_error e))
-  put_answered base tiles e began is due = record {
-    tables = began.tables;
-    is_store = began.is_told;
+  pub put_refused : (tiles : TileSet) (e : MbtError) → IfSome told (λ b. Reads most b (Ok tiles)) → (tests.is_free e ≡ false → may_put base tiles ≡ Some e) → IsPutAnswer most told base (Err (of_store_error e))
+  put_refused tiles e is due = record {
     found = Ok tiles;
     is_archive = is;
-    answers = λ free.
-        let s = store_error e free in
-        begun_taken began.tables base (Ok tiles) began.answers ∙ (ap (put_due tiles) (due s.0) ∙ ap Err (sym s.1));
+    answers = λ free. let s = store_error e free in ap (put_due tiles) (due s.0) ∙ ap Err (sym s.1);
   }
 
   -- or it does
-  pub all_answered : (base : State) (tiles : TileSet) (n : ℕ) → IsBegun editable tells store (Ok base) → IfSome told (λ b. Reads most b (Ok tiles)) → may_put base tiles ≡ None → n ≡ len tiles → IsAnswered most told tells store (Ok n)
-  all_answered base tiles n began is fine count = record {
-    tables = began.tables;
-    is_store = began.is_told;
-    found = Ok tiles;
-    is_archive = is;
-    answers = begun_taken began.tables base (Ok tiles) began.answers ∙ (ap (put_due tiles) fine ∙ ap Ok (sym count));
-  }
+  pub all_put : (tiles : TileSet) (n : ℕ) → IfSome told (λ b. Reads most b (Ok tiles)) → may_put base tiles ≡ None → n ≡ len tiles → IsPutAnswer most told base (Ok n)
+  all_put tiles n is fine count = record { found = Ok tiles; is_archive = is; answers = ap (put_due tiles) fine ∙ ap Ok (sym count) }
+
+-- why a set doesn't take them, and an import neither
+pub unput_causes : (most before now : ℕ) (e : MbtError) → (e ≡ stores.StoreFault → ⊥) → PutCauses most before now (Err (of_store_error e))
+unput_causes most before now stores.StoreFault unfaulted = absurd (unfaulted refl)
+unput_causes most before now stores.OutOfMemory unfaulted = tt
+unput_causes most before now e unfaulted = refl
+
+owed_causes : (old new : ℕ) (e : MbtError) → tests.is_free e ≡ false → StoreCauses old new e
+owed_causes old new stores.StoreFault owed = absurd (true≢false owed)
+owed_causes old new stores.OutOfMemory owed = absurd (true≢false owed)
+owed_causes old new e owed = tt
+
+pub put_causes : (most before now old new : ℕ) (r : Result ℕ ImportError) → PutCauses most before now r → ImportCauses most before now old new r
+put_causes most before now old new (Ok n) c = c
+put_causes most before now old new (Err (Store e)) c = owed_causes old new e c
+put_causes most before now old new (Err e) c = c
 
 -- the state of a store that tells its tables
 pub loaded_state : (tells : Bool) (store : Tables) (base : State) → IsBegun editable tells store (Ok base) → tells ≡ true → state_of store ≡ Ok base

@@ -4,3 +4,4 @@ pub mod Refusals
 pub mod Reading
 pub mod Storing
 pub mod Import
+pub mod PutOver

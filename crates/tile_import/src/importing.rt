@@ -2,24 +2,14 @@
 ghost use Rattle.mb_store.specs.Kept.{Keeps};
 ghost use Rattle.std.specs.Prelude.{◌≡◌, ◌≤◌, ◌+◌, IfOk, IfSome, OnErr, true};
 ghost use Rattle.pm_reader.specs.Reads.{ReadsOnly};
-ghost use Rattle.tile_import.specs.Import.{ImportCauses, IsAnswered, IsImported, of_store_error, reads_at_most};
+ghost use Rattle.tile_import.specs.Import.{ImportCauses, IsAnswered, IsImported, reads_at_most};
 
 use crate::ImportError;
-use crate::reading::read_archive;
-use crate::storing::{load_base, store_tiles};
-use mb_store::{MbtError, TileStore};
+use crate::put_over::{of_store, put_archive};
+use crate::storing::{commit_set, load_base};
+use mb_store::TileStore;
 use pm_format::Backend;
 use std::alloc::Global;
-
-/// The import's word for an error of the store.
-pub fn of_store(error: MbtError) -> ImportError
-    ensures { result ≡ of_store_error error }
-{
-    match error {
-        MbtError::OutOfMemory => ImportError::OutOfMemory,
-        error => ImportError::Store(error),
-    }
-}
 
 /// Imports an archive into a set: its tiles of at least one byte are put over those of the set, each at the coordinate of its id, in one commit. It answers how many there are.
 ///
@@ -58,13 +48,12 @@ pub fn import<B: Backend, S: TileStore>(
         Ok(base) => base,
         Err(error) => return Err(of_store(error)),
     };
-    let tiles = match read_archive(alloc, backend, max_tiles) {
-        Ok(tiles) => tiles,
+    let (set, count) = match put_archive(alloc, backend, base, max_tiles) {
+        Ok(put) => put,
         Err(error) => return Err(error),
     };
-    let count = tiles.tile_count();
-    match store_tiles(alloc, store, base, tiles) {
-        Ok(()) => Ok(count as u64),
+    match commit_set(alloc, store, set) {
+        Ok(()) => Ok(count),
         Err(error) => Err(of_store(error)),
     }
 }

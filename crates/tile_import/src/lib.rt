@@ -3,10 +3,13 @@
 
 mod error;
 mod importing;
+mod put_over;
 mod reading;
 mod storing;
 mod tiles;
 
 pub use error::ImportError;
-pub use importing::{import, of_store};
+pub use importing::import;
+pub use put_over::{of_store, put_archive};
 pub use reading::of_reader;
+pub use storing::load_base;

@@ -1,7 +1,10 @@
-use Rattle.std.proofs.Common.{◌∙◌, Err, sym, subst}
+use Rattle.std.proofs.Common.{◌∙◌, Err, Ok, sym, subst}
+use Rattle.mb_edit.proofs.PutTableLemmas.{are_put}
 use Rattle.mb_edit.specs.PutTables.{ArePut}
+use Rattle.mb_load.specs.Committing.{MakesChanges}
+use Rattle.mb_loaded.specs.Held.{Held}
 use Rattle.mb_tables.specs.Table.{Tables}
-use Rattle.tile_import.proofs.AnswerLemmas.{all_answered, are_tiles, load_answered, loaded_state, put_answered, read_answered}
+use Rattle.tile_import.proofs.AnswerLemmas.{commit_answered, load_answered, loaded_state, put_answered, put_causes}
 use Rattle.tile_import.specs.Import.{IsAnswered}
 use Rattle.tile_import.proofs.importing.import.Goals as goal
 
@@ -12,29 +15,39 @@ returns-in-Err-clause-answer g c =
     let store = g.S.TileStore.told c.args.store.now in
     subst (λ x. IsAnswered c.args.max_tiles told tells store (Err x)) (sym c.of_store.ensures) (load_answered c.args.max_tiles told tells store c.in-Err.error c.in-Err.ensures.answer)
 
-pub returns-in-Err-read_archive-clause-answer : goal.returns-in-Err-read_archive-clause-answer
-returns-in-Err-read_archive-clause-answer g c =
-    read_answered c.args.max_tiles (g.B.Backend.told c.args.backend.now) (g.S.TileStore.tells c.args.store.now) (g.S.TileStore.told c.args.store.now) c.in-Ok.base.state c.in-Err-read_archive.error c.in-Ok.ensures.answer c.in-Err-read_archive.ensures.answer
+pub returns-in-Err-put_archive-clause-answer : goal.returns-in-Err-put_archive-clause-answer
+returns-in-Err-put_archive-clause-answer g c =
+    put_answered c.args.max_tiles (g.B.Backend.told c.args.backend.now) (g.S.TileStore.tells c.args.store.now) (g.S.TileStore.told c.args.store.now) c.in-Ok.base.state (Err c.in-Err-put_archive.error) c.in-Ok.ensures.answer c.in-Err-put_archive.ensures.answer
 
-pub returns-in-Ok-store_tiles-clause-answer : goal.returns-in-Ok-store_tiles-clause-answer
-returns-in-Ok-store_tiles-clause-answer g c =
-    all_answered c.args.max_tiles (g.B.Backend.told c.args.backend.now) (g.S.TileStore.tells c.args.store.now) (g.S.TileStore.told c.args.store.now) c.in-Ok.base.state c.in-Ok-read_archive.tiles.state.tiles c.tile_count-count.result
-    c.in-Ok.ensures.answer c.in-Ok-read_archive.ensures.answer c.in-Ok-store_tiles.ensures.tested c.tile_count-count.ensures
+pub returns-in-Err-put_archive-clause-causes : goal.returns-in-Err-put_archive-clause-causes
+returns-in-Err-put_archive-clause-causes g c =
+    put_causes c.args.max_tiles (g.B.Backend.faults c.args.backend.now) (g.B.Backend.faults c.put_archive.new.backend) (g.S.TileStore.faults c.args.store.now) (g.S.TileStore.faults c.load_base.new.store) (Err c.in-Err-put_archive.error) c.in-Err-put_archive.ensures.causes
 
-pub returns-in-Ok-store_tiles-clause-imported : goal.returns-in-Ok-store_tiles-clause-imported
-returns-in-Ok-store_tiles-clause-imported g c = λ is. record {
-  tiles = c.in-Ok-read_archive.tiles.state.tiles;
-  are = are_tiles (g.B.Backend.told c.args.backend.now) c.args.max_tiles c.in-Ok-read_archive.tiles.state.tiles c.in-Ok-read_archive.ensures.answer;
-  count = c.tile_count-count.ensures;
-  base = c.in-Ok.base.state;
-  loaded = loaded_state (g.S.TileStore.tells c.args.store.now) (g.S.TileStore.told c.args.store.now) c.in-Ok.base.state c.in-Ok.ensures.answer is;
-  rows = subst (λ (t : Tables). ArePut c.in-Ok-read_archive.tiles.state.tiles c.in-Ok.base.state t (g.S.TileStore.told c.store_tiles.new.store)) c.load_base.ensures.kept.told (c.in-Ok-store_tiles.ensures.put (c.load_base.ensures.kept.tells ∙ is));
-}
+pub returns-in-Ok-commit_set-clause-answer : goal.returns-in-Ok-commit_set-clause-answer
+returns-in-Ok-commit_set-clause-answer g c =
+    put_answered c.args.max_tiles (g.B.Backend.told c.args.backend.now) (g.S.TileStore.tells c.args.store.now) (g.S.TileStore.told c.args.store.now) c.in-Ok.base.state (Ok c.in-Ok-put_archive.count) c.in-Ok.ensures.answer c.in-Ok-put_archive.ensures.answer
 
-pub returns-in-Err-store_tiles-clause-answer : goal.returns-in-Err-store_tiles-clause-answer
-returns-in-Err-store_tiles-clause-answer g c =
+pub returns-in-Ok-commit_set-clause-imported : goal.returns-in-Ok-commit_set-clause-imported
+returns-in-Ok-commit_set-clause-imported g c = λ is.
+    let over = c.in-Ok-put_archive.ensures.put in
+    let base = c.in-Ok.ensures.base is in
+    let tells = c.load_base.ensures.kept.tells ∙ is in
+    record {
+      tiles = over.tiles;
+      are = over.are;
+      count = over.count;
+      base = c.in-Ok.base.state;
+      loaded = loaded_state (g.S.TileStore.tells c.args.store.now) (g.S.TileStore.told c.args.store.now) c.in-Ok.base.state c.in-Ok.ensures.answer is;
+      rows = are_put c.in-Ok.base over.tiles (g.S.TileStore.told c.args.store.now) (g.S.TileStore.told c.commit_set.new.store) base.clean base.loaded base.named over.on_board over.may
+          (g.met.S.TileStore.sound c.commit_set.new.store (c.commit_set.ensures.kept.tells ∙ tells))
+          (subst (λ (x : Held). MakesChanges x (g.S.TileStore.told c.args.store.now) (g.S.TileStore.told c.commit_set.new.store)) over.is
+          (subst (λ (t : Tables). MakesChanges c.in-Ok-put_archive.set t (g.S.TileStore.told c.commit_set.new.store)) c.load_base.ensures.kept.told (c.in-Ok-commit_set.ensures.committed tells)));
+    }
+
+pub returns-in-Err-commit_set-clause-answer : goal.returns-in-Err-commit_set-clause-answer
+returns-in-Err-commit_set-clause-answer g c =
     let told = g.B.Backend.told c.args.backend.now in
     let tells = g.S.TileStore.tells c.args.store.now in
     let store = g.S.TileStore.told c.args.store.now in
-    subst (λ x. IsAnswered c.args.max_tiles told tells store (Err x)) (sym c.of_store-in-Err-store_tiles.ensures)
-    (put_answered c.args.max_tiles told tells store c.in-Ok.base.state c.in-Ok-read_archive.tiles.state.tiles c.in-Err-store_tiles.error c.in-Ok.ensures.answer c.in-Ok-read_archive.ensures.answer c.in-Err-store_tiles.ensures.due)
+    subst (λ x. IsAnswered c.args.max_tiles told tells store (Err x)) (sym c.of_store-in-Err-commit_set.ensures)
+    (commit_answered c.args.max_tiles told tells store c.in-Ok.base.state c.in-Err-commit_set.error c.in-Ok.ensures.answer c.in-Err-commit_set.ensures.free)
