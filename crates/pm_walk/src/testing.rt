@@ -12,11 +12,11 @@ use pm_format::{Backend, DirEntry, PmtError, PmtResult, ReadCause};
 use pm_reader::ReaderState;
 use tile_ids::MAX_TILE_ID;
 
-/// Tests that the contents of a tile entry lie in the archive that was opened, by one read at most: of no bytes, at their
-/// end.
+/// Tests that the contents of a tile entry lie in the archive that was opened, by one read at most: of no bytes, at
+/// their end.
 ///
-/// `Reading(PastEnd)` comes exactly where they pass the end of the bytes or u64. `UnexpectedNumberOfBytesReturned` comes
-/// only over a backend that tells no bytes, and `Reading(Fault)` only where the backend's count of faults rose.
+/// `Reading(PastEnd)` comes exactly where they pass the end of the bytes or u64. `UnexpectedNumberOfBytesReturned`
+/// comes only over a backend that tells no bytes, and `Reading(Fault)` only where the backend's count of faults rose.
 pub fn test_range<B: Backend>(
     state: &ReaderState,
     backend: &mut B,

@@ -77,8 +77,8 @@ pub fn text_of(words: &[TextVal], help: &'static str, version: &'static str) -> 
     }
 }
 
-/// The words of a run, or the status of one that ends before it begins: where they are no texts, memory runs out for them,
-/// or a single one asks for the help text or the version, which is printed.
+/// The words of a run, or the status of one that ends before it begins: where they are no texts, memory runs out for
+/// them, or a single one asks for the help text or the version, which is printed.
 pub fn words_to_run(
     rt: &HostRuntime,
     tool: &str,
