@@ -1,5 +1,4 @@
-# Calls of caches, for tools/cases/cache_rows.py. A cache is a map from places to when a tile was fetched, when it expires, its tag and its bytes or null. The store
-# under it counts its calls, and the call of a number that is listed fails.
+# Calls of caches, for tools/cases/cache_rows.py. Their answers are those of tools/models/caches.py.
 import random
 
 from models.caches import Cache, CacheRefused, StoreCalls, row_of

@@ -1,5 +1,5 @@
-# Rows that check a set, for tools/cases/set_rows.py: its stores, its rows and its layouts. The wanted answers are worked out here from the rules of the hash of all
-# tiles, of a patch's own digests, and of a summary.
+# Rows that check a set, for tools/cases/set_rows.py. The wanted answers are worked out from the rules of the hash of all tiles (tools/models/aggregates.py), of a patch's own
+# digests, and of a summary.
 import random
 
 from cases.patch_cases import bsdiff, held, named, say_rows, some_set

@@ -1,5 +1,4 @@
-# Lines of extractions, and the archive that crates/tile_extract_program reads, for tools/cases/archive_rows.py. The wanted answers are worked out here from the definition of the part of an archive below
-# a tile, with the ids, directories and archives of pmtiles.py.
+# Lines of extractions, and the archive that crates/tile_extract_program reads, for tools/cases/archive_rows.py. The wanted answers are those of tools/models/extraction.py.
 import hashlib
 import os
 import random

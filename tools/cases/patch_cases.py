@@ -1,4 +1,4 @@
-# Rows that patch one set by another, for tools/cases/set_rows.py: its stores, its rows and how it prints a loaded set.
+# Rows that patch one set by another, for tools/cases/set_rows.py.
 import random
 
 from cases.store_lines import StoreLines

@@ -1,6 +1,6 @@
 """Writes the stored runs of tileset_program, tile_verify_program, mbtiles_to_pmtiles_program and pmtiles_to_mbtiles_program, and what is beside the examples.
 
-    tools/cases/programs.py
+    tools/make_cases programs
 
 The report of a script is that of tools/cases/tileset_rows.py. The script of examples/places.mbtiles is worked out by tools/models/mbtiles.py, and its tiles and its names are what
 mbtiles_to_pmtiles_program has to find in the same file.

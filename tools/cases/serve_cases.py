@@ -1,4 +1,4 @@
-# Lines of a server of tiles, and the run that crates/tile_serve_program stores, for tools/cases/archive_rows.py. The wanted answers are worked out from the definition of a reply, by a server in plain
+# Lines of a server of tiles, and the run that crates/tile_serve_program stores, for tools/cases/archive_rows.py. The wanted answers are worked out from the definition of a reply, by tools/models/servers.py, a server in plain
 # python that keeps lists.
 import os
 import random

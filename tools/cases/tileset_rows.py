@@ -1,6 +1,6 @@
 """Writes the cases of crates/tileset_rows, and what they must print, by the definitions of the formats alone.
 
-    tools/cases/tileset_rows.py
+    tools/make_cases tileset_rows
 
 It writes crates/tileset_rows/stdin and stdout. No answer comes from the converter: ids are by Hilbert's curve as the PMTiles
 specification has it, archives by version 3 of that specification and the rules of docs/ARCHITECTURE.md, digests by hashlib.
