@@ -274,7 +274,8 @@ def random_call(chance):
 
 
 def life(rows, kind, made, seed, calls, fails):
-    """A life of a cache. Where the store can be told to fail, each of its calls within some of the calls fails in turn."""
+    """A life of a cache. Where the store can be told to fail, each of its calls within some of the calls fails in
+    turn."""
     chance = random.Random(seed)
     lines = Lines(rows, kind, made)
     lines.open()
@@ -326,7 +327,8 @@ def opening_fails(rows):
 
 
 def writing_fails(rows):
-    """Each call of the store fails while a tile is kept, dated or thrown out, the last of them the commit: the rows are those before. Then the call is made."""
+    """Each call of the store fails while a tile is kept, dated or thrown out, the last of them the commit: the rows
+    are those before. Then the call is made."""
     for name, *given in (('set', 3, 1, 2, b'new', 7, 8, None), ('set', 2, 1, 2, b'other', 9, None, 't'), ('update', 2, 1, 2, 1, 2, 'w'), ('expired', 70)):
         lines = Lines(rows, 'layout cache', True)
         lines.push((2, 1, 1), (5, 60, 'v', b'one'))
