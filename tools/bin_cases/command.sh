@@ -96,7 +96,8 @@ PROGRAM
     ends
 fi
 
-# two patches whose hashes chain: the aggregate hash is md5 over zoom, column, row in decimal and the bytes of each tile in order
+# two patches whose hashes chain: the aggregate hash is md5 over zoom, column, row in decimal and the bytes of each
+# tile in order
 for way in '' --by-script; do
     fresh "a base and two chained patches${way:+, $way}"
     h0=$(md5_of '000\x01100\x02'); h1=$(md5_of '000\x01100\x03201\x04'); h2=$(md5_of '000\x01100\x03')

@@ -1,4 +1,5 @@
-# Cases of tools/check_bin: files of sets that the converter reads by itself, made by hand. What SQLite and Python's sqlite3 read of them has to be in the archive, tile by tile.
+# Cases of tools/check_bin: files of sets that the converter reads by itself, made by hand. What SQLite and Python's
+# sqlite3 read of them has to be in the archive, tile by tile.
 # shellcheck disable=SC2034,SC2154
 
 convert=$bin/mbtiles-to-pmtiles
@@ -50,8 +51,8 @@ made 'places and contents by numbers' 3 2 "$names; create table tiles_shallow (z
     create view tiles as select zoom_level, tile_column, tile_row, tile_data from tiles_shallow join tiles_data on tiles_shallow.tile_data_id = tiles_data.tile_data_id;
     insert into tiles_data values (1, x'01'), (7, x'02'); insert into tiles_shallow values (0, 0, 0, 1), (1, 1, 0, 7), (1, 0, 1, 7)"
 
-# How a table may lie in a file.
-# taken NAME SQL: a form that the program may not read by itself, and the command has rewritten then; a script takes it too
+# How a table may lie in a file. taken NAME SQL: a form that the program may not read by itself, and the command has
+# rewritten then; a script takes it too
 taken() {
     made "$1" 3 2 "$2"
     fresh "$1, by script"

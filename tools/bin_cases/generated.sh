@@ -1,4 +1,5 @@
-# Cases of tools/check_bin: sets of odd schemas, and files of which single bytes were changed, made and compared by Python's sqlite3.
+# Cases of tools/check_bin: sets of odd schemas, and files of which single bytes were changed, made and compared by
+# Python's sqlite3.
 # shellcheck disable=SC2034,SC2154
 
 if command -v python3 >/dev/null; then

@@ -1,4 +1,5 @@
-# Cases of tools/check_bin: tables whose names mislead, rows without a place, and files beside that a reader may miss. Each set is converted as SQLite reads its `tiles`, or refused in words.
+# Cases of tools/check_bin: tables whose names mislead, rows without a place, and files beside that a reader may miss.
+# Each set is converted as SQLite reads its `tiles`, or refused in words.
 # shellcheck disable=SC2034,SC2154
 
 convert=$bin/mbtiles-to-pmtiles

@@ -1,4 +1,5 @@
-# Cases of tools/check_bin: files in forms that the program doesn't read by itself, which sqlite3 rewrites first, or that are refused in words.
+# Cases of tools/check_bin: files in forms that the program doesn't read by itself, which sqlite3 rewrites first, or
+# that are refused in words.
 # shellcheck disable=SC2034,SC2154
 
 convert=$bin/mbtiles-to-pmtiles

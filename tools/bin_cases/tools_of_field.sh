@@ -1,4 +1,5 @@
-# Cases of tools/check_bin: sets in the tables that the tools of the field make, each as a file alone, through a link, with a log of writes beside it, and with a write that was cut off.
+# Cases of tools/check_bin: sets in the tables that the tools of the field make, each as a file alone, through a link,
+# with a log of writes beside it, and with a write that was cut off.
 # shellcheck disable=SC2034,SC2154
 
 convert=$bin/mbtiles-to-pmtiles

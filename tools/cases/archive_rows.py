@@ -1,5 +1,7 @@
-# Writes the input and the wanted output of crates/archive_rows, the archive that crates/tile_verify_program reads, and the runs that crates/tile_serve_program and crates/tile_extract_program store. The wanted answers are worked
-# out by pmtiles.py and shown.py, from the definitions of the format alone, and by serve_cases.py, extract_cases.py and short_cases.py beside this script.
+# Writes the input and the wanted output of crates/archive_rows, the archive that crates/tile_verify_program reads,
+# and the runs that crates/tile_serve_program and crates/tile_extract_program store. The wanted answers are worked out
+# by pmtiles.py and shown.py, from the definitions of the format alone, and by serve_cases.py, extract_cases.py and
+# short_cases.py beside this script.
 #
 import hashlib
 import random
@@ -81,7 +83,8 @@ def tile(data, t):
 
 
 def answers(contents, call, at_last):
-    """What adds and the end are answered by a medium whose call with a number fails, the first two being those of the beginning."""
+    """What adds and the end are answered by a medium whose call with a number fails, the first two being those of the
+    beginning."""
     known = pm.Contents()
     for i, content in enumerate(contents):
         call -= len(known.calls(content))
@@ -129,7 +132,8 @@ def one_digest():
 
 
 def under_one_number(mode, number, pieces):
-    """Contents that share a digest: the first one is read back where it is as long, and the others are found by their bytes."""
+    """Contents that share a digest: the first one is read back where it is as long, and the others are found by their
+    bytes."""
     first, others, data, reads, answers = None, {}, b'', 0, []
     for d in pieces:
         read = None
@@ -151,7 +155,8 @@ def under_one_number(mode, number, pieces):
 
 
 def one_number():
-    """Two contents under one number find two places; over a medium that answers otherwise, they are new again, or the first one."""
+    """Two contents under one number find two places; over a medium that answers otherwise, they are new again, or the
+    first one."""
     for mode in ('true', 'last', 'past', 'short'):
         for number in (0, 7, U64 - 1):
             under_one_number(mode, number, [b'a', b'b', b'a', b'b'])
@@ -219,7 +224,8 @@ def options():
 
 
 def faults():
-    """A medium whose call with a number fails: one of the two of the beginning, of those of the adds, or of the four of the end."""
+    """A medium whose call with a number fails: one of the two of the beginning, of those of the adds, or of the four
+    of the end."""
     for way, front in (('create', ''), ('over', ''), ('start', '0 ')):
         adds = '4 raw 0 x30 raw 1 x30 raw 2 x30 raw 1 x31'
         for call in range(1, 9):

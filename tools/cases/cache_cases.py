@@ -1,5 +1,4 @@
-# Calls of caches, for tools/cases/cache_rows.py. A cache is a map from places to when a tile was fetched, when it expires, its tag and its bytes or null. The store
-# under it counts its calls, and the call of a number that is listed fails.
+# Calls of caches, for tools/cases/cache_rows.py. Their answers are those of tools/models/caches.py.
 import random
 
 from models.caches import Cache, CacheRefused, StoreCalls, row_of
@@ -275,7 +274,8 @@ def random_call(chance):
 
 
 def life(rows, kind, made, seed, calls, fails):
-    """A life of a cache. Where the store can be told to fail, each of its calls within some of the calls fails in turn."""
+    """A life of a cache. Where the store can be told to fail, each of its calls within some of the calls fails in
+    turn."""
     chance = random.Random(seed)
     lines = Lines(rows, kind, made)
     lines.open()
@@ -327,7 +327,8 @@ def opening_fails(rows):
 
 
 def writing_fails(rows):
-    """Each call of the store fails while a tile is kept, dated or thrown out, the last of them the commit: the rows are those before. Then the call is made."""
+    """Each call of the store fails while a tile is kept, dated or thrown out, the last of them the commit: the rows
+    are those before. Then the call is made."""
     for name, *given in (('set', 3, 1, 2, b'new', 7, 8, None), ('set', 2, 1, 2, b'other', 9, None, 't'), ('update', 2, 1, 2, 1, 2, 'w'), ('expired', 70)):
         lines = Lines(rows, 'layout cache', True)
         lines.push((2, 1, 1), (5, 60, 'v', b'one'))

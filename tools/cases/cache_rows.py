@@ -1,4 +1,5 @@
-# Writes the input and the wanted output of crates/cache_rows: calls of caches. The wanted answers are worked out by the model of tools/cases/cache_cases.py.
+# Writes the input and the wanted output of crates/cache_rows: calls of caches. The wanted answers are worked out by
+# the model of tools/cases/cache_cases.py.
 #
 
 from cases import cache_cases

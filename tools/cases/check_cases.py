@@ -1,5 +1,5 @@
-# Rows that check a set, for tools/cases/set_rows.py: its stores, its rows and its layouts. The wanted answers are worked out here from the rules of the hash of all
-# tiles, of a patch's own digests, and of a summary.
+# Rows that check a set, for tools/cases/set_rows.py. The wanted answers are worked out from the rules of the hash of
+# all tiles (tools/models/aggregates.py), of a patch's own digests, and of a summary.
 import random
 
 from cases.patch_cases import bsdiff, held, named, say_rows, some_set
@@ -24,7 +24,8 @@ def checked(state):
 
 
 def own_tests(state):
-    """The tests of what a set says of itself: as the base of a patch, and as a patch, without force and then by force."""
+    """The tests of what a set says of itself: as the base of a patch, and as a patch, without force and then by
+    force."""
     agg, before, after = (state.names.get(name) for name in (AGG, BEFORE, AFTER))
     base = 'Ok(())' if agg is not None and before is None and after is None else 'Err(CannotDiffFileWithoutHash)' if agg is None else 'Err(DiffingDiffFile)'
     patch = 'Err(PatchFileHasNoHashes)' if after is None else 'Err(PatchFileHasNoBeforeHash)' if before is None else 'Ok(())'
@@ -37,7 +38,8 @@ def info(rows, state):
 
 
 def summary(rows, tiles, layout):
-    """Counts and sizes: null counts and has no size; a zoom with only null has sizes of 0, which the least and greatest of the whole take in."""
+    """Counts and sizes: null counts and has no size; a zoom with only null has sizes of 0, which the least and
+    greatest of the whole take in."""
     zooms = []
     for zoom in sorted({place[0] for place in tiles}):
         cells = [cell for place, cell in tiles.items() if place[0] == zoom]

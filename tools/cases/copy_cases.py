@@ -1,5 +1,5 @@
-# Rows that copy one set into another, for tools/cases/copy_rows.py. The source and the destination are made by a line each; the tables of the destination are printed after
-# a copy.
+# Rows that copy one set into another, for tools/cases/copy_rows.py. The source and the destination are made by a line
+# each; the tables of the destination are printed after a copy.
 import random
 
 from cases.insert_cases import SAME_FNV, SAME_MD5
@@ -68,7 +68,8 @@ class Cases:
 
 
 def zooms_of(layout):
-    """A set with tiles of zooms 0 to 3, one of them null where the layout has such rows, names, and what else a layout can have."""
+    """A set with tiles of zooms 0 to 3, one of them null where the layout has such rows, names, and what else a
+    layout can have."""
     one, two = ('x01', 't' + ONE), ('x02', 't' + TWO)
     places = [((0, 0, 0), one), ((1, 0, 1), two), ((1, 1, 0), ('n', 'n')), ((2, 3, 0), one), ((3, 0, 7), two)]
     names = named(('name', 'town'), ('format', None), ('hash_algorithm', 'MD5'), (AGG, 'old'))
@@ -118,7 +119,8 @@ def one_tile(cases):
 
 
 def expiring(cases):
-    """Two tiles of a cache, one of which expires at 50, into a cache, where it does so still, and into a flat set, which has the same tiles."""
+    """Two tiles of a cache, one of which expires at 50, into a cache, where it does so still, and into a flat set,
+    which has the same tiles."""
     source = Set('cache', [('tile_cache', 'i0', 'i0', 'i0', 'n', 'i50', 'n', 'x30'), ('tile_cache', 'i1', 'i0', 'i1', 'n', 'n', 'n', 'x30')])
     cases.make('src', source)
     for asked in (None, 'flat'):
@@ -244,7 +246,8 @@ def kinds(cases):
 
 
 def duplicates(cases):
-    """What is there already in mode `abort`: tiles that are chosen, null or not, and names that are copied, but for that of the algorithm."""
+    """What is there already in mode `abort`: tiles that are chosen, null or not, and names that are copied, but for
+    that of the algorithm."""
     pushes = {'flat': [('tiles', 'i1', 'i0', 'i0', 'x01'), ('tiles', 'i1', 'i1', 'i0', 'n'), ('tiles', 'i2', 'i0', 'i0', 'x02')]}
     pushes['normalized'] = [('images', 't' + ONE, 'x01'), ('images', 'tnull', 'n'), ('map', 'i1', 'i0', 'i0', 't' + ONE), ('map', 'i1', 'i1', 'i0', 'tnull'), ('map', 'i1', 'i1', 'i1', 'n')]
     for names, others in (([], []), ([('name', 'a')], [('name', 'a')]), ([('name', None)], [('name', 'b')]), ([('name', 'a')], [('name', None)]), ([(AGG, 'a')], [(AGG, 'b')]),
@@ -306,7 +309,8 @@ def order_of_refusals(cases):
 
 
 def faults(cases):
-    """Each call of the source and of the destination fails in turn. The destination stands as it was, or has its tables alone; then the copy is made."""
+    """Each call of the source and of the destination fails in turn. The destination stands as it was, or has its
+    tables alone; then the copy is made."""
     for layout in ('flat', 'normalized', 'cache'):
         source = Set(layout, zooms_of(layout))
         for other in (None, 'flat', 'normalized', 'flat-with-hash', 'cache'):
@@ -322,7 +326,8 @@ def faults(cases):
                 cases.say('dst', of)
                 cases.rows.row('src fail')
                 cases.run(copier, source, of)
-            # the destination is asked what it describes; then it is loaded, or its tables are made; then comes the commit
+            # the destination is asked what it describes; then it is loaded, or its tables are made; then comes the
+            # commit
             last = 2 + target().load_calls() if other else 3
             for call in range(1, last + 1):
                 of = target()
@@ -372,7 +377,8 @@ def random_copies(cases):
 
 
 def large(cases):
-    """Some thousands of tiles, into a set that is made and over one that is there. The hash of all tiles, which metadata has then, tells them."""
+    """Some thousands of tiles, into a set that is made and over one that is there. The hash of all tiles, which
+    metadata has then, tells them."""
     tiles = [('tiles', 'i6', f'i{n // 64}', f'i{n % 64}', 'x' + (b'%d' % (n % 997)).hex()) for n in reversed(range(4096))]
     source = Set('flat', tiles)
     cases.make('src', source)

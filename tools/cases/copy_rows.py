@@ -1,4 +1,5 @@
-# Writes the input and the wanted output of crates/copy_rows: copies of one set into another, and with a patch. The wanted answers are worked out from the tables, by the rules of tools/models/copied.py.
+# Writes the input and the wanted output of crates/copy_rows: copies of one set into another, and with a patch. The
+# wanted answers are worked out from the tables, by the rules of tools/models/copied.py.
 #
 
 from cases import copy_cases

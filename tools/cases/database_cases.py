@@ -1,5 +1,5 @@
-# Rows over a store in a database, for tools/cases/set_rows.py. The wanted answers are those of Python's sqlite3, which is the C library of SQLite: the same
-# statements run there, and each call is asked in a statement of this file.
+# Rows over a store in a database, for tools/cases/set_rows.py. The wanted answers are those of Python's sqlite3,
+# which is the C library of SQLite: the same statements run there, and each call is asked in a statement of this file.
 import random
 import sqlite3
 
@@ -85,7 +85,8 @@ class Database:
         self.rows.row(f"database run {self.layout} {text.replace(' ', '~')}", answer)
 
     def rises(self, name, most):
-        """Whether so many rows from the first on, and one more, have numbers that rise. A column of the name hides SQLite's."""
+        """Whether so many rows from the first on, and one more, have numbers that rise. A column of the name hides
+        SQLite's."""
         found = self.base.execute(f'SELECT typeof(rowid), rowid FROM {name} ORDER BY rowid LIMIT ?', [min(most, 2 ** 63 - 2) + 1]).fetchall()
         numbers = [number for kind, number in found if kind == b'integer']
         return len(numbers) == len(found) and all(a < b for a, b in zip(numbers, numbers[1:]))
@@ -129,7 +130,8 @@ class Database:
         self.rows.row('database layout', *layout_answers(self.tables()))
 
     def commit(self, *calls):
-        """Makes changes at once: each a table, a key in words, and the cells that are put in place of the rows of the key, or None."""
+        """Makes changes at once: each a table, a key in words, and the cells that are put in place of the rows of the
+        key, or None."""
         line = spelled_changes('database commit', calls)
         fits = all(name in self.names() and (not cells or len(cells) == len(TABLES[name]) and key_cells(words) == list(cells[:KEYS[name]]))
                    for name, words, cells in calls)
@@ -231,7 +233,8 @@ HIDDEN = 'CREATE TABLE tiles (zoom_level INTEGER, tile_column INTEGER, tile_row 
 
 
 def hidden_numbers(rows):
-    """Numbers that rise are read, whoever gave them. Others are a fault, also where two equal ones stand in two pages."""
+    """Numbers that rise are read, whoever gave them. Others are a fault, also where two equal ones stand in two
+    pages."""
     for numbers in (9, -5, 0), (1, 1, 1), (1, 'NULL', 3), (1, "'x'", 3), (1, 2, 2), (1, 1.5, 2):
         base = Database(rows, 'flat')
         base.run(HIDDEN + ';INSERT INTO tiles VALUES ' + ', '.join(f'(1, {column}, 1, NULL, {number})' for column, number in enumerate(numbers)))

@@ -1,5 +1,5 @@
-# Lines of extractions, and the archive that crates/tile_extract_program reads, for tools/cases/archive_rows.py. The wanted answers are worked out here from the definition of the part of an archive below
-# a tile, with the ids, directories and archives of pmtiles.py.
+# Lines of extractions, and the archive that crates/tile_extract_program reads, for tools/cases/archive_rows.py. The
+# wanted answers are those of tools/models/extraction.py.
 import hashlib
 import os
 import random
@@ -35,7 +35,8 @@ def say_held(run):
 
 
 def run(words, medium_fails=0, source_fails=0):
-    """An extraction of what is held: its status, its outcome, byte 97 of the medium, and how often the source was read."""
+    """An extraction of what is held: its status, its outcome, byte 97 of the medium, and how often the source was
+    read."""
     done = Run(Held.data, Held.begun, source_fails, medium_fails)
     said, status = done.outcome(words.split())
     row(f'extract from {source_fails} run {medium_fails}' + ''.join(f' t{w}' for w in words.split()), status, said, label(done.held), done.source.calls)
@@ -184,7 +185,8 @@ def broken_trees():
 
 
 def ranges_of_leaves():
-    """Ids of leaves at, below and past the ends of the ranges that name them; a leaf entry with the id of the next one; names without an id in their range."""
+    """Ids of leaves at, below and past the ends of the ranges that name them; a leaf entry with the id of the next
+    one; names without an id in their range."""
     for first in ([(2, 0, 1, 1)], [(3, 0, 1, 1)], [(4, 0, 1, 1)], [(3, 0, 1, 3)], [(3, 0, 1, 4)], [(6, 0, 1, 1)], [(5, 0, 1, 1)], [(3, 0, 1, 1), (3, 1, 1, 1)], [(4, 0, 1, 1), (5, 1, 1, 1)], [],
                   [(3, 0, 0, 2), (5, 1, 2, 1)], [(3, 0, 5, 0)]):
         leaf = pm.directory(first)

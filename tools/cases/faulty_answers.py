@@ -1,4 +1,5 @@
-# What a reader, a view, an import, a check, an extraction and a server answer of the bytes of an archive, for tools/cases/faulty_cases.py: by the definitions of the format, and by the models of the scripts beside it.
+# What a reader, a view, an import, a check, an extraction and a server answer of the bytes of an archive, for
+# tools/cases/faulty_cases.py: by the definitions of the format, and by the models of the scripts beside it.
 import hashlib
 
 from cases.import_cases import Quiet, rows_text, tile_text
@@ -10,7 +11,8 @@ from models.imported import coord, imported
 
 
 class Asked:
-    """What is asked of an archive: how many leaves a walk along its entries may read, ids, the most tiles of an import, the words of an extraction and the limits of a server."""
+    """What is asked of an archive: how many leaves a walk along its entries may read, ids, the most tiles of an
+    import, the words of an extraction and the limits of a server."""
 
     def __init__(self, leaves, ids, most, words, limits):
         self.leaves, self.ids, self.most, self.words, self.limits = leaves, ids, most, words, limits
@@ -60,7 +62,8 @@ def by_check(data):
 
 
 def by_extraction(data, asked):
-    """The status and the outcome, and byte 97 of the medium; where it is done, how many bytes the medium has, and their digest."""
+    """The status and the outcome, and byte 97 of the medium; where it is done, how many bytes the medium has, and
+    their digest."""
     run = extraction.Run(data, b'', 0, 0)
     said, status = run.outcome(asked.words.split())
     if status == 0:
@@ -69,7 +72,8 @@ def by_extraction(data, asked):
 
 
 def by_server(data, asked):
-    """The status, the outcome and the replies. A server keeps directories by their places, so that its replies are those of the bytes alone where no place is read with two lengths."""
+    """The status, the outcome and the replies. A server keeps directories by their places, so that its replies are
+    those of the bytes alone where no place is read with two lengths."""
     server = servers.Server(data, asked.limits)
     return '0 Done ' + shown.quoted(''.join(server.answer(line) + '\n' for line in asked.requests))
 

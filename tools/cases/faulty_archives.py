@@ -1,5 +1,7 @@
-# Archives in which faults are planted, for tools/cases/faulty_cases.py: small whole archives, each with the faults that are put into it one by one: each byte and each field of its header, each byte and each number of its
-# directories, its end, and several at once. An archive is its number and its edits, (place, bytes that are lost, bytes that come).
+# Archives in which faults are planted, for tools/cases/faulty_cases.py: small whole archives, each with the faults
+# that are put into it one by one: each byte and each field of its header, each byte and each number of its
+# directories, its end, and several at once. An archive is its number and its edits, (place, bytes that are lost,
+# bytes that come).
 import random
 
 from cases import hostile_archives
@@ -18,7 +20,8 @@ class Tile:
 
 
 class Leaf:
-    """A directory below another one. Where it is said to lie at a place, it lies there and has no entries of its own."""
+    """A directory below another one. Where it is said to lie at a place, it lies there and has no entries of its own.
+    """
 
     def __init__(self, first, entries, place=None):
         self.first, self.entries, self.place = first, entries, place
@@ -37,7 +40,8 @@ def spelled(numbers):
 
 
 class Base:
-    """An archive by its entries: the header, the root with room behind it, the metadata, the contents, and the leaves, each with room behind it, so that a longer directory leaves all else where it is."""
+    """An archive by its entries: the header, the root with room behind it, the metadata, the contents, and the
+    leaves, each with room behind it, so that a longer directory leaves all else where it is."""
 
     def __init__(self, root, text=b'{}', **fields):
         self.text, self.fields, self.planted = text, fields, {}
@@ -126,7 +130,8 @@ def header_bytes(data, values):
 
 
 def header_fields(data):
-    """Each place, length and number of the header at its ends: those of the archive, of the bytes that are read first, and of u64."""
+    """Each place, length and number of the header at its ends: those of the archive, of the bytes that are read
+    first, and of u64."""
     h = pm.read_header(data)
     for i, name in enumerate(pm.PLACES):
         now, other = h[name], h.get(name.replace('offset', 'length') if 'offset' in name else name.replace('length', 'offset'), 0)
@@ -150,7 +155,8 @@ LONG = [b'\x80\0', b'\x81\0', b'\x80' * 9 + b'\0', b'\x80' * 9 + b'\1', b'\xff' 
 
 
 def directory_numbers(base, directories):
-    """Each number of directories at the ends of its type and of what it says, a count that no memory is taken for, and spellings that are none."""
+    """Each number of directories at the ends of its type and of what it says, a count that no memory is taken for,
+    and spellings that are none."""
     for k in directories:
         for i, now in enumerate(base.numbers(k)):
             values = {0, 1, 2, 3, 5, now - 1, now + 1, now + 2, 2 * now, 17, 18, 127, 128, 16383, GREAT - 1, GREAT, GREAT + 1, DEEP, pm.LAST, pm.LAST + 1, 2 ** 60, 2 ** 62, 2 ** 63, ALL - 300, ALL - 1, ALL}

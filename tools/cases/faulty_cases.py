@@ -1,4 +1,5 @@
-# Archives with planted faults, each asked six ways, for tools/cases/import_rows.py: a reader, a view, an import into an empty flat set, a check, an extraction and a server.
+# Archives with planted faults, each asked six ways, for tools/cases/import_rows.py: a reader, a view, an import into
+# an empty flat set, a check, an extraction and a server.
 from cases import faulty_archives as faulty
 from cases import sample_archives
 from cases.faulty_answers import Asked, answers
@@ -15,7 +16,8 @@ END = Asked(2, (DEEP - 2, DEEP - 1, pm.LAST), 1, '{} {} {} 31 2'.format(*coord(D
 
 
 class Lines:
-    """The archive that is held, what is asked, and the answers of the line before, which are printed as `same` where they come again."""
+    """The archive that is held, what is asked, and the answers of the line before, which are printed as `same` where
+    they come again."""
 
     def __init__(self, rows):
         self.rows, self.data, self.asked, self.last, self.count = rows, None, None, '', 0
@@ -109,7 +111,8 @@ def levels(lines):
 
 
 def cycles(lines):
-    """A leaf that names itself, the one above it, the root, and a root that is a leaf of another one; with tiles before them, whose ids rise or stand."""
+    """A leaf that names itself, the one above it, the root, and a root that is a leaf of another one; with tiles
+    before them, whose ids rise or stand."""
     own, up = pm.directory([(0, 0, 5, 0)]), pm.directory([(0, 0, 1, 1), (1, 0, 9, 0)])
     for root, leaf, fields in ((own, own, {}), (up, up, {}), (pm.directory([(0, 9, 5, 0)]), up + pm.directory([(0, 0, 9, 0)]), {}), (own, b'', {'leaf_offset': 127}), (up, b'', {'leaf_offset': 127}),
                                (pm.directory([(0, 0, 9, 0), (1, 0, 9, 0), (2, 0, 9, 0)]), pm.directory([(0, 0, 9, 0), (1, 0, 9, 0)]), {}), (pm.directory([(t, 0, 1, 0) for t in range(4000)]), b'\0', {}),
@@ -142,7 +145,8 @@ def great_numbers(lines):
 
 
 def roots_at_the_end_of_the_front(lines):
-    """A root that ends with the 16,384 bytes that are read at first, and one byte behind them; with room behind its entries, and filled with them."""
+    """A root that ends with the 16,384 bytes that are read at first, and one byte behind them; with room behind its
+    entries, and filled with them."""
     lines.ask(AT_ZERO)
     full = pm.directory([(t + 200 * max(0, t - 4059), 0, 1, 1) for t in range(4063)])
     assert len(full) == 16257

@@ -1,5 +1,6 @@
-# Writes the input and the wanted output of crates/format_rows, and the file that it reads. The wanted answers are worked out here from the specifications, or are
-# values that were published or that other programs gave (digests.txt).
+# Writes the input and the wanted output of crates/format_rows, and the file that it reads. The wanted answers are
+# worked out here from the specifications, or are values that were published or that other programs gave
+# (digests.txt).
 import json
 import os
 import random
@@ -403,7 +404,8 @@ def backends():
 
 
 def gathered():
-    """Reads at a border, behind which 20 bytes are gathered: those that they alone answer, those that end at the border, and those that have them written first."""
+    """Reads at a border, behind which 20 bytes are gathered: those that they alone answer, those that end at the
+    border, and those that have them written first."""
     held = bytes(range(20))
     row('disk open gathered')
     row('open gathered')

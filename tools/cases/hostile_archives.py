@@ -1,4 +1,5 @@
-# Archives with planted faults, imported into an empty flat set, for tools/cases/import_rows.py. The first failing test is worked out by tools/models/imported.py from the bytes alone.
+# Archives with planted faults, imported into an empty flat set, for tools/cases/import_rows.py. The first failing
+# test is worked out by tools/models/imported.py from the bytes alone.
 import collections
 import random
 

@@ -122,7 +122,8 @@ GREAT = 2 ** 32 - 1
 
 
 def borders(rows):
-    """Runs at the ends of zooms 30 and 31 and of u64, with bytes and without; a run of 2^32 - 1 tiles, which no memory is taken for; and ends of ranges past u64."""
+    """Runs at the ends of zooms 30 and 31 and of u64, with bytes and without; a run of 2^32 - 1 tiles, which no
+    memory is taken for; and ends of ranges past u64."""
     for most in (1, 2, 3, GREAT - 1):
         for root in ([(DEEP - 1, 0, 1, 1)], [(DEEP - 1, 0, 1, 2)], [(DEEP - 2, 0, 1, 2)], [(DEEP, 0, 1, 1)], [(DEEP + 5, 0, 1, 1)], [(DEEP - 1, 0, 0, 2)], [(DEEP, 0, 0, GREAT)], [(pm.LAST, 0, 1, 1)], [(pm.LAST, 0, 0, 1)],
                      [(pm.LAST, 0, 1, 2)], [(pm.LAST, 0, 0, 2)], [(pm.LAST + 1, 0, 0, 1)], [(pm.LAST + 9, 0, 1, 1)], [(ALL, 0, 1, 1)], [(ALL, 0, 1, GREAT)], [(ALL, 0, 0, 1)], [(0, 0, 1, GREAT)], [(0, 0, 0, GREAT)],
@@ -165,7 +166,8 @@ class Quiet(Held):
 
 
 def sets_before(rows):
-    """Sets that have rows: those of other places stay, and so does the metadata; a tile over bytes, over null, over times and over a row without an id."""
+    """Sets that have rows: those of other places stay, and so does the metadata; a tile over bytes, over null, over
+    times and over a row without an id."""
     one, two = digest('md5', b'\x01'), digest('md5', b'\x02')
     sets = {
         'flat': [('tiles', 'i1', 'i0', 'i0', 'x01'), ('tiles', 'i1', 'i1', 'i0', 'n'), ('tiles', 'i0', 'i0', 'i0', 'x07')],
@@ -208,7 +210,8 @@ def round_trips(rows):
 
 
 def collisions(rows):
-    """Contents of one digest: no matter where no id is of it. The first by zoom, column and row from the bottom is named."""
+    """Contents of one digest: no matter where no id is of it. The first by zoom, column and row from the bottom is
+    named."""
     a, b = SAME_MD5
     name = 't' + digest('md5', a)
     for adds in ([(1, a), (4, b)], [(1, b), (2, a)], [(1, a), (2, a)], [(3, b)]):
@@ -249,7 +252,8 @@ def refused_sets(rows):
 
 
 def faults(rows):
-    """Each call of the backend fails in turn, and then each of the store, the last one of which is the commit. The set stands as it was, and the archive is imported after that."""
+    """Each call of the backend fails in turn, and then each of the store, the last one of which is the commit. The
+    set stands as it was, and the archive is imported after that."""
     hello = digest('md5', b'hello')
     sets = {'flat': [('tiles', 'i1', 'i0', 'i0', 'x30')], 'flat-with-hash': [], 'cache': [],
             'normalized': [('images', 't' + hello, 'x68656c6c6f'), ('map', 'i1', 'i0', 'i0', 't' + hello)]}

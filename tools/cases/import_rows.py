@@ -1,5 +1,6 @@
-# Writes the input and the wanted output of crates/import_rows: imports of archives into tile sets. The wanted answers are worked out from the bytes of the archives and the tables of the sets, by the rules that
-# stand in the modules that are imported here.
+# Writes the input and the wanted output of crates/import_rows: imports of archives into tile sets. The wanted answers
+# are worked out from the bytes of the archives and the tables of the sets, by the rules that stand in the modules
+# that are imported here.
 
 from cases import faulty_cases
 from cases import hostile_archives

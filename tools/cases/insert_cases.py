@@ -96,7 +96,8 @@ def each_layout(rows):
 def collisions(rows):
     a, b = SAME_MD5
     name = 't' + digest('md5', a)
-    # two contents of one batch: the first by zoom, column and row from the bottom is named, and one that isn't put collides with none
+    # two contents of one batch: the first by zoom, column and row from the bottom is named, and one that isn't put
+    # collides with none
     for batch in ([(1, 0, 0, a), (1, 1, 0, b)], [(1, 0, 0, a), (1, 0, 0, b)], [(1, 0, 0, b), (1, 0, 0, a), (1, 1, 1, b)], [(1, 0, 0, a), (1, 1, 0, a)], [(1, 0, 0, b)]):
         case(rows, 'normalized', [], batch)
         case(rows, 'normalized', [('images', name, 'x' + a.hex()), ('map', 'i0', 'i0', 'i0', name)], batch, ('override', 'ignore'))
@@ -139,7 +140,8 @@ def refusals(rows):
 
 
 def faults(rows):
-    """Each call of the store fails in turn, the last one of which is the commit. The store stands as it was, and the batch is put after that."""
+    """Each call of the store fails in turn, the last one of which is the commit. The store stands as it was, and the
+    batch is put after that."""
     hello = digest('md5', b'hello')
     sets = {'flat': [('tiles', 'i1', 'i0', 'i0', 'x30')], 'flat-with-hash': [], 'cache': [],
             'normalized': [('images', 't' + hello, 'x68656c6c6f'), ('map', 'i1', 'i0', 'i0', 't' + hello)]}

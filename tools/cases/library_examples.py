@@ -1,6 +1,6 @@
 """Writes what library_examples prints: the lines of its examples, out of the set that they begin with.
 
-    tools/cases/library_examples.py
+    tools/make_cases library_examples
 """
 import os
 

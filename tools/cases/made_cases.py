@@ -1,5 +1,6 @@
-# Rows on sets that are made of archives with what these say of themselves, for tools/cases/import_rows.py. What the metadata of a set is to have is worked out by Python's json and
-# decimal. Where an archive is the one of its set and of what the set says, the archive that is made of the set again has to be the same.
+# Rows on sets that are made of archives with what these say of themselves, for tools/cases/import_rows.py. What the
+# metadata of a set is to have is worked out by Python's json and decimal. Where an archive is the one of its set and
+# of what the set says, the archive that is made of the set again has to be the same.
 import hashlib
 import json
 import random
@@ -41,7 +42,8 @@ def members(text):
 
 
 def is_unsaid(h):
-    """Whether a set says no center: its own is the middle of bounds that it can say, at its least zoom; those of the world are at zoom 0 too."""
+    """Whether a set says no center: its own is the middle of bounds that it can say, at its least zoom; those of the
+    world are at zoom 0 too."""
     sides = [h[side] for side in pm.DEGREES]
     west, south, east, north = sides
     sayable = abs(west) <= 180 * 10 ** 7 and abs(east) <= 180 * 10 ** 7 and -90 * 10 ** 7 <= south <= north <= 90 * 10 ** 7
@@ -102,7 +104,8 @@ def run(rows, held, data, most=100):
 
 
 def back(rows, data):
-    """The archive of the set that was made: the same again, but for bounds and a center that the set doesn't say, or not in form."""
+    """The archive of the set that was made: the same again, but for bounds and a center that the set doesn't say, or
+    not in form."""
     h, names = pm.read_header(data), said(data)
     extent, at = (names.get(name) and read(names[name]) for name, read in (('bounds', bounds), ('center', center)))
     h.update(zip(pm.DEGREES, extent or WORLD))
@@ -193,7 +196,8 @@ def sets_before(rows):
 
 
 def faults(rows):
-    """Each call of the backend fails in turn, and then each of the store: the creation of tables, the import, and the names. What was committed stands."""
+    """Each call of the backend fails in turn, and then each of the store: the creation of tables, the import, and the
+    names. What was committed stands."""
     data = archive([(1, b'hello'), (3, b'new'), (4, b'new'), (9, b'x')], '{"name":"town","a":1}', type=1)
     hold(rows, data)
     reads = 2 + counted(data)

@@ -1,5 +1,5 @@
-# Writes the input and the wanted output of crates/mbtiles_rows: calls of a set by its store. The wanted answers are worked out from the tables, by the rules that stand in the modules that are
-# imported here.
+# Writes the input and the wanted output of crates/mbtiles_rows: calls of a set by its store. The wanted answers are
+# worked out from the tables, by the rules that stand in the modules that are imported here.
 
 from cases import content_cases
 from cases import insert_cases

@@ -1,4 +1,5 @@
-# Rows on the metadata of a set, for tools/cases/mbtiles_rows.py. The tables are printed after each call that changes them.
+# Rows on the metadata of a set, for tools/cases/mbtiles_rows.py. The tables are printed after each call that changes
+# them.
 import json
 import random
 
@@ -226,7 +227,8 @@ def documents(rows):
 
 
 def faults(rows):
-    """Each call of the store fails in turn, the last of which is the commit where the call changes something. The store stands as it was, and the call is made after that."""
+    """Each call of the store fails in turn, the last of which is the commit where the call changes something. The
+    store stands as it was, and the call is made after that."""
     pushes = [*named(('name', 'old'), ('minzoom', '4')), *tiles_at(3)]
     for line, changes in (('meta set tname tnew', {'name': 'new'}), ('meta delete tname', {'name': None}), ('meta update reset', {'minzoom': '3', 'maxzoom': '3'}), ('meta insert t{"name":"put"} - - - - -', {'name': 'put'})):
         held = Held(rows, 'flat', pushes)

@@ -1,4 +1,5 @@
-# Rows on the options that a set gives its archive, for tools/cases/mbtiles_rows.py. The answers are worked out by Python's json and decimal.
+# Rows on the options that a set gives its archive, for tools/cases/mbtiles_rows.py. The answers are worked out by
+# Python's json and decimal.
 import json
 import random
 import re
@@ -51,7 +52,8 @@ def middle(low, high):
 
 
 def center_of(extent, at, zoom):
-    """The center of an archive: that which is said, at zoom 0 where it says none, or the middle of the bounds at the least zoom. Without bounds it is that of the world."""
+    """The center of an archive: that which is said, at zoom 0 where it says none, or the middle of the bounds at the
+    least zoom. Without bounds it is that of the world."""
     if at is not None:
         return at[0], at[1], at[2] or 0
     west, south, east, north = extent or (0, 0, 0, 0)
@@ -73,7 +75,8 @@ def in_order(value):
 
 
 def said(names, filled):
-    """What a set says of its archive, by its names and by its tiles of at least one byte: type, label, zooms, bounds, center and metadata."""
+    """What a set says of its archive, by its names and by its tiles of at least one byte: type, label, zooms, bounds,
+    center and metadata."""
     kind = TYPES.get((names.get('format') or '').strip(BLANKS).lower(), 'Unknown')
     gzip = [data[:2] == b'\x1f\x8b' for data in filled.values()]
     label = ('Gzip' if all(gzip) else 'Unknown' if any(gzip) else 'None') if kind == 'Mvt' else 'None'

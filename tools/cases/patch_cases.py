@@ -1,4 +1,4 @@
-# Rows that patch one set by another, for tools/cases/set_rows.py: its stores, its rows and how it prints a loaded set.
+# Rows that patch one set by another, for tools/cases/set_rows.py.
 import random
 
 from cases.store_lines import StoreLines
@@ -59,7 +59,8 @@ def chains(rows):
     zero = ('tiles', 'i0', 'i0', 'i0', 'x30')
     base = ('flat', [zero, *named((AGG, 'A'))])
     null = ('tiles', 'i0', 'i0', 'i0', 'n')
-    # the tile goes, and the digest after the patch takes the place of the set's; then a patch that is meant for another set
+    # the tile goes, and the digest after the patch takes the place of the set's; then a patch that is meant for
+    # another set
     patch_case(rows, base, ('flat', [null, *named((BEFORE, 'A'), (AFTER, 'B'))]), False)
     patch_case(rows, base, ('flat', [null, *named((BEFORE, 'C'), (AFTER, 'B'))]), False)
     patch_case(rows, base, ('flat', [null, *named((BEFORE, 'C'), (AFTER, 'B'))]), True)

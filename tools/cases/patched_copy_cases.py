@@ -1,4 +1,5 @@
-# Rows that copy a set with a patch, for tools/cases/copy_rows.py. The source, the patch and the destination are made by a line each; the tables of the destination are printed after a copy.
+# Rows that copy a set with a patch, for tools/cases/copy_rows.py. The source, the patch and the destination are made
+# by a line each; the tables of the destination are printed after a copy.
 import random
 
 from cases.copy_cases import COPIES, LAYOUTS, MODES, TYPES, Cases, other_of, zooms_of
@@ -107,7 +108,8 @@ def layouts(cases):
 
 
 def chosen(cases):
-    """Tiles are chosen once the patch is made: what it removes isn't copied, what it puts is where it is wanted, and what it does elsewhere doesn't show."""
+    """Tiles are chosen once the patch is made: what it removes isn't copied, what it puts is where it is wanted, and
+    what it does elsewhere doesn't show."""
     places = [(z, c, r) for z in range(3) for c in range(2 ** z) for r in range(2 ** z)]
     tiles = lambda cells: [('tiles', *(f'i{n}' for n in place), cell) for place, cell in cells.items()]
     source = Set('flat', tiles({place: 'x%02x' % n for n, place in enumerate(places)}))
@@ -138,7 +140,8 @@ def names(cases):
 
 
 def collisions(cases):
-    """Contents that collide where ids are digests: in the source and the patch, in the patch alone, or in what the patch replaces."""
+    """Contents that collide where ids are digests: in the source and the patch, in the patch alone, or in what the
+    patch replaces."""
     for pair, algorithm in ((SAME_MD5, 'md5'), (SAME_FNV, 'fnv1a')):
         a, b = ('x' + data.hex() for data in pair)
         at = lambda z, c, r, cell: ('tiles', f'i{z}', f'i{c}', f'i{r}', cell)
@@ -170,7 +173,8 @@ def order_of_refusals(cases):
 
 
 def faults(cases):
-    """Each call of each of the three stores fails in turn. The destination stands as it was, or has its tables alone; then the copy is made."""
+    """Each call of each of the three stores fails in turn. The destination stands as it was, or has its tables alone;
+    then the copy is made."""
     copier = Copier(type='flat', force=True)
     words = ' '.join(['patched', *copier.words()])
     for layout in ('flat', 'normalized', 'cache'):

@@ -1,6 +1,6 @@
 """Writes the stored runs of tileset_program, tile_verify_program, mbtiles_to_pmtiles_program and pmtiles_to_mbtiles_program, and what is beside the examples.
 
-    tools/cases/programs.py
+    tools/make_cases programs
 
 The report of a script is that of tools/cases/tileset_rows.py. The script of examples/places.mbtiles is worked out by tools/models/mbtiles.py, and its tiles and its names are what
 mbtiles_to_pmtiles_program has to find in the same file.
@@ -17,7 +17,8 @@ from models.scripts import parsed
 from models.sets import Text, converted
 
 
-# A base and its patches. Both patches have the tiles (1, 0, 0) and (1, 0, 1), so that their order shows, and no hashes, so that --force does.
+# A base and its patches. Both patches have the tiles (1, 0, 0) and (1, 0, 1), so that their order shows, and no
+# hashes, so that --force does.
 FILES = ('places.mbtiles', 'places_update.mbtiles', 'places_removal.mbtiles')
 
 
@@ -44,7 +45,8 @@ def patch_of(path):
 
 
 def converted_files(script, path, patches):
-    """The lines on the archive of a file, whose tiles are those of a script, and of patches without metadata, which are taken without hashes."""
+    """The lines on the archive of a file, whose tiles are those of a script, and of patches without metadata, which
+    are taken without hashes."""
     for patch in patches:
         script += ''.join(patch_of(patch))
     state = converted(parsed(script.encode()).stores, True, False)

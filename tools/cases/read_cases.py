@@ -1,4 +1,5 @@
-# Rows that read a set, for tools/cases/mbtiles_rows.py: single tiles, zooms, the name of a set, and what its descriptions tell.
+# Rows that read a set, for tools/cases/mbtiles_rows.py: single tiles, zooms, the name of a set, and what its
+# descriptions tell.
 import random
 
 from cases.patch_cases import named, some_set
@@ -15,7 +16,8 @@ FIXED = [(0, 0, 0), (1, 0, 1), (1, 1, 1), (1, 0, 0), (30, 1073741823, 0), (31, 0
 
 
 def stored_hash(held, place):
-    """The digest that the tables have for a tile: a cell of its row, the id of its contents, or none in the other layouts."""
+    """The digest that the tables have for a tile: a cell of its row, the id of its contents, or none in the other
+    layouts."""
     cells = row_cells(held, place)
     at = {'flat-with-hash': 1, 'normalized': 0, 'normalized-with-view': 0}.get(held.layout)
     return None if at is None or cells[at] == 'n' else cells[at][1:]
@@ -65,7 +67,8 @@ def one_tile_each(rows):
         name = 't' + digest(algorithm, b'hello')
         read_case(rows, 'flat-with-hash', [('tiles_with_hash', 'i1', 'i0', 'i0', 'x68656c6c6f', name), *named(('hash_algorithm', algorithm))], [(1, 0, 1)])
         read_case(rows, 'normalized', [('images', name, 'x68656c6c6f'), ('map', 'i1', 'i0', 'i0', name), *named(('hash_algorithm', algorithm))], [(1, 0, 1)])
-    # ids in lower and in upper case, contents that are null, contents of two tiles, and rows without an id, one of which has no place
+    # ids in lower and in upper case, contents that are null, contents of two tiles, and rows without an id, one of
+    # which has no place
     low, high = 't' + hello.lower(), 't' + digest('md5', b'0')
     contents = [('images', low, 'x68656c6c6f'), ('images', high, 'x30'), ('images', 'tnull', 'n'), ('images', 'n', 'x09'), ('map', 'i1', 'i0', 'i0', low), ('map', 'i1', 'i0', 'i1', low), ('map', 'i1', 'i1', 'i0', high),
                 ('map', 'i0', 'i0', 'i0', 'tnull'), ('map', 'i1', 'i1', 'i1', 'n'), ('map', 'i40', 'n', 'o', 'n')]
@@ -123,7 +126,8 @@ def described(rows):
 
 
 def file_name(path):
-    """The part behind the last `/`, once endings `/` and `/.` are cut, up to its last dot where that isn't its first sign."""
+    """The part behind the last `/`, once endings `/` and `/.` are cut, up to its last dot where that isn't its first
+    sign."""
     while path.endswith(('/', '/.')):
         path = path[:-1] if path.endswith('/') else path[:-2]
     part = path.rsplit('/', 1)[-1]

@@ -1,5 +1,6 @@
-# Rows that read a set of a database, for tools/cases/mbtiles_rows.py. The same statements make the database by Python's sqlite3, which answers what it holds; what becomes of
-# that is worked out here by the rules of crates/mb_reading/README.md.
+# Rows that read a set of a database, for tools/cases/mbtiles_rows.py. The same statements make the database by
+# Python's sqlite3, which answers what it holds; what becomes of that is worked out here by the rules of
+# crates/mb_reading/README.md.
 import random
 import re
 import sqlite3
@@ -137,7 +138,8 @@ def said_place(kind, value):
 
 
 class Left:
-    """How many rows are left out: of tiles without a number, too deep and outside the grid, of the metadata without a text and of a name that stood before; and the place of the first tile."""
+    """How many rows are left out: of tiles without a number, too deep and outside the grid, of the metadata without a
+    text and of a name that stood before; and the place of the first tile."""
 
     def __init__(self):
         self.counts, self.first = [0, 0, 0, 0, 0], None
@@ -175,7 +177,8 @@ class File:
             yield [(kind.decode(), value) for kind, value in zip(row[::2], row[1::2])]
 
     def asked(self, table):
-        """All rows of a table, or why it isn't read: only behind another one than `tiles` may a view of the tiles stand."""
+        """All rows of a table, or why it isn't read: only behind another one than `tiles` may a view of the tiles
+        stand."""
         try:
             return list(self.rows(table))
         except sqlite3.OperationalError:

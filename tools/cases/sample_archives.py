@@ -17,7 +17,8 @@ CYCLE = root_of([(0, 0, 5, 0)], ONE[:pm.FRONT] + pm.directory([(0, 0, 5, 0)]), l
 
 
 def tree(leaves, contents, most=None, text=b'{}', **fields):
-    """An archive whose root names leaves of entries, through one more directory for each number of `most`, which is how many names it may have."""
+    """An archive whose root names leaves of entries, through one more directory for each number of `most`, which is
+    how many names it may have."""
     h = pm.default_header()
     leaf_part, level = b''.join(map(pm.directory, leaves)), pm.named(0, leaves)
     for size in most or ():

@@ -1,5 +1,6 @@
-# Lines of a server of tiles, and the run that crates/tile_serve_program stores, for tools/cases/archive_rows.py. The wanted answers are worked out from the definition of a reply, by a server in plain
-# python that keeps lists.
+# Lines of a server of tiles, and the run that crates/tile_serve_program stores, for tools/cases/archive_rows.py. The
+# wanted answers are worked out from the definition of a reply, by tools/models/servers.py, a server in plain python
+# that keeps lists.
 import os
 import random
 
@@ -57,7 +58,8 @@ TABLE = ['GET 0 0 0', 'GET 0 0 0 ' + TAG, 'GET 1 0 0', 'GET 0 1 0']
 
 
 def leafy(leaves, contents, deeper=0):
-    """An archive whose root names leaves of entries (id, offset, length, run), maybe through so many more directories of one entry."""
+    """An archive whose root names leaves of entries (id, offset, length, run), maybe through so many more directories
+    of one entry."""
     h = pm.default_header()
     part, names = b''.join(map(pm.directory, leaves)), pm.named(0, leaves)
     for _ in range(deeper):

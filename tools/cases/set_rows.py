@@ -1,5 +1,6 @@
-# Writes the input and the wanted output of crates/set_rows. The wanted answers are worked out here from the tables of the layouts, the rules of detection, and the rules
-# of a store: rows in the order of their keys, equal keys in order of arrival.
+# Writes the input and the wanted output of crates/set_rows. The wanted answers are worked out here from the tables of
+# the layouts, the rules of detection, and the rules of a store: rows in the order of their keys, equal keys in order
+# of arrival.
 import hashlib
 import random
 

@@ -229,7 +229,8 @@ def random_tiles(rng, most=6):
 
 
 def random_chains(seed, count):
-    """Bases with patches that follow each other, mostly linked by the right hashes, of any layout, and such scripts with a change."""
+    """Bases with patches that follow each other, mostly linked by the right hashes, of any layout, and such scripts
+    with a change."""
     rng = random.Random(seed)
     for _ in range(count):
         algorithm = rng.choice([b"md5", *ALGORITHMS])

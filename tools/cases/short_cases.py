@@ -1,5 +1,6 @@
-# Lines of calls over a backend that tells nothing, one of whose reads is answered by two numbers in place of bytes, for tools/cases/archive_rows.py: how many bytes were asked for, or are said to be, and
-# how many came. Whoever reads hands on both. The wanted answers are worked out by the models of the other scripts, which count their reads.
+# Lines of calls over a backend that tells nothing, one of whose reads is answered by two numbers in place of bytes,
+# for tools/cases/archive_rows.py: how many bytes were asked for, or are said to be, and how many came. Whoever reads
+# hands on both. The wanted answers are worked out by the models of the other scripts, which count their reads.
 import hashlib
 
 from cases import archive_program
@@ -30,7 +31,8 @@ class Short(Exception):
 
 
 class Reads:
-    """Reads are counted from 1, the one of opening; the one with a number is answered by numbers, but never that of opening."""
+    """Reads are counted from 1, the one of opening; the one with a number is answered by numbers, but never that of
+    opening."""
 
     def __init__(self, at, asked, got):
         self.at, self.asked, self.got, self.calls = at, asked, got, 0
@@ -42,7 +44,8 @@ class Reads:
 
 
 def each(words, answers, calls, numbers=NUMBERS):
-    """The line with each read answered by numbers, and with one more that doesn't come: `answers` gives what is printed, and calls `read` for each read."""
+    """The line with each read answered by numbers, and with one more that doesn't come: `answers` gives what is
+    printed, and calls `read` for each read."""
     for at in range(1, calls + 2):
         for asked, got in numbers if 1 < at <= calls else numbers[:1]:
             reads = Reads(at, asked, got)
@@ -187,7 +190,8 @@ def checked(found):
 
 
 def serves(data, limits, lines):
-    """A server hands on the short read, and answers the lines after it as ever; a run of it ends there, after the replies of the lines before."""
+    """A server hands on the short read, and answers the lines after it as ever; a run of it ends there, after the
+    replies of the lines before."""
     def answers(reads):
         server, said = Reader(data, reads, limits), []
         for line in lines:
@@ -228,7 +232,8 @@ class Source(extraction.Calls):
 
 
 def extracts(data, words):
-    """An extraction hands on the short read; where tiles are being written, no reader takes what the medium holds for an archive."""
+    """An extraction hands on the short read; where tiles are being written, no reader takes what the medium holds for
+    an archive."""
     def extracted(reads):
         run = extraction.Run(data, b'', 0, 0)
         run.source = Source(reads)

@@ -38,7 +38,8 @@ class StoreLines:
         self.out.row('store count ' + name, f'Ok({len(self.tables.get(name, []))})')
 
     def commit(self, *calls, fault=False):
-        """Makes changes at once: each a table, a key in words, and the cells that are put in place of the rows of the key, or None."""
+        """Makes changes at once: each a table, a key in words, and the cells that are put in place of the rows of the
+        key, or None."""
         call = spelled_changes('store commit', calls)
         for name, words, cells in calls:
             if name not in self.tables or cells and (len(cells) != len(TABLES[name]) or key_cells(words) != list(cells[:KEYS[name]])):

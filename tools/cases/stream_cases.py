@@ -11,7 +11,8 @@ from models.tables import bad_index
 
 
 def listed(held, given=None):
-    """The tiles in the order of the rows, of all or of so many: each a place and the bytes, or None. A row without an id is none."""
+    """The tiles in the order of the rows, of all or of so many: each a place and the bytes, or None. A row without an
+    id is none."""
     contents = {c[0]: c[1] for c in held.tables.get(CONTENT_TABLES.get(held.layout), []) if c[0] != 'n'}
     for cells in held.tables[TILE_TABLES[held.layout]][:given]:
         if held.layout in CONTENT_TABLES and cells[3] == 'n':
@@ -32,7 +33,8 @@ def stream(rows, tiles, word='stream'):
 
 
 def summed_stream(rows, held, given=None, failing=None):
-    """How many there are, and the digest of what is printed of all of them. Where a call fails, of those in so many rows, behind the failure."""
+    """How many there are, and the digest of what is printed of all of them. Where a call fails, of those in so many
+    rows, behind the failure."""
     tiles = list(listed(held, given))
     for call, text in (('coords', ''.join(f'{place} ' for place, _ in tiles)), ('tiles', ''.join(f'{place} {data_word(data)} ' for place, data in tiles))):
         rows.row(f'stream {call}_digest', *([] if given is None else ['StoreFault']), len(tiles), summed(text))
@@ -69,7 +71,8 @@ def random_streams(rows):
 
 
 def filled(rows, layout, count, contents):
-    """A set of many rows, which the program makes from these numbers: the n-th place, and its contents by the rest of n; the last rest has none."""
+    """A set of many rows, which the program makes from these numbers: the n-th place, and its contents by the rest of
+    n; the last rest has none."""
     held = Held.__new__(Held)
     held.rows, held.layout, held.asked = rows, layout, count + (contents if layout in CONTENT_TABLES else 0)
     ids = [f'i{k}' if layout == 'dedup-id' else 't' + digest('md5', b'%d' % k) for k in range(contents)]
@@ -116,7 +119,8 @@ PAGE = 1024
 
 
 def faults(rows):
-    """Each call of the store fails in turn. While the set is loaded and its rows are counted, the failure is the answer; after that it is the last item, behind the tiles of the pages before."""
+    """Each call of the store fails in turn. While the set is loaded and its rows are counted, the failure is the
+    answer; after that it is the last item, behind the tiles of the pages before."""
     hello = digest('md5', b'hello')
     for layout, pushes in (('flat', [('tiles', 'i1', 'i0', 'i0', 'x30'), ('tiles', 'i1', 'i1', 'i0', 'n')]), ('flat', []),
                            ('normalized', [('images', 't' + hello, 'x68656c6c6f'), ('map', 'i1', 'i0', 'i0', 't' + hello), ('map', 'i0', 'i0', 'i0', 'n')])):

@@ -1,6 +1,6 @@
 """Writes the cases of crates/tileset_rows, and what they must print, by the definitions of the formats alone.
 
-    tools/cases/tileset_rows.py
+    tools/make_cases tileset_rows
 
 It writes crates/tileset_rows/stdin and stdout. No answer comes from the converter: ids are by Hilbert's curve as the PMTiles
 specification has it, archives by version 3 of that specification and the rules of docs/ARCHITECTURE.md, digests by hashlib.
@@ -357,7 +357,8 @@ def words_and_bulk():
 
 
 def files():
-    """What is printed beside a file, whatever its path, and the same refusals and faults as of the bytes in hexadecimal."""
+    """What is printed beside a file, whatever its path, and the same refusals and faults as of the bytes in
+    hexadecimal."""
     five = "\n".join(["base flat", *FIVE, "query 4 1 3", "query 1 1 1", "query 0 0 0", "query 31 0 0", ""])
     for script in [ONE_TILE, NO_TILE, "base flat", five, "option min-zoom 7\noption type mlt\noption metadata t%f0%9f%97%BA\nbase flat\nrow tiles i2 i3 i3 xffFF00\nquery 2 3 0\n",
                    "option internal-compression gzip\nbase flat\n", "base none\n", "", "base flat\nrow tiles i0 i0 i0 x3\n"]:
@@ -436,7 +437,8 @@ def sets():
 
 
 def bases():
-    """What the base holds after a conversion over stores of its own: for chains of patches, collisions of ids, and refusals."""
+    """What the base holds after a conversion over stores of its own: for chains of patches, collisions of ids, and
+    refusals."""
     for scripts in [worked_sets, worked_patches, refused_patches, four_ways]:
         for script in scripts():
             base(script)
@@ -459,7 +461,8 @@ def in_a_row(ends):
 
 
 def hindered(script, name="hindered"):
-    """Each call of each store and of the medium fails in a conversion of its own: the base's tables are those at the start, or wholly patched where the medium fails after the commit."""
+    """Each call of each store and of the medium fails in a conversion of its own: the base's tables are those at the
+    start, or wholly patched where the medium fails after the commit."""
     given = parsed(script.encode())
     refusal, after = base_after(given)
     assert refusal is None
@@ -470,7 +473,8 @@ def hindered(script, name="hindered"):
 
 
 def views(words, script, ids):
-    """Each call of the medium fails in a run of its own: a view opens what the medium then holds only where it is the whole archive."""
+    """Each call of the medium fails in a run of its own: a view opens what the medium then holds only where it is the
+    whole archive."""
     if words[0] == "bulk":
         numbers = bulk_numbers(words)
         found = {k: b"%d" % (k // numbers[1]) for k in range(numbers[0])}
@@ -517,7 +521,8 @@ def failing_objects():
 
 
 def many_tiles():
-    """Sets of more than 65,000 tiles through leaves of 16 entries and the directories above them, each tile with its column and its row as contents."""
+    """Sets of more than 65,000 tiles through leaves of 16 entries and the directories above them, each tile with its
+    column and its row as contents."""
     for zoom, columns, rows, head, tail in [
         (8, 256, 256, "option max-leaf-entries 16\nbase flat\n", "query 8 0 0\nquery 8 255 0\nquery 8 128 127\nquery 8 37 201\nquery 8 0 255\nquery 9 0 0\n"),
         (9, 300, 230, "option max-leaf-entries 16\noption force\nbase flat\n",
@@ -529,7 +534,8 @@ def many_tiles():
 
 
 def on_file():
-    """A file in the folder that the program runs in: it is made, written and opened again, and refused where it holds something."""
+    """A file in the folder that the program runs in: it is made, written and opened again, and refused where it holds
+    something."""
     held = {}
     for path, script in [("made.pmtiles", ONE_TILE), ("made.pmtiles", NO_TILE), ("bad.pmtiles", "base flat flat"), ("bad.pmtiles", NO_TILE), ("none.pmtiles", "base none"),
                          ("chain.pmtiles", removes_the_tile())]:
@@ -606,7 +612,8 @@ def told(state, numbers):
 
 
 def said(script, held=b""):
-    """A conversion over stores of a script's rows with the options that the set says of itself, whatever options of an archive the script has."""
+    """A conversion over stores of a script's rows with the options that the set says of itself, whatever options of
+    an archive the script has."""
     given = parsed(script.encode())
     refusal, after = base_after(given)
     rows = rows_of(after, escaped)

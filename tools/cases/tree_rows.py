@@ -1,5 +1,6 @@
-# Writes the input and the wanted output of crates/tree_rows: trees of files that are packed and unpacked. The wanted answers are worked out by tools/models/trees.py. Run it at the top of the
-# repository: python3 tools/cases/tree_rows.py
+# Writes the input and the wanted output of crates/tree_rows: trees of files that are packed and unpacked. The wanted
+# answers are worked out by tools/models/trees.py. Run it at the top of the repository: python3
+# tools/cases/tree_rows.py
 import random
 
 from cases.patch_cases import named, some_set

@@ -49,7 +49,8 @@ def clauses(path):
 
 
 def behind():
-    """The files behind the clauses of `run` and of the traits of its objects, as `crate/File`, and the kit's crates that they name."""
+    """The files behind the clauses of `run` and of the traits of its objects, as `crate/File`, and the kit's crates
+    that they name."""
     seen, others = specs.closure([(RUN, specs.contract(RUN, "run")), *((path, clauses(path)) for path in TRAITS)])
     files = {short(path) for path, _ in seen}
     return files, {module.split(".")[1] for module, _ in others} & kit_crates()

@@ -8,7 +8,8 @@ import specs
 TOP = os.path.dirname(os.path.dirname(os.path.dirname(os.path.abspath(__file__))))
 CRATES = os.path.join(TOP, 'crates')
 SHARED = ('refused', 'refused_sets', 'rows_shared', 'set_words', 'program_words')
-# Errors that are listed whole: those of the objects of the outside, and those of calls that one of their own belongs to.
+# Errors that are listed whole: those of the objects of the outside, and those of calls that one of their own belongs
+# to.
 WHOLE = ('ReadFault', 'WriteFault', 'SinkFault', 'StoreError', 'TreeError', 'InputError', 'ConvertError', 'ImportError', 'ExtractError', 'Outcome', 'VerifyOutcome', 'ServeOutcome', 'ExtractOutcome')
 # Words of clauses that name a refusal.
 NAMING = {'IsUnfailing': 'StoreFault'}
@@ -107,7 +108,8 @@ class Call:
         return {it for it in self.variants(known) if self.error() in WHOLE or re.search(rf'(?<!causes\.)\b{it}\b', said)}
 
     def own(self, below, known):
-        """The refusals that it names itself, and those of the bodies below it, as long as its documentation doesn't list all tests in their order."""
+        """The refusals that it names itself, and those of the bodies below it, as long as its documentation doesn't
+        list all tests in their order."""
         return self.named(known) | (below & {'StoreFault'} if re.search(r'\b1\. ', self.words) else below)
 
     def refusals(self, known):
@@ -140,7 +142,8 @@ class Call:
 
 
 def calls_of(crate):
-    """The public calls of a crate: those of exported names, those of exported types, and the methods of exported traits."""
+    """The public calls of a crate: those of exported names, those of exported types, and the methods of exported
+    traits."""
     return [it for it in functions_of(crate) if it.public]
 
 

@@ -82,7 +82,8 @@ def names(docs):
 
 
 def readmes(docs):
-    """The READMEs of the crates: each call of a table `Call | Clause` is one of the crate, and what is explained behind a colon, as a clause, of the crate or of one below it."""
+    """The READMEs of the crates: each call of a table `Call | Clause` is one of the crate, and what is explained
+    behind a colon, as a clause, of the crate or of one below it."""
     wrong, needs = [], specs.crate_lines()
     beside = FOREIGN | behind_run.kit_crates() | set(needs)
     for page, body in docs.items():

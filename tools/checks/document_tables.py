@@ -63,7 +63,8 @@ def architecture(docs):
 
 
 def proofs(docs):
-    """The tables of docs/PROOFS.md by crates: the clauses and functions of the last cell are of that crate or of one below it."""
+    """The tables of docs/PROOFS.md by crates: the clauses and functions of the last cell are of that crate or of one
+    below it."""
     wrong, needs = [], specs.crate_lines()
     for number, line in lines(docs["docs/PROOFS.md"]):
         of = quoted(line.split("|")[1]) if line.startswith("| `") else []
@@ -110,7 +111,8 @@ def public_definitions():
 
 
 def rows_of_definitions(docs):
-    """docs/DEFINITIONS.md: a row for each definition that a clause of a public call names. What is printed can be put there."""
+    """docs/DEFINITIONS.md: a row for each definition that a clause of a public call names. What is printed can be put
+    there."""
     told, crate = set(), None
     for line in docs["docs/DEFINITIONS.md"].splitlines():
         if line.startswith("## "):
@@ -122,7 +124,8 @@ def rows_of_definitions(docs):
 
 
 def laws(docs):
-    """docs/DEFINITIONS.md: each module of laws, which are public functions that do nothing, has a row, and each row a module."""
+    """docs/DEFINITIONS.md: each module of laws, which are public functions that do nothing, has a row, and each row a
+    module."""
     page = docs["docs/DEFINITIONS.md"].split("## Laws")[1]
     found = set()
     for name in crates():

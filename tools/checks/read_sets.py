@@ -1,4 +1,5 @@
-"""The tiles of sets as Python's sqlite3 reads them, and of archives as pmtiles.py does, for the scripts that compare what bin/mbtiles-to-pmtiles makes."""
+"""The tiles of sets as Python's sqlite3 reads them, and of archives as pmtiles.py does, for the scripts that compare
+what bin/mbtiles-to-pmtiles makes."""
 import concurrent.futures
 import os
 import sqlite3

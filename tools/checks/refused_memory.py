@@ -32,7 +32,8 @@ TOP = os.path.dirname(os.path.dirname(os.path.dirname(os.path.abspath(__file__))
 SECONDS = 60
 WORKERS = 4
 
-# Lines of a program, as pieces of its stdin: the front of a line, how many lines before the first that begins so a piece begins, and how many lines it has. Behind them the calls that are tried.
+# Lines of a program, as pieces of its stdin: the front of a line, how many lines before the first that begins so a
+# piece begins, and how many lines it has. Behind them the calls that are tried.
 LINES = {
     'copied_into_an_empty_destination': ('copy_rows', [('src new flat 1 tiles i0 i0 i0 x30', 0, 8)], 'MbtilesCopier::run'),
     'imported_and_back': ('import_rows', [('hold x504d54696c6573037f0000', 0, 10)], 'import convert'),
@@ -60,7 +61,8 @@ LINES = {
     'extracted': ('archive_rows', [('extract from 0 run 0', 1, 4)], 'run_extract extract'),
 }
 
-# Lines whose call may leave the tables of a new set, still empty, where it is refused behind their making, and the line that makes such a set.
+# Lines whose call may leave the tables of a new set, still empty, where it is refused behind their making, and the
+# line that makes such a set.
 MADE = {b'run type=normalized-with-view': b'dst new normalized-with-view 0', b'tree pack xyz': b'set new flat 0', b'open': b'new layout cache'}
 
 # Words, and what is read from standard input.
@@ -98,7 +100,8 @@ class Program:
             return ran.returncode, ran.stdout, int(open(count).read())
 
     def refused(self, words, data, calls, from_on):
-        """For each number of a call: the status, or None where there was no end, what was printed, and whether the file `made` is there."""
+        """For each number of a call: the status, or None where there was no end, what was printed, and whether the
+        file `made` is there."""
         with tempfile.TemporaryDirectory() as folder:
             with open(f'{folder}/stdin', 'wb') as file:
                 file.write(data)
@@ -147,7 +150,8 @@ def is_own(line):
 
 
 def is_half(asked, said):
-    """Whether lines behind a refused one that writes an archive are as they may be: what opens it is refused, and of its bytes, which the writer leaves as its contract says, nothing is said."""
+    """Whether lines behind a refused one that writes an archive are as they may be: what opens it is refused, and of
+    its bytes, which the writer leaves as its contract says, nothing is said."""
     return all(line.split()[0] in (b'medium', b'extract') or b'InvalidMagicNumber' in answer for line, answer in zip(asked, said))
 
 

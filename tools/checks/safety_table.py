@@ -84,7 +84,8 @@ def callers_of(call, naming):
 
 
 def tables(ran):
-    """The lines of the tables, of which rows with refused memory are those that ran, the calls that lack something, and those that refuse nothing."""
+    """The lines of the tables, of which rows with refused memory are those that ran, the calls that lack something,
+    and those that refuse nothing."""
     known, programs, shared = errors(), callers(), below()
     fails = {crate for crate in programs if failing(crate)}
     memory = {}

@@ -1,6 +1,7 @@
-# Compares an archive with the sets that it was made of: same_tiles.py ARCHIVE BASE.mbtiles [PATCH.mbtiles ..]
-# Each tile of the sets, after the patches, has to be in the archive with equal bytes, and no other. Prints how many there are, the zooms of the header and
-# the metadata. It reads the sets by python's sqlite3 and the archive by `tools/models/pmtiles.py`.
+# Compares an archive with the sets that it was made of: same_tiles.py ARCHIVE BASE.mbtiles [PATCH.mbtiles ..] Each
+# tile of the sets, after the patches, has to be in the archive with equal bytes, and no other. Prints how many there
+# are, the zooms of the header and the metadata. It reads the sets by python's sqlite3 and the archive by
+# `tools/models/pmtiles.py`.
 import json
 import os
 import sqlite3

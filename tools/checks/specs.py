@@ -1,4 +1,5 @@
-"""What the sources define: the definitions of the specs files, and the functions, types and clause labels of the sources."""
+"""What the sources define: the definitions of the specs files, and the functions, types and clause labels of the
+sources."""
 import functools
 import os
 import re
@@ -154,7 +155,8 @@ def reached(path, body, top=TOP):
 
 
 def closure(starts, top=TOP):
-    """The definitions behind some texts, each (path, text), and the modules beside the specs files of the crates that they name."""
+    """The definitions behind some texts, each (path, text), and the modules beside the specs files of the crates that
+    they name."""
     seen, others, open_ = set(), set(), []
     for path, body in starts:
         files, more = reached(path, body, top)

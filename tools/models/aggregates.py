@@ -9,7 +9,8 @@ def data(cell):
 
 
 def aggregate(algorithm, tiles):
-    """The hash of all tiles: their numbers in decimal and their bytes, by zoom, column and row counted from the bottom; in hexadecimal, but for no tiles."""
+    """The hash of all tiles: their numbers in decimal and their bytes, by zoom, column and row counted from the
+    bottom; in hexadecimal, but for no tiles."""
     joined = b''.join(b'%d%d%d%s' % (*place, data(cell)) for place, cell in sorted(tiles.items()))
     return digest('fnv1a' if algorithm == 'fnv1a-decimal' and tiles else algorithm, joined)
 

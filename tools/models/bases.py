@@ -1,5 +1,6 @@
-# What the tables of a base hold after a conversion, for tools/cases/tileset_rows.py. Whether it is refused comes from tools/models/sets.py, and what the patches make of the tables from
-# tools/models/patches.py, which was written apart from it: where one takes a chain that the other refuses, or has other tiles or names after it, this fails.
+# What the tables of a base hold after a conversion, for tools/cases/tileset_rows.py. Whether it is refused comes from
+# tools/models/sets.py, and what the patches make of the tables from tools/models/patches.py, which was written apart
+# from it: where one takes a chain that the other refuses, or has other tiles or names after it, this fails.
 from models import patches
 from models.sets import OTHER, TABLES, SetRefused, Text, converted, load
 

@@ -1,5 +1,5 @@
-# A cache of tiles: a map from places to when a tile was fetched, when it expires, its tag and its bytes or null. The store under it counts its calls, and the call of a number that is
-# listed fails.
+# A cache of tiles: a map from places to when a tile was fetched, when it expires, its tag and its bytes or null. The
+# store under it counts its calls, and the call of a number that is listed fails.
 ROUND = 64
 U64 = 2 ** 64 - 1
 

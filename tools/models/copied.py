@@ -1,4 +1,5 @@
-# What copying one set into another makes of the tables of its destination, and when it is refused, for tools/cases/copy_cases.py. The rules are worked out on rows of tables.
+# What copying one set into another makes of the tables of its destination, and when it is refused, for
+# tools/cases/copy_cases.py. The rules are worked out on rows of tables.
 import collections
 
 from models import shown
@@ -13,7 +14,8 @@ SIDE = 2 ** 30
 
 
 class Set:
-    """A store: its layout, None where nothing is described, the rows of its tables, the refusal of loading it, if there is one, and whether a table of binary differences is described too."""
+    """A store: its layout, None where nothing is described, the rows of its tables, the refusal of loading it, if
+    there is one, and whether a table of binary differences is described too."""
 
     def __init__(self, layout, pushes=(), refusal=None, differences=False):
         self.layout, self.refusal, self.differences = layout, refusal, differences
@@ -114,7 +116,8 @@ def bytes_of(cell):
 
 
 def collision(state, algorithm, put):
-    """The id of the first tile that is put, by zoom, column and row from the bottom, whose contents stand under an id of another cell, or of other contents that are put."""
+    """The id of the first tile that is put, by zoom, column and row from the bottom, whose contents stand under an id
+    of another cell, or of other contents that are put."""
     ids = {cell: digest(algorithm, bytes_of(cell)) for cell in put.values() if cell != 'n'}
     shared = collections.Counter(ids.values())
     for place in sorted(put):
@@ -170,7 +173,8 @@ def copy_refusal(copier, source, target):
 
 
 def put_into(copier, target, layout, algorithm, tiles, names, times):
-    """What is put into a destination of a layout, tiles with the times of each: the refusal; or None, and the tables of the destination are changed."""
+    """What is put into a destination of a layout, tiles with the times of each: the refusal; or None, and the tables
+    of the destination are changed."""
     is_made = target.layout is None
     state = State(layout, empty_tables(layout)) if is_made else target.state()
     mode = copier.mode or 'override'

@@ -1,4 +1,5 @@
-# What the metadata of a set says, what a document makes of it, and how its zooms are brought up to date, for tools/cases/metadata_cases.py.
+# What the metadata of a set says, what a document makes of it, and how its zooms are brought up to date, for
+# tools/cases/metadata_cases.py.
 import json
 import re
 
@@ -22,7 +23,8 @@ def has_surrogate(value):
 
 
 def parsed(text):
-    """The value of a text of JSON as a list of one, or an empty list where it isn't JSON, is nested more than 127 deep, or has a number that is held as a float."""
+    """The value of a text of JSON as a list of one, or an empty list where it isn't JSON, is nested more than 127
+    deep, or has a number that is held as a float."""
     try:
         value = json.loads(text, parse_int=shown.whole, parse_float=shown.no_float, parse_constant=shown.no_float)
     except (ValueError, shown.Float, RecursionError):
@@ -50,7 +52,8 @@ def with_zooms(layer, found):
 
 
 def said(state, file_name):
-    """What a set says of itself: the name of its file, its kind, the document, the value of `json`, and the digest of all tiles."""
+    """What a set says of itself: the name of its file, its kind, the document, the value of `json`, and the digest of
+    all tiles."""
     names = {name: text for name, text in state.names.items() if text}
     found, other, value = {name: names[name] for name in FIELDS if name in names}, {}, []
     zooms = [zoom_of(names.get(name, '')) for name in ('minzoom', 'maxzoom')]
@@ -86,7 +89,8 @@ def layer_value(layer):
 
 
 def put_by(document, template, zooms, bounds, center):
-    """The names and values that a document puts: the members of a text of JSON, and five fields, each None where it isn't there. A field wins over a member of its name."""
+    """The names and values that a document puts: the members of a text of JSON, and five fields, each None where it
+    isn't there. A field wins over a member of its name."""
     put, fields, layers = {}, {}, None
     for name, value in document.items():
         if isinstance(value, str) and name in ('name', 'version', 'description', 'attribution', 'legend'):

@@ -1,4 +1,5 @@
-# The part of an archive below a tile, by its definition: the archive that an extraction makes, its outcome, and how often it asks its source and its medium.
+# The part of an archive below a tile, by its definition: the archive that an extraction makes, its outcome, and how
+# often it asks its source and its medium.
 from models import pmtiles as pm
 
 U32, U64 = 2 ** 32, 2 ** 64
@@ -75,7 +76,8 @@ def is_met(wanted, first, end):
 
 
 def walk(source, data, h, entries, low, limit, depth, wanted):
-    """The tile entries of a directory and of the leaves below it that are met, each entry being tested before what it leads to is read."""
+    """The tile entries of a directory and of the leaves below it that are met, each entry being tested before what it
+    leads to is read."""
     last = None
     for i, e in enumerate(entries):
         end = entries[i + 1][0] if i + 1 < len(entries) else limit
@@ -104,7 +106,8 @@ def clipped(entries, wanted):
 
 
 class Run:
-    """One extraction: what the medium holds afterwards is the bytes from before, an archive that isn't shown yet (None), or a whole one."""
+    """One extraction: what the medium holds afterwards is the bytes from before, an archive that isn't shown yet
+    (None), or a whole one."""
 
     def __init__(self, data, begun, source_fails, medium_fails):
         self.data, self.begun, self.held = data, begun, begun

@@ -1,4 +1,5 @@
-# FNV-1a, XXH64 and XXH3 with seed 0 by their specifications, in plain python, and the text of a digest by the name of its algorithm.
+# FNV-1a, XXH64 and XXH3 with seed 0 by their specifications, in plain python, and the text of a digest by the name of
+# its algorithm.
 import functools
 import hashlib
 

@@ -1,4 +1,5 @@
-# The store that crates/mbtiles_rows keeps, and what its tables hold, for tools/cases/mbtiles_rows.py: how the store is made in one line, which of its calls fail, and how its rows are printed.
+# The store that crates/mbtiles_rows keeps, and what its tables hold, for tools/cases/mbtiles_rows.py: how the store
+# is made in one line, which of its calls fail, and how its rows are printed.
 import hashlib
 
 from models import shown
@@ -34,7 +35,8 @@ def summed(text):
 
 
 class Held:
-    """The kept store: its layout, the rows of its tables in the order of their keys, and how often it was asked before the next call."""
+    """The kept store: its layout, the rows of its tables in the order of their keys, and how often it was asked
+    before the next call."""
 
     def __init__(self, rows, layout, pushes, word='new'):
         self.rows, self.layout = rows, layout

@@ -1,4 +1,5 @@
-# What importing an archive makes of the tables of a set, or the first refusal, by the rules of imports, for tools/cases/import_cases.py and tools/cases/hostile_archives.py.
+# What importing an archive makes of the tables of a set, or the first refusal, by the rules of imports, for
+# tools/cases/import_cases.py and tools/cases/hostile_archives.py.
 from models import pmtiles as pm
 from models import shown
 from models.held_sets import tile_row
@@ -61,7 +62,8 @@ def coord(t):
 
 
 class Walk:
-    """The walk along the directories of an archive: the tile entries that have bytes, with their contents, and how many tiles they have."""
+    """The walk along the directories of an archive: the tile entries that have bytes, with their contents, and how
+    many tiles they have."""
 
     def __init__(self, data, header, most, reads):
         self.data, self.header, self.most, self.reads = data, header, most, reads
@@ -83,7 +85,8 @@ class Walk:
                 self.tile(*e)
 
     def tile(self, first, offset, length, run):
-        """A tile entry: one read, of its contents where nothing else is against it, and of no bytes at their end where something is, or where it has none."""
+        """A tile entry: one read, of its contents where nothing else is against it, and of no bytes at their end
+        where something is, or where it has none."""
         refusal = self.refusal(first, length, run)
         if refusal is None and length > 0:
             content = self.reads.part(self.data, self.header['data_offset'], offset, length)

@@ -22,7 +22,8 @@ def chosen(tiles, mode, batch):
 
 
 def collision(state, put):
-    """The id of the first tile by zoom, column and row from the bottom whose contents stand under an id of other contents, of another cell, or of other contents of the batch."""
+    """The id of the first tile by zoom, column and row from the bottom whose contents stand under an id of other
+    contents, of another cell, or of other contents of the batch."""
     ids = {data: digest(state.algorithm, data) for data in put.values()}
     shared = collections.Counter(ids.values())
     for place in sorted(put):

@@ -1,4 +1,5 @@
-# The script of an .mbtiles file, as bin/mbtiles-script is to print it: worked out from the rows and the metadata by the rules that stand there, by Python's sqlite3 and json.
+# The script of an .mbtiles file, as bin/mbtiles-script is to print it: worked out from the rows and the metadata by
+# the rules that stand there, by Python's sqlite3 and json.
 import json
 import sqlite3
 

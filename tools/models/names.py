@@ -1,4 +1,5 @@
-# The names of tile sets and archives that all scripts here read: tables with their columns and keys, layouts, algorithms of digests, tile types and compressions.
+# The names of tile sets and archives that all scripts here read: tables with their columns and keys, layouts,
+# algorithms of digests, tile types and compressions.
 
 PLACE = [('zoom_level', 'INTEGER'), ('tile_column', 'INTEGER'), ('tile_row', 'INTEGER')]
 DATA = ('tile_data', 'BLOB')

@@ -1,5 +1,6 @@
-# What patches make of the tables of a set, by the rules of patches, for tools/cases/set_rows.py and tools/models/bases.py.
-# tools/models/sets.py has these rules a second time, on sets that are loaded; tools/models/bases.py holds one against the other.
+# What patches make of the tables of a set, by the rules of patches, for tools/cases/set_rows.py and
+# tools/models/bases.py. tools/models/sets.py has these rules a second time, on sets that are loaded;
+# tools/models/bases.py holds one against the other.
 import functools
 from bisect import bisect_left, bisect_right
 

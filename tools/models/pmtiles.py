@@ -1,6 +1,7 @@
-# PMTiles version 3 by its definition, in plain python: ids, varints, directories, headers, and archives that are written and read.
-# The scripts beside it compute from it what the rows programs must print. Nothing here is taken from a program of this repository.
-# tools/cases/tileset_rows.py lays ids and archives out a second time, and holds each archive against the one that is made here.
+# PMTiles version 3 by its definition, in plain python: ids, varints, directories, headers, and archives that are
+# written and read. The scripts beside it compute from it what the rows programs must print. Nothing here is taken
+# from a program of this repository. tools/cases/tileset_rows.py lays ids and archives out a second time, and holds
+# each archive against the one that is made here.
 import functools
 import struct
 
@@ -106,7 +107,8 @@ def read_directory(data):
 
 
 def directory(entries):
-    """The count, and four columns: ids by their rises, runs, lengths, and offsets, of which one at the end of the last entry is 0."""
+    """The count, and four columns: ids by their rises, runs, lengths, and offsets, of which one at the end of the
+    last entry is 0."""
     ids = [0] + [e[0] for e in entries]
     ends = [None] + [e[1] + e[2] for e in entries]
     numbers = [len(entries), *(one - last for last, one in zip(ids, ids[1:])), *(e[3] for e in entries), *(e[2] for e in entries),
@@ -216,7 +218,8 @@ def archive_tile(data, t):
 
 
 def walk(data, budget, read=lambda length: None):
-    """Items of a walk along the levels: entries, or the text of a refusal as the last one. `read` is called before each read of a leaf, with its length."""
+    """Items of a walk along the levels: entries, or the text of a refusal as the last one. `read` is called before
+    each read of a leaf, with its length."""
     h, level = opened(data)
     items, spent = [], 0
     while level:
@@ -363,7 +366,8 @@ class Contents:
         self.firsts, self.others = {}, set()
 
     def calls(self, content):
-        """The calls of the medium that an add makes: a read of the first content of its digest, where that has as many bytes, and a write where the content is new."""
+        """The calls of the medium that an add makes: a read of the first content of its digest, where that has as
+        many bytes, and a write where the content is new."""
         first = self.firsts.get(xxh3(content)) if content else content
         reads = ['read'] * (first is not None and content != b'' and len(first) == len(content))
         if content == first or content in self.others:
@@ -376,7 +380,8 @@ class Contents:
 
 
 def archive(adds, metadata_text=b'{}', most=4096, **options):
-    """The bytes of the archive of adds (id, bytes) with distinct ids, of at most so many entries in a leaf, and its places."""
+    """The bytes of the archive of adds (id, bytes) with distinct ids, of at most so many entries in a leaf, and its
+    places."""
     adds = [(t, d) for t, d in adds if d]
     places, contents, data = {}, 0, b''
     parts, length = [], 0

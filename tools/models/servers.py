@@ -1,4 +1,5 @@
-# A server of tiles by the definition of its replies: what a line is answered, what is held then, and how often the archive is read.
+# A server of tiles by the definition of its replies: what a line is answered, what is held then, and how often the
+# archive is read.
 from models import hashes
 from models import pmtiles as pm
 

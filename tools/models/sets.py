@@ -1,5 +1,6 @@
-# What the tables of tile sets hold, and what patches make of them, by the rules of loading and patching, for tools/cases/tileset_rows.py.
-# tools/models/patches.py has the rules of patching a second time, on the rows of tables; tools/models/bases.py holds one against the other.
+# What the tables of tile sets hold, and what patches make of them, by the rules of loading and patching, for
+# tools/cases/tileset_rows.py. tools/models/patches.py has the rules of patching a second time, on the rows of tables;
+# tools/models/bases.py holds one against the other.
 #
 # A cell is None for null, a number, bytes, a Text, or OTHER for a value of another kind.
 from models import hashes

@@ -1,4 +1,5 @@
-# Descriptions of tables, how the layout of a set is detected of them, and the debug texts of descriptions, rows and loaded sets.
+# Descriptions of tables, how the layout of a set is detected of them, and the debug texts of descriptions, rows and
+# loaded sets.
 from models import shown
 from models.names import KEYS, LAYOUTS, NORMALIZED, PLACE, TABLES
 from models.shown import flag, option

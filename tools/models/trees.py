@@ -1,4 +1,5 @@
-# Trees of files, and what packing and unpacking make of them, for tools/cases/tree_rows.py: the rules of the paths of tiles, of the tests in their order, and of what is stored.
+# Trees of files, and what packing and unpacking make of them, for tools/cases/tree_rows.py: the rules of the paths of
+# tiles, of the tests in their order, and of what is stored.
 import re
 
 from models import shown
