@@ -6,9 +6,10 @@ use base_values::TextVal;
 use mb_store::{MemStore, TileStore};
 use pm_format::MemMedium;
 use rows_shared::{Words, number, said, say};
-use set_conversion::convert_as_said;
+use set_conversion::OptionsOfSet;
 use set_import::{import_as_said, import_status, limit_of};
 use std::alloc::Global;
+use tile_bridge::convert;
 
 // From a backend of bytes, whose calls don't fail; and the status of the answer.
 fn of_bytes<S: TileStore>(
@@ -47,7 +48,8 @@ fn of_medium<S: TileStore>(
 fn back<S: TileStore>(alloc: Global, out: &mut String, store: &mut S) -> Option<()> {
     let mut medium = MemMedium::new(alloc);
     let mut patches: Vec<MemStore> = Vec::new(alloc);
-    match convert_as_said(alloc, store, &mut patches, &[], false, false, &mut medium) {
+    let options = OptionsOfSet::new(false, false);
+    match convert(alloc, store, &mut patches, &[], &options, &mut medium) {
         Ok(_) => say_archive(alloc, out, &medium),
         Err(error) => said(out, error),
     }

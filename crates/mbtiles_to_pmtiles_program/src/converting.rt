@@ -8,9 +8,9 @@ use program_words::{
     Beside, Put, Taken, are_one_file, begin_step, put_beside, put_over, remove_beside, take_beside,
     take_over,
 };
-use set_conversion::{ConversionFlags, ConversionOutcome, convert_as_said_owned};
+use set_conversion::{ConversionFlags, ConversionOutcome, OptionsOfSet};
 use std::fs;
-use tile_bridge::ConvertReport;
+use tile_bridge::{ConvertReport, convert_owned};
 
 // Reads the base and the patches, and converts them to a medium.
 fn convert_sets(
@@ -25,15 +25,8 @@ fn convert_sets(
     let base = read_set(rt, first.as_str(), flags.strict)?;
     let patches = read_sets(rt, rest, flags.strict)?;
     let step = begin_step(rt, TOOL, "converting", first.as_str());
-    let report = convert_as_said_owned(
-        rt.alloc(),
-        base,
-        patches,
-        &[],
-        flags.force,
-        flags.verify,
-        medium,
-    )?;
+    let options = OptionsOfSet::new(flags.force, flags.verify);
+    let report = convert_owned(rt.alloc(), base, patches, &[], &options, medium)?;
     if medium.flush().is_err() {
         return Err(ConversionOutcome::MediumFault);
     }

@@ -38,7 +38,7 @@ pub fn summed<S: TileStore, P: TileStore, M: Medium>(
     ensures aggregate { IfOk result (HasAggregate (due S.tells S.told P.tells P.told base.old
         patches.old.items options.now)) }
 {
-    convert::<S, P, M>(alloc, base, patches, coords, options, medium)
+    convert::<S, P, ConvertOptions, M>(alloc, base, patches, coords, options, medium)
 }
 
 /// What a base holds after its patches.

@@ -1,18 +1,47 @@
 // The options that a set says of itself.
-ghost use Rattle.std.specs.Prelude.{IfOk};
+ghost use Rattle.std.specs.Prelude.{◌≡◌, IfOk};
+ghost use Rattle.set_conversion.specs.SaidOptions.{asked_before};
 ghost use Rattle.set_options.specs.OptionsOfSet.{AreOptionsOfSet};
 ghost use Rattle.tile_bridge.specs.Convert.{IsPlain};
 
 use base_values::OutOfMemory;
 use mb_loaded::Loaded;
+use pm_format::TileType;
 use pm_writer::PmTilesWriter;
 use set_options::options_of_set;
 use std::alloc::Global;
-use tile_bridge::ArchiveOptions;
+use std::marker::Model;
+use tile_bridge::{ArchiveOptions, ConvertOptions};
 
-/// The options that a set says of itself, those of `set_options`.
-#[derive(Clone, Copy, Debug)]
-pub struct OptionsOfSet;
+/// A conversion with the options that its set says of itself: type and label of the tiles, their zooms, bounds, center and metadata, as
+/// `set_options::SetOptions::of_set` reads them.
+#[derive(Drop)]
+pub struct OptionsOfSet {
+    asked: ConvertOptions,
+}
+
+impl Model for OptionsOfSet {
+    ghost use Rattle.tile_bridge.specs.declared.options.ConvertOptions.{ConvertOptions};
+
+    ghost Value = { ConvertOptions };
+
+    ghost view = { λ o. o.asked };
+}
+
+impl OptionsOfSet {
+    /// With `force` patches are taken without the hashes that chain them; with `verify` the stored aggregate hash of the resulting set has to be there and right.
+    pub fn new(force: bool, verify: bool) -> OptionsOfSet
+        ensures { result ≡ asked_before force verify }
+    {
+        OptionsOfSet {
+            asked: ConvertOptions {
+                force,
+                verify,
+                writer: PmTilesWriter::new(TileType::Unknown),
+            },
+        }
+    }
+}
 
 // The writer that a set says; it labels directories `None`.
 fn said_writer(alloc: Global, set: &Loaded) -> Result<PmTilesWriter, OutOfMemory>
@@ -26,9 +55,16 @@ fn said_writer(alloc: Global, set: &Loaded) -> Result<PmTilesWriter, OutOfMemory
 impl ArchiveOptions for OptionsOfSet {
     ghost use Rattle.set_options.specs.OptionsOfSet.{AreOptionsOfSet};
 
+    ghost asks = { λ o. o };
+
     ghost gives = { λ _. AreOptionsOfSet };
 
-    fn writer_for(&self, alloc: Global, set: &Loaded) -> Result<PmTilesWriter, OutOfMemory> {
-        said_writer(alloc, set)
+    fn asked(&self) -> &ConvertOptions {
+        &self.asked
+    }
+
+    fn made_for(&self, alloc: Global, set: &Loaded) -> Result<Option<PmTilesWriter>, OutOfMemory> {
+        let writer = said_writer(alloc, set)?;
+        Ok(Some(writer))
     }
 }

@@ -20,9 +20,9 @@ use Rattle.mb_tables.specs.Kind.{tile_table}
 use Rattle.mb_tables.specs.Table.{Tables}
 use Rattle.mb_tables.specs.Tiles.{Place, place_cmp, place_of}
 use Rattle.mb_tables.specs.declared.cell.Cell.{Cell}
-use Rattle.tile_bridge.specs.Base.{BaseLeaves, IsBaseAfter}
+use Rattle.tile_bridge.specs.Base.{IsBaseAfter}
 use Rattle.tile_bridge.specs.Convert.{IsConverted, SetCauses, SetLeaves}
-use Rattle.tile_bridge.specs.Given.{IsBaseOf}
+use Rattle.tile_bridge.specs.Leaves.{IsBaseOf}
 use Rattle.tile_bridge.specs.Outcome.{all_patched, at_place, outcome, tested, then}
 use Rattle.tile_bridge.specs.Patching.{AreStatesOf, AreToldBy, IsBaseWith, IsHeldFrom, IsPatched, IsStored, all_held, is_patched_at, is_patched_row}
 use Rattle.tile_bridge.specs.declared.error.ConvertError.{ConvertError}
@@ -105,17 +105,3 @@ module _ (o : ConvertOptions) (base_tells : Bool) (tells : List Bool) (told : Li
   -- the same with the state that it holds
   pub base_of : base_tells ≡ true → IsBaseOf o tells told h.state old new
   base_of t = (base_after t, refl)
-
-  -- what is said of both told contents is said of those that are told now
-  archive_now : (coords : List Coord) (r : ConvertReport) (before medium : Option (List ℕ)) → SetLeaves o.writer h.state.tiles coords (Ok r) before medium → IfSome medium (λ b. IsConverted b o.writer h.state.tiles coords r)
-  archive_now coords r before None leaves = tt
-  archive_now coords r None (Some b) leaves = absurd leaves
-  archive_now coords r (Some a) (Some b) leaves = leaves
-
-  pub base_leaves : (coords : List Coord) (r : Result ConvertReport ConvertError) (empty before medium : Option (List ℕ)) (aggregate_of : List ℕ) → SetCauses empty r → IfOk r (λ r. r.aggregate ≡ aggregate_of) → aggregate_of ≡ aggregate h.state.algorithm h.state.tiles → SetLeaves o.writer h.state.tiles coords r before medium
-      → BaseLeaves o base_tells tells told coords r medium old new
-  base_leaves coords (Ok r) empty before medium text causes is right leaves = λ t. record { after = base_after t; aggregate_is = is ∙ right; archive = archive_now coords r before medium leaves }
-  base_leaves coords (Err MediumFault) empty before medium text causes is right leaves = inr base_after
-  base_leaves coords (Err (ReadBack e)) empty before medium text causes is right leaves = inr base_after
-  base_leaves coords (Err OutOfMemory) empty before medium text causes is right leaves = inr base_after
-  base_leaves coords (Err _) empty before medium text causes is right leaves = absurd causes

@@ -4,7 +4,7 @@ pub mod ConvertLemmas
 pub mod FewAddLemmas
 pub mod FoldLemmas
 pub mod FillingLemmas
-pub mod GivenLemmas
+pub mod LeavesLemmas
 pub mod Members
 pub mod OutcomeLemmas
 pub mod PatchedRows

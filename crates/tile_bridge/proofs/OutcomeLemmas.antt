@@ -5,7 +5,6 @@ use Rattle.tile_ids.specs.Coord.{Coord}
 use Rattle.mb_loaded.specs.State.{State}
 use Rattle.pm_contents.specs.Pieces.{BothTold}
 use Rattle.pm_format.specs.Options.{Options}
-use Rattle.mb_loaded.specs.Aggregate.{aggregate}
 use Rattle.tile_bridge.specs.Convert.{ConvertCauses, ConvertLeaves, HasAggregate, IsEmpty, IsPlain, LeavesPart, SetCauses, SetLeaves, ShowsNoPart}
 use Rattle.tile_bridge.specs.Stores.{IsDue, IsStoreError, Refuses}
 use Rattle.tile_bridge.specs.declared.error.ConvertError.{ConvertError}
@@ -13,16 +12,22 @@ use Rattle.tile_bridge.specs.declared.error.ConvertError.TheVariants.{Store, Ind
 use Rattle.tile_bridge.specs.declared.report.ConvertReport.{ConvertReport}
 
 -- a fact on bytes of which each is what it was
-same_both : (P : List ℕ → List ℕ → Type 0) (old new : Option (List ℕ)) → new ≡ old → ((b : List ℕ) → P b b) → BothTold P old new
+pub same_both : (P : List ℕ → List ℕ → Type 0) (old new : Option (List ℕ)) → new ≡ old → ((b : List ℕ) → P b b) → BothTold P old new
 same_both P old new same h = subst (BothTold P old) (sym same) (itself old)
   where
     itself : (told : Option (List ℕ)) → BothTold P told told
     itself None = tt
     itself (Some b) = h b
 
+-- where nothing was told before, nothing is said of both
+pub untold : (P Q : List ℕ → List ℕ → Type 0) (old new : Option (List ℕ)) → old ≡ None → BothTold P old new → BothTold Q old new
+untold P Q None None none h = tt
+untold P Q None (Some b) none h = h
+untold P Q (Some a) new none h = absurd (cc)
+
 module _ (o : Options) (due : Option (Result State ConvertError)) where
   -- nothing was written
-  part_same : (b : List ℕ) → LeavesPart o due b b
+  pub part_same : (b : List ℕ) → LeavesPart o due b b
   part_same [] = inl refl
   part_same (byte ∷ bytes) = refl
 
@@ -36,17 +41,6 @@ module _ (o : Options) (due : Option (Result State ConvertError)) where
       by_case IndexEntryOverflow h = (empty, plain, h)
       by_case (StoreFault place) h = (empty, plain)
       by_case OutOfMemory h = tt
-      by_case _ h = absurd h
-
-  pub refused_leaves : (coords : List Coord) (e : ConvertError) (r : Result ConvertReport ConvertError) (old new : Option (List ℕ)) → new ≡ old → Refuses due e → IsErrAnd r (λ x. x ≡ e) → ConvertLeaves o due coords r old new
-  refused_leaves coords e (Ok x) old new same h is = absurd is
-  refused_leaves coords e (Err x) old new same h is = subst (λ x. ConvertLeaves o due coords (Err x) old new) (sym is) (by_case e h)
-    where
-      by_case : (e : ConvertError) → Refuses due e → ConvertLeaves o due coords (Err e) old new
-      by_case (Store place e) h = same_both (λ a b. b ≡ a) old new same (λ b. refl)
-      by_case IndexEntryOverflow h = same_both (λ a b. b ≡ a) old new same (λ b. refl)
-      by_case (StoreFault place) h = same_both (λ a b. b ≡ a) old new same (λ b. refl)
-      by_case OutOfMemory h = same_both (LeavesPart o due) old new same part_same
       by_case _ h = absurd h
 
   -- a set that is converted
@@ -76,11 +70,6 @@ module _ (o : Options) (due : Option (Result State ConvertError)) where
     parts e coords (Some a) None empty h = h
     parts e coords (Some a) (Some b) empty h = part e a b empty h
 
-    untold : (P Q : List ℕ → List ℕ → Type 0) (old new : Option (List ℕ)) → old ≡ None → BothTold P old new → BothTold Q old new
-    untold P Q None None none h = tt
-    untold P Q None (Some b) none h = h
-    untold P Q (Some a) new none h = absurd (cc)
-
     pub set_leaves : (coords : List Coord) (r : Result ConvertReport ConvertError) (old new : Option (List ℕ)) → IsEmpty old → SetCauses old r → SetLeaves o s.tiles coords r old new → ConvertLeaves o due coords r old new
     set_leaves coords (Ok r) None None empty c h = tt
     set_leaves coords (Ok r) None (Some b) empty c h = h
@@ -90,10 +79,6 @@ module _ (o : Options) (due : Option (Result State ConvertError)) where
     set_leaves coords (Err (ReadBack e)) old new empty c h = untold _ _ old new c.0 h
     set_leaves coords (Err OutOfMemory) old new empty c h = parts OutOfMemory coords old new empty h
     set_leaves coords (Err _) old new empty c h = absurd c
-
-    pub set_aggregate : (hash : List ℕ) (r : Result ConvertReport ConvertError) → hash ≡ aggregate s.algorithm s.tiles → IfOk r (λ report. report.aggregate ≡ hash) → IfOk r (HasAggregate due)
-    set_aggregate hash (Ok r) same h = (s, is, h ∙ same)
-    set_aggregate hash (Err e) same h = tt
 
 -- a store's fault, or want of memory, is no refusal of the set
 pub store_refuses : (due : Option (Result State ConvertError)) (e : ConvertError) → IsStoreError e → Refuses due e

@@ -15,8 +15,10 @@ use Rattle.pm_format.specs.Options.{Options}
 use Rattle.pm_format.specs.WellFormed.{WellFormed}
 use Rattle.pm_writer.specs.Archive.{canon}
 use Rattle.pm_writer.specs.Pieces.{IsHidden}
-use Rattle.pm_writer.specs.Places.{places_read}
+use Rattle.pm_writer.specs.Places.{places_of, places_read}
+use Rattle.pm_writer.specs.Took.{TookAll}
 use Rattle.mb_lists.specs.Places.{address}
+use Rattle.tile_bridge.specs.Adds.{AreAddsOf}
 use Rattle.tile_bridge.specs.ReadingBack.{IsReadBack}
 use Rattle.tile_bridge.specs.Stores.{IsDue, IsRefused}
 use Rattle.tile_bridge.specs.declared.error.ConvertError.{ConvertError}
@@ -42,6 +44,14 @@ pub record IsConverted (b : List ℕ) (o : Options) (tiles : TileSet) (coords : 
   pub archive : IsArchiveOf b o tiles
   pub answers : r.answers ≡ map (λ c. archive_map b (id_of c)) coords
   pub places : places_read b ≡ Some r.places
+
+-- The places of the report are those of the archive of the tiles, or over a medium that tells nothing of what the writer takes their bytes for.
+pub record HasPlaces (o : Options) (tiles : TileSet) (told : Option (List ℕ)) (r : ConvertReport) : Type 0 where
+  pub adds : List (ℕ × List ℕ)
+  pub are : AreAddsOf adds tiles
+  pub taken : List (ℕ × List ℕ)
+  pub took : TookAll told adds taken
+  pub places : r.places ≡ places_of o taken
 
 -- the medium is empty, where it tells
 abbrev pub IsEmpty : Option (List ℕ) → Type 0

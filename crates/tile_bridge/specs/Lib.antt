@@ -1,7 +1,7 @@
 pub mod Adds
 pub mod Base
 pub mod Convert
-pub mod Given
+pub mod Leaves
 pub mod Outcome
 pub mod Patching
 pub mod ReadingBack

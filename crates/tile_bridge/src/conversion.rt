@@ -4,19 +4,20 @@ ghost use Rattle.base_values.specs.Counts.{Rose};
 ghost use Rattle.byte_media.specs.Kept.{KeepsMedium};
 ghost use Rattle.mb_loaded.specs.Aggregate.{aggregate};
 ghost use Rattle.mb_store.specs.Kept.{Keeps};
-ghost use Rattle.tile_bridge.specs.Base.{BaseLeaves};
-ghost use Rattle.tile_bridge.specs.Convert.{ConvertCauses, ConvertLeaves, HasAggregate, IsEmpty, IsPlain, SetCauses, SetLeaves};
+ghost use Rattle.tile_bridge.specs.Convert.{ConvertCauses, HasPlaces, IsEmpty, IsPlain, SetCauses, SetLeaves};
+ghost use Rattle.tile_bridge.specs.Leaves.{Leaves};
 ghost use Rattle.tile_bridge.specs.Outcome.{due, overflows};
 ghost use Rattle.tile_bridge.specs.ReadingBack.{GrewFrom, answered, of_read_error};
 ghost use Rattle.tile_bridge.specs.Stores.{AreOnlyRead, RoseAt};
 ghost use Rattle.tile_bridge.specs.Writing.{of_write_error};
 
 use crate::adds::make_adds;
+use crate::options::chosen;
 use crate::patching::store_patches;
 use crate::reading_back::read_answers;
 use crate::resolving::resolve;
 use crate::writing::write_archive;
-use crate::{ConvertError, ConvertOptions, ConvertReport};
+use crate::{ArchiveOptions, ConvertError, ConvertReport};
 use base_values::TextVal;
 use mb_loaded::Loaded;
 use mb_store::TileStore;
@@ -62,6 +63,7 @@ pub(crate) fn convert_set<M: Medium>(
     ensures leaves { SetLeaves options.now set.now.state.tiles coords.now result (M.told medium.old)
         (M.told medium.new) }
     ensures aggregate { IfOk result (λ report. report.aggregate ≡ aggregate) }
+    ensures places { IfOk result (HasPlaces options.now set.now.state.tiles (M.told medium.old)) }
     ensures reads { IfOk result (λ report. GrewFrom (M.reads medium.old) (M.reads medium.new)
         (answered report.answers + 1)) }
     ensures fault { IsErrOf result ConvertError.MediumFault
@@ -84,24 +86,22 @@ pub(crate) fn convert_set<M: Medium>(
     }
 }
 
-/// Converts.
-pub fn convert<S: TileStore, P: TileStore, M: Medium>(
+/// Converts a base and its patches to an archive, and reads the tiles at the coordinates from it. The medium is asked for its length, and the label of directories is tested, as far as it is
+/// asked for; then base and patches are loaded and tested, and the options are made, where the set gives them; then the base is patched, and the archive written.
+pub fn convert<S: TileStore, P: TileStore, O: ArchiveOptions, M: Medium>(
     alloc: Global,
     base: &mut S,
     patches: &mut Vec<P>,
     coords: &[TileCoord],
-    options: &ConvertOptions,
+    options: &O,
     medium: &mut M,
 ) -> Result<ConvertReport, ConvertError>
-    ensures causes { ConvertCauses options.now.writer (due S.tells S.told P.tells P.told base.old
-        patches.old.items options.now) (M.told medium.old) result }
-    ensures leaves { ConvertLeaves options.now.writer (due S.tells S.told P.tells P.told base.old
-        patches.old.items options.now) coords.now result (M.told medium.old) (M.told medium.new) }
-    ensures aggregate { IfOk result (HasAggregate (due S.tells S.told P.tells P.told base.old
-        patches.old.items options.now)) }
-    ensures base { BaseLeaves options.now (S.tells base.old) (map P.tells patches.old.items)
-        (map P.told patches.old.items)
-        coords.now result (M.told medium.new) (S.told base.old) (S.told base.new) }
+    ensures causes { ConvertCauses (O.asks options.now).writer (due S.tells S.told P.tells P.told
+        base.old patches.old.items (O.asks options.now)) (M.told medium.old) result }
+    ensures leaves { Leaves (O.gives options.now) (due S.tells S.told P.tells P.told base.old
+        patches.old.items (O.asks options.now)) (O.asks options.now) (S.tells base.old)
+        (map P.tells patches.old.items) (map P.told patches.old.items) coords.now result
+        (M.told medium.old) (M.told medium.new) (S.told base.old) (S.told base.new) }
     ensures patches { AreOnlyRead P.tells P.told P.faults P.steady
         patches.old.items patches.new.items }
     ensures store_fault { (place : ℕ) → IsErrOf result (ConvertError.StoreFault place)
@@ -119,11 +119,13 @@ pub fn convert<S: TileStore, P: TileStore, M: Medium>(
     if length != 0 {
         return Err(ConvertError::MediumNotEmpty { length });
     }
-    let label = options.writer.directory_label();
+    let asked = options.asked();
+    let label = asked.writer.directory_label();
     if label != Compression::None {
         return Err(ConvertError::UnsupportedCompression(label));
     }
-    let (set, aggregate) = resolve(alloc, base, patches, options)?;
+    let (set, aggregate) = resolve(alloc, base, patches, asked)?;
+    let made = options.made_for(alloc, &set)?;
     store_patches(alloc, base, &set, !patches.is_empty())?;
-    convert_set(alloc, &set, aggregate, coords, &options.writer, medium)
+    convert_set(alloc, &set, aggregate, coords, chosen(asked, &made), medium)
 }

@@ -4,9 +4,6 @@
 mod adds;
 mod conversion;
 mod error;
-mod given;
-mod given_options;
-mod given_owned;
 mod loading;
 mod options;
 mod owned;
@@ -18,9 +15,6 @@ mod writing;
 
 pub use conversion::convert;
 pub use error::ConvertError;
-pub use given::convert_given;
-pub use given_options::ArchiveOptions;
-pub use given_owned::convert_given_owned;
-pub use options::ConvertOptions;
+pub use options::{ArchiveOptions, ConvertOptions};
 pub use owned::convert_owned;
 pub use report::{Answers, ConvertReport};

@@ -4,7 +4,7 @@ use crate::fields::{Fields, bytes_of};
 use mb_store::{Row, TileStore};
 use mb_tables::{Cell, TableName};
 use pm_format::{Medium, MemMedium};
-use set_conversion::convert_as_said;
+use set_conversion::OptionsOfSet;
 use std::alloc::Global;
 use std::fmt::Write;
 use tile_bridge::{ConvertError, ConvertOptions, ConvertReport, convert};
@@ -88,7 +88,7 @@ pub enum Options {
     Set,
 }
 
-/// `tile_bridge::convert` or `set_conversion::convert_as_said`, with nothing said of it.
+/// `tile_bridge::convert`, with nothing said of it.
 pub fn converted<S: TileStore, P: TileStore, M: Medium>(
     alloc: Global,
     base: &mut S,
@@ -102,15 +102,8 @@ pub fn converted<S: TileStore, P: TileStore, M: Medium>(
     match options {
         Options::Script => convert(alloc, base, patches, coords, &given, medium),
         Options::Set => {
-            convert_as_said(
-                alloc,
-                base,
-                patches,
-                coords,
-                given.force,
-                given.verify,
-                medium,
-            )
+            let said = OptionsOfSet::new(given.force, given.verify);
+            convert(alloc, base, patches, coords, &said, medium)
         }
     }
 }

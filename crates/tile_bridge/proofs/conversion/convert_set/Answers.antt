@@ -47,3 +47,8 @@ returns-in-Err-read_answers-clause-leaves g c =
     let after = g.M.Backend.told c.read_answers.new.backend in
     leaves_whole c.args.options.now adds can tiles c.args.coords.now c.of_reader.result (g.M.Backend.told c.args.medium.now) after c.in_ok-adds.ensures.are (ap is_some c.read_answers.ensures.kept.told ∙ c.write_archive.ensures.kept.tells)
     (told_same (λ b. b ≡ archive c.args.options.now adds) before after c.read_answers.ensures.kept.told (subst (λ xs. IfSome before (λ b. b ≡ archive c.args.options.now (shown tiles xs))) c.deref.ensures.value c.in-Ok.ensures.bytes))
+
+pub returns-in-Ok-read_answers-clause-places : goal.returns-in-Ok-read_answers-clause-places
+returns-in-Ok-read_answers-clause-places g c =
+    let placed = subst (λ xs. (taken : List (ℕ × List ℕ)) × TookAll (g.M.Backend.told c.args.medium.now) (shown c.args.set.now.state.tiles xs) taken × (c.in-Ok.places ≡ places_of c.args.options.now taken)) c.deref.ensures.value c.in-Ok.ensures.places in
+    record { adds = shown c.args.set.now.state.tiles c.in_ok-adds.adds.items; are = c.in_ok-adds.ensures.are; taken = placed.0; took = placed.1; places = placed.2 }

@@ -1,5 +1,6 @@
 use Rattle.std.proofs.Common.{IfOk, Some, map, subst}
 use Rattle.mb_store.specs.MemStore.{told_of}
+use Rattle.tile_bridge.proofs.LeavesLemmas.{stated_aggregate, stated_leaves}
 use Rattle.tile_bridge.specs.Convert.{ConvertCauses, ConvertLeaves, HasAggregate}
 use Rattle.tile_bridge.specs.Outcome.{outcome}
 use Rattle.tile_bridge.specs.declared.options.ConvertOptions.{ConvertOptions}
@@ -19,13 +20,13 @@ returns-clause-leaves g c =
     let old = g.M.Backend.told c.args.medium.now in
     let new = g.M.Backend.told c.convert_owned.new.medium in
     subst (λ (o : ConvertOptions). ConvertLeaves o.writer (Some (outcome (told_of c.args.base) (map told_of c.args.patches.items) o.force o.verify)) c.args.coords.now c.convert_owned.result old new) c.convert_options-options.ensures
-    (subst (λ d. ConvertLeaves o.writer d c.args.coords.now c.convert_owned.result old new) (due_told c.args.base c.args.patches.items o) c.convert_owned.ensures.leaves)
+    (subst (λ d. ConvertLeaves o.writer d c.args.coords.now c.convert_owned.result old new) (due_told c.args.base c.args.patches.items o) (stated_leaves o _ _ _ _ _ _ _ _ _ _ c.convert_owned.ensures.causes c.convert_owned.ensures.leaves))
 
 pub returns-clause-aggregate : goal.returns-clause-aggregate
 returns-clause-aggregate g c =
     let o = c.convert_options-options.result in
     subst (λ (o : ConvertOptions). IfOk c.convert_owned.result (HasAggregate (Some (outcome (told_of c.args.base) (map told_of c.args.patches.items) o.force o.verify)))) c.convert_options-options.ensures
-    (subst (λ d. IfOk c.convert_owned.result (HasAggregate d)) (due_told c.args.base c.args.patches.items o) c.convert_owned.ensures.aggregate)
+    (subst (λ d. IfOk c.convert_owned.result (HasAggregate d)) (due_told c.args.base c.args.patches.items o) (stated_aggregate o _ _ _ _ _ _ _ _ _ _ c.convert_owned.ensures.leaves))
 
 pub returns-clause-stores : goal.returns-clause-stores
 returns-clause-stores g c = no_store_fault c.convert_owned.result c.args.patches.items c.requires.patches c.convert_owned.ensures.store_fault
