@@ -1,5 +1,5 @@
 -- What a conversion leaves, and what that says where the options are its caller's, whatever the set.
-use Rattle.std.proofs.Common.{◌≡◌, ◌∙◌, ap, sym, subst, refl, inl, inr, ℕ, Bool, true, List, [], ◌∷◌, Option, Some, None, IfOk, IfSome, Result, Ok, Err}
+use Rattle.std.proofs.Common.{◌≡◌, sym, subst, refl, inl, inr, ℕ, Bool, true, List, Option, Some, None, IfOk, IfSome, Result, Ok, Err}
 use Rattle.tile_ids.specs.Coord.{Coord}
 use Rattle.mb_loaded.specs.Aggregate.{aggregate}
 use Rattle.mb_loaded.specs.State.{State}

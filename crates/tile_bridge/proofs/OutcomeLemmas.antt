@@ -1,11 +1,11 @@
 -- What a conversion answers and leaves, by what is due.
-use Rattle.std.proofs.Common.{◌≡◌, inl, inr, ℕ, List, [], ◌∷◌, Option, Some, None, IfSome, IfOk, Result, Ok, Err, IsErrAnd, refl, sym, subst, ◌∙◌, ap}
+use Rattle.std.proofs.Common.{◌≡◌, inl, inr, ℕ, List, [], ◌∷◌, Option, Some, None, IfSome, Result, Ok, Err, IsErrAnd, refl, sym, subst, ap}
 use Rattle.std.specs.Prelude.{IsOk, is_ok}
 use Rattle.tile_ids.specs.Coord.{Coord}
 use Rattle.mb_loaded.specs.State.{State}
 use Rattle.pm_contents.specs.Pieces.{BothTold}
 use Rattle.pm_format.specs.Options.{Options}
-use Rattle.tile_bridge.specs.Convert.{ConvertCauses, ConvertLeaves, HasAggregate, IsEmpty, IsPlain, LeavesPart, SetCauses, SetLeaves, ShowsNoPart}
+use Rattle.tile_bridge.specs.Convert.{ConvertCauses, ConvertLeaves, IsEmpty, IsPlain, LeavesPart, SetCauses, SetLeaves, ShowsNoPart}
 use Rattle.tile_bridge.specs.Stores.{IsDue, IsStoreError, Refuses}
 use Rattle.tile_bridge.specs.declared.error.ConvertError.{ConvertError}
 use Rattle.tile_bridge.specs.declared.error.ConvertError.TheVariants.{Store, IndexEntryOverflow, StoreFault, MediumFault, ReadBack, OutOfMemory}
