@@ -7,13 +7,14 @@ import random
 from decimal import Decimal
 
 from cases import sample_archives
-from cases.import_cases import Set, counted, hold
+from cases.import_cases import Set, counted, export, hold
 from cases.option_cases import bounds, center, center_of, in_order
 from cases.patch_cases import named
 from models import pmtiles as pm
 from models import shown
+from models.held_sets import spelled
 from models.imported import Ends, imported, of_archive
-from models.names import LEFT_OUT, TYPES, TYPE_WORDS
+from models.names import CONTENT_TABLES, LEFT_OUT, TILE_TABLES, TYPES, TYPE_WORDS
 
 WORDS = {kind: words[0] for kind, words in TYPE_WORDS.items()}
 GZIP = b'\x1f\x8b\x08'
@@ -80,6 +81,23 @@ class Made(Set):
     def __init__(self, rows):
         self.rows, self.layout, self.tables, self.asked = rows, 'flat', {'metadata': [], 'tiles': []}, 0
         rows.row('set none')
+
+
+class Bare(Set):
+    """The kept store that has the tables of a layout and no view."""
+
+    def __init__(self, rows, layout, pushes):
+        self.rows, self.layout, self.asked = rows, layout, len(pushes) + 1
+        names = ['metadata', TILE_TABLES[layout], *([CONTENT_TABLES[layout]] if layout in CONTENT_TABLES else [])]
+        self.tables = {name: [] for name in names}
+        for name, *cells in pushes:
+            self.add(name, cells)
+        rows.row(f"set tables {len(names)} {' '.join(names)} {spelled(pushes)}")
+
+
+def say_names(rows, *names):
+    """What is described."""
+    rows.row('set names', *names)
 
 
 def made(held, data, most):
@@ -176,11 +194,23 @@ def refused(rows):
     """Archives that don't open, or fail a test of an import; and the order of the refusals."""
     data = archive([(1, b'a'), (2, b'b')])
     assert run(rows, Made(rows), data, 1) == 'Err(TooManyTiles(1))'
+    say_names(rows)
     assert run(rows, Made(rows), data, 2) == 'Ok(2)'
+    say_names(rows, 'metadata', 'tiles')
     run(rows, Made(rows), archive([]), 0)
     for broken in (data[:126], data[:16384], data[:16386], data[:16387], data[:97] + b'\2' + data[98:], sample_archives.CYCLE, archive([(pm.below(31), b'a')])):
         run(rows, Made(rows), broken, 1)
     assert run(rows, Made(rows), archive([(1, b'a'), (2, b'b')], '[]'), 1) == 'Err(Archive(InvalidMetadata))'
+    say_names(rows)
+    # what the archive says comes before what the set answers, and that before the tiles; a set that is refused stays
+    for text, refusal in (('[]', 'InvalidMetadata'), (b'\xff', 'InvalidMetadataUtf8Encoding')):
+        for layout in ('flat', 'normalized', 'dedup-id'):
+            held = Set(rows, layout, named(('name', 'old')))
+            assert run(rows, held, archive([(1, b'a'), (2, b'b')], text), 1) == f'Err(Archive({refusal}))'
+    held = Set(rows, 'dedup-id', named(('name', 'old')))
+    assert run(rows, held, archive([(1, b'a'), (2, b'b')]), 1) == 'Err(Store(UnsupportedCopyOperation))'
+    collided = named(('name', 'old')) + [('images', 't' + hashlib.md5(b'a').hexdigest().upper(), 'n')]
+    assert run(rows, Set(rows, 'normalized', collided), archive([(1, b'a')], '{"name":"new"}')).startswith('Err(Store(IdCollision')
 
 
 def sets_before(rows):
@@ -195,9 +225,44 @@ def sets_before(rows):
     held.say()
 
 
+def without_views(rows):
+    """Stores that describe the tables of a layout and no view, or tables of no set: no table is made in them."""
+    data = archive([(0, b'a'), (3, b'b')], '{"name":"new","type":"overlay"}', type=2)
+    old = named(('name', 'old'), ('legend', 'old'))
+    cached = [('tile_cache', 'i1', 'i0', 'i0', 'i5', 'i9', 'ttag', 'x63'), ('tile_cache', 'i2', 'i0', 'i0', 'n', 'n', 'n', 'x64')]
+    id_of = 't' + hashlib.md5(b'c').hexdigest().upper()
+    for layout, pushes in (('cache', cached), ('normalized', [('map', 'i1', 'i0', 'i0', id_of), ('images', id_of, 'x63')]), ('flat-with-hash', []), ('flat', [])):
+        held = Bare(rows, layout, old + pushes)
+        assert run(rows, held, data) == 'Ok(2)'
+        say_names(rows, *held.tables)
+        run(rows, held, archive([(3, b'c')], '{"name":"newer"}'))
+    held = Bare(rows, 'dedup-id', old)
+    assert run(rows, held, data) == 'Err(Store(UnsupportedCopyOperation))'
+    say_names(rows, *held.tables)
+    hold(rows, data)
+    for names in (['metadata'], ['tiles'], ['images', 'metadata']):
+        rows.row(f"set tables {len(names)} {' '.join(names)} 0")
+        rows.row('made bytes 9', 'Err(Store(InvalidDataFormat))', 1)
+        say_names(rows, *names)
+
+
+def many(rows):
+    """Some thousands of tiles: the archive that is made of the set is the same again."""
+    data = archive([(t, t.to_bytes(2, 'big')) for t in range(3, 4100)], '{"name":"town"}')
+    hold(rows, data)
+    held = Made(rows)
+    assert made(held, data, 9999) == 'Ok(4097)'
+    rows.row('made bytes 9999', 'Ok(4097)', 0)
+    back(rows, data)
+    held = Set(rows, 'normalized', [])
+    assert imported(held, data, 9999) == 'Ok(4097)'
+    rows.row('import bytes 9999', 'Ok(4097)')
+    export(rows, pm.archive([(t, t.to_bytes(2, 'big')) for t in range(3, 4100)])[0])
+
+
 def faults(rows):
-    """Each call of the backend fails in turn, and then each of the store: the creation of tables, the import, and the
-    names. What was committed stands."""
+    """Each call of the backend fails in turn, and then each of the store, the last of which is the commit: the set stands
+    as it was, but for the tables where nothing was described."""
     data = archive([(1, b'hello'), (3, b'new'), (4, b'new'), (9, b'x')], '{"name":"town","a":1}', type=1)
     hold(rows, data)
     reads = 2 + counted(data)
@@ -208,15 +273,24 @@ def faults(rows):
     held = Made(rows)
     rows.row(f'made medium 9 {reads + 1}', made(held, data, 9), 0, reads)
     held.say()
-    loads = Made(rows).load_calls()
-    for call in range(1, 1 + 2 * (loads + 1) + 1):
+    # whether anything is described, the tables, and the commit
+    for call in (1, 2, 3):
         held = Made(rows)
         held.fail(call)
-        if call > 1 + loads + 1:
-            imported(held, data, 9)
-        rows.row('made medium 9 0', 'Err(Store(StoreFault))', 6, reads if call > 1 + loads else 2)
+        rows.row('made medium 9 0', 'Err(Store(StoreFault))', 6, 2 if call == 1 else reads)
         rows.row('set fail')
         held.say()
+        say_names(rows, *(['metadata', 'tiles'] if call == 3 else []))
+    # the same, the loading, and the commit
+    for layout in ('flat', 'normalized', 'cache'):
+        pushes = named(('name', 'old'), ('legend', 'old'))
+        loads = Set(rows, layout, pushes).load_calls()
+        for call in range(1, 1 + loads + 1 + 1):
+            held = Set(rows, layout, pushes)
+            held.fail(call)
+            rows.row('made medium 9 0', 'Err(Store(StoreFault))', 6, reads if call > 1 + loads else 2)
+            rows.row('set fail')
+            held.say()
 
 
 def limits(rows):
@@ -246,5 +320,5 @@ def round_trips(rows):
 
 
 def write(rows):
-    for cases in (types, texts, extents, refused, sets_before, faults, limits, round_trips):
+    for cases in (types, texts, extents, refused, sets_before, without_views, many, faults, limits, round_trips):
         cases(rows)

@@ -1,134 +1,142 @@
 -- A store that is filled from an archive, by what its calls answer.
-use Rattle.std.proofs.Common.{◌≡◌, ◌∙◌, ◌⊎◌, ◌≤◌, ◌+◌, sym, ap, subst, ℕ, Bool, true, false, List, Option, Some, None, IfSome, IsErrOf, Result, Ok, Err, inl, inr, refl, arith}
-use Rattle.std.proofs.lemmas.Bool.{false≢true, true≢false}
+use Rattle.std.proofs.Common.{◌≡◌, ◌∙◌, ◌⊎◌, ◌≤◌, ◌+◌, sym, ap, subst, ℕ, Bool, true, false, List, [], Option, Some, None, IfSome, IsErrOf, Result, Ok, Err, inl, inr, refl, arith}
+use Rattle.std.specs.Prelude.{◌↔◌, IfErr}
+use Rattle.std.proofs.lemmas.Bool.{true≢false}
 use Rattle.base_values.specs.Counts.{Rose}
-use Rattle.mb_load.specs.Begun.{IsBegun, begun}
+use Rattle.mb_edit.proofs.PutLemmas.{put_loaded, put_named, put_state}
+use Rattle.mb_edit.specs.Put.{tiles_put}
+use Rattle.mb_load.proofs.CommittedLemmas.{is_committed}
+use Rattle.mb_load.specs.Begun.{IsBegun}
+use Rattle.mb_load.specs.Committed.{IsCommitted}
+use Rattle.mb_load.specs.Committing.{MakesChanges}
+use Rattle.mb_load.specs.LoadedFrom.{IsLoadedFrom}
 use Rattle.mb_load.specs.StateOf.{state_of}
+use Rattle.mb_loaded.specs.Held.{Edited, Held, fresh}
 use Rattle.mb_loaded.specs.State.{State}
-use Rattle.mb_metadata.specs.NameEdits.{done_answer}
+use Rattle.mb_metadata.proofs.NameEditLemmas.{edits_loaded, named_still}
+use Rattle.mb_metadata.specs.Inserting.{document_edits}
+use Rattle.mb_metadata.specs.NameEdits.{held_edited, state_edited}
+use Rattle.mb_store.specs.Store.{IsSound}
 use Rattle.mb_tables.specs.Refusals as tests
-use Rattle.mb_tables.specs.Refusals.{then}
 use Rattle.mb_tables.specs.Table.{Tables}
 use Rattle.mb_tables.specs.declared.error.MbtError.{MbtError}
 use Rattle.mb_tables.specs.declared.error.MbtError.TheVariants as stores
 use Rattle.pm_format.specs.declared.error.PmtError.{PmtError}
 use Rattle.pm_format.specs.declared.error.PmtError.TheVariants as errors
 use Rattle.pm_format.specs.declared.error.ReadCause.TheVariants as causes
-use Rattle.set_import.specs.Filling.{DoesntLoad, IsAnsweredAs, IsFilledAs, IsWriteFailure}
-use Rattle.set_import.specs.Said.{SaidAnswers, SaidCauses}
-use Rattle.tile_import.specs.Import.{ImportCauses, IsAnswered, IsImported, import_due, of_store_error}
-use Rattle.tile_import.specs.Refusals.{IsRead, is_free}
+use Rattle.set_import.specs.Filling.{IsAnsweredAs, IsFilled, IsFilledSet, IsLeft, flat_made, held_filled, is_unwritten, started, state_filled}
+use Rattle.set_import.specs.Said.{IsSaidBy, SaidAnswers, SaidCauses}
+use Rattle.tile_import.proofs.AnswerLemmas.{anything}
+use Rattle.tile_import.specs.Import.{ImportCauses, IsAnswered, of_store_error}
+use Rattle.tile_import.specs.Refusals.{is_free}
+use Rattle.tile_import.specs.Storing.{IsBase, editable}
 use Rattle.tile_import.specs.declared.error.ImportError.{ImportError}
 use Rattle.tile_import.specs.declared.error.ImportError.TheVariants.{Archive, Store, OutOfMemory}
+use Rattle.tile_json.specs.declared.document.TileJson.{TileJson}
 
--- a store that can't be made
-pub made_causes : (old new : ℕ) (e : MbtError) → (e ≡ stores.StoreFault) ⊎ (e ≡ stores.OutOfMemory) → (IsErrOf {T = Unit {0}} (Err e) stores.StoreFault → Rose old new) → IsWriteFailure old new (of_store_error e)
-made_causes old new e (inl is) fault = subst (λ (x : MbtError). IsWriteFailure old new (of_store_error x)) (sym is) (fault (ap Err is))
-made_causes old new e (inr is) fault = subst (λ (x : MbtError). IsWriteFailure old new (of_store_error x)) (sym is) tt
+-- an error that a store may answer in any call
+pub either_free : (e : MbtError) → (e ≡ stores.StoreFault) ⊎ (e ≡ stores.OutOfMemory) → tests.is_free e ≡ true
+either_free e (inl is) = ap tests.is_free is
+either_free e (inr is) = ap tests.is_free is
 
--- tables that refuse to be begun with refuse to load
-begun_refused : (t : Tables) (e : MbtError) → begun done_answer t ≡ Err e → state_of t ≡ Err e
-unfolding begun
-begun_refused t e is = by (state_of t) is
-  where
-    by : (r : Result State MbtError) → then r done_answer ≡ Err e → r ≡ Err e
-    by (Err x) is = cc
-    by (Ok s) is = absurd (cc)
+pub each_free : (r : Result (Unit {0}) MbtError) → IfErr r (λ e. (e ≡ stores.StoreFault) ⊎ (e ≡ stores.OutOfMemory)) → IfErr r (λ e. tests.is_free e ≡ true)
+each_free (Ok u) h = tt
+each_free (Err e) h = either_free e h
 
--- a document that isn't put
-pub put_causes : (tells : Bool) (told : Tables) (old new : ℕ) (e : MbtError) → IsBegun done_answer tells told (Err e) → (IsErrOf {T = Unit {0}} (Err e) stores.StoreFault → Rose old new) → IsWriteFailure old new (of_store_error e) ⊎ DoesntLoad tells told (of_store_error e)
-put_causes tells told old new stores.StoreFault began fault = inl (fault refl)
-put_causes tells told old new stores.OutOfMemory began fault = inl tt
-put_causes tells told old new e began fault = inr record {
-  tables = began.tables;
-  is_told = began.is_told;
-  refusal = e;
-  owed = refl;
-  is = refl;
-  refused = begun_refused began.tables e (began.answers refl);
+pub free_of_store : (e : MbtError) → tests.is_free e ≡ true → is_unwritten (of_store_error e) ≡ true
+free_of_store stores.StoreFault free = refl
+free_of_store stores.OutOfMemory free = refl
+free_of_store e free = absurd (true≢false (sym free))
+
+unwritten_free : (e : ImportError) → is_unwritten e ≡ true → is_free e ≡ true
+unwritten_free (Store stores.StoreFault) h = refl
+unwritten_free OutOfMemory h = refl
+unwritten_free e h = absurd (true≢false (sym h))
+
+pub not_unwritten : {A : Type 0} (e : MbtError) → tests.is_free e ≡ true → is_unwritten (of_store_error e) ≡ false → A
+not_unwritten e free owed = absurd (true≢false (sym (free_of_store e free) ∙ owed))
+
+-- a set that was loaded from a store that was only read before
+pub moved_begun : (tells now : Bool) (old new : Tables) (r : Result State MbtError) → now ≡ tells → new ≡ old → IsBegun editable now (started new) r → IsBegun editable tells (started old) r
+moved_begun tells now old new r still same b = record {
+  tables = b.tables;
+  is_told = λ told. b.is_told (still ∙ told) ∙ ap started same;
+  answers = b.answers;
 }
 
-write_free : (old new : ℕ) (e : ImportError) → IsWriteFailure old new e → is_free e ≡ true
-write_free old new (Store stores.StoreFault) h = refl
-write_free old new OutOfMemory h = refl
-write_free old new e h = absurd h
+pub moved_new : (is_new : Bool) (old new : Tables) → new ≡ old → ((is_new ≡ true) ↔ (old.descriptions ≡ [])) → ((is_new ≡ true) ↔ (new.descriptions ≡ []))
+moved_new is_new old new same is = subst (λ (t : Tables). (is_new ≡ true) ↔ (t.descriptions ≡ [])) (sym same) is
 
-apart : (r : Result State MbtError) (s : State) (e : MbtError) → r ≡ Ok s → r ≡ Err e → ⊥
-apart r s e loads refuses = absurd (cc)
+-- such an error stands in the place of any answer
+pub free_answered : (most : ℕ) (told : Option (List ℕ)) (tells : Bool) (store : Tables) (e : MbtError) → tests.is_free e ≡ true → IsAnswered most told tells store (Err (of_store_error e))
+free_answered most told tells store e free =
+    let any = anything told most in
+    record {
+      tables = store;
+      is_store = λ t. refl;
+      found = any.0;
+      is_archive = any.1;
+      answers = λ owed. absurd (true≢false (sym (unwritten_free (of_store_error e) (free_of_store e free)) ∙ owed));
+    }
 
--- an import into tables that load no more afterwards is one of tables that aren't told
-not_again : (told : Option (List ℕ)) (most : ℕ) (tells : Bool) (old new : Tables) (n : ℕ) (e : ImportError) → IsAnswered most told tells old (Ok n) → (tells ≡ true → IsImported told old new n) → DoesntLoad tells new e → IsAnswered most told tells old (Err e)
-not_again told most true old new n e answered imported unloaded =
-    absurd (apart (state_of new) _ unloaded.refusal (imported refl).rows.again (ap state_of (sym (unloaded.is_told refl)) ∙ unloaded.refused))
-not_again told most false old new n e answered imported unloaded = record {
-  tables = unloaded.tables;
-  is_store = λ t. absurd (false≢true t);
-  found = answered.found;
-  is_archive = answered.is_archive;
-  answers = λ free. ap (λ r. import_due r answered.found) unloaded.refused ∙ ap Err (sym unloaded.is);
-}
+-- why a call of a store is refused
+store_causes : (most before now old new : ℕ) (e : MbtError) → (IsErrOf {T = Unit {0}} (Err e) stores.StoreFault → Rose old new) → ImportCauses most before now old new (Err (of_store_error e))
+store_causes most before now old new stores.StoreFault fault = fault refl
+store_causes most before now old new stores.OutOfMemory fault = tt
+store_causes most before now old new e fault = tt
 
-pub unput : (told : Option (List ℕ)) (most : ℕ) (tells : Bool) (old new : Tables) (n before now : ℕ) (e : ImportError) → IsAnswered most told tells old (Ok n) → (tells ≡ true → IsImported told old new n) → IsWriteFailure before now e ⊎ DoesntLoad tells new e → IsFilledAs most told tells old (Err e)
-unput told most tells old new n before now e answered imported (inl failed) = inl (write_free before now e failed)
-unput told most tells old new n before now e answered imported (inr unloaded) = inr (not_again told most tells old new n e answered imported unloaded)
+-- the same where other calls of the store came before
+pub later_causes : (most before now f m new : ℕ) (e : MbtError) → f ≤ m → (IsErrOf {T = Unit {0}} (Err e) stores.StoreFault → Rose m new) → ImportCauses most before now f new (Err (of_store_error e))
+later_causes most before now f m new e le fault = store_causes most before now f new e (λ is. let rose = fault is in omega (arith, le, rose))
 
--- causes, over calls before
-rose_before : (f m now : ℕ) → f ≤ m → Rose m now → Rose f now
-rose_before f m now le rose = omega (arith, le, rose)
+-- a set with tiles and names over it is loaded from tables still, and its commit fills them
+module _ (told : Option (List ℕ)) (t : TileJson) (made new : Tables) (n : ℕ) (base next : Held) (begun : IsBase made base) (filled : IsFilledSet told t base next n) where
+  as_fresh : base ≡ fresh base.state
+  as_fresh = ap (λ (e : Edited). record { state = base.state; edited = e }) begun.clean
 
-write_causes : (most before now f m new : ℕ) (e : ImportError) → f ≤ m → IsWriteFailure m new e → ImportCauses most before now f new (Err e)
-write_causes most before now f m new (Store stores.StoreFault) le c = rose_before f m new le c
-write_causes most before now f m new OutOfMemory le c = tt
-write_causes most before now f m new e le c = absurd c
+  is_next : next ≡ held_filled base.state filled.put.tiles t
+  is_next = filled.named ∙ ap (λ (h : Held). held_edited h (document_edits t)) (filled.put.is ∙ ap (λ (h : Held). tiles_put h filled.put.tiles) as_fresh)
 
-refusal_causes : (most before now f new : ℕ) (e : MbtError) → tests.is_free e ≡ false → ImportCauses most before now f new (Err (Store e))
-refusal_causes most before now f new stores.StoreFault owed = absurd (true≢false owed)
-refusal_causes most before now f new stores.OutOfMemory owed = absurd (true≢false owed)
-refusal_causes most before now f new e owed = tt
+  from : IsLoadedFrom made (held_filled base.state filled.put.tiles t)
+  from = edits_loaded made (tiles_put (fresh base.state) filled.put.tiles) (document_edits t) (put_loaded made (fresh base.state) filled.put.tiles filled.put.may filled.put.on_board (subst (IsLoadedFrom made) as_fresh begun.loaded))
 
-pub unput_causes : (most before now f m new : ℕ) (tells : Bool) (told : Tables) (e : ImportError) → f ≤ m → IsWriteFailure m new e ⊎ DoesntLoad tells told e → ImportCauses most before now f new (Err e)
-unput_causes most before now f m new tells told e le (inl failed) = write_causes most before now f m new e le failed
-unput_causes most before now f m new tells told e le (inr unloaded) = subst (λ (x : ImportError). ImportCauses most before now f new (Err x)) (sym unloaded.is) (refusal_causes most before now f new unloaded.refusal unloaded.owed)
+  is_state : (held_filled base.state filled.put.tiles t).state ≡ state_filled base.state filled.put.tiles t
+  is_state = ap (λ (s : State). state_edited s (document_edits t)) (put_state (fresh base.state) filled.put.tiles)
 
-pub unmade_causes : (most before now f new : ℕ) (e : ImportError) → IsWriteFailure f new e → ImportCauses most before now f new (Err e)
-unmade_causes most before now f new (Store stores.StoreFault) c = c
-unmade_causes most before now f new OutOfMemory c = tt
-unmade_causes most before now f new e c = absurd c
+  pub are_filled : state_of made ≡ Ok base.state → IsSound new → MakesChanges next made new → IsFilled told t made new n
+  are_filled loaded sound done =
+      let commits : MakesChanges (held_filled base.state filled.put.tiles t) made new = subst (λ (h : Held). MakesChanges h made new) is_next done in
+      let rows : IsCommitted (held_filled base.state filled.put.tiles t) made new = is_committed (held_filled base.state filled.put.tiles t) made new commits.changes from commits.are commits.made sound in
+      record {
+        tiles = filled.put.tiles;
+        are = filled.put.are;
+        count = filled.put.count;
+        base = base.state;
+        loaded = loaded;
+        rows = rows;
+        commits = commits;
+        again = λ free. rows.again (named_still (tiles_put (fresh base.state) filled.put.tiles).state (document_edits t) free (put_named (fresh base.state) filled.put.tiles begun.named)) ∙ ap Ok is_state;
+      }
 
--- an import that ends with fewer faults counted at the start
-store_from : (most before now f m new : ℕ) (e : MbtError) → f ≤ m → ImportCauses most before now m new (Err (Store e)) → ImportCauses most before now f new (Err (Store e))
-store_from most before now f m new stores.StoreFault le c = rose_before f m new le c
-store_from most before now f m new e le c = c
+-- what a commit that is refused leaves
+pub are_left : (old mid new : Tables) (e : MbtError) → mid ≡ old → tests.is_free e ≡ true → (new ≡ mid) ⊎ ((mid.descriptions ≡ []) × (new ≡ flat_made mid)) → IsLeft old new (of_store_error e)
+are_left old mid new e same free (inl is) = inl (is ∙ same)
+are_left old mid new e same free (inr is) = inr (ap (λ (t : Tables). t.descriptions) (sym same) ∙ is.0, is.1 ∙ ap flat_made same, free_of_store e free)
 
--- the same where the store was asked before
-pub later_store : (most before now f m new : ℕ) (r : Result ℕ ImportError) → f ≤ m → ImportCauses most before now m new r → ImportCauses most before now f new r
-later_store most before now f m new (Ok n) le c = c
-later_store most before now f m new (Err (Store e)) le c = store_from most before now f m new e le c
-later_store most before now f m new (Err e) le c = c
-
+-- an archive that can't be read, or what it says of itself
 unsaid_answer : (told : Option (List ℕ)) (most : ℕ) (tells : Bool) (store : Tables) (e : PmtError) → IfSome told (λ b. SaidAnswers b (Err (Archive e))) → IsAnsweredAs most told tells store (Err (Archive e))
-unsaid_answer told most tells store (errors.Reading causes.Fault) h = inr (inl refl)
-unsaid_answer told most tells store (errors.Reading causes.PastEnd) h = inl h
-unsaid_answer told most tells store e h = inl h
+unsaid_answer told most tells store (errors.Reading causes.Fault) h = inl refl
+unsaid_answer told most tells store (errors.Reading causes.PastEnd) h = inr record { said = Err (errors.Reading causes.PastEnd); is_said = h; due = λ owed. refl }
+unsaid_answer told most tells store e h = inr record { said = Err e; is_said = h; due = λ owed. refl }
 
 pub unread : (told : Option (List ℕ)) (most : ℕ) (tells : Bool) (store : Tables) (before now : ℕ) (e : ImportError) → IfSome told (λ b. SaidAnswers b (Err e)) → SaidCauses before now e → IsAnsweredAs most told tells store (Err e)
 unread told most tells store before now (Archive e) h c = unsaid_answer told most tells store e h
-unread told most tells store before now OutOfMemory h c = inr (inl refl)
+unread told most tells store before now OutOfMemory h c = inl refl
 unread told most tells store before now e h c = absurd c
 
--- tables that were made
-pub answered_made : (told other : Option (List ℕ)) (most : ℕ) (tells now : Bool) (store made : Tables) (r : Result ℕ ImportError) → other ≡ told → now ≡ tells → (tells ≡ true → store ≡ made) → IsFilledAs most other now store r → IsFilledAs most told tells made r
-answered_made told other most tells now store made r same still is (inl free) = inl free
-answered_made told other most tells now store made r same still is (inr a) = inr record {
-  tables = a.tables;
-  is_store = λ t. a.is_store (still ∙ t) ∙ is t;
-  found = a.found;
-  is_archive = subst (λ (o : Option (List ℕ)). IfSome o (λ b. IsRead most b a.found)) same a.is_archive;
-  answers = a.answers;
-}
-
-pub unmade : (told : Option (List ℕ)) (most : ℕ) (tells : Bool) (made : Tables) (old new : ℕ) (e : ImportError) → IsWriteFailure old new e → IsFilledAs most told tells made (Err e)
-unmade told most tells made old new e failed = inl (write_free old new e failed)
+-- or else the import
+pub filled_answer : (told other : Option (List ℕ)) (most : ℕ) (tells : Bool) (store : Tables) (t : TileJson) (r : Result ℕ ImportError) → other ≡ told → IfSome told (λ b. IsSaidBy b t) → IsAnswered most other tells (started store) r → IsAnsweredAs most told tells store r
+filled_answer told other most tells store t r same said a = inr record { said = Ok t; is_said = said; due = subst (λ (o : Option (List ℕ)). IsAnswered most o tells (started store) r) same a }
 
 -- reads before a call
 pub reads_more : (told other : Option (List ℕ)) (f : List ℕ → ℕ) (before m now : ℕ) → other ≡ told → m ≤ before + 2 → IfSome other (λ b. now ≤ m + f b) → IfSome told (λ b. now ≤ before + (2 + f b))

@@ -1,10 +1,11 @@
 -- A set that is made of an archive where nothing was described.
-use Rattle.std.proofs.Common.{◌≡◌, ◌∙◌, ap, sym, subst, ℕ, List, [], true, false, Option, Some, None, Ok, is_some, refl, arith}
-use Rattle.std.specs.Prelude.{AllPairs, codes, option_and_then, option_map}
+use Rattle.std.proofs.Common.{◌≡◌, ◌∙◌, ◌⊎◌, inl, inr, ap, sym, subst, ℕ, Bool, List, [], ◌∷◌, true, false, Option, Some, None, Result, Ok, Err, is_some, length, refl, arith}
+use Rattle.std.specs.Prelude.{AllPairs, IfOk, OnOk, codes, option_and_then, option_map}
 use Rattle.std.specs.FinMap.{empty, get, get-empty}
 use Rattle.std.specs.Ordering.{nat_cmp}
 use Rattle.std.specs.Cmp.Lexicographic.{slice_cmp}
 use Rattle.std.proofs.lemmas.Bool.{false≢true}
+use Rattle.std.proofs.lemmas.List.Elements.{All-nil}
 use Rattle.set_options.proofs.NameLemmas.{algorithm_unsaid}
 use Rattle.set_options.specs.Document.{IsDocumentOf}
 use Rattle.mb_constraints.specs.Algorithm.{algorithm_by, unknown_name}
@@ -14,31 +15,38 @@ use Rattle.mb_edit.specs.Patched.{patched, patched_at}
 use Rattle.mb_edit.specs.Put.{state_put}
 use Rattle.mb_load.proofs.EmptyLemmas.{from_empty}
 use Rattle.mb_load.proofs.StateAgain.{state_again}
+use Rattle.mb_load.specs.Begun.{IsBegun, begun}
 use Rattle.mb_load.specs.EmptyTables.{AreEmpty}
 use Rattle.mb_loaded.specs.Empty.{empty_state}
+use Rattle.mb_loaded.specs.Held.{Held, fresh}
 use Rattle.mb_load.specs.LoadedFrom.{NamesAlgorithm}
 use Rattle.mb_load.specs.StateOf.{state_of}
 use Rattle.mb_loaded.specs.State.{State}
-use Rattle.mb_metadata.proofs.ReadBackLemmas.{insert_loads}
+use Rattle.mb_metadata.proofs.ReadBackLemmas.{algorithm_unnamed}
 use Rattle.mb_metadata.proofs.UpdateLemmas.{ok_same}
 use Rattle.mb_metadata.specs.Inserting.{document_edits}
-use Rattle.mb_metadata.specs.NameEdits.{names_edited, state_edited}
+use Rattle.mb_metadata.specs.NameEdits.{names_edited}
+use Rattle.mb_store.specs.Store as stores
 use Rattle.mb_store.specs.Store.{IsSound, with_tables}
 use Rattle.mb_tables.specs.Described.{is_table, names_apart}
 use Rattle.mb_tables.specs.Detection.{layout_of, patch_type_of}
 use Rattle.mb_tables.specs.Key.{clash}
+use Rattle.mb_tables.specs.Refusals.{then}
 use Rattle.mb_tables.specs.Schema.{set_tables}
-use Rattle.mb_tables.specs.Table.{Tables}
+use Rattle.mb_tables.specs.Table.{Tables, width}
 use Rattle.mb_tables.specs.Tiles.{Place, TileSet, place_cmp}
+use Rattle.mb_tables.specs.declared.description.TableDesc.{TableDesc}
+use Rattle.mb_tables.specs.declared.error.MbtError.{MbtError}
 use Rattle.mb_tables.specs.declared.kind.MbtType.TheVariants.{Flat}
 use Rattle.mb_tables.specs.declared.table.TableName.{TableName}
 use Rattle.mb_tables.specs.declared.table.TableName.TheVariants.{Metadata, Tiles}
 use Rattle.pm_format.specs.LookUp.{archive_map}
-use Rattle.set_import.specs.Filling.{IsMade, flat_made}
+use Rattle.set_import.specs.Filling.{IsMade, flat_made, started, started_by, state_filled}
 use Rattle.set_import.specs.NewSet.{IsNewSet}
 use Rattle.set_import.specs.Said.{IsSaidBy}
 use Rattle.mb_lists.specs.Places.{address}
 use Rattle.tile_hash.specs.declared.algorithm.HashAlgorithm.TheVariants.{Md5}
+use Rattle.tile_import.specs.Storing.{IsBase, editable}
 use Rattle.tile_import.specs.Tiles.{HasTilesOf}
 use Rattle.tile_json.specs.declared.document.TileJson.{TileJson}
 
@@ -108,16 +116,87 @@ said_algorithm b t said =
     let of : IsDocumentOf said.opened_as.0 said.says.0 t = said.says.3 in
     algorithm_unsaid said.opened_as.0 of.0 t of.2
 
+-- tables that describe nothing are started with those of a flat set
+pub started_new : (t : Tables) → t.descriptions ≡ [] → started t ≡ flat_made t
+started_new t none = ap (started_by t) none
+
+-- an empty flat set is what a new store is loaded as
+pub base_new : (t : Tables) → IsSound t → t.descriptions ≡ [] → IsBase (started t) (fresh (empty_state Flat Md5))
+base_new t sound none = subst (λ (x : Tables). IsBase x (fresh (empty_state Flat Md5))) (sym (started_new t none)) record {
+  loaded = from_empty (flat_made t) Flat Md5 (made_empty t sound none);
+  clean = refl;
+  named = none_named;
+}
+
+nothing : Tables
+nothing = stores.no_rows []
+
+nothing_sound : IsSound nothing
+nothing_sound = record {
+  names = refl;
+  described = λ table h. refl;
+  keys = λ table h. none_clash table;
+  widths = λ table. All-nil (λ row. length row ≡ width table);
+  counts = λ table. omega arith;
+}
+
+begun_empty : (t : Tables) → IsSound t → t.descriptions ≡ [] → begun editable (flat_made t) ≡ Ok (empty_state Flat Md5)
+unfolding begun
+begun_empty t sound none = ap (λ (r : Result State MbtError). then r editable) (made_loads t sound none)
+
+pub begun_new : (tells : Bool) (t : Tables) → (tells ≡ true → IsSound t) → (tells ≡ true → t.descriptions ≡ []) → IsBegun editable tells (started t) (Ok (empty_state Flat Md5))
+begun_new true t sound none = record {
+  tables = started t;
+  is_told = λ told. refl;
+  answers = ap (begun editable) (started_new t (none refl)) ∙ begun_empty t (sound refl) (none refl);
+}
+begun_new false t sound none = record {
+  tables = flat_made nothing;
+  is_told = λ told. absurd (false≢true told);
+  answers = begun_empty nothing nothing_sound refl;
+}
+
+-- other tables are started as they are
+pub started_old : (t : Tables) → (t.descriptions ≡ [] → ⊥) → started t ≡ t
+started_old t some = by t.descriptions some
+  where
+    by : (ds : List TableDesc) → (ds ≡ [] → ⊥) → started_by t ds ≡ t
+    by [] some = absurd (some refl)
+    by (d ∷ ds) some = refl
+
+pub begun_old : (tells : Bool) (t : Tables) (r : Result State MbtError) → (tells ≡ true → t.descriptions ≡ [] → ⊥) → IsBegun editable tells t r → IsBegun editable tells (started t) r
+begun_old tells t r some began = record {
+  tables = began.tables;
+  is_told = λ told. began.is_told told ∙ sym (started_old t (some told));
+  answers = began.answers;
+}
+
+pub base_old : (t : Tables) (r : Result Held MbtError) → (t.descriptions ≡ [] → ⊥) → IfOk r (IsBase t) → IfOk r (IsBase (started t))
+base_old t (Ok h) some base = subst (λ (x : Tables). IsBase x h) (sym (started_old t some)) base
+base_old t (Err e) some base = tt
+
+pub made_by : (t new : Tables) (r : Result (Unit {0}) MbtError) → t.descriptions ≡ [] → OnOk r (new ≡ flat_made t) → OnOk r (new ≡ started t)
+made_by t new (Ok u) none is = is ∙ sym (started_new t none)
+made_by t new (Err e) none is = tt
+
+-- what a commit that is refused leaves of tables that were started
+pub left_by : (old mid new : Tables) → mid ≡ started old → new ≡ mid → (new ≡ old) ⊎ ((old.descriptions ≡ []) × (new ≡ flat_made old))
+left_by old mid new made kept = by old.descriptions refl
+  where
+    by : (ds : List TableDesc) → old.descriptions ≡ ds → (new ≡ old) ⊎ ((old.descriptions ≡ []) × (new ≡ flat_made old))
+    by [] is = inr (is, kept ∙ (made ∙ started_new old is))
+    by (d ∷ ds) is = inl (kept ∙ (made ∙ ap (started_by old) is))
+
 pub new_set : (b : List ℕ) (old new : Tables) (n : ℕ) → IsSound old → old.descriptions ≡ [] → IsMade (Some b) old new n → IsNewSet b new
 new_set b old new n sound none made =
-    let is = made.filled.imported in
-    let fresh : is.base ≡ empty_state Flat Md5 = ok_same is.base (empty_state Flat Md5) (sym is.loaded ∙ made_loads old sound none) in
+    let is = made.filled in
+    let as_empty : is.base ≡ empty_state Flat Md5 = ok_same is.base (empty_state Flat Md5) (sym is.loaded ∙ (ap state_of (started_new old none) ∙ made_loads old sound none)) in
     record {
-      state = state_edited (state_put is.base is.tiles) (document_edits made.document);
-      loads = insert_loads made.document made.filled.between new (state_put is.base is.tiles) is.rows.again made.filled.named (said_algorithm b made.document made.said);
-      flat = ap (λ (s : State). s.layout) fresh;
-      tiles = has_tiles b is.base.tiles is.tiles (ap (λ (s : State). s.tiles) fresh) is.are;
+      state = state_filled is.base is.tiles made.document;
+      loads = is.again (algorithm_unnamed made.document (said_algorithm b made.document made.said));
+      flat = ap (λ (s : State). s.layout) as_empty;
+      tiles = has_tiles b is.base.tiles is.tiles (ap (λ (s : State). s.tiles) as_empty) is.are;
       document = made.document;
       said = made.said;
-      names = ap (λ (s : State). names_edited s.metadata (document_edits made.document)) fresh;
+      names = ap (λ (s : State). names_edited s.metadata (document_edits made.document)) as_empty;
     }

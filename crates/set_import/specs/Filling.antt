@@ -1,20 +1,31 @@
--- What becomes of a store that is filled from an archive: its tables are made, tiles are imported, and a document is put into its metadata.
-use Rattle.std.specs.Prelude.{◌≡◌, ◌⊎◌, ℕ, Bool, true, false, List, Option, IfSome, Result, Ok, Err}
-use Rattle.base_values.specs.Counts.{Rose}
+-- What becomes of a store that is filled from an archive: in one commit tiles are put over those of its set and a
+-- document into its metadata; the tables of a flat set are made before
+-- it where nothing is described.
+use Rattle.std.specs.Prelude.{◌≡◌, ◌⊎◌, ℕ, codes, Bool, true, false, List, [], ◌∷◌, Option, Some, IfSome, Result, Ok, Err}
+use Rattle.std.specs.FinMap.{len}
+use Rattle.mb_edit.specs.Put.{state_put, tiles_put}
+use Rattle.mb_load.specs.Committed.{IsCommitted}
+use Rattle.mb_load.specs.Committing.{MakesChanges}
 use Rattle.mb_load.specs.StateOf.{state_of}
-use Rattle.mb_metadata.specs.Inserting.{insert_edits}
-use Rattle.mb_metadata.specs.NameEdits.{EditsNames}
+use Rattle.mb_loaded.specs.Held.{Held, fresh}
+use Rattle.mb_loaded.specs.State.{State}
+use Rattle.mb_metadata.specs.Inserting.{document_edits}
+use Rattle.mb_metadata.specs.NameEdits.{held_edited, is_edited, state_edited}
 use Rattle.mb_store.specs.Store.{created}
-use Rattle.mb_tables.specs.Refusals as tests
 use Rattle.mb_tables.specs.Schema.{set_tables}
 use Rattle.mb_tables.specs.Table.{Tables}
-use Rattle.mb_tables.specs.declared.error.MbtError.{MbtError}
+use Rattle.mb_tables.specs.Tiles.{TileSet}
+use Rattle.mb_tables.specs.declared.cell.Cell.TheVariants.{Text}
+use Rattle.mb_tables.specs.declared.description.TableDesc.{TableDesc}
 use Rattle.mb_tables.specs.declared.error.MbtError.TheVariants as stores
 use Rattle.mb_tables.specs.declared.kind.MbtType.TheVariants.{Flat}
-use Rattle.set_import.specs.Said.{IsSaidBy, IsUnsaid}
+use Rattle.pm_format.specs.declared.error.PmtError.{PmtError}
 use Rattle.pm_format.specs.declared.error.PmtError.TheVariants as errors
-use Rattle.tile_import.specs.Import.{ImportCauses, IsAnswered, IsImported}
+use Rattle.set_import.specs.Said.{IsSaidAs, IsSaidBy}
+use Rattle.tile_import.specs.Import.{Answers, ImportCauses, IsAnswered}
+use Rattle.tile_import.specs.PutOver.{IsPutOver}
 use Rattle.tile_import.specs.Refusals.{is_free}
+use Rattle.tile_import.specs.Tiles.{HasTilesOf}
 use Rattle.tile_import.specs.declared.error.ImportError.{ImportError}
 use Rattle.tile_import.specs.declared.error.ImportError.TheVariants.{Archive, Store, OutOfMemory}
 use Rattle.tile_json.specs.declared.document.TileJson.{TileJson}
@@ -23,62 +34,84 @@ use Rattle.tile_json.specs.declared.document.TileJson.{TileJson}
 abbrev pub flat_made : Tables → Tables
 flat_made t = created t (set_tables Flat)
 
--- Tables that took the tiles of an archive, as many as were answered, and then a document into their metadata.
-pub record IsFilled (told : Option (List ℕ)) (t : TileJson) (made new : Tables) (n : ℕ) : Type 0 where
-  pub between : Tables
-  pub imported : IsImported told made between n
-  pub named : EditsNames (insert_edits t) between new
+-- the tables into which an archive goes: these, and where they describe nothing, with those of a flat set
+abbrev pub started_by : Tables → List TableDesc → Tables
+started_by t [] = flat_made t
+started_by t (d ∷ ds) = t
 
--- the same of tables that are made first, with the document that the archive says
+abbrev pub started : Tables → Tables
+started t = started_by t t.descriptions
+
+-- a loaded set with as many tiles as are answered over its own, and with what a document says in its metadata
+pub record IsFilledSet (told : Option (List ℕ)) (t : TileJson) (base next : Held) (n : ℕ) : Type 0 where
+  pub between : Held
+  pub put : IsPutOver told base between n
+  pub named : next ≡ held_edited between (document_edits t)
+
+-- a set as it was loaded, with tiles over its own and what a document says in its metadata; and its state
+abbrev pub held_filled : State → TileSet → TileJson → Held
+held_filled s tiles t = held_edited (tiles_put (fresh s) tiles) (document_edits t)
+
+abbrev pub state_filled : State → TileSet → TileJson → State
+state_filled s tiles t = state_edited (state_put s tiles) (document_edits t)
+
+-- Tables that held a set, and took in one commit as many tiles as were answered, those of the archive where it tells
+-- its bytes, and a document into the metadata.
+pub record IsFilled (told : Option (List ℕ)) (t : TileJson) (made new : Tables) (n : ℕ) : Type 0 where
+  pub tiles : TileSet
+  pub are : IfSome told (λ b. HasTilesOf b tiles)
+  pub count : n ≡ len tiles
+  pub base : State
+  pub loaded : state_of made ≡ Ok base
+  -- under each key that was put stands its row, with the digest of its bytes where the layout has one; all other rows
+  -- and the descriptions are as before
+  pub rows : IsCommitted (held_filled base tiles t) made new
+  -- one commit made of them exactly what the set with both asks for, also of rows without a place or a name
+  pub commits : MakesChanges (held_filled base tiles t) made new
+  -- they load again, as the set with both, where the document doesn't name the algorithm
+  pub again : is_edited (document_edits t) (Text (codes "hash_algorithm")) ≡ false → state_of new ≡ Ok (state_filled base tiles t)
+
+-- the same of the tables as they are started, with the document that the archive says
 pub record IsMade (told : Option (List ℕ)) (old new : Tables) (n : ℕ) : Type 0 where
   pub document : TileJson
   pub said : IfSome told (λ b. IsSaidBy b document)
-  pub filled : IsFilled told document (flat_made old) new n
+  pub filled : IsFilled told document (started old) new n
 
--- what a refusal leaves of tables that are filled: these tables, or these with the tiles
-abbrev pub IsHalfFilled : Option (List ℕ) → Tables → Tables → Type 0
-IsHalfFilled told made new = (new ≡ made) ⊎ ((n : ℕ) × IsImported told made new n)
+-- want of memory, or a fault of the store: the store can't be written
+abbrev pub is_unwritten : ImportError → Bool
+is_unwritten (Store stores.StoreFault) = true
+is_unwritten OutOfMemory = true
+is_unwritten e = false
 
--- the same of tables that are made first: as they were, or made, or made with the tiles
-abbrev pub IsLeft : Option (List ℕ) → Tables → Tables → Type 0
-IsLeft told old new = (new ≡ old) ⊎ IsHalfFilled told (flat_made old) new
+-- what a refusal leaves: the tables as they were; or, where they described nothing, those of a flat set without rows,
+-- if the store didn't take the commit itself
+abbrev pub IsLeft : Tables → Tables → ImportError → Type 0
+IsLeft old new e = (new ≡ old) ⊎ ((old.descriptions ≡ []) × (new ≡ flat_made old) × (is_unwritten e ≡ true))
+
+-- The answer that is due, in order: the refusal of what the archive says of itself, or else that of the import into
+-- tables.
+abbrev pub IsDue : Result TileJson PmtError → ℕ → Option (List ℕ) → Bool → Tables → Result ℕ ImportError → Type 0
+IsDue (Err e) most told tells made answer = Answers (Err (Archive e)) answer
+IsDue (Ok t) most told tells made answer = IsAnswered most told tells made answer
+
+-- It is that of the tables and the bytes that are told; of a store or a backend that tells nothing, that of some
+-- tables, or of something that an archive may say and give.
+pub record IsOwed (most : ℕ) (told : Option (List ℕ)) (tells : Bool) (store : Tables) (answer : Result ℕ ImportError) : Type 0 where
+  pub said : Result TileJson PmtError
+  pub is_said : IfSome told (λ b. IsSaidAs b said)
+  pub due : IsDue said most told tells (started store) answer
 
 -- want of memory, or a fault of the archive or the store
 abbrev pub IsFree : Result ℕ ImportError → Type 0
 IsFree (Ok n) = ⊥
 IsFree (Err e) = is_free e ≡ true
 
--- the answer is that of an import into tables, unless it is free
-abbrev pub IsFilledAs : ℕ → Option (List ℕ) → Bool → Tables → Result ℕ ImportError → Type 0
-IsFilledAs most told tells made answer = IsFree answer ⊎ IsAnswered most told tells made answer
-
--- the archive doesn't open, or what it says of itself can't be read
-abbrev pub IsUnread : Option (List ℕ) → Result ℕ ImportError → Type 0
-IsUnread told (Ok n) = ⊥
-IsUnread told (Err (Archive e)) = IfSome told (λ b. IsUnsaid b e)
-IsUnread told (Err _) = ⊥
-
--- the answer is this refusal, and else that of the import into the tables as they are made
+-- the answer is the one that is due, unless it is free
 abbrev pub IsAnsweredAs : ℕ → Option (List ℕ) → Bool → Tables → Result ℕ ImportError → Type 0
-IsAnsweredAs most told tells store answer = IsUnread told answer ⊎ IsFilledAs most told tells (flat_made store) answer
+IsAnsweredAs most told tells store answer = IsFree answer ⊎ IsOwed most told tells store answer
 
 -- why: metadata that isn't UTF-8 or no object of JSON, or as an import
 abbrev pub MadeCauses : ℕ → ℕ → ℕ → ℕ → ℕ → Result ℕ ImportError → Type 0
 MadeCauses most before now old new (Err (Archive errors.InvalidMetadata)) = Unit {0}
 MadeCauses most before now old new (Err (Archive errors.InvalidMetadataUtf8Encoding)) = Unit {0}
 MadeCauses most before now old new r = ImportCauses most before now old new r
-
--- a store that can't be written: it failed, or memory was wanting
-abbrev pub IsWriteFailure : ℕ → ℕ → ImportError → Type 0
-IsWriteFailure old new (Store stores.StoreFault) = Rose old new
-IsWriteFailure old new OutOfMemory = Unit {0}
-IsWriteFailure old new _ = ⊥
-
--- why a document isn't put: the store failed, or memory was wanting, or its tables don't load, which are those that it tells, if it tells them
-pub record DoesntLoad (tells : Bool) (told : Tables) (e : ImportError) : Type 0 where
-  pub tables : Tables
-  pub is_told : tells ≡ true → tables ≡ told
-  pub refusal : MbtError
-  pub owed : tests.is_free refusal ≡ false
-  pub is : e ≡ Store refusal
-  pub refused : state_of tables ≡ Err refusal

@@ -40,6 +40,11 @@ pub record IsSaidBy (b : List ℕ) (t : TileJson) : Type 0 where
 abbrev pub IsUnsaid : List ℕ → PmtError → Type 0
 IsUnsaid b e = (opened b ≡ Err e) ⊎ ((o : Opened) × (opened b ≡ Ok o) × OpenedAnswers b o (Err e))
 
+-- the document that bytes say of themselves, or the refusal
+abbrev pub IsSaidAs : List ℕ → Result TileJson PmtError → Type 0
+IsSaidAs b (Ok t) = IsSaidBy b t
+IsSaidAs b (Err e) = IsUnsaid b e
+
 -- Over told bytes: the document, or the first refusal. Want of memory and a fault may come in its place.
 abbrev pub SaidAnswers : List ℕ → Result TileJson ImportError → Type 0
 SaidAnswers b (Ok t) = IsSaidBy b t

@@ -1,87 +1,55 @@
 // A store that is filled from an archive.
-ghost use Rattle.std.specs.Prelude.{◌≡◌, ◌≤◌, ◌+◌, ◌⊎◌, IfErr, IfOk, IfSome, OnErr, OnOk, true};
-ghost use Rattle.mb_metadata.specs.Inserting.{IsWithoutFloat, insert_edits};
-ghost use Rattle.mb_metadata.specs.NameEdits.{EditsNames};
+ghost use Rattle.std.specs.Prelude.{◌≡◌, ◌≤◌, ◌+◌, IfErr, IfOk, IfSome, false, true};
+ghost use Rattle.mb_load.specs.LoadedFrom.{IsLoadedFrom};
+ghost use Rattle.mb_metadata.specs.Inserting.{IsWithoutFloat};
 ghost use Rattle.mb_store.specs.Kept.{Keeps};
+ghost use Rattle.mb_tables.specs.Table.{Tables};
 ghost use Rattle.pm_reader.specs.Reads.{ReadsOnly};
-ghost use Rattle.set_import.specs.Filling.{DoesntLoad, IsFilled, IsFilledAs, IsHalfFilled, IsLeft, IsWriteFailure, flat_made};
-ghost use Rattle.tile_import.specs.Import.{ImportCauses, reads_at_most};
+ghost use Rattle.set_import.specs.Filling.{IsFilled, IsFilledSet, IsLeft, is_unwritten, started};
+ghost use Rattle.tile_import.specs.Import.{ImportCauses, IsAnswered, reads_at_most};
+ghost use Rattle.tile_import.specs.PutOver.{IsPutAnswer, PutCauses, count_in};
 
-use mb_metadata::insert_metadata;
-use mb_store::{MbtType, TileStore, init_mbtiles_schema};
+use crate::storing::{base_of, store_set};
+use mb_loaded::Loaded;
+use mb_metadata::with_document;
+use mb_store::{TileStore, is_empty_database};
 use pm_format::Backend;
 use std::alloc::Global;
-use tile_import::{ImportError, import, of_store};
+use tile_import::{ImportError, of_store, put_archive};
 use tile_json::TileJson;
 
-// Makes the tables of a flat set that aren't there.
-fn make_tables<S: TileStore>(alloc: Global, store: &mut S) -> Result<(), ImportError>
-    ensures made { S.tells store.old ≡ true
-        → OnOk result (S.told store.new ≡ flat_made (S.told store.old)) }
-    ensures refused { OnErr result (S.told store.new ≡ S.told store.old) }
-    ensures causes { IfErr result (IsWriteFailure (S.faults store.old) (S.faults store.new)) }
-    ensures kept { Keeps S.tells S.faults S.steady store.old store.new }
-{
-    match init_mbtiles_schema(alloc, store, MbtType::Flat) {
-        Ok(()) => Ok(()),
-        Err(error) => Err(of_store(error)),
-    }
-}
-
-// Puts a document into the metadata of a set.
-fn put_document<S: TileStore>(
-    alloc: Global,
-    store: &mut S,
-    document: &TileJson,
-) -> Result<(), ImportError>
-    requires { IsWithoutFloat document.now }
-    ensures put { S.tells store.old ≡ true → OnOk result
-        (EditsNames (insert_edits document.now) (S.told store.old) (S.told store.new)) }
-    ensures refused { OnErr result (S.told store.new ≡ S.told store.old) }
-    ensures causes { IfErr result (λ e. IsWriteFailure (S.faults store.old) (S.faults store.new) e
-        ⊎ DoesntLoad (S.tells store.old) (S.told store.old) e) }
-    ensures kept { Keeps S.tells S.faults S.steady store.old store.new }
-{
-    match insert_metadata(alloc, store, document) {
-        Ok(()) => Ok(()),
-        Err(error) => Err(of_store(error)),
-    }
-}
-
-// Puts the tiles of an archive over those of a set, and a document into its metadata.
-fn fill_set<B: Backend, S: TileStore>(
+// A loaded set with the tiles of an archive over its own, and a document in its metadata; and how many tiles these are.
+fn filled_set<B: Backend>(
     alloc: Global,
     backend: &mut B,
-    store: &mut S,
+    base: Loaded,
     document: &TileJson,
     max_tiles: u64,
-) -> Result<u64, ImportError>
+) -> Result<(Loaded, u64), ImportError>
     requires { IsWithoutFloat document.now }
-    ensures answer { IsFilledAs max_tiles (B.told backend.old) (S.tells store.old)
-        (S.told store.old) result }
-    ensures causes { ImportCauses max_tiles (B.faults backend.old) (B.faults backend.new)
-        (S.faults store.old) (S.faults store.new) result }
-    ensures filled { S.tells store.old ≡ true → IfOk result (IsFilled (B.told backend.old)
-        document.now (S.told store.old) (S.told store.new)) }
-    ensures left { S.tells store.old ≡ true → OnErr result (IsHalfFilled (B.told backend.old)
-        (S.told store.old) (S.told store.new)) }
-    ensures backend_kept { ReadsOnly B.told B.versions B.faults B.steady backend.old backend.new }
-    ensures store_kept { Keeps S.tells S.faults S.steady store.old store.new }
+    ensures answer { IsPutAnswer max_tiles (B.told backend.old) base.state (count_in result) }
+    ensures causes { PutCauses max_tiles (B.faults backend.old) (B.faults backend.new)
+        (count_in result) }
+    ensures filled { IfOk result
+        (λ r. IsFilledSet (B.told backend.old) document.now base r.0 r.1) }
+    ensures loaded { (t : Tables) → IsLoadedFrom t base → IfOk result (λ r. IsLoadedFrom t r.0) }
+    ensures kept { ReadsOnly B.told B.versions B.faults B.steady backend.old backend.new }
     ensures reads { IfSome (B.told backend.old) (λ b. B.reads backend.new
         ≤ B.reads backend.old + reads_at_most b) }
 {
-    let count = match import(alloc, backend, store, max_tiles) {
-        Ok(count) => count,
+    let (set, count) = match put_archive(alloc, backend, base, max_tiles) {
+        Ok(put) => put,
         Err(error) => return Err(error),
     };
-    match put_document(alloc, store, document) {
-        Ok(()) => Ok(count),
-        Err(error) => Err(error),
+    match with_document(alloc, set, document) {
+        Ok(set) => Ok((set, count)),
+        Err(_) => Err(ImportError::OutOfMemory),
     }
 }
 
-/// Makes the tables of a flat set that aren't there, puts the tiles of an archive over those of the set, and a document into its metadata: a commit for each. The answers are
-/// those of `tile_import::import`.
+/// Puts the tiles of an archive over those of a set, and a document into its metadata, in one commit after all tests.
+/// Where nothing is described the tables of a flat set are made before it. The
+/// answers are those of `tile_import::import` into the tables as they are then.
 pub(crate) fn fill<B: Backend, S: TileStore>(
     alloc: Global,
     backend: &mut B,
@@ -90,24 +58,35 @@ pub(crate) fn fill<B: Backend, S: TileStore>(
     max_tiles: u64,
 ) -> Result<u64, ImportError>
     requires { IsWithoutFloat document.now }
-    ensures answer { IsFilledAs max_tiles (B.told backend.old) (S.tells store.old)
-        (flat_made (S.told store.old)) result }
+    ensures answer { IsAnswered max_tiles (B.told backend.old) (S.tells store.old)
+        (started (S.told store.old)) result }
     ensures causes { ImportCauses max_tiles (B.faults backend.old) (B.faults backend.new)
         (S.faults store.old) (S.faults store.new) result }
     ensures filled { S.tells store.old ≡ true → IfOk result (IsFilled (B.told backend.old)
-        document.now (flat_made (S.told store.old)) (S.told store.new)) }
-    ensures left { S.tells store.old ≡ true → OnErr result (IsLeft (B.told backend.old)
-        (S.told store.old) (S.told store.new)) }
+        document.now (started (S.told store.old)) (S.told store.new)) }
+    ensures refused { IfErr result (λ e. is_unwritten e ≡ false
+        → S.told store.new ≡ S.told store.old) }
+    ensures left { S.tells store.old ≡ true → IfErr result
+        (IsLeft (S.told store.old) (S.told store.new)) }
     ensures backend_kept { ReadsOnly B.told B.versions B.faults B.steady backend.old backend.new }
     ensures store_kept { Keeps S.tells S.faults S.steady store.old store.new }
     ensures reads { IfSome (B.told backend.old) (λ b. B.reads backend.new
         ≤ B.reads backend.old + reads_at_most b) }
 {
-    match make_tables(alloc, store) {
-        Ok(()) => match fill_set(alloc, backend, store, document, max_tiles) {
-            Ok(count) => Ok(count),
-            Err(error) => Err(error),
-        },
-        Err(error) => Err(error),
+    let is_new = match is_empty_database(alloc, store) {
+        Ok(is_new) => is_new,
+        Err(error) => return Err(of_store(error)),
+    };
+    let base = match base_of(alloc, store, is_new) {
+        Ok(base) => base,
+        Err(error) => return Err(of_store(error)),
+    };
+    let (set, count) = match filled_set(alloc, backend, base, document, max_tiles) {
+        Ok(filled) => filled,
+        Err(error) => return Err(error),
+    };
+    match store_set(alloc, store, set, is_new) {
+        Ok(()) => Ok(count),
+        Err(error) => Err(of_store(error)),
     }
 }

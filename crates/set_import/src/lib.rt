@@ -7,6 +7,7 @@ mod making;
 pub mod round_trip;
 mod said;
 mod status;
+mod storing;
 mod words;
 
 pub use making::import_as_said;

@@ -25,7 +25,7 @@ returns-in-Err-put_archive-clause-causes g c =
 
 pub returns-in-Ok-commit_set-clause-answer : goal.returns-in-Ok-commit_set-clause-answer
 returns-in-Ok-commit_set-clause-answer g c =
-    put_answered c.args.max_tiles (g.B.Backend.told c.args.backend.now) (g.S.TileStore.tells c.args.store.now) (g.S.TileStore.told c.args.store.now) c.in-Ok.base.state (Ok c.in-Ok-put_archive.count) c.in-Ok.ensures.answer c.in-Ok-put_archive.ensures.answer
+    put_answered c.args.max_tiles (g.B.Backend.told c.args.backend.now) (g.S.TileStore.tells c.args.store.now) (g.S.TileStore.told c.args.store.now) c.in-Ok.base.state (Ok c.in-Ok-put_archive.put.1) c.in-Ok.ensures.answer c.in-Ok-put_archive.ensures.answer
 
 pub returns-in-Ok-commit_set-clause-imported : goal.returns-in-Ok-commit_set-clause-imported
 returns-in-Ok-commit_set-clause-imported g c = λ is.
@@ -41,7 +41,7 @@ returns-in-Ok-commit_set-clause-imported g c = λ is.
       rows = are_put c.in-Ok.base over.tiles (g.S.TileStore.told c.args.store.now) (g.S.TileStore.told c.commit_set.new.store) base.clean base.loaded base.named over.on_board over.may
           (g.met.S.TileStore.sound c.commit_set.new.store (c.commit_set.ensures.kept.tells ∙ tells))
           (subst (λ (x : Held). MakesChanges x (g.S.TileStore.told c.args.store.now) (g.S.TileStore.told c.commit_set.new.store)) over.is
-          (subst (λ (t : Tables). MakesChanges c.in-Ok-put_archive.set t (g.S.TileStore.told c.commit_set.new.store)) c.load_base.ensures.kept.told (c.in-Ok-commit_set.ensures.committed tells)));
+          (subst (λ (t : Tables). MakesChanges c.in-Ok-put_archive.put.0 t (g.S.TileStore.told c.commit_set.new.store)) c.load_base.ensures.kept.told (c.in-Ok-commit_set.ensures.committed tells)));
     }
 
 pub returns-in-Err-commit_set-clause-answer : goal.returns-in-Err-commit_set-clause-answer

@@ -1,0 +1,25 @@
+use Rattle.std.proofs.Common.{sym, subst}
+use Rattle.std.proofs.lemmas.Bool.{true≢false}
+use Rattle.mb_load.specs.LoadedFrom.{IsLoadedFrom}
+use Rattle.mb_loaded.specs.Held.{Held}
+use Rattle.mb_metadata.proofs.NameEditLemmas.{edits_loaded}
+use Rattle.mb_metadata.specs.Inserting.{document_edits}
+use Rattle.set_import.proofs.filling.filled_set.Goals as goal
+
+pub returns-in-Ok-with_document-clause-filled : goal.returns-in-Ok-with_document-clause-filled
+returns-in-Ok-with_document-clause-filled g c = record {
+  between = c.in-Ok.put.0;
+  put = c.in-Ok.ensures.put;
+  named = c.in-Ok-with_document.ensures;
+}
+
+pub returns-in-Ok-with_document-clause-loaded : goal.returns-in-Ok-with_document-clause-loaded
+returns-in-Ok-with_document-clause-loaded g c t from =
+    subst (λ (h : Held). IsLoadedFrom t h) (sym c.in-Ok-with_document.ensures) (edits_loaded t c.in-Ok.put.0 (document_edits c.args.document.now) (c.in-Ok.ensures.loaded t from))
+
+pub returns-in-Err-with_document-clause-answer : goal.returns-in-Err-with_document-clause-answer
+returns-in-Err-with_document-clause-answer g c = record {
+  found = c.in-Ok.ensures.answer.found;
+  is_archive = c.in-Ok.ensures.answer.is_archive;
+  answers = λ owed. absurd (true≢false owed);
+}

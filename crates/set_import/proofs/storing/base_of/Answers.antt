@@ -1,0 +1,28 @@
+use Rattle.std.proofs.Common.{◌≡◌, ◌∙◌, Ok, ap, sym, subst}
+use Rattle.std.proofs.lemmas.Bool.{false≢true}
+use Rattle.mb_load.specs.Begun.{IsBegun}
+use Rattle.mb_loaded.specs.Held.{Held}
+use Rattle.set_import.proofs.NewSetLemmas.{base_new, begun_new, begun_old, base_old}
+use Rattle.set_import.specs.Filling.{started}
+use Rattle.tile_import.specs.Storing.{IsBase, editable, state_in}
+use Rattle.set_import.proofs.storing.base_of.Goals as goal
+
+pub returns-then-branch-clause-answer : goal.returns-then-branch-clause-answer
+returns-then-branch-clause-answer g c =
+    let tells = g.S.TileStore.tells c.args.store.now in
+    let told = g.S.TileStore.told c.args.store.now in
+    subst (λ (h : Held). IsBegun editable tells (started told) (Ok h.state)) (sym c.empty.ensures)
+    (begun_new tells told (λ t. g.met.S.TileStore.sound c.args.store.now t) (λ t. (c.requires t).0 c.if-branch.true))
+
+pub returns-then-branch-clause-base : goal.returns-then-branch-clause-base
+returns-then-branch-clause-base g c t =
+    let told = g.S.TileStore.told c.args.store.now in
+    subst (λ (h : Held). IsBase (started told) h) (sym c.empty.ensures) (base_new told (g.met.S.TileStore.sound c.args.store.now t) ((c.requires t).0 c.if-branch.true))
+
+pub returns-clause-answer : goal.returns-clause-answer
+returns-clause-answer g c =
+    begun_old (g.S.TileStore.tells c.args.store.now) (g.S.TileStore.told c.args.store.now) (state_in c.load_base.result) (λ t e. false≢true (sym c.if-branch.false ∙ (c.requires t).1 e)) c.load_base.ensures.answer
+
+pub returns-clause-base : goal.returns-clause-base
+returns-clause-base g c t =
+    base_old (g.S.TileStore.told c.args.store.now) c.load_base.result (λ e. false≢true (sym c.if-branch.false ∙ (c.requires t).1 e)) (c.load_base.ensures.base t)
