@@ -1,6 +1,6 @@
 // Adds to an archive: the word of the call, an id, and the bytes of a tile.
 ghost use Rattle.std.specs.Prelude.{◌≡◌, ℕ, List};
-ghost use Rattle.pm_format.specs.Options.{Options};
+ghost use Rattle.archive_rows.specs.Common.{Options};
 ghost use Rattle.pm_writer.specs.Stream.{IsTied};
 ghost use Rattle.pm_writer.specs.Writing.{Writes};
 

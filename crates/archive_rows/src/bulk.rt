@@ -1,6 +1,6 @@
 // Archives of many tiles: each id below a number has the decimal text of its part by another number.
 ghost use Rattle.std.specs.Prelude.{◌≡◌, ◌≤◌, ◌<◌, ℕ, List, IfSome};
-ghost use Rattle.pm_format.specs.Options.{Options};
+ghost use Rattle.archive_rows.specs.Common.{Options};
 ghost use Rattle.pm_writer.specs.Stream.{IsTied};
 
 use pm_format::{Backend, MemMedium, PmtResult, TileType};

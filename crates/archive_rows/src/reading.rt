@@ -1,6 +1,6 @@
 // Calls of a reader that borrows its backend: how it is made, its cache, and the call.
 ghost use Rattle.std.specs.Prelude.{◌≡◌, ℕ, None};
-ghost use Rattle.pm_reader.specs.Tied.{IsTied};
+ghost use Rattle.archive_rows.specs.Common.{IsTied};
 
 use crate::sweep::{say_tile, sweep_tiles, tiles};
 use base_values::TextVal;

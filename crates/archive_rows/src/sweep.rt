@@ -1,6 +1,6 @@
 // Look-ups of ids in a row, and of ids in any order, by one reader.
 ghost use Rattle.std.specs.Prelude.{◌≡◌};
-ghost use Rattle.pm_reader.specs.Tied.{IsTied};
+ghost use Rattle.archive_rows.specs.Common.{IsTied};
 
 use bytes::Bytes;
 use pm_format::{Backend, PmtResult};

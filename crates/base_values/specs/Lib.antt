@@ -1,2 +1,3 @@
+pub mod Common
 pub mod Counts
 pub mod FailingCalls

@@ -46,8 +46,7 @@ impl BlobVal {
 
 impl PartialEq for BlobVal {
     ghost use Rattle.std.specs.Prelude.{nat_eq};
-    ghost use Rattle.std.specs.Cmp.Lexicographic.{pointwise, nat_list_eq_equiv};
-    ghost use Rattle.std.specs.Cmp.{partial_equiv_from_equiv};
+    ghost use Rattle.base_values.specs.Common.{nat_list_eq_equiv, partial_equiv_from_equiv, pointwise};
 
     ghost eq = { pointwise nat_eq };
 
@@ -59,7 +58,7 @@ impl PartialEq for BlobVal {
 }
 
 impl Eq for BlobVal {
-    ghost use Rattle.std.specs.Cmp.Lexicographic.{nat_list_eq_equiv};
+    ghost use Rattle.base_values.specs.Common.{nat_list_eq_equiv};
 
     ghost laws = { nat_list_eq_equiv };
 }

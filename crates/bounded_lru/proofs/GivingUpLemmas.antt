@@ -1,8 +1,6 @@
 -- How the last pairs are given up.
-use Rattle.std.proofs.Common.{◌≡◌, ◌∙◌, ℕ, suc, ◌+◌, ◌-◌, ◌<◌, ◌≤◌, Bool, true, false, List, [], ◌∷◌, ◌++◌, length, take, drop, nat_le, if◌then◌else◌, Option, None, Some, slice_get, refl, sym, ap, subst, arith}
-use Rattle.std.proofs.lemmas.Bool.Decides.{nat_tests}
-use Rattle.lru.specs.LruCache.{LruCache, last_entry, lru_cache}
-use Rattle.bounded_lru.specs.Bounded.{light_front, weight_of, weight_of_pair}
+use Rattle.bounded_lru.proofs.Common.{ap, arith, Bool, drop, false, if◌then◌else◌, last_entry, length, light_front, List, lru_cache, LruCache, nat_le, nat_tests, None, Option, refl, slice_get, Some}
+use Rattle.bounded_lru.proofs.Common.{subst, suc, sym, take, true, weight_of, weight_of_pair, ℕ, [], ◌++◌, ◌+◌, ◌-◌, ◌<◌, ◌∙◌, ◌∷◌, ◌≡◌, ◌≤◌}
 use Rattle.bounded_lru.proofs.WeightLemmas.{light_front-whole}
 
 module _ {A : Type 0} where

@@ -1,12 +1,9 @@
 -- What is found in pairs after a use, and after one is put.
-use Rattle.std.proofs.Common.{◌≡◌, ◌⊎◌, ◌∙◌, inl, inr, ℕ, zero, suc, ◌-◌, ◌<◌, Bool, true, false, cond, List, [], ◌∷◌, length, take, nat_eq, nat_le, if◌then◌else◌, Option, None, Some, is_some, option_map, slice_get, refl, sym, ap, arith, Contains}
-use Rattle.std.specs.Map.{lookup, lookup_entry, remove_entry}
-use Rattle.std.specs.Option.{option_map_or}
-use Rattle.std.proofs.lemmas.Bool.Decides.{nat_tests}
-use Rattle.lru.specs.LruCache.{promoted}
+use Rattle.bounded_lru.proofs.Common.{ap, arith, Bool, Bounded, bounded, cond, Contains, false, fits, if◌then◌else◌, inl, inr, is_some, length, light, light_front, List, lookup, lookup_entry, nat_eq}
+use Rattle.bounded_lru.proofs.Common.{nat_le, nat_tests, None, Option, option_map, option_map_or, promoted, refl, remove_entry, slice_get, Some, suc, sym, take, true, used, with_pair, zero, ℕ, []}
+use Rattle.bounded_lru.proofs.Common.{◌-◌, ◌<◌, ◌∙◌, ◌∷◌, ◌≡◌, ◌⊎◌}
 use Rattle.std.proofs.lemmas.List.Elements.{Contains-append_cases, Contains-append_left, Contains-append_right}
 use Rattle.lru.proofs.CallerLemmas.{Contains-lookup_entry, Contains-remove_entry, Contains-take}
-use Rattle.bounded_lru.specs.Bounded.{Bounded, bounded, fits, light, light_front, used, with_pair}
 
 single_is : {X : Type 0} (z x : X) → Contains (z ∷ []) x → z ≡ x
 single_is z x (zero, low, is) = is

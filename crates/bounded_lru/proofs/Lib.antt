@@ -1,3 +1,4 @@
+mod Common
 mod GivingUpLemmas
 pub mod HeldLemmas
 mod PuttingLemmas

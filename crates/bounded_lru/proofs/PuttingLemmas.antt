@@ -1,10 +1,7 @@
 -- What stands when a pair was put.
-use Rattle.std.proofs.Common.{◌≡◌, ◌∙◌, ℕ, zero, suc, ◌+◌, ◌-◌, ◌<◌, ◌≤◌, true, List, [], ◌∷◌, ◌++◌, length, take, drop, nat_eq, nat_le, if◌then◌else◌, Option, None, Some, IfSome, slice_get, refl, sym, ap, subst, arith}
-use Rattle.std.specs.Map.{lookup, lookup_entry, remove_entry}
-use Rattle.std.specs.Option.{option_map_or}
-use Rattle.std.proofs.lemmas.Bool.Decides.{nat_tests}
-use Rattle.lru.specs.LruCache.{LruCache, displaced, lru_cache, put_entries}
-use Rattle.bounded_lru.specs.Bounded.{Bounded, IsWithin, bounded, fits, light_front, weight_of, weight_of_pair, with_pair}
+use Rattle.bounded_lru.proofs.Common.{ap, arith, Bounded, bounded, displaced, drop, fits, IfSome, if◌then◌else◌, IsWithin, length, light_front, List, lookup, lookup_entry, lru_cache, LruCache, nat_eq}
+use Rattle.bounded_lru.proofs.Common.{nat_le, nat_tests, None, Option, option_map_or, put_entries, refl, remove_entry, slice_get, Some, subst, suc, sym, take, true, weight_of, weight_of_pair}
+use Rattle.bounded_lru.proofs.Common.{with_pair, zero, ℕ, [], ◌++◌, ◌+◌, ◌-◌, ◌<◌, ◌∙◌, ◌∷◌, ◌≡◌, ◌≤◌}
 use Rattle.bounded_lru.proofs.WeightLemmas.{IsKept, length-light_front, light_front-fits, weight_of-remove_entry}
 use Rattle.bounded_lru.proofs.HeldLemmas.{found_key, its_value, length-remove_entry, no_value, remove_entry-none}
 

@@ -1,10 +1,6 @@
 -- What pairs weigh, and their light fronts.
-use Rattle.std.proofs.Common.{◌≡◌, ◌∙◌, ℕ, ◌+◌, ◌-◌, ◌<◌, ◌≤◌, Bool, true, false, cond, List, [], ◌∷◌, length, nat_eq, nat_le, if◌then◌else◌, Option, None, Some, IfSome, refl, sym, ap, subst, arith}
-use Rattle.std.specs.Map.{lookup_entry, remove_entry}
-use Rattle.std.specs.Option.{option_map_or}
-use Rattle.std.proofs.lemmas.Bool.Decides.{nat_tests}
-use Rattle.lru.specs.LruCache.{LruCache, lru_cache, promoted}
-use Rattle.bounded_lru.specs.Bounded.{IsWithin, bounded, light_front, weight_of}
+use Rattle.bounded_lru.proofs.Common.{ap, arith, Bool, bounded, cond, false, IfSome, if◌then◌else◌, IsWithin, length, light_front, List, lookup_entry, lru_cache, LruCache, nat_eq, nat_le, nat_tests}
+use Rattle.bounded_lru.proofs.Common.{None, Option, option_map_or, promoted, refl, remove_entry, Some, subst, sym, true, weight_of, ℕ, [], ◌+◌, ◌-◌, ◌<◌, ◌∙◌, ◌∷◌, ◌≡◌, ◌≤◌}
 use Rattle.bounded_lru.proofs.HeldLemmas.{length-promoted}
 
 module _ {V : Type 0} (weight : V → ℕ) where

@@ -1,8 +1,7 @@
 -- Pairs of a number and a value, the latest used first, and what bounds them.
 use Rattle.std.specs.Prelude.{◌≡◌, ℕ, ◌+◌, ◌-◌, ◌<◌, ◌≤◌, List, [], ◌∷◌, length, take, nat_eq, nat_le, if◌then◌else◌, Option, Some, None, Result, Ok, Err, Bool, true, false, IfSome, refl}
 use Rattle.std.specs.Coded.{Coded, code_by, coded×, coded_list, coded_option, coded_ℕ}
-use Rattle.std.specs.Map.{remove_entry}
-use Rattle.lru.specs.LruCache.{promoted}
+use Rattle.bounded_lru.specs.Common.{promoted, remove_entry}
 
 -- the pairs, how many there may be, and what they may weigh together
 pub record Bounded (V : Type 0) : Type 0 where

@@ -1,6 +1,6 @@
 // Pairs within two bounds, the latest used first.
 ghost use Rattle.std.specs.Prelude.{◌≡◌, ◌≤◌, [], None, Some, IfNone, IfOk, IfSome, is_some, nat_eq, option_copied, option_map, slice_get};
-ghost use Rattle.std.specs.Map.{lookup};
+ghost use Rattle.bounded_lru.specs.Common.{lookup};
 ghost use Rattle.bounded_lru.specs.Bounded.{IsWithin, Puts, bounded, used, weight_of as weight_of_pairs};
 
 use crate::Weigh;

@@ -1,6 +1,6 @@
 // How the last pairs are given up.
 ghost use Rattle.std.specs.Prelude.{◌≡◌, ◌<◌, ◌≤◌, ◌-◌, ◌++◌, length, take, drop};
-ghost use Rattle.lru.specs.LruCache.{last_entry, lru_cache};
+ghost use Rattle.bounded_lru.specs.Common.{last_entry, lru_cache};
 ghost use Rattle.bounded_lru.specs.Bounded.{light_front, weight_of as weight_of_pairs, weight_of_pair};
 
 use crate::Weigh;

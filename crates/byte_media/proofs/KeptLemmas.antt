@@ -1,5 +1,5 @@
 -- What calls in turn keep.
-use Rattle.std.proofs.Common.{◌∙◌, ℕ, List, Option, refl, arith}
+use Rattle.byte_media.proofs.Common.{arith, List, Option, refl, ℕ, ◌∙◌}
 use Rattle.byte_media.specs.Kept.{KeepsMedium, ReadsOnly}
 
 module _ {B V : Type 0} (tells : B → Option (List ℕ)) (texts : B → V) (failed : B → ℕ) (steady : B → Type 0) where

@@ -1,2 +1,3 @@
+mod Common
 pub mod KeptLemmas
 pub mod WriteLemmas

@@ -1,5 +1,5 @@
 -- Pieces that are written over bytes.
-use Rattle.std.proofs.Common.{◌≡◌, ℕ, ◌+◌, ◌≤◌, List, [], length, take, sym, arith}
+use Rattle.byte_media.proofs.Common.{arith, length, List, sym, take, ℕ, [], ◌+◌, ◌≡◌, ◌≤◌}
 use Rattle.std.proofs.lemmas.List.{take-append-drop}
 use Rattle.byte_media.specs.Media.{written}
 

@@ -1,8 +1,7 @@
 -- what calls of a backend and a medium answer and leave
 use Rattle.std.specs.Prelude.{ℕ, ◌≡◌, ◌≢◌, ◌+◌, ◌-◌, ◌≤◌, ◌<◌, List, ◌++◌, length, take, drop, Some, None, Ok, Err, IfOk}
-use Rattle.std.specs.declared.option.Option.{Option}
+use Rattle.byte_media.specs.Common.{Option, Rose}
 use Rattle.std.specs.declared.result.Result.{Result}
-use Rattle.base_values.specs.Counts.{Rose}
 use Rattle.byte_media.specs.declared.backend.BackendResponse.{BackendResponse}
 use Rattle.byte_media.specs.declared.backend.ReadFault.{ReadFault}
 use Rattle.byte_media.specs.declared.backend.ReadFault.TheVariants.{Fault, PastEnd, Short, OutOfMemory}

@@ -1,7 +1,6 @@
 -- a medium in memory
 use Rattle.std.specs.Prelude.{ℕ, ◌-◌, Bool, List, length, slice_get, min}
-use Rattle.std.specs.declared.option.Option.{Option}
-use Rattle.base_values.specs.Counts.{one_more}
+use Rattle.byte_media.specs.Common.{one_more, Option}
 use Rattle.base_values.specs.FailingCalls as failing
 use Rattle.byte_media.specs.declared.mem_medium.MemMedium.{MemMedium}
 

@@ -1,7 +1,6 @@
 // What is read from: bytes at places. An object may tell what it holds, and counts its faults and reads.
 ghost use Rattle.std.specs.Prelude.{◌≡◌, ℕ, List, IfSome, Some, None};
-ghost use Rattle.std.specs.declared.option.Option.{Option};
-ghost use Rattle.base_values.specs.Counts.{Grew};
+ghost use Rattle.byte_media.specs.Common.{Grew, Option};
 ghost use Rattle.byte_media.specs.Kept.{ReadsOnly};
 ghost use Rattle.byte_media.specs.Media.{ReadAnswers, ReadExactAnswers, HasVersion, ReadCauses, ReadExactCauses};
 

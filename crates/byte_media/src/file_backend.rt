@@ -1,6 +1,6 @@
 // A backend over a file of the system.
 ghost use Rattle.std.specs.Prelude.{◌≡◌, ◌≤◌, ◌+◌, IfOk, IfErr, IsErrOf, None, length, vec_len};
-ghost use Rattle.base_values.specs.Counts.{Grew, Rose};
+ghost use Rattle.byte_media.specs.Common.{Grew, Rose};
 ghost use Rattle.byte_media.specs.Media.{IsPartFault};
 
 use crate::{Backend, BackendResponse, MediumFault, ReadFault};

@@ -1,7 +1,7 @@
 // A medium over a file of the system.
 ghost use Rattle.std.specs.Prelude.{◌≡◌, ◌≤◌, ◌+◌, ◌<◌, ◌^◌, IfOk, IfErr, IfSome, OnOk, OnErr, MatchOption, None, length, vec_len};
 ghost use Rattle.std.specs.Io.KnownBytes.{Appends};
-ghost use Rattle.base_values.specs.Counts.{Grew, Rose};
+ghost use Rattle.byte_media.specs.Common.{Grew, Rose};
 ghost use Rattle.byte_media.specs.Media.{EndsBelow, IsPart};
 
 use crate::{Backend, BackendResponse, FileBackend, Medium, MediumFault, ReadFault, WriteFault};

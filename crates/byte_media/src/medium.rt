@@ -1,6 +1,6 @@
 // What is written to, and read back from: bytes at places.
 ghost use Rattle.std.specs.Prelude.{◌≡◌, ◌<◌, ◌^◌, IfSome, OnErr, IsErrOf};
-ghost use Rattle.base_values.specs.Counts.{Rose};
+ghost use Rattle.byte_media.specs.Common.{Rose};
 ghost use Rattle.byte_media.specs.Kept.{KeepsMedium, ReadsOnly};
 ghost use Rattle.byte_media.specs.Media.{IsWithin, EndsBelow, WriteLeaves, IsLength};
 

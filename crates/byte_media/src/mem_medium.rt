@@ -1,6 +1,6 @@
 // A medium in memory. The calls that are listed fail.
 ghost use Rattle.std.specs.Prelude.{◌≡◌, [], ◌≤◌, ◌<◌, ◌+◌, ◌↔◌, IfOk, OnOk, OnErr, IsErrOf, IsTrue, is_err, Some, None, length};
-ghost use Rattle.base_values.specs.Counts.{Grew};
+ghost use Rattle.byte_media.specs.Common.{Grew};
 ghost use Rattle.byte_media.specs.Media.{written, WriteGives, IsLength, IsWithin, ReadAnswers, ReadExactAnswers, HasVersion};
 ghost use Rattle.byte_media.specs.MemMedium.{version_at, held, version_texts, call_count, fault_count, read_count, failing_calls, next_fails, called, read_called};
 

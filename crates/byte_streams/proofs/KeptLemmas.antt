@@ -1,6 +1,5 @@
 -- What calls in turn keep.
-use Rattle.std.proofs.Common.{◌∙◌, ℕ, List, Option, refl, arith}
-use Rattle.byte_streams.specs.Kept.{KeepsSink}
+use Rattle.byte_streams.proofs.Common.{arith, KeepsSink, List, Option, refl, ℕ, ◌∙◌}
 
 module _ {O : Type 0} (held : O → Option (List ℕ)) (failed : O → ℕ) (steady : O → Type 0) where
   pub sink_same : (x : O) → KeepsSink held failed steady x x

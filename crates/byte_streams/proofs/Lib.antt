@@ -1,3 +1,4 @@
+mod Common
 pub mod KeptLemmas
 pub mod MemSourceLemmas
 pub mod StreamsLemmas

@@ -1,9 +1,8 @@
 -- one read or write after another
-use Rattle.std.proofs.Common.{ℕ, ◌≡◌, ◌+◌, ◌-◌, ◌≤◌, List, [], ◌++◌, length, take, drop, Some, None, refl, sym, ap, ◌∙◌, append_assoc, append-nil, take-add, length-append, arith, IfSome, is_some, subst}
+use Rattle.byte_streams.proofs.Common.{ap, append-nil, append_assoc, arith, drop, Gains, Grew, IfSome, is_some, IsAtEnd, length, length-append, List, Loses, None, refl, Some, subst, sym, take}
+use Rattle.byte_streams.proofs.Common.{take-add, ℕ, [], ◌++◌, ◌+◌, ◌-◌, ◌∙◌, ◌≡◌, ◌≤◌}
 use Rattle.std.proofs.lemmas.Slice.{between_to_end}
 use Rattle.std.specs.declared.option.Option.{Option}
-use Rattle.byte_streams.specs.Streams.{Loses, Gains, IsAtEnd}
-use Rattle.base_values.specs.Counts.{Grew}
 
 pub Loses-nil : (a : Option (List ℕ)) → Loses a a []
 Loses-nil None = tt

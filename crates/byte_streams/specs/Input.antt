@@ -1,9 +1,7 @@
 -- how long an input is, and how much of it was taken
 use Rattle.std.specs.Prelude.{ℕ, ◌+◌, ◌-◌, ◌^◌, ◌≤◌, ◌<◌, List, length, IfSome, Vec, Ok, Err}
 use Rattle.std.specs.declared.alloc.Global.{Global}
-use Rattle.std.specs.declared.option.Option.{Option}
-use Rattle.std.specs.declared.result.Result.{Result}
-use Rattle.base_values.specs.Counts.{Grew}
+use Rattle.byte_streams.specs.Common.{Grew, Option, Result}
 use Rattle.byte_streams.specs.Streams.{Loses}
 use Rattle.byte_streams.specs.declared.input.InputError.{InputError}
 use Rattle.byte_streams.specs.declared.input.InputError.TheVariants.{Fault, TooLong, OutOfMemory}

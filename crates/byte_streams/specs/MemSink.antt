@@ -1,5 +1,5 @@
 -- a sink in memory
-use Rattle.base_values.specs.declared.failing_calls.FailingCalls.{FailingCalls}
+use Rattle.byte_streams.specs.Common.{FailingCalls}
 use Rattle.byte_streams.specs.declared.mem_sink.MemSink.{MemSink}
 
 -- which calls fail, and how many were made and failed

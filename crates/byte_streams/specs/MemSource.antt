@@ -1,5 +1,5 @@
 -- a source in memory
-use Rattle.base_values.specs.declared.failing_calls.FailingCalls.{FailingCalls}
+use Rattle.byte_streams.specs.Common.{FailingCalls}
 use Rattle.byte_streams.specs.declared.mem_source.MemSource.{MemSource}
 
 -- which calls fail, and how many were made and failed

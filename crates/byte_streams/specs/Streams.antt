@@ -1,8 +1,6 @@
 -- what reads take of what is left, and what writes append
 use Rattle.std.specs.Prelude.{ℕ, ◌≡◌, ◌≤◌, ◌<◌, List, [], ◌++◌, length, take, Some, None, Ok, Err, IfSome}
-use Rattle.std.specs.declared.option.Option.{Option}
-use Rattle.std.specs.declared.result.Result.{Result}
-use Rattle.base_values.specs.Counts.{Grew}
+use Rattle.byte_streams.specs.Common.{Grew, Option, Result}
 use Rattle.byte_streams.specs.declared.source.SourceFault.{SourceFault}
 use Rattle.byte_streams.specs.declared.sink.SinkFault.{SinkFault}
 

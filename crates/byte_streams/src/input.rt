@@ -1,6 +1,6 @@
 // Reading all of the input.
 ghost use Rattle.std.specs.Prelude.{◌<◌, [], length, OnOk, IfErr, IfOk, IfSome, IsErrOf};
-ghost use Rattle.base_values.specs.Counts.{Rose};
+ghost use Rattle.byte_streams.specs.Common.{Rose};
 ghost use Rattle.byte_streams.specs.Input.{InputCounts, StopCounts, TakesAll};
 ghost use Rattle.byte_streams.specs.Kept.{KeepsSource};
 ghost use Rattle.byte_streams.specs.Streams.{Loses, IsAtEnd};

@@ -1,6 +1,6 @@
 // A sink in memory. The calls that are listed fail.
 ghost use Rattle.std.specs.Prelude.{◌≡◌, ◌↔◌, ◌≤◌, [], IsErrOf, IsTrue, Some};
-ghost use Rattle.base_values.specs.FailingCalls.{called, next_fails};
+ghost use Rattle.byte_streams.specs.Common.{called, next_fails};
 ghost use Rattle.byte_streams.specs.MemSink.{failing_of};
 ghost use Rattle.byte_streams.specs.Streams.{WriteAppends};
 

@@ -1,6 +1,6 @@
 // A source in memory. The calls that are listed fail.
 ghost use Rattle.std.specs.Prelude.{◌≡◌, ◌↔◌, ◌≤◌, [], drop, is_err, Ok, Some, vec_len};
-ghost use Rattle.base_values.specs.FailingCalls.{called, next_fails};
+ghost use Rattle.byte_streams.specs.Common.{called, next_fails};
 ghost use Rattle.byte_streams.specs.Streams.{CountsRead, ReadTakes};
 
 use crate::{Source, SourceFault};

@@ -1,6 +1,6 @@
 // Writing all of a text.
 ghost use Rattle.std.specs.Prelude.{OnOk, IsErrOf};
-ghost use Rattle.base_values.specs.Counts.{Rose};
+ghost use Rattle.byte_streams.specs.Common.{Rose};
 ghost use Rattle.byte_streams.specs.Kept.{KeepsSink};
 ghost use Rattle.byte_streams.specs.Streams.{Gains, GainsFront};
 

@@ -1,7 +1,6 @@
 // Where bytes go.
 ghost use Rattle.std.specs.Prelude.{ℕ, List, IsErrOf};
-ghost use Rattle.std.specs.declared.option.Option.{Option};
-ghost use Rattle.base_values.specs.Counts.{Rose};
+ghost use Rattle.byte_streams.specs.Common.{Option, Rose};
 ghost use Rattle.byte_streams.specs.Kept.{KeepsSink};
 ghost use Rattle.byte_streams.specs.Streams.{WriteAppends};
 

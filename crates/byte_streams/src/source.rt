@@ -1,7 +1,6 @@
 // Where bytes come from.
 ghost use Rattle.std.specs.Prelude.{ℕ, List, OnErr};
-ghost use Rattle.std.specs.declared.option.Option.{Option};
-ghost use Rattle.base_values.specs.Counts.{Rose};
+ghost use Rattle.byte_streams.specs.Common.{Option, Rose};
 ghost use Rattle.byte_streams.specs.Kept.{KeepsSource};
 ghost use Rattle.byte_streams.specs.Streams.{ReadTakes, CountsRead};
 

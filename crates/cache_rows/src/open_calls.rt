@@ -1,6 +1,6 @@
 // Calls of a cache that is kept open from line to line.
 ghost use Rattle.std.specs.Prelude.{◌≡◌, true};
-ghost use Rattle.mb_cache.specs.State.{Agrees};
+ghost use Rattle.cache_rows.specs.Common.{Agrees};
 
 use crate::said;
 use crate::tiles::{At, Given, Times, at_in, given_in, times_in};

@@ -16,7 +16,7 @@ pub struct Shelf<S: TileStore> {
 
 impl<S: TileStore> Model for Shelf<S> {
     ghost use Rattle.std.specs.Prelude.{◌≡◌, IfSome, true};
-    ghost use Rattle.mb_cache.specs.State.{Agrees};
+    ghost use Rattle.cache_rows.specs.Common.{Agrees};
 
     ghost Value = { Unit {0} };
 

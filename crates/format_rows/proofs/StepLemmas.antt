@@ -1,5 +1,5 @@
 -- How few steps a bound on a power leaves.
-use Rattle.std.proofs.Common.{ℕ, zero, suc, ◌≤◌, ◌^◌, arith}
+use Rattle.format_rows.proofs.Common.{arith, suc, zero, ℕ, ◌^◌, ◌≤◌}
 use Rattle.std.proofs.Math.Pow.{pow_mono}
 
 pub at_most_two : (d : ℕ) → 2 ^ d ≤ 7 → d ≤ 2

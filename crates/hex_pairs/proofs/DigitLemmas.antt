@@ -1,11 +1,10 @@
 -- The digits of sixteen bytes, and of all bytes.
-use Rattle.std.proofs.Common.{◌≡◌, ℕ, ◌+◌, ◌*◌, ◌/◌, ◌%◌, ◌^◌, ◌<◌, List, [], ◌∷◌, ◌++◌, bit_and, drop, length, map, replicate, slice_index, subst, take, refl, sym, ap, ◌∙◌, arith, w8, append_assoc, take-add, take-append-drop}
+use Rattle.hex_pairs.proofs.Common.{ap, append_assoc, arith, below_from_Fits, bit_and, drop, Each1-all, Each1-weaker, Each1-zip2, Each2-splat, encode_lower, encode_with, length, length-zip2, List}
+use Rattle.hex_pairs.proofs.Common.{map, pick_l, refl, replicate, slice_index, subst, SwzOk, SwzOk-from_below, sym, take, take-add, take-append-drop, w8, zip2, zip2_splat, ℕ, [], ◌%◌, ◌*◌, ◌++◌, ◌+◌}
+use Rattle.hex_pairs.proofs.Common.{◌/◌, ◌<◌, ◌^◌, ◌∙◌, ◌∷◌, ◌≡◌}
 use Rattle.std.proofs.lemmas.Nat.{and_le_r, and_mask}
-use Rattle.std.proofs.lemmas.Simd.{Each1-all, Each1-weaker, Each1-zip2, Each2-splat, SwzOk, SwzOk-from_below, below_from_Fits, length-zip2, zip2_splat}
-use Rattle.hex.specs.Hex.{encode_lower, encode_with}
 use Rattle.hex_pairs.specs.DigitLanes.{high_digit, low_digit}
 use Rattle.hex_pairs.proofs.LaneLemmas.{IsVector, listed, listed_is}
-use lib.Lanes.{pick_l, zip2}
 
 abbrev pub down : ℕ → ℕ → ℕ
 down a b = a / 2 ^ b

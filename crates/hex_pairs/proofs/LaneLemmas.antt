@@ -1,8 +1,6 @@
 -- Vectors of sixteen bytes, lane by lane.
-use Rattle.std.proofs.Common.{◌≡◌, ℕ, zero, suc, ◌+◌, ◌*◌, ◌/◌, ◌<◌, List, [], ◌∷◌, drop, length, get_or, map, sym, refl, ap, ◌∙◌, arith, w8, Fits}
-use Rattle.std.proofs.lemmas.List.{get_or-map, length-map, ext_get_or}
-use Rattle.std.proofs.lemmas.Simd.{swz_l, length-swz_l, get_or-swz_l_below}
-use lib.Lanes.{Each1}
+use Rattle.hex_pairs.proofs.Common.{ap, arith, drop, Each1, ext_get_or, Fits, get_or, get_or-map, get_or-swz_l_below, length, length-map, length-swz_l, List, map, refl, suc, swz_l, sym, w8, zero, ℕ}
+use Rattle.hex_pairs.proofs.Common.{[], ◌*◌, ◌+◌, ◌/◌, ◌<◌, ◌∙◌, ◌∷◌, ◌≡◌}
 
 abbrev pub IsVector : List ℕ → Type 0
 IsVector v = (length v ≡ 16) × Each1 (Fits w8) v

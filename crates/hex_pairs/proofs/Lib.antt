@@ -1,3 +1,4 @@
+mod Common
 pub mod TableLemmas
 mod LaneLemmas
 mod DigitLemmas

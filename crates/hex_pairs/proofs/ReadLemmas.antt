@@ -1,9 +1,7 @@
 -- Blocks of digits are read.
-use Rattle.std.proofs.Common.{◌≡◌, ℕ, ◌+◌, ◌-◌, ◌*◌, ◌≤◌, true, List, [], ◌∷◌, ◌++◌, drop, length, take, Option, Some, None, Result, Ok, Err, unwrap_or, is_some, true≢false, subst, refl, sym, ap, ◌∙◌, arith, drop-drop, length-take-le, take-add, take-append-drop}
-use Rattle.hex.specs.Hex.{decode_pairs, digit_or_error, hex_digit_value, is_hex_digit, pair_value, value_at}
-use Rattle.hex.specs.declared.error.FromHexError.{FromHexError}
-use Rattle.hex.proofs.Pairs.{cons_byte, decode_pairs-ok_pair, prepend}
-use Rattle.hex_pairs.specs.ValueLanes.{AreDigits, digit_value, paired}
+use Rattle.hex_pairs.proofs.Common.{ap, AreDigits, arith, cons_byte, decode_pairs, decode_pairs-ok_pair, digit_or_error, digit_value, drop, drop-drop, Err, FromHexError, hex_digit_value, is_hex_digit}
+use Rattle.hex_pairs.proofs.Common.{is_some, length, length-take-le, List, None, Ok, Option, pair_value, paired, prepend, refl, Result, Some, subst, sym, take, take-add, take-append-drop, true}
+use Rattle.hex_pairs.proofs.Common.{true≢false, unwrap_or, value_at, ℕ, [], ◌*◌, ◌++◌, ◌+◌, ◌-◌, ◌∙◌, ◌∷◌, ◌≡◌, ◌≤◌}
 
 value_read : (d i : ℕ) → is_hex_digit d ≡ true → value_at d i ≡ Ok (digit_value d)
 value_read d i e = go (hex_digit_value d) e

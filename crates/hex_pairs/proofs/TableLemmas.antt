@@ -1,7 +1,6 @@
 -- The tables hold what they are said to.
-use Rattle.std.proofs.Common.{◌≡◌, ℕ, zero, suc, ◌+◌, ◌*◌, ◌%◌, ◌<◌, ◌≤◌, List, [], ◌∷◌, get_or, unwrap_or, Option, Some, None, Ok, Err, refl, sym, ◌∙◌, ap, arith}
-use Rattle.hex.specs.Hex.{hex_digit_value, pair_value}
-use Rattle.hex.specs.declared.error.FromHexError.{FromHexError}
+use Rattle.hex_pairs.proofs.Common.{ap, arith, Err, FromHexError, get_or, hex_digit_value, List, None, Ok, Option, pair_value, refl, Some, suc, sym, unwrap_or, zero, ℕ, [], ◌%◌, ◌*◌, ◌+◌, ◌<◌, ◌∙◌}
+use Rattle.hex_pairs.proofs.Common.{◌∷◌, ◌≡◌, ◌≤◌}
 use Rattle.hex.specs.declared.error.FromHexError.TheVariants.{InvalidHexCharacter}
 use Rattle.hex_pairs.specs.Tables.{high_of, in_place, low_of}
 use Rattle.hex_pairs.specs.declared.tables.TheConstants.{HIGH, LOW}

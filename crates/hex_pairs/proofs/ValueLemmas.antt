@@ -1,13 +1,10 @@
 -- The tests and values of digits, lane by lane.
-use Rattle.std.proofs.Common.{◌≡◌, ℕ, ◌+◌, ◌-◌, ◌*◌, ◌%◌, ◌^◌, ◌<◌, Bool, true, false, cond, not, ◌&&◌, ◌||◌, eqb, ltb, leb, List, [], ◌∷◌, ◌++◌, bit_and, bit_or, length, map, replicate, subst, refl, sym, ap, ◌∙◌, arith, w8, Fits, eqb-true, ltb-true}
+use Rattle.hex_pairs.proofs.Common.{ap, AreDigits, arith, bit_and, bit_or, Bool, cond, digit_value, Each1, eqb, eqb-true, false, Fits, is_hex_digit, lane_value, leb, length, length-map, List, ltb}
+use Rattle.hex_pairs.proofs.Common.{ltb-true, map, map-append, map-map, mask_l, mask_l-mod, not, paired, pick_l, refl, replicate, splat_is_map, subst, sym, top, true, w8, zip2, zip2_of_maps}
+use Rattle.hex_pairs.proofs.Common.{zip2_splat, ℕ, [], ◌%◌, ◌&&◌, ◌*◌, ◌++◌, ◌+◌, ◌-◌, ◌<◌, ◌^◌, ◌||◌, ◌∙◌, ◌∷◌, ◌≡◌}
 use Rattle.std.proofs.lemmas.Bool.{agree_below_at, and_parts, not-false}
-use Rattle.std.proofs.lemmas.List.{length-map, map-append}
-use Rattle.std.proofs.lemmas.Simd.{map-map, mask_l-mod, splat_is_map, zip2_of_maps, zip2_splat}
-use Rattle.hex.specs.Hex.{is_hex_digit}
-use Rattle.hex_pairs.specs.ValueLanes.{AreDigits, digit_value, lane_value, paired}
 use Rattle.hex_pairs.proofs.DigitLemmas.{down}
 use Rattle.hex_pairs.proofs.LaneLemmas.{IsVector, listed, listed_is}
-use lib.Lanes.{Each1, mask_l, pick_l, top, zip2}
 
 abbrev pub plus : ℕ → ℕ → ℕ
 plus a b = (a + b) % 2 ^ 8

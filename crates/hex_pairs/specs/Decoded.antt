@@ -1,6 +1,6 @@
 -- The bytes that hexadecimal digits spell.
 use Rattle.std.specs.Prelude.{ℕ, List, Option, Some, None, Result, Ok, Err}
-use Rattle.hex.specs.Hex.{decode_of}
+use Rattle.hex_pairs.specs.Common.{decode_of}
 use Rattle.hex.specs.declared.error.FromHexError.{FromHexError}
 
 -- the bytes that were read, if they were

@@ -1,6 +1,6 @@
 -- What the tables hold.
 use Rattle.std.specs.Prelude.{ℕ, ◌*◌, Option, Some, None}
-use Rattle.hex.specs.Hex.{hex_digit_value}
+use Rattle.hex_pairs.specs.Common.{hex_digit_value}
 
 -- what a value counts for in its place, or a number that no byte reaches
 abbrev pub in_place : ℕ → Option ℕ → ℕ

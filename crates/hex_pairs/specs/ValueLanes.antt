@@ -1,6 +1,6 @@
 -- The values of digits, and the bytes of pairs of them.
 use Rattle.std.specs.Prelude.{◌≡◌, ℕ, ◌+◌, ◌*◌, ◌/◌, ◌%◌, ◌^◌, List, [], ◌∷◌, bit_and, true, unwrap_or}
-use Rattle.hex.specs.Hex.{hex_digit_value, is_hex_digit}
+use Rattle.hex_pairs.specs.Common.{hex_digit_value, is_hex_digit}
 
 -- the value of a digit of either case
 abbrev pub digit_value : ℕ → ℕ

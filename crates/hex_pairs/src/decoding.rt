@@ -1,6 +1,6 @@
 // Bytes from digits.
 ghost use Rattle.std.specs.Prelude.{◌≡◌, ◌+◌, ◌*◌, ◌≤◌, ◌++◌, Ok, IfOk, MatchBool, None, drop, false, length, option_map, take, true};
-ghost use Rattle.hex.specs.Hex.{decode_pairs};
+ghost use Rattle.hex_pairs.specs.Common.{decode_pairs};
 ghost use Rattle.hex_pairs.specs.Decoded.{bytes_of, decoded};
 ghost use Rattle.hex_pairs.specs.ValueLanes.{AreDigits, paired};
 

@@ -1,6 +1,6 @@
 // The digits of sixteen bytes.
 ghost use Rattle.std.specs.Prelude.{◌≡◌, ◌++◌, length, map};
-ghost use Rattle.hex.specs.Hex.{encode_lower};
+ghost use Rattle.hex_pairs.specs.Common.{encode_lower};
 ghost use Rattle.hex_pairs.specs.DigitLanes.{high_digit, low_digit};
 
 use std::simd::prelude::*;

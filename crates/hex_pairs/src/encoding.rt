@@ -1,6 +1,6 @@
 // Digits from bytes.
 ghost use Rattle.std.specs.Prelude.{◌≡◌, ◌+◌, ◌*◌, ◌≤◌, ◌++◌, drop, length, take};
-ghost use Rattle.hex.specs.Hex.{encode_lower};
+ghost use Rattle.hex_pairs.specs.Common.{encode_lower};
 
 use crate::block::{LANES, store};
 use crate::digit_lanes::digits_of;

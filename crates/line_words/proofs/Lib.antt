@@ -1,2 +1,3 @@
+mod Common
 mod NumberLemmas
 pub mod PartingLemmas

@@ -1,10 +1,8 @@
 -- Decimal numbers, a digit at a time.
-use Rattle.std.proofs.Common.{◌≡◌, ℕ, suc, ◌+◌, ◌-◌, ◌*◌, ◌<◌, Bool, true, false, List, [], ◌∷◌, length, get_or, drop, nat_le, if◌then◌else◌, Option, Some, None, refl, sym, ◌∙◌, ap, arith}
-use Rattle.std.proofs.lemmas.Bool.Decides.{nat_tests}
+use Rattle.line_words.proofs.Common.{ap, arith, at_most, Bool, digits_behind, drop, false, get_or, if◌then◌else◌, length, List, nat_le, nat_tests, None, Option, option_and_then, refl, Some, suc, sym}
+use Rattle.line_words.proofs.Common.{true, ℕ, [], ◌*◌, ◌+◌, ◌-◌, ◌<◌, ◌∙◌, ◌∷◌, ◌≡◌}
 use Rattle.std.proofs.Math.Seq.{drop-cons}
 use Rattle.std.specs.Char.{is_ascii_digit}
-use Rattle.std.specs.Option.{option_and_then}
-use Rattle.line_words.specs.Number.{at_most, digits_behind}
 
 -- digits behind a number above a limit
 past : (limit n : ℕ) (word : List ℕ) → limit < n → option_and_then (at_most limit) (digits_behind n word) ≡ None

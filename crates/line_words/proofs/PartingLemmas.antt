@@ -1,6 +1,6 @@
 -- the first part of bytes
-use Rattle.std.proofs.Common.{◌≡◌, ◌≢◌, ℕ, zero, suc, ◌+◌, ◌<◌, Bool, true, false, List, [], ◌∷◌, ◌++◌, length, take, drop, get_or, slice_index, nat_eq, Option, None, Some, IfSome, MatchOption, if◌then◌else◌, refl, sym, ◌∙◌, ap, arith, ◌-◌, length-drop}
-use Rattle.std.proofs.lemmas.Bool.Decides.{nat_tests}
+use Rattle.line_words.proofs.Common.{ap, arith, Bool, drop, false, get_or, IfSome, if◌then◌else◌, length, length-drop, List, MatchOption, nat_eq, nat_tests, None, Option, refl, slice_index, Some, suc}
+use Rattle.line_words.proofs.Common.{sym, take, true, zero, ℕ, [], ◌++◌, ◌+◌, ◌-◌, ◌<◌, ◌∙◌, ◌∷◌, ◌≡◌, ◌≢◌}
 use Rattle.std.proofs.lemmas.Bool.{eq-eqb, eqb-true}
 use Rattle.std.proofs.lemmas.List.{drop-append-le, get_or_append_left, length-append, take-append-le, take_all}
 use Rattle.memchr.specs.Find.{IsFirstByte, is_byte}

@@ -1,7 +1,7 @@
 -- Decimal numbers as words.
 use Rattle.std.specs.Prelude.{◌≡◌, ℕ, zero, suc, ◌+◌, ◌-◌, ◌*◌, ◌<◌, ℤ, pos, negsuc, List, [], ◌∷◌, nat_eq, nat_le, if◌then◌else◌, Option, Some, None, codes, refl}
 use Rattle.std.specs.Char.{is_ascii_digit}
-use Rattle.std.specs.Option.{option_and_then, option_map}
+use Rattle.line_words.specs.Common.{option_and_then, option_map}
 
 -- the number of digits that stand behind those of another number
 abbrev pub digits_behind : ℕ → List ℕ → Option ℕ

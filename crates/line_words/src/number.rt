@@ -1,6 +1,6 @@
 // Decimal numbers as words.
 ghost use Rattle.std.specs.Prelude.{◌≡◌, ◌≤◌, ◌<◌, ◌^◌, ◌∷◌, [], IfSome};
-ghost use Rattle.std.specs.Option.{option_and_then};
+ghost use Rattle.line_words.specs.Common.{option_and_then};
 ghost use Rattle.line_words.specs.Number.{at_most, digits_behind, integer_below, negative, number_to, IsBelow};
 
 // A number with one more digit behind it, where that is no more than a limit.

@@ -1,22 +1,12 @@
 -- Where a tile stands among those of a set, by halving.
-use Rattle.std.proofs.Common.{◌≡◌, ◌∙◌, ap, sym, subst, arith, ⊎_elim, ℕ, zero, suc, ◌+◌, ◌<◌, ◌≤◌, Bool, true, false, cond, List, [], ◌∷◌, Option, Some, None, option_map, refl, is_eq, is_lt, is_some, Ordering, Less, Equal, Greater}
-use Rattle.std.specs.Prelude.{IfSome, slice_get}
+use Rattle.mb_access.proofs.Common.{and_parts, ap, arith, below_all, blob_cell, Bool, cases_lt, Cell, cond, contains_key, contents_of, Coord, entries, entries_sorted, eq_by_cmp, Equal, false, find}
+use Rattle.mb_access.proofs.Common.{get, get-entries, Greater, IfSome, is_eq, is_lt, is_some, is_sorted, len, len-entries, Less, List, None, none-some, Option, option_flatten, option_map, Ordering}
+use Rattle.mb_access.proofs.Common.{ordering_reverse, Place, place_at, place_cmp, places_total, refl, same_Some, slice_get, slice_get-get_or, slice_get_within, Some, subst, suc, sym, Tile, tile_at}
+use Rattle.mb_access.proofs.Common.{TileSet, true, true≢false, zero, ℕ, [], ⊎_elim, ◌+◌, ◌<◌, ◌∙◌, ◌∷◌, ◌≡◌, ◌≤◌}
 use Rattle.std.specs.Cmp.{Equal-is}
-use Rattle.std.specs.FinMap.{contains_key, entries, entries_sorted, find, get, get-entries, is_sorted, len, len-entries}
-use Rattle.std.specs.FinMap.Entries.{below_all}
-use Rattle.std.specs.Option.{option_flatten}
-use Rattle.std.specs.Ordering.{eq_by_cmp, ordering_reverse}
-use Rattle.std.proofs.lemmas.Bool.{and_parts, cases_lt, true≢false}
 use Rattle.std.proofs.lemmas.Cmp.{tied_itself}
-use Rattle.std.proofs.lemmas.Option.{none-some, same_Some, slice_get-get_or, slice_get_within}
 use Rattle.mb_access.specs.Finding.{IsIndexOf}
-use Rattle.mb_access.specs.StreamSteps.{Tile, tile_at}
 use Rattle.mb_lists.proofs.Places.{places_antisymmetric}
-use Rattle.mb_lists.specs.Entries.{blob_cell, place_at}
-use Rattle.mb_tables.proofs.TileLemmas.{places_total}
-use Rattle.mb_tables.specs.Tiles.{Place, TileSet, contents_of, place_cmp}
-use Rattle.mb_tables.specs.declared.cell.Cell.{Cell}
-use Rattle.tile_ids.specs.Coord.{Coord}
 use Rattle.mb_metadata.proofs.OthersLemmas.{is_less, is_true}
 
 in_order : (tiles : TileSet) → is_sorted place_cmp (entries tiles) ≡ true

@@ -1,39 +1,17 @@
 -- A method that borrows what it is called on, and hands on what a call on a store answers. Assumes `Logic`.
-use Rattle.std.proofs.Common.{◌≡◌, ℕ, List, [], ◌∷◌, ◌++◌, ap, refl, subst}
-use seplogic.Ra.Ura.{Ura}
-use base.Fml.{Lft, ftrue, flft}
-use base.Logic.{SProp, ent, emp, id⊢, sep}
+use Rattle.mb_access.proofs.Common.{addr, addr_of, alloc_all, alone, and_then, ap, Args, assign, at_exit, AtExit, await, by, call, Callee, calls_at, Clauses, Closed, closing, copy, deref, emp, Ended}
+use Rattle.mb_access.proofs.Common.{ent, enter, erased, fact, fact_i, fjoin, flft, Fn, framed, free_all, fsplit, fsplit3, ftrue, Goes-dropped, Goes-spent_ref, has_ty, heard, id⊢, imm, Item, join}
+use Rattle.mb_access.proofs.Common.{lands_as, Lasts, lasts, later, Laws, layout, leaves, Lft, Lfts, List, Local, local, Logic, look_at, Meets, Model, move, mut, mut_ref_to, mut_Tells, MutRef, named}
+use Rattle.mb_access.proofs.Common.{no, no_more, nothing, one_of, only, owns, param, param_laws, pass_all, pick, place, plain, prop, proved_at, qed, RattleType, raw, refl, regoal, return, returns}
+use Rattle.mb_access.proofs.Common.{rewrite, Running, sem, sep, seq, sets, shr_Tells, some, split, split3, SProp, stay_dropped, Stays, stop, subst, Sym, tables, through, tnil, triple_of, Ty, ty_named}
+use Rattle.mb_access.proofs.Common.{ty_param, ty_ref, ty_struct, type_at, types_at, Ura, use0, use1, Val, value_local, vptr, walk_of, WpFn, WT, yes, ℕ, !, [], ‵, ◌$◌, ◌++◌, ◌∵◌, ◌∷◌, ◌≡◌, ◌⊑◌, ◌⊛◌}
 use lib.Dec.{T}
-use mir.Syntax.{Callee, Fn, Place, Local, Sym, Ty, addr_of, assign, call, copy, deref, erased, imm, local, mut, named, place, return, seq, tnil, ty_named, ty_param, ty_ref, ty_struct, value_local}
-use mir.Val.{Val, vptr, has_ty, WT}
-use prog.Model.{Model}
-use prog.Wp.{Closed, WpFn}
-use types.Logic.{Logic, sem}
-use types.Kit.{Item, ‵, raw, ◌⊛◌, prop, some, later, ◌$◌, ◌∵◌, !, qed, by, move, drop, use0, use1, split, split3, join, pick, await, rewrite, regoal, fsplit, fsplit3, fjoin}
-use types.Run.{stop, addr, no_more, and_then, returns, enter}
-use types.ByLocal.{alloc_all, pass_all, free_all, look_at, get, through, sets, lands_as}
-use contract.BorrowLft.{◌⊑◌}
-use contract.Lifetimes.{Lfts}
-use contract.Monad.{fact, fact_i}
-use contract.Running.{Running, tables}
+use mir.Syntax.{Place}
+use types.Kit.{drop}
+use types.ByLocal.{get}
 use denote.Builtin.{RefOf}
-use denote.Exit.{yes, no}
-use denote.Param.{param, layout}
-use denote.Param.Laws.{Laws, param_laws}
-use denote.RattleType.{RattleType, owns}
-use denote.Ref.{MutRef, mut_Tells, shr_Tells}
-use denote.Signature.{plain, mut_ref_to, type_at, types_at}
-use denote.Steps.{nothing, heard, only}
-use denote.Triple.Call.{calls_at}
-use denote.Triple.Clauses.{AtExit, Clauses, Ended, Lasts, lasts, at_exit, closing}
-use denote.Triple.Entry.{Args}
-use denote.Triple.Spec.{Meets, triple_of}
-use denote.Triple.Table.{framed}
-use denote.Triple.Walked.{Stays, stay_dropped, Goes-dropped, Goes-spent_ref, walk_of}
-use Rattle.std.proofs.raw_atomic.Walks.{proved_at, leaves}
 use Rattle.std.proofs.alloc.Global.TheLaws as global
 use Rattle.std.specs.contracts.alloc.Global as G-type
-use Rattle.base_values.proofs.ByHand.Values.{alone, one_of}
 use Rattle.mb_access.specs.contracts.mbtiles.Mbtiles as M-type
 
 abbrev struct_name : Ty → Sym

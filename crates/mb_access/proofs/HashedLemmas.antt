@@ -1,21 +1,8 @@
 -- Answers of a read of a tile with its stored digest.
-use Rattle.std.proofs.Common.{◌≡◌, ◌∙◌, ap, subst, ℕ, Bool, true, false, List, Option, Result, Ok, Err, refl}
-use Rattle.std.specs.Prelude.{option_map}
-use Rattle.std.proofs.lemmas.Bool.{false≢true}
+use Rattle.mb_access.proofs.Common.{Answers, ap, begun_err, begun_free, begun_ok, Bool, bytes_in, Cell, Coord, coord_in, Err, false, false≢true, Hash, Held, is_free, List, MbtError, MbtType}
+use Rattle.mb_access.proofs.Common.{Normalized, Ok, Option, option_map, refl, Result, state_of, subst, Tables, true, ℕ, ◌∙◌, ◌≡◌}
 use Rattle.mb_access.specs.Hashed.{IsHashed, hash_by, hashed_answer, id_at, row_at, row_by}
-use Rattle.mb_access.specs.Reads.{bytes_in, coord_in}
-use Rattle.mb_load.proofs.BegunLemmas.{begun_err, begun_free, begun_ok}
-use Rattle.mb_loaded.specs.Held.{Held}
 use Rattle.mb_load.specs.Loading.{Loads}
-use Rattle.mb_load.specs.StateOf.{state_of}
-use Rattle.mb_tables.specs.Refusals.{Answers, is_free}
-use Rattle.mb_tables.specs.Table.{Tables}
-use Rattle.mb_tables.specs.declared.cell.Cell.{Cell}
-use Rattle.mb_tables.specs.declared.error.MbtError.{MbtError}
-use Rattle.mb_tables.specs.declared.kind.MbtType.{MbtType}
-use Rattle.mb_tables.specs.declared.kind.MbtType.TheVariants.{Normalized}
-use Rattle.mb_tables.specs.declared.kind.NormalizedSchema.TheVariants.{Hash}
-use Rattle.tile_ids.specs.Coord.{Coord}
 
 abbrev Hashed : Type 0
 Hashed = Option (List ℕ × Option (List ℕ))

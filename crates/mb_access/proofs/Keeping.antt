@@ -1,17 +1,6 @@
 -- A struct that keeps a store and a state, made of both.
-use Rattle.std.proofs.Common.{◌≡◌, [], ◌∷◌, Result, Ok, Err, subst, sym}
-use seplogic.Ra.Ura.{Ura}
-use base.Logic.{ent, sep}
-use base.Fml.{Lft}
-use mir.Syntax.{named}
-use mir.Val.{Val, vstruct, of_list}
-use types.Logic.{Logic, sem}
-use denote.RattleType.{RattleType}
-use denote.Ref.{MutBor, MutRef}
-use Rattle.mb_tables.specs.declared.error.MbtError.{MbtError}
-use Rattle.mb_loaded.specs.State.{State}
-use Rattle.mb_access.specs.StreamSteps.{set_of}
-use Rattle.mb_access.specs.declared.stream_state.StreamState.{StreamState}
+use Rattle.mb_access.proofs.Common.{ent, Err, Lft, Logic, MbtError, MutBor, MutRef, named, of_list, Ok, RattleType, Result, sem, sep, set_of, State, StreamState, subst, sym, Ura, Val, vstruct, []}
+use Rattle.mb_access.proofs.Common.{◌∷◌, ◌≡◌}
 use Rattle.mb_access.specs.contracts.stream_state.StreamState as S-type
 
 -- What is read of it is what it was made of, it is owned where that is, and what it answers to have loaded is what the state has.

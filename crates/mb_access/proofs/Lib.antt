@@ -1,3 +1,4 @@
+mod Common
 pub mod DescribedLemmas
 pub mod FindingLemmas
 pub mod HashedLemmas

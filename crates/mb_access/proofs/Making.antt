@@ -1,47 +1,27 @@
 -- How a stream is made of a store: the store is lent to `StreamState::start`, and held again where that succeeds. What a refusal leaves is what `start` left. Assumes `Logic`.
-use Rattle.std.proofs.Common.{◌≡◌, ℕ, List, [], ◌∷◌, ◌++◌, refl, subst, sym, lit<, true, Ok, Err, IfOk}
-use base.Fml.{Lft, Share, GName, Incl-trans, ftrue, flft, fres}
-use base.Logic.{SProp, emp, id⊢, sep}
-use seplogic.Ra.Ura.{Ura}
-use types.Logic.{Logic, sem}
+use Rattle.mb_access.proofs.Common.{a_type, addr, addr_of, aggregate, alloc_all, alone, and_then, and_tt, AreAllLeft, Args, arm, assign, at_exit, at_ret, await, beside, bounded, by, by_result, call}
+use Rattle.mb_access.proofs.Common.{Callee, calls_at, Clauses, Closed, closing, copy, dcons, deref, Dict, dnil, emp, Ended, enter, Env, env, erased, Err, err_of, err_out, exec, fact, fact_i, field}
+use Rattle.mb_access.proofs.Common.{first, fjoin, fld, flft, Fn, framed, free_all, fres, fsplit, fsplit3, ftrue, get_in, get_tag, GName, Goes-dropped, Goes-spent_ref, heard, holds, id⊢, IfOk}
+use Rattle.mb_access.proofs.Common.{Incl-trans, int, IsBegun, Item, join, lands_as, Lasts, lasts, later, Laws, layout, leaves, left_at_most, len, Lft, Lfts, Lifetime, List, lit, lit<, Local, local}
+use Rattle.mb_access.proofs.Common.{Logic, look_at, meet_⊑_right, Meets, Model, move, mut, mut_ref_to, mut_Tells, MutBor, MutRef, named, no, no_default, no_more, nothing, of_list, of_opd, Ok, ok_of}
+use Rattle.mb_access.proofs.Common.{ok_out, owns, param, param_laws, pass_all, pick, place, plain, prop, proved_at, qed, RattleType, raw, ReadsOnly, refl, regoal, RestsIfErr, return, returns, rewrite}
+use Rattle.mb_access.proofs.Common.{Running, rv_opd, sem, sep, seq, set_of, sets, sets_last, Share, some, split, SProp, stay_dropped, Stays, stop, subst, switch, switches_on, Sym, sym, Tables, tables}
+use Rattle.mb_access.proofs.Common.{tcons, through, tnil, told, triple_of, true, ttcons, ttnil, Ty, ty_enum, ty_param, ty_ref, ty_struct, type_at, types_at, Ura, use0, use1, use2, use3, Val}
+use Rattle.mb_access.proofs.Common.{value_local, variant, vptr, vstruct, w8, walk_of, WpFn, yes, ℕ, !, [], ‵, ◌$◌, ◌++◌, ◌∵◌, ◌∷◌, ◌≡◌, ◌⊑◌, ◌⊛◌}
 use mir.Syntax.{Args as Given}
-use mir.Syntax.{Callee, Dict, Fn, Lifetime, Local, Place, Sym, Ty, a_type, addr_of, aggregate, arm, assign, call, copy, deref, erased, field, int, local, mut, named, no_default, place, return, rv_opd, seq, switch, dcons, dnil, tcons, tnil, ttcons, ttnil, ty_enum, ty_param, ty_ref, ty_struct, value_local, variant, w8}
-use mir.Val.{Val, vptr, vstruct, of_list}
-use prog.Model.{Model}
+use mir.Syntax.{Place}
 use prog.Wired.{Wired}
-use prog.Wp.{Closed, Env, WpFn}
 use types.Match.{live, vrt, in_variant}
-use types.Kit.{Item, ‵, raw, ◌⊛◌, prop, some, later, at_ret, ◌$◌, ◌∵◌, !, qed, by, move, drop, use0, use1, use2, use3, split, join, pick, await, rewrite, regoal, fsplit, fsplit3, fjoin}
-use types.Run.{stop, fld, addr, lit, of_opd, no_more, and_then, first, switches_on, exec, returns, enter}
+use types.Kit.{drop}
 use types.Part.{whole, agg}
-use types.ByLocal.{alloc_all, pass_all, free_all, look_at, get, get_in, get_tag, through, sets, sets_last, lands_as, env}
-use contract.BorrowLft.{◌⊑◌, meet_⊑_right}
-use contract.Lifetimes.{Lfts}
-use contract.Monad.{fact, fact_i}
-use contract.Running.{Running, tables}
-use denote.Exit.{yes, no}
-use denote.Param.{param, layout, bounded}
-use denote.Param.Laws.{Laws, param_laws}
-use denote.RattleType.{RattleType, owns}
-use denote.Ref.{MutBor, MutRef, mut_Tells}
-use denote.Signature.{plain, mut_ref_to, type_at, types_at}
-use denote.Steps.{nothing, heard}
-use denote.Triple.Call.{calls_at}
-use denote.Triple.Clauses.{Clauses, Ended, Lasts, lasts, at_exit, closing}
-use denote.Triple.Entry.{Args}
-use denote.Triple.Spec.{Meets, triple_of}
-use denote.Triple.Table.{framed}
-use denote.Triple.Walked.{Stays, stay_dropped, Goes-dropped, Goes-spent_ref, walk_of}
-use Rattle.std.proofs.raw_atomic.Walks.{proved_at, leaves}
+use types.ByLocal.{get}
 use Rattle.std.proofs.alloc.Global.TheLaws as global
-use Rattle.std.specs.Borrow.{RestsIfErr}
 use Rattle.std.specs.contracts.alloc.Global as G-type
 use Rattle.std.specs.contracts.result.Result as RS
 use Rattle.mb_tables.proofs.error.MbtError.TheLaws as error-laws
 use Rattle.mb_tables.specs.contracts.error.MbtError as E-type
 use Rattle.mb_tables.specs.declared.error.MbtError.TheVariants as errors
 use Rattle.base_values.proofs.ByHand.Bodies.{after, head, arm_body, then_runs}
-use Rattle.base_values.proofs.ByHand.Values.{alone, and_tt, by_result, told, holds, beside, ok_out, err_out, ok_of, err_of}
 use Rattle.base_values.proofs.ByHand.Rests.{rests_ok, rests_err}
 use Rattle.base_values.proofs.ByHand.Lending.{Back, lends_within, gives_back}
 use Rattle.mb_access.proofs.stream_state.StreamState.TheLaws as state
@@ -51,13 +31,8 @@ use Rattle.mb_access.proofs.stream_state.StreamState.start.Met as started
 use Rattle.mb_access.proofs.stream_state.StreamState.start.Symbol as start
 use Rattle.mb_store.specs.declared.store.TileStore.{Ghosts}
 use Rattle.mb_store.specs.contracts.store.TileStore.TheBound.{Met}
-use Rattle.mb_store.specs.Kept.{ReadsOnly}
 use Rattle.mb_access.proofs.Keeping.{Keeps, of_parts}
-use Rattle.mb_load.specs.Begun.{IsBegun}
-use Rattle.mb_tables.specs.Table.{Tables}
-use Rattle.mb_access.specs.StreamSteps.{AreAllLeft, left_at_most, set_of}
 use Rattle.mb_access.specs.Refused.{IsUnfailing, LeftByStart}
-use Rattle.std.specs.FinMap.{len}
 use Rattle.mb_access.proofs.RefusedLemmas.{fault_again, is_ok, no_fault}
 
 abbrev enum_name : Ty → Sym

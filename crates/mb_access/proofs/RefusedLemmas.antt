@@ -1,9 +1,6 @@
 -- Why a stream isn't made, whatever would have been made.
-use Rattle.std.proofs.Common.{arith, ◌≡◌, ◌<◌, ◌≤◌, ◌^◌, ◌-◌, ◌+◌, ℕ, ap, min, IsErrOf, Result, Ok, Err, subst, sym, refl}
+use Rattle.mb_access.proofs.Common.{ap, arith, Err, IsErrOf, MbtError, min, Ok, refl, Result, Rose, StoreFault, subst, sym, ℕ, ◌+◌, ◌-◌, ◌<◌, ◌^◌, ◌≡◌, ◌≤◌}
 use Rattle.std.proofs.Math.Nat.{min-eq_left}
-use Rattle.base_values.specs.Counts.{Rose}
-use Rattle.mb_tables.specs.declared.error.MbtError.{MbtError}
-use Rattle.mb_tables.specs.declared.error.MbtError.TheVariants.{StoreFault}
 
 module _ (A B : Type 0) where
   abbrev Is : MbtError → Result B MbtError → Type 0

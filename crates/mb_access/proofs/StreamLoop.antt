@@ -1,14 +1,6 @@
 -- The tiles that are still to come, step by step.
-use Rattle.std.proofs.Common.{◌≡◌, ◌∙◌, ap, sym, subst, ℕ, suc, ◌<◌, ◌≤◌, Bool, true, List, ◌∷◌, Option, Some, None, Ok, arith, filter_map, refl, take}
-use Rattle.std.specs.Prelude.{IfSome, slice_get}
-use Rattle.std.specs.FinMap.{entries, len}
-use Rattle.std.specs.List.{cons_option}
-use Rattle.mb_access.specs.StreamSteps.{GivesIndex, IsRowOf, Tile, left_of, rows_left, set_of, tile_by_row}
-use Rattle.mb_access.specs.declared.stream_state.StreamState.{StreamState}
-use Rattle.mb_loaded.specs.Held.{Held}
-use Rattle.mb_store.specs.Kept.{ReadsOnly}
-use Rattle.mb_tables.specs.Table.{Tables}
-use Rattle.mb_tables.specs.declared.cell.Cell.{Cell}
+use Rattle.mb_access.proofs.Common.{ap, arith, Bool, Cell, cons_option, entries, filter_map, GivesIndex, Held, IfSome, IsRowOf, left_of, len, List, None, Ok, Option, ReadsOnly, refl, rows_left}
+use Rattle.mb_access.proofs.Common.{set_of, slice_get, Some, StreamState, subst, suc, sym, Tables, take, Tile, tile_by_row, true, ℕ, ◌<◌, ◌∙◌, ◌∷◌, ◌≡◌, ◌≤◌}
 
 left_same : (t : Tables) (s u : StreamState) → rows_left t u ≡ rows_left t s → u.set ≡ s.set → u.left ≡ s.left → left_of t u ≡ left_of t s
 left_same t s u rows set left = λ i. take (left i) (filter_map (tile_by_row (set i).state) (rows i))

@@ -1,8 +1,6 @@
 -- The rows that are still to come, page by page.
-use Rattle.std.proofs.Common.{◌≡◌, ◌∙◌, ap, sym, ℕ, zero, suc, ◌+◌, ◌-◌, ◌++◌, ◌≤◌, List, [], ◌∷◌, arith, drop, length, take}
-use Rattle.std.proofs.Math.Seq.{drop-drop}
+use Rattle.mb_access.proofs.Common.{ap, arith, Cell, drop, drop-drop, length, List, suc, sym, take, zero, ℕ, [], ◌++◌, ◌+◌, ◌-◌, ◌∙◌, ◌∷◌, ◌≡◌, ◌≤◌}
 use Rattle.std.proofs.lemmas.List.{drop_all}
-use Rattle.mb_tables.specs.declared.cell.Cell.{Cell}
 
 abbrev Rows : Type 0
 Rows = List (List Cell)

@@ -1,16 +1,11 @@
 -- The tile of a row, and the tiles of the rows of tables that load.
-use Rattle.std.proofs.Common.{◌≡◌, ◌∙◌, ap, sym, subst, ℕ, ◌+◌, ◌-◌, ◌++◌, ◌&&◌, Bool, true, false, cond, not, List, [], ◌∷◌, Option, Some, None, Result, Ok, Err, arith, filter_map, get_or, is_some, length, map, refl, take}
-use Rattle.std.specs.Prelude.{All, option_and_then, option_map, slice_get}
-use Rattle.std.specs.List.{cons_option, list_any}
-use Rattle.std.specs.Ordering.{eq_by_cmp}
+use Rattle.mb_access.proofs.Common.{All, ap, arith, Bool, Cache, Cell, cell_at, cond, cons_option, contains_key, content_of, DedupId, eq_by_cmp, Err, false, false≢true, filter_map, first_refusal}
+use Rattle.mb_access.proofs.Common.{from_entries, get, get-from_entries, get-tiles_of, get_or, Hash, held_in, InvalidDataFormat, InvalidTileIndex, is_some, is_some-find, is_tile_row, layout_of, len}
+use Rattle.mb_access.proofs.Common.{len-empty, len-insert, length, List, list_any, map, MbtError, MbtType, named_rows, None, none-some, Normalized, not, NoUniquenessConstraint, Ok, Option}
+use Rattle.mb_access.proofs.Common.{option_and_then, option_map, pairs_of, Place, place_cmp, place_of, places_total, refl, Result, slice_get, slice_get-get_or, Some, State, state_of, stated, subst}
+use Rattle.mb_access.proofs.Common.{sym, Tables, take, take-length, Tile, tile_by_row, tile_of, tile_table, true, unless, unless_refused, ℕ, [], ◌&&◌, ◌++◌, ◌+◌, ◌-◌, ◌∙◌, ◌∷◌, ◌≡◌}
 use Rattle.std.specs.FinMap as fin
-use Rattle.std.specs.FinMap.{contains_key, from_entries, get, get-from_entries, len, len-empty, len-insert}
-use Rattle.std.specs.FinMap.Entries.{is_some-find}
-use Rattle.std.proofs.Math.Seq.{take-length}
-use Rattle.std.proofs.lemmas.Bool.{false≢true}
 use Rattle.std.proofs.lemmas.List.Elements.{All-head, All-tail}
-use Rattle.std.proofs.lemmas.Option.{none-some, slice_get-get_or}
-use Rattle.mb_access.specs.StreamSteps.{Tile, is_tile_row, tile_by_row}
 use Rattle.mb_constraints.proofs.ApartPlaces.{in_has_place}
 use Rattle.mb_constraints.specs.TileRows.{bad_tile, tile_in}
 use Rattle.mb_lists.proofs.Items.{found_itself, look_up}
@@ -18,23 +13,8 @@ use Rattle.mb_lists.proofs.Sorting.{apart_from_distinct}
 use Rattle.mb_lists.specs.Contents.{content_rows}
 use Rattle.mb_lists.specs.Keyed.{are_distinct, entries_by}
 use Rattle.mb_load.proofs.RowsPass.{both_none, holds, passing}
-use Rattle.mb_load.proofs.StateLemmas.{named_rows}
 use Rattle.mb_load.specs.LoadingOrder.{refusals}
-use Rattle.mb_loaded.specs.State.{State}
-use Rattle.mb_load.specs.StateOf.{held_in, state_of, stated, unless_refused}
-use Rattle.mb_tables.proofs.TileLemmas.{get-tiles_of, places_total}
 use Rattle.mb_tables.specs.Cell.{is_null}
-use Rattle.mb_tables.specs.Detection.{layout_of}
-use Rattle.mb_tables.specs.Kind.{tile_table}
-use Rattle.mb_tables.specs.Refusals.{first_refusal, unless}
-use Rattle.mb_tables.specs.Table.{Tables}
-use Rattle.mb_tables.specs.Tiles.{Place, cell_at, content_of, pairs_of, place_cmp, place_of, tile_of}
-use Rattle.mb_tables.specs.declared.cell.Cell.{Cell}
-use Rattle.mb_tables.specs.declared.error.MbtError.{MbtError}
-use Rattle.mb_tables.specs.declared.error.MbtError.TheVariants.{InvalidDataFormat, InvalidTileIndex, NoUniquenessConstraint}
-use Rattle.mb_tables.specs.declared.kind.MbtType.{MbtType}
-use Rattle.mb_tables.specs.declared.kind.MbtType.TheVariants.{Normalized, Cache}
-use Rattle.mb_tables.specs.declared.kind.NormalizedSchema.TheVariants.{Hash, DedupId}
 use Rattle.mb_tables.specs.declared.table.TableName.TheVariants.{Metadata}
 use Rattle.mb_metadata.proofs.UpdateLemmas.{ok_same}
 

@@ -1,18 +1,9 @@
 -- What calls in a row give.
-use Rattle.std.proofs.Common.{◌≡◌, ◌∙◌, ap, sym, subst, ℕ, ◌++◌, Bool, true, List, [], ◌∷◌, Option, Some, None, Ok, Err, filter_map, is_ok, map, refl}
-use Rattle.std.specs.Iterator.{Yields}
-use Rattle.std.specs.List.{cons_option, list_all}
-use Rattle.std.proofs.lemmas.Bool.{false≢true, and_parts}
-use Rattle.std.proofs.lemmas.Option.{none-some, same_Some}
+use Rattle.mb_access.proofs.Common.{and_parts, ap, Bool, cons_option, Err, false≢true, filter_map, GivesCoord, GivesTile, is_ok, left_of, List, list_all, map, None, none-some, Ok, Option, Place}
+use Rattle.mb_access.proofs.Common.{place_at, refl, same_Some, set_of, Some, StreamsCoord, StreamState, StreamsTile, subst, sym, Tables, Tile, TileSet, true, Yields, ℕ, [], ◌++◌, ◌∙◌, ◌∷◌, ◌≡◌}
 use Rattle.mb_access.specs.StreamRuns.{CoordItem, TileItem, place_in, tile_in}
-use Rattle.mb_access.specs.StreamSteps.{GivesCoord, GivesTile, Tile, left_of, set_of}
-use Rattle.mb_access.specs.Streams.{StreamsCoord, StreamsTile}
-use Rattle.mb_access.specs.declared.stream_state.StreamState.{StreamState}
 use Rattle.mb_access.specs.declared.streams.Coords.{Coords}
 use Rattle.mb_access.specs.declared.streams.Tiles.{Tiles}
-use Rattle.mb_lists.specs.Entries.{place_at}
-use Rattle.mb_tables.specs.Table.{Tables}
-use Rattle.mb_tables.specs.Tiles.{Place, TileSet}
 
 no_front : {B : Type 0} (xs ys : List B) → [] ≡ xs ++ ys → xs ≡ []
 no_front [] ys h = refl

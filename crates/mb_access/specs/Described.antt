@@ -1,13 +1,7 @@
 -- Answers from the descriptions of a store's tables alone.
 use Rattle.std.specs.Prelude.{◌≡◌, ℕ, Bool, true, List, Option, Some, None, Result, Ok, Err, option_copied}
-use Rattle.std.specs.Borrow.{Bor}
-use Rattle.mb_tables.specs.Detection.{layout_of, missing_index}
-use Rattle.mb_tables.specs.Refusals.{Answers}
-use Rattle.mb_tables.specs.Table.{Tables}
+use Rattle.mb_access.specs.Common.{Answers, Bor, InvalidDataFormat, layout_of, MbtError, MbtType, missing_index, Tables}
 use Rattle.mb_tables.specs.declared.description.TableDesc.{TableDesc}
-use Rattle.mb_tables.specs.declared.error.MbtError.{MbtError}
-use Rattle.mb_tables.specs.declared.error.MbtError.TheVariants.{InvalidDataFormat}
-use Rattle.mb_tables.specs.declared.kind.MbtType.{MbtType}
 
 -- the answer that is due of descriptions: of those that a store tells, and of some where it tells nothing
 pub record IsDescribed {A : Type 0} (f : List TableDesc → Result A MbtError) (tells : Bool)

@@ -1,7 +1,6 @@
 -- Where a tile stands among those of a set, in the order of their places.
 use Rattle.std.specs.Prelude.{◌≡◌, ℕ, ◌<◌, Option, Some, None, option_map, slice_get}
-use Rattle.std.specs.FinMap.{entries, get, len}
-use Rattle.mb_tables.specs.Tiles.{Place, TileSet}
+use Rattle.mb_access.specs.Common.{entries, get, len, Place, TileSet}
 
 -- the index of the tile at a place; none where there is no tile
 abbrev pub IsIndexOf : TileSet → Place → Option ℕ → Type 0

@@ -1,22 +1,8 @@
 -- What a read of a tile with its stored digest answers.
 use Rattle.std.specs.Prelude.{◌≡◌, ℕ, Bool, true, List, Option, Some, None, Result, Ok, find, option_and_then, option_map}
-use Rattle.std.specs.FinMap.{FinMap, get}
+use Rattle.mb_access.specs.Common.{Cell, cell_at, Coord, FinMap, FlatWithHash, get, Hash, IsBegun, MbtError, MbtType, Normalized, place_at, place_cmp, State, Tables, Text, tile_key, TilesWithHash}
 use Rattle.mb_access.specs.Reads.{bytes_in, coord_in}
-use Rattle.mb_lists.specs.Entries.{place_at}
-use Rattle.mb_load.specs.Begun.{IsBegun}
-use Rattle.mb_loaded.specs.Changing.{tile_key}
-use Rattle.mb_loaded.specs.State.{State}
 use Rattle.mb_tables.specs.Key.{has_key}
-use Rattle.mb_tables.specs.Table.{Tables}
-use Rattle.mb_tables.specs.Tiles.{cell_at, place_cmp}
-use Rattle.mb_tables.specs.declared.cell.Cell.{Cell}
-use Rattle.mb_tables.specs.declared.cell.Cell.TheVariants.{Text}
-use Rattle.mb_tables.specs.declared.error.MbtError.{MbtError}
-use Rattle.mb_tables.specs.declared.kind.MbtType.{MbtType}
-use Rattle.mb_tables.specs.declared.kind.MbtType.TheVariants.{FlatWithHash, Normalized}
-use Rattle.mb_tables.specs.declared.kind.NormalizedSchema.TheVariants.{Hash}
-use Rattle.mb_tables.specs.declared.table.TableName.TheVariants.{TilesWithHash}
-use Rattle.tile_ids.specs.Coord.{Coord}
 
 -- the row that tables have at a coordinate in the table of tiles with their digests
 abbrev pub row_at : Tables → Option Coord → Option (List Cell)

@@ -1,3 +1,4 @@
+pub mod Common
 pub mod Reads
 pub mod Hashed
 pub mod Described

@@ -1,12 +1,6 @@
 -- What reads of a set answer.
 use Rattle.std.specs.Prelude.{ℕ, ◌^◌, ◌&&◌, Bool, nat_le, nat_lt, cond, List, Option, Some, None, Result, Ok, is_some, option_and_then}
-use Rattle.std.specs.FinMap.{get}
-use Rattle.std.specs.Option.{option_flatten}
-use Rattle.mb_lists.specs.Entries.{place_at}
-use Rattle.mb_loaded.specs.State.{State}
-use Rattle.mb_tables.specs.Tiles.{TileSet}
-use Rattle.mb_tables.specs.declared.error.MbtError.{MbtError}
-use Rattle.tile_ids.specs.Coord.{Coord}
+use Rattle.mb_access.specs.Common.{Coord, get, MbtError, option_flatten, place_at, State, TileSet}
 
 -- the coordinate of three numbers, where they are one
 abbrev pub coord_in : ℕ → ℕ → ℕ → Option Coord

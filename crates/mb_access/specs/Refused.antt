@@ -1,9 +1,6 @@
 -- What a call that is refused says of the store, and what a stream that isn't made leaves of the store that it would have borrowed.
 use Rattle.std.specs.Prelude.{◌≢◌, ◌<◌, ◌-◌, ◌^◌, ℕ, Bool, Err, Result}
-use Rattle.mb_store.specs.Kept.{FaultsCounted, ReadsOnly}
-use Rattle.mb_tables.specs.Table.{Tables}
-use Rattle.mb_tables.specs.declared.error.MbtError.{MbtError}
-use Rattle.mb_tables.specs.declared.error.MbtError.TheVariants.{StoreFault}
+use Rattle.mb_access.specs.Common.{FaultsCounted, MbtError, ReadsOnly, StoreFault, Tables}
 
 -- no fault comes where calls don't fail, and the count of faults isn't at its end
 abbrev pub IsUnfailing : {A : Type 0} → Type 0 → ℕ → Result A MbtError → Type 0

@@ -1,14 +1,8 @@
 -- The order of a stream, on small tables.
 use Rattle.std.specs.Prelude.{◌≡◌, ℕ, pos, cond, false, refl, List, [], ◌∷◌, Some, None}
 use Rattle.mb_access.specs.StreamSteps.{page_size}
-use Rattle.mb_tables.specs.Table.{Tables, table_eq}
-use Rattle.mb_tables.specs.Tiles.{Place, pairs_of}
-use Rattle.mb_tables.specs.declared.cell.Cell.{Cell}
-use Rattle.mb_tables.specs.declared.cell.Cell.TheVariants.{Null, Int, Text, Blob}
-use Rattle.mb_tables.specs.declared.kind.MbtType.TheVariants.{Flat, Normalized}
-use Rattle.mb_tables.specs.declared.kind.NormalizedSchema.TheVariants.{Hash}
+use Rattle.mb_access.specs.Common.{Blob, Cell, Flat, Hash, Images, Int, Map, Normalized, Null, pairs_of, Place, table_eq, Tables, Text, Tiles}
 use Rattle.mb_tables.specs.declared.table.TableName.{TableName}
-use Rattle.mb_tables.specs.declared.table.TableName.TheVariants.{Tiles, Map, Images}
 
 abbrev row : ℕ → ℕ → ℕ → Cell → List Cell
 row zoom column line cell = Int (pos zoom) ∷ Int (pos column) ∷ Int (pos line) ∷ cell ∷ []

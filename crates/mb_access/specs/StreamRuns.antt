@@ -1,10 +1,7 @@
 -- What whole runs of streams give.
 use Rattle.std.specs.Prelude.{ℕ, List, Option, Some, None, Result, Ok, Err}
 use Rattle.mb_access.specs.StreamSteps.{Tile}
-use Rattle.mb_lists.specs.Entries.{place_at}
-use Rattle.mb_tables.specs.Tiles.{Place}
-use Rattle.mb_tables.specs.declared.error.MbtError.{MbtError}
-use Rattle.tile_ids.specs.Coord.{Coord}
+use Rattle.mb_access.specs.Common.{Coord, MbtError, Place, place_at}
 
 abbrev pub CoordItem : Type 0
 CoordItem = Result Coord MbtError

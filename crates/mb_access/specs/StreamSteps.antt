@@ -1,21 +1,10 @@
 -- The tiles that a stream still gives, and one call for the next of them.
 use Rattle.std.specs.Prelude.{◌≡◌, ℕ, ◌<◌, ◌/◌, ◌-◌, ◌++◌, Bool, IfSome, true, cond, drop, max, not, take, List, [], ◌∷◌, Option, Some, None, Result, Ok, Err, filter_map, option_and_then, option_map, slice_get, slice_index_or}
-use Rattle.std.specs.FinMap.{entries, get, len}
-use Rattle.std.specs.Option.{option_flatten}
-use Rattle.base_values.specs.Counts.{Rose}
+use Rattle.mb_access.specs.Common.{Cell, cell_at, Coord, entries, get, len, MbtError, MbtType, Normalized, option_flatten, OutOfMemory, pairs_of, Place, place_at, place_of, Rose, State, StoreFault}
+use Rattle.mb_access.specs.Common.{Tables, TileSet}
 use Rattle.mb_access.specs.declared.stream_state.StreamState.{StreamState}
-use Rattle.mb_lists.specs.Entries.{place_at}
-use Rattle.mb_loaded.specs.State.{State}
 use Rattle.mb_tables.specs.Cell.{is_null}
 use Rattle.mb_tables.specs.Kind.{tile_table}
-use Rattle.mb_tables.specs.Table.{Tables}
-use Rattle.mb_tables.specs.Tiles.{Place, TileSet, cell_at, pairs_of, place_of}
-use Rattle.mb_tables.specs.declared.cell.Cell.{Cell}
-use Rattle.mb_tables.specs.declared.error.MbtError.{MbtError}
-use Rattle.mb_tables.specs.declared.error.MbtError.TheVariants.{OutOfMemory, StoreFault}
-use Rattle.mb_tables.specs.declared.kind.MbtType.{MbtType}
-use Rattle.mb_tables.specs.declared.kind.MbtType.TheVariants.{Normalized}
-use Rattle.tile_ids.specs.Coord.{Coord}
 
 -- a tile: its place, and its bytes or null
 abbrev pub Tile : Type 0

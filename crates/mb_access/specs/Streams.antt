@@ -1,16 +1,10 @@
 -- One call of the iterators over a set's tiles.
 use Rattle.std.specs.Prelude.{◌≡◌, ℕ, ◌<◌, Bool, true, List, Option, Some, None, IfOk, IfSome, OnErr, Result, Ok, Err}
-use Rattle.std.specs.FinMap.{contains_key, get}
+use Rattle.mb_access.specs.Common.{contains_key, Coord, get, MbtError, place_at, ReadsOnly, State, Tables}
 use Rattle.mb_access.specs.StreamSteps.{GivesCoord, GivesTile, StreamCauses, left_at_most, left_of, set_of}
 use Rattle.mb_access.specs.declared.stream_state.StreamState.{StreamState}
 use Rattle.mb_access.specs.declared.streams.Coords.{Coords}
 use Rattle.mb_access.specs.declared.streams.Tiles.{Tiles}
-use Rattle.mb_lists.specs.Entries.{place_at}
-use Rattle.mb_loaded.specs.State.{State}
-use Rattle.mb_store.specs.Kept.{ReadsOnly}
-use Rattle.mb_tables.specs.Table.{Tables}
-use Rattle.mb_tables.specs.declared.error.MbtError.{MbtError}
-use Rattle.tile_ids.specs.Coord.{Coord}
 
 -- What a call for the next coordinate gives, by what the store tells, whether it does, its count of faults, and whether it is steady. Over a store that tells, the
 -- first of the tiles to come is given; over any store, a coordinate is one of the set that was loaded, fewer are to come after each item, and none after an error or the end.

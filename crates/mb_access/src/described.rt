@@ -1,9 +1,7 @@
 // What the descriptions of a store's tables tell.
 ghost use Rattle.std.specs.Prelude.{◌≡◌, ◌≢◌, Err, IfErr};
 ghost use Rattle.mb_access.specs.Described.{IsDescribed, missing_answer, read_name};
-ghost use Rattle.mb_store.specs.Kept.{FaultsCounted, ReadsOnly};
-ghost use Rattle.mb_tables.specs.Detection.{detected};
-ghost use Rattle.mb_tables.specs.Refusals.{Answers};
+ghost use Rattle.mb_access.specs.Common.{Answers, detected, FaultsCounted, ReadsOnly};
 
 use mb_store::{MbtError, MbtResult, MbtType, TableDesc, TileStore};
 use std::alloc::Global;

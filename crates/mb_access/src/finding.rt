@@ -1,11 +1,8 @@
 // Where a tile stands among those of a loaded set.
 ghost use Rattle.std.specs.Prelude.{◌≡◌, ◌+◌, ◌<◌, IfOk, IsTrue, Some, cond, slice_get, true};
-ghost use Rattle.std.specs.FinMap.{contains_key, entries, get, len};
-ghost use Rattle.std.specs.Option.{option_flatten};
+ghost use Rattle.mb_access.specs.Common.{contains_key, contents_of, entries, get, len, option_flatten, place_at, place_cmp};
 ghost use Rattle.mb_access.specs.Finding.{IsIndexOf};
 ghost use Rattle.mb_access.specs.StreamSteps.{tile_at};
-ghost use Rattle.mb_lists.specs.Entries.{place_at};
-ghost use Rattle.mb_tables.specs.Tiles.{contents_of, place_cmp};
 
 use base_values::{BlobVal, OutOfMemory};
 use mb_loaded::Loaded;

@@ -2,11 +2,7 @@
 ghost use Rattle.std.specs.Prelude.{◌≡◌, ◌≢◌, Err, IfErr, IfOk, option_and_then, option_copied, true};
 ghost use Rattle.mb_access.specs.Hashed.{IsHashed, hash_by, hashed_answer, id_at, row_by, text_in};
 ghost use Rattle.mb_access.specs.Reads.{coord_in};
-ghost use Rattle.mb_lists.specs.Entries.{place_at};
-ghost use Rattle.mb_loaded.specs.Changing.{tile_key};
-ghost use Rattle.mb_store.specs.Kept.{FaultsCounted, ReadsOnly};
-ghost use Rattle.mb_tables.specs.Refusals.{Answers, is_free};
-ghost use Rattle.mb_tables.specs.Tiles.{cell_at};
+ghost use Rattle.mb_access.specs.Common.{Answers, cell_at, FaultsCounted, is_free, place_at, ReadsOnly, tile_key};
 
 use crate::reads::{bytes_in, coord_in};
 use base_values::{BlobVal, OutOfMemory, TextVal};

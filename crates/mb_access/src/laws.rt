@@ -1,7 +1,6 @@
 //! Laws of streams: which tiles stand in the rows of a set, and what comes of a stream, call after call.
 ghost use Rattle.std.specs.Prelude.{◌≡◌, ◌++◌, List, None, Ok, filter_map, is_ok, length, map, true};
-ghost use Rattle.std.specs.FinMap.{find, get, len};
-ghost use Rattle.std.specs.Iterator.{Yields, YieldsThen};
+ghost use Rattle.mb_access.specs.Common.{find, get, len, pairs_of, Place, place_cmp, State, state_of, Tables, Yields, YieldsThen};
 ghost use Rattle.std.specs.List.{list_all};
 ghost use Rattle.mb_access.specs.StreamRuns.{CoordItem, TileItem, place_in, tile_in};
 ghost use Rattle.mb_access.specs.StreamSteps.{Tile, left_of};
@@ -10,10 +9,6 @@ ghost use Rattle.mb_access.specs.declared.stream_state.StreamState.{StreamState}
 ghost use Rattle.mb_access.specs.declared.streams.Coords.{Coords};
 ghost use Rattle.mb_access.specs.declared.streams.Tiles.{Tiles};
 ghost use Rattle.mb_lists.specs.Keyed.{are_distinct};
-ghost use Rattle.mb_loaded.specs.State.{State};
-ghost use Rattle.mb_load.specs.StateOf.{state_of};
-ghost use Rattle.mb_tables.specs.Table.{Tables};
-ghost use Rattle.mb_tables.specs.Tiles.{Place, pairs_of, place_cmp};
 
 use mb_store::TileStore;
 

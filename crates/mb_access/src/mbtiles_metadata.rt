@@ -1,15 +1,12 @@
 // The calls of a set on its metadata.
 ghost use Rattle.std.specs.Prelude.{◌≡◌, Ok, OnErr, OnOk, true};
 ghost use Rattle.mb_access.specs.FileName.{file_name};
-ghost use Rattle.mb_load.specs.Begun.{IsBegun};
-ghost use Rattle.mb_loaded.specs.State.{State};
-ghost use Rattle.mb_load.specs.StateOf.{state_of};
+ghost use Rattle.mb_access.specs.Common.{FaultsCounted, IsBegun, Keeps, ReadsOnly, State, state_of};
 ghost use Rattle.mb_metadata.specs.Inserting.{IsWithoutFloat, insert_edits};
 ghost use Rattle.mb_metadata.specs.NameEdits.{EditsNames, done_answer};
 ghost use Rattle.mb_metadata.specs.Reading.{metadata_answer};
 ghost use Rattle.mb_metadata.specs.Updating.{state_updated, update_edits};
 ghost use Rattle.mb_metadata.specs.Values.{delete_edits, set_edits, value_answer, zoom_value_answer};
-ghost use Rattle.mb_store.specs.Kept.{FaultsCounted, Keeps, ReadsOnly};
 
 use crate::Mbtiles;
 use base_values::TextVal;

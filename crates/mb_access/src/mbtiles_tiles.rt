@@ -1,7 +1,6 @@
 // The calls of a set on its tiles.
 ghost use Rattle.std.specs.Prelude.{◌≡◌, IfOk, Ok, OnErr, OnOk, true};
-ghost use Rattle.std.specs.Borrow.{RestsIfErr, sem};
-ghost use Rattle.std.specs.FinMap.{len};
+ghost use Rattle.mb_access.specs.Common.{detected, FaultsCounted, IsBegun, Keeps, len, ReadsOnly, RestsIfErr, sem};
 ghost use Rattle.mb_access.specs.Described.{IsDescribed, missing_answer, read_name};
 ghost use Rattle.mb_access.specs.Hashed.{IsHashed};
 ghost use Rattle.mb_access.specs.Reads.{contains_answer, tile_answer};
@@ -10,9 +9,6 @@ ghost use Rattle.mb_access.specs.StreamSteps.{AreAllLeft, left_at_most, set_of};
 ghost use Rattle.mb_access.specs.Streams.{coords_loaded, tiles_loaded};
 ghost use Rattle.mb_insert.specs.Inserted.{IsInserted};
 ghost use Rattle.mb_insert.specs.Insertion.{insertion};
-ghost use Rattle.mb_load.specs.Begun.{IsBegun};
-ghost use Rattle.mb_store.specs.Kept.{FaultsCounted, Keeps, ReadsOnly};
-ghost use Rattle.mb_tables.specs.Detection.{detected};
 
 use crate::{Coords, Mbtiles, Tiles, described, hashed, reads, streams};
 use base_values::{BlobVal, TextVal};

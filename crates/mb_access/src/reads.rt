@@ -1,10 +1,7 @@
 // Reads of single tiles.
 ghost use Rattle.std.specs.Prelude.{◌≡◌, ◌≢◌, Err, is_some, option_copied, option_map};
 ghost use Rattle.mb_access.specs.Reads.{bytes_in, contains_answer, coord_in, tile_answer, tile_in};
-ghost use Rattle.mb_lists.specs.Entries.{blob_cell};
-ghost use Rattle.mb_load.specs.Begun.{IsBegun};
-ghost use Rattle.mb_store.specs.Kept.{FaultsCounted, ReadsOnly};
-ghost use Rattle.mb_tables.specs.Refusals.{Answers};
+ghost use Rattle.mb_access.specs.Common.{Answers, blob_cell, FaultsCounted, IsBegun, ReadsOnly};
 
 use base_values::BlobVal;
 use mb_load::load;

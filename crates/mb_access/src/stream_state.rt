@@ -1,12 +1,7 @@
 // A stream along the rows of a set: what it owns beside the store that it reads.
 ghost use Rattle.std.specs.Prelude.{◌≡◌, ◌<◌, ◌≤◌, ◌+◌, ◌-◌, ◌∷◌, [], IfOk, IfSome, IsErrOf, None, Ok, OnErr, OnOk, false, length, true};
-ghost use Rattle.std.specs.FinMap.{contains_key, get, len};
-ghost use Rattle.base_values.specs.Counts.{Rose};
+ghost use Rattle.mb_access.specs.Common.{contains_key, FaultsCounted, get, IsBegun, len, place_at, ReadsOnly, Rose, Tables};
 ghost use Rattle.mb_access.specs.StreamSteps.{AreAllLeft, GivesCoord, GivesIndex, GivesTile, IsRowOf, StreamCauses, is_tile_row, left_at_most, left_of, loaded_by, next_row, page_size, rows_left, set_of};
-ghost use Rattle.mb_lists.specs.Entries.{place_at};
-ghost use Rattle.mb_load.specs.Begun.{IsBegun};
-ghost use Rattle.mb_store.specs.Kept.{FaultsCounted, ReadsOnly};
-ghost use Rattle.mb_tables.specs.Table.{Tables};
 
 use crate::finding::{coord_at, index_of, tile_copy};
 use base_values::BlobVal;

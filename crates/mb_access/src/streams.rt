@@ -1,12 +1,9 @@
 // Streams of the tiles of a set in the order of their rows.
 ghost use Rattle.std.specs.Prelude.{◌≡◌, IfOk, Ok, true};
-ghost use Rattle.std.specs.Borrow.{RestsIfErr, sem};
-ghost use Rattle.std.specs.FinMap.{len};
+ghost use Rattle.mb_access.specs.Common.{IsBegun, len, ReadsOnly, RestsIfErr, sem};
 ghost use Rattle.mb_access.specs.Refused.{IsUnfailing, LeftByStart};
 ghost use Rattle.mb_access.specs.StreamSteps.{AreAllLeft, left_at_most, set_of};
 ghost use Rattle.mb_access.specs.Streams.{coords_loaded, tiles_loaded};
-ghost use Rattle.mb_load.specs.Begun.{IsBegun};
-ghost use Rattle.mb_store.specs.Kept.{ReadsOnly};
 
 use crate::StreamState;
 use base_values::BlobVal;
@@ -71,7 +68,7 @@ impl<'s, S: TileStore> Tiles<'s, S> {
 impl<'s, S: TileStore> Iterator for Coords<'s, S> {
     type Item = MbtResult<TileCoord>;
 
-    ghost use Rattle.std.specs.Iterator.{at_most};
+    ghost use Rattle.mb_access.specs.Common.{at_most};
     ghost use Rattle.mb_access.specs.StreamSteps.{left_at_most};
     ghost use Rattle.mb_access.specs.Streams.{StreamsCoord};
 
@@ -87,7 +84,7 @@ impl<'s, S: TileStore> Iterator for Coords<'s, S> {
 impl<'s, S: TileStore> Iterator for Tiles<'s, S> {
     type Item = MbtResult<(TileCoord, Option<BlobVal>)>;
 
-    ghost use Rattle.std.specs.Iterator.{at_most};
+    ghost use Rattle.mb_access.specs.Common.{at_most};
     ghost use Rattle.mb_access.specs.StreamSteps.{left_at_most};
     ghost use Rattle.mb_access.specs.Streams.{StreamsTile};
 

@@ -1,27 +1,9 @@
 -- Entries that are equal, and entries in a list in their order.
-use Rattle.std.proofs.Common.{◌≡◌, ◌∙◌, ap, sym, refl, ℕ, ℤ, ◌==◌, Bool, true, false, ◌&&◌, ◌||◌, not, cond, List, [], ◌∷◌, drop, filter, take, zero, suc, arith}
-use Rattle.std.specs.Prelude.{int_lt}
-use Rattle.std.specs.BTreeMap.{is_at}
-use Rattle.std.specs.BTreeSet.{insert_key}
-use Rattle.std.specs.Cmp.{IsEquivalence, eq_by_cmp_equiv, int_cmp_total, tied_itself}
-use Rattle.std.specs.FinMap.{IsAntisymmetric, int_cmp-IsAntisymmetric, nat_cmp-IsAntisymmetric}
-use Rattle.std.specs.List.{AllByRecursion, take_while}
-use Rattle.std.specs.List.Sorted.{IsStrictlySortedBy}
-use Rattle.std.specs.Ordering.{eq_by_cmp, int_cmp, is_eq, is_gt, match_ordering, nat_cmp, ordering_then}
-use Rattle.std.specs.Set.{remove_key}
-use Rattle.std.specs.declared.cmp.Ordering.{Ordering}
-use Rattle.std.specs.declared.cmp.Ordering.TheVariants.{Less, Equal, Greater}
-use Rattle.std.proofs.lemmas.Bool.{and_from, and_parts, eq-eqb, eqb-true, false_from_ne_true, false≢true, or_parts}
-use Rattle.std.proofs.lemmas.List.Sums.{take_while-cons}
-use Rattle.std.proofs.lemmas.Map.Keys.{sorted_head, sorted_tail}
-use Rattle.mb_cache.specs.Entries.{entry_at, has_entry, is_expired_entry, place_in}
-use Rattle.mb_cache.specs.EntryOrder.{entries_total, entry_cmp}
-use Rattle.mb_cache.specs.declared.entries.Entry.{Entry}
-use Rattle.mb_cache.specs.declared.moments.UnixSeconds.{UnixSeconds}
-use Rattle.mb_tables.specs.Tiles.{Place}
-use Rattle.mb_tables.specs.declared.cell.Cell.{Cell}
-use Rattle.mb_tables.specs.declared.cell.Cell.TheVariants.{Null}
-use Rattle.mb_lists.proofs.Items.{equal_of}
+use Rattle.mb_cache.proofs.Common.{AllByRecursion, and_from, and_parts, ap, arith, Bool, Cell, cond, drop, entries_total, Entry, entry_at, entry_cmp, eq-eqb, eq_by_cmp, eq_by_cmp_equiv, eqb-true}
+use Rattle.mb_cache.proofs.Common.{Equal, equal_of, false, false_from_ne_true, false≢true, filter, Greater, has_entry, insert_key, int_cmp, int_cmp-IsAntisymmetric, int_cmp_total, int_lt, is_at}
+use Rattle.mb_cache.proofs.Common.{is_eq, is_expired_entry, is_gt, IsAntisymmetric, IsEquivalence, IsStrictlySortedBy, Less, List, match_ordering, nat_cmp, nat_cmp-IsAntisymmetric, not, Null}
+use Rattle.mb_cache.proofs.Common.{or_parts, Ordering, ordering_then, Place, place_in, refl, remove_key, sorted_head, sorted_tail, suc, sym, take, take_while, take_while-cons, tied_itself, true}
+use Rattle.mb_cache.proofs.Common.{UnixSeconds, zero, ℕ, ℤ, [], ◌&&◌, ◌==◌, ◌||◌, ◌∙◌, ◌∷◌, ◌≡◌}
 
 pub equal_entries : IsEquivalence (eq_by_cmp entry_cmp)
 equal_entries = eq_by_cmp_equiv entries_total

@@ -1,41 +1,14 @@
 -- A cache agrees with its tables after its first entries were thrown out.
-use Rattle.std.proofs.Common.{◌≡◌, ◌∙◌, ap, sym, subst, refl, ℕ, ◌<◌, ◌&&◌, ◌||◌, ◌++◌, Bool, true, false, not, cond, List, [], ◌∷◌, Option, Some, None, filter, get_or, length, take, drop, take-append-drop, set, suc, zero, arith}
-use Rattle.std.proofs.Math.Bool.{or-false}
-use Rattle.std.specs.Prelude.{All, option_to_list, position}
-use Rattle.std.specs.List.{list_any}
-use Rattle.std.specs.Ordering.{eq_by_cmp}
-use Rattle.std.specs.Cmp.{nat_eq_equiv}
-use Rattle.std.proofs.lemmas.Bool.{and_left, and_parts, and_right, false≢true, or_left}
-use Rattle.std.proofs.lemmas.List.Elements.{All-filter, All-push, All-set}
-use Rattle.std.proofs.lemmas.List.Folds.{list_any-append, list_any_at, list_any_none}
+use Rattle.mb_cache.proofs.Common.{Agrees, All, All-filter, All-push, All-set, and_left, and_parts, and_right, ap, AreDeletes, arith, Bool, Cell, cells_eq, cells_eq-Decides, Change, Commits, cond}
+use Rattle.mb_cache.proofs.Common.{drop, Entry, entry_cmp, entry_of, eq_by_cmp, false, false≢true, filter, filter_every, get_or, has_entry, has_key, is_changed, is_keyed, is_table, IsCacheRow}
+use Rattle.mb_cache.proofs.Common.{IsDelete, IsSound, key_cells, key_of, length, List, list_any, list_any-append, list_any_at, list_any_none, Metadata, nat_eq_equiv, None, not, Option, option_to_list}
+use Rattle.mb_cache.proofs.Common.{or-false, or_left, place_cmp, place_in, position, refl, row_place, same_key, same_table, set, Some, subst, suc, sym, table_eq, table_number, TableDesc, TableName}
+use Rattle.mb_cache.proofs.Common.{Tables, take, take-append-drop, tied, tile_key, TileCache, true, with_change, with_rows, without, zero, ℕ, [], ◌&&◌, ◌++◌, ◌<◌, ◌||◌, ◌∙◌, ◌∷◌, ◌≡◌}
 use Rattle.std.proofs.lemmas.List.Quantifiers.{position-Some}
 use Rattle.mb_cache.proofs.EntryLemmas.{entry_itself, equal_entries, has-drop, same_entry, sorted_drop}
 use Rattle.mb_cache.proofs.ListLemmas.{alone_is, any_filter, any_same, filter_same, none_left}
 use Rattle.mb_cache.proofs.RowLemmas.{entry_there, entry_under, one_row, own_key}
 use Rattle.mb_cache.proofs.SetLemmas.{set_after}
-use Rattle.mb_cache.specs.Entries.{IsCacheRow, entry_of, has_entry, place_in, row_place}
-use Rattle.mb_cache.specs.EntryOrder.{entry_cmp}
-use Rattle.mb_cache.specs.Evicting.{AreDeletes, IsDelete}
-use Rattle.mb_cache.specs.State.{Agrees, without}
-use Rattle.mb_cache.specs.declared.entries.Entry.{Entry}
-use Rattle.mb_load.proofs.PutRowLemmas.{tied}
-use Rattle.mb_loaded.specs.Changing.{tile_key}
-use Rattle.mb_store.specs.Changes.{same_key, with_change}
-use Rattle.mb_store.specs.Committing.{Commits, is_changed}
-use Rattle.mb_store.specs.Store.{IsSound, with_rows}
-use Rattle.mb_store.specs.declared.change.Change.{Change}
-use Rattle.mb_tables.proofs.CellLemmas.{cells_eq-Decides}
-use Rattle.mb_tables.proofs.ListLemmas.{filter_every}
-use Rattle.mb_tables.proofs.TableLemmas.{same_table}
-use Rattle.mb_tables.specs.Described.{is_keyed, is_table}
-use Rattle.mb_tables.specs.Cell.{cells_eq}
-use Rattle.mb_tables.specs.Key.{has_key, key_cells}
-use Rattle.mb_tables.specs.Table.{Tables, key_of, table_eq, table_number}
-use Rattle.mb_tables.specs.Tiles.{place_cmp}
-use Rattle.mb_tables.specs.declared.cell.Cell.{Cell}
-use Rattle.mb_tables.specs.declared.description.TableDesc.{TableDesc}
-use Rattle.mb_tables.specs.declared.table.TableName.{TableName}
-use Rattle.mb_tables.specs.declared.table.TableName.TheVariants.{Metadata, TileCache}
 
 any_set : {X : Type 0} (p : X → Bool) (xs : List X) (i : ℕ) (y d : X) → p y ≡ p (get_or xs i d) → i < length xs → list_any p (set xs i y) ≡ list_any p xs
 any_set p [] i y d h far = absurd (omega arith)

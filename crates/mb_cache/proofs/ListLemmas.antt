@@ -1,9 +1,6 @@
 -- Filters and tests of lists, where what they say is known of the lists' own elements alone.
-use Rattle.std.proofs.Common.{◌≡◌, ◌∙◌, ap, sym, refl, ℕ, Bool, true, false, ◌&&◌, ◌||◌, cond, List, [], ◌∷◌, filter, get_or, length, subst, zero, suc, Some, ◌<◌, ◌≤◌, arith}
-use Rattle.std.specs.Prelude.{All, find, option_to_list}
-use Rattle.std.specs.List.{list_any}
-use Rattle.std.proofs.lemmas.Bool.{false≢true}
-use Rattle.std.proofs.lemmas.List.Elements.{All-cons, All-head, All-nil, All-tail}
+use Rattle.mb_cache.proofs.Common.{All, All-cons, All-head, All-nil, All-tail, ap, arith, Bool, cond, false, false≢true, filter, find, get_or, length, List, list_any, option_to_list, refl, Some}
+use Rattle.mb_cache.proofs.Common.{subst, suc, sym, true, zero, ℕ, [], ◌&&◌, ◌<◌, ◌||◌, ◌∙◌, ◌∷◌, ◌≡◌, ◌≤◌}
 
 module _ {X : Type 0} where
   -- of what passes a test either all passes another one, or nothing does

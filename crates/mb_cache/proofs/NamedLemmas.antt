@@ -1,17 +1,10 @@
 -- The algorithm that rows of metadata name.
-use Rattle.std.proofs.Common.{◌≡◌, ◌∙◌, ap, sym, ℕ, List, Option, Some, None}
-use Rattle.std.specs.Prelude.{codes, option_and_then}
+use Rattle.mb_cache.proofs.Common.{ap, AreNamesInOrder, Cell, codes, get, is_name_gone, List, live_at, name_of, names_held, names_of, nat_cmp, None, Option, option_and_then, Some, stored_algorithm}
+use Rattle.mb_cache.proofs.Common.{sym, text_of, ℕ, ◌∙◌, ◌≡◌}
 use Rattle.std.specs.Cmp.Lexicographic.{slice_cmp}
-use Rattle.std.specs.FinMap.{get}
-use Rattle.std.specs.Ordering.{nat_cmp}
 use Rattle.mb_constraints.proofs.AlgorithmLemmas.{stored_is}
-use Rattle.mb_constraints.specs.Algorithm.{stored_algorithm}
 use Rattle.mb_lists.proofs.ReaderLemmas.{name_found, name_missing}
-use Rattle.mb_lists.specs.Entries.{AreNamesInOrder, is_name_gone, name_of, names_held}
-use Rattle.mb_lists.specs.Keyed.{live_at}
-use Rattle.mb_lists.specs.Metadata.{names_of, text_of}
 use Rattle.mb_lists.specs.declared.entries.StoredName.{StoredName}
-use Rattle.mb_tables.specs.declared.cell.Cell.{Cell}
 
 under_name : (live : ℕ) (names : List StoredName) → AreNamesInOrder live names → (q : List ℕ) (o : Option StoredName) → o ≡ live_at (slice_cmp nat_cmp) name_of is_name_gone q names → option_and_then (λ (n : StoredName). text_of n.value) o ≡ option_and_then {U = List ℕ} (λ text. text) (get (names_held names) q)
 under_name live names order q (Some n) h = ap (λ (o : Option (Option (List ℕ))). option_and_then {U = List ℕ} (λ text. text) o) (sym (name_found live names order q n (sym h)))

@@ -1,29 +1,11 @@
 -- What opening answers, and that the entries of rows that were read agree with their tables.
-use Rattle.std.proofs.Common.{◌≡◌, ◌∙◌, ap, sym, subst, refl, ◌||◌, Bool, true, false, cond, List, [], ◌∷◌, Option, Some, None, Result, Ok, Err}
-use Rattle.std.specs.Prelude.{IfOk}
-use Rattle.std.specs.List.{list_any}
-use Rattle.std.specs.Option.{option_or}
+use Rattle.mb_cache.proofs.Common.{Agrees, Answers, ap, AreEntries, ArePassing, begin_answer, begun_with, Bool, Cache, cond, created, described_answer, done, Entry, Err, false, holds, IfOk}
+use Rattle.mb_cache.proofs.Common.{index_missing, InvalidDataFormat, is_bare, is_cache_layout, is_keyed, is_metadata, layout_of, List, list_any, may_begin, MbtError, Metadata, metadata_missing, None}
+use Rattle.mb_cache.proofs.Common.{NotACacheFile, NoUniquenessConstraint, Ok, open_answer, OpensAs, Option, option_or, passing, refl, Result, row_refusal, set_tables, Some, state_of, stated, subst}
+use Rattle.mb_cache.proofs.Common.{sym, TableDesc, Tables, then, TileCache, true, unless, unless_refused, with_tables, [], ◌||◌, ◌∙◌, ◌∷◌, ◌≡◌}
 use Rattle.mb_cache.proofs.SetLemmas.{opens}
-use Rattle.mb_cache.specs.Opening.{OpensAs, begin_answer, begun_with, described_answer, done, is_bare, is_cache_layout, may_begin, open_answer}
-use Rattle.mb_cache.specs.Seen.{AreEntries, row_refusal}
-use Rattle.mb_cache.specs.State.{Agrees}
-use Rattle.mb_cache.specs.declared.entries.Entry.{Entry}
-use Rattle.mb_constraints.specs.Described.{index_missing, is_metadata, metadata_missing}
 use Rattle.mb_load.proofs.FrameLemmas.{tables_found}
-use Rattle.mb_load.proofs.RowsPass.{ArePassing, holds, passing}
-use Rattle.mb_load.specs.StateOf.{state_of, stated, unless_refused}
-use Rattle.mb_store.specs.Store.{created, with_tables}
-use Rattle.mb_tables.specs.Described.{is_keyed}
-use Rattle.mb_tables.specs.Detection.{layout_of}
-use Rattle.mb_tables.specs.Refusals.{Answers, then, unless}
-use Rattle.mb_tables.specs.Schema.{set_tables}
-use Rattle.mb_tables.specs.Table.{Tables}
-use Rattle.mb_tables.specs.declared.description.TableDesc.{TableDesc}
-use Rattle.mb_tables.specs.declared.error.MbtError.{MbtError}
-use Rattle.mb_tables.specs.declared.error.MbtError.TheVariants.{InvalidDataFormat, NoUniquenessConstraint, NotACacheFile}
 use Rattle.mb_tables.specs.declared.kind.MbtType.{MbtType}
-use Rattle.mb_tables.specs.declared.kind.MbtType.TheVariants.{Cache}
-use Rattle.mb_tables.specs.declared.table.TableName.TheVariants.{Metadata, TileCache}
 
 pub is_cache : (o : Option MbtType) → is_cache_layout o ≡ true → o ≡ Some Cache
 is_cache (Some Cache) h = refl

@@ -1,30 +1,12 @@
 -- What a step of opening a cache that is refused answers: over the tables that are told, and over some tables where nothing is told.
-use Rattle.std.proofs.Common.{◌≡◌, ◌∙◌, ap, sym, subst, refl, Bool, true, false, cond, List, [], ◌∷◌, Some, None, Result, Ok, Err}
-use Rattle.std.specs.Prelude.{OnOk}
-use Rattle.std.specs.List.{list_any}
-use Rattle.std.proofs.lemmas.Bool.{false≢true}
+use Rattle.mb_cache.proofs.Common.{Agrees, ap, AreEntries, Bool, Cache, Cell, cond, described_answer, Entry, Err, false, false≢true, Flat, InvalidDataFormat, is_cache_layout, is_free, is_keyed}
+use Rattle.mb_cache.proofs.Common.{is_metadata, layout_of, List, list_any, made, MbtError, Metadata, None, NotACacheFile, NoUniquenessConstraint, Null, Ok, OnOk, open_answer, OpensAs, Other, refl}
+use Rattle.mb_cache.proofs.Common.{Result, row_refusal, Some, store_free, StoreFault, subst, sym, TableDesc, Tables, TileCache, true, [], ◌∙◌, ◌∷◌, ◌≡◌}
 use Rattle.mb_cache.proofs.OpenLemmas.{described_refused, is_cache, rows_agree, rows_refused}
 use Rattle.mb_cache.proofs.RowOrder.{kinds_first}
-use Rattle.mb_cache.specs.Opening.{OpensAs, described_answer, is_cache_layout, open_answer}
-use Rattle.mb_cache.specs.Seen.{AreEntries, row_refusal}
-use Rattle.mb_cache.specs.State.{Agrees}
-use Rattle.mb_cache.specs.declared.entries.Entry.{Entry}
-use Rattle.mb_constraints.specs.Described.{is_metadata}
-use Rattle.mb_load.proofs.StateLemmas.{made, store_free}
 use Rattle.mb_store.specs.Errors.{of_store}
 use Rattle.mb_store.specs.declared.store.StoreError.{StoreError}
-use Rattle.mb_tables.specs.Described.{is_keyed}
-use Rattle.mb_tables.specs.Detection.{layout_of}
-use Rattle.mb_tables.specs.Refusals.{is_free}
-use Rattle.mb_tables.specs.Table.{Tables}
-use Rattle.mb_tables.specs.declared.cell.Cell.{Cell}
-use Rattle.mb_tables.specs.declared.cell.Cell.TheVariants.{Null, Other}
-use Rattle.mb_tables.specs.declared.description.TableDesc.{TableDesc}
 use Rattle.mb_tables.specs.declared.description.TableKind.TheVariants.{Table}
-use Rattle.mb_tables.specs.declared.error.MbtError.{MbtError}
-use Rattle.mb_tables.specs.declared.error.MbtError.TheVariants.{InvalidDataFormat, NoUniquenessConstraint, NotACacheFile, StoreFault}
-use Rattle.mb_tables.specs.declared.kind.MbtType.TheVariants.{Cache, Flat}
-use Rattle.mb_tables.specs.declared.table.TableName.TheVariants.{Metadata, TileCache}
 
 pub on_ok : {A E : Type 0} (r : Result A E) (P : Type 0) → P → OnOk r P
 on_ok (Ok x) P p = p

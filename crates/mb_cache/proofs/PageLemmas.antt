@@ -1,16 +1,6 @@
 -- Pages of a list, one after the other.
-use Rattle.std.proofs.Common.{◌≡◌, ◌∙◌, ap, sym, refl, subst, ℕ, ◌+◌, ◌-◌, ◌≤◌, ◌++◌, ◌&&◌, Bool, true, false, List, drop, length, min, take, take-append-drop, Some, arith}
-use Rattle.std.specs.List.{list_all}
-use Rattle.std.proofs.lemmas.List.{drop-take, length-drop, length-take, take-take}
-use Rattle.std.proofs.lemmas.List.Folds.{list_all-append}
-use Rattle.mb_cache.specs.Seen.{SeesRows}
-use Rattle.mb_cache.specs.declared.seen_rows.SeenRows.{SeenRows}
-use Rattle.mb_tables.specs.CellKinds.{has_tile_kinds, tile_kind_wrong}
-use Rattle.mb_tables.specs.Refusals.{unless}
-use Rattle.mb_tables.specs.declared.cell.Cell.{Cell}
-use Rattle.mb_tables.specs.declared.error.MbtError.{MbtError}
-use Rattle.mb_tables.specs.declared.error.MbtError.TheVariants.{InvalidDataFormat}
-use Rattle.mb_tables.specs.declared.kind.MbtType.TheVariants.{Cache}
+use Rattle.mb_cache.proofs.Common.{ap, arith, Bool, Cache, Cell, drop, drop-take, false, has_tile_kinds, InvalidDataFormat, length, length-drop, length-take, List, list_all, list_all-append, MbtError}
+use Rattle.mb_cache.proofs.Common.{min, refl, SeenRows, SeesRows, Some, subst, sym, take, take-append-drop, take-take, tile_kind_wrong, true, unless, ℕ, ◌&&◌, ◌++◌, ◌+◌, ◌-◌, ◌∙◌, ◌≡◌, ◌≤◌}
 
 pub take_more : {X : Type 0} (n m : ℕ) (xs : List X) → take n xs ++ take m (drop n xs) ≡ take (n + m) xs
 take_more n m xs =

@@ -1,39 +1,15 @@
 -- The entries that expire are those of the rows that do.
-use Rattle.std.proofs.Common.{◌≡◌, ◌∙◌, ap, sym, refl, ◌&&◌, Bool, true, false, not, cond, List, [], ◌∷◌, ◌++◌, filter, get_or, length, map}
-use Rattle.std.proofs.Math.Bool.{and-true}
-use Rattle.std.specs.Prelude.{All, AllPairs}
-use Rattle.std.specs.List.{AllByRecursion, IsDistinct, list_any, take_while}
-use Rattle.std.specs.Ordering.{eq_by_cmp}
-use Rattle.std.proofs.lemmas.Bool.{and_from, false_from_ne_true, false≢true}
-use Rattle.std.proofs.lemmas.List.{length-map}
-use Rattle.std.proofs.lemmas.List.Elements.{All-filter, All-head, All-tail}
-use Rattle.std.proofs.lemmas.List.Folds.{list_any_at}
+use Rattle.mb_cache.proofs.Common.{Agrees, All, All-filter, All-head, All-tail, AllByRecursion, AllPairs, AllPairs-head, AllPairs-tail, and-true, and_from, ap, Bool, Cell, cell_at, cells_eq}
+use Rattle.mb_cache.proofs.Common.{cells_eq-Decides, clash, cond, Entry, entry_at, entry_cmp, entry_of, eq_by_cmp, false, false_from_ne_true, false≢true, filter, front, get_or, has_entry, is_expired}
+use Rattle.mb_cache.proofs.Common.{is_expired_entry, is_null, IsCacheRow, IsDistinct, IsDistinct-from_sorted, IsSound, key_of, length, length-map, List, list_any, list_any_at, map, not, Null, Place}
+use Rattle.mb_cache.proofs.Common.{place_in, refl, row_place, sym, Tables, take_while, take_while-cons, tied, TileCache, true, UnixSeconds, with_rows, without, [], ◌&&◌, ◌++◌, ◌∙◌, ◌∷◌, ◌≡◌}
 use Rattle.std.proofs.lemmas.List.Kept.{AllPairs-filter, IsStrictlySortedBy-filter}
-use Rattle.std.proofs.lemmas.List.Sums.{take_while-cons}
-use Rattle.std.proofs.lemmas.Map.Keys.{IsDistinct-from_sorted}
 use Rattle.std.proofs.lemmas.Map.Made.{length-from_same_keys}
 use Rattle.mb_cache.proofs.EntryLemmas.{entry_itself, equal_entries, expired_are, same_entry}
 use Rattle.mb_cache.proofs.ListLemmas.{any_filter, filter_same}
 use Rattle.mb_cache.proofs.RowLemmas.{entry_there, own_key}
 use Rattle.mb_cache.proofs.SeenLemmas.{any_map}
-use Rattle.mb_cache.specs.Entries.{IsCacheRow, entry_at, entry_of, has_entry, is_expired, is_expired_entry, place_in, row_place}
-use Rattle.mb_cache.specs.EntryOrder.{entry_cmp}
 use Rattle.mb_cache.specs.Purging.{expired_rows, without_expired}
-use Rattle.mb_cache.specs.State.{Agrees, without}
-use Rattle.mb_cache.specs.declared.entries.Entry.{Entry}
-use Rattle.mb_cache.specs.declared.moments.UnixSeconds.{UnixSeconds}
-use Rattle.mb_load.proofs.PutRowLemmas.{tied}
-use Rattle.mb_loaded.specs.Changing.{front}
-use Rattle.mb_store.specs.Store.{IsSound, with_rows}
-use Rattle.mb_tables.proofs.CellLemmas.{cells_eq-Decides}
-use Rattle.mb_tables.proofs.ListLemmas.{AllPairs-head, AllPairs-tail}
-use Rattle.mb_tables.specs.Cell.{cells_eq, is_null}
-use Rattle.mb_tables.specs.Key.{clash}
-use Rattle.mb_tables.specs.Table.{Tables, key_of}
-use Rattle.mb_tables.specs.Tiles.{Place, cell_at}
-use Rattle.mb_tables.specs.declared.cell.Cell.{Cell}
-use Rattle.mb_tables.specs.declared.cell.Cell.TheVariants.{Null}
-use Rattle.mb_tables.specs.declared.table.TableName.TheVariants.{TileCache}
 
 -- an entry expires by its cell
 by_cell : (now : UnixSeconds) (p : Place) (cell : Cell) → is_expired_entry now (entry_at p cell) ≡ is_expired now cell

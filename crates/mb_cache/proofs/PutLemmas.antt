@@ -1,45 +1,16 @@
 -- A cache agrees with its tables after a row was put.
-use Rattle.std.proofs.Common.{◌≡◌, ◌∙◌, ap, sym, subst, refl, ℕ, Result, Ok, Err, ◌&&◌, ◌||◌, Bool, true, false, not, List, [], ◌∷◌, Option, Some, None, filter, is_some}
-use Rattle.std.specs.Prelude.{All, IfSome, OnOk, option_map, option_to_list}
+use Rattle.mb_cache.proofs.Common.{Agrees, All, All-cons, All-filter, All-head, All-nil, ap, Blob, Bool, CacheEntryMeta, Cell, cell_at, Change, Commits, contents_of, Coord, Entry, entry_at, entry_cmp}
+use Rattle.mb_cache.proofs.Common.{entry_of, eq_by_cmp, equal_of, Err, false, false≢true, filter, filter_every, filter_passes, has_entry, has_key, IfSome, insert_key, is_at, is_changed, is_keyed}
+use Rattle.mb_cache.proofs.Common.{is_replaced, is_some, is_table, IsCacheRow, IsOnBoard, IsSound, IsStrictlySortedBy, List, list_any, meta_row, Metadata, moment_cell, None, not, not-true, Ok}
+use Rattle.mb_cache.proofs.Common.{old_entry, OnOk, Option, option_map, option_to_list, Place, place_at, place_cmp, place_in, put_row, refl, remove_key, ReplacesEntry, Result, row_at, row_place}
+use Rattle.mb_cache.proofs.Common.{SetsEntry, SetsTile, Some, subst, sym, table_eq, TableDesc, Tables, taken_back, tied, tile_key, TileCache, true, UnixSeconds, UpdatesEntry, ℕ, [], ◌&&◌, ◌||◌, ◌∙◌}
+use Rattle.mb_cache.proofs.Common.{◌∷◌, ◌≡◌}
 use Rattle.std.specs.Bool.{OnFalse}
-use Rattle.std.specs.BTreeMap.{is_at}
-use Rattle.std.specs.BTreeSet.{insert_key}
-use Rattle.std.specs.Set.{remove_key}
-use Rattle.std.specs.List.{list_any}
-use Rattle.std.specs.List.Sorted.{IsStrictlySortedBy}
-use Rattle.std.specs.Ordering.{eq_by_cmp}
-use Rattle.std.proofs.lemmas.Bool.{false≢true, not-true}
-use Rattle.std.proofs.lemmas.List.Elements.{All-cons, All-filter, All-head, All-nil, filter_passes}
 use Rattle.mb_cache.proofs.EntryLemmas.{back_again, equal_entries, has-insert_key, other_entry, placed_there, same_entry}
 use Rattle.mb_cache.proofs.RowLemmas.{entry_elsewhere, entry_there, entry_under, no_tile, own_key, put_entry, put_good, row_alone}
 use Rattle.mb_cache.proofs.SetLemmas.{set_after}
-use Rattle.mb_cache.specs.Entries.{IsCacheRow, entry_at, entry_of, has_entry, place_in, row_place}
-use Rattle.mb_cache.specs.EntryOrder.{entry_cmp}
-use Rattle.mb_cache.specs.Setting.{ReplacesEntry, SetsEntry, SetsTile, UpdatesEntry, is_replaced, meta_row, moment_cell, old_entry, put_row, taken_back}
-use Rattle.mb_cache.specs.State.{Agrees, row_at}
-use Rattle.mb_cache.specs.declared.entries.Entry.{Entry}
-use Rattle.mb_cache.specs.declared.moments.CacheEntryMeta.{CacheEntryMeta}
-use Rattle.mb_cache.specs.declared.moments.UnixSeconds.{UnixSeconds}
-use Rattle.mb_lists.specs.Entries.{place_at}
-use Rattle.mb_lists.proofs.Items.{equal_of}
 use Rattle.mb_lists.proofs.Places.{places_antisymmetric}
-use Rattle.mb_load.proofs.PutRowLemmas.{tied}
-use Rattle.mb_loaded.specs.Changing.{tile_key}
-use Rattle.mb_loaded.specs.Editable.{IsOnBoard}
 use Rattle.mb_store.proofs.Committed.{all_committed, others_stay}
-use Rattle.mb_store.specs.Committing.{Commits, is_changed}
-use Rattle.mb_store.specs.Store.{IsSound}
-use Rattle.mb_store.specs.declared.change.Change.{Change}
-use Rattle.mb_tables.proofs.ListLemmas.{filter_every}
-use Rattle.mb_tables.specs.Described.{is_keyed, is_table}
-use Rattle.mb_tables.specs.Key.{has_key}
-use Rattle.mb_tables.specs.Table.{Tables, table_eq}
-use Rattle.mb_tables.specs.Tiles.{Place, cell_at, contents_of, place_cmp}
-use Rattle.mb_tables.specs.declared.cell.Cell.{Cell}
-use Rattle.mb_tables.specs.declared.cell.Cell.TheVariants.{Blob}
-use Rattle.tile_ids.specs.Coord.{Coord}
-use Rattle.mb_tables.specs.declared.description.TableDesc.{TableDesc}
-use Rattle.mb_tables.specs.declared.table.TableName.TheVariants.{Metadata, TileCache}
 
 -- whether an entry is that of a row, if there is one
 abbrev of_row : Entry → Option (List Cell) → Bool

@@ -1,16 +1,5 @@
 -- Answers of reads.
-use Rattle.std.proofs.Common.{◌≡◌, ◌∙◌, sym, subst, refl, ℕ, Bool, true, List, Option, Some, Err}
-use Rattle.std.specs.Prelude.{IfSome}
-use Rattle.std.proofs.lemmas.Bool.{false≢true}
-use Rattle.mb_cache.specs.Finding.{coord_in}
-use Rattle.mb_cache.specs.Reading.{IsRead}
-use Rattle.mb_cache.specs.State.{row_at}
-use Rattle.mb_lists.specs.Entries.{place_at}
-use Rattle.mb_tables.specs.Refusals.{is_free}
-use Rattle.mb_tables.specs.Table.{Tables}
-use Rattle.mb_tables.specs.declared.cell.Cell.{Cell}
-use Rattle.mb_tables.specs.declared.error.MbtError.{MbtError}
-use Rattle.tile_ids.specs.Coord.{Coord}
+use Rattle.mb_cache.proofs.Common.{Bool, Cell, Coord, coord_in, Err, false≢true, IfSome, is_free, IsRead, List, MbtError, Option, place_at, refl, row_at, Some, subst, sym, Tables, true, ℕ, ◌∙◌, ◌≡◌}
 
 module _ {A : Type 0} (f : List Cell → Option A) (z x y : ℕ) (tells : Bool) (told : Tables) where
   -- memory or the store was wanting

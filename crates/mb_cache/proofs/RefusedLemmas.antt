@@ -1,10 +1,6 @@
 -- Why a cache isn't made.
-use Rattle.std.proofs.Common.{arith, ◌≡◌, refl, ◌<◌, ◌^◌, ◌-◌, ℕ, Result, Err}
-use Rattle.std.specs.Prelude.{IsErrOf}
-use Rattle.std.proofs.lemmas.Result.{IfErr-at_err}
+use Rattle.mb_cache.proofs.Common.{arith, Err, IfErr-at_err, IsErrOf, MbtError, refl, Result, StoreFault, ℕ, ◌-◌, ◌<◌, ◌^◌, ◌≡◌}
 use Rattle.base_values.specs.Counts.{Rose}
-use Rattle.mb_tables.specs.declared.error.MbtError.{MbtError}
-use Rattle.mb_tables.specs.declared.error.MbtError.TheVariants.{StoreFault}
 
 -- why a fault comes, whatever would have been made
 pub fault_again : (A B : Type 0) (e : MbtError) (before now : ℕ) → (IsErrOf {T = A} (Err e) StoreFault → Rose before now) → IsErrOf {T = B} (Err e) StoreFault → Rose before now

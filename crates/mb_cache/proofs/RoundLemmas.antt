@@ -1,22 +1,8 @@
 -- Rounds of a purge to a size, one after another.
-use Rattle.std.proofs.Common.{◌≡◌, ◌∙◌, ap, sym, subst, refl, ℕ, ◌<◌, ◌≤◌, ◌+◌, ◌*◌, ◌&&◌, ◌||◌, ◌++◌, Bool, true, false, not, cond, List, [], ◌∷◌, Result, Ok, Err, append_assoc, filter, length, length-append, length-drop, length-take, take, drop, take-append-drop, nat_le, suc, zero, arith}
-use Rattle.std.specs.Prelude.{OnErr}
-use Rattle.std.specs.Ordering.{eq_by_cmp}
-use Rattle.std.proofs.lemmas.Bool.{le-ltb, leb-false, leb-true, lt-ltb}
-use Rattle.std.proofs.lemmas.List.{drop-drop, drop-take, drop_all, take-append-le, take-take, take_all}
-use Rattle.std.proofs.lemmas.List.Folds.{list_any-append}
-use Rattle.mb_cache.specs.Entries.{entry_of, has_entry}
-use Rattle.mb_cache.specs.EntryOrder.{entry_cmp}
-use Rattle.mb_cache.specs.Sizing.{SomeRounds, WithoutRounds, going, oversize}
-use Rattle.mb_cache.specs.State.{with_passed, without}
-use Rattle.mb_cache.specs.declared.entries.Entry.{Entry}
-use Rattle.mb_store.specs.Sizes.{live_size_of}
-use Rattle.mb_tables.proofs.ListLemmas.{filter_every}
-use Rattle.mb_tables.proofs.TableLemmas.{same_table}
-use Rattle.mb_tables.specs.Table.{Tables, table_eq}
-use Rattle.mb_tables.specs.declared.cell.Cell.{Cell}
-use Rattle.mb_tables.specs.declared.table.TableName.{TableName}
-use Rattle.mb_tables.specs.declared.table.TableName.TheVariants.{TileCache}
+use Rattle.mb_cache.proofs.Common.{ap, append_assoc, arith, Bool, Cell, cond, drop, drop-drop, drop-take, drop_all, Entry, entry_cmp, entry_of, eq_by_cmp, Err, false, filter, filter_every, going}
+use Rattle.mb_cache.proofs.Common.{has_entry, le-ltb, leb-false, leb-true, length, length-append, length-drop, length-take, List, list_any-append, live_size_of, lt-ltb, nat_le, not, Ok, OnErr}
+use Rattle.mb_cache.proofs.Common.{oversize, refl, Result, same_table, SomeRounds, subst, suc, sym, table_eq, TableName, Tables, take, take-append-drop, take-append-le, take-take, take_all, TileCache}
+use Rattle.mb_cache.proofs.Common.{true, with_passed, without, WithoutRounds, zero, ℕ, [], ◌&&◌, ◌*◌, ◌++◌, ◌+◌, ◌<◌, ◌||◌, ◌∙◌, ◌∷◌, ◌≡◌, ◌≤◌}
 
 -- what passes one test and then another one passes both
 filter_both : {X : Type 0} (p q r : X → Bool) (xs : List X) → ((x : X) → r x ≡ (q x && p x)) → filter p (filter q xs) ≡ filter r xs

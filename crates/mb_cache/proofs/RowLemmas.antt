@@ -1,27 +1,11 @@
 -- Rows of a cache, their keys and their entries.
-use Rattle.std.proofs.Common.{◌≡◌, ◌∙◌, ap, sym, refl, ℕ, ◌≤◌, ◌^◌, ◌&&◌, Bool, true, false, not, List, Option, Some, None, filter, get_or, length, is_some, unwrap_or}
-use Rattle.std.specs.Prelude.{All, AllPairs, find, option_copied, option_to_list}
-use Rattle.std.specs.List.{list_any}
-use Rattle.std.specs.Ordering.{eq_by_cmp}
-use Rattle.std.proofs.lemmas.Bool.{false≢true, lt-ltb}
+use Rattle.mb_cache.proofs.Common.{All, AllPairs, ap, Bool, Cache, CacheEntryMeta, Cell, cell_at, clash, contents_of, Entry, entry_at, entry_cmp, entry_of, eq_by_cmp, false, false≢true, filter, find}
+use Rattle.mb_cache.proofs.Common.{get_or, has_key, is_number, is_some, is_text, IsCacheRow, IsOnBoard, length, List, list_any, lt-ltb, meta_row, moment_cell, None, not, Option, option_copied}
+use Rattle.mb_cache.proofs.Common.{option_to_list, Place, place_cmp, place_in, place_of, refl, row_place, Some, sym, text_cell, tile_key, tile_of, TileCache, true, UnixSeconds, unwrap_or, ℕ, ◌&&◌}
+use Rattle.mb_cache.proofs.Common.{◌^◌, ◌∙◌, ◌≡◌, ◌≤◌}
 use Rattle.mb_cache.proofs.EntryLemmas.{placed_there, same_entry}
 use Rattle.mb_cache.proofs.ListLemmas.{any_filter, found_alone}
-use Rattle.mb_cache.specs.Entries.{IsCacheRow, entry_at, entry_of, place_in, row_place}
-use Rattle.mb_cache.specs.EntryOrder.{entry_cmp}
-use Rattle.mb_cache.specs.Setting.{meta_row, moment_cell}
-use Rattle.mb_cache.specs.declared.entries.Entry.{Entry}
-use Rattle.mb_cache.specs.declared.moments.CacheEntryMeta.{CacheEntryMeta}
-use Rattle.mb_cache.specs.declared.moments.UnixSeconds.{UnixSeconds}
-use Rattle.mb_lists.specs.Entries.{text_cell}
 use Rattle.mb_load.proofs.KeyReading.{alone_under, key_of_place}
-use Rattle.mb_loaded.specs.Changing.{tile_key}
-use Rattle.mb_loaded.specs.Editable.{IsOnBoard}
-use Rattle.mb_tables.specs.CellKinds.{is_number, is_text}
-use Rattle.mb_tables.specs.Key.{clash, has_key}
-use Rattle.mb_tables.specs.Tiles.{Place, cell_at, contents_of, place_cmp, place_of, tile_of}
-use Rattle.mb_tables.specs.declared.cell.Cell.{Cell}
-use Rattle.mb_tables.specs.declared.kind.MbtType.TheVariants.{Cache}
-use Rattle.mb_tables.specs.declared.table.TableName.TheVariants.{TileCache}
 
 -- a row of a place with contents is that of a tile, and no other row is
 pub tile_whole : (row : List Cell) (cell : Cell) (p : Place) (c : Option (List ℕ)) → place_of row ≡ Some p → contents_of cell ≡ Some c → tile_of row cell ≡ Some (p, c)

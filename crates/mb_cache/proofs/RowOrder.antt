@@ -1,32 +1,10 @@
 -- The tests of loading over the rows of a cache, by their parts: kinds of tile rows, metadata, places.
-use Rattle.std.proofs.Common.{BTreeSet, ◌≡◌, ◌∙◌, ap, sym, subst, refl, ℕ, ◌&&◌, not, Bool, true, false, List, [], ◌∷◌, Option, Some, None, Result, Ok, Err, map, is_some}
-use Rattle.std.specs.Prelude.{IfErr, IfOk, filter_map}
-use Rattle.std.specs.List.{cons_option, list_any}
-use Rattle.std.specs.Option.{option_or}
-use Rattle.std.specs.Ordering.{eq_by_cmp, ordering_then}
-use Rattle.std.specs.declared.cmp.Ordering.{Ordering}
-use Rattle.std.specs.declared.cmp.Ordering.TheVariants.{Less}
-use Rattle.std.specs.Ordering.{is_eq, nat_cmp}
-use Rattle.std.proofs.lemmas.Option.{none-some}
-use Rattle.mb_cache.specs.Entries.{row_place}
-use Rattle.mb_cache.specs.Seen.{AreEntries, SeesTiles, names_refused, row_refusal, spot_at, spot_cmp, spot_of, tiles_refused}
-use Rattle.mb_cache.specs.declared.entries.Entry.{Entry}
-use Rattle.mb_cache.specs.declared.seen_tiles.SeenTiles.{SeenTiles}
-use Rattle.mb_constraints.proofs.ApartPlaces.{in_has_place}
-use Rattle.mb_constraints.specs.Algorithm.{algorithm_of, algorithm_unknown}
-use Rattle.mb_constraints.specs.Hashes.{hash_wrong}
+use Rattle.mb_cache.proofs.Common.{algorithm_of, algorithm_unknown, ap, are_distinct, AreEntries, bad_tile, Bool, BTreeSet, Cache, Cell, cell_at, cons_option, Entry, eq_by_cmp, Err, false, filter_map}
+use Rattle.mb_cache.proofs.Common.{first_refused, hash_wrong, holds, IfErr, IfOk, in_has_place, InvalidTileIndex, is_eq, is_some, Less, List, list_any, map, MbtError, name_kind_wrong, name_twice}
+use Rattle.mb_cache.proofs.Common.{names_refused, nat_cmp, None, none-some, not, NoUniquenessConstraint, Ok, Option, option_or, Ordering, ordering_then, Place, place_cmp, place_of, place_twice, refl}
+use Rattle.mb_cache.proofs.Common.{Result, row_place, row_refusal, SeenTiles, SeesTiles, Some, spot_at, spot_cmp, spot_of, StoreFault, subst, sym, Tests, tile_bad, tile_in, tile_kind_wrong, tile_of}
+use Rattle.mb_cache.proofs.Common.{tiles_refused, true, unless, ℕ, [], ◌&&◌, ◌∙◌, ◌∷◌, ◌≡◌}
 use Rattle.mb_constraints.specs.References.{reference_missing}
-use Rattle.mb_constraints.specs.TileRows.{bad_tile, place_twice, tile_bad, tile_in}
-use Rattle.mb_lists.specs.Keyed.{are_distinct}
-use Rattle.mb_lists.specs.Metadata.{name_twice}
-use Rattle.mb_load.proofs.RowsPass.{holds}
-use Rattle.mb_tables.specs.CellKinds.{name_kind_wrong, tile_kind_wrong}
-use Rattle.mb_tables.specs.Refusals.{Tests, first_refused, unless}
-use Rattle.mb_tables.specs.Tiles.{Place, cell_at, place_cmp, place_of, tile_of}
-use Rattle.mb_tables.specs.declared.cell.Cell.{Cell}
-use Rattle.mb_tables.specs.declared.error.MbtError.{MbtError}
-use Rattle.mb_tables.specs.declared.error.MbtError.TheVariants.{InvalidTileIndex, NoUniquenessConstraint, StoreFault}
-use Rattle.mb_tables.specs.declared.kind.MbtType.TheVariants.{Cache}
 
 -- a test that refuses nothing
 none_refused : {A : Type 0} (xs : List A) → first_refused {A = A} (λ x. None) xs ≡ None

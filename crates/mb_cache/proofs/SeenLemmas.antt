@@ -1,34 +1,12 @@
 -- What rows of a cache come to with one row more, and with one page more.
-use Rattle.std.proofs.Common.{◌≡◌, ◌∙◌, ap, sym, refl, subst, ℕ, ◌+◌, ◌<◌, ◌&&◌, ◌||◌, ◌++◌, Bool, true, false, not, cond, List, [], ◌∷◌, Option, Some, None, Result, Ok, Err, map, is_some, get_or, length, take}
-use Rattle.std.specs.Prelude.{OnOk}
-use Rattle.std.specs.declared.cmp.Ordering.{Ordering}
-use Rattle.std.specs.Cmp.{IsEquivalence, IsTotalOrder, eq_by_cmp_equiv, nat_cmp_total}
-use Rattle.std.specs.List.{list_all, list_any}
-use Rattle.std.specs.List.Sorted.{IsStrictlySortedBy}
-use Rattle.std.specs.Option.{option_or}
-use Rattle.std.specs.Ordering.{eq_by_cmp}
-use Rattle.std.proofs.lemmas.Bool.{and_from, false≢true}
+use Rattle.mb_cache.proofs.Common.{and_from, ap, append_assoc, are_distinct, bad_tile, Bool, Cache, Cell, cond, Entry, entry_cmp, entry_of, eq_by_cmp, eq_by_cmp_equiv, Err, false, false≢true}
+use Rattle.mb_cache.proofs.Common.{first_refused, get_or, has_entry, has_tile_kinds, holds, InvalidDataFormat, is_some, IsEquivalence, IsStrictlySortedBy, IsTotalOrder, length, List, list_all}
+use Rattle.mb_cache.proofs.Common.{list_all-append, list_any, list_any-append, map, map-append, MbtError, nat_cmp_total, None, none-some, not, Ok, OnOk, Option, option_or, Ordering, refl, Result}
+use Rattle.mb_cache.proofs.Common.{SeenRows, SeenTiles, SeesRows, SeesTiles, slice_get-get_or, Some, spot_cmp, spot_of, subst, sym, take, take_more, tile_bad, tile_kind_wrong, true, unless, ℕ, []}
+use Rattle.mb_cache.proofs.Common.{◌&&◌, ◌++◌, ◌+◌, ◌<◌, ◌||◌, ◌∙◌, ◌∷◌, ◌≡◌}
 use Rattle.std.proofs.lemmas.Cmp.{on_total, then_total}
-use Rattle.std.proofs.lemmas.List.{append_assoc, map-append, take_more}
-use Rattle.std.proofs.lemmas.List.Folds.{list_all-append, list_any-append}
-use Rattle.std.proofs.lemmas.Option.{none-some, slice_get-get_or}
 use Rattle.mb_cache.proofs.EntryLemmas.{equal_entries}
-use Rattle.mb_cache.specs.Entries.{entry_of, has_entry}
-use Rattle.mb_cache.specs.EntryOrder.{entry_cmp}
-use Rattle.mb_cache.specs.Seen.{SeesRows, SeesTiles, spot_cmp, spot_of}
-use Rattle.mb_cache.specs.declared.entries.Entry.{Entry}
-use Rattle.mb_cache.specs.declared.seen_rows.SeenRows.{SeenRows}
-use Rattle.mb_cache.specs.declared.seen_tiles.SeenTiles.{SeenTiles}
 use Rattle.mb_constraints.proofs.TilesKept.{passed}
-use Rattle.mb_constraints.specs.TileRows.{bad_tile, tile_bad}
-use Rattle.mb_lists.specs.Keyed.{are_distinct}
-use Rattle.mb_load.proofs.RowsPass.{holds}
-use Rattle.mb_tables.specs.CellKinds.{has_tile_kinds, tile_kind_wrong}
-use Rattle.mb_tables.specs.Refusals.{first_refused, unless}
-use Rattle.mb_tables.specs.declared.cell.Cell.{Cell}
-use Rattle.mb_tables.specs.declared.error.MbtError.{MbtError}
-use Rattle.mb_tables.specs.declared.error.MbtError.TheVariants.{InvalidDataFormat}
-use Rattle.mb_tables.specs.declared.kind.MbtType.TheVariants.{Cache}
 
 abbrev Rows : Type 0
 Rows = List (List Cell)

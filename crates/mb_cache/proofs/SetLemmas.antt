@@ -1,35 +1,10 @@
 -- The tables of a cache load, and load again where rows of tiles alone were changed.
-use Rattle.std.proofs.Common.{◌≡◌, ◌∙◌, ap, sym, subst, refl, ◌||◌, Bool, true, false, cond, List, [], ◌∷◌, Option, None, Ok, Err, get_or}
-use Rattle.std.specs.Prelude.{All}
-use Rattle.std.specs.Option.{option_or}
-use Rattle.std.proofs.lemmas.List.Elements.{All-nil}
-use Rattle.mb_cache.specs.Entries.{IsCacheRow}
-use Rattle.mb_cache.specs.Opening.{Opens, begin_answer, begun_with, is_bare, is_cache_layout, may_begin}
-use Rattle.mb_cache.specs.State.{Agrees, IsCacheSet}
-use Rattle.mb_cache.specs.declared.entries.Entry.{Entry}
-use Rattle.mb_constraints.proofs.ApartPlaces.{never_twice}
-use Rattle.mb_constraints.specs.Algorithm.{algorithm_of, algorithm_unknown}
-use Rattle.mb_constraints.specs.Described.{index_missing, metadata_missing}
-use Rattle.mb_constraints.specs.Hashes.{wrong_content_hash}
-use Rattle.mb_constraints.specs.TileRows.{bad_tile}
+use Rattle.mb_cache.proofs.Common.{Agrees, algorithm_of, algorithm_unknown, All, All-nil, ap, ArePassing, bad_tile, begin_answer, begun_with, Bool, both_none, Cache, Cell, cell_at, cond, created}
+use Rattle.mb_cache.proofs.Common.{Entry, Err, false, first_refusal, get_or, has_name_kinds, held_in, index_missing, InvalidTileIndex, is_bare, is_cache_layout, is_keyed, is_table, IsCacheRow}
+use Rattle.mb_cache.proofs.Common.{IsCacheSet, IsSound, layout_of, List, may_begin, MbtError, Metadata, metadata_missing, never_twice, None, NotACacheFile, Ok, Opens, Option, option_or, pass_all}
+use Rattle.mb_cache.proofs.Common.{passing, refl, row_refusals, set_tables, state_of, stated, subst, sym, TableDesc, Tables, then, TileCache, true, unless, unless_refused, wrong_content_hash, []}
+use Rattle.mb_cache.proofs.Common.{◌||◌, ◌∙◌, ◌∷◌, ◌≡◌}
 use Rattle.mb_lists.specs.Contents.{are_apart, fronts}
-use Rattle.mb_load.proofs.RowsPass.{ArePassing, both_none, pass_all, passing}
-use Rattle.mb_load.specs.LoadingOrder.{row_refusals}
-use Rattle.mb_load.specs.StateOf.{held_in, state_of, stated, unless_refused}
-use Rattle.mb_store.specs.Store.{IsSound, created}
-use Rattle.mb_tables.specs.CellKinds.{has_name_kinds}
-use Rattle.mb_tables.specs.Described.{is_keyed, is_table}
-use Rattle.mb_tables.specs.Detection.{layout_of}
-use Rattle.mb_tables.specs.Refusals.{first_refusal, then, unless}
-use Rattle.mb_tables.specs.Schema.{set_tables}
-use Rattle.mb_tables.specs.Table.{Tables}
-use Rattle.mb_tables.specs.Tiles.{cell_at}
-use Rattle.mb_tables.specs.declared.cell.Cell.{Cell}
-use Rattle.mb_tables.specs.declared.description.TableDesc.{TableDesc}
-use Rattle.mb_tables.specs.declared.error.MbtError.{MbtError}
-use Rattle.mb_tables.specs.declared.error.MbtError.TheVariants.{InvalidTileIndex, NotACacheFile}
-use Rattle.mb_tables.specs.declared.kind.MbtType.TheVariants.{Cache}
-use Rattle.mb_tables.specs.declared.table.TableName.TheVariants.{Metadata, TileCache}
 
 module _ (t u : Tables) (set : IsCacheSet t) (described : u.descriptions ≡ t.descriptions) (named : u.rows Metadata ≡ t.rows Metadata) (sound : IsSound u) (keyed : is_keyed u.descriptions TileCache ≡ true) (good : All IsCacheRow (u.rows TileCache)) where
   refused : (option_or (metadata_missing t.descriptions) (option_or (index_missing t.descriptions Cache) (first_refusal (row_refusals Cache (t.rows Metadata) [] (t.rows TileCache)))) ≡ None)

@@ -1,29 +1,13 @@
 -- The live size of what a round leaves.
-use Rattle.std.proofs.Common.{◌≡◌, ◌∙◌, ap, sym, subst, refl, ℕ, ◌<◌, ◌+◌, ◌-◌, ◌^◌, ◌||◌, Bool, true, false, not, cond, List, [], ◌∷◌, Option, Some, None, drop, filter, take, take-append-drop, min, nat_lt, sum_by, arith}
-use Rattle.std.specs.Prelude.{find, option_to_list}
-use Rattle.std.specs.List.Sorted.{IsStrictlySortedBy}
-use Rattle.std.specs.Ordering.{eq_by_cmp}
-use Rattle.std.proofs.lemmas.Bool.{false≢true, ltb-false, ltb-true, or_left, or_right}
+use Rattle.mb_cache.proofs.Common.{Agrees, ap, arith, Bool, Cell, cond, drop, Entry, entry_cmp, entry_of, eq_by_cmp, false, false≢true, filter, find, found_size, has_entry, has_key, IsSound}
+use Rattle.mb_cache.proofs.Common.{IsStrictlySortedBy, List, list_any-append, live_size_of, ltb-false, ltb-true, min, nat_lt, None, not, Option, option_to_list, or_left, or_right, place_in, refl}
+use Rattle.mb_cache.proofs.Common.{row_size, size_at, sizes_at, Some, sorted_head, sorted_tail, subst, sum_by, sum_by-cons, sym, Tables, take, take-append-drop, tile_key, TileCache, true, without, ℕ}
+use Rattle.mb_cache.proofs.Common.{[], ◌+◌, ◌-◌, ◌<◌, ◌^◌, ◌||◌, ◌∙◌, ◌∷◌, ◌≡◌}
 use Rattle.std.proofs.lemmas.List.Filters.{sum_by-filter_both}
-use Rattle.std.proofs.lemmas.List.Folds.{list_any-append}
-use Rattle.std.proofs.lemmas.List.Sums.{sum_by-cons}
-use Rattle.std.proofs.lemmas.Map.Keys.{sorted_head, sorted_tail}
 use Rattle.mb_cache.proofs.EntryLemmas.{after_first, entry_itself, sorted_take}
 use Rattle.mb_cache.proofs.EvictLemmas.{of_entry}
 use Rattle.mb_cache.proofs.ListLemmas.{filter_same}
 use Rattle.mb_cache.proofs.RowLemmas.{row_alone}
-use Rattle.mb_cache.specs.Entries.{entry_of, has_entry, place_in}
-use Rattle.mb_cache.specs.EntryOrder.{entry_cmp}
-use Rattle.mb_cache.specs.Sizing.{found_size, size_at, sizes_at}
-use Rattle.mb_cache.specs.State.{Agrees, without}
-use Rattle.mb_cache.specs.declared.entries.Entry.{Entry}
-use Rattle.mb_loaded.specs.Changing.{tile_key}
-use Rattle.mb_store.specs.Sizes.{live_size_of, row_size}
-use Rattle.mb_store.specs.Store.{IsSound}
-use Rattle.mb_tables.specs.Key.{has_key}
-use Rattle.mb_tables.specs.Table.{Tables}
-use Rattle.mb_tables.specs.declared.cell.Cell.{Cell}
-use Rattle.mb_tables.specs.declared.table.TableName.TheVariants.{TileCache}
 
 -- what passes one of two tests, where nothing passes both
 sum_either : {X : Type 0} (f : X → ℕ) (p q : X → Bool) (xs : List X) → ((x : X) → p x ≡ true → q x ≡ false) → sum_by f (filter (λ x. p x || q x) xs) ≡ sum_by f (filter p xs) + sum_by f (filter q xs)

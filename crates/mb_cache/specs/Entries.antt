@@ -1,15 +1,9 @@
 -- The entries of a cache, and the rows that they stand for.
 use Rattle.std.specs.Prelude.{◌≡◌, pos, ◌==◌, ◌&&◌, Bool, true, false, int_lt, List, is_some, unwrap_or}
-use Rattle.std.specs.List.{list_any}
-use Rattle.std.specs.Ordering.{eq_by_cmp}
+use Rattle.mb_cache.specs.Common.{Cache, Cell, cell_at, eq_by_cmp, has_tile_kinds, Int, list_any, Place, place_of, tile_of}
 use Rattle.mb_cache.specs.EntryOrder.{entry_cmp}
 use Rattle.mb_cache.specs.declared.entries.Entry.{Entry}
 use Rattle.mb_cache.specs.declared.moments.UnixSeconds.{UnixSeconds}
-use Rattle.mb_tables.specs.CellKinds.{has_tile_kinds}
-use Rattle.mb_tables.specs.Tiles.{Place, cell_at, place_of, tile_of}
-use Rattle.mb_tables.specs.declared.cell.Cell.{Cell}
-use Rattle.mb_tables.specs.declared.cell.Cell.TheVariants.{Int}
-use Rattle.mb_tables.specs.declared.kind.MbtType.TheVariants.{Cache}
 
 -- the entry of a place whose expiry is in a cell; a cell that is no number stands for never
 abbrev pub entry_at : Place → Cell → Entry

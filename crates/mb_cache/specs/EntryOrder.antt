@@ -1,7 +1,5 @@
 -- The order in which entries of a cache are thrown out.
-use Rattle.std.specs.declared.cmp.Ordering.{Ordering}
-use Rattle.std.specs.Cmp.{IsTotalOrder, int_cmp_total, nat_cmp_total}
-use Rattle.std.specs.Ordering.{int_cmp, nat_cmp, ordering_then}
+use Rattle.mb_cache.specs.Common.{int_cmp, int_cmp_total, IsTotalOrder, nat_cmp, nat_cmp_total, Ordering, ordering_then}
 use Rattle.std.proofs.lemmas.Cmp.{on_total, then_total}
 use Rattle.mb_cache.specs.declared.entries.Entry.{Entry}
 

@@ -1,14 +1,8 @@
 -- The changes that throw entries out of a cache.
 use Rattle.std.specs.Prelude.{◌≡◌, List, None, All}
-use Rattle.std.specs.List.{list_any}
+use Rattle.mb_cache.specs.Common.{Cell, Change, has_key, is_changed, list_any, tile_key, TileCache}
 use Rattle.mb_cache.specs.Entries.{place_in}
 use Rattle.mb_cache.specs.declared.entries.Entry.{Entry}
-use Rattle.mb_loaded.specs.Changing.{tile_key}
-use Rattle.mb_store.specs.Committing.{is_changed}
-use Rattle.mb_store.specs.declared.change.Change.{Change}
-use Rattle.mb_tables.specs.Key.{has_key}
-use Rattle.mb_tables.specs.declared.cell.Cell.{Cell}
-use Rattle.mb_tables.specs.declared.table.TableName.TheVariants.{TileCache}
 
 -- a change that removes the rows of a key of the cache
 pub record IsDelete (c : Change) : Type 0 where

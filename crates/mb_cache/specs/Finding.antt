@@ -1,6 +1,6 @@
 -- Coordinates of tiles of a cache.
 use Rattle.std.specs.Prelude.{ℕ, ◌^◌, ◌&&◌, cond, nat_le, nat_lt, Option, Some, None}
-use Rattle.tile_ids.specs.Coord.{Coord}
+use Rattle.mb_cache.specs.Common.{Coord}
 
 -- the coordinate of three numbers, where they are one of zoom 0 to 30
 abbrev pub coord_in : ℕ → ℕ → ℕ → Option Coord

@@ -1,3 +1,4 @@
+pub mod Common
 pub mod EntryOrder
 pub mod Entries
 pub mod State

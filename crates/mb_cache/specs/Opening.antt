@@ -1,22 +1,12 @@
 -- What opening a cache answers, and what it leaves.
 use Rattle.std.specs.Prelude.{◌||◌, ◌≡◌, ◌⊎◌, Bool, true, false, cond, List, [], ◌∷◌, Option, Some, Result, Ok, Err}
-use Rattle.std.specs.List.{list_any}
+use Rattle.mb_cache.specs.Common.{Cache, created, InvalidDataFormat, is_free, is_keyed, layout_of, list_any, MbtError, NotACacheFile, NoUniquenessConstraint, TableDesc, Tables, then, TileCache}
 use Rattle.mb_cache.specs.State.{Agrees}
 use Rattle.mb_cache.specs.declared.entries.Entry.{Entry}
 use Rattle.mb_constraints.specs.Described.{is_metadata}
 use Rattle.mb_load.specs.StateOf.{state_of}
-use Rattle.mb_store.specs.Store.{created}
-use Rattle.mb_tables.specs.Described.{is_keyed}
-use Rattle.mb_tables.specs.Detection.{layout_of}
-use Rattle.mb_tables.specs.Refusals.{is_free, then}
 use Rattle.mb_tables.specs.Schema.{set_tables}
-use Rattle.mb_tables.specs.Table.{Tables}
-use Rattle.mb_tables.specs.declared.description.TableDesc.{TableDesc}
-use Rattle.mb_tables.specs.declared.error.MbtError.{MbtError}
-use Rattle.mb_tables.specs.declared.error.MbtError.TheVariants.{InvalidDataFormat, NoUniquenessConstraint, NotACacheFile}
 use Rattle.mb_tables.specs.declared.kind.MbtType.{MbtType}
-use Rattle.mb_tables.specs.declared.kind.MbtType.TheVariants.{Cache}
-use Rattle.mb_tables.specs.declared.table.TableName.TheVariants.{TileCache}
 
 -- whether the first layout whose tables are described is the cache
 abbrev pub is_cache_layout : Option MbtType → Bool

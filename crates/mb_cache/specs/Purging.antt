@@ -3,10 +3,7 @@ use Rattle.std.specs.Prelude.{not, List, filter}
 use Rattle.mb_cache.specs.Entries.{is_expired}
 use Rattle.mb_cache.specs.State.{with_passed}
 use Rattle.mb_cache.specs.declared.moments.UnixSeconds.{UnixSeconds}
-use Rattle.mb_tables.specs.Table.{Tables}
-use Rattle.mb_tables.specs.Tiles.{cell_at}
-use Rattle.mb_tables.specs.declared.cell.Cell.{Cell}
-use Rattle.mb_tables.specs.declared.table.TableName.TheVariants.{TileCache}
+use Rattle.mb_cache.specs.Common.{Cell, cell_at, Tables, TileCache}
 
 -- the rows that have an expiry below a moment
 abbrev pub expired_rows : UnixSeconds → Tables → List (List Cell)

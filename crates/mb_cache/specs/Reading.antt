@@ -4,13 +4,7 @@ use Rattle.mb_cache.specs.Finding.{coord_in}
 use Rattle.mb_cache.specs.State.{row_at}
 use Rattle.mb_cache.specs.declared.moments.CachedTile.{CachedTile}
 use Rattle.mb_cache.specs.declared.moments.UnixSeconds.{UnixSeconds}
-use Rattle.mb_lists.specs.Entries.{place_at}
-use Rattle.mb_tables.specs.Refusals.{Answers}
-use Rattle.mb_tables.specs.Table.{Tables}
-use Rattle.mb_tables.specs.Tiles.{cell_at}
-use Rattle.mb_tables.specs.declared.cell.Cell.{Cell}
-use Rattle.mb_tables.specs.declared.cell.Cell.TheVariants.{Int, Text, Blob}
-use Rattle.mb_tables.specs.declared.error.MbtError.{MbtError}
+use Rattle.mb_cache.specs.Common.{Answers, Blob, Cell, cell_at, Int, MbtError, place_at, Tables, Text}
 
 abbrev pub moment_in : Cell → Option UnixSeconds
 moment_in (Int n) = Some (record { 0 = n })

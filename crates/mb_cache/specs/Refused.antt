@@ -2,10 +2,7 @@
 use Rattle.std.specs.Prelude.{◌≡◌, Bool, true, ℕ, Result, IsErrOf}
 use Rattle.base_values.specs.Counts.{Rose}
 use Rattle.mb_cache.specs.Opening.{LeftOrBegun}
-use Rattle.mb_store.specs.Kept.{Keeps}
-use Rattle.mb_tables.specs.Table.{Tables}
-use Rattle.mb_tables.specs.declared.error.MbtError.{MbtError}
-use Rattle.mb_tables.specs.declared.error.MbtError.TheVariants.{StoreFault}
+use Rattle.mb_cache.specs.Common.{Keeps, MbtError, StoreFault, Tables}
 
 -- The store holds what it held, where it tells that, or has its new tables without rows; and a fault comes only where its count of faults rose.
 pub record LeftByOpening {A S : Type 0} (shows : S → Bool) (holds : S → Tables) (failed : S → ℕ) (unfailing : S → Type 0) (old : S) (result : Result A MbtError) (new : S) : Type 0 where

@@ -1,26 +1,15 @@
 -- What is known of the rows of a cache that were read so far.
 use Rattle.std.specs.Prelude.{ℕ, ◌≡◌, List, [], Option, None, map}
-use Rattle.std.specs.declared.cmp.Ordering.{Ordering}
-use Rattle.std.specs.List.{list_any}
-use Rattle.std.specs.List.Sorted.{IsStrictlySortedBy}
+use Rattle.mb_cache.specs.Common.{Cache, Cell, eq_by_cmp, first_refusal, IsStrictlySortedBy, list_any, MbtError, name_kind_wrong, name_twice, nat_cmp, Ordering, ordering_then, Place, place_twice}
+use Rattle.mb_cache.specs.Common.{row_refusals, tile_bad, tile_kind_wrong}
 use Rattle.std.specs.Option.{option_or}
-use Rattle.std.specs.Ordering.{eq_by_cmp, nat_cmp, ordering_then}
 use Rattle.mb_cache.specs.Entries.{entry_of, has_entry, row_place}
 use Rattle.mb_cache.specs.EntryOrder.{entry_cmp}
 use Rattle.mb_cache.specs.declared.entries.Entry.{Entry}
 use Rattle.mb_cache.specs.declared.seen_rows.SeenRows.{SeenRows}
 use Rattle.mb_cache.specs.declared.seen_tiles.SeenTiles.{SeenTiles}
 use Rattle.mb_constraints.specs.Algorithm.{algorithm_unknown}
-use Rattle.mb_constraints.specs.TileRows.{place_twice, tile_bad}
 use Rattle.mb_lists.specs.Keyed.{are_distinct}
-use Rattle.mb_lists.specs.Metadata.{name_twice}
-use Rattle.mb_load.specs.LoadingOrder.{row_refusals}
-use Rattle.mb_tables.specs.CellKinds.{name_kind_wrong, tile_kind_wrong}
-use Rattle.mb_tables.specs.Refusals.{first_refusal}
-use Rattle.mb_tables.specs.Tiles.{Place}
-use Rattle.mb_tables.specs.declared.cell.Cell.{Cell}
-use Rattle.mb_tables.specs.declared.error.MbtError.{MbtError}
-use Rattle.mb_tables.specs.declared.kind.MbtType.TheVariants.{Cache}
 
 -- the first refusal of the tests of loading over rows of metadata and of tiles of a cache, which has no contents apart
 abbrev pub row_refusal : List (List Cell) → List (List Cell) → Option MbtError

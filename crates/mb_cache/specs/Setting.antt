@@ -1,8 +1,8 @@
 -- What is put into a cache.
 use Rattle.std.specs.Prelude.{ℕ, ◌≡◌, ◌++◌, pos, ◌&&◌, ◌||◌, Bool, true, false, cond, not, List, [], ◌∷◌, Option, Some, None, Result, Ok, Err, option_copied, option_map}
 use Rattle.std.specs.BTreeMap.{is_at}
-use Rattle.std.specs.List.Sorted.{IsStrictlySortedBy}
-use Rattle.std.specs.Ordering.{eq_by_cmp}
+use Rattle.mb_cache.specs.Common.{Blob, Cell, cell_at, Change, Commits, Coord, eq_by_cmp, front, Int, InvalidTileIndex, IsStrictlySortedBy, MbtError, Null, Place, place_at, Tables, text_cell}
+use Rattle.mb_cache.specs.Common.{tile_key, TileCache}
 use Rattle.std.specs.Set.{remove_key}
 use Rattle.mb_cache.specs.Entries.{entry_at, has_entry}
 use Rattle.mb_cache.specs.EntryOrder.{entry_cmp}
@@ -11,18 +11,6 @@ use Rattle.mb_cache.specs.Finding.{coord_in}
 use Rattle.mb_cache.specs.State.{row_at}
 use Rattle.mb_cache.specs.declared.moments.CacheEntryMeta.{CacheEntryMeta}
 use Rattle.mb_cache.specs.declared.moments.UnixSeconds.{UnixSeconds}
-use Rattle.mb_lists.specs.Entries.{place_at, text_cell}
-use Rattle.mb_loaded.specs.Changing.{front, tile_key}
-use Rattle.mb_store.specs.Committing.{Commits}
-use Rattle.mb_store.specs.declared.change.Change.{Change}
-use Rattle.mb_tables.specs.Table.{Tables}
-use Rattle.mb_tables.specs.Tiles.{Place, cell_at}
-use Rattle.mb_tables.specs.declared.cell.Cell.{Cell}
-use Rattle.mb_tables.specs.declared.cell.Cell.TheVariants.{Null, Int, Blob}
-use Rattle.mb_tables.specs.declared.error.MbtError.{MbtError}
-use Rattle.mb_tables.specs.declared.error.MbtError.TheVariants.{InvalidTileIndex}
-use Rattle.mb_tables.specs.declared.table.TableName.TheVariants.{TileCache}
-use Rattle.tile_ids.specs.Coord.{Coord}
 
 -- a moment as a cell, null where there is none
 abbrev pub moment_cell : Option UnixSeconds → Cell

@@ -3,9 +3,7 @@ use Rattle.std.specs.Prelude.{ℕ, ◌≡◌, ◌*◌, cond, nat_lt, suc, zero, 
 use Rattle.mb_cache.specs.Entries.{place_in}
 use Rattle.mb_cache.specs.State.{row_at, without}
 use Rattle.mb_cache.specs.declared.entries.Entry.{Entry}
-use Rattle.mb_store.specs.Sizes.{live_size_of, row_size}
-use Rattle.mb_tables.specs.Table.{Tables}
-use Rattle.mb_tables.specs.declared.cell.Cell.{Cell}
+use Rattle.mb_cache.specs.Common.{Cell, live_size_of, row_size, Tables}
 
 -- the entries that go, in their order: before each round of 64 of them the live size of what is left has to be above a number. So many of a round that has begun are still to go
 unfoldable pub going : ℕ → ℕ → List Entry → Tables → List Entry

@@ -1,23 +1,9 @@
 -- What a cache keeps in memory agrees with the tables that its store tells.
 use Rattle.std.specs.Prelude.{◌≡◌, Bool, true, not, List, Option, Some, None, All, filter, find}
-use Rattle.std.specs.List.{list_any}
-use Rattle.std.specs.List.Sorted.{IsStrictlySortedBy}
-use Rattle.std.specs.Ordering.{eq_by_cmp}
+use Rattle.mb_cache.specs.Common.{Cache, Cell, eq_by_cmp, first_refusal, has_key, is_keyed, is_table, IsStrictlySortedBy, layout_of, list_any, Place, refusals, Tables, tile_key, TileCache, with_rows}
 use Rattle.mb_cache.specs.Entries.{IsCacheRow, entry_of, has_entry}
 use Rattle.mb_cache.specs.EntryOrder.{entry_cmp}
 use Rattle.mb_cache.specs.declared.entries.Entry.{Entry}
-use Rattle.mb_loaded.specs.Changing.{tile_key}
-use Rattle.mb_load.specs.LoadingOrder.{refusals}
-use Rattle.mb_store.specs.Store.{with_rows}
-use Rattle.mb_tables.specs.Described.{is_keyed, is_table}
-use Rattle.mb_tables.specs.Detection.{layout_of}
-use Rattle.mb_tables.specs.Key.{has_key}
-use Rattle.mb_tables.specs.Refusals.{first_refusal}
-use Rattle.mb_tables.specs.Table.{Tables}
-use Rattle.mb_tables.specs.Tiles.{Place}
-use Rattle.mb_tables.specs.declared.cell.Cell.{Cell}
-use Rattle.mb_tables.specs.declared.kind.MbtType.TheVariants.{Cache}
-use Rattle.mb_tables.specs.declared.table.TableName.TheVariants.{TileCache}
 
 -- the tables load, as a set of the layout Cache
 pub record IsCacheSet (t : Tables) : Type 0 where

@@ -1,7 +1,7 @@
 // A cache that borrows its store.
 ghost use Rattle.std.specs.Prelude.{◌≡◌, ◌≢◌, ◌<◌, ◌+◌, ◌-◌, ◌^◌, Err, IfErr, IfOk, None, Ok, OnErr, OnOk, codes, drop, false, length, true};
 ghost use Rattle.std.specs.Borrow.{sem, RestsIfErr};
-ghost use Rattle.std.specs.List.{take_while};
+ghost use Rattle.mb_cache.specs.Common.{Answers, FaultsCounted, is_free, IsBegun, Keeps, metadata_answer, ReadsOnly, Tables, take_while};
 ghost use Rattle.mb_cache.specs.Entries.{is_expired_entry};
 ghost use Rattle.mb_cache.specs.Finding.{coord_in};
 ghost use Rattle.mb_cache.specs.Opening.{OpensAs, begun_with, done, open_answer};
@@ -11,11 +11,6 @@ ghost use Rattle.mb_cache.specs.Refused.{LeftByOpening};
 ghost use Rattle.mb_cache.specs.Setting.{SetsEntry, SetsTile, UpdatesEntry, UpdatesMeta, set_answer};
 ghost use Rattle.mb_cache.specs.Sizing.{SomeRounds, WithoutRounds, oversize};
 ghost use Rattle.mb_cache.specs.State.{Agrees, without};
-ghost use Rattle.mb_load.specs.Begun.{IsBegun};
-ghost use Rattle.mb_metadata.specs.Reading.{metadata_answer};
-ghost use Rattle.mb_store.specs.Kept.{FaultsCounted, Keeps, ReadsOnly};
-ghost use Rattle.mb_tables.specs.Refusals.{Answers, is_free};
-ghost use Rattle.mb_tables.specs.Table.{Tables};
 
 use crate::{CacheEntryMeta, CacheState, CachedTile, Metadata, UnixSeconds};
 use base_values::BlobVal;

@@ -1,8 +1,7 @@
 // What a cache keeps of each tile in memory: when it expires, and where it stands.
 ghost use Rattle.std.specs.Prelude.{◌≡◌};
 ghost use Rattle.mb_cache.specs.Entries.{entry_at, is_expired_entry, place_in};
-ghost use Rattle.mb_lists.specs.Entries.{place_at};
-ghost use Rattle.mb_loaded.specs.Changing.{tile_key};
+ghost use Rattle.mb_cache.specs.Common.{place_at, tile_key};
 
 use crate::UnixSeconds;
 use mb_store::{Cell, RowKey};
@@ -24,8 +23,7 @@ pub(crate) struct Entry {
 }
 
 impl PartialEq for Entry {
-    ghost use Rattle.std.specs.Ordering.{eq_by_cmp};
-    ghost use Rattle.std.specs.Cmp.{eq_by_cmp_equiv, partial_equiv_from_equiv};
+    ghost use Rattle.mb_cache.specs.Common.{eq_by_cmp, eq_by_cmp_equiv, partial_equiv_from_equiv};
     ghost use Rattle.mb_cache.specs.EntryOrder.{entry_cmp, entries_total};
 
     ghost eq = { eq_by_cmp entry_cmp };
@@ -38,7 +36,7 @@ impl PartialEq for Entry {
 }
 
 impl Eq for Entry {
-    ghost use Rattle.std.specs.Cmp.{eq_by_cmp_equiv};
+    ghost use Rattle.mb_cache.specs.Common.{eq_by_cmp_equiv};
     ghost use Rattle.mb_cache.specs.EntryOrder.{entries_total};
 
     ghost laws = { eq_by_cmp_equiv entries_total };
@@ -46,7 +44,7 @@ impl Eq for Entry {
 
 impl PartialOrd for Entry {
     ghost use Rattle.std.specs.Prelude.{Some};
-    ghost use Rattle.std.specs.Cmp.{partial_order_from_total};
+    ghost use Rattle.mb_cache.specs.Common.{partial_order_from_total};
     ghost use Rattle.mb_cache.specs.EntryOrder.{entry_cmp, entries_total};
 
     ghost partial_cmp = { λ x y. Some (entry_cmp x y) };

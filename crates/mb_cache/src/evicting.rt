@@ -2,12 +2,7 @@
 ghost use Rattle.std.specs.Prelude.{◌≡◌, List, true, IfErr, IfOk, OnErr, OnOk, drop, length, take};
 ghost use Rattle.mb_cache.specs.Evicting.{AreDeletes};
 ghost use Rattle.mb_cache.specs.State.{Agrees, without};
-ghost use Rattle.mb_store.specs.Committing.{AreOfTables};
-ghost use Rattle.mb_store.specs.Kept.{FaultsCounted, Keeps};
-ghost use Rattle.mb_tables.specs.Described.{is_table};
-ghost use Rattle.mb_tables.specs.Refusals.{is_free};
-ghost use Rattle.mb_tables.specs.declared.description.TableDesc.{TableDesc};
-ghost use Rattle.mb_tables.specs.declared.table.TableName.TheVariants.{TileCache};
+ghost use Rattle.mb_cache.specs.Common.{AreOfTables, FaultsCounted, is_free, is_table, Keeps, TableDesc, TileCache};
 
 use crate::entries::Entry;
 use base_values::OutOfMemory;

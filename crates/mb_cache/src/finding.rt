@@ -2,11 +2,7 @@
 ghost use Rattle.std.specs.Prelude.{◌≡◌, pos, true, IfErr, IfOk, IfSome, length};
 ghost use Rattle.mb_cache.specs.Finding.{coord_in};
 ghost use Rattle.mb_cache.specs.State.{row_at};
-ghost use Rattle.mb_lists.specs.Entries.{place_at};
-ghost use Rattle.mb_loaded.specs.Changing.{tile_key};
-ghost use Rattle.mb_store.specs.Kept.{FaultsCounted, ReadsOnly};
-ghost use Rattle.mb_tables.specs.Refusals.{is_free};
-ghost use Rattle.mb_tables.specs.declared.cell.Cell.TheVariants.{Int};
+ghost use Rattle.mb_cache.specs.Common.{FaultsCounted, Int, is_free, place_at, ReadsOnly, tile_key};
 
 use mb_store::{Cell, MbtError, MbtResult, Row, RowKey, TableName, TileStore};
 use std::alloc::Global;

@@ -1,9 +1,7 @@
 // The rows that a cache puts.
 ghost use Rattle.std.specs.Prelude.{◌≡◌, IfOk, length, option_copied};
 ghost use Rattle.mb_cache.specs.Setting.{meta_row, moment_cell};
-ghost use Rattle.mb_lists.specs.Entries.{place_at, text_cell};
-ghost use Rattle.mb_loaded.specs.Changing.{front};
-ghost use Rattle.mb_tables.specs.Tiles.{cell_at};
+ghost use Rattle.mb_cache.specs.Common.{cell_at, front, place_at, text_cell};
 
 use crate::{CacheEntryMeta, UnixSeconds};
 use base_values::{OutOfMemory, TextVal};

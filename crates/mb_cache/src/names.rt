@@ -1,8 +1,7 @@
 // The tests of loading over the metadata of a cache.
 ghost use Rattle.std.specs.Prelude.{◌≡◌, option_and_then, option_copied};
 ghost use Rattle.mb_cache.specs.Seen.{names_refused};
-ghost use Rattle.mb_lists.specs.Metadata.{text_of};
-ghost use Rattle.mb_tables.specs.Refusals.{Tests};
+ghost use Rattle.mb_cache.specs.Common.{Tests, text_of};
 
 use base_values::TextVal;
 use mb_constraints::algorithm_by;

@@ -2,11 +2,7 @@
 ghost use Rattle.std.specs.Prelude.{◌≡◌, Some, false, true, IfErr, IfOk, OnErr, OnOk};
 ghost use Rattle.mb_cache.specs.Opening.{LeftOrBegun, OpensAs, begin_answer, begun_with, described_answer, done, is_cache_layout, open_answer};
 ghost use Rattle.mb_cache.specs.State.{Agrees};
-ghost use Rattle.mb_store.specs.Kept.{FaultsCounted, Keeps, ReadsOnly};
-ghost use Rattle.mb_tables.specs.Detection.{layout_of};
-ghost use Rattle.mb_tables.specs.Refusals.{Answers, is_free};
-ghost use Rattle.mb_tables.specs.Table.{Tables};
-ghost use Rattle.mb_tables.specs.declared.kind.MbtType.TheVariants.{Cache};
+ghost use Rattle.mb_cache.specs.Common.{Answers, Cache, FaultsCounted, is_free, Keeps, layout_of, ReadsOnly, Tables};
 
 use crate::CacheState;
 use crate::pages::{read_metadata, read_rows};

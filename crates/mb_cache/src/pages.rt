@@ -1,12 +1,7 @@
 // The rows of a cache, read in pages, each of which is let go before the next.
 ghost use Rattle.std.specs.Prelude.{◌≡◌, ◌≤◌, ◌-◌, ◌++◌, Some, false, true, IfErr, IfOk, List, OnOk, length, take};
 ghost use Rattle.mb_cache.specs.Seen.{SeesRows};
-ghost use Rattle.mb_store.specs.Kept.{FaultsCounted, ReadsOnly};
-ghost use Rattle.mb_tables.specs.CellKinds.{tile_kind_wrong};
-ghost use Rattle.mb_tables.specs.Refusals.{is_free};
-ghost use Rattle.mb_tables.specs.declared.cell.Cell.{Cell};
-ghost use Rattle.mb_tables.specs.declared.kind.MbtType.TheVariants.{Cache};
-ghost use Rattle.mb_tables.specs.declared.table.TableName.TheVariants.{Metadata, TileCache};
+ghost use Rattle.mb_cache.specs.Common.{Cache, Cell, FaultsCounted, is_free, Metadata, ReadsOnly, tile_kind_wrong, TileCache};
 
 use crate::seen_rows::SeenRows;
 use mb_store::{MbtError, MbtResult, Row, StoreError, TableName, TileStore};

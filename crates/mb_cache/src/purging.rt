@@ -1,11 +1,9 @@
 // Throwing tiles out of a cache by age.
 ghost use Rattle.std.specs.Prelude.{◌≡◌, true, drop, IfErr, IfOk, length, OnErr, OnOk};
-ghost use Rattle.std.specs.List.{take_while};
+ghost use Rattle.mb_cache.specs.Common.{FaultsCounted, is_free, Keeps, take_while};
 ghost use Rattle.mb_cache.specs.Entries.{is_expired_entry};
 ghost use Rattle.mb_cache.specs.Purging.{expired_rows, without_expired};
 ghost use Rattle.mb_cache.specs.State.{Agrees};
-ghost use Rattle.mb_store.specs.Kept.{FaultsCounted, Keeps};
-ghost use Rattle.mb_tables.specs.Refusals.{is_free};
 
 use crate::entries::Entry;
 use crate::evicting::evict;

@@ -1,10 +1,7 @@
 // What a row of a cache says of its tile, and reads of a cache.
 ghost use Rattle.std.specs.Prelude.{◌≡◌, codes, length, option_and_then};
 ghost use Rattle.mb_cache.specs.Reading.{IsRead, blob_in, bytes_of, cached_of, moment_in, text_in};
-ghost use Rattle.mb_load.specs.Begun.{IsBegun};
-ghost use Rattle.mb_metadata.specs.Reading.{metadata_answer};
-ghost use Rattle.mb_store.specs.Kept.{FaultsCounted, ReadsOnly};
-ghost use Rattle.mb_tables.specs.Tiles.{cell_at};
+ghost use Rattle.mb_cache.specs.Common.{cell_at, FaultsCounted, IsBegun, metadata_answer, ReadsOnly};
 
 use crate::finding::{coord_in, find_row};
 use crate::{CacheState, CachedTile, Metadata, UnixSeconds};

@@ -1,12 +1,8 @@
 // What is known of the rows of a cache that were read so far, page by page.
 ghost use Rattle.std.specs.Prelude.{◌≡◌, ◌++◌, [], IfOk, List, None, OnOk};
 ghost use Rattle.mb_cache.specs.Seen.{AreEntries, SeesRows, row_refusal, tiles_refused};
-ghost use Rattle.mb_constraints.specs.TileRows.{tile_bad};
+ghost use Rattle.mb_cache.specs.Common.{Cache, Cell, Tests, tile_bad, tile_kind_wrong};
 ghost use Rattle.mb_lists.specs.FromRows.{AreIndexed};
-ghost use Rattle.mb_tables.specs.CellKinds.{tile_kind_wrong};
-ghost use Rattle.mb_tables.specs.Refusals.{Tests};
-ghost use Rattle.mb_tables.specs.declared.cell.Cell.{Cell};
-ghost use Rattle.mb_tables.specs.declared.kind.MbtType.TheVariants.{Cache};
 
 use crate::entries::Entry;
 use crate::names::test_names;

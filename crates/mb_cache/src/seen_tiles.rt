@@ -2,12 +2,7 @@
 ghost use Rattle.std.specs.Prelude.{◌≡◌, ◌++◌, ◌∷◌, [], false, true, IfErr, IfOk, List, None, OnOk};
 ghost use Rattle.mb_cache.specs.Entries.{row_place};
 ghost use Rattle.mb_cache.specs.Seen.{SeesTiles, spot_at};
-ghost use Rattle.mb_constraints.specs.TileRows.{bad_tile};
-ghost use Rattle.mb_lists.specs.Entries.{place_at};
-ghost use Rattle.mb_tables.specs.Refusals.{first_refused};
-ghost use Rattle.mb_tables.specs.Tiles.{cell_at};
-ghost use Rattle.mb_tables.specs.declared.cell.Cell.{Cell};
-ghost use Rattle.mb_tables.specs.declared.kind.MbtType.TheVariants.{Cache};
+ghost use Rattle.mb_cache.specs.Common.{bad_tile, Cache, Cell, cell_at, first_refused, place_at};
 
 use crate::entries::Entry;
 use base_values::OutOfMemory;

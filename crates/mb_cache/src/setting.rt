@@ -1,23 +1,14 @@
 // Putting tiles into a cache.
 ghost use Rattle.std.specs.Prelude.{◌≡◌, ◌&&◌, List, not, None, Ok, false, true, IfErr, IfOk, OnErr, OnOk, is_some, length, option_copied, option_map};
-ghost use Rattle.std.specs.List.Sorted.{IsStrictlySortedBy};
+ghost use Rattle.mb_cache.specs.Common.{Answers, AreOfTables, cell_at, Commits, contents_of, FaultsCounted, has_key, is_free, is_table, IsStrictlySortedBy, Keeps, place_at, TableDesc, tile_key};
+ghost use Rattle.mb_cache.specs.Common.{TileCache};
 ghost use Rattle.mb_cache.specs.Entries.{entry_at, entry_of, has_entry};
 ghost use Rattle.mb_cache.specs.EntryOrder.{entry_cmp};
 ghost use Rattle.mb_cache.specs.declared.entries.Entry.{Entry};
 ghost use Rattle.mb_cache.specs.Finding.{coord_in};
 ghost use Rattle.mb_cache.specs.Setting.{ReplacesEntry, SetsEntry, SetsTile, UpdatesEntry, UpdatesMeta, is_replaced, meta_row, put_row, set_answer, taken_back};
 ghost use Rattle.mb_cache.specs.State.{Agrees, row_at};
-ghost use Rattle.mb_lists.specs.Entries.{place_at};
-ghost use Rattle.mb_loaded.specs.Changing.{tile_key};
 ghost use Rattle.mb_loaded.specs.Editable.{IsOnBoard};
-ghost use Rattle.mb_store.specs.Committing.{AreOfTables, Commits};
-ghost use Rattle.mb_store.specs.Kept.{FaultsCounted, Keeps};
-ghost use Rattle.mb_tables.specs.Described.{is_table};
-ghost use Rattle.mb_tables.specs.Key.{has_key};
-ghost use Rattle.mb_tables.specs.Refusals.{Answers, is_free};
-ghost use Rattle.mb_tables.specs.Tiles.{cell_at, contents_of};
-ghost use Rattle.mb_tables.specs.declared.description.TableDesc.{TableDesc};
-ghost use Rattle.mb_tables.specs.declared.table.TableName.TheVariants.{TileCache};
 
 use crate::entries::Entry;
 use crate::finding::{bad_coordinate, coord_in, find_row, key_at};

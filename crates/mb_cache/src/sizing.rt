@@ -2,9 +2,7 @@
 ghost use Rattle.std.specs.Prelude.{◌≡◌, ◌+◌, ◌-◌, ◌^◌, ◌<◌, true, IfErr, IfOk, Ok, OnErr, OnOk, drop, length, min, take};
 ghost use Rattle.mb_cache.specs.Sizing.{SomeRounds, WithoutRounds, oversize, size_at, sizes_at};
 ghost use Rattle.mb_cache.specs.State.{Agrees, without};
-ghost use Rattle.mb_store.specs.Kept.{FaultsCounted, Keeps, ReadsOnly};
-ghost use Rattle.mb_store.specs.Sizes.{live_size_of};
-ghost use Rattle.mb_tables.specs.Refusals.{is_free};
+ghost use Rattle.mb_cache.specs.Common.{FaultsCounted, is_free, Keeps, live_size_of, ReadsOnly};
 
 use crate::CacheState;
 use crate::entries::Entry;

@@ -1,9 +1,6 @@
 -- What a set says of itself, field by field.
-use Rattle.std.proofs.Common.{◌≡◌, ◌∙◌, ap, sym, ℕ, List, Option, Ok}
-use Rattle.mb_check.specs.PatchInfo.{info_answer}
+use Rattle.mb_check.proofs.Common.{after_hash, agg_hash, ap, before_hash, info_answer, List, Ok, Option, State, sym, ℕ, ◌∙◌, ◌≡◌}
 use Rattle.mb_check.specs.declared.patch_info.PatchFileInfo.{PatchFileInfo}
-use Rattle.mb_lists.specs.Metadata.{after_hash, agg_hash, before_hash}
-use Rattle.mb_loaded.specs.State.{State}
 use Rattle.mb_tables.specs.declared.kind.MbtType.{MbtType}
 use Rattle.mb_tables.specs.declared.patch_type.PatchType.{PatchType}
 

@@ -1,3 +1,4 @@
+mod Common
 pub mod InfoLemmas
 pub mod SizesLemmas
 pub mod UpdatedLemmas

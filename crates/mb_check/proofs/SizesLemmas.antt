@@ -1,22 +1,14 @@
 -- Sizes of tiles, one after another, and what they tell of a zoom.
-use Rattle.std.proofs.Common.{◌≡◌, ◌∙◌, ap, sym, subst, cond, ℕ, ◌+◌, ◌-◌, ◌^◌, ◌<◌, ◌≤◌, ◌==◌, suc, zero, Bool, true, false, List, [], ◌∷◌, ◌++◌, Option, Some, None, refl, length, get_or, drop, take, fold, min, max, map, filter_map, arith, add-one}
-use Rattle.std.specs.Prelude.{IfSome, option_map, slice_get, sum, sum_by, unwrap_or}
-use Rattle.std.specs.FinMap.{entries, len, len-entries}
-use Rattle.std.specs.List.{cons_option}
+use Rattle.mb_check.proofs.Common.{add-one, ap, arith, below, blob_cell, Bool, bytes_of, capped, Cell, cond, cons_option, drop, drop_all, entries, false, filter_map, fold, get_or, greatest}
+use Rattle.mb_check.proofs.Common.{greatest_with, IfSome, info_by, info_of, known, least, least_with, len, len-entries, length, List, map, max, min, no_sizes, None, Option, option_map, Place}
+use Rattle.mb_check.proofs.Common.{place_at, refl, size_at, sizes_at, slice_get, Some, subst, suc, sum, sum_by, sym, take, take_all, take_more, TileSet, true, unwrap_or, with_size, with_sizes}
+use Rattle.mb_check.proofs.Common.{with_tile, zero, zoom_infos, ZoomInfo, ℕ, [], ◌++◌, ◌+◌, ◌-◌, ◌<◌, ◌==◌, ◌^◌, ◌∙◌, ◌∷◌, ◌≡◌, ◌≤◌}
 use Rattle.std.proofs.Math.Seq.{drop-cons}
 use Rattle.std.proofs.lemmas.Bool.{eqb-true}
-use Rattle.std.proofs.lemmas.List.{drop_all, take_all, take_more}
 use Rattle.std.proofs.lemmas.List.Elements.{filter_map-append}
 use Rattle.std.proofs.lemmas.List.Sums.{sum_by-cons, sum_by_push}
 use Rattle.std.proofs.lemmas.Option.{get_or_from_slice_get, none-some, slice_get-get_or, slice_get_within}
-use Rattle.mb_check.specs.Sizes.{greatest_with, info_by, least_with, no_sizes, with_size, with_sizes, with_tile}
-use Rattle.mb_check.specs.Totals.{below, capped, greatest, info_of, known, least, size_at, sizes_at, zoom_infos}
 use Rattle.mb_check.specs.declared.sizes.Sizes.{Sizes}
-use Rattle.mb_check.specs.declared.zoom_info.ZoomInfo.{ZoomInfo}
-use Rattle.mb_loaded.specs.Aggregate.{bytes_of}
-use Rattle.mb_lists.specs.Entries.{blob_cell, place_at}
-use Rattle.mb_tables.specs.Tiles.{Place, TileSet}
-use Rattle.mb_tables.specs.declared.cell.Cell.{Cell}
 use Rattle.tile_ids.specs.Coord.{Coord}
 
 abbrev pub Entry : Type 0

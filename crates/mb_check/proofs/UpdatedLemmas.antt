@@ -1,32 +1,20 @@
 -- A set with its computed hash stored, and its tables after the commit: edits of two names.
-use Rattle.std.proofs.Common.{◌≡◌, ◌∙◌, ap, sym, ℕ, List, [], ◌∷◌, Option, Some, ◌||◌, not, filter, refl, Ok}
+use Rattle.mb_check.proofs.Common.{aggregate, ap, Cell, cell_at, codes, filter, get, get-insert, HashAlgorithm, Held, insert, IsLoadedFrom, List, MakesChanges, Names, NamesAlgorithm, not}
+use Rattle.mb_check.proofs.Common.{nothing_edited, Ok, Option, option_and_then, option_map, option_to_list, refl, Some, sym, Tables, text_at, text_cell, with_name, ℕ, [], ◌||◌, ◌∙◌, ◌∷◌, ◌≡◌}
 use Rattle.std.proofs.Math.Bool.{or-false}
-use Rattle.std.specs.Prelude.{codes, option_and_then, option_map, option_to_list}
-use Rattle.std.specs.FinMap.{get, get-insert, insert}
 use Rattle.std.proofs.lemmas.Cmp.{nat_list_cmp_total}
 use Rattle.mb_check.specs.Updated.{IsUpdated, held_hashed, is_hash_row, names_hashed}
 use Rattle.mb_constraints.specs.Algorithm.{algorithm_by, unknown_name}
-use Rattle.mb_lists.specs.Entries.{text_cell}
-use Rattle.mb_lists.specs.Metadata.{Names, text_at}
 use Rattle.mb_load.proofs.AlgorithmNames.{name_back, name_known}
 use Rattle.mb_load.proofs.EditedFrom.{from_with_name}
-use Rattle.mb_loaded.specs.Aggregate.{aggregate}
-use Rattle.mb_load.specs.Committing.{MakesChanges}
-use Rattle.mb_loaded.specs.Edits.{with_name}
-use Rattle.mb_loaded.specs.Held.{Held, nothing_edited}
-use Rattle.mb_load.specs.LoadedFrom.{IsLoadedFrom, NamesAlgorithm}
 use Rattle.mb_load.specs.StateOf.{state_of}
 use Rattle.mb_metadata.proofs.NameEditLemmas.{edits_committed}
 use Rattle.mb_metadata.specs.NameEdits.{AreEdited, is_edited, put_of}
 use Rattle.mb_store.specs.Store.{IsSound}
 use Rattle.mb_tables.specs.Cell.{cell_eq}
-use Rattle.mb_tables.specs.Table.{Tables}
-use Rattle.mb_tables.specs.Tiles.{cell_at}
-use Rattle.mb_tables.specs.declared.cell.Cell.{Cell}
 use Rattle.mb_tables.specs.declared.cell.Cell.TheVariants.{Text}
 use Rattle.mb_tables.specs.declared.table.TableName.TheVariants.{Metadata}
 use Rattle.tile_hash.specs.Digest.{name_of}
-use Rattle.tile_hash.specs.declared.algorithm.HashAlgorithm.{HashAlgorithm}
 
 abbrev hash_name : List ℕ
 hash_name = codes "agg_tiles_hash"

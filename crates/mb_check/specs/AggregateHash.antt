@@ -1,12 +1,8 @@
 -- The stored hash of all tiles of a set, and the computed one.
 use Rattle.std.specs.Prelude.{ℕ, List, cond, Option, Some, None, Result, Ok, Err}
 use Rattle.std.specs.Str.{bytes_eq}
-use Rattle.mb_lists.specs.Metadata.{agg_hash}
-use Rattle.mb_loaded.specs.Aggregate.{aggregate}
-use Rattle.mb_loaded.specs.State.{State}
-use Rattle.mb_tables.specs.declared.error.MbtError.{MbtError}
+use Rattle.mb_check.specs.Common.{agg_hash, aggregate, HashAlgorithm, MbtError, State}
 use Rattle.mb_tables.specs.declared.error.MbtError.TheVariants.{AggHashMismatch, AggHashValueNotFound}
-use Rattle.tile_hash.specs.declared.algorithm.HashAlgorithm.{HashAlgorithm}
 
 -- the algorithm of the set
 abbrev pub algorithm_answer : State → Result HashAlgorithm MbtError

@@ -1,3 +1,4 @@
+pub mod Common
 pub mod AggregateHash
 pub mod PatchInfo
 pub mod Updated

@@ -1,9 +1,7 @@
 -- What a set says of itself as a patch, or as the base of one.
 use Rattle.std.specs.Prelude.{Result, Ok}
 use Rattle.mb_check.specs.declared.patch_info.PatchFileInfo.{PatchFileInfo}
-use Rattle.mb_lists.specs.Metadata.{after_hash, agg_hash, before_hash}
-use Rattle.mb_loaded.specs.State.{State}
-use Rattle.mb_tables.specs.declared.error.MbtError.{MbtError}
+use Rattle.mb_check.specs.Common.{after_hash, agg_hash, before_hash, MbtError, State}
 
 -- its layout, its hash of all tiles and those of before and after a patch, and the kind of the patches that its tables describe
 abbrev pub patch_info : State → PatchFileInfo

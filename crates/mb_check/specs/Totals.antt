@@ -1,13 +1,8 @@
 -- Counts and sizes of the tiles of a set.
 use Rattle.std.specs.Prelude.{ℕ, ◌==◌, ◌++◌, ◌-◌, ◌^◌, zero, suc, cond, min, max, List, [], ◌∷◌, Option, Some, None, Result, Ok, fold, length, map, option_map, slice_get, sum, sum_by, unwrap_or}
-use Rattle.std.specs.FinMap.{entries, len}
-use Rattle.std.specs.List.{filter_map}
+use Rattle.mb_check.specs.Common.{bytes_of, entries, filter_map, len, MbtError, Place, State, TileSet}
 use Rattle.mb_check.specs.declared.tile_counts.Summary.{Summary}
 use Rattle.mb_check.specs.declared.zoom_info.ZoomInfo.{ZoomInfo}
-use Rattle.mb_loaded.specs.Aggregate.{bytes_of}
-use Rattle.mb_loaded.specs.State.{State}
-use Rattle.mb_tables.specs.Tiles.{Place, TileSet}
-use Rattle.mb_tables.specs.declared.error.MbtError.{MbtError}
 
 -- a sum, which stops at the greatest u64
 abbrev pub capped : ℕ → ℕ

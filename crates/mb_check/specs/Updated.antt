@@ -1,23 +1,16 @@
 -- What storing the hash of all tiles makes of a set and of its tables.
 use Rattle.std.specs.Prelude.{◌≡◌, ℕ, codes, ◌||◌, Bool, false, not, List, [], ◌∷◌, Some, Ok, filter}
-use Rattle.std.specs.FinMap.{insert}
-use Rattle.mb_loaded.specs.Aggregate.{aggregate}
+use Rattle.mb_check.specs.Common.{aggregate, cell_at, HashAlgorithm, insert, Names, State, table_eq, Tables, with_name}
 use Rattle.mb_load.specs.Committed.{rows_under}
-use Rattle.mb_loaded.specs.Edits.{with_name}
 use Rattle.mb_loaded.specs.Held.{Held}
-use Rattle.mb_lists.specs.Metadata.{Names}
-use Rattle.mb_loaded.specs.State.{State}
 use Rattle.mb_load.specs.StateOf.{state_of}
 use Rattle.mb_tables.specs.Cell.{cell_eq}
-use Rattle.mb_tables.specs.Table.{Tables, table_eq}
-use Rattle.mb_tables.specs.Tiles.{cell_at}
 use Rattle.mb_tables.specs.declared.cell.Cell.{Cell}
 use Rattle.mb_tables.specs.declared.cell.Cell.TheVariants.{Text}
 use Rattle.mb_tables.specs.declared.key.RowKey.TheVariants.{TextId}
 use Rattle.mb_tables.specs.declared.table.TableName.{TableName}
 use Rattle.mb_tables.specs.declared.table.TableName.TheVariants.{Metadata}
 use Rattle.tile_hash.specs.Digest.{name_of}
-use Rattle.tile_hash.specs.declared.algorithm.HashAlgorithm.{HashAlgorithm}
 
 -- metadata with a hash of all tiles and the name of its algorithm
 abbrev pub names_hashed : Names → HashAlgorithm → List ℕ → Names

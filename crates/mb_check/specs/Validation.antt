@@ -4,9 +4,7 @@ use Rattle.mb_check.specs.AggregateHash.{checked_answer, own_hash_answer}
 use Rattle.mb_check.specs.Updated.{IsUpdated}
 use Rattle.mb_check.specs.declared.validation.AggHashType.{AggHashType}
 use Rattle.mb_check.specs.declared.validation.AggHashType.TheVariants.{Verify, Update, Off}
-use Rattle.mb_loaded.specs.State.{State}
-use Rattle.mb_tables.specs.Table.{Tables}
-use Rattle.mb_tables.specs.declared.error.MbtError.{MbtError}
+use Rattle.mb_check.specs.Common.{MbtError, State, Tables}
 
 abbrev pub hash_type_words : AggHashType → List ℕ
 hash_type_words Verify = codes "verify"

@@ -1,10 +1,7 @@
 // The hash of all tiles of a set: as it is stored, as it is computed, and whether these agree.
-ghost use Rattle.mb_store.specs.Kept.{FaultsCounted, ReadsOnly};
+ghost use Rattle.mb_check.specs.Common.{Answers, FaultsCounted, IsBegun, ReadsOnly, text_at};
 ghost use Rattle.std.specs.Prelude.{◌≡◌, ◌≢◌, Err, IfOk};
 ghost use Rattle.mb_check.specs.AggregateHash.{algorithm_answer, checked_answer, hash_answer, stored_answer};
-ghost use Rattle.mb_load.specs.Begun.{IsBegun};
-ghost use Rattle.mb_lists.specs.Metadata.{text_at};
-ghost use Rattle.mb_tables.specs.Refusals.{Answers};
 
 use base_values::{OutOfMemory, TextVal};
 use mb_load::load;

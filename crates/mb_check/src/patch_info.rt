@@ -1,10 +1,8 @@
 // What a set says of itself as a patch, or as the base of one.
-ghost use Rattle.mb_store.specs.Kept.{FaultsCounted, ReadsOnly};
+ghost use Rattle.mb_check.specs.Common.{Answers, FaultsCounted, IsBegun, ReadsOnly};
 ghost use Rattle.std.specs.Prelude.{◌≡◌, ◌≢◌, Err, is_some};
-ghost use Rattle.mb_load.specs.Begun.{IsBegun};
 ghost use Rattle.mb_check.specs.PatchInfo.{info_answer};
 ghost use Rattle.mb_constraints.specs.DiffHashes.{base_refused, patch_refused, refused_by, unless_forced};
-ghost use Rattle.mb_tables.specs.Refusals.{Answers};
 
 use crate::aggregate::text_of;
 use base_values::TextVal;

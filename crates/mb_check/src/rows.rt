@@ -1,6 +1,5 @@
 // The tests of a set's rows, which loading makes.
-ghost use Rattle.mb_store.specs.Kept.{FaultsCounted, ReadsOnly};
-ghost use Rattle.mb_load.specs.Begun.{IsBegun};
+ghost use Rattle.mb_check.specs.Common.{FaultsCounted, IsBegun, ReadsOnly};
 ghost use Rattle.mb_check.specs.Validation.{rows_answer};
 
 use mb_load::load;

@@ -1,14 +1,10 @@
 // Counts and sizes of the tiles of a set.
-ghost use Rattle.mb_store.specs.Kept.{FaultsCounted, ReadsOnly};
+ghost use Rattle.mb_check.specs.Common.{Answers, cons_option, entries, FaultsCounted, filter_map, IsBegun, len, ReadsOnly};
 ghost use Rattle.std.specs.Prelude.{◌≡◌, ◌≢◌, ◌<◌, ◌^◌, ◌++◌, [], ℕ, List, Option, Err, IfOk, IfSome, OnOk, length, map, option_map, slice_get, slice_index_or};
-ghost use Rattle.std.specs.FinMap.{entries, len};
-ghost use Rattle.std.specs.List.{cons_option, filter_map};
-ghost use Rattle.mb_load.specs.Begun.{IsBegun};
 ghost use Rattle.mb_check.specs.Sizes.{info_by, no_sizes, with_sizes, with_tile};
 ghost use Rattle.mb_check.specs.Totals.{below, greatest, last_of, least, size_at, sizes_at, summary_answer, summary_of, total_of, zoom_infos};
 ghost use Rattle.mb_check.specs.declared.sizes.Sizes.{Sizes};
 ghost use Rattle.mb_lists.specs.Entries.{blob_cell};
-ghost use Rattle.mb_tables.specs.Refusals.{Answers};
 
 use crate::sizes::{Sizes, greatest_with, least_with};
 use crate::{Summary, ZoomInfo, ZoomInfoList};

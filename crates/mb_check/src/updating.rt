@@ -1,10 +1,8 @@
 // Storing the computed hash of all tiles.
-ghost use Rattle.mb_store.specs.Kept.{FaultsCounted, Keeps};
+ghost use Rattle.mb_check.specs.Common.{FaultsCounted, IsBegun, Keeps, with_name};
 ghost use Rattle.std.specs.Prelude.{◌≡◌, Some, true, IfOk, OnErr, OnOk};
 ghost use Rattle.mb_check.specs.AggregateHash.{own_hash_answer};
-ghost use Rattle.mb_load.specs.Begun.{IsBegun};
 ghost use Rattle.mb_check.specs.Updated.{IsUpdated, held_hashed};
-ghost use Rattle.mb_loaded.specs.Edits.{with_name};
 
 use base_values::{OutOfMemory, TextVal};
 use mb_load::{commit_loaded, load};

@@ -1,7 +1,6 @@
 // Validation of a set.
-ghost use Rattle.mb_store.specs.Kept.{FaultsCounted, Keeps, ReadsOnly};
+ghost use Rattle.mb_check.specs.Common.{FaultsCounted, IsBegun, Keeps, ReadsOnly};
 ghost use Rattle.std.specs.Prelude.{◌≡◌, ◌≢◌, true, OnErr, OnOk};
-ghost use Rattle.mb_load.specs.Begun.{IsBegun};
 ghost use Rattle.mb_check.specs.Validation.{IsLeft, hash_type_words, validated};
 
 use crate::{check_agg_tiles_hashes, update_agg_tiles_hash};

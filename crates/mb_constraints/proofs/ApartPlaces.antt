@@ -1,29 +1,15 @@
 -- Rows that a unique index keeps apart have no place twice.
-use Rattle.std.proofs.Common.{◌≡◌, ◌∙◌, ap, sym, ℕ, ℤ, ◌^◌, List, [], ◌∷◌, Option, Some, None, Bool, true, false, not, ◌&&◌, cond, filter_map, map, take, pos, refl, suc, nat_lt, arith}
-use Rattle.std.specs.Prelude.{AllPairs, option_and_then, slice_get}
-use Rattle.std.specs.List.{cons_option, list_any}
+use Rattle.mb_constraints.proofs.Common.{AllPairs, ap, are_distinct, arith, Bool, Cell, cell_at, cells_eq, cells_eq-Decides, cond, cons_option, contents_in, contents_of, false, false≢true, filter_map}
+use Rattle.mb_constraints.proofs.Common.{get_or_from_slice_get, Hash, Int, is_null, List, list_any, map, MbtType, nat_lt, None, none-some, Normalized, not, NoUniquenessConstraint, number_below}
+use Rattle.mb_constraints.proofs.Common.{Option, option_and_then, Place, place_cmp, place_of, place_twice, pos, refl, slice_get, slice_get_within, Some, suc, sym, take, tile_in, tile_of, tile_table}
+use Rattle.mb_constraints.proofs.Common.{true, unless, ℕ, ℤ, [], ◌&&◌, ◌^◌, ◌∙◌, ◌∷◌, ◌≡◌}
 use Rattle.std.specs.Ordering.{eq_by_cmp}
-use Rattle.std.proofs.lemmas.Bool.{false≢true}
-use Rattle.std.proofs.lemmas.Option.{get_or_from_slice_get, none-some, slice_get_within}
-use Rattle.mb_lists.specs.Keyed.{are_distinct}
-use Rattle.mb_tables.specs.Refusals.{unless}
-use Rattle.mb_constraints.specs.TileRows.{contents_in, place_twice, tile_in}
 use Rattle.mb_lists.proofs.Items.{equal_of}
 use Rattle.mb_lists.proofs.Places.{places_antisymmetric}
 use Rattle.mb_store.specs.Store.{IsSound}
-use Rattle.mb_tables.proofs.CellLemmas.{cells_eq-Decides}
-use Rattle.mb_tables.specs.Cell.{cells_eq, is_null}
 use Rattle.mb_tables.specs.Described.{is_keyed}
-use Rattle.mb_tables.specs.Kind.{tile_table}
 use Rattle.mb_tables.specs.Key.{clash}
 use Rattle.mb_tables.specs.Table.{Tables, key_of}
-use Rattle.mb_tables.specs.Tiles.{Place, cell_at, contents_of, number_below, place_cmp, place_of, tile_of}
-use Rattle.mb_tables.specs.declared.cell.Cell.{Cell}
-use Rattle.mb_tables.specs.declared.cell.Cell.TheVariants.{Int}
-use Rattle.mb_tables.specs.declared.error.MbtError.TheVariants.{NoUniquenessConstraint}
-use Rattle.mb_tables.specs.declared.kind.MbtType.{MbtType}
-use Rattle.mb_tables.specs.declared.kind.MbtType.TheVariants.{Normalized}
-use Rattle.mb_tables.specs.declared.kind.NormalizedSchema.TheVariants.{Hash}
 
 -- a place's numbers are its row's first three cells
 number_is : (limit : ℕ) (c : Cell) (n : ℕ) → number_below limit c ≡ Some n → c ≡ Int (pos n)

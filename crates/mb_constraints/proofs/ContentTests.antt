@@ -1,33 +1,15 @@
 -- What the tests of contents and of their ids say of rows.
-use Rattle.std.proofs.Common.{◌≡◌, ◌∙◌, ap, sym, subst, ℕ, List, [], ◌∷◌, Option, Some, None, Bool, true, false, not, ◌&&◌, filter, map, length, refl, arith}
-use Rattle.std.specs.Prelude.{All}
-use Rattle.std.specs.List.{list_all}
+use Rattle.mb_constraints.proofs.Common.{All, All-cons, All-head, All-tail, ap, are_distinct, AreContentsInOrder, arith, Bool, Cell, cell_at, cell_cmp, Content, content_from, false, false≢true}
+use Rattle.mb_constraints.proofs.Common.{filter, first_refused, Hash, hash_wrong, HashAlgorithm, id_at, ids_from, InvalidDataFormat, is_null, is_removed, Kept, length, List, list_all, map, MbtError}
+use Rattle.mb_constraints.proofs.Common.{MbtType, None, Normalized, not, NoUniquenessConstraint, Option, option_or, refl, row_kept, rows_kept, Some, subst, sym, true, unless, wrong_content_hash}
+use Rattle.mb_constraints.proofs.Common.{wrong_id, wrong_tile_hash, ℕ, [], ◌&&◌, ◌∙◌, ◌∷◌, ◌≡◌}
 use Rattle.std.specs.List.Sorted.{IsPermutation}
-use Rattle.std.specs.Option.{option_or}
-use Rattle.std.proofs.lemmas.Bool.{false≢true}
-use Rattle.std.proofs.lemmas.List.Elements.{All-cons, All-head, All-tail}
 use Rattle.std.proofs.lemmas.List.Sorted.{IsPermutation-sym}
 use Rattle.mb_lists.specs.Contents.{are_apart, fronts, id_twice}
-use Rattle.mb_lists.specs.Entries.{AreContentsInOrder, id_at, is_removed}
-use Rattle.mb_lists.specs.FromRows.{content_from, ids_from, row_kept, rows_kept}
-use Rattle.mb_constraints.specs.Hashes.{hash_wrong, wrong_content_hash, wrong_id, wrong_tile_hash}
-use Rattle.mb_lists.specs.Keyed.{are_distinct}
 use Rattle.mb_tables.specs.CellKinds.{content_kind_wrong, has_tile_kinds, is_id, tile_kind_wrong}
-use Rattle.mb_tables.specs.Refusals.{first_refused, unless}
-use Rattle.mb_lists.specs.declared.entries.Content.{Content}
-use Rattle.mb_lists.specs.declared.entries.Standing.TheVariants.{Kept}
 use Rattle.mb_lists.proofs.ContentLemmas.{ids_listed}
 use Rattle.mb_lists.proofs.Sorting.{apart_permuted, distinct_from_apart}
-use Rattle.mb_tables.specs.Cell.{cell_cmp, is_null}
 use Rattle.mb_tables.specs.CellOrder.{cells_total}
-use Rattle.mb_tables.specs.Tiles.{cell_at}
-use Rattle.mb_tables.specs.declared.cell.Cell.{Cell}
-use Rattle.mb_tables.specs.declared.error.MbtError.{MbtError}
-use Rattle.mb_tables.specs.declared.error.MbtError.TheVariants.{InvalidDataFormat, NoUniquenessConstraint}
-use Rattle.mb_tables.specs.declared.kind.MbtType.{MbtType}
-use Rattle.mb_tables.specs.declared.kind.MbtType.TheVariants.{Normalized}
-use Rattle.mb_tables.specs.declared.kind.NormalizedSchema.TheVariants.{Hash}
-use Rattle.tile_hash.specs.declared.algorithm.HashAlgorithm.{HashAlgorithm}
 
 fronts_kept : (rows : List (List Cell)) → map (λ (c : Content). c.id) (map content_from rows) ≡ fronts rows
 fronts_kept [] = refl

@@ -1,12 +1,6 @@
 -- Rows that are tiles.
-use Rattle.std.proofs.Common.{◌≡◌, ◌∙◌, ap, sym, ℕ, ◌&&◌, List, Option, Some, None, is_some, refl}
-use Rattle.std.specs.Option.{option_map}
-use Rattle.mb_lists.specs.Entries.{place_at}
-use Rattle.mb_lists.specs.FromRows.{coord_in}
-use Rattle.mb_lists.proofs.PlaceLemmas.{place_is}
-use Rattle.mb_tables.specs.Tiles.{Place, contents_of, place_of, tile_of}
-use Rattle.mb_tables.specs.declared.cell.Cell.{Cell}
-use Rattle.tile_ids.specs.Coord.{Coord}
+use Rattle.mb_constraints.proofs.Common.{ap, Cell, contents_of, Coord, coord_in, is_some, List, None, Option, option_map, Place, place_at, place_is, place_of, refl, Some, sym, tile_of, ℕ, ◌&&◌, ◌∙◌}
+use Rattle.mb_constraints.proofs.Common.{◌≡◌}
 
 -- a tile needs a place and contents
 both_parts : (row : List Cell) (cell : Cell) (p : Option Place) (c : Option (Option (List ℕ))) → place_of row ≡ p → contents_of cell ≡ c → is_some (tile_of row cell) ≡ (is_some p && is_some c)

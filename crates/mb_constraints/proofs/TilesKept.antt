@@ -1,34 +1,15 @@
 -- The tiles that are kept of rows, and what they mean.
-use Rattle.std.proofs.Common.{◌≡◌, ◌∙◌, ap, sym, ℕ, ◌+◌, List, [], ◌∷◌, Option, Some, None, Bool, true, false, ◌||◌, ◌&&◌, cond, map, refl, suc, zero, arith, is_some}
-use Rattle.std.specs.Prelude.{All, IfSome, filter_map, option_and_then, option_map, slice_get, unwrap_or}
-use Rattle.std.specs.List.{cons_option, list_any}
-use Rattle.std.specs.Option.{option_or}
-use Rattle.std.proofs.lemmas.Bool.{false≢true}
-use Rattle.std.proofs.lemmas.List.Elements.{All-cons}
-use Rattle.std.proofs.lemmas.Option.{slice_get-map}
-use Rattle.mb_lists.specs.Entries.{content_at, id_at, nothing, place_at, place_of, tile_dates, tile_id, tile_value}
-use Rattle.mb_lists.specs.FromRows.{AreIndexed, by_index, coord_in, index_by, own_content, own_tiles, rows_kept, stored, stored_by_id}
-use Rattle.mb_lists.specs.Keyed.{entries_by}
-use Rattle.mb_tables.specs.Refusals.{first_refused, unless}
-use Rattle.mb_constraints.specs.References.{missing_reference}
-use Rattle.mb_constraints.specs.TileRows.{bad_tile, dates_in, id_in, tile_in}
+use Rattle.mb_constraints.proofs.Common.{All, All-cons, ap, AreIndexed, arith, bad_tile, Bool, by_index, Cell, cell_at, cell_eq, cell_eq-Decides, cell_under, cond, cons_option, Content, content_at}
+use Rattle.mb_constraints.proofs.Common.{content_of, contents_of, Coord, coord_in, dates_in, entries_by, false, false≢true, filter_map, first_refused, id_at, id_in, id_present, id_under, IfSome}
+use Rattle.mb_constraints.proofs.Common.{index_by, InvalidTileIndex, is_null, is_some, Kept, List, list_any, map, MbtError, missing_reference, None, Normalized, nothing, Option, option_and_then}
+use Rattle.mb_constraints.proofs.Common.{option_map, option_or, own_content, own_tiles, Place, place_at, place_is, refl, rows_kept, slice_get, slice_get-map, Some, stored, stored_by_id, suc, sym}
+use Rattle.mb_constraints.proofs.Common.{tile_dates, tile_id, tile_in, tile_of, tile_value, true, unless, unwrap_or, zero, ℕ, [], ◌&&◌, ◌+◌, ◌||◌, ◌∙◌, ◌∷◌, ◌≡◌}
+use Rattle.mb_lists.specs.Entries.{place_of}
 use Rattle.mb_lists.specs.declared.dates.Dates.{Dates}
-use Rattle.mb_lists.specs.declared.entries.Content.{Content}
-use Rattle.mb_lists.specs.declared.entries.Standing.TheVariants.{Kept}
 use Rattle.mb_lists.specs.declared.entries.StoredTile.{StoredTile}
-use Rattle.mb_lists.proofs.IdLemmas.{cell_under, id_present, id_under}
-use Rattle.mb_lists.proofs.PlaceLemmas.{place_is}
 use Rattle.mb_constraints.proofs.TileRowLemmas.{tile_parts}
-use Rattle.mb_tables.proofs.CellLemmas.{cell_eq-Decides}
-use Rattle.mb_tables.specs.Cell.{cell_eq, is_null}
 use Rattle.mb_tables.specs.Tiles as tables
-use Rattle.mb_tables.specs.Tiles.{Place, cell_at, content_of, contents_of, tile_of}
-use Rattle.mb_tables.specs.declared.cell.Cell.{Cell}
-use Rattle.mb_tables.specs.declared.error.MbtError.{MbtError}
-use Rattle.mb_tables.specs.declared.error.MbtError.TheVariants.{InvalidTileIndex}
-use Rattle.mb_tables.specs.declared.kind.MbtType.TheVariants.{Normalized}
 use Rattle.mb_tables.specs.declared.kind.NormalizedSchema.{NormalizedSchema}
-use Rattle.tile_ids.specs.Coord.{Coord}
 
 -- the refusal of a row
 abbrev tables_error : List Cell → MbtError

@@ -1,14 +1,7 @@
 -- The algorithm of a set's digests, which its metadata may name.
 use Rattle.std.specs.Prelude.{ℕ, codes, List, [], ◌∷◌, Option, Some, None, find, is_some, map, unwrap_or}
-use Rattle.std.specs.Char.{to_ascii_lowercase}
-use Rattle.std.specs.Str.{bytes_eq}
+use Rattle.mb_constraints.specs.Common.{bytes_eq, Cell, HashAlgorithm, MbtError, name_of, to_ascii_lowercase, unless, UnsupportedHashAlgorithm}
 use Rattle.mb_lists.specs.Metadata.{stored_text}
-use Rattle.mb_tables.specs.Refusals.{unless}
-use Rattle.mb_tables.specs.declared.cell.Cell.{Cell}
-use Rattle.mb_tables.specs.declared.error.MbtError.{MbtError}
-use Rattle.mb_tables.specs.declared.error.MbtError.TheVariants.{UnsupportedHashAlgorithm}
-use Rattle.tile_hash.specs.Digest.{name_of}
-use Rattle.tile_hash.specs.declared.algorithm.HashAlgorithm.{HashAlgorithm}
 use Rattle.tile_hash.specs.declared.algorithm.HashAlgorithm.TheVariants.{Md5, Fnv1a, Fnv1aDecimal, Xxh64, Xxh3}
 
 abbrev pub algorithms : List HashAlgorithm

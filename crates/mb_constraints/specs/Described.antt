@@ -1,15 +1,9 @@
 -- Tests over the descriptions of a set's tables.
 use Rattle.std.specs.Prelude.{ℕ, codes, ◌&&◌, Bool, List, Option}
-use Rattle.std.specs.List.{list_any}
-use Rattle.std.specs.Str.{bytes_eq}
-use Rattle.mb_tables.specs.Refusals.{unless}
-use Rattle.mb_tables.specs.Kind.{tile_table}
+use Rattle.mb_constraints.specs.Common.{bytes_eq, InvalidDataFormat, list_any, MbtError, MbtType, NoUniquenessConstraint, tile_table, unless}
 use Rattle.mb_tables.specs.Described.{is_keyed, is_table_kind}
 use Rattle.mb_tables.specs.Table.{table_text}
 use Rattle.mb_tables.specs.declared.description.TableDesc.{TableDesc}
-use Rattle.mb_tables.specs.declared.error.MbtError.{MbtError}
-use Rattle.mb_tables.specs.declared.error.MbtError.TheVariants.{InvalidDataFormat, NoUniquenessConstraint}
-use Rattle.mb_tables.specs.declared.kind.MbtType.{MbtType}
 use Rattle.mb_tables.specs.declared.table.TableName.TheVariants.{Metadata}
 
 -- whether a description has a column of a name, of whatever type

@@ -1,8 +1,6 @@
 -- The tests of the digests of all tiles that a set, and a patch for it, have in their metadata.
 use Rattle.std.specs.Prelude.{Bool, cond, ◌||◌, Option, Some, None, Result, Ok, Err}
-use Rattle.mb_tables.specs.Refusals.{unless}
-use Rattle.mb_tables.specs.declared.error.MbtError.{MbtError}
-use Rattle.mb_tables.specs.declared.error.MbtError.TheVariants.{CannotDiffFileWithoutHash, DiffingDiffFile, PatchFileHasNoHashes, PatchFileHasNoBeforeHash}
+use Rattle.mb_constraints.specs.Common.{CannotDiffFileWithoutHash, DiffingDiffFile, MbtError, PatchFileHasNoBeforeHash, PatchFileHasNoHashes, unless}
 
 -- a set that is to be patched has its digest, and none of before or after a patch
 abbrev pub base_refused : Bool → Bool → Bool → Option MbtError

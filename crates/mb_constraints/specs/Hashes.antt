@@ -1,20 +1,9 @@
 -- Stored digests of contents.
 use Rattle.std.specs.Prelude.{ℕ, List, Option, None, map}
-use Rattle.std.specs.Char.{to_ascii_uppercase}
-use Rattle.std.specs.Option.{option_or}
-use Rattle.std.specs.Str.{bytes_eq}
-use Rattle.mb_tables.specs.Refusals.{first_refused, unless}
+use Rattle.mb_constraints.specs.Common.{Blob, bytes_eq, Cell, cell_at, digest, first_refused, FlatWithHash, HashAlgorithm, IncorrectTileHash, MbtError, MbtType, Normalized, option_or, Text}
+use Rattle.mb_constraints.specs.Common.{to_ascii_uppercase, unless}
 use Rattle.mb_lists.specs.declared.entries.Content.{Content}
-use Rattle.mb_tables.specs.Tiles.{cell_at}
-use Rattle.mb_tables.specs.declared.cell.Cell.{Cell}
-use Rattle.mb_tables.specs.declared.cell.Cell.TheVariants.{Text, Blob}
-use Rattle.mb_tables.specs.declared.error.MbtError.{MbtError}
-use Rattle.mb_tables.specs.declared.error.MbtError.TheVariants.{IncorrectTileHash}
-use Rattle.mb_tables.specs.declared.kind.MbtType.{MbtType}
-use Rattle.mb_tables.specs.declared.kind.MbtType.TheVariants.{FlatWithHash, Normalized}
 use Rattle.mb_tables.specs.declared.kind.NormalizedSchema.TheVariants.{Hash}
-use Rattle.tile_hash.specs.Digest.{digest}
-use Rattle.tile_hash.specs.declared.algorithm.HashAlgorithm.{HashAlgorithm}
 
 -- the refusal of a stored text that isn't the digest of bytes, ASCII case aside
 abbrev pub wrong_digest : HashAlgorithm → List ℕ → List ℕ → Option MbtError

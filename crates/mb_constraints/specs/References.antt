@@ -1,17 +1,7 @@
 -- References from the places of a normalised set to its contents.
 use Rattle.std.specs.Prelude.{ℕ, ◌||◌, List, [], Option, None}
 use Rattle.std.specs.Fmt.{signed_decimal}
-use Rattle.std.specs.List.{list_any}
-use Rattle.mb_tables.specs.Refusals.{first_refused, unless}
-use Rattle.mb_tables.specs.Cell.{cell_eq, is_null}
-use Rattle.mb_tables.specs.Tiles.{cell_at}
-use Rattle.mb_tables.specs.Kind.{contents_of}
-use Rattle.mb_tables.specs.declared.cell.Cell.{Cell}
-use Rattle.mb_tables.specs.declared.cell.Cell.TheVariants.{Int, Text}
-use Rattle.mb_tables.specs.declared.error.MbtError.{MbtError}
-use Rattle.mb_tables.specs.declared.error.MbtError.TheVariants.{MissingTileReference}
-use Rattle.mb_tables.specs.declared.kind.MbtType.{MbtType}
-use Rattle.mb_tables.specs.declared.kind.MbtType.TheVariants.{Normalized}
+use Rattle.mb_constraints.specs.Common.{Cell, cell_at, cell_eq, contents_of, first_refused, Int, is_null, list_any, MbtError, MbtType, MissingTileReference, Normalized, Text, unless}
 
 -- an id as text, a number in decimal
 abbrev pub id_text : Cell → List ℕ

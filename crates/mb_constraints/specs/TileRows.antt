@@ -2,15 +2,9 @@
 use Rattle.std.specs.Prelude.{ℕ, cond, List, Option, Some, None, filter_map, is_some, map, option_and_then, option_map}
 use Rattle.std.specs.FinMap.{FinMap, from_entries}
 use Rattle.mb_lists.specs.Keyed.{are_distinct}
-use Rattle.mb_tables.specs.Refusals.{first_refused, unless}
+use Rattle.mb_constraints.specs.Common.{Cache, Cell, cell_at, content_of, first_refused, InvalidTileIndex, is_null, MbtError, MbtType, Normalized, NoUniquenessConstraint, Place, place_cmp, place_of}
+use Rattle.mb_constraints.specs.Common.{tile_of, unless}
 use Rattle.mb_lists.specs.declared.dates.Dates.{Dates}
-use Rattle.mb_tables.specs.Cell.{is_null}
-use Rattle.mb_tables.specs.Tiles.{Place, cell_at, content_of, place_cmp, place_of, tile_of}
-use Rattle.mb_tables.specs.declared.cell.Cell.{Cell}
-use Rattle.mb_tables.specs.declared.error.MbtError.{MbtError}
-use Rattle.mb_tables.specs.declared.error.MbtError.TheVariants.{InvalidTileIndex, NoUniquenessConstraint}
-use Rattle.mb_tables.specs.declared.kind.MbtType.{MbtType}
-use Rattle.mb_tables.specs.declared.kind.MbtType.TheVariants.{Normalized, Cache}
 
 -- the contents of a row: its own, or those of its id among these contents. A row without an id is no row of a tile, and has none
 abbrev pub contents_in : MbtType → List (List Cell) → List Cell → Option Cell

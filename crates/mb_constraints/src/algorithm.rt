@@ -1,8 +1,7 @@
 // The algorithm of a set's digests.
 ghost use Rattle.std.specs.Prelude.{◌≡◌, IfOk};
-ghost use Rattle.std.specs.Option.{option_copied};
+ghost use Rattle.mb_constraints.specs.Common.{option_copied, Tests};
 ghost use Rattle.mb_constraints.specs.Algorithm.{algorithm_by, algorithm_named, unknown_name};
-ghost use Rattle.mb_tables.specs.Refusals.{Tests};
 
 use base_values::TextVal;
 use mb_store::{MbtError, MbtResult};

@@ -1,6 +1,6 @@
 // What the descriptions of a set's tables must have.
 ghost use Rattle.std.specs.Prelude.{◌≡◌};
-ghost use Rattle.std.specs.List.{list_any};
+ghost use Rattle.mb_constraints.specs.Common.{list_any};
 ghost use Rattle.mb_constraints.specs.Described.{has_column, is_metadata};
 
 use mb_store::{TableDesc, TableKind};

@@ -1,10 +1,7 @@
 // Stored digests of contents.
 ghost use Rattle.std.specs.Prelude.{◌≡◌, IfErr, IfOk, map};
-ghost use Rattle.std.specs.Char.{to_ascii_uppercase};
+ghost use Rattle.mb_constraints.specs.Common.{cell_at, first_refused, HashAlgorithm, Tests, to_ascii_uppercase};
 ghost use Rattle.mb_constraints.specs.Hashes.{wrong_digest, wrong_hash, wrong_id, wrong_tile_hash};
-ghost use Rattle.mb_tables.specs.Refusals.{Tests, first_refused};
-ghost use Rattle.mb_tables.specs.Tiles.{cell_at};
-ghost use Rattle.tile_hash.specs.declared.algorithm.HashAlgorithm.{HashAlgorithm};
 
 use base_values::TextVal;
 use mb_lists::{Content, cell_at};

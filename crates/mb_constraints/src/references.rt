@@ -1,12 +1,7 @@
 // References from the rows of a normalised set to its contents.
 ghost use Rattle.std.specs.Prelude.{◌≡◌, ◌||◌, IfErr, IfOk};
-ghost use Rattle.mb_lists.specs.FromRows.{AreIndexed, rows_kept};
+ghost use Rattle.mb_constraints.specs.Common.{AreIndexed, cell_at, cell_eq, contents_of, first_refused, is_null, list_any, rows_kept, Tests, unless};
 ghost use Rattle.mb_constraints.specs.References.{id_text, missing_reference};
-ghost use Rattle.mb_tables.specs.Refusals.{Tests, first_refused, unless};
-ghost use Rattle.std.specs.List.{list_any};
-ghost use Rattle.mb_tables.specs.Cell.{cell_eq, is_null};
-ghost use Rattle.mb_tables.specs.Kind.{contents_of};
-ghost use Rattle.mb_tables.specs.Tiles.{cell_at};
 
 use base_values::TextVal;
 use mb_lists::{ContentList, cell_at};

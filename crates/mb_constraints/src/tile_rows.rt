@@ -1,9 +1,8 @@
 // Rows of tiles: the tests of their places and of the contents that they name.
 ghost use Rattle.std.specs.Prelude.{◌≡◌, Bool, is_some};
-ghost use Rattle.mb_lists.specs.FromRows.{AreIndexed, rows_kept};
-ghost use Rattle.mb_tables.specs.Refusals.{Tests, first_refused, unless};
+ghost use Rattle.mb_constraints.specs.Common.{AreIndexed, cell_at, first_refused, rows_kept, Tests, tile_of, unless};
 ghost use Rattle.mb_constraints.specs.TileRows.{bad_tile};
-ghost use Rattle.mb_tables.specs.Tiles.{cell_at, contents_of, tile_of};
+ghost use Rattle.mb_tables.specs.Tiles.{contents_of};
 ghost use Rattle.mb_tables.specs.declared.kind.NormalizedSchema.{NormalizedSchema};
 
 use mb_lists::{ContentList, cell_at, coord_of};

@@ -1,23 +1,8 @@
 -- Answers of a copy over stores that tell their tables or not.
-use Rattle.std.proofs.Common.{◌≡◌, ◌∙◌, ap, sym, subst, List, [], ◌∷◌, Option, Some, None, Bool, true, false, Result, Ok, Err, ◌⊎◌, inl, inr, refl}
-use Rattle.std.specs.Prelude.{IfErr, OnErr, OnOk}
-use Rattle.std.proofs.lemmas.Bool.{false≢true}
-use Rattle.mb_constraints.specs.DiffHashes.{refused_by}
-use Rattle.mb_copy.specs.CopyOrder.{copy_answer, invalid, into_answer, made_state, may_copy, mode_missing, over_answer}
-use Rattle.mb_copy.specs.Copying.{IsAnew, IsAnswered, IsCopied, IsCopiedBy, IsLeft, IsLeftBy, IsOver, IsPutInto, has_any}
-use Rattle.mb_copy.specs.declared.copier.MbtilesCopier.{MbtilesCopier}
+use Rattle.mb_copy.proofs.Common.{Answers, ap, begun, begun_err, begun_ok, Bool, copy_answer, Err, false, false≢true, has_any, Held, IfErr, inl, inr, into_answer, invalid, is_free, IsAnew, IsAnswered}
+use Rattle.mb_copy.proofs.Common.{IsBegun, IsCopied, IsCopiedBy, IsLeft, IsLeftBy, IsOver, IsPutInto, List, Loads, made_state, may_copy, MbtError, MbtilesCopier, mode_missing, None, Ok, OnErr, OnOk}
+use Rattle.mb_copy.proofs.Common.{Option, OutOfMemory, over_answer, refl, refused_by, Result, Some, State, state_of, StoreFault, subst, sym, TableDesc, Tables, then, true, [], ◌∙◌, ◌∷◌, ◌≡◌, ◌⊎◌}
 use Rattle.mb_edit.proofs.AnswerLemmas.{SomeTables, some_tables}
-use Rattle.mb_load.proofs.BegunLemmas.{begun_err, begun_ok}
-use Rattle.mb_load.specs.Begun.{IsBegun, begun}
-use Rattle.mb_loaded.specs.Held.{Held}
-use Rattle.mb_load.specs.Loading.{Loads}
-use Rattle.mb_loaded.specs.State.{State}
-use Rattle.mb_load.specs.StateOf.{state_of}
-use Rattle.mb_tables.specs.Refusals.{Answers, is_free, then}
-use Rattle.mb_tables.specs.Table.{Tables}
-use Rattle.mb_tables.specs.declared.description.TableDesc.{TableDesc}
-use Rattle.mb_tables.specs.declared.error.MbtError.{MbtError}
-use Rattle.mb_tables.specs.declared.error.MbtError.TheVariants.{StoreFault, OutOfMemory}
 
 pub some_described : (ds : List TableDesc) → (ds ≡ [] → ⊥) → true ≡ has_any ds
 some_described [] h = absurd (h refl)

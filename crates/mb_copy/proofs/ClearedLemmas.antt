@@ -1,17 +1,10 @@
 -- What is left of a map after the keys of entries that don't pass a test were removed.
-use Rattle.std.proofs.Common.{◌≡◌, ◌∙◌, ap, sym, ℕ, ◌+◌, ◌<◌, ◌≤◌, ◌++◌, Bool, true, false, ◌&&◌, ◌||◌, not, List, [], ◌∷◌, Option, Some, None, Result, Ok, Err, cond, drop, get_or, is_some, length, map, refl, suc, take, arith}
+use Rattle.mb_copy.proofs.Common.{ap, arith, Bool, cond, contains_key, drop, entries, eq_by_cmp, Equal-is, Err, failing, false, false≢true, find, FinMap, get, get-entries, get-remove, get-retain_keys}
+use Rattle.mb_copy.proofs.Common.{get_or, Held, IfOk, IfSome, is_some, IsAntisymmetric, IsTotalOrder, length, List, list_any, map, None, not, Ok, Option, Ordering, refl, remove, removed_all, Result}
+use Rattle.mb_copy.proofs.Common.{retain_keys, same_map, slice_get, Some, suc, sym, take, true, ℕ, [], ◌&&◌, ◌++◌, ◌+◌, ◌<◌, ◌||◌, ◌∙◌, ◌∷◌, ◌≡◌, ◌≤◌}
 use Rattle.std.proofs.Math.Seq.{drop-cons}
-use Rattle.std.specs.Prelude.{IfOk, IfSome, slice_get}
-use Rattle.std.specs.declared.cmp.Ordering.{Ordering}
-use Rattle.std.specs.List.{list_any}
-use Rattle.std.specs.Ordering.{eq_by_cmp}
-use Rattle.std.specs.Cmp.{Equal-is, IsTotalOrder}
-use Rattle.std.specs.FinMap.{FinMap, IsAntisymmetric, contains_key, entries, find, get, get-entries, get-remove, get-retain_keys, remove, retain_keys, same_map}
-use Rattle.std.proofs.lemmas.Bool.{false≢true}
 use Rattle.std.proofs.lemmas.List.{drop_all, map-append, take_all, take_more}
 use Rattle.std.proofs.lemmas.Option.{get_or_from_slice_get, none-some, slice_get-get_or}
-use Rattle.mb_copy.specs.Clearing.{failing, removed_all}
-use Rattle.mb_loaded.specs.Held.{Held}
 
 -- what a set is, it is in order again
 pub settled_as : {A E : Type 0} (f : Held → A) (r : Result Held E) (h : Held) (x : A) → f h ≡ x → IfOk r (λ l. l ≡ h) → IfOk r (λ l. f l ≡ x)

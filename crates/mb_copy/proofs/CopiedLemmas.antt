@@ -1,29 +1,10 @@
 -- The refusals of a copy, one after another, and the set after its parts.
-use Rattle.std.proofs.Common.{◌≡◌, ◌∙◌, ap, sym, subst, Option, Some, None, Result, Ok, Err, Bool, true}
-use Rattle.std.specs.Prelude.{IfOk}
-use Rattle.std.specs.FinMap.{FinMap}
-use Rattle.std.specs.Option.{option_or}
+use Rattle.mb_copy.proofs.Common.{all_times_put, ap, asked_type, Bool, bytes_put, Dates, duplicates, Err, FinMap, fresh, has_both, HashAlgorithm, Held, held_completed, held_copied, held_with}
+use Rattle.mb_copy.proofs.Common.{held_with_names, id_collides, IfOk, is_editable, IsPutIn, kind_wrong, made_state, made_type, may_copy, may_copy_over, may_put, MbtError, MbtilesCopier, MbtType}
+use Rattle.mb_copy.proofs.Common.{mode_of, Names, names_to_put, None, nulls_put, Ok, Option, option_or, or_none, place_cmp, Result, Some, State, subst, sym, Tests, tiles_put, tiles_to_put, TileSet}
+use Rattle.mb_copy.proofs.Common.{times_to_put, true, unless, UnsupportedCopyOperation, wanted_algorithm, ◌∙◌, ◌≡◌}
 use Rattle.mb_copy.proofs.LoadedLemmas.{put_in}
-use Rattle.mb_copy.specs.Chosen.{duplicates, has_both, names_to_put, tiles_to_put, times_to_put}
-use Rattle.mb_copy.specs.CopyOrder.{made_state, may_copy, may_copy_over}
-use Rattle.mb_copy.specs.HeldCopied.{IsPutIn, all_times_put, held_completed, held_copied, held_with, held_with_names, nulls_put}
-use Rattle.mb_copy.specs.Target.{asked_type, kind_wrong, made_type, mode_of, wanted_algorithm}
-use Rattle.mb_copy.specs.declared.copier.MbtilesCopier.{MbtilesCopier}
-use Rattle.mb_edit.proofs.PatchedLemmas.{or_none}
-use Rattle.mb_edit.specs.PatchingOrder.{bytes_put, id_collides}
-use Rattle.mb_edit.specs.Put.{may_put, tiles_put}
-use Rattle.mb_lists.specs.Metadata.{Names}
-use Rattle.mb_lists.specs.declared.dates.Dates.{Dates}
 use Rattle.mb_loaded.specs.Empty.{empty_state}
-use Rattle.mb_loaded.specs.Held.{Held, fresh}
-use Rattle.mb_loaded.specs.Editable.{is_editable}
-use Rattle.mb_loaded.specs.State.{State}
-use Rattle.mb_tables.specs.Refusals.{Tests, unless}
-use Rattle.mb_tables.specs.Tiles.{TileSet, place_cmp}
-use Rattle.mb_tables.specs.declared.error.MbtError.{MbtError}
-use Rattle.mb_tables.specs.declared.error.MbtError.TheVariants.{UnsupportedCopyOperation}
-use Rattle.mb_tables.specs.declared.kind.MbtType.{MbtType}
-use Rattle.tile_hash.specs.declared.algorithm.HashAlgorithm.{HashAlgorithm}
 
 -- tiles that are put into a set that takes them are refused by their ids alone
 pub ids_alone : (s : State) (tiles : TileSet) → is_editable s.layout ≡ true → may_put s tiles ≡ id_collides s.layout s.algorithm s.contents (bytes_put tiles)

@@ -1,15 +1,8 @@
 -- The entries of what is put, as its readers give them.
-use Rattle.std.proofs.Common.{◌≡◌, ◌∙◌, ap, sym, ℕ, ◌+◌, ◌<◌, ◌≤◌, List, [], ◌∷◌, Option, Bool, true, false, ◌||◌, drop, length, refl, suc, zero, is_some, arith}
-use Rattle.std.specs.Prelude.{IfSome, slice_get}
-use Rattle.std.specs.Ordering.{eq_by_cmp, is_eq}
-use Rattle.std.specs.Cmp.{tied_itself}
+use Rattle.mb_copy.proofs.Common.{ap, arith, Bool, contains_key, drop, entries, eq_by_cmp, false, get-entries, here, IfSome, is_eq, is_some, later, length, List, list_any, Option, Place, place_cmp}
+use Rattle.mb_copy.proofs.Common.{places_total, refl, slice_get, suc, sym, tied_itself, TileSet, true, zero, ℕ, [], ◌+◌, ◌<◌, ◌||◌, ◌∙◌, ◌∷◌, ◌≡◌, ◌≤◌}
 use Rattle.std.specs.FinMap as fin
-use Rattle.std.specs.FinMap.{contains_key, entries, get-entries}
-use Rattle.mb_tables.proofs.TileLemmas.{places_total}
-use Rattle.std.specs.List.{list_any}
 use Rattle.mb_copy.proofs.TouchLemmas.{Tile}
-use Rattle.mb_tables.specs.Tiles.{Place, TileSet, place_cmp}
-use Rattle.mb_edit.proofs.LoadedLemmas.{here, later}
 
 -- a list, of which none so far passes a test
 pub none_yet : {A : Type 0} (test : A → Bool) (xs : List A) (i : ℕ) (b : Bool) → i < length xs → IfSome (slice_get xs i) (λ x. b ≡ test x) → b ≡ false → list_any test xs ≡ list_any test (drop i xs) → list_any test xs ≡ list_any test (drop (i + 1) xs)

@@ -1,33 +1,9 @@
 -- The hash of all tiles that a copy stores, and the tests of what is put where nothing was described.
-use Rattle.std.proofs.Common.{◌≡◌, ◌∙◌, ap, sym, ℕ, List, [], ◌∷◌, Option, Some, None, Bool, true, false, ◌&&◌, ◌||◌, cond, is_some, refl, ◌++◌}
-use Rattle.std.specs.Prelude.{codes, option_and_then}
-use Rattle.std.specs.Option.{option_or}
-use Rattle.std.specs.Ordering.{nat_cmp}
-use Rattle.std.specs.Cmp.Lexicographic.{slice_cmp}
-use Rattle.std.specs.FinMap.{entries, find, get, get-empty}
-use Rattle.std.specs.List.{list_any}
-use Rattle.std.proofs.lemmas.Cmp.{nat_list_cmp_total}
+use Rattle.mb_copy.proofs.Common.{agg_hash, aggregate, ap, Bool, bytes_put, codes, cond, copied, copies_metadata, CopyDuplicateMode, duplicates, entries, entries_put, false, find, fresh, get}
+use Rattle.mb_copy.proofs.Common.{get-empty, get-over, has_both, hash_off, Held, held_copied, id_collides, is_chosen, is_copied_name, is_some, List, list_any, made_state, may_copy, may_copy_anew}
+use Rattle.mb_copy.proofs.Common.{MbtError, MbtilesCopier, mode_of, name_of, name_there, names_to_put, nat_cmp, nat_list_cmp_total, None, Option, option_and_then, option_or, or_none, Override, Place}
+use Rattle.mb_copy.proofs.Common.{place_cmp, refl, slice_cmp, Some, State, stores_aggregate, sym, text_entries, tile_there, tiles_to_put, true, ℕ, [], ◌&&◌, ◌++◌, ◌||◌, ◌∙◌, ◌∷◌, ◌≡◌}
 use Rattle.mb_copy.proofs.NameStateLemmas.{Named, copied_state}
-use Rattle.mb_copy.specs.Chosen.{duplicates, has_both, is_copied_name, name_there, names_to_put, tile_there, tiles_to_put}
-use Rattle.mb_copy.specs.Copied.{copied, entries_put, stores_aggregate, text_entries}
-use Rattle.mb_copy.specs.CopyOrder.{made_state, may_copy}
-use Rattle.mb_copy.specs.CopyWords.{copies_metadata}
-use Rattle.mb_copy.specs.HeldCopied.{held_copied}
-use Rattle.mb_copy.specs.PatchOrder.{hash_off, may_copy_anew}
-use Rattle.mb_copy.specs.Target.{mode_of}
-use Rattle.mb_copy.specs.Wanted.{is_chosen}
-use Rattle.mb_copy.specs.declared.copier.MbtilesCopier.{MbtilesCopier}
-use Rattle.mb_edit.proofs.PatchedLemmas.{get-over, or_none}
-use Rattle.mb_edit.specs.PatchingOrder.{bytes_put, id_collides}
-use Rattle.mb_insert.specs.declared.mode.CopyDuplicateMode.{CopyDuplicateMode}
-use Rattle.mb_insert.specs.declared.mode.CopyDuplicateMode.TheVariants.{Override}
-use Rattle.mb_lists.specs.Metadata.{agg_hash}
-use Rattle.mb_loaded.specs.Aggregate.{aggregate}
-use Rattle.mb_loaded.specs.Held.{Held, fresh}
-use Rattle.mb_loaded.specs.State.{State}
-use Rattle.mb_tables.specs.Tiles.{Place, place_cmp}
-use Rattle.mb_tables.specs.declared.error.MbtError.{MbtError}
-use Rattle.tile_hash.specs.Digest.{name_of}
 
 -- the stored hash is the computed one
 hash_found : (o : Option (List ℕ)) (hash : List ℕ) (es : List Named) → find (slice_cmp nat_cmp) (codes "agg_tiles_hash") (text_entries (codes "hash_algorithm") o ++ text_entries (codes "agg_tiles_hash") (Some hash) ++ es) ≡ Some (Some hash)

@@ -1,3 +1,4 @@
+mod Common
 pub mod ClearedLemmas
 pub mod TouchLemmas
 pub mod TileStateLemmas

@@ -1,38 +1,14 @@
 -- A set into which another one is copied was loaded from the tables of its base.
-use Rattle.std.proofs.Common.{◌≡◌, ◌∙◌, ap, sym, ℕ, List, [], ◌∷◌, Option, Some, None, Bool, true, false, cond, refl, is_some}
-use Rattle.std.specs.Option.{option_or}
-use Rattle.std.specs.Ordering.{eq_by_cmp, is_eq}
-use Rattle.std.specs.Cmp.{tied_itself}
+use Rattle.mb_copy.proofs.Common.{all_times_put, ap, AreTimes, Bool, Cache, cond, contains_key, Dates, entries, entries_put, eq_by_cmp, false, false≢true, FinMap, from_last, get, get-entries}
+use Rattle.mb_copy.proofs.Common.{get-over, Held, held_with, here, is_cache, is_eq, is_normalized, is_some, IsLoadedFrom, IsOnBoard, IsPutIn, later, List, may_put, MbtilesCopier, MbtType, merged}
+use Rattle.mb_copy.proofs.Common.{name_put, Names, None, Normalized, null_at, null_put, nulls_put, Option, option_or, over, patched, Place, place_cmp, places_total, put_layout, put_loaded, refl, Some}
+use Rattle.mb_copy.proofs.Common.{State, sym, Tables, tied_itself, tiles_put, TileSet, time_put, times_at, true, ℕ, [], ◌∙◌, ◌∷◌, ◌≡◌}
 use Rattle.std.specs.FinMap as fin
-use Rattle.std.specs.FinMap.{FinMap, contains_key, entries, get, get-entries}
-use Rattle.std.proofs.lemmas.Bool.{false≢true}
 use Rattle.mb_copy.proofs.NameStateLemmas.{Named}
 use Rattle.mb_copy.proofs.TileStateLemmas.{nulls_state, times_state, tiles_with}
 use Rattle.mb_copy.proofs.TouchLemmas.{Tile}
-use Rattle.mb_copy.specs.Copied.{entries_put, merged}
-use Rattle.mb_copy.specs.HeldCopied.{IsPutIn, all_times_put, held_with, name_put, null_at, null_put, nulls_put, time_put, times_at}
-use Rattle.mb_copy.specs.declared.copier.MbtilesCopier.{MbtilesCopier}
-use Rattle.mb_edit.proofs.LoadedLemmas.{here, later}
-use Rattle.mb_edit.proofs.PatchedLemmas.{get-over}
-use Rattle.mb_edit.proofs.PutLemmas.{put_layout, put_loaded}
-use Rattle.mb_edit.specs.Patched.{over, patched}
-use Rattle.mb_edit.specs.Put.{may_put, tiles_put}
-use Rattle.mb_lists.specs.Entries.{is_cache}
-use Rattle.mb_lists.specs.Metadata.{Names}
-use Rattle.mb_lists.specs.declared.dates.Dates.{Dates}
 use Rattle.mb_load.proofs.EditedFrom.{from_with_name}
 use Rattle.mb_load.proofs.NullFrom.{from_with_dates, from_with_null}
-use Rattle.mb_loaded.specs.FromLast.{from_last}
-use Rattle.mb_loaded.specs.Held.{Held}
-use Rattle.mb_loaded.specs.Editable.{AreTimes, IsOnBoard}
-use Rattle.mb_load.specs.LoadedFrom.{IsLoadedFrom}
-use Rattle.mb_loaded.specs.State.{State}
-use Rattle.mb_tables.proofs.TileLemmas.{places_total}
-use Rattle.mb_tables.specs.Kind.{is_normalized}
-use Rattle.mb_tables.specs.Table.{Tables}
-use Rattle.mb_tables.specs.Tiles.{Place, TileSet, place_cmp}
-use Rattle.mb_tables.specs.declared.kind.MbtType.{MbtType}
-use Rattle.mb_tables.specs.declared.kind.MbtType.TheVariants.{Normalized, Cache}
 
 -- a fact of each place of a list
 abbrev AtAll : (Place → Type 0) → List Tile → Type 0

@@ -1,17 +1,10 @@
 -- Tables that are made where nothing was described hold no set.
-use Rattle.std.proofs.Common.{◌≡◌, ◌∙◌, ap, sym, subst, List, [], Some, None, true, refl}
+use Rattle.mb_copy.proofs.Common.{ap, AreEmpty, created, IsSound, List, MbtType, None, Normalized, refl, set_tables, Some, started_as, subst, sym, TableDesc, Tables, tile_table, true, with_tables, []}
+use Rattle.mb_copy.proofs.Common.{◌∙◌, ◌≡◌}
 use Rattle.mb_constraints.specs.Described.{index_missing, metadata_missing}
 use Rattle.mb_lists.specs.Contents.{content_rows}
-use Rattle.mb_load.specs.EmptyTables.{AreEmpty}
-use Rattle.mb_store.specs.Store.{IsSound, created, with_tables}
 use Rattle.mb_tables.specs.Described.{is_table}
 use Rattle.mb_tables.specs.Detection.{layout_of, patch_type_of}
-use Rattle.mb_tables.specs.Kind.{tile_table}
-use Rattle.mb_tables.specs.Schema.{set_tables, started_as}
-use Rattle.mb_tables.specs.Table.{Tables}
-use Rattle.mb_tables.specs.declared.description.TableDesc.{TableDesc}
-use Rattle.mb_tables.specs.declared.kind.MbtType.{MbtType}
-use Rattle.mb_tables.specs.declared.kind.MbtType.TheVariants.{Normalized}
 use Rattle.mb_tables.specs.declared.kind.NormalizedSchema.TheVariants.{Hash, DedupId}
 use Rattle.mb_tables.specs.declared.table.TableName.{TableName}
 use Rattle.mb_tables.specs.declared.table.TableName.TheVariants.{Metadata}

@@ -1,33 +1,12 @@
 -- The state of a set after names were put.
-use Rattle.std.proofs.Common.{◌≡◌, ◌∙◌, ap, sym, subst, ℕ, ◌++◌, List, [], ◌∷◌, Option, Some, None, Bool, true, false, ◌||◌, cond, refl, append_assoc}
-use Rattle.std.specs.Prelude.{codes, option_and_then}
-use Rattle.std.specs.Option.{option_or}
-use Rattle.std.specs.Ordering.{nat_cmp}
-use Rattle.std.specs.Cmp.Lexicographic.{slice_cmp}
-use Rattle.std.specs.FinMap.{FinMap, contains_key, entries, find, get, get-entries, get-from_entries, insert, same_map}
-use Rattle.std.proofs.lemmas.Cmp.{nat_list_cmp_total}
+use Rattle.mb_copy.proofs.Common.{aggregate, all_times_put, ap, append_assoc, Bool, codes, cond, contains_key, copied, copied_metadata, copies_metadata, Dates, entries, entries_put, false, find}
+use Rattle.mb_copy.proofs.Common.{find-join, FinMap, from_last, get, get-entries, get-from_entries, get-over, HashAlgorithm, Held, held_copied, held_with, held_with_names, insert, List, MbtilesCopier}
+use Rattle.mb_copy.proofs.Common.{name_of, name_put, Names, names_antisymmetric, names_to_put, NamesAlgorithm, nat_cmp, nat_list_cmp_total, None, nothing_edited, nulls_put, Option, option_and_then}
+use Rattle.mb_copy.proofs.Common.{option_or, over, Place, place_cmp, refl, same_map, slice_cmp, Some, State, stored_aggregate, stored_algorithm, stores_aggregate, subst, sym, text_at, text_entries}
+use Rattle.mb_copy.proofs.Common.{tiles_put, tiles_to_put, TileSet, times_to_put, true, with_copies, ℕ, [], ◌++◌, ◌||◌, ◌∙◌, ◌∷◌, ◌≡◌}
 use Rattle.mb_constraints.specs.Algorithm.{algorithm_by, unknown_name}
 use Rattle.mb_copy.proofs.TileStateLemmas.{tiles_edited_with, tiles_with, with_tiles}
-use Rattle.mb_copy.specs.Chosen.{names_to_put, tiles_to_put, times_to_put}
-use Rattle.mb_copy.specs.Copied.{copied, copied_metadata, entries_put, stored_aggregate, stored_algorithm, stores_aggregate, text_entries, with_copies}
-use Rattle.mb_copy.specs.CopyWords.{copies_metadata}
-use Rattle.mb_copy.specs.HeldCopied.{all_times_put, held_copied, held_with, held_with_names, name_put, nulls_put}
-use Rattle.mb_copy.specs.declared.copier.MbtilesCopier.{MbtilesCopier}
-use Rattle.mb_edit.proofs.PatchedLemmas.{find-join, get-over}
-use Rattle.mb_edit.specs.Patched.{over}
-use Rattle.mb_edit.specs.Put.{tiles_put}
-use Rattle.mb_lists.proofs.NameLemmas.{names_antisymmetric}
-use Rattle.mb_lists.specs.Metadata.{Names, text_at}
-use Rattle.mb_lists.specs.declared.dates.Dates.{Dates}
 use Rattle.mb_load.proofs.AlgorithmNames.{name_back, name_known}
-use Rattle.mb_loaded.specs.Aggregate.{aggregate}
-use Rattle.mb_loaded.specs.FromLast.{from_last}
-use Rattle.mb_loaded.specs.Held.{Held, nothing_edited}
-use Rattle.mb_load.specs.LoadedFrom.{NamesAlgorithm}
-use Rattle.mb_loaded.specs.State.{State}
-use Rattle.mb_tables.specs.Tiles.{Place, TileSet, place_cmp}
-use Rattle.tile_hash.specs.Digest.{name_of}
-use Rattle.tile_hash.specs.declared.algorithm.HashAlgorithm.{HashAlgorithm}
 
 abbrev pub Named : Type 0
 Named = List ℕ × Option (List ℕ)

@@ -1,28 +1,9 @@
 -- Answers of a copy with a patch, over stores that tell their tables or not.
-use Rattle.std.proofs.Common.{◌≡◌, ◌∙◌, ap, sym, subst, ℕ, List, [], Option, Some, None, Bool, true, false, Result, Ok, Err, inl, inr, refl}
-use Rattle.std.specs.Prelude.{IfErr, OnOk}
-use Rattle.std.proofs.lemmas.Bool.{false≢true}
-use Rattle.mb_constraints.specs.DiffHashes.{refused_by}
+use Rattle.mb_copy.proofs.Common.{Answers, ap, begun, begun_err, begun_ok, Bool, created, Err, expected_hash, false, false≢true, has_any, Held, IfErr, inl, inr, is_free, IsAnew, IsBegun, IsLeft, List}
+use Rattle.mb_copy.proofs.Common.{Loads, made_type, may_be_patch, may_be_patched, may_copy_anew, may_copy_patched, MbtError, MbtilesCopier, MbtType, None, NonEmptyTargetFile, Ok, OnOk, Option}
+use Rattle.mb_copy.proofs.Common.{patch_answer, refl, refused_by, Result, set_tables, Some, source_answer, source_patched, State, state_of, subst, sym, Tables, then, true, ℕ, [], ◌∙◌, ◌≡◌}
 use Rattle.mb_copy.proofs.AnswerLemmas.{loaded_as, some_described}
-use Rattle.mb_copy.specs.Copying.{IsAnew, IsLeft, has_any}
 use Rattle.mb_copy.specs.CopyingPatched.{IsAnsweredPatched, IsCopiedPatched, IsCopiedPatchedBy, IsPutPatched}
-use Rattle.mb_copy.specs.PatchOrder.{expected_hash, may_be_patch, may_be_patched, may_copy_anew, may_copy_patched, patch_answer, source_answer}
-use Rattle.mb_copy.specs.PatchedSource.{source_patched}
-use Rattle.mb_copy.specs.Target.{made_type}
-use Rattle.mb_copy.specs.declared.copier.MbtilesCopier.{MbtilesCopier}
-use Rattle.mb_load.proofs.BegunLemmas.{begun_err, begun_ok}
-use Rattle.mb_load.specs.Begun.{IsBegun, begun}
-use Rattle.mb_loaded.specs.Held.{Held}
-use Rattle.mb_load.specs.Loading.{Loads}
-use Rattle.mb_loaded.specs.State.{State}
-use Rattle.mb_load.specs.StateOf.{state_of}
-use Rattle.mb_tables.specs.Refusals.{Answers, is_free, then}
-use Rattle.mb_store.specs.Store.{created}
-use Rattle.mb_tables.specs.Schema.{set_tables}
-use Rattle.mb_tables.specs.Table.{Tables}
-use Rattle.mb_tables.specs.declared.error.MbtError.{MbtError}
-use Rattle.mb_tables.specs.declared.error.MbtError.TheVariants.{NonEmptyTargetFile}
-use Rattle.mb_tables.specs.declared.kind.MbtType.{MbtType}
 
 -- an answer that is Ok
 due_none : (o : Option MbtError) → refused_by o ≡ Ok tt → o ≡ None

@@ -1,33 +1,12 @@
 -- A source after a patch: its state, and what is known of it.
-use Rattle.std.proofs.Common.{◌≡◌, ◌∙◌, ap, sym, ℕ, List, [], ◌∷◌, Option, Some, None, Bool, true, false, ◌&&◌, ◌||◌, cond, not, is_some, refl}
-use Rattle.std.specs.Prelude.{codes, option_and_then, option_map}
-use Rattle.std.specs.Option.{option_or}
-use Rattle.std.specs.Ordering.{nat_cmp}
-use Rattle.std.specs.Cmp.Lexicographic.{slice_cmp}
-use Rattle.std.specs.FinMap.{entries, entries_sorted, find, get, get-entries, get-remove, get-retain_keys, remove, same_map}
-use Rattle.std.specs.Str.{bytes_eq}
-use Rattle.std.proofs.lemmas.Bool.{false≢true}
-use Rattle.std.proofs.lemmas.Cmp.{nat_list_cmp_total}
+use Rattle.mb_copy.proofs.Common.{AllOnBoard, ap, AreTimes, Bool, bytes_eq, codes, cond, Dates, dates_for, entries, entries_sorted, false, false≢true, find, from_last, get, get-entries, get-over}
+use Rattle.mb_copy.proofs.Common.{get-patched_by, get-remove, get-retain_keys, hashes_removed, Held, is_hash_name, is_null_at, is_some, IsOnBoard, IsSource, List, name_patched, name_patched_at, Names}
+use Rattle.mb_copy.proofs.Common.{names_antisymmetric, names_patched, nat_cmp, nat_list_cmp_total, None, not, Option, option_and_then, option_map, option_or, over, patched_at, Place, put_state, refl}
+use Rattle.mb_copy.proofs.Common.{remove, same_map, slice_cmp, Some, source_patched, State, state_put, sym, tiles_put, true, ℕ, [], ◌&&◌, ◌||◌, ◌∙◌, ◌∷◌, ◌≡◌}
 use Rattle.std.proofs.lemmas.Map.Text.{is_eq-slice_cmp}
 use Rattle.mb_copy.proofs.NameStateLemmas.{Named, with_names}
 use Rattle.mb_copy.proofs.TouchLemmas.{over_by, touched, touches, touches_by}
-use Rattle.mb_copy.specs.Clearing.{IsSource}
-use Rattle.mb_copy.specs.PatchedSource.{hashes_removed, is_hash_name, name_patched, name_patched_at, names_patched, source_patched}
-use Rattle.mb_edit.proofs.PatchedLemmas.{get-over, get-patched_by}
-use Rattle.mb_edit.proofs.PutLemmas.{put_state}
-use Rattle.mb_edit.specs.Patched.{is_null_at, over, patched_at}
-use Rattle.mb_edit.specs.Put.{state_put, tiles_put}
-use Rattle.mb_lists.proofs.NameLemmas.{names_antisymmetric}
-use Rattle.mb_lists.specs.Metadata.{Names}
-use Rattle.mb_lists.specs.declared.dates.Dates.{Dates}
 use Rattle.mb_loaded.proofs.DatedLemmas.{dates_are}
-use Rattle.mb_loaded.specs.Edits.{dates_for}
-use Rattle.mb_loaded.specs.FromLast.{from_last}
-use Rattle.mb_loaded.specs.Held.{Held}
-use Rattle.mb_load.specs.LoadedFrom.{AllOnBoard}
-use Rattle.mb_loaded.specs.Editable.{AreTimes, IsOnBoard}
-use Rattle.mb_loaded.specs.State.{State}
-use Rattle.mb_tables.specs.Tiles.{Place}
 
 -- names of a patch, one after another
 abbrev name_touch : List ℕ → Option (List ℕ) → Option (Option (Option (List ℕ)))

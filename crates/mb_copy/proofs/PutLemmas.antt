@@ -1,50 +1,18 @@
 -- The tables after the commit of a set into which another one was copied.
-use Rattle.std.proofs.Common.{◌≡◌, ◌∙◌, ap, sym, subst, ℕ, List, [], ◌∷◌, Option, Some, None, Ok, Bool, true, false, ◌&&◌, ◌⊎◌, inl, inr, is_some, refl}
-use Rattle.std.specs.Prelude.{codes}
-use Rattle.std.specs.FinMap.{contains_key, get}
-use Rattle.std.proofs.lemmas.Bool.{false≢true}
-use Rattle.std.proofs.lemmas.Cmp.{nat_list_cmp_total}
+use Rattle.mb_copy.proofs.Common.{ap, AreEmpty, AreTimes, asked_type, Bool, both_pass, bytes_put, codes, contains_key, copies_metadata, created, Dates, duplicates, Edited, false, false≢true}
+use Rattle.mb_copy.proofs.Common.{first_refusal, Flat, fresh, get, has_both, Held, held_copied, holds, id_collides, inl, inr, is_cache, is_editable, is_free, is_put, is_put_name, is_some, IsAnew}
+use Rattle.mb_copy.proofs.Common.{IsLeft, IsLoadable, IsLoadedFrom, IsOnBoard, IsOver, IsPut, IsSound, IsSource, kind_wrong, List, made_state, made_type, MakesChanges, may_copy, may_copy_over}
+use Rattle.mb_copy.proofs.Common.{may_put, MbtError, MbtilesCopier, MbtType, mode_of, names_antisymmetric, names_to_put, NamesAlgorithm, nat_list_cmp_total, None, nothing_edited, Ok, Option}
+use Rattle.mb_copy.proofs.Common.{pass_first, pass_rest, Place, places_antisymmetric, places_total, put_refusals, refl, set_tables, Some, started_as, State, state_of, subst, sym, Tables, tiles_to_put}
+use Rattle.mb_copy.proofs.Common.{TileSet, times_to_put, true, unless, UnsupportedCopyOperation, wanted_algorithm, wanted_type, wins, ℕ, [], ◌&&◌, ◌∙◌, ◌∷◌, ◌≡◌, ◌⊎◌}
 use Rattle.mb_copy.proofs.ClearedLemmas.{gone_at, was_there}
 use Rattle.mb_copy.proofs.LoadedLemmas.{loaded_with}
 use Rattle.mb_copy.proofs.MadeLemmas.{made_empty}
 use Rattle.mb_copy.proofs.NameStateLemmas.{copied_state, edited_with, named_with}
-use Rattle.mb_copy.specs.Chosen.{duplicates, has_both, is_put, is_put_name, names_to_put, tiles_to_put, times_to_put, wins}
-use Rattle.mb_copy.specs.Clearing.{IsSource}
-use Rattle.mb_copy.specs.CopyOrder.{made_state, may_copy, may_copy_over, put_refusals}
-use Rattle.mb_copy.specs.CopyWords.{copies_metadata}
-use Rattle.mb_copy.specs.Copying.{IsAnew, IsLeft, IsOver, IsPut}
-use Rattle.mb_copy.specs.HeldCopied.{held_copied}
-use Rattle.mb_copy.specs.Target.{asked_type, kind_wrong, made_type, mode_of, wanted_algorithm, wanted_type}
-use Rattle.mb_copy.specs.declared.copier.MbtilesCopier.{MbtilesCopier}
-use Rattle.mb_edit.proofs.PassedLemmas.{holds, pass_first, pass_rest}
-use Rattle.mb_edit.proofs.PutLemmas.{both_pass}
-use Rattle.mb_edit.specs.PatchingOrder.{bytes_put, id_collides}
-use Rattle.mb_edit.specs.Put.{may_put}
 use Rattle.mb_insert.proofs.InsertedLemmas.{fresh_is}
-use Rattle.mb_lists.proofs.NameLemmas.{names_antisymmetric}
-use Rattle.mb_lists.proofs.Places.{places_antisymmetric}
-use Rattle.mb_lists.specs.Entries.{is_cache}
-use Rattle.mb_lists.specs.declared.dates.Dates.{Dates}
 use Rattle.mb_load.proofs.CommittedLemmas.{is_committed}
 use Rattle.mb_load.proofs.EmptyLemmas.{from_empty}
 use Rattle.mb_load.specs.Committed.{IsCommitted}
-use Rattle.mb_load.specs.Committing.{MakesChanges}
-use Rattle.mb_load.specs.EmptyTables.{AreEmpty}
-use Rattle.mb_loaded.specs.Held.{Edited, Held, fresh, nothing_edited}
-use Rattle.mb_loaded.specs.Editable.{AreTimes, IsOnBoard, is_editable}
-use Rattle.mb_load.specs.LoadedFrom.{IsLoadable, IsLoadedFrom, NamesAlgorithm}
-use Rattle.mb_loaded.specs.State.{State}
-use Rattle.mb_load.specs.StateOf.{state_of}
-use Rattle.mb_store.specs.Store.{IsSound, created}
-use Rattle.mb_tables.proofs.TileLemmas.{places_total}
-use Rattle.mb_tables.specs.Refusals.{first_refusal, is_free, unless}
-use Rattle.mb_tables.specs.Schema.{set_tables, started_as}
-use Rattle.mb_tables.specs.Table.{Tables}
-use Rattle.mb_tables.specs.Tiles.{Place, TileSet}
-use Rattle.mb_tables.specs.declared.error.MbtError.{MbtError}
-use Rattle.mb_tables.specs.declared.error.MbtError.TheVariants.{UnsupportedCopyOperation}
-use Rattle.mb_tables.specs.declared.kind.MbtType.{MbtType}
-use Rattle.mb_tables.specs.declared.kind.MbtType.TheVariants.{Flat}
 
 -- the name of the algorithm isn't put
 pub algorithm_not_put : (c : MbtilesCopier) (source base : State) → get (names_to_put c source.metadata base.metadata) (codes "hash_algorithm") ≡ None

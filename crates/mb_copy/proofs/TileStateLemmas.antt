@@ -1,33 +1,12 @@
 -- The state of a set after the edits that put tiles, nulls and times.
-use Rattle.std.proofs.Common.{◌≡◌, ◌∙◌, ap, sym, ℕ, List, [], ◌∷◌, Option, Some, None, Bool, true, false, ◌||◌, cond, drop, not, filter_map, is_some, refl}
-use Rattle.std.specs.Prelude.{option_and_then, option_map, unwrap_or}
-use Rattle.std.specs.List.{cons_option}
-use Rattle.std.specs.Option.{option_or}
-use Rattle.std.specs.Ordering.{eq_by_cmp}
-use Rattle.std.specs.Cmp.{Equal-is}
-use Rattle.std.specs.FinMap.{FinMap, contains_key, entries, entries_sorted, find, get, get-empty, get-entries, retain_keys, same_map}
+use Rattle.mb_copy.proofs.Common.{all_times_put, ap, Bool, bytes_put, Cache, cond, cons_option, contains_key, Dates, dates_for, drop, Edited, entries, entries_sorted, eq_by_cmp, Equal-is, false}
+use Rattle.mb_copy.proofs.Common.{filter_map, find, FinMap, Flat, FlatWithHash, from_last, get, get-empty, get-entries, get-left, get-over, get-patched_by, Held, id_for, is_cache, is_normalized}
+use Rattle.mb_copy.proofs.Common.{is_some, List, MbtType, merged, None, Normalized, not, nothing_edited, null_at, null_put, nulls_put, Option, option_and_then, option_map, option_or, over, patched}
+use Rattle.mb_copy.proofs.Common.{patched_at, patched_by, Place, place_cmp, places_antisymmetric, places_total, put_state, refl, retain_keys, same_map, Some, State, state_put, sym, tiles_put, TileSet}
+use Rattle.mb_copy.proofs.Common.{time_put, times_at, times_entry, times_over, times_put, true, unwrap_or, ℕ, [], ◌||◌, ◌∙◌, ◌∷◌, ◌≡◌}
 use Rattle.mb_copy.proofs.TouchLemmas.{Tile, over_by, touched, touches, touches_at}
-use Rattle.mb_copy.specs.Copied.{merged, times_entry, times_over, times_put}
-use Rattle.mb_copy.specs.HeldCopied.{all_times_put, null_at, null_put, nulls_put, time_put, times_at}
 use Rattle.mb_edit.proofs.EditedLemmas.{tiles_edited}
-use Rattle.mb_edit.proofs.PatchedLemmas.{get-left, get-over, get-patched_by}
-use Rattle.mb_edit.proofs.PutLemmas.{put_state}
-use Rattle.mb_edit.specs.Patched.{over, patched, patched_at, patched_by}
-use Rattle.mb_edit.specs.PatchingOrder.{bytes_put}
-use Rattle.mb_edit.specs.Put.{state_put, tiles_put}
 use Rattle.mb_edit.specs.Step.{contents_over}
-use Rattle.mb_lists.proofs.Places.{places_antisymmetric}
-use Rattle.mb_lists.specs.Entries.{is_cache}
-use Rattle.mb_lists.specs.declared.dates.Dates.{Dates}
-use Rattle.mb_loaded.specs.Edits.{dates_for, id_for}
-use Rattle.mb_loaded.specs.FromLast.{from_last}
-use Rattle.mb_loaded.specs.Held.{Edited, Held, nothing_edited}
-use Rattle.mb_loaded.specs.State.{State}
-use Rattle.mb_tables.proofs.TileLemmas.{places_total}
-use Rattle.mb_tables.specs.Kind.{is_normalized}
-use Rattle.mb_tables.specs.Tiles.{Place, TileSet, place_cmp}
-use Rattle.mb_tables.specs.declared.kind.MbtType.{MbtType}
-use Rattle.mb_tables.specs.declared.kind.MbtType.TheVariants.{Flat, FlatWithHash, Normalized, Cache}
 
 -- an edit where null is put, and one where a source has times
 abbrev pub null_touch : {A : Type 0} → Option A → Place → Option (List ℕ) → Option (Option A)

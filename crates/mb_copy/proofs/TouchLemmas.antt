@@ -1,17 +1,8 @@
 -- Edits of a map by its keys, of which each touches its own key or leaves the map as it was.
-use Rattle.std.proofs.Common.{◌≡◌, ◌∙◌, ap, sym, subst, ℕ, List, [], ◌∷◌, Option, Some, None, Bool, true, false, cond, refl}
-use Rattle.std.specs.Prelude.{T, option_and_then}
-use Rattle.std.specs.declared.cmp.Ordering.{Ordering}
-use Rattle.std.specs.Ordering.{eq_by_cmp}
-use Rattle.std.specs.Cmp.{Equal-is, IsTotalOrder}
-use Rattle.std.specs.FinMap.{FinMap, IsAntisymmetric, find, get}
+use Rattle.mb_copy.proofs.Common.{ap, Bool, cond, eq_by_cmp, Equal-is, false, find, FinMap, first, get, IsAntisymmetric, IsTotalOrder, List, None, none_below, Option, option_and_then, Ordering, Place}
+use Rattle.mb_copy.proofs.Common.{place_cmp, places_antisymmetric, places_total, refl, second, Some, subst, sym, T, true, with_value, ℕ, [], ◌∙◌, ◌∷◌, ◌≡◌}
 use Rattle.std.specs.FinMap.Entries.{below_all, is_sorted}
-use Rattle.mb_edit.proofs.PatchedLemmas.{first, none_below, second}
-use Rattle.mb_lists.proofs.Places.{places_antisymmetric}
 use Rattle.mb_loaded.proofs.EditMaps.{get-with_value}
-use Rattle.mb_loaded.specs.Edits.{with_value}
-use Rattle.mb_tables.proofs.TileLemmas.{places_total}
-use Rattle.mb_tables.specs.Tiles.{Place, place_cmp}
 
 abbrev pub Tile : Type 0
 Tile = Place × Option (List ℕ)

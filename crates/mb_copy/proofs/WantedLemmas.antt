@@ -1,11 +1,6 @@
 -- Lists that are empty, or not.
-use Rattle.std.proofs.Common.{◌≡◌, ◌∙◌, sym, ℕ, List, [], ◌∷◌, Option, Bool, false, length, refl}
-use Rattle.std.specs.Prelude.{◌==◌}
-use Rattle.std.specs.List.{list_any}
-use Rattle.std.proofs.lemmas.Bool.{false≢true}
-use Rattle.mb_copy.specs.Wanted.{box_holds, place_passes, zoom_passes}
+use Rattle.mb_copy.proofs.Common.{Bool, box_holds, false, false≢true, length, List, list_any, Option, Place, place_passes, refl, sym, zoom_passes, ℕ, [], ◌==◌, ◌∙◌, ◌∷◌, ◌≡◌}
 use Rattle.mb_copy.specs.declared.tile_box.TileBox.{TileBox}
-use Rattle.mb_tables.specs.Tiles.{Place}
 
 pub listed : (levels : List ℕ) (least greatest : Option ℕ) (zoom : ℕ) → (levels ≡ [] → ⊥) → list_any (λ level. level == zoom) levels ≡ zoom_passes levels least greatest zoom
 listed [] least greatest zoom some = absurd (some refl)

@@ -1,23 +1,11 @@
 -- The tiles and the names of a source that a copy puts into a set.
 use Rattle.std.specs.Prelude.{ℕ, codes, ◌&&◌, ◌||◌, Bool, false, not, List, Option, None}
-use Rattle.std.specs.FinMap.{FinMap, contains_key, entries, get, retain_keys}
-use Rattle.std.specs.List.{list_any}
-use Rattle.std.specs.Str.{bytes_eq}
+use Rattle.mb_copy.specs.Common.{Abort, bytes_eq, contains_key, CopyDuplicateMode, Dates, DuplicateValues, entries, FinMap, get, is_normalized, is_null_at, list_any, MbtError, Names, Override, Place}
+use Rattle.mb_copy.specs.Common.{place_cmp, retain_keys, State, TileSet, unless}
 use Rattle.mb_copy.specs.CopyWords.{copies_metadata}
 use Rattle.mb_copy.specs.Target.{mode_of}
 use Rattle.mb_copy.specs.Wanted.{is_chosen}
 use Rattle.mb_copy.specs.declared.copier.MbtilesCopier.{MbtilesCopier}
-use Rattle.mb_edit.specs.Patched.{is_null_at}
-use Rattle.mb_insert.specs.declared.mode.CopyDuplicateMode.{CopyDuplicateMode}
-use Rattle.mb_insert.specs.declared.mode.CopyDuplicateMode.TheVariants.{Override, Abort}
-use Rattle.mb_lists.specs.Metadata.{Names}
-use Rattle.mb_lists.specs.declared.dates.Dates.{Dates}
-use Rattle.mb_loaded.specs.State.{State}
-use Rattle.mb_tables.specs.Kind.{is_normalized}
-use Rattle.mb_tables.specs.Refusals.{unless}
-use Rattle.mb_tables.specs.Tiles.{Place, TileSet, place_cmp}
-use Rattle.mb_tables.specs.declared.error.MbtError.{MbtError}
-use Rattle.mb_tables.specs.declared.error.MbtError.TheVariants.{DuplicateValues}
 
 -- the tiles that are copied
 abbrev pub chosen : MbtilesCopier → TileSet → TileSet

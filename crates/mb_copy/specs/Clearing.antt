@@ -1,15 +1,9 @@
 -- Tiles and names that are cleared from a source, since they aren't put.
 use Rattle.std.specs.Prelude.{ℕ, ◌≡◌, Bool, true, not, List, [], ◌∷◌, Option, Some, filter, map}
 use Rattle.std.specs.declared.cmp.Ordering.{Ordering}
-use Rattle.std.specs.FinMap.{FinMap, contains_key, get, remove}
+use Rattle.mb_copy.specs.Common.{AllOnBoard, AreTimes, contains_key, Dates, FinMap, get, Names, Place, remove, State, TileSet}
 use Rattle.mb_copy.specs.Chosen.{is_put, is_put_name}
 use Rattle.mb_copy.specs.declared.copier.MbtilesCopier.{MbtilesCopier}
-use Rattle.mb_lists.specs.Metadata.{Names}
-use Rattle.mb_lists.specs.declared.dates.Dates.{Dates}
-use Rattle.mb_load.specs.LoadedFrom.{AllOnBoard}
-use Rattle.mb_loaded.specs.Editable.{AreTimes}
-use Rattle.mb_loaded.specs.State.{State}
-use Rattle.mb_tables.specs.Tiles.{Place, TileSet}
 
 -- keys are removed, one after another
 abbrev pub removed_all : {K V : Type 0} {R : K → K → Ordering} → FinMap R V → List K → FinMap R V

@@ -1,22 +1,11 @@
 -- A set into which another one was copied.
 use Rattle.std.specs.Prelude.{ℕ, codes, ◌&&◌, ◌||◌, ◌++◌, Bool, cond, not, List, [], ◌∷◌, Option, Some, None, filter_map, option_map, unwrap_or}
-use Rattle.std.specs.FinMap.{FinMap, contains_key, entries, get, retain_keys}
+use Rattle.mb_copy.specs.Common.{aggregate, bytes_put, contains_key, Dates, dates_for, entries, FinMap, get, HashAlgorithm, id_for, is_normalized, MbtType, name_of, Names, over, patched, patched_by}
+use Rattle.mb_copy.specs.Common.{Place, place_cmp, retain_keys, State, TileSet}
 use Rattle.mb_copy.specs.Chosen.{names_to_put, tiles_to_put, times_to_put}
 use Rattle.mb_copy.specs.CopyWords.{copies_metadata, copies_tiles}
 use Rattle.mb_copy.specs.declared.copier.MbtilesCopier.{MbtilesCopier}
-use Rattle.mb_edit.specs.Patched.{over, patched, patched_by}
-use Rattle.mb_edit.specs.PatchingOrder.{bytes_put}
 use Rattle.mb_edit.specs.Step.{contents_over}
-use Rattle.mb_lists.specs.Metadata.{Names}
-use Rattle.mb_lists.specs.declared.dates.Dates.{Dates}
-use Rattle.mb_loaded.specs.Aggregate.{aggregate}
-use Rattle.mb_loaded.specs.Edits.{dates_for, id_for}
-use Rattle.mb_loaded.specs.State.{State}
-use Rattle.mb_tables.specs.Kind.{is_normalized}
-use Rattle.mb_tables.specs.Tiles.{Place, TileSet, place_cmp}
-use Rattle.mb_tables.specs.declared.kind.MbtType.{MbtType}
-use Rattle.tile_hash.specs.Digest.{name_of}
-use Rattle.tile_hash.specs.declared.algorithm.HashAlgorithm.{HashAlgorithm}
 
 -- tiles with those that are put over them: null stays null, but in a normalised set there is no tile then
 abbrev pub merged : MbtType → TileSet → TileSet → TileSet

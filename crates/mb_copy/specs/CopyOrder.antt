@@ -1,22 +1,11 @@
 -- The tests of a copy, in their order, and the answer that is due.
 use Rattle.std.specs.Prelude.{ℕ, Bool, true, false, is_some, List, [], ◌∷◌, Option, Some, None, Result}
-use Rattle.std.specs.Str.{bytes_eq}
-use Rattle.mb_constraints.specs.DiffHashes.{refused_by}
+use Rattle.mb_copy.specs.Common.{agg_hash, AggHashMismatch, AggHashValueNotFound, aggregate, bytes_eq, bytes_put, DestinationFileExists, first_refusal, id_collides, is_editable, MbtError, Names}
+use Rattle.mb_copy.specs.Common.{refused_by, State, state_of, Tables, then, TileSet, unless, UnsupportedCopyOperation}
 use Rattle.mb_copy.specs.Chosen.{duplicates, has_both, tiles_to_put}
 use Rattle.mb_copy.specs.Target.{asked_type, kind_wrong, made_type, mode_of, wanted_algorithm}
 use Rattle.mb_copy.specs.declared.copier.MbtilesCopier.{MbtilesCopier}
-use Rattle.mb_edit.specs.PatchingOrder.{bytes_put, id_collides}
-use Rattle.mb_lists.specs.Metadata.{Names, agg_hash}
-use Rattle.mb_loaded.specs.Aggregate.{aggregate}
 use Rattle.mb_loaded.specs.Empty.{empty_state}
-use Rattle.mb_loaded.specs.Editable.{is_editable}
-use Rattle.mb_loaded.specs.State.{State}
-use Rattle.mb_load.specs.StateOf.{state_of}
-use Rattle.mb_tables.specs.Refusals.{first_refusal, then, unless}
-use Rattle.mb_tables.specs.Table.{Tables}
-use Rattle.mb_tables.specs.Tiles.{TileSet}
-use Rattle.mb_tables.specs.declared.error.MbtError.{MbtError}
-use Rattle.mb_tables.specs.declared.error.MbtError.TheVariants.{AggHashMismatch, AggHashValueNotFound, DestinationFileExists, UnsupportedCopyOperation}
 
 -- the stored hash of all tiles isn't there, or isn't the computed one, where it is looked at
 abbrev pub hash_wrong : Option (List ℕ) → List ℕ → Option MbtError

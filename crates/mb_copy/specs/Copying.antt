@@ -1,25 +1,14 @@
 -- What a copy from one store into another answers, and what it leaves.
 use Rattle.std.specs.Prelude.{◌≡◌, ◌⊎◌, Bool, true, false, List, [], ◌∷◌, None, Result, Ok}
-use Rattle.std.specs.FinMap.{contains_key}
+use Rattle.mb_copy.specs.Common.{Answers, begun, contains_key, created, fresh, is_free, MakesChanges, MbtError, Place, set_tables, State, state_of, Tables}
 use Rattle.mb_copy.specs.Chosen.{tiles_to_put}
 use Rattle.mb_copy.specs.Copied.{copied}
 use Rattle.mb_copy.specs.CopyOrder.{copy_answer, into_answer, invalid, made_state, may_copy, may_copy_over, mode_missing}
 use Rattle.mb_copy.specs.HeldCopied.{held_copied}
 use Rattle.mb_copy.specs.Target.{made_type}
 use Rattle.mb_copy.specs.declared.copier.MbtilesCopier.{MbtilesCopier}
-use Rattle.mb_load.specs.Begun.{begun}
 use Rattle.mb_load.specs.Committed.{IsCommitted}
-use Rattle.mb_load.specs.Committing.{MakesChanges}
-use Rattle.mb_loaded.specs.Held.{fresh}
-use Rattle.mb_loaded.specs.State.{State}
-use Rattle.mb_load.specs.StateOf.{state_of}
-use Rattle.mb_store.specs.Store.{created}
-use Rattle.mb_tables.specs.Refusals.{Answers, is_free}
-use Rattle.mb_tables.specs.Schema.{set_tables}
-use Rattle.mb_tables.specs.Table.{Tables}
-use Rattle.mb_tables.specs.Tiles.{Place}
 use Rattle.mb_tables.specs.declared.description.TableDesc.{TableDesc}
-use Rattle.mb_tables.specs.declared.error.MbtError.{MbtError}
 
 -- whether anything is described
 abbrev pub has_any : List TableDesc → Bool

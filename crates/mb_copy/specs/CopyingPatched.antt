@@ -1,16 +1,10 @@
 -- What a copy with a patch answers, and what it leaves.
 use Rattle.std.specs.Prelude.{◌≡◌, Bool, true, false, None, Result, Ok}
-use Rattle.mb_constraints.specs.DiffHashes.{refused_by}
+use Rattle.mb_copy.specs.Common.{Answers, begun, MbtError, refused_by, State, state_of, Tables}
 use Rattle.mb_copy.specs.Copying.{IsAnew, has_any}
 use Rattle.mb_copy.specs.PatchOrder.{may_be_patch, may_be_patched, may_copy_patched, patch_answer}
 use Rattle.mb_copy.specs.PatchedSource.{source_patched}
 use Rattle.mb_copy.specs.declared.copier.MbtilesCopier.{MbtilesCopier}
-use Rattle.mb_load.specs.Begun.{begun}
-use Rattle.mb_loaded.specs.State.{State}
-use Rattle.mb_load.specs.StateOf.{state_of}
-use Rattle.mb_tables.specs.Refusals.{Answers}
-use Rattle.mb_tables.specs.Table.{Tables}
-use Rattle.mb_tables.specs.declared.error.MbtError.{MbtError}
 
 -- the answer of a copy of a set with a patch into a destination: by whether that describes anything, as it tells it, or as its answers could be of
 pub record IsPutPatched (c : MbtilesCopier) (source patch : State) (tells : Bool) (told : Tables) (answer : Result (Unit {0}) MbtError) : Type 0 where

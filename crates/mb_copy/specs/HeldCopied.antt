@@ -1,18 +1,10 @@
 -- A loaded set into which another one is copied, by its edits.
 use Rattle.std.specs.Prelude.{◌≡◌, ℕ, Bool, true, cond, List, Option, Some, None}
-use Rattle.std.specs.FinMap.{FinMap, contains_key, entries, get}
+use Rattle.mb_copy.specs.Common.{contains_key, Dates, entries, FinMap, from_last, get, Held, is_cache, is_normalized, Names, Place, place_cmp, State, tiles_put, TileSet, with_dates, with_name}
+use Rattle.mb_copy.specs.Common.{with_null}
 use Rattle.mb_copy.specs.Chosen.{names_to_put, tiles_to_put, times_to_put}
 use Rattle.mb_copy.specs.Copied.{entries_put}
 use Rattle.mb_copy.specs.declared.copier.MbtilesCopier.{MbtilesCopier}
-use Rattle.mb_lists.specs.Entries.{is_cache}
-use Rattle.mb_lists.specs.Metadata.{Names}
-use Rattle.mb_lists.specs.declared.dates.Dates.{Dates}
-use Rattle.mb_loaded.specs.Edits.{with_dates, with_name, with_null}
-use Rattle.mb_loaded.specs.FromLast.{from_last, tiles_put}
-use Rattle.mb_loaded.specs.Held.{Held}
-use Rattle.mb_loaded.specs.State.{State}
-use Rattle.mb_tables.specs.Kind.{is_normalized}
-use Rattle.mb_tables.specs.Tiles.{Place, TileSet, place_cmp}
 
 -- null at the place of a tile that is null
 abbrev pub null_at : Held → Place → Option (List ℕ) → Held

@@ -1,3 +1,4 @@
+pub mod Common
 pub mod CopyWords
 pub mod Wanted
 pub mod Target

@@ -1,22 +1,13 @@
 -- The tests of a copy with a patch, in their order, and the answer that is due.
 use Rattle.std.specs.Prelude.{ℕ, Bool, true, cond, not, is_some, List, [], ◌∷◌, Option, Some, None, Result}
-use Rattle.std.specs.Str.{bytes_eq}
-use Rattle.mb_constraints.specs.DiffHashes.{base_refused, patch_refused, refused_by, unless_forced}
+use Rattle.mb_copy.specs.Common.{after_hash, agg_hash, AggHashMismatchAfterApply, aggregate, base_refused, before_hash, bytes_eq, bytes_put, can_be_patched, first_refusal, id_collides, MbtError}
+use Rattle.mb_copy.specs.Common.{NonEmptyTargetFile, patch_refused, refused_by, State, state_of, Tables, then, unless, unless_forced, UnsupportedCopyOperation, UnsupportedPatchType}
 use Rattle.mb_copy.specs.Copied.{copied, stores_aggregate}
 use Rattle.mb_copy.specs.Chosen.{tiles_to_put}
 use Rattle.mb_copy.specs.CopyOrder.{invalid, made_state}
 use Rattle.mb_copy.specs.PatchedSource.{source_patched}
 use Rattle.mb_copy.specs.Target.{wanted_type}
 use Rattle.mb_copy.specs.declared.copier.MbtilesCopier.{MbtilesCopier}
-use Rattle.mb_edit.specs.PatchingOrder.{bytes_put, can_be_patched, id_collides}
-use Rattle.mb_lists.specs.Metadata.{after_hash, agg_hash, before_hash}
-use Rattle.mb_loaded.specs.Aggregate.{aggregate}
-use Rattle.mb_loaded.specs.State.{State}
-use Rattle.mb_load.specs.StateOf.{state_of}
-use Rattle.mb_tables.specs.Refusals.{first_refusal, then, unless}
-use Rattle.mb_tables.specs.Table.{Tables}
-use Rattle.mb_tables.specs.declared.error.MbtError.{MbtError}
-use Rattle.mb_tables.specs.declared.error.MbtError.TheVariants.{AggHashMismatchAfterApply, NonEmptyTargetFile, UnsupportedCopyOperation, UnsupportedPatchType}
 
 -- the refusal of each test of a patch that loads, in the order of the tests
 abbrev pub patch_refusals : MbtilesCopier → State → List (Option MbtError)

@@ -1,13 +1,7 @@
 -- A source after a patch, as it is copied.
 use Rattle.std.specs.Prelude.{ℕ, codes, ◌&&◌, ◌||◌, Bool, not, List, Option, Some, None}
-use Rattle.std.specs.FinMap.{entries, get, retain_keys}
-use Rattle.std.specs.Str.{bytes_eq}
-use Rattle.mb_edit.specs.Patched.{is_null_at, over}
+use Rattle.mb_copy.specs.Common.{bytes_eq, entries, get, Held, is_null_at, Names, over, removed_name, retain_keys, State, with_name}
 use Rattle.mb_edit.specs.Put.{state_put}
-use Rattle.mb_lists.specs.Metadata.{Names}
-use Rattle.mb_loaded.specs.Edits.{removed_name, with_name}
-use Rattle.mb_loaded.specs.Held.{Held}
-use Rattle.mb_loaded.specs.State.{State}
 
 -- the hashes of all tiles, by which patches are kept in order
 abbrev pub is_hash_name : List ℕ → Bool

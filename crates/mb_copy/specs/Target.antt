@@ -2,18 +2,11 @@
 use Rattle.std.specs.Prelude.{ℕ, ◌==◌, true, Option, Some, None, option_map, unwrap_or}
 use Rattle.std.specs.Option.{option_or}
 use Rattle.mb_copy.specs.declared.copier.MbtilesCopier.{MbtilesCopier}
-use Rattle.mb_insert.specs.declared.mode.CopyDuplicateMode.{CopyDuplicateMode}
-use Rattle.mb_insert.specs.declared.mode.CopyDuplicateMode.TheVariants.{Override}
-use Rattle.mb_tables.specs.Refusals.{unless}
-use Rattle.mb_tables.specs.Schema.{started_as}
-use Rattle.mb_tables.specs.declared.error.MbtError.{MbtError}
-use Rattle.mb_tables.specs.declared.error.MbtError.TheVariants.{MismatchedTargetType}
-use Rattle.mb_tables.specs.declared.kind.MbtType.{MbtType}
+use Rattle.mb_copy.specs.Common.{CopyDuplicateMode, HashAlgorithm, MbtError, MbtType, MismatchedTargetType, Override, started_as, unless}
 use Rattle.mb_tables.specs.declared.kind.MbtType.TheVariants as layouts
 use Rattle.mb_tables.specs.declared.kind.MbtTypeCli.{MbtTypeCli}
 use Rattle.mb_tables.specs.declared.kind.MbtTypeCli.TheVariants as cli
 use Rattle.mb_tables.specs.declared.kind.NormalizedSchema.TheVariants.{Hash}
-use Rattle.tile_hash.specs.declared.algorithm.HashAlgorithm.{HashAlgorithm}
 
 -- the layout that a word of a command line stands for
 abbrev pub layout_of_cli : MbtTypeCli → MbtType

@@ -1,10 +1,9 @@
 -- Which tiles of a set a copier takes: by their zoom, and by boxes at zoom 30.
 use Rattle.std.specs.Prelude.{ℕ, ◌-◌, ◌*◌, ◌^◌, ◌==◌, ◌&&◌, Bool, true, nat_le, nat_lt, List, [], ◌∷◌, Option, Some, None}
-use Rattle.std.specs.List.{list_any}
+use Rattle.mb_copy.specs.Common.{list_any, Place}
 use Rattle.mb_copy.specs.CopyWords.{copies_tiles}
 use Rattle.mb_copy.specs.declared.copier.MbtilesCopier.{MbtilesCopier}
 use Rattle.mb_copy.specs.declared.tile_box.TileBox.{TileBox}
-use Rattle.mb_tables.specs.Tiles.{Place}
 
 -- a number is at least, and at most, another one, where that is given
 abbrev pub is_from : Option ℕ → ℕ → Bool

@@ -1,10 +1,8 @@
 // What of a source is put into a set.
 ghost use Rattle.std.specs.Prelude.{◌≡◌, ◌++◌, IfOk, OnOk, [], ◌∷◌, cond, map};
-ghost use Rattle.std.specs.FinMap.{entries, get};
+ghost use Rattle.mb_copy.specs.Common.{entries, get, is_null_at, place_at};
 ghost use Rattle.mb_copy.specs.Chosen.{is_copied_name, is_put, is_put_name, names_to_put, tiles_to_put, times_to_put, wins};
 ghost use Rattle.mb_copy.specs.Clearing.{IsSource, removed_all, unput_names, unput_places};
-ghost use Rattle.mb_edit.specs.Patched.{is_null_at};
-ghost use Rattle.mb_lists.specs.Entries.{place_at};
 
 use crate::target::mode_of;
 use crate::wanted::is_chosen;

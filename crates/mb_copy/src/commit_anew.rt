@@ -1,13 +1,7 @@
 // Committing a set to a store that describes nothing.
 ghost use Rattle.std.specs.Prelude.{◌≡◌, ◌⊎◌, [], IfErr, OnErr, OnOk, true};
-ghost use Rattle.mb_load.specs.Committing.{MakesChanges};
+ghost use Rattle.mb_copy.specs.Common.{created, FaultsCounted, is_free, IsLoadedFrom, Keeps, MakesChanges, set_tables, started_as, Tables};
 ghost use Rattle.mb_load.specs.EmptyTables.{AreEmpty};
-ghost use Rattle.mb_load.specs.LoadedFrom.{IsLoadedFrom};
-ghost use Rattle.mb_store.specs.Kept.{FaultsCounted, Keeps};
-ghost use Rattle.mb_store.specs.Store.{created};
-ghost use Rattle.mb_tables.specs.Refusals.{is_free};
-ghost use Rattle.mb_tables.specs.Schema.{set_tables, started_as};
-ghost use Rattle.mb_tables.specs.Table.{Tables};
 
 use mb_load::commit_loaded;
 use mb_loaded::Loaded;

@@ -3,9 +3,7 @@ ghost use Rattle.std.specs.Prelude.{◌≡◌, IfOk, true};
 ghost use Rattle.mb_copy.specs.Clearing.{IsSource};
 ghost use Rattle.mb_copy.specs.CopyOrder.{may_copy};
 ghost use Rattle.mb_copy.specs.HeldCopied.{IsPutIn, held_completed, held_copied, held_with, nulls_put};
-ghost use Rattle.mb_edit.specs.PatchingOrder.{bytes_put, id_collides};
-ghost use Rattle.mb_loaded.specs.Editable.{is_editable};
-ghost use Rattle.mb_tables.specs.Refusals.{Tests};
+ghost use Rattle.mb_copy.specs.Common.{bytes_put, id_collides, is_editable, Tests};
 
 use crate::MbtilesCopier;
 use crate::chosen::put_of;

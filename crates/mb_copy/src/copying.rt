@@ -1,16 +1,11 @@
 // Copying one store into another.
 ghost use Rattle.std.specs.Prelude.{◌≡◌, ◌⊎◌, [], IfErr, IfOk, OnErr, OnOk, false, true};
-ghost use Rattle.base_values.specs.Counts.{Rose};
-ghost use Rattle.mb_constraints.specs.DiffHashes.{refused_by};
+ghost use Rattle.mb_copy.specs.Common.{Answers, FaultsCounted, fresh, IsBegun, Keeps, ReadsOnly, refused_by, Rose, Tests};
 ghost use Rattle.mb_copy.specs.Clearing.{IsSource};
 ghost use Rattle.mb_copy.specs.CopyOrder.{made_state, may_copy, may_copy_over, over_answer};
 ghost use Rattle.mb_copy.specs.Copying.{IsAnew, IsAnswered, IsCopied, IsCopiedBy, IsLeft, IsLeftBy, IsOver, IsPutInto, has_any};
 ghost use Rattle.mb_copy.specs.HeldCopied.{held_copied};
 ghost use Rattle.mb_copy.specs.PatchOrder.{may_copy_anew};
-ghost use Rattle.mb_load.specs.Begun.{IsBegun};
-ghost use Rattle.mb_loaded.specs.Held.{fresh};
-ghost use Rattle.mb_store.specs.Kept.{FaultsCounted, Keeps, ReadsOnly};
-ghost use Rattle.mb_tables.specs.Refusals.{Answers, Tests};
 
 use crate::MbtilesCopier;
 use crate::commit_anew::commit_anew;

@@ -1,14 +1,10 @@
 // Copying one store into another with a patch.
 ghost use Rattle.std.specs.Prelude.{◌≡◌, ◌⊎◌, [], IfErr, OnOk, false, true};
-ghost use Rattle.base_values.specs.Counts.{Rose};
-ghost use Rattle.mb_constraints.specs.DiffHashes.{refused_by};
+ghost use Rattle.mb_copy.specs.Common.{AllOnBoard, Answers, FaultsCounted, Keeps, ReadsOnly, refused_by, Rose};
 ghost use Rattle.mb_copy.specs.Clearing.{IsSource};
 ghost use Rattle.mb_copy.specs.Copying.{IsLeft, IsLeftBy};
 ghost use Rattle.mb_copy.specs.CopyingPatched.{IsAnsweredPatched, IsCopiedPatched, IsCopiedPatchedBy, IsPutPatched};
 ghost use Rattle.mb_copy.specs.PatchOrder.{may_copy_patched};
-ghost use Rattle.mb_load.specs.LoadedFrom.{AllOnBoard};
-ghost use Rattle.mb_store.specs.Kept.{FaultsCounted, Keeps, ReadsOnly};
-ghost use Rattle.mb_tables.specs.Refusals.{Answers};
 
 use crate::MbtilesCopier;
 use crate::copying::copy_anew;

@@ -1,10 +1,7 @@
 // The edits of a set into which another one is copied.
 ghost use Rattle.std.specs.Prelude.{◌≡◌, ◌<◌, IfOk, IfSome, OnOk, slice_get, true};
-ghost use Rattle.std.specs.FinMap.{contains_key, entries, get, len};
+ghost use Rattle.mb_copy.specs.Common.{contains_key, entries, from_last, get, len, Place, place_at};
 ghost use Rattle.mb_copy.specs.HeldCopied.{IsPutIn, all_times_put, null_put, nulls_put, time_put, times_at};
-ghost use Rattle.mb_lists.specs.Entries.{place_at};
-ghost use Rattle.mb_loaded.specs.FromLast.{from_last};
-ghost use Rattle.mb_tables.specs.Tiles.{Place};
 ghost use Rattle.mb_tables.specs.declared.kind.MbtType.TheVariants.{Cache};
 
 use base_values::OutOfMemory;

@@ -1,12 +1,9 @@
 // The metadata of a set into which another one is copied.
 ghost use Rattle.std.specs.Prelude.{◌≡◌, ◌<◌, ◌||◌, IfOk, IfSome, OnOk, Some, None, cond, slice_get};
-ghost use Rattle.std.specs.FinMap.{entries, len};
+ghost use Rattle.mb_copy.specs.Common.{aggregate, entries, from_last, len, name_of};
 ghost use Rattle.mb_copy.specs.Copied.{stores_aggregate, text_entries};
 ghost use Rattle.mb_copy.specs.CopyWords.{copies_metadata};
 ghost use Rattle.mb_copy.specs.HeldCopied.{held_with_names, name_put};
-ghost use Rattle.mb_loaded.specs.Aggregate.{aggregate};
-ghost use Rattle.mb_loaded.specs.FromLast.{from_last};
-ghost use Rattle.tile_hash.specs.Digest.{name_of};
 
 use crate::MbtilesCopier;
 use base_values::{OutOfMemory, TextVal};

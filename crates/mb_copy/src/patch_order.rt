@@ -2,9 +2,7 @@
 ghost use Rattle.std.specs.Prelude.{◌≡◌, IfOk, Some, true};
 ghost use Rattle.mb_copy.specs.Copied.{stores_aggregate};
 ghost use Rattle.mb_copy.specs.PatchOrder.{expected_hash, hash_off, may_be_patch, may_be_patched, other_hash};
-ghost use Rattle.mb_lists.specs.Metadata.{agg_hash};
-ghost use Rattle.mb_loaded.specs.Aggregate.{aggregate};
-ghost use Rattle.mb_tables.specs.Refusals.{Tests};
+ghost use Rattle.mb_copy.specs.Common.{agg_hash, aggregate, Tests};
 
 use crate::MbtilesCopier;
 use crate::names::stores_aggregate;

@@ -1,8 +1,7 @@
 // A source after a patch, as it is copied.
 ghost use Rattle.std.specs.Prelude.{◌≡◌, ◌<◌, IfOk, IfSome, OnOk, slice_get};
-ghost use Rattle.std.specs.FinMap.{entries, len};
+ghost use Rattle.mb_copy.specs.Common.{entries, from_last, len};
 ghost use Rattle.mb_copy.specs.PatchedSource.{hashes_removed, name_patched, source_patched};
-ghost use Rattle.mb_loaded.specs.FromLast.{from_last};
 
 use base_values::{OutOfMemory, TextVal};
 use mb_loaded::{Editing, Loaded};

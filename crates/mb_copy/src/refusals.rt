@@ -1,13 +1,9 @@
 // The tests of a copy that need no store.
 ghost use Rattle.std.specs.Prelude.{◌≡◌, ◌<◌, IfSome, slice_get};
-ghost use Rattle.std.specs.FinMap.{entries, len};
-ghost use Rattle.std.specs.List.{list_any};
+ghost use Rattle.mb_copy.specs.Common.{agg_hash, aggregate, entries, len, list_any, Tests};
 ghost use Rattle.mb_copy.specs.Chosen.{duplicates, has_both, name_there, tile_there};
 ghost use Rattle.mb_copy.specs.CopyOrder.{hash_wrong, invalid, mode_missing};
 ghost use Rattle.mb_copy.specs.Target.{asked_type, kind_wrong, mode_of};
-ghost use Rattle.mb_loaded.specs.Aggregate.{aggregate};
-ghost use Rattle.mb_lists.specs.Metadata.{agg_hash};
-ghost use Rattle.mb_tables.specs.Refusals.{Tests};
 
 use crate::chosen::is_copied_name;
 use crate::target::{asked_type, kind_number, mode_of};

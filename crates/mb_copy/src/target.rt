@@ -1,8 +1,7 @@
 // The layout, the algorithm and the mode of a copy.
 ghost use Rattle.std.specs.Prelude.{◌≡◌, true};
 ghost use Rattle.mb_copy.specs.Target.{asked_type, kind_number, layout_of_cli, made_type, mode_of, wanted_algorithm, wanted_type};
-ghost use Rattle.mb_loaded.specs.Editable.{is_editable};
-ghost use Rattle.mb_tables.specs.Schema.{started_as};
+ghost use Rattle.mb_copy.specs.Common.{is_editable, started_as};
 
 use crate::{CopyDuplicateMode, MbtilesCopier};
 use mb_store::{MbtType, MbtTypeCli, NormalizedSchema};

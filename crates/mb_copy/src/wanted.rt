@@ -1,8 +1,7 @@
 // Which tiles a copier takes.
 ghost use Rattle.std.specs.Prelude.{◌≡◌, ◌==◌, ◌^◌, ◌<◌};
-ghost use Rattle.std.specs.List.{list_any};
+ghost use Rattle.mb_copy.specs.Common.{list_any, place_at};
 ghost use Rattle.mb_copy.specs.Wanted.{box_holds, is_chosen, is_from, is_on_grid, is_up_to, is_within, place_passes, scaled, turned, zoom_passes};
-ghost use Rattle.mb_lists.specs.Entries.{place_at};
 
 use crate::{MbtilesCopier, TileBox};
 use tile_ids::{TileCoord, invert_y_value};

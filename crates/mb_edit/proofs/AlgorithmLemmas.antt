@@ -1,22 +1,9 @@
 -- A patch of the algorithm of its set leaves metadata that name it.
-use Rattle.std.proofs.Common.{◌≡◌, ◌∙◌, ap, sym, subst, ℕ, List, [], ◌∷◌, Option, Some, None, Bool, true, false, ◌||◌, not, cond, filter_map, refl}
-use Rattle.std.specs.Prelude.{codes, option_and_then, option_map}
-use Rattle.std.specs.List.{cons_option}
-use Rattle.std.specs.Option.{option_or}
-use Rattle.std.specs.Ordering.{eq_by_cmp, is_eq, nat_cmp}
-use Rattle.std.specs.Str.{bytes_eq}
-use Rattle.std.specs.Cmp.{Equal-is, tied_itself}
-use Rattle.std.specs.Cmp.Lexicographic.{slice_cmp}
-use Rattle.std.specs.FinMap.{entries, find, get, get-entries}
-use Rattle.std.proofs.lemmas.Bool.{false≢true}
-use Rattle.std.proofs.lemmas.Cmp.{nat_list_cmp_total}
-use Rattle.mb_edit.specs.Patched.{is_null_at, landed, meta_patched, target_of}
+use Rattle.mb_edit.proofs.Common.{ap, Bool, bytes_eq, codes, cond, cons_option, entries, eq_by_cmp, Equal-is, false, false≢true, filter_map, find, get, get-entries, is_eq, is_null_at, landed, List}
+use Rattle.mb_edit.proofs.Common.{meta_patched, Names, names_antisymmetric, NamesAlgorithm, nat_cmp, nat_list_cmp_total, None, not, Option, option_and_then, option_map, option_or, refl, slice_cmp}
+use Rattle.mb_edit.proofs.Common.{Some, State, subst, sym, target_of, text_at, tied_itself, true, ℕ, [], ◌||◌, ◌∙◌, ◌∷◌, ◌≡◌}
 use Rattle.mb_edit.proofs.PatchedLemmas.{get-meta_patched}
-use Rattle.mb_lists.proofs.NameLemmas.{names_antisymmetric}
 use Rattle.mb_constraints.specs.Algorithm.{algorithm_by, unknown_name}
-use Rattle.mb_load.specs.LoadedFrom.{NamesAlgorithm}
-use Rattle.mb_lists.specs.Metadata.{Names, text_at}
-use Rattle.mb_loaded.specs.State.{State}
 
 -- whether two names are equal
 abbrev same : List ℕ → List ℕ → Bool

@@ -1,13 +1,6 @@
 -- Answers over stores that tell their tables or not.
-use Rattle.std.proofs.Common.{◌≡◌, ◌∙◌, ap, subst, sym, Bool, true, false, Result, Ok, Err, refl}
-use Rattle.std.proofs.lemmas.Bool.{false≢true}
-use Rattle.mb_edit.specs.Applying.{IsAnsweredBy, answer_of, applied}
-use Rattle.mb_tables.specs.Refusals.{Answers, is_free, then}
-use Rattle.mb_edit.specs.Step.{step}
-use Rattle.mb_loaded.specs.State.{State}
-use Rattle.mb_load.specs.StateOf.{state_of}
-use Rattle.mb_tables.specs.Table.{Tables}
-use Rattle.mb_tables.specs.declared.error.MbtError.{MbtError}
+use Rattle.mb_edit.proofs.Common.{answer_of, Answers, ap, applied, Bool, Err, false, false≢true, is_free, IsAnsweredBy, MbtError, Ok, refl, Result, State, state_of, step, subst, sym, Tables, then}
+use Rattle.mb_edit.proofs.Common.{true, ◌∙◌, ◌≡◌}
 
 -- tables that are those that are told, where they are, and of which a fact holds
 pub record SomeTables (tells : Bool) (told : Tables) (P : Tables → Type 0) : Type 0 where

@@ -1,13 +1,9 @@
 -- A committed patch leaves the tables that it is to leave.
-use Rattle.std.proofs.Common.{◌≡◌, ◌∙◌, ap, sym, subst, ℕ, List, [], ◌∷◌, ◌++◌, Option, Some, None, Bool, true, ◌||◌, not, filter, cond, refl, is_some, Ok}
-use Rattle.std.specs.Prelude.{option_and_then, option_map, option_to_list}
-use Rattle.std.specs.FinMap.{contains_key, get, get-empty}
-use Rattle.mb_edit.specs.Applying.{IsApplied, put_row, stands_in}
-use Rattle.mb_load.specs.Committing.{MakesChanges}
-use Rattle.mb_edit.specs.HeldPatched.{held_patched}
-use Rattle.mb_edit.specs.Patched.{patched_at}
-use Rattle.mb_edit.specs.PatchingOrder.{may_patch}
-use Rattle.mb_edit.specs.Step.{state_patched}
+use Rattle.mb_edit.proofs.Common.{AllOnBoard, ap, AreChangesOf, Bool, Cell, cell_at, cells_for, Change, Commits, committed, cond, contains_key, content_table, Dates, dates_for, Edited, filter, front}
+use Rattle.mb_edit.proofs.Common.{get, get-empty, has_key, HashAlgorithm, Held, held_patched, id_for, is_null, is_set_table, is_some, IsApplied, IsLoadable, IsLoadedFrom, IsOnBoard, IsSound, List}
+use Rattle.mb_edit.proofs.Common.{MakesChanges, may_patch, MbtType, NamesAlgorithm, None, not, nothing_edited, null_ids_stay, Ok, Option, option_and_then, option_map, option_to_list}
+use Rattle.mb_edit.proofs.Common.{other_tables_stay, patched_at, Place, place_cmp, place_of, places_stand, put_row, refl, Some, stands_in, State, state_again, state_of, state_patched, subst, sym}
+use Rattle.mb_edit.proofs.Common.{Tables, tile_key, tile_row, tile_table, true, ℕ, [], ◌++◌, ◌||◌, ◌∙◌, ◌∷◌, ◌≡◌}
 use Rattle.mb_edit.proofs.AlgorithmLemmas.{algorithm_kept}
 use Rattle.mb_edit.proofs.EditedLemmas.{places_edited}
 use Rattle.mb_edit.proofs.FrameLemmas.{null_names_stay, tile_rows_stay}
@@ -16,29 +12,6 @@ use Rattle.mb_edit.proofs.PassedLemmas.{passed}
 use Rattle.mb_edit.proofs.PatchedLemmas.{get-patched_by}
 use Rattle.mb_edit.proofs.StateLemmas.{patched_state}
 use Rattle.mb_edit.proofs.StepLemmas.{step_made}
-use Rattle.mb_load.proofs.CommitLemmas.{committed, places_stand}
-use Rattle.mb_load.proofs.FrameLemmas.{null_ids_stay, other_tables_stay}
-use Rattle.mb_load.proofs.StateAgain.{state_again}
-use Rattle.mb_loaded.specs.Changing.{AreChangesOf, cells_for, content_table, front, tile_key, tile_row}
-use Rattle.mb_load.specs.Committed.{is_set_table}
-use Rattle.mb_loaded.specs.Edits.{dates_for, id_for}
-use Rattle.mb_loaded.specs.Held.{Edited, Held, nothing_edited}
-use Rattle.mb_load.specs.LoadedFrom.{AllOnBoard, IsLoadable, IsLoadedFrom, NamesAlgorithm}
-use Rattle.mb_loaded.specs.Editable.{IsOnBoard}
-use Rattle.mb_loaded.specs.State.{State}
-use Rattle.mb_load.specs.StateOf.{state_of}
-use Rattle.mb_lists.specs.declared.dates.Dates.{Dates}
-use Rattle.mb_store.specs.Committing.{Commits}
-use Rattle.mb_store.specs.Store.{IsSound}
-use Rattle.mb_store.specs.declared.change.Change.{Change}
-use Rattle.mb_tables.specs.Cell.{is_null}
-use Rattle.mb_tables.specs.Kind.{tile_table}
-use Rattle.mb_tables.specs.Key.{has_key}
-use Rattle.mb_tables.specs.Table.{Tables}
-use Rattle.mb_tables.specs.Tiles.{Place, cell_at, place_cmp, place_of}
-use Rattle.mb_tables.specs.declared.cell.Cell.{Cell}
-use Rattle.mb_tables.specs.declared.kind.MbtType.{MbtType}
-use Rattle.tile_hash.specs.declared.algorithm.HashAlgorithm.{HashAlgorithm}
 
 -- a set after a patch, that was loaded with nothing edited
 module _ (h : Held) (q : State) (clean : h.edited ≡ nothing_edited) where

@@ -1,15 +1,7 @@
 -- What counts as edited after a patch.
-use Rattle.std.proofs.Common.{◌≡◌, ◌∙◌, ap, sym, ℕ, List, [], ◌∷◌, Option, Some, None, Bool, true, false, ◌||◌, cond, refl, is_some}
-use Rattle.std.proofs.Math.Bool.{or-false}
-use Rattle.std.specs.Ordering.{eq_by_cmp}
-use Rattle.std.specs.FinMap.{contains_key, entries, find, get, get-entries, get-insert, insert}
-use Rattle.mb_edit.specs.HeldPatched.{from_last, held_patched, name_patched, names_patched, null_cleared, tile_patched, tiles_patched}
-use Rattle.mb_edit.specs.Patched.{landed}
-use Rattle.mb_loaded.specs.Edits.{with_name}
-use Rattle.mb_loaded.specs.Held.{Held}
-use Rattle.mb_loaded.specs.State.{State}
-use Rattle.mb_tables.proofs.TileLemmas.{places_total}
-use Rattle.mb_tables.specs.Tiles.{Place, place_cmp}
+use Rattle.mb_edit.proofs.Common.{ap, Bool, cond, contains_key, entries, eq_by_cmp, false, find, from_last, get, get-entries, get-insert, Held, held_patched, insert, is_some, landed, List}
+use Rattle.mb_edit.proofs.Common.{name_patched, names_patched, None, null_cleared, Option, or-false, Place, place_cmp, places_total, refl, Some, State, sym, tile_patched, tiles_patched, true}
+use Rattle.mb_edit.proofs.Common.{with_name, ℕ, [], ◌||◌, ◌∙◌, ◌∷◌, ◌≡◌}
 
 is_some_cond : {A B : Type 0} (b : Bool) (x : A) (y : B) (o : Option A) (r : Option B) (h : Bool) → is_some o ≡ (h || is_some r) → is_some (cond b (Some x) o) ≡ (h || is_some (cond b (Some y) r))
 is_some_cond true x y o r true e = refl

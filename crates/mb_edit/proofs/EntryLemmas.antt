@@ -1,25 +1,9 @@
 -- The entries of a patch as its readers give them.
-use Rattle.std.proofs.Common.{◌≡◌, ◌∙◌, ap, sym, ℕ, ◌<◌, ◌≤◌, List, [], ◌∷◌, Option, Some, None, Bool, true, false, not, length, map, suc, zero, refl, arith}
-use Rattle.std.specs.Prelude.{IfSome, option_and_then, slice_get}
-use Rattle.std.specs.Str.{bytes_eq}
-use Rattle.std.proofs.lemmas.Bool.{false≢true}
+use Rattle.mb_edit.proofs.Common.{ap, arith, Blob, blob_cell, Bool, bytes_eq, bytes_eq-Decides, bytes_of, Cell, cell_eq, cell_eq-Decides, cell_id, digest, Entries, false, false≢true, HashAlgorithm}
+use Rattle.mb_edit.proofs.Common.{IfSome, is_normalized, is_other, length, List, map, MbtType, None, Normalized, not, Option, option_and_then, Place, refl, slice_get, Some, suc, sym, Text, text_cell}
+use Rattle.mb_edit.proofs.Common.{true, zero, ℕ, [], ◌<◌, ◌∙◌, ◌∷◌, ◌≡◌, ◌≤◌}
 use Rattle.std.proofs.lemmas.Option.{same_Some, slice_get_past}
-use Rattle.std.proofs.lemmas.Slice.Eq.{bytes_eq-Decides}
-use Rattle.mb_edit.specs.Collision.{is_other}
-use Rattle.mb_edit.specs.Marks.{Entries, bytes_of}
-use Rattle.mb_lists.specs.Entries.{blob_cell, text_cell}
-use Rattle.mb_loaded.specs.GivenIds.{cell_id}
 use Rattle.mb_tables.specs.CellKinds.{is_text}
-use Rattle.mb_tables.proofs.CellLemmas.{cell_eq-Decides}
-use Rattle.mb_tables.specs.Cell.{cell_eq}
-use Rattle.mb_tables.specs.Tiles.{Place}
-use Rattle.mb_tables.specs.declared.cell.Cell.{Cell}
-use Rattle.mb_tables.specs.Kind.{is_normalized}
-use Rattle.mb_tables.specs.declared.cell.Cell.TheVariants.{Blob, Text}
-use Rattle.mb_tables.specs.declared.kind.MbtType.{MbtType}
-use Rattle.mb_tables.specs.declared.kind.MbtType.TheVariants.{Normalized}
-use Rattle.tile_hash.specs.Digest.{digest}
-use Rattle.tile_hash.specs.declared.algorithm.HashAlgorithm.{HashAlgorithm}
 
 abbrev bytes_in : Cell → List ℕ
 bytes_in (Blob bytes) = bytes

@@ -1,32 +1,10 @@
 -- Rows that no change of a set is of stay.
-use Rattle.std.proofs.Common.{◌≡◌, ◌∙◌, ap, sym, ℕ, List, [], ◌∷◌, ◌++◌, Some, Bool, true, false, ◌&&◌, not, filter, refl, is_some, take, drop, get_or, length, ◌<◌, suc, zero}
-use Rattle.std.specs.Prelude.{option_and_then}
-use Rattle.std.specs.FinMap.{FinMap, contains_key, get}
-use Rattle.std.proofs.lemmas.Bool.{false≢true}
+use Rattle.mb_edit.proofs.Common.{ap, AreChangesOf, Bool, Cell, cell_at, cells_eq-Decides, Change, Commits, contains_key, drop, false, false≢true, filter, FinMap, front, front_read, get, get_or}
+use Rattle.mb_edit.proofs.Common.{has_key, Hash, Held, IntId, is_null, is_some, IsOnBoard, key_cells, key_of, key_width, length, List, MbtType, Metadata, name_edited, Normalized, not, option_and_then}
+use Rattle.mb_edit.proofs.Common.{Place, place_cmp, place_edited, place_of, refl, RowKey, Some, stands_in, suc, sym, table_eq, TableName, Tables, take, Text, TextId, Tile, tile_table, true, zero, ℕ}
+use Rattle.mb_edit.proofs.Common.{[], ◌&&◌, ◌++◌, ◌<◌, ◌∙◌, ◌∷◌, ◌≡◌}
 use Rattle.std.proofs.lemmas.List.Folds.{list_any_none}
-use Rattle.mb_edit.specs.Applying.{stands_in}
-use Rattle.mb_load.proofs.PutRowLemmas.{front_read}
-use Rattle.mb_loaded.specs.Changing.{AreChangesOf, front, name_edited, place_edited}
-use Rattle.mb_loaded.specs.Held.{Held}
-use Rattle.mb_loaded.specs.Editable.{IsOnBoard}
 use Rattle.mb_store.proofs.Committed.{others_stay}
-use Rattle.mb_store.specs.Committing.{Commits}
-use Rattle.mb_store.specs.declared.change.Change.{Change}
-use Rattle.mb_tables.proofs.CellLemmas.{cells_eq-Decides}
-use Rattle.mb_tables.specs.Cell.{is_null}
-use Rattle.mb_tables.specs.Kind.{tile_table}
-use Rattle.mb_tables.specs.Key.{has_key, key_cells}
-use Rattle.mb_tables.specs.Table.{Tables, key_of, key_width, table_eq}
-use Rattle.mb_tables.specs.Tiles.{Place, cell_at, place_cmp, place_of}
-use Rattle.mb_tables.specs.declared.cell.Cell.{Cell}
-use Rattle.mb_tables.specs.declared.cell.Cell.TheVariants.{Text}
-use Rattle.mb_tables.specs.declared.key.RowKey.{RowKey}
-use Rattle.mb_tables.specs.declared.key.RowKey.TheVariants.{Tile, TextId, IntId}
-use Rattle.mb_tables.specs.declared.kind.MbtType.{MbtType}
-use Rattle.mb_tables.specs.declared.kind.MbtType.TheVariants.{Normalized}
-use Rattle.mb_tables.specs.declared.kind.NormalizedSchema.TheVariants.{Hash}
-use Rattle.mb_tables.specs.declared.table.TableName.{TableName}
-use Rattle.mb_tables.specs.declared.table.TableName.TheVariants.{Metadata}
 
 none_of : (a b : Bool) → (a ≡ true → b ≡ false) → (a && b) ≡ false
 none_of true b h = h refl

@@ -1,25 +1,10 @@
 -- Contents that no patch test refuses are free where they are put.
-use Rattle.std.proofs.Common.{◌≡◌, ◌∙◌, ap, sym, ℕ, List, [], ◌∷◌, Option, Some, None, Bool, true, false, ◌&&◌, not, cond, filter_map, refl}
-use Rattle.std.specs.Option.{option_or}
-use Rattle.std.specs.Str.{bytes_eq}
+use Rattle.mb_edit.proofs.Common.{ap, Blob, Bool, bytes_eq, bytes_eq-Decides, Cell, cell_cmp, cell_eq, cell_eq-Decides, cells_total, collides, cond, content_entry, Contents, contents_over, digest}
+use Rattle.mb_edit.proofs.Common.{false, filter_map, get, has_twin, HashAlgorithm, is_other, List, None, Normalized, NormalizedSchema, not, not-false, Option, option_or, or_parts, refl, Some, sym}
+use Rattle.mb_edit.proofs.Common.{Text, true, ℕ, [], ◌&&◌, ◌∙◌, ◌∷◌, ◌≡◌}
 use Rattle.std.specs.FinMap as fin
-use Rattle.std.specs.FinMap.{get}
-use Rattle.std.proofs.lemmas.Bool.{not-false, or_parts}
-use Rattle.std.proofs.lemmas.Slice.Eq.{bytes_eq-Decides}
-use Rattle.mb_edit.specs.Collision.{collides, has_twin, is_other}
-use Rattle.mb_edit.specs.Step.{content_entry, contents_over}
 use Rattle.mb_edit.proofs.MarkLemmas.{twin}
 use Rattle.mb_edit.proofs.PatchedLemmas.{get-over}
-use Rattle.mb_lists.specs.Contents.{Contents}
-use Rattle.mb_tables.proofs.CellLemmas.{cell_eq-Decides}
-use Rattle.mb_tables.specs.Cell.{cell_cmp, cell_eq}
-use Rattle.mb_tables.specs.CellOrder.{cells_total}
-use Rattle.mb_tables.specs.declared.cell.Cell.{Cell}
-use Rattle.mb_tables.specs.declared.cell.Cell.TheVariants.{Text, Blob}
-use Rattle.mb_tables.specs.declared.kind.MbtType.TheVariants.{Normalized}
-use Rattle.mb_tables.specs.declared.kind.NormalizedSchema.{NormalizedSchema}
-use Rattle.tile_hash.specs.Digest.{digest}
-use Rattle.tile_hash.specs.declared.algorithm.HashAlgorithm.{HashAlgorithm}
 
 abbrev text_in : Cell → List ℕ
 text_in (Text t) = t

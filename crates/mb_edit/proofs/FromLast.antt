@@ -1,9 +1,5 @@
 -- Edits for each of a list, from the last to the first, in a loop.
-use Rattle.std.proofs.Common.{◌≡◌, ◌∙◌, ap, sym, ℕ, ◌<◌, ◌≤◌, ◌-◌, List, [], ◌∷◌, drop, length, suc, zero, arith}
-use Rattle.std.proofs.lemmas.List.{drop_all}
-use Rattle.std.specs.Prelude.{IfSome, slice_get}
-use Rattle.mb_edit.specs.HeldPatched.{from_last}
-use Rattle.mb_loaded.specs.Held.{Held}
+use Rattle.mb_edit.proofs.Common.{ap, arith, drop, drop_all, from_last, Held, IfSome, length, List, slice_get, suc, sym, zero, ℕ, [], ◌-◌, ◌<◌, ◌∙◌, ◌∷◌, ◌≡◌, ◌≤◌}
 
 -- the edit of the item before those that were made
 at_index : {A : Type 0} (edit : Held → A → Held) (es : List A) (i : ℕ) (first set new : Held) → i < length es → set ≡ from_last edit first (drop (suc i) es) → IfSome (slice_get es i) (λ e. new ≡ edit set e) → new ≡ from_last edit first (drop i es)

@@ -1,12 +1,7 @@
 -- Laws of patched sets.
-use Rattle.std.proofs.Common.{◌≡◌, ◌∙◌, ap, sym, ℕ, List, Option, Some, None, false, refl, is_some}
-use Rattle.std.specs.FinMap.{contains_key, get, same_map}
-use Rattle.std.proofs.lemmas.Bool.{false≢true}
-use Rattle.mb_edit.specs.Patched.{patched, patched_at}
+use Rattle.mb_edit.proofs.Common.{ap, contains_key, false, false≢true, get, is_some, List, None, Option, patched, patched_at, Place, places_antisymmetric, places_total, refl, same_map, Some, sym}
+use Rattle.mb_edit.proofs.Common.{TileSet, ℕ, ◌∙◌, ◌≡◌}
 use Rattle.mb_edit.proofs.PatchedLemmas.{get-patched_by}
-use Rattle.mb_lists.proofs.Places.{places_antisymmetric}
-use Rattle.mb_tables.proofs.TileLemmas.{places_total}
-use Rattle.mb_tables.specs.Tiles.{Place, TileSet}
 
 -- the bytes themselves
 abbrev kept : List ℕ → Option (Option (List ℕ))

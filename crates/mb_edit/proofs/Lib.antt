@@ -1,3 +1,4 @@
+mod Common
 pub mod PatchedLemmas
 pub mod StateLemmas
 pub mod LawLemmas

@@ -1,34 +1,14 @@
 -- A patched set was loaded from the tables of its base.
-use Rattle.std.proofs.Common.{◌≡◌, ◌∙◌, ap, sym, subst, ℕ, List, [], ◌∷◌, Option, Some, None, Bool, true, false, cond, find, filter_map, refl, is_some}
-use Rattle.std.specs.List.{cons_option}
-use Rattle.std.specs.Ordering.{eq_by_cmp, is_eq}
-use Rattle.std.specs.Cmp.{tied_itself}
+use Rattle.mb_edit.proofs.Common.{AllOnBoard, ap, Blob, Bool, bytes_put, collides, cond, cons_option, contents_over, digest, entries, eq_by_cmp, false, false≢true, filter_map, from_last}
+use Rattle.mb_edit.proofs.Common.{from_only_referenced, from_removed_name, from_removed_tile, from_with_name, from_with_tile, get, get-entries, Held, held_patched, id_collides, is_editable, is_eq}
+use Rattle.mb_edit.proofs.Common.{is_normalized, is_some, IsFree, IsLoadedFrom, IsOnBoard, landed, List, may_patch, MbtType, name_patched, names_patched, None, Normalized, null_cleared, Option, Place}
+use Rattle.mb_edit.proofs.Common.{place_cmp, places_total, refl, Some, State, subst, sym, Tables, Text, tied_itself, tile_patched, tiles_patched, true, with_name, ℕ, [], ◌∙◌, ◌∷◌, ◌≡◌}
+use Rattle.std.proofs.Common.{find}
 use Rattle.std.specs.FinMap as fin
-use Rattle.std.specs.FinMap.{entries, get, get-entries}
-use Rattle.std.proofs.lemmas.Bool.{false≢true}
-use Rattle.mb_edit.specs.Collision.{collides}
-use Rattle.mb_edit.specs.HeldPatched.{from_last, held_patched, name_patched, names_patched, null_cleared, tile_patched, tiles_patched}
-use Rattle.mb_edit.specs.Patched.{landed}
-use Rattle.mb_edit.specs.PatchingOrder.{bytes_put, id_collides, may_patch}
-use Rattle.mb_edit.specs.Step.{contents_over}
 use Rattle.mb_edit.proofs.FreeLemmas.{put_free}
 use Rattle.mb_edit.proofs.MarkLemmas.{rest_apart}
 use Rattle.mb_edit.proofs.PassedLemmas.{none_collide, passed}
 use Rattle.mb_edit.proofs.StateLemmas.{contents_same, tiles_state, with_tiles}
-use Rattle.mb_load.proofs.EditedFrom.{from_only_referenced, from_removed_name, from_removed_tile, from_with_name, from_with_tile}
-use Rattle.mb_loaded.specs.Edits.{with_name}
-use Rattle.mb_loaded.specs.Held.{Held}
-use Rattle.mb_load.specs.LoadedFrom.{AllOnBoard, IsLoadedFrom}
-use Rattle.mb_loaded.specs.Editable.{IsFree, IsOnBoard, is_editable}
-use Rattle.mb_loaded.specs.State.{State}
-use Rattle.mb_tables.proofs.TileLemmas.{places_total}
-use Rattle.mb_tables.specs.Kind.{is_normalized}
-use Rattle.mb_tables.specs.Table.{Tables}
-use Rattle.mb_tables.specs.Tiles.{Place, place_cmp}
-use Rattle.mb_tables.specs.declared.cell.Cell.TheVariants.{Text, Blob}
-use Rattle.mb_tables.specs.declared.kind.MbtType.{MbtType}
-use Rattle.mb_tables.specs.declared.kind.MbtType.TheVariants.{Normalized}
-use Rattle.tile_hash.specs.Digest.{digest}
 
 -- the places of a list of tiles are on the board
 pub record AreOnBoard (es : List (Place × Option (List ℕ))) : Type 0 where

@@ -1,25 +1,11 @@
 -- What is known of the contents that are put, after one more tile.
-use Rattle.std.proofs.Common.{◌≡◌, ◌∙◌, ap, sym, subst, ℕ, List, [], ◌∷◌, Option, Some, None, Bool, true, false, ◌&&◌, ◌||◌, not, cond, find, filter_map, drop, length, ◌<◌, ◌≤◌, ◌-◌, suc, zero, refl, arith}
-use Rattle.std.proofs.Math.Bool.{and-false, or-false, or-true}
-use Rattle.std.specs.Prelude.{IfSome}
+use Rattle.mb_edit.proofs.Common.{and-false, ap, AreMarked, arith, Bool, bytes_eq, bytes_eq-Decides, bytes_of, Cell, cell_cmp, cell_eq, cell_eq-Decides, collides, cond, cons_option, Contents, drop}
+use Rattle.mb_edit.proofs.Common.{Entries, false, false≢true, filter_map, get, has_twin, IfSome, is_eq, is_other, IsMarked, IsMarkOf, itself, length, List, list_any, Mark, None, not, Option, or-false}
+use Rattle.mb_edit.proofs.Common.{or-true, refl, Some, subst, suc, sym, Text, true, zero, ℕ, [], ◌&&◌, ◌-◌, ◌<◌, ◌||◌, ◌∙◌, ◌∷◌, ◌≡◌, ◌≤◌}
+use Rattle.std.proofs.Common.{find}
 use Rattle.std.specs.BTreeMap as tree
-use Rattle.std.specs.List.{cons_option, list_any}
 use Rattle.std.specs.Map.{lookup}
-use Rattle.std.specs.Ordering.{is_eq}
-use Rattle.std.specs.Str.{bytes_eq}
-use Rattle.std.specs.FinMap.{get}
-use Rattle.std.proofs.lemmas.Bool.{false≢true}
-use Rattle.std.proofs.lemmas.Slice.Eq.{bytes_eq-Decides}
-use Rattle.mb_edit.specs.Collision.{collides, has_twin, is_other}
-use Rattle.mb_edit.specs.Marks.{AreMarked, Entries, IsMarkOf, IsMarked, bytes_of}
-use Rattle.mb_edit.specs.declared.collision.Mark.{Mark}
 use Rattle.mb_edit.specs.declared.collision.Marks.{Marks}
-use Rattle.mb_lists.specs.Contents.{Contents}
-use Rattle.mb_tables.proofs.CellLemmas.{cell_eq-Decides}
-use Rattle.mb_tables.specs.Cell.{cell_cmp, cell_eq}
-use Rattle.mb_tables.specs.declared.cell.Cell.{Cell}
-use Rattle.mb_tables.specs.declared.cell.Cell.TheVariants.{Text}
-use Rattle.mb_load.proofs.PutRowLemmas.{itself}
 
 last_false : (a b c : Bool) → (a || (b || c)) ≡ false → c ≡ false
 last_false false false c h = h

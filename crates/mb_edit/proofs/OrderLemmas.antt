@@ -1,7 +1,5 @@
 -- What is said of facts that are known by others.
-use Rattle.std.proofs.Common.{◌≡◌, ◌∙◌, ap, refl, Bool, true, false}
-use Rattle.mb_constraints.specs.DiffHashes.{base_refused, patch_refused, refused_by, unless_forced}
-use Rattle.mb_tables.specs.Refusals.{Tests}
+use Rattle.mb_edit.proofs.Common.{ap, base_refused, Bool, false, patch_refused, refl, refused_by, Tests, true, unless_forced, ◌∙◌, ◌≡◌}
 
 pub same_two : {A B C : Type 0} (f : A → B → C) (x a : A) (y b : B) → x ≡ a → y ≡ b → f x y ≡ f a b
 same_two f x a y b p q = ap (λ z. f z y) p ∙ ap (f a) q

@@ -1,25 +1,12 @@
 -- What is known of a patch that passes all tests.
-use Rattle.std.proofs.Common.{◌≡◌, ◌∙◌, ap, sym, List, [], ◌∷◌, Option, Some, None, Bool, true, not, find, refl, is_some, ℕ}
-use Rattle.std.specs.Prelude.{◌==◌, option_map}
-use Rattle.std.proofs.lemmas.Bool.{false≢true}
+use Rattle.mb_edit.proofs.Common.{after_hash, agg_hash, ap, base_refused, before_hash, Bool, bytes_put, can_be_patched, collides, DedupId, digest, false≢true, first_refusal, HashAlgorithm}
+use Rattle.mb_edit.proofs.Common.{id_collides, IdCollision, is_editable, is_some, List, may_patch, MbtError, MbtType, name_of, None, Normalized, NormalizedSchema, not, Option, option_map}
+use Rattle.mb_edit.proofs.Common.{patch_refused, refl, Some, State, sym, true, unless, unless_forced, UnsupportedCopyOperation, UnsupportedHashAlgorithm, UnsupportedPatchType, wrong_algorithm}
+use Rattle.mb_edit.proofs.Common.{wrong_base, ℕ, [], ◌==◌, ◌∙◌, ◌∷◌, ◌≡◌}
+use Rattle.std.proofs.Common.{find}
 use Rattle.std.proofs.lemmas.Bool.Decides.{Decides-eqb}
-use Rattle.mb_edit.specs.Collision.{collides}
-use Rattle.mb_edit.specs.PatchingOrder.{bytes_put, can_be_patched, id_collides, may_patch, wrong_algorithm, wrong_base}
-use Rattle.mb_lists.specs.Metadata.{after_hash, agg_hash, before_hash}
-use Rattle.mb_constraints.specs.DiffHashes.{base_refused, patch_refused, unless_forced}
 pub use Rattle.mb_load.proofs.RowsPass.{holds}
 use Rattle.mb_loaded.specs.HeldCode.{algorithm_at, algorithm_back, algorithm_number}
-use Rattle.mb_loaded.specs.Editable.{is_editable}
-use Rattle.mb_tables.specs.Refusals.{first_refusal, unless}
-use Rattle.mb_loaded.specs.State.{State}
-use Rattle.mb_tables.specs.declared.error.MbtError.{MbtError}
-use Rattle.mb_tables.specs.declared.error.MbtError.TheVariants.{IdCollision, UnsupportedCopyOperation, UnsupportedHashAlgorithm, UnsupportedPatchType}
-use Rattle.mb_tables.specs.declared.kind.MbtType.{MbtType}
-use Rattle.mb_tables.specs.declared.kind.MbtType.TheVariants.{Normalized}
-use Rattle.mb_tables.specs.declared.kind.NormalizedSchema.{NormalizedSchema}
-use Rattle.mb_tables.specs.declared.kind.NormalizedSchema.TheVariants.{DedupId}
-use Rattle.tile_hash.specs.Digest.{digest, name_of}
-use Rattle.tile_hash.specs.declared.algorithm.HashAlgorithm.{HashAlgorithm}
 
 -- where no test of a list refuses, none of the rest does, nor the first
 pub pass_first : (o : Option MbtError) (rest : List (Option MbtError)) → first_refusal (o ∷ rest) ≡ None → o ≡ None

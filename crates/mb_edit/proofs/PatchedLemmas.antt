@@ -1,21 +1,8 @@
 -- What a patched set has at each place, and patched metadata under each name.
-use Rattle.std.proofs.Common.{◌≡◌, ◌∙◌, ap, sym, subst, ℕ, List, [], ◌∷◌, ◌++◌, Option, Some, None, Bool, true, false, ◌&&◌, not, cond, filter_map, refl, is_some}
-use Rattle.std.specs.Prelude.{T, option_and_then, option_map}
-use Rattle.std.specs.Option.{option_or}
-use Rattle.std.specs.List.{cons_option}
-use Rattle.std.specs.declared.cmp.Ordering.{Ordering}
-use Rattle.std.specs.Ordering.{eq_by_cmp, nat_cmp}
-use Rattle.std.specs.Cmp.{IsTotalOrder, Equal-is}
-use Rattle.std.specs.Cmp.Lexicographic.{slice_cmp}
-use Rattle.std.specs.FinMap.{FinMap, contains_key, entries, entries_sorted, find, get, get-entries, get-from_entries, get-retain_keys, get_tied, retain_keys}
-use Rattle.std.specs.FinMap.Entries.{below_all, is_sorted}
-use Rattle.std.proofs.lemmas.Cmp.{nat_list_cmp_total}
-use Rattle.mb_edit.specs.Patched.{is_null_at, landed, meta_patched, over, patched_at, patched_by, put_entry}
-use Rattle.mb_lists.specs.Metadata.{Names}
-use Rattle.mb_lists.proofs.Places.{places_antisymmetric}
-use Rattle.mb_tables.proofs.TileLemmas.{places_total}
-use Rattle.mb_tables.specs.Tiles.{Place, TileSet, place_cmp}
-use Rattle.mb_load.proofs.EditedFrom.{less_apart}
+use Rattle.mb_edit.proofs.Common.{ap, below_all, Bool, cond, cons_option, contains_key, entries, entries_sorted, eq_by_cmp, Equal-is, false, filter_map, find, FinMap, get, get-entries}
+use Rattle.mb_edit.proofs.Common.{get-from_entries, get-retain_keys, get_tied, is_null_at, is_some, is_sorted, IsTotalOrder, landed, less_apart, List, meta_patched, Names, nat_cmp, nat_list_cmp_total}
+use Rattle.mb_edit.proofs.Common.{None, not, Option, option_and_then, option_map, option_or, Ordering, over, patched_at, patched_by, Place, place_cmp, places_antisymmetric, places_total, put_entry}
+use Rattle.mb_edit.proofs.Common.{refl, retain_keys, slice_cmp, Some, subst, sym, T, TileSet, true, ℕ, [], ◌&&◌, ◌++◌, ◌∙◌, ◌∷◌, ◌≡◌}
 
 pub first : (a b : Bool) → T (a && b) → T a
 first true b h = tt

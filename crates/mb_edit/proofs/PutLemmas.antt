@@ -1,27 +1,11 @@
 -- A set after tiles were put into it: its state, and that it was loaded from the tables of its base.
-use Rattle.std.proofs.Common.{◌≡◌, ◌∙◌, ap, sym, subst, [], ◌∷◌, Some, None, true, find, is_some}
-use Rattle.std.specs.FinMap.{contains_key, entries, get-entries}
-use Rattle.std.specs.Option.{option_or}
-use Rattle.std.proofs.lemmas.Bool.{false≢true}
-use Rattle.mb_edit.specs.Collision.{collides}
-use Rattle.mb_edit.specs.PatchingOrder.{bytes_put, id_collides}
-use Rattle.mb_edit.specs.Put.{may_put, state_put, tiles_put}
+use Rattle.mb_edit.proofs.Common.{ap, bytes_put, collides, contains_key, dates_for, digest, entries, false≢true, get-entries, Held, id_collides, id_for, is_editable, is_normalized, is_some}
+use Rattle.mb_edit.proofs.Common.{IsLoadedFrom, IsOnBoard, may_put, MbtType, NamesAlgorithm, None, Normalized, option_or, Place, Some, State, state_put, subst, sym, Tables, tiles_put, TileSet, true}
+use Rattle.mb_edit.proofs.Common.{unless, UnsupportedCopyOperation, [], ◌∙◌, ◌∷◌, ◌≡◌}
+use Rattle.std.proofs.Common.{find}
 use Rattle.mb_edit.proofs.LoadedLemmas.{AreApart, tiles_loaded}
 use Rattle.mb_edit.proofs.PassedLemmas.{holds, none_collide, pass_first, pass_rest}
 use Rattle.mb_edit.proofs.StateLemmas.{contents_same, steps_patched, tiles_state, with_tiles}
-use Rattle.mb_loaded.specs.Edits.{dates_for, id_for}
-use Rattle.mb_loaded.specs.Held.{Held}
-use Rattle.mb_load.specs.LoadedFrom.{IsLoadedFrom, NamesAlgorithm}
-use Rattle.mb_loaded.specs.Editable.{IsOnBoard, is_editable}
-use Rattle.mb_loaded.specs.State.{State}
-use Rattle.mb_tables.specs.Kind.{is_normalized}
-use Rattle.mb_tables.specs.Refusals.{unless}
-use Rattle.mb_tables.specs.Table.{Tables}
-use Rattle.mb_tables.specs.Tiles.{Place, TileSet}
-use Rattle.mb_tables.specs.declared.error.MbtError.TheVariants.{UnsupportedCopyOperation}
-use Rattle.mb_tables.specs.declared.kind.MbtType.{MbtType}
-use Rattle.mb_tables.specs.declared.kind.MbtType.TheVariants.{Normalized}
-use Rattle.tile_hash.specs.Digest.{digest}
 
 pub put_state : (h : Held) (tiles : TileSet) → (tiles_put h tiles).state ≡ state_put h.state tiles
 put_state h tiles = tiles_state h (entries tiles) ∙ same

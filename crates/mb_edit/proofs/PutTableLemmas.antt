@@ -1,55 +1,20 @@
 -- The tables after a commit of a set into which tiles were put.
-use Rattle.std.proofs.Common.{◌≡◌, ◌∙◌, ap, sym, subst, ℕ, List, [], ◌∷◌, ◌++◌, Option, Some, None, Bool, true, false, ◌||◌, not, filter, filter_map, cond, get_or, take, refl, is_some, Ok}
-use Rattle.std.proofs.Math.Bool.{or-false}
-use Rattle.std.specs.Prelude.{option_and_then, option_map, option_to_list}
-use Rattle.std.specs.List.{cons_option, list_any}
-use Rattle.std.specs.Ordering.{nat_cmp}
-use Rattle.std.specs.Cmp.Lexicographic.{slice_cmp}
-use Rattle.std.specs.FinMap.{FinMap, contains_key, entries, get, get-empty, get-entries, get-insert}
-use Rattle.std.proofs.lemmas.Bool.{false≢true}
-use Rattle.mb_edit.specs.Applying.{put_row, stands_in}
-use Rattle.mb_edit.specs.HeldPatched.{from_last, tile_patched}
-use Rattle.mb_edit.specs.Patched.{patched_at}
-use Rattle.mb_edit.specs.PatchingOrder.{bytes_put}
-use Rattle.mb_edit.specs.Put.{may_put, state_put, tiles_put}
+use Rattle.mb_edit.proofs.Common.{ap, AreChangesOf, Bool, bytes_put, Cell, cell_at, cell_cmp, cell_eq, cells_eq-Decides, cells_for, cells_total, Change, Commits, committed, cond, cons_option}
+use Rattle.mb_edit.proofs.Common.{contains_key, content_table, Dates, dates_for, Edited, entries, false, false≢true, filter, filter_map, FinMap, from_last, front, get, get-empty, get-entries}
+use Rattle.mb_edit.proofs.Common.{get-insert, get_or, has_key, HashAlgorithm, Held, id_edited, id_for, Int, IntId, is_some, IsLoadedFrom, IsOnBoard, IsSound, key_cells, key_of, List, list_any}
+use Rattle.mb_edit.proofs.Common.{MakesChanges, may_put, MbtType, Metadata, name_edited, NamesAlgorithm, nat_cmp, None, not, nothing_edited, Ok, Option, option_and_then, option_map, option_to_list}
+use Rattle.mb_edit.proofs.Common.{or-false, other_tables_stay, patched_at, Place, place_cmp, place_of, places_stand, put_row, refl, RowKey, slice_cmp, Some, stands_in, State, state_again, state_put}
+use Rattle.mb_edit.proofs.Common.{subst, sym, table_eq, TableName, Tables, take, Text, TextId, Tile, tile_key, tile_patched, tile_row, tile_table, tiles_put, TileSet, true, with_key, ℕ, [], ◌++◌}
+use Rattle.mb_edit.proofs.Common.{◌||◌, ◌∙◌, ◌∷◌, ◌≡◌}
 use Rattle.mb_edit.specs.PutTables.{ArePut, begins_with_any, ids_put, is_tile_table}
 use Rattle.mb_edit.proofs.EditedLemmas.{tiles_edited}
 use Rattle.mb_edit.proofs.FrameLemmas.{frame, tile_rows_stay}
 use Rattle.mb_edit.proofs.PatchedLemmas.{get-patched_by}
 use Rattle.mb_edit.proofs.PutLemmas.{put_layout, put_loaded, put_named, put_state}
 use Rattle.mb_edit.proofs.StateLemmas.{tiles_state}
-use Rattle.mb_load.proofs.CommitLemmas.{committed, places_stand}
-use Rattle.mb_load.proofs.FrameLemmas.{other_tables_stay}
 use Rattle.mb_load.proofs.LoadsFrom.{key_first}
-use Rattle.mb_load.proofs.StateAgain.{state_again}
-use Rattle.mb_loaded.specs.Changing.{AreChangesOf, cells_for, content_table, front, id_edited, name_edited, tile_key, tile_row}
-use Rattle.mb_load.specs.Committing.{MakesChanges}
-use Rattle.mb_loaded.specs.Edits.{dates_for, id_for, with_key}
-use Rattle.mb_loaded.specs.Held.{Edited, Held, nothing_edited}
-use Rattle.mb_load.specs.LoadedFrom.{IsLoadedFrom, NamesAlgorithm}
-use Rattle.mb_loaded.specs.Editable.{IsOnBoard}
-use Rattle.mb_loaded.specs.State.{State}
-use Rattle.mb_lists.specs.declared.dates.Dates.{Dates}
-use Rattle.mb_store.specs.Committing.{Commits}
-use Rattle.mb_store.specs.Store.{IsSound}
-use Rattle.mb_store.specs.declared.change.Change.{Change}
-use Rattle.mb_tables.proofs.CellLemmas.{cells_eq-Decides}
 use Rattle.mb_tables.proofs.ListLemmas.{filter_every}
 use Rattle.mb_tables.proofs.TableLemmas.{same_table}
-use Rattle.mb_tables.specs.Cell.{cell_cmp, cell_eq}
-use Rattle.mb_tables.specs.CellOrder.{cells_total}
-use Rattle.mb_tables.specs.Key.{has_key, key_cells}
-use Rattle.mb_tables.specs.Kind.{tile_table}
-use Rattle.mb_tables.specs.Table.{Tables, key_of, table_eq}
-use Rattle.mb_tables.specs.Tiles.{Place, TileSet, cell_at, place_cmp, place_of}
-use Rattle.mb_tables.specs.declared.cell.Cell.{Cell}
-use Rattle.mb_tables.specs.declared.cell.Cell.TheVariants.{Int, Text}
-use Rattle.mb_tables.specs.declared.key.RowKey.{RowKey}
-use Rattle.mb_tables.specs.declared.key.RowKey.TheVariants.{Tile, TextId, IntId}
-use Rattle.mb_tables.specs.declared.kind.MbtType.{MbtType}
-use Rattle.mb_tables.specs.declared.table.TableName.{TableName}
-use Rattle.mb_tables.specs.declared.table.TableName.TheVariants.{Metadata}
-use Rattle.tile_hash.specs.declared.algorithm.HashAlgorithm.{HashAlgorithm}
 
 -- what is known of a row by tests that agree on it
 filters_agree : (p q : List Cell → Bool) (rows : List (List Cell)) → ((row : List Cell) → p row ≡ q row) → filter p rows ≡ filter q rows

@@ -1,34 +1,11 @@
 -- The state of a set after the edits of a patch is the patched state.
-use Rattle.std.proofs.Common.{◌≡◌, ◌∙◌, ap, sym, ℕ, List, [], ◌∷◌, Option, Some, None, Bool, true, false, not, cond, filter_map, refl, subst}
-use Rattle.std.specs.Prelude.{T, option_map}
-use Rattle.std.specs.List.{cons_option}
-use Rattle.std.specs.declared.cmp.Ordering.{Ordering}
-use Rattle.std.specs.Ordering.{eq_by_cmp, nat_cmp}
-use Rattle.std.specs.Cmp.{Equal-is, IsTotalOrder}
-use Rattle.std.specs.Cmp.Lexicographic.{slice_cmp}
-use Rattle.std.specs.FinMap.{FinMap, IsAntisymmetric, entries, entries_sorted, find, get, get-entries, get-from_entries, get-insert, get-remove, insert, remove, retain_keys, same_map}
-use Rattle.std.specs.FinMap.Entries.{below_all, is_sorted}
-use Rattle.std.proofs.lemmas.Cmp.{nat_list_cmp_total}
-use Rattle.mb_edit.specs.HeldPatched.{from_last, held_patched, name_patched, names_patched, null_cleared, tile_patched, tiles_patched}
-use Rattle.mb_edit.specs.Patched.{is_null_at, landed, meta_patched, over, patched_at, patched_by}
-use Rattle.mb_edit.specs.PatchingOrder.{bytes_put}
-use Rattle.mb_edit.specs.Step.{content_entry, contents_over, state_patched}
+use Rattle.mb_edit.proofs.Common.{ap, below_all, Blob, Bool, bytes_put, Cell, cell_cmp-IsAntisymmetric, cells_total, cond, cons_option, content_entry, Contents, contents_over, dates_for, entries}
+use Rattle.mb_edit.proofs.Common.{entries_sorted, eq_by_cmp, Equal-is, false, filter_map, find, FinMap, from_last, get, get-entries, get-from_entries, get-insert, get-remove, HashAlgorithm, Held}
+use Rattle.mb_edit.proofs.Common.{held_patched, id_for, insert, is_named, is_null_at, is_sorted, IsAntisymmetric, IsTotalOrder, landed, List, MbtType, meta_patched, name_patched, Names}
+use Rattle.mb_edit.proofs.Common.{names_antisymmetric, names_patched, nat_cmp, nat_list_cmp_total, None, not, null_cleared, Option, option_map, Ordering, over, patched_at, patched_by, Place}
+use Rattle.mb_edit.proofs.Common.{place_cmp, places_antisymmetric, places_total, refl, remove, retain_keys, same_map, slice_cmp, Some, State, state_patched, subst, sym, T, tile_patched, tiles_patched}
+use Rattle.mb_edit.proofs.Common.{TileSet, true, with_content, with_name, with_value, ℕ, [], ◌∙◌, ◌∷◌, ◌≡◌}
 use Rattle.mb_edit.proofs.PatchedLemmas.{first, get-meta_patched, get-over, get-patched_by, none_below, second}
-use Rattle.mb_lists.proofs.NameLemmas.{names_antisymmetric}
-use Rattle.mb_lists.proofs.Places.{places_antisymmetric}
-use Rattle.mb_lists.specs.Contents.{Contents}
-use Rattle.mb_loaded.specs.Edits.{dates_for, id_for, is_named, with_content, with_name, with_value}
-use Rattle.mb_loaded.specs.Held.{Held}
-use Rattle.mb_lists.specs.Metadata.{Names}
-use Rattle.mb_loaded.specs.State.{State}
-use Rattle.mb_tables.proofs.CellLemmas.{cell_cmp-IsAntisymmetric}
-use Rattle.mb_tables.proofs.TileLemmas.{places_total}
-use Rattle.mb_tables.specs.CellOrder.{cells_total}
-use Rattle.mb_tables.specs.Tiles.{Place, TileSet, place_cmp}
-use Rattle.mb_tables.specs.declared.cell.Cell.{Cell}
-use Rattle.mb_tables.specs.declared.cell.Cell.TheVariants.{Blob}
-use Rattle.mb_tables.specs.declared.kind.MbtType.{MbtType}
-use Rattle.tile_hash.specs.declared.algorithm.HashAlgorithm.{HashAlgorithm}
 
 -- what each step of a patch makes of a map by place, of contents and of metadata
 abbrev pub stepped : {A : Type 0} → (List ℕ → Option A) → FinMap place_cmp A → Place → Option (List ℕ) → FinMap place_cmp A

@@ -1,12 +1,7 @@
 -- The step of a patch that passes its tests.
-use Rattle.std.proofs.Common.{◌≡◌, ◌∙◌, ap, sym, Bool, None, Ok}
-use Rattle.mb_edit.specs.HeldPatched.{held_patched}
-use Rattle.mb_edit.specs.PatchingOrder.{may_patch}
-use Rattle.mb_edit.specs.Step.{state_patched, step}
+use Rattle.mb_edit.proofs.Common.{ap, Bool, Held, held_patched, may_patch, None, Ok, State, state_patched, step, sym, ◌∙◌, ◌≡◌}
 use Rattle.mb_edit.proofs.StateLemmas.{patched_state}
-use Rattle.mb_loaded.specs.Held.{Held}
 use Rattle.mb_load.specs.Loading.{due_by}
-use Rattle.mb_loaded.specs.State.{State}
 
 pub step_made : (force : Bool) (h : Held) (q : State) (new : Held) → may_patch force h.state q ≡ None → new ≡ held_patched h q → step force h.state q ≡ Ok new.state
 step_made force h q new may made = ap (due_by (state_patched h.state q)) may ∙ ap Ok (sym (ap (λ (x : Held). x.state) made ∙ patched_state h q))

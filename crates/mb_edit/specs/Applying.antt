@@ -1,24 +1,10 @@
 -- What a patch makes of the tables of a store.
 use Rattle.std.specs.Prelude.{ℕ, ◌≡◌, ◌++◌, Bool, false, not, true, List, [], ◌∷◌, Some, None, Result, Ok, Err, filter, is_some, option_and_then}
-use Rattle.std.specs.FinMap.{FinMap, get}
+use Rattle.mb_edit.specs.Common.{Answers, Cell, cell_at, cells_for, content_table, dates_for, FinMap, front, get, HashAlgorithm, id_for, is_null, is_set_table, MbtError, MbtType, Place, place_cmp}
+use Rattle.mb_edit.specs.Common.{place_of, State, state_of, TableName, Tables, then, tile_key, tile_table}
 use Rattle.mb_edit.specs.Step.{step}
-use Rattle.mb_loaded.specs.Changing.{cells_for, content_table, front, tile_key}
-use Rattle.mb_load.specs.Committed.{is_set_table}
-use Rattle.mb_loaded.specs.Edits.{dates_for, id_for}
-use Rattle.mb_loaded.specs.State.{State}
-use Rattle.mb_load.specs.StateOf.{state_of}
-use Rattle.mb_tables.specs.Cell.{is_null}
-use Rattle.mb_tables.specs.Kind.{tile_table}
 use Rattle.mb_tables.specs.Key.{has_key}
-use Rattle.mb_tables.specs.Refusals.{Answers, then}
-use Rattle.mb_tables.specs.Table.{Tables}
-use Rattle.mb_tables.specs.Tiles.{Place, cell_at, place_cmp, place_of}
-use Rattle.mb_tables.specs.declared.cell.Cell.{Cell}
-use Rattle.mb_tables.specs.declared.error.MbtError.{MbtError}
-use Rattle.mb_tables.specs.declared.kind.MbtType.{MbtType}
-use Rattle.mb_tables.specs.declared.table.TableName.{TableName}
 use Rattle.mb_tables.specs.declared.table.TableName.TheVariants.{Metadata}
-use Rattle.tile_hash.specs.declared.algorithm.HashAlgorithm.{HashAlgorithm}
 
 -- the first refusal: of loading the set, of loading the patch, of the patch; or the set after the patch
 abbrev pub applied : Bool → Tables → Tables → Result State MbtError

@@ -1,14 +1,6 @@
 -- Contents that are put into a normalised set under an id that others have.
 use Rattle.std.specs.Prelude.{ℕ, ◌&&◌, ◌||◌, Bool, false, not, List, Option, Some, None, find, option_map}
-use Rattle.std.specs.List.{list_any}
-use Rattle.std.specs.FinMap.{get}
-use Rattle.std.specs.Str.{bytes_eq}
-use Rattle.mb_lists.specs.Contents.{Contents}
-use Rattle.mb_tables.specs.Cell.{cell_eq}
-use Rattle.mb_tables.specs.declared.cell.Cell.{Cell}
-use Rattle.mb_tables.specs.declared.cell.Cell.TheVariants.{Text, Blob}
-use Rattle.mb_tables.specs.declared.error.MbtError.{MbtError}
-use Rattle.mb_tables.specs.declared.error.MbtError.TheVariants.{IdCollision}
+use Rattle.mb_edit.specs.Common.{Blob, bytes_eq, Cell, cell_eq, Contents, get, IdCollision, list_any, MbtError, Text}
 
 -- whether there is a cell, and it isn't these bytes
 abbrev pub is_other : List ℕ → Option Cell → Bool

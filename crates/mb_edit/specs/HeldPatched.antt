@@ -1,11 +1,8 @@
 -- A loaded set after one patch, by its edits.
 use Rattle.std.specs.Prelude.{ℕ, List, Option, Some, None}
-use Rattle.std.specs.FinMap.{entries}
+use Rattle.mb_edit.specs.Common.{entries, Held, only_referenced, removed_name, State, with_name}
 use Rattle.mb_edit.specs.Patched.{landed}
-use Rattle.mb_loaded.specs.Edits.{only_referenced, removed_name, with_name}
 pub use Rattle.mb_loaded.specs.FromLast.{from_last, tile_patched, tiles_put}
-use Rattle.mb_loaded.specs.Held.{Held}
-use Rattle.mb_loaded.specs.State.{State}
 
 -- a name of a patch: its value is put under its target
 abbrev pub name_patched : Held → List ℕ × Option (List ℕ) → Held

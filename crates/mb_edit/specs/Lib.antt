@@ -1,3 +1,4 @@
+pub mod Common
 pub mod Patched
 pub mod Collision
 pub mod PatchingOrder

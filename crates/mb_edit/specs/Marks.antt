@@ -1,15 +1,10 @@
 -- What is known of the contents that a patch puts, after those of its last tiles were met.
 use Rattle.std.specs.Prelude.{ℕ, ◌≡◌, true, false, List, Option, Some, None, find, option_and_then, slice_get}
 use Rattle.std.specs.BTreeMap.{get}
-use Rattle.std.specs.List.{list_any}
-use Rattle.std.specs.Str.{bytes_eq}
+use Rattle.mb_edit.specs.Common.{bytes_eq, cell_cmp, Contents, list_any, Place, Text}
 use Rattle.mb_edit.specs.Collision.{collides}
 use Rattle.mb_edit.specs.declared.collision.Mark.{Mark}
 use Rattle.mb_edit.specs.declared.collision.Marks.{Marks}
-use Rattle.mb_lists.specs.Contents.{Contents}
-use Rattle.mb_tables.specs.Cell.{cell_cmp}
-use Rattle.mb_tables.specs.Tiles.{Place}
-use Rattle.mb_tables.specs.declared.cell.Cell.TheVariants.{Text}
 
 -- the tiles of a patch, and the bytes of the one at an index
 abbrev pub Entries : Type 0

@@ -1,22 +1,14 @@
 -- Patches that are made and patches that are refused.
 use Rattle.std.proofs.Common.{ap}
 use Rattle.std.specs.Prelude.{◌≡◌, ℕ, codes, refl, false, true, List, [], ◌∷◌, Option, Some, None, filter_map, option_and_then, take}
-use Rattle.std.specs.Ordering.{nat_cmp}
+use Rattle.mb_edit.specs.Common.{AggHashMismatchWithDiff, Blob, Cache, CannotDiffFileWithoutHash, Cell, Contents, DedupId, DiffingDiffFile, empty, find, Flat, from_entries, get-from_entries}
+use Rattle.mb_edit.specs.Common.{IdCollision, MbtType, nat_cmp, Normalized, Null, PatchFileHasNoBeforeHash, PatchFileHasNoHashes, State, Text, text_at, UnsupportedCopyOperation}
+use Rattle.mb_edit.specs.Common.{UnsupportedHashAlgorithm, UnsupportedPatchType}
 use Rattle.std.specs.Cmp.Lexicographic.{slice_cmp, nat_list_cmp_total}
-use Rattle.std.specs.FinMap.{empty, find, from_entries, get-from_entries}
 use Rattle.mb_edit.specs.Collision.{collision}
 use Rattle.mb_edit.specs.Patched.{landed}
 use Rattle.mb_edit.specs.PatchingOrder.{may_patch}
-use Rattle.mb_lists.specs.Contents.{Contents}
-use Rattle.mb_lists.specs.Metadata.{text_at}
-use Rattle.mb_loaded.specs.State.{State}
 use Rattle.mb_tables.specs.CellOrder.{cells_total}
-use Rattle.mb_tables.specs.declared.cell.Cell.{Cell}
-use Rattle.mb_tables.specs.declared.cell.Cell.TheVariants.{Null, Text, Blob}
-use Rattle.mb_tables.specs.declared.error.MbtError.TheVariants.{AggHashMismatchWithDiff, CannotDiffFileWithoutHash, DiffingDiffFile, IdCollision, PatchFileHasNoBeforeHash, PatchFileHasNoHashes, UnsupportedCopyOperation, UnsupportedHashAlgorithm, UnsupportedPatchType}
-use Rattle.mb_tables.specs.declared.kind.MbtType.{MbtType}
-use Rattle.mb_tables.specs.declared.kind.MbtType.TheVariants.{Flat, Normalized, Cache}
-use Rattle.mb_tables.specs.declared.kind.NormalizedSchema.TheVariants.{DedupId}
 use Rattle.mb_tables.specs.declared.patch_type.PatchType.TheVariants.{BinDiffRaw}
 use Rattle.tile_hash.specs.declared.algorithm.HashAlgorithm.TheVariants.{Md5, Xxh64}
 

@@ -1,10 +1,7 @@
 -- The tiles and the metadata of a set after a patch.
 use Rattle.std.specs.Prelude.{ℕ, codes, ◌++◌, ◌||◌, Bool, true, false, cond, not, List, Option, Some, None, filter_map, option_and_then, option_map}
 use Rattle.std.specs.declared.cmp.Ordering.{Ordering}
-use Rattle.std.specs.FinMap.{FinMap, contains_key, entries, from_entries, get, retain_keys}
-use Rattle.std.specs.Str.{bytes_eq}
-use Rattle.mb_lists.specs.Metadata.{Names}
-use Rattle.mb_tables.specs.Tiles.{Place, TileSet, place_cmp}
+use Rattle.mb_edit.specs.Common.{bytes_eq, contains_key, entries, FinMap, from_entries, get, Names, Place, place_cmp, retain_keys, TileSet}
 
 -- entries over those of a map: the first of a key counts
 abbrev pub over : {K V : Type 0} {R : K → K → Ordering} → List (K × V) → FinMap R V → FinMap R V

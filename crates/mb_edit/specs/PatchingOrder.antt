@@ -1,22 +1,9 @@
 -- The tests that a patch of a loaded set must pass, in their order.
 use Rattle.std.specs.Prelude.{◌==◌, ℕ, Bool, true, false, not, List, [], ◌∷◌, Option, Some, None, filter_map, is_some}
-use Rattle.std.specs.FinMap.{entries}
-use Rattle.std.specs.Str.{bytes_eq}
+use Rattle.mb_edit.specs.Common.{after_hash, agg_hash, AggHashMismatchWithDiff, base_refused, before_hash, bytes_eq, Cache, Contents, DedupId, digest, entries, first_refusal, HashAlgorithm, MbtError}
+use Rattle.mb_edit.specs.Common.{MbtType, name_of, Normalized, patch_refused, State, TileSet, unless, unless_forced, UnsupportedCopyOperation, UnsupportedHashAlgorithm, UnsupportedPatchType}
 use Rattle.mb_edit.specs.Collision.{collision}
-use Rattle.mb_lists.specs.Contents.{Contents}
-use Rattle.mb_constraints.specs.DiffHashes.{base_refused, patch_refused, unless_forced}
 use Rattle.mb_loaded.specs.HeldCode.{algorithm_number}
-use Rattle.mb_lists.specs.Metadata.{after_hash, agg_hash, before_hash}
-use Rattle.mb_tables.specs.Refusals.{first_refusal, unless}
-use Rattle.mb_loaded.specs.State.{State}
-use Rattle.mb_tables.specs.Tiles.{TileSet}
-use Rattle.mb_tables.specs.declared.error.MbtError.{MbtError}
-use Rattle.mb_tables.specs.declared.error.MbtError.TheVariants.{AggHashMismatchWithDiff, UnsupportedCopyOperation, UnsupportedHashAlgorithm, UnsupportedPatchType}
-use Rattle.mb_tables.specs.declared.kind.MbtType.{MbtType}
-use Rattle.mb_tables.specs.declared.kind.MbtType.TheVariants.{Normalized, Cache}
-use Rattle.mb_tables.specs.declared.kind.NormalizedSchema.TheVariants.{DedupId}
-use Rattle.tile_hash.specs.Digest.{digest, name_of}
-use Rattle.tile_hash.specs.declared.algorithm.HashAlgorithm.{HashAlgorithm}
 
 -- whether a set of the layout can be patched
 abbrev pub can_be_patched : MbtType → Bool

@@ -3,14 +3,8 @@ use Rattle.std.specs.Prelude.{List, [], ◌∷◌, Option}
 use Rattle.mb_edit.specs.Patched.{patched, patched_by}
 use Rattle.mb_edit.specs.PatchingOrder.{bytes_put, id_collides}
 use Rattle.mb_edit.specs.Step.{contents_over}
-use Rattle.mb_loaded.specs.Edits.{dates_for, id_for}
+use Rattle.mb_edit.specs.Common.{dates_for, first_refusal, id_for, is_editable, MbtError, State, TileSet, unless, UnsupportedCopyOperation}
 pub use Rattle.mb_loaded.specs.FromLast.{tiles_put}
-use Rattle.mb_loaded.specs.Editable.{is_editable}
-use Rattle.mb_loaded.specs.State.{State}
-use Rattle.mb_tables.specs.Refusals.{first_refusal, unless}
-use Rattle.mb_tables.specs.Tiles.{TileSet}
-use Rattle.mb_tables.specs.declared.error.MbtError.{MbtError}
-use Rattle.mb_tables.specs.declared.error.MbtError.TheVariants.{UnsupportedCopyOperation}
 
 -- the refusal of each test, in the order of the tests
 abbrev pub put_refusals : State → TileSet → List (Option MbtError)

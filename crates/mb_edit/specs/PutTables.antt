@@ -1,23 +1,10 @@
 -- What tables hold after tiles were put into the set that they held.
 use Rattle.std.specs.Prelude.{ℕ, ◌≡◌, ◌&&◌, ◌||◌, Bool, false, not, List, [], ◌∷◌, Some, None, Ok, filter, filter_map}
-use Rattle.std.specs.FinMap.{get}
-use Rattle.std.specs.List.{list_any}
+use Rattle.mb_edit.specs.Common.{Cell, cell_at, cell_eq, content_table, get, HashAlgorithm, id_for, is_normalized, list_any, MbtType, Place, rows_under, State, state_of, table_eq, TableName, Tables}
+use Rattle.mb_edit.specs.Common.{tile_key, tile_table, TileSet}
 use Rattle.mb_edit.specs.Applying.{put_row, stands_in}
 use Rattle.mb_edit.specs.PatchingOrder.{bytes_put}
 use Rattle.mb_edit.specs.Put.{state_put}
-use Rattle.mb_loaded.specs.Changing.{content_table, tile_key}
-use Rattle.mb_load.specs.Committed.{rows_under}
-use Rattle.mb_loaded.specs.Edits.{id_for}
-use Rattle.mb_loaded.specs.State.{State}
-use Rattle.mb_load.specs.StateOf.{state_of}
-use Rattle.mb_tables.specs.Cell.{cell_eq}
-use Rattle.mb_tables.specs.Kind.{is_normalized, tile_table}
-use Rattle.mb_tables.specs.Table.{Tables, table_eq}
-use Rattle.mb_tables.specs.Tiles.{Place, TileSet, cell_at}
-use Rattle.mb_tables.specs.declared.cell.Cell.{Cell}
-use Rattle.mb_tables.specs.declared.kind.MbtType.{MbtType}
-use Rattle.mb_tables.specs.declared.table.TableName.{TableName}
-use Rattle.tile_hash.specs.declared.algorithm.HashAlgorithm.{HashAlgorithm}
 
 -- whether a table is of a layout's tiles, or of its contents by id, if it has these
 abbrev pub is_tile_table : MbtType → TableName → Bool

@@ -1,17 +1,9 @@
 -- A set after one patch, or the first refusal.
 use Rattle.std.specs.Prelude.{ℕ, Bool, List, Option, Result, filter_map, option_map}
-use Rattle.std.specs.FinMap.{retain_keys}
+use Rattle.mb_edit.specs.Common.{Blob, Cell, Contents, dates_for, HashAlgorithm, id_for, is_named, MbtError, MbtType, retain_keys, State}
 use Rattle.mb_edit.specs.Patched.{meta_patched, over, patched, patched_by}
 use Rattle.mb_edit.specs.PatchingOrder.{bytes_put, may_patch}
-use Rattle.mb_lists.specs.Contents.{Contents}
-use Rattle.mb_loaded.specs.Edits.{dates_for, id_for, is_named}
 use Rattle.mb_load.specs.Loading.{due_by}
-use Rattle.mb_loaded.specs.State.{State}
-use Rattle.mb_tables.specs.declared.cell.Cell.{Cell}
-use Rattle.mb_tables.specs.declared.cell.Cell.TheVariants.{Blob}
-use Rattle.mb_tables.specs.declared.error.MbtError.{MbtError}
-use Rattle.mb_tables.specs.declared.kind.MbtType.{MbtType}
-use Rattle.tile_hash.specs.declared.algorithm.HashAlgorithm.{HashAlgorithm}
 
 -- bytes that are put stand under the id that the layout gives them, over the contents that there are
 abbrev pub content_entry : MbtType → HashAlgorithm → List ℕ → Option (Cell × Cell)

@@ -1,19 +1,10 @@
 // The test that contents which a patch puts into a normalised set have ids of their own.
 ghost use Rattle.std.specs.Prelude.{◌≡◌, ◌∷◌, IfOk, IfSome, OnOk, List, ℕ, Some, cond, not, option_copied, true};
 ghost use Rattle.std.specs.BTreeMap.{get as marked};
-ghost use Rattle.std.specs.Ordering.{is_eq};
-ghost use Rattle.std.specs.FinMap.{entries, get};
-ghost use Rattle.std.specs.List.{cons_option};
-ghost use Rattle.std.specs.Str.{bytes_eq};
+ghost use Rattle.mb_edit.specs.Common.{bytes_eq, Cell, cell_cmp, cons_option, digest, entries, get, ids_given, is_eq, is_normalized, Tests};
 ghost use Rattle.mb_edit.specs.Collision.{collides, collision, is_other};
 ghost use Rattle.mb_edit.specs.Marks.{AreMarked, bytes_of};
 ghost use Rattle.mb_edit.specs.PatchingOrder.{bytes_put, id_collides};
-ghost use Rattle.mb_loaded.specs.GivenIds.{ids_given};
-ghost use Rattle.mb_tables.specs.Kind.{is_normalized};
-ghost use Rattle.mb_tables.specs.Refusals.{Tests};
-ghost use Rattle.mb_tables.specs.Cell.{cell_cmp};
-ghost use Rattle.mb_tables.specs.declared.cell.Cell.{Cell};
-ghost use Rattle.tile_hash.specs.Digest.{digest};
 
 use base_values::{BlobVal, OutOfMemory};
 use mb_loaded::{GivenIds, Loaded};

@@ -1,16 +1,11 @@
 //! Laws of patches, and of tiles that are put.
 ghost use Rattle.std.specs.Prelude.{◌≡◌, None, Some, false, true};
-ghost use Rattle.std.specs.FinMap.{contains_key, get};
+ghost use Rattle.mb_edit.specs.Common.{contains_key, get, Held, IsLoadedFrom, IsOnBoard, NamesAlgorithm, nothing_edited, Place, Tables, TileSet};
 ghost use Rattle.mb_edit.specs.Patched.{patched, patched_at};
 ghost use Rattle.mb_edit.specs.Put.{may_put, tiles_put};
 ghost use Rattle.mb_edit.specs.PutTables.{ArePut};
 ghost use Rattle.mb_load.specs.Committing.{MakesChanges};
-ghost use Rattle.mb_loaded.specs.Held.{Held, nothing_edited};
-ghost use Rattle.mb_load.specs.LoadedFrom.{IsLoadedFrom, NamesAlgorithm};
-ghost use Rattle.mb_loaded.specs.Editable.{IsOnBoard};
 ghost use Rattle.mb_store.specs.Store.{IsSound};
-ghost use Rattle.mb_tables.specs.Table.{Tables};
-ghost use Rattle.mb_tables.specs.Tiles.{Place, TileSet};
 
 /// A patched set has at each place the bytes of the patch where that has bytes, no tile where it has null, else what it had.
 pub fn patched_at_each_place()

@@ -1,15 +1,11 @@
 // Patching a loaded set.
 ghost use Rattle.std.specs.Prelude.{◌≡◌, ◌≢◌, ◌<◌, IfErr, IfOk, IfSome, None, Ok, Err, OnOk, false, slice_get};
-ghost use Rattle.std.specs.FinMap.{entries, len};
+ghost use Rattle.mb_edit.specs.Common.{AllOnBoard, entries, ids_given, is_free, IsLoadedFrom, len, NamesAlgorithm, Tables};
 ghost use Rattle.std.specs.Option.{option_copied};
 ghost use Rattle.mb_edit.specs.HeldPatched.{held_patched, name_patched, names_patched, null_cleared, nulls_cleared};
 ghost use Rattle.mb_edit.specs.Patched.{target_of};
 ghost use Rattle.mb_edit.specs.PatchingOrder.{may_patch};
 ghost use Rattle.mb_edit.specs.Step.{step};
-ghost use Rattle.mb_loaded.specs.GivenIds.{ids_given};
-ghost use Rattle.mb_load.specs.LoadedFrom.{AllOnBoard, IsLoadedFrom, NamesAlgorithm};
-ghost use Rattle.mb_tables.specs.Refusals.{is_free};
-ghost use Rattle.mb_tables.specs.Table.{Tables};
 
 use crate::patching_order::test_patching;
 use base_values::{OutOfMemory, TextVal};

@@ -1,11 +1,7 @@
 // The tests that a patch of a loaded set must pass, in their order.
 ghost use Rattle.std.specs.Prelude.{◌≡◌, IfOk, is_some, not};
 ghost use Rattle.mb_edit.specs.PatchingOrder.{can_be_patched, may_patch, wrong_algorithm, wrong_base};
-ghost use Rattle.mb_lists.specs.Metadata.{after_hash, agg_hash, before_hash};
-ghost use Rattle.mb_lists.specs.Metadata.{text_at};
-ghost use Rattle.mb_constraints.specs.DiffHashes.{base_refused, patch_refused, refused_by, unless_forced};
-ghost use Rattle.mb_loaded.specs.GivenIds.{ids_given};
-ghost use Rattle.mb_tables.specs.Refusals.{Tests, unless};
+ghost use Rattle.mb_edit.specs.Common.{after_hash, agg_hash, base_refused, before_hash, ids_given, patch_refused, refused_by, Tests, text_at, unless, unless_forced};
 
 use crate::collision::test_ids;
 use base_values::TextVal;

@@ -1,12 +1,7 @@
 // Putting tiles into a loaded set.
 ghost use Rattle.std.specs.Prelude.{◌≡◌, ◌≢◌, IfErr, IfOk, None, Some, false};
-ghost use Rattle.mb_constraints.specs.DiffHashes.{refused_by};
+ghost use Rattle.mb_edit.specs.Common.{AllOnBoard, ids_given, is_editable, is_free, IsLoadedFrom, NamesAlgorithm, refused_by, Tables, Tests, unless};
 ghost use Rattle.mb_edit.specs.Put.{may_put, state_put, tiles_put};
-ghost use Rattle.mb_loaded.specs.GivenIds.{ids_given};
-ghost use Rattle.mb_load.specs.LoadedFrom.{AllOnBoard, IsLoadedFrom, NamesAlgorithm};
-ghost use Rattle.mb_loaded.specs.Editable.{is_editable};
-ghost use Rattle.mb_tables.specs.Refusals.{Tests, is_free, unless};
-ghost use Rattle.mb_tables.specs.Table.{Tables};
 
 use crate::collision::test_ids;
 use base_values::OutOfMemory;

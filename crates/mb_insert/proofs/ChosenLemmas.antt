@@ -1,15 +1,8 @@
 -- Tiles of a batch that are put one after another.
-use Rattle.std.proofs.Common.{◌≡◌, ◌∙◌, ap, sym, ℕ, ◌≤◌, ◌++◌, Bool, true, false, ◌||◌, List, [], ◌∷◌, Option, Some, Result, Ok, Err, cond, drop, filter, is_some, length, map, refl, append-nil, append_assoc}
-use Rattle.std.specs.Prelude.{IfOk, reverse}
-use Rattle.std.specs.List.{list_any}
-use Rattle.std.specs.Ordering.{eq_by_cmp}
-use Rattle.std.specs.FinMap.{contains_key, empty, from_entries, get, get-empty, get-insert, insert}
+use Rattle.mb_insert.proofs.Common.{ap, append-nil, append_assoc, Bool, cond, contains_key, drop, empty, entry_of, eq_by_cmp, Err, false, filter, from_entries, get, get-empty, get-insert, Held, IfOk}
+use Rattle.mb_insert.proofs.Common.{insert, is_missing, is_some, length, List, list_any, map, NewTile, Ok, Option, Place, place_cmp, place_in, places_total, refl, Result, reverse, Some, sym, TileSet}
+use Rattle.mb_insert.proofs.Common.{true, ℕ, [], ◌++◌, ◌||◌, ◌∙◌, ◌∷◌, ◌≡◌, ◌≤◌}
 use Rattle.std.proofs.lemmas.List.{drop_all, map-append, reverse-append}
-use Rattle.mb_insert.specs.Batch.{entry_of, is_missing, place_in}
-use Rattle.mb_insert.specs.declared.new_tile.NewTile.{NewTile}
-use Rattle.mb_loaded.specs.Held.{Held}
-use Rattle.mb_tables.proofs.TileLemmas.{places_total}
-use Rattle.mb_tables.specs.Tiles.{Place, TileSet, place_cmp}
 
 -- each over those before it
 abbrev pub put_in_turn : TileSet → List NewTile → TileSet

@@ -1,26 +1,11 @@
 -- Numbers of tiles that are coordinates.
-use Rattle.std.proofs.Common.{◌≡◌, ◌∙◌, sym, subst, ◌<◌, ◌^◌, Bool, true, false, ◌&&◌, ◌||◌, List, [], ◌∷◌, None, cond, filter, map, nat_lt, pos, refl, arith}
-use Rattle.std.specs.Prelude.{All, reverse}
-use Rattle.std.specs.List.{list_any}
-use Rattle.std.specs.Ordering.{eq_by_cmp}
-use Rattle.std.specs.Cmp.{Equal-is}
-use Rattle.std.specs.FinMap.{contains_key}
-use Rattle.std.proofs.lemmas.Bool.{and_parts, false≢true, ltb-true}
+use Rattle.mb_insert.proofs.Common.{All, and_parts, arith, bad_coord, Bool, chosen, cond, contains_key, CopyDuplicateMode, eq_by_cmp, Equal-is, false, false≢true, filter, first_refused, holds, Int}
+use Rattle.mb_insert.proofs.Common.{InvalidTileIndex, is_coord, is_missing, IsOnBoard, List, list_any, ltb-true, map, nat_lt, NewTile, None, pass_first, pass_rest, Place, place_cmp, place_in}
+use Rattle.mb_insert.proofs.Common.{places_antisymmetric, pos, put_of, refl, reverse, subst, sym, TileSet, true, [], ◌&&◌, ◌<◌, ◌^◌, ◌||◌, ◌∙◌, ◌∷◌, ◌≡◌}
 use Rattle.std.proofs.lemmas.List.Elements.{All-cons, All-head, All-nil, All-tail}
 use Rattle.std.proofs.lemmas.List.Sorted.{All-permutation, IsPermutation-reverse}
-use Rattle.mb_edit.proofs.PassedLemmas.{holds, pass_first, pass_rest}
 use Rattle.mb_insert.proofs.ChosenLemmas.{contained}
-use Rattle.mb_insert.specs.Batch.{chosen, is_coord, is_missing, place_in, put_of}
-use Rattle.mb_insert.specs.Insertion.{bad_coord}
-use Rattle.mb_insert.specs.declared.mode.CopyDuplicateMode.{CopyDuplicateMode}
 use Rattle.mb_insert.specs.declared.mode.CopyDuplicateMode.TheVariants.{Override}
-use Rattle.mb_insert.specs.declared.new_tile.NewTile.{NewTile}
-use Rattle.mb_lists.proofs.Places.{places_antisymmetric}
-use Rattle.mb_loaded.specs.Editable.{IsOnBoard}
-use Rattle.mb_tables.specs.Refusals.{first_refused}
-use Rattle.mb_tables.specs.Tiles.{Place, TileSet, place_cmp}
-use Rattle.mb_tables.specs.declared.cell.Cell.TheVariants.{Int}
-use Rattle.mb_tables.specs.declared.error.MbtError.TheVariants.{InvalidTileIndex}
 
 record AreWithin (t : NewTile) : Type 0 where
   zoom : t.z < 31

@@ -1,17 +1,9 @@
 -- A batch has as many tiles as are put exactly where none of its places is there or comes twice.
-use Rattle.std.proofs.Common.{◌≡◌, ◌≢◌, ◌∙◌, ap, sym, subst, ℕ, ◌<◌, ◌≤◌, ◌+◌, Bool, true, false, ◌&&◌, ◌||◌, not, List, [], ◌∷◌, Option, Some, None, cond, filter, length, map, refl, suc, arith}
-use Rattle.std.specs.List.{list_any}
-use Rattle.std.specs.Ordering.{eq_by_cmp}
-use Rattle.std.specs.FinMap.{contains_key, insert, len, len-empty, len-insert}
-use Rattle.std.proofs.lemmas.Bool.{or_parts}
+use Rattle.mb_insert.proofs.Common.{ap, arith, Bool, cond, contains_key, DuplicateValues, entry_of, eq_by_cmp, false, filter, has_duplicates, insert, is_missing, len, len-empty, len-insert, length}
+use Rattle.mb_insert.proofs.Common.{List, list_any, map, NewTile, None, not, Option, or_parts, place_cmp, place_in, places_total, refl, Some, subst, suc, sym, TileSet, true, unless, ℕ, [], ◌&&◌, ◌+◌}
+use Rattle.mb_insert.proofs.Common.{◌<◌, ◌||◌, ◌∙◌, ◌∷◌, ◌≡◌, ◌≢◌, ◌≤◌}
 use Rattle.mb_insert.proofs.ChosenLemmas.{by_first, contained, missing_of}
-use Rattle.mb_insert.specs.Batch.{entry_of, has_duplicates, is_missing, place_in}
-use Rattle.mb_insert.specs.declared.new_tile.NewTile.{NewTile}
 use Rattle.mb_lists.specs.Keyed.{are_distinct}
-use Rattle.mb_tables.proofs.TileLemmas.{places_total}
-use Rattle.mb_tables.specs.Refusals.{unless}
-use Rattle.mb_tables.specs.Tiles.{TileSet, place_cmp}
-use Rattle.mb_tables.specs.declared.error.MbtError.TheVariants.{DuplicateValues}
 
 -- fewer are put than there are, or as many
 abbrev IsCount : Bool → ℕ → ℕ → Type 0

@@ -1,28 +1,17 @@
 -- A set with a batch, and its tables after the commit.
-use Rattle.std.proofs.Common.{◌≡◌, ◌∙◌, ap, subst, List, [], ◌∷◌, Option, None, Ok, refl}
-use Rattle.mb_edit.proofs.PassedLemmas.{pass_first, pass_rest}
+use Rattle.mb_insert.proofs.Common.{ap, bad_coord, CopyDuplicateMode, duplicates, Edited, first_refused, fresh, Held, is_editable, IsLoadedFrom, List, MakesChanges, may_insert, NamesAlgorithm}
+use Rattle.mb_insert.proofs.Common.{NewTile, None, nothing_edited, Ok, Option, pass_first, pass_rest, put_of, refl, State, subst, Tables, tiles_put, unless, UnsupportedCopyOperation, [], ◌∙◌, ◌∷◌}
+use Rattle.mb_insert.proofs.Common.{◌≡◌}
 use Rattle.mb_edit.proofs.PutLemmas.{both_pass}
 use Rattle.mb_edit.proofs.PutTableLemmas.{are_put}
 use Rattle.mb_edit.specs.PatchingOrder.{bytes_put, id_collides}
-use Rattle.mb_edit.specs.Put.{may_put, tiles_put}
+use Rattle.mb_edit.specs.Put.{may_put}
 use Rattle.mb_edit.specs.PutTables.{ArePut}
 use Rattle.mb_insert.proofs.CoordLemmas.{all_coords, put_on_board}
-use Rattle.mb_insert.specs.Batch.{put_of}
 use Rattle.mb_insert.specs.Inserted.{IsInserted}
-use Rattle.mb_insert.specs.Insertion.{bad_coord, duplicates, may_insert}
-use Rattle.mb_insert.specs.declared.mode.CopyDuplicateMode.{CopyDuplicateMode}
-use Rattle.mb_insert.specs.declared.new_tile.NewTile.{NewTile}
-use Rattle.mb_load.specs.Committing.{MakesChanges}
-use Rattle.mb_loaded.specs.Held.{Edited, Held, fresh, nothing_edited}
-use Rattle.mb_load.specs.LoadedFrom.{IsLoadedFrom, NamesAlgorithm}
-use Rattle.mb_loaded.specs.Editable.{is_editable}
-use Rattle.mb_loaded.specs.State.{State}
 use Rattle.mb_load.specs.StateOf.{state_of}
 use Rattle.mb_store.specs.Store.{IsSound}
-use Rattle.mb_tables.specs.Refusals.{first_refused, unless}
-use Rattle.mb_tables.specs.Table.{Tables}
 use Rattle.mb_tables.specs.declared.error.MbtError.{MbtError}
-use Rattle.mb_tables.specs.declared.error.MbtError.TheVariants.{UnsupportedCopyOperation}
 
 module _ (mode : CopyDuplicateMode) (batch : List NewTile) (s : State) where
   abbrev edit : Option MbtError

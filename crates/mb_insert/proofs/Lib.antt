@@ -1,3 +1,4 @@
+mod Common
 pub mod CoordLemmas
 pub mod ChosenLemmas
 pub mod CountLemmas

@@ -1,19 +1,12 @@
 -- A set after a batch has it over it, or under it.
-use Rattle.std.proofs.Common.{◌≡◌, ◌∙◌, ap, sym, ℕ, ◌++◌, Bool, true, false, not, List, [], ◌∷◌, Option, Some, None, cond, filter, is_some, map, refl}
-use Rattle.std.specs.Prelude.{reverse}
+use Rattle.mb_insert.proofs.Common.{ap, Bool, cond, contains_key, entries, entry_of, eq_by_cmp, Equal-is, false, filter, find, get, get-entries, get-from_entries, is_missing, is_some, List, map}
+use Rattle.mb_insert.proofs.Common.{NewTile, None, not, Option, Place, place_cmp, place_in, places_antisymmetric, places_total, refl, reverse, same_map, Some, sym, TileSet, true, ℕ, [], ◌++◌, ◌∙◌}
+use Rattle.mb_insert.proofs.Common.{◌∷◌, ◌≡◌}
 use Rattle.std.specs.Option.{option_or}
-use Rattle.std.specs.Ordering.{eq_by_cmp}
-use Rattle.std.specs.Cmp.{Equal-is}
-use Rattle.std.specs.FinMap.{contains_key, entries, find, get, get-entries, get-from_entries, same_map}
 use Rattle.mb_edit.proofs.LawLemmas.{get-patched}
 use Rattle.mb_edit.proofs.PatchedLemmas.{find-join, get-over}
 use Rattle.mb_edit.specs.Patched.{patched, patched_at}
 use Rattle.mb_insert.proofs.ChosenLemmas.{by_first, missing_of}
-use Rattle.mb_insert.specs.Batch.{entry_of, is_missing, place_in}
-use Rattle.mb_insert.specs.declared.new_tile.NewTile.{NewTile}
-use Rattle.mb_lists.proofs.Places.{places_antisymmetric}
-use Rattle.mb_tables.proofs.TileLemmas.{places_total}
-use Rattle.mb_tables.specs.Tiles.{Place, TileSet, place_cmp}
 
 abbrev Held_at : Type 0
 Held_at = Option (Option (List ℕ))

@@ -1,13 +1,11 @@
 -- The tiles of a batch, and which of them are put into a set.
 use Rattle.std.specs.Prelude.{ℕ, ◌^◌, ◌&&◌, ◌||◌, Bool, not, nat_lt, List, Option, Some, filter, map, reverse}
-use Rattle.std.specs.FinMap.{contains_key, from_entries}
+use Rattle.mb_insert.specs.Common.{contains_key, from_entries, Place, place_at, place_cmp, TileSet}
 use Rattle.std.specs.List.{list_any}
 use Rattle.mb_insert.specs.declared.mode.CopyDuplicateMode.{CopyDuplicateMode}
 use Rattle.mb_insert.specs.declared.mode.CopyDuplicateMode.TheVariants.{Override}
 use Rattle.mb_insert.specs.declared.new_tile.NewTile.{NewTile}
-use Rattle.mb_lists.specs.Entries.{place_at}
 use Rattle.mb_lists.specs.Keyed.{are_distinct}
-use Rattle.mb_tables.specs.Tiles.{Place, TileSet, place_cmp}
 
 -- whether the numbers of a tile are a coordinate of zoom 0 to 30
 abbrev pub is_coord : NewTile → Bool

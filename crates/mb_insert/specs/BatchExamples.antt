@@ -2,15 +2,11 @@
 use Rattle.std.specs.Prelude.{◌≡◌, ℕ, codes, pos, refl, true, List, [], ◌∷◌, Option, Some, None}
 use Rattle.std.proofs.lemmas.Cmp.{on_total, then_total}
 use Rattle.std.specs.Cmp.{IsTotalOrder, nat_cmp_total}
-use Rattle.std.specs.FinMap.{empty, from_entries, get, get-empty, get-from_entries}
+use Rattle.mb_insert.specs.Common.{empty, first_refused, from_entries, get, get-empty, get-from_entries, Int, InvalidTileIndex, Place, place_cmp, TileSet}
 use Rattle.mb_insert.specs.Batch.{has_duplicates, place_in, put_of}
 use Rattle.mb_insert.specs.Insertion.{bad_coord}
 use Rattle.mb_insert.specs.declared.mode.CopyDuplicateMode.TheVariants.{Override, Ignore}
 use Rattle.mb_insert.specs.declared.new_tile.NewTile.{NewTile}
-use Rattle.mb_tables.specs.Refusals.{first_refused}
-use Rattle.mb_tables.specs.Tiles.{Place, TileSet, place_cmp}
-use Rattle.mb_tables.specs.declared.cell.Cell.TheVariants.{Int}
-use Rattle.mb_tables.specs.declared.error.MbtError.TheVariants.{InvalidTileIndex}
 
 -- tiles by zoom, column and row from the top
 abbrev tile : ℕ → ℕ → ℕ → List ℕ → NewTile

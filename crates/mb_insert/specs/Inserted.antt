@@ -1,6 +1,6 @@
 -- What tables hold after a batch of tiles was inserted.
 use Rattle.std.specs.Prelude.{◌≡◌, List, None, Ok}
-use Rattle.mb_edit.specs.Put.{tiles_put}
+use Rattle.mb_insert.specs.Common.{State, Tables, tiles_put}
 use Rattle.mb_edit.specs.PutTables.{ArePut}
 use Rattle.mb_insert.specs.Batch.{put_of}
 use Rattle.mb_insert.specs.Insertion.{inserted, may_insert}
@@ -8,9 +8,7 @@ use Rattle.mb_insert.specs.declared.mode.CopyDuplicateMode.{CopyDuplicateMode}
 use Rattle.mb_insert.specs.declared.new_tile.NewTile.{NewTile}
 use Rattle.mb_load.specs.Committing.{MakesChanges}
 use Rattle.mb_loaded.specs.Held.{fresh}
-use Rattle.mb_loaded.specs.State.{State}
 use Rattle.mb_load.specs.StateOf.{state_of}
-use Rattle.mb_tables.specs.Table.{Tables}
 
 -- no test refused the batch, the tables load again with it, of their rows those alone changed that it puts, and one commit made of the tables exactly what the set
 -- with it asks for

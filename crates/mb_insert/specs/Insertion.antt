@@ -2,18 +2,13 @@
 use Rattle.std.specs.Prelude.{pos, not, List, [], ◌∷◌, Option, None, Result}
 use Rattle.mb_constraints.specs.DiffHashes.{refused_by}
 use Rattle.mb_edit.specs.PatchingOrder.{bytes_put, id_collides}
-use Rattle.mb_edit.specs.Put.{state_put}
+use Rattle.mb_insert.specs.Common.{DuplicateValues, first_refusal, first_refused, Int, InvalidTileIndex, State, state_put, TileSet, unless, UnsupportedCopyOperation}
 use Rattle.mb_insert.specs.Batch.{has_duplicates, is_coord, put_of}
 use Rattle.mb_insert.specs.declared.mode.CopyDuplicateMode.{CopyDuplicateMode}
 use Rattle.mb_insert.specs.declared.mode.CopyDuplicateMode.TheVariants.{Abort}
 use Rattle.mb_insert.specs.declared.new_tile.NewTile.{NewTile}
 use Rattle.mb_loaded.specs.Editable.{is_editable}
-use Rattle.mb_loaded.specs.State.{State}
-use Rattle.mb_tables.specs.Refusals.{first_refusal, first_refused, unless}
-use Rattle.mb_tables.specs.Tiles.{TileSet}
-use Rattle.mb_tables.specs.declared.cell.Cell.TheVariants.{Int}
 use Rattle.mb_tables.specs.declared.error.MbtError.{MbtError}
-use Rattle.mb_tables.specs.declared.error.MbtError.TheVariants.{DuplicateValues, InvalidTileIndex, UnsupportedCopyOperation}
 
 -- a tile whose numbers are no coordinate of a set: these numbers, the row as it is given
 abbrev pub bad_coord : NewTile → Option MbtError

@@ -1,8 +1,7 @@
 // The tiles of a batch that are put into a set.
 ghost use Rattle.std.specs.Prelude.{◌≡◌, All, IfOk, OnOk, Some, cond, filter, map, reverse, true};
-ghost use Rattle.std.specs.FinMap.{empty, from_entries, insert};
+ghost use Rattle.mb_insert.specs.Common.{empty, from_entries, insert, place_at};
 ghost use Rattle.mb_insert.specs.Batch.{entry_of, is_coord, is_missing, place_in, put_of};
-ghost use Rattle.mb_lists.specs.Entries.{place_at};
 
 use crate::{CopyDuplicateMode, NewTile};
 use base_values::OutOfMemory;

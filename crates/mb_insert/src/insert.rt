@@ -1,14 +1,12 @@
 // Inserting a batch of tiles.
 ghost use Rattle.mb_store.specs.Kept.{FaultsCounted, Keeps};
 ghost use Rattle.std.specs.Prelude.{◌≡◌, ◌≢◌, None, Some, false, true, IfErr, IfOk, OnErr, OnOk};
-ghost use Rattle.mb_edit.specs.Put.{tiles_put};
+ghost use Rattle.mb_insert.specs.Common.{is_free, Tables, tiles_put};
 ghost use Rattle.mb_insert.specs.Batch.{put_of};
 ghost use Rattle.mb_insert.specs.Inserted.{IsInserted};
 ghost use Rattle.mb_insert.specs.Insertion.{insertion, may_insert};
 ghost use Rattle.mb_load.specs.Begun.{IsBegun};
 ghost use Rattle.mb_load.specs.LoadedFrom.{IsLoadedFrom};
-ghost use Rattle.mb_tables.specs.Refusals.{is_free};
-ghost use Rattle.mb_tables.specs.Table.{Tables};
 
 use crate::batch::chosen_tiles;
 use crate::tests_of_batch::{test_coords, test_duplicates};

@@ -1,10 +1,9 @@
 //! Laws of batches.
 ghost use Rattle.std.specs.Prelude.{◌≡◌, ◌++◌, List, map, reverse};
-ghost use Rattle.std.specs.FinMap.{entries, from_entries};
+ghost use Rattle.mb_insert.specs.Common.{entries, from_entries, TileSet};
 ghost use Rattle.mb_edit.specs.Patched.{patched};
 ghost use Rattle.mb_insert.specs.Batch.{entry_of, put_of};
 ghost use Rattle.mb_insert.specs.declared.new_tile.NewTile.{NewTile};
-ghost use Rattle.mb_tables.specs.Tiles.{TileSet};
 
 use crate::CopyDuplicateMode;
 

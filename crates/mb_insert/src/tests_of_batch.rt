@@ -2,8 +2,7 @@
 ghost use Rattle.std.specs.Prelude.{◌≡◌, not};
 ghost use Rattle.mb_insert.specs.Batch.{has_duplicates, is_coord, put_of};
 ghost use Rattle.mb_insert.specs.Insertion.{bad_coord, duplicates};
-ghost use Rattle.mb_tables.specs.Refusals.{Tests, first_refused, unless};
-ghost use Rattle.mb_tables.specs.Tiles.{TileSet};
+ghost use Rattle.mb_insert.specs.Common.{first_refused, Tests, TileSet, unless};
 
 use crate::{CopyDuplicateMode, NewTile};
 use mb_loaded::Loaded;

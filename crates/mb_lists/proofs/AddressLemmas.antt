@@ -1,18 +1,12 @@
 -- Places, their coordinates and their ids.
-use Rattle.std.proofs.Common.{◌≡◌, ℕ, ◌-◌, ◌<◌, ◌≤◌, ◌^◌, Bool, true, false, refl, sym, ◌∙◌, ap, arith}
-use Rattle.std.specs.Ordering.{nat_cmp, is_eq, eq_by_cmp}
-use Rattle.std.specs.Cmp.{nat_cmp_total, tied_itself}
-use Rattle.std.specs.FinMap.{nat_cmp-IsAntisymmetric}
-use Rattle.tile_ids.specs.Coord.{Coord, IsCoord}
+use Rattle.mb_lists.proofs.Common.{ap, arith, Bool, Coord, eq_by_cmp, false, is_eq, IsCoord, nat_cmp, nat_cmp-IsAntisymmetric, nat_cmp_total, Place, place_at, place_cmp, places_total, refl, sym}
+use Rattle.mb_lists.proofs.Common.{tied_itself, true, ℕ, ◌-◌, ◌<◌, ◌^◌, ◌∙◌, ◌≡◌, ◌≤◌}
 use Rattle.tile_ids.specs.Hilbert.{id_of, tile_id}
 use Rattle.tile_ids.proofs.Bijection.{id_within, one_id}
 use Rattle.tile_ids.proofs.Indexes.{inverted_twice}
 use Rattle.tile_ids.specs.declared.id.TheConstants.{MAX_TILE_ID}
 use Rattle.mb_lists.proofs.Items.{equal_of}
 use Rattle.mb_lists.proofs.Places.{from_parts, same_place}
-use Rattle.mb_lists.specs.Entries.{place_at}
-use Rattle.mb_tables.proofs.TileLemmas.{places_total}
-use Rattle.mb_tables.specs.Tiles.{Place, place_cmp}
 use Rattle.mb_lists.specs.Places.{InRange, address}
 
 -- the coordinate of a place

@@ -1,8 +1,5 @@
 -- The tests of rows in their order, in five parts.
-use Rattle.std.proofs.Common.{◌≡◌, ◌∙◌, ap, List, [], ◌∷◌, Option, Some, None, refl}
-use Rattle.std.specs.Option.{option_or}
-use Rattle.mb_tables.specs.Refusals.{first_refusal}
-use Rattle.mb_tables.specs.declared.error.MbtError.{MbtError}
+use Rattle.mb_lists.proofs.Common.{ap, first_refusal, List, MbtError, None, Option, option_or, refl, Some, [], ◌∙◌, ◌∷◌, ◌≡◌}
 
 of_three : (a b c : Option MbtError) (rest : List (Option MbtError)) → first_refusal (a ∷ b ∷ c ∷ rest) ≡ option_or (option_or a (option_or b c)) (first_refusal rest)
 of_three (Some x) b c rest = refl

@@ -1,12 +1,6 @@
 -- The indexes of contents that have an id, and what they say of the rows.
-use Rattle.std.proofs.Common.{◌≡◌, ◌∙◌, ap, subst, ℕ, List, [], ◌∷◌, ◌++◌, Some, Bool, true, false, not, cond, filter, map, length, refl, suc, zero, append_assoc, length-append, arith}
-use Rattle.std.specs.Prelude.{slice_get, unwrap_or}
-use Rattle.std.specs.Prelude.{All}
-use Rattle.std.proofs.lemmas.List.Elements.{All-head, All-tail}
-use Rattle.mb_lists.specs.Entries.{id_at, is_content_gone, is_removed, nothing}
-use Rattle.mb_lists.specs.FromRows.{ids_from}
-use Rattle.mb_lists.specs.declared.entries.Content.{Content}
-use Rattle.mb_tables.specs.Cell.{is_null}
+use Rattle.mb_lists.proofs.Common.{All, All-head, All-tail, ap, append_assoc, arith, Bool, cond, Content, false, filter, id_at, ids_from, is_content_gone, is_null, is_removed, length, length-append}
+use Rattle.mb_lists.proofs.Common.{List, map, not, nothing, refl, slice_get, Some, subst, suc, true, unwrap_or, zero, ℕ, [], ◌++◌, ◌∙◌, ◌∷◌, ◌≡◌}
 
 -- the item after a front
 pub at_middle : {X : Type 0} (pre : List X) (x : X) (xs : List X) → slice_get (pre ++ x ∷ xs) (length pre) ≡ Some x

@@ -1,25 +1,10 @@
 -- The map of contents by id.
-use Rattle.std.proofs.Common.{◌≡◌, ◌∙◌, ap, sym, subst, ℕ, List, [], ◌∷◌, ◌++◌, Option, Some, None, Bool, true, false, cond, length, refl, suc, append_assoc}
-use Rattle.std.specs.Prelude.{All, filter_map, option_and_then, unwrap_or}
-use Rattle.std.specs.Option.{option_map}
-use Rattle.std.specs.List.{cons_option}
-use Rattle.std.specs.FinMap.{from_entries}
-use Rattle.std.proofs.lemmas.Bool.{false≢true}
-use Rattle.std.proofs.lemmas.List.Elements.{All-head, All-tail}
-use Rattle.std.proofs.lemmas.List.Sorted.{IsPermutation-sym}
-use Rattle.mb_lists.specs.Contents.{content_entry, contents_by_id}
-use Rattle.mb_lists.specs.Entries.{content_value, contents_held, id_at, is_removed, nothing, unless_removed}
-use Rattle.mb_lists.specs.FromRows.{AreIndexed, ids_from, rows_kept}
-use Rattle.mb_lists.specs.Keyed.{entries_by}
-use Rattle.mb_lists.specs.declared.entries.Content.{Content}
-use Rattle.mb_lists.specs.declared.entries.Standing.{Standing}
-use Rattle.mb_lists.specs.declared.entries.Standing.TheVariants.{Kept, Put, Removed}
+use Rattle.mb_lists.proofs.Common.{All, All-head, All-tail, ap, append_assoc, AreIndexed, Bool, Cell, cell_cmp, cell_cmp-IsAntisymmetric, cells_total, cond, cons_option, Content, content_entry}
+use Rattle.mb_lists.proofs.Common.{content_value, contents_by_id, contents_held, entries_by, false, false≢true, filter_map, from_entries, id_at, ids_from, is_null, is_removed, IsPermutation-sym, Kept}
+use Rattle.mb_lists.proofs.Common.{length, List, None, nothing, Option, option_and_then, option_map, Put, refl, Removed, rows_kept, Some, Standing, subst, suc, sym, true, unless_removed, unwrap_or, ℕ}
+use Rattle.mb_lists.proofs.Common.{[], ◌++◌, ◌∙◌, ◌∷◌, ◌≡◌}
 use Rattle.mb_lists.proofs.ContentLemmas.{at_middle, longer}
 use Rattle.mb_lists.proofs.Sorting.{apart_permuted, map_permuted}
-use Rattle.mb_tables.proofs.CellLemmas.{cell_cmp-IsAntisymmetric}
-use Rattle.mb_tables.specs.Cell.{cell_cmp, is_null}
-use Rattle.mb_tables.specs.CellOrder.{cells_total}
-use Rattle.mb_tables.specs.declared.cell.Cell.{Cell}
 
 there : (s : Standing) (x : Option Cell) → is_removed s ≡ false → unless_removed s x ≡ x
 there Kept x h = refl

@@ -1,17 +1,10 @@
 -- A tile that got other times is the latest of its place.
-use Rattle.std.proofs.Common.{◌≡◌, sym, subst, ℕ, Option, Some, None, List, set, get_or, refl}
-use Rattle.std.specs.Prelude.{slice_index_or}
-use Rattle.mb_lists.specs.Dating.{Redates, redated}
-use Rattle.mb_lists.specs.Entries.{AreInOrder, is_gone, place_of}
-use Rattle.mb_lists.specs.Keyed.{IsAt, IsGap, live_at}
+use Rattle.mb_lists.proofs.Common.{AreInOrder, get_or, is_gone, IsAt, IsGap, Kept, List, live_at, None, Option, Place, place_cmp, place_of, places_total, redated, Redates, refl, set, slice_index_or}
+use Rattle.mb_lists.proofs.Common.{Some, StoredTile, subst, sym, ℕ, ◌≡◌}
 use Rattle.mb_lists.specs.declared.dates.Dates.{Dates}
-use Rattle.mb_lists.specs.declared.entries.Standing.TheVariants.{Kept}
-use Rattle.mb_lists.specs.declared.entries.StoredTile.{StoredTile}
 use Rattle.mb_lists.proofs.Ordered.{at_live, gap_live}
 use Rattle.mb_lists.proofs.Places.{places_antisymmetric}
 use Rattle.mb_lists.proofs.StandsLemmas.{over}
-use Rattle.mb_tables.proofs.TileLemmas.{places_total}
-use Rattle.mb_tables.specs.Tiles.{Place, place_cmp}
 
 module _ (live : ℕ) (tiles : List StoredTile) where
   pub redated_at : (tiles' : List StoredTile) (i : ℕ) (q : Place) (d : Dates) → IsAt place_cmp place_of live tiles q i → AreInOrder live tiles → ((t : StoredTile) → tiles' ≡ set tiles i (redated d (slice_index_or tiles i t))) → AreInOrder live tiles' × Redates d (live_at place_cmp place_of is_gone q tiles) tiles tiles'

@@ -1,26 +1,11 @@
 -- Contents that no tile has: how they become marks.
-use Rattle.std.proofs.Common.{◌≡◌, ◌∙◌, ap, sym, subst, ℕ, ◌<◌, ◌≤◌, ◌+◌, List, [], ◌∷◌, Some, Bool, true, false, cond, not, refl, suc, zero, length, get_or, take, drop, inl, inr, arith}
-use Rattle.std.proofs.Math.Seq.{drop-cons}
-use Rattle.std.specs.Prelude.{slice_get}
-use Rattle.std.specs.List.{list_any}
-use Rattle.std.specs.List.Sorted.{IsBinarySearchResult, IsPartitionPoint, IsSearchInRange, IsSortedBy}
-use Rattle.std.specs.declared.cmp.Ordering.{Ordering}
+use Rattle.mb_lists.proofs.Common.{ap, arith, behind, Bool, cases_lt, cell_cmp, cell_eq, cond, Content, content_at, drop, drop-cons, eq_by_cmp, false, false≢true, get_or, id_at, inl, inr, is_eq}
+use Rattle.mb_lists.proofs.Common.{is_gone, is_lt, is_ok, is_unnamed, IsBinarySearchResult, IsPartitionPoint, IsSearchInRange, IsSortedBy, IsTotalOrder, length, List, list_any, marked, marked_unnamed}
+use Rattle.mb_lists.proofs.Common.{not, Ordering, refl, Removed, searchable_from_sorted, slice_get, Some, StoredTile, subst, suc, sym, take, true, zero, ℕ, [], ◌+◌, ◌<◌, ◌∙◌, ◌∷◌, ◌≡◌, ◌≤◌}
 use Rattle.std.specs.declared.result.Result.{Result}
 use Rattle.std.specs.declared.result.Result.TheVariants.{Ok, Err}
-use Rattle.std.specs.Ordering.{eq_by_cmp, is_eq, is_lt}
-use Rattle.std.specs.Cmp.{IsTotalOrder}
-use Rattle.std.specs.Prelude.{is_ok}
-use Rattle.std.proofs.lemmas.Bool.{cases_lt, false≢true}
 use Rattle.std.proofs.lemmas.List.Folds.{list_any_at, list_any_none}
-use Rattle.std.proofs.lemmas.List.Sorted.{searchable_from_sorted}
-use Rattle.mb_lists.specs.Dropping.{is_unnamed, marked, marked_unnamed}
-use Rattle.mb_lists.specs.Entries.{content_at, id_at, is_gone}
-use Rattle.mb_lists.specs.Keyed.{behind}
-use Rattle.mb_lists.specs.declared.entries.Content.{Content}
-use Rattle.mb_lists.specs.declared.entries.Standing.TheVariants.{Removed}
-use Rattle.mb_lists.specs.declared.entries.StoredTile.{StoredTile}
 use Rattle.mb_lists.proofs.Settling.{live_sorted}
-use Rattle.mb_tables.specs.Cell.{cell_cmp, cell_eq}
 
 -- a search tells whether an item has the key
 module _ {K X : Type 0} {R : K → K → Ordering} (total : IsTotalOrder R) (key : X → K) where

@@ -1,6 +1,5 @@
 -- Finding in lists.
-use Rattle.std.proofs.Common.{◌≡◌, ◌∙◌, ap, sym, ℕ, ◌<◌, Some, None, List, [], ◌∷◌, Bool, true, false, cond, find, refl, suc, zero, get_or, length, arith}
-use Rattle.std.specs.Prelude.{slice_get}
+use Rattle.mb_lists.proofs.Common.{ap, arith, Bool, cond, false, find, get_or, length, List, None, refl, slice_get, Some, suc, sym, true, zero, ℕ, [], ◌<◌, ◌∙◌, ◌∷◌, ◌≡◌}
 
 pub find_none : {X : Type 0} (p : X → Bool) (xs : List X) → ((k : ℕ) (x : X) → slice_get xs k ≡ Some x → p x ≡ false) → find p xs ≡ None
 find_none p [] h = refl

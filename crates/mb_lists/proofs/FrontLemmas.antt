@@ -1,29 +1,13 @@
 -- Rows of one key cell: what stands under a key, and what the entries of the rows have.
-use Rattle.std.proofs.Common.{◌≡◌, ◌∙◌, ap, sym, subst, ℕ, ◌≤◌, Option, Some, None, List, [], ◌∷◌, Bool, true, false, ◌||◌, cond, not, filter, filter_map, find, refl, suc, length, take, arith}
-use Rattle.std.specs.Prelude.{All, option_map, option_to_list, unwrap_or}
-use Rattle.std.specs.List.{cons_option, list_any}
-use Rattle.std.specs.Ordering.{eq_by_cmp, is_eq, nat_cmp}
-use Rattle.std.specs.Cmp.{tied_itself}
-use Rattle.std.specs.Cmp.Lexicographic.{slice_cmp}
+use Rattle.mb_lists.proofs.Common.{All, All-cons, All-head, All-tail, and_from, and_parts, ap, are_apart, are_distinct, arith, Blob, Bool, Cell, cell_at, cell_cmp, cell_cmp-IsAntisymmetric, cell_eq}
+use Rattle.mb_lists.proofs.Common.{cell_eq-Decides, cells_eq, cells_eq-Decides, cells_total, cond, cons_option, content_entry, content_of, eq_by_cmp, eq_by_cmp_equiv, false, false≢true, filter}
+use Rattle.mb_lists.proofs.Common.{filter_map, filter_none, find, fronts, has_name_kinds, Int, is_eq, is_null, is_text, length, List, list_any, name_entry, nat_cmp, None, not, Null, Option}
+use Rattle.mb_lists.proofs.Common.{option_map, option_to_list, Other, refl, slice_cmp, Some, subst, suc, sym, take, Text, text_cell, text_of, tied_itself, true, unwrap_or, ℕ, [], ◌||◌, ◌∙◌, ◌∷◌, ◌≡◌}
+use Rattle.mb_lists.proofs.Common.{◌≤◌}
 use Rattle.std.specs.FinMap as fin
-use Rattle.std.proofs.lemmas.Bool.{false≢true, and_from, and_parts}
-use Rattle.std.proofs.lemmas.Cmp.{eq_by_cmp_equiv}
-use Rattle.std.proofs.lemmas.List.Elements.{All-cons, All-head, All-tail}
-use Rattle.mb_lists.specs.Contents.{are_apart, content_entry, fronts}
-use Rattle.mb_lists.specs.Entries.{text_cell}
-use Rattle.mb_lists.specs.Keyed.{are_distinct}
-use Rattle.mb_tables.specs.CellKinds.{has_name_kinds, is_text}
-use Rattle.mb_lists.specs.Metadata.{name_entry, text_of}
 use Rattle.mb_lists.proofs.Items.{equal_of}
-use Rattle.mb_tables.proofs.ListLemmas.{filter_none}
-use Rattle.mb_tables.proofs.CellLemmas.{cell_cmp-IsAntisymmetric, cell_eq-Decides, cells_eq-Decides}
-use Rattle.mb_tables.specs.Cell.{cell_cmp, cell_eq, cells_eq, is_null}
-use Rattle.mb_tables.specs.CellOrder.{cells_total}
 use Rattle.mb_tables.specs.Key.{has_key, key_cells}
 use Rattle.mb_tables.specs.Table.{key_width}
-use Rattle.mb_tables.specs.Tiles.{cell_at, content_of}
-use Rattle.mb_tables.specs.declared.cell.Cell.{Cell}
-use Rattle.mb_tables.specs.declared.cell.Cell.TheVariants.{Null, Int, Text, Blob, Other}
 use Rattle.mb_tables.specs.declared.key.RowKey.{RowKey}
 use Rattle.mb_tables.specs.declared.key.RowKey.TheVariants.{Tile, TextId, IntId}
 use Rattle.mb_tables.specs.declared.table.TableName.{TableName}

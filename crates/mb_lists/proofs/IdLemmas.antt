@@ -1,25 +1,11 @@
 -- What the order of ids finds is what the rows of contents have.
-use Rattle.std.proofs.Common.{◌≡◌, ◌∙◌, ap, sym, subst, ℕ, List, [], ◌∷◌, ◌++◌, Option, Some, None, Bool, true, false, cond, find, ◌||◌, length, refl, suc, append_assoc}
-use Rattle.std.specs.Prelude.{is_some, option_and_then, slice_get, unwrap_or}
-use Rattle.std.specs.Option.{option_map}
-use Rattle.std.specs.List.{list_any}
-use Rattle.std.proofs.lemmas.Bool.{false≢true}
-use Rattle.std.proofs.lemmas.Cmp.{eq_by_cmp_equiv}
-use Rattle.std.proofs.lemmas.List.Sorted.{IsPermutation-sym}
-use Rattle.std.proofs.lemmas.Option.{none-some}
+use Rattle.mb_lists.proofs.Common.{ap, append_assoc, AreIndexed, at_key, Blob, Bool, Cell, cell_at, cell_cmp, cell_cmp-IsAntisymmetric, cell_eq, cells_total, cond, Content, content_at, content_of}
+use Rattle.mb_lists.proofs.Common.{eq_by_cmp_equiv, false, false≢true, find, id_at, ids_from, index_by, Int, is_content_gone, is_null, is_some, IsPermutation-sym, length, List, list_any, None}
+use Rattle.mb_lists.proofs.Common.{none-some, nothing, Null, Option, option_and_then, option_map, Other, refl, row_kept, rows_kept, slice_get, Some, subst, suc, sym, Text, true, unwrap_or, ℕ, []}
+use Rattle.mb_lists.proofs.Common.{◌++◌, ◌||◌, ◌∙◌, ◌∷◌, ◌≡◌}
 use Rattle.mb_lists.proofs.Finding.{found_in}
-use Rattle.mb_lists.specs.Entries.{content_at, id_at, is_content_gone, nothing}
-use Rattle.mb_lists.specs.FromRows.{AreIndexed, ids_from, index_by, row_kept, rows_kept}
-use Rattle.mb_lists.specs.Keyed.{at_key}
-use Rattle.mb_lists.specs.declared.entries.Content.{Content}
 use Rattle.mb_lists.proofs.ContentLemmas.{alive, at_middle, longer}
 use Rattle.mb_lists.proofs.Sorting.{apart_permuted, found_permuted}
-use Rattle.mb_tables.proofs.CellLemmas.{cell_cmp-IsAntisymmetric}
-use Rattle.mb_tables.specs.Cell.{cell_cmp, cell_eq, is_null}
-use Rattle.mb_tables.specs.CellOrder.{cells_total}
-use Rattle.mb_tables.specs.Tiles.{cell_at, content_of}
-use Rattle.mb_tables.specs.declared.cell.Cell.{Cell}
-use Rattle.mb_tables.specs.declared.cell.Cell.TheVariants.{Null, Int, Text, Blob, Other}
 
 -- an id is not a null
 not_null : (q c : Cell) → is_null q ≡ false → is_null c ≡ true → cell_eq q c ≡ false

@@ -1,16 +1,8 @@
 -- Items by their keys: what is found, and the maps of their values.
-use Rattle.std.proofs.Common.{◌≡◌, ◌∙◌, ap, sym, ℕ, ◌<◌, Option, Some, None, List, [], ◌∷◌, Bool, true, false, cond, find, refl, suc, get_or, length, arith}
-use Rattle.std.specs.Prelude.{option_and_then, slice_get}
-use Rattle.std.specs.declared.cmp.Ordering.{Ordering}
-use Rattle.std.specs.declared.cmp.Ordering.TheVariants.{Less, Equal, Greater}
-use Rattle.std.specs.Ordering.{eq_by_cmp, is_eq}
-use Rattle.std.specs.Cmp.{IsTotalOrder, tied_itself}
+use Rattle.mb_lists.proofs.Common.{ap, Apart, arith, at_key, Bool, cond, entries_by, eq_by_cmp, eq_by_cmp_equiv, Equal, false, false≢true, find, from_entries, get, get-from_entries, get_or}
+use Rattle.mb_lists.proofs.Common.{get_or_from_slice_get, Greater, is_eq, IsTotalOrder, length, Less, List, None, Option, option_and_then, Ordering, refl, slice_get, slice_get_within, Some, suc, sym}
+use Rattle.mb_lists.proofs.Common.{tied_itself, true, ℕ, [], ◌<◌, ◌∙◌, ◌∷◌, ◌≡◌}
 use Rattle.std.specs.FinMap as fin
-use Rattle.std.specs.FinMap.{get, from_entries, get-from_entries}
-use Rattle.std.proofs.lemmas.Bool.{false≢true}
-use Rattle.std.proofs.lemmas.Cmp.{eq_by_cmp_equiv}
-use Rattle.std.proofs.lemmas.Option.{slice_get_within, get_or_from_slice_get}
-use Rattle.mb_lists.specs.Keyed.{at_key, entries_by, Apart}
 use Rattle.mb_lists.proofs.Finding.{find_none, find_first}
 
 pub equal_of : (o : Ordering) → is_eq o ≡ true → o ≡ Equal

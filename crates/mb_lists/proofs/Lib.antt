@@ -1,3 +1,4 @@
+mod Common
 pub mod Finding
 pub mod Items
 pub mod Ordered

@@ -1,9 +1,7 @@
 -- Finding and counting in lists after an item was put in, taken out or written over.
-use Rattle.std.proofs.Common.{◌≡◌, ◌∙◌, ap, sym, subst, ℕ, ◌<◌, ◌≤◌, ◌+◌, ◌-◌, Some, None, List, [], ◌∷◌, ◌++◌, Bool, true, false, cond, find, drop, take, refl, suc, zero, get_or, set, length, arith, ◌⊎◌, inl, inr}
-use Rattle.std.specs.List.{insert, remove}
-use Rattle.std.proofs.lemmas.Bool.{cases_eq, cases_lt}
-use Rattle.std.proofs.lemmas.List.{length-drop}
-use Rattle.std.proofs.lemmas.List.Edits.{get_or-insert_below, get_or-insert_at, get_or-insert_above, get_or-remove_below, get_or-remove_above}
+use Rattle.mb_lists.proofs.Common.{ap, arith, Bool, cases_eq, cases_lt, cond, drop, false, find, get_or, get_or-insert_above, get_or-insert_at, get_or-insert_below, get_or-remove_above}
+use Rattle.mb_lists.proofs.Common.{get_or-remove_below, inl, inr, insert, length, length-drop, List, None, refl, remove, set, Some, subst, suc, sym, take, true, zero, ℕ, [], ◌++◌, ◌+◌, ◌-◌, ◌<◌, ◌∙◌}
+use Rattle.mb_lists.proofs.Common.{◌∷◌, ◌≡◌, ◌≤◌, ◌⊎◌}
 
 pub find_push_other : {X : Type 0} (p : X → Bool) (xs : List X) (y : X) → p y ≡ false → find p (xs ++ y ∷ []) ≡ find p xs
 find_push_other p [] y h = rw h refl

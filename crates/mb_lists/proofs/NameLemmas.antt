@@ -1,26 +1,8 @@
 -- Rows of metadata, and the names that are kept of them.
-use Rattle.std.proofs.Common.{◌≡◌, ◌∙◌, ap, ℕ, List, [], ◌∷◌, Option, Some, None, Bool, true, false, not, ◌&&◌, filter, map, refl, arith}
-use Rattle.std.specs.Prelude.{All, filter_map}
-use Rattle.std.specs.Cmp.Lexicographic.{slice_cmp}
-use Rattle.std.specs.List.{list_all, list_any}
-use Rattle.std.specs.Ordering.{eq_by_cmp, nat_cmp}
-use Rattle.std.specs.FinMap.{IsAntisymmetric, nat_cmp-IsAntisymmetric, slice_cmp-IsAntisymmetric}
-use Rattle.std.proofs.lemmas.Bool.{false≢true}
-use Rattle.std.proofs.lemmas.List.Elements.{All-cons}
-use Rattle.mb_lists.specs.Contents.{fronts}
-use Rattle.mb_lists.specs.Entries.{IsName, is_name_gone, name_of, name_value}
-use Rattle.mb_lists.specs.FromRows.{name_from}
-use Rattle.mb_lists.specs.declared.entries.Standing.TheVariants.{Kept}
-use Rattle.mb_lists.specs.Keyed.{are_distinct, entries_by}
-use Rattle.std.specs.Option.{option_or}
-use Rattle.mb_tables.specs.Refusals.{unless}
-use Rattle.mb_tables.specs.declared.error.MbtError.TheVariants.{InvalidDataFormat}
-use Rattle.mb_tables.specs.CellKinds.{has_name_kinds, is_text, name_kind_wrong}
-use Rattle.mb_lists.specs.Metadata.{name_entry, name_twice, text_of}
-use Rattle.mb_tables.specs.Cell.{cell_cmp, is_null}
-use Rattle.mb_tables.specs.Tiles.{cell_at}
-use Rattle.mb_tables.specs.declared.cell.Cell.{Cell}
-use Rattle.mb_tables.specs.declared.cell.Cell.TheVariants.{Null, Int, Text, Blob, Other}
+use Rattle.mb_lists.proofs.Common.{All, All-cons, ap, are_distinct, arith, Blob, Bool, Cell, cell_at, cell_cmp, entries_by, eq_by_cmp, false, false≢true, filter, filter_map, fronts, has_name_kinds}
+use Rattle.mb_lists.proofs.Common.{Int, InvalidDataFormat, is_name_gone, is_null, is_text, IsAntisymmetric, IsName, Kept, List, list_all, list_any, map, name_entry, name_from, name_kind_wrong}
+use Rattle.mb_lists.proofs.Common.{name_of, name_twice, name_value, nat_cmp, nat_cmp-IsAntisymmetric, None, not, Null, Option, option_or, Other, refl, slice_cmp, slice_cmp-IsAntisymmetric, Some, Text}
+use Rattle.mb_lists.proofs.Common.{text_of, true, unless, ℕ, [], ◌&&◌, ◌∙◌, ◌∷◌, ◌≡◌}
 
 -- the entries of the names are those of the rows
 pub named_entries : (rows : List (List Cell)) → entries_by name_of name_value (filter_map name_from rows) ≡ filter_map name_entry rows

@@ -1,25 +1,12 @@
 -- The latest item of each key: what is found, and how a stable sort brings it to the front of its key.
-use Rattle.std.proofs.Common.{◌≡◌, ◌∙◌, ap, sym, subst, ◌++◌, Option, Some, None, List, [], ◌∷◌, Bool, true, false, ◌&&◌, not, cond, filter, find, reverse, refl, arith}
-use Rattle.std.specs.Prelude.{All, Contains}
-use Rattle.std.specs.declared.cmp.Ordering.{Ordering}
-use Rattle.std.specs.declared.cmp.Ordering.TheVariants.{Less, Equal, Greater}
-use Rattle.std.specs.List.{dedup, dedup_from}
-use Rattle.std.specs.List.Sorted.{IsPermutation, IsSortedBy, IsStableBy, IsStrictlySortedBy, ties}
-use Rattle.std.specs.Ordering.{eq_by_cmp, is_eq, is_lt, ordering_reverse}
-use Rattle.std.specs.Cmp.{IsTotalOrder}
-use Rattle.std.specs.FinMap.{IsAntisymmetric}
-use Rattle.std.proofs.lemmas.Bool.{false≢true}
-use Rattle.std.proofs.lemmas.Cmp.{eq_by_cmp_equiv, on_total}
-use Rattle.std.proofs.lemmas.List.{reverse-append}
-use Rattle.std.proofs.lemmas.List.Elements.{All-cons, All-from_recursion, Contains-get_or, filter_agree, filter_passes}
-use Rattle.std.proofs.lemmas.Option.{get_or_from_slice_get, slice_get_within}
+use Rattle.mb_lists.proofs.Common.{All, All-cons, All-from_recursion, All-permutation, AllPairs-cons, AllPairs-filter, ap, Apart, arith, at_key, Bool, cond, Contains, Contains-get_or, dedup}
+use Rattle.mb_lists.proofs.Common.{dedup_from, eq_by_cmp, eq_by_cmp_equiv, Equal, false, false≢true, filter, filter_agree, filter_passes, filter_within, find, find_same, firsts, get_or_from_slice_get}
+use Rattle.mb_lists.proofs.Common.{Greater, is_eq, is_lt, IsAntisymmetric, IsPermutation, IsPermutation-reverse, IsSortedBy, IsStableBy, IsStrictlySortedBy, IsStrictlySortedBy-dedup, IsTotalOrder}
+use Rattle.mb_lists.proofs.Common.{Less, List, newest, None, not, on_total, Option, Ordering, ordering_reverse, refl, reverse, reverse-append, slice_get_within, Some, StandsAs, subst, sym, ties, true}
+use Rattle.mb_lists.proofs.Common.{[], ◌&&◌, ◌++◌, ◌∙◌, ◌∷◌, ◌≡◌}
 use Rattle.std.proofs.lemmas.List.Filters.{All-dedup}
-use Rattle.std.proofs.lemmas.List.Kept.{AllPairs-cons, AllPairs-filter, IsStrictlySortedBy-dedup}
-use Rattle.std.proofs.lemmas.List.Sorted.{All-permutation, IsPermutation-reverse}
-use Rattle.mb_lists.specs.Keyed.{Apart, StandsAs, at_key, firsts, newest}
 use Rattle.mb_lists.proofs.Finding.{find_none, found_in}
 use Rattle.mb_lists.proofs.Sorting.{found_permuted}
-use Rattle.mb_tables.proofs.ListLemmas.{filter_within, find_same}
 
 not_true : (b : Bool) → not b ≡ true → b ≡ false
 not_true false h = refl

@@ -1,18 +1,7 @@
 -- Items in the order of their keys: what a search by halves finds.
-use Rattle.std.proofs.Common.{◌≡◌, ◌∙◌, ap, sym, ℕ, ◌<◌, ◌≤◌, ◌+◌, Option, Some, None, List, true, false, find, take, refl, get_or, length, arith, inl, inr}
-use Rattle.std.specs.List.Sorted.{IsSearchInRange, IsBinarySearchResult}
-use Rattle.std.proofs.lemmas.List.Sorted.{searchable_from_sorted}
-use Rattle.std.specs.Prelude.{Bool, IfOk, IfErr, Result, Ok, Err}
-use Rattle.std.specs.declared.cmp.Ordering.{Ordering}
-use Rattle.std.specs.declared.cmp.Ordering.TheVariants.{Less, Greater}
-use Rattle.std.specs.Ordering.{eq_by_cmp, is_eq, is_lt, ordering_reverse}
-use Rattle.std.specs.Cmp.{IsTotalOrder, tied_itself}
-use Rattle.std.specs.FinMap.{IsAntisymmetric}
-use Rattle.std.proofs.lemmas.Bool.{false≢true, cases_lt}
-use Rattle.std.proofs.lemmas.Cmp.{eq_by_cmp_equiv}
-use Rattle.std.proofs.lemmas.List.{get_or-take, length-take-le}
-use Rattle.std.proofs.lemmas.Option.{slice_get_within, get_or_from_slice_get}
-use Rattle.mb_lists.specs.Keyed.{at_key, IsInOrder, IsAt, IsGap, live_at}
+use Rattle.mb_lists.proofs.Common.{ap, arith, at_key, Bool, cases_lt, eq_by_cmp, eq_by_cmp_equiv, Err, false, false≢true, find, get_or, get_or-take, get_or_from_slice_get, Greater, IfErr, IfOk, inl}
+use Rattle.mb_lists.proofs.Common.{inr, is_eq, is_lt, IsAntisymmetric, IsAt, IsBinarySearchResult, IsGap, IsInOrder, IsSearchInRange, IsTotalOrder, length, length-take-le, Less, List, live_at, None}
+use Rattle.mb_lists.proofs.Common.{Ok, Option, Ordering, ordering_reverse, refl, Result, searchable_from_sorted, slice_get_within, Some, sym, take, tied_itself, true, ℕ, ◌+◌, ◌<◌, ◌∙◌, ◌≡◌, ◌≤◌}
 use Rattle.mb_lists.proofs.Finding.{find_first, found_in}
 
 less_apart : (o : Ordering) → o ≡ Less → is_eq o ≡ false

@@ -1,13 +1,8 @@
 -- The coordinate of a row is that of its place.
-use Rattle.std.proofs.Common.{◌≡◌, ◌∙◌, ap, sym, ℕ, ◌^◌, ◌<◌, Bool, true, false, ◌&&◌, if◌then◌else◌, List, [], ◌∷◌, Option, Some, None, nat_le, nat_lt, pos, negsuc, refl, arith}
+use Rattle.mb_lists.proofs.Common.{ap, arith, Blob, Bool, Cell, cell_at, Coord, coord_in, false, if◌then◌else◌, index_of, Int, inverted_y, List, nat_le, nat_lt, negsuc, None, Null, number_below}
+use Rattle.mb_lists.proofs.Common.{number_in, Option, option_map, Other, Place, place_at, pos, refl, Some, sym, Text, tile_index, true, ℕ, [], ◌&&◌, ◌<◌, ◌^◌, ◌∙◌, ◌∷◌, ◌≡◌}
 use Rattle.std.proofs.lemmas.Bool.Decides.{nat_tests}
-use Rattle.std.specs.Option.{option_map}
-use Rattle.mb_lists.specs.Entries.{place_at}
-use Rattle.mb_lists.specs.FromRows.{coord_in, number_in}
-use Rattle.mb_tables.specs.Tiles.{Place, cell_at, number_below, place_of}
-use Rattle.mb_tables.specs.declared.cell.Cell.{Cell}
-use Rattle.mb_tables.specs.declared.cell.Cell.TheVariants.{Null, Int, Text, Blob, Other}
-use Rattle.tile_ids.specs.Coord.{Coord, index_of, inverted_y, tile_index}
+use Rattle.mb_tables.specs.Tiles.{place_of}
 
 inverted_back : (zoom y : ℕ) → y < 2 ^ zoom → inverted_y zoom (inverted_y zoom y) ≡ y
 inverted_back zoom y h = omega arith

@@ -1,25 +1,13 @@
 -- Items in the order of their keys, after one was written over, put in, or made a mark.
-use Rattle.std.proofs.Common.{◌≡◌, ◌∙◌, ap, sym, ℕ, ◌<◌, ◌≤◌, ◌+◌, ◌-◌, Option, Some, None, List, [], ◌∷◌, ◌++◌, Bool, true, false, cond, find, drop, refl, get_or, set, length, arith, ◌⊎◌, inl, inr}
-use Rattle.std.specs.Prelude.{position}
-use Rattle.std.specs.List.{insert, remove}
-use Rattle.std.specs.declared.cmp.Ordering.{Ordering}
-use Rattle.std.specs.declared.cmp.Ordering.TheVariants.{Less, Greater}
-use Rattle.std.specs.Ordering.{eq_by_cmp, ordering_reverse}
-use Rattle.std.specs.Cmp.{IsTotalOrder}
-use Rattle.std.specs.FinMap.{IsAntisymmetric}
-use Rattle.std.proofs.lemmas.Bool.{cases_eq, cases_lt}
-use Rattle.std.proofs.lemmas.Cmp.{eq_by_cmp_equiv}
-use Rattle.std.proofs.lemmas.List.{get_or-set_same, get_or-set_other, length-set, length_push, get_or_push, get_or_append_left, get_or-drop, length-drop}
-use Rattle.std.proofs.lemmas.List.Edits.{length-insert, length-remove, get_or-remove_below}
+use Rattle.mb_lists.proofs.Common.{ap, Apart, arith, at_key, Bool, cases_eq, cases_lt, cond, drop, eq_by_cmp, eq_by_cmp_equiv, false, find, get_or, get_or-drop, get_or-remove_below, get_or-set_other}
+use Rattle.mb_lists.proofs.Common.{get_or-set_same, get_or_append_left, get_or_from_slice_get, get_or_push, Greater, inl, inr, insert, IsAntisymmetric, IsAt, IsGap, IsInOrder, IsTotalOrder, length}
+use Rattle.mb_lists.proofs.Common.{length-drop, length-insert, length-remove, length-set, length_push, Less, List, None, none_passes, Option, Ordering, ordering_reverse, position, refl, remove, set}
+use Rattle.mb_lists.proofs.Common.{slice_get_within, Some, sym, true, unmarked, ℕ, [], ◌++◌, ◌+◌, ◌-◌, ◌<◌, ◌∙◌, ◌∷◌, ◌≡◌, ◌≤◌, ◌⊎◌}
 use Rattle.std.proofs.lemmas.List.Quantifiers.{all_pairs_push, all_pairs_remove, position-Some}
-use Rattle.std.proofs.lemmas.Option.{slice_get_within, get_or_from_slice_get}
-use Rattle.mb_lists.specs.Clearing.{unmarked}
-use Rattle.mb_lists.specs.Keyed.{at_key, Apart, IsInOrder, IsAt, IsGap}
 use Rattle.mb_lists.proofs.Finding.{find_none}
 use Rattle.mb_lists.proofs.Items.{same_test, equal_of}
 use Rattle.mb_lists.proofs.ListEdits.{find_insert_other, find_insert_new, find_push_other, find_push_new, find_remove_other, find_set_other, find_set_first, removed_from, inserted_from, came_in_order, came_below, came_above, came_within, came_apart}
 use Rattle.mb_lists.proofs.Ordered.{gap_apart}
-use Rattle.mb_tables.proofs.ListLemmas.{none_passes}
 
 -- an item under its key, and under each other key what was there
 pub record Puts {K X : Type 0} (R : K → K → Ordering) (key : X → K) (x : X) (old new : List X) : Type 0 where

@@ -1,11 +1,6 @@
 -- Places that the order doesn't tell apart are equal.
-use Rattle.std.proofs.Common.{◌≡◌, true, refl}
-use Rattle.std.specs.declared.cmp.Ordering.{Ordering}
-use Rattle.std.specs.declared.cmp.Ordering.TheVariants.{Less, Equal, Greater}
-use Rattle.std.specs.Ordering.{eq_by_cmp, nat_cmp, ordering_then}
-use Rattle.std.specs.FinMap.{IsAntisymmetric, nat_cmp-IsAntisymmetric}
+use Rattle.mb_lists.proofs.Common.{eq_by_cmp, Equal, Greater, IsAntisymmetric, Less, nat_cmp, nat_cmp-IsAntisymmetric, Ordering, ordering_then, Place, place_cmp, refl, true, ◌≡◌}
 use Rattle.mb_lists.proofs.Items.{equal_of}
-use Rattle.mb_tables.specs.Tiles.{Place, place_cmp}
 
 then_equal : (a b : Ordering) → ordering_then a b ≡ Equal → (a ≡ Equal) × (b ≡ Equal)
 then_equal Less b h = cc

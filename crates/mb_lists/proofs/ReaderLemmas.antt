@@ -1,34 +1,14 @@
 -- What the readers of a loaded set find.
-use Rattle.std.proofs.Common.{◌≡◌, ◌∙◌, ap, sym, subst, ℕ, ◌<◌, Option, Some, None, List, Bool, true, false, cond, find, refl, length, get_or, is_some, arith, inl, inr}
-use Rattle.std.specs.Prelude.{All, IfSome, option_and_then, slice_get, unwrap_or}
-use Rattle.std.specs.Option.{option_map}
-use Rattle.std.specs.Cmp.Lexicographic.{slice_cmp, nat_list_cmp_total}
-use Rattle.std.specs.Ordering.{nat_cmp}
-use Rattle.std.specs.declared.cmp.Ordering.{Ordering}
-use Rattle.std.specs.FinMap.{entries, get, len}
-use Rattle.std.proofs.lemmas.Bool.{cases_lt, false≢true}
-use Rattle.std.proofs.lemmas.List.Elements.{All-get_or}
-use Rattle.std.proofs.lemmas.Option.{get_or_from_slice_get, none-some, slice_get-get_or, slice_get_past, slice_get_within}
-use Rattle.mb_lists.specs.Entries.{AreContentsInOrder, AreInOrder, AreNamesInOrder, IsName, IsTile, blob_cell, content_at, content_value, contents_held, id_at, is_content_gone, is_gone, is_name_gone, is_removed, name_of, name_value, names_held, nothing, place_at, place_of, text_cell, tile_dates, tile_id, tile_value, tiles_held, unless_removed}
-use Rattle.mb_lists.specs.Keyed.{at_key, live_at}
-use Rattle.mb_tables.specs.CellKinds.{is_text}
-use Rattle.mb_lists.specs.Metadata.{text_of}
-use Rattle.mb_lists.specs.declared.entries.Content.{Content}
-use Rattle.mb_lists.specs.declared.entries.Standing.{Standing}
-use Rattle.mb_lists.specs.declared.entries.Standing.TheVariants.{Kept, Put, Removed}
-use Rattle.mb_lists.specs.declared.entries.StoredName.{StoredName}
-use Rattle.mb_lists.specs.declared.entries.StoredTile.{StoredTile}
+use Rattle.mb_lists.proofs.Common.{All, All-get_or, ap, AreContentsInOrder, AreInOrder, AreNamesInOrder, arith, at_key, Blob, blob_cell, Bool, cases_lt, Cell, cell_cmp, cell_cmp-IsAntisymmetric}
+use Rattle.mb_lists.proofs.Common.{cells_total, cond, Content, content_at, content_value, contents_held, contents_of, entries, false, false≢true, find, get, get_or, get_or_from_slice_get, id_at}
+use Rattle.mb_lists.proofs.Common.{IfSome, inl, inr, Int, is_content_gone, is_gone, is_name_gone, is_null, is_removed, is_some, is_text, IsName, IsTile, Kept, len, length, List, live_at, name_of}
+use Rattle.mb_lists.proofs.Common.{name_value, names_held, nat_cmp, nat_list_cmp_total, None, none-some, nothing, Null, Option, option_and_then, option_map, Ordering, Other, Place, place_at}
+use Rattle.mb_lists.proofs.Common.{place_cmp, place_of, places_total, Put, refl, Removed, slice_cmp, slice_get, slice_get-get_or, slice_get_past, slice_get_within, Some, Standing, StoredName}
+use Rattle.mb_lists.proofs.Common.{StoredTile, subst, sym, Text, text_cell, text_of, tile_dates, tile_id, tile_value, tiles_held, true, unless_removed, unwrap_or, ℕ, ◌<◌, ◌∙◌, ◌≡◌}
 use Rattle.mb_lists.proofs.Finding.{found_in}
 use Rattle.mb_lists.proofs.NameLemmas.{names_antisymmetric}
 use Rattle.mb_lists.proofs.Places.{places_antisymmetric}
 use Rattle.mb_lists.proofs.Readers.{entry_at, found_at, live_count}
-use Rattle.mb_tables.proofs.CellLemmas.{cell_cmp-IsAntisymmetric}
-use Rattle.mb_tables.proofs.TileLemmas.{places_total}
-use Rattle.mb_tables.specs.Cell.{cell_cmp, is_null}
-use Rattle.mb_tables.specs.CellOrder.{cells_total}
-use Rattle.mb_tables.specs.Tiles.{Place, contents_of, place_cmp}
-use Rattle.mb_tables.specs.declared.cell.Cell.{Cell}
-use Rattle.mb_tables.specs.declared.cell.Cell.TheVariants.{Null, Int, Text, Blob, Other}
 
 -- what is removed has no value, and nothing else is changed
 pub removed_none : {A : Type 0} (s : Standing) (x : Option A) → is_removed s ≡ true → unless_removed s x ≡ None

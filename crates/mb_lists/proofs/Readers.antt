@@ -1,17 +1,10 @@
 -- Reading a map of values that is kept as items in the order of their keys, with marks behind.
-use Rattle.std.proofs.Common.{◌≡◌, ◌∙◌, ap, sym, subst, ℕ, ◌<◌, ◌+◌, Option, Some, None, List, [], ◌∷◌, ◌++◌, Bool, true, false, ◌&&◌, cond, find, take, drop, map, refl, suc, zero, length, get_or, arith}
-use Rattle.std.specs.Prelude.{T, All, AllPairs, is_some, option_map, option_and_then, slice_get, unwrap_or}
-use Rattle.std.specs.declared.cmp.Ordering.{Ordering}
-use Rattle.std.specs.declared.cmp.Ordering.TheVariants.{Less}
-use Rattle.std.specs.Ordering.{is_lt}
-use Rattle.std.specs.Cmp.{IsTotalOrder}
-use Rattle.std.specs.FinMap.{IsAntisymmetric, get, len, entries, from_entries, from_sorted, len-entries, same_map, get-from_entries, get-from_sorted, entries-from_sorted}
+use Rattle.mb_lists.proofs.Common.{All, All-from_get_or, All-head, All-tail, AllPairs, ap, arith, at_key, Bool, cond, drop, entries, entries-from_sorted, entries_by, false, false≢true, find}
+use Rattle.mb_lists.proofs.Common.{from_entries, from_sorted, get, get-from_entries, get-from_sorted, get_or, get_or-drop, get_or-take, get_or_from_slice_get, is_lt, is_some, IsAntisymmetric}
+use Rattle.mb_lists.proofs.Common.{IsInOrder, IsTotalOrder, len, len-entries, length, length-drop, length-take-le, Less, List, live_at, map, None, Option, option_and_then, option_map, Ordering, refl}
+use Rattle.mb_lists.proofs.Common.{same_map, slice_get, slice_get-get_or, slice_get-map, slice_get_within, Some, subst, suc, sym, T, take, true, unwrap_or, zero, ℕ, [], ◌&&◌, ◌++◌, ◌+◌, ◌<◌, ◌∙◌, ◌∷◌}
+use Rattle.mb_lists.proofs.Common.{◌≡◌}
 use Rattle.std.specs.FinMap.Entries.{is_sorted, below_all}
-use Rattle.std.proofs.lemmas.Bool.{false≢true}
-use Rattle.std.proofs.lemmas.List.{get_or-take, get_or-drop, length-take-le, length-drop}
-use Rattle.std.proofs.lemmas.List.Elements.{All-head, All-tail, All-from_get_or}
-use Rattle.std.proofs.lemmas.Option.{slice_get-map, slice_get-get_or, slice_get_within, get_or_from_slice_get}
-use Rattle.mb_lists.specs.Keyed.{at_key, entries_by, live_at, IsInOrder}
 use Rattle.mb_lists.proofs.Items.{look_up}
 
 both : (a b : Bool) → T a → T b → T (a && b)

@@ -1,9 +1,5 @@
 -- The first of a list that a test refuses.
-use Rattle.std.proofs.Common.{◌≡◌, ◌∙◌, ap, sym, ℕ, ◌+◌, ◌<◌, List, ◌∷◌, Option, Some, None, length, get_or, drop, suc, arith}
-use Rattle.std.proofs.Math.Seq.{drop-cons}
-use Rattle.std.specs.Option.{option_or}
-use Rattle.mb_tables.specs.Refusals.{first_refused}
-use Rattle.mb_tables.specs.declared.error.MbtError.{MbtError}
+use Rattle.mb_lists.proofs.Common.{ap, arith, drop, drop-cons, first_refused, get_or, length, List, MbtError, None, Option, option_or, Some, suc, sym, ℕ, ◌+◌, ◌<◌, ◌∙◌, ◌∷◌, ◌≡◌}
 
 -- what is left begins with the item at an index
 rest_at : {A : Type 0} (xs : List A) (i : ℕ) (x : A) → i < length xs → x ≡ get_or xs i x → drop i xs ≡ x ∷ drop (suc i) xs

@@ -1,14 +1,7 @@
 -- Items of different keys in their order, with the marks behind them.
-use Rattle.std.proofs.Common.{◌≡◌, ◌∙◌, ap, sym, ℕ, ◌<◌, ◌≤◌, ◌+◌, List, Bool, true, false, not, refl, length, get_or, take, arith}
-use Rattle.std.specs.List.Sorted.{IsPermutation, IsSortedBy, IsPartitionedBy, IsPartitionPoint}
-use Rattle.std.specs.declared.cmp.Ordering.{Ordering}
-use Rattle.std.specs.Ordering.{bool_cmp, is_lt, ordering_then}
-use Rattle.std.specs.Cmp.{IsTotalOrder, bool_cmp_total}
-use Rattle.std.proofs.lemmas.Bool.{false≢true}
-use Rattle.std.proofs.lemmas.Cmp.{on_total, then_total}
-use Rattle.std.proofs.lemmas.List.{get_or-take, length-take-le}
-use Rattle.std.proofs.lemmas.List.Sorted.{ranks_by, sorted_far}
-use Rattle.mb_lists.specs.Keyed.{Apart, IsInOrder, behind}
+use Rattle.mb_lists.proofs.Common.{ap, Apart, arith, behind, Bool, bool_cmp, bool_cmp_total, false, false≢true, get_or, get_or-take, is_lt, IsInOrder, IsPartitionedBy, IsPartitionPoint, IsPermutation}
+use Rattle.mb_lists.proofs.Common.{IsSortedBy, IsTotalOrder, length, length-take-le, List, not, on_total, Ordering, ordering_then, ranks_by, refl, sorted_far, sym, take, then_total, true, ℕ, ◌+◌, ◌<◌}
+use Rattle.mb_lists.proofs.Common.{◌∙◌, ◌≡◌, ◌≤◌}
 use Rattle.mb_lists.proofs.Sorting.{apart_permuted, only_less}
 
 module _ {K X : Type 0} {R : K → K → Ordering} (total : IsTotalOrder R) (key : X → K) (gone : X → Bool) where

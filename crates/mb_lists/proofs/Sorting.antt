@@ -1,21 +1,10 @@
 -- Sorting items by their keys: their order, and that it changes no map of values.
-use Rattle.std.proofs.Common.{◌≡◌, ◌∙◌, ap, sym, subst, ℕ, ◌<◌, ◌+◌, Option, Some, None, List, [], ◌∷◌, Bool, true, false, ◌&&◌, not, find, map, refl, suc, zero, length, get_or, arith, inl, inr}
-use Rattle.std.specs.Prelude.{All, AllPairs, option_and_then}
-use Rattle.std.specs.List.{AllAdjacentBelow, Contains, IsDistinct, list_any}
-use Rattle.std.specs.List.Sorted.{IsPermutation, IsSortedBy}
-use Rattle.std.specs.declared.cmp.Ordering.{Ordering}
-use Rattle.std.specs.declared.cmp.Ordering.TheVariants.{Less, Equal, Greater}
-use Rattle.std.specs.Ordering.{eq_by_cmp, is_eq, is_lt, ordering_reverse}
-use Rattle.std.specs.Cmp.{IsTotalOrder}
-use Rattle.std.specs.FinMap.{IsAntisymmetric, from_entries, same_map}
-use Rattle.std.proofs.lemmas.Bool.{false≢true, cases_eq}
-use Rattle.std.proofs.lemmas.Cmp.{eq_by_cmp_equiv}
+use Rattle.mb_lists.proofs.Common.{All, All-cons, All-from_get_or, All-from_recursion, All-get_or, All-head, All-permutation, All-tail, AllAdjacentBelow, AllPairs, AllPairs-cons, ap, Apart}
+use Rattle.mb_lists.proofs.Common.{are_distinct, arith, at_from_Contains, at_key, Bool, cases_eq, Contains, Contains-get_or, Contains-permutation, entries_by, eq_by_cmp, eq_by_cmp_equiv, Equal, false}
+use Rattle.mb_lists.proofs.Common.{false≢true, find, from_entries, get_or, get_or_from_slice_get, Greater, inl, inr, is_eq, is_lt, IsAntisymmetric, IsDistinct, IsInOrder, IsPermutation}
+use Rattle.mb_lists.proofs.Common.{IsPermutation-sym, IsSortedBy, IsTotalOrder, length, Less, List, list_any, map, None, none-some, not, Option, option_and_then, Ordering, ordering_reverse}
+use Rattle.mb_lists.proofs.Common.{recursion_from_All, refl, same_map, slice_get-get_or, slice_get_within, Some, subst, suc, sym, true, zero, ℕ, [], ◌&&◌, ◌+◌, ◌<◌, ◌∙◌, ◌∷◌, ◌≡◌}
 use Rattle.std.proofs.lemmas.Map.Keys.{IsDistinct-IsPermutation}
-use Rattle.std.proofs.lemmas.List.Kept.{AllPairs-cons}
-use Rattle.std.proofs.lemmas.List.Elements.{All-cons, All-head, All-tail, All-from_get_or, All-from_recursion, recursion_from_All, All-get_or, Contains-get_or, at_from_Contains}
-use Rattle.std.proofs.lemmas.List.Sorted.{IsPermutation-sym, Contains-permutation, All-permutation}
-use Rattle.std.proofs.lemmas.Option.{slice_get_within, slice_get-get_or, get_or_from_slice_get, none-some}
-use Rattle.mb_lists.specs.Keyed.{are_distinct, at_key, entries_by, Apart, IsInOrder}
 use Rattle.mb_lists.proofs.Finding.{found_in}
 use Rattle.mb_lists.proofs.Items.{Apart-tail, look_up, found_itself, equal_of}
 

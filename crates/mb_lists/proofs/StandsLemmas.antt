@@ -1,19 +1,8 @@
 -- Items that came to their place in a list in order, or left it, are the latest of their keys.
-use Rattle.std.proofs.Common.{◌≡◌, ◌∙◌, ap, sym, subst, ℕ, ◌<◌, ◌+◌, ◌-◌, ◌++◌, Option, Some, List, [], ◌∷◌, Bool, true, false, cond, find, drop, reverse, refl, set, get_or, length, arith}
-use Rattle.std.specs.Prelude.{All, Contains, position, unwrap_or}
-use Rattle.std.specs.List.{insert, remove}
-use Rattle.std.specs.declared.cmp.Ordering.{Ordering}
-use Rattle.std.specs.Ordering.{eq_by_cmp}
-use Rattle.std.specs.Cmp.{IsTotalOrder}
-use Rattle.std.specs.FinMap.{IsAntisymmetric}
-use Rattle.std.proofs.lemmas.List.Elements.{Contains-get_or}
-use Rattle.std.proofs.lemmas.List.Sorted.{Contains-permutation, IsPermutation-reverse, IsPermutation-sym}
-use Rattle.std.proofs.lemmas.Option.{get_or_from_slice_get, slice_get-get_or, slice_get_within}
-use Rattle.mb_lists.specs.Clearing.{listed}
-use Rattle.mb_lists.specs.Clearing.{Clears, unmarked}
-use Rattle.mb_lists.specs.Entries.{id_at, nothing}
-use Rattle.mb_lists.specs.Keyed.{Apart, IsAt, IsGap, IsInOrder, StandsAs, at_key, live_at, newest}
-use Rattle.mb_lists.specs.declared.entries.Content.{Content}
+use Rattle.mb_lists.proofs.Common.{All, ap, Apart, arith, at_key, Bool, Clears, cond, Contains, Contains-get_or, Contains-permutation, Content, drop, eq_by_cmp, false, find, get_or}
+use Rattle.mb_lists.proofs.Common.{get_or_from_slice_get, id_at, insert, IsAntisymmetric, IsAt, IsGap, IsInOrder, IsPermutation-reverse, IsPermutation-sym, IsTotalOrder, length, List, listed, live_at}
+use Rattle.mb_lists.proofs.Common.{newest, nothing, Option, Ordering, position, refl, remove, reverse, set, slice_get-get_or, slice_get_within, Some, StandsAs, subst, sym, true, unmarked, unwrap_or}
+use Rattle.mb_lists.proofs.Common.{ℕ, [], ◌++◌, ◌+◌, ◌-◌, ◌<◌, ◌∙◌, ◌∷◌, ◌≡◌}
 use Rattle.mb_lists.proofs.Finding.{found_in}
 use Rattle.mb_lists.proofs.Items.{found_itself}
 use Rattle.mb_lists.proofs.Newest.{find_newest, find_pushed}

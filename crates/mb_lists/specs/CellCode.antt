@@ -1,9 +1,7 @@
 -- The code of a cell and of times, by which a proof tells two apart.
 use Rattle.std.specs.Prelude.{◌≡◌, refl, ℕ, ℤ, pos, suc, zero, List, []}
-use Rattle.std.specs.Coded.{Coded, code_by, coded×, coded_ℕ, coded_ℤ, coded_list}
+use Rattle.mb_lists.specs.Common.{Blob, Cell, code_by, Coded, coded_list, coded_ℕ, coded_ℤ, coded×, Int, Null, Other, Text}
 use Rattle.mb_lists.specs.declared.dates.Dates.{Dates}
-use Rattle.mb_tables.specs.declared.cell.Cell.{Cell}
-use Rattle.mb_tables.specs.declared.cell.Cell.TheVariants.{Null, Int, Text, Blob, Other}
 
 -- a cell as its kind, its number and its bytes
 abbrev pub cell_parts : Cell → ℕ × (ℤ × List ℕ)

@@ -1,13 +1,10 @@
 -- Items that come to their place, and leave it.
 use Rattle.std.specs.Prelude.{◌≡◌, ℕ, ◌+◌, ◌++◌, Bool, cond, List, [], ◌∷◌, Option, Some, None}
-use Rattle.std.specs.List.{remove}
-use Rattle.std.specs.declared.cmp.Ordering.{Ordering}
+use Rattle.mb_lists.specs.Common.{Coord, Null, Ordering, remove}
 use Rattle.mb_lists.specs.Keyed.{StandsAs, newest}
 use Rattle.mb_lists.specs.declared.entries.Standing.TheVariants.{Removed}
 use Rattle.mb_lists.specs.declared.entries.StoredName.{StoredName}
 use Rattle.mb_lists.specs.declared.entries.StoredTile.{StoredTile}
-use Rattle.mb_tables.specs.declared.cell.Cell.TheVariants.{Null}
-use Rattle.tile_ids.specs.Coord.{Coord}
 
 -- items without a mark, which is counted from n on
 abbrev pub unmarked : {X : Type 0} → ℕ → Option ℕ → List X → List X

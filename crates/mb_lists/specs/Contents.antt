@@ -1,17 +1,9 @@
 -- The rows of contents of a normalised set, and their ids.
 use Rattle.std.specs.Prelude.{Bool, not, cond, List, [], Option, Some, None, map, filter, filter_map}
-use Rattle.std.specs.FinMap.{FinMap, from_entries}
+use Rattle.mb_lists.specs.Common.{Cell, cell_at, cell_cmp, FinMap, from_entries, is_null, MbtError, MbtType, Normalized, NoUniquenessConstraint, unless}
 use Rattle.mb_lists.specs.Keyed.{are_distinct}
-use Rattle.mb_tables.specs.Refusals.{unless}
-use Rattle.mb_tables.specs.Cell.{cell_cmp, is_null}
 use Rattle.mb_tables.specs.Table.{Tables}
-use Rattle.mb_tables.specs.Tiles.{cell_at}
 use Rattle.mb_tables.specs.Kind.{contents_of}
-use Rattle.mb_tables.specs.declared.cell.Cell.{Cell}
-use Rattle.mb_tables.specs.declared.error.MbtError.{MbtError}
-use Rattle.mb_tables.specs.declared.error.MbtError.TheVariants.{NoUniquenessConstraint}
-use Rattle.mb_tables.specs.declared.kind.MbtType.{MbtType}
-use Rattle.mb_tables.specs.declared.kind.MbtType.TheVariants.{Normalized}
 
 -- the rows of contents by id. The other layouts have none
 abbrev pub content_rows : MbtType → Tables → List (List Cell)

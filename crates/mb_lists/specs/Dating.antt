@@ -5,8 +5,7 @@ use Rattle.mb_lists.specs.Keyed.{StandsAs, at_key}
 use Rattle.mb_lists.specs.declared.dates.Dates.{Dates}
 use Rattle.mb_lists.specs.declared.entries.Standing.TheVariants.{Put}
 use Rattle.mb_lists.specs.declared.entries.StoredTile.{StoredTile}
-use Rattle.mb_tables.specs.Tiles.{Place, place_cmp}
-use Rattle.tile_ids.specs.Coord.{Coord}
+use Rattle.mb_lists.specs.Common.{Coord, Place, place_cmp}
 
 -- a tile with other times, if it has any; it counts as put
 abbrev pub redated : Dates → StoredTile → StoredTile

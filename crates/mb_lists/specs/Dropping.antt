@@ -1,12 +1,10 @@
 -- Contents whose ids no tile has become marks.
 use Rattle.std.specs.Prelude.{ℕ, Bool, cond, not, List, [], ◌∷◌, set}
-use Rattle.std.specs.List.{list_any}
+use Rattle.mb_lists.specs.Common.{Cell, cell_eq, list_any}
 use Rattle.mb_lists.specs.Entries.{content_at, id_at}
 use Rattle.mb_lists.specs.declared.entries.Content.{Content}
 use Rattle.mb_lists.specs.declared.entries.Standing.TheVariants.{Removed}
 use Rattle.mb_lists.specs.declared.entries.StoredTile.{StoredTile}
-use Rattle.mb_tables.specs.Cell.{cell_eq}
-use Rattle.mb_tables.specs.declared.cell.Cell.{Cell}
 
 -- whether one of these tiles has the id
 abbrev pub has_id : List Content → List StoredTile → Cell → Bool

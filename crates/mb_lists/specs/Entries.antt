@@ -1,11 +1,8 @@
 -- What entries of lists mean.
 use Rattle.std.specs.Prelude.{ℕ, ◌≡◌, Bool, true, false, cond, List, Option, Some, None, option_and_then, slice_get, is_some, unwrap_or}
-use Rattle.std.specs.Ordering.{nat_cmp}
-use Rattle.std.specs.Cmp.Lexicographic.{slice_cmp}
-use Rattle.std.specs.FinMap.{FinMap, from_entries}
+use Rattle.mb_lists.specs.Common.{Blob, Cache, Cell, cell_cmp, Coord, FinMap, from_entries, inverted_y, is_null, is_text, MbtType, nat_cmp, Null, Other, Place, place_cmp, slice_cmp, Text}
 use Rattle.mb_lists.specs.Contents.{Contents}
 use Rattle.mb_lists.specs.Keyed.{IsInOrder, entries_by, newest}
-use Rattle.mb_tables.specs.CellKinds.{is_text}
 use Rattle.mb_lists.specs.Metadata.{Names, text_of}
 use Rattle.mb_lists.specs.declared.dates.Dates.{Dates}
 use Rattle.mb_lists.specs.declared.entries.Content.{Content}
@@ -13,13 +10,7 @@ use Rattle.mb_lists.specs.declared.entries.Standing.{Standing}
 use Rattle.mb_lists.specs.declared.entries.Standing.TheVariants.{Kept, Removed}
 use Rattle.mb_lists.specs.declared.entries.StoredName.{StoredName}
 use Rattle.mb_lists.specs.declared.entries.StoredTile.{StoredTile}
-use Rattle.mb_tables.specs.Cell.{cell_cmp, is_null}
-use Rattle.mb_tables.specs.Tiles.{Place, contents_of, place_cmp}
-use Rattle.mb_tables.specs.declared.cell.Cell.{Cell}
-use Rattle.mb_tables.specs.declared.cell.Cell.TheVariants.{Null, Text, Blob, Other}
-use Rattle.mb_tables.specs.declared.kind.MbtType.{MbtType}
-use Rattle.mb_tables.specs.declared.kind.MbtType.TheVariants.{Cache}
-use Rattle.tile_ids.specs.Coord.{Coord, inverted_y}
+use Rattle.mb_tables.specs.Tiles.{contents_of}
 
 -- the place of a coordinate: its row is counted from the bottom
 abbrev pub place_at : Coord → Place

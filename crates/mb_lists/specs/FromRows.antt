@@ -1,20 +1,14 @@
 -- What is kept of rows.
 use Rattle.std.specs.Prelude.{◌≡◌, ℕ, ℤ, suc, false, cond, List, [], ◌∷◌, Option, Some, None, All, map, option_map}
-use Rattle.std.specs.List.{cons_option}
-use Rattle.std.specs.List.Sorted.{IsPermutation}
+use Rattle.mb_lists.specs.Common.{Cell, cell_at, cell_cmp, cons_option, Coord, Int, is_null, IsPermutation, Null, tile_index}
 use Rattle.mb_lists.specs.Entries.{AreContentsInOrder, id_at, is_content_gone, is_removed}
 use Rattle.mb_lists.specs.Keyed.{live_at}
 use Rattle.mb_lists.specs.declared.dates.Dates.{Dates}
 use Rattle.mb_lists.specs.declared.entries.StoredTile.{StoredTile}
-use Rattle.mb_tables.specs.declared.cell.Cell.TheVariants.{Null, Int}
-use Rattle.tile_ids.specs.Coord.{Coord, tile_index}
 use Rattle.mb_lists.specs.Metadata.{text_of}
 use Rattle.mb_lists.specs.declared.entries.StoredName.{StoredName}
 use Rattle.mb_lists.specs.declared.entries.Content.{Content}
 use Rattle.mb_lists.specs.declared.entries.Standing.TheVariants.{Kept}
-use Rattle.mb_tables.specs.Cell.{cell_cmp, is_null}
-use Rattle.mb_tables.specs.Tiles.{cell_at}
-use Rattle.mb_tables.specs.declared.cell.Cell.{Cell}
 
 -- what is kept of a row of contents
 abbrev pub content_from : List Cell → Content

@@ -1,9 +1,7 @@
 -- Items in the order of their keys, with marks of removed ones behind.
 use Rattle.std.specs.Prelude.{◌≡◌, ℕ, ◌<◌, ◌≤◌, ◌&&◌, Bool, true, false, cond, not, filter, length, reverse, List, [], ◌∷◌, Option, Some, None, option_map, option_and_then, filter_map, find, slice_index_or, AllPairs}
-use Rattle.std.specs.List.{list_any}
-use Rattle.std.specs.declared.cmp.Ordering.{Ordering}
+use Rattle.mb_lists.specs.Common.{bool_cmp, eq_by_cmp, list_any, Ordering, ordering_then}
 use Rattle.std.specs.declared.cmp.Ordering.TheVariants.{Less, Greater}
-use Rattle.std.specs.Ordering.{bool_cmp, eq_by_cmp, ordering_then}
 
 -- whether no two keys of a list are equal
 abbrev pub are_distinct : {K : Type 0} → (K → K → Ordering) → List K → Bool

@@ -1,15 +1,7 @@
 -- The metadata of a set: texts, or null, by name.
 use Rattle.std.specs.Prelude.{ℕ, codes, List, Option, Some, None, filter_map, option_and_then}
-use Rattle.std.specs.Ordering.{nat_cmp}
-use Rattle.std.specs.Cmp.Lexicographic.{slice_cmp}
-use Rattle.std.specs.FinMap.{FinMap, find, from_entries, get}
+use Rattle.mb_lists.specs.Common.{Cell, cell_at, find, FinMap, from_entries, get, InvalidDataFormat, MbtError, nat_cmp, slice_cmp, Text, unless}
 use Rattle.mb_lists.specs.Contents.{are_apart, fronts}
-use Rattle.mb_tables.specs.Refusals.{unless}
-use Rattle.mb_tables.specs.Tiles.{cell_at}
-use Rattle.mb_tables.specs.declared.cell.Cell.{Cell}
-use Rattle.mb_tables.specs.declared.cell.Cell.TheVariants.{Text}
-use Rattle.mb_tables.specs.declared.error.MbtError.{MbtError}
-use Rattle.mb_tables.specs.declared.error.MbtError.TheVariants.{InvalidDataFormat}
 
 -- names in the order of their bytes, each with a text or null
 abbrev pub Names : Type 0

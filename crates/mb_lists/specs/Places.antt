@@ -1,7 +1,7 @@
 -- Places of tiles and their ids.
 use Rattle.std.specs.Prelude.{ℕ, ◌-◌, ◌<◌, ◌≤◌, ◌^◌}
 use Rattle.tile_ids.specs.Hilbert.{tile_id}
-use Rattle.mb_tables.specs.Tiles.{Place}
+use Rattle.mb_lists.specs.Common.{Place}
 
 -- the id of a place, whose row is counted from the bottom
 abbrev pub address : Place → ℕ

@@ -1,14 +1,10 @@
 // Items that come to their place, and leave it, in the memory that there is.
 ghost use Rattle.std.specs.Prelude.{◌≡◌, ◌<◌, ◌≤◌, ◌+◌, ◌++◌, ◌∷◌, [], IfSome, length, position, slice_index_or, vec_capacity, vec_len};
-ghost use Rattle.std.specs.Cmp.Lexicographic.{slice_cmp};
-ghost use Rattle.std.specs.List.{insert, remove};
-ghost use Rattle.std.specs.Ordering.{nat_cmp};
+ghost use Rattle.mb_lists.specs.Common.{cell_cmp, insert, nat_cmp, place_cmp, remove, slice_cmp};
 ghost use Rattle.mb_lists.specs.Clearing.{name_mark, tile_mark, unmarked};
 ghost use Rattle.mb_lists.specs.Entries.{id_at, name_of, place_at, place_of};
 ghost use Rattle.mb_lists.specs.Keyed.{at_key};
 ghost use Rattle.mb_lists.specs.declared.entries.StoredName.{StoredName};
-ghost use Rattle.mb_tables.specs.Cell.{cell_cmp};
-ghost use Rattle.mb_tables.specs.Tiles.{place_cmp};
 
 use crate::entries::{Content, Standing, StoredName, StoredTile, compare_ids, compare_places};
 use mb_tables::Cell;

@@ -1,12 +1,9 @@
 // Contents, and the order of those that have an id.
 ghost use Rattle.std.specs.Prelude.{◌≡◌, All, Contains, IfErr, IfNone, IfOk, IfSome, None, Some, cond, false, map, option_copied, option_map, slice_get, unwrap_or};
-ghost use Rattle.std.specs.List.Sorted.{IsPermutation};
+ghost use Rattle.mb_lists.specs.Common.{cell_cmp, content_of, is_null, IsPermutation, Null};
 ghost use Rattle.mb_lists.specs.Entries.{AreContentsInOrder, id_at, is_content_gone, is_removed, newest_ids};
 ghost use Rattle.mb_lists.specs.FromRows.{AreIndexed, content_from, ids_from, index_by, rows_kept};
 ghost use Rattle.mb_lists.specs.Keyed.{Apart, IsAt, IsGap, StandsAs, are_distinct, live_at};
-ghost use Rattle.mb_tables.specs.Cell.{cell_cmp, is_null};
-ghost use Rattle.mb_tables.specs.Tiles.{content_of};
-ghost use Rattle.mb_tables.specs.declared.cell.Cell.TheVariants.{Null};
 
 use crate::entries::{
     Content, Standing, compare_id, compare_ids, compare_ids_settled, is_content_mark,

@@ -4,7 +4,7 @@ ghost use Rattle.mb_lists.specs.Dating.{Redates, dated_last, last_at, redated};
 ghost use Rattle.mb_lists.specs.Entries.{AreInOrder, is_gone, place_at, place_of};
 ghost use Rattle.mb_lists.specs.Keyed.{live_at};
 ghost use Rattle.mb_lists.specs.declared.entries.StoredTile.{StoredTile};
-ghost use Rattle.mb_tables.specs.Tiles.{place_cmp};
+ghost use Rattle.mb_lists.specs.Common.{place_cmp};
 
 use crate::dates::Dates;
 use crate::entries::{Standing, StoredTile, compare_places};

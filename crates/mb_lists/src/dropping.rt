@@ -1,11 +1,9 @@
 // Contents that no tile has any more.
 ghost use Rattle.std.specs.Prelude.{◌≡◌, ◌≤◌, ◌∷◌, [], false, length, not, take, true};
-ghost use Rattle.std.specs.List.Sorted.{IsPartitionPoint, IsPermutation, IsSortedBy};
-ghost use Rattle.std.specs.Ordering.{is_lt};
+ghost use Rattle.mb_lists.specs.Common.{cell_cmp, is_lt, IsPartitionPoint, IsPermutation, IsSortedBy};
 ghost use Rattle.mb_lists.specs.Dropping.{has_id, is_unnamed, marked, marked_unnamed};
 ghost use Rattle.mb_lists.specs.Entries.{id_at, is_gone};
 ghost use Rattle.mb_lists.specs.Keyed.{behind};
-ghost use Rattle.mb_tables.specs.Cell.{cell_cmp};
 
 use crate::entries::{Content, Standing, StoredTile, compare_id, compare_ids};
 use mb_tables::Cell;

@@ -1,12 +1,9 @@
 // What a loaded set keeps of its rows.
 ghost use Rattle.std.specs.Prelude.{◌≡◌};
-ghost use Rattle.std.specs.Cmp.Lexicographic.{slice_cmp};
-ghost use Rattle.std.specs.Ordering.{nat_cmp};
+ghost use Rattle.mb_lists.specs.Common.{cell_cmp, nat_cmp, place_cmp, slice_cmp};
 ghost use Rattle.mb_lists.specs.Clearing.{tile_mark};
 ghost use Rattle.mb_lists.specs.Entries.{id_at, is_content_gone, is_gone, is_name_gone, is_removed, name_of, place_at, place_of};
 ghost use Rattle.mb_lists.specs.Keyed.{behind};
-ghost use Rattle.mb_tables.specs.Cell.{cell_cmp};
-ghost use Rattle.mb_tables.specs.Tiles.{place_cmp};
 
 use crate::tile_dates::TileDates;
 use base_values::TextVal;

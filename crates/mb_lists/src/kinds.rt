@@ -1,7 +1,6 @@
 // The kinds of the ids of contents.
 ghost use Rattle.std.specs.Prelude.{◌≡◌};
-ghost use Rattle.std.specs.List.{list_all};
-ghost use Rattle.mb_tables.specs.CellKinds.{is_id};
+ghost use Rattle.mb_lists.specs.Common.{is_id, list_all};
 
 use crate::Content;
 use mb_tables::{MbtType, is_id};

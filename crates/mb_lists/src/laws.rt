@@ -1,6 +1,6 @@
 //! Laws of places and ids.
 ghost use Rattle.std.specs.Prelude.{◌≡◌};
-ghost use Rattle.mb_tables.specs.Tiles.{Place};
+ghost use Rattle.mb_lists.specs.Common.{Place};
 ghost use Rattle.mb_lists.specs.Places.{InRange, address};
 
 /// Two places in range that have one id are one place.

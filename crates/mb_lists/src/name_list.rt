@@ -1,15 +1,11 @@
 // Names in the order of their bytes, with marks of removed ones behind.
 ghost use Rattle.std.specs.Prelude.{◌≡◌, All, Contains, IfErr, IfNone, IfOk, IfSome, None, false, filter_map, map, option_copied};
-ghost use Rattle.std.specs.Cmp.Lexicographic.{slice_cmp};
-ghost use Rattle.std.specs.List.Sorted.{IsPermutation};
+ghost use Rattle.mb_lists.specs.Common.{IsPermutation, name_kind_wrong, nat_cmp, slice_cmp, Tests};
 ghost use Rattle.std.specs.Option.{option_or};
-ghost use Rattle.std.specs.Ordering.{nat_cmp};
 ghost use Rattle.mb_lists.specs.Entries.{AreNamesInOrder, IsName, is_name_gone, name_of, names_held, newest_names};
 ghost use Rattle.mb_lists.specs.FromRows.{name_from};
 ghost use Rattle.mb_lists.specs.Keyed.{Apart, IsAt, IsGap, StandsAs, are_distinct, live_at};
-ghost use Rattle.mb_tables.specs.CellKinds.{name_kind_wrong};
 ghost use Rattle.mb_lists.specs.Metadata.{name_twice, names_of};
-ghost use Rattle.mb_tables.specs.Refusals.{Tests};
 ghost use Rattle.mb_lists.specs.declared.entries.Standing.TheVariants.{Kept};
 
 use crate::entries::{Standing, StoredName};

@@ -1,13 +1,10 @@
 // Tiles, names and contents that come to their place in the lists, or leave it.
 ghost use Rattle.std.specs.Prelude.{◌≡◌, ◌<◌, ◌++◌, ◌∷◌, [], false, length, vec_capacity, vec_len};
-ghost use Rattle.std.specs.Cmp.Lexicographic.{slice_cmp};
-ghost use Rattle.std.specs.Ordering.{nat_cmp};
+ghost use Rattle.mb_lists.specs.Common.{cell_cmp, nat_cmp, place_cmp, slice_cmp};
 ghost use Rattle.mb_lists.specs.Clearing.{listed};
 ghost use Rattle.mb_lists.specs.Clearing.{Clears, name_mark, tile_mark};
 ghost use Rattle.mb_lists.specs.Entries.{AreContentsInOrder, AreInOrder, AreNamesInOrder, id_at, is_content_gone, is_gone, is_name_gone, name_of, newest_ids, newest_names, newest_tiles, place_at, place_of};
 ghost use Rattle.mb_lists.specs.Keyed.{StandsAs, live_at};
-ghost use Rattle.mb_tables.specs.Cell.{cell_cmp};
-ghost use Rattle.mb_tables.specs.Tiles.{place_cmp};
 
 use crate::clearing::{id_position, mark_name, mark_tile, name_position, put_at, tile_position};
 use crate::content_list::ContentList;

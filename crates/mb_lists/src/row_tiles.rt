@@ -1,7 +1,7 @@
 // The tiles of rows, and their contents.
 ghost use Rattle.std.specs.Prelude.{◌≡◌, ◌<◌, ℕ, IfOk, Some, [], filter_map, map, option_map};
 ghost use Rattle.mb_lists.specs.FromRows.{AreIndexed, dates_from, own_content, own_tiles, stored_by_id, undated};
-ghost use Rattle.mb_tables.specs.Tiles.{cell_at};
+ghost use Rattle.mb_lists.specs.Common.{cell_at};
 
 use crate::content_list::ContentList;
 use crate::dates::Dates;

@@ -14,7 +14,7 @@ pub struct TileDates {
 
 impl Model for TileDates {
     ghost use Rattle.std.specs.Prelude.{Option, option_map};
-    ghost use Rattle.std.specs.Coded.{coded_option};
+    ghost use Rattle.mb_lists.specs.Common.{coded_option};
     ghost use Rattle.mb_lists.specs.CellCode.{dates_code};
     ghost use Rattle.mb_lists.specs.declared.dates.Dates.{Dates};
 

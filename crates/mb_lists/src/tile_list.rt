@@ -1,9 +1,8 @@
 // Tiles in the order of their places, with marks of removed ones behind.
 ghost use Rattle.std.specs.Prelude.{◌≡◌, All, IfErr, IfNone, IfOk, IfSome, false, map, option_copied};
-ghost use Rattle.std.specs.List.Sorted.{IsPermutation};
+ghost use Rattle.mb_lists.specs.Common.{IsPermutation, place_cmp};
 ghost use Rattle.mb_lists.specs.Entries.{AreInOrder, is_gone, place_at, place_of};
 ghost use Rattle.mb_lists.specs.Keyed.{IsAt, IsGap, are_distinct, live_at};
-ghost use Rattle.mb_tables.specs.Tiles.{place_cmp};
 
 use crate::entries::{StoredTile, compare_places};
 use base_values::OutOfMemory;
@@ -18,10 +17,9 @@ pub struct TileList {
 
 impl TileList {
     ghost use Rattle.std.specs.Prelude.{◌≡◌, All, Contains, IfErr, IfNone, IfOk, IfSome, false, map, option_copied};
-    ghost use Rattle.std.specs.List.Sorted.{IsPermutation};
+    ghost use Rattle.mb_lists.specs.Common.{IsPermutation, place_cmp};
     ghost use Rattle.mb_lists.specs.Entries.{AreInOrder, is_gone, newest_tiles, place_at, place_of};
     ghost use Rattle.mb_lists.specs.Keyed.{Apart, IsAt, IsGap, StandsAs, are_distinct, live_at};
-    ghost use Rattle.mb_tables.specs.Tiles.{place_cmp};
 
     /// Tiles in the order of their places, and none where two have one place.
     pub fn in_order(mut items: Vec<StoredTile>) -> Option<TileList>

@@ -1,8 +1,5 @@
 -- Each algorithm is that of its name.
-use Rattle.std.proofs.Common.{◌≡◌, Some, None, refl}
-use Rattle.mb_constraints.specs.Algorithm.{algorithm_by, unknown_name}
-use Rattle.tile_hash.specs.Digest.{name_of}
-use Rattle.tile_hash.specs.declared.algorithm.HashAlgorithm.{HashAlgorithm}
+use Rattle.mb_load.proofs.Common.{algorithm_by, HashAlgorithm, name_of, None, refl, Some, unknown_name, ◌≡◌}
 use Rattle.tile_hash.specs.declared.algorithm.HashAlgorithm.TheVariants.{Md5}
 
 pub name_known : (a : HashAlgorithm) → unknown_name (Some (name_of a)) ≡ None

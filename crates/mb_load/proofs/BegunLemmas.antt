@@ -1,15 +1,6 @@
 -- Answers of calls that begin with loading.
-use Rattle.std.proofs.Common.{◌≡◌, ◌∙◌, ap, sym, subst, Bool, true, false, Ok, Err, Result, refl}
-use Rattle.std.proofs.lemmas.Bool.{false≢true}
+use Rattle.mb_load.proofs.Common.{Answers, ap, Bool, Err, false, false≢true, Held, is_free, Loads, MbtError, Ok, refl, Result, State, state_of, subst, sym, Tables, then, true, ◌∙◌, ◌≡◌}
 use Rattle.mb_load.specs.Begun.{IsBegun, begun}
-use Rattle.mb_tables.specs.Refusals.{then}
-use Rattle.mb_loaded.specs.Held.{Held}
-use Rattle.mb_load.specs.Loading.{Loads}
-use Rattle.mb_tables.specs.Refusals.{Answers, is_free}
-use Rattle.mb_loaded.specs.State.{State}
-use Rattle.mb_load.specs.StateOf.{state_of}
-use Rattle.mb_tables.specs.Table.{Tables}
-use Rattle.mb_tables.specs.declared.error.MbtError.{MbtError}
 
 -- tables of a state answer what a function of the state answers, and those that are refused answer the refusal
 ok_at : {A : Type 0} (f : State → Result A MbtError) (t : Tables) (s : State) (r : Result A MbtError) → state_of t ≡ Ok s → Answers (f s) r → Answers (begun f t) r

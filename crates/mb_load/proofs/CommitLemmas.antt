@@ -1,33 +1,11 @@
 -- After a commit of its changes, tables that a set was loaded from are those of its present state.
-use Rattle.std.proofs.Common.{◌≡◌, ◌∙◌, ap, sym, subst, ℕ, ℤ, Option, Some, None, List, [], ◌∷◌, Bool, true, false, filter, refl, is_some}
-use Rattle.std.specs.Prelude.{All, option_map, option_to_list}
-use Rattle.std.specs.FinMap.{contains_key, get, get-empty}
-use Rattle.std.proofs.lemmas.Bool.{false≢true}
-use Rattle.std.proofs.lemmas.List.Elements.{All-nil}
-use Rattle.mb_loaded.specs.Changing.{AreChangesOf, content_row, content_row_by, content_table, id_edited, name_edited, name_row, name_row_by, place_edited, tile_key, tile_row, tile_row_by}
-use Rattle.mb_lists.specs.Contents.{content_rows}
-use Rattle.mb_constraints.specs.Described.{index_missing, metadata_missing}
-use Rattle.mb_loaded.specs.Held.{Held, fresh}
-use Rattle.mb_tables.specs.CellKinds.{has_name_kinds}
-use Rattle.mb_load.specs.LoadedFrom.{FitsPlace, IsGoodContent, IsGoodRow, IsLoadable, IsLoadedFrom}
-use Rattle.mb_loaded.specs.State.{State}
+use Rattle.mb_load.proofs.Common.{All, All-nil, ap, AreChangesOf, Bool, Cell, cell_cmp, Change, Commits, contains_key, content_row, content_row_by, content_rows, content_table, false, false≢true}
+use Rattle.mb_load.proofs.Common.{filter, FitsPlace, fresh, get, get-empty, has_key, has_name_kinds, Held, id_edited, index_missing, Int, IntId, is_normalized, is_some, IsGoodContent, IsGoodRow}
+use Rattle.mb_load.proofs.Common.{IsLoadable, IsLoadedFrom, key_cells, layout_of, List, MbtType, Metadata, metadata_missing, name_edited, name_row, name_row_by, None, Normalized, Option, option_map}
+use Rattle.mb_load.proofs.Common.{option_to_list, patch_type_of, Place, place_edited, refl, RowKey, Some, State, subst, sym, Tables, Text, TextId, Tile, tile_key, tile_row, tile_row_by, tile_table}
+use Rattle.mb_load.proofs.Common.{true, ℕ, ℤ, [], ◌∙◌, ◌∷◌, ◌≡◌}
 use Rattle.mb_load.proofs.KeyedCommit.{all_then, edited_stand, fits_then, unedited_stay}
 use Rattle.mb_load.proofs.PutRowLemmas.{content_put, fits_put, good_put, name_put}
-use Rattle.mb_store.specs.Committing.{Commits}
-use Rattle.mb_store.specs.declared.change.Change.{Change}
-use Rattle.mb_tables.specs.Cell.{cell_cmp}
-use Rattle.mb_tables.specs.Detection.{layout_of, patch_type_of}
-use Rattle.mb_tables.specs.Key.{has_key, key_cells}
-use Rattle.mb_tables.specs.Kind.{is_normalized, tile_table}
-use Rattle.mb_tables.specs.Table.{Tables}
-use Rattle.mb_tables.specs.Tiles.{Place}
-use Rattle.mb_tables.specs.declared.cell.Cell.{Cell}
-use Rattle.mb_tables.specs.declared.cell.Cell.TheVariants.{Int, Text}
-use Rattle.mb_tables.specs.declared.key.RowKey.{RowKey}
-use Rattle.mb_tables.specs.declared.key.RowKey.TheVariants.{Tile, TextId, IntId}
-use Rattle.mb_tables.specs.declared.kind.MbtType.{MbtType}
-use Rattle.mb_tables.specs.declared.kind.MbtType.TheVariants.{Normalized}
-use Rattle.mb_tables.specs.declared.table.TableName.TheVariants.{Metadata}
 
 -- the rows of contents are those of their table, or none
 pub rows_of_contents : (layout : MbtType) (t : Tables) → is_normalized layout ≡ true → content_rows layout t ≡ t.rows (content_table layout)

@@ -1,16 +1,8 @@
 -- What a commit of a set's changes leaves, in one.
-use Rattle.mb_loaded.specs.Changing.{AreChangesOf}
-use Rattle.mb_load.specs.Committed.{IsCommitted}
-use Rattle.mb_loaded.specs.Held.{Held, fresh}
-use Rattle.mb_load.specs.LoadedFrom.{IsLoadedFrom}
+use Rattle.mb_load.proofs.Common.{AreChangesOf, Change, Commits, fresh, Held, IsCommitted, IsLoadedFrom, IsSound, List, Tables}
 use Rattle.mb_load.proofs.CommitLemmas.{committed, ids_stand, ids_stay, names_stand, names_stay, places_stand, places_stay}
 use Rattle.mb_load.proofs.FrameLemmas.{null_ids_stay, other_tables_stay}
 use Rattle.mb_load.proofs.StateAgain.{state_again}
-use Rattle.mb_store.specs.Committing.{Commits}
-use Rattle.mb_store.specs.Store.{IsSound}
-use Rattle.mb_store.specs.declared.change.Change.{Change}
-use Rattle.mb_tables.specs.Table.{Tables}
-use Rattle.std.specs.Prelude.{List}
 
 pub is_committed : (h : Held) (old new : Tables) (changes : List Change) → IsLoadedFrom old h → AreChangesOf h changes → Commits changes old new → IsSound new → IsCommitted h old new
 is_committed h old new changes loaded are made sound =

@@ -1,22 +1,7 @@
 -- The tests over descriptions, and what they say of the state.
-use Rattle.std.proofs.Common.{◌≡◌, ◌≢◌, ◌∙◌, ap, sym, subst, Bool, true, false, List, ◌∷◌, Option, Some, None, Result, Ok, Err, refl}
-use Rattle.std.specs.Prelude.{IfOk, IfErr}
-use Rattle.std.specs.List.{list_any}
-use Rattle.mb_constraints.specs.Described.{index_missing, is_metadata}
-use Rattle.mb_lists.specs.Contents.{content_rows}
-use Rattle.mb_load.specs.LoadingOrder.{row_refusals}
-use Rattle.mb_tables.specs.Refusals.{first_refusal, unless}
-use Rattle.mb_load.specs.StateOf.{state_of, stated, unless_refused}
-use Rattle.std.proofs.lemmas.Bool.{false≢true}
-use Rattle.mb_tables.specs.declared.table.TableName.TheVariants.{Metadata}
-use Rattle.mb_tables.specs.Described.{is_keyed}
-use Rattle.mb_tables.specs.Detection.{detected, layout_of}
-use Rattle.mb_tables.specs.Kind.{tile_table}
-use Rattle.mb_tables.specs.Table.{Tables}
-use Rattle.mb_tables.specs.declared.description.TableDesc.{TableDesc}
-use Rattle.mb_tables.specs.declared.error.MbtError.{MbtError}
-use Rattle.mb_tables.specs.declared.error.MbtError.TheVariants.{InvalidDataFormat, NoUniquenessConstraint, StoreFault}
-use Rattle.mb_tables.specs.declared.kind.MbtType.{MbtType}
+use Rattle.mb_load.proofs.Common.{ap, Bool, content_rows, detected, Err, false, false≢true, first_refusal, IfErr, IfOk, index_missing, InvalidDataFormat, is_keyed, is_metadata, layout_of, List}
+use Rattle.mb_load.proofs.Common.{list_any, MbtError, MbtType, Metadata, None, NoUniquenessConstraint, Ok, Option, refl, Result, row_refusals, Some, state_of, stated, StoreFault, subst, sym}
+use Rattle.mb_load.proofs.Common.{TableDesc, Tables, tile_table, true, unless, unless_refused, ◌∙◌, ◌∷◌, ◌≡◌, ◌≢◌}
 
 two_tests : (a b : Bool) (rest : List (Option MbtError)) → a ≡ true → b ≡ false → first_refusal (unless a InvalidDataFormat ∷ unless b NoUniquenessConstraint ∷ rest) ≡ Some NoUniquenessConstraint
 two_tests true false rest h k = refl

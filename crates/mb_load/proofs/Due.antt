@@ -1,20 +1,7 @@
 -- What is due of rows, by the first part of the tests that refuses.
-use Rattle.std.proofs.Common.{◌≡◌, ◌∙◌, ap, sym, List, Option, Some, None, Err}
-use Rattle.std.specs.Option.{option_or}
-use Rattle.mb_constraints.specs.Algorithm.{algorithm_of, algorithm_unknown}
-use Rattle.mb_lists.specs.Contents.{id_twice}
-use Rattle.mb_constraints.specs.Hashes.{hash_wrong}
-use Rattle.mb_tables.specs.CellKinds.{content_kind_wrong, name_kind_wrong, tile_kind_wrong}
-use Rattle.mb_load.specs.Loading.{due_by, held_by, rows_due}
-use Rattle.mb_lists.specs.Metadata.{name_twice}
-use Rattle.mb_constraints.specs.References.{reference_missing}
-use Rattle.mb_constraints.specs.TileRows.{place_twice, tile_bad}
+use Rattle.mb_load.proofs.Common.{algorithm_of, algorithm_unknown, ap, Cell, content_kind_wrong, due_by, Err, hash_wrong, HashAlgorithm, held_by, id_twice, List, MbtError, MbtType, name_kind_wrong}
+use Rattle.mb_load.proofs.Common.{name_twice, None, Option, option_or, PatchType, place_twice, reference_missing, rows_due, Some, sym, tile_bad, tile_kind_wrong, ◌∙◌, ◌≡◌}
 use Rattle.mb_lists.proofs.Chain.{first_part, fourth_part, last_part, second_part, third_part}
-use Rattle.mb_tables.specs.declared.cell.Cell.{Cell}
-use Rattle.mb_tables.specs.declared.error.MbtError.{MbtError}
-use Rattle.mb_tables.specs.declared.kind.MbtType.{MbtType}
-use Rattle.mb_tables.specs.declared.patch_type.PatchType.{PatchType}
-use Rattle.tile_hash.specs.declared.algorithm.HashAlgorithm.{HashAlgorithm}
 
 -- the parts of the tests
 abbrev pub ids_due : MbtType → List (List Cell) → List (List Cell) → Option MbtError

@@ -1,50 +1,17 @@
 -- Tables that a set was loaded from are so of the edited set, too.
-use Rattle.std.proofs.Common.{◌≡◌, ◌∙◌, ap, sym, subst, ℕ, Option, Some, None, List, [], ◌∷◌, Bool, true, false, ◌&&◌, ◌||◌, ◌⊎◌, inl, inr, not, cond, refl, is_some}
-use Rattle.std.proofs.Math.Bool.{or-true}
-use Rattle.std.specs.Prelude.{T, option_and_then, option_map, option_to_list}
-use Rattle.std.specs.List.{list_any}
-use Rattle.std.specs.Option.{option_or}
-use Rattle.std.specs.declared.cmp.Ordering.{Ordering}
+use Rattle.mb_load.proofs.Common.{ap, AreTimes, at_place, Blob, Bool, Cell, cell_cmp, cell_cmp-IsAntisymmetric, cell_eq, cells_total, cond, contains_key, Contents, contents_of, Dates, dates_are}
+use Rattle.mb_load.proofs.Common.{dates_for, dates_in, dates_some, DedupId, digest, entries, entries_sorted, eq_by_cmp, equal_of, false, false≢true, FinMap, FitsPlace, found, get, get-entries}
+use Rattle.mb_load.proofs.Common.{get-insert, get-remove, Hash, HashAlgorithm, Held, id_for, id_in, inl, inr, insert, is_cache, is_editable, is_eq, is_lt, is_named, is_normalized, is_some}
+use Rattle.mb_load.proofs.Common.{IsContentOf, IsFree, IsLoadable, IsLoadedFrom, IsOnBoard, IsTotalOrder, List, list_any, MbtType, nat_cmp, nat_list_cmp_total, None, none-some, Normalized, not}
+use Rattle.mb_load.proofs.Common.{only_referenced, Option, option_and_then, option_map, option_or, option_to_list, or-true, Ordering, Place, place_cmp, places_total, refl, remove, removed_name}
+use Rattle.mb_load.proofs.Common.{removed_tile, same_place, same_Some, slice_cmp, Some, State, subst, sym, T, Tables, Text, text_cell, there, tied_itself, tile_in, true, with_content, with_key}
+use Rattle.mb_load.proofs.Common.{with_name, with_tile, with_value, without_name, without_tile, ℕ, [], ◌&&◌, ◌||◌, ◌∙◌, ◌∷◌, ◌≡◌, ◌⊎◌}
 use Rattle.std.specs.declared.cmp.Ordering.TheVariants.{Less}
-use Rattle.std.specs.Ordering.{eq_by_cmp, is_eq, is_lt, nat_cmp}
-use Rattle.std.specs.Cmp.{IsTotalOrder, tied_itself}
-use Rattle.std.specs.Cmp.Lexicographic.{slice_cmp}
 use Rattle.std.specs.FinMap as fin
 use Rattle.std.specs.FinMap.Entries.{below_all}
-use Rattle.std.specs.FinMap.{FinMap, contains_key, entries, entries_sorted, get, insert, remove, get-entries, get-insert, get-remove}
-use Rattle.std.proofs.lemmas.Bool.{false≢true}
-use Rattle.std.proofs.lemmas.Cmp.{nat_list_cmp_total}
-use Rattle.std.proofs.lemmas.Option.{none-some, same_Some}
-use Rattle.mb_lists.specs.Contents.{Contents}
-use Rattle.mb_loaded.proofs.Covering.{there}
-use Rattle.mb_loaded.specs.Edits.{dates_for, id_for, is_named, only_referenced, removed_name, removed_tile, with_content, with_key, with_name, with_tile, with_value, without_name, without_tile}
-use Rattle.mb_lists.specs.Entries.{is_cache, text_cell}
-use Rattle.mb_loaded.specs.Held.{Held}
-use Rattle.mb_loaded.specs.Editable.{AreTimes, IsFree, IsOnBoard, is_editable}
-use Rattle.mb_load.specs.LoadedFrom.{FitsPlace, IsContentOf, IsLoadable, IsLoadedFrom, at_place, found}
-use Rattle.mb_loaded.specs.State.{State}
-use Rattle.mb_constraints.specs.TileRows.{dates_in, id_in, tile_in}
-use Rattle.mb_lists.specs.declared.dates.Dates.{Dates}
-use Rattle.mb_loaded.proofs.DatedLemmas.{dates_are, dates_some}
 use Rattle.mb_loaded.proofs.DroppedHeld.{any_unit, contents_with, edited_with}
 use Rattle.mb_loaded.proofs.EditMaps.{get-with_value}
-use Rattle.mb_lists.proofs.Items.{equal_of}
-use Rattle.mb_lists.proofs.Places.{same_place}
 use Rattle.mb_load.proofs.PutRowLemmas.{digest_right, id_known}
-use Rattle.mb_tables.proofs.CellLemmas.{cell_cmp-IsAntisymmetric}
-use Rattle.mb_tables.proofs.TileLemmas.{places_total}
-use Rattle.mb_tables.specs.Cell.{cell_cmp, cell_eq}
-use Rattle.mb_tables.specs.CellOrder.{cells_total}
-use Rattle.mb_tables.specs.Kind.{is_normalized}
-use Rattle.mb_tables.specs.Table.{Tables}
-use Rattle.mb_tables.specs.Tiles.{Place, contents_of, place_cmp}
-use Rattle.mb_tables.specs.declared.cell.Cell.{Cell}
-use Rattle.mb_tables.specs.declared.cell.Cell.TheVariants.{Text, Blob}
-use Rattle.mb_tables.specs.declared.kind.MbtType.{MbtType}
-use Rattle.mb_tables.specs.declared.kind.MbtType.TheVariants.{Normalized}
-use Rattle.mb_tables.specs.declared.kind.NormalizedSchema.TheVariants.{Hash, DedupId}
-use Rattle.tile_hash.specs.Digest.{digest}
-use Rattle.tile_hash.specs.declared.algorithm.HashAlgorithm.{HashAlgorithm}
 
 -- a key that isn't among one more key isn't that key, and wasn't there
 left_by : (b : Bool) (o : Option (Unit {0})) → is_some (cond b (Some tt) o) ≡ false → (b ≡ false) × (is_some o ≡ false)

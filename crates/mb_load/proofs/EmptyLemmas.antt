@@ -1,32 +1,10 @@
 -- The empty set is loaded from tables without rows.
-use Rattle.std.proofs.Common.{◌≡◌, ◌∙◌, ap, sym, subst, ℕ, ◌&&◌, List, [], ◌∷◌, Option, Bool, true, false, filter, is_some, refl, arith}
-use Rattle.std.specs.Prelude.{All, option_and_then, option_map, option_to_list}
-use Rattle.std.specs.declared.cmp.Ordering.{Ordering}
-use Rattle.std.specs.Ordering.{nat_cmp}
-use Rattle.std.specs.Cmp.Lexicographic.{slice_cmp}
-use Rattle.std.specs.FinMap.{contains_key, empty, get, get-empty}
-use Rattle.std.proofs.lemmas.Bool.{false≢true}
-use Rattle.std.proofs.lemmas.List.Elements.{All-nil}
-use Rattle.mb_lists.specs.Entries.{text_cell}
-use Rattle.mb_lists.specs.declared.dates.Dates.{Dates}
-use Rattle.mb_loaded.specs.Changing.{content_table, tile_key}
+use Rattle.mb_load.proofs.Common.{All, All-nil, ap, arith, Bool, Cell, cell_cmp, contains_key, content_table, contents_of, Dates, empty, false, false≢true, filter, FitsPlace, fresh, get, get-empty}
+use Rattle.mb_load.proofs.Common.{has_key, has_name_kinds, HashAlgorithm, is_cache, is_normalized, is_some, IsGoodContent, IsGoodRow, IsLoadable, IsLoadedFrom, List, MbtType, Metadata, nat_cmp}
+use Rattle.mb_load.proofs.Common.{Option, option_and_then, option_map, option_to_list, Ordering, Place, place_cmp, refl, slice_cmp, subst, sym, Tables, Text, text_cell, TextId, tile_key, tile_table}
+use Rattle.mb_load.proofs.Common.{true, ℕ, [], ◌&&◌, ◌∙◌, ◌∷◌, ◌≡◌}
 use Rattle.mb_load.specs.EmptyTables.{AreEmpty}
 use Rattle.mb_loaded.specs.Empty.{empty_state}
-use Rattle.mb_loaded.specs.Held.{fresh}
-use Rattle.mb_load.specs.LoadedFrom.{FitsPlace, IsGoodContent, IsGoodRow, IsLoadable, IsLoadedFrom}
-use Rattle.mb_lists.specs.Entries.{is_cache}
-use Rattle.mb_tables.specs.Cell.{cell_cmp}
-use Rattle.mb_tables.specs.CellKinds.{has_name_kinds}
-use Rattle.mb_tables.specs.Key.{has_key}
-use Rattle.mb_tables.specs.Kind.{is_normalized, tile_table}
-use Rattle.mb_tables.specs.Table.{Tables}
-use Rattle.mb_tables.specs.Tiles.{Place, contents_of, place_cmp}
-use Rattle.mb_tables.specs.declared.cell.Cell.{Cell}
-use Rattle.mb_tables.specs.declared.cell.Cell.TheVariants.{Text}
-use Rattle.mb_tables.specs.declared.key.RowKey.TheVariants.{TextId}
-use Rattle.mb_tables.specs.declared.kind.MbtType.{MbtType}
-use Rattle.mb_tables.specs.declared.table.TableName.TheVariants.{Metadata}
-use Rattle.tile_hash.specs.declared.algorithm.HashAlgorithm.{HashAlgorithm}
 
 none_has : {K : Type 0} (R : K → K → Ordering) (X : Type 0) (q : K) → contains_key (empty {X = X} {R = R}) q ≡ false
 none_has R X q = ap is_some (get-empty {X = X} R q)

@@ -1,29 +1,11 @@
 -- The last test, and the set that passes it.
-use Rattle.std.proofs.Common.{◌≡◌, ◌∙◌, ap, sym, ℕ, List, Option, true, false, Ok, Err, filter_map, map}
-use Rattle.std.specs.Prelude.{All}
-use Rattle.std.specs.FinMap.{from_entries}
-use Rattle.mb_constraints.specs.Algorithm.{algorithm_of}
-use Rattle.mb_lists.specs.Contents.{contents_by_id}
-use Rattle.mb_lists.specs.Entries.{contents_held, names_held, place_of, tile_dates, tile_id, tile_value, tiles_held}
+use Rattle.mb_load.proofs.Common.{algorithm_of, All, ap, are_distinct, AreTilesOf, by_place, Cell, Content, contents_by_id, contents_held, dates_in, due_by, Err, false, filter_map, from_entries}
+use Rattle.mb_load.proofs.Common.{HashAlgorithm, Held, held_by, id_in, Kept, List, map, MbtType, names_held, names_of, nothing_edited, NoUniquenessConstraint, Ok, Option, PatchType, Place, place_cmp}
+use Rattle.mb_load.proofs.Common.{place_twice, rows_due, StoredTile, sym, tile_dates, tile_id, tile_in, tile_value, tiles_held, true, unless, ℕ, ◌∙◌, ◌≡◌}
+use Rattle.mb_lists.specs.Entries.{place_of}
 use Rattle.mb_loaded.specs.HeldEntries.{held_of}
-use Rattle.mb_loaded.specs.Held.{Held, nothing_edited}
-use Rattle.mb_lists.specs.Keyed.{are_distinct}
-use Rattle.mb_load.specs.Loading.{due_by, held_by, rows_due}
-use Rattle.mb_lists.specs.Metadata.{names_of}
-use Rattle.mb_tables.specs.Refusals.{unless}
-use Rattle.mb_load.specs.RowTiles.{AreTilesOf}
-use Rattle.mb_constraints.specs.TileRows.{by_place, dates_in, id_in, place_twice, tile_in}
-use Rattle.mb_lists.specs.declared.entries.Content.{Content}
-use Rattle.mb_lists.specs.declared.entries.Standing.TheVariants.{Kept}
 use Rattle.mb_lists.specs.declared.entries.StoredName.{StoredName}
-use Rattle.mb_lists.specs.declared.entries.StoredTile.{StoredTile}
 use Rattle.mb_loaded.proofs.HeldLemmas.{edited_none, places_listed, states_same}
-use Rattle.mb_tables.specs.Tiles.{Place, place_cmp}
-use Rattle.mb_tables.specs.declared.cell.Cell.{Cell}
-use Rattle.mb_tables.specs.declared.error.MbtError.TheVariants.{NoUniquenessConstraint}
-use Rattle.mb_tables.specs.declared.kind.MbtType.{MbtType}
-use Rattle.mb_tables.specs.declared.patch_type.PatchType.{PatchType}
-use Rattle.tile_hash.specs.declared.algorithm.HashAlgorithm.{HashAlgorithm}
 
 -- what stands when all tests but the last passed
 pub record ArePassed (layout : MbtType) (patch_type : Option PatchType) (metadata ids rows : List (List Cell)) (algorithm : HashAlgorithm) (ids' : List (List Cell)) (contents : List Content) (order : List ℕ) (tiles : List StoredTile) (names : List StoredName) : Type 0 where

@@ -1,44 +1,15 @@
 -- Changes are of tables that are described, and what a commit of them leaves as it was beside the rows of keys.
-use Rattle.std.proofs.Common.{◌≡◌, ◌∙◌, ap, sym, subst, Some, None, List, [], ◌∷◌, Bool, true, false, ◌&&◌, ◌||◌, inl, inr, cond, filter, refl, take, get_or}
-use Rattle.std.specs.Prelude.{All}
-use Rattle.std.specs.List.{list_any}
-use Rattle.std.specs.FinMap.{contains_key}
-use Rattle.std.specs.Str.{bytes_eq}
-use Rattle.std.proofs.lemmas.Bool.{false≢true, and_parts, or_cases, or_right, and_right}
+use Rattle.mb_load.proofs.Common.{All, and_parts, and_right, ap, AreChangesOf, AreOfTables, Bool, bytes_eq, Cache, Cell, cell_at, cells_eq-Decides, Change, Commits, cond, contains_key, content_row_by}
+use Rattle.mb_load.proofs.Common.{content_table, DedupId, Edited, false, false≢true, filter, filter_every, Flat, FlatWithHash, get_or, has_columns, has_key, has_table, Hash, Held, id_edited, Images}
+use Rattle.mb_load.proofs.Common.{inl, inr, Int, IntId, InvalidDataFormat, is_changed, is_metadata, is_normalized, is_null, is_own_table, is_set_table, is_table, is_table_kind, IsLoadedFrom}
+use Rattle.mb_load.proofs.Common.{key_cells, key_of, key_width, layout_of, List, list_any, Map, MbtType, Metadata, metadata_missing, None, Normalized, or_cases, or_right, others_stay, refl, RowKey}
+use Rattle.mb_load.proofs.Common.{Some, subst, sym, table_eq, table_text, TableDesc, TableName, Tables, take, Text, TextId, Tile, tile_table, TileCache, Tiles, TilesData, TilesShallow, TilesWithHash}
+use Rattle.mb_load.proofs.Common.{true, unless, [], ◌&&◌, ◌||◌, ◌∙◌, ◌∷◌, ◌≡◌}
 use Rattle.std.proofs.lemmas.List.Folds.{list_any_none}
 use Rattle.mb_load.proofs.LoadsFrom.{key_first}
-use Rattle.mb_loaded.specs.Changing.{AreChangesOf, content_row_by, content_table, id_edited, is_own_table}
-use Rattle.mb_load.specs.Committed.{is_set_table}
-use Rattle.mb_constraints.specs.Described.{is_metadata, metadata_missing}
-use Rattle.mb_loaded.specs.Held.{Edited, Held}
-use Rattle.mb_load.specs.LoadedFrom.{IsLoadedFrom}
-use Rattle.mb_tables.specs.Refusals.{unless}
-use Rattle.mb_store.proofs.Committed.{others_stay}
-use Rattle.mb_tables.proofs.ListLemmas.{filter_every}
-use Rattle.mb_store.specs.Committing.{AreOfTables, Commits, is_changed}
-use Rattle.mb_store.specs.declared.change.Change.{Change}
-use Rattle.mb_tables.proofs.CellLemmas.{cells_eq-Decides}
 use Rattle.mb_tables.proofs.TableLemmas.{same_table}
-use Rattle.mb_tables.specs.Cell.{is_null}
-use Rattle.mb_tables.specs.Described.{is_table, is_table_kind}
 use Rattle.mb_tables.specs.Columns.{fits}
-use Rattle.mb_tables.specs.Detection.{has_columns, has_table, layout_of}
-use Rattle.mb_tables.specs.Key.{has_key, key_cells}
-use Rattle.mb_tables.specs.Kind.{is_normalized, tile_table}
 use Rattle.mb_tables.specs.Schema.{columns_of}
-use Rattle.mb_tables.specs.Table.{Tables, key_of, key_width, table_eq, table_text}
-use Rattle.mb_tables.specs.Tiles.{cell_at}
-use Rattle.mb_tables.specs.declared.cell.Cell.{Cell}
-use Rattle.mb_tables.specs.declared.cell.Cell.TheVariants.{Int, Text}
-use Rattle.mb_tables.specs.declared.description.TableDesc.{TableDesc}
-use Rattle.mb_tables.specs.declared.error.MbtError.TheVariants.{InvalidDataFormat}
-use Rattle.mb_tables.specs.declared.key.RowKey.{RowKey}
-use Rattle.mb_tables.specs.declared.key.RowKey.TheVariants.{Tile, TextId, IntId}
-use Rattle.mb_tables.specs.declared.kind.MbtType.{MbtType}
-use Rattle.mb_tables.specs.declared.kind.MbtType.TheVariants.{Flat, FlatWithHash, Normalized, Cache}
-use Rattle.mb_tables.specs.declared.kind.NormalizedSchema.TheVariants.{Hash, DedupId}
-use Rattle.mb_tables.specs.declared.table.TableName.{TableName}
-use Rattle.mb_tables.specs.declared.table.TableName.TheVariants.{Tiles, TilesWithHash, Map, Images, TilesShallow, TilesData, TileCache, Metadata}
 
 -- a weaker test passes too
 any_weaker : {X : Type 0} (p q : X → Bool) (xs : List X) → ((x : X) → p x ≡ true → q x ≡ true) → list_any p xs ≡ true → list_any q xs ≡ true

@@ -1,34 +1,10 @@
 -- What is read at a place is read of the rows under its key.
-use Rattle.std.proofs.Common.{◌≡◌, ◌∙◌, ap, sym, subst, ℕ, ◌<◌, ◌≤◌, ◌^◌, Option, Some, None, List, [], ◌∷◌, Bool, true, false, ◌⊎◌, inl, inr, cond, not, filter, filter_map, refl, pos, is_some, length, get_or, nat_lt, arith}
-use Rattle.std.specs.Prelude.{All, AllPairs, option_and_then, option_map}
-use Rattle.std.specs.List.{cons_option, list_any}
-use Rattle.std.specs.Ordering.{eq_by_cmp, is_eq}
-use Rattle.std.specs.Cmp.{tied_itself}
-use Rattle.std.specs.FinMap.{find}
-use Rattle.std.proofs.lemmas.Bool.{false≢true, and_from}
-use Rattle.std.proofs.lemmas.Bool.Decides.{Decides-ltb}
-use Rattle.std.proofs.lemmas.List.Elements.{All-head, All-tail}
-use Rattle.std.proofs.lemmas.Option.{none-some}
-use Rattle.mb_loaded.specs.Changing.{front, tile_key}
-use Rattle.mb_loaded.specs.Editable.{IsOnBoard}
-use Rattle.mb_load.specs.LoadedFrom.{at_place, found}
-use Rattle.mb_constraints.proofs.ApartPlaces.{cells_of_place, key_is}
+use Rattle.mb_load.proofs.Common.{All, All-head, All-tail, AllPairs, AllPairs-head, AllPairs-tail, and_from, ap, arith, at_place, Bool, Cell, cell_at, cells_eq, cells_eq-Decides, cells_of_place}
+use Rattle.mb_load.proofs.Common.{clash, cond, cons_option, Decides-ltb, eq_by_cmp, equal_of, false, false≢true, filter, filter_map, filter_none, find, found, front, get_or, has_key, inl, inr, Int}
+use Rattle.mb_load.proofs.Common.{is_eq, is_null, is_some, IsOnBoard, key_cells, key_is, key_of, length, List, list_any, MbtType, nat_lt, None, none-some, not, number_below, Option, option_and_then}
+use Rattle.mb_load.proofs.Common.{option_map, Place, place_cmp, place_of, places_antisymmetric, places_total, pos, refl, RowKey, Some, subst, sym, TableName, tied_itself, tile_key, tile_table, true}
+use Rattle.mb_load.proofs.Common.{ℕ, [], ◌<◌, ◌^◌, ◌∙◌, ◌∷◌, ◌≡◌, ◌≤◌, ◌⊎◌}
 use Rattle.mb_loaded.proofs.ChangeSteps.{front_same}
-use Rattle.mb_lists.proofs.Items.{equal_of}
-use Rattle.mb_lists.proofs.Places.{places_antisymmetric}
-use Rattle.mb_tables.proofs.ListLemmas.{AllPairs-head, AllPairs-tail, filter_none}
-use Rattle.mb_tables.proofs.CellLemmas.{cells_eq-Decides}
-use Rattle.mb_tables.proofs.TileLemmas.{places_total}
-use Rattle.mb_tables.specs.Cell.{cells_eq, is_null}
-use Rattle.mb_tables.specs.Kind.{tile_table}
-use Rattle.mb_tables.specs.Key.{clash, has_key, key_cells}
-use Rattle.mb_tables.specs.Table.{key_of}
-use Rattle.mb_tables.specs.Tiles.{Place, cell_at, number_below, place_cmp, place_of}
-use Rattle.mb_tables.specs.declared.cell.Cell.{Cell}
-use Rattle.mb_tables.specs.declared.cell.Cell.TheVariants.{Int}
-use Rattle.mb_tables.specs.declared.key.RowKey.{RowKey}
-use Rattle.mb_tables.specs.declared.kind.MbtType.{MbtType}
-use Rattle.mb_tables.specs.declared.table.TableName.{TableName}
 
 -- a row of a place has the key of this place, and of no other
 pub key_of_place : (layout : MbtType) (p q : Place) (row : List Cell) → place_of row ≡ Some q → has_key (tile_table layout) (tile_key p) row ≡ eq_by_cmp place_cmp p q

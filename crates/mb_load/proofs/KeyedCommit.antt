@@ -1,21 +1,7 @@
 -- What a commit of covering changes leaves under each key.
-use Rattle.std.proofs.Common.{◌≡◌, ◌∙◌, ap, sym, subst, ℕ, Option, Some, List, Bool, true, false, filter, refl, slice_get}
-use Rattle.std.specs.Prelude.{All, IfSome, option_to_list}
-use Rattle.std.proofs.lemmas.Bool.{false≢true}
-use Rattle.std.proofs.lemmas.List.Elements.{All-weaker}
-use Rattle.std.proofs.lemmas.Option.{get_or_from_slice_get, slice_get_within}
-use Rattle.mb_loaded.specs.Changing.{Covers}
-use Rattle.mb_store.proofs.Committed.{all_committed, left_committed}
-use Rattle.mb_store.specs.Committing.{CommitsTable}
-use Rattle.mb_store.specs.declared.change.Change.{Change}
-use Rattle.mb_tables.proofs.CellLemmas.{cells_eq-Decides}
-use Rattle.mb_tables.specs.Cell.{cells_eq}
-use Rattle.mb_tables.specs.Key.{has_key, key_cells}
-use Rattle.mb_tables.specs.Table.{table_eq}
-use Rattle.mb_tables.specs.declared.cell.Cell.{Cell}
-use Rattle.mb_tables.specs.declared.key.RowKey.{RowKey}
-use Rattle.mb_tables.specs.declared.key.RowKey.TheVariants.{Tile, TextId, IntId}
-use Rattle.mb_tables.specs.declared.table.TableName.{TableName}
+use Rattle.mb_load.proofs.Common.{All, All-weaker, all_committed, ap, Bool, Cell, cells_eq, cells_eq-Decides, Change, CommitsTable, Covers, false, false≢true, filter, get_or_from_slice_get, has_key}
+use Rattle.mb_load.proofs.Common.{IfSome, IntId, key_cells, left_committed, List, Option, option_to_list, refl, RowKey, slice_get, slice_get_within, Some, subst, sym, table_eq, TableName, TextId}
+use Rattle.mb_load.proofs.Common.{Tile, true, ℕ, ◌∙◌, ◌≡◌}
 
 -- keys of equal cells are equal
 pub same_keys : (k l : RowKey) → key_cells k ≡ key_cells l → k ≡ l

@@ -1,61 +1,19 @@
 -- A set that loads is loaded from its tables.
-use Rattle.std.proofs.Common.{◌≡◌, ◌∙◌, ap, sym, subst, ℕ, Option, Some, None, List, [], ◌∷◌, Bool, true, false, ◌&&◌, filter, filter_map, refl, is_some, length, get_or, codes, Result, Ok, Err}
-use Rattle.std.specs.Prelude.{All, IfOk, option_and_then, option_map, option_to_list}
-use Rattle.std.specs.Ordering.{nat_cmp}
-use Rattle.std.specs.Cmp.Lexicographic.{slice_cmp}
+use Rattle.mb_load.proofs.Common.{algorithm_by, All, All-nil, All-weaker, AllOnBoard, and_parts, ap, AreTimes, at_place, bad_tile, begins, Bool, Cache, Cell, cell_at, cell_cmp, cells_total, codes}
+use Rattle.mb_load.proofs.Common.{contains_key, content_entry, content_rows, content_table, contents_of, Dates, dates_in, due_by, entry_key, Err, false, false≢true, filter, filter_entry, filter_map}
+use Rattle.mb_load.proofs.Common.{first_refusal, FitsPlace, Flat, FlatWithHash, found, fresh, get, get-empty, get-from_entries, get_or, has_key, has_tile_kinds, Hash, HashAlgorithm, Held, held_by}
+use Rattle.mb_load.proofs.Common.{id_in, IfOk, in_has_place, index_missing, InvalidDataFormat, is_cache, is_id, is_keyed, is_normalized, is_null, is_number, is_some, is_text, IsContentOf, IsLoadable}
+use Rattle.mb_load.proofs.Common.{IsLoadedFrom, IsOnBoard, IsSound, key_begins, key_cells, key_whole, key_width, layout_of, length, List, Loads, MbtError, MbtType, Metadata, metadata_missing}
+use Rattle.mb_load.proofs.Common.{name_entry, names_as_entries, NamesAlgorithm, nat_cmp, nat_list_cmp_total, None, Normalized, NoUniquenessConstraint, Ok, Option, option_and_then, option_map}
+use Rattle.mb_load.proofs.Common.{option_to_list, patch_type_of, PatchType, Place, place_cmp, place_of, places_total, refl, refusals, Result, row_refusals, RowKey, slice_cmp, Some, State, state_of}
+use Rattle.mb_load.proofs.Common.{stated, subst, sym, TableName, Tables, Text, text_cell, TextId, tile_in, tile_key, tile_table, true, unknown_name, unless_refused, width, wrong_content_hash}
+use Rattle.mb_load.proofs.Common.{wrong_hash, ℕ, [], ◌&&◌, ◌∙◌, ◌∷◌, ◌≡◌}
 use Rattle.std.specs.FinMap as fin
-use Rattle.std.specs.FinMap.{contains_key, get, get-empty, get-from_entries}
-use Rattle.std.proofs.lemmas.Bool.{false≢true, and_parts}
-use Rattle.std.proofs.lemmas.Cmp.{nat_list_cmp_total}
-use Rattle.std.proofs.lemmas.List.Elements.{All-nil, All-weaker}
-use Rattle.mb_constraints.specs.Algorithm.{algorithm_by, unknown_name}
-use Rattle.mb_loaded.specs.Changing.{content_table, tile_key}
-use Rattle.mb_lists.specs.Contents.{content_entry, content_rows}
-use Rattle.mb_constraints.specs.Described.{index_missing, metadata_missing}
-use Rattle.mb_lists.specs.Entries.{is_cache, text_cell}
-use Rattle.mb_constraints.specs.Hashes.{wrong_content_hash, wrong_hash}
-use Rattle.mb_loaded.specs.Held.{Held, fresh}
-use Rattle.mb_tables.specs.CellKinds.{has_tile_kinds, is_id, is_number, is_text}
-use Rattle.mb_load.specs.Loading.{Loads, due_by, held_by}
-use Rattle.mb_load.specs.LoadedFrom.{AllOnBoard, FitsPlace, IsContentOf, IsLoadable, IsLoadedFrom, NamesAlgorithm, at_place, found}
-use Rattle.mb_loaded.specs.Editable.{AreTimes, IsOnBoard}
-use Rattle.mb_load.specs.LoadingOrder.{refusals, row_refusals}
-use Rattle.mb_lists.specs.Metadata.{name_entry}
-use Rattle.mb_tables.specs.Refusals.{first_refusal}
-use Rattle.mb_loaded.specs.State.{State}
-use Rattle.mb_load.specs.StateOf.{state_of, stated, unless_refused}
-use Rattle.mb_constraints.specs.TileRows.{bad_tile, dates_in, id_in, tile_in}
-use Rattle.mb_lists.specs.declared.dates.Dates.{Dates}
-use Rattle.mb_constraints.proofs.ApartPlaces.{in_has_place}
 use Rattle.mb_load.proofs.CommitLemmas.{no_contents, rows_of_contents}
-use Rattle.mb_lists.proofs.FrontLemmas.{begins, entry_key, filter_entry, key_begins, key_whole, names_as_entries}
 use Rattle.mb_load.proofs.KeyReading.{Agrees, Joins, agree_if_joined, alone_under, at_place_placed, found_both, found_never, found_row, found_through, place_on_board, under_key}
 use Rattle.mb_load.proofs.PutRowLemmas.{no_id, no_times}
 use Rattle.mb_load.proofs.RowsPass.{ArePassing, both_none, cell_under, dates_row, holds, joins_row, passing, place_tested}
 use Rattle.mb_load.proofs.StateLemmas.{state_is}
-use Rattle.mb_store.specs.Store.{IsSound}
-use Rattle.mb_tables.proofs.TileLemmas.{places_total}
-use Rattle.mb_tables.specs.Cell.{cell_cmp, is_null}
-use Rattle.mb_tables.specs.CellOrder.{cells_total}
-use Rattle.mb_tables.specs.Described.{is_keyed}
-use Rattle.mb_tables.specs.Detection.{layout_of, patch_type_of}
-use Rattle.mb_tables.specs.Key.{has_key, key_cells}
-use Rattle.mb_tables.specs.Kind.{is_normalized, tile_table}
-use Rattle.mb_tables.specs.Table.{Tables, key_width, width}
-use Rattle.mb_tables.specs.Tiles.{Place, cell_at, contents_of, place_cmp, place_of}
-use Rattle.mb_tables.specs.declared.cell.Cell.{Cell}
-use Rattle.mb_tables.specs.declared.cell.Cell.TheVariants.{Text}
-use Rattle.mb_tables.specs.declared.error.MbtError.{MbtError}
-use Rattle.mb_tables.specs.declared.error.MbtError.TheVariants.{InvalidDataFormat, NoUniquenessConstraint}
-use Rattle.mb_tables.specs.declared.key.RowKey.{RowKey}
-use Rattle.mb_tables.specs.declared.key.RowKey.TheVariants.{TextId}
-use Rattle.mb_tables.specs.declared.kind.MbtType.{MbtType}
-use Rattle.mb_tables.specs.declared.kind.MbtType.TheVariants.{Flat, FlatWithHash, Normalized, Cache}
-use Rattle.mb_tables.specs.declared.kind.NormalizedSchema.TheVariants.{Hash}
-use Rattle.mb_tables.specs.declared.patch_type.PatchType.{PatchType}
-use Rattle.mb_tables.specs.declared.table.TableName.{TableName}
-use Rattle.mb_tables.specs.declared.table.TableName.TheVariants.{Metadata}
-use Rattle.tile_hash.specs.declared.algorithm.HashAlgorithm.{HashAlgorithm}
 
 pub never_id : (l : MbtType) (row : List Cell) → is_normalized l ≡ false → at_place (id_in l) row ≡ None
 never_id l row h = by (place_of row) (id_in l row) (no_id l row h)

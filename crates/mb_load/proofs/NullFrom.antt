@@ -1,21 +1,8 @@
 -- Tables that a set was loaded from are so after null was put, and after a tile of a cache got other times.
-use Rattle.std.proofs.Common.{◌≡◌, ◌∙◌, ap, sym, subst, Option, Some, None, Bool, true, false, ◌&&◌, cond, refl, is_some}
-use Rattle.std.specs.Ordering.{eq_by_cmp}
-use Rattle.std.specs.FinMap.{FinMap, contains_key, get, insert}
-use Rattle.std.proofs.lemmas.Bool.{false≢true}
-use Rattle.mb_loaded.specs.Edits.{dates_for, with_dates, with_null, with_value}
-use Rattle.mb_lists.specs.Entries.{is_cache}
-use Rattle.mb_loaded.specs.Held.{Held}
-use Rattle.mb_loaded.specs.Editable.{AreTimes, IsOnBoard}
-use Rattle.mb_load.specs.LoadedFrom.{IsLoadable, IsLoadedFrom}
-use Rattle.mb_lists.specs.declared.dates.Dates.{Dates}
-use Rattle.mb_loaded.proofs.DatedLemmas.{dates_are, dates_some}
+use Rattle.mb_load.proofs.Common.{ap, AreTimes, Bool, Cache, cond, contains_key, Dates, dates_are, dates_for, dates_some, eq_by_cmp, false, false≢true, FinMap, get, Held, insert, is_cache}
+use Rattle.mb_load.proofs.Common.{is_normalized, is_some, IsLoadable, IsLoadedFrom, IsOnBoard, None, Option, Place, place_cmp, places_total, refl, Some, subst, sym, Tables, true, with_dates}
+use Rattle.mb_load.proofs.Common.{with_null, with_value, ◌&&◌, ◌∙◌, ◌≡◌}
 use Rattle.mb_load.proofs.EditedFrom.{at_other, by_test, fits_same, put_at, put_key, put_placed, same_place, unedited}
-use Rattle.mb_tables.proofs.TileLemmas.{places_total}
-use Rattle.mb_tables.specs.Kind.{is_normalized}
-use Rattle.mb_tables.specs.Table.{Tables}
-use Rattle.mb_tables.specs.Tiles.{Place, place_cmp}
-use Rattle.mb_tables.specs.declared.kind.MbtType.TheVariants.{Cache}
 
 module _ (t : Tables) (h : Held) (p : Place) (loaded : IsLoadedFrom t h) where
   -- what stays elsewhere

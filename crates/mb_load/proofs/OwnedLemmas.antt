@@ -1,13 +1,5 @@
 -- What stays of the tables of a layout when the rows of others are taken.
-use Rattle.std.proofs.Common.{◌≡◌, refl}
-use Rattle.mb_lists.specs.Contents.{content_rows}
-use Rattle.mb_store.specs.Store.{without_rows}
-use Rattle.mb_tables.specs.Kind.{tile_table}
-use Rattle.mb_tables.specs.Table.{Tables}
-use Rattle.mb_tables.specs.declared.kind.MbtType.{MbtType}
-use Rattle.mb_tables.specs.declared.kind.MbtType.TheVariants.{Normalized}
-use Rattle.mb_tables.specs.declared.kind.NormalizedSchema.TheVariants.{Hash}
-use Rattle.mb_tables.specs.declared.table.TableName.TheVariants.{Metadata}
+use Rattle.mb_load.proofs.Common.{content_rows, Hash, MbtType, Metadata, Normalized, refl, Tables, tile_table, without_rows, ◌≡◌}
 
 pub tiles_stay : (layout : MbtType) (t : Tables) → (without_rows t Metadata).rows (tile_table layout) ≡ t.rows (tile_table layout)
 tiles_stay (Normalized view Hash) t = refl

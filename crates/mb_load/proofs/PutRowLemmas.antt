@@ -1,38 +1,12 @@
 -- The rows that are put are read as what the state has.
-use Rattle.std.proofs.Common.{◌≡◌, ◌∙◌, ap, sym, ℕ, ◌<◌, ◌^◌, ◌++◌, Option, Some, None, List, [], ◌∷◌, Bool, true, false, ◌&&◌, cond, pos, refl, is_some, arith}
-use Rattle.std.proofs.Math.Bool.{and-false}
-use Rattle.std.specs.Prelude.{IfSome, option_and_then, option_map, option_to_list, unwrap_or}
-use Rattle.std.specs.Ordering.{eq_by_cmp, is_eq}
-use Rattle.std.specs.Cmp.{tied_itself}
-use Rattle.std.specs.FinMap.{contains_key, get}
-use Rattle.std.specs.Str.{bytes_eq}
-use Rattle.std.proofs.lemmas.Bool.{false≢true, and_from, and_parts}
-use Rattle.std.proofs.lemmas.Bool.Decides.{Decides-ltb}
+use Rattle.mb_load.proofs.Common.{and-false, and_from, and_parts, ap, AreTimes, arith, at_place, bad_tile, blob_cell, Bool, bytes_eq, Cache, Cell, cells_for, cond, contains_key, content_row}
+use Rattle.mb_load.proofs.Common.{content_row_by, contents_of, Dates, dates_in, Decides-ltb, digest, eq_by_cmp, false, false≢true, FitsPlace, Flat, FlatWithHash, found, front, get, has_name_kinds}
+use Rattle.mb_load.proofs.Common.{has_tile_kinds, hash_cell, HashAlgorithm, id_in, IfSome, IncorrectTileHash, Int, IntId, InvalidTileIndex, is_cache, is_eq, is_id, is_normalized, is_null, is_number}
+use Rattle.mb_load.proofs.Common.{is_some, is_text, IsContentOf, IsGoodContent, IsGoodRow, IsLoadable, IsOnBoard, List, MbtType, name_row_by, None, Normalized, Null, number_below, Option}
+use Rattle.mb_load.proofs.Common.{option_and_then, option_map, option_to_list, Place, place_cmp, place_of, places_total, pos, refl, RowKey, Some, State, sym, Text, text_cell, TextId, tied_itself}
+use Rattle.mb_load.proofs.Common.{Tile, tile_in, tile_of, tile_row, tile_row_by, true, unless, unwrap_or, wrong_digest, wrong_hash, wrong_tile_hash, ℕ, [], ◌&&◌, ◌++◌, ◌<◌, ◌^◌, ◌∙◌, ◌∷◌, ◌≡◌}
 use Rattle.std.proofs.lemmas.Slice.Eq.{bytes_eq-Decides}
-use Rattle.mb_loaded.specs.Changing.{cells_for, content_row, content_row_by, front, hash_cell, name_row_by, tile_row, tile_row_by}
-use Rattle.mb_lists.specs.Entries.{blob_cell, is_cache, text_cell}
-use Rattle.mb_constraints.specs.Hashes.{wrong_digest, wrong_hash, wrong_tile_hash}
-use Rattle.mb_tables.specs.CellKinds.{has_name_kinds, has_tile_kinds, is_id, is_number, is_text}
-use Rattle.mb_loaded.specs.Editable.{AreTimes, IsOnBoard}
-use Rattle.mb_load.specs.LoadedFrom.{FitsPlace, IsContentOf, IsGoodContent, IsGoodRow, IsLoadable, at_place, found}
-use Rattle.mb_tables.specs.Refusals.{unless}
-use Rattle.mb_loaded.specs.State.{State}
-use Rattle.mb_constraints.specs.TileRows.{bad_tile, dates_in, id_in, tile_in}
-use Rattle.mb_lists.specs.declared.dates.Dates.{Dates}
-use Rattle.mb_tables.proofs.TileLemmas.{places_total}
-use Rattle.mb_tables.specs.Cell.{is_null}
-use Rattle.mb_tables.specs.Kind.{is_normalized}
-use Rattle.mb_tables.specs.Tiles.{Place, contents_of, number_below, place_cmp, place_of, tile_of}
-use Rattle.mb_tables.specs.declared.cell.Cell.{Cell}
-use Rattle.mb_tables.specs.declared.cell.Cell.TheVariants.{Null, Int, Text}
-use Rattle.mb_tables.specs.declared.error.MbtError.TheVariants.{IncorrectTileHash, InvalidTileIndex}
-use Rattle.mb_tables.specs.declared.key.RowKey.{RowKey}
-use Rattle.mb_tables.specs.declared.key.RowKey.TheVariants.{Tile, TextId, IntId}
-use Rattle.mb_tables.specs.declared.kind.MbtType.{MbtType}
-use Rattle.mb_tables.specs.declared.kind.MbtType.TheVariants.{Flat, FlatWithHash, Normalized, Cache}
 use Rattle.tile_hash.proofs.UpperCaseLemmas.{digest_stays}
-use Rattle.tile_hash.specs.Digest.{digest}
-use Rattle.tile_hash.specs.declared.algorithm.HashAlgorithm.{HashAlgorithm}
 
 below : (n limit : ℕ) → n < limit → number_below limit (Int (pos n)) ≡ Some n
 below n limit h = ap (λ b. cond b (Some n) None) ((Decides-ltb n limit).1 h)

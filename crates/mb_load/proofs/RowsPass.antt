@@ -1,36 +1,13 @@
 -- Rows that no test of loading refuses, each test by itself.
-use Rattle.std.proofs.Common.{◌≡◌, ◌∙◌, ap, sym, ℕ, Option, Some, None, List, [], ◌∷◌, Bool, true, false, ◌||◌, inl, inr, cond, filter_map, refl, is_some, get_or}
-use Rattle.std.specs.Prelude.{All, option_and_then, option_map}
-use Rattle.std.specs.List.{list_all, list_any}
-use Rattle.std.specs.Option.{option_or}
+use Rattle.mb_load.proofs.Common.{algorithm_of, algorithm_unknown, All, All-cons, All-head, All-nil, All-tail, and_from, and_parts, ap, are_apart, at_place, bad_tile, begins, Bool, Cache, Cell}
+use Rattle.mb_load.proofs.Common.{cell_at, cell_cmp, cond, content_entry, content_found, content_of, contents_of, Dates, dates_in, false, false≢true, filter_map, first_refusal, first_refused, Flat}
+use Rattle.mb_load.proofs.Common.{FlatWithHash, fronts, get_or, has_name_kinds, has_tile_kinds, hash_wrong, id_in, id_text, inl, inr, InvalidDataFormat, InvalidTileIndex, is_cache, is_id}
+use Rattle.mb_load.proofs.Common.{is_normalized, is_null, is_some, List, list_all, list_any, MbtError, MbtType, missing_reference, MissingTileReference, None, none-some, Normalized}
+use Rattle.mb_load.proofs.Common.{NoUniquenessConstraint, Null, Option, option_and_then, option_map, option_or, passed, Place, place_of, place_twice, refl, row_refusals, slice_get-get_or, Some, sym}
+use Rattle.mb_load.proofs.Common.{tile_in, tile_of, true, unless, wrong_content_hash, wrong_tile_hash, ℕ, [], ◌||◌, ◌∙◌, ◌∷◌, ◌≡◌}
 use Rattle.std.specs.FinMap as fin
-use Rattle.std.proofs.lemmas.Bool.{false≢true, and_from, and_parts}
-use Rattle.std.proofs.lemmas.List.Elements.{All-cons, All-head, All-nil, All-tail}
-use Rattle.std.proofs.lemmas.Option.{none-some, slice_get-get_or}
-use Rattle.mb_constraints.specs.Algorithm.{algorithm_of, algorithm_unknown}
-use Rattle.mb_lists.specs.Contents.{are_apart, content_entry, fronts}
-use Rattle.mb_constraints.specs.Hashes.{hash_wrong, wrong_content_hash, wrong_tile_hash}
-use Rattle.mb_tables.specs.CellKinds.{has_name_kinds, has_tile_kinds, is_id}
-use Rattle.mb_lists.specs.Entries.{is_cache}
-use Rattle.mb_load.specs.LoadedFrom.{at_place}
-use Rattle.mb_load.specs.LoadingOrder.{row_refusals}
-use Rattle.mb_constraints.specs.References.{id_text, missing_reference}
-use Rattle.mb_tables.specs.Refusals.{first_refusal, first_refused, unless}
-use Rattle.mb_constraints.specs.TileRows.{bad_tile, dates_in, id_in, place_twice, tile_in}
-use Rattle.mb_lists.specs.declared.dates.Dates.{Dates}
-use Rattle.mb_lists.proofs.FrontLemmas.{begins, content_found}
 use Rattle.mb_load.proofs.KeyReading.{Agrees, Joins}
-use Rattle.mb_constraints.proofs.TilesKept.{passed}
-use Rattle.mb_tables.specs.Cell.{cell_cmp, is_null}
-use Rattle.mb_tables.specs.Kind.{is_normalized}
 use Rattle.mb_tables.specs.Kind as kind
-use Rattle.mb_tables.specs.Tiles.{Place, cell_at, content_of, contents_of, place_of, tile_of}
-use Rattle.mb_tables.specs.declared.cell.Cell.{Cell}
-use Rattle.mb_tables.specs.declared.cell.Cell.TheVariants.{Null}
-use Rattle.mb_tables.specs.declared.error.MbtError.{MbtError}
-use Rattle.mb_tables.specs.declared.error.MbtError.TheVariants.{InvalidDataFormat, InvalidTileIndex, MissingTileReference, NoUniquenessConstraint}
-use Rattle.mb_tables.specs.declared.kind.MbtType.{MbtType}
-use Rattle.mb_tables.specs.declared.kind.MbtType.TheVariants.{Flat, FlatWithHash, Normalized, Cache}
 
 pub record ArePassing (layout : MbtType) (metadata contents rows : List (List Cell)) : Type 0 where
   pub ids : are_apart (fronts contents) ≡ true

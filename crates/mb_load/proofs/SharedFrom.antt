@@ -1,26 +1,7 @@
 -- Tables that a set was loaded from are so of the set with the same bytes at several places, too.
-use Rattle.std.proofs.Common.{◌≡◌, ◌∙◌, ap, sym, ℕ, Some, List, [], ◌∷◌, true, cond}
-use Rattle.std.specs.Prelude.{All}
-use Rattle.std.specs.Cmp.{tied_itself}
-use Rattle.std.specs.FinMap.{get, get-insert}
-use Rattle.std.specs.Ordering.{is_eq}
-use Rattle.std.proofs.lemmas.List.Elements.{All-head, All-tail}
-use Rattle.std.proofs.lemmas.Option.{same_Some}
-use Rattle.mb_lists.specs.Contents.{Contents}
-use Rattle.mb_loaded.specs.Edits.{id_for, with_content, with_tile, with_tiles}
-use Rattle.mb_loaded.specs.Held.{Held}
-use Rattle.mb_loaded.specs.Editable.{IsFree, IsOnBoard, is_editable}
-use Rattle.mb_load.specs.LoadedFrom.{IsLoadedFrom}
+use Rattle.mb_load.proofs.Common.{All, All-head, All-tail, ap, Blob, Cell, cells_total, cond, Contents, digest, get, get-insert, HashAlgorithm, Held, id_for, is_editable, is_eq, IsFree, IsLoadedFrom}
+use Rattle.mb_load.proofs.Common.{IsOnBoard, List, MbtType, Normalized, Place, same_Some, Some, sym, Tables, Text, tied_itself, true, with_content, with_tile, with_tiles, ℕ, [], ◌∙◌, ◌∷◌, ◌≡◌}
 use Rattle.mb_load.proofs.EditedFrom.{from_with_tile}
-use Rattle.mb_tables.specs.CellOrder.{cells_total}
-use Rattle.mb_tables.specs.Table.{Tables}
-use Rattle.mb_tables.specs.Tiles.{Place}
-use Rattle.mb_tables.specs.declared.cell.Cell.{Cell}
-use Rattle.mb_tables.specs.declared.cell.Cell.TheVariants.{Text, Blob}
-use Rattle.mb_tables.specs.declared.kind.MbtType.{MbtType}
-use Rattle.mb_tables.specs.declared.kind.MbtType.TheVariants.{Normalized}
-use Rattle.tile_hash.specs.Digest.{digest}
-use Rattle.tile_hash.specs.declared.algorithm.HashAlgorithm.{HashAlgorithm}
 
 -- no other contents stand under the digest of bytes that were put
 free_with : (contents : Contents) (l : MbtType) (a : HashAlgorithm) (bytes : List ℕ) → ((cell : Cell) → get contents (Text (digest a bytes)) ≡ Some cell → cell ≡ Blob bytes) → (cell : Cell) → get (with_content contents (id_for l a bytes) bytes) (Text (digest a bytes)) ≡ Some cell → cell ≡ Blob bytes

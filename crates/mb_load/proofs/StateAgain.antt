@@ -1,61 +1,23 @@
 -- Tables that a set was loaded from, with nothing edited since, load to the same state.
-use Rattle.std.proofs.Common.{◌≡◌, ◌∙◌, ap, sym, subst, ℕ, ◌<◌, ◌≤◌, Option, Some, None, List, [], ◌∷◌, Bool, true, false, ◌||◌, cond, filter, filter_map, find, refl, suc, zero, is_some, length, get_or, codes, arith, Ok}
-use Rattle.std.specs.Prelude.{option_and_then, option_map, option_to_list, unwrap_or}
-use Rattle.std.specs.List.{list_any}
-use Rattle.std.specs.Ordering.{nat_cmp}
-use Rattle.std.specs.Cmp.Lexicographic.{slice_cmp}
+use Rattle.mb_load.proofs.Common.{algorithm_by, algorithm_of, algorithm_unknown, and_parts, any_from_filter, ap, apart_from, are_apart, arith, at_place, bad_tile, begins, Bool, by_place, Cell}
+use Rattle.mb_load.proofs.Common.{cell_at, cell_cmp, cell_cmp-IsAntisymmetric, cells_total, codes, cond, contains_key, content_entry, content_of, content_row, content_rows, content_table}
+use Rattle.mb_load.proofs.Common.{contents_by_id, contents_of, dates_in, DedupId, due_by, entry_from, entry_key, false, false≢true, filter, filter_map, find_only, FitsPlace, found, fresh, fronts, get}
+use Rattle.mb_load.proofs.Common.{get-empty, get-from_entries, get_or, has_key, Hash, held_by, id_in, id_text, in_has_place, Int, IntId, InvalidTileIndex, is_id, is_keyed, is_normalized, is_null}
+use Rattle.mb_load.proofs.Common.{is_number, is_some, is_text, IsGoodContent, IsLoadedFrom, IsSound, key_cells, key_whole, length, List, list_any, MbtType, Metadata, missing_reference}
+use Rattle.mb_load.proofs.Common.{MissingTileReference, name_entry, names_as_entries, names_of, NamesAlgorithm, nat_cmp, nat_list_cmp_total, never_twice, None, Normalized, NoUniquenessConstraint}
+use Rattle.mb_load.proofs.Common.{Null, Ok, Option, option_and_then, option_map, option_to_list, patch_type_of, Place, place_cmp, place_of, places_antisymmetric, places_total, refl, RowKey, same_map}
+use Rattle.mb_load.proofs.Common.{slice_cmp, Some, State, state_of, subst, suc, sym, Tables, Text, text_cell, text_cells, TextId, there, tile_in, tile_key, tile_of, tile_table, true, unknown_name}
+use Rattle.mb_load.proofs.Common.{unless, unwrap_or, wrong_content_hash, wrong_tile_hash, zero, ℕ, [], ◌<◌, ◌||◌, ◌∙◌, ◌∷◌, ◌≡◌, ◌≤◌}
+use Rattle.std.proofs.Common.{find}
 use Rattle.std.specs.FinMap as fin
-use Rattle.std.specs.FinMap.{contains_key, get, get-empty, get-from_entries, same_map}
-use Rattle.std.proofs.lemmas.Bool.{false≢true, and_parts}
-use Rattle.std.proofs.lemmas.Cmp.{nat_list_cmp_total}
-use Rattle.mb_constraints.specs.Algorithm.{algorithm_by, algorithm_of, algorithm_unknown, unknown_name}
-use Rattle.mb_loaded.specs.Changing.{content_row, content_table, tile_key}
-use Rattle.mb_lists.specs.Contents.{are_apart, content_entry, content_rows, contents_by_id, fronts}
-use Rattle.mb_lists.specs.Entries.{text_cell}
-use Rattle.mb_constraints.specs.Hashes.{wrong_content_hash, wrong_tile_hash}
-use Rattle.mb_loaded.specs.Held.{fresh}
-use Rattle.mb_tables.specs.CellKinds.{is_id, is_number, is_text}
-use Rattle.mb_load.specs.Loading.{due_by, held_by}
-use Rattle.mb_load.specs.LoadedFrom.{FitsPlace, IsGoodContent, IsLoadedFrom, NamesAlgorithm, at_place, found}
-use Rattle.mb_lists.specs.Metadata.{name_entry, names_of}
-use Rattle.mb_constraints.specs.References.{id_text, missing_reference}
-use Rattle.mb_tables.specs.Refusals.{unless}
-use Rattle.mb_loaded.specs.State.{State}
-use Rattle.mb_load.specs.StateOf.{state_of}
-use Rattle.mb_constraints.specs.TileRows.{bad_tile, by_place, dates_in, id_in, tile_in}
-use Rattle.mb_constraints.proofs.ApartPlaces.{in_has_place, never_twice}
 use Rattle.mb_load.proofs.CommitLemmas.{no_contents}
-use Rattle.mb_loaded.proofs.Covering.{there}
-use Rattle.mb_lists.proofs.FrontLemmas.{any_from_filter, apart_from, begins, entry_from, entry_key, key_whole, names_as_entries, text_cells}
 use Rattle.mb_load.proofs.KeyReading.{at_place_placed, found_through, key_of_place, under_key}
 use Rattle.mb_load.proofs.LoadsFrom.{filter_begins, key_first, own_contents}
 use Rattle.mb_lists.proofs.NameLemmas.{names_antisymmetric}
-use Rattle.mb_lists.proofs.Places.{places_antisymmetric}
 use Rattle.mb_load.proofs.PutRowLemmas.{id_known, tied}
 use Rattle.mb_load.proofs.RowsPass.{ArePassing, cell_under, holds, joins_row, pass_all}
 use Rattle.mb_load.proofs.StateLemmas.{state_is}
-use Rattle.mb_tables.proofs.ListLemmas.{find_only}
-use Rattle.mb_store.specs.Store.{IsSound}
-use Rattle.mb_tables.proofs.CellLemmas.{cell_cmp-IsAntisymmetric}
-use Rattle.mb_tables.proofs.TileLemmas.{places_total}
-use Rattle.mb_tables.specs.Cell.{cell_cmp, is_null}
-use Rattle.mb_tables.specs.CellOrder.{cells_total}
-use Rattle.mb_tables.specs.Described.{is_keyed}
-use Rattle.mb_tables.specs.Detection.{patch_type_of}
-use Rattle.mb_tables.specs.Key.{has_key, key_cells}
-use Rattle.mb_tables.specs.Kind.{is_normalized, tile_table}
 use Rattle.mb_tables.specs.Kind as kind
-use Rattle.mb_tables.specs.Table.{Tables}
-use Rattle.mb_tables.specs.Tiles.{Place, cell_at, content_of, contents_of, place_cmp, place_of, tile_of}
-use Rattle.mb_tables.specs.declared.cell.Cell.{Cell}
-use Rattle.mb_tables.specs.declared.cell.Cell.TheVariants.{Null, Int, Text}
-use Rattle.mb_tables.specs.declared.error.MbtError.TheVariants.{InvalidTileIndex, MissingTileReference, NoUniquenessConstraint}
-use Rattle.mb_tables.specs.declared.key.RowKey.{RowKey}
-use Rattle.mb_tables.specs.declared.key.RowKey.TheVariants.{TextId, IntId}
-use Rattle.mb_tables.specs.declared.kind.MbtType.{MbtType}
-use Rattle.mb_tables.specs.declared.kind.MbtType.TheVariants.{Normalized}
-use Rattle.mb_tables.specs.declared.kind.NormalizedSchema.TheVariants.{Hash, DedupId}
-use Rattle.mb_tables.specs.declared.table.TableName.TheVariants.{Metadata}
 
 -- a cell that is the key of a row
 abbrev pub IsKeyed : Cell → Type 0

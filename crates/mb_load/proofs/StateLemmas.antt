@@ -1,38 +1,12 @@
 -- What is due of tables is what is due of their rows.
-use Rattle.std.proofs.Common.{◌≡◌, ◌≢◌, ◌∙◌, ap, sym, subst, List, [], ◌∷◌, Option, Some, None, Bool, true, false, cond, Result, Ok, Err, filter_map, refl}
-use Rattle.std.specs.Prelude.{option_and_then}
-use Rattle.std.specs.Option.{option_or}
-use Rattle.std.specs.FinMap.{from_entries}
-use Rattle.std.proofs.lemmas.Bool.{false≢true}
-use Rattle.mb_constraints.specs.Algorithm.{algorithm_of}
-use Rattle.mb_lists.specs.Contents.{content_rows, contents_by_id}
-use Rattle.mb_constraints.specs.Described.{index_missing, metadata_missing}
-use Rattle.mb_load.specs.Loading.{Loads, due_by, held_by, rows_due}
-use Rattle.mb_loaded.specs.Held.{Held}
-use Rattle.mb_load.specs.LoadingOrder.{row_refusals}
-use Rattle.mb_lists.specs.Metadata.{names_of}
-use Rattle.mb_tables.specs.Refusals.{first_refusal, is_free}
-use Rattle.mb_loaded.specs.State.{State}
-use Rattle.mb_load.specs.StateOf.{held_in, state_of, stated, unless_refused}
-use Rattle.mb_constraints.specs.TileRows.{by_place, dates_in, id_in, tile_in}
+use Rattle.mb_load.proofs.Common.{algorithm_of, ap, Bool, by_place, Cell, cell_at, cond, content_of, content_rows, contents_by_id, dates_in, DedupId, due_by, Err, false, false≢true, filter_map}
+use Rattle.mb_load.proofs.Common.{first_refusal, Flat, from_entries, Hash, Held, held_by, held_in, id_in, index_missing, is_free, is_normalized, is_null, layout_of, List, Loads, MbtError, MbtType}
+use Rattle.mb_load.proofs.Common.{Metadata, metadata_missing, names_of, None, Normalized, NormalizedSchema, Ok, Option, option_and_then, option_or, pairs_by_id, patch_type_of, PatchType, place_cmp}
+use Rattle.mb_load.proofs.Common.{refl, Result, row_refusals, rows_due, Some, State, state_of, stated, StoreFault, subst, sym, table_eq, TableDesc, Tables, tile_in, tile_of, tile_table, tiles_of}
+use Rattle.mb_load.proofs.Common.{true, unless_refused, [], ◌∙◌, ◌∷◌, ◌≡◌, ◌≢◌}
 use Rattle.mb_store.specs.Errors.{of_store}
 use Rattle.mb_store.specs.declared.store.StoreError.{StoreError}
 use Rattle.mb_store.specs.declared.store.StoreError.TheVariants.{Fault, OutOfMemory}
-use Rattle.mb_tables.specs.Cell.{is_null}
-use Rattle.mb_tables.specs.Detection.{layout_of, patch_type_of}
-use Rattle.mb_tables.specs.Kind.{is_normalized, tile_table}
-use Rattle.mb_tables.specs.Table.{Tables, table_eq}
-use Rattle.mb_tables.specs.Tiles.{cell_at, content_of, pairs_by_id, place_cmp, tile_of, tiles_of}
-use Rattle.mb_tables.specs.declared.cell.Cell.{Cell}
-use Rattle.mb_tables.specs.declared.description.TableDesc.{TableDesc}
-use Rattle.mb_tables.specs.declared.error.MbtError.{MbtError}
-use Rattle.mb_tables.specs.declared.error.MbtError.TheVariants.{StoreFault}
-use Rattle.mb_tables.specs.declared.kind.MbtType.{MbtType}
-use Rattle.mb_tables.specs.declared.kind.MbtType.TheVariants.{Flat, Normalized}
-use Rattle.mb_tables.specs.declared.kind.NormalizedSchema.{NormalizedSchema}
-use Rattle.mb_tables.specs.declared.kind.NormalizedSchema.TheVariants.{Hash, DedupId}
-use Rattle.mb_tables.specs.declared.patch_type.PatchType.{PatchType}
-use Rattle.mb_tables.specs.declared.table.TableName.TheVariants.{Metadata}
 
 -- a row of a normalised set
 named_row : (view : Bool) (schema : NormalizedSchema) (contents : List (List Cell)) (row : List Cell) → cond (is_null (cell_at 3 row)) None (tile_of row (content_of contents (cell_at 3 row))) ≡ tile_in (Normalized view schema) contents row

@@ -1,28 +1,11 @@
 -- The tiles that are kept of the rows of each layout.
-use Rattle.std.proofs.Common.{◌≡◌, ◌∙◌, ap, sym, subst, suc, ℕ, ◌+◌, List, [], ◌∷◌, Option, Some, None, Bool, true, cond, filter_map, map, refl, arith, is_some}
-use Rattle.std.specs.Prelude.{All, option_and_then, slice_get}
-use Rattle.std.specs.List.Sorted.{IsPermutation}
-use Rattle.std.proofs.lemmas.List.Elements.{All-cons}
+use Rattle.mb_load.proofs.Common.{All, All-cons, ap, AreIndexed, AreTilesOf, arith, bad_tile, Bool, by_all, by_entries, by_id_if, Cache, Cell, cell_at, cond, Content, content_at, contents_in}
+use Rattle.mb_load.proofs.Common.{contents_of, Dates, dates_by_id, dates_from, dates_in, filter_map, first_refused, Flat, FlatWithHash, from_entries, id_by_id, id_in, ids_from, InvalidTileIndex}
+use Rattle.mb_load.proofs.Common.{is_cache, is_null, is_removed, is_some, IsDated, IsPermutation, Kept, List, map, MbtType, missing_reference, None, Normalized, NormalizedSchema, Option}
+use Rattle.mb_load.proofs.Common.{option_and_then, own_all, own_at, own_content, own_entries, own_tiles, passed, place_cmp, placed, placed_entry, refl, rows_kept, slice_get, Some, stored_by_id}
+use Rattle.mb_load.proofs.Common.{stored_if, StoredTile, subst, suc, sym, tile_by_id, tile_dates, tile_entry, tile_id, tile_in, tile_of, tile_value, true, undated, unless, whole_by_id, whole_row, ℕ}
+use Rattle.mb_load.proofs.Common.{[], ◌+◌, ◌∙◌, ◌∷◌, ◌≡◌}
 use Rattle.std.proofs.lemmas.List.Sorted.{IsPermutation-refl}
-use Rattle.std.specs.FinMap.{from_entries}
-use Rattle.mb_lists.specs.Entries.{IsDated, content_at, is_cache, is_removed, tile_dates, tile_id, tile_value}
-use Rattle.mb_lists.specs.FromRows.{AreIndexed, dates_from, ids_from, own_content, own_tiles, rows_kept, stored_by_id, undated}
-use Rattle.mb_tables.specs.Refusals.{first_refused, unless}
-use Rattle.mb_constraints.specs.References.{missing_reference}
-use Rattle.mb_load.specs.RowTiles.{AreTilesOf}
-use Rattle.mb_constraints.specs.TileRows.{bad_tile, contents_in, dates_in, id_in, tile_in}
-use Rattle.mb_lists.specs.declared.dates.Dates.{Dates}
-use Rattle.mb_lists.specs.declared.entries.Content.{Content}
-use Rattle.mb_lists.specs.declared.entries.Standing.TheVariants.{Kept}
-use Rattle.mb_lists.specs.declared.entries.StoredTile.{StoredTile}
-use Rattle.mb_constraints.proofs.TilesKept.{by_all, by_entries, by_id_if, dates_by_id, id_by_id, own_all, own_at, own_entries, passed, placed, placed_entry, stored_if, tile_by_id, tile_entry, whole_by_id, whole_row}
-use Rattle.mb_tables.specs.Cell.{is_null}
-use Rattle.mb_tables.specs.Tiles.{cell_at, contents_of, place_cmp, tile_of}
-use Rattle.mb_tables.specs.declared.cell.Cell.{Cell}
-use Rattle.mb_tables.specs.declared.error.MbtError.TheVariants.{InvalidTileIndex}
-use Rattle.mb_tables.specs.declared.kind.MbtType.{MbtType}
-use Rattle.mb_tables.specs.declared.kind.MbtType.TheVariants.{Flat, FlatWithHash, Normalized, Cache}
-use Rattle.mb_tables.specs.declared.kind.NormalizedSchema.{NormalizedSchema}
 
 module _ (n : ℕ) (layout : MbtType) (ids_rows rows : List (List Cell)) (dates : List Cell → Option Dates) (own : (row : List Cell) → contents_in layout ids_rows row ≡ Some (cell_at n row)) (none : (row : List Cell) → id_in layout row ≡ None) (times : (row : List Cell) → dates row ≡ dates_in layout row) (dated : (row : List Cell) → is_some (dates row) ≡ is_cache layout) (pass : first_refused (bad_tile layout ids_rows) rows ≡ None) where
   abbrev kept : List Content

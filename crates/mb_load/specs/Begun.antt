@@ -1,10 +1,7 @@
 -- What a call that begins with loading answers.
 use Rattle.std.specs.Prelude.{◌≡◌, Bool, true, Result}
-use Rattle.mb_tables.specs.Refusals.{Answers, then}
-use Rattle.mb_loaded.specs.State.{State}
+use Rattle.mb_load.specs.Common.{Answers, MbtError, State, Tables, then}
 use Rattle.mb_load.specs.StateOf.{state_of}
-use Rattle.mb_tables.specs.Table.{Tables}
-use Rattle.mb_tables.specs.declared.error.MbtError.{MbtError}
 
 -- the refusal of loading tables, or what a function of their state answers
 unfoldable pub begun : {A : Type 0} → (State → Result A MbtError) → Tables → Result A MbtError

@@ -1,21 +1,9 @@
 -- What a commit of a set's changes leaves of the tables that it was loaded from.
 use Rattle.std.specs.Prelude.{◌≡◌, ℕ, ◌&&◌, ◌||◌, Bool, true, false, List, [], ◌∷◌, Ok, filter, option_to_list}
-use Rattle.std.specs.FinMap.{contains_key}
-use Rattle.mb_loaded.specs.Changing.{content_row, content_table, name_row, tile_key, tile_row}
-use Rattle.mb_loaded.specs.Held.{Held, fresh}
+use Rattle.mb_load.specs.Common.{Cell, cell_at, contains_key, content_row, content_table, fresh, has_key, Held, is_normalized, is_null, key_cells, MbtType, Metadata, name_row, Place, RowKey, table_eq}
+use Rattle.mb_load.specs.Common.{TableName, Tables, TextId, tile_key, tile_row, tile_table}
 use Rattle.mb_load.specs.LoadedFrom.{IsLoadedFrom, NamesAlgorithm}
 use Rattle.mb_load.specs.StateOf.{state_of}
-use Rattle.mb_tables.specs.Cell.{is_null}
-use Rattle.mb_tables.specs.Key.{has_key, key_cells}
-use Rattle.mb_tables.specs.Kind.{is_normalized, tile_table}
-use Rattle.mb_tables.specs.Table.{Tables, table_eq}
-use Rattle.mb_tables.specs.Tiles.{Place, cell_at}
-use Rattle.mb_tables.specs.declared.cell.Cell.{Cell}
-use Rattle.mb_tables.specs.declared.key.RowKey.{RowKey}
-use Rattle.mb_tables.specs.declared.key.RowKey.TheVariants.{TextId}
-use Rattle.mb_tables.specs.declared.kind.MbtType.{MbtType}
-use Rattle.mb_tables.specs.declared.table.TableName.{TableName}
-use Rattle.mb_tables.specs.declared.table.TableName.TheVariants.{Metadata}
 
 -- whether a table is one of those of a layout: of its tiles, of its contents by id, if it has these, or of metadata
 abbrev pub is_set_table : MbtType → TableName → Bool

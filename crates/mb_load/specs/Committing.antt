@@ -1,10 +1,6 @@
 -- What a commit of a loaded set's edits makes of tables.
 use Rattle.std.specs.Prelude.{List}
-use Rattle.mb_loaded.specs.Changing.{AreChangesOf}
-use Rattle.mb_loaded.specs.Held.{Held}
-use Rattle.mb_store.specs.Committing.{Commits}
-use Rattle.mb_store.specs.declared.change.Change.{Change}
-use Rattle.mb_tables.specs.Table.{Tables}
+use Rattle.mb_load.specs.Common.{AreChangesOf, Change, Commits, Held, Tables}
 
 -- the changes of the set were committed
 pub record MakesChanges (h : Held) (old new : Tables) : Type 0 where

@@ -1,3 +1,4 @@
+pub mod Common
 pub mod LoadingOrder
 pub mod StateOf
 pub mod RowTiles

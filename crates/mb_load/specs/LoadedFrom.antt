@@ -1,31 +1,10 @@
 -- Tables that a set was loaded from.
 use Rattle.std.specs.Prelude.{◌≡◌, ℕ, codes, ◌≤◌, ◌&&◌, true, false, List, [], ◌∷◌, Option, Some, None, All, filter, filter_map, length, option_and_then, option_map, option_to_list}
-use Rattle.std.specs.FinMap.{contains_key, find, get}
-use Rattle.mb_constraints.specs.Algorithm.{algorithm_by, unknown_name}
-use Rattle.mb_loaded.specs.Changing.{content_row, content_table, name_row, tile_key}
-use Rattle.mb_lists.specs.Contents.{content_rows}
-use Rattle.mb_lists.specs.Entries.{is_cache}
-use Rattle.mb_constraints.specs.Described.{index_missing, metadata_missing}
-use Rattle.mb_constraints.specs.Hashes.{wrong_content_hash, wrong_tile_hash}
-use Rattle.mb_loaded.specs.Held.{Held}
-use Rattle.mb_tables.specs.CellKinds.{has_name_kinds, has_tile_kinds, is_id}
-use Rattle.mb_lists.specs.Metadata.{text_at}
-use Rattle.mb_loaded.specs.State.{State}
-use Rattle.mb_loaded.specs.Editable.{AreTimes, IsOnBoard}
-use Rattle.mb_constraints.specs.TileRows.{bad_tile, dates_in, id_in, tile_in}
-use Rattle.mb_lists.specs.declared.dates.Dates.{Dates}
-use Rattle.mb_tables.specs.Cell.{is_null}
-use Rattle.mb_tables.specs.Detection.{layout_of, patch_type_of}
-use Rattle.mb_tables.specs.Key.{has_key, key_cells}
-use Rattle.mb_tables.specs.Kind.{is_normalized, tile_table}
-use Rattle.mb_tables.specs.Table.{Tables}
-use Rattle.mb_tables.specs.Tiles.{Place, cell_at, contents_of, place_cmp, place_of}
-use Rattle.mb_tables.specs.declared.cell.Cell.{Cell}
-use Rattle.mb_tables.specs.declared.key.RowKey.{RowKey}
-use Rattle.mb_tables.specs.declared.key.RowKey.TheVariants.{TextId}
-use Rattle.mb_tables.specs.declared.kind.MbtType.{MbtType}
-use Rattle.mb_tables.specs.declared.table.TableName.TheVariants.{Metadata}
-use Rattle.tile_hash.specs.declared.algorithm.HashAlgorithm.{HashAlgorithm}
+use Rattle.mb_load.specs.Common.{algorithm_by, AreTimes, bad_tile, Cell, cell_at, contains_key, content_row, content_rows, content_table, contents_of, Dates, dates_in, find, get, has_key}
+use Rattle.mb_load.specs.Common.{has_name_kinds, has_tile_kinds, HashAlgorithm, Held, id_in, index_missing, is_cache, is_id, is_normalized, is_null, IsOnBoard, key_cells, layout_of, MbtType, Metadata}
+use Rattle.mb_load.specs.Common.{metadata_missing, name_row, patch_type_of, Place, place_cmp, RowKey, State, Tables, text_at, TextId, tile_in, tile_key, tile_table, unknown_name, wrong_content_hash}
+use Rattle.mb_load.specs.Common.{wrong_tile_hash}
+use Rattle.mb_tables.specs.Tiles.{place_of}
 
 -- all tiles of a set stand at such places
 abbrev pub AllOnBoard : State → Type 0

@@ -1,17 +1,7 @@
 -- What a load answers, and what is due of rows.
 use Rattle.std.specs.Prelude.{◌≡◌, false, List, Option, Some, None, Result, Ok, Err, filter_map}
-use Rattle.std.specs.FinMap.{from_entries}
-use Rattle.mb_constraints.specs.Algorithm.{algorithm_of}
-use Rattle.mb_lists.specs.Contents.{contents_by_id}
-use Rattle.mb_loaded.specs.Held.{Held, nothing_edited}
+use Rattle.mb_load.specs.Common.{algorithm_of, by_place, Cell, contents_by_id, dates_in, first_refusal, from_entries, Held, id_in, is_free, MbtError, MbtType, names_of, nothing_edited, State, tile_in}
 use Rattle.mb_load.specs.LoadingOrder.{row_refusals}
-use Rattle.mb_lists.specs.Metadata.{names_of}
-use Rattle.mb_tables.specs.Refusals.{first_refusal, is_free}
-use Rattle.mb_loaded.specs.State.{State}
-use Rattle.mb_constraints.specs.TileRows.{by_place, dates_in, id_in, tile_in}
-use Rattle.mb_tables.specs.declared.cell.Cell.{Cell}
-use Rattle.mb_tables.specs.declared.error.MbtError.{MbtError}
-use Rattle.mb_tables.specs.declared.kind.MbtType.{MbtType}
 use Rattle.mb_tables.specs.declared.patch_type.PatchType.{PatchType}
 
 -- the state that is due, with nothing edited; or the refusal that is due, unless memory or the store was wanting

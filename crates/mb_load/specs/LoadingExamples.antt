@@ -1,18 +1,12 @@
 -- Sets that are refused, each by one test.
 use Rattle.std.specs.Prelude.{◌≡◌, ℕ, codes, pos, negsuc, refl, cond, false, List, [], ◌∷◌, None, Err}
 use Rattle.mb_load.specs.LoadingOrder.{refusals}
-use Rattle.mb_tables.specs.Refusals.{first_refusal}
+use Rattle.mb_load.specs.Common.{Cell, first_refusal, Flat, Images, InvalidDataFormat, InvalidTileIndex, Map, MbtType, Metadata, MissingTileReference, Normalized, NoUniquenessConstraint, table_eq}
+use Rattle.mb_load.specs.Common.{TableName, Tables, Tiles, UnsupportedHashAlgorithm}
 use Rattle.mb_load.specs.StateOf.{state_of}
 use Rattle.mb_tables.specs.Schema.{set_tables}
-use Rattle.mb_tables.specs.Table.{Tables, table_eq}
-use Rattle.mb_tables.specs.declared.cell.Cell.{Cell}
 use Rattle.mb_tables.specs.declared.cell.Cell.TheVariants.{Null, Int, Text, Blob, Other}
-use Rattle.mb_tables.specs.declared.error.MbtError.TheVariants.{InvalidDataFormat, NoUniquenessConstraint, UnsupportedHashAlgorithm, InvalidTileIndex, MissingTileReference}
-use Rattle.mb_tables.specs.declared.kind.MbtType.{MbtType}
-use Rattle.mb_tables.specs.declared.kind.MbtType.TheVariants.{Flat, Normalized}
 use Rattle.mb_tables.specs.declared.kind.NormalizedSchema.TheVariants.{Hash}
-use Rattle.mb_tables.specs.declared.table.TableName.{TableName}
-use Rattle.mb_tables.specs.declared.table.TableName.TheVariants.{Tiles, Map, Images, Metadata}
 
 -- a set of a layout with rows of tiles, of contents and of metadata
 abbrev set_of : MbtType → TableName → List (List Cell) → List (List Cell) → List (List Cell) → Tables

@@ -1,19 +1,7 @@
 -- The tests that a set of tables must pass to be loaded, in their order.
 use Rattle.std.specs.Prelude.{List, [], ◌∷◌, Option}
-use Rattle.mb_constraints.specs.Algorithm.{algorithm_of, algorithm_unknown}
-use Rattle.mb_lists.specs.Contents.{content_rows, id_twice}
-use Rattle.mb_constraints.specs.Described.{index_missing, metadata_missing}
-use Rattle.mb_constraints.specs.Hashes.{hash_wrong}
-use Rattle.mb_tables.specs.CellKinds.{content_kind_wrong, name_kind_wrong, tile_kind_wrong}
-use Rattle.mb_lists.specs.Metadata.{name_twice}
-use Rattle.mb_constraints.specs.References.{reference_missing}
-use Rattle.mb_constraints.specs.TileRows.{place_twice, tile_bad}
-use Rattle.mb_tables.specs.Kind.{tile_table}
-use Rattle.mb_tables.specs.Table.{Tables}
-use Rattle.mb_tables.specs.declared.cell.Cell.{Cell}
-use Rattle.mb_tables.specs.declared.error.MbtError.{MbtError}
-use Rattle.mb_tables.specs.declared.kind.MbtType.{MbtType}
-use Rattle.mb_tables.specs.declared.table.TableName.TheVariants.{Metadata}
+use Rattle.mb_load.specs.Common.{algorithm_of, algorithm_unknown, Cell, content_kind_wrong, content_rows, hash_wrong, id_twice, index_missing, MbtError, MbtType, Metadata, metadata_missing}
+use Rattle.mb_load.specs.Common.{name_kind_wrong, name_twice, place_twice, reference_missing, Tables, tile_bad, tile_kind_wrong, tile_table}
 
 -- the refusal of each test over the rows of metadata, of contents and of tiles, in the order of the tests
 abbrev pub row_refusals : MbtType → List (List Cell) → List (List Cell) → List (List Cell) → List (Option MbtError)

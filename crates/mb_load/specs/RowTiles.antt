@@ -1,13 +1,9 @@
 -- What is kept of the rows of tiles means what the rows do.
 use Rattle.std.specs.Prelude.{◌≡◌, true, List, All, filter_map, is_some}
-use Rattle.mb_lists.specs.Entries.{IsDated, place_of, tile_dates, tile_id, tile_value, tiles_held}
+use Rattle.mb_load.specs.Common.{by_place, Cell, dates_in, id_in, IsDated, Kept, MbtType, place_of, tile_dates, tile_id, tile_in, tile_value, tiles_held}
 use Rattle.mb_lists.specs.Keyed.{entries_by}
-use Rattle.mb_constraints.specs.TileRows.{by_place, dates_in, id_in, tile_in}
 use Rattle.mb_lists.specs.declared.entries.Content.{Content}
-use Rattle.mb_lists.specs.declared.entries.Standing.TheVariants.{Kept}
 use Rattle.mb_lists.specs.declared.entries.StoredTile.{StoredTile}
-use Rattle.mb_tables.specs.declared.cell.Cell.{Cell}
-use Rattle.mb_tables.specs.declared.kind.MbtType.{MbtType}
 
 -- tiles in the order of their rows, as loaded, each with bytes or null
 pub record AreTilesOf (layout : MbtType) (ids_rows rows : List (List Cell)) (contents : List Content) (tiles : List StoredTile) : Type 0 where

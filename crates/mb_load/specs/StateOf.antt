@@ -1,20 +1,8 @@
 -- What a set of tables holds, or the first refusal of the tests.
 use Rattle.std.specs.Prelude.{Option, Some, None, Result, Ok, Err}
-use Rattle.mb_constraints.specs.Algorithm.{algorithm_of}
-use Rattle.mb_lists.specs.Contents.{content_rows, contents_by_id}
+use Rattle.mb_load.specs.Common.{algorithm_of, by_place, content_rows, contents_by_id, dates_in, first_refusal, id_in, InvalidDataFormat, layout_of, MbtError, MbtType, Metadata, names_of}
+use Rattle.mb_load.specs.Common.{patch_type_of, State, Tables, tile_table, tiles_of}
 use Rattle.mb_load.specs.LoadingOrder.{refusals}
-use Rattle.mb_loaded.specs.State.{State}
-use Rattle.mb_lists.specs.Metadata.{names_of}
-use Rattle.mb_tables.specs.Refusals.{first_refusal}
-use Rattle.mb_constraints.specs.TileRows.{by_place, dates_in, id_in}
-use Rattle.mb_tables.specs.Detection.{layout_of, patch_type_of}
-use Rattle.mb_tables.specs.Kind.{tile_table}
-use Rattle.mb_tables.specs.Table.{Tables}
-use Rattle.mb_tables.specs.Tiles.{tiles_of}
-use Rattle.mb_tables.specs.declared.error.MbtError.{MbtError}
-use Rattle.mb_tables.specs.declared.error.MbtError.TheVariants.{InvalidDataFormat}
-use Rattle.mb_tables.specs.declared.kind.MbtType.{MbtType}
-use Rattle.mb_tables.specs.declared.table.TableName.TheVariants.{Metadata}
 
 -- what the tables of a layout hold
 abbrev pub held_in : MbtType → Tables → State

@@ -1,9 +1,8 @@
 // Committing the edits of a loaded set.
-ghost use Rattle.mb_store.specs.Kept.{FaultsCounted, Keeps};
+ghost use Rattle.mb_load.specs.Common.{FaultsCounted, is_free, Keeps};
 ghost use Rattle.std.specs.Prelude.{◌≡◌, true, OnOk, OnErr, IfErr};
 ghost use Rattle.mb_load.specs.Committing.{MakesChanges};
 ghost use Rattle.mb_load.specs.LoadedFrom.{IsLoadedFrom};
-ghost use Rattle.mb_tables.specs.Refusals.{is_free};
 
 use mb_loaded::Loaded;
 use mb_store::{MbtError, MbtResult, TileStore};

@@ -1,22 +1,10 @@
 // A set from its rows.
 ghost use Rattle.std.specs.Prelude.{◌≡◌, ◌≢◌, ◌&&◌, All, IfErr, IfOk, List, [], false, length, option_and_then, option_copied};
-ghost use Rattle.std.specs.FinMap.{get};
+ghost use Rattle.mb_load.specs.Common.{algorithm_of, algorithm_unknown, AreIndexed, AreNamesInOrder, Cell, content_kind_wrong, get, has_tile_kinds, hash_wrong, id_twice, is_id, is_normalized, Kept};
+ghost use Rattle.mb_load.specs.Common.{names_held, names_of, reference_missing, rows_kept, Tests, text_of, tile_bad, tile_kind_wrong};
 ghost use Rattle.std.specs.List.{list_all};
 ghost use Rattle.std.specs.Option.{option_or};
-ghost use Rattle.mb_constraints.specs.Algorithm.{algorithm_of, algorithm_unknown};
-ghost use Rattle.mb_lists.specs.Contents.{id_twice};
-ghost use Rattle.mb_lists.specs.Entries.{AreNamesInOrder, names_held};
-ghost use Rattle.mb_lists.specs.FromRows.{AreIndexed, rows_kept};
-ghost use Rattle.mb_constraints.specs.Hashes.{hash_wrong};
-ghost use Rattle.mb_tables.specs.CellKinds.{content_kind_wrong, has_tile_kinds, is_id, tile_kind_wrong};
 ghost use Rattle.mb_load.specs.Loading.{Loads, rows_due};
-ghost use Rattle.mb_lists.specs.Metadata.{names_of, text_of};
-ghost use Rattle.mb_constraints.specs.References.{reference_missing};
-ghost use Rattle.mb_tables.specs.Refusals.{Tests};
-ghost use Rattle.mb_constraints.specs.TileRows.{tile_bad};
-ghost use Rattle.mb_lists.specs.declared.entries.Standing.TheVariants.{Kept};
-ghost use Rattle.mb_tables.specs.Kind.{is_normalized};
-ghost use Rattle.mb_tables.specs.declared.cell.Cell.{Cell};
 
 use crate::tiles_of_rows::tiles_of;
 use base_values::TextVal;

@@ -1,29 +1,15 @@
 //! Laws of loading, and of commits of a loaded set's changes.
 ghost use Rattle.std.specs.Prelude.{◌≡◌, ℕ, All, List, Ok, Option, None, Some, false, true};
-ghost use Rattle.std.specs.FinMap.{contains_key, get};
-ghost use Rattle.mb_loaded.specs.Changing.{AreChangesOf};
+ghost use Rattle.mb_load.specs.Common.{AreChangesOf, AreOfTables, AreTimes, Cache, Cell, Change, Commits, contains_key, Dates, fresh, get, HashAlgorithm, Held, is_editable, is_normalized, IsFree};
+ghost use Rattle.mb_load.specs.Common.{IsOnBoard, MbtType, Place, place_twice, State, Tables, tile_table};
 ghost use Rattle.mb_load.specs.Committed.{IsCommitted};
 ghost use Rattle.mb_loaded.specs.Edits.{only_referenced, removed_name, removed_tile, with_dates, with_name, with_null, with_tile, with_tiles, without_name, without_tile};
 ghost use Rattle.mb_load.specs.EmptyTables.{AreEmpty};
 ghost use Rattle.mb_loaded.specs.Empty.{empty_state};
-ghost use Rattle.mb_loaded.specs.Held.{Held, fresh};
-ghost use Rattle.mb_loaded.specs.Editable.{AreTimes, IsFree, IsOnBoard, is_editable};
 ghost use Rattle.mb_load.specs.LoadedFrom.{IsLoadable, IsLoadedFrom, NamesAlgorithm};
-ghost use Rattle.mb_loaded.specs.State.{State};
 ghost use Rattle.mb_load.specs.StateOf.{state_of};
-ghost use Rattle.mb_constraints.specs.TileRows.{place_twice};
-ghost use Rattle.mb_lists.specs.declared.dates.Dates.{Dates};
-ghost use Rattle.mb_store.specs.Committing.{AreOfTables, Commits};
 ghost use Rattle.mb_store.specs.Store.{IsSound};
-ghost use Rattle.mb_store.specs.declared.change.Change.{Change};
 ghost use Rattle.mb_tables.specs.Described.{is_keyed};
-ghost use Rattle.mb_tables.specs.Kind.{is_normalized, tile_table};
-ghost use Rattle.mb_tables.specs.Table.{Tables};
-ghost use Rattle.mb_tables.specs.Tiles.{Place};
-ghost use Rattle.mb_tables.specs.declared.cell.Cell.{Cell};
-ghost use Rattle.mb_tables.specs.declared.kind.MbtType.{MbtType};
-ghost use Rattle.mb_tables.specs.declared.kind.MbtType.TheVariants.{Cache};
-ghost use Rattle.tile_hash.specs.declared.algorithm.HashAlgorithm.{HashAlgorithm};
 
 /// No place stands twice in what a store tells, so that its state never hangs on the last test of loading.
 pub fn told_places_apart()

@@ -1,13 +1,9 @@
 // Loading a set.
-ghost use Rattle.mb_store.specs.Kept.{FaultsCounted, ReadsOnly};
+ghost use Rattle.mb_load.specs.Common.{FaultsCounted, index_missing, layout_of, metadata_missing, ReadsOnly, Tables, told_of};
 ghost use Rattle.std.specs.Prelude.{◌≡◌, ◌≢◌, Err, None, Some, true, IfErr, IfOk};
-ghost use Rattle.mb_constraints.specs.Described.{index_missing, metadata_missing};
 ghost use Rattle.mb_load.specs.Loading.{Loads};
 ghost use Rattle.mb_load.specs.LoadedFrom.{IsLoadable, IsLoadedFrom, NamesAlgorithm};
 ghost use Rattle.mb_load.specs.StateOf.{state_of};
-ghost use Rattle.mb_store.specs.MemStore.{told_of};
-ghost use Rattle.mb_tables.specs.Detection.{layout_of};
-ghost use Rattle.mb_tables.specs.Table.{Tables};
 
 use crate::from_rows::loaded_from;
 use crate::reading::{read_all, take_all};

@@ -1,11 +1,6 @@
 // All rows of a table.
-ghost use Rattle.mb_store.specs.Kept.{FaultsCounted, ReadsOnly};
+ghost use Rattle.mb_load.specs.Common.{content_rows, FaultsCounted, is_normalized, Metadata, ReadsOnly, tile_table, told_of, width};
 ghost use Rattle.std.specs.Prelude.{◌≡◌, All, [], false, true, IfOk, length};
-ghost use Rattle.mb_lists.specs.Contents.{content_rows};
-ghost use Rattle.mb_store.specs.MemStore.{told_of};
-ghost use Rattle.mb_tables.specs.Kind.{is_normalized, tile_table};
-ghost use Rattle.mb_tables.specs.Table.{width};
-ghost use Rattle.mb_tables.specs.declared.table.TableName.TheVariants.{Metadata};
 
 use base_values::OutOfMemory;
 use mb_store::{MbtType, MemStore, Row, StoreError, TableName, TileStore};

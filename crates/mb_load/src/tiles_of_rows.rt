@@ -1,14 +1,7 @@
 // The tiles of the rows of each layout.
 ghost use Rattle.std.specs.Prelude.{◌≡◌, All, IfOk, None, [], false};
-ghost use Rattle.mb_lists.specs.Contents.{contents_by_id};
-ghost use Rattle.mb_lists.specs.Entries.{contents_held};
-ghost use Rattle.mb_lists.specs.FromRows.{AreIndexed, rows_kept};
-ghost use Rattle.mb_constraints.specs.References.{missing_reference};
-ghost use Rattle.mb_tables.specs.Refusals.{first_refused};
+ghost use Rattle.mb_load.specs.Common.{AreIndexed, bad_tile, contents_by_id, contents_held, first_refused, is_normalized, Kept, missing_reference, rows_kept};
 ghost use Rattle.mb_load.specs.RowTiles.{AreTilesOf};
-ghost use Rattle.mb_constraints.specs.TileRows.{bad_tile};
-ghost use Rattle.mb_lists.specs.declared.entries.Standing.TheVariants.{Kept};
-ghost use Rattle.mb_tables.specs.Kind.{is_normalized};
 
 use base_values::OutOfMemory;
 use mb_lists::{ContentList, RowTiles, cache_tiles, flat_tiles, named_tiles};

@@ -1,19 +1,9 @@
 -- The texts of tiles, one after another.
-use Rattle.std.proofs.Common.{◌≡◌, ℕ, ◌+◌, ◌<◌, ◌≤◌, List, [], ◌∷◌, ◌++◌, Option, Some, None, Result, IfOk, length, take, flat_map, append_assoc, append-nil, refl, sym, ◌∙◌, ap, arith}
-use Rattle.std.specs.Prelude.{IfSome, slice_get}
-use Rattle.std.specs.FinMap.{entries, len, len-entries}
+use Rattle.mb_loaded.proofs.Common.{aggregate, ap, append-nil, append_assoc, arith, blob_cell, Cell, Coord, digest, entries, flat_map, get_or_from_slice_get, hash_of, HashAlgorithm, HasTaken, IfOk}
+use Rattle.mb_loaded.proofs.Common.{IfSome, in_hexadecimal, len, len-entries, length, List, nil_from_length, None, none-some, Option, Place, place_at, refl, Result, slice_get, slice_get-get_or}
+use Rattle.mb_loaded.proofs.Common.{slice_get_within, Some, sym, take, take_all, take_more, tile_text, TileSet, ℕ, [], ◌++◌, ◌+◌, ◌<◌, ◌∙◌, ◌∷◌, ◌≡◌, ◌≤◌}
 use Rattle.std.proofs.lemmas.Grind.{flat_map-append}
-use Rattle.std.proofs.lemmas.List.{nil_from_length, take_all, take_more}
-use Rattle.std.proofs.lemmas.Option.{get_or_from_slice_get, none-some, slice_get-get_or, slice_get_within}
-use Rattle.mb_loaded.specs.Aggregate.{aggregate, hash_of, in_hexadecimal, tile_text}
-use Rattle.mb_lists.specs.Entries.{blob_cell, place_at}
-use Rattle.mb_tables.specs.Tiles.{Place, TileSet}
-use Rattle.mb_tables.specs.declared.cell.Cell.{Cell}
-use Rattle.tile_hash.specs.Digest.{digest}
-use Rattle.tile_hash.specs.HashStream.{HasTaken}
-use Rattle.tile_hash.specs.declared.algorithm.HashAlgorithm.{HashAlgorithm}
 use Rattle.tile_hash.specs.declared.hash_stream.HashStream.{HashStream}
-use Rattle.tile_ids.specs.Coord.{Coord}
 
 abbrev pub Tiles : Type 0
 Tiles = List (Place × Option (List ℕ))

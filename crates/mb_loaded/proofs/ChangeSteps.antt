@@ -1,41 +1,12 @@
 -- The changes of entries, one after another.
-use Rattle.std.proofs.Common.{◌≡◌, ◌∙◌, ap, sym, ℕ, ◌<◌, ◌+◌, ◌++◌, Option, Some, None, List, [], ◌∷◌, Bool, true, false, ◌&&◌, ◌⊎◌, inl, inr, take, refl, get_or, length, arith}
-use Rattle.std.specs.Prelude.{All, filter_map, option_and_then}
-use Rattle.std.specs.declared.cmp.Ordering.{Ordering}
-use Rattle.std.specs.Ordering.{eq_by_cmp, is_eq, nat_cmp}
-use Rattle.std.specs.Cmp.{tied_itself}
-use Rattle.std.specs.Cmp.Lexicographic.{slice_cmp}
-use Rattle.std.proofs.lemmas.Bool.{and_left, false≢true}
-use Rattle.std.proofs.lemmas.Cmp.{nat_list_cmp_total}
-use Rattle.std.proofs.lemmas.List.{get_or_default}
-use Rattle.std.proofs.lemmas.Option.{get_or_from_slice_get, slice_get_within}
-use Rattle.mb_loaded.specs.Changing.{content_table, front, tile_key}
-use Rattle.mb_lists.specs.Entries.{content_at, id_at, name_of, place_of}
-use Rattle.mb_lists.specs.Keyed.{Apart}
-use Rattle.mb_loaded.specs.PutRows.{change_by, content_change, id_key, listed_change, name_change, row_of_content, row_of_name, row_of_tile, tile_change, with_any}
-use Rattle.mb_lists.specs.declared.entries.Content.{Content}
-use Rattle.mb_lists.specs.declared.entries.Standing.{Standing}
-use Rattle.mb_lists.specs.declared.entries.Standing.TheVariants.{Kept, Put, Removed}
-use Rattle.mb_lists.specs.declared.entries.StoredName.{StoredName}
-use Rattle.mb_lists.specs.declared.entries.StoredTile.{StoredTile}
+use Rattle.mb_loaded.proofs.Common.{All, and_left, ap, Apart, arith, Bool, Cell, cell_cmp, cells_eq, cells_eq-Decides, cells_total, Change, change_by, Content, content_at, content_change}
+use Rattle.mb_loaded.proofs.Common.{content_table, eq_by_cmp, false, false≢true, filter_map, front, get_or, get_or_default, get_or_from_slice_get, HashAlgorithm, id_at, id_key, inl, inr, Int, IntId}
+use Rattle.mb_loaded.proofs.Common.{is_eq, Kept, key_width, length, List, listed_change, MbtType, Metadata, name_change, name_of, nat_cmp, nat_list_cmp_total, None, Option, option_and_then, Ordering}
+use Rattle.mb_loaded.proofs.Common.{Place, place_cmp, place_of, places_total, Put, refl, Removed, row_of_content, row_of_name, row_of_tile, RowKey, slice_cmp, slice_get_within, Some, Standing}
+use Rattle.mb_loaded.proofs.Common.{StoredName, StoredTile, sym, table_eq, TableName, take, Text, TextId, tied_itself, tile_change, tile_key, tile_table, true, with_any, ℕ, [], ◌&&◌, ◌++◌, ◌+◌, ◌<◌}
+use Rattle.mb_loaded.proofs.Common.{◌∙◌, ◌∷◌, ◌≡◌, ◌⊎◌}
 use Rattle.mb_loaded.proofs.Listed.{more}
-use Rattle.mb_store.specs.declared.change.Change.{Change}
-use Rattle.mb_tables.proofs.CellLemmas.{cells_eq-Decides}
-use Rattle.mb_tables.proofs.TileLemmas.{places_total}
-use Rattle.mb_tables.specs.Cell.{cell_cmp, cells_eq}
-use Rattle.mb_tables.specs.CellOrder.{cells_total}
-use Rattle.mb_tables.specs.Kind.{tile_table}
 use Rattle.mb_tables.specs.Key.{has_key, key_cells}
-use Rattle.mb_tables.specs.Table.{key_width, table_eq}
-use Rattle.mb_tables.specs.Tiles.{Place, place_cmp}
-use Rattle.mb_tables.specs.declared.cell.Cell.{Cell}
-use Rattle.mb_tables.specs.declared.cell.Cell.TheVariants.{Int, Text}
-use Rattle.mb_tables.specs.declared.key.RowKey.{RowKey}
-use Rattle.mb_tables.specs.declared.key.RowKey.TheVariants.{TextId, IntId}
-use Rattle.mb_tables.specs.declared.kind.MbtType.{MbtType}
-use Rattle.mb_tables.specs.declared.table.TableName.{TableName}
-use Rattle.mb_tables.specs.declared.table.TableName.TheVariants.{Metadata}
-use Rattle.tile_hash.specs.declared.algorithm.HashAlgorithm.{HashAlgorithm}
 
 -- what a change is made of
 pub change_cases : (s : Standing) (row : List Cell) (change : Option (List Cell) → Change) (c : Change) → change_by s row change ≡ Some c → (r : Option (List Cell)) × (change r ≡ c) × (((s ≡ Put) × (r ≡ Some row)) ⊎ ((s ≡ Removed) × (r ≡ None)))

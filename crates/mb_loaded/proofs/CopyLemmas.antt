@@ -1,36 +1,14 @@
 -- Steps of copying tiles of another set.
-use Rattle.std.proofs.Common.{◌≡◌, ◌≢◌, ◌∙◌, ap, sym, subst, ℕ, ◌<◌, ◌≤◌, ◌+◌, ◌-◌, ◌++◌, ◌⊎◌, inl, inr, Option, Some, None, List, [], ◌∷◌, Bool, true, false, length, drop, set, replicate, refl, zero, suc, is_some, arith, append-nil, get_or}
-use Rattle.std.specs.Prelude.{All, slice_get, unwrap_or}
-use Rattle.std.proofs.lemmas.Bool.{false≢true}
-use Rattle.std.proofs.lemmas.List.{drop_more, length-set}
-use Rattle.std.proofs.lemmas.List.Elements.{All-push, All-weaker}
-use Rattle.std.proofs.lemmas.Option.{none-some, same_Some, slice_get-get_or, slice_get_within}
-use Rattle.mb_lists.specs.Clearing.{listed, tile_mark}
-use Rattle.mb_lists.specs.Entries.{HasId, IsDated, IsTile, content_at, is_gone, newest_ids, newest_names, newest_tiles, nothing, place_at, place_of}
-use Rattle.mb_lists.specs.declared.entries.Content.{Content}
-use Rattle.mb_lists.specs.declared.entries.Standing.TheVariants.{Put}
-use Rattle.mb_lists.specs.declared.entries.StoredName.{StoredName}
-use Rattle.mb_lists.specs.declared.entries.StoredTile.{StoredTile}
-use Rattle.mb_lists.proofs.ReaderLemmas.{standing_same}
-use Rattle.mb_loaded.specs.Copying.{Adds, AreCopies, Edits, IsCopied, IsCopying, IsPutAt, Puts, Removes, entry_of, held_copying, id_of, put_content, tile_copied, tiles_copied}
-use Rattle.mb_loaded.specs.Edits.{dates_for, removed_tile, with_tile}
-use Rattle.mb_loaded.specs.FromLast.{tile_patched}
-use Rattle.mb_loaded.specs.GivenIds.{cell_id}
-use Rattle.mb_loaded.specs.Held.{Held}
-use Rattle.mb_loaded.specs.HeldEntries.{held_of}
-use Rattle.mb_loaded.specs.declared.copying.Copying.{Copying}
+use Rattle.mb_loaded.proofs.Common.{Adds, All, All-push, All-weaker, ap, append-nil, AreCopies, arith, Blob, Bool, Cell, cell_id, Content, content_at, contents_of, Coord, Copying, dates_for, drop}
+use Rattle.mb_loaded.proofs.Common.{drop_more, Edits, entry_of, false, false≢true, get_or, HashAlgorithm, HasId, Held, held_copying, held_of, id_of, inl, inr, is_gone, is_null, is_some, IsCopied}
+use Rattle.mb_loaded.proofs.Common.{IsCopying, IsDated, IsPutAt, IsTile, length, length-set, List, listed, MbtType, newest_ids, newest_names, newest_tiles, None, none-some, nothing, Null, Option}
+use Rattle.mb_loaded.proofs.Common.{PatchType, Place, place_at, place_of, Put, put_content, Puts, refl, removed_tile, Removes, replicate, same_Some, set, slice_get, slice_get-get_or, slice_get_within}
+use Rattle.mb_loaded.proofs.Common.{Some, standing_same, StoredName, StoredTile, subst, suc, sym, tile_copied, tile_mark, tile_patched, tiles_copied, true, unwrap_or, with_tile, zero, ℕ, [], ◌++◌}
+use Rattle.mb_loaded.proofs.Common.{◌+◌, ◌-◌, ◌<◌, ◌∙◌, ◌∷◌, ◌≡◌, ◌≢◌, ◌≤◌, ◌⊎◌}
 use Rattle.mb_loaded.proofs.DatedLemmas.{dates_some}
 use Rattle.mb_loaded.proofs.CopyViews.{held_at}
 use Rattle.mb_loaded.proofs.EditViews.{gone_dated, gone_whole, held_gone, held_more}
 use Rattle.mb_loaded.proofs.MoreContents.{at_end, at_left, id_kept, tile_contents, tile_kept}
-use Rattle.mb_tables.specs.Cell.{is_null}
-use Rattle.mb_tables.specs.Tiles.{Place, contents_of}
-use Rattle.mb_tables.specs.declared.cell.Cell.{Cell}
-use Rattle.mb_tables.specs.declared.cell.Cell.TheVariants.{Null, Blob}
-use Rattle.mb_tables.specs.declared.kind.MbtType.{MbtType}
-use Rattle.mb_tables.specs.declared.patch_type.PatchType.{PatchType}
-use Rattle.tile_hash.specs.declared.algorithm.HashAlgorithm.{HashAlgorithm}
-use Rattle.tile_ids.specs.Coord.{Coord}
 
 -- facts of lists that are equal to others
 pub tiles_moved : (cs cs' : List Content) (ts ts' : List StoredTile) → cs' ≡ cs → ts' ≡ ts → All (IsTile cs) ts → All (IsTile cs') ts'

@@ -1,34 +1,11 @@
 -- What a set holds once a tile came that has contents of the set.
-use Rattle.std.proofs.Common.{◌≡◌, ◌∙◌, ap, ℕ, ◌++◌, Option, Some, None, List, [], ◌∷◌, cond, refl, append-nil}
-use Rattle.std.specs.Prelude.{option_and_then, slice_get, unwrap_or}
-use Rattle.std.specs.FinMap.{FinMap, from_entries}
-use Rattle.mb_lists.specs.Clearing.{listed}
-use Rattle.mb_lists.specs.Entries.{content_at, content_value, contents_held, id_at, if_edited, newest_ids, newest_names, newest_tiles, nothing, place_at, place_of, tile_dates, tile_id, tile_value, tiles_held, unless_removed}
-use Rattle.mb_lists.specs.Keyed.{entries_by}
-use Rattle.mb_lists.specs.declared.entries.Content.{Content}
-use Rattle.mb_lists.specs.declared.entries.StoredName.{StoredName}
-use Rattle.mb_lists.specs.declared.entries.StoredTile.{StoredTile}
-use Rattle.mb_loaded.specs.Copying.{put_content}
-use Rattle.mb_loaded.specs.Edits.{id_for, with_content, with_key, with_tile, with_value}
-use Rattle.mb_loaded.specs.GivenIds.{cell_id}
-use Rattle.mb_loaded.specs.Held.{Held}
-use Rattle.mb_loaded.specs.HeldEntries.{held_of}
-use Rattle.mb_loaded.specs.Sharing.{tile_with}
+use Rattle.mb_loaded.proofs.Common.{ap, append-nil, Blob, Cache, Cell, cell_cmp, cell_cmp-IsAntisymmetric, cell_id, cells_total, cond, Content, content_at, content_value, contents_held, contents_of}
+use Rattle.mb_loaded.proofs.Common.{Coord, entries_by, FinMap, Flat, FlatWithHash, from_entries, HashAlgorithm, Held, held_of, id_at, id_for, if_edited, is_null, List, listed, MbtType, newest_ids}
+use Rattle.mb_loaded.proofs.Common.{newest_names, newest_tiles, None, Normalized, nothing, Option, option_and_then, PatchType, place_at, place_of, places_antisymmetric, places_total, put_content}
+use Rattle.mb_loaded.proofs.Common.{refl, slice_get, Some, StoredName, StoredTile, tile_dates, tile_id, tile_value, tile_with, tiles_held, unless_removed, unwrap_or, with_content, with_key, with_tile}
+use Rattle.mb_loaded.proofs.Common.{with_value, ℕ, [], ◌++◌, ◌∙◌, ◌∷◌, ◌≡◌}
 use Rattle.mb_loaded.proofs.EditMaps.{newest_put}
 use Rattle.mb_loaded.proofs.EditViews.{always, parts_same}
-use Rattle.mb_lists.proofs.Places.{places_antisymmetric}
-use Rattle.mb_tables.proofs.CellLemmas.{cell_cmp-IsAntisymmetric}
-use Rattle.mb_tables.proofs.TileLemmas.{places_total}
-use Rattle.mb_tables.specs.Cell.{cell_cmp, is_null}
-use Rattle.mb_tables.specs.CellOrder.{cells_total}
-use Rattle.mb_tables.specs.Tiles.{contents_of}
-use Rattle.mb_tables.specs.declared.cell.Cell.{Cell}
-use Rattle.mb_tables.specs.declared.cell.Cell.TheVariants.{Blob}
-use Rattle.mb_tables.specs.declared.kind.MbtType.{MbtType}
-use Rattle.mb_tables.specs.declared.kind.MbtType.TheVariants.{Flat, FlatWithHash, Normalized, Cache}
-use Rattle.mb_tables.specs.declared.patch_type.PatchType.{PatchType}
-use Rattle.tile_hash.specs.declared.algorithm.HashAlgorithm.{HashAlgorithm}
-use Rattle.tile_ids.specs.Coord.{Coord}
 
 -- the id of a tile, which is null where the layout gives none
 given : (l : MbtType) (a : HashAlgorithm) (bytes : List ℕ) → cond {A = Option Cell} (is_null (cell_id l a (Blob bytes))) None (Some (cell_id l a (Blob bytes))) ≡ id_for l a bytes

@@ -1,56 +1,16 @@
 -- The changes of all entries are those of the set.
-use Rattle.std.proofs.Common.{◌≡◌, ◌∙◌, ap, sym, subst, ℕ, ℤ, ◌++◌, Option, Some, None, List, [], ◌∷◌, Bool, true, false, ◌||◌, ◌⊎◌, inl, inr, cond, find, refl, get_or, is_some}
-use Rattle.std.specs.Prelude.{All, filter_map, option_and_then, option_map, slice_get, unwrap_or}
-use Rattle.std.specs.declared.cmp.Ordering.{Ordering}
-use Rattle.std.specs.Ordering.{nat_cmp}
-use Rattle.std.specs.Cmp.{IsTotalOrder}
-use Rattle.std.specs.Cmp.Lexicographic.{slice_cmp}
-use Rattle.std.specs.FinMap.{IsAntisymmetric, contains_key, from_entries, get}
-use Rattle.std.proofs.lemmas.Bool.{false≢true, or_left, or_right}
-use Rattle.std.proofs.lemmas.Bool.Decides.{Decides-eqb}
-use Rattle.std.proofs.lemmas.Cmp.{nat_list_cmp_total}
-use Rattle.std.proofs.lemmas.Option.{get_or_from_slice_get, slice_get-get_or, slice_get_within}
-use Rattle.mb_loaded.specs.Changing.{AreChangesOf, cells_for, content_row_by, content_table, front, hash_cell, id_edited, is_own_table, name_edited, name_row_by, place_edited, tile_key, tile_row_by}
-use Rattle.mb_loaded.specs.Edits.{no_dates}
-use Rattle.mb_lists.specs.Entries.{IsName, IsTile, blob_cell, content_at, content_value, id_at, if_edited, is_removed, name_of, name_value, nothing, place_of, text_cell, tile_dates, tile_id, tile_value, tiles_held, unless_removed}
-use Rattle.mb_loaded.specs.HeldEntries.{held_of}
-use Rattle.mb_loaded.specs.Held.{Held}
-use Rattle.mb_lists.specs.Keyed.{Apart, at_key, entries_by}
-use Rattle.mb_tables.specs.CellKinds.{is_text}
-use Rattle.mb_lists.specs.Metadata.{text_of}
-use Rattle.mb_loaded.specs.PutRows.{cells_kept, change_by, digest_cell, id_key, listed_change, name_change, row_of_content, row_of_name, row_of_tile, tile_change}
-use Rattle.mb_lists.specs.declared.dates.Dates.{Dates}
-use Rattle.mb_lists.specs.declared.entries.Content.{Content}
-use Rattle.mb_lists.specs.declared.entries.Standing.{Standing}
-use Rattle.mb_lists.specs.declared.entries.Standing.TheVariants.{Kept, Put, Removed}
-use Rattle.mb_lists.specs.declared.entries.StoredName.{StoredName}
-use Rattle.mb_lists.specs.declared.entries.StoredTile.{StoredTile}
+use Rattle.mb_loaded.proofs.Common.{All, ap, Apart, AreChangesOf, at_key, Blob, blob_cell, Bool, Cache, Cell, cell_cmp, cell_cmp-IsAntisymmetric, cells_for, cells_kept, cells_total, Change, change_by}
+use Rattle.mb_loaded.proofs.Common.{cond, contains_key, Content, content_at, content_row_by, content_table, content_value, contents_of, Dates, Decides-eqb, digest_cell, entries_by, equal_of, false}
+use Rattle.mb_loaded.proofs.Common.{false≢true, filter_map, find, Flat, FlatWithHash, found_in, found_itself, from_entries, front, get, get_or, get_or_from_slice_get, Hash, hash_cell, HashAlgorithm}
+use Rattle.mb_loaded.proofs.Common.{Held, held_of, id_at, id_edited, id_key, if_edited, inl, inr, Int, IntId, is_null, is_own_table, is_removed, is_some, is_text, IsAntisymmetric, IsName, IsTile}
+use Rattle.mb_loaded.proofs.Common.{IsTotalOrder, Kept, List, listed_change, look_up, MbtType, Metadata, name_change, name_edited, name_of, name_row_by, name_value, names_antisymmetric, nat_cmp}
+use Rattle.mb_loaded.proofs.Common.{nat_list_cmp_total, no_dates, None, Normalized, nothing, Null, Option, option_and_then, option_map, or_left, or_right, Ordering, PatchType, place_cmp, place_edited}
+use Rattle.mb_loaded.proofs.Common.{place_of, places_antisymmetric, places_total, Put, refl, Removed, row_of_content, row_of_name, row_of_tile, RowKey, slice_cmp, slice_get, slice_get-get_or}
+use Rattle.mb_loaded.proofs.Common.{slice_get_within, Some, Standing, StoredName, StoredTile, subst, sym, table_eq, table_number, TableName, Text, text_cell, text_of, TextId, Tile, tile_change}
+use Rattle.mb_loaded.proofs.Common.{tile_dates, tile_id, tile_key, tile_row_by, tile_table, tile_value, tiles_held, true, unless_removed, unwrap_or, ℕ, ℤ, [], ◌++◌, ◌||◌, ◌∙◌, ◌∷◌, ◌≡◌, ◌⊎◌}
 use Rattle.mb_loaded.proofs.ChangeSteps.{change_cases, of_content, of_name, of_tile}
-use Rattle.mb_lists.proofs.Finding.{found_in}
-use Rattle.mb_lists.proofs.Items.{equal_of, found_itself, look_up}
 use Rattle.mb_loaded.proofs.Listed.{at_right, in_append, in_mapped, keeps_mapped}
 use Rattle.mb_loaded.proofs.MoreContents.{at_left}
-use Rattle.mb_lists.proofs.NameLemmas.{names_antisymmetric}
-use Rattle.mb_lists.proofs.Places.{places_antisymmetric}
-use Rattle.mb_store.specs.declared.change.Change.{Change}
-use Rattle.mb_tables.proofs.CellLemmas.{cell_cmp-IsAntisymmetric}
-use Rattle.mb_tables.proofs.TileLemmas.{places_total}
-use Rattle.mb_tables.specs.Cell.{cell_cmp, is_null}
-use Rattle.mb_tables.specs.CellOrder.{cells_total}
-use Rattle.mb_tables.specs.Kind.{tile_table}
-use Rattle.mb_tables.specs.Table.{table_eq, table_number}
-use Rattle.mb_tables.specs.Tiles.{contents_of, place_cmp}
-use Rattle.mb_tables.specs.declared.cell.Cell.{Cell}
-use Rattle.mb_tables.specs.declared.cell.Cell.TheVariants.{Null, Int, Text, Blob}
-use Rattle.mb_tables.specs.declared.key.RowKey.{RowKey}
-use Rattle.mb_tables.specs.declared.key.RowKey.TheVariants.{Tile, TextId, IntId}
-use Rattle.mb_tables.specs.declared.kind.MbtType.{MbtType}
-use Rattle.mb_tables.specs.declared.kind.MbtType.TheVariants.{Flat, FlatWithHash, Normalized, Cache}
-use Rattle.mb_tables.specs.declared.kind.NormalizedSchema.TheVariants.{Hash}
-use Rattle.mb_tables.specs.declared.patch_type.PatchType.{PatchType}
-use Rattle.mb_tables.specs.declared.table.TableName.{TableName}
-use Rattle.mb_tables.specs.declared.table.TableName.TheVariants.{Metadata}
-use Rattle.tile_hash.specs.declared.algorithm.HashAlgorithm.{HashAlgorithm}
 
 -- the tables of a layout are different
 pub table_itself : (t u : TableName) → t ≡ u → table_eq t u ≡ true

@@ -1,19 +1,9 @@
 -- Contents that are listed have an id, and tiles of a cache have times.
-use Rattle.std.proofs.Common.{◌≡◌, ◌∙◌, ap, subst, ℕ, List, [], ◌∷◌, ◌++◌, Option, Some, None, Bool, true, false, cond, length, refl, suc, append_assoc, is_some}
-use Rattle.std.specs.Prelude.{All, option_map, unwrap_or}
-use Rattle.std.proofs.lemmas.Bool.{false≢true}
-use Rattle.std.proofs.lemmas.List.Elements.{All-cons, All-nil}
-use Rattle.std.proofs.lemmas.List.Sorted.{All-permutation}
-use Rattle.mb_loaded.specs.Edits.{dates_for, no_dates}
+use Rattle.mb_loaded.proofs.Common.{All, All-cons, All-nil, All-permutation, ap, append_assoc, Bool, Cache, cond, Content, Dates, dates_for, false, false≢true, HasId, is_cache, is_null, is_some}
+use Rattle.mb_loaded.proofs.Common.{length, List, MbtType, no_dates, None, nothing, Option, option_map, refl, Some, subst, suc, true, unwrap_or, ℕ, [], ◌++◌, ◌∙◌, ◌∷◌, ◌≡◌}
 use Rattle.mb_loaded.specs.Editable.{AreTimes}
-use Rattle.mb_lists.specs.Entries.{HasId, is_cache, nothing}
 use Rattle.mb_lists.specs.FromRows.{AreIndexed, ids_from}
-use Rattle.mb_lists.specs.declared.dates.Dates.{Dates}
-use Rattle.mb_lists.specs.declared.entries.Content.{Content}
 use Rattle.mb_lists.proofs.ContentLemmas.{at_middle, longer}
-use Rattle.mb_tables.specs.Cell.{is_null}
-use Rattle.mb_tables.specs.declared.kind.MbtType.{MbtType}
-use Rattle.mb_tables.specs.declared.kind.MbtType.TheVariants.{Cache}
 
 ids_after : (pre cs : List Content) → All (HasId (pre ++ cs)) (ids_from (length pre) cs)
 ids_after pre [] = All-nil (HasId (pre ++ []))

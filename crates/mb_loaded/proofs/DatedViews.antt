@@ -1,35 +1,11 @@
 -- Other times of the latest tile of a place.
-use Rattle.std.proofs.Common.{◌≡◌, ◌∙◌, ap, sym, subst, ℕ, ◌++◌, Option, Some, None, List, [], ◌∷◌, Bool, true, false, cond, find, refl, reverse, is_some}
-use Rattle.std.specs.Prelude.{All, option_and_then, option_map, option_to_list}
-use Rattle.std.specs.FinMap.{contains_key}
-use Rattle.std.proofs.lemmas.Bool.{false≢true}
-use Rattle.std.proofs.lemmas.List.Elements.{All-push}
-use Rattle.std.proofs.lemmas.List.Sorted.{All-permutation, IsPermutation-reverse}
-use Rattle.std.proofs.lemmas.Option.{get_or_from_slice_get, slice_get_within}
-use Rattle.mb_loaded.specs.Edits.{with_dates, with_value}
-use Rattle.mb_lists.specs.Entries.{IsDated, IsTile, content_at, id_at, if_edited, is_cache, is_gone, newest_ids, newest_names, newest_tiles, place_at, place_of, tile_dates, tile_id, tile_value, tiles_held, unless_removed}
-use Rattle.mb_lists.specs.Dating.{dated_as, dated_last}
-use Rattle.mb_loaded.specs.HeldEntries.{held_of}
-use Rattle.mb_loaded.specs.Held.{Held}
-use Rattle.mb_lists.specs.Keyed.{at_key}
-use Rattle.mb_lists.specs.declared.dates.Dates.{Dates}
-use Rattle.mb_lists.specs.declared.entries.Content.{Content}
-use Rattle.mb_lists.specs.declared.entries.Standing.TheVariants.{Put}
-use Rattle.mb_lists.specs.declared.entries.StoredName.{StoredName}
-use Rattle.mb_lists.specs.declared.entries.StoredTile.{StoredTile}
+use Rattle.mb_loaded.proofs.Common.{All, All-permutation, All-push, ap, at_key, Bool, Cache, cond, contains_key, Content, content_at, contents_of, Coord, dated_as, dated_last, Dates, false}
+use Rattle.mb_loaded.proofs.Common.{false≢true, find, found_in, get_or_from_slice_get, HashAlgorithm, Held, held_of, id_at, if_edited, is_cache, is_gone, is_null, is_some, IsDated}
+use Rattle.mb_loaded.proofs.Common.{IsPermutation-reverse, IsTile, List, MbtType, newest_ids, newest_names, newest_tiles, None, Option, option_and_then, option_map, option_to_list, PatchType, Place}
+use Rattle.mb_loaded.proofs.Common.{place_at, place_cmp, place_of, places_antisymmetric, places_total, Put, refl, removed_none, reverse, slice_get_within, Some, standing_same, StoredName, StoredTile}
+use Rattle.mb_loaded.proofs.Common.{subst, sym, tile_dates, tile_id, tile_value, tiles_held, true, unless_removed, with_dates, with_value, ℕ, [], ◌++◌, ◌∙◌, ◌∷◌, ◌≡◌}
 use Rattle.mb_loaded.proofs.EditMaps.{get_newest, with_value_same}
 use Rattle.mb_loaded.proofs.EditViews.{one_more, parts_same}
-use Rattle.mb_lists.proofs.Finding.{found_in}
-use Rattle.mb_lists.proofs.Places.{places_antisymmetric}
-use Rattle.mb_lists.proofs.ReaderLemmas.{removed_none, standing_same}
-use Rattle.mb_tables.proofs.TileLemmas.{places_total}
-use Rattle.mb_tables.specs.Cell.{is_null}
-use Rattle.mb_tables.specs.Tiles.{Place, contents_of, place_cmp}
-use Rattle.mb_tables.specs.declared.kind.MbtType.{MbtType}
-use Rattle.mb_tables.specs.declared.kind.MbtType.TheVariants.{Cache}
-use Rattle.mb_tables.specs.declared.patch_type.PatchType.{PatchType}
-use Rattle.tile_hash.specs.declared.algorithm.HashAlgorithm.{HashAlgorithm}
-use Rattle.tile_ids.specs.Coord.{Coord}
 
 module _ (layout : MbtType) (a : HashAlgorithm) (p : Option PatchType) (contents : List Content) (order : List ℕ) (tiles : List StoredTile) (names : List StoredName) where
   abbrev kept : Held

@@ -1,44 +1,15 @@
 -- What a set holds without the contents that no tile has.
-use Rattle.std.proofs.Common.{◌≡◌, ◌∙◌, ap, sym, subst, ℕ, ◌≤◌, ◌++◌, List, [], ◌∷◌, Option, Some, None, Bool, true, false, cond, not, filter, find, map, refl, is_some, length, take}
-use Rattle.std.specs.Prelude.{All, option_and_then, slice_get, unwrap_or}
-use Rattle.std.specs.Option.{option_or}
-use Rattle.std.specs.declared.cmp.Ordering.{Ordering}
-use Rattle.std.specs.List.Sorted.{IsPartitionPoint, IsPermutation}
-use Rattle.std.specs.Ordering.{eq_by_cmp}
+use Rattle.mb_loaded.proofs.Common.{All, All-permutation, All-weaker, ap, Apart, apart_permuted, AreLike, at_key, Bool, Cell, cell_cmp, cell_cmp-IsAntisymmetric, cells_total, cond, Content}
+use Rattle.mb_loaded.proofs.Common.{content_at, content_value, Contents, contents_held, contents_of, entries, entries_by, eq_by_cmp, equal_of, false, filter, find, find-where_key, FinMap, found_in}
+use Rattle.mb_loaded.proofs.Common.{from_entries, get, get-entries, get-from_entries, get-retain_keys, get_or_from_slice_get, gone_after, HashAlgorithm, HasId, held_of, id_at, if_edited, is_gone}
+use Rattle.mb_loaded.proofs.Common.{is_named, is_null, is_some, is_unnamed, IsDated, IsPartitionPoint, IsPermutation, IsTile, Kept, kept_after, length, like_all, List, look_up, map, map_permuted}
+use Rattle.mb_loaded.proofs.Common.{marked_unnamed, MbtType, None, not, nothing, only_referenced, Option, option_and_then, option_or, Ordering, PatchType, place_cmp, place_of, places_antisymmetric}
+use Rattle.mb_loaded.proofs.Common.{places_total, refl, Removed, retain_keys, same_map, slice_get, slice_get_within, Some, Standing, StoredName, StoredTile, subst, sym, take, tile_dates, tile_id}
+use Rattle.mb_loaded.proofs.Common.{tile_value, tiles_held, true, unless_removed, unnamed_ids, unwrap_or, ℕ, [], ◌++◌, ◌∙◌, ◌∷◌, ◌≡◌, ◌≤◌}
 use Rattle.std.specs.FinMap as fin
-use Rattle.std.specs.FinMap.{FinMap, entries, from_entries, get, get-entries, get-from_entries, get-retain_keys, retain_keys, same_map}
-use Rattle.std.specs.FinMap.Entries.{find-where_key}
-use Rattle.std.proofs.lemmas.List.Elements.{All-weaker}
-use Rattle.std.proofs.lemmas.List.Sorted.{All-permutation}
-use Rattle.std.proofs.lemmas.Option.{slice_get_within, get_or_from_slice_get}
-use Rattle.mb_lists.specs.Contents.{Contents}
-use Rattle.mb_lists.specs.Dropping.{is_unnamed, marked_unnamed}
-use Rattle.mb_loaded.specs.Edits.{is_named, only_referenced, unnamed_ids}
-use Rattle.mb_lists.specs.Entries.{HasId, IsDated, IsTile, content_at, content_value, contents_held, id_at, if_edited, is_gone, nothing, place_of, tile_dates, tile_id, tile_value, tiles_held, unless_removed}
-use Rattle.mb_loaded.specs.HeldEntries.{held_of}
-use Rattle.mb_lists.specs.Keyed.{Apart, at_key, entries_by}
-use Rattle.mb_lists.specs.declared.entries.Content.{Content}
-use Rattle.mb_lists.specs.declared.entries.Standing.{Standing}
-use Rattle.mb_lists.specs.declared.entries.Standing.TheVariants.{Kept, Removed}
-use Rattle.mb_lists.specs.declared.entries.StoredName.{StoredName}
-use Rattle.mb_lists.specs.declared.entries.StoredTile.{StoredTile}
-use Rattle.mb_lists.proofs.Dropped.{AreLike, gone_after, kept_after, like_all}
 use Rattle.mb_loaded.proofs.EditViews.{parts_same}
-use Rattle.mb_lists.proofs.Finding.{found_in}
-use Rattle.mb_lists.proofs.Items.{equal_of, look_up}
 use Rattle.mb_loaded.proofs.MoreContents.{listed_contents}
 use Rattle.mb_loaded.proofs.Naming.{named_is}
-use Rattle.mb_lists.proofs.Places.{places_antisymmetric}
-use Rattle.mb_lists.proofs.Sorting.{apart_permuted, map_permuted}
-use Rattle.mb_tables.proofs.CellLemmas.{cell_cmp-IsAntisymmetric}
-use Rattle.mb_tables.proofs.TileLemmas.{places_total}
-use Rattle.mb_tables.specs.Cell.{cell_cmp, is_null}
-use Rattle.mb_tables.specs.CellOrder.{cells_total}
-use Rattle.mb_tables.specs.Tiles.{contents_of, place_cmp}
-use Rattle.mb_tables.specs.declared.cell.Cell.{Cell}
-use Rattle.mb_tables.specs.declared.kind.MbtType.{MbtType}
-use Rattle.mb_tables.specs.declared.patch_type.PatchType.{PatchType}
-use Rattle.tile_hash.specs.declared.algorithm.HashAlgorithm.{HashAlgorithm}
 
 -- entries found in two lists, and under keys alone
 find_both : {K V : Type 0} (R : K → K → Ordering) (q : K) (xs ys : List (K × V)) → fin.find R q (xs ++ ys) ≡ option_or (fin.find R q xs) (fin.find R q ys)

@@ -1,18 +1,7 @@
 -- Maps of values of the latest items, after one more item.
-use Rattle.std.proofs.Common.{◌≡◌, ◌∙◌, ap, sym, ◌++◌, Option, Some, None, List, [], ◌∷◌, Bool, true, false, cond, find, reverse, refl}
-use Rattle.std.specs.Prelude.{All, option_and_then}
-use Rattle.std.specs.declared.cmp.Ordering.{Ordering}
-use Rattle.std.specs.Ordering.{eq_by_cmp, is_eq}
-use Rattle.std.specs.Cmp.{IsTotalOrder, tied_itself}
-use Rattle.std.specs.FinMap.{FinMap, IsAntisymmetric, from_entries, get, get-insert, get-remove, insert, same_map}
-use Rattle.std.proofs.lemmas.List.Elements.{All-head, All-tail}
-use Rattle.std.proofs.lemmas.List.Sorted.{All-permutation, IsPermutation-reverse}
-use Rattle.mb_loaded.specs.Edits.{with_value}
-use Rattle.mb_lists.specs.Keyed.{Apart, StandsAs, at_key, entries_by, newest}
-use Rattle.mb_lists.proofs.Items.{equal_of, look_up}
-use Rattle.mb_lists.proofs.Newest.{find_newest, newest_apart}
-use Rattle.mb_lists.proofs.Sorting.{apart_permuted, found_permuted}
-use Rattle.std.proofs.lemmas.List.{reverse-append}
+use Rattle.mb_loaded.proofs.Common.{All, All-head, All-permutation, All-tail, ap, Apart, apart_permuted, at_key, Bool, cond, entries_by, eq_by_cmp, equal_of, false, find, find_newest, FinMap}
+use Rattle.mb_loaded.proofs.Common.{found_permuted, from_entries, get, get-insert, get-remove, insert, is_eq, IsAntisymmetric, IsPermutation-reverse, IsTotalOrder, List, look_up, newest, newest_apart}
+use Rattle.mb_loaded.proofs.Common.{None, Option, option_and_then, Ordering, refl, reverse, reverse-append, same_map, Some, StandsAs, sym, tied_itself, true, with_value, [], ◌++◌, ◌∙◌, ◌∷◌, ◌≡◌}
 
 -- tests and values that agree on the items of a list find the same
 found_agrees : {X V : Type 0} (p p' : X → Bool) (f f' : X → Option V) (xs : List X) → All (λ x. p' x ≡ p x) xs → All (λ x. f' x ≡ f x) xs → option_and_then f' (find p' xs) ≡ option_and_then f (find p xs)

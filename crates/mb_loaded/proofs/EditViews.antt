@@ -1,44 +1,14 @@
 -- What edits of the kept parts make of a set.
-use Rattle.std.proofs.Common.{◌≡◌, ◌∙◌, ap, sym, subst, ℕ, ◌++◌, Option, Some, None, List, [], ◌∷◌, Bool, true, false, cond, length, get_or, refl, is_some, append-nil}
-use Rattle.std.specs.Prelude.{All, Contains, option_and_then, unwrap_or}
-use Rattle.std.specs.Ordering.{nat_cmp}
-use Rattle.std.specs.Cmp.Lexicographic.{slice_cmp}
-use Rattle.std.specs.FinMap.{FinMap, from_entries}
-use Rattle.std.proofs.lemmas.Cmp.{nat_list_cmp_total}
-use Rattle.std.proofs.lemmas.Bool.{false≢true}
-use Rattle.std.proofs.lemmas.List.Elements.{All-contains, All-push, All-weaker}
-use Rattle.mb_lists.specs.Clearing.{listed}
-use Rattle.mb_lists.specs.Contents.{Contents}
-use Rattle.mb_loaded.specs.Edits.{dates_for, id_for, removed_name, removed_tile, with_content, with_key, with_name, with_null, with_tile, with_value}
-use Rattle.mb_lists.specs.Entries.{HasId, IsDated, IsName, IsTile, content_at, content_value, contents_held, id_at, if_edited, name_of, name_value, newest_ids, newest_names, newest_tiles, nothing, place_at, place_of, tile_dates, tile_id, tile_value, tiles_held, unless_removed}
-use Rattle.mb_loaded.specs.HeldEntries.{held_of}
-use Rattle.mb_loaded.specs.Held.{Held}
-use Rattle.mb_lists.specs.Keyed.{Apart, StandsAs, entries_by}
-use Rattle.mb_lists.specs.Metadata.{Names, text_of}
-use Rattle.mb_lists.specs.declared.dates.Dates.{Dates}
-use Rattle.mb_lists.specs.declared.entries.Content.{Content}
-use Rattle.mb_lists.specs.declared.entries.Standing.TheVariants.{Put, Removed}
-use Rattle.mb_lists.specs.declared.entries.StoredName.{StoredName}
-use Rattle.mb_lists.specs.declared.entries.StoredTile.{StoredTile}
+use Rattle.mb_loaded.proofs.Common.{All, All-contains, All-push, All-weaker, ap, Apart, append-nil, Blob, Bool, Cell, cell_cmp, cell_cmp-IsAntisymmetric, cells_total, cond, Contains, Content}
+use Rattle.mb_loaded.proofs.Common.{content_at, content_value, Contents, contents_held, contents_of, Coord, Dates, dates_for, digest, entries_by, false, false≢true, FinMap, from_entries, get_or}
+use Rattle.mb_loaded.proofs.Common.{HashAlgorithm, HasId, Held, held_of, id_at, id_for, if_edited, is_null, is_some, IsDated, IsName, IsTile, length, List, listed, MbtType, name_of, name_value, Names}
+use Rattle.mb_loaded.proofs.Common.{names_antisymmetric, nat_cmp, nat_list_cmp_total, newest_apart, newest_ids, newest_names, newest_tiles, None, Normalized, nothing, Null, Option, option_and_then}
+use Rattle.mb_loaded.proofs.Common.{PatchType, place_at, place_cmp, place_of, places_antisymmetric, places_total, Put, refl, Removed, removed_name, removed_tile, slice_cmp, Some, StandsAs, StoredName}
+use Rattle.mb_loaded.proofs.Common.{StoredTile, subst, sym, Text, text_of, tile_dates, tile_id, tile_value, tiles_held, TileSet, true, unless_removed, unwrap_or, with_content, with_key, with_name}
+use Rattle.mb_loaded.proofs.Common.{with_null, with_tile, with_value, ℕ, [], ◌++◌, ◌∙◌, ◌∷◌, ◌≡◌}
 use Rattle.mb_loaded.proofs.DatedLemmas.{dates_some}
 use Rattle.mb_loaded.proofs.EditMaps.{newest_of_apart, newest_put, newest_same, stands_map}
 use Rattle.mb_loaded.proofs.MoreContents.{at_end, id_kept, listed_same, tile_kept, tile_same}
-use Rattle.mb_lists.proofs.NameLemmas.{names_antisymmetric}
-use Rattle.mb_lists.proofs.Newest.{newest_apart}
-use Rattle.mb_lists.proofs.Places.{places_antisymmetric}
-use Rattle.mb_tables.proofs.CellLemmas.{cell_cmp-IsAntisymmetric}
-use Rattle.mb_tables.proofs.TileLemmas.{places_total}
-use Rattle.mb_tables.specs.Cell.{cell_cmp, is_null}
-use Rattle.mb_tables.specs.CellOrder.{cells_total}
-use Rattle.mb_tables.specs.Tiles.{TileSet, contents_of, place_cmp}
-use Rattle.mb_tables.specs.declared.cell.Cell.{Cell}
-use Rattle.mb_tables.specs.declared.cell.Cell.TheVariants.{Null, Text, Blob}
-use Rattle.mb_tables.specs.declared.kind.MbtType.{MbtType}
-use Rattle.mb_tables.specs.declared.kind.MbtType.TheVariants.{Normalized}
-use Rattle.mb_tables.specs.declared.patch_type.PatchType.{PatchType}
-use Rattle.tile_ids.specs.Coord.{Coord}
-use Rattle.tile_hash.specs.Digest.{digest}
-use Rattle.tile_hash.specs.declared.algorithm.HashAlgorithm.{HashAlgorithm}
 
 -- a set from its parts
 abbrev pub held_by_parts : MbtType → HashAlgorithm → Option PatchType → TileSet → Names → FinMap place_cmp Cell → Contents → FinMap place_cmp Dates → FinMap place_cmp (Unit {0}) → FinMap cell_cmp (Unit {0}) → FinMap (slice_cmp nat_cmp) (Unit {0}) → Held

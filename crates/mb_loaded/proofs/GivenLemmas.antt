@@ -1,27 +1,9 @@
 -- The ids of the tiles of a set by its lists.
-use Rattle.std.proofs.Common.{◌≡◌, ◌∙◌, ap, ℕ, ◌<◌, Option, Some, None, List, [], ◌∷◌, true, false, length, map, take, refl, is_some, arith, get_or}
-use Rattle.std.specs.Prelude.{All, slice_get, unwrap_or}
-use Rattle.std.specs.FinMap.{entries}
-use Rattle.std.specs.Option.{option_map}
-use Rattle.std.proofs.lemmas.Bool.{false≢true}
-use Rattle.std.proofs.lemmas.List.{get_or-take, length-take-le}
-use Rattle.std.proofs.lemmas.List.Elements.{All-head, All-map, All-tail, All-take}
-use Rattle.std.proofs.lemmas.Option.{slice_get-map, slice_get_within}
-use Rattle.mb_lists.specs.Entries.{AreInOrder, IsTile, blob_cell, content_at, is_gone, nothing, place_of, tile_value, tiles_held}
-use Rattle.mb_lists.specs.declared.entries.Content.{Content}
-use Rattle.mb_lists.specs.declared.entries.StoredTile.{StoredTile}
-use Rattle.mb_lists.proofs.Places.{places_antisymmetric}
-use Rattle.mb_lists.proofs.ReaderLemmas.{removed_none, standing_same, tile_there}
-use Rattle.mb_lists.proofs.Readers.{live_entries}
-use Rattle.mb_loaded.specs.Copying.{entry_of, id_of}
-use Rattle.mb_loaded.specs.GivenIds.{cell_id, content_id, ids_at, ids_given}
+use Rattle.mb_loaded.proofs.Common.{All, All-head, All-map, All-tail, All-take, ap, AreInOrder, arith, Blob, blob_cell, Cell, cell_id, Content, content_at, content_id, contents_of, entries, entry_of}
+use Rattle.mb_loaded.proofs.Common.{false, false≢true, get_or, get_or-take, HashAlgorithm, id_of, ids_at, ids_given, is_gone, is_some, IsTile, length, length-take-le, List, live_entries, map, MbtType}
+use Rattle.mb_loaded.proofs.Common.{None, nothing, Null, Option, option_map, place_of, places_antisymmetric, places_total, refl, removed_none, slice_get, slice_get-map, slice_get_within, Some}
+use Rattle.mb_loaded.proofs.Common.{standing_same, StoredTile, take, tile_there, tile_value, tiles_held, true, unwrap_or, ℕ, [], ◌<◌, ◌∙◌, ◌∷◌, ◌≡◌}
 use Rattle.mb_loaded.proofs.MoreContents.{tile_contents}
-use Rattle.mb_tables.proofs.TileLemmas.{places_total}
-use Rattle.mb_tables.specs.Tiles.{contents_of}
-use Rattle.mb_tables.specs.declared.cell.Cell.{Cell}
-use Rattle.mb_tables.specs.declared.cell.Cell.TheVariants.{Null, Blob}
-use Rattle.mb_tables.specs.declared.kind.MbtType.{MbtType}
-use Rattle.tile_hash.specs.declared.algorithm.HashAlgorithm.{HashAlgorithm}
 
 blob_shown : (c : Cell) → is_some (contents_of c) ≡ true → blob_cell (unwrap_or (contents_of c) None) ≡ c
 blob_shown Null h = refl

@@ -1,36 +1,10 @@
 -- A set as it was loaded, from what is kept.
-use Rattle.std.proofs.Common.{◌≡◌, ◌∙◌, ap, sym, ℕ, List, [], ◌∷◌, Option, Some, None, true, map, refl, is_some, suc, zero, get_or}
-use Rattle.std.specs.Prelude.{All}
-use Rattle.std.specs.Option.{option_map}
-use Rattle.std.specs.Cmp.Lexicographic.{slice_cmp}
-use Rattle.std.specs.List.{cons_option}
-use Rattle.std.specs.List.Sorted.{IsPermutation}
-use Rattle.std.specs.Ordering.{nat_cmp}
-use Rattle.std.specs.FinMap.{FinMap, from_entries}
-use Rattle.std.proofs.lemmas.Bool.{false≢true}
-use Rattle.std.proofs.lemmas.List.Elements.{All-head, All-tail}
-use Rattle.std.proofs.lemmas.List.Sorted.{IsPermutation-sym}
-use Rattle.mb_lists.specs.Contents.{Contents}
-use Rattle.mb_lists.specs.Entries.{IsTile, content_at, contents_held, id_at, if_edited, name_of, names_held, place_of, tile_dates, tile_id, tile_value, tiles_held, unless_removed}
-use Rattle.mb_loaded.specs.HeldEntries.{held_of}
-use Rattle.mb_loaded.specs.Held.{nothing_edited}
-use Rattle.mb_lists.specs.Keyed.{Apart, entries_by}
-use Rattle.mb_lists.specs.Metadata.{Names}
+use Rattle.mb_loaded.proofs.Common.{All, All-head, All-tail, ap, Apart, apart_permuted, Cell, cell_cmp, cons_option, Content, content_at, Contents, contents_held, contents_of, Dates, entries_by}
+use Rattle.mb_loaded.proofs.Common.{false≢true, FinMap, from_entries, get_or, HashAlgorithm, held_of, id_at, if_edited, is_some, IsPermutation, IsPermutation-sym, IsTile, Kept, List, map}
+use Rattle.mb_loaded.proofs.Common.{map_permuted, MbtType, name_of, Names, names_held, nat_cmp, None, nothing_edited, Option, option_map, PatchType, Place, place_cmp, place_of, places_antisymmetric}
+use Rattle.mb_loaded.proofs.Common.{places_total, refl, slice_cmp, Some, StoredName, StoredTile, suc, sym, tile_dates, tile_id, tile_value, tiles_held, TileSet, true, unless_removed, zero, ℕ, [], ◌∙◌}
+use Rattle.mb_loaded.proofs.Common.{◌∷◌, ◌≡◌}
 use Rattle.mb_loaded.specs.State.{State}
-use Rattle.mb_lists.specs.declared.dates.Dates.{Dates}
-use Rattle.mb_lists.specs.declared.entries.Content.{Content}
-use Rattle.mb_lists.specs.declared.entries.Standing.TheVariants.{Kept}
-use Rattle.mb_lists.specs.declared.entries.StoredName.{StoredName}
-use Rattle.mb_lists.specs.declared.entries.StoredTile.{StoredTile}
-use Rattle.mb_lists.proofs.Places.{places_antisymmetric}
-use Rattle.mb_lists.proofs.Sorting.{apart_permuted, map_permuted}
-use Rattle.mb_tables.proofs.TileLemmas.{places_total}
-use Rattle.mb_tables.specs.Cell.{cell_cmp}
-use Rattle.mb_tables.specs.Tiles.{Place, TileSet, contents_of, place_cmp}
-use Rattle.mb_tables.specs.declared.cell.Cell.{Cell}
-use Rattle.mb_tables.specs.declared.kind.MbtType.{MbtType}
-use Rattle.mb_tables.specs.declared.patch_type.PatchType.{PatchType}
-use Rattle.tile_hash.specs.declared.algorithm.HashAlgorithm.{HashAlgorithm}
 
 -- the order of tiles changes nothing that a set holds
 pub held_permuted : (layout : MbtType) (algorithm : HashAlgorithm) (patch_type : Option PatchType) (contents : List Content) (order : List ℕ) (xs ys : List StoredTile) (names : List StoredName) → IsPermutation xs ys → Apart place_cmp place_of ys → held_of layout algorithm patch_type contents order ys names ≡ held_of layout algorithm patch_type contents order xs names

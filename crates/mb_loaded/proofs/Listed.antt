@@ -1,13 +1,7 @@
 -- Places in lists of changes, and one more change at their end.
-use Rattle.std.proofs.Common.{◌≡◌, ◌∙◌, ap, sym, ℕ, ◌<◌, ◌+◌, ◌++◌, Option, Some, None, List, [], ◌∷◌, Bool, true, false, take, refl, suc, zero, get_or, length, arith, ◌⊎◌, inl, inr, append_assoc, append-nil}
-use Rattle.std.specs.Prelude.{filter_map, nat_lt, option_to_list, position, slice_get}
-use Rattle.std.specs.List.{position_or_len}
-use Rattle.std.proofs.lemmas.Bool.Decides.{Decides-ltb}
-use Rattle.std.proofs.lemmas.List.{take_more}
-use Rattle.std.proofs.lemmas.List.Elements.{filter_map-append}
-use Rattle.mb_loaded.specs.PutRows.{with_any}
+use Rattle.mb_loaded.proofs.Common.{ap, append-nil, append_assoc, arith, Bool, Change, Decides-ltb, false, filter_map, filter_map-append, get_or, inl, inr, length, List, nat_lt, None, Option}
+use Rattle.mb_loaded.proofs.Common.{option_to_list, position, position_or_len, refl, slice_get, Some, suc, sym, take, take_more, true, with_any, zero, ℕ, [], ◌++◌, ◌+◌, ◌<◌, ◌∙◌, ◌∷◌, ◌≡◌, ◌⊎◌}
 use Rattle.mb_store.specs.Changes.{same_key, with_change}
-use Rattle.mb_store.specs.declared.change.Change.{Change}
 
 pub in_append : {X : Type 0} (xs ys : List X) (k : ℕ) (x : X) → slice_get (xs ++ ys) k ≡ Some x → (slice_get xs k ≡ Some x) ⊎ ((j : ℕ) × (slice_get ys j ≡ Some x))
 in_append [] ys k x h = inr (k, h)

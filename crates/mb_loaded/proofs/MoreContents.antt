@@ -1,13 +1,6 @@
 -- More contents change nothing for those that are kept.
-use Rattle.std.proofs.Common.{◌≡◌, ◌∙◌, ap, sym, ℕ, ◌++◌, Option, Some, None, List, [], ◌∷◌, Bool, true, false, cond, length, refl, zero, suc, is_some}
-use Rattle.std.specs.Prelude.{slice_get, unwrap_or}
-use Rattle.std.proofs.lemmas.Bool.{false≢true}
-use Rattle.mb_lists.specs.Entries.{HasId, IsTile, content_at, is_gone, nothing, unless_removed}
-use Rattle.mb_lists.specs.declared.entries.Content.{Content}
-use Rattle.mb_lists.specs.declared.entries.StoredTile.{StoredTile}
-use Rattle.mb_lists.proofs.ReaderLemmas.{removed_none}
-use Rattle.mb_tables.specs.Cell.{is_null}
-use Rattle.mb_tables.specs.Tiles.{contents_of}
+use Rattle.mb_loaded.proofs.Common.{ap, Bool, cond, Content, content_at, contents_of, false, false≢true, HasId, is_gone, is_null, is_some, IsTile, length, List, None, nothing, Option, refl}
+use Rattle.mb_loaded.proofs.Common.{removed_none, slice_get, Some, StoredTile, suc, sym, true, unless_removed, unwrap_or, zero, ℕ, [], ◌++◌, ◌∙◌, ◌∷◌, ◌≡◌}
 
 pub at_left : {X : Type 0} (xs ys : List X) (k : ℕ) (x : X) → slice_get xs k ≡ Some x → slice_get (xs ++ ys) k ≡ Some x
 at_left [] ys k x h = cc

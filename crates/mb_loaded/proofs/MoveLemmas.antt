@@ -1,27 +1,10 @@
 -- Steps of moving tiles of another set.
-use Rattle.std.proofs.Common.{◌≡◌, ◌≢◌, ◌∙◌, ap, sym, subst, ℕ, ◌<◌, ◌+◌, ◌-◌, inl, inr, Option, Some, List, Bool, true, false, length, replicate, set, refl, suc, is_some, arith}
-use Rattle.std.specs.Prelude.{Err, Ok, OnOk, Result, slice_get, unwrap_or}
-use Rattle.std.proofs.lemmas.Bool.{cases_eq, false≢true}
-use Rattle.std.proofs.lemmas.List.{length-set}
-use Rattle.std.proofs.lemmas.Option.{same_Some}
-use Rattle.mb_lists.specs.Entries.{IsTile, content_at, is_gone, newest_ids, newest_names, newest_tiles, nothing}
-use Rattle.mb_lists.specs.declared.entries.Content.{Content}
-use Rattle.mb_lists.specs.declared.entries.StoredName.{StoredName}
-use Rattle.mb_lists.specs.declared.entries.StoredTile.{StoredTile}
-use Rattle.mb_loaded.specs.Copying.{Edits, IsCopied, IsCopying, Puts, Removes, id_of, tile_copied}
-use Rattle.mb_loaded.specs.HeldEntries.{held_of}
-use Rattle.mb_loaded.specs.Moving.{AreLeft}
-use Rattle.mb_loaded.specs.Taking.{taken}
-use Rattle.mb_loaded.specs.declared.copying.Copying.{Copying}
+use Rattle.mb_loaded.proofs.Common.{ap, AreLeft, arith, Blob, Bool, cases_eq, Cell, Content, content_at, contents_of, Copying, Edits, Err, false, false≢true, HashAlgorithm, held_of, id_of, inl, inr}
+use Rattle.mb_loaded.proofs.Common.{is_gone, is_null, is_some, IsCopied, IsCopying, IsTile, length, length-set, List, MbtType, newest_ids, newest_names, newest_tiles, nothing, Null, Ok, OnOk, Option}
+use Rattle.mb_loaded.proofs.Common.{PatchType, Puts, refl, Removes, replicate, Result, same_Some, set, slice_get, Some, StoredName, StoredTile, subst, suc, sym, taken, tile_copied, true, unwrap_or, ℕ}
+use Rattle.mb_loaded.proofs.Common.{◌+◌, ◌-◌, ◌<◌, ◌∙◌, ◌≡◌, ◌≢◌}
 use Rattle.mb_loaded.proofs.CopyLemmas.{known_copy, none_copied_there, tile_put, tile_removed}
 use Rattle.mb_loaded.proofs.TakenLemmas.{set_apart, set_here}
-use Rattle.mb_tables.specs.Cell.{is_null}
-use Rattle.mb_tables.specs.Tiles.{contents_of}
-use Rattle.mb_tables.specs.declared.cell.Cell.{Cell}
-use Rattle.mb_tables.specs.declared.cell.Cell.TheVariants.{Null, Blob}
-use Rattle.mb_tables.specs.declared.kind.MbtType.{MbtType}
-use Rattle.mb_tables.specs.declared.patch_type.PatchType.{PatchType}
-use Rattle.tile_hash.specs.declared.algorithm.HashAlgorithm.{HashAlgorithm}
 
 null_cell : (c : Cell) → is_some (contents_of c) ≡ true → ((b : List ℕ) → c ≢ Blob b) → c ≡ Null
 null_cell Null h away = refl

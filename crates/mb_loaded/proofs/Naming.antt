@@ -1,36 +1,13 @@
 -- Whether a tile has an id: in the map of ids, in the tiles, and in those that are no marks.
-use Rattle.std.proofs.Common.{◌≡◌, ◌∙◌, ap, sym, ℕ, ◌<◌, ◌≤◌, ◌+◌, List, [], ◌∷◌, Option, Some, None, Bool, true, false, ◌||◌, ◌&&◌, cond, not, refl, length, get_or, take, drop, arith, length-drop}
+use Rattle.mb_loaded.proofs.Common.{All, All-head, All-tail, ap, Apart, Apart-tail, arith, at_key, Bool, by_order, Cell, cell_eq, cond, cons_option, Content, drop, empty, entries, entries-insert}
+use Rattle.mb_loaded.proofs.Common.{entries_by, false, false≢true, find_none, from_entries, get-entries, get_or, get_or-drop, get_or-take, has_id, id_at, is_eq, is_gone, is_named, is_null, is_removed}
+use Rattle.mb_loaded.proofs.Common.{IsPartitionPoint, IsPermutation, IsTotalOrder, len-empty, len-entries, length, length-drop, length-take-le, List, list_any, list_any-IsPermutation, look_up}
+use Rattle.mb_loaded.proofs.Common.{nil_from_length, None, not, Null, Option, option_and_then, option_map, Ordering, others_apart, place_cmp, place_of, places_total, refl, Removed, Some, Standing}
+use Rattle.mb_loaded.proofs.Common.{StoredTile, sym, take, take-append-drop, tied_itself, tile_id, tiles_held, true, unless_removed, ℕ, [], ◌&&◌, ◌+◌, ◌<◌, ◌||◌, ◌∙◌, ◌∷◌, ◌≡◌, ◌≤◌}
 use Rattle.std.proofs.Math.Bool.{or-false}
-use Rattle.std.specs.Prelude.{All, option_and_then, option_map}
-use Rattle.std.specs.List.{cons_option, list_any}
-use Rattle.std.specs.List.Sorted.{IsPartitionPoint, IsPermutation}
-use Rattle.std.specs.declared.cmp.Ordering.{Ordering}
 use Rattle.std.specs.declared.cmp.Ordering.TheVariants.{Less, Equal, Greater}
-use Rattle.std.specs.Ordering.{is_eq}
-use Rattle.std.specs.Cmp.{IsTotalOrder, tied_itself}
 use Rattle.std.specs.FinMap as fin
-use Rattle.std.specs.FinMap.{empty, entries, entries-insert, from_entries, get-entries, len-empty, len-entries}
-use Rattle.std.specs.FinMap.Entries.{by_order}
-use Rattle.std.proofs.lemmas.Bool.{false≢true}
-use Rattle.std.proofs.lemmas.List.{get_or-drop, get_or-take, length-take-le, nil_from_length, take-append-drop}
-use Rattle.std.proofs.lemmas.List.Elements.{All-head, All-tail}
 use Rattle.std.proofs.lemmas.List.Folds.{list_any-append, list_any_none}
-use Rattle.std.proofs.lemmas.List.Sorted.{list_any-IsPermutation}
-use Rattle.mb_lists.specs.Dropping.{has_id}
-use Rattle.mb_loaded.specs.Edits.{is_named}
-use Rattle.mb_lists.specs.Entries.{id_at, is_gone, is_removed, place_of, tile_id, tiles_held, unless_removed}
-use Rattle.mb_lists.specs.Keyed.{Apart, at_key, entries_by}
-use Rattle.mb_lists.specs.declared.entries.Content.{Content}
-use Rattle.mb_lists.specs.declared.entries.Standing.{Standing}
-use Rattle.mb_lists.specs.declared.entries.Standing.TheVariants.{Removed}
-use Rattle.mb_lists.specs.declared.entries.StoredTile.{StoredTile}
-use Rattle.mb_lists.proofs.Finding.{find_none}
-use Rattle.mb_lists.proofs.Items.{Apart-tail, look_up, others_apart}
-use Rattle.mb_tables.proofs.TileLemmas.{places_total}
-use Rattle.mb_tables.specs.Cell.{cell_eq, is_null}
-use Rattle.mb_tables.specs.Tiles.{place_cmp}
-use Rattle.mb_tables.specs.declared.cell.Cell.{Cell}
-use Rattle.mb_tables.specs.declared.cell.Cell.TheVariants.{Null}
 
 abbrev pub any_some : {V : Type 0} → (V → Bool) → Option V → Bool
 any_some test None = false

@@ -1,50 +1,15 @@
 -- What single edits make of a set that is kept in order.
-use Rattle.std.proofs.Common.{◌≡◌, ◌∙◌, ap, sym, subst, ℕ, ◌++◌, Option, Some, None, List, [], ◌∷◌, Bool, true, false, cond, find, refl, reverse, length, is_some}
-use Rattle.std.specs.Prelude.{All, option_and_then, unwrap_or}
-use Rattle.std.specs.Ordering.{nat_cmp}
-use Rattle.std.specs.Cmp.Lexicographic.{slice_cmp}
-use Rattle.std.specs.FinMap.{contains_key}
-use Rattle.std.proofs.lemmas.Bool.{false≢true}
-use Rattle.std.proofs.lemmas.Cmp.{nat_list_cmp_total}
-use Rattle.std.proofs.lemmas.List.Elements.{All-push, All-weaker}
-use Rattle.mb_lists.specs.Clearing.{listed}
-use Rattle.mb_lists.specs.Clearing.{Clears, name_mark, tile_mark}
-use Rattle.mb_lists.specs.Dating.{Redates, redated}
-use Rattle.mb_loaded.specs.Edits.{dates_for, id_for, removed_name, removed_tile, with_dates, with_name, with_null, with_tile, without_name, without_tile}
-use Rattle.mb_lists.specs.Entries.{AreContentsInOrder, AreInOrder, AreNamesInOrder, HasId, IsDated, IsName, IsTile, id_at, is_cache, is_content_gone, is_gone, is_name_gone, is_removed, name_of, newest_ids, newest_names, newest_tiles, nothing, place_at, place_of, tile_value}
-use Rattle.mb_loaded.specs.HeldEntries.{held_of}
-use Rattle.mb_loaded.specs.Held.{Held}
-use Rattle.mb_lists.specs.Keyed.{Apart, StandsAs, at_key, live_at}
-use Rattle.mb_lists.specs.Metadata.{text_of}
-use Rattle.mb_lists.specs.declared.dates.Dates.{Dates}
-use Rattle.mb_lists.specs.declared.entries.Content.{Content}
-use Rattle.mb_lists.specs.declared.entries.Standing.TheVariants.{Put}
-use Rattle.mb_lists.specs.declared.entries.StoredName.{StoredName}
-use Rattle.mb_lists.specs.declared.entries.StoredTile.{StoredTile}
+use Rattle.mb_loaded.proofs.Common.{All, All-push, All-weaker, ap, Apart, AreContentsInOrder, AreInOrder, AreNamesInOrder, at_key, Blob, Bool, Cache, Cell, cell_cmp, cell_cmp-IsAntisymmetric}
+use Rattle.mb_loaded.proofs.Common.{cells_total, Clears, cond, contains_key, Content, Coord, Dates, dates_for, equal_of, false, false≢true, find, find_newest, found_at, found_in, HashAlgorithm, HasId}
+use Rattle.mb_loaded.proofs.Common.{Held, held_of, id_at, id_for, is_cache, is_content_gone, is_gone, is_name_gone, is_null, is_removed, is_some, IsDated, IsName, IsTile, length, List, listed}
+use Rattle.mb_loaded.proofs.Common.{live_at, live_has, MbtType, name_found, name_mark, name_missing, name_of, names_antisymmetric, nat_cmp, nat_list_cmp_total, newest_ids, newest_names, newest_tiles}
+use Rattle.mb_loaded.proofs.Common.{None, nothing, Null, Option, option_and_then, order_same, PatchType, place_at, place_cmp, place_of, places_antisymmetric, places_total, Put, redated, Redates, refl}
+use Rattle.mb_loaded.proofs.Common.{removed_name, removed_none, removed_tile, reverse, slice_cmp, Some, stands_from, stands_itself, StandsAs, StoredName, StoredTile, subst, sym, text_of, tile_mark}
+use Rattle.mb_loaded.proofs.Common.{tile_there, tile_value, true, unwrap_or, with_dates, with_name, with_null, with_tile, without_name, without_tile, ℕ, [], ◌++◌, ◌∙◌, ◌∷◌, ◌≡◌}
 use Rattle.mb_loaded.proofs.DatedLemmas.{times_are}
 use Rattle.mb_loaded.proofs.DatedViews.{held_dated}
 use Rattle.mb_loaded.proofs.EditViews.{all_from, held_gone, held_named, held_opened, held_settled, held_unnamed, named_texts, null_view, put_view}
 use Rattle.mb_loaded.proofs.MoreContents.{at_end, listed_same}
-use Rattle.mb_lists.proofs.Finding.{found_in}
-use Rattle.mb_lists.proofs.Items.{equal_of}
-use Rattle.mb_lists.proofs.Newest.{find_newest}
-use Rattle.mb_lists.proofs.NameLemmas.{names_antisymmetric}
-use Rattle.mb_lists.proofs.Places.{places_antisymmetric}
-use Rattle.mb_lists.proofs.ReaderLemmas.{live_has, name_found, name_missing, removed_none, tile_there}
-use Rattle.mb_lists.proofs.Readers.{found_at}
-use Rattle.mb_lists.proofs.StandsLemmas.{order_same, stands_from, stands_itself}
-use Rattle.mb_tables.proofs.TileLemmas.{places_total}
-use Rattle.mb_tables.proofs.CellLemmas.{cell_cmp-IsAntisymmetric}
-use Rattle.mb_tables.specs.Cell.{cell_cmp, is_null}
-use Rattle.mb_tables.specs.CellOrder.{cells_total}
-use Rattle.mb_tables.specs.Tiles.{place_cmp}
-use Rattle.mb_tables.specs.declared.cell.Cell.{Cell}
-use Rattle.mb_tables.specs.declared.cell.Cell.TheVariants.{Null, Blob}
-use Rattle.mb_tables.specs.declared.kind.MbtType.{MbtType}
-use Rattle.mb_tables.specs.declared.kind.MbtType.TheVariants.{Cache}
-use Rattle.mb_tables.specs.declared.patch_type.PatchType.{PatchType}
-use Rattle.tile_hash.specs.declared.algorithm.HashAlgorithm.{HashAlgorithm}
-use Rattle.tile_ids.specs.Coord.{Coord}
 
 -- more contents leave the order of those that are listed
 pub more_in_order : (contents contents' : List Content) (c : Content) (live : ℕ) (order : List ℕ) → contents' ≡ contents ++ c ∷ [] → All (HasId contents) order → AreContentsInOrder contents live order → AreContentsInOrder contents' live order

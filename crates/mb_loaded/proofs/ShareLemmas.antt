@@ -1,36 +1,13 @@
 -- What a set holds once tiles came that have the same contents.
-use Rattle.std.proofs.Common.{◌≡◌, ◌∙◌, ap, sym, ℕ, ◌++◌, Option, Some, None, List, [], ◌∷◌, Bool, true, false, length, map, nat_eq, refl, is_some, append-nil, append_assoc}
-use Rattle.std.specs.Prelude.{All, slice_get, unwrap_or}
-use Rattle.std.specs.FinMap.{FinMap}
-use Rattle.std.proofs.lemmas.Bool.{false≢true}
-use Rattle.std.proofs.lemmas.List.Elements.{All-append, All-map, All-weaker}
-use Rattle.mb_lists.specs.Clearing.{listed}
-use Rattle.mb_lists.specs.Contents.{Contents}
-use Rattle.mb_lists.specs.Entries.{HasId, IsDated, IsTile, contents_held, newest_ids, newest_names, newest_tiles, nothing, place_at}
-use Rattle.mb_lists.specs.declared.entries.Content.{Content}
-use Rattle.mb_lists.specs.declared.entries.StoredName.{StoredName}
-use Rattle.mb_lists.specs.declared.entries.StoredTile.{StoredTile}
-use Rattle.mb_loaded.specs.Copying.{put_content}
-use Rattle.mb_loaded.specs.Edits.{id_for, with_content, with_key, with_tiles}
-use Rattle.mb_loaded.specs.GivenIds.{cell_id}
-use Rattle.mb_loaded.specs.Held.{Held}
-use Rattle.mb_loaded.specs.HeldEntries.{held_of}
-use Rattle.mb_loaded.specs.Sharing.{tile_with}
+use Rattle.mb_loaded.proofs.Common.{All, All-append, All-map, All-weaker, ap, append-nil, append_assoc, Blob, Bool, Cell, cell_cmp, cell_cmp-IsAntisymmetric, cell_id, cells_total, Content, Contents}
+use Rattle.mb_loaded.proofs.Common.{contents_held, contents_of, Coord, false, false≢true, FinMap, HashAlgorithm, HasId, Held, held_of, id_for, is_null, is_some, IsDated, IsTile, length, List, listed}
+use Rattle.mb_loaded.proofs.Common.{map, MbtType, nat_eq, newest_ids, newest_names, newest_tiles, None, nothing, Null, Option, PatchType, place_at, put_content, refl, slice_get, Some, StoredName}
+use Rattle.mb_loaded.proofs.Common.{StoredTile, sym, tile_with, true, unwrap_or, with_content, with_key, with_tiles, ℕ, [], ◌++◌, ◌∙◌, ◌∷◌, ◌≡◌}
 use Rattle.mb_loaded.proofs.CopyViews.{held_at, held_listed, ids_edited, listed_contents, listed_ids}
 use Rattle.mb_loaded.proofs.DatedLemmas.{dates_some}
 use Rattle.mb_loaded.proofs.EditMaps.{insert_again}
 use Rattle.mb_loaded.proofs.EditViews.{held_more}
 use Rattle.mb_loaded.proofs.MoreContents.{at_end, tile_kept}
-use Rattle.mb_tables.proofs.CellLemmas.{cell_cmp-IsAntisymmetric}
-use Rattle.mb_tables.specs.Cell.{cell_cmp, is_null}
-use Rattle.mb_tables.specs.CellOrder.{cells_total}
-use Rattle.mb_tables.specs.Tiles.{contents_of}
-use Rattle.mb_tables.specs.declared.cell.Cell.{Cell}
-use Rattle.mb_tables.specs.declared.cell.Cell.TheVariants.{Null, Blob}
-use Rattle.mb_tables.specs.declared.kind.MbtType.{MbtType}
-use Rattle.mb_tables.specs.declared.patch_type.PatchType.{PatchType}
-use Rattle.tile_hash.specs.declared.algorithm.HashAlgorithm.{HashAlgorithm}
-use Rattle.tile_ids.specs.Coord.{Coord}
 
 -- contents and keys that are put again
 content_again : (contents : Contents) (o : Option Cell) (bytes : List ℕ) → with_content (with_content contents o bytes) o bytes ≡ with_content contents o bytes

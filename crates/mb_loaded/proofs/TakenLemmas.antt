@@ -1,31 +1,10 @@
 -- Contents that are taken out of their list, and the last use of each.
-use Rattle.std.proofs.Common.{◌≡◌, ◌≢◌, ◌∙◌, ap, sym, ℕ, ◌<◌, ◌≤◌, ◌+◌, ◌⊎◌, inl, inr, Option, Some, None, List, [], ◌∷◌, Bool, true, false, length, length-drop, set, take, drop, refl, zero, suc, is_some, arith, get_or, nat_eq, nat_lt, ◌++◌}
-use Rattle.std.specs.Prelude.{All, cond, filter_map, slice_get, unwrap_or}
-use Rattle.std.specs.Cmp.{tied_itself}
-use Rattle.std.specs.Ordering.{eq_by_cmp, is_eq}
-use Rattle.std.proofs.lemmas.Bool.{cases_eq, cases_lt, false≢true}
-use Rattle.std.proofs.lemmas.Bool.Decides.{nat_tests}
-use Rattle.std.proofs.lemmas.List.{drop_more, length-set}
-use Rattle.std.proofs.lemmas.List.Elements.{All-head, All-tail}
-use Rattle.std.proofs.lemmas.Option.{get_or_from_slice_get, same_Some, slice_get-get_or, slice_get_within}
-use Rattle.mb_lists.specs.Entries.{HasId, IsTile, id_at, nothing, place_of}
-use Rattle.mb_lists.specs.Keyed.{Apart}
-use Rattle.mb_lists.specs.declared.entries.Content.{Content}
-use Rattle.mb_lists.specs.declared.entries.Standing.{Standing}
-use Rattle.mb_lists.specs.declared.entries.Standing.TheVariants.{Kept, Put, Removed}
-use Rattle.mb_lists.specs.declared.entries.StoredTile.{StoredTile}
-use Rattle.mb_loaded.specs.Changing.{content_table, front, tile_key}
-use Rattle.mb_loaded.specs.PutRows.{cells_kept, change_by, content_change, listed_change, tile_change, with_any}
-use Rattle.mb_loaded.specs.Taking.{AreLast, AreUnspent, IsSpent, Spends, taken}
+use Rattle.mb_loaded.proofs.Common.{All, All-head, All-tail, ap, Apart, AreLast, AreUnspent, arith, Bool, cases_eq, cases_lt, cell_cmp, cells_kept, cells_total, Change, change_by, cond, Content}
+use Rattle.mb_loaded.proofs.Common.{content_change, content_table, contents_of, drop, drop_more, eq_by_cmp, false, false≢true, filter_map, front, get_or, get_or_from_slice_get, HashAlgorithm, HasId}
+use Rattle.mb_loaded.proofs.Common.{id_at, inl, inr, is_eq, is_null, is_some, IsSpent, IsTile, Kept, length, length-drop, length-set, List, listed_change, MbtType, nat_eq, nat_lt, nat_tests, None}
+use Rattle.mb_loaded.proofs.Common.{nothing, Option, place_cmp, place_of, Put, refl, Removed, same_Some, set, slice_get, slice_get-get_or, slice_get_within, Some, Spends, Standing, StoredTile, suc}
+use Rattle.mb_loaded.proofs.Common.{sym, table_eq, take, taken, tied_itself, tile_change, tile_key, tile_table, true, unwrap_or, with_any, zero, ℕ, [], ◌++◌, ◌+◌, ◌<◌, ◌∙◌, ◌∷◌, ◌≡◌, ◌≢◌, ◌≤◌, ◌⊎◌}
 use Rattle.mb_loaded.proofs.ChangeSteps.{listed_step, tile_step}
-use Rattle.mb_store.specs.declared.change.Change.{Change}
-use Rattle.mb_tables.specs.Cell.{cell_cmp, is_null}
-use Rattle.mb_tables.specs.CellOrder.{cells_total}
-use Rattle.mb_tables.specs.Kind.{tile_table}
-use Rattle.mb_tables.specs.Table.{table_eq}
-use Rattle.mb_tables.specs.Tiles.{contents_of, place_cmp}
-use Rattle.mb_tables.specs.declared.kind.MbtType.{MbtType}
-use Rattle.tile_hash.specs.declared.algorithm.HashAlgorithm.{HashAlgorithm}
 
 -- what stands in a list after one item was replaced
 pub set_apart : {X : Type 0} (xs : List X) (i k : ℕ) (x : X) → k ≢ i → slice_get (set xs i x) k ≡ slice_get xs k

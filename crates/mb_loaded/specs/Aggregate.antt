@@ -1,11 +1,7 @@
 -- The hash of all tiles of a set.
 use Rattle.std.specs.Prelude.{ℕ, ◌++◌, List, [], ◌∷◌, Option, Some, None, flat_map}
-use Rattle.std.specs.FinMap.{entries}
+use Rattle.mb_loaded.specs.Common.{digest, entries, Fnv1a, Fnv1aDecimal, HashAlgorithm, Place, TileSet}
 use Rattle.std.specs.Fmt.{decimal}
-use Rattle.mb_tables.specs.Tiles.{Place, TileSet}
-use Rattle.tile_hash.specs.Digest.{digest}
-use Rattle.tile_hash.specs.declared.algorithm.HashAlgorithm.{HashAlgorithm}
-use Rattle.tile_hash.specs.declared.algorithm.HashAlgorithm.TheVariants.{Fnv1a, Fnv1aDecimal}
 
 -- null adds no bytes
 abbrev pub bytes_of : Option (List ℕ) → List ℕ

@@ -1,26 +1,11 @@
 -- The changes of a loaded set.
 use Rattle.std.specs.Prelude.{◌≡◌, ℕ, pos, ◌++◌, ◌||◌, Bool, true, false, List, [], ◌∷◌, Option, Some, None, All, option_map, slice_get, unwrap_or}
-use Rattle.std.specs.FinMap.{contains_key, get}
+use Rattle.mb_loaded.specs.Common.{blob_cell, Cache, Cell, Change, contains_key, contents_of, Dates, digest, Flat, FlatWithHash, get, HashAlgorithm, Images, Int, IntId, MbtType, Metadata, Names}
+use Rattle.mb_loaded.specs.Common.{Normalized, Null, Place, RowKey, table_eq, Text, text_cell, TextId, Tile, tile_table}
 use Rattle.mb_loaded.specs.Edits.{no_dates}
-use Rattle.mb_lists.specs.Entries.{blob_cell, text_cell}
 use Rattle.mb_loaded.specs.Held.{Edited, Held}
-use Rattle.mb_lists.specs.Metadata.{Names}
 use Rattle.mb_loaded.specs.State.{State}
-use Rattle.mb_lists.specs.declared.dates.Dates.{Dates}
-use Rattle.mb_store.specs.declared.change.Change.{Change}
-use Rattle.mb_tables.specs.Kind.{contents_of, tile_table}
-use Rattle.mb_tables.specs.Table.{table_eq}
-use Rattle.mb_tables.specs.Tiles.{Place}
-use Rattle.mb_tables.specs.declared.cell.Cell.{Cell}
-use Rattle.mb_tables.specs.declared.cell.Cell.TheVariants.{Null, Int, Text}
-use Rattle.mb_tables.specs.declared.key.RowKey.{RowKey}
-use Rattle.mb_tables.specs.declared.key.RowKey.TheVariants.{Tile, TextId, IntId}
-use Rattle.mb_tables.specs.declared.kind.MbtType.{MbtType}
-use Rattle.mb_tables.specs.declared.kind.MbtType.TheVariants.{Flat, FlatWithHash, Normalized, Cache}
 use Rattle.mb_tables.specs.declared.table.TableName.{TableName}
-use Rattle.mb_tables.specs.declared.table.TableName.TheVariants.{Images, Metadata}
-use Rattle.tile_hash.specs.Digest.{digest}
-use Rattle.tile_hash.specs.declared.algorithm.HashAlgorithm.{HashAlgorithm}
 
 -- the table that has a layout's contents by id; the layouts that have none use no row of it
 abbrev pub content_table : MbtType → TableName

@@ -1,24 +1,13 @@
 -- Tiles of another set that are copied to an opened set, each of its contents once.
 use Rattle.std.specs.Prelude.{◌≡◌, ℕ, suc, ◌++◌, ◌∷◌, [], Bool, List, All, Option, Some, None, length, map, slice_get, unwrap_or}
-use Rattle.mb_lists.specs.Clearing.{listed, tile_mark}
-use Rattle.mb_lists.specs.Entries.{HasId, IsDated, IsTile, content_at, newest_ids, newest_names, newest_tiles, place_of, tile_value}
-use Rattle.mb_lists.specs.declared.entries.Content.{Content}
-use Rattle.mb_lists.specs.declared.entries.Standing.TheVariants.{Put}
-use Rattle.mb_lists.specs.declared.entries.StoredName.{StoredName}
-use Rattle.mb_lists.specs.declared.entries.StoredTile.{StoredTile}
+use Rattle.mb_loaded.specs.Common.{Blob, Cell, Content, content_at, Coord, HashAlgorithm, HasId, IsDated, IsTile, listed, MbtType, newest_ids, newest_names, newest_tiles, PatchType, Place, place_of}
+use Rattle.mb_loaded.specs.Common.{Put, StoredName, StoredTile, tile_mark, tile_value}
 use Rattle.mb_loaded.specs.Edits.{dates_for}
 use Rattle.mb_loaded.specs.FromLast.{from_last, tile_patched}
 use Rattle.mb_loaded.specs.GivenIds.{cell_id}
 use Rattle.mb_loaded.specs.Held.{Held}
 use Rattle.mb_loaded.specs.HeldEntries.{held_of}
 use Rattle.mb_loaded.specs.declared.copying.Copying.{Copying}
-use Rattle.mb_tables.specs.Tiles.{Place}
-use Rattle.mb_tables.specs.declared.cell.Cell.{Cell}
-use Rattle.mb_tables.specs.declared.cell.Cell.TheVariants.{Blob}
-use Rattle.mb_tables.specs.declared.kind.MbtType.{MbtType}
-use Rattle.mb_tables.specs.declared.patch_type.PatchType.{PatchType}
-use Rattle.tile_hash.specs.declared.algorithm.HashAlgorithm.{HashAlgorithm}
-use Rattle.tile_ids.specs.Coord.{Coord}
 
 -- a tile of another set as its entry, and the id that a layout gives it
 abbrev pub entry_of : List Content → StoredTile → Place × Option (List ℕ)

@@ -1,16 +1,7 @@
 -- What can be put into a set.
 use Rattle.std.specs.Prelude.{◌≡◌, ℕ, ◌<◌, ◌^◌, Bool, true, false, List, Some}
-use Rattle.std.specs.FinMap.{get}
-use Rattle.mb_tables.specs.CellKinds.{is_number, is_text}
+use Rattle.mb_loaded.specs.Common.{Blob, Cell, Dates, DedupId, digest, get, is_number, is_text, MbtType, Normalized, Place, Text}
 use Rattle.mb_loaded.specs.State.{State}
-use Rattle.mb_lists.specs.declared.dates.Dates.{Dates}
-use Rattle.mb_tables.specs.Tiles.{Place}
-use Rattle.mb_tables.specs.declared.cell.Cell.{Cell}
-use Rattle.mb_tables.specs.declared.cell.Cell.TheVariants.{Text, Blob}
-use Rattle.mb_tables.specs.declared.kind.MbtType.{MbtType}
-use Rattle.mb_tables.specs.declared.kind.MbtType.TheVariants.{Normalized}
-use Rattle.mb_tables.specs.declared.kind.NormalizedSchema.TheVariants.{DedupId}
-use Rattle.tile_hash.specs.Digest.{digest}
 
 -- a place of zoom 0 to 30
 pub record IsOnBoard (p : Place) : Type 0 where

@@ -2,18 +2,9 @@
 use Rattle.std.specs.Prelude.{ℕ, Bool, cond, not, List, [], ◌∷◌, ◌++◌, Option, Some, None, map, filter}
 use Rattle.std.specs.declared.cmp.Ordering.{Ordering}
 use Rattle.std.specs.List.{list_any}
-use Rattle.std.specs.FinMap.{FinMap, contains_key, entries, from_entries, insert, remove, retain_keys}
-use Rattle.mb_lists.specs.Contents.{Contents}
+use Rattle.mb_loaded.specs.Common.{Blob, Cache, Cell, cell_eq, contains_key, Contents, Dates, digest, entries, FinMap, from_entries, HashAlgorithm, insert, MbtType, Normalized, Null, Place, place_cmp}
+use Rattle.mb_loaded.specs.Common.{remove, retain_keys, Text}
 use Rattle.mb_loaded.specs.Held.{Held}
-use Rattle.mb_lists.specs.declared.dates.Dates.{Dates}
-use Rattle.mb_tables.specs.Cell.{cell_eq}
-use Rattle.mb_tables.specs.Tiles.{Place, place_cmp}
-use Rattle.mb_tables.specs.declared.cell.Cell.{Cell}
-use Rattle.mb_tables.specs.declared.cell.Cell.TheVariants.{Null, Text, Blob}
-use Rattle.mb_tables.specs.declared.kind.MbtType.{MbtType}
-use Rattle.mb_tables.specs.declared.kind.MbtType.TheVariants.{Normalized, Cache}
-use Rattle.tile_hash.specs.Digest.{digest}
-use Rattle.tile_hash.specs.declared.algorithm.HashAlgorithm.{HashAlgorithm}
 
 -- the id that a layout gives bytes: their digest
 abbrev pub id_for : MbtType → HashAlgorithm → List ℕ → Option Cell

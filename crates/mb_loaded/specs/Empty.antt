@@ -1,9 +1,7 @@
 -- A set without tiles and metadata.
 use Rattle.std.specs.Prelude.{None}
-use Rattle.std.specs.FinMap.{empty}
+use Rattle.mb_loaded.specs.Common.{empty, HashAlgorithm, MbtType}
 use Rattle.mb_loaded.specs.State.{State}
-use Rattle.mb_tables.specs.declared.kind.MbtType.{MbtType}
-use Rattle.tile_hash.specs.declared.algorithm.HashAlgorithm.{HashAlgorithm}
 
 -- no tiles and no metadata
 abbrev pub empty_state : MbtType → HashAlgorithm → State

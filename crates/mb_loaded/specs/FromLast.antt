@@ -1,9 +1,8 @@
 -- Tiles of another set that are put, from the last to the first.
 use Rattle.std.specs.Prelude.{ℕ, List, [], ◌∷◌, Option, Some, None}
-use Rattle.std.specs.FinMap.{entries}
+use Rattle.mb_loaded.specs.Common.{entries, Place, TileSet}
 use Rattle.mb_loaded.specs.Edits.{removed_tile, with_tile}
 use Rattle.mb_loaded.specs.Held.{Held}
-use Rattle.mb_tables.specs.Tiles.{Place, TileSet}
 
 -- an edit for each of a list, from the last to the first
 abbrev pub from_last : {A : Type 0} → (Held → A → Held) → Held → List A → Held

@@ -1,14 +1,7 @@
 -- The ids that a layout gives the tiles of a set.
 use Rattle.std.specs.Prelude.{ℕ, List, map, slice_get, unwrap_or}
-use Rattle.std.specs.FinMap.{entries}
+use Rattle.mb_loaded.specs.Common.{Blob, blob_cell, Cell, Content, entries, HashAlgorithm, MbtType, Null, TileSet}
 use Rattle.mb_loaded.specs.Edits.{id_for}
-use Rattle.mb_lists.specs.Entries.{blob_cell}
-use Rattle.mb_lists.specs.declared.entries.Content.{Content}
-use Rattle.mb_tables.specs.Tiles.{TileSet}
-use Rattle.mb_tables.specs.declared.cell.Cell.{Cell}
-use Rattle.mb_tables.specs.declared.cell.Cell.TheVariants.{Null, Blob}
-use Rattle.mb_tables.specs.declared.kind.MbtType.{MbtType}
-use Rattle.tile_hash.specs.declared.algorithm.HashAlgorithm.{HashAlgorithm}
 
 -- the id that a layout gives contents: null where it gives none, and for null
 abbrev pub cell_id : MbtType → HashAlgorithm → Cell → Cell

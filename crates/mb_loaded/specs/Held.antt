@@ -1,10 +1,6 @@
 -- A loaded set: its present state, and what was edited since it was loaded.
-use Rattle.std.specs.Ordering.{nat_cmp}
-use Rattle.std.specs.Cmp.Lexicographic.{slice_cmp}
-use Rattle.std.specs.FinMap.{FinMap, empty}
+use Rattle.mb_loaded.specs.Common.{cell_cmp, empty, FinMap, nat_cmp, place_cmp, slice_cmp}
 use Rattle.mb_loaded.specs.State.{State}
-use Rattle.mb_tables.specs.Cell.{cell_cmp}
-use Rattle.mb_tables.specs.Tiles.{place_cmp}
 
 -- the places, the ids of contents and the names that were edited
 pub record Edited : Type 0 where

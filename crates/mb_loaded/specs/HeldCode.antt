@@ -1,25 +1,11 @@
 -- The code of a loaded set, by which a proof tells two apart.
 use Rattle.std.specs.Prelude.{◌≡◌, refl, ℕ, suc, zero, Option, true, false}
-use Rattle.std.specs.Ordering.{nat_cmp}
-use Rattle.std.specs.Cmp.Lexicographic.{slice_cmp}
-use Rattle.std.specs.Coded.{Coded, code_by, coded×, coded_ℕ, coded_list, coded_option}
+use Rattle.mb_loaded.specs.Common.{Cache, Cell, cell_cmp, cell_code, code_by, Coded, coded_list, coded_option, coded_ℕ, coded×, Contents, Dates, dates_code, DedupId, Flat, FlatWithHash, Fnv1a}
+use Rattle.mb_loaded.specs.Common.{Fnv1aDecimal, Hash, HashAlgorithm, MbtType, Md5, Names, nat_cmp, Normalized, PatchType, Place, place_cmp, slice_cmp, TileSet, Xxh3, Xxh64}
 use Rattle.std.specs.FinMap as fin
-use Rattle.mb_lists.specs.CellCode.{cell_code, dates_code}
-use Rattle.mb_lists.specs.Contents.{Contents}
 use Rattle.mb_loaded.specs.Held.{Edited, Held}
-use Rattle.mb_lists.specs.Metadata.{Names}
 use Rattle.mb_loaded.specs.State.{State}
-use Rattle.mb_lists.specs.declared.dates.Dates.{Dates}
-use Rattle.mb_tables.specs.Cell.{cell_cmp}
-use Rattle.mb_tables.specs.Tiles.{Place, TileSet, place_cmp}
-use Rattle.mb_tables.specs.declared.cell.Cell.{Cell}
-use Rattle.mb_tables.specs.declared.kind.MbtType.{MbtType}
-use Rattle.mb_tables.specs.declared.kind.MbtType.TheVariants.{Flat, FlatWithHash, Normalized, Cache}
-use Rattle.mb_tables.specs.declared.kind.NormalizedSchema.TheVariants.{Hash, DedupId}
-use Rattle.mb_tables.specs.declared.patch_type.PatchType.{PatchType}
 use Rattle.mb_tables.specs.declared.patch_type.PatchType.TheVariants.{BinDiffGz, BinDiffRaw}
-use Rattle.tile_hash.specs.declared.algorithm.HashAlgorithm.{HashAlgorithm}
-use Rattle.tile_hash.specs.declared.algorithm.HashAlgorithm.TheVariants.{Md5, Fnv1a, Fnv1aDecimal, Xxh64, Xxh3}
 
 abbrev pub layout_number : MbtType → ℕ
 layout_number Flat = 0

@@ -1,15 +1,8 @@
 -- What the entries that a loaded set keeps mean together.
 use Rattle.std.specs.Prelude.{ℕ, List, Option}
-use Rattle.std.specs.FinMap.{from_entries}
-use Rattle.mb_lists.specs.Entries.{content_at, contents_held, id_at, if_edited, name_of, names_held, tile_dates, tile_id, tile_value, tiles_held}
-use Rattle.mb_lists.specs.Keyed.{entries_by}
-use Rattle.mb_lists.specs.declared.entries.Content.{Content}
-use Rattle.mb_lists.specs.declared.entries.StoredName.{StoredName}
-use Rattle.mb_lists.specs.declared.entries.StoredTile.{StoredTile}
+use Rattle.mb_loaded.specs.Common.{Content, content_at, contents_held, entries_by, from_entries, HashAlgorithm, id_at, if_edited, MbtType, name_of, names_held, PatchType, StoredName, StoredTile}
+use Rattle.mb_loaded.specs.Common.{tile_dates, tile_id, tile_value, tiles_held}
 use Rattle.mb_loaded.specs.Held.{Held}
-use Rattle.mb_tables.specs.declared.kind.MbtType.{MbtType}
-use Rattle.mb_tables.specs.declared.patch_type.PatchType.{PatchType}
-use Rattle.tile_hash.specs.declared.algorithm.HashAlgorithm.{HashAlgorithm}
 
 -- a set of these contents, the order of those that have an id, tiles and names, with what was edited
 abbrev pub held_of : MbtType → HashAlgorithm → Option PatchType → List Content → List ℕ → List StoredTile → List StoredName → Held

@@ -1,8 +1,6 @@
 -- Tiles of another set whose contents are moved to an opened set.
 use Rattle.std.specs.Prelude.{◌≡◌, ℕ, suc, List, Some, length, slice_get}
-use Rattle.mb_lists.specs.Entries.{content_at}
-use Rattle.mb_lists.specs.declared.entries.Content.{Content}
-use Rattle.mb_tables.specs.declared.cell.Cell.TheVariants.{Blob}
+use Rattle.mb_loaded.specs.Common.{Blob, Content, content_at}
 
 -- another set's contents, of which those with a copy were moved: they were bytes, and the cells of all others are there
 pub record AreLeft (others now : List Content) (copies : List ℕ) : Type 0 where

@@ -2,25 +2,10 @@
 use Rattle.std.specs.Prelude.{ℕ, List, [], ◌∷◌, ◌++◌, Option, Some, None, option_and_then, unwrap_or}
 use Rattle.mb_loaded.specs.Changing.{content_table, front, tile_key}
 use Rattle.mb_loaded.specs.Edits.{no_dates}
-use Rattle.mb_lists.specs.Entries.{content_at, place_of}
-use Rattle.mb_lists.specs.declared.dates.Dates.{Dates}
-use Rattle.mb_lists.specs.declared.entries.Content.{Content}
+use Rattle.mb_loaded.specs.Common.{Blob, Cache, Cell, Change, Content, content_at, Dates, digest, Flat, FlatWithHash, HashAlgorithm, Int, IntId, Kept, MbtType, Metadata, Normalized, Null, place_of}
+use Rattle.mb_loaded.specs.Common.{Put, Removed, RowKey, StoredName, StoredTile, Text, TextId, tile_table}
 use Rattle.mb_lists.specs.declared.entries.Standing.{Standing}
-use Rattle.mb_lists.specs.declared.entries.Standing.TheVariants.{Kept, Put, Removed}
-use Rattle.mb_lists.specs.declared.entries.StoredName.{StoredName}
-use Rattle.mb_lists.specs.declared.entries.StoredTile.{StoredTile}
 use Rattle.mb_store.specs.Changes.{with_change}
-use Rattle.mb_store.specs.declared.change.Change.{Change}
-use Rattle.mb_tables.specs.Kind.{tile_table}
-use Rattle.mb_tables.specs.declared.cell.Cell.{Cell}
-use Rattle.mb_tables.specs.declared.cell.Cell.TheVariants.{Null, Int, Text, Blob}
-use Rattle.mb_tables.specs.declared.key.RowKey.{RowKey}
-use Rattle.mb_tables.specs.declared.key.RowKey.TheVariants.{TextId, IntId}
-use Rattle.mb_tables.specs.declared.kind.MbtType.{MbtType}
-use Rattle.mb_tables.specs.declared.kind.MbtType.TheVariants.{Flat, FlatWithHash, Normalized, Cache}
-use Rattle.mb_tables.specs.declared.table.TableName.TheVariants.{Metadata}
-use Rattle.tile_hash.specs.Digest.{digest}
-use Rattle.tile_hash.specs.declared.algorithm.HashAlgorithm.{HashAlgorithm}
 
 -- the digest of contents; null has none
 abbrev pub digest_cell : HashAlgorithm → Cell → Cell

@@ -1,10 +1,7 @@
 -- Tiles that have the same contents.
 use Rattle.std.specs.Prelude.{ℕ}
-use Rattle.mb_lists.specs.declared.entries.Standing.TheVariants.{Put}
-use Rattle.mb_lists.specs.declared.entries.StoredTile.{StoredTile}
+use Rattle.mb_loaded.specs.Common.{Coord, MbtType, Put, StoredTile}
 use Rattle.mb_loaded.specs.Edits.{dates_for}
-use Rattle.mb_tables.specs.declared.kind.MbtType.{MbtType}
-use Rattle.tile_ids.specs.Coord.{Coord}
 
 -- a tile that is put at a coordinate with the contents at an index, in a cache without times
 abbrev pub tile_with : MbtType → ℕ → Coord → StoredTile

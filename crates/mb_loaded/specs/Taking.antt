@@ -1,11 +1,6 @@
 -- Lists of contents out of which some are taken, once each.
 use Rattle.std.specs.Prelude.{◌≡◌, ◌≢◌, ◌<◌, ◌≤◌, ℕ, Bool, false, true, List, Some, length, slice_get}
-use Rattle.mb_lists.specs.Entries.{id_at}
-use Rattle.mb_lists.specs.declared.entries.Content.{Content}
-use Rattle.mb_lists.specs.declared.entries.Standing.TheVariants.{Put}
-use Rattle.mb_lists.specs.declared.entries.StoredTile.{StoredTile}
-use Rattle.mb_tables.specs.Cell.{is_null}
-use Rattle.mb_tables.specs.declared.cell.Cell.TheVariants.{Null}
+use Rattle.mb_loaded.specs.Common.{Content, id_at, is_null, Null, Put, StoredTile}
 
 -- what stands in the place of contents that were taken
 abbrev pub taken : Content

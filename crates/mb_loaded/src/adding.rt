@@ -1,8 +1,7 @@
 // New contents behind those that are kept.
 ghost use Rattle.std.specs.Prelude.{◌≡◌, ◌++◌, ◌∷◌, ◌<◌, [], IfOk, OnOk, OnErr, length, unwrap_or, vec_capacity, vec_len};
-ghost use Rattle.mb_lists.specs.Clearing.{listed};
+ghost use Rattle.mb_loaded.specs.Common.{listed, Null};
 ghost use Rattle.mb_loaded.specs.Edits.{dates_for, id_for};
-ghost use Rattle.mb_tables.specs.declared.cell.Cell.TheVariants.{Null};
 
 use base_values::OutOfMemory;
 use mb_lists::{Content, Dates, Standing, TileDates};

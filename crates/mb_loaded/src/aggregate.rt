@@ -1,9 +1,8 @@
 // The hash of all tiles of a loaded set.
 ghost use Rattle.std.specs.Prelude.{◌≡◌, ◌++◌, ℕ, List, Option, IfOk};
 ghost use Rattle.mb_loaded.specs.Aggregate.{aggregate, bytes_of, in_hexadecimal, tile_text};
-ghost use Rattle.mb_lists.specs.Entries.{blob_cell, place_at};
+ghost use Rattle.mb_loaded.specs.Common.{blob_cell, HashAlgorithm, place_at};
 ghost use Rattle.tile_hash.specs.HashStream.{HasTaken};
-ghost use Rattle.tile_hash.specs.declared.algorithm.HashAlgorithm.{HashAlgorithm};
 
 use crate::Loaded;
 use base_values::{OutOfMemory, TextVal};

@@ -1,11 +1,8 @@
 // A set from the tiles and names that are kept of its rows.
 ghost use Rattle.std.specs.Prelude.{◌≡◌, All, IfNone, IfSome, false, is_some, map, true};
-ghost use Rattle.mb_lists.specs.Entries.{AreNamesInOrder, IsDated, IsName, place_of, tile_value};
+ghost use Rattle.mb_loaded.specs.Common.{are_distinct, AreNamesInOrder, IsDated, IsName, Kept, place_cmp, place_of, tile_value};
 ghost use Rattle.mb_loaded.specs.HeldEntries.{held_of};
 ghost use Rattle.mb_lists.specs.FromRows.{AreIndexed};
-ghost use Rattle.mb_lists.specs.Keyed.{are_distinct};
-ghost use Rattle.mb_lists.specs.declared.entries.Standing.TheVariants.{Kept};
-ghost use Rattle.mb_tables.specs.Tiles.{place_cmp};
 
 use crate::Loaded;
 use mb_lists::{NameList, RowTiles, TileList};

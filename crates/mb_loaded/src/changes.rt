@@ -1,15 +1,8 @@
 // The changes of a loaded set.
 ghost use Rattle.std.specs.Prelude.{◌≡◌, ◌++◌, All, IfOk, OnOk, Some, [], false, filter_map};
-ghost use Rattle.std.specs.Cmp.Lexicographic.{slice_cmp};
-ghost use Rattle.std.specs.Ordering.{nat_cmp};
+ghost use Rattle.mb_loaded.specs.Common.{Apart, cell_cmp, id_at, IsTile, key_width, Metadata, name_of, nat_cmp, place_cmp, place_of, slice_cmp, table_eq, width};
 ghost use Rattle.mb_loaded.specs.Changing.{AreChangesOf, content_table};
-ghost use Rattle.mb_lists.specs.Entries.{IsTile, id_at, name_of, place_of};
-ghost use Rattle.mb_lists.specs.Keyed.{Apart};
 ghost use Rattle.mb_loaded.specs.PutRows.{change_by, content_change, id_key, listed_change, name_change, row_of_content, tile_change, with_any};
-ghost use Rattle.mb_tables.specs.Cell.{cell_cmp};
-ghost use Rattle.mb_tables.specs.Table.{key_width, table_eq, width};
-ghost use Rattle.mb_tables.specs.Tiles.{place_cmp};
-ghost use Rattle.mb_tables.specs.declared.table.TableName.TheVariants.{Metadata};
 
 use crate::Loaded;
 use crate::put_rows::{content_row, contents_table, id_key, name_row, place_key, tile_row};

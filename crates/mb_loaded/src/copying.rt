@@ -3,10 +3,7 @@ ghost use Rattle.std.specs.Prelude.{◌≡◌, ◌<◌, All, IfOk, List, OnOk, f
 ghost use Rattle.mb_loaded.specs.Copying.{Adds, Edits, IsCopied, IsCopying, Puts, Removes, id_of, tile_copied, tiles_copied};
 ghost use Rattle.mb_loaded.specs.FromLast.{tiles_put};
 ghost use Rattle.mb_loaded.specs.GivenIds.{cell_id, ids_given};
-ghost use Rattle.mb_lists.specs.Entries.{IsTile, content_at, is_gone};
-ghost use Rattle.mb_lists.specs.declared.entries.Content.{Content};
-ghost use Rattle.mb_tables.specs.Cell.{is_null};
-ghost use Rattle.mb_tables.specs.declared.cell.Cell.TheVariants.{Blob};
+ghost use Rattle.mb_loaded.specs.Common.{Blob, Content, content_at, is_gone, is_null, IsTile};
 
 use crate::adding::{add_content, dates_for, list_id};
 use crate::{Editing, GivenIds, Loaded};

@@ -1,11 +1,7 @@
 // A loaded set that takes many edits.
 ghost use Rattle.std.specs.Prelude.{◌≡◌, IfOk, OnErr, OnOk, true};
-ghost use Rattle.std.specs.FinMap.{contains_key};
+ghost use Rattle.mb_loaded.specs.Common.{Cache, contains_key, is_text, place_at, text_of};
 ghost use Rattle.mb_loaded.specs.Edits.{removed_name, removed_tile, with_dates, with_name, with_null, with_tile};
-ghost use Rattle.mb_lists.specs.Entries.{place_at};
-ghost use Rattle.mb_tables.specs.CellKinds.{is_text};
-ghost use Rattle.mb_lists.specs.Metadata.{text_of};
-ghost use Rattle.mb_tables.specs.declared.kind.MbtType.TheVariants.{Cache};
 
 use crate::Loaded;
 use crate::adding::{add_content, dates_for, id_for, list_id, null_content};
@@ -35,7 +31,7 @@ impl Model for Editing {
     ghost use Rattle.std.specs.Prelude.{All};
     ghost use Rattle.mb_loaded.specs.Held.{Held};
     ghost use Rattle.mb_loaded.specs.HeldCode.{held_code};
-    ghost use Rattle.mb_lists.specs.Entries.{HasId, IsDated, IsName, IsTile, newest_ids, newest_names, newest_tiles};
+    ghost use Rattle.mb_loaded.specs.Common.{HasId, IsDated, IsName, IsTile, newest_ids, newest_names, newest_tiles};
     ghost use Rattle.mb_loaded.specs.HeldEntries.{held_of};
 
     ghost Value = { Held };

@@ -21,10 +21,8 @@ pub struct GivenIds {
 
 impl Model for GivenIds {
     ghost use Rattle.std.specs.Prelude.{◌<◌, All, List, length};
-    ghost use Rattle.std.specs.Coded.{coded_list};
+    ghost use Rattle.mb_loaded.specs.Common.{Cell, cell_code, coded_list};
     ghost use Rattle.mb_loaded.specs.GivenIds.{ids_at};
-    ghost use Rattle.mb_lists.specs.CellCode.{cell_code};
-    ghost use Rattle.mb_tables.specs.declared.cell.Cell.{Cell};
 
     ghost Value = { List Cell };
 

@@ -1,14 +1,9 @@
 // The changes of a loaded set that is let go, its contents moved into their rows.
 ghost use Rattle.std.specs.Prelude.{◌≡◌, ◌++◌, ◌<◌, ℕ, All, IfOk, OnOk, Some, [], false, filter_map, length, nat_eq, set, slice_get};
 ghost use Rattle.mb_loaded.specs.Changing.{AreChangesOf, content_table};
-ghost use Rattle.mb_lists.specs.Entries.{HasId, IsTile, id_at, is_gone, place_of};
-ghost use Rattle.mb_lists.specs.Keyed.{Apart};
+ghost use Rattle.mb_loaded.specs.Common.{Apart, cell_cmp, HasId, id_at, is_gone, is_null, IsTile, key_width, place_cmp, place_of, Put, table_eq, width};
 ghost use Rattle.mb_loaded.specs.PutRows.{change_by, content_change, id_key, listed_change, row_of_content, row_of_tile, tile_change, with_any};
 ghost use Rattle.mb_loaded.specs.Taking.{AreLast, Spends, taken};
-ghost use Rattle.mb_lists.specs.declared.entries.Standing.TheVariants.{Put};
-ghost use Rattle.mb_tables.specs.Cell.{cell_cmp, is_null};
-ghost use Rattle.mb_tables.specs.Table.{key_width, table_eq, width};
-ghost use Rattle.mb_tables.specs.Tiles.{place_cmp};
 
 use crate::Loaded;
 use crate::changes::add_names;

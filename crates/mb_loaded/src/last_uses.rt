@@ -1,7 +1,7 @@
 // The last tile that is put with each of the contents.
 ghost use Rattle.std.specs.Prelude.{◌≡◌, ◌≢◌, ◌<◌, All, IfOk, length, set};
 ghost use Rattle.mb_loaded.specs.Taking.{AreLast};
-ghost use Rattle.mb_lists.specs.declared.entries.Standing.TheVariants.{Put};
+ghost use Rattle.mb_loaded.specs.Common.{Put};
 
 use base_values::OutOfMemory;
 use mb_lists::{Standing, StoredTile};

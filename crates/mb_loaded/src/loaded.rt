@@ -1,8 +1,6 @@
 // A loaded set.
 ghost use Rattle.std.specs.Prelude.{◌≡◌, ◌<◌, IfSome, option_copied, option_map, slice_get};
-ghost use Rattle.std.specs.FinMap.{entries, get, len};
-ghost use Rattle.mb_lists.specs.Entries.{blob_cell, place_at, text_cell};
-ghost use Rattle.mb_lists.specs.Metadata.{text_at};
+ghost use Rattle.mb_loaded.specs.Common.{blob_cell, entries, get, len, place_at, text_at, text_cell};
 
 use base_values::TextVal;
 use mb_lists::{ContentList, NameList, TileDates, TileList, kept_cell, kept_id};
@@ -27,7 +25,7 @@ impl Model for Loaded {
     ghost use Rattle.std.specs.Prelude.{All};
     ghost use Rattle.mb_loaded.specs.Held.{Held};
     ghost use Rattle.mb_loaded.specs.HeldCode.{held_code};
-    ghost use Rattle.mb_lists.specs.Entries.{AreContentsInOrder, AreInOrder, AreNamesInOrder, HasId, IsDated, IsName, IsTile};
+    ghost use Rattle.mb_loaded.specs.Common.{AreContentsInOrder, AreInOrder, AreNamesInOrder, HasId, IsDated, IsName, IsTile};
     ghost use Rattle.mb_loaded.specs.HeldEntries.{held_of};
 
     ghost Value = { Held };

@@ -2,7 +2,7 @@
 ghost use Rattle.std.specs.Prelude.{◌≡◌, ◌++◌, ◌∷◌, [], IfOk, OnOk, option_copied};
 ghost use Rattle.mb_loaded.specs.Changing.{front};
 ghost use Rattle.mb_loaded.specs.PutRows.{cells_kept, digest_cell, row_of_content};
-ghost use Rattle.mb_lists.specs.Entries.{place_of};
+ghost use Rattle.mb_loaded.specs.Common.{place_of};
 
 use crate::put_rows::{add_times, digest_cell, place_cells};
 use base_values::OutOfMemory;

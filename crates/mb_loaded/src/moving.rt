@@ -4,9 +4,7 @@ ghost use Rattle.mb_loaded.specs.Copying.{Adds, Edits, IsCopied, IsCopying, id_o
 ghost use Rattle.mb_loaded.specs.FromLast.{tiles_put};
 ghost use Rattle.mb_loaded.specs.GivenIds.{cell_id, ids_given};
 ghost use Rattle.mb_loaded.specs.Moving.{AreLeft};
-ghost use Rattle.mb_lists.specs.Entries.{IsTile, content_at, is_gone};
-ghost use Rattle.mb_lists.specs.declared.entries.Content.{Content};
-ghost use Rattle.mb_tables.specs.declared.cell.Cell.TheVariants.{Blob};
+ghost use Rattle.mb_loaded.specs.Common.{Blob, Content, content_at, is_gone, IsTile};
 
 use crate::adding::add_content;
 use crate::copying::{Copying, no_copies, put_at, remove_at};

@@ -2,7 +2,7 @@
 ghost use Rattle.std.specs.Prelude.{◌≡◌, ◌++◌, ◌∷◌, [], false, IfOk, OnOk, option_copied, unwrap_or};
 ghost use Rattle.mb_loaded.specs.Changing.{content_table, front, tile_key};
 ghost use Rattle.mb_loaded.specs.Edits.{no_dates};
-ghost use Rattle.mb_lists.specs.Entries.{IsTile, is_gone, place_at};
+ghost use Rattle.mb_loaded.specs.Common.{is_gone, IsTile, place_at};
 ghost use Rattle.mb_loaded.specs.PutRows.{cells_kept, digest_cell, id_key, row_of_content, row_of_name, row_of_tile, times_cells};
 
 use base_values::OutOfMemory;

@@ -2,7 +2,7 @@
 ghost use Rattle.std.specs.Prelude.{◌≡◌, ◌++◌, OnErr, OnOk, length, map, take};
 ghost use Rattle.mb_loaded.specs.Edits.{with_tiles};
 ghost use Rattle.mb_loaded.specs.Sharing.{tile_with};
-ghost use Rattle.mb_lists.specs.Entries.{place_at};
+ghost use Rattle.mb_loaded.specs.Common.{place_at};
 
 use crate::Editing;
 use crate::adding::{dates_for, id_for, list_id};

@@ -1,11 +1,7 @@
 // Edits of a loaded set, one at a time.
 ghost use Rattle.std.specs.Prelude.{◌≡◌, OnErr, OnOk, true};
-ghost use Rattle.std.specs.FinMap.{contains_key};
+ghost use Rattle.mb_loaded.specs.Common.{Cache, contains_key, is_text, place_at, text_of};
 ghost use Rattle.mb_loaded.specs.Edits.{only_referenced, with_dates, with_name, with_null, with_tile, without_name, without_tile};
-ghost use Rattle.mb_lists.specs.Entries.{place_at};
-ghost use Rattle.mb_tables.specs.CellKinds.{is_text};
-ghost use Rattle.mb_lists.specs.Metadata.{text_of};
-ghost use Rattle.mb_tables.specs.declared.kind.MbtType.TheVariants.{Cache};
 
 use crate::Loaded;
 use crate::adding::{add_content, dates_for, id_for, null_content};

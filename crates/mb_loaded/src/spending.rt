@@ -1,7 +1,7 @@
 // Lists of a set that is let go, which give their room back while they are spent.
 ghost use Rattle.std.specs.Prelude.{◌≡◌, ◌<◌, ◌≤◌, ◌++◌, ℕ, List, None, Some, [], length, nat_lt, option_to_list, slice_get, true};
 ghost use Rattle.mb_loaded.specs.Taking.{AreUnspent, IsSpent};
-ghost use Rattle.mb_lists.specs.declared.entries.Content.{Content};
+ghost use Rattle.mb_loaded.specs.Common.{Content};
 
 use mb_lists::{Content, StoredTile, kept_id};
 use std::collections::VecDeque;

@@ -1,6 +1,6 @@
 // Contents that are taken out of their list.
 ghost use Rattle.std.specs.Prelude.{◌≡◌, ◌<◌, length, set};
-ghost use Rattle.mb_lists.specs.Entries.{content_at};
+ghost use Rattle.mb_loaded.specs.Common.{content_at};
 ghost use Rattle.mb_loaded.specs.Taking.{taken};
 
 use crate::adding::null_content;

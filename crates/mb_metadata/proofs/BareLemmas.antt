@@ -1,11 +1,5 @@
 -- An object without members.
-use Rattle.std.proofs.Common.{◌≡◌, List, [], ◌∷◌, Bool, true, length, arith, refl}
-use Rattle.std.specs.Prelude.{◌↔◌}
-use Rattle.std.proofs.lemmas.Bool.{false_from_ne_true}
-use Rattle.serde_json.proofs.Views.{Entry}
-use Rattle.serde_json.specs.Data.{object}
-use Rattle.serde_json.specs.View.{members_view}
-use Rattle.mb_metadata.specs.SaidJson.{is_bare}
+use Rattle.mb_metadata.proofs.Common.{arith, Bool, Entry, false_from_ne_true, is_bare, length, List, members_view, object, refl, true, [], ◌↔◌, ◌∷◌, ◌≡◌}
 
 pub bare : (es : List Entry) (b : Bool) → ((b ≡ true) ↔ (length es ≡ 0)) → b ≡ is_bare (object (members_view es))
 bare [] b h = h.1 refl

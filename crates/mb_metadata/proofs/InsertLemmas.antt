@@ -1,12 +1,6 @@
 -- The edits of entries of a document, one after another.
-use Rattle.std.proofs.Common.{◌≡◌, ◌∙◌, ap, sym, ℕ, ◌+◌, ◌<◌, ◌≤◌, List, [], ◌∷◌, ◌++◌, Some, length, take, map}
-use Rattle.std.specs.Prelude.{slice_get}
-use Rattle.std.proofs.lemmas.List.{map-append, take_all, take_more}
-use Rattle.std.proofs.lemmas.Option.{get_or_from_slice_get}
-use Rattle.mb_metadata.specs.Inserting.{data_text}
-use Rattle.mb_metadata.specs.NameEdits.{put_of}
-use Rattle.mb_metadata.specs.declared.name_edits.NameEdit.{NameEdit}
-use Rattle.serde_json.specs.Data.{Data}
+use Rattle.mb_metadata.proofs.Common.{ap, Data, data_text, get_or_from_slice_get, length, List, map, map-append, NameEdit, put_of, slice_get, Some, sym, take, take_all, take_more, ℕ, [], ◌++◌, ◌+◌}
+use Rattle.mb_metadata.proofs.Common.{◌<◌, ◌∙◌, ◌∷◌, ◌≡◌, ◌≤◌}
 
 abbrev Entry : Type 0
 Entry = List ℕ × Data

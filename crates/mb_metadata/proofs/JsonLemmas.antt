@@ -1,20 +1,9 @@
 -- Objects of JSON that are put together member by member, and have no float.
-use Rattle.std.proofs.Common.{◌≡◌, ◌∙◌, ap, sym, ℕ, suc, ◌+◌, ◌<◌, ◌≤◌, List, [], ◌∷◌, Option, Some, None, false, ◌||◌, Ordering, Less, Equal, Greater, refl, length, drop, map, get_or, arith}
-use Rattle.std.specs.Prelude.{All, IfSome, codes, option_map, slice_get}
-use Rattle.std.specs.FinMap.{entries}
-use Rattle.std.specs.Ordering.{match_ordering, nat_cmp}
-use Rattle.std.specs.Cmp.Lexicographic.{slice_cmp}
-use Rattle.std.proofs.lemmas.Bool.{or_from, or_parts}
-use Rattle.std.proofs.lemmas.List.{at_drop_all}
-use Rattle.std.proofs.lemmas.List.Elements.{All-head, All-tail}
-use Rattle.std.proofs.lemmas.Option.{get_or_from_slice_get}
+use Rattle.mb_metadata.proofs.Common.{All, All-head, All-tail, ap, arith, as_it_is, at_drop_all, codes, Data, drop, entries, Equal, false, get_or, get_or_from_slice_get, Greater, has_float}
+use Rattle.mb_metadata.proofs.Common.{HasNoFloat, IfSome, items_have_float, items_of, layer_data, layers_data, LayersHaveNoFloat, length, Less, List, map, match_ordering, member, Members}
+use Rattle.mb_metadata.proofs.Common.{members_have_float, nat_cmp, no_members, None, Option, option_map, or_from, or_parts, Ordering, put, put_some, refl, slice_cmp, slice_get, Some, string, suc, sym}
+use Rattle.mb_metadata.proofs.Common.{texts_data, VectorLayer, with_entries, zoom_data, ℕ, [], ◌+◌, ◌<◌, ◌||◌, ◌∙◌, ◌∷◌, ◌≡◌, ◌≤◌}
 use Rattle.std.proofs.Math.Seq.{drop-cons}
-use Rattle.mb_metadata.specs.Inserting.{HasNoFloat, LayersHaveNoFloat}
-use Rattle.mb_metadata.specs.LayerJson.{as_it_is, layer_data, layers_data, put_some, texts_data, with_entries, zoom_data}
-use Rattle.serde_json.specs.Data.{Data, string, Members, no_members, member, put}
-use Rattle.serde_json.specs.View.{items_of}
-use Rattle.serde_json.specs.Written.{has_float, items_have_float, members_have_float}
-use Rattle.tile_json.specs.declared.layer.VectorLayer.{VectorLayer}
 
 -- the entry at an index is put, and those behind it are left
 entries_step : {V : Type 0} (value : V → Data) (es : List (List ℕ × V)) (i : ℕ) (ms : Members) (name : List ℕ) (v : V) → i < length es → slice_get es i ≡ Some (name, v) → with_entries value ms (drop i es) ≡ with_entries value (put name (value v) ms) (drop (i + 1) es)

@@ -1,3 +1,4 @@
+mod Common
 pub mod BareLemmas
 pub mod OthersLemmas
 pub mod ReadBackLemmas

@@ -1,15 +1,11 @@
 -- A set after edits of its metadata, and its tables after their commit.
-use Rattle.std.proofs.Common.{◌≡◌, ◌∙◌, ap, sym, subst, ℕ, List, [], ◌∷◌, Option, Some, None, Bool, true, false, ◌&&◌, ◌||◌, cond, not, filter, refl, is_some, get_or, length, take, Ok}
+use Rattle.mb_metadata.proofs.Common.{ap, AreEdited, Bool, Cell, cell_at, codes, cond, contains_key, Edited, EditsNames, false, false≢true, filter, FinMap, fresh, get, get-empty, get-insert}
+use Rattle.mb_metadata.proofs.Common.{get-remove, get_or, Held, held_edited, insert, Int, is_edited, is_some, IsFresh, IsLoadedFrom, key_of, length, List, NameEdit, Names, names_edited}
+use Rattle.mb_metadata.proofs.Common.{NamesAlgorithm, nat_cmp, nat_list_cmp_total, None, not, nothing_edited, Ok, Option, option_and_then, or_parts, place_cmp, refl, slice_cmp, Some, State}
+use Rattle.mb_metadata.proofs.Common.{state_edited, state_of, subst, sym, table_eq, Tables, take, Text, text_at, true, with_text, with_touched, ℕ, [], ◌&&◌, ◌==◌, ◌||◌, ◌∙◌, ◌∷◌, ◌≡◌}
 use Rattle.std.proofs.Math.Bool.{or-false}
-use Rattle.std.specs.Prelude.{◌==◌, codes, option_and_then}
-use Rattle.std.specs.FinMap.{FinMap, contains_key, get, get-empty, get-insert, get-remove, insert}
-use Rattle.std.specs.Ordering.{nat_cmp}
-use Rattle.std.specs.Cmp.Lexicographic.{slice_cmp}
-use Rattle.std.proofs.lemmas.Bool.{false≢true, or_parts}
-use Rattle.std.proofs.lemmas.Cmp.{nat_list_cmp_total}
 use Rattle.std.proofs.lemmas.List.Folds.{list_any_none}
 use Rattle.mb_constraints.specs.Algorithm.{algorithm_by, unknown_name}
-use Rattle.mb_lists.specs.Metadata.{Names, text_at}
 use Rattle.mb_load.proofs.CommitLemmas.{committed, names_stand}
 use Rattle.mb_load.proofs.EditedFrom.{from_removed_name, from_with_name}
 use Rattle.mb_load.proofs.LoadsFrom.{state_whole}
@@ -17,13 +13,7 @@ use Rattle.mb_load.proofs.StateAgain.{state_again}
 use Rattle.mb_loaded.specs.Changing.{AreChangesOf, content_table, id_edited, is_own_table, name_edited, place_edited}
 use Rattle.mb_load.specs.Committing.{MakesChanges}
 use Rattle.mb_loaded.specs.Edits.{removed_name, with_name}
-use Rattle.mb_loaded.specs.Held.{Edited, Held, fresh, nothing_edited}
-use Rattle.mb_load.specs.LoadedFrom.{IsLoadedFrom, NamesAlgorithm}
 use Rattle.mb_load.specs.Loading.{Loads}
-use Rattle.mb_loaded.specs.State.{State}
-use Rattle.mb_load.specs.StateOf.{state_of}
-use Rattle.mb_metadata.specs.NameEdits.{AreEdited, EditsNames, IsFresh, held_edited, is_edited, names_edited, state_edited, with_text, with_touched}
-use Rattle.mb_metadata.specs.declared.name_edits.NameEdit.{NameEdit}
 use Rattle.mb_store.proofs.Committed.{others_stay}
 use Rattle.mb_store.specs.Committing.{Commits, is_changed}
 use Rattle.mb_store.specs.Store.{IsSound}
@@ -34,10 +24,6 @@ use Rattle.mb_tables.proofs.TableLemmas.{same_table}
 use Rattle.mb_tables.specs.Cell.{cell_cmp, cell_eq}
 use Rattle.mb_tables.specs.Key.{has_key, key_cells}
 use Rattle.mb_tables.specs.Kind.{tile_table}
-use Rattle.mb_tables.specs.Table.{Tables, key_of, table_eq}
-use Rattle.mb_tables.specs.Tiles.{cell_at, place_cmp}
-use Rattle.mb_tables.specs.declared.cell.Cell.{Cell}
-use Rattle.mb_tables.specs.declared.cell.Cell.TheVariants.{Int, Text}
 use Rattle.mb_tables.specs.declared.key.RowKey.{RowKey}
 use Rattle.mb_tables.specs.declared.key.RowKey.TheVariants.{Tile, TextId, IntId}
 use Rattle.mb_tables.specs.declared.table.TableName.{TableName}

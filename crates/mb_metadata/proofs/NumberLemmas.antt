@@ -1,13 +1,10 @@
 -- What std reads as a number of so many bits.
-use Rattle.std.proofs.Common.{◌≡◌, ◌≢◌, ◌∙◌, ap, sym, ℕ, ◌<◌, ◌^◌, ◌&&◌, Bool, true, false, cond, List, [], ◌∷◌, Result, Ok, Err, Some, None, get_or, nat_lt, refl, length, arith}
-use Rattle.std.specs.Fmt.{decimal}
+use Rattle.mb_metadata.proofs.Common.{all_ascii_digits, and_from, and_parts, ap, arith, Bool, cond, decimal, digits_within, Err, false, get_or, length, List, lt-ltb, ltb-true, nat_lt, None}
+use Rattle.mb_metadata.proofs.Common.{number_within, Ok, refl, Result, Some, sym, true, true≢false, ℕ, [], ◌&&◌, ◌<◌, ◌^◌, ◌∙◌, ◌∷◌, ◌≡◌, ◌≢◌}
 use Rattle.std.specs.Result.{OkIff, result_ok}
-use Rattle.std.specs.Str.{all_ascii_digits}
 use Rattle.std.specs.Str.Parse.{IsNumeral, ParsesUnsigned, digits_value, without_leading_plus}
-use Rattle.std.proofs.lemmas.Bool.{and_from, and_parts, lt-ltb, ltb-true, true≢false}
 use Rattle.std.proofs.lemmas.Fmt.{decimal_is_IsNumeral}
 use Rattle.std.proofs.lemmas.Str.Parse.{IsNumeralModel, numerals_by_value, tells_all_ascii_digits, without_leading_plus_none}
-use Rattle.mb_metadata.specs.ZoomText.{digits_within, number_within}
 
 own : IsNumeralModel (λ ds. all_ascii_digits ds ≡ true) (digits_value 10)
 own = numerals_by_value _ tells_all_ascii_digits

@@ -1,21 +1,9 @@
 -- The names without a field of their own, one after another.
-use Rattle.std.proofs.Common.{◌≡◌, ◌∙◌, ap, sym, ℕ, zero, suc, ◌+◌, ◌<◌, ◌≤◌, List, [], ◌∷◌, ◌++◌, append-nil, Bool, true, false, cond, T, Option, Some, None, option_map, refl, length, take, is_eq, Ordering, Less, Greater}
-use Rattle.std.specs.Prelude.{IfSome, option_and_then, slice_get, unwrap_or}
-use Rattle.std.specs.Cmp.Lexicographic.{nat_list_cmp_total, slice_cmp}
-use Rattle.std.specs.FinMap.{FinMap, entries, entries_sorted, find, from_entries, from_entries_push, is_sorted, nat_cmp-IsAntisymmetric, slice_cmp-IsAntisymmetric}
-use Rattle.std.specs.FinMap.Entries.{below_all}
-use Rattle.std.specs.List.{cons_option, filter_map}
-use Rattle.std.specs.Ordering.{is_lt, nat_cmp, ordering_reverse}
-use Rattle.std.proofs.lemmas.Bool.{and_parts, true≢false}
-use Rattle.std.proofs.lemmas.List.{take_all, take_more}
-use Rattle.std.proofs.lemmas.List.Elements.{filter_map-append}
-use Rattle.std.proofs.lemmas.Option.{get_or_from_slice_get, none-some, slice_get-get_or}
-use Rattle.mb_lists.specs.Entries.{text_cell}
-use Rattle.mb_lists.specs.Metadata.{Names, text_of}
-use Rattle.mb_metadata.specs.Others.{has_field, other_entry, others_of, with_entry}
-use Rattle.mb_metadata.specs.Said.{unless_empty}
-use Rattle.mb_tables.specs.declared.cell.Cell.{Cell}
-use Rattle.serde_json.specs.Data.{Data, string}
+use Rattle.mb_metadata.proofs.Common.{and_parts, ap, append-nil, below_all, Bool, Cell, cond, cons_option, Data, entries, entries_sorted, false, filter_map, filter_map-append, find, FinMap}
+use Rattle.mb_metadata.proofs.Common.{from_entries, from_entries_push, get_or_from_slice_get, Greater, has_field, IfSome, is_eq, is_lt, is_sorted, length, Less, List, Names, nat_cmp}
+use Rattle.mb_metadata.proofs.Common.{nat_cmp-IsAntisymmetric, nat_list_cmp_total, None, none-some, Option, option_and_then, option_map, Ordering, ordering_reverse, other_entry, others_of, refl}
+use Rattle.mb_metadata.proofs.Common.{slice_cmp, slice_cmp-IsAntisymmetric, slice_get, slice_get-get_or, Some, string, suc, sym, T, take, take_all, take_more, text_cell, text_of, true, true≢false}
+use Rattle.mb_metadata.proofs.Common.{unless_empty, unwrap_or, with_entry, zero, ℕ, [], ◌++◌, ◌+◌, ◌<◌, ◌∙◌, ◌∷◌, ◌≡◌, ◌≤◌}
 
 abbrev pub Entry : Type 0
 Entry = List ℕ × Option (List ℕ)

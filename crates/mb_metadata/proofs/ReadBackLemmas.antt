@@ -1,33 +1,16 @@
 -- What is read under a name after the edits of a document.
-use Rattle.std.proofs.Common.{◌≡◌, ◌≢◌, ◌∙◌, ap, sym, subst, arith, ℕ, suc, ◌<◌, List, [], ◌∷◌, ◌++◌, Bool, true, false, ◌||◌, cond, Option, Some, None, Ok, option_map, refl, length, map, is_eq, ◌==◌}
-use Rattle.std.specs.Prelude.{codes, option_and_then, option_to_list}
+use Rattle.mb_metadata.proofs.Common.{and_parts, ap, arith, below_all, Bool, bounds_text, center_text, codes, cond, cons_option, Data, data_text, decimal, document_edits, EditsNames, entries}
+use Rattle.mb_metadata.proofs.Common.{entries_sorted, eq_by_cmp, false, false_from_ne_true, false≢true, filter_map, find, get, get-entries, get-from_entries, get-insert, has_field, insert}
+use Rattle.mb_metadata.proofs.Common.{insert_edits, is_edited, is_eq, is_sorted, layers_text, length, List, list_all, map, NameEdit, Names, names_edited, nat_cmp-IsAntisymmetric, nat_list_cmp_total}
+use Rattle.mb_metadata.proofs.Common.{None, none-some, Ok, Option, option_and_then, option_map, option_to_list, or_from, or_parts, other_edits, other_entry, others_said, put_any, put_of, refl, said}
+use Rattle.mb_metadata.proofs.Common.{slice_cmp-IsAntisymmetric, Some, State, state_edited, state_of, string, subst, suc, sym, Tables, Text, then_put, TileJson, true, true≢false, unless_empty}
+use Rattle.mb_metadata.proofs.Common.{with_text, zoom_at, zoom_of, ℕ, [], ◌++◌, ◌<◌, ◌==◌, ◌||◌, ◌∙◌, ◌∷◌, ◌≡◌, ◌≢◌}
 use Rattle.std.specs.Cmp.{Equal-is}
-use Rattle.std.specs.FinMap.{entries, entries_sorted, find, get, get-entries, get-from_entries, get-insert, insert, is_sorted, nat_cmp-IsAntisymmetric, slice_cmp-IsAntisymmetric}
-use Rattle.std.specs.FinMap.Entries.{below_all}
-use Rattle.std.specs.Fmt.{decimal}
-use Rattle.std.specs.List.{cons_option, filter_map, list_all}
-use Rattle.std.specs.Ordering.{eq_by_cmp}
-use Rattle.std.proofs.lemmas.Bool.{and_parts, false_from_ne_true, false≢true, or_from, or_parts, true≢false}
 use Rattle.std.proofs.lemmas.Bool.Decides.{Decides-eqb}
-use Rattle.std.proofs.lemmas.Cmp.{nat_list_cmp_total}
-use Rattle.std.proofs.lemmas.Option.{none-some}
-use Rattle.mb_lists.specs.Metadata.{Names}
-use Rattle.mb_loaded.specs.State.{State}
-use Rattle.mb_load.specs.StateOf.{state_of}
 use Rattle.mb_metadata.proofs.OthersLemmas.{Entry, R, is_less, is_true, other_name}
 use Rattle.mb_metadata.proofs.UpdateLemmas.{ok_same}
 use Rattle.mb_metadata.proofs.NumberLemmas.{number_back}
-use Rattle.mb_metadata.specs.Inserting.{bounds_text, center_text, data_text, document_edits, insert_edits, layers_text, other_edits, then_put}
-use Rattle.mb_metadata.specs.NameEdits.{EditsNames, is_edited, names_edited, put_any, put_of, state_edited, with_text}
-use Rattle.mb_metadata.specs.Others.{has_field, other_entry, others_said}
 use Rattle.mb_metadata.specs.ReadBack.{IsOtherRead, IsRead}
-use Rattle.mb_metadata.specs.Said.{said, unless_empty}
-use Rattle.mb_metadata.specs.ZoomText.{zoom_at, zoom_of}
-use Rattle.mb_metadata.specs.declared.name_edits.NameEdit.{NameEdit}
-use Rattle.mb_tables.specs.Table.{Tables}
-use Rattle.mb_tables.specs.declared.cell.Cell.TheVariants.{Text}
-use Rattle.serde_json.specs.Data.{Data, string}
-use Rattle.tile_json.specs.declared.document.TileJson.{TileJson}
 
 -- what stands under a name: nothing, null or a text
 abbrev pub Held_at : Type 0

@@ -1,24 +1,7 @@
 -- What a set says of itself, field by field.
-use Rattle.std.proofs.Common.{◌≡◌, ◌∙◌, ℕ, List, [], Option, None}
-use Rattle.std.specs.Prelude.{codes}
-use Rattle.std.specs.FinMap.{FinMap}
-use Rattle.std.specs.Ordering.{nat_cmp}
-use Rattle.std.specs.Cmp.Lexicographic.{slice_cmp}
-use Rattle.mb_lists.specs.Metadata.{Names}
-use Rattle.mb_loaded.specs.State.{State}
-use Rattle.mb_metadata.specs.Clamping.{document_within}
-use Rattle.mb_metadata.specs.Others.{others_said}
-use Rattle.mb_metadata.specs.Reading.{document_said, metadata_of}
-use Rattle.mb_metadata.specs.Said.{bounds_said, center_said, said}
-use Rattle.mb_metadata.specs.SaidJson.{json_said, layers_said}
-use Rattle.mb_metadata.specs.ZoomText.{zoom_at}
-use Rattle.mb_metadata.specs.Zooms.{span, zooms_of}
+use Rattle.mb_metadata.proofs.Common.{bounds_said, center_said, codes, Data, document_said, document_within, FinMap, json_said, layers_said, List, metadata_of, Names, nat_cmp, None, Option}
+use Rattle.mb_metadata.proofs.Common.{others_said, said, slice_cmp, span, State, TileBounds, TileCenter, TileJson, VectorLayer, zoom_at, zooms_of, ℕ, [], ◌∙◌, ◌≡◌}
 use Rattle.mb_metadata.specs.declared.metadata.Metadata.{Metadata}
-use Rattle.serde_json.specs.Data.{Data}
-use Rattle.tile_json.specs.declared.document.TileJson.{TileJson}
-use Rattle.tile_json.specs.declared.extent.TileBounds.{TileBounds}
-use Rattle.tile_json.specs.declared.extent.TileCenter.{TileCenter}
-use Rattle.tile_json.specs.declared.layer.VectorLayer.{VectorLayer}
 
 abbrev Text : Type 0
 Text = Option (List ℕ)

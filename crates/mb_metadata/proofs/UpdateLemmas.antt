@@ -1,21 +1,8 @@
 -- An update of zooms edits no other names.
-use Rattle.std.proofs.Common.{◌≡◌, ◌∙◌, sym, subst, ℕ, List, ◌++◌, Option, Some, None, Bool, true, false, cond, refl, Result, Ok}
-use Rattle.std.specs.Prelude.{codes, option_to_list}
-use Rattle.std.specs.FinMap.{contains_key}
-use Rattle.std.specs.Fmt.{decimal}
-use Rattle.mb_lists.specs.Metadata.{Names}
-use Rattle.mb_loaded.specs.State.{State}
-use Rattle.mb_load.specs.StateOf.{state_of}
-use Rattle.mb_metadata.specs.NameEdits.{AreEdited, is_edited}
-use Rattle.mb_metadata.specs.Updating.{is_set, state_updated, update_edits, zoom_edits}
-use Rattle.mb_metadata.specs.ZoomText.{zoom_at}
-use Rattle.mb_metadata.specs.Zooms.{span, zooms_of}
-use Rattle.mb_metadata.specs.declared.name_edits.NameEdit.{NameEdit}
+use Rattle.mb_metadata.proofs.Common.{AreEdited, Bool, codes, cond, contains_key, decimal, false, is_edited, is_set, List, MbtError, NameEdit, Names, None, Ok, Option, option_to_list, refl, Result}
+use Rattle.mb_metadata.proofs.Common.{Some, span, State, state_of, state_updated, subst, sym, Tables, Text, true, update_edits, zoom_at, zoom_edits, zooms_of, ℕ, ◌++◌, ◌∙◌, ◌≡◌}
 use Rattle.mb_metadata.specs.declared.zoom_choice.UpdateZoomType.{UpdateZoomType}
 use Rattle.mb_metadata.specs.declared.zoom_choice.UpdateZoomType.TheVariants.{Reset}
-use Rattle.mb_tables.specs.Table.{Tables}
-use Rattle.mb_tables.specs.declared.cell.Cell.TheVariants.{Text}
-use Rattle.mb_tables.specs.declared.error.MbtError.{MbtError}
 
 -- whichever of two edits of these names there are, the name of the algorithm isn't edited
 two_names : (x y : Bool) (t u : Option (List ℕ)) → is_edited (option_to_list (cond x (Some (record { name = codes "minzoom"; text = t })) None) ++ option_to_list (cond y (Some (record { name = codes "maxzoom"; text = u })) None)) (Text (codes "hash_algorithm")) ≡ false

@@ -1,13 +1,7 @@
 -- The least and the greatest zoom, one tile after another.
-use Rattle.std.proofs.Common.{◌≡◌, ◌∙◌, ap, sym, ℕ, ◌+◌, ◌<◌, ◌≤◌, List, [], ◌∷◌, ◌++◌, Option, Some, None, refl, fold, length, take, map, min, max}
-use Rattle.std.specs.Prelude.{IfSome, slice_get}
-use Rattle.std.proofs.lemmas.List.{map-append, take_all, take_more}
+use Rattle.mb_metadata.proofs.Common.{ap, blob_cell, Cell, fold, get_or_from_slice_get, IfSome, length, List, map, map-append, max, min, None, none-some, Option, Place, place_at, refl, slice_get}
+use Rattle.mb_metadata.proofs.Common.{slice_get-get_or, Some, span, sym, take, take_all, take_more, with_zoom, ℕ, [], ◌++◌, ◌+◌, ◌<◌, ◌∙◌, ◌∷◌, ◌≡◌, ◌≤◌}
 use Rattle.std.proofs.lemmas.List.Sums.{fold-append}
-use Rattle.std.proofs.lemmas.Option.{get_or_from_slice_get, none-some, slice_get-get_or}
-use Rattle.mb_metadata.specs.Zooms.{span, with_zoom}
-use Rattle.mb_lists.specs.Entries.{blob_cell, place_at}
-use Rattle.mb_tables.specs.Tiles.{Place}
-use Rattle.mb_tables.specs.declared.cell.Cell.{Cell}
 use Rattle.tile_ids.specs.Coord.{Coord}
 
 abbrev Entry : Type 0

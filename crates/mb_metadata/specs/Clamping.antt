@@ -1,7 +1,6 @@
 -- The zooms that a set says, by those of its tiles.
 use Rattle.std.specs.Prelude.{◌≡◌, refl, ℕ, min, max, List, map, Option, Some, None, option_map, unwrap_or}
-use Rattle.tile_json.specs.declared.document.TileJson.{TileJson}
-use Rattle.tile_json.specs.declared.layer.VectorLayer.{VectorLayer}
+use Rattle.mb_metadata.specs.Common.{TileJson, VectorLayer}
 
 -- The least and the greatest zoom of the tiles, and the least and the greatest that are said. Where one isn't said, that of the tiles is taken for it.
 abbrev pub minzoom_within : Option (ℕ × ℕ) → Option ℕ → Option ℕ → Option ℕ

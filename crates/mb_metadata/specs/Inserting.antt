@@ -1,22 +1,12 @@
 -- What the names of metadata are to have by a document.
 use Rattle.std.specs.Prelude.{◌≡◌, ℕ, codes, false, ◌++◌, List, Option, All, IfSome, map, option_map, option_to_list, unwrap_or}
-use Rattle.std.specs.FinMap.{FinMap, entries}
-use Rattle.std.specs.Fmt.{decimal, signed_decimal}
-use Rattle.std.specs.Ordering.{nat_cmp}
-use Rattle.std.specs.Cmp.Lexicographic.{slice_cmp}
-use Rattle.mb_loaded.specs.State.{State}
+use Rattle.mb_metadata.specs.Common.{compact_text, Data, decimal, entries, FinMap, has_float, nat_cmp, signed_decimal, slice_cmp, State, TileBounds, TileCenter, TileJson, VectorLayer}
 use Rattle.mb_metadata.specs.LayerJson.{layers_data}
 use Rattle.mb_metadata.specs.NameEdits.{put_any, put_of}
 use Rattle.mb_metadata.specs.declared.name_edits.NameEdit.{NameEdit}
-use Rattle.serde_json.specs.Data.{Data}
 use Rattle.serde_json.specs.Find.{as_str}
-use Rattle.serde_json.specs.Written.{compact_text, has_float}
-use Rattle.tile_json.specs.declared.document.TileJson.{TileJson}
-use Rattle.tile_json.specs.declared.extent.TileBounds.{TileBounds}
 use Rattle.tile_json.specs.declared.extent.TileBounds.TheVariants as bounds
-use Rattle.tile_json.specs.declared.extent.TileCenter.{TileCenter}
 use Rattle.tile_json.specs.declared.extent.TileCenter.TheVariants as center
-use Rattle.tile_json.specs.declared.layer.VectorLayer.{VectorLayer}
 
 abbrev pub JsonMap : Type 0
 JsonMap = FinMap (slice_cmp nat_cmp) Data

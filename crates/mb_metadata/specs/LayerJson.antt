@@ -1,11 +1,6 @@
 -- The JSON of layers of vector tiles.
 use Rattle.std.specs.Prelude.{ℕ, codes, List, [], ◌∷◌, Option, Some, None, map, option_map}
-use Rattle.std.specs.FinMap.{FinMap, entries}
-use Rattle.std.specs.Ordering.{nat_cmp}
-use Rattle.std.specs.Cmp.Lexicographic.{slice_cmp}
-use Rattle.serde_json.specs.Data.{unsigned, Data, number, string, array, object, Members, no_members, put}
-use Rattle.serde_json.specs.View.{items_of}
-use Rattle.tile_json.specs.declared.layer.VectorLayer.{VectorLayer}
+use Rattle.mb_metadata.specs.Common.{array, Data, entries, FinMap, items_of, Members, nat_cmp, no_members, number, object, put, slice_cmp, string, unsigned, VectorLayer}
 
 -- members, with each entry put at its name
 abbrev pub with_entries : {V : Type 0} → (V → Data) → Members → List (List ℕ × V) → Members

@@ -1,3 +1,4 @@
+pub mod Common
 pub mod Clamping
 pub mod Others
 pub mod ReadBack

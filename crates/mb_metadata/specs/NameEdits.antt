@@ -1,22 +1,14 @@
 -- Edits of names of metadata, and what a commit of them leaves of a set and of its tables.
 use Rattle.std.specs.Prelude.{◌≡◌, ℕ, codes, ◌||◌, Bool, true, false, not, List, [], ◌∷◌, Option, Some, None, Result, Ok, cond, filter, option_map, option_to_list}
-use Rattle.std.specs.FinMap.{FinMap, contains_key, insert, remove}
-use Rattle.std.specs.Ordering.{nat_cmp}
-use Rattle.std.specs.Cmp.Lexicographic.{slice_cmp}
-use Rattle.mb_lists.specs.Metadata.{Names}
+use Rattle.mb_metadata.specs.Common.{cell_at, contains_key, FinMap, insert, MbtError, Names, nat_cmp, remove, slice_cmp, State, state_of, table_eq, Tables}
 use Rattle.mb_loaded.specs.Changing.{name_row}
 use Rattle.mb_load.specs.Committed.{rows_under}
 use Rattle.mb_loaded.specs.Held.{Held, fresh, nothing_edited}
 use Rattle.mb_load.specs.LoadedFrom.{IsLoadedFrom, NamesAlgorithm}
-use Rattle.mb_loaded.specs.State.{State}
-use Rattle.mb_load.specs.StateOf.{state_of}
 use Rattle.mb_metadata.specs.declared.name_edits.NameEdit.{NameEdit}
 use Rattle.mb_tables.specs.Cell.{cell_eq}
-use Rattle.mb_tables.specs.Table.{Tables, table_eq}
-use Rattle.mb_tables.specs.Tiles.{cell_at}
 use Rattle.mb_tables.specs.declared.cell.Cell.{Cell}
 use Rattle.mb_tables.specs.declared.cell.Cell.TheVariants.{Text}
-use Rattle.mb_tables.specs.declared.error.MbtError.{MbtError}
 use Rattle.mb_tables.specs.declared.key.RowKey.TheVariants.{TextId}
 use Rattle.mb_tables.specs.declared.table.TableName.{TableName}
 use Rattle.mb_tables.specs.declared.table.TableName.TheVariants.{Metadata}

@@ -1,13 +1,8 @@
 -- The names of a set's metadata that have no field of their own.
 use Rattle.std.specs.Prelude.{◌≡◌, refl, ℕ, ◌||◌, Bool, List, [], codes, Option, Some, None, option_map, option_and_then, if◌then◌else◌}
-use Rattle.std.specs.FinMap.{FinMap, entries, from_entries, insert}
+use Rattle.mb_metadata.specs.Common.{bytes_eq, Data, entries, FinMap, from_entries, insert, Names, nat_cmp, slice_cmp, string}
 use Rattle.std.specs.List.{filter_map}
-use Rattle.std.specs.Ordering.{nat_cmp}
-use Rattle.std.specs.Cmp.Lexicographic.{slice_cmp}
-use Rattle.std.specs.Str.{bytes_eq}
-use Rattle.mb_lists.specs.Metadata.{Names}
 use Rattle.mb_metadata.specs.Said.{unless_empty}
-use Rattle.serde_json.specs.Data.{Data, string}
 
 -- names whose texts fill fields of the document
 abbrev pub is_text_name : List ℕ → Bool

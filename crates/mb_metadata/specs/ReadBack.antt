@@ -1,17 +1,12 @@
 -- What is read of a document that was put into the metadata of a set.
 use Rattle.std.specs.Prelude.{◌≡◌, ◌≢◌, ℕ, List, [], codes, Option, Some, None, option_map}
-use Rattle.std.specs.FinMap.{get}
-use Rattle.mb_loaded.specs.State.{State}
+use Rattle.mb_metadata.specs.Common.{Data, get, State, string, TileBounds, TileCenter, TileJson}
 use Rattle.mb_metadata.specs.Inserting.{bounds_text, center_text, data_text, insert_edits}
 use Rattle.mb_metadata.specs.NameEdits.{state_edited}
 use Rattle.mb_metadata.specs.Reading.{metadata_of}
 use Rattle.mb_metadata.specs.Said.{said, unless_empty}
 use Rattle.mb_metadata.specs.declared.metadata.Metadata.{Metadata}
-use Rattle.serde_json.specs.Data.{Data, string}
-use Rattle.tile_json.specs.declared.document.TileJson.{TileJson}
-use Rattle.tile_json.specs.declared.extent.TileBounds.{TileBounds}
 use Rattle.tile_json.specs.declared.extent.TileBounds.TheVariants as bounds
-use Rattle.tile_json.specs.declared.extent.TileCenter.{TileCenter}
 use Rattle.tile_json.specs.declared.extent.TileCenter.TheVariants as center
 
 -- what the set of a file's name says once what a document says was put into it; and the document of that

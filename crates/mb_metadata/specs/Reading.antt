@@ -1,7 +1,6 @@
 -- What a set says of itself: each name of its metadata in its field, and its zooms by those of its tiles.
 use Rattle.std.specs.Prelude.{ℕ, List, [], codes, None, Result, Ok}
-use Rattle.mb_lists.specs.Metadata.{Names}
-use Rattle.mb_loaded.specs.State.{State}
+use Rattle.mb_metadata.specs.Common.{MbtError, Names, State, TileJson}
 use Rattle.mb_metadata.specs.Clamping.{document_within}
 use Rattle.mb_metadata.specs.SaidJson.{json_said, layers_said}
 use Rattle.mb_metadata.specs.Others.{others_said}
@@ -9,8 +8,6 @@ use Rattle.mb_metadata.specs.Said.{bounds_said, center_said, said}
 use Rattle.mb_metadata.specs.ZoomText.{zoom_at}
 use Rattle.mb_metadata.specs.Zooms.{span, zooms_of}
 use Rattle.mb_metadata.specs.declared.metadata.Metadata.{Metadata}
-use Rattle.mb_tables.specs.declared.error.MbtError.{MbtError}
-use Rattle.tile_json.specs.declared.document.TileJson.{TileJson}
 
 -- the document that the names alone say, without layers
 abbrev pub document_said : Names → TileJson

@@ -1,9 +1,7 @@
 -- What a name of a set's metadata says.
 use Rattle.std.specs.Prelude.{◌≡◌, refl, ℕ, ◌==◌, List, [], codes, length, Option, Some, None, option_map, option_and_then, if◌then◌else◌}
-use Rattle.mb_lists.specs.Metadata.{Names, text_at}
-use Rattle.tile_json.specs.declared.extent.TileBounds.{TileBounds}
+use Rattle.mb_metadata.specs.Common.{Names, text_at, TileBounds, TileCenter}
 use Rattle.tile_json.specs.declared.extent.TileBounds.TheVariants as bounds
-use Rattle.tile_json.specs.declared.extent.TileCenter.{TileCenter}
 use Rattle.tile_json.specs.declared.extent.TileCenter.TheVariants as center
 
 -- an empty text says nothing

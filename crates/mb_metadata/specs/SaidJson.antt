@@ -1,13 +1,9 @@
 -- What the JSON of a set's metadata says: its layers, and all else.
 use Rattle.std.specs.Prelude.{◌≡◌, refl, Bool, true, false, List, codes, Option, Some, None, option_and_then, if◌then◌else◌}
-use Rattle.mb_lists.specs.Metadata.{Names}
+use Rattle.mb_metadata.specs.Common.{Data, layers_of, member, Names, no_members, null, object, VectorLayer, whole_data}
 use Rattle.mb_metadata.specs.Said.{said}
-use Rattle.serde_json.specs.Data.{Data, null, object, no_members, member}
 use Rattle.serde_json.specs.Find.{get}
 use Rattle.tile_json.specs.JsonReading.{without_member}
-use Rattle.tile_json.specs.LayerReading.{layers_of}
-use Rattle.tile_json.specs.Reading.{whole_data}
-use Rattle.tile_json.specs.declared.layer.VectorLayer.{VectorLayer}
 
 -- the value that the text of `json` is; none where it isn't JSON in which no number is held as a float
 abbrev pub value_said : Names → Option Data

@@ -1,8 +1,6 @@
 -- The zooms that metadata is to name.
 use Rattle.std.specs.Prelude.{◌≡◌, ℕ, codes, Bool, true, false, not, ◌++◌, List, [], Option, Some, None, cond, nat_eq, nat_lt, option_to_list, refl}
-use Rattle.std.specs.Fmt.{decimal}
-use Rattle.mb_lists.specs.Metadata.{Names}
-use Rattle.mb_loaded.specs.State.{State}
+use Rattle.mb_metadata.specs.Common.{decimal, Names, State}
 use Rattle.mb_metadata.specs.NameEdits.{names_edited, put_of, removal}
 use Rattle.mb_metadata.specs.ZoomText.{zoom_at}
 use Rattle.mb_metadata.specs.Zooms.{span, zooms_of}

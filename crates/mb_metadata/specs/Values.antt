@@ -1,12 +1,10 @@
 -- Single values of metadata.
 use Rattle.std.specs.Prelude.{ℕ, List, [], ◌∷◌, Option, Some, None, Result, Ok, Err, option_to_list}
 use Rattle.std.specs.Borrow.{Bor}
-use Rattle.mb_lists.specs.Metadata.{text_at}
-use Rattle.mb_loaded.specs.State.{State}
+use Rattle.mb_metadata.specs.Common.{MbtError, State, text_at}
 use Rattle.mb_metadata.specs.NameEdits.{put_of, removal}
 use Rattle.mb_metadata.specs.ZoomText.{zoom_of}
 use Rattle.mb_metadata.specs.declared.name_edits.NameEdit.{NameEdit}
-use Rattle.mb_tables.specs.declared.error.MbtError.{MbtError}
 use Rattle.mb_tables.specs.declared.error.MbtError.TheVariants.{InvalidZoomValue}
 
 -- the text under a name; none where the name isn't there, or null

@@ -1,8 +1,7 @@
 -- The number that a text spells, and that of a zoom.
 use Rattle.std.specs.Prelude.{◌≡◌, ℕ, codes, ◌&&◌, ◌^◌, List, [], Option, Some, None, cond, length, nat_lt, option_and_then, refl}
-use Rattle.std.specs.Str.{all_ascii_digits}
+use Rattle.mb_metadata.specs.Common.{all_ascii_digits, Names, text_at}
 use Rattle.std.specs.Str.Parse.{digits_value, without_leading_plus}
-use Rattle.mb_lists.specs.Metadata.{Names, text_at}
 
 -- decimal digits, one or more, of a number of so many bits
 abbrev pub digits_within : ℕ → List ℕ → Option ℕ

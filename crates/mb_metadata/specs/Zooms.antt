@@ -1,9 +1,6 @@
 -- The zooms of a set.
 use Rattle.std.specs.Prelude.{ℕ, min, max, List, [], ◌∷◌, Option, Some, None, Result, Ok, fold, map}
-use Rattle.std.specs.FinMap.{entries}
-use Rattle.mb_loaded.specs.State.{State}
-use Rattle.mb_tables.specs.Tiles.{TileSet}
-use Rattle.mb_tables.specs.declared.error.MbtError.{MbtError}
+use Rattle.mb_metadata.specs.Common.{entries, MbtError, State, TileSet}
 
 -- the least and the greatest of numbers; None where there are none
 abbrev pub span : List ℕ → Option (ℕ × ℕ)

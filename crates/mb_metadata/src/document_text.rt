@@ -1,8 +1,7 @@
 // The texts that stand in metadata for parts of a document.
 ghost use Rattle.std.specs.Prelude.{◌≡◌, false, IfOk, IfSome, option_copied, option_map};
-ghost use Rattle.std.specs.Fmt.{decimal};
+ghost use Rattle.mb_metadata.specs.Common.{decimal, has_float};
 ghost use Rattle.mb_metadata.specs.Inserting.{LayersHaveNoFloat, bounds_text, center_text, data_text, layers_text};
-ghost use Rattle.serde_json.specs.Written.{has_float};
 
 use crate::layer_json::layers_value;
 use base_values::{OutOfMemory, TextVal};

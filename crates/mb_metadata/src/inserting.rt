@@ -1,7 +1,6 @@
 // Putting what a document says into the metadata of a set.
-ghost use Rattle.mb_store.specs.Kept.{FaultsCounted, Keeps};
+ghost use Rattle.mb_metadata.specs.Common.{FaultsCounted, IsBegun, Keeps};
 ghost use Rattle.std.specs.Prelude.{◌≡◌, IfOk, OnErr, OnOk, option_copied, true};
-ghost use Rattle.mb_load.specs.Begun.{IsBegun};
 ghost use Rattle.mb_metadata.specs.Inserting.{HasNoFloat, IsWithoutFloat, document_edits, insert_edits, other_edits, then_extents, then_put, then_texts};
 ghost use Rattle.mb_metadata.specs.NameEdits.{EditsNames, done_answer, held_edited};
 

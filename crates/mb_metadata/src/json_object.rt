@@ -1,9 +1,7 @@
 // Objects of JSON that have the entries of maps.
 ghost use Rattle.std.specs.Prelude.{◌≡◌, IfOk};
-ghost use Rattle.std.specs.FinMap.{entries};
+ghost use Rattle.mb_metadata.specs.Common.{entries, members_view, no_members, string};
 ghost use Rattle.mb_metadata.specs.LayerJson.{as_it_is, with_entries};
-ghost use Rattle.serde_json.specs.Data.{no_members, string};
-ghost use Rattle.serde_json.specs.View.{members_view};
 
 use base_values::OutOfMemory;
 use serde_json::{Map, Value};

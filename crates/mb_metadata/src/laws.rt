@@ -1,16 +1,12 @@
 //! Laws of documents that are put into the metadata of a set: what is read of them.
 ghost use Rattle.std.specs.Prelude.{◌≡◌, ◌<◌, ℕ, List, None, Ok, Some, codes, false};
-ghost use Rattle.std.specs.FinMap.{get};
-ghost use Rattle.mb_loaded.specs.State.{State};
-ghost use Rattle.mb_load.specs.StateOf.{state_of};
+ghost use Rattle.mb_metadata.specs.Common.{get, State, state_of, Tables, TileJson};
 ghost use Rattle.mb_metadata.specs.Clamping.{maxzoom_within, minzoom_within};
 ghost use Rattle.mb_metadata.specs.Inserting.{insert_edits};
 ghost use Rattle.mb_metadata.specs.NameEdits.{EditsNames, state_edited};
 ghost use Rattle.mb_metadata.specs.Others.{has_field, others_said};
 ghost use Rattle.mb_metadata.specs.ReadBack.{AreBoundsRead, IsCenterRead, IsOtherRead, IsReadAt, document_after, said_after};
 ghost use Rattle.mb_metadata.specs.Zooms.{span, zooms_of};
-ghost use Rattle.mb_tables.specs.Table.{Tables};
-ghost use Rattle.tile_json.specs.declared.document.TileJson.{TileJson};
 
 /// After `insert_metadata` of a document `get_metadata` reads each of its texts as it was put, whatever `other` has under the name of the field. An empty text is
 /// read as none. Without a text a field is read from the entry of its name in `other`, and where there is none, as before.

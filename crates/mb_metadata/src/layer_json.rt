@@ -1,8 +1,8 @@
 // The JSON of layers of vector tiles.
 ghost use Rattle.std.specs.Prelude.{◌≡◌, IfOk, OnOk, map, option_copied, option_map};
 ghost use Rattle.mb_metadata.specs.LayerJson.{layer_data, layers_data, put_some, zoom_data};
-ghost use Rattle.serde_json.specs.Data.{put as with_member, string};
-ghost use Rattle.serde_json.specs.View.{members_view, view};
+ghost use Rattle.mb_metadata.specs.Common.{members_view, string, view};
+ghost use Rattle.serde_json.specs.Data.{put as with_member};
 
 use crate::json_object::{json_members, text_members};
 use base_values::{OutOfMemory, TextVal};

@@ -1,8 +1,7 @@
 // Edits of names of metadata, in one commit.
-ghost use Rattle.mb_store.specs.Kept.{FaultsCounted, Keeps};
+ghost use Rattle.mb_metadata.specs.Common.{FaultsCounted, is_free, Keeps};
 ghost use Rattle.std.specs.Prelude.{◌≡◌, ◌++◌, ◌∷◌, [], List, true, IfErr, IfOk, IsOk, OnErr, OnOk, option_to_list};
 ghost use Rattle.mb_metadata.specs.NameEdits.{AreEdited, IsFresh, held_edited, put_of, removal};
-ghost use Rattle.mb_tables.specs.Refusals.{is_free};
 
 use base_values::{OutOfMemory, TextVal};
 use mb_load::commit_loaded;

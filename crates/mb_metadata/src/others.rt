@@ -1,9 +1,7 @@
 // The names of a loaded set's metadata that have no field of their own.
 ghost use Rattle.std.specs.Prelude.{◌≡◌, IfOk, OnOk};
-ghost use Rattle.std.specs.FinMap.{insert};
-ghost use Rattle.mb_lists.specs.Metadata.{text_of};
+ghost use Rattle.mb_metadata.specs.Common.{insert, string, text_of};
 ghost use Rattle.mb_metadata.specs.Others.{has_field, is_read_name, is_text_name, other_entry, others_said, with_entry};
-ghost use Rattle.serde_json.specs.Data.{string};
 
 use base_values::{OutOfMemory, TextVal};
 use mb_loaded::Loaded;

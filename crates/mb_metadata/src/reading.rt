@@ -1,9 +1,7 @@
 // What a set says of itself.
-ghost use Rattle.mb_store.specs.Kept.{FaultsCounted, ReadsOnly};
+ghost use Rattle.mb_metadata.specs.Common.{Answers, FaultsCounted, IsBegun, ReadsOnly};
 ghost use Rattle.std.specs.Prelude.{◌≡◌, ◌≢◌, Err, IfOk};
 ghost use Rattle.mb_metadata.specs.Reading.{document_said, metadata_answer, metadata_of};
-ghost use Rattle.mb_load.specs.Begun.{IsBegun};
-ghost use Rattle.mb_tables.specs.Refusals.{Answers};
 
 use crate::Metadata;
 use crate::clamping::document_within;

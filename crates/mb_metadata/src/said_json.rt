@@ -1,8 +1,7 @@
 // What the JSON of a loaded set's metadata says: its layers, and all else.
 ghost use Rattle.std.specs.Prelude.{◌≡◌, IfOk, option_and_then};
 ghost use Rattle.mb_metadata.specs.SaidJson.{all_else, is_bare, json_said, layers_in, layers_said, unless_bare, value_said};
-ghost use Rattle.tile_json.specs.LayerReading.{layers_of};
-ghost use Rattle.tile_json.specs.Reading.{whole_data};
+ghost use Rattle.mb_metadata.specs.Common.{layers_of, whole_data};
 
 use crate::said::said;
 use base_values::OutOfMemory;

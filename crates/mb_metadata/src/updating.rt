@@ -1,9 +1,6 @@
 // The zooms that metadata names, by the tiles of the set.
-ghost use Rattle.mb_store.specs.Kept.{FaultsCounted, Keeps};
+ghost use Rattle.mb_metadata.specs.Common.{FaultsCounted, IsBegun, Keeps, State, state_of};
 ghost use Rattle.std.specs.Prelude.{◌≡◌, ◌++◌, Ok, IfOk, OnErr, OnOk, option_to_list, true};
-ghost use Rattle.mb_load.specs.Begun.{IsBegun};
-ghost use Rattle.mb_loaded.specs.State.{State};
-ghost use Rattle.mb_load.specs.StateOf.{state_of};
 ghost use Rattle.mb_metadata.specs.NameEdits.{EditsNames, done_answer, held_edited};
 ghost use Rattle.mb_metadata.specs.Updating.{both_edits, removals, state_updated, update_edits, zoom_edit, zoom_edits};
 

@@ -1,12 +1,9 @@
 // Single values of metadata: read, put and removed.
-ghost use Rattle.mb_store.specs.Kept.{FaultsCounted, Keeps, ReadsOnly};
+ghost use Rattle.mb_metadata.specs.Common.{Answers, FaultsCounted, IsBegun, Keeps, ReadsOnly, text_at};
 ghost use Rattle.std.specs.Prelude.{◌≡◌, ◌≢◌, ◌∷◌, [], Err, IfOk, OnErr, OnOk, true};
-ghost use Rattle.mb_lists.specs.Metadata.{text_at};
-ghost use Rattle.mb_load.specs.Begun.{IsBegun};
 ghost use Rattle.mb_metadata.specs.NameEdits.{EditsNames, done_answer, put_of};
 ghost use Rattle.mb_metadata.specs.Values.{delete_edits, set_edits, value_answer, zoom_or_refused, zoom_value_answer};
 ghost use Rattle.mb_metadata.specs.ZoomText.{zoom_of};
-ghost use Rattle.mb_tables.specs.Refusals.{Answers};
 
 use crate::name_edits::{NameEdit, commit_edits, push_any};
 use crate::zoom_text::zoom_of;

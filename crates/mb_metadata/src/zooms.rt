@@ -1,8 +1,7 @@
 // The least and the greatest zoom of a set.
-ghost use Rattle.mb_store.specs.Kept.{FaultsCounted, ReadsOnly};
+ghost use Rattle.mb_metadata.specs.Common.{FaultsCounted, IsBegun, ReadsOnly};
 ghost use Rattle.std.specs.Prelude.{◌≡◌};
 ghost use Rattle.mb_metadata.specs.Zooms.{span, with_zoom, zooms_answer, zooms_of};
-ghost use Rattle.mb_load.specs.Begun.{IsBegun};
 
 use mb_load::load;
 use mb_loaded::Loaded;

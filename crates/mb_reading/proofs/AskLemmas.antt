@@ -1,25 +1,17 @@
 -- Questions to a database, all of one state.
-use Rattle.std.proofs.Common.{◌≡◌, ℕ, ◌++◌, true, List, [], ◌∷◌, Option, Some, None, Ok, Err, Result, IsTrue, arith, inl, inr, refl, subst, sym, ◌∙◌}
+use Rattle.mb_reading.proofs.Common.{Advances, arith, Command, CommitsNothing, CommitsShowing, Compiled, CompileError, Err, FailsToAdvance, FailsToQuery, FailsToShow, GivesOn, HasBegun, HasCleanDisk}
+use Rattle.mb_reading.proofs.Common.{HasGiven, Held, inl, inr, is_input, IsNotRun, IsSourceOf, IsTrue, IsUnchanged, List, None, Ok, OnlyAsks, Option, reads_listing, refl, Refuses, Result, Returns}
+use Rattle.mb_reading.proofs.Common.{Row, Schema, Shown, Shows, ShowsRows, Some, State, state, Stays, store_error, subst, Survives, sym, true, understood, ℕ, [], ◌++◌, ◌∙◌, ◌∷◌, ◌≡◌}
 use Rattle.sqlite.specs.Effect.{Database, RefusesToRead}
-use Rattle.sqlite.specs.Given.{Advances, FailsToAdvance, GivesOn, HasBegun, HasGiven, Returns}
-use Rattle.sqlite.specs.Held.{Held, state}
-use Rattle.sqlite.specs.Listing.{IsSourceOf, reads_listing, understood}
-use Rattle.sqlite.specs.Schema.{Schema}
-use Rattle.sqlite.specs.State.{State, CommitsShowing, FailsToQuery, FailsToShow, HasCleanDisk, IsNotRun, IsUnchanged, Shown, ShowsRows, Survives, store_error}
 use Rattle.sqlite.specs.Store.{Ghosts}
 use Rattle.sqlite.specs.Clock.{timed}
-use Rattle.sqlite.specs.Command.{Command}
 use Rattle.sqlite.specs.Command.TheVariants.{Select, Rows}
 use Rattle.sqlite.specs.declared.error.Error.{Error}
 use Rattle.sqlite.specs.declared.error.Error.TheVariants.{SqlInputError}
 use Rattle.sqlite.proofs.Callers.{unchanged_then}
 use Rattle.sqlite.proofs.StateLemmas.{survives_then, survives_weaker}
-use Rattle.sqlite_resolve.specs.declared.compiled.Compiled.{Compiled}
-use Rattle.sqlite_resolve.specs.declared.error.CompileError.{CompileError}
 use Rattle.sqlite_trees.specs.declared.error.StoreError.{StoreError}
 use Rattle.sqlite_trees.specs.declared.error.StoreError.TheVariants.{OutOfMemory, Io, Corrupt, Full, Broken, Unstorable}
-use Rattle.sqlite_value.specs.Order.{Row}
-use Rattle.mb_reading.specs.Asking.{CommitsNothing, OnlyAsks, Refuses, Shows, Stays, is_input}
 
 pub nothing_yet : {S : Type 0} (g : Ghosts S) (h : Held S) → CommitsNothing g h h
 nothing_yet g h = record { clean = omega arith; shield = λ k. k; counts = omega arith; limit = refl; closes = λ _ k. inl k; crash = λ _ db k. inl k }

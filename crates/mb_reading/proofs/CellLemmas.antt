@@ -1,10 +1,6 @@
 -- Texts that are UTF-8, and those that aren't.
-use Rattle.std.proofs.Common.{◌≡◌, ℕ, List, Option, None, Some, IsUtf8, ap, cond, inl, inr}
-use Rattle.std.proofs.lemmas.Bool.{cases_Bool}
+use Rattle.mb_reading.proofs.Common.{ap, cases_Bool, Cell, cond, inl, inr, is_utf8, IsUtf8, List, None, Option, Some, Text, ℕ, ◌≡◌}
 use Rattle.std.proofs.lemmas.Str.{IsUtf8-from_is_utf8, is_utf8-from_IsUtf8}
-use Rattle.std.specs.Str.{is_utf8}
-use Rattle.mb_tables.specs.declared.cell.Cell.{Cell}
-use Rattle.mb_tables.specs.declared.cell.Cell.TheVariants.{Text}
 use Rattle.mb_reading.specs.Cells.{text_cell}
 
 abbrev none : Option Cell

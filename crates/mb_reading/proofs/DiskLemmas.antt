@@ -1,5 +1,5 @@
 -- What a call leaves that changes nothing.
-use Rattle.std.proofs.Common.{◌≡◌, ℕ, List, refl, arith}
+use Rattle.mb_reading.proofs.Common.{arith, List, refl, ℕ, ◌≡◌}
 use Rattle.sqlite_disk.specs.Disk.{Cut, Follows, Torn}
 
 torn_same : (at n : ℕ) (c : List ℕ) → Torn at n c c

@@ -1,24 +1,14 @@
 -- Tables that are filled with the rows of answers, and those of a set.
-use Rattle.std.proofs.Common.{◌≡◌, Bool, true, false, ◌&&◌, List, [], ◌∷◌, ◌++◌, Option, Some, None, MatchBool, is_some, ap, refl, subst, sym, ◌∙◌}
+use Rattle.mb_reading.proofs.Common.{ap, Bool, Cache, content_table, counted, false, filled, Fits, fits, fits_one, Flat, FlatWithHash, has_contents, HasTaken, is_some, is_table, IsFilled, IsFull}
+use Rattle.mb_reading.proofs.Common.{IsOdd, IsRead, IsSet, List, MatchBool, may_lack, MbtType, Metadata, Misfits, None, Normalized, noted, Option, Read, read_of, read_on, refl, Row, set_tables, Some}
+use Rattle.mb_reading.proofs.Common.{start, step_of, subst, sym, TableName, Tables, taken, Takes, tile_table, told_of, true, [], ◌&&◌, ◌++◌, ◌∙◌, ◌∷◌, ◌≡◌}
 use Rattle.std.proofs.lemmas.List.Sums.{fold_push}
-use Rattle.mb_store.specs.MemStore.{told_of}
-use Rattle.mb_tables.specs.Described.{is_table}
-use Rattle.mb_tables.specs.Kind.{tile_table}
-use Rattle.mb_tables.specs.Schema.{set_tables}
-use Rattle.mb_tables.specs.Table.{Tables}
 use Rattle.mb_tables.specs.declared.description.TableDesc.{TableDesc}
-use Rattle.mb_tables.specs.declared.kind.MbtType.{MbtType}
-use Rattle.mb_tables.specs.declared.kind.MbtType.TheVariants.{Flat, FlatWithHash, Normalized, Cache}
 use Rattle.mb_tables.specs.declared.kind.NormalizedSchema.TheVariants.{Hash, DedupId}
-use Rattle.mb_tables.specs.declared.table.TableName.{TableName}
-use Rattle.mb_tables.specs.declared.table.TableName.TheVariants.{Metadata}
-use Rattle.sqlite_value.specs.Order.{Row}
 use Rattle.mb_reading.specs.declared.error.ReadError.{ReadError}
-use Rattle.mb_reading.specs.LeftOut.{counted}
 use Rattle.mb_reading.specs.declared.filling.Filling.{Filling}
 use Rattle.mb_reading.specs.declared.filling.Step.{Step}
 use Rattle.mb_reading.specs.declared.set_read.SetRead.{SetRead}
-use Rattle.mb_reading.specs.Filling.{Read, Fits, HasTaken, IsFilled, IsFull, IsOdd, IsRead, IsSet, Misfits, Takes, content_table, filled, fits, fits_one, has_contents, may_lack, noted, read_of, read_on, start, step_of, taken}
 use Rattle.mb_reading.specs.Rows.{row_in}
 
 pub filled_by : (has : Bool) (table : TableName) (old new : Read) (answers : List Row) → has ≡ true → new ≡ read_on table old answers → IsFilled has table old new

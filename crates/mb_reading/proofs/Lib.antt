@@ -1,3 +1,4 @@
+mod Common
 mod AskLemmas
 mod CellLemmas
 mod DiskLemmas

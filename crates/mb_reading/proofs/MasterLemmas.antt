@@ -1,8 +1,6 @@
 -- Past the end of an answer there is no text; and which answer is the first that passes a test.
-use Rattle.std.proofs.Common.{◌≡◌, ℕ, ◌≤◌, ◌<◌, ◌+◌, Bool, true, false, ◌||◌, List, [], ◌∷◌, zero, suc, length, take, get_or, ap, arith, refl, subst, sym, ◌∙◌}
-use Rattle.std.specs.List.{list_any}
+use Rattle.mb_reading.proofs.Common.{ap, arith, Bool, column, false, get_or, length, List, list_any, refl, Row, subst, suc, sym, take, true, zero, ℕ, [], ◌+◌, ◌<◌, ◌||◌, ◌∙◌, ◌∷◌, ◌≡◌, ◌≤◌}
 use Rattle.std.proofs.lemmas.List.Folds.{list_any_more}
-use Rattle.sqlite_value.specs.Order.{Row, column}
 use Rattle.sqlite_value.specs.declared.value.Value.TheVariants.{Null}
 
 pub past_end : (r : Row) (at : ℕ) → length r ≤ at → column r at ≡ Null

@@ -1,18 +1,7 @@
 -- A set that is read of one state of a database.
-use Rattle.std.proofs.Common.{◌≡◌, ℕ, Bool, true, false, List, MatchBool, Err, Some, inl, inr, refl, subst, sym}
-use Rattle.sqlite.specs.Listing.{understood}
-use Rattle.sqlite.specs.State.{State}
-use Rattle.sqlite_resolve.specs.declared.error.CompileError.{CompileError}
-use Rattle.sqlite_value.specs.Order.{Row}
-use Rattle.mb_tables.specs.Kind.{tile_table}
-use Rattle.mb_tables.specs.declared.kind.MbtType.{MbtType}
-use Rattle.mb_tables.specs.declared.kind.MbtType.TheVariants.{Flat}
-use Rattle.mb_tables.specs.declared.table.TableName.{TableName}
-use Rattle.mb_tables.specs.declared.table.TableName.TheVariants.{Metadata, Tiles}
-use Rattle.mb_reading.specs.Asking.{IsUnfit, LacksLayout, ReadsBy, ReadsEither, ReadsLayout, ReadsSet, ReadsTable, Shows, Stays}
-use Rattle.mb_reading.specs.Filling.{Fits, Read, content_table, fits, has_contents, may_lack, read_on, start}
-use Rattle.mb_reading.specs.Master.{first_layout, is_there}
-use Rattle.mb_reading.specs.Texts.{master_text, rows_text}
+use Rattle.mb_reading.proofs.Common.{Bool, CompileError, content_table, Err, false, first_layout, Fits, fits, Flat, has_contents, inl, inr, is_there, IsUnfit, LacksLayout, List, master_text}
+use Rattle.mb_reading.proofs.Common.{MatchBool, may_lack, MbtType, Metadata, Read, read_on, ReadsBy, ReadsEither, ReadsLayout, ReadsSet, ReadsTable, refl, Row, rows_text, Shows, Some, start, State}
+use Rattle.mb_reading.proofs.Common.{Stays, subst, sym, TableName, tile_table, Tiles, true, understood, ℕ, ◌≡◌}
 use Rattle.mb_reading.proofs.AskLemmas.{same_meaning, shows_before, shows_open}
 use Rattle.mb_reading.proofs.TextLemmas.{rows_ask}
 

@@ -1,21 +1,14 @@
 -- The texts ask for rows, whatever the schema.
-use Rattle.std.proofs.Common.{◌≡◌, ℕ, ◌+◌, Bool, true, false, List, None, Option, Ok, Err, inl, inr, refl, sym, subst, ap, ◌∙◌}
-use Rattle.std.proofs.lemmas.Bool.{cases_Bool}
+use Rattle.mb_reading.proofs.Common.{ap, Bool, cases_Bool, Command, Compiled, Err, false, if_select, Images, inl, inr, is_select, List, listing_schema, Map, master_text, Metadata, None, Ok, OnlyAsks}
+use Rattle.mb_reading.proofs.Common.{Option, reads_listing, refl, rows_text, Schema, subst, sym, TableName, TileCache, Tiles, TilesData, TilesShallow, TilesWithHash, true, understood, ℕ, ◌+◌, ◌∙◌}
+use Rattle.mb_reading.proofs.Common.{◌≡◌}
 use Rattle.sqlite.specs.Compile.{command, compiled, first, meaning, planned, returning, returning_by, small, timed, with_command}
-use Rattle.sqlite.specs.Command.{Command}
-use Rattle.sqlite.specs.Listing.{if_select, is_select, listing_schema, reads_listing, understood}
-use Rattle.sqlite.specs.Schema.{Schema}
 use Rattle.sqlite_ast.specs.declared.Statement.{Statement}
 use Rattle.sqlite_ast.specs.declared.Statement.TheVariants as written
 use Rattle.sqlite_resolve.specs.Lowering.{Checked, and_then}
-use Rattle.sqlite_resolve.specs.declared.compiled.Compiled.{Compiled}
 use Rattle.sqlite_schema.specs.declared.command.Returning.{Returning}
 use Rattle.sqlite_syntax.specs.declared.statement.Parsed.{Parsed}
 use Rattle.sqlite_tied.specs.Compute.{everything}
-use Rattle.mb_tables.specs.declared.table.TableName.{TableName}
-use Rattle.mb_tables.specs.declared.table.TableName.TheVariants.{Tiles, TilesWithHash, Map, Images, TilesShallow, TilesData, TileCache, Metadata}
-use Rattle.mb_reading.specs.Asking.{OnlyAsks}
-use Rattle.mb_reading.specs.Texts.{master_text, rows_text}
 
 abbrev is_query : Statement → Bool
 is_query (written.Select s) = true

@@ -1,20 +1,13 @@
 -- The questions by which a set is read, all of one state of a database, and what comes of their answers.
 use Rattle.std.specs.Prelude.{ℕ, ◌≡◌, ◌⊎◌, Bool, true, false, List, [], Ok, Err, Some, None, IsTrue, MatchBool}
-use Rattle.sqlite.specs.Held.{Held, state}
+use Rattle.mb_reading.specs.Common.{Flat, Held, IsUnchanged, MbtType, Metadata, Row, Shown, State, state, Survives, TableName, tile_table, Tiles}
 use Rattle.sqlite.specs.Listing.{understood}
 use Rattle.sqlite.specs.Schema.{Schema}
-use Rattle.sqlite.specs.State.{State, IsUnchanged, Shown, Survives}
 use Rattle.sqlite.specs.Store.{Ghosts}
 use Rattle.sqlite.specs.declared.error.Error.{Error}
 use Rattle.sqlite.specs.declared.error.Error.TheVariants.{SqlInputError}
 use Rattle.sqlite_resolve.specs.declared.compiled.Compiled.{Compiled}
 use Rattle.sqlite_resolve.specs.declared.error.CompileError.{CompileError}
-use Rattle.sqlite_value.specs.Order.{Row}
-use Rattle.mb_tables.specs.Kind.{tile_table}
-use Rattle.mb_tables.specs.declared.kind.MbtType.{MbtType}
-use Rattle.mb_tables.specs.declared.kind.MbtType.TheVariants.{Flat}
-use Rattle.mb_tables.specs.declared.table.TableName.{TableName}
-use Rattle.mb_tables.specs.declared.table.TableName.TheVariants.{Metadata, Tiles}
 use Rattle.mb_reading.specs.Filling.{Fits, Read, content_table, fits, has_contents, may_lack, read_on, start}
 use Rattle.mb_reading.specs.Master.{first_layout, is_there}
 use Rattle.mb_reading.specs.Texts.{master_text, rows_text}

@@ -1,17 +1,12 @@
 -- What a value of a file becomes as a cell of a set, by its column. None stands for a value that no set has there.
 use Rattle.std.specs.Prelude.{ℕ, pos, Bool, ◌==◌, ◌&&◌, ◌||◌, cond, List, length, Option, Some, None}
-use Rattle.std.specs.Char.{is_ascii_hexdigit}
+use Rattle.mb_reading.specs.Common.{Blob, Cell, Int, is_ascii_hexdigit, is_utf8, list_all, list_any, Null, Text, Value}
 use Rattle.std.specs.Float.{Float, binary64, float_to_signed}
 use Rattle.std.specs.Float.Ieee
 use Rattle.std.specs.Int.{w64}
-use Rattle.std.specs.List.{list_all, list_any}
-use Rattle.std.specs.Str.{is_utf8}
 use Rattle.line_words.specs.Number.{number_to}
-use Rattle.mb_tables.specs.declared.cell.Cell.{Cell}
-use Rattle.mb_tables.specs.declared.cell.Cell.TheVariants.{Null, Int, Text, Blob}
 use Rattle.mb_reading.specs.declared.value_kind.ValueKind.{ValueKind}
 use Rattle.mb_reading.specs.declared.value_kind.ValueKind.TheVariants as kinds
-use Rattle.sqlite_value.specs.declared.value.Value.{Value}
 use Rattle.sqlite_value.specs.declared.value.Value.TheVariants as sql
 
 -- the kind of a value

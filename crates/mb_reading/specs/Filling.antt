@@ -1,21 +1,11 @@
 -- What answers of a file leave in a store.
 use Rattle.std.specs.Prelude.{◌≡◌, pos, int_lt, Bool, true, false, not, ◌&&◌, ◌++◌, cond, List, [], ◌∷◌, Option, Some, None, fold, MatchBool, MatchOption}
-use Rattle.mb_store.specs.MemStore.{IsSteady, faults_of, told_of}
-use Rattle.mb_store.specs.Store.{is_duplicate, no_rows, with_row}
+use Rattle.mb_reading.specs.Common.{Cell, contents_of, faults_of, Images, Int, is_duplicate, IsSteady, MbtType, Metadata, no_rows, Normalized, Row, set_tables, TableName, Tables, tile_table, Tiles}
+use Rattle.mb_reading.specs.Common.{told_of, with_row}
 use Rattle.mb_store.specs.declared.mem_store.MemStore.{MemStore}
-use Rattle.mb_tables.specs.Kind.{contents_of, tile_table}
-use Rattle.mb_tables.specs.Schema.{set_tables}
-use Rattle.mb_tables.specs.Table.{Tables}
-use Rattle.mb_tables.specs.declared.cell.Cell.{Cell}
-use Rattle.mb_tables.specs.declared.cell.Cell.TheVariants.{Int}
-use Rattle.mb_tables.specs.declared.kind.MbtType.{MbtType}
-use Rattle.mb_tables.specs.declared.kind.MbtType.TheVariants.{Normalized}
-use Rattle.mb_tables.specs.declared.table.TableName.{TableName}
-use Rattle.mb_tables.specs.declared.table.TableName.TheVariants.{Images, Metadata, Tiles}
 use Rattle.mb_reading.specs.declared.filling.Filling.{Filling}
 use Rattle.mb_reading.specs.declared.filling.Step.{Step}
 use Rattle.mb_reading.specs.declared.filling.Step.TheVariants.{Added, NoNumber, TooDeep, Outside, Repeated, Odd}
-use Rattle.sqlite_value.specs.Order.{Row}
 use Rattle.mb_reading.specs.LeftOut.{counted, nothing_left}
 use Rattle.mb_reading.specs.Rows.{is_placed, row_in}
 use Rattle.mb_reading.specs.declared.left_out.LeftOut.{LeftOut}

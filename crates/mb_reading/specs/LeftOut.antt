@@ -1,15 +1,12 @@
 -- What a reading leaves out, counted.
 use Rattle.std.specs.Prelude.{ℕ, ◌+◌, ◌==◌, cond, Option, Some, None, List, [], ◌∷◌}
-use Rattle.mb_tables.specs.declared.table.TableName.{TableName}
-use Rattle.mb_tables.specs.declared.table.TableName.TheVariants.{Metadata}
+use Rattle.mb_reading.specs.Common.{column, Metadata, Row, TableName, Value}
 use Rattle.mb_reading.specs.declared.filling.Step.{Step}
 use Rattle.mb_reading.specs.declared.filling.Step.TheVariants as steps
 use Rattle.mb_reading.specs.declared.left_out.LeftOut.{LeftOut}
 use Rattle.mb_reading.specs.declared.left_out.PlaceValue.{PlaceValue}
 use Rattle.mb_reading.specs.declared.left_out.PlaceValue.TheVariants as places
 use Rattle.mb_reading.specs.declared.left_out.PlaceValues.{PlaceValues}
-use Rattle.sqlite_value.specs.Order.{Row, column}
-use Rattle.sqlite_value.specs.declared.value.Value.{Value}
 use Rattle.sqlite_value.specs.declared.value.Value.TheVariants as sql
 
 abbrev pub nothing_left : LeftOut

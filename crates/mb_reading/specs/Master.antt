@@ -1,18 +1,9 @@
 -- What `sqlite_master` says of the tables of a set. Its answers are kinds, names in lower case and texts.
 use Rattle.std.specs.Prelude.{ℕ, codes, Bool, false, ◌&&◌, ◌++◌, cond, List, [], ◌∷◌, Option, Some, None, Result, Ok, Err}
-use Rattle.std.specs.List.{list_any}
-use Rattle.std.specs.Str.{bytes_eq}
+use Rattle.mb_reading.specs.Common.{bytes_eq, column, Flat, Images, list_any, Map, MbtType, Row, table_of, table_text, TableName, Tiles, TilesData, TilesShallow, TilesWithHash, Value, view_of}
 use Rattle.mb_tables.specs.Detection.{detected}
-use Rattle.mb_tables.specs.Schema.{table_of, view_of}
-use Rattle.mb_tables.specs.Table.{table_text}
 use Rattle.mb_tables.specs.declared.description.TableDesc.{TableDesc}
 use Rattle.mb_tables.specs.declared.error.MbtError.{MbtError}
-use Rattle.mb_tables.specs.declared.kind.MbtType.{MbtType}
-use Rattle.mb_tables.specs.declared.kind.MbtType.TheVariants.{Flat}
-use Rattle.mb_tables.specs.declared.table.TableName.{TableName}
-use Rattle.mb_tables.specs.declared.table.TableName.TheVariants.{Tiles, TilesWithHash, Map, Images, TilesShallow, TilesData}
-use Rattle.sqlite_value.specs.Order.{Row, column}
-use Rattle.sqlite_value.specs.declared.value.Value.{Value}
 use Rattle.sqlite_value.specs.declared.value.Value.TheVariants as sql
 use Rattle.mb_reading.specs.Views.{is_view_text}
 

@@ -1,5 +1,5 @@
 -- What a file that is only read counts.
-use Rattle.sqlite_disk.specs.declared.tally.Tally.{Tally}
+use Rattle.mb_reading.specs.Common.{Tally}
 use Rattle.mb_reading.specs.declared.read_only.ReadOnly.{ReadOnly}
 
 -- how many of its reads found other bytes than before; it is never written, so that none found no room

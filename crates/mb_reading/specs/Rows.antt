@@ -1,11 +1,7 @@
 -- The rows of a set that answers of a file are read as.
 use Rattle.std.specs.Prelude.{Bool, true, List, [], ◌∷◌, Option, Some, None, is_some}
-use Rattle.std.specs.Option.{option_map}
+use Rattle.mb_reading.specs.Common.{Cell, column, Images, Map, Metadata, option_map, Row, TableName, TileCache, Tiles, TilesData, TilesShallow, TilesWithHash}
 use Rattle.mb_lists.specs.FromRows.{coord_in}
-use Rattle.mb_tables.specs.declared.cell.Cell.{Cell}
-use Rattle.mb_tables.specs.declared.table.TableName.{TableName}
-use Rattle.mb_tables.specs.declared.table.TableName.TheVariants.{Tiles, TilesWithHash, Map, Images, TilesShallow, TilesData, TileCache, Metadata}
-use Rattle.sqlite_value.specs.Order.{Row, column}
 use Rattle.mb_reading.specs.Cells.{data_cell, digest_cell, name_cell, number_cell, place_cell, value_cell}
 
 -- a place, and a cell behind it

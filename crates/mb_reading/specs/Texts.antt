@@ -1,7 +1,6 @@
 -- The statements that read a file.
 use Rattle.std.specs.Prelude.{ℕ, codes, List}
-use Rattle.mb_tables.specs.declared.table.TableName.{TableName}
-use Rattle.mb_tables.specs.declared.table.TableName.TheVariants.{Tiles, TilesWithHash, Map, Images, TilesShallow, TilesData, TileCache, Metadata}
+use Rattle.mb_reading.specs.Common.{Images, Map, Metadata, TableName, TileCache, Tiles, TilesData, TilesShallow, TilesWithHash}
 
 -- all tables and views, each by its kind, its name in lower case and the text that makes it
 unfoldable pub master_text : List ℕ

@@ -1,7 +1,6 @@
 -- Which texts make a view that has exactly the tiles of a layout's tables, by the statement that they are.
 use Rattle.std.specs.Prelude.{ℕ, codes, Bool, true, false, not, ◌&&◌, ◌||◌, ◌==◌, List, [], ◌∷◌, length, Option, Some, None, is_some, Result, Ok, Err}
-use Rattle.std.specs.List.{list_any}
-use Rattle.std.specs.Str.{str_eq_ignore_ascii_case}
+use Rattle.mb_reading.specs.Common.{contents_of, FlatWithHash, id_text, list_any, MbtType, Normalized, places_of, str_eq_ignore_ascii_case, table_text, TableName, TilesWithHash}
 use Rattle.sqlite_ast.specs.Layer.{Layer, ShownLayer}
 use Rattle.sqlite_ast.specs.declared.Binary.TheVariants.{Eq}
 use Rattle.sqlite_ast.specs.declared.Core.{Core, out-Core}
@@ -17,12 +16,6 @@ use Rattle.sqlite_ast.specs.declared.Statement.TheVariants.{CreateView}
 use Rattle.sqlite_syntax.specs.Statement.{parse}
 use Rattle.sqlite_syntax.specs.declared.error.ParseError.{ParseError}
 use Rattle.sqlite_syntax.specs.declared.statement.Parsed.{Parsed}
-use Rattle.mb_tables.specs.Kind.{contents_of, id_text, places_of}
-use Rattle.mb_tables.specs.Table.{table_text}
-use Rattle.mb_tables.specs.declared.kind.MbtType.{MbtType}
-use Rattle.mb_tables.specs.declared.kind.MbtType.TheVariants.{FlatWithHash, Normalized}
-use Rattle.mb_tables.specs.declared.table.TableName.{TableName}
-use Rattle.mb_tables.specs.declared.table.TableName.TheVariants.{TilesWithHash}
 
 -- a name, in any ASCII case
 abbrev pub is_name : List ℕ → List ℕ → Bool

@@ -1,10 +1,6 @@
 // Questions to a database, whose answers come all at once, or one after another into a store.
 ghost use Rattle.std.specs.Prelude.{◌≡◌, true, List, IfErr, IfOk, OnOk};
-ghost use Rattle.sqlite.specs.Held.{state};
-ghost use Rattle.sqlite.specs.State.{HasCleanDisk, IsUnchanged};
-ghost use Rattle.sqlite_value.specs.Order.{Row};
-ghost use Rattle.mb_store.specs.MemStore.{told_of};
-ghost use Rattle.mb_tables.specs.Described.{is_table};
+ghost use Rattle.mb_reading.specs.Common.{HasCleanDisk, is_table, IsUnchanged, Row, state, told_of};
 ghost use Rattle.mb_reading.specs.Asking.{CommitsNothing, OnlyAsks, Refuses, Shows};
 ghost use Rattle.mb_reading.specs.Filling.{HasTaken, NeverFails, read_of};
 

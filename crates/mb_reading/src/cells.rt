@@ -1,9 +1,7 @@
 // Values of a file as cells of a set. None is a value that no set has in its column.
 ghost use Rattle.std.specs.Prelude.{◌≡◌, ◌==◌, IfOk};
-ghost use Rattle.std.specs.Char.{is_ascii_hexdigit};
-ghost use Rattle.std.specs.List.{list_all, list_any};
+ghost use Rattle.mb_reading.specs.Common.{is_ascii_hexdigit, list_all, list_any, owned};
 ghost use Rattle.mb_reading.specs.Cells.{data_cell, digest_cell, is_digest, name_cell, number_cell, place_cell, plain_cell, real_cell, spelled_cell, spelling_cell, text_cell, value_cell};
-ghost use Rattle.sqlite_value.specs.Value.{owned};
 
 use base_values::{BlobVal, OutOfMemory, TextVal};
 use line_words::parse_number;

@@ -1,10 +1,6 @@
 // Rows of a file that go into a store, one answer after another.
 ghost use Rattle.std.specs.Prelude.{◌≡◌, true, false, not, [], length, IfOk, IfSome, IfNone, OnOk, OnErr};
-ghost use Rattle.mb_store.specs.MemStore.{told_of};
-ghost use Rattle.mb_store.specs.Store.{is_duplicate};
-ghost use Rattle.mb_tables.specs.Described.{is_table};
-ghost use Rattle.mb_tables.specs.Table.{width};
-ghost use Rattle.mb_tables.specs.declared.table.TableName.{TableName};
+ghost use Rattle.mb_reading.specs.Common.{is_duplicate, is_table, TableName, told_of, width};
 ghost use Rattle.mb_reading.specs.Filling.{HasTaken, IsFull, IsOdd, NeverFails, Takes, fits_one, is_fit, may_lack, misplaced, read_of, step_of, taken, with_new};
 ghost use Rattle.mb_reading.specs.Rows.{row_in};
 

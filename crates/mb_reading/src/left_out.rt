@@ -1,7 +1,6 @@
 // What a reading leaves out, counted.
 ghost use Rattle.std.specs.Prelude.{◌≡◌};
-ghost use Rattle.sqlite_value.specs.Order.{column};
-ghost use Rattle.sqlite_value.specs.Value.{owned};
+ghost use Rattle.mb_reading.specs.Common.{column, owned};
 ghost use Rattle.mb_reading.specs.LeftOut.{counted, nothing_left, one_more, or_first, place_value, place_values};
 
 use crate::filling::Step;

@@ -1,9 +1,7 @@
 // What `sqlite_master` says of the tables of a set.
 ghost use Rattle.std.specs.Prelude.{◌≡◌, ◌++◌, IfOk, OnOk};
-ghost use Rattle.std.specs.List.{list_any};
+ghost use Rattle.mb_reading.specs.Common.{column, list_any, owned};
 ghost use Rattle.mb_reading.specs.Master.{behind_view, described, first_layout, is_own, is_text, is_there, is_view_value, named_layout, names_it, names_own, views};
-ghost use Rattle.sqlite_value.specs.Order.{column};
-ghost use Rattle.sqlite_value.specs.Value.{owned};
 
 use crate::views::is_view_text;
 use base_values::OutOfMemory;

@@ -1,9 +1,6 @@
 // Reading a set of a database, one statement a table.
 ghost use Rattle.std.specs.Prelude.{◌≡◌, true, IfNone, IfOk, IfSome, OnOk};
-ghost use Rattle.sqlite.specs.Held.{state};
-ghost use Rattle.sqlite.specs.State.{HasCleanDisk};
-ghost use Rattle.mb_store.specs.MemStore.{told_of};
-ghost use Rattle.mb_tables.specs.Described.{is_table};
+ghost use Rattle.mb_reading.specs.Common.{HasCleanDisk, is_table, state, told_of};
 ghost use Rattle.mb_reading.specs.Asking.{CommitsNothing, IsUnfit, LacksLayout, ReadsBy, ReadsEither, ReadsLayout, ReadsSet, ReadsTable, Stays, is_input};
 ghost use Rattle.mb_reading.specs.Filling.{IsFilled, IsRead, IsSet, NeverFails, content_table, has_contents, may_lack, read_of};
 

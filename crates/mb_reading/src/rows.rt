@@ -1,9 +1,6 @@
 // Answers of a file as rows of a set. None is a row with a value that no set has there.
 ghost use Rattle.std.specs.Prelude.{◌≡◌, IfOk, IfSome, Some, length};
-ghost use Rattle.std.specs.Option.{option_map};
-ghost use Rattle.mb_tables.specs.Table.{width};
-ghost use Rattle.sqlite_value.specs.Order.{column};
-ghost use Rattle.sqlite_value.specs.Value.{owned};
+ghost use Rattle.mb_reading.specs.Common.{column, option_map, owned, width};
 ghost use Rattle.mb_reading.specs.Rows.{hashed_row, is_placed, pair_of, placed_row, row_in};
 
 use crate::cells::{data_cell, digest_cell, name_cell, number_cell, place_cell, value_cell};

@@ -1,7 +1,7 @@
 // The kinds of values of SQLite.
 ghost use Rattle.std.specs.Prelude.{◌≡◌};
 ghost use Rattle.mb_reading.specs.Cells.{kind_of};
-ghost use Rattle.sqlite_value.specs.Value.{owned};
+ghost use Rattle.mb_reading.specs.Common.{owned};
 
 use sqlite::types::ValueRef;
 use std::fmt;

@@ -1,6 +1,6 @@
 // Which texts make a view that has exactly the tiles of a layout's tables.
 ghost use Rattle.std.specs.Prelude.{◌≡◌, IfOk};
-ghost use Rattle.mb_tables.specs.Table.{table_text};
+ghost use Rattle.mb_reading.specs.Common.{table_text};
 ghost use Rattle.mb_reading.specs.Views.{are_joined, has_shown, is_alone, is_bare, is_column, is_name, is_own_column, is_plain, is_plain_core, is_query, is_source, is_table, is_view_text, joins, links, makes, shows, shows_tiles, takes_all};
 
 use base_values::OutOfMemory;

@@ -1,9 +1,7 @@
 -- A question inside a transaction leaves what was committed, and the transaction goes on.
-use Rattle.std.proofs.Common.{◌≡◌, ◌⊎◌, ℕ, true, List, [], None, Some, Ok, Err, ap, cond, inl, inr, ◌∙◌}
-use Rattle.sqlite.specs.declared.error.Error.{Error}
+use Rattle.mb_sqlite.proofs.Common.{ap, cond, Err, Error, FailsToQuery, FailsToShow, inl, inr, IsNotRun, IsTooLate, KeepsCommit, List, None, Ok, QueriesRow, QueriesRowInside, Shown, ShowsRows, Some}
+use Rattle.mb_sqlite.proofs.Common.{State, true, unchanged_keeps, ℕ, [], ◌∙◌, ◌≡◌, ◌⊎◌}
 use Rattle.sqlite.specs.Order.{Row}
-use Rattle.sqlite.specs.State.{State, FailsToQuery, FailsToShow, IsNotRun, IsTooLate, KeepsCommit, QueriesRow, QueriesRowInside, Shown, ShowsRows}
-use Rattle.sqlite.proofs.InsideLemmas.{unchanged_keeps}
 
 module _ (sql : List ℕ) (params : Row) (old new : State) where
   shows_keeps : (c : _) (given : Row) (rows : List Row) (what : _) → old.in_transaction ≡ true → ShowsRows old new sql c given rows what → KeepsCommit old new × (new.in_transaction ≡ true)

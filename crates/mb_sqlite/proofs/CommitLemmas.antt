@@ -1,17 +1,8 @@
 -- Calls in a row that commit nothing, or once.
-use Rattle.std.proofs.Common.{◌≡◌, false, true, refl, inl, inr, arith, subst, sym}
-use Rattle.sqlite.specs.declared.error.Error.{Error}
-use Rattle.sqlite.specs.Held.{Held, state}
-use Rattle.sqlite.specs.Steps.{FailsToCommit}
-use Rattle.sqlite.specs.State.{HasCleanDisk, IsRolledBack, Shows, Survives}
-use Rattle.sqlite.specs.Store.{Ghosts}
-use Rattle.sqlite.specs.Tree.{Trees}
+use Rattle.mb_sqlite.proofs.Common.{arith, begun, Commits, CommitsNothing, CommitsOnce, Error, FailsToCommit, false, Ghosts, HasCleanDisk, Held, inl, inr, IsRolledBack, keeps_then, KeepsCommitted}
+use Rattle.mb_sqlite.proofs.Common.{refl, Shows, state, subst, Survives, sym, Trees, true, unchanged_keeps, Within, ◌≡◌}
 use Rattle.sqlite.proofs.Callers.{survives_begin}
-use Rattle.sqlite.proofs.InsideLemmas.{keeps_then, unchanged_keeps}
 use Rattle.sqlite.proofs.StateLemmas.{survives_then, survives_weaker}
-use Rattle.mb_sqlite.specs.Committing.{CommitsNothing, CommitsOnce, KeepsCommitted}
-use Rattle.mb_sqlite.specs.Making.{Commits, begun}
-use Rattle.mb_sqlite.specs.Reading.{Within}
 
 module _ {S : Type 0} (g : Ghosts S) where
   pub nothing_yet : (h : Held S) → CommitsNothing g h h

@@ -1,3 +1,4 @@
+mod Common
 mod AskingLemmas
 pub mod CommitLemmas
 mod PassingLemmas

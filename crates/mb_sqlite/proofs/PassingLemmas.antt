@@ -1,11 +1,6 @@
 -- Tables and views that are there, or are made.
-use Rattle.std.proofs.Common.{◌≡◌, ◌+◌, ℕ, ◌||◌, Bool, false, true, List, [], None, Some, MatchBool, MatchOption, inl, inr, refl, slice_get, subst, sym, take}
-use Rattle.sqlite.specs.Held.{Held}
-use Rattle.sqlite.specs.Store.{Ghosts}
-use Rattle.mb_tables.specs.declared.kind.MbtType.{MbtType}
-use Rattle.mb_tables.specs.declared.table.TableName.{TableName}
-use Rattle.mb_sqlite.specs.Creation.{making_text}
-use Rattle.mb_sqlite.specs.Making.{ArePassed, Arises, IsRun, IsThere, Passes, Stays}
+use Rattle.mb_sqlite.proofs.Common.{ArePassed, Arises, Bool, false, Ghosts, Held, inl, inr, IsRun, IsThere, List, making_text, MatchBool, MatchOption, MbtType, None, Passes, refl, slice_get, Some}
+use Rattle.mb_sqlite.proofs.Common.{Stays, subst, sym, TableName, take, true, ℕ, [], ◌+◌, ◌||◌, ◌≡◌}
 use Rattle.mb_sqlite.proofs.StepLemmas.{Steps-next, Steps-none}
 
 module _ {S : Type 0} (g : Ghosts S) (layout : MbtType) (table : TableName) where

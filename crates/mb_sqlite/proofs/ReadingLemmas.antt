@@ -1,7 +1,5 @@
 -- Cells and rows that are read one after another.
-use Rattle.std.proofs.Common.{ℕ, ◌+◌, ◌<◌, ◌≤◌, ◌++◌, List, [], ◌∷◌, length, get_or, take, zero, suc, add-one, arith, subst, sym, ◌∙◌}
-use Rattle.std.specs.List.{AllZip}
-use Rattle.std.proofs.lemmas.List.{take_all}
+use Rattle.mb_sqlite.proofs.Common.{add-one, AllZip, arith, get_or, length, List, subst, suc, sym, take, take_all, zero, ℕ, [], ◌++◌, ◌+◌, ◌<◌, ◌∙◌, ◌∷◌, ◌≤◌}
 
 module _ {A B : Type 0} (R : A → B → Type 0) where
   next_pair : (xs : List A) (ys : List B) (n : ℕ) (y : B) (d : A) → n < length xs → AllZip R (take n xs) ys → R (get_or xs n d) y → AllZip R (take (suc n) xs) (ys ++ y ∷ [])

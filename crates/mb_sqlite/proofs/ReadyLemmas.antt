@@ -1,14 +1,6 @@
 -- What comes of a call once the tables are made.
-use Rattle.std.proofs.Common.{◌≡◌, Bool, false, true, MatchBool, refl, subst, sym, Result, Ok, Err, ◌∙◌}
-use Rattle.std.specs.Prelude.{IfOk, OnErr}
-use Rattle.sqlite.specs.Held.{Held, state}
-use Rattle.sqlite.specs.State.{HasCleanDisk}
-use Rattle.sqlite.specs.Store.{Ghosts}
-use Rattle.mb_tables.specs.declared.kind.MbtType.{MbtType}
-use Rattle.mb_sqlite.specs.Committing.{CommitsNothing, CommitsOnce, Idles, IsReady, Leaves, OnceReady, Sees}
-use Rattle.mb_sqlite.specs.Making.{AreMade, ArePrepared, begun}
-use Rattle.mb_sqlite.specs.Reading.{Within}
-use Rattle.mb_sqlite.specs.Resting.{Rests}
+use Rattle.mb_sqlite.proofs.Common.{AreMade, ArePrepared, begun, Bool, CommitsNothing, CommitsOnce, Err, false, Ghosts, HasCleanDisk, Held, Idles, IfOk, IsReady, Leaves, MatchBool, MbtType, Ok}
+use Rattle.mb_sqlite.proofs.Common.{OnceReady, OnErr, refl, Rests, Result, Sees, state, subst, sym, true, Within, ◌∙◌, ◌≡◌}
 
 pub on_err : {X E : Type 0} (r : Result X E) (P : Type 0) → P → OnErr r P
 on_err (Ok x) P p = tt

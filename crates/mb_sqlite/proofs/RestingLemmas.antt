@@ -1,16 +1,6 @@
 -- What calls in a row leave of a transaction, and what it leaves when it ends.
-use Rattle.std.proofs.Common.{◌≡◌, false, arith, inl, inr, refl, subst, ◌∙◌}
-use Rattle.std.proofs.lemmas.Bool.{both_ways}
-use Rattle.sqlite.specs.declared.error.Error.{Error}
-use Rattle.sqlite.specs.Held.{Held, state}
-use Rattle.sqlite.specs.Steps.{FailsToCommit}
-use Rattle.sqlite.specs.State.{HasCleanDisk, IsRolledBack, Survives}
-use Rattle.sqlite.specs.Store.{Ghosts}
-use Rattle.sqlite.specs.Tree.{Trees}
-use Rattle.sqlite.proofs.InsideLemmas.{keeps_then}
-use Rattle.mb_sqlite.specs.Committing.{CommitsNothing, KeepsCommitted}
-use Rattle.mb_sqlite.specs.Making.{begun}
-use Rattle.mb_sqlite.specs.Resting.{KeepsInside, Rests, StaysInside}
+use Rattle.mb_sqlite.proofs.Common.{arith, begun, both_ways, CommitsNothing, Error, FailsToCommit, false, Ghosts, HasCleanDisk, Held, inl, inr, IsRolledBack, keeps_then, KeepsCommitted, KeepsInside}
+use Rattle.mb_sqlite.proofs.Common.{refl, Rests, state, StaysInside, subst, Survives, Trees, ◌∙◌, ◌≡◌}
 
 module _ {S : Type 0} (g : Ghosts S) where
   pub inside_yet : (h : Held S) → KeepsInside g h h

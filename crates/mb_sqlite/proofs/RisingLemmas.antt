@@ -1,11 +1,6 @@
 -- Numbers of answers that rise.
-use Rattle.std.proofs.Common.{◌≡◌, ℕ, ℤ, ◌+◌, ◌<◌, ◌≤◌, ◌++◌, true, List, [], ◌∷◌, Option, Some, drop, length, get_or, take, zero, suc, add-one, arith, refl, subst, sym, ◌∙◌}
-use Rattle.std.proofs.lemmas.List.{take_all}
-use Rattle.sqlite_value.specs.declared.value.Value.TheVariants.{Int}
-use Rattle.sqlite_value.specs.Order.{Row, column}
-use Rattle.mb_tables.specs.Table.{width}
-use Rattle.mb_tables.specs.declared.table.TableName.{TableName}
-use Rattle.mb_sqlite.specs.Reading.{RisesTo, is_above}
+use Rattle.mb_sqlite.proofs.Common.{add-one, arith, column, drop, get_or, Int, is_above, length, List, Option, refl, RisesTo, Row, Some, subst, suc, sym, TableName, take, take_all, true, width, zero}
+use Rattle.mb_sqlite.proofs.Common.{ℕ, ℤ, [], ◌++◌, ◌+◌, ◌<◌, ◌∙◌, ◌∷◌, ◌≡◌, ◌≤◌}
 
 module _ (table : TableName) where
   next_rise : (from : Option ℤ) (xs : List Row) (n : ℕ) (last : Option ℤ) (m : ℤ) (d : Row) → n < length xs → RisesTo table from (take n xs) last → column (get_or xs n d) (width table) ≡ Int m → is_above last m ≡ true

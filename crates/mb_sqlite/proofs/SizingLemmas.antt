@@ -1,22 +1,10 @@
 -- Sizes that are added up.
-use Rattle.std.proofs.Common.{◌≡◌, ℕ, ℤ, ◌+◌, ◌-◌, ◌^◌, ◌<◌, ◌≤◌, ◌++◌, Bool, true, false, List, [], ◌∷◌, Option, None, MatchBool, IsUtf8, add-one, ap, arith, cond, get_or, zero, suc, inl, inr, length, min, refl, slice_get, Some, subst, sum_by, sym, take, ◌∙◌, ◌==◌}
-use Rattle.std.proofs.lemmas.Bool.{cases_Bool, eqb-true}
-use Rattle.std.proofs.lemmas.List.{take_all}
+use Rattle.mb_sqlite.proofs.Common.{add-one, AddsTable, ap, AreRead, arith, Bool, cases_Bool, cond, eqb-true, false, get_or, Ghosts, Held, inl, inr, is_table, is_utf8, IsLiveSize, IsTableSize, IsUtf8}
+use Rattle.mb_sqlite.proofs.Common.{length, List, making_order, MatchBool, MbtType, min, None, Option, piece, piece_size, ReadsPiece, refl, Row, set_tables, slice_get, Some, Steps, subst, suc, sum_by}
+use Rattle.mb_sqlite.proofs.Common.{sym, TableName, take, take_all, true, value_size, zero, ℕ, ℤ, [], ◌++◌, ◌+◌, ◌-◌, ◌<◌, ◌==◌, ◌^◌, ◌∙◌, ◌∷◌, ◌≡◌, ◌≤◌}
 use Rattle.std.proofs.lemmas.List.Sums.{sum_by-append, sum_by-cons}
 use Rattle.std.proofs.lemmas.Str.{IsUtf8-from_is_utf8, is_utf8-from_IsUtf8}
-use Rattle.std.specs.Str.{is_utf8}
 use Rattle.sqlite_value.specs.declared.value.Value.TheVariants as sql
-use Rattle.sqlite_value.specs.Order.{Row}
-use Rattle.sqlite.specs.Held.{Held}
-use Rattle.sqlite.specs.Store.{Ghosts}
-use Rattle.mb_tables.specs.Described.{is_table}
-use Rattle.mb_tables.specs.Schema.{set_tables}
-use Rattle.mb_tables.specs.declared.kind.MbtType.{MbtType}
-use Rattle.mb_tables.specs.declared.table.TableName.{TableName}
-use Rattle.mb_sqlite.specs.Creation.{making_order}
-use Rattle.mb_sqlite.specs.Making.{Steps}
-use Rattle.mb_sqlite.specs.Reading.{AreRead}
-use Rattle.mb_sqlite.specs.Sizing.{AddsTable, IsLiveSize, IsTableSize, ReadsPiece, piece, piece_size, value_size}
 use Rattle.mb_sqlite.proofs.StepLemmas.{Steps-all, Steps-next, Steps-push}
 
 pub utf8_size : (t : List ℕ) → IsUtf8 t → value_size (sql.Text t) ≡ length t

@@ -1,7 +1,5 @@
 -- Steps one after another.
-use Rattle.std.proofs.Common.{◌≡◌, ℕ, ◌+◌, ◌≤◌, ◌++◌, List, [], ◌∷◌, length, take, zero, suc, add-one, refl, subst, sym, Some, slice_get}
-use Rattle.std.proofs.lemmas.List.{take_all}
-use Rattle.mb_sqlite.specs.Making.{Steps}
+use Rattle.mb_sqlite.proofs.Common.{add-one, length, List, refl, slice_get, Some, Steps, subst, suc, sym, take, take_all, zero, ℕ, [], ◌++◌, ◌+◌, ◌∷◌, ◌≡◌, ◌≤◌}
 
 module _ {A B : Type 0} (Step : A → B → B → Type 0) where
   pub Steps-none : (a : B) → Steps Step [] a a

@@ -1,22 +1,8 @@
 -- Values that are written, and statements that run.
-use Rattle.std.proofs.Common.{◌≡◌, ℕ, false, true, List, ap, inl, inr, IsTrue, MatchOption, Option, Result, Ok, Err}
-use Rattle.std.proofs.lemmas.Bool.{cases_Bool}
-use Rattle.sqlite.specs.declared.error.Error.{Error}
-use Rattle.sqlite.specs.Held.{Held, state}
+use Rattle.mb_sqlite.proofs.Common.{Adds, ap, bound_value, cases_Bool, Cell, Changed, Err, Error, ExecutesInside, false, Ghosts, HasCleanDisk, Held, inl, inr, is_table, IsRun, IsTrue, IsWrittenAs}
+use Rattle.mb_sqlite.proofs.Common.{List, MatchOption, MbtType, Ok, Option, Removes, Result, RowKey, set_tables, state, TableName, true, Value, ℕ, ◌≡◌}
 use Rattle.sqlite.specs.Order.{Row}
-use Rattle.sqlite.specs.State.{HasCleanDisk, ExecutesInside}
-use Rattle.sqlite.specs.Store.{Ghosts}
-use Rattle.sqlite.specs.Values.{bound_value}
-use Rattle.sqlite_value.specs.declared.value.Value.{Value}
-use Rattle.mb_tables.specs.Described.{is_table}
-use Rattle.mb_tables.specs.Schema.{set_tables}
-use Rattle.mb_tables.specs.declared.cell.Cell.{Cell}
 use Rattle.mb_tables.specs.declared.cell.Cell.TheVariants.{Null, Int, Text, Blob, Other}
-use Rattle.mb_tables.specs.declared.key.RowKey.{RowKey}
-use Rattle.mb_tables.specs.declared.kind.MbtType.{MbtType}
-use Rattle.mb_tables.specs.declared.table.TableName.{TableName}
-use Rattle.mb_sqlite.specs.Making.{Adds, Changed, IsRun, Removes}
-use Rattle.mb_sqlite.specs.Stored.{IsWrittenAs}
 
 -- a cell's value is bound as it is
 pub written_bound : (cell : Cell) (value : Value) → IsWrittenAs cell value → IsWrittenAs cell (bound_value value)

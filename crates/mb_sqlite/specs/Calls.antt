@@ -1,11 +1,6 @@
 -- What the calls of a store have in common, as words over the store before and after a call.
 use Rattle.std.specs.Prelude.{Bool, true, ◌≡◌, List}
-use Rattle.sqlite.specs.Held.{Held}
-use Rattle.sqlite.specs.Store.{Ghosts}
-use Rattle.mb_store.specs.declared.change.Change.{Change}
-use Rattle.mb_tables.specs.Described.{is_table}
-use Rattle.mb_tables.specs.Schema.{set_tables}
-use Rattle.mb_tables.specs.declared.table.TableName.{TableName}
+use Rattle.mb_sqlite.specs.Common.{Change, Ghosts, Held, is_table, set_tables, TableName}
 use Rattle.mb_sqlite.specs.Committing.{CommitsNothing, CommitsOnce, IsReady, Leaves, MakesChanges, OnceReady, RefusesCommit, Sees}
 use Rattle.mb_sqlite.specs.Making.{AreChanged, AreMade, begun}
 use Rattle.mb_sqlite.specs.declared.store.SqliteStore.{SqliteStore}

@@ -1,11 +1,7 @@
 -- What a call leaves of the database of a connection.
 use Rattle.std.specs.Prelude.{Bool, true, false, ◌≡◌, ◌⊎◌, List, MatchBool, Option, None}
-use Rattle.sqlite.specs.Held.{Held, state}
-use Rattle.sqlite.specs.State.{HasCleanDisk, KeepsCommit, Survives}
-use Rattle.sqlite.specs.Store.{Ghosts}
+use Rattle.mb_sqlite.specs.Common.{Change, Ghosts, HasCleanDisk, Held, KeepsCommit, MbtType, state, Survives}
 use Rattle.sqlite.specs.Tree.{Trees}
-use Rattle.mb_tables.specs.declared.kind.MbtType.{MbtType}
-use Rattle.mb_store.specs.declared.change.Change.{Change}
 use Rattle.mb_sqlite.specs.declared.cursor.Cursor.{Cursor}
 use Rattle.mb_sqlite.specs.Making.{AreChanged, AreMade, ArePrepared, Commits, begun}
 use Rattle.mb_sqlite.specs.Reading.{Within}

@@ -1,17 +1,10 @@
 -- The texts that make the tables and views of a layout, and the one that asks whether one is there.
 use Rattle.std.specs.Prelude.{Bool, codes, cond, true, ◌++◌, List, [], ◌∷◌, ℕ, map, Option, Some, None}
-use Rattle.std.specs.List.{list_all, list_any}
-use Rattle.std.specs.Str.{bytes_eq}
-use Rattle.mb_tables.specs.Described.{is_table}
-use Rattle.mb_tables.specs.Schema.{columns_of, set_tables}
-use Rattle.mb_tables.specs.Table.{key_columns, table_text}
-use Rattle.mb_tables.specs.declared.column.ColumnDesc.{ColumnDesc}
+use Rattle.mb_sqlite.specs.Common.{bytes_eq, ColumnDesc, columns_of, Images, is_table, key_columns, list_all, list_any, Map, MbtType, Metadata, set_tables, table_text, TableName, TileCache, Tiles}
+use Rattle.mb_sqlite.specs.Common.{TilesData, TilesShallow, TilesWithHash}
 use Rattle.mb_tables.specs.declared.description.TableDesc.{TableDesc}
-use Rattle.mb_tables.specs.declared.kind.MbtType.{MbtType}
 use Rattle.mb_tables.specs.declared.kind.MbtType.TheVariants.{FlatWithHash, Normalized, Cache}
 use Rattle.mb_tables.specs.declared.kind.NormalizedSchema.TheVariants.{Hash, DedupId}
-use Rattle.mb_tables.specs.declared.table.TableName.{TableName}
-use Rattle.mb_tables.specs.declared.table.TableName.TheVariants.{Tiles, TilesWithHash, Map, Images, TilesShallow, TilesData, TileCache, Metadata}
 use Rattle.mb_sqlite.specs.Statements.{joined, names_of}
 
 -- how many tables and views have a name, in any ASCII case

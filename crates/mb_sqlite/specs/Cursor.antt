@@ -1,10 +1,6 @@
 -- Where a page is read from.
 use Rattle.std.specs.Prelude.{ℕ, ℤ, ◌≡◌, ◌==◌, ◌+◌, ◌-◌, ◌^◌, ◌&&◌, cond, not, nat_lt, List, length, Option, Some, None}
-use Rattle.sqlite.specs.Held.{Held}
-use Rattle.sqlite.specs.Store.{Ghosts}
-use Rattle.mb_tables.specs.Table.{table_eq}
-use Rattle.mb_tables.specs.declared.cell.Cell.{Cell}
-use Rattle.mb_tables.specs.declared.table.TableName.{TableName}
+use Rattle.mb_sqlite.specs.Common.{Cell, Ghosts, Held, table_eq, TableName}
 use Rattle.mb_sqlite.specs.Reading.{ArePaged}
 use Rattle.mb_sqlite.specs.declared.cursor.Cursor.{Cursor}
 

@@ -1,3 +1,4 @@
+pub mod Common
 pub mod Committing
 pub mod Stored
 pub mod Statements

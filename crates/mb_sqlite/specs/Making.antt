@@ -1,19 +1,8 @@
 -- What statements make of the database of a connection, one after another in a transaction.
 use Rattle.std.specs.Prelude.{ℕ, pos, Bool, true, false, nat_lt, ◌≡◌, ◌⊎◌, List, [], ◌∷◌, Some, Ok, MatchOption}
-use Rattle.std.specs.List.{AllZip}
+use Rattle.mb_sqlite.specs.Common.{AllZip, Cell, Change, column, ExecutesInside, Ghosts, Held, is_table, IsRolledBack, MbtType, QueriesRowInside, Row, RowKey, set_tables, Shows, state, table_text}
+use Rattle.mb_sqlite.specs.Common.{TableName}
 use Rattle.sqlite_value.specs.declared.value.Value.TheVariants as sql
-use Rattle.sqlite_value.specs.Order.{Row, column}
-use Rattle.sqlite.specs.Held.{Held, state}
-use Rattle.sqlite.specs.State.{ExecutesInside, IsRolledBack, QueriesRowInside, Shows}
-use Rattle.sqlite.specs.Store.{Ghosts}
-use Rattle.mb_tables.specs.Described.{is_table}
-use Rattle.mb_tables.specs.Schema.{set_tables}
-use Rattle.mb_tables.specs.Table.{table_text}
-use Rattle.mb_tables.specs.declared.cell.Cell.{Cell}
-use Rattle.mb_tables.specs.declared.key.RowKey.{RowKey}
-use Rattle.mb_tables.specs.declared.kind.MbtType.{MbtType}
-use Rattle.mb_tables.specs.declared.table.TableName.{TableName}
-use Rattle.mb_store.specs.declared.change.Change.{Change}
 use Rattle.mb_sqlite.specs.Creation.{making_order, making_text, there_text}
 use Rattle.mb_sqlite.specs.Reading.{key_values}
 use Rattle.mb_sqlite.specs.Resting.{Rests}

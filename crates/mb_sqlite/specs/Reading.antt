@@ -1,17 +1,8 @@
 -- What is read of the database of a connection.
 use Rattle.std.specs.Prelude.{Bool, ℕ, ℤ, pos, true, ◌≡◌, ◌+◌, ◌-◌, ◌^◌, drop, int_lt, List, [], ◌∷◌, Option, Some, None, Ok, MatchOption, min, option_to_list, take}
-use Rattle.std.specs.List.{AllZip}
+use Rattle.mb_sqlite.specs.Common.{AllZip, Cell, column, Ghosts, Held, Images, Metadata, QueriesRowInside, Row, RowKey, Shown, state, TableName, TilesData, width}
 use Rattle.sqlite_value.specs.declared.value.Value.TheVariants as sql
-use Rattle.sqlite_value.specs.Order.{Row, column}
-use Rattle.sqlite.specs.Held.{Held, state}
-use Rattle.sqlite.specs.State.{QueriesRowInside, Shown}
-use Rattle.sqlite.specs.Store.{Ghosts}
-use Rattle.mb_tables.specs.Table.{width}
-use Rattle.mb_tables.specs.declared.cell.Cell.{Cell}
-use Rattle.mb_tables.specs.declared.key.RowKey.{RowKey}
 use Rattle.mb_tables.specs.declared.key.RowKey.TheVariants.{Tile, TextId, IntId}
-use Rattle.mb_tables.specs.declared.table.TableName.{TableName}
-use Rattle.mb_tables.specs.declared.table.TableName.TheVariants.{Images, TilesData, Metadata}
 use Rattle.mb_sqlite.specs.Statements.{count_text, first_page_text, found_text, page_text}
 use Rattle.mb_sqlite.specs.Stored.{IsReadAs}
 

@@ -1,8 +1,6 @@
 -- What a transaction leaves that commits nothing.
 use Rattle.std.specs.Prelude.{◌≡◌, true, false, [], IsTrue}
-use Rattle.sqlite.specs.Held.{Held, state}
-use Rattle.sqlite.specs.State.{HasCleanDisk, KeepsCommit}
-use Rattle.sqlite.specs.Store.{Ghosts}
+use Rattle.mb_sqlite.specs.Common.{Ghosts, HasCleanDisk, Held, KeepsCommit, state}
 
 -- inside a transaction, what was committed last stands
 abbrev pub KeepsInside : {S : Type 0} → Ghosts S → Held S → Held S → Type 0

@@ -1,16 +1,7 @@
 -- How much the tables hold that a database shows.
 use Rattle.std.specs.Prelude.{ℕ, ℤ, ◌≡◌, ◌+◌, ◌-◌, ◌^◌, cond, List, [], length, MatchBool, min, Option, None, sum_by, take}
-use Rattle.std.specs.Str.{is_utf8}
-use Rattle.sqlite_value.specs.declared.value.Value.{Value}
+use Rattle.mb_sqlite.specs.Common.{Ghosts, Held, is_table, is_utf8, MbtType, Row, set_tables, TableName, Value, width}
 use Rattle.sqlite_value.specs.declared.value.Value.TheVariants as sql
-use Rattle.sqlite_value.specs.Order.{Row}
-use Rattle.sqlite.specs.Held.{Held}
-use Rattle.sqlite.specs.Store.{Ghosts}
-use Rattle.mb_tables.specs.Described.{is_table}
-use Rattle.mb_tables.specs.Schema.{set_tables}
-use Rattle.mb_tables.specs.Table.{width}
-use Rattle.mb_tables.specs.declared.kind.MbtType.{MbtType}
-use Rattle.mb_tables.specs.declared.table.TableName.{TableName}
 use Rattle.mb_sqlite.specs.Creation.{making_order}
 use Rattle.mb_sqlite.specs.Making.{Steps}
 use Rattle.mb_sqlite.specs.Reading.{AreRead}

@@ -1,9 +1,6 @@
 -- The texts of the statements on a table, by its name and its columns.
 use Rattle.std.specs.Prelude.{ℕ, ◌+◌, codes, ◌++◌, List, [], ◌∷◌, map}
-use Rattle.mb_tables.specs.Schema.{columns_of}
-use Rattle.mb_tables.specs.Table.{key_columns, table_text}
-use Rattle.mb_tables.specs.declared.column.ColumnDesc.{ColumnDesc}
-use Rattle.mb_tables.specs.declared.table.TableName.{TableName}
+use Rattle.mb_sqlite.specs.Common.{ColumnDesc, columns_of, key_columns, table_text, TableName}
 
 -- texts with another one between them
 abbrev pub joined : List ℕ → List (List ℕ) → List ℕ

@@ -1,8 +1,7 @@
 -- Values of the database as cells.
 use Rattle.std.specs.Prelude.{◌≡◌, ◌⊎◌, IsUtf8}
-use Rattle.sqlite_value.specs.declared.value.Value.{Value}
+use Rattle.mb_sqlite.specs.Common.{Cell, Value}
 use Rattle.sqlite_value.specs.declared.value.Value.TheVariants as sql
-use Rattle.mb_tables.specs.declared.cell.Cell.{Cell}
 use Rattle.mb_tables.specs.declared.cell.Cell.TheVariants.{Null, Int, Text, Blob, Other}
 
 -- a value is read as this cell; a floating point number, and a text that isn't UTF-8, is a value of another kind

@@ -1,7 +1,6 @@
 // What each call does, with an answer whose fault isn't counted yet. The first one makes the tables that aren't there.
 ghost use Rattle.std.specs.Prelude.{◌≡◌, ◌≤◌, false, true, [], All, IfOk, IfSome, IsErrOf, OnErr, OnOk, length};
-ghost use Rattle.mb_tables.specs.Schema.{set_tables};
-ghost use Rattle.mb_tables.specs.Table.{width};
+ghost use Rattle.mb_sqlite.specs.Common.{set_tables, width};
 ghost use Rattle.mb_sqlite.specs.Calls.{ChangesOnce, CommitsChanges, HasTable, IsInside, IsPrepared, LeavesStore, MakesOnce, OnlyMakes, RefusesStore, Saw};
 ghost use Rattle.mb_sqlite.specs.Committing.{KeepsCommitted};
 ghost use Rattle.mb_sqlite.specs.Creation.{are_named};

@@ -1,6 +1,6 @@
 // Why a step on the database fails.
 ghost use Rattle.std.specs.Prelude.{◌≡◌, ◌≤◌, Ok, IfErr, IfOk, IsErrOf, OnErr, OnOk};
-ghost use Rattle.base_values.specs.Counts.{Rose};
+ghost use Rattle.mb_sqlite.specs.Common.{Rose};
 ghost use Rattle.mb_sqlite.specs.Failing.{answer_of};
 
 use base_values::OutOfMemory;

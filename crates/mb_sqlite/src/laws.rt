@@ -1,7 +1,7 @@
 //! What definitions say of pages.
 ghost use Rattle.std.specs.Prelude.{ℤ, ◌++◌, List, Option};
 ghost use Rattle.sqlite_value.specs.Order as sql;
-ghost use Rattle.mb_tables.specs.declared.table.TableName.{TableName};
+ghost use Rattle.mb_sqlite.specs.Common.{TableName};
 ghost use Rattle.mb_sqlite.specs.Reading.{RisesTo};
 
 /// The `rowid`s of two pages in a row rise over both, so that no row is in both.

@@ -1,10 +1,6 @@
 // The tables of a layout, and the text that makes them.
 ghost use Rattle.std.specs.Prelude.{◌≡◌};
-ghost use Rattle.std.specs.List.{list_any};
-ghost use Rattle.std.specs.Option.{option_copied};
-ghost use Rattle.std.specs.Str.{bytes_eq};
-ghost use Rattle.mb_tables.specs.Schema.{set_tables};
-ghost use Rattle.mb_tables.specs.Described.{is_table};
+ghost use Rattle.mb_sqlite.specs.Common.{bytes_eq, is_table, list_any, option_copied, set_tables};
 ghost use Rattle.mb_sqlite.specs.Creation.{are_named, making_text};
 
 use crate::statements;

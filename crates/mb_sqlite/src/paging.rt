@@ -1,9 +1,7 @@
 // Reading a table page by page inside a transaction.
 ghost use Rattle.std.specs.Prelude.{◌≡◌, ◌≤◌, ◌+◌, true, All, IfOk, OnOk, drop, length, take};
-ghost use Rattle.std.specs.List.{AllZip};
-ghost use Rattle.sqlite_value.specs.Order.{column};
+ghost use Rattle.mb_sqlite.specs.Common.{AllZip, column, width};
 ghost use Rattle.sqlite_value.specs.declared.value.Value.TheVariants as sql;
-ghost use Rattle.mb_tables.specs.Table.{width};
 ghost use Rattle.mb_sqlite.specs.Committing.{CommitsNothing};
 ghost use Rattle.mb_sqlite.specs.Resting.{IfClean, KeepsInside, StaysInside};
 ghost use Rattle.mb_sqlite.specs.Reading.{ArePaged, AreShown, IsRowOf, RisesTo, is_above, sql_number};

@@ -1,9 +1,6 @@
 // Questions to the database inside a transaction.
 ghost use Rattle.std.specs.Prelude.{◌≡◌, Ok, IfOk, IfSome, OnOk, length};
-ghost use Rattle.sqlite.specs.Held.{state};
-ghost use Rattle.sqlite.specs.State.{QueriesRowInside, Shown};
-ghost use Rattle.sqlite.specs.Values.{bound};
-ghost use Rattle.mb_tables.specs.Table.{width};
+ghost use Rattle.mb_sqlite.specs.Common.{bound, QueriesRowInside, Shown, state, width};
 ghost use Rattle.mb_sqlite.specs.Committing.{CommitsNothing};
 ghost use Rattle.mb_sqlite.specs.Resting.{IfClean, KeepsInside, StaysInside};
 ghost use Rattle.mb_sqlite.specs.Reading.{IsCounted, IsFirst, IsFound};

@@ -1,6 +1,6 @@
 // Reading the database. Each call reads in a transaction that is rolled back, so that it commits nothing.
 ghost use Rattle.std.specs.Prelude.{◌≡◌, ◌≤◌, true, All, IfOk, IfSome, IsErrOf, OnErr, length};
-ghost use Rattle.mb_tables.specs.Table.{width};
+ghost use Rattle.mb_sqlite.specs.Common.{width};
 ghost use Rattle.mb_sqlite.specs.Committing.{CommitsNothing};
 ghost use Rattle.mb_sqlite.specs.Resting.{IdleRests, IfClean};
 ghost use Rattle.mb_sqlite.specs.Sizing.{IsLiveSize};

@@ -1,6 +1,6 @@
 // Cells of rows, and values of the database.
 ghost use Rattle.std.specs.Prelude.{◌≡◌, ◌≢◌, ◌+◌, ◌-◌, ◌^◌, IfOk, IfSome, IsSome, ◌↔◌, length, min};
-ghost use Rattle.mb_tables.specs.Table.{width};
+ghost use Rattle.mb_sqlite.specs.Common.{width};
 ghost use Rattle.sqlite_value.specs.Value.{owned};
 ghost use Rattle.mb_store.specs.Sizes.{cell_size};
 ghost use Rattle.mb_tables.specs.declared.cell.Cell as stored;

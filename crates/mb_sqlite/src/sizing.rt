@@ -1,8 +1,7 @@
 // How much the tables hold, inside a transaction.
 ghost use Rattle.std.specs.Prelude.{◌≡◌, ◌+◌, ◌-◌, ◌^◌, ◌==◌, List, IfOk, MatchBool, OnOk, drop, length, min, sum_by, take};
 ghost use Rattle.sqlite_value.specs.Order as sql;
-ghost use Rattle.mb_tables.specs.Described.{is_table};
-ghost use Rattle.mb_tables.specs.Schema.{set_tables};
+ghost use Rattle.mb_sqlite.specs.Common.{is_table, set_tables};
 ghost use Rattle.mb_sqlite.specs.Committing.{CommitsNothing};
 ghost use Rattle.mb_sqlite.specs.Reading.{AreRead, RisesTo};
 ghost use Rattle.mb_sqlite.specs.Resting.{IfClean, KeepsInside, StaysInside};

@@ -1,7 +1,6 @@
 // The statements that are run, one text for each table.
 ghost use Rattle.std.specs.Prelude.{◌≡◌};
-ghost use Rattle.std.specs.Option.{option_copied};
-ghost use Rattle.mb_tables.specs.declared.table.TableName.TheVariants.{Tiles, TilesWithHash};
+ghost use Rattle.mb_sqlite.specs.Common.{option_copied, Tiles, TilesWithHash};
 ghost use Rattle.mb_sqlite.specs.Creation.{creation_text, there_text, view_text};
 ghost use Rattle.mb_sqlite.specs.Statements.{addition_text, count_text, first_page_text, found_text, page_text, removal_text};
 

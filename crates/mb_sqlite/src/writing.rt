@@ -1,7 +1,6 @@
 // Writing the database. What a call changes is committed at once, or not at all.
 ghost use Rattle.std.specs.Prelude.{◌≡◌, false, true, IfOk, IsErrOf, OnErr, OnOk, option_copied};
-ghost use Rattle.std.specs.List.{AllZip};
-ghost use Rattle.sqlite.specs.Values.{bound};
+ghost use Rattle.mb_sqlite.specs.Common.{AllZip, bound};
 ghost use Rattle.mb_sqlite.specs.Committing.{CommitsNothing, CommitsOnce, KeepsCommitted};
 ghost use Rattle.mb_sqlite.specs.Making.{Adds, AreChanged, Changed, Commits, IsRun, Removes, begun};
 ghost use Rattle.mb_sqlite.specs.Resting.{IfClean, Rests, StaysInside};

@@ -1,21 +1,9 @@
 -- Changes stay one for each table and key, each row under its own.
-use Rattle.std.proofs.Common.{◌≡◌, ℕ, ◌<◌, ◌++◌, ◌∙◌, true, false, List, [], ◌∷◌, Option, Some, None, length, length-set, get_or, set, refl, sym, ap, subst, arith, Result, Ok, Err, inl, inr, ◌⊎◌}
-use Rattle.std.specs.Prelude.{AllPairs, OnOk, OnErr, position}
-use Rattle.std.specs.Ordering.{is_eq, nat_cmp}
-use Rattle.std.specs.Cmp.{IsEquivalence, eq_by_cmp_equiv, unsigned_ties, both_tied}
-use Rattle.std.proofs.lemmas.Bool.{cases_eq}
+use Rattle.mb_store.proofs.Common.{All-push, All-set, all_pairs_push, AllPairs, ap, AreChanges, arith, both_tied, cases_eq, Change, eq_by_cmp_equiv, Err, false, get_or, get_or-set_other}
+use Rattle.mb_store.proofs.Common.{get_or-set_same, get_or_default, inl, inr, is_eq, is_own, IsEquivalence, key_cmp, length, length-set, List, nat_cmp, None, none_passes, Ok, OnErr, OnOk, Option}
+use Rattle.mb_store.proofs.Common.{position, position-Some, refl, Result, same_key, set, Some, subst, sym, table_key_cmp, table_key_of, table_keys_total, table_number, true, unsigned_ties}
+use Rattle.mb_store.proofs.Common.{with_change, ℕ, [], ◌++◌, ◌<◌, ◌∙◌, ◌∷◌, ◌≡◌, ◌⊎◌}
 use Rattle.std.proofs.lemmas.Cmp.{on_total}
-use Rattle.std.proofs.lemmas.List.{get_or-set_same, get_or-set_other, get_or_default}
-use Rattle.std.proofs.lemmas.List.Elements.{All-push, All-set}
-use Rattle.std.proofs.lemmas.List.Quantifiers.{all_pairs_push, position-Some}
-use Rattle.mb_store.specs.Changes.{AreChanges, is_own, same_key, with_change}
-use Rattle.mb_store.specs.ChangeIndex.{table_key_of}
-use Rattle.mb_store.specs.TableKey.{table_keys_total}
-use Rattle.mb_tables.specs.Key.{key_cmp}
-use Rattle.mb_store.specs.TableKey.{table_key_cmp}
-use Rattle.mb_tables.specs.Table.{table_number}
-use Rattle.mb_tables.proofs.ListLemmas.{none_passes}
-use Rattle.mb_store.specs.declared.change.Change.{Change}
 
 -- what holds of all pairs still does with an element replaced by one that stands as it did
 pub AllPairs-set : {X : Type 0} (R : X → X → Type 0) (xs : List X) (i : ℕ) (y e : X) → i < length xs → ((x : X) → R (get_or xs i e) x → R y x) → ((x : X) → R x (get_or xs i e) → R x y) → AllPairs R xs → AllPairs R (set xs i y)

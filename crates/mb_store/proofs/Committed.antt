@@ -1,21 +1,8 @@
 -- What a commit leaves under the keys of its changes, under each other key, and of all rows.
-use Rattle.std.proofs.Common.{◌≡◌, ◌∙◌, ap, sym, subst, ℕ, ◌<◌, ◌&&◌, Option, Some, None, List, [], Bool, true, false, not, filter, find, refl, length, get_or, inl, inr}
-use Rattle.std.specs.Prelude.{All, IfSome, option_to_list}
-use Rattle.std.specs.List.{Any}
-use Rattle.std.proofs.lemmas.Bool.{false≢true, cases_Bool}
-use Rattle.std.proofs.lemmas.List.Elements.{All-nil, All-cons, All-filter, All-weaker}
-use Rattle.std.proofs.lemmas.List.Folds.{list_any_none, Any-from_list_any}
-use Rattle.mb_tables.specs.Cell.{cells_eq}
-use Rattle.mb_store.specs.Committing.{CommitsTable, is_changed}
-use Rattle.mb_tables.specs.Key.{has_key, key_cells}
-use Rattle.mb_tables.specs.Table.{key_of, table_eq}
-use Rattle.mb_tables.specs.declared.cell.Cell.{Cell}
-use Rattle.mb_store.specs.declared.change.Change.{Change}
-use Rattle.mb_tables.specs.declared.key.RowKey.{RowKey}
-use Rattle.mb_tables.specs.declared.table.TableName.{TableName}
-use Rattle.mb_tables.proofs.CellLemmas.{cells_eq-Decides}
+use Rattle.mb_store.proofs.Common.{All, All-cons, All-filter, All-nil, All-weaker, Any, Any-from_list_any, ap, Bool, cases_Bool, Cell, cells_eq, cells_eq-Decides, Change, CommitsTable, false}
+use Rattle.mb_store.proofs.Common.{false≢true, filter, filter_within, find, find_only, get_or, has_key, IfSome, inl, inr, is_changed, key_cells, key_of, length, List, list_any_none, None, not, Option}
+use Rattle.mb_store.proofs.Common.{option_to_list, refl, RowKey, Some, subst, sym, table_eq, TableName, true, ℕ, [], ◌&&◌, ◌<◌, ◌∙◌, ◌≡◌}
 use Rattle.mb_store.proofs.EditLemmas.{of_passed}
-use Rattle.mb_tables.proofs.ListLemmas.{filter_within, find_only}
 
 not_both : (a b : Bool) → (a ≡ true → b ≡ true → ⊥) → (a && b) ≡ false
 not_both true true f = absurd (f refl refl)

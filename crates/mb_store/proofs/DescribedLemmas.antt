@@ -1,20 +1,9 @@
 -- Descriptions that are added to others.
-use Rattle.std.proofs.Common.{◌≡◌, ℕ, ◌+◌, ◌<◌, ◌++◌, ◌∙◌, ◌&&◌, ◌||◌, Bool, true, false, not, cond, List, [], ◌∷◌, drop, drop-cons, length, get_or, refl, sym, ap, subst, add-one, inl, inr, ◌⊎◌}
-use Rattle.std.specs.List.{list_any}
-use Rattle.std.specs.Prelude.{AllPairs}
-use Rattle.std.specs.Str.{bytes_eq}
-use Rattle.std.proofs.lemmas.Bool.{false≢true, and_from, and_left, and_parts, cases_Bool}
-use Rattle.std.proofs.lemmas.List.Folds.{list_any-append}
+use Rattle.mb_store.proofs.Common.{add-one, AllPairs, AllPairs-nil, and_from, and_left, and_parts, ap, Bool, bytes_eq, cases_Bool, Cell, clash, cond, drop, drop-cons, false, false≢true, get_or, inl}
+use Rattle.mb_store.proofs.Common.{inr, is_key_index, is_keyed, is_table, is_table_kind, IsSound, length, List, list_any, list_any-append, names_apart, not, refl, subst, sym, table_text, TableDesc}
+use Rattle.mb_store.proofs.Common.{TableName, true, with_tables, ℕ, [], ◌&&◌, ◌++◌, ◌+◌, ◌<◌, ◌||◌, ◌∙◌, ◌∷◌, ◌≡◌, ◌⊎◌}
 use Rattle.std.proofs.lemmas.Slice.Eq.{bytes_eq-Decides}
-use Rattle.mb_tables.specs.Key.{clash}
-use Rattle.mb_tables.specs.Described.{is_key_index, is_keyed, is_table, is_table_kind, names_apart}
-use Rattle.mb_tables.specs.declared.cell.Cell.{Cell}
 use Rattle.mb_store.proofs.HeldLemmas.{tables_as}
-use Rattle.mb_store.specs.Store.{IsSound, with_tables}
-use Rattle.mb_tables.specs.Table.{table_text}
-use Rattle.mb_tables.specs.declared.description.TableDesc.{TableDesc}
-use Rattle.mb_tables.specs.declared.table.TableName.{TableName}
-use Rattle.mb_tables.proofs.ListLemmas.{AllPairs-nil}
 
 module _ (all added : List TableDesc) (i : ℕ) (item : TableDesc) (W : List TableDesc) (lt : i < length added) (at : item ≡ get_or added i item) (so_far : with_tables all (drop i added) ≡ W) where
   front : drop i added ≡ item ∷ drop (i + 1) added

@@ -1,35 +1,12 @@
 -- A table's stored rows while a commit is made.
-use Rattle.std.proofs.Common.{◌≡◌, ℕ, ◌+◌, ◌<◌, ◌≤◌, ◌++◌, Bool, true, false, not, cond, ◌&&◌, List, [], ◌∷◌, Option, Some, None, length, get_or, take, drop, length-take, length-drop, map, suc, ◌==◌, refl, sym, ◌∙◌, ap, subst, arith, add-one, append_assoc, drop-cons}
-use Rattle.std.specs.Prelude.{All, IfSome, find, nat_lt, option_to_list}
-use Rattle.std.specs.List.{list_any, filter}
-use Rattle.std.specs.BTreeMap.{is_at}
-use Rattle.std.specs.Set.{remove_key}
-use Rattle.std.specs.declared.cmp.Ordering.{Ordering}
-use Rattle.std.specs.declared.cmp.Ordering.TheVariants.{Less, Equal, Greater}
-use Rattle.std.specs.Cmp.{nat_cmp_total, tied_itself}
-use Rattle.std.specs.Ordering.{is_eq, nat_cmp, ordering_then}
-use Rattle.std.specs.Option.{option_map_or}
-use Rattle.std.proofs.lemmas.Bool.{false≢true, and_parts, eqb-true, le-ltb, lt-ltb}
-use Rattle.std.proofs.lemmas.List.{get_or_default, get_or-drop, get_or-take, take_all}
+use Rattle.mb_store.proofs.Common.{add-one, All, All-cons, All-filter, All-head, All-nil, All-push, All-tail, and_parts, ap, append_assoc, AreAdded, AreBeingAdded, AreChanges, AreStored, arith, Bool}
+use Rattle.mb_store.proofs.Common.{Cell, cells_cmp, cells_eq, cells_eq-Decides, Change, CommitsTable, cond, drop, drop-cons, early_rows, eqb-true, Equal, false, false≢true, filter, filter_every}
+use Rattle.mb_store.proofs.Common.{filter_none, filter_passes, find, get_or, get_or-drop, get_or-take, get_or_default, Greater, has_key, IfSome, is_at, is_changed, is_early, is_eq, is_own, key_cells}
+use Rattle.mb_store.proofs.Common.{key_of, keys_of, late_rows, le-ltb, length, length-drop, length-take, Less, List, list_any, list_any_at, lt-ltb, map, nat_cmp, nat_cmp_total, nat_lt, None, not}
+use Rattle.mb_store.proofs.Common.{Option, option_map_or, option_to_list, Ordering, ordering_then, other_rows, own_key, put_of, refl, remove_key, removed, rows_in, rows_of, same_key, same_table, Some}
+use Rattle.mb_store.proofs.Common.{Stored, stored_cmp, subst, suc, sym, table_eq, TableName, TableRows, take, take-suc, take_all, tied_itself, true, width, with_put, ℕ, [], ◌&&◌, ◌++◌, ◌+◌, ◌<◌, ◌==◌}
+use Rattle.mb_store.proofs.Common.{◌∙◌, ◌∷◌, ◌≡◌, ◌≤◌}
 use Rattle.std.proofs.lemmas.List.Filters.{length-filter_both}
-use Rattle.std.proofs.lemmas.List.Elements.{All-nil, All-cons, All-head, All-tail, All-push, All-filter, filter_passes}
-use Rattle.std.proofs.lemmas.List.Folds.{list_any_at}
-use Rattle.std.proofs.Math.Seq.{take-suc}
-use Rattle.mb_tables.specs.Cell.{cells_cmp, cells_eq}
-use Rattle.mb_tables.specs.Key.{has_key, key_cells}
-use Rattle.mb_tables.specs.Table.{key_of, table_eq, width}
-use Rattle.mb_tables.specs.declared.cell.Cell.{Cell}
-use Rattle.mb_tables.specs.declared.table.TableName.{TableName}
-use Rattle.mb_tables.proofs.CellLemmas.{cells_eq-Decides}
-use Rattle.mb_tables.proofs.TableLemmas.{same_table}
-use Rattle.mb_store.specs.Changes.{AreChanges, is_own, same_key}
-use Rattle.mb_store.specs.Committing.{CommitsTable, is_changed}
-use Rattle.mb_store.specs.Editing.{AreAdded, AreBeingAdded, early_rows, keys_of, late_rows, other_rows, put_of, removed, with_put}
-use Rattle.mb_store.specs.StoredRow.{Stored, is_early, own_key, rows_of, stored_cmp}
-use Rattle.mb_store.specs.TableRows.{AreStored, rows_in}
-use Rattle.mb_store.specs.declared.change.Change.{Change}
-use Rattle.mb_store.specs.declared.table_rows.TableRows.{TableRows}
-use Rattle.mb_tables.proofs.ListLemmas.{filter_every, filter_none}
 use Rattle.mb_store.proofs.StoredLemmas.{All-remove_key, filter-insert_key-in, filter-insert_key-out, filter-remove_key, found_is, found_passes, has_key_is}
 
 -- tests in a row

@@ -1,38 +1,11 @@
 -- What a store tells of gathered rows: where they are put, which are refused, and what stays.
-use Rattle.std.proofs.Common.{◌≡◌, ◌↔◌, ◌==◌, ℕ, Result, Ok, Err, ◌<◌, ◌^◌, ◌&&◌, ◌||◌, not, cond, Bool, true, false, List, [], ◌∷◌, ◌++◌, length, get_or, refl, sym, ◌∙◌, ap, subst, arith}
-use Rattle.std.specs.Prelude.{All}
-use Rattle.std.specs.declared.cmp.Ordering.{Ordering}
-use Rattle.std.specs.declared.cmp.Ordering.TheVariants.{Less, Equal, Greater}
-use Rattle.std.specs.Ordering.{eq_by_cmp, is_eq, nat_cmp, ordering_then}
-use Rattle.std.specs.Cmp.{both_ways, eq_by_cmp_equiv}
-use Rattle.std.specs.List.{AllByRecursion, list_any}
-use Rattle.std.specs.List.Sorted.{IsStrictlySortedBy}
-use Rattle.std.proofs.lemmas.Bool.{false≢true, and_from, and_parts, eqb-true, eq-eqb}
-use Rattle.std.proofs.lemmas.List.{length-map}
-use Rattle.std.proofs.lemmas.List.Elements.{All-cons, All-head, All-nil, All-tail, recursion_from_All}
-use Rattle.std.proofs.lemmas.List.Folds.{list_any-append}
-use Rattle.std.proofs.lemmas.List.Sorted.{length_permutation, list_any-IsPermutation}
-use Rattle.std.proofs.lemmas.Map.Keys.{IsDistinct-from_apart, IsDistinct-push, apart_from_distinct}
-use Rattle.mb_tables.specs.Cell.{cells_cmp, cells_eq, is_null}
-use Rattle.mb_tables.specs.Key.{IsInOrder, clash}
-use Rattle.mb_tables.specs.Table.{Tables, key_of, table_eq, width}
-use Rattle.mb_tables.specs.declared.cell.Cell.{Cell}
-use Rattle.mb_tables.specs.declared.description.TableDesc.{TableDesc}
-use Rattle.mb_tables.specs.declared.error.MbtError.{MbtError}
-use Rattle.mb_tables.specs.declared.error.MbtError.TheVariants.{DuplicateRow, OutOfMemory}
-use Rattle.mb_tables.specs.declared.table.TableName.{TableName}
-use Rattle.mb_tables.proofs.CellLemmas.{cells_eq-Decides}
-use Rattle.mb_store.specs.Errors.{RefusesTwice}
-use Rattle.mb_tables.proofs.TableLemmas.{same_table, table_eq-refl}
-use Rattle.mb_store.specs.ByTable.{at}
-use Rattle.mb_store.specs.Gathered.{AreSeen, Sees, gathered_at, same_numbers, told_at, told_tables}
-use Rattle.mb_store.specs.GatheredRows.{AreFirst, all_rows, has_own}
-use Rattle.mb_store.specs.MemTables.{MemTables, rows_at, tables_of}
-use Rattle.mb_store.specs.Store.{no_rows, placed, with_rows}
-use Rattle.mb_store.specs.StoredRow.{Stored, numbers_cells, own_key, rows_of, stored_cmp, stored_total}
-use Rattle.mb_store.specs.TableRows.{AreStored}
-use Rattle.mb_store.specs.declared.gathered.Gathered.{Gathered}
-use Rattle.mb_store.specs.declared.table_rows.TableRows.{TableRows}
+use Rattle.mb_store.proofs.Common.{All, All-cons, All-head, All-nil, All-tail, all_rows, AllByRecursion, and_from, and_parts, ap, apart_from_distinct, AreFirst, AreSeen, AreStored, arith, at, Bool}
+use Rattle.mb_store.proofs.Common.{both_ways, Cell, cells_cmp, cells_eq, cells_eq-Decides, clash, cond, DuplicateRow, eq-eqb, eq_by_cmp, eq_by_cmp_equiv, eqb-true, Equal, Err, false, false≢true}
+use Rattle.mb_store.proofs.Common.{Gathered, gathered_at, get_or, Greater, has_own, is_eq, is_null, IsDistinct-from_apart, IsDistinct-push, IsInOrder, IsStrictlySortedBy, key_of, length, length-map}
+use Rattle.mb_store.proofs.Common.{length_permutation, Less, List, list_any, list_any-append, list_any-IsPermutation, MbtError, MemTables, nat_cmp, no_rows, not, numbers_cells, Ok, Ordering}
+use Rattle.mb_store.proofs.Common.{ordering_then, OutOfMemory, own_key, placed, recursion_from_All, refl, RefusesTwice, Result, rows_at, rows_of, same_numbers, same_table, Sees, Stored, stored_cmp}
+use Rattle.mb_store.proofs.Common.{stored_total, subst, sym, table_eq, table_eq-refl, TableDesc, TableName, TableRows, Tables, tables_of, told_at, told_tables, true, width, with_rows, ℕ, [], ◌&&◌}
+use Rattle.mb_store.proofs.Common.{◌++◌, ◌<◌, ◌==◌, ◌^◌, ◌||◌, ◌↔◌, ◌∙◌, ◌∷◌, ◌≡◌}
 use Rattle.mb_store.proofs.PushLemmas.{any_tested, clash_single}
 use Rattle.mb_store.proofs.RowsPut.{AreApart, all_permuted, all_sorted, last_placed, none_passes}
 use Rattle.mb_store.proofs.StoredLemmas.{All-insert_key, own_is, placed_in, rows_ordered}

@@ -1,29 +1,8 @@
 -- What calls on the ordered and the gathered rows make of all that is told.
-use Rattle.std.proofs.Common.{◌≡◌, ℕ, ◌<◌, ◌^◌, ◌&&◌, ◌||◌, cond, Bool, true, false, List, [], ◌∷◌, ◌++◌, length, get_or, refl, sym, ◌∙◌, ap, subst, arith, Result, Ok, Err}
-use Rattle.std.specs.Prelude.{All, OnErr, OnOk}
-use Rattle.std.specs.declared.cmp.Ordering.{Ordering}
-use Rattle.std.specs.declared.cmp.Ordering.TheVariants.{Less, Equal, Greater}
-use Rattle.std.specs.Ordering.{is_eq, match_ordering, nat_cmp, ordering_then}
-use Rattle.std.specs.BTreeSet.{insert_key}
-use Rattle.std.specs.List.{list_any}
-use Rattle.std.proofs.lemmas.List.Elements.{recursion_from_All}
-use Rattle.mb_tables.specs.Cell.{cells_cmp, cells_eq}
-use Rattle.mb_tables.specs.Key.{clash}
-use Rattle.mb_tables.specs.Table.{key_of, table_eq, width}
-use Rattle.mb_tables.specs.declared.cell.Cell.{Cell}
-use Rattle.mb_tables.specs.declared.error.MbtError.{MbtError}
-use Rattle.mb_tables.specs.declared.table.TableName.{TableName}
-use Rattle.mb_tables.proofs.CellLemmas.{cells_eq-Decides}
-use Rattle.mb_tables.proofs.TableLemmas.{same_table, table_eq-refl}
-use Rattle.mb_store.specs.ByTable.{at}
-use Rattle.mb_store.specs.Errors.{RefusesTwice}
-use Rattle.mb_store.specs.Gathered.{AreSeen, gathered_at, told_at}
-use Rattle.mb_store.specs.GatheredRows.{AreFirst, all_rows, has_own}
-use Rattle.mb_store.specs.MemTables.{AreAllStored, MemTables, rows_at}
-use Rattle.mb_store.specs.Store.{placed, with_rows}
-use Rattle.mb_store.specs.StoredRow.{Stored, numbers_cells, own_key, rows_of, stored_cmp}
-use Rattle.mb_store.specs.TableRows.{AreStored, has_equal}
-use Rattle.mb_store.specs.declared.gathered.Gathered.{Gathered}
+use Rattle.mb_store.proofs.Common.{All, all_rows, ap, AreAllStored, AreFirst, AreSeen, AreStored, arith, at, Bool, Cell, cells_cmp, cells_eq, cells_eq-Decides, clash, cond, Equal, Err, false}
+use Rattle.mb_store.proofs.Common.{Gathered, gathered_at, get_or, Greater, has_equal, has_own, insert_key, is_eq, key_of, length, Less, List, list_any, match_ordering, MbtError, MemTables, nat_cmp}
+use Rattle.mb_store.proofs.Common.{numbers_cells, Ok, OnErr, OnOk, Ordering, ordering_then, own_key, placed, recursion_from_All, refl, RefusesTwice, Result, rows_at, rows_of, same_table, Stored}
+use Rattle.mb_store.proofs.Common.{stored_cmp, subst, sym, table_eq, table_eq-refl, TableName, told_at, true, width, with_rows, ℕ, [], ◌&&◌, ◌++◌, ◌<◌, ◌^◌, ◌||◌, ◌∙◌, ◌∷◌, ◌≡◌}
 use Rattle.mb_store.proofs.GatheredLemmas.{all_hold, clash_among, new_is, told_count, told_other, told_own, told_pushed, told_settled, told_still}
 use Rattle.mb_store.proofs.PushLemmas.{any_tested}
 use Rattle.mb_store.proofs.StoredLemmas.{own_is, stored_count}

@@ -1,28 +1,8 @@
 -- What stays of a store's tables and of the rows that are gathered.
-use Rattle.std.proofs.Common.{◌≡◌, ◌<◌, ◌≤◌, ◌^◌, ◌&&◌, List, [], Bool, true, false, length, refl, sym, ◌∙◌, ap, subst, arith, Result, Ok, Err}
-use Rattle.std.specs.Prelude.{All, AllPairs, OnErr, OnOk}
-use Rattle.std.specs.List.{list_any}
-use Rattle.std.proofs.lemmas.Bool.{false≢true, and_from}
-use Rattle.std.proofs.lemmas.List.Elements.{All-nil}
-use Rattle.std.proofs.lemmas.List.Sums.{prefix_len-le-length}
-use Rattle.mb_tables.specs.Described.{is_keyed, is_table, names_apart}
-use Rattle.mb_tables.specs.Key.{clash}
-use Rattle.mb_tables.specs.Table.{Tables, width}
-use Rattle.mb_tables.specs.declared.cell.Cell.{Cell}
-use Rattle.mb_tables.specs.declared.description.TableDesc.{TableDesc}
-use Rattle.mb_tables.specs.declared.error.MbtError.{MbtError}
-use Rattle.mb_tables.specs.declared.error.MbtError.TheVariants.{DuplicateRow}
-use Rattle.mb_tables.specs.declared.table.TableName.{TableName}
-use Rattle.mb_tables.proofs.ListLemmas.{AllPairs-nil}
-use Rattle.mb_store.specs.Errors.{RefusesTwice}
-use Rattle.mb_store.specs.Gathered.{AreGathered, IsHeld, told_at, told_tables}
-use Rattle.mb_store.specs.GatheredRows.{AreFirst}
-use Rattle.mb_store.specs.MemTables.{AreAllStored, IsKept, MemTables, rows_at, tables_of}
-use Rattle.mb_store.specs.Store.{IsSound, place_for, placed, with_rows}
-use Rattle.mb_store.specs.StoredRow.{Stored}
-use Rattle.mb_store.specs.Committing.{Commits, CommitsTable}
-use Rattle.mb_store.specs.declared.change.Change.{Change}
-use Rattle.mb_store.specs.declared.gathered.Gathered.{Gathered}
+use Rattle.mb_store.proofs.Common.{All, All-nil, AllPairs, AllPairs-nil, and_from, ap, AreAllStored, AreFirst, AreGathered, arith, Bool, Cell, Change, clash, Commits, CommitsTable, DuplicateRow, Err}
+use Rattle.mb_store.proofs.Common.{false, false≢true, Gathered, is_keyed, is_table, IsHeld, IsKept, IsSound, length, List, list_any, MbtError, MemTables, names_apart, Ok, OnErr, OnOk, place_for}
+use Rattle.mb_store.proofs.Common.{placed, prefix_len-le-length, refl, RefusesTwice, Result, rows_at, Stored, subst, sym, TableDesc, TableName, Tables, tables_of, told_at, told_tables, true, width}
+use Rattle.mb_store.proofs.Common.{with_rows, [], ◌&&◌, ◌<◌, ◌^◌, ◌∙◌, ◌≡◌, ◌≤◌}
 use Rattle.mb_store.proofs.GatheredLemmas.{tables_none, tables_settled, told_settled}
 use Rattle.mb_store.proofs.Kept.{apart-insert}
 use Rattle.mb_store.proofs.Ordered.{All-insert}

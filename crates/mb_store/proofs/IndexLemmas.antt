@@ -1,22 +1,9 @@
 -- The index of changes, and what a change does to it.
-use Rattle.std.proofs.Common.{◌≡◌, ℕ, ◌<◌, ◌+◌, ◌==◌, ◌++◌, ◌∙◌, Bool, true, false, not, cond, List, [], ◌∷◌, Option, Some, None, length, length-set, length-append, get_or, set, refl, sym, ap, arith, inl, inr, ◌⊎◌}
-use Rattle.std.specs.Prelude.{position, nat_lt}
-use Rattle.std.specs.BTreeMap.{BTreeMap, get}
-use Rattle.std.specs.List.{position_or_len}
-use Rattle.std.specs.Ordering.{is_eq, eq_by_cmp}
-use Rattle.std.specs.Cmp.{IsEquivalence, eq_by_cmp_equiv}
-use Rattle.std.proofs.lemmas.Bool.{cases_Bool, cases_eq, eq-eqb, ne_eqb, lt-ltb, le-ltb}
-use Rattle.std.proofs.lemmas.List.Folds.{position_or_len-set, position_or_len_push}
-use Rattle.std.proofs.lemmas.List.Sums.{position_or_len_is, prefix_len-le-length}
-use Rattle.std.proofs.lemmas.List.Quantifiers.{position-Some}
-use Rattle.mb_store.specs.Changes.{same_key, with_change}
-use Rattle.mb_store.specs.ChangeIndex.{IsIndex, table_key_of}
-use Rattle.mb_store.specs.TableKey.{table_keys_total}
-use Rattle.mb_store.specs.TableKey.{table_key_cmp}
-use Rattle.mb_store.specs.declared.change.Change.{Change}
-use Rattle.mb_store.specs.declared.table_key.TableKey.{TableKey}
+use Rattle.mb_store.proofs.Common.{ap, arith, Bool, BTreeMap, cases_Bool, cases_eq, Change, cond, eq-eqb, eq_by_cmp, eq_by_cmp_equiv, false, get, get_or, inl, inr, is_eq, IsEquivalence, IsIndex}
+use Rattle.mb_store.proofs.Common.{le-ltb, length, length-append, length-set, List, lt-ltb, nat_lt, ne_eqb, None, none_passes, not, Option, position, position-Some, position_or_len}
+use Rattle.mb_store.proofs.Common.{position_or_len-set, position_or_len_is, position_or_len_push, prefix_len-le-length, refl, same_key, set, Some, sym, table_key_cmp, table_key_of, table_keys_total}
+use Rattle.mb_store.proofs.Common.{TableKey, true, with_change, ℕ, [], ◌++◌, ◌+◌, ◌<◌, ◌==◌, ◌∙◌, ◌∷◌, ◌≡◌, ◌⊎◌}
 use Rattle.mb_store.proofs.ChangeLemmas.{same_key-cmp, same_keys}
-use Rattle.mb_tables.proofs.ListLemmas.{none_passes}
 
 keys_equiv : IsEquivalence (eq_by_cmp table_key_cmp)
 keys_equiv = eq_by_cmp_equiv table_keys_total

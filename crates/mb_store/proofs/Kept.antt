@@ -1,18 +1,6 @@
 -- What stays of the tables in memory when rows are added.
-use Rattle.std.proofs.Common.{◌≡◌, ℕ, ◌<◌, ◌≤◌, ◌^◌, ◌&&◌, not, List, Bool, true, false, length, get_or, refl, sym, ◌∙◌, subst, arith}
-use Rattle.std.specs.Prelude.{All, AllPairs, insert}
-use Rattle.std.specs.List.{list_any}
-use Rattle.std.proofs.lemmas.Bool.{and_parts, and_from}
-use Rattle.std.proofs.lemmas.List.Folds.{list_any_at}
-use Rattle.mb_tables.specs.declared.cell.Cell.{Cell}
-use Rattle.mb_tables.specs.declared.description.TableDesc.{TableDesc}
-use Rattle.mb_tables.specs.declared.table.TableName.{TableName}
-use Rattle.mb_tables.specs.Cell.{cells_eq, is_null}
-use Rattle.mb_tables.specs.Table.{key_of, width}
-use Rattle.mb_tables.specs.Key.{clash}
-use Rattle.mb_store.specs.MemTables.{AreAllStored, IsKept, MemTables, rows_at}
-use Rattle.mb_tables.proofs.CellLemmas.{cells_eq-Decides}
-use Rattle.mb_store.specs.ByTable.{at}
+use Rattle.mb_store.proofs.Common.{All, AllPairs, and_from, and_parts, AreAllStored, arith, at, Bool, Cell, cells_eq, cells_eq-Decides, clash, false, get_or, insert, is_null, IsKept, key_of, length}
+use Rattle.mb_store.proofs.Common.{List, list_any, list_any_at, MemTables, not, refl, rows_at, subst, sym, TableDesc, TableName, true, width, ℕ, ◌&&◌, ◌<◌, ◌^◌, ◌∙◌, ◌≡◌, ◌≤◌}
 use Rattle.mb_store.proofs.Ordered.{AllPairs-insert}
 
 -- two rows clash either way round

@@ -1,25 +1,8 @@
 -- What stays of the tables in memory after a commit.
-use Rattle.std.proofs.Common.{◌≡◌, ℕ, ◌<◌, ◌&&◌, ◌∙◌, List, [], ◌∷◌, Option, Some, None, Bool, true, false, not, cond, filter, length, get_or, sym, ap, subst, refl, arith, zero, suc, Result, Ok, Err}
-use Rattle.std.specs.Prelude.{All, AllPairs, OnErr, OnOk, option_to_list}
-use Rattle.std.specs.List.{Any, list_any}
-use Rattle.std.proofs.lemmas.Bool.{false≢true, and_parts}
-use Rattle.std.proofs.lemmas.List.Elements.{All-weaker}
-use Rattle.std.proofs.lemmas.List.Folds.{Any-from_list_any, list_any_none}
-use Rattle.std.proofs.lemmas.List.Kept.{AllPairs-filter}
-use Rattle.mb_tables.specs.Cell.{cells_eq, is_null}
-use Rattle.mb_tables.specs.Described.{is_table}
-use Rattle.mb_tables.specs.Key.{clash, has_key, key_cells}
-use Rattle.mb_tables.specs.Table.{key_of, table_eq}
-use Rattle.mb_tables.specs.declared.cell.Cell.{Cell}
-use Rattle.mb_tables.specs.declared.description.TableDesc.{TableDesc}
-use Rattle.mb_tables.specs.declared.table.TableName.{TableName}
-use Rattle.mb_tables.proofs.CellLemmas.{cells_eq-Decides}
-use Rattle.mb_tables.proofs.TableLemmas.{same_table}
-use Rattle.mb_store.specs.ByTable.{at}
-use Rattle.mb_store.specs.Committing.{AreOfTables, CommitsTable, is_changed}
-use Rattle.mb_store.specs.MemTables.{AreAllStored, IsKept, MemTables, rows_at}
-use Rattle.mb_store.specs.declared.change.Change.{Change}
-use Rattle.mb_tables.proofs.ListLemmas.{AllPairs-head, AllPairs-tail, filter_every}
+use Rattle.mb_store.proofs.Common.{All, All-weaker, AllPairs, AllPairs-filter, AllPairs-head, AllPairs-tail, and_parts, Any, Any-from_list_any, ap, AreAllStored, AreOfTables, arith, at, Bool, Cell}
+use Rattle.mb_store.proofs.Common.{cells_eq, cells_eq-Decides, Change, clash, CommitsTable, cond, Err, false, false≢true, filter, filter_every, get_or, has_key, is_changed, is_null, is_table, IsKept}
+use Rattle.mb_store.proofs.Common.{key_cells, key_of, length, List, list_any, list_any_none, MemTables, None, not, Ok, OnErr, OnOk, Option, option_to_list, refl, Result, rows_at, same_table, Some}
+use Rattle.mb_store.proofs.Common.{subst, suc, sym, table_eq, TableDesc, TableName, true, zero, ℕ, [], ◌&&◌, ◌<◌, ◌∙◌, ◌∷◌, ◌≡◌}
 use Rattle.mb_store.proofs.EditLemmas.{of_passed}
 use Rattle.mb_store.proofs.Kept.{kept_same}
 use Rattle.mb_store.proofs.StoredLemmas.{stored_count, stored_widths}

@@ -1,3 +1,4 @@
+mod Common
 pub mod Ordered
 pub mod WithRows
 pub mod Placed

@@ -1,12 +1,7 @@
 -- Lists in a total order: where an element goes, and whether it has an equal.
-use Rattle.std.proofs.Common.{◌≡◌, ℕ, ◌+◌, ◌-◌, ◌<◌, ◌≤◌, Bool, true, false, ◌&&◌, List, [], ◌∷◌, length, get_or, ◌||◌, refl, sym, ◌∙◌, ap, subst, arith, inl, inr}
-use Rattle.std.specs.declared.cmp.Ordering.{Ordering}
-use Rattle.std.specs.declared.cmp.Ordering.TheVariants.{Less, Equal, Greater}
-use Rattle.std.specs.Ordering.{is_gt, ordering_reverse}
-use Rattle.std.specs.Cmp.{IsTotalOrder, upto, tied_itself}
-use Rattle.std.specs.List.{All, AllPairs, insert, list_any, position_or_len}
-use Rattle.std.proofs.lemmas.Bool.{false≢true, cases_lt, cases_eq}
-use Rattle.std.proofs.lemmas.List.Sums.{fails_before_first, passes_at_first, prefix_len-le-length}
+use Rattle.mb_store.proofs.Common.{All, AllPairs, ap, arith, Bool, cases_eq, cases_lt, Equal, fails_before_first, false, false≢true, get_or, Greater, inl, inr, insert, is_gt, IsTotalOrder, length}
+use Rattle.mb_store.proofs.Common.{Less, List, list_any, Ordering, ordering_reverse, passes_at_first, position_or_len, prefix_len-le-length, refl, subst, sym, tied_itself, true, upto, ℕ, [], ◌&&◌}
+use Rattle.mb_store.proofs.Common.{◌+◌, ◌-◌, ◌<◌, ◌||◌, ◌∙◌, ◌∷◌, ◌≡◌, ◌≤◌}
 use Rattle.std.proofs.lemmas.List.Edits.{length-insert, get_or-insert_below, get_or-insert_at, get_or-insert_above}
 
 related : {X : Type 0} (R : X → X → Type 0) (a b p q : X) → a ≡ p → b ≡ q → R p q → R a b

@@ -1,10 +1,6 @@
 -- Elements added one after another to a list, each before the first greater one.
-use Rattle.std.proofs.Common.{◌≡◌, ℕ, ◌+◌, true, false, not, cond, List, [], ◌∷◌, fold, ◌∙◌, ap, arith, suc, sum_by}
-use Rattle.std.specs.declared.cmp.Ordering.{Ordering}
-use Rattle.std.specs.Ordering.{is_gt}
-use Rattle.std.specs.Cmp.{IsTotalOrder}
-use Rattle.std.specs.List.{All, AllPairs, insert, position_or_len}
-use Rattle.std.proofs.lemmas.List.Sums.{sum_by-cons, sum_by-insert}
+use Rattle.mb_store.proofs.Common.{All, AllPairs, ap, arith, cond, false, fold, insert, is_gt, IsTotalOrder, List, not, Ordering, position_or_len, suc, sum_by, sum_by-cons, sum_by-insert, true, ℕ, []}
+use Rattle.mb_store.proofs.Common.{◌+◌, ◌∙◌, ◌∷◌, ◌≡◌}
 use Rattle.mb_store.proofs.Ordered.{up-insert}
 
 module _ {X : Type 0} (R : X → X → Ordering) where

@@ -1,26 +1,7 @@
 -- Rows that are pushed: whether one has their key, and what stands afterwards.
-use Rattle.std.proofs.Common.{◌≡◌, ◌↔◌, ℕ, ◌<◌, ◌≤◌, Bool, true, false, not, ◌&&◌, ◌||◌, List, [], ◌∷◌, Result, Err, length, get_or, refl, sym, ◌∙◌, ap, arith}
-use Rattle.std.specs.Prelude.{All, find, is_some, IsErrOf}
-use Rattle.std.specs.BTreeMap.{is_at}
-use Rattle.std.specs.BTreeSet.{insert_key}
-use Rattle.std.specs.List.{list_any}
-use Rattle.std.specs.declared.cmp.Ordering.{Ordering}
-use Rattle.std.specs.declared.cmp.Ordering.TheVariants.{Less, Equal, Greater}
-use Rattle.std.specs.Ordering.{is_eq, nat_cmp, ordering_then}
-use Rattle.std.proofs.lemmas.Bool.{false≢true}
-use Rattle.std.proofs.lemmas.List.Elements.{All-head, All-tail}
-use Rattle.std.proofs.lemmas.List.Folds.{list_any_at}
-use Rattle.mb_tables.specs.Cell.{cells_cmp, cells_eq, is_null}
-use Rattle.mb_tables.specs.Key.{clash}
-use Rattle.mb_tables.specs.Table.{key_of, width}
-use Rattle.mb_tables.specs.declared.cell.Cell.{Cell}
-use Rattle.mb_tables.specs.declared.error.MbtError.{MbtError}
-use Rattle.mb_tables.specs.declared.error.MbtError.TheVariants.{DuplicateRow}
-use Rattle.mb_tables.specs.declared.table.TableName.{TableName}
-use Rattle.mb_store.specs.Store.{placed}
-use Rattle.mb_store.specs.StoredRow.{Stored, is_early, own_key, rows_of, stored_cmp}
-use Rattle.mb_store.specs.TableRows.{AreStored, has_equal, rows_in}
-use Rattle.mb_store.specs.declared.table_rows.TableRows.{TableRows}
+use Rattle.mb_store.proofs.Common.{All, All-head, All-tail, ap, AreStored, arith, Bool, Cell, cells_cmp, cells_eq, clash, DuplicateRow, Equal, Err, false, false≢true, find, get_or, Greater, has_equal}
+use Rattle.mb_store.proofs.Common.{insert_key, is_at, is_early, is_eq, is_null, is_some, IsErrOf, key_of, length, Less, List, list_any, list_any_at, MbtError, nat_cmp, not, Ordering, ordering_then}
+use Rattle.mb_store.proofs.Common.{own_key, placed, refl, Result, rows_in, rows_of, Stored, stored_cmp, sym, TableName, TableRows, true, width, ℕ, [], ◌&&◌, ◌<◌, ◌||◌, ◌↔◌, ◌∙◌, ◌∷◌, ◌≡◌, ◌≤◌}
 use Rattle.mb_store.proofs.Ordered.{list_any-and}
 use Rattle.mb_store.proofs.StoredLemmas.{any_among, early_is, own_is, placed_in}
 

@@ -1,9 +1,5 @@
 -- Rows that are read one after another.
-use Rattle.std.proofs.Common.{◌≡◌, ℕ, ◌-◌, ◌<◌, ◌++◌, List, [], ◌∷◌, suc, take, drop, append_assoc, append-nil, sym, ◌∙◌, ap, arith}
-use Rattle.std.proofs.Math.Seq.{take-nil}
-use Rattle.std.proofs.lemmas.List.{drop-map}
-use Rattle.mb_tables.specs.declared.cell.Cell.{Cell}
-use Rattle.mb_store.specs.StoredRow.{Stored, rows_of}
+use Rattle.mb_store.proofs.Common.{ap, append-nil, append_assoc, arith, Cell, drop, drop-map, List, rows_of, Stored, suc, sym, take, take-nil, ℕ, [], ◌++◌, ◌-◌, ◌<◌, ◌∙◌, ◌∷◌, ◌≡◌}
 
 -- one more row of a page
 pub page_next : (page : List (List Cell)) (left : ℕ) (row : List Cell) (old rest all : List (List Cell)) → 0 < left → old ≡ row ∷ rest → page ++ take left old ≡ all → (page ++ row ∷ []) ++ take (left - 1) rest ≡ all

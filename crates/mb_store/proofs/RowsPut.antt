@@ -1,19 +1,9 @@
 -- Rows put into ordered rows: their order, their number, and that a sorted list of them is what they make.
-use Rattle.std.proofs.Common.{◌≡◌, ℕ, ◌+◌, ◌<◌, ◌||◌, Bool, false, List, [], ◌∷◌, ◌++◌, length, get_or, refl, sym, ◌∙◌, ap, subst, arith, inl, inr, zero, suc}
-use Rattle.std.specs.Prelude.{◌⊎◌}
-use Rattle.std.specs.declared.cmp.Ordering.{Ordering}
-use Rattle.std.specs.declared.cmp.Ordering.TheVariants.{Less, Equal, Greater}
-use Rattle.std.specs.Ordering.{eq_by_cmp, is_eq, is_lt, match_ordering, ordering_reverse}
-use Rattle.std.specs.Cmp.{IsTotalOrder, eq_by_cmp_equiv, tied_itself}
-use Rattle.std.specs.BTreeSet.{insert_key}
-use Rattle.std.specs.List.{All, AllByRecursion, AllPairs, Contains, IsDistinct, list_any}
-use Rattle.std.specs.List.Sorted.{IsPermutation, IsSorted, IsStrictlySortedBy}
-use Rattle.std.proofs.lemmas.Bool.{false≢true}
-use Rattle.std.proofs.lemmas.List.Elements.{All-contains_itself, All-head}
-use Rattle.std.proofs.lemmas.List.Sorted.{All-permutation, IsPermutation-refl, IsPermutation-cons, IsPermutation-middle, IsPermutation-sym, IsPermutation-trans, list_any-IsPermutation}
-use Rattle.std.proofs.lemmas.Map.Keys.{IsDistinct-IsPermutation, IsDistinct-from_apart, apart_from_distinct, sorted_from_all_adjacent}
-use Rattle.mb_store.specs.GatheredRows.{all_rows}
-use Rattle.mb_store.specs.StoredRow.{Stored, stored_cmp, stored_total}
+use Rattle.mb_store.proofs.Common.{All, All-contains_itself, All-head, All-permutation, all_rows, AllByRecursion, AllPairs, ap, apart_from_distinct, arith, Bool, Contains, eq_by_cmp, eq_by_cmp_equiv}
+use Rattle.mb_store.proofs.Common.{Equal, false, false≢true, get_or, Greater, inl, inr, insert_key, is_eq, is_lt, IsDistinct, IsDistinct-from_apart, IsDistinct-IsPermutation, IsPermutation}
+use Rattle.mb_store.proofs.Common.{IsPermutation-cons, IsPermutation-middle, IsPermutation-refl, IsPermutation-sym, IsPermutation-trans, IsSorted, IsStrictlySortedBy, IsTotalOrder, length, Less, List}
+use Rattle.mb_store.proofs.Common.{list_any, list_any-IsPermutation, match_ordering, Ordering, ordering_reverse, refl, sorted_from_all_adjacent, Stored, stored_cmp, stored_total, subst, suc, sym}
+use Rattle.mb_store.proofs.Common.{tied_itself, zero, ℕ, [], ◌++◌, ◌+◌, ◌<◌, ◌||◌, ◌∙◌, ◌∷◌, ◌≡◌, ◌⊎◌}
 
 -- a key beside the first of others, by their order
 abbrev beside : {K : Type 0} → (K → K → Ordering) → Ordering → K → K → List K → List K

@@ -1,35 +1,13 @@
 -- Stored rows: where a new one goes, which is found first, and the order of all.
-use Rattle.std.proofs.Common.{◌≡◌, ℕ, ◌+◌, ◌<◌, ◌≤◌, ◌^◌, Bor, Bool, true, false, not, cond, ◌&&◌, ◌||◌, List, [], ◌∷◌, Option, Some, None, length, get_or, take, refl, sym, ◌∙◌, ap, subst, arith}
-use Rattle.std.specs.Prelude.{All, IfSome, find, is_some, nat_lt}
+use Rattle.mb_store.proofs.Common.{All, All-cons, All-head, All-nil, All-tail, AllByRecursion, AllPairs-cons, AllPairs-nil, ap, AreStored, arith, Bool, Bor, Cell, cells_cmp, cond, Equal, false}
+use Rattle.mb_store.proofs.Common.{false≢true, filter, filter_agree, find, get_or, Greater, has_key, IfSome, Images, insert_key, is_early, is_eq, is_gt, is_le, is_some, IsInOrder, IsStrictlySortedBy}
+use Rattle.mb_store.proofs.Common.{IsTotalOrder, key_cells, key_of, length, length-map, Less, List, list_any, lists_of_cells_total, lt-ltb, Map, match_ordering, Metadata, nat_cmp, nat_lt, None, not}
+use Rattle.mb_store.proofs.Common.{Option, option_copied, option_map, Ordering, ordering_reverse, ordering_then, own_key, placed, refl, remove_key, row_cmp, RowKey, rows_in, rows_of, Some, Stored}
+use Rattle.mb_store.proofs.Common.{stored_cmp, subst, sym, TableName, TableRows, take, TileCache, Tiles, TilesData, TilesShallow, TilesWithHash, true, width, ℕ, [], ◌&&◌, ◌+◌, ◌<◌, ◌^◌, ◌||◌, ◌∙◌}
+use Rattle.mb_store.proofs.Common.{◌∷◌, ◌≡◌, ◌≤◌}
 use Rattle.std.specs.BTreeMap.Range.{range_contains}
-use Rattle.std.specs.BTreeSet.{insert_key}
 use Rattle.std.specs.declared.ops.Bound.TheVariants.{Included, Unbounded}
-use Rattle.std.specs.Set.{remove_key}
-use Rattle.std.specs.List.{list_any, filter, AllByRecursion}
-use Rattle.std.specs.List.Sorted.{IsStrictlySortedBy}
-use Rattle.std.specs.Option.{option_copied, option_map}
-use Rattle.std.specs.declared.cmp.Ordering.{Ordering}
-use Rattle.std.specs.declared.cmp.Ordering.TheVariants.{Less, Equal, Greater}
-use Rattle.std.specs.Ordering.{is_eq, is_gt, is_le, match_ordering, nat_cmp, ordering_reverse, ordering_then}
-use Rattle.std.specs.Cmp.{IsTotalOrder}
-use Rattle.std.proofs.lemmas.Bool.{false≢true, lt-ltb}
-use Rattle.std.proofs.lemmas.List.Elements.{All-nil, All-cons, All-head, All-tail, filter_agree}
-use Rattle.std.proofs.lemmas.List.{length-map}
-use Rattle.std.proofs.lemmas.List.Kept.{AllPairs-cons}
-use Rattle.mb_tables.specs.Cell.{cells_cmp}
-use Rattle.mb_tables.specs.Key.{IsInOrder, has_key, key_cells, row_cmp}
-use Rattle.mb_tables.specs.declared.key.RowKey.{RowKey}
 use Rattle.mb_tables.specs.declared.key.RowKey.TheVariants.{Tile, TextId, IntId}
-use Rattle.mb_tables.specs.Table.{key_of, width}
-use Rattle.mb_tables.specs.declared.cell.Cell.{Cell}
-use Rattle.mb_tables.specs.declared.table.TableName.{TableName}
-use Rattle.mb_tables.specs.declared.table.TableName.TheVariants.{Tiles, TilesWithHash, Map, Images, TilesShallow, TilesData, TileCache, Metadata}
-use Rattle.mb_tables.proofs.CellLemmas.{lists_of_cells_total}
-use Rattle.mb_store.specs.Store.{placed}
-use Rattle.mb_store.specs.StoredRow.{Stored, is_early, own_key, rows_of, stored_cmp}
-use Rattle.mb_store.specs.TableRows.{AreStored, rows_in}
-use Rattle.mb_store.specs.declared.table_rows.TableRows.{TableRows}
-use Rattle.mb_tables.proofs.ListLemmas.{AllPairs-nil}
 use Rattle.mb_store.proofs.Placed.{before_greater, behind_others}
 
 -- a row as wide as its table has its table's key

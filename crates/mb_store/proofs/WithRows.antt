@@ -1,10 +1,5 @@
 -- The rows of one table beside those of the others.
-use Rattle.std.proofs.Common.{◌≡◌, cond, List, Bool, true, false, refl, sym, ap, subst}
-use Rattle.mb_tables.specs.Table.{table_eq}
-use Rattle.mb_tables.specs.declared.cell.Cell.{Cell}
-use Rattle.mb_tables.specs.declared.table.TableName.{TableName}
-use Rattle.mb_tables.proofs.TableLemmas.{same_table, table_eq-refl}
-use Rattle.mb_store.specs.Store.{with_rows}
+use Rattle.mb_store.proofs.Common.{ap, Bool, Cell, cond, false, List, refl, same_table, subst, sym, table_eq, table_eq-refl, TableName, true, with_rows, ◌≡◌}
 
 -- what holds of one table's new rows, and of each table's rows, holds with the new rows in place
 pub with_rows-holds : (P : TableName → List (List Cell) → Type 0) (rows : TableName → List (List Cell)) (table : TableName) (new : List (List Cell)) → P table new → ((u : TableName) → P u (rows u)) → (u : TableName) → P u (with_rows rows table new u)

@@ -1,7 +1,6 @@
 -- One thing for each table.
 use Rattle.mb_store.specs.declared.by_table.ByTable.{ByTable}
-use Rattle.mb_tables.specs.declared.table.TableName.{TableName}
-use Rattle.mb_tables.specs.declared.table.TableName.TheVariants.{Tiles, TilesWithHash, Map, Images, TilesShallow, TilesData, TileCache, Metadata}
+use Rattle.mb_store.specs.Common.{Images, Map, Metadata, TableName, TileCache, Tiles, TilesData, TilesShallow, TilesWithHash}
 
 -- that of a table
 abbrev pub at : {T : Type 0} → ByTable T → TableName → T

@@ -1,7 +1,7 @@
 -- An index of changes by table and key.
 use Rattle.std.specs.Prelude.{ℕ, ◌≡◌, List, position}
 use Rattle.std.specs.BTreeMap.{BTreeMap, get}
-use Rattle.std.specs.Ordering.{is_eq}
+use Rattle.mb_store.specs.Common.{is_eq}
 use Rattle.mb_store.specs.Changes.{AreChanges}
 use Rattle.mb_store.specs.TableKey.{table_key_cmp}
 use Rattle.mb_store.specs.declared.change.Change.{Change}

@@ -1,9 +1,6 @@
 -- Changes of rows, one for each table and key.
 use Rattle.std.specs.Prelude.{ℕ, ◌≡◌, ◌==◌, ◌&&◌, ◌++◌, Bool, true, false, List, [], ◌∷◌, Option, Some, None, All, AllPairs, length, position, set}
-use Rattle.std.specs.Option.{option_map_or}
-use Rattle.mb_tables.specs.Cell.{cells_eq}
-use Rattle.mb_tables.specs.Key.{has_key, key_cells}
-use Rattle.mb_tables.specs.Table.{table_eq, width}
+use Rattle.mb_store.specs.Common.{cells_eq, has_key, key_cells, option_map_or, table_eq, width}
 use Rattle.mb_store.specs.declared.change.Change.{Change}
 
 -- whether two changes are of one key of one table

@@ -1,13 +1,7 @@
 -- What a commit makes of tables.
 use Rattle.std.specs.Prelude.{◌≡◌, ◌&&◌, Bool, true, not, List, All, filter, option_to_list}
-use Rattle.std.specs.List.{list_any}
-use Rattle.mb_tables.specs.Key.{has_key}
-use Rattle.mb_tables.specs.Described.{is_table}
-use Rattle.mb_tables.specs.Table.{Tables, table_eq}
-use Rattle.mb_tables.specs.declared.cell.Cell.{Cell}
+use Rattle.mb_store.specs.Common.{Cell, has_key, is_table, list_any, table_eq, TableDesc, TableName, Tables}
 use Rattle.mb_store.specs.declared.change.Change.{Change}
-use Rattle.mb_tables.specs.declared.description.TableDesc.{TableDesc}
-use Rattle.mb_tables.specs.declared.table.TableName.{TableName}
 
 -- each change is of a table, and not of a view
 abbrev pub AreOfTables : List TableDesc → List Change → Type 0

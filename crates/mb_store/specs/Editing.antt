@@ -1,10 +1,6 @@
 -- What the steps of a commit make of one table's stored rows.
 use Rattle.std.specs.Prelude.{ℕ, ◌≡◌, ◌≤◌, ◌&&◌, true, not, cond, nat_lt, List, [], ◌∷◌, Option, Some, None, All, drop, filter, map, option_to_list, take}
-use Rattle.std.specs.BTreeSet.{insert_key}
-use Rattle.mb_tables.specs.Key.{has_key, key_cells}
-use Rattle.mb_tables.specs.Table.{table_eq}
-use Rattle.mb_tables.specs.declared.cell.Cell.{Cell}
-use Rattle.mb_tables.specs.declared.table.TableName.{TableName}
+use Rattle.mb_store.specs.Common.{Cell, has_key, insert_key, key_cells, table_eq, TableName}
 use Rattle.mb_store.specs.Committing.{is_changed}
 use Rattle.mb_store.specs.StoredRow.{Stored, is_early, rows_of, stored_cmp}
 use Rattle.mb_store.specs.TableRows.{AreStored}

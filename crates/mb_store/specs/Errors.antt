@@ -1,8 +1,7 @@
 -- Errors of a store as those of a call on a tile set.
 use Rattle.std.specs.Prelude.{◌≡◌, ◌↔◌, ◌⊎◌, Bool, true, IsErrOf, Result}
-use Rattle.mb_tables.specs.declared.error.MbtError.{MbtError}
+use Rattle.mb_store.specs.Common.{MbtError, TableName}
 use Rattle.mb_tables.specs.declared.error.MbtError.TheVariants as refusals
-use Rattle.mb_tables.specs.declared.table.TableName.{TableName}
 use Rattle.mb_store.specs.declared.store.StoreError.{StoreError}
 use Rattle.mb_store.specs.declared.store.StoreError.TheVariants.{Fault, OutOfMemory}
 

@@ -1,11 +1,6 @@
 -- What a store tells of rows that are gathered beside the ordered sets.
 use Rattle.std.specs.Prelude.{ℕ, ◌≡◌, ◌==◌, ◌&&◌, Bool, true, false, cond, List, [], AllPairs}
-use Rattle.std.specs.List.{list_any}
-use Rattle.std.specs.Ordering.{eq_by_cmp}
-use Rattle.mb_tables.specs.Table.{Tables, table_eq}
-use Rattle.mb_tables.specs.declared.cell.Cell.{Cell}
-use Rattle.mb_tables.specs.declared.description.TableDesc.{TableDesc}
-use Rattle.mb_tables.specs.declared.table.TableName.{TableName}
+use Rattle.mb_store.specs.Common.{Cell, eq_by_cmp, list_any, table_eq, TableDesc, TableName, Tables}
 use Rattle.mb_store.specs.ByTable.{at}
 use Rattle.mb_store.specs.MemTables.{AreAllStored, MemTables}
 use Rattle.mb_store.specs.Store.{IsSound}

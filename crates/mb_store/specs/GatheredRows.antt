@@ -1,11 +1,6 @@
 -- Rows that are put into a table's ordered rows.
 use Rattle.std.specs.Prelude.{◌≡◌, Bool, List, [], ◌∷◌, All, length}
-use Rattle.std.specs.BTreeSet.{insert_key}
-use Rattle.std.specs.List.{list_any}
-use Rattle.mb_tables.specs.Cell.{cells_eq}
-use Rattle.mb_tables.specs.declared.cell.Cell.{Cell}
-use Rattle.mb_tables.specs.Table.{width}
-use Rattle.mb_tables.specs.declared.table.TableName.{TableName}
+use Rattle.mb_store.specs.Common.{Cell, cells_eq, insert_key, list_any, TableName, width}
 use Rattle.mb_store.specs.StoredRow.{Stored, own_key, stored_cmp}
 
 -- each goes to its place beside those that there are, the last first

@@ -1,3 +1,4 @@
+pub mod Common
 pub mod TableKey
 pub mod Changes
 pub mod ChangeIndex

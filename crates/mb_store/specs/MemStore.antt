@@ -1,8 +1,7 @@
 -- What a store in memory tells.
 use Rattle.std.specs.Prelude.{ℕ, ◌≡◌, ◌↔◌, true, [], IsErrOf, Result}
-use Rattle.base_values.specs.FailingCalls.{next_fails}
+use Rattle.mb_store.specs.Common.{next_fails, Tables}
 use Rattle.base_values.specs.declared.failing_calls.FailingCalls.{FailingCalls}
-use Rattle.mb_tables.specs.Table.{Tables}
 use Rattle.mb_store.specs.Store.{IsSound}
 use Rattle.mb_store.specs.Gathered.{told_tables}
 use Rattle.mb_store.specs.MemTables.{tables_of}

@@ -1,10 +1,6 @@
 -- What the tables in memory hold.
 use Rattle.std.specs.Prelude.{◌≡◌, Bool, List}
-use Rattle.mb_tables.specs.Described.{is_keyed}
-use Rattle.mb_tables.specs.Table.{Tables}
-use Rattle.mb_tables.specs.declared.cell.Cell.{Cell}
-use Rattle.mb_tables.specs.declared.description.TableDesc.{TableDesc}
-use Rattle.mb_tables.specs.declared.table.TableName.{TableName}
+use Rattle.mb_store.specs.Common.{Cell, is_keyed, TableDesc, TableName, Tables}
 use Rattle.mb_store.specs.ByTable.{at}
 use Rattle.mb_store.specs.Store.{IsSound}
 use Rattle.mb_store.specs.TableRows.{AreStored, rows_in}

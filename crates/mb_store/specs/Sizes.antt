@@ -1,10 +1,6 @@
 -- How much data tables hold.
 use Rattle.std.specs.Prelude.{ℕ, ◌-◌, ◌^◌, List, [], ◌∷◌, length, min, sum_by}
-use Rattle.mb_tables.specs.Table.{Tables}
-use Rattle.mb_tables.specs.declared.cell.Cell.{Cell}
-use Rattle.mb_tables.specs.declared.cell.Cell.TheVariants.{Text, Blob}
-use Rattle.mb_tables.specs.declared.table.TableName.{TableName}
-use Rattle.mb_tables.specs.declared.table.TableName.TheVariants.{Tiles, TilesWithHash, Map, Images, TilesShallow, TilesData, TileCache, Metadata}
+use Rattle.mb_store.specs.Common.{Blob, Cell, Images, Map, Metadata, TableName, Tables, Text, TileCache, Tiles, TilesData, TilesShallow, TilesWithHash}
 
 -- the bytes of a text or blob, and 8 for each other cell
 abbrev pub cell_size : Cell → ℕ

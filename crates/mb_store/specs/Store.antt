@@ -1,14 +1,6 @@
 -- What holds of the tables that a store tells, and how a row is added.
 use Rattle.std.specs.Prelude.{ℕ, ◌≡◌, ◌<◌, ◌^◌, Bool, true, false, cond, ◌&&◌, ◌++◌, List, [], ◌∷◌, length, All, AllPairs, fold, insert}
-use Rattle.std.specs.List.{list_any, position_or_len}
-use Rattle.std.specs.Ordering.{is_gt}
-use Rattle.std.specs.Str.{bytes_eq}
-use Rattle.mb_tables.specs.Described.{is_keyed, is_table, names_apart}
-use Rattle.mb_tables.specs.Key.{clash, row_cmp}
-use Rattle.mb_tables.specs.Table.{Tables, table_eq, width}
-use Rattle.mb_tables.specs.declared.cell.Cell.{Cell}
-use Rattle.mb_tables.specs.declared.description.TableDesc.{TableDesc}
-use Rattle.mb_tables.specs.declared.table.TableName.{TableName}
+use Rattle.mb_store.specs.Common.{bytes_eq, Cell, clash, is_gt, is_keyed, is_table, list_any, names_apart, position_or_len, row_cmp, table_eq, TableDesc, TableName, Tables, width}
 
 -- whether a unique index keeps the row out
 abbrev pub is_duplicate : Tables → TableName → List Cell → Bool

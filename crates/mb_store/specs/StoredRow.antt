@@ -1,13 +1,8 @@
 -- Rows as they are stored: each with the number of its arrival, in the order of their keys.
 use Rattle.std.specs.Prelude.{ℕ, pos, ◌&&◌, Bool, cond, nat_lt, List, [], ◌∷◌, ◌++◌, Option, Some, None, length, map, take}
-use Rattle.std.specs.declared.cmp.Ordering.{Ordering}
-use Rattle.std.specs.Ordering.{is_eq, nat_cmp, ordering_then}
-use Rattle.std.specs.Cmp.{IsTotalOrder, nat_cmp_total}
+use Rattle.mb_store.specs.Common.{Cell, cells_cmp, Int, is_eq, IsTotalOrder, nat_cmp, nat_cmp_total, Ordering, ordering_then}
 use Rattle.std.proofs.lemmas.Cmp.{on_total, then_total, lists_total}
-use Rattle.mb_tables.specs.Cell.{cells_cmp}
 use Rattle.mb_tables.specs.CellOrder.{cells_total}
-use Rattle.mb_tables.specs.declared.cell.Cell.{Cell}
-use Rattle.mb_tables.specs.declared.cell.Cell.TheVariants.{Int}
 use Rattle.mb_store.specs.declared.stored_row.StoredCells.{StoredCells}
 use Rattle.mb_store.specs.declared.stored_row.StoredCells.TheVariants.{All, Last}
 

@@ -1,11 +1,7 @@
 -- Keys in their tables, and their order.
-use Rattle.std.specs.declared.cmp.Ordering.{Ordering}
-use Rattle.std.specs.Cmp.{IsTotalOrder, nat_cmp_total}
-use Rattle.std.specs.Ordering.{nat_cmp, ordering_then}
+use Rattle.mb_store.specs.Common.{IsTotalOrder, key_cmp, nat_cmp, nat_cmp_total, Ordering, ordering_then, table_number}
 use Rattle.std.proofs.lemmas.Cmp.{on_total, then_total}
-use Rattle.mb_tables.specs.Key.{key_cmp}
 use Rattle.mb_tables.specs.KeyOrder.{keys_total}
-use Rattle.mb_tables.specs.Table.{table_number}
 use Rattle.mb_store.specs.declared.table_key.TableKey.{TableKey}
 
 -- by table and then by key

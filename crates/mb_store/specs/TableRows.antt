@@ -1,10 +1,6 @@
 -- The rows of a table in memory.
 use Rattle.std.specs.Prelude.{◌≡◌, ◌<◌, ◌^◌, Bool, List, All, length}
-use Rattle.std.specs.List.{list_any}
-use Rattle.mb_tables.specs.Cell.{cells_eq}
-use Rattle.mb_tables.specs.Table.{key_of, width}
-use Rattle.mb_tables.specs.declared.cell.Cell.{Cell}
-use Rattle.mb_tables.specs.declared.table.TableName.{TableName}
+use Rattle.mb_store.specs.Common.{Cell, cells_eq, key_of, list_any, TableName, width}
 use Rattle.mb_store.specs.StoredRow.{Stored, rows_of}
 use Rattle.mb_store.specs.declared.table_rows.TableRows.{TableRows}
 

@@ -1,6 +1,6 @@
 // One thing for each table.
 ghost use Rattle.std.specs.Prelude.{◌≡◌};
-ghost use Rattle.mb_tables.specs.declared.table.TableName.{TableName};
+ghost use Rattle.mb_store.specs.Common.{TableName};
 ghost use Rattle.mb_store.specs.ByTable.{at};
 
 use crate::TableName;

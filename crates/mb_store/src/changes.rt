@@ -3,10 +3,7 @@ ghost use Rattle.std.specs.Prelude.{◌≡◌, ◌<◌, ◌↔◌, IsTrue, List,
 ghost use Rattle.mb_store.specs.ChangeIndex.{IsIndex};
 ghost use Rattle.mb_store.specs.Changes.{AreChanges, with_change};
 ghost use Rattle.mb_store.specs.Committing.{AreOfTables};
-ghost use Rattle.mb_tables.specs.Described.{is_table};
-ghost use Rattle.mb_tables.specs.Key.{has_key};
-ghost use Rattle.mb_tables.specs.Table.{width};
-ghost use Rattle.mb_tables.specs.declared.description.TableDesc.{TableDesc};
+ghost use Rattle.mb_store.specs.Common.{has_key, is_table, TableDesc, width};
 
 use crate::change::Change;
 use crate::table_key::TableKey;

@@ -1,6 +1,6 @@
 // Commits over all tables in memory: first all memory is taken, and then no step fails.
 ghost use Rattle.std.specs.Prelude.{◌≡◌, IfOk, OnErr, OnOk};
-ghost use Rattle.mb_tables.specs.declared.table.TableName.{TableName};
+ghost use Rattle.mb_store.specs.Common.{TableName};
 ghost use Rattle.mb_store.specs.ByTable.{at};
 ghost use Rattle.mb_store.specs.Changes.{AreChanges};
 ghost use Rattle.mb_store.specs.Committing.{CommitsTable};

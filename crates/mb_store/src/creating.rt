@@ -1,9 +1,8 @@
 // The tables and views that the project itself creates in a store.
 ghost use Rattle.mb_store.specs.Kept.{FaultsCounted, Keeps, ReadsOnly};
 ghost use Rattle.std.specs.Prelude.{◌≡◌, ◌⊎◌, ◌↔◌, [], ◌∷◌, true, false, IfErr, IfOk, IsTrue, OnErr, OnOk};
-ghost use Rattle.mb_tables.specs.Schema.{layout_tables, set_tables, started_as, table_of, view_of};
+ghost use Rattle.mb_store.specs.Common.{layout_tables, MbtError, set_tables, started_as, table_of, view_of};
 ghost use Rattle.mb_store.specs.Store.{created};
-ghost use Rattle.mb_tables.specs.declared.error.MbtError.{MbtError};
 
 use crate::{MbtResult, MbtType, NormalizedSchema, TableName, TileStore};
 use mb_tables::{layout_tables, set_tables, table_of, view_of};

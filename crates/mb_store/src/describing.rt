@@ -1,7 +1,6 @@
 // Descriptions that a store adds to its own.
 ghost use Rattle.std.specs.Prelude.{◌≡◌, IfOk};
-ghost use Rattle.std.specs.List.{list_any};
-ghost use Rattle.std.specs.Str.{bytes_eq};
+ghost use Rattle.mb_store.specs.Common.{bytes_eq, list_any};
 ghost use Rattle.mb_store.specs.Store.{with_tables};
 
 use crate::TableDesc;

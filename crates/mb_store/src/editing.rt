@@ -1,6 +1,6 @@
 // The steps of a commit for one table: rows are added, and then those that were there before are removed.
 ghost use Rattle.std.specs.Prelude.{◌≡◌, ◌≤◌, IfOk, IfSome, OnErr, OnOk, filter, length, not, true};
-ghost use Rattle.mb_tables.specs.Table.{table_eq, width};
+ghost use Rattle.mb_store.specs.Common.{table_eq, width};
 ghost use Rattle.mb_store.specs.Changes.{AreChanges};
 ghost use Rattle.mb_store.specs.Editing.{AreAdded, early_rows, keys_of, removed, with_put};
 ghost use Rattle.mb_store.specs.StoredRow.{is_early};

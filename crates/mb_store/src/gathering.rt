@@ -1,9 +1,6 @@
 // The tables in memory with the rows that are gathered beside them.
 ghost use Rattle.std.specs.Prelude.{◌≡◌, ◌<◌, ◌^◌, ◌&&◌, ◌↔◌, [], false, true, length, IfErr, OnErr, OnOk};
-ghost use Rattle.std.specs.List.{list_any};
-ghost use Rattle.mb_tables.specs.Key.{clash};
-ghost use Rattle.mb_tables.specs.Table.{table_eq, width};
-ghost use Rattle.mb_tables.specs.declared.table.TableName.{TableName};
+ghost use Rattle.mb_store.specs.Common.{clash, list_any, table_eq, TableName, width};
 ghost use Rattle.mb_store.specs.Errors.{IsRowError, RefusesTwice};
 ghost use Rattle.mb_store.specs.Gathered.{AreGathered, told_at};
 ghost use Rattle.mb_store.specs.GatheredRows.{has_own};

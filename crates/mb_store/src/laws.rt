@@ -1,12 +1,8 @@
 //! Laws of commits, and those of the tables' own definitions.
 ghost use Rattle.std.specs.Prelude.{◌≡◌, false, true, All, List, filter};
 ghost use Rattle.std.specs.List.{find as first};
-ghost use Rattle.mb_tables.specs.Cell.{cells_eq};
-ghost use Rattle.mb_tables.specs.Key.{has_key, key_cells};
-ghost use Rattle.mb_tables.specs.Table.{table_eq};
-ghost use Rattle.mb_tables.specs.declared.cell.Cell.{Cell};
+ghost use Rattle.mb_store.specs.Common.{Cell, cells_eq, has_key, key_cells, table_eq, TableName};
 ghost use Rattle.mb_tables.specs.declared.key.RowKey.{RowKey};
-ghost use Rattle.mb_tables.specs.declared.table.TableName.{TableName};
 ghost use Rattle.mb_store.specs.Committing.{CommitsTable};
 ghost use Rattle.mb_store.specs.declared.change.Change.{Change};
 

@@ -1,10 +1,6 @@
 // A store of tables in memory.
 ghost use Rattle.std.specs.Prelude.{◌≡◌, ◌↔◌, ◌≤◌, false, true, [], All, drop, find, length, take, IfErr, IfOk, IfSome, IsOkUnless, OnErr, OnOk};
-ghost use Rattle.base_values.specs.FailingCalls.{called};
-ghost use Rattle.mb_tables.specs.Described.{is_table, names_apart};
-ghost use Rattle.mb_tables.specs.Key.{IsInOrder, has_key};
-ghost use Rattle.mb_tables.specs.Schema.{set_tables};
-ghost use Rattle.mb_tables.specs.Table.{width};
+ghost use Rattle.mb_store.specs.Common.{called, has_key, is_table, IsInOrder, names_apart, set_tables, width};
 ghost use Rattle.mb_store.specs.Committing.{AreOfTables, Commits};
 ghost use Rattle.mb_store.specs.Gathered.{IsHeld};
 ghost use Rattle.mb_store.specs.MemTables.{AreKeyed};

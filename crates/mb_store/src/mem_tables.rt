@@ -1,9 +1,6 @@
 // The rows of the tables in memory.
 ghost use Rattle.std.specs.Prelude.{◌≡◌, length, ◌+◌, ◌-◌, ◌^◌, ◌&&◌, [], cond, false, IfErr, OnErr, OnOk, min, sum_by};
-ghost use Rattle.std.specs.List.{list_any};
-ghost use Rattle.mb_tables.specs.Key.{clash};
-ghost use Rattle.mb_tables.specs.Table.{table_eq, width};
-ghost use Rattle.mb_tables.specs.declared.table.TableName.{TableName};
+ghost use Rattle.mb_store.specs.Common.{clash, list_any, table_eq, TableName, width};
 ghost use Rattle.mb_store.specs.ByTable.{at};
 ghost use Rattle.mb_store.specs.MemTables.{AreAllStored, AreKeyed, rows_at};
 ghost use Rattle.mb_store.specs.Sizes.{all_tables, row_size};

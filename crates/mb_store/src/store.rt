@@ -2,10 +2,9 @@
 ghost use Rattle.mb_store.specs.Kept.{FaultsCounted, Keeps, ReadsOnly};
 ghost use Rattle.std.specs.Prelude.{◌≡◌, ℕ, ◌≤◌, Bool, true, All, IfOk, IfSome, OnErr, OnOk, drop, find, length, take};
 ghost use Rattle.mb_store.specs.Committing.{AreOfTables, Commits};
-ghost use Rattle.mb_tables.specs.Key.{has_key};
+ghost use Rattle.mb_store.specs.Common.{has_key, Tables, width};
 ghost use Rattle.mb_store.specs.Sizes.{live_size_of};
 ghost use Rattle.mb_store.specs.Store.{IsSound, created};
-ghost use Rattle.mb_tables.specs.Table.{Tables, width};
 
 use crate::{Changes, MbtError, Row, RowKey, TableDesc, TableName};
 use base_values::OutOfMemory;

@@ -1,9 +1,6 @@
 // Rows as they are stored, in the order of their keys.
 ghost use Rattle.std.specs.Prelude.{◌≡◌, [], ◌∷◌, ◌++◌, IfOk, IfSome, Some, refl};
-ghost use Rattle.std.specs.Ordering.{eq_by_cmp};
-ghost use Rattle.std.specs.Cmp.{eq_by_cmp_equiv, partial_equiv_from_equiv, partial_order_from_total};
-ghost use Rattle.mb_tables.specs.Cell.{cells_cmp};
-ghost use Rattle.mb_tables.specs.Key.{key_cells};
+ghost use Rattle.mb_store.specs.Common.{cells_cmp, eq_by_cmp, eq_by_cmp_equiv, key_cells, partial_equiv_from_equiv, partial_order_from_total};
 ghost use Rattle.mb_store.specs.StoredRow.{cells_in, in_front, is_early, numbers_cells, own_key, stored_cmp, stored_total};
 
 use crate::{Cell, Row, RowKey};
@@ -33,7 +30,7 @@ pub(crate) struct StoredRow {
 
 impl Model for StoredRow {
     ghost use Rattle.std.specs.Prelude.{◌≡◌, ℕ, List, true};
-    ghost use Rattle.mb_tables.specs.declared.cell.Cell.{Cell};
+    ghost use Rattle.mb_store.specs.Common.{Cell};
     ghost use Rattle.mb_store.specs.StoredRow.{cells_in, numbers_cells, own_key};
 
     ghost Value = { List Cell × ℕ };

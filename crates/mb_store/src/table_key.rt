@@ -11,8 +11,7 @@ pub(crate) struct TableKey {
 }
 
 impl PartialEq for TableKey {
-    ghost use Rattle.std.specs.Ordering.{eq_by_cmp};
-    ghost use Rattle.std.specs.Cmp.{eq_by_cmp_equiv, partial_equiv_from_equiv};
+    ghost use Rattle.mb_store.specs.Common.{eq_by_cmp, eq_by_cmp_equiv, partial_equiv_from_equiv};
     ghost use Rattle.mb_store.specs.TableKey.{table_key_cmp};
     ghost use Rattle.mb_store.specs.TableKey.{table_keys_total};
 
@@ -26,7 +25,7 @@ impl PartialEq for TableKey {
 }
 
 impl Eq for TableKey {
-    ghost use Rattle.std.specs.Cmp.{eq_by_cmp_equiv};
+    ghost use Rattle.mb_store.specs.Common.{eq_by_cmp_equiv};
     ghost use Rattle.mb_store.specs.TableKey.{table_keys_total};
 
     ghost laws = { eq_by_cmp_equiv table_keys_total };
@@ -34,7 +33,7 @@ impl Eq for TableKey {
 
 impl PartialOrd for TableKey {
     ghost use Rattle.std.specs.Prelude.{Some};
-    ghost use Rattle.std.specs.Cmp.{partial_order_from_total};
+    ghost use Rattle.mb_store.specs.Common.{partial_order_from_total};
     ghost use Rattle.mb_store.specs.TableKey.{table_key_cmp};
     ghost use Rattle.mb_store.specs.TableKey.{table_keys_total};
 

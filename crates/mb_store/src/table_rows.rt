@@ -1,16 +1,10 @@
 // The rows of a table in memory, as a set in the order of their keys.
 ghost use Rattle.std.specs.Prelude.{◌≡◌, ◌<◌, ◌≤◌, ◌&&◌, [], find, length, not, IfErr, IfOk, OnErr, OnOk};
-ghost use Rattle.std.specs.BTreeSet.{insert_key};
-ghost use Rattle.std.specs.List.{list_any};
-ghost use Rattle.std.specs.Option.{option_copied, option_map};
-ghost use Rattle.mb_tables.specs.Cell.{is_null};
-ghost use Rattle.mb_tables.specs.Key.{IsInOrder, clash, has_key};
-ghost use Rattle.mb_tables.specs.Table.{key_of, width};
+ghost use Rattle.mb_store.specs.Common.{clash, has_key, insert_key, is_null, IsInOrder, key_of, list_any, option_copied, option_map, TableName, width};
 ghost use Rattle.mb_store.specs.Store.{placed};
 ghost use Rattle.mb_store.specs.GatheredRows.{AreFirst, all_rows};
 ghost use Rattle.mb_store.specs.StoredRow.{Stored, is_early, stored_cmp};
 ghost use Rattle.mb_store.specs.TableRows.{AreStored, has_equal, rows_in};
-ghost use Rattle.mb_tables.specs.declared.table.TableName.{TableName};
 ghost use Rattle.mb_store.specs.Errors.{IsRowError, RefusesTwice};
 
 use crate::stored_row::StoredRow;

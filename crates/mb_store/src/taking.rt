@@ -1,7 +1,6 @@
 // Taking the rows of a table, which may be gathered.
 ghost use Rattle.std.specs.Prelude.{◌≡◌, [], false, true, IfOk};
-ghost use Rattle.mb_tables.specs.Key.{IsInOrder};
-ghost use Rattle.mb_tables.specs.Table.{table_eq};
+ghost use Rattle.mb_store.specs.Common.{IsInOrder, table_eq};
 ghost use Rattle.mb_store.specs.Gathered.{AreGathered, told_at};
 ghost use Rattle.mb_store.specs.MemTables.{AreAllStored};
 ghost use Rattle.mb_store.specs.Store.{with_rows};

@@ -1,13 +1,7 @@
 -- Cells that the order doesn't tell apart are equal.
-use Rattle.std.proofs.Common.{◌≡◌, List, refl, sym, ◌∙◌, ap}
-use Rattle.std.specs.Ordering.{is_eq}
+use Rattle.mb_tables.proofs.Common.{ap, Blob, Cell, cell_cmp, cell_eq, cells_cmp, cells_eq, Equal-is, Int, int_cmp-IsAntisymmetric, is_eq, IsAntisymmetric, IsTotalOrder, List, lists_total}
+use Rattle.mb_tables.proofs.Common.{nat_cmp-IsAntisymmetric, Null, Other, refl, slice_cmp-IsAntisymmetric, sym, Text, tied_itself, ◌∙◌, ◌≡◌}
 use Rattle.std.specs.Bool.{Decides}
-use Rattle.std.specs.Cmp.{IsTotalOrder, Equal-is, tied_itself}
-use Rattle.std.specs.FinMap.{IsAntisymmetric, nat_cmp-IsAntisymmetric, int_cmp-IsAntisymmetric, slice_cmp-IsAntisymmetric}
-use Rattle.std.proofs.lemmas.Cmp.{lists_total}
-use Rattle.mb_tables.specs.declared.cell.Cell.{Cell}
-use Rattle.mb_tables.specs.declared.cell.Cell.TheVariants.{Null, Int, Text, Blob, Other}
-use Rattle.mb_tables.specs.Cell.{cell_cmp, cell_eq, cells_cmp, cells_eq}
 use Rattle.mb_tables.specs.CellOrder.{cells_total}
 
 pub cell_cmp-IsAntisymmetric : IsAntisymmetric cell_cmp

@@ -1,8 +1,8 @@
 -- Pairs of a list, and what tests leave of it and find in it.
-use Rattle.std.proofs.Common.{◌≡◌, ◌∙◌, ℕ, ◌<◌, Bool, true, false, cond, filter, find, get_or, length, List, [], ◌∷◌, Option, Some, None, refl, sym, ap, arith, suc}
-use Rattle.std.specs.Prelude.{All, AllPairs, option_to_list, position}
+use Rattle.mb_tables.proofs.Common.{All, AllPairs, ap, arith, Bool, cond, false, false≢true, filter, get_or, length, List, ltb-false, None, Option, option_to_list, position, refl, Some, suc, sym}
+use Rattle.mb_tables.proofs.Common.{true, ℕ, [], ◌<◌, ◌∙◌, ◌∷◌, ◌≡◌}
+use Rattle.std.proofs.Common.{find}
 use Rattle.std.specs.List.{position_or_len}
-use Rattle.std.proofs.lemmas.Bool.{false≢true, ltb-false}
 use Rattle.std.proofs.lemmas.List.Elements.{All-head, All-tail}
 use Rattle.std.proofs.lemmas.List.Sums.{fails_before_first}
 

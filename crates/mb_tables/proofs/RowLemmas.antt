@@ -1,9 +1,5 @@
 -- Cells of rows at an index.
-use Rattle.std.proofs.Common.{◌≡◌, ℕ, ◌<◌, ◌≤◌, List, [], ◌∷◌, refl, suc, zero, length, get_or, slice_set, arith}
-use Rattle.std.specs.Prelude.{slice_get, unwrap_or}
-use Rattle.mb_tables.specs.Tiles.{cell_at}
-use Rattle.mb_tables.specs.declared.cell.Cell.{Cell}
-use Rattle.mb_tables.specs.declared.cell.Cell.TheVariants.{Null}
+use Rattle.mb_tables.proofs.Common.{arith, Cell, cell_at, get_or, length, List, Null, refl, slice_get, slice_set, suc, unwrap_or, zero, ℕ, [], ◌<◌, ◌∷◌, ◌≡◌, ◌≤◌}
 
 -- a cell of a row is the one at its index, and null past the end
 pub cell_at_get : (n : ℕ) (row : List Cell) → cell_at n row ≡ unwrap_or (slice_get row n) Null

@@ -1,9 +1,7 @@
 -- Tables by number and by name.
-use Rattle.std.proofs.Common.{◌≡◌, ℕ, ◌==◌, cond, true, refl, sym, ◌∙◌, ap}
-use Rattle.std.proofs.lemmas.Bool.{eqb-true, eq-eqb}
+use Rattle.mb_tables.proofs.Common.{ap, cond, eq-eqb, eqb-true, refl, sym, table_eq, table_number, true, ℕ, ◌==◌, ◌∙◌, ◌≡◌}
 use Rattle.mb_tables.specs.declared.table.TableName.{TableName}
 use Rattle.mb_tables.specs.declared.table.TableName.TheVariants.{Tiles, TilesWithHash, Map, Images, TilesShallow, TilesData, TileCache, Metadata}
-use Rattle.mb_tables.specs.Table.{table_eq, table_number}
 
 table_at : ℕ → TableName
 table_at n = cond (n == 0) Tiles (cond (n == 1) TilesWithHash (cond (n == 2) Map (cond (n == 3) Images (cond (n == 4) TilesShallow (cond (n == 5) TilesData (cond (n == 6) TileCache Metadata))))))

@@ -1,11 +1,7 @@
 -- The tiles of a set at each place.
-use Rattle.std.proofs.Common.{◌≡◌, cond, ap, None}
-use Rattle.std.specs.Cmp.{IsTotalOrder, nat_cmp_total}
-use Rattle.std.specs.FinMap.{find, get, get-from_entries, get-retain_keys, get_tied}
-use Rattle.std.proofs.lemmas.Cmp.{on_total, then_total}
+use Rattle.mb_tables.proofs.Common.{ap, cond, find, get, get-from_entries, get-retain_keys, get_tied, is_solid, IsTotalOrder, nat_cmp_total, None, on_total, pairs_of, Place, place_cmp, solid, Tables}
+use Rattle.mb_tables.proofs.Common.{then_total, tiles_of, TileSet, ◌≡◌}
 use Rattle.mb_tables.specs.declared.kind.MbtType.{MbtType}
-use Rattle.mb_tables.specs.Table.{Tables}
-use Rattle.mb_tables.specs.Tiles.{Place, TileSet, is_solid, pairs_of, place_cmp, solid, tiles_of}
 
 pub places_total : IsTotalOrder place_cmp
 places_total = then_total (on_total (λ (p : Place). p.zoom) nat_cmp_total) (then_total (on_total (λ (p : Place). p.column) nat_cmp_total) (on_total (λ (p : Place). p.row) nat_cmp_total))

@@ -1,6 +1,6 @@
 -- The kinds of the cells beside places and contents.
 use Rattle.std.specs.Prelude.{Bool, true, false, ◌&&◌, List, Option}
-use Rattle.std.specs.List.{list_all}
+use Rattle.mb_tables.specs.Common.{list_all}
 use Rattle.mb_tables.specs.Refusals.{unless}
 use Rattle.mb_tables.specs.Tiles.{cell_at}
 use Rattle.mb_tables.specs.declared.cell.Cell.{Cell}

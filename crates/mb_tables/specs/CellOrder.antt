@@ -1,12 +1,9 @@
 -- The order of cells is total.
 use Rattle.std.specs.Prelude.{◌≡◌, ℕ, ℤ, pos, List, [], refl}
 use Rattle.std.proofs.Common.{subst}
-use Rattle.std.specs.declared.cmp.Ordering.{Ordering}
+use Rattle.mb_tables.specs.Common.{int_cmp, int_cmp_total, IsTotalOrder, nat_cmp, nat_cmp_total, nat_list_cmp_total, on, Ordering, ordering_then, slice_cmp, then_cmp}
 use Rattle.std.specs.declared.cmp.Ordering.TheVariants.{Less, Equal, Greater}
-use Rattle.std.specs.Ordering.{nat_cmp, int_cmp, ordering_then, on, then_cmp}
-use Rattle.std.specs.Cmp.{IsTotalOrder, nat_cmp_total, int_cmp_total}
 use Rattle.std.proofs.lemmas.Cmp.{on_total, then_total}
-use Rattle.std.specs.Cmp.Lexicographic.{slice_cmp, nat_list_cmp_total}
 use Rattle.mb_tables.specs.declared.cell.Cell.{Cell}
 use Rattle.mb_tables.specs.declared.cell.Cell.TheVariants.{Null, Int, Text, Blob, Other}
 use Rattle.mb_tables.specs.Cell.{kind_of, cell_cmp}

@@ -1,8 +1,7 @@
 -- The columns that a description has of those of a table, by their names and types.
 use Rattle.std.specs.Prelude.{ℕ, codes, ◌==◌, ◌&&◌, ◌||◌, ◌++◌, Bool, false, cond, List, [], ◌∷◌, count_by, length}
-use Rattle.std.specs.List.{list_any}
+use Rattle.mb_tables.specs.Common.{bytes_eq, list_any}
 use Rattle.std.specs.Char.{to_ascii_uppercase}
-use Rattle.std.specs.Str.{bytes_eq}
 use Rattle.mb_tables.specs.Schema.{column_of, coordinates}
 use Rattle.mb_tables.specs.declared.column.ColumnDesc.{ColumnDesc}
 use Rattle.mb_tables.specs.declared.description.TableDesc.{TableDesc}

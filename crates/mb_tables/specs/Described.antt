@@ -1,7 +1,6 @@
 -- What descriptions say of a table.
 use Rattle.std.specs.Prelude.{ℕ, Bool, true, false, not, ◌&&◌, List, [], ◌∷◌}
-use Rattle.std.specs.List.{list_any, list_all}
-use Rattle.std.specs.Str.{bytes_eq}
+use Rattle.mb_tables.specs.Common.{bytes_eq, list_all, list_any}
 use Rattle.mb_tables.specs.Table.{key_columns, table_text}
 use Rattle.mb_tables.specs.declared.description.TableDesc.{TableDesc}
 use Rattle.mb_tables.specs.declared.description.TableKind.{TableKind}

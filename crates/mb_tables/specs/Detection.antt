@@ -1,7 +1,6 @@
 -- The layout of a tile set, from the descriptions of its tables.
 use Rattle.std.specs.Prelude.{ℕ, ◌&&◌, Bool, false, cond, List, Option, Some, None, Result, Ok, Err}
-use Rattle.std.specs.List.{list_any}
-use Rattle.std.specs.Str.{bytes_eq}
+use Rattle.mb_tables.specs.Common.{bytes_eq, list_any}
 use Rattle.mb_tables.specs.Columns.{fits, patch_columns}
 use Rattle.mb_tables.specs.Schema.{columns_of}
 use Rattle.mb_tables.specs.Described.{has_each, is_keyed, is_table_kind}

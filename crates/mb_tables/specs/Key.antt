@@ -1,8 +1,6 @@
 -- Keys of rows.
 use Rattle.std.specs.Prelude.{◌≡◌, pos, Bool, false, not, ◌&&◌, List, [], ◌∷◌, AllPairs}
-use Rattle.std.specs.List.{list_any}
-use Rattle.std.specs.declared.cmp.Ordering.{Ordering}
-use Rattle.std.specs.Ordering.{is_gt}
+use Rattle.mb_tables.specs.Common.{is_gt, list_any, Ordering}
 use Rattle.mb_tables.specs.Cell.{cells_cmp, cells_eq, is_null}
 use Rattle.mb_tables.specs.Table.{key_of}
 use Rattle.mb_tables.specs.declared.cell.Cell.{Cell}

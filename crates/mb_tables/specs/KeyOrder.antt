@@ -1,5 +1,5 @@
 -- The order of keys is total.
-use Rattle.std.specs.Cmp.{IsTotalOrder}
+use Rattle.mb_tables.specs.Common.{IsTotalOrder}
 use Rattle.std.proofs.lemmas.Cmp.{on_total, lists_total}
 use Rattle.mb_tables.specs.CellOrder.{cells_total}
 use Rattle.mb_tables.specs.Key.{key_cells, key_cmp}

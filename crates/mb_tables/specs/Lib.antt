@@ -1,3 +1,4 @@
+pub mod Common
 pub mod Cell
 pub mod CellOrder
 pub mod Table

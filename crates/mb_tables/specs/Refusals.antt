@@ -1,6 +1,6 @@
 -- Refusals of loading: one for each test, and the first of them.
 use Rattle.std.specs.Prelude.{◌≡◌, ◌≢◌, Bool, true, false, cond, List, [], ◌∷◌, Option, Some, None, Result, Ok, Err, map}
-use Rattle.std.specs.Option.{option_or}
+use Rattle.mb_tables.specs.Common.{option_or}
 use Rattle.mb_tables.specs.declared.error.MbtError.{MbtError}
 use Rattle.mb_tables.specs.declared.error.MbtError.TheVariants.{StoreFault, OutOfMemory}
 

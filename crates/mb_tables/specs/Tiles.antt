@@ -1,8 +1,6 @@
 -- The set of tiles that tables hold.
 use Rattle.std.specs.Prelude.{ℕ, ◌^◌, pos, Bool, true, false, cond, nat_lt, List, [], ◌∷◌, Option, Some, None, filter_map, find, unwrap_or, suc, zero}
-use Rattle.std.specs.declared.cmp.Ordering.{Ordering}
-use Rattle.std.specs.Ordering.{nat_cmp, ordering_then}
-use Rattle.std.specs.FinMap.{FinMap, from_entries, get, retain_keys}
+use Rattle.mb_tables.specs.Common.{FinMap, from_entries, get, nat_cmp, Ordering, ordering_then, retain_keys}
 use Rattle.mb_tables.specs.Cell.{cell_eq, is_null}
 use Rattle.mb_tables.specs.Table.{Tables}
 use Rattle.mb_tables.specs.declared.cell.Cell.{Cell}

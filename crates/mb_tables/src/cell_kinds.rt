@@ -1,6 +1,6 @@
 // The kinds of the cells beside places and contents.
 ghost use Rattle.std.specs.Prelude.{◌≡◌, slice_get, unwrap_or};
-ghost use Rattle.std.specs.List.{list_all};
+ghost use Rattle.mb_tables.specs.Common.{list_all};
 ghost use Rattle.mb_tables.specs.CellKinds.{has_name_kinds, has_tile_kinds, is_id, is_number, is_text};
 ghost use Rattle.mb_tables.specs.Tiles.{cell_at};
 ghost use Rattle.mb_tables.specs.declared.cell.Cell.TheVariants.{Null};

@@ -1,6 +1,6 @@
 // Cells are compared by kind and then by value.
 ghost use Rattle.std.specs.Prelude.{◌≡◌, refl, Some};
-ghost use Rattle.std.specs.Cmp.{partial_equiv_from_equiv, partial_order_from_total, eq_by_cmp_equiv};
+ghost use Rattle.mb_tables.specs.Common.{eq_by_cmp_equiv, partial_equiv_from_equiv, partial_order_from_total};
 ghost use Rattle.mb_tables.specs.Cell.{cell_cmp, cell_eq, kind_of};
 ghost use Rattle.mb_tables.specs.CellOrder.{cells_total};
 

@@ -1,6 +1,6 @@
 // Whether a description has the columns of a table, by their names and types.
 ghost use Rattle.std.specs.Prelude.{◌≡◌, drop};
-ghost use Rattle.std.specs.List.{list_any};
+ghost use Rattle.mb_tables.specs.Common.{list_any};
 ghost use Rattle.mb_tables.specs.Columns.{begins_int, fits, has_int, is_column, patch_columns, type_fits};
 ghost use Rattle.mb_tables.specs.Schema.{column_of, columns_of, coordinates};
 

@@ -1,7 +1,6 @@
 // What descriptions say of a table.
 ghost use Rattle.std.specs.Prelude.{◌≡◌};
-ghost use Rattle.std.specs.List.{list_any};
-ghost use Rattle.std.specs.Str.{bytes_eq};
+ghost use Rattle.mb_tables.specs.Common.{bytes_eq, list_any};
 ghost use Rattle.mb_tables.specs.Described.{has_each, is_key_index, is_keyed};
 ghost use Rattle.mb_tables.specs.Table.{key_columns};
 

@@ -1,7 +1,6 @@
 // The layout of a tile set, from the descriptions of its tables.
 ghost use Rattle.std.specs.Prelude.{◌≡◌, ◌↔◌, ◌&&◌, None, IfOk, IfErr, IfSome, IsErrOf};
-ghost use Rattle.std.specs.List.{list_any};
-ghost use Rattle.std.specs.Option.{option_copied};
+ghost use Rattle.mb_tables.specs.Common.{list_any, option_copied};
 ghost use Rattle.mb_tables.specs.Detection.{detected, has_columns, has_patches, has_table, has_tile_index, layout_of, missing_index, patch_type_of};
 ghost use Rattle.mb_tables.specs.Described.{has_each};
 ghost use Rattle.mb_tables.specs.Kind.{tile_table};

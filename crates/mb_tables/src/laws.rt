@@ -1,6 +1,6 @@
 //! Laws of the definitions that contracts of tile sets speak of.
 ghost use Rattle.std.specs.Prelude.{◌≡◌, if◌then◌else◌, None};
-ghost use Rattle.std.specs.FinMap.{find, get};
+ghost use Rattle.mb_tables.specs.Common.{find, get};
 ghost use Rattle.mb_tables.specs.declared.kind.MbtType.{MbtType};
 ghost use Rattle.mb_tables.specs.Table.{Tables};
 ghost use Rattle.mb_tables.specs.Tiles.{Place, TileSet, is_solid, pairs_of, place_cmp, solid, tiles_of};

@@ -1,41 +1,17 @@
 -- A tree that is packed into a set without tiles comes back.
-use Rattle.std.proofs.Common.{◌≡◌, ◌≢◌, ◌∙◌, ap, sym, subst, ℕ, ◌||◌, Bool, true, false, not, cond, List, [], ◌∷◌, Option, Some, None, Ok, Err, Result, filter_map, is_some, map, refl, ◌⊎◌, inl, inr}
-use Rattle.std.specs.Prelude.{All, IfSome, T, option_and_then, option_map}
-use Rattle.std.specs.List.{cons_option, list_any}
-use Rattle.std.specs.Option.{option_or}
-use Rattle.std.specs.Ordering.{eq_by_cmp, is_eq, is_lt}
-use Rattle.std.specs.Cmp.{tied_itself}
-use Rattle.std.specs.FinMap.{contains_key, empty, entries, entries_sorted, find, get, get-empty, get-entries, get-insert, get-retain_keys, insert, is_sorted, len-empty, len-entries, nat_cmp-IsAntisymmetric, retain_keys, same_map, slice_cmp-IsAntisymmetric}
-use Rattle.std.specs.FinMap.Entries.{below_all}
-use Rattle.std.proofs.lemmas.Bool.{and_parts, false≢true, not-false, not-true, or_parts, or_right}
-use Rattle.std.proofs.lemmas.Cmp.{nat_list_cmp_total}
-use Rattle.std.proofs.lemmas.List.{nil_from_length}
-use Rattle.std.proofs.lemmas.List.Elements.{All-cons, All-head, All-nil, All-tail}
-use Rattle.std.proofs.lemmas.Option.{none-some, same_Some}
-use Rattle.mb_insert.specs.Batch.{is_coord, place_in}
-use Rattle.mb_lists.specs.Keyed.{are_distinct}
-use Rattle.mb_load.proofs.EditedFrom.{less_apart}
-use Rattle.mb_loaded.specs.State.{State}
-use Rattle.mb_tables.proofs.TileLemmas.{places_total}
-use Rattle.mb_tables.specs.Tiles.{Place, TileSet, place_cmp}
-use Rattle.mb_tables.specs.declared.error.MbtError.{MbtError}
+use Rattle.mb_tree.proofs.Common.{All, All-cons, All-head, All-nil, All-tail, and_parts, ap, are_distinct, as_given, batch_of, below_all, Bool, cond, cons_option, contains_key, empty, entries}
+use Rattle.mb_tree.proofs.Common.{entries_sorted, eq_by_cmp, Err, false, false≢true, File, file_of, FileFormat, Files, files_by, files_of, filter_map, find, first, first_format, format_due, get}
+use Rattle.mb_tree.proofs.Common.{get-empty, get-entries, get-insert, get-retain_keys, HasTileFiles, IfSome, inl, inr, insert, is_coord, is_eq, is_lt, is_some, is_sorted, is_tile, IsFit, IsPlain}
+use Rattle.mb_tree.proofs.Common.{len-empty, len-entries, less_apart, List, list_any, map, may_pack, MbtError, nat_cmp-IsAntisymmetric, nat_list_cmp_total, new_tile, nil_from_length, None, none-some}
+use Rattle.mb_tree.proofs.Common.{not, not-false, not-true, Ok, Option, option_and_then, option_map, option_or, or_parts, or_right, packed, path_text, paths_in, paths_of, Place, place_cmp, place_in}
+use Rattle.mb_tree.proofs.Common.{places_total, plain_file, plain_files, plain_of, plain_path, refl, Result, retain_keys, same_map, same_Some, second, slice_cmp-IsAntisymmetric, Some, State, subst}
+use Rattle.mb_tree.proofs.Common.{sym, T, tied_itself, tile_path, TilePath, TileScheme, TileSet, true, unpacked, written, ℕ, [], ◌||◌, ◌∙◌, ◌∷◌, ◌≡◌, ◌≢◌, ◌⊎◌}
 use Rattle.mb_tree.proofs.FileLemmas.{all_there, own_files}
 use Rattle.mb_tree.proofs.PackLemmas.{all_fit, paths_pass}
 use Rattle.mb_tree.proofs.PlaceLemmas.{AreOnBoard}
 use Rattle.mb_tree.proofs.PlainLemmas.{read_back}
 use Rattle.mb_tree.proofs.RoundTripLemmas.{column_of, no_files, none_double, row_of, tiles_stay, unpacked_again, zoom_of}
 use Rattle.mb_tree.proofs.WrittenLemmas.{by_bytes, tied_same}
-use Rattle.mb_tree.specs.Files.{File, Files, paths_in, paths_of, written}
-use Rattle.mb_tree.specs.PackSteps.{IsFit}
-use Rattle.mb_tree.specs.Packed.{packed}
-use Rattle.mb_tree.specs.Packing.{as_given, batch_of, first_format, may_pack, new_tile}
-use Rattle.mb_tree.specs.RoundTrip.{HasTileFiles, IsPlain, is_tile, plain_file, plain_files, plain_of, plain_path}
-use Rattle.mb_tree.specs.TilePath.{tile_path}
-use Rattle.mb_tree.specs.Unpacked.{file_of, files_by, files_of, format_due, path_text, unpacked}
-use Rattle.mb_tree.specs.declared.format.FileFormat.{FileFormat}
-use Rattle.mb_tree.specs.declared.scheme.TileScheme.{TileScheme}
-use Rattle.mb_tree.specs.declared.tile_path.TilePath.{TilePath}
-use Rattle.mb_edit.proofs.PatchedLemmas.{first, second}
 
 -- a set without tiles has no files
 no_files_of : (scheme : TileScheme) (format : FileFormat) (tiles : TileSet) → tiles ≡ empty → files_of scheme format tiles ≡ []

@@ -1,20 +1,7 @@
 -- What packing answers.
-use Rattle.std.proofs.Common.{◌≡◌, ◌∙◌, ap, sym, subst, Bool, true, refl, Ok, Err, Result}
-use Rattle.std.proofs.lemmas.Bool.{false≢true}
+use Rattle.mb_tree.proofs.Common.{ap, Base, base_of, Bool, Err, false≢true, Files, Held, is_wanting, IsBaseOf, IsPacking, MbtError, Ok, packing, Packs, paths_in, paths_of, refl, Result, State, subst}
+use Rattle.mb_tree.proofs.Common.{sym, Tables, then, TileScheme, true, ◌∙◌, ◌≡◌}
 use Rattle.mb_constraints.specs.DiffHashes.{refused_by}
-use Rattle.mb_loaded.specs.Held.{Held}
-use Rattle.mb_loaded.specs.State.{State}
-use Rattle.mb_tables.specs.Refusals.{then}
-use Rattle.mb_tables.specs.Table.{Tables}
-use Rattle.mb_tables.specs.declared.error.MbtError.{MbtError}
-use Rattle.mb_tree.specs.Base.{IsBaseOf, base_of}
-use Rattle.mb_tree.specs.Files.{Files, paths_in, paths_of}
-use Rattle.mb_tree.specs.PackSteps.{Packs}
-use Rattle.mb_tree.specs.Packed.{IsPacking}
-use Rattle.mb_tree.specs.Packing.{packing}
-use Rattle.mb_tree.specs.Wanting.{is_wanting}
-use Rattle.mb_tree.specs.declared.base.Base.{Base}
-use Rattle.mb_tree.specs.declared.scheme.TileScheme.{TileScheme}
 
 module _ (scheme : TileScheme) (shows : Bool) (files : Files) (tells : Bool) (told : Tables) where
   pub base_refused : (e : MbtError) → IsBaseOf tells told (Err e) → IsPacking scheme shows files tells told (Err e)

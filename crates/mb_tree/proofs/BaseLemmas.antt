@@ -1,38 +1,13 @@
 -- The set that tiles are packed into.
-use Rattle.std.proofs.Common.{◌≡◌, ◌≢◌, ◌⊎◌, inl, inr, ◌∙◌, ap, sym, subst, ℕ, Bool, true, false, List, [], ◌∷◌, Option, refl, Ok, Err, Result}
-use Rattle.std.specs.Prelude.{IfErr, IfOk, codes, option_and_then}
-use Rattle.std.specs.FinMap.{get-empty}
-use Rattle.std.specs.Ordering.{nat_cmp}
-use Rattle.std.specs.Cmp.Lexicographic.{slice_cmp}
-use Rattle.mb_constraints.specs.Algorithm.{algorithm_by, unknown_name}
-use Rattle.std.proofs.lemmas.Bool.{false≢true}
+use Rattle.mb_tree.proofs.Common.{algorithm_by, ap, Base, base_by, base_of, Bool, codes, created, empty_state, Err, false, false≢true, Flat, flat_alone, fresh, get-empty, Held, if_flat, IfErr, IfOk}
+use Rattle.mb_tree.proofs.Common.{index_missing, inl, inr, is_table, is_wanting, IsBaseOf, IsFlatOf, IsLoadable, IsLoadedFrom, IsSound, layout_of, List, Loads, made, made_by, made_if, MbtError}
+use Rattle.mb_tree.proofs.Common.{MbtType, Md5, Metadata, metadata_missing, MismatchedTargetType, NamesAlgorithm, nat_cmp, no_rows, Ok, Option, option_and_then, OutOfMemory, patch_type_of, refl}
+use Rattle.mb_tree.proofs.Common.{Result, slice_cmp, State, state_of, stated, StoreFault, subst, sym, TableDesc, Tables, then, Tiles, true, unknown_name, with_tables, ℕ, [], ◌∙◌, ◌∷◌, ◌≡◌, ◌≢◌, ◌⊎◌}
 use Rattle.mb_load.proofs.EmptyLemmas.{from_empty}
 use Rattle.mb_load.specs.EmptyTables.{AreEmpty}
-use Rattle.mb_loaded.specs.Empty.{empty_state}
-use Rattle.mb_loaded.specs.Held.{Held, fresh}
-use Rattle.mb_load.specs.LoadedFrom.{IsLoadable, IsLoadedFrom, NamesAlgorithm}
-use Rattle.mb_load.specs.Loading.{Loads}
-use Rattle.mb_loaded.specs.State.{State}
-use Rattle.mb_load.specs.StateOf.{state_of, stated}
-use Rattle.mb_store.specs.Store.{IsSound, created, no_rows, with_tables}
-use Rattle.mb_constraints.specs.Described.{index_missing, metadata_missing}
-use Rattle.mb_tables.specs.Described.{is_table}
-use Rattle.mb_tables.specs.Detection.{layout_of, patch_type_of}
-use Rattle.mb_tables.specs.Refusals.{then}
 use Rattle.mb_tables.specs.Schema.{set_tables}
-use Rattle.mb_tables.specs.Table.{Tables}
-use Rattle.mb_tables.specs.declared.description.TableDesc.{TableDesc}
 use Rattle.mb_tables.specs.declared.description.TableKind.TheVariants.{Table}
-use Rattle.mb_tables.specs.declared.error.MbtError.{MbtError}
-use Rattle.mb_tables.specs.declared.error.MbtError.TheVariants.{MismatchedTargetType, OutOfMemory, StoreFault}
-use Rattle.mb_tables.specs.declared.kind.MbtType.{MbtType}
-use Rattle.mb_tables.specs.declared.kind.MbtType.TheVariants.{Flat}
-use Rattle.mb_tables.specs.declared.table.TableName.TheVariants.{Tiles, Metadata}
 use Rattle.mb_tree.proofs.RefusalLemmas.{not_free}
-use Rattle.mb_tree.specs.Base.{IsBaseOf, IsFlatOf, base_by, base_of, flat_alone, if_flat, made, made_by, made_if}
-use Rattle.mb_tree.specs.Wanting.{is_wanting}
-use Rattle.mb_tree.specs.declared.base.Base.{Base}
-use Rattle.tile_hash.specs.declared.algorithm.HashAlgorithm.TheVariants.{Md5}
 
 pub made_new : (t : Tables) → t.descriptions ≡ [] → made_if true t ≡ made t
 unfolding made

@@ -1,18 +1,7 @@
 -- Tiles that are put are as many more as they are, exactly where none is there or comes twice.
-use Rattle.std.proofs.Common.{◌≡◌, ◌∙◌, ap, ap₂, subst, ℕ, ◌<◌, ◌≤◌, ◌+◌, ◌-◌, Bool, true, false, ◌&&◌, ◌||◌, not, List, [], ◌∷◌, Some, cond, is_some, length, map, refl, suc, arith}
-use Rattle.std.specs.List.{list_any}
-use Rattle.std.specs.Ordering.{eq_by_cmp}
-use Rattle.std.specs.Cmp.{eq_by_cmp_equiv}
-use Rattle.std.specs.FinMap.{contains_key, get, get-insert, insert, len, len-insert}
-use Rattle.mb_insert.proofs.ChosenLemmas.{is_some_cond, put_in_turn}
-use Rattle.mb_insert.specs.Batch.{has_duplicates, place_in}
-use Rattle.mb_insert.specs.declared.new_tile.NewTile.{NewTile}
-use Rattle.mb_lists.specs.Keyed.{are_distinct}
-use Rattle.mb_loaded.specs.Edits.{with_tile}
-use Rattle.mb_loaded.specs.Held.{Held}
-use Rattle.mb_tables.proofs.TileLemmas.{places_total}
-use Rattle.mb_tables.specs.Tiles.{Place, TileSet, place_cmp}
-use Rattle.mb_tree.specs.Packed.{tiles_in}
+use Rattle.mb_tree.proofs.Common.{ap, ap₂, are_distinct, arith, Bool, cond, contains_key, eq_by_cmp, eq_by_cmp_equiv, false, get, get-insert, has_duplicates, Held, insert, is_some, is_some_cond, len}
+use Rattle.mb_tree.proofs.Common.{len-insert, length, List, list_any, map, NewTile, not, Place, place_cmp, place_in, places_total, put_in_turn, refl, Some, subst, suc, tiles_in, TileSet, true}
+use Rattle.mb_tree.proofs.Common.{with_tile, ℕ, [], ◌&&◌, ◌+◌, ◌-◌, ◌<◌, ◌||◌, ◌∙◌, ◌∷◌, ◌≡◌, ◌≤◌}
 
 -- fewer than there would be, or as many
 abbrev pub IsCount : Bool → ℕ → ℕ → Type 0

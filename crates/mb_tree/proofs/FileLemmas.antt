@@ -1,34 +1,9 @@
 -- Files that are read, one after another, and their tiles.
-use Rattle.std.proofs.Common.{◌≡◌, ◌∙◌, ap, sym, subst, ℕ, ◌<◌, ◌≤◌, ◌+◌, ◌++◌, ◌||◌, Bool, true, false, not, cond, List, [], ◌∷◌, Option, Some, None, filter_map, get_or, length, map, take, refl, suc, arith, is_some, unwrap_or}
-use Rattle.std.specs.Prelude.{T, All, option_map}
-use Rattle.std.specs.List.{cons_option, list_any}
-use Rattle.std.specs.Ordering.{eq_by_cmp, is_eq, is_lt, nat_cmp}
-use Rattle.std.specs.Cmp.{eq_by_cmp_equiv, tied_itself}
-use Rattle.std.specs.Cmp.Lexicographic.{slice_cmp}
-use Rattle.std.specs.declared.cmp.Ordering.{Ordering}
-use Rattle.std.specs.FinMap.{contains_key, entries, entries_sorted, find, get, get-entries, is_sorted}
-use Rattle.std.specs.FinMap.Entries.{below_all}
-use Rattle.std.proofs.lemmas.Bool.{false≢true}
-use Rattle.std.proofs.lemmas.Cmp.{nat_list_cmp_total}
-use Rattle.std.proofs.lemmas.List.{map-append, take_more}
-use Rattle.std.proofs.lemmas.List.Elements.{All-append, All-cons, All-head, All-nil, All-tail}
-use Rattle.std.proofs.lemmas.Option.{same_Some}
-use Rattle.mb_insert.specs.Batch.{has_duplicates, place_in}
-use Rattle.mb_insert.specs.declared.new_tile.NewTile.{NewTile}
-use Rattle.mb_lists.specs.Keyed.{are_distinct}
-use Rattle.mb_load.proofs.EditedFrom.{less_apart}
-use Rattle.mb_loaded.specs.Edits.{with_tile}
-use Rattle.mb_loaded.specs.Held.{Held}
-use Rattle.mb_store.specs.Kept.{ReadsOnly}
-use Rattle.mb_tables.specs.Tiles.{Place, TileSet, place_cmp}
-use Rattle.mb_tree.specs.Files.{File, Files, paths_in, paths_of}
-use Rattle.mb_tree.specs.PackSteps.{AreAllRead, IsRead, with_any}
-use Rattle.mb_tree.specs.Packed.{tiles_in}
-use Rattle.mb_tree.specs.Packing.{batch_of, empty_files, new_tile, tile_of_file}
-use Rattle.mb_tree.specs.TilePath.{tile_path}
-use Rattle.mb_tree.specs.declared.scheme.TileScheme.{TileScheme}
-use Rattle.mb_tree.specs.declared.tile_path.TilePath.{TilePath}
-use Rattle.mb_edit.proofs.PatchedLemmas.{first, second}
+use Rattle.mb_tree.proofs.Common.{All, All-append, All-cons, All-head, All-nil, All-tail, ap, are_distinct, AreAllRead, arith, batch_of, below_all, Bool, cond, cons_option, contains_key, empty_files}
+use Rattle.mb_tree.proofs.Common.{entries, entries_sorted, eq_by_cmp, eq_by_cmp_equiv, false, false≢true, File, Files, filter_map, find, first, get, get-entries, get_or, has_duplicates, Held, is_eq}
+use Rattle.mb_tree.proofs.Common.{is_lt, is_some, is_sorted, IsRead, length, less_apart, List, list_any, map, map-append, nat_cmp, nat_list_cmp_total, new_tile, NewTile, None, not, Option, option_map}
+use Rattle.mb_tree.proofs.Common.{Ordering, paths_in, paths_of, Place, place_cmp, place_in, ReadsOnly, refl, same_Some, second, slice_cmp, Some, subst, suc, sym, T, take, take_more, tied_itself}
+use Rattle.mb_tree.proofs.Common.{tile_of_file, tile_path, TilePath, tiles_in, TileScheme, TileSet, true, unwrap_or, with_any, with_tile, ℕ, [], ◌++◌, ◌+◌, ◌<◌, ◌||◌, ◌∙◌, ◌∷◌, ◌≡◌, ◌≤◌}
 
 -- one more file at the end
 last_put : (scheme : TileScheme) (h : Held) (files : List File) (f : File) → tiles_in h (batch_of scheme (files ++ f ∷ [])) ≡ with_any (tiles_in h (batch_of scheme files)) (tile_of_file scheme f)

@@ -1,33 +1,13 @@
 -- What `pack` promises, and what `unpack` gives of that.
-use Rattle.std.proofs.Common.{◌≡◌, ◌∙◌, ap, sym, subst, ℕ, true, List, [], ◌∷◌, None, Ok, Err, Result, Some, refl}
-use Rattle.std.specs.Prelude.{IfOk}
-use Rattle.std.specs.FinMap.{contains_key, empty, entries, retain_keys}
+use Rattle.mb_tree.proofs.Common.{ap, base_by, base_of, begun, contains_key, empty, empty_state, entries, Err, File, FileFormat, Files, files_by, files_of, files_under, first_format, Flat, flat_alone}
+use Rattle.mb_tree.proofs.Common.{fresh, HasNoTiles, HasTileFiles, if_flat, IfOk, is_tile, IsPacked, IsPlain, List, may_pack, MbtError, MbtType, Md5, None, Ok, packed, paths_in, paths_of, plain_files}
+use Rattle.mb_tree.proofs.Common.{refl, Result, retain_keys, Some, State, state_of, subst, sym, TableDesc, Tables, then, TileScheme, true, unpacked, unpacking, written, ℕ, [], ◌∙◌, ◌∷◌, ◌≡◌}
 use Rattle.mb_load.proofs.LoadsFrom.{state_whole}
-use Rattle.mb_load.specs.Begun.{begun}
-use Rattle.mb_loaded.specs.Empty.{empty_state}
-use Rattle.mb_loaded.specs.Held.{fresh}
-use Rattle.mb_loaded.specs.State.{State}
-use Rattle.mb_load.specs.StateOf.{state_of}
 use Rattle.mb_metadata.proofs.UpdateLemmas.{ok_same}
-use Rattle.mb_tables.specs.Refusals.{then}
-use Rattle.mb_tables.specs.Table.{Tables}
-use Rattle.mb_tables.specs.declared.description.TableDesc.{TableDesc}
-use Rattle.mb_tables.specs.declared.error.MbtError.{MbtError}
-use Rattle.mb_tables.specs.declared.kind.MbtType.{MbtType}
-use Rattle.mb_tables.specs.declared.kind.MbtType.TheVariants.{Flat}
 use Rattle.mb_tree.proofs.AloneLemmas.{alone, has_tiles, own_tree}
 use Rattle.mb_tree.proofs.BaseLemmas.{new_due, new_whole}
 use Rattle.mb_tree.proofs.PlaceLemmas.{AreOnBoard}
 use Rattle.mb_tree.proofs.RoundTripLemmas.{due_stays, format_packed, tiles_stay, unpacked_again, unpacked_under}
-use Rattle.mb_tree.specs.Base.{base_by, base_of, flat_alone, if_flat}
-use Rattle.mb_tree.specs.Files.{File, Files, paths_in, paths_of, written}
-use Rattle.mb_tree.specs.Packed.{IsPacked, packed}
-use Rattle.mb_tree.specs.Packing.{first_format, may_pack}
-use Rattle.mb_tree.specs.RoundTrip.{HasNoTiles, HasTileFiles, IsPlain, files_under, is_tile, plain_files}
-use Rattle.mb_tree.specs.Unpacked.{files_by, files_of, unpacked, unpacking}
-use Rattle.mb_tree.specs.declared.format.FileFormat.{FileFormat}
-use Rattle.mb_tree.specs.declared.scheme.TileScheme.{TileScheme}
-use Rattle.tile_hash.specs.declared.algorithm.HashAlgorithm.TheVariants.{Md5}
 
 -- the tiles of a base stand on the board
 base_placed : (t : Tables) (s : State) → base_of t ≡ Ok s → AreOnBoard s.tiles

@@ -1,3 +1,4 @@
+mod Common
 pub mod MemTreeLemmas
 pub mod RefusalLemmas
 pub mod UnpackLemmas

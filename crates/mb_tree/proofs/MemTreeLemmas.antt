@@ -1,20 +1,10 @@
 -- The files of a tree in memory, as its map has them.
-use Rattle.std.proofs.Common.{◌≡◌, ◌∙◌, ap, sym, ℕ, Bool, true, false, ◌&&◌, List, [], ◌∷◌, Option, Some, cond, refl}
-use Rattle.std.specs.Prelude.{T, IfOk, Result, Ok, Err}
-use Rattle.std.specs.BTreeMap.{BTreeMap, IsOrdered, Updates, get_by, is_at}
+use Rattle.mb_tree.proofs.Common.{AllByRecursion, ap, below_all, Bool, BTreeMap, cond, entries-from_sorted, eq_by_cmp, eq_by_cmp_equiv, Err, false, File, files_of_list, find, from_sorted, get}
+use Rattle.mb_tree.proofs.Common.{get-from_entries, get-from_sorted, get-insert, get_by, IfOk, insert, is_at, is_eq, is_lt, is_sorted, IsOrdered, Less, List, nat_cmp, nat_list_cmp_total, Ok, Option}
+use Rattle.mb_tree.proofs.Common.{Ordering, paths_in, paths_of, refl, Result, same_map, slice_cmp, Some, sym, T, true, Updates, ℕ, [], ◌&&◌, ◌∙◌, ◌∷◌, ◌≡◌}
 use Rattle.std.specs.Map.{keys_of, lookup}
-use Rattle.std.specs.Ordering.{eq_by_cmp, is_eq, is_lt, nat_cmp}
-use Rattle.std.specs.declared.cmp.Ordering.{Ordering}
-use Rattle.std.specs.declared.cmp.Ordering.TheVariants.{Less}
-use Rattle.std.specs.Cmp.{eq_by_cmp_equiv}
-use Rattle.std.specs.Cmp.Lexicographic.{slice_cmp}
-use Rattle.std.specs.List.{AllByRecursion}
 use Rattle.std.specs.List.Sorted.{IsStrictlySortedBy}
-use Rattle.std.specs.FinMap.{entries-from_sorted, find, from_sorted, get, get-from_entries, get-from_sorted, get-insert, insert, is_sorted, same_map}
-use Rattle.std.specs.FinMap.Entries.{below_all}
-use Rattle.std.proofs.lemmas.Cmp.{nat_list_cmp_total}
 use Rattle.mb_lists.proofs.NameLemmas.{names_antisymmetric}
-use Rattle.mb_tree.specs.Files.{File, files_of_list, paths_in, paths_of}
 
 abbrev by_bytes : List ℕ → List ℕ → Ordering
 by_bytes = slice_cmp nat_cmp

@@ -1,57 +1,18 @@
 -- A set with the tiles of files: that it was loaded from the tables of its base, and what its tables hold after the commit.
-use Rattle.std.proofs.Common.{◌≡◌, ◌∙◌, ap, sym, subst, ℕ, ◌<◌, ◌^◌, ◌-◌, length, filter_map, Bool, true, false, ◌&&◌, ◌||◌, not, List, [], ◌∷◌, ◌++◌, Option, Some, None, cond, nat_lt, refl, map, arith, Ok}
-use Rattle.std.specs.Prelude.{All, IfSome, codes, is_some, pos, option_and_then, option_map, option_to_list}
-use Rattle.std.specs.List.{cons_option}
-use Rattle.std.specs.Option.{option_or}
-use Rattle.std.specs.FinMap.{contains_key, get-insert, len}
-use Rattle.std.specs.Fmt.{decimal}
-use Rattle.std.proofs.lemmas.Bool.{and_parts, false≢true, ltb-true}
-use Rattle.std.proofs.lemmas.Cmp.{nat_list_cmp_total}
-use Rattle.std.proofs.lemmas.List.Elements.{All-cons, All-head, All-nil, All-tail}
-use Rattle.mb_constraints.specs.Algorithm.{algorithm_by, unknown_name}
-use Rattle.mb_edit.proofs.PassedLemmas.{holds, pass_first, pass_rest}
+use Rattle.mb_tree.proofs.Common.{Abort, algorithm_by, All, All-cons, All-head, All-nil, All-tail, and_parts, ap, AreAllRead, arith, as_given, bad_coord, base_of, batch_of, Bool, cell_eq, codes, cond}
+use Rattle.mb_tree.proofs.Common.{cons_option, contains_key, decimal, digest, duplicates, DuplicateValues, edits_loaded, empty_files, false, false≢true, File, FileFormat, Files, filter_map}
+use Rattle.mb_tree.proofs.Common.{first_format, first_refusal, first_refused, Flat, format_word, fresh, from_with_name, from_with_tile, get-insert, get_other, has_duplicates, Held, held_packed, holds}
+use Rattle.mb_tree.proofs.Common.{IfSome, InconsistentTileFormats, Int, InvalidTileIndex, is_coord, is_editable, is_normalized, is_set, is_some, IsFit, IsFree, IsLoadable, IsLoadedFrom, IsOnBoard}
+use Rattle.mb_tree.proofs.Common.{IsPacked, IsSound, len, length, List, ltb-true, made, MakesChanges, map, may_pack, Names, NamesAlgorithm, nat_list_cmp_total, nat_lt, new_tile, NewTile, None, not}
+use Rattle.mb_tree.proofs.Common.{nothing_edited, Ok, Option, option_and_then, option_map, option_or, option_to_list, Packs, pass_first, pass_rest, path_refused, paths_in, paths_of, place_in, pos}
+use Rattle.mb_tree.proofs.Common.{refl, Reset, same_format, Some, span, State, subst, sym, Tables, Text, text_at, tile_path, tile_refusals, TilePath, tiles_in, TileScheme, true, unknown_name, unless}
+use Rattle.mb_tree.proofs.Common.{UnsupportedFileExtension, update_edits, with_format, with_tile, with_zooms, zoom_at, zoom_edits, zooms_of, ℕ, [], ◌&&◌, ◌++◌, ◌-◌, ◌<◌, ◌^◌, ◌||◌, ◌∙◌, ◌∷◌, ◌≡◌}
 use Rattle.mb_insert.proofs.InsertedLemmas.{fresh_is}
-use Rattle.mb_insert.specs.Batch.{has_duplicates, is_coord, place_in}
-use Rattle.mb_insert.specs.Insertion.{bad_coord, duplicates}
-use Rattle.mb_insert.specs.declared.mode.CopyDuplicateMode.TheVariants.{Abort}
-use Rattle.mb_insert.specs.declared.new_tile.NewTile.{NewTile}
-use Rattle.mb_lists.specs.Metadata.{Names, text_at}
 use Rattle.mb_load.proofs.CommittedLemmas.{is_committed}
-use Rattle.mb_load.proofs.EditedFrom.{from_with_name, from_with_tile}
 use Rattle.mb_load.specs.Committed.{IsCommitted}
-use Rattle.mb_load.specs.Committing.{MakesChanges}
-use Rattle.mb_loaded.specs.Edits.{with_tile}
-use Rattle.mb_loaded.specs.Held.{Held, fresh, nothing_edited}
-use Rattle.mb_loaded.specs.Editable.{IsFree, IsOnBoard, is_editable}
-use Rattle.mb_load.specs.LoadedFrom.{IsLoadable, IsLoadedFrom, NamesAlgorithm}
-use Rattle.mb_loaded.specs.State.{State}
-use Rattle.mb_metadata.proofs.NameEditLemmas.{edits_loaded, get_other}
 use Rattle.mb_metadata.specs.NameEdits.{is_edited}
-use Rattle.mb_metadata.specs.Updating.{is_set, update_edits, zoom_edits}
-use Rattle.mb_metadata.specs.ZoomText.{zoom_at}
-use Rattle.mb_metadata.specs.Zooms.{span, zooms_of}
-use Rattle.mb_metadata.specs.declared.zoom_choice.UpdateZoomType.TheVariants.{Reset}
-use Rattle.mb_store.specs.Store.{IsSound}
-use Rattle.mb_tables.specs.Cell.{cell_eq}
-use Rattle.mb_tables.specs.Kind.{is_normalized}
-use Rattle.mb_tables.specs.Refusals.{first_refusal, first_refused, unless}
-use Rattle.mb_tables.specs.Table.{Tables}
-use Rattle.mb_tables.specs.declared.cell.Cell.TheVariants.{Int, Text}
-use Rattle.mb_tables.specs.declared.error.MbtError.TheVariants.{DuplicateValues, InconsistentTileFormats, InvalidTileIndex, UnsupportedFileExtension}
-use Rattle.mb_tables.specs.declared.kind.MbtType.TheVariants.{Flat}
 use Rattle.mb_tree.proofs.CountLemmas.{apart, twice}
 use Rattle.mb_tree.proofs.FileLemmas.{as_many, files_are, same_duplicates, same_places}
-use Rattle.mb_tree.specs.Base.{base_of, made}
-use Rattle.mb_tree.specs.Files.{File, Files, paths_in, paths_of}
-use Rattle.mb_tree.specs.Format.{format_word, same_format}
-use Rattle.mb_tree.specs.PackSteps.{AreAllRead, IsFit, Packs}
-use Rattle.mb_tree.specs.Packed.{IsPacked, held_packed, tiles_in, with_format, with_zooms}
-use Rattle.mb_tree.specs.Packing.{as_given, batch_of, empty_files, first_format, may_pack, new_tile, path_refused, tile_refusals}
-use Rattle.mb_tree.specs.TilePath.{tile_path}
-use Rattle.mb_tree.specs.declared.format.FileFormat.{FileFormat}
-use Rattle.mb_tree.specs.declared.scheme.TileScheme.{TileScheme}
-use Rattle.mb_tree.specs.declared.tile_path.TilePath.{TilePath}
-use Rattle.tile_hash.specs.Digest.{digest}
 
 -- paths that no test refuses are those of coordinates
 fit_of : (first : Option FileFormat) (path : List ℕ) (o : Option TilePath) → option_and_then (λ t. first_refusal (tile_refusals first path t)) o ≡ None → IfSome o (λ t. is_coord (as_given t) ≡ true)

@@ -1,10 +1,6 @@
 -- Paths, one after another: the first format, and how many are those of tiles.
-use Rattle.std.proofs.Common.{◌≡◌, ◌∙◌, ap, sym, ℕ, ◌<◌, ◌+◌, ◌++◌, List, [], ◌∷◌, Option, Some, None, filter_map, get_or, length, take, refl, arith, is_some, true, false}
-use Rattle.std.specs.List.{cons_option}
-use Rattle.std.proofs.lemmas.Bool.{false≢true}
-use Rattle.std.proofs.lemmas.List.{length-append, take_more}
-use Rattle.mb_tree.specs.TilePath.{tile_path}
-use Rattle.mb_tree.specs.declared.tile_path.TilePath.{TilePath}
+use Rattle.mb_tree.proofs.Common.{ap, arith, cons_option, false, false≢true, filter_map, get_or, is_some, length, length-append, List, None, Option, refl, Some, sym, take, take_more, tile_path}
+use Rattle.mb_tree.proofs.Common.{TilePath, true, ℕ, [], ◌++◌, ◌+◌, ◌<◌, ◌∙◌, ◌∷◌, ◌≡◌}
 
 -- one more path
 cons_join : (o : Option TilePath) (ts us : List TilePath) → cons_option o (ts ++ us) ≡ cons_option o ts ++ us

@@ -1,24 +1,8 @@
 -- The tests of paths never answer a fault of a tree, and want of memory or a fault is no refusal of files.
-use Rattle.std.proofs.Common.{◌≡◌, ◌≢◌, ◌∙◌, ap, sym, Bool, true, false, List, [], ◌∷◌, Option, Some, None, is_some, refl, ℕ, Result, Err}
-use Rattle.std.specs.Prelude.{option_and_then, pos}
-use Rattle.std.proofs.lemmas.Bool.{false≢true}
-use Rattle.mb_insert.specs.Batch.{is_coord}
-use Rattle.mb_insert.specs.Insertion.{bad_coord}
-use Rattle.mb_loaded.specs.State.{State}
-use Rattle.mb_tables.specs.Refusals.{first_refusal, first_refused, is_free, unless}
-use Rattle.mb_tables.specs.declared.cell.Cell.TheVariants.{Int}
-use Rattle.mb_tables.specs.declared.error.MbtError.{MbtError}
-use Rattle.mb_tables.specs.declared.error.MbtError.TheVariants.{InconsistentTileFormats, InvalidTileIndex, TreeFault, UnsupportedFileExtension}
+use Rattle.mb_tree.proofs.Common.{ap, as_given, bad_coord, Bool, Err, false, false≢true, FileFormat, Files, first_refusal, first_refused, InconsistentTileFormats, Int, InvalidTileIndex, is_coord}
+use Rattle.mb_tree.proofs.Common.{is_free, is_some, is_wanting, List, MbtError, None, Option, option_and_then, path_refused, paths_of, pos, refl, RefusesPaths, Result, same_format, Some, State, sym}
+use Rattle.mb_tree.proofs.Common.{tile_path, tile_refusals, TilePath, TileScheme, TreeFault, true, unless, UnsupportedFileExtension, ℕ, [], ◌∙◌, ◌∷◌, ◌≡◌, ◌≢◌}
 use Rattle.mb_tree.proofs.RefusalLemmas.{first_no, none_of, tree_in, unless_no}
-use Rattle.mb_tree.specs.Files.{Files, paths_of}
-use Rattle.mb_tree.specs.Format.{same_format}
-use Rattle.mb_tree.specs.PackSteps.{RefusesPaths}
-use Rattle.mb_tree.specs.Packing.{as_given, path_refused, tile_refusals}
-use Rattle.mb_tree.specs.TilePath.{tile_path}
-use Rattle.mb_tree.specs.Wanting.{is_wanting}
-use Rattle.mb_tree.specs.declared.format.FileFormat.{FileFormat}
-use Rattle.mb_tree.specs.declared.scheme.TileScheme.{TileScheme}
-use Rattle.mb_tree.specs.declared.tile_path.TilePath.{TilePath}
 
 tile_no : (first : Option FileFormat) (path : List ℕ) (t : TilePath) → tree_in (first_refusal (tile_refusals first path t)) ≡ false
 tile_no first path t =

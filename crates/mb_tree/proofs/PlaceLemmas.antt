@@ -1,34 +1,15 @@
 -- Places of one path are one place, and one more tile of a set is one more file.
-use Rattle.std.proofs.Common.{◌≡◌, ◌∙◌, ap, sym, subst, ℕ, ◌<◌, ◌≤◌, ◌^◌, ◌&&◌, ◌||◌, Bool, true, false, not, List, [], ◌∷◌, Some, filter_map, is_some, map, refl, arith}
-use Rattle.std.specs.Prelude.{All}
-use Rattle.std.specs.List.{list_any}
-use Rattle.std.specs.Ordering.{eq_by_cmp}
-use Rattle.std.specs.Cmp.{Equal-is}
-use Rattle.std.specs.FinMap.{contains_key, entries, entries-insert, find, get-entries, insert}
+use Rattle.mb_tree.proofs.Common.{All, All-head, All-tail, ap, are_distinct, arith, Bool, contains_key, entries, entries-insert, eq_by_cmp, Equal-is, false, false≢true, File, file_of, FileFormat}
+use Rattle.mb_tree.proofs.Common.{Files, files_of, filter_map, find, get-entries, has_duplicates, insert, inverted_y, is_some, IsOnBoard, List, list_any, map, NewTile, not, path_at, Place, place_cmp}
+use Rattle.mb_tree.proofs.Common.{place_in, places_total, put_in_turn, refl, same_Some, Some, subst, sym, tile_path, TileScheme, TileSet, true, turned, written, ℕ, [], ◌&&◌, ◌<◌, ◌^◌, ◌||◌, ◌∙◌, ◌∷◌}
+use Rattle.mb_tree.proofs.Common.{◌≡◌, ◌≤◌}
 use Rattle.std.proofs.Math.Nat.{pow-le-pow_right}
-use Rattle.std.proofs.lemmas.Bool.{false≢true}
-use Rattle.std.proofs.lemmas.List.Elements.{All-head, All-tail}
-use Rattle.std.proofs.lemmas.Option.{same_Some}
-use Rattle.mb_insert.proofs.ChosenLemmas.{put_in_turn}
-use Rattle.mb_insert.specs.Batch.{has_duplicates, place_in}
-use Rattle.mb_insert.specs.declared.new_tile.NewTile.{NewTile}
 use Rattle.mb_lists.proofs.Places.{places_antisymmetric}
-use Rattle.mb_lists.specs.Keyed.{are_distinct}
-use Rattle.mb_loaded.specs.Editable.{IsOnBoard}
-use Rattle.mb_tables.proofs.TileLemmas.{places_total}
-use Rattle.mb_tables.specs.Tiles.{Place, TileSet, place_cmp}
 use Rattle.mb_tree.proofs.CountLemmas.{any_after, has_after}
 use Rattle.mb_tree.proofs.PlainLemmas.{read_back, tile_made}
 use Rattle.mb_tree.proofs.UnpackLemmas.{back}
 use Rattle.mb_tree.proofs.WrittenLemmas.{put_one}
-use Rattle.mb_tree.specs.Files.{File, Files, written}
-use Rattle.mb_tree.specs.Scheme.{turned}
-use Rattle.mb_tree.specs.TilePath.{tile_path}
-use Rattle.mb_tree.specs.Unpacked.{file_of, files_of, path_at}
-use Rattle.mb_tree.specs.declared.format.FileFormat.{FileFormat}
-use Rattle.mb_tree.specs.declared.scheme.TileScheme.{TileScheme}
 use Rattle.mb_tree.specs.declared.scheme.TileScheme.TheVariants.{Xyz, Tms}
-use Rattle.tile_ids.specs.Coord.{inverted_y}
 
 -- rows that are turned over twice, each the way that its scheme says
 pub turned_back : (scheme : TileScheme) (zoom row : ℕ) → row < 2 ^ zoom → turned scheme zoom (turned scheme zoom row) ≡ row

@@ -1,23 +1,13 @@
 -- A path in its plain spelling is read as what it was made of.
-use Rattle.std.proofs.Common.{◌≡◌, ◌≢◌, ◌∙◌, ap, sym, ℕ, ◌<◌, ◌+◌, ◌-◌, ◌^◌, ◌++◌, ◌&&◌, Bool, true, false, not, List, [], ◌∷◌, Option, Some, None, drop, get_or, length, take, refl, suc, zero, arith}
-use Rattle.std.specs.Prelude.{◌==◌, option_and_then, option_map, unwrap_or}
-use Rattle.std.specs.Fmt.{decimal}
-use Rattle.std.specs.Path.{dot, rfind_below, rsplit_once, slash}
-use Rattle.std.specs.Str.{all_ascii_digits}
+use Rattle.mb_tree.proofs.Common.{all_ascii_digits, and_from, and_parts, ap, append_assoc, arith, Bool, decimal, dot, drop, eqb-true, false, false_from_ne_true, false≢true, FileFormat, format_in}
+use Rattle.mb_tree.proofs.Common.{format_of, format_word, get_or, last_part, length, length-append, List, None, not, number_back, number_within, Option, option_and_then, option_map, path_text}
+use Rattle.mb_tree.proofs.Common.{printed_digits, refl, rfind_below, rsplit_once, slash, Some, stem, suc, sym, take, tile_named, tile_path, TilePath, true, unwrap_or, zero, ℕ, [], ◌&&◌, ◌++◌, ◌+◌}
+use Rattle.mb_tree.proofs.Common.{◌-◌, ◌<◌, ◌==◌, ◌^◌, ◌∙◌, ◌∷◌, ◌≡◌, ◌≢◌}
 use Rattle.std.proofs.Math.Seq.{drop-append-add, get_or-append_right, get_or-append_seam, take-append_seam}
-use Rattle.std.proofs.lemmas.Bool.{and_from, and_parts, eqb-true, false_from_ne_true, false≢true}
 use Rattle.std.proofs.lemmas.Bool.Decides.{Decides-eqb}
-use Rattle.std.proofs.lemmas.List.{append_assoc, length-append}
 use Rattle.std.proofs.lemmas.Str.Parse.{tells_all_ascii_digits}
-use Rattle.mb_metadata.proofs.NumberLemmas.{number_back, printed_digits}
 use Rattle.mb_tree.proofs.SplitLemmas.{last_below, none_below}
-use Rattle.mb_tree.specs.Format.{format_of, format_word}
-use Rattle.mb_metadata.specs.ZoomText.{number_within}
-use Rattle.mb_tree.specs.TilePath.{format_in, last_part, stem, tile_named, tile_path}
-use Rattle.mb_tree.specs.Unpacked.{path_text}
-use Rattle.mb_tree.specs.declared.format.FileFormat.{FileFormat}
 use Rattle.mb_tree.specs.declared.format.FileFormat.TheVariants.{Png}
-use Rattle.mb_tree.specs.declared.tile_path.TilePath.{TilePath}
 
 -- whether no byte is of a kind
 abbrev pub lacks : ℕ → List ℕ → Bool

@@ -1,41 +1,18 @@
 -- Loading never answers a fault of a tree.
-use Rattle.std.proofs.Common.{◌≡◌, ◌≢◌, ◌∙◌, ap, sym, ℕ, List, [], ◌∷◌, Option, Some, None, Bool, true, false, ◌||◌, filter_map, is_some, map, refl, Result, Ok, Err}
-use Rattle.std.specs.Prelude.{option_and_then}
+use Rattle.mb_tree.proofs.Common.{algorithm_named, algorithm_of, algorithm_unknown, ap, are_distinct, Blob, Bool, bytes_eq, Cell, cell_at, cell_eq, contents_of, digest, Err, false, false≢true}
+use Rattle.mb_tree.proofs.Common.{filter_map, first_refusal, first_refused, FlatWithHash, IncorrectTileHash, index_missing, InvalidDataFormat, InvalidTileIndex, is_free, is_keyed, is_metadata}
+use Rattle.mb_tree.proofs.Common.{is_null, is_some, is_tree_fault, is_wanting, layout_of, List, list_all, list_any, Loads, map, MbtError, MbtType, Metadata, metadata_missing, MissingTileReference}
+use Rattle.mb_tree.proofs.Common.{name_twice, None, Normalized, NoUniquenessConstraint, Ok, Option, option_and_then, option_or, or_left, place_cmp, refl, Result, Some, State, state_of, stated}
+use Rattle.mb_tree.proofs.Common.{stored_algorithm, sym, Tables, Text, tile_of, tile_table, TreeFault, true, unknown_name, unless, unless_refused, UnsupportedHashAlgorithm, ℕ, [], ◌||◌, ◌∙◌, ◌∷◌, ◌≡◌}
+use Rattle.mb_tree.proofs.Common.{◌≢◌}
 use Rattle.std.specs.Char.{to_ascii_uppercase}
-use Rattle.std.specs.List.{list_all, list_any}
-use Rattle.std.specs.Option.{option_or}
-use Rattle.std.specs.Str.{bytes_eq}
-use Rattle.std.proofs.lemmas.Bool.{false≢true, or_left}
-use Rattle.mb_constraints.specs.Algorithm.{algorithm_named, algorithm_of, algorithm_unknown, stored_algorithm, unknown_name}
-use Rattle.mb_constraints.specs.Described.{index_missing, is_metadata, metadata_missing}
 use Rattle.mb_constraints.specs.Hashes.{hash_wrong, wrong_content_hash, wrong_hash, wrong_tile_hash}
 use Rattle.mb_constraints.specs.References.{id_text, missing_reference, reference_missing}
 use Rattle.mb_constraints.specs.TileRows.{bad_tile, contents_in, place_twice, tile_bad, tile_in}
 use Rattle.mb_lists.specs.Contents.{are_apart, content_rows, fronts, id_twice}
-use Rattle.mb_lists.specs.Keyed.{are_distinct}
-use Rattle.mb_lists.specs.Metadata.{name_twice}
-use Rattle.mb_load.specs.Loading.{Loads}
 use Rattle.mb_load.specs.LoadingOrder.{refusals}
-use Rattle.mb_loaded.specs.State.{State}
-use Rattle.mb_load.specs.StateOf.{state_of, stated, unless_refused}
-use Rattle.mb_tables.specs.Cell.{cell_eq, is_null}
 use Rattle.mb_tables.specs.CellKinds.{content_kind_wrong, has_name_kinds, has_tile_kinds, is_id, name_kind_wrong, tile_kind_wrong}
-use Rattle.mb_tables.specs.Described.{is_keyed}
-use Rattle.mb_tables.specs.Detection.{layout_of}
-use Rattle.mb_tables.specs.Kind.{contents_of, tile_table}
-use Rattle.mb_tables.specs.Refusals.{first_refusal, first_refused, is_free, unless}
-use Rattle.mb_tables.specs.Table.{Tables}
-use Rattle.mb_tables.specs.Tiles.{cell_at, place_cmp, tile_of}
-use Rattle.mb_tables.specs.declared.cell.Cell.{Cell}
-use Rattle.mb_tables.specs.declared.cell.Cell.TheVariants.{Text, Blob}
-use Rattle.mb_tables.specs.declared.error.MbtError.{MbtError}
-use Rattle.mb_tables.specs.declared.error.MbtError.TheVariants.{IncorrectTileHash, InvalidDataFormat, InvalidTileIndex, MissingTileReference, NoUniquenessConstraint, TreeFault, UnsupportedHashAlgorithm}
-use Rattle.mb_tables.specs.declared.kind.MbtType.{MbtType}
-use Rattle.mb_tables.specs.declared.kind.MbtType.TheVariants.{FlatWithHash, Normalized}
 use Rattle.mb_tables.specs.declared.kind.NormalizedSchema.TheVariants.{Hash}
-use Rattle.mb_tables.specs.declared.table.TableName.TheVariants.{Metadata}
-use Rattle.mb_tree.specs.Wanting.{is_tree_fault, is_wanting}
-use Rattle.tile_hash.specs.Digest.{digest}
 use Rattle.tile_hash.specs.declared.algorithm.HashAlgorithm.{HashAlgorithm}
 
 abbrev pub tree_in : Option MbtError → Bool

@@ -1,48 +1,18 @@
 -- What a set that a tree was packed into is unpacked into.
-use Rattle.std.proofs.Common.{◌≡◌, ◌∙◌, ap, sym, subst, ℕ, ◌<◌, ◌^◌, ◌&&◌, true, false, not, List, [], ◌∷◌, Option, Some, None, Ok, Result, filter_map, is_some, map, nat_lt, refl, arith}
-use Rattle.std.specs.Prelude.{All, IfSome, codes, option_and_then, option_map}
-use Rattle.std.specs.List.{cons_option}
-use Rattle.std.specs.FinMap.{get-insert}
-use Rattle.std.specs.Str.{bytes_eq}
-use Rattle.std.proofs.lemmas.Bool.{and_parts, false≢true, ltb-true, not-true}
-use Rattle.std.proofs.lemmas.Cmp.{nat_list_cmp_total}
-use Rattle.std.proofs.lemmas.List.Elements.{All-cons, All-head, All-nil, All-tail}
-use Rattle.std.proofs.lemmas.Option.{same_Some}
+use Rattle.mb_tree.proofs.Common.{Abort, All, All-cons, All-head, All-nil, All-tail, and_parts, ap, arith, as_given, bad_coord, batch_of, bytes_eq, codes, cons_option, duplicates, DuplicateValues}
+use Rattle.mb_tree.proofs.Common.{empty_files, false, false≢true, File, file_under, FileFormat, Files, files_by, files_of, filter_map, first_format, first_refusal, first_refused, format_due}
+use Rattle.mb_tree.proofs.Common.{format_named, format_of, format_or, format_word, fresh, get-insert, get_other, has_duplicates, Held, held_packed, holds, IfSome, InconsistentTileFormats, is_coord}
+use Rattle.mb_tree.proofs.Common.{is_some, IsFit, known_format, List, ltb-true, map, may_pack, MbtError, nat_list_cmp_total, nat_lt, new_tile, None, not, not-true, Ok, Option, option_and_then}
+use Rattle.mb_tree.proofs.Common.{option_map, packed, pass_first, pass_rest, path_refused, path_text, path_under, paths_in, plain_file, plain_of, put_in_turn, refl, Reset, Result, same_format}
+use Rattle.mb_tree.proofs.Common.{same_Some, Some, span, State, subst, sym, text_at, tile_path, tile_refusals, TilePath, tiles_in, TileScheme, TileSet, true, turned, unless, unpacked}
+use Rattle.mb_tree.proofs.Common.{UnsupportedFileExtension, update_edits, with_format, with_zooms, written, zooms_of, ℕ, [], ◌&&◌, ◌<◌, ◌^◌, ◌∙◌, ◌∷◌, ◌≡◌}
 use Rattle.std.proofs.lemmas.Slice.Eq.{bytes_eq-Decides}
-use Rattle.mb_edit.proofs.PassedLemmas.{holds, pass_first, pass_rest}
-use Rattle.mb_insert.proofs.ChosenLemmas.{put_in_turn}
-use Rattle.mb_insert.specs.Batch.{has_duplicates, is_coord}
-use Rattle.mb_insert.specs.Insertion.{bad_coord, duplicates}
-use Rattle.mb_insert.specs.declared.mode.CopyDuplicateMode.TheVariants.{Abort}
-use Rattle.mb_lists.specs.Metadata.{text_at}
-use Rattle.mb_loaded.specs.Held.{Held, fresh}
-use Rattle.mb_loaded.specs.State.{State}
-use Rattle.mb_metadata.proofs.NameEditLemmas.{get_other}
-use Rattle.mb_metadata.specs.Updating.{update_edits}
-use Rattle.mb_metadata.specs.Zooms.{span, zooms_of}
-use Rattle.mb_metadata.specs.declared.zoom_choice.UpdateZoomType.TheVariants.{Reset}
-use Rattle.mb_tables.specs.Refusals.{first_refusal, first_refused, unless}
-use Rattle.mb_tables.specs.Tiles.{TileSet}
-use Rattle.mb_tables.specs.declared.error.MbtError.{MbtError}
-use Rattle.mb_tables.specs.declared.error.MbtError.TheVariants.{DuplicateValues, InconsistentTileFormats, UnsupportedFileExtension}
 use Rattle.mb_tree.proofs.CountLemmas.{tiles_are}
 use Rattle.mb_tree.proofs.FileLemmas.{same_duplicates, same_places}
 use Rattle.mb_tree.proofs.PackLemmas.{all_fit, board, paths_pass, unnamed}
 use Rattle.mb_tree.proofs.PlaceLemmas.{AreOnBoard, IsPlaced, all_more, file_back, narrow, turned_back, turned_within}
 use Rattle.mb_tree.proofs.PlainLemmas.{named}
 use Rattle.mb_tree.proofs.UnpackLemmas.{back}
-use Rattle.mb_tree.specs.Files.{File, Files, paths_in, written}
-use Rattle.mb_tree.specs.Format.{format_of, format_word, same_format}
-use Rattle.mb_tree.specs.PackSteps.{IsFit}
-use Rattle.mb_tree.specs.Packed.{held_packed, packed, tiles_in, with_format, with_zooms}
-use Rattle.mb_tree.specs.Packing.{as_given, batch_of, empty_files, first_format, format_or, may_pack, new_tile, path_refused, tile_refusals}
-use Rattle.mb_tree.specs.RoundTrip.{file_under, path_under, plain_file, plain_of}
-use Rattle.mb_tree.specs.Scheme.{turned}
-use Rattle.mb_tree.specs.TilePath.{tile_path}
-use Rattle.mb_tree.specs.Unpacked.{files_by, files_of, format_due, format_named, known_format, path_text, unpacked}
-use Rattle.mb_tree.specs.declared.format.FileFormat.{FileFormat}
-use Rattle.mb_tree.specs.declared.scheme.TileScheme.{TileScheme}
-use Rattle.mb_tree.specs.declared.tile_path.TilePath.{TilePath}
 
 -- the tiles of files that no test refuses
 all_placed : (scheme : TileScheme) (files : List File) → All IsFit (paths_in files) → All IsPlaced (batch_of scheme files)

@@ -1,11 +1,8 @@
 -- What stands before and behind the last byte of a kind.
-use Rattle.std.proofs.Common.{◌≡◌, ◌≢◌, ◌∙◌, ap, sym, ℕ, ◌<◌, ◌≤◌, ◌+◌, ◌-◌, Bool, true, false, cond, List, Option, Some, None, drop, get_or, length, take, refl, suc, zero, arith, inl, inr, ◌⊎◌}
-use Rattle.std.specs.Prelude.{◌==◌, MatchOption, option_map}
+use Rattle.mb_tree.proofs.Common.{ap, arith, Bool, cases_eq, cond, drop, eqb-false, eqb-true, false, get_or, get_or-drop, inl, inr, length, length-drop, List, MatchOption, None, Option, option_map}
+use Rattle.mb_tree.proofs.Common.{refl, rfind_below, rsplit_once, Some, suc, sym, take, true, zero, ℕ, ◌+◌, ◌-◌, ◌<◌, ◌==◌, ◌∙◌, ◌≡◌, ◌≢◌, ◌≤◌, ◌⊎◌}
 use Rattle.std.specs.Borrow.{Bor}
-use Rattle.std.specs.Path.{rfind_below, rsplit_once}
 use Rattle.std.specs.Str.Pattern.{RFindsChar}
-use Rattle.std.proofs.lemmas.Bool.{cases_eq, eqb-false, eqb-true}
-use Rattle.std.proofs.lemmas.List.{get_or-drop, length-drop}
 use Rattle.std.proofs.lemmas.Str.Pattern.{NoCharPasses-char}
 use Rattle.std.proofs.lemmas.Str.{len_utf8_ascii}
 

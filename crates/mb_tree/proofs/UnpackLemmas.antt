@@ -1,36 +1,14 @@
 -- Files that are written, one after another, and what unpacking answers.
-use Rattle.std.proofs.Common.{◌≡◌, ◌∙◌, ap, sym, subst, ℕ, ◌<◌, ◌≤◌, ◌+◌, ◌-◌, ◌^◌, ◌++◌, Bool, true, false, List, [], ◌∷◌, Option, Some, None, filter_map, length, take, drop, refl, suc, zero, arith, Ok, Err, Result}
-use Rattle.std.specs.Prelude.{IfSome, OnErr, OnOk, option_and_then, option_map, slice_get}
-use Rattle.std.specs.List.{cons_option}
-use Rattle.std.specs.FinMap.{entries, insert}
-use Rattle.std.proofs.lemmas.Bool.{false≢true}
-use Rattle.std.proofs.lemmas.List.{take_all, take_more}
-use Rattle.std.proofs.lemmas.Option.{get_or_from_slice_get, none-some, slice_get-get_or}
+use Rattle.mb_tree.proofs.Common.{ap, arith, begun, Blob, Bool, Cell, cons_option, Coord, drop, entries, Err, false, false≢true, File, file_of, FileFormat, Files, files_by, files_of, filter_map}
+use Rattle.mb_tree.proofs.Common.{format_due, get_or_from_slice_get, Held, IfSome, insert, is_free, is_wanting, IsCoord, IsFront, IsUnpacking, Keeps, length, List, Loads, MbtError, None, none-some}
+use Rattle.mb_tree.proofs.Common.{Ok, OnErr, OnOk, Option, option_and_then, option_map, path_at, path_text, Place, refl, Result, slice_get, slice_get-get_or, Some, State, state_of, subst, suc, sym}
+use Rattle.mb_tree.proofs.Common.{Tables, take, take_all, take_more, then, TileScheme, TileSet, true, turned, unpacked, unpacking, written, zero, ℕ, [], ◌++◌, ◌+◌, ◌-◌, ◌<◌, ◌^◌, ◌∙◌, ◌∷◌, ◌≡◌, ◌≤◌}
 use Rattle.mb_lists.specs.Entries.{blob_cell, place_at}
-use Rattle.mb_load.specs.Begun.{begun}
-use Rattle.mb_loaded.specs.Held.{Held}
-use Rattle.mb_load.specs.Loading.{Loads}
-use Rattle.mb_loaded.specs.State.{State}
-use Rattle.mb_load.specs.StateOf.{state_of}
-use Rattle.mb_store.specs.Kept.{Keeps}
-use Rattle.mb_tables.specs.declared.cell.Cell.{Cell}
-use Rattle.mb_tables.specs.declared.cell.Cell.TheVariants.{Blob}
-use Rattle.mb_tables.specs.Refusals.{is_free, then}
-use Rattle.mb_tables.specs.Table.{Tables}
-use Rattle.mb_tables.specs.Tiles.{Place, TileSet}
-use Rattle.mb_tables.specs.declared.error.MbtError.{MbtError}
 use Rattle.mb_tree.proofs.RefusalLemmas.{not_free}
 use Rattle.mb_tree.specs.Errors.{of_tree}
-use Rattle.mb_tree.specs.Scheme.{turned}
 use Rattle.mb_tree.specs.declared.tree.TreeError.{TreeError}
 use Rattle.mb_tree.specs.declared.tree.TreeError.TheVariants.{Fault, OutOfMemory}
-use Rattle.tile_ids.specs.Coord.{Coord, IsCoord}
-use Rattle.mb_tree.specs.Files.{File, Files, written}
 use Rattle.mb_tree.specs.UnpackSteps.{IsPut, with_file}
-use Rattle.mb_tree.specs.Unpacked.{IsFront, IsUnpacking, file_of, files_by, files_of, format_due, path_at, path_text, unpacked, unpacking}
-use Rattle.mb_tree.specs.Wanting.{is_wanting}
-use Rattle.mb_tree.specs.declared.format.FileFormat.{FileFormat}
-use Rattle.mb_tree.specs.declared.scheme.TileScheme.{TileScheme}
 use Rattle.mb_edit.proofs.EntryLemmas.{blob_of}
 
 abbrev Entry : Type 0

@@ -1,16 +1,7 @@
 -- Files that are written one after another, each under a path of its own.
-use Rattle.std.proofs.Common.{◌≡◌, ◌≢◌, ◌∙◌, ap, sym, ℕ, Bool, true, false, cond, List, [], ◌∷◌, Option, Some, None, filter_map, is_some, refl}
-use Rattle.std.specs.Prelude.{option_map}
-use Rattle.std.specs.List.{cons_option}
-use Rattle.std.specs.declared.cmp.Ordering.{Ordering}
-use Rattle.std.specs.declared.cmp.Ordering.TheVariants.{Less, Equal, Greater}
-use Rattle.std.specs.Ordering.{eq_by_cmp, is_eq, nat_cmp}
-use Rattle.std.specs.Cmp.{Equal-is, IsTotalOrder, tied_itself}
-use Rattle.std.specs.Cmp.Lexicographic.{slice_cmp}
-use Rattle.std.specs.FinMap.{IsAntisymmetric, find, get, get-insert, insert, nat_cmp-IsAntisymmetric, put, same_map, slice_cmp-IsAntisymmetric}
-use Rattle.std.specs.FinMap.Entries.{by_order}
-use Rattle.std.proofs.lemmas.Cmp.{nat_list_cmp_total}
-use Rattle.mb_tree.specs.Files.{File, Files, written}
+use Rattle.mb_tree.proofs.Common.{ap, Bool, by_order, cond, cons_option, eq_by_cmp, Equal, Equal-is, false, File, Files, filter_map, find, get, get-insert, Greater, insert, is_eq, is_some}
+use Rattle.mb_tree.proofs.Common.{IsAntisymmetric, IsTotalOrder, Less, List, nat_cmp, nat_cmp-IsAntisymmetric, nat_list_cmp_total, None, Option, option_map, Ordering, put, refl, same_map, slice_cmp}
+use Rattle.mb_tree.proofs.Common.{slice_cmp-IsAntisymmetric, Some, sym, tied_itself, true, written, ℕ, [], ◌∙◌, ◌∷◌, ◌≡◌, ◌≢◌}
 
 abbrev pub by_bytes : List ℕ → List ℕ → Ordering
 by_bytes = slice_cmp nat_cmp

@@ -1,17 +1,10 @@
 -- The set that tiles are packed into.
 use Rattle.std.specs.Prelude.{◌≡◌, Bool, true, false, List, [], ◌∷◌, Result, Ok, Err, IfErr, IfOk}
-use Rattle.mb_loaded.specs.Empty.{empty_state}
-use Rattle.mb_loaded.specs.State.{State}
-use Rattle.mb_load.specs.StateOf.{state_of}
+use Rattle.mb_tree.specs.Common.{empty_state, Flat, MbtError, MismatchedTargetType, State, state_of, Tables, then}
 use Rattle.mb_store.specs.Store.{created}
-use Rattle.mb_tables.specs.Refusals.{then}
 use Rattle.mb_tables.specs.Schema.{set_tables}
-use Rattle.mb_tables.specs.Table.{Tables}
 use Rattle.mb_tables.specs.declared.description.TableDesc.{TableDesc}
-use Rattle.mb_tables.specs.declared.error.MbtError.{MbtError}
-use Rattle.mb_tables.specs.declared.error.MbtError.TheVariants.{MismatchedTargetType}
 use Rattle.mb_tables.specs.declared.kind.MbtType.{MbtType}
-use Rattle.mb_tables.specs.declared.kind.MbtType.TheVariants.{Flat}
 use Rattle.mb_tree.specs.Wanting.{is_wanting}
 use Rattle.mb_tree.specs.declared.base.Base.{Base}
 use Rattle.tile_hash.specs.declared.algorithm.HashAlgorithm.TheVariants.{Md5}

@@ -2,7 +2,7 @@
 use Rattle.std.specs.Prelude.{ℕ, List, [], ◌∷◌, map}
 use Rattle.std.specs.Ordering.{nat_cmp}
 use Rattle.std.specs.Cmp.Lexicographic.{slice_cmp}
-use Rattle.std.specs.FinMap.{FinMap, entries, from_entries, insert}
+use Rattle.mb_tree.specs.Common.{entries, FinMap, from_entries, insert}
 
 -- the bytes of each file by its path, in the order of the paths' bytes
 abbrev pub Files : Type 0

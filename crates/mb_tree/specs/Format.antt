@@ -1,7 +1,6 @@
 -- The formats of tiles in files.
 use Rattle.std.specs.Prelude.{◌≡◌, ℕ, codes, Bool, true, false, cond, List, Option, Some, None, refl}
-use Rattle.std.specs.Str.{bytes_eq}
-use Rattle.std.specs.Str.{str_eq_ignore_ascii_case}
+use Rattle.mb_tree.specs.Common.{bytes_eq, str_eq_ignore_ascii_case}
 use Rattle.mb_tree.specs.declared.format.FileFormat.{FileFormat}
 use Rattle.mb_tree.specs.declared.format.FileFormat.TheVariants.{Png, Jpg, Webp, Avif, Pbf, Mlt}
 

@@ -1,12 +1,6 @@
 -- Files that are read, one after another, and their tiles.
 use Rattle.std.specs.Prelude.{◌≡◌, ℕ, Bool, true, false, List, Option, Some, None, All, IfSome}
-use Rattle.std.specs.FinMap.{entries, get}
-use Rattle.mb_insert.specs.Batch.{is_coord, place_in}
-use Rattle.mb_insert.specs.declared.new_tile.NewTile.{NewTile}
-use Rattle.mb_loaded.specs.Edits.{with_tile}
-use Rattle.mb_loaded.specs.Held.{Held}
-use Rattle.mb_loaded.specs.State.{State}
-use Rattle.mb_tables.specs.declared.error.MbtError.{MbtError}
+use Rattle.mb_tree.specs.Common.{entries, get, Held, is_coord, MbtError, NewTile, place_in, State, with_tile}
 use Rattle.mb_tree.specs.Files.{File, Files, paths_in, paths_of}
 use Rattle.mb_tree.specs.Packed.{held_packed, tiles_in}
 use Rattle.mb_tree.specs.Packing.{as_given, batch_of, may_pack, tile_of_file}

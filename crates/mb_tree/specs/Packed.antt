@@ -1,20 +1,10 @@
 -- A set with the tiles of files, and what its tables hold then.
 use Rattle.std.specs.Prelude.{◌≡◌, ◌⊎◌, ℕ, codes, Bool, true, List, [], ◌∷◌, Option, Some, None, Result, Ok}
-use Rattle.std.specs.FinMap.{entries}
-use Rattle.mb_insert.specs.Batch.{place_in}
-use Rattle.mb_insert.specs.declared.new_tile.NewTile.{NewTile}
+use Rattle.mb_tree.specs.Common.{entries, fresh, Held, is_free, MakesChanges, MbtError, NewTile, place_in, State, state_of, Tables, then, with_name, with_tile}
 use Rattle.mb_load.specs.Committed.{IsCommitted}
-use Rattle.mb_load.specs.Committing.{MakesChanges}
-use Rattle.mb_loaded.specs.Edits.{with_name, with_tile}
-use Rattle.mb_loaded.specs.Held.{Held, fresh}
-use Rattle.mb_loaded.specs.State.{State}
-use Rattle.mb_load.specs.StateOf.{state_of}
 use Rattle.mb_metadata.specs.NameEdits.{held_edited}
 use Rattle.mb_metadata.specs.Updating.{update_edits}
 use Rattle.mb_metadata.specs.declared.zoom_choice.UpdateZoomType.TheVariants.{Reset}
-use Rattle.mb_tables.specs.Refusals.{is_free, then}
-use Rattle.mb_tables.specs.Table.{Tables}
-use Rattle.mb_tables.specs.declared.error.MbtError.{MbtError}
 use Rattle.mb_tree.specs.Base.{base_of, made}
 use Rattle.mb_tree.specs.Files.{File, Files, paths_in, paths_of}
 use Rattle.mb_tree.specs.Format.{format_word}

@@ -1,13 +1,7 @@
 -- Which tiles the files of a tree are, and what is refused of them.
 use Rattle.std.specs.Prelude.{ℕ, List, [], ◌∷◌, Option, Some, None, Result, filter_map, is_some, map, option_and_then, option_map}
 use Rattle.mb_constraints.specs.DiffHashes.{refused_by}
-use Rattle.mb_insert.specs.Insertion.{bad_coord, duplicates}
-use Rattle.mb_insert.specs.declared.mode.CopyDuplicateMode.TheVariants.{Abort}
-use Rattle.mb_insert.specs.declared.new_tile.NewTile.{NewTile}
-use Rattle.mb_loaded.specs.State.{State}
-use Rattle.mb_tables.specs.Refusals.{first_refusal, first_refused, unless}
-use Rattle.mb_tables.specs.declared.error.MbtError.{MbtError}
-use Rattle.mb_tables.specs.declared.error.MbtError.TheVariants.{InconsistentTileFormats, UnsupportedFileExtension}
+use Rattle.mb_tree.specs.Common.{Abort, bad_coord, duplicates, first_refusal, first_refused, InconsistentTileFormats, MbtError, NewTile, State, unless, UnsupportedFileExtension}
 use Rattle.mb_tree.specs.Files.{File}
 use Rattle.mb_tree.specs.Format.{same_format}
 use Rattle.mb_tree.specs.Scheme.{turned}

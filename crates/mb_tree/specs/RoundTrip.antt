@@ -1,14 +1,10 @@
 -- The files of a tree's tiles as they are unpacked again.
 use Rattle.std.specs.Prelude.{◌≡◌, ℕ, codes, Bool, true, List, Option, Some, None, IfOk, filter_map, is_some, option_and_then, option_map, refl}
-use Rattle.std.specs.FinMap.{empty, entries, get}
-use Rattle.std.specs.Fmt.{digits}
-use Rattle.std.specs.Path.{rsplit_once}
-use Rattle.mb_tables.specs.Table.{Tables}
+use Rattle.mb_tree.specs.Common.{digits, empty, entries, get, number_within, rsplit_once, Tables}
 use Rattle.mb_tree.specs.Base.{base_of}
 use Rattle.mb_tree.specs.Files.{File, Files}
 use Rattle.mb_tree.specs.Format.{format_of}
 use Rattle.mb_tree.specs.Scheme.{turned}
-use Rattle.mb_metadata.specs.ZoomText.{number_within}
 use Rattle.mb_tree.specs.TilePath.{tile_path}
 use Rattle.mb_tree.specs.Unpacked.{path_text}
 use Rattle.mb_tree.specs.declared.scheme.TileScheme.{TileScheme}

@@ -1,7 +1,6 @@
 -- The paths of the files of tiles.
 use Rattle.std.specs.Prelude.{◌≡◌, codes, List, ℕ, Option, Some, None, option_and_then, option_map, unwrap_or, refl}
-use Rattle.std.specs.Path.{dot, rsplit_once, slash}
-use Rattle.mb_metadata.specs.ZoomText.{number_within}
+use Rattle.mb_tree.specs.Common.{dot, number_within, rsplit_once, slash}
 use Rattle.mb_tree.specs.Format.{format_of}
 use Rattle.mb_tree.specs.declared.format.FileFormat.{FileFormat}
 use Rattle.mb_tree.specs.declared.format.FileFormat.TheVariants.{Pbf}

@@ -1,7 +1,6 @@
 -- Files that are written, one after another.
 use Rattle.std.specs.Prelude.{◌≡◌, ℕ, Option, Some, None, option_and_then, slice_get}
-use Rattle.std.specs.FinMap.{entries, insert}
-use Rattle.mb_tables.specs.Tiles.{TileSet}
+use Rattle.mb_tree.specs.Common.{entries, insert, TileSet}
 use Rattle.mb_tree.specs.Files.{File, Files}
 use Rattle.mb_tree.specs.Unpacked.{file_of}
 use Rattle.mb_tree.specs.declared.format.FileFormat.{FileFormat}

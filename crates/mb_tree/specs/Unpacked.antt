@@ -1,24 +1,13 @@
 -- The files of the tiles of a set.
 use Rattle.std.specs.Prelude.{◌≡◌, ℕ, codes, ◌++◌, Bool, true, List, [], ◌∷◌, Option, Some, None, Result, Ok, Err, filter_map, option_map, take}
-use Rattle.std.specs.FinMap.{entries}
-use Rattle.std.specs.Fmt.{decimal}
-use Rattle.std.specs.Path.{dot, slash}
+use Rattle.mb_tree.specs.Common.{begun, decimal, dot, entries, inverted_y, MbtError, NoFormatInMetadata, Place, slash, State, state_of, Tables, then, TileSet, UnknownFormatInMetadata}
 use Rattle.mb_lists.specs.Metadata.{text_at}
-use Rattle.mb_load.specs.Begun.{begun}
-use Rattle.mb_loaded.specs.State.{State}
-use Rattle.mb_load.specs.StateOf.{state_of}
-use Rattle.mb_tables.specs.Refusals.{then}
-use Rattle.mb_tables.specs.Table.{Tables}
-use Rattle.mb_tables.specs.Tiles.{Place, TileSet}
-use Rattle.mb_tables.specs.declared.error.MbtError.{MbtError}
-use Rattle.mb_tables.specs.declared.error.MbtError.TheVariants.{NoFormatInMetadata, UnknownFormatInMetadata}
 use Rattle.mb_tree.specs.Files.{File, Files, written}
 use Rattle.mb_tree.specs.Format.{format_of, format_word}
 use Rattle.mb_tree.specs.Scheme.{turned}
 use Rattle.mb_tree.specs.Wanting.{Gives}
 use Rattle.mb_tree.specs.declared.format.FileFormat.{FileFormat}
 use Rattle.mb_tree.specs.declared.scheme.TileScheme.{TileScheme}
-use Rattle.tile_ids.specs.Coord.{inverted_y}
 
 -- the path of a tile: three numbers parted by slashes, and the format behind a dot
 abbrev pub path_text : FileFormat → ℕ → ℕ → ℕ → List ℕ

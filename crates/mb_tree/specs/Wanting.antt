@@ -1,8 +1,6 @@
 -- Answers of calls over a store and a tree.
 use Rattle.std.specs.Prelude.{◌≡◌, ◌||◌, Bool, true, false, Result, Ok, Err}
-use Rattle.mb_tables.specs.Refusals.{is_free}
-use Rattle.mb_tables.specs.declared.error.MbtError.{MbtError}
-use Rattle.mb_tables.specs.declared.error.MbtError.TheVariants.{TreeFault}
+use Rattle.mb_tree.specs.Common.{is_free, MbtError, TreeFault}
 
 abbrev pub is_tree_fault : MbtError → Bool
 is_tree_fault TreeFault = true

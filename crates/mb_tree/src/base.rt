@@ -1,12 +1,7 @@
 // The set that tiles are packed into.
 ghost use Rattle.std.specs.Prelude.{◌≡◌, ◌≢◌, ◌⊎◌, true, false, IfErr, IfOk, OnErr, OnOk};
-ghost use Rattle.mb_load.specs.Committing.{MakesChanges};
-ghost use Rattle.mb_loaded.specs.Empty.{empty_state};
-ghost use Rattle.mb_loaded.specs.Held.{fresh, nothing_edited};
+ghost use Rattle.mb_tree.specs.Common.{empty_state, FaultsCounted, Flat, fresh, is_free, Keeps, MakesChanges, nothing_edited, ReadsOnly};
 ghost use Rattle.mb_load.specs.LoadedFrom.{IsLoadable, IsLoadedFrom, NamesAlgorithm};
-ghost use Rattle.mb_store.specs.Kept.{FaultsCounted, Keeps, ReadsOnly};
-ghost use Rattle.mb_tables.specs.Refusals.{is_free};
-ghost use Rattle.mb_tables.specs.declared.kind.MbtType.TheVariants.{Flat};
 ghost use Rattle.mb_tree.specs.Base.{IsBaseOf, IsFlatOf, made, made_if};
 
 use mb_load::{commit_loaded, load};

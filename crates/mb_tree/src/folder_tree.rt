@@ -1,6 +1,6 @@
 // A tree of files below a folder of the system.
 ghost use Rattle.std.specs.Prelude.{◌≡◌, IfOk};
-ghost use Rattle.std.specs.FinMap.{empty};
+ghost use Rattle.mb_tree.specs.Common.{empty};
 
 use crate::folder_files::{list_all, read_file};
 use crate::folder_writing::write_file;
@@ -44,7 +44,7 @@ impl FolderTree {
 
 impl TileTree for FolderTree {
     ghost use Rattle.std.specs.Prelude.{false};
-    ghost use Rattle.std.specs.FinMap.{empty};
+    ghost use Rattle.mb_tree.specs.Common.{empty};
 
     ghost tells = { λ _. false };
 

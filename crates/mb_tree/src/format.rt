@@ -1,6 +1,6 @@
 // The formats of tiles in files.
 ghost use Rattle.std.specs.Prelude.{◌≡◌};
-ghost use Rattle.std.specs.Str.{str_eq_ignore_ascii_case};
+ghost use Rattle.mb_tree.specs.Common.{str_eq_ignore_ascii_case};
 ghost use Rattle.mb_tree.specs.Format.{format_of, format_word, same_format};
 
 /// A format of tiles in files.

@@ -1,11 +1,6 @@
 //! Laws of trees that are packed into a set, and of what that set is unpacked into.
 ghost use Rattle.std.specs.Prelude.{◌≡◌, ◌<◌, ◌^◌, ◌++◌, ◌∷◌, ℕ, [], List, None, Ok, Some, true};
-ghost use Rattle.std.specs.FinMap.{contains_key, empty, retain_keys};
-ghost use Rattle.std.specs.Path.{slash};
-ghost use Rattle.mb_load.specs.Begun.{begun};
-ghost use Rattle.mb_loaded.specs.State.{State};
-ghost use Rattle.mb_load.specs.StateOf.{state_of};
-ghost use Rattle.mb_tables.specs.Table.{Tables};
+ghost use Rattle.mb_tree.specs.Common.{begun, contains_key, empty, retain_keys, slash, State, state_of, Tables};
 ghost use Rattle.mb_tree.specs.Base.{base_of};
 ghost use Rattle.mb_tree.specs.Files.{Files, paths_of, written};
 ghost use Rattle.mb_tree.specs.Packed.{IsPacked};

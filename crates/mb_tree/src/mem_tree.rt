@@ -1,8 +1,7 @@
 // A tree of files in memory.
 ghost use Rattle.std.specs.Prelude.{◌≡◌, ◌↔◌, ◌≤◌, [], Some, true, IfOk, IsErrOf, OnErr, OnOk};
 ghost use Rattle.std.specs.BTreeMap.{keys};
-ghost use Rattle.std.specs.FinMap.{contains_key, empty, get, insert};
-ghost use Rattle.base_values.specs.Counts.{Rose};
+ghost use Rattle.mb_tree.specs.Common.{contains_key, empty, get, insert, Rose};
 ghost use Rattle.base_values.specs.FailingCalls.{called, next_fails};
 ghost use Rattle.mb_tree.specs.Files.{files_of_list, paths_of};
 

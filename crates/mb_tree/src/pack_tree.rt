@@ -1,7 +1,6 @@
 // Packing a tree of files into a tile set.
 ghost use Rattle.std.specs.Prelude.{◌≡◌, ◌≢◌, true, IfErr, IfOk, IsErrOf, OnOk};
-ghost use Rattle.base_values.specs.Counts.{Rose};
-ghost use Rattle.mb_store.specs.Kept.{FaultsCounted, Keeps, ReadsOnly};
+ghost use Rattle.mb_tree.specs.Common.{FaultsCounted, Keeps, ReadsOnly, Rose};
 ghost use Rattle.mb_tree.specs.PackSteps.{Packs, RefusesPaths};
 ghost use Rattle.mb_tree.specs.Packed.{IsLeft, IsPacked, IsPacking};
 

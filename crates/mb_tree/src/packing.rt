@@ -1,14 +1,7 @@
 // The tiles of files that are put into a set.
 ghost use Rattle.std.specs.Prelude.{◌≡◌, ◌≢◌, ℕ, List, true, All, IfErr, IfOk, IsErrOf, OnOk};
-ghost use Rattle.std.specs.FinMap.{contains_key, len};
-ghost use Rattle.base_values.specs.Counts.{Rose};
-ghost use Rattle.mb_insert.specs.Batch.{is_coord, place_in};
-ghost use Rattle.mb_insert.specs.Insertion.{duplicates};
-ghost use Rattle.mb_insert.specs.declared.mode.CopyDuplicateMode.TheVariants.{Abort};
+ghost use Rattle.mb_tree.specs.Common.{Abort, contains_key, duplicates, Held, is_coord, len, place_in, ReadsOnly, Rose, Tests};
 ghost use Rattle.mb_lists.specs.Entries.{place_at};
-ghost use Rattle.mb_loaded.specs.Held.{Held};
-ghost use Rattle.mb_store.specs.Kept.{ReadsOnly};
-ghost use Rattle.mb_tables.specs.Refusals.{Tests};
 ghost use Rattle.mb_tree.specs.Files.{File, paths_in};
 ghost use Rattle.mb_tree.specs.PackSteps.{AreAllRead, IsFit, IsRead};
 ghost use Rattle.mb_tree.specs.Packed.{tiles_in};

@@ -1,8 +1,6 @@
 // The tests of the paths of files.
 ghost use Rattle.std.specs.Prelude.{◌≡◌, filter_map, length};
-ghost use Rattle.mb_insert.specs.Batch.{is_coord};
-ghost use Rattle.mb_insert.specs.Insertion.{bad_coord};
-ghost use Rattle.mb_tables.specs.Refusals.{Tests, first_refusal, first_refused};
+ghost use Rattle.mb_tree.specs.Common.{bad_coord, first_refusal, first_refused, is_coord, Tests};
 ghost use Rattle.mb_tree.specs.Packing.{as_given, first_format, path_refused, tile_refusals};
 ghost use Rattle.mb_tree.specs.TilePath.{tile_path};
 

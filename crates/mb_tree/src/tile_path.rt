@@ -1,7 +1,6 @@
 // The paths of the files of tiles.
 ghost use Rattle.std.specs.Prelude.{◌≡◌, option_map};
-ghost use Rattle.std.specs.Path.{dot, rsplit_once, slash};
-ghost use Rattle.mb_metadata.specs.ZoomText.{number_within};
+ghost use Rattle.mb_tree.specs.Common.{dot, number_within, rsplit_once, slash};
 ghost use Rattle.mb_tree.specs.TilePath.{format_in, last_part, stem, tile_named, tile_path};
 
 use crate::format::FileFormat;

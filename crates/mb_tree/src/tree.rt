@@ -1,8 +1,6 @@
 // Trees of files.
 ghost use Rattle.std.specs.Prelude.{◌≡◌, ℕ, Bool, Some, true, IfOk, IsErrOf, OnErr, OnOk};
-ghost use Rattle.std.specs.FinMap.{contains_key, get, insert};
-ghost use Rattle.base_values.specs.Counts.{Rose};
-ghost use Rattle.mb_store.specs.Kept.{Keeps, ReadsOnly};
+ghost use Rattle.mb_tree.specs.Common.{contains_key, get, insert, Keeps, ReadsOnly, Rose};
 ghost use Rattle.mb_tree.specs.Files.{Files, paths_of};
 
 use base_values::{BlobVal, OutOfMemory, TextVal};

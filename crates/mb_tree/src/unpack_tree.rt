@@ -1,13 +1,9 @@
 // Unpacking a tile set into a tree of files.
 ghost use Rattle.std.specs.Prelude.{◌≡◌, ◌≢◌, ◌<◌, string_bytes, true, IfErr, IfOk, IsErrOf, OnErr, OnOk};
-ghost use Rattle.std.specs.FinMap.{len};
-ghost use Rattle.base_values.specs.Counts.{Rose};
-ghost use Rattle.mb_store.specs.Kept.{FaultsCounted, Keeps, ReadsOnly};
-ghost use Rattle.mb_tables.specs.Refusals.{Answers};
+ghost use Rattle.mb_tree.specs.Common.{Answers, FaultsCounted, IsCoord, Keeps, len, ReadsOnly, Rose};
 ghost use Rattle.mb_tree.specs.UnpackSteps.{IsPut};
 ghost use Rattle.mb_tree.specs.Files.{written};
 ghost use Rattle.mb_tree.specs.Scheme.{turned};
-ghost use Rattle.tile_ids.specs.Coord.{IsCoord};
 ghost use Rattle.mb_tree.specs.Unpacked.{IsFront, IsUnpacking, files_of, format_due, path_text};
 
 use crate::format::FileFormat;

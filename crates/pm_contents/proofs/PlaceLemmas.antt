@@ -1,10 +1,8 @@
 -- Contents, once each, and their places.
-use Rattle.std.proofs.Common.{◌≡◌, ◌≢◌, ℕ, ◌+◌, ◌⊎◌, inl, inr, Bool, true, false, List, [], ◌∷◌, ◌++◌, length, flat_map, All, Some, None, refl, sym, ◌∙◌, ap, subst, append_assoc, append-nil, length-append}
+use Rattle.pm_contents.proofs.Common.{All, ap, append-nil, append_assoc, Bool, bytes_eq, false, flat_map, found_in, fresh, inl, inr, IsNew, length, length-append, List, list_any, None, place_in}
+use Rattle.pm_contents.proofs.Common.{put_new, refl, Some, subst, sym, true, ℕ, [], ◌++◌, ◌+◌, ◌∙◌, ◌∷◌, ◌≡◌, ◌≢◌, ◌⊎◌}
 use Rattle.std.proofs.lemmas.Slice.Eq.{bytes_eq-Decides}
 use Rattle.std.proofs.lemmas.List.Elements.{All-head, All-tail}
-use Rattle.std.specs.Str.{bytes_eq}
-use Rattle.std.specs.List.{list_any}
-use Rattle.pm_contents.specs.Places.{IsNew, found_in, fresh, place_in, put_new}
 
 pub same_or : (x y : List ℕ) → ((bytes_eq x y ≡ true) × (x ≡ y)) ⊎ ((bytes_eq x y ≡ false) × (x ≢ y))
 same_or x y = go (bytes_eq x y) refl

@@ -1,17 +1,9 @@
 -- What sought bytes are taken for.
-use Rattle.std.proofs.Common.{◌≡◌, ◌≢◌, ℕ, zero, suc, ◌+◌, ◌<◌, ◌≤◌, inl, inr, Bool, true, false, List, [], ◌∷◌, length, drop, flat_map, get_or, replicate, nat_eq, All, Option, Some, None, IfSome, refl, sym, ◌∙◌, ap, arith, subst}
-use Rattle.std.proofs.lemmas.Bool.{eq-eqb, eqb-true}
-use Rattle.std.proofs.lemmas.List.{length-replicate}
-use Rattle.std.specs.BTreeMap.{get}
-use Rattle.std.specs.List.{list_any}
-use Rattle.std.specs.Str.{bytes_eq}
-use Rattle.pm_contents.specs.Contents.{Holds, IsTold, IsUnasked, content_cmp, first_of, in_span, place_by}
-use Rattle.pm_contents.specs.Places.{IsAt, IsBytes, IsNew, found_in}
-use Rattle.pm_contents.specs.Sought.{FoundAs, place_sought}
-use Rattle.pm_contents.specs.declared.contents.Contents.{Contents}
+use Rattle.pm_contents.proofs.Common.{All, ap, arith, Bool, bytes_eq, content_cmp, Contents, drop, eq-eqb, eqb-true, false, first_of, flat_map, found_in, FoundAs, get, get_or, Holds, IfSome, in_span}
+use Rattle.pm_contents.proofs.Common.{inl, inr, IsAt, IsBytes, IsNew, IsTold, IsUnasked, length, length-replicate, List, list_any, nat_eq, None, Option, place_by, place_sought, refl, replicate, Some}
+use Rattle.pm_contents.proofs.Common.{Span, subst, suc, sym, true, zero, ℕ, [], ◌+◌, ◌<◌, ◌∙◌, ◌∷◌, ◌≡◌, ◌≢◌, ◌≤◌}
 use Rattle.pm_contents.specs.declared.sought.Sought.{Sought}
 use Rattle.pm_contents.specs.declared.sought.Sought.TheVariants as sought
-use Rattle.pm_contents.specs.declared.span.Span.{Span}
 use Rattle.pm_contents.proofs.ContentLemmas.{IsFirstIn, first_ends}
 use Rattle.pm_contents.proofs.PlaceLemmas.{all_has, found_is, same_or}
 use Rattle.pm_contents.proofs.Told.{if_both, if_some_map}

@@ -1,5 +1,5 @@
 -- What holds of bytes that may be told.
-use Rattle.std.proofs.Common.{ℕ, List, Option, Some, None, IfSome}
+use Rattle.pm_contents.proofs.Common.{IfSome, List, None, Option, Some, ℕ}
 
 pub if_some_map : (P Q : List ℕ → Type 0) (o : Option (List ℕ)) → ((b : List ℕ) → P b → Q b) → IfSome o P → IfSome o Q
 if_some_map P Q None f h = tt

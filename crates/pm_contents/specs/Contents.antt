@@ -1,11 +1,9 @@
 -- The different contents so far, found by their digests and their bytes. The digest of bytes is what a function of them says, `name`.
 use Rattle.std.specs.Prelude.{◌≡◌, ◌≢◌, ◌+◌, ℕ, List, length, take, drop, flat_map, nat_eq, Option, Some, None, IfSome, if◌then◌else◌}
 use Rattle.std.specs.declared.cmp.Ordering.{Ordering}
-use Rattle.std.specs.BTreeMap.{get, btree_map_len}
-use Rattle.std.specs.Cmp.Lexicographic.{slice_cmp}
+use Rattle.pm_contents.specs.Common.{btree_map_len, bytes_eq, get, slice_cmp}
 use Rattle.std.specs.HashMap as hashed
 use Rattle.std.specs.Ordering.{nat_cmp}
-use Rattle.std.specs.Str.{bytes_eq}
 use Rattle.pm_contents.specs.Places.{IsAt, IsBytes, found_in}
 use Rattle.pm_contents.specs.declared.contents.Contents.{Contents}
 use Rattle.pm_contents.specs.declared.span.Span.{Span}

@@ -1,7 +1,6 @@
 -- Pieces that are written to a medium.
 use Rattle.std.specs.Prelude.{◌≡◌, ℕ, ◌≤◌, List, length, take, Option, Some, None, Result, Ok, Err}
-use Rattle.byte_media.specs.Media.{written}
-use Rattle.byte_media.specs.declared.medium.WriteFault.{WriteFault}
+use Rattle.pm_contents.specs.Common.{WriteFault, written}
 use Rattle.byte_media.specs.declared.medium.WriteFault.TheVariants as writes
 
 -- a relation of the bytes before and after, where they are told; whether they are doesn't change

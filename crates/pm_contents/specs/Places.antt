@@ -1,6 +1,6 @@
 -- Contents, each once, one behind another.
 use Rattle.std.specs.Prelude.{◌≡◌, ℕ, ◌+◌, ◌<◌, List, [], ◌∷◌, ◌++◌, length, get_or, Option, Some, None, if◌then◌else◌}
-use Rattle.std.specs.Str.{bytes_eq}
+use Rattle.pm_contents.specs.Common.{bytes_eq}
 use Rattle.std.specs.List.{list_any}
 
 -- the different byte strings in order of first add

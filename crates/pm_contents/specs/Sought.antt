@@ -1,6 +1,6 @@
 -- What bytes were found as among contents.
 use Rattle.std.specs.Prelude.{◌≡◌, ℕ, List, [], length, Option, Some, None}
-use Rattle.std.specs.BTreeMap.{get}
+use Rattle.pm_contents.specs.Common.{get}
 use Rattle.pm_contents.specs.Contents.{IsUnasked, content_cmp, first_of}
 use Rattle.pm_contents.specs.Places.{IsBytes, found_in}
 use Rattle.pm_contents.specs.declared.contents.Contents.{Contents}

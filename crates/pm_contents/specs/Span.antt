@@ -1,10 +1,9 @@
 -- What a medium's answer says of bytes that may be a content.
 use Rattle.std.specs.Prelude.{◌≡◌, ℕ, ◌-◌, ◌<◌, ◌^◌, Bool, false, List, Result, Ok, Err}
-use Rattle.std.specs.Str.{bytes_eq}
+use Rattle.pm_contents.specs.Common.{bytes_eq, WriteFault}
 use Rattle.byte_media.specs.declared.backend.BackendResponse.{BackendResponse}
 use Rattle.byte_media.specs.declared.backend.ReadFault.{ReadFault}
 use Rattle.byte_media.specs.declared.backend.ReadFault.TheVariants as reads
-use Rattle.byte_media.specs.declared.medium.WriteFault.{WriteFault}
 use Rattle.byte_media.specs.declared.medium.WriteFault.TheVariants as writes
 
 -- whether they are the bytes that were read; a range that the medium doesn't have is another content, and a fault is that of a write

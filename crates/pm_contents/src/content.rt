@@ -38,8 +38,7 @@ impl Content {
 }
 
 impl PartialEq for Content {
-    ghost use Rattle.std.specs.Str.{bytes_eq};
-    ghost use Rattle.std.specs.Cmp.Lexicographic.{nat_list_eq_equiv};
+    ghost use Rattle.pm_contents.specs.Common.{bytes_eq, nat_list_eq_equiv};
     ghost use Rattle.std.specs.Cmp.{partial_equiv_from_equiv};
 
     ghost eq = { bytes_eq };
@@ -52,14 +51,14 @@ impl PartialEq for Content {
 }
 
 impl Eq for Content {
-    ghost use Rattle.std.specs.Cmp.Lexicographic.{nat_list_eq_equiv};
+    ghost use Rattle.pm_contents.specs.Common.{nat_list_eq_equiv};
 
     ghost laws = { nat_list_eq_equiv };
 }
 
 impl PartialOrd for Content {
     ghost use Rattle.std.specs.Prelude.{Some};
-    ghost use Rattle.std.specs.Cmp.Lexicographic.{texts_po};
+    ghost use Rattle.pm_contents.specs.Common.{texts_po};
     ghost use Rattle.pm_contents.specs.Contents.{content_cmp};
 
     ghost partial_cmp = { λ x y. Some (content_cmp x y) };
@@ -73,7 +72,7 @@ impl PartialOrd for Content {
 
 impl Ord for Content {
     ghost use Rattle.std.specs.Prelude.{refl};
-    ghost use Rattle.std.specs.Cmp.Lexicographic.{nat_list_cmp_total, texts_ties};
+    ghost use Rattle.pm_contents.specs.Common.{nat_list_cmp_total, texts_ties};
     ghost use Rattle.pm_contents.specs.Contents.{content_cmp};
 
     ghost cmp = { content_cmp };

@@ -1,10 +1,7 @@
 // The different contents so far, found by their digests and their bytes.
 ghost use Rattle.std.specs.Prelude.{◌≡◌, ◌≤◌, ◌<◌, ◌+◌, ◌^◌, ℕ, List, [], length, None, Some, IfSome, IfOk, OnOk, OnErr, IsErrOf};
-ghost use Rattle.std.specs.BTreeMap.{get};
+ghost use Rattle.pm_contents.specs.Common.{get, IsWithin, KeepsMedium, ReadsOnly, Rose};
 ghost use Rattle.std.specs.HashMap as hashed;
-ghost use Rattle.base_values.specs.Counts.{Rose};
-ghost use Rattle.byte_media.specs.Kept.{KeepsMedium, ReadsOnly};
-ghost use Rattle.byte_media.specs.Media.{IsWithin};
 ghost use Rattle.pm_contents.specs.Contents.{Finds, Holds, IsAlike, IsTold, IsUnasked, content_cmp, first_of};
 ghost use Rattle.pm_contents.specs.Pieces.{LeavesPiece};
 ghost use Rattle.pm_contents.specs.Places.{IsNew, found_in, put_new};

@@ -1,9 +1,6 @@
 // Where a content lies among the bytes of all contents, and what a medium answers there.
 ghost use Rattle.std.specs.Prelude.{◌≡◌, ◌≢◌, ◌≤◌, ◌<◌, ◌+◌, ◌^◌, true, drop, length, IfSome, IfOk, IsErrOf};
-ghost use Rattle.std.specs.Str.{bytes_eq};
-ghost use Rattle.base_values.specs.Counts.{Rose};
-ghost use Rattle.byte_media.specs.Kept.{ReadsOnly};
-ghost use Rattle.byte_media.specs.Media.{IsWithin};
+ghost use Rattle.pm_contents.specs.Common.{bytes_eq, IsWithin, ReadsOnly, Rose};
 ghost use Rattle.pm_contents.specs.Contents.{in_span};
 ghost use Rattle.pm_contents.specs.Span.{Stood, same_by};
 

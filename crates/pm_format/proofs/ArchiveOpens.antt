@@ -1,12 +1,7 @@
 -- What is laid out as an archive opens with its header and root.
-use Rattle.std.proofs.Common.{◌≡◌, ℕ, ◌+◌, ◌-◌, ◌≤◌, Bool, false, List, ◌++◌, length, take, drop, replicate, Some, Ok, nat_lt, refl, ◌∙◌, ap, arith, length-append}
-use Rattle.std.proofs.lemmas.List.{take_at, drop_at, length-replicate}
-use Rattle.std.proofs.lemmas.Bool.Decides.{nat_tests}
+use Rattle.pm_format.proofs.Common.{ap, arith, Bool, dir_bytes, dir_of, drop, drop_at, Entry, false, head, Header, header_bytes, HEADER_SIZE, HeaderFits, length, length-append, length-replicate, List}
+use Rattle.pm_format.proofs.Common.{MAX_ROOT, nat_lt, nat_tests, Ok, refl, replicate, ROOT_END, Some, take, take_at, ℕ, ◌++◌, ◌+◌, ◌-◌, ◌∙◌, ◌≡◌, ◌≤◌}
 use Rattle.pm_format.specs.declared.compression.Compression.TheVariants as compression
-use Rattle.pm_format.specs.declared.header.Header.{Header}
-use Rattle.pm_format.specs.declared.header.TheConstants.{HEADER_SIZE, ROOT_END, MAX_ROOT}
-use Rattle.pm_format.specs.Directory.{Entry, dir_of, dir_bytes}
-use Rattle.pm_format.specs.Header.{HeaderFits, head, header_bytes}
 use Rattle.pm_format.specs.Opened.{opened, opened_front}
 use Rattle.pm_format.specs.Options.{Options}
 use Rattle.pm_format.specs.WellFormed.{Parts, header_of, front_bytes, archive_bytes, data_part, leaf_part}

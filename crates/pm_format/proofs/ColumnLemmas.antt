@@ -1,9 +1,6 @@
 -- One turn of the loops over columns.
-use Rattle.std.proofs.Common.{◌≡◌, ℕ, suc, ◌+◌, ◌-◌, ◌^◌, ◌<◌, ◌≤◌, true, false, List, [], ◌∷◌, ◌++◌, length, Option, Some, None, nat_lt, if◌then◌else◌, option_map, refl, sym, ◌∙◌, ap, arith, append_assoc, drop, length-append}
-use Rattle.std.proofs.lemmas.Bool.Decides.{nat_tests}
-use Rattle.pm_format.specs.Varint.{number_at, u32_at, u64_at}
-use Rattle.pm_format.specs.Directory.{◌>>=◌, column, ids_from}
-use Rattle.pm_format.specs.Columns.{ids_at}
+use Rattle.pm_format.proofs.Common.{ap, append_assoc, arith, column, drop, false, ids_at, ids_from, if◌then◌else◌, length, length-append, List, nat_lt, nat_tests, None, number_at, Option, option_map}
+use Rattle.pm_format.proofs.Common.{refl, Some, suc, sym, true, u32_at, u64_at, ℕ, [], ◌++◌, ◌+◌, ◌-◌, ◌<◌, ◌>>=◌, ◌^◌, ◌∙◌, ◌∷◌, ◌≡◌, ◌≤◌}
 
 -- what was read before stands in front of what is read
 abbrev pub behind : {A : Type 0} → List A → List A × List ℕ → List A × List ℕ

@@ -1,8 +1,7 @@
 -- A directory's count and its columns, one after another.
-use Rattle.std.proofs.Common.{◌≡◌, ℕ, zero, suc, ◌+◌, ◌*◌, ◌%◌, ◌^◌, ◌<◌, ◌≤◌, Bool, true, false, List, [], ◌∷◌, length, Option, Some, None, nat_lt, if◌then◌else◌, option_map, refl, sym, ◌∙◌, ap, arith, subst}
-use Rattle.pm_format.specs.Varint.{spelled, below, number_at, u64_at}
-use Rattle.pm_format.specs.Directory.{Entry, ◌>>=◌, column, ids_from, offsets_from, entries_of, dir_of, IdsDontFall, NotFalling}
-use Rattle.pm_format.specs.Columns.{ids_at, entries_at, columns_at}
+use Rattle.pm_format.proofs.Common.{ap, arith, below, Bool, column, columns_at, dir_of, entries_at, entries_of, Entry, false, ids_at, ids_from, IdsDontFall, if◌then◌else◌, length, List, nat_lt, None}
+use Rattle.pm_format.proofs.Common.{NotFalling, number_at, offsets_from, Option, option_map, refl, Some, spelled, subst, suc, sym, true, u64_at, zero, ℕ, [], ◌%◌, ◌*◌, ◌+◌, ◌<◌, ◌>>=◌, ◌^◌, ◌∙◌, ◌∷◌}
+use Rattle.pm_format.proofs.Common.{◌≡◌, ◌≤◌}
 use Rattle.pm_format.proofs.ColumnLemmas.{beside, put}
 use Rattle.pm_format.proofs.DirectoryPieces.{dont_fall}
 use Rattle.pm_format.proofs.OptionLemmas.{bind_same, bind_none, bind_bind, bind_some, map_some}

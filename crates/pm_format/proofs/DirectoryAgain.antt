@@ -1,8 +1,7 @@
 -- What is written as a directory is read again.
-use Rattle.std.proofs.Common.{◌≡◌, ℕ, suc, ◌+◌, ◌-◌, ◌^◌, ◌<◌, ◌≤◌, Bool, true, false, List, [], ◌∷◌, ◌++◌, length, Option, Some, None, nat_lt, nat_eq, if◌then◌else◌, map, refl, ap, arith, append_assoc, subst, lit<, lit≤}
-use Rattle.std.proofs.lemmas.Bool.Decides.{nat_tests}
-use Rattle.pm_format.specs.Varint.{varint}
-use Rattle.pm_format.specs.Directory.{Entry, column, ids_from, offset_of, offsets_from, entries_of, dir_of, dir_bytes, steps_from, starts_from, spell_all, DirFits}
+use Rattle.pm_format.proofs.Common.{ap, append_assoc, arith, Bool, column, dir_bytes, dir_of, DirFits, entries_of, Entry, false, ids_from, if◌then◌else◌, length, List, lit<, lit≤, map, nat_eq, nat_lt}
+use Rattle.pm_format.proofs.Common.{nat_tests, None, offset_of, offsets_from, Option, refl, Some, spell_all, starts_from, steps_from, subst, suc, true, varint, ℕ, [], ◌++◌, ◌+◌, ◌-◌, ◌<◌, ◌^◌, ◌∷◌}
+use Rattle.pm_format.proofs.Common.{◌≡◌, ◌≤◌}
 use Rattle.pm_format.proofs.VarintWritingLemmas.{AllBelow, column_again, u64_again}
 
 ids_again : (last : ℕ) (es : List Entry) → DirFits last es → ids_from last (steps_from last es) ≡ Some (map (λ e. e.tile_id) es)

@@ -1,7 +1,6 @@
 -- The pieces of a directory, written one behind another, and ids that don't fall.
-use Rattle.std.proofs.Common.{All, ◌≡◌, ℕ, zero, suc, ◌<◌, ◌≤◌, List, [], ◌∷◌, ◌++◌, length, map, None, get_or, append_assoc, arith, refl, ap}
-use Rattle.pm_format.specs.Varint.{varint}
-use Rattle.pm_format.specs.Directory.{DirFits, Entry, IdsDontFall, IsPlaced, IsWritable, NotFalling, dir_bytes, spell_all, steps_from, starts_from}
+use Rattle.pm_format.proofs.Common.{All, ap, append_assoc, arith, dir_bytes, DirFits, Entry, get_or, IdsDontFall, IsPlaced, IsWritable, length, List, map, None, NotFalling, refl, spell_all}
+use Rattle.pm_format.proofs.Common.{starts_from, steps_from, suc, varint, zero, ℕ, [], ◌++◌, ◌<◌, ◌∷◌, ◌≡◌, ◌≤◌}
 
 pub five : (x0 x1 x2 x3 x4 x5 a b c d e : List ℕ) → x1 ≡ x0 ++ a → x2 ≡ x1 ++ b → x3 ≡ x2 ++ c → x4 ≡ x3 ++ d → x5 ≡ x4 ++ e → x5 ≡ x0 ++ (a ++ (b ++ (c ++ (d ++ e))))
 five x0 x1 x2 x3 x4 x5 a b c d e p q r s t = rw (t, s, r, q, p) (simp append_assoc)

@@ -1,11 +1,6 @@
 -- One turn of the loop over the last column.
-use Rattle.std.proofs.Common.{◌≡◌, ℕ, suc, ◌+◌, ◌-◌, ◌^◌, ◌<◌, ◌≤◌, false, List, [], ◌∷◌, ◌++◌, length, Option, Some, None, nat_lt, nat_eq, if◌then◌else◌, option_map, get_or, refl, sym, ◌∙◌, ap, arith, append_assoc, append-nil, drop}
-use Rattle.std.specs.Option.{SomeIff}
-use Rattle.std.proofs.lemmas.List.{drop_all}
-use Rattle.std.proofs.lemmas.Bool.Decides.{nat_tests}
-use Rattle.pm_format.specs.Varint.{number_at}
-use Rattle.pm_format.specs.Directory.{Entry, entry, ◌>>=◌, column, offset_of, offsets_from, entries_of}
-use Rattle.pm_format.specs.Columns.{entries_at}
+use Rattle.pm_format.proofs.Common.{ap, append-nil, append_assoc, arith, column, drop, drop_all, entries_at, entries_of, Entry, entry, false, get_or, if◌then◌else◌, length, List, nat_eq, nat_lt}
+use Rattle.pm_format.proofs.Common.{nat_tests, None, number_at, offset_of, offsets_from, Option, option_map, refl, Some, SomeIff, suc, sym, ℕ, [], ◌++◌, ◌+◌, ◌-◌, ◌<◌, ◌>>=◌, ◌^◌, ◌∙◌, ◌∷◌, ◌≡◌, ◌≤◌}
 use Rattle.pm_format.proofs.ColumnLemmas.{put, column_next, column_none, one_less}
 use Rattle.pm_format.proofs.VarintReadingLemmas.{at_place}
 

@@ -1,17 +1,11 @@
 -- What is written as a header is read again.
-use Rattle.std.proofs.Common.{◌≡◌, ℕ, ◌+◌, ◌<◌, ◌^◌, Bool, true, false, List, ◌++◌, length, nat_lt, nat_eq, slice_get, Some, Ok, refl, ◌∙◌, ap, arith, length-append}
-use Rattle.std.specs.Prelude.{ℤ, FitsSigned}
-use Rattle.std.proofs.lemmas.Bool.Decides.{nat_tests}
-use Rattle.std.proofs.lemmas.Nat.{from_le_bytes-to_le_bytes_4, from_le_bytes-to_le_bytes_8}
-use Rattle.std.proofs.lemmas.Int.{to_z-of_z, ints}
-use Rattle.std.specs.Int.{w32, from_le_bytes, cast_signed, cast_unsigned}
+use Rattle.pm_format.proofs.Common.{ap, arith, bit, Bool, cast_signed, cast_unsigned, compression_byte, compressions, degree_bytes, false, fields, FitsSigned, from_le_bytes}
+use Rattle.pm_format.proofs.Common.{from_le_bytes-to_le_bytes_4, from_le_bytes-to_le_bytes_8, head, Header, header_bytes, HEADER_SIZE, HeaderFits, ints, length, length-append, List, nat_eq, nat_lt}
+use Rattle.pm_format.proofs.Common.{nat_tests, Ok, refl, slice_get, Some, tile_type_byte, tile_types, to_z-of_z, true, w32, ℕ, ℤ, ◌++◌, ◌+◌, ◌<◌, ◌^◌, ◌∙◌, ◌≡◌}
 use Rattle.pm_format.specs.declared.compression.Compression.{Compression}
 use Rattle.pm_format.specs.declared.compression.Compression.TheVariants as compression
 use Rattle.pm_format.specs.declared.tile_type.TileType.{TileType}
 use Rattle.pm_format.specs.declared.tile_type.TileType.TheVariants as tile_type
-use Rattle.pm_format.specs.declared.header.Header.{Header}
-use Rattle.pm_format.specs.declared.header.TheConstants.{HEADER_SIZE}
-use Rattle.pm_format.specs.Header.{HeaderFits, fields, head, header_bytes, compressions, tile_types, compression_byte, tile_type_byte, bit, degree_bytes}
 
 pub compression_again : (label : Compression) → slice_get compressions (compression_byte label) ≡ Some label
 compression_again compression.Unknown = refl

@@ -1,11 +1,8 @@
 -- What the tests of a header find, one after another.
-use Rattle.std.proofs.Common.{◌≡◌, ℕ, ◌<◌, ◌≤◌, true, false, List, length, take, nat_lt, slice_get, Err, refl, arith}
-use Rattle.std.specs.Prelude.{codes}
+use Rattle.pm_format.proofs.Common.{arith, byte_at, codes, compressions, Err, false, head, HEADER_SIZE, labelled, length, List, magic, nat_lt, nat_tests, refl, slice_get, take, tile_types, true, ℕ}
+use Rattle.pm_format.proofs.Common.{◌<◌, ◌≡◌, ◌≤◌}
 use Rattle.std.specs.Str.{bytes_eq}
-use Rattle.std.proofs.lemmas.Bool.Decides.{nat_tests}
 use Rattle.pm_format.specs.declared.error.PmtError.TheVariants as errors
-use Rattle.pm_format.specs.declared.header.TheConstants.{HEADER_SIZE}
-use Rattle.pm_format.specs.Header.{head, labelled, magic, byte_at, compressions, tile_types}
 
 pub head_short : (b : List ℕ) → length b < 7 → head b ≡ Err errors.InvalidHeader
 unfolding head

@@ -1,6 +1,5 @@
 -- What a look-up that was turned into a result says.
-use Rattle.std.proofs.Common.{◌≡◌, Option, Some, None, Ok, Err, refl}
-use Rattle.std.specs.Option.{ok_or}
+use Rattle.pm_format.proofs.Common.{Err, None, Ok, ok_or, Option, refl, Some, ◌≡◌}
 
 pub found_by_ok : {A E : Type 0} (found : Option A) (refusal : E) (x : A) → Ok x ≡ ok_or found refusal → found ≡ Some x
 found_by_ok None refusal x e = cc

@@ -1,10 +1,6 @@
 -- The steps of a look-up.
-use Rattle.std.proofs.Common.{◌≡◌, ◌∙◌, ℕ, zero, suc, true, false, List, nat_eq, None, Some, Result, Ok, refl, ap}
-use Rattle.pm_format.specs.Directory.{Entry}
-use Rattle.pm_format.specs.LookUp.{Reached, ends_at, leaf_of, led, reached, through}
-use Rattle.pm_format.specs.Scan.{scan}
+use Rattle.pm_format.proofs.Common.{ap, ends_at, Entry, false, Header, leaf_of, led, List, nat_eq, None, Ok, Reached, reached, refl, Result, scan, Some, suc, through, true, zero, ℕ, ◌∙◌, ◌≡◌}
 use Rattle.pm_format.specs.declared.error.PmtError.{PmtError}
-use Rattle.pm_format.specs.declared.header.Header.{Header}
 
 pub led_leaf : {A : Type 0} (leaf tile : Entry → A) (none : A) (e : Entry) → nat_eq e.run_length 0 ≡ true → led leaf tile none (Some e) ≡ leaf e
 led_leaf leaf tile none e is = ap (λ test. elim test [ true ↦ leaf e | false ↦ tile e ]) is

@@ -1,7 +1,6 @@
 -- Steps that may give nothing, one after another.
-use Rattle.std.proofs.Common.{◌≡◌, Option, Some, None, option_map, refl, Result, Ok, Err, sym, ◌∙◌}
+use Rattle.pm_format.proofs.Common.{Err, None, Ok, Option, option_map, refl, Result, Some, sym, ◌>>=◌, ◌∙◌, ◌≡◌}
 use Rattle.std.specs.Result.{IsErrAnd}
-use Rattle.pm_format.specs.Directory.{◌>>=◌}
 
 pub bind_same : {A B : Type 0} (x : Option A) (f g : A → Option B) → ((a : A) → f a ≡ g a) → (x >>= f) ≡ (x >>= g)
 bind_same None f g h = refl

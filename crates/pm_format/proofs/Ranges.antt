@@ -1,8 +1,5 @@
 -- Ranges of bytes that lie one behind another.
-use Rattle.std.proofs.Common.{◌≡◌, ℕ, ◌+◌, ◌<◌, ◌^◌, true, List, ◌++◌, length, take, drop, Some, nat_lt, nat_le, refl, ◌∙◌, ap, arith, length-append}
-use Rattle.std.proofs.lemmas.List.{take_at, drop_at}
-use Rattle.std.proofs.lemmas.Bool.Decides.{nat_tests}
-use Rattle.pm_format.specs.LookUp.{range_of}
+use Rattle.pm_format.proofs.Common.{ap, arith, drop, drop_at, length, length-append, List, nat_le, nat_lt, nat_tests, range_of, refl, Some, take, take_at, true, ℕ, ◌++◌, ◌+◌, ◌<◌, ◌^◌, ◌∙◌, ◌≡◌}
 
 -- a piece between two others is the range of its place and length
 pub range_at : (b before x behind : List ℕ) → b ≡ before ++ (x ++ behind) → length b < 2 ^ 64 → range_of b (length before) (length x) ≡ Some x

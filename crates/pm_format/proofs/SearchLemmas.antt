@@ -1,9 +1,6 @@
 -- A search by halves.
-use Rattle.std.proofs.Common.{◌≡◌, ℕ, zero, suc, ◌+◌, ◌-◌, ◌*◌, ◌/◌, ◌^◌, ◌<◌, ◌≤◌, max, Bool, true, false, List, [], ◌∷◌, length, Option, Some, None, nat_le, get_or, refl, ◌∙◌, ap, arith, ◌⊎◌, inl, inr, ◌↔◌, IsTrue}
-use Rattle.std.proofs.Math.Nat.{pow-succ', mul-le-mul_left}
-use Rattle.std.proofs.lemmas.Bool.Decides.{nat_tests}
-use Rattle.pm_format.specs.Directory.{Entry, ◌>>=◌, IdsDontFall}
-use Rattle.pm_format.specs.Scan.{last_below, covers, scan, Parts}
+use Rattle.pm_format.proofs.Common.{ap, arith, Bool, covers, Entry, false, get_or, IdsDontFall, inl, inr, IsTrue, last_below, length, List, max, mul-le-mul_left, nat_le, nat_tests, None, Option}
+use Rattle.pm_format.proofs.Common.{Parts, pow-succ', refl, scan, Some, suc, true, zero, ℕ, [], ◌*◌, ◌+◌, ◌-◌, ◌/◌, ◌<◌, ◌>>=◌, ◌^◌, ◌↔◌, ◌∙◌, ◌∷◌, ◌≡◌, ◌≤◌, ◌⊎◌}
 
 pub record Searching (es : List Entry) (t low high first steps : ℕ) : Type 0 where
   pub order : low ≤ high

@@ -1,9 +1,7 @@
 -- Spellings and what is read and written agree.
-use Rattle.std.proofs.Common.{◌≡◌, ℕ, zero, suc, ◌+◌, ◌*◌, ◌/◌, ◌%◌, ◌^◌, ◌<◌, ◌≤◌, ◌⊎◌, inl, inr, List, [], ◌∷◌, ◌++◌, length, Option, Some, None, option_map, refl, sym, ◌∙◌, ap, arith, subst, All}
-use Rattle.std.proofs.lemmas.Bool.Decides.{nat_tests}
-use Rattle.pm_format.specs.Varint.{spelled_value, IsSpelling, SpellsU64, EndsAboveZero, IsShort, spelled, below, u64_at, short_of, varint}
+use Rattle.pm_format.proofs.Common.{All, ap, arith, below, EndsAboveZero, inl, inr, IsShort, IsSpelling, length, List, lt_or, nat_tests, None, Option, option_map, refl, short_of, Some, spelled}
+use Rattle.pm_format.proofs.Common.{spelled_value, SpellsU64, subst, suc, sym, u64_at, varint, zero, ℕ, [], ◌%◌, ◌*◌, ◌++◌, ◌+◌, ◌/◌, ◌<◌, ◌^◌, ◌∙◌, ◌∷◌, ◌≡◌, ◌≤◌, ◌⊎◌}
 use Rattle.pm_format.proofs.OptionLemmas.{map_some}
-use Rattle.tile_ids.proofs.Bijection.{lt_or}
 use Rattle.pm_format.proofs.VarintReadingLemmas.{below_low, carried, spelled_last, spelled_more}
 use Rattle.pm_format.proofs.VarintLemmas.{short_last, short_more, low_more}
 

@@ -1,9 +1,6 @@
 -- One turn of the loop that writes a varint.
-use Rattle.std.proofs.Common.{◌≡◌, ℕ, zero, suc, ◌+◌, ◌/◌, ◌%◌, ◌^◌, ◌<◌, ◌≤◌, List, [], ◌∷◌, ◌++◌, length, refl, sym, ◌∙◌, ap, arith, append_assoc, take, length-take}
-use Rattle.std.proofs.Math.Nat.{pow-succ'}
-use Rattle.std.proofs.lemmas.List.{take-append-le}
-use Rattle.std.proofs.lemmas.Bool.Decides.{nat_tests}
-use Rattle.pm_format.specs.Varint.{short_of, varint}
+use Rattle.pm_format.proofs.Common.{ap, append_assoc, arith, length, length-take, List, nat_tests, pow-succ', refl, short_of, suc, sym, take, take-append-le, varint, zero, ℕ, [], ◌%◌, ◌++◌, ◌+◌, ◌/◌}
+use Rattle.pm_format.proofs.Common.{◌<◌, ◌^◌, ◌∙◌, ◌∷◌, ◌≡◌, ◌≤◌}
 
 -- what is written so far, with the spelling of the rest in at most k + 1 bytes, is the whole
 pub record Completes (whole out : List ℕ) (rest k : ℕ) : Type 0 where

@@ -1,11 +1,6 @@
 -- One turn of the loop that reads a varint.
-use Rattle.std.proofs.Common.{◌≡◌, ℕ, zero, suc, ◌+◌, ◌-◌, ◌*◌, ◌%◌, ◌^◌, ◌<◌, ◌≤◌, List, [], ◌∷◌, length, Option, Some, None, option_map, refl, sym, ◌∙◌, ap, arith, drop, get_or, drop-cons, add-one, inl, inr, ◌⊎◌, lit<}
-use Rattle.std.proofs.lemmas.Nat.{pow-add, pow_pos}
-use Rattle.std.proofs.lemmas.List.{drop_all}
-use Rattle.std.proofs.Math.Nat.{mul-le-mul_right, pow-le-pow_right}
-use Rattle.std.proofs.lemmas.Bool.Decides.{nat_tests}
-use Rattle.tile_ids.proofs.Bijection.{lt_or}
-use Rattle.pm_format.specs.Varint.{spelled, below, number_at}
+use Rattle.pm_format.proofs.Common.{add-one, ap, arith, below, drop, drop-cons, drop_all, get_or, inl, inr, length, List, lit<, lt_or, mul-le-mul_right, nat_tests, None, number_at, Option, option_map}
+use Rattle.pm_format.proofs.Common.{pow-add, pow-le-pow_right, pow_pos, refl, Some, spelled, suc, sym, zero, ℕ, [], ◌%◌, ◌*◌, ◌+◌, ◌-◌, ◌<◌, ◌^◌, ◌∙◌, ◌∷◌, ◌≡◌, ◌≤◌, ◌⊎◌}
 
 -- what a number read so far and the rest give together
 abbrev pub carried : ℕ → ℕ → ℕ × List ℕ → ℕ × List ℕ

@@ -1,8 +1,6 @@
 -- Numbers that are written are read again.
-use Rattle.std.proofs.Common.{◌≡◌, ℕ, zero, suc, ◌+◌, ◌*◌, ◌/◌, ◌%◌, ◌^◌, ◌<◌, ◌≤◌, inl, inr, List, [], ◌∷◌, ◌++◌, length, Some, option_map, refl, ◌∙◌, ap, arith, append_assoc}
-use Rattle.tile_ids.proofs.Bijection.{lt_or}
-use Rattle.pm_format.specs.Varint.{spelled, below, number_at, u64_at, short_of, varint}
-use Rattle.pm_format.specs.Directory.{◌>>=◌, column, spell_all}
+use Rattle.pm_format.proofs.Common.{ap, append_assoc, arith, below, column, inl, inr, length, List, lt_or, number_at, option_map, refl, short_of, Some, spell_all, spelled, suc, u64_at, varint, zero}
+use Rattle.pm_format.proofs.Common.{ℕ, [], ◌%◌, ◌*◌, ◌++◌, ◌+◌, ◌/◌, ◌<◌, ◌>>=◌, ◌^◌, ◌∙◌, ◌∷◌, ◌≡◌, ◌≤◌}
 use Rattle.pm_format.proofs.VarintLemmas.{short_more, short_last, low_more}
 use Rattle.pm_format.proofs.VarintReadingLemmas.{carried, spelled_last, spelled_more, below_low}
 

@@ -1,7 +1,7 @@
 -- The header, by places (PMTiles specification version 3, header).
 use Rattle.std.specs.Prelude.{ℕ, List, [], ◌∷◌, ◌++◌, ◌<◌, ◌^◌, length, take, drop, slice_get, slice_index, nat_lt, nat_eq, Bool, true, false, if◌then◌else◌, codes, ℤ, FitsSigned, Option, Some, None, Result, Ok, Err}
 use Rattle.std.specs.Str.{bytes_eq}
-use Rattle.std.specs.Int.{to_le_bytes, from_le_bytes, cast_signed, cast_unsigned, w32, w64, Width}
+use Rattle.pm_format.specs.Common.{cast_signed, cast_unsigned, from_le_bytes, to_le_bytes, w32, w64, Width}
 use Rattle.pm_format.specs.declared.compression.Compression.{Compression}
 use Rattle.pm_format.specs.declared.compression.Compression.TheVariants as compression
 use Rattle.pm_format.specs.declared.tile_type.TileType.{TileType}

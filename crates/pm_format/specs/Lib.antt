@@ -1,3 +1,4 @@
+pub mod Common
 pub mod Compression
 pub mod Columns
 pub mod Directory

@@ -1,6 +1,6 @@
 -- What an archive has for an id: through the root and at most six leaves to the contents of a tile.
 use Rattle.std.specs.Prelude.{ℕ, zero, suc, ◌+◌, ◌^◌, List, [], ◌∷◌, length, take, drop, nat_le, nat_lt, nat_eq, ◌&&◌, if◌then◌else◌, true, false, Option, Some, None, Result, Ok, Err}
-use Rattle.tile_ids.specs.declared.id.TheConstants.{MAX_TILE_ID}
+use Rattle.pm_format.specs.Common.{MAX_TILE_ID}
 use Rattle.pm_format.specs.declared.error.PmtError.{PmtError}
 use Rattle.pm_format.specs.declared.error.PmtError.TheVariants as errors
 use Rattle.pm_format.specs.declared.error.ReadCause.TheVariants as causes

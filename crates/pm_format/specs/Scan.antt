@@ -1,6 +1,6 @@
 -- What a directory has for an id: a walk from its front.
 use Rattle.std.specs.Prelude.{◌≡◌, ℕ, ◌-◌, ◌<◌, ◌≤◌, List, [], ◌∷◌, length, Option, Some, None, nat_lt, nat_le, nat_eq, if◌then◌else◌, refl}
-use Rattle.std.specs.List.{slice_index_or}
+use Rattle.pm_format.specs.Common.{slice_index_or}
 use Rattle.pm_format.specs.Directory.{Entry, entry, three, ◌>>=◌}
 
 -- the last entry whose id is at most t, or what was found before

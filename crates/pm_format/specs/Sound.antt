@@ -1,6 +1,6 @@
 -- Archives in which every look-up ends well.
 use Rattle.std.specs.Prelude.{◌≡◌, ◌≢◌, ℕ, zero, suc, ◌+◌, ◌<◌, ◌≤◌, List, [], ◌∷◌, Ok, IsSome}
-use Rattle.tile_ids.specs.declared.id.TheConstants.{MAX_TILE_ID}
+use Rattle.pm_format.specs.Common.{MAX_TILE_ID}
 use Rattle.pm_format.specs.declared.header.Header.{Header}
 use Rattle.pm_format.specs.Directory.{Entry}
 use Rattle.pm_format.specs.Opened.{Opened, opened}

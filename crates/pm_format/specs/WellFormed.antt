@@ -1,6 +1,6 @@
 -- When bytes are a well-formed archive with given options.
 use Rattle.std.specs.Prelude.{◌≡◌, ◌≢◌, ◌⊎◌, ℕ, ◌+◌, ◌-◌, ◌≤◌, Bool, List, [], ◌∷◌, ◌++◌, length, replicate, sum_by, flat_map, Ok, Some, nat_eq, filter, not, if◌then◌else◌}
-use Rattle.tile_ids.specs.declared.id.TheConstants.{MAX_TILE_ID}
+use Rattle.pm_format.specs.Common.{MAX_TILE_ID}
 use Rattle.pm_format.specs.declared.compression.Compression.TheVariants as compression
 use Rattle.pm_format.specs.declared.header.Header.{Header}
 use Rattle.pm_format.specs.declared.header.TheConstants.{HEADER_SIZE, ROOT_END, MAX_ROOT}

@@ -20,7 +20,7 @@ pub enum Compression {
 
 impl Compression {
     ghost use Rattle.std.specs.Prelude.{◌≡◌, slice_get};
-    ghost use Rattle.std.specs.Option.{ok_or, option_copied};
+    ghost use Rattle.pm_format.specs.Common.{ok_or, option_copied};
     ghost use Rattle.pm_format.specs.Header.{compressions, compression_byte};
     ghost use Rattle.pm_format.specs.Compression.{encoding_text};
 

@@ -1,6 +1,6 @@
 // Entries of directories.
 ghost use Rattle.std.specs.Prelude.{◌≡◌, ◌≤◌, ◌+◌, ◌↔◌, IsTrue};
-ghost use Rattle.std.specs.List.{range_with_len};
+ghost use Rattle.pm_format.specs.Common.{range_with_len};
 
 use crate::DirEntryCoordsIter;
 use tile_ids::MAX_TILE_ID;

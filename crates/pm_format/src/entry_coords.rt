@@ -14,8 +14,7 @@ pub struct DirEntryCoordsIter<'a> {
 
 impl<'a> Model for DirEntryCoordsIter<'a> {
     ghost use Rattle.std.specs.Prelude.{◌+◌, ◌-◌, ◌≤◌, ℕ, List};
-    ghost use Rattle.std.specs.List.{range_with_len};
-    ghost use Rattle.tile_ids.specs.declared.id.TheConstants.{MAX_TILE_ID};
+    ghost use Rattle.pm_format.specs.Common.{MAX_TILE_ID, range_with_len};
 
     ghost Value = { List ℕ };
 
@@ -28,8 +27,7 @@ impl<'a> Model for DirEntryCoordsIter<'a> {
 
 impl<'a> DirEntryCoordsIter<'a> {
     ghost use Rattle.std.specs.Prelude.{◌+◌, ◌≤◌};
-    ghost use Rattle.std.specs.List.{range_with_len};
-    ghost use Rattle.tile_ids.specs.declared.id.TheConstants.{MAX_TILE_ID};
+    ghost use Rattle.pm_format.specs.Common.{MAX_TILE_ID, range_with_len};
 
     // All ids of the run.
     pub(crate) fn new(entry: &'a DirEntry) -> DirEntryCoordsIter<'a>

@@ -1,6 +1,6 @@
 // The header of an archive: its fields, its defaults and its bytes.
 ghost use Rattle.std.specs.Prelude.{◌≡◌, ◌++◌, ◌<◌, ℕ, List, length, Ok};
-ghost use Rattle.std.specs.Option.{SomeIff};
+ghost use Rattle.pm_format.specs.Common.{SomeIff};
 ghost use Rattle.pm_format.specs.Header.{head, header_bytes};
 ghost use Rattle.pm_format.specs.HeaderDefaults.{default_header};
 

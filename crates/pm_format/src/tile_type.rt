@@ -24,7 +24,7 @@ pub enum TileType {
 
 impl TileType {
     ghost use Rattle.std.specs.Prelude.{◌≡◌, slice_get};
-    ghost use Rattle.std.specs.Option.{ok_or};
+    ghost use Rattle.pm_format.specs.Common.{ok_or};
     ghost use Rattle.pm_format.specs.Header.{tile_types, tile_type_byte};
     ghost use Rattle.pm_format.specs.TileType.{media_type_text};
 

@@ -1,21 +1,8 @@
 -- What a look-up finds on its way through leaves.
-use Rattle.std.proofs.Common.{◌≡◌, ◌∙◌, ℕ, suc, ◌-◌, ◌≤◌, true, List, nat_eq, Option, Some, Result, Ok, Err, refl, sym, ap, subst, arith}
-use Rattle.std.specs.Result.{IsErrAnd}
-use Rattle.std.proofs.lemmas.Bool.Decides.{nat_tests}
-use Rattle.pm_format.specs.Directory.{Entry}
-use Rattle.pm_format.specs.LookUp.{Reached, entry_from, hops_from, leaf_of, reached, through}
-use Rattle.pm_format.proofs.LookUpLemmas.{reached_leaf}
-use Rattle.pm_format.specs.Scan.{scan}
-use Rattle.pm_format.specs.declared.error.PmtError.{PmtError}
+use Rattle.pm_reader.proofs.Common.{ap, arith, Entry, entry_from, entry_in_leaf, Err, Follows, Gives, GrewBetween, Header, Held, hops_from, IsAtLevel, IsErrAnd, IsLeafEntry, IsTrusted, leaf_of, List}
+use Rattle.pm_reader.proofs.Common.{nat_eq, nat_tests, Ok, Option, PmtError, Reached, reached, reached_leaf, refl, Result, scan, Some, subst, suc, sym, through, true, ℕ, ◌-◌, ◌∙◌, ◌≡◌, ◌≤◌}
 use Rattle.pm_format.specs.declared.error.PmtError.TheVariants as errors
 use Rattle.pm_format.specs.declared.error.ReadCause.TheVariants as causes
-use Rattle.pm_format.specs.declared.header.Header.{Header}
-use Rattle.pm_reader.specs.Answers.{Gives}
-use Rattle.pm_reader.specs.Caches.{Held}
-use Rattle.pm_reader.specs.Levels.{IsAtLevel, IsLeafEntry, IsTrusted}
-use Rattle.pm_reader.specs.Path.{entry_in_leaf}
-use Rattle.pm_reader.specs.Reads.{GrewBetween}
-use Rattle.pm_reader.specs.Way.{Follows}
 use Rattle.pm_reader.proofs.LevelLemmas.{level_below}
 
 -- what the leaf of an entry has for an id, where it is there, and why not

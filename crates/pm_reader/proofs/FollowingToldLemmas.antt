@@ -1,17 +1,6 @@
 -- The same over bytes that may be told, by how many leaves are left.
-use Rattle.std.proofs.Common.{◌≡◌, ◌↔◌, ℕ, zero, suc, ◌-◌, ◌<◌, ◌≤◌, Bool, true, false, IsTrue, List, nat_eq, Option, None, Some, IfSome, Result, Ok, Err, sym, subst, arith}
-use Rattle.std.specs.Result.{IsErrAnd}
-use Rattle.std.proofs.lemmas.Bool.Decides.{nat_tests}
-use Rattle.pm_format.specs.Directory.{Entry}
-use Rattle.pm_format.specs.LookUp.{entry_from}
-use Rattle.pm_format.specs.declared.error.PmtError.{PmtError}
-use Rattle.pm_format.specs.declared.header.Header.{Header}
-use Rattle.pm_reader.specs.Answers.{Gives}
-use Rattle.pm_reader.specs.Caches.{Held}
-use Rattle.pm_reader.specs.Levels.{IsAtLevel, IsLeafEntry, IsTrusted}
-use Rattle.pm_reader.specs.Path.{entry_in_leaf}
-use Rattle.pm_reader.specs.Reads.{GrewBetween}
-use Rattle.pm_reader.specs.Way.{Follows}
+use Rattle.pm_reader.proofs.Common.{arith, Bool, Entry, entry_from, entry_in_leaf, Err, false, Follows, Gives, GrewBetween, Header, Held, IfSome, IsAtLevel, IsErrAnd, IsLeafEntry, IsTrue, IsTrusted}
+use Rattle.pm_reader.proofs.Common.{List, nat_eq, nat_tests, None, Ok, Option, PmtError, Result, Some, subst, suc, sym, true, zero, ℕ, ◌-◌, ◌<◌, ◌↔◌, ◌≡◌, ◌≤◌}
 use Rattle.pm_reader.proofs.FollowingLemmas.{follows_none, follows_on, follows_refused, leaf_entry}
 
 pub is_tile : (leaf : Bool) (run : ℕ) → (IsTrue leaf ↔ (run ≡ 0)) → leaf ≡ false → nat_eq run 0 ≡ false

@@ -1,16 +1,6 @@
 -- What a look-up of a tile answers.
-use Rattle.std.proofs.Common.{◌≡◌, ◌∙◌, ℕ, ◌+◌, ◌-◌, ◌≤◌, List, Option, None, Some, IfSome, Result, Ok, Err, sym, ap, subst, arith}
-use Rattle.std.specs.Result.{IsErrAnd}
-use Rattle.pm_format.specs.Directory.{Entry}
-use Rattle.pm_format.specs.LookUp.{data_behind, data_of, entry_from, hops_by, hops_from, range_of, tile_by}
-use Rattle.pm_format.specs.Scan.{scan}
-use Rattle.byte_media.specs.declared.backend.BackendResponse.{BackendResponse}
-use Rattle.pm_format.specs.declared.error.PmtError.{PmtError}
-use Rattle.pm_format.specs.declared.header.Header.{Header}
-use Rattle.pm_reader.specs.Answers.{Gives, range_read, tile_of}
-use Rattle.pm_reader.specs.Caches.{Held}
-use Rattle.pm_reader.specs.Levels.{IsAtLevel, IsTrusted, level}
-use Rattle.pm_reader.specs.Way.{Finds, Follows}
+use Rattle.pm_reader.proofs.Common.{ap, arith, BackendResponse, data_behind, data_of, Entry, entry_from, Err, Finds, Follows, Gives, Header, Held, hops_by, hops_from, IfSome, IsAtLevel, IsErrAnd}
+use Rattle.pm_reader.proofs.Common.{IsTrusted, level, List, None, Ok, Option, PmtError, range_of, range_read, Result, scan, Some, subst, sym, tile_by, tile_of, ℕ, ◌+◌, ◌-◌, ◌∙◌, ◌≡◌, ◌≤◌}
 use Rattle.pm_reader.proofs.FollowingLemmas.{gives_refused}
 use Rattle.pm_reader.proofs.LevelLemmas.{scan_is_in}
 

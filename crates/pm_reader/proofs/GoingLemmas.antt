@@ -1,8 +1,5 @@
 -- A walk, between two leaves.
-use Rattle.std.proofs.Common.{◌≡◌, ℕ, ◌+◌, ◌-◌, ◌*◌, ◌^◌, ◌≤◌, false, List, length, Option, IfSome}
-use Rattle.pm_reader.specs.Reads.{GrewBetween}
-use Rattle.pm_reader.specs.WalkSteps.{left_of, queue_of}
-use Rattle.pm_reader.specs.declared.walk.WalkState.{WalkState}
+use Rattle.pm_reader.proofs.Common.{false, GrewBetween, IfSome, left_of, length, List, Option, queue_of, WalkState, ℕ, ◌*◌, ◌+◌, ◌-◌, ◌^◌, ◌≡◌, ◌≤◌}
 
 -- what holds since the first state and backend
 pub record Going {B V : Type 0} (tells : B → Option (List ℕ)) (texts : B → V) (count failed : B → ℕ) (steady : B → Type 0) (s t : WalkState) (x y : B) : Type 0 where

@@ -1,13 +1,7 @@
 -- Entries of directories and levels.
-use Rattle.std.proofs.Common.{◌≡◌, ◌⊎◌, ◌∙◌, inl, inr, ℕ, zero, suc, ◌-◌, Bool, true, false, List, [], ◌∷◌, nat_eq, nat_le, nat_lt, if◌then◌else◌, Option, None, Some, Result, Ok, Err, refl, sym, ap, subst, arith, flat_map}
-use Rattle.std.specs.Prelude.{Contains}
-use Rattle.std.proofs.lemmas.List.Elements.{Contains-append_left, Contains-append_right, Contains-append_cases}
-use Rattle.pm_format.specs.Directory.{Entry, ◌>>=◌}
-use Rattle.pm_format.specs.LookUp.{leaf_of}
-use Rattle.pm_format.specs.Scan.{covers, last_below, scan}
-use Rattle.pm_format.specs.declared.error.PmtError.{PmtError}
-use Rattle.pm_format.specs.declared.header.Header.{Header}
-use Rattle.pm_reader.specs.Levels.{IsAtLevel, entries_below, level}
+use Rattle.pm_reader.proofs.Common.{ap, arith, Bool, Contains, Contains-append_cases, Contains-append_left, Contains-append_right, covers, entries_below, Entry, Err, false, flat_map, Header}
+use Rattle.pm_reader.proofs.Common.{if◌then◌else◌, inl, inr, IsAtLevel, last_below, leaf_of, level, List, nat_eq, nat_le, nat_lt, None, Ok, Option, PmtError, refl, Result, scan, Some, subst, suc, sym}
+use Rattle.pm_reader.proofs.Common.{true, zero, ℕ, [], ◌-◌, ◌>>=◌, ◌∙◌, ◌∷◌, ◌≡◌, ◌⊎◌}
 
 -- what is found in a directory is one of its entries
 first_is_in : (found : Option Entry) (f e : Entry) (es : List Entry) (test : Bool) → (if test then Some f else found) ≡ Some e → (found ≡ Some e) ⊎ Contains (f ∷ es) e

@@ -1,3 +1,4 @@
+mod Common
 pub mod FollowingLemmas
 pub mod FollowingToldLemmas
 pub mod FoundTileLemmas

@@ -1,10 +1,6 @@
 -- The metadata's bytes as a text.
-use Rattle.std.proofs.Common.{◌≡◌, ◌∙◌, ℕ, ◌+◌, List, Option, None, Some, IfSome, Result, Ok, Err, sym, ap, subst, zero-add}
-use Rattle.std.specs.Str.{IsUtf8}
-use Rattle.pm_format.specs.declared.error.PmtError.{PmtError}
+use Rattle.pm_reader.proofs.Common.{ap, Err, Header, IfSome, IsUtf8, List, None, Ok, Option, PmtError, range_read, Result, Some, subst, sym, zero-add, ℕ, ◌+◌, ◌∙◌, ◌≡◌}
 use Rattle.pm_format.specs.declared.error.PmtError.TheVariants as errors
-use Rattle.pm_format.specs.declared.header.Header.{Header}
-use Rattle.pm_reader.specs.Answers.{range_read}
 use Rattle.pm_reader.specs.Metadata.{IsTextOf, MetadataAnswers, metadata_read}
 
 text_answers : (range : Result (List ℕ) PmtError) (bytes : List ℕ) (r : Result (List ℕ) PmtError) → range ≡ Ok bytes → IsTextOf bytes r → MetadataAnswers range r

@@ -1,21 +1,12 @@
 -- In a well-formed archive each leaf offset is used with one length.
-use Rattle.std.proofs.Common.{◌≡◌, ◌∙◌, inl, inr, ℕ, zero, suc, ◌+◌, ◌^◌, ◌<◌, ◌≤◌, ◌&&◌, Bool, true, false, List, [], ◌∷◌, ◌++◌, length, take, drop, nat_eq, nat_le, nat_lt, if◌then◌else◌, Option, None, Some, Result, Ok, Err, refl, sym, ap, subst, arith, append_assoc, length-append, flat_map}
-use Rattle.std.specs.Prelude.{Contains}
+use Rattle.pm_reader.proofs.Common.{AllLeaves, AllRead, AllSome, AllTiles, ap, append_assoc, archive_bytes, arith, below_root, Bool, ConsistsOf, Contains, Contains-append_cases, Contains-append_right}
+use Rattle.pm_reader.proofs.Common.{data_part, dir_bytes, dir_of, drop, drop_at, entries_below, Entry, entry, Err, false, first_id, flat_map, front_bytes, HasOneLength, Header, header_of}
+use Rattle.pm_reader.proofs.Common.{if◌then◌else◌, inl, inr, joined, leaf_of, leaf_part, length, length-append, level, List, NamesLeaves, NamesUppers, nat_eq, nat_le, nat_lt, nat_tests, None, Ok}
+use Rattle.pm_reader.proofs.Common.{Opened, Option, Parts, PmtError, range_of, refl, Result, root_of, Some, subst, suc, sym, take, take_at, true, u64_at, UsesOneLength, WellFormed, zero, ℕ, [], ◌&&◌}
+use Rattle.pm_reader.proofs.Common.{◌++◌, ◌+◌, ◌<◌, ◌^◌, ◌∙◌, ◌∷◌, ◌≡◌, ◌≤◌}
 use Rattle.std.proofs.lemmas.Grind.{flat_map-append}
-use Rattle.std.proofs.lemmas.List.{drop_at, take_at}
-use Rattle.std.proofs.lemmas.List.Elements.{Contains-append_cases, Contains-append_right}
-use Rattle.std.proofs.lemmas.Bool.Decides.{nat_tests}
-use Rattle.pm_format.specs.Directory.{Entry, dir_bytes, dir_of, entry}
-use Rattle.pm_format.specs.LookUp.{leaf_of, range_of}
-use Rattle.pm_format.specs.Opened.{Opened}
 use Rattle.pm_format.specs.Options.{Options}
-use Rattle.pm_format.specs.Varint.{u64_at}
-use Rattle.pm_format.specs.WellFormed.{AllLeaves, AllRead, AllSome, AllTiles, ConsistsOf, NamesLeaves, NamesUppers, Parts, WellFormed, archive_bytes, below_root, data_part, first_id, front_bytes, header_of, joined, leaf_part, root_of}
-use Rattle.pm_format.specs.declared.error.PmtError.{PmtError}
-use Rattle.pm_format.specs.declared.header.Header.{Header}
 use Rattle.pm_format.proofs.ArchiveOpens.{front_length}
-use Rattle.pm_reader.specs.Archives.{UsesOneLength}
-use Rattle.pm_reader.specs.Levels.{HasOneLength, entries_below, level}
 use Rattle.pm_reader.proofs.LevelLemmas.{in_flat_map, single_is}
 use Rattle.pm_reader.proofs.QueueLemmas.{no_level}
 

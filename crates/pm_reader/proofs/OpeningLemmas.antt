@@ -1,20 +1,12 @@
 -- What the front of told bytes says of them.
-use Rattle.std.proofs.Common.{◌≡◌, ◌⊎◌, ◌∙◌, inl, inr, ℕ, ◌+◌, Bool, true, false, List, length, take, nat_lt, if◌then◌else◌, Option, Some, None, IfSome, Result, Ok, Err, sym, ap, subst, slice_get}
-use Rattle.std.specs.Prelude.{codes}
-use Rattle.std.specs.Result.{IsErrAnd}
-use Rattle.std.specs.Str.{bytes_eq}
-use Rattle.pm_format.specs.Directory.{Entry}
+use Rattle.pm_reader.proofs.Common.{ap, Bool, bytes_eq, codes, Compression, Entry, Err, false, Header, IfSome, if◌then◌else◌, inl, inr, IsErrAnd, IsOpenRefusal, length, List, nat_lt, None, Ok}
+use Rattle.pm_reader.proofs.Common.{OpenAnswers, OpenCauses, Opened, opened, opened_front, Option, PmtError, ReaderState, Result, root_decoded, root_labelled, root_placed, slice_get, Some, subst, sym}
+use Rattle.pm_reader.proofs.Common.{take, true, ℕ, ◌+◌, ◌∙◌, ◌≡◌, ◌⊎◌}
 use Rattle.pm_format.specs.Header.{head, labelled, magic, byte_at, compressions, tile_types}
-use Rattle.pm_format.specs.Opened.{Opened, opened, opened_front, root_placed, root_labelled, root_decoded}
-use Rattle.pm_format.specs.declared.compression.Compression.{Compression}
 use Rattle.pm_format.specs.declared.compression.Compression.TheVariants as compression
 use Rattle.pm_format.specs.declared.tile_type.TileType.{TileType}
-use Rattle.pm_format.specs.declared.header.Header.{Header}
-use Rattle.pm_format.specs.declared.error.PmtError.{PmtError}
 use Rattle.pm_format.specs.declared.error.PmtError.TheVariants as errors
 use Rattle.pm_format.specs.declared.error.ReadCause.TheVariants as causes
-use Rattle.pm_reader.specs.Opening.{IsOpenRefusal, OpenAnswers, OpenCauses}
-use Rattle.pm_reader.specs.declared.state.ReaderState.{ReaderState}
 
 pub opened_by_front : (b front : List ℕ) → front ≡ take 16384 b → opened b ≡ opened_front front
 unfolding opened

@@ -1,12 +1,9 @@
 -- Tiles that are to be plain.
-use Rattle.std.proofs.Common.{◌≡◌, ℕ, List, Option, None, Some, IfSome, Result, Ok, Err, refl, sym, ap, subst}
-use Rattle.pm_format.specs.LookUp.{archive_tile}
-use Rattle.pm_format.specs.declared.compression.Compression.{Compression}
+use Rattle.pm_reader.proofs.Common.{ap, archive_tile, Compression, Err, GivesUnmodified, IfSome, IsWhole, List, None, Ok, Option, PlainCauses, PmtError, refl, Result, Some, subst, sym}
+use Rattle.pm_reader.proofs.Common.{UnmodifiedCauses, ℕ, ◌≡◌}
 use Rattle.pm_format.specs.declared.compression.Compression.TheVariants as compression
-use Rattle.pm_format.specs.declared.error.PmtError.{PmtError}
 use Rattle.pm_format.specs.declared.error.PmtError.TheVariants as errors
-use Rattle.pm_reader.specs.Answers.{IsWhole}
-use Rattle.pm_reader.specs.Versions.{GivesUnmodified, PlainCauses, UnmodifiedCauses, plain}
+use Rattle.pm_reader.specs.Versions.{plain}
 use Rattle.pm_reader.proofs.FollowingLemmas.{gives_refused}
 
 plain_gives : (label : Compression) (tile : Result (Option (List ℕ)) PmtError) (r : Result (Option (List ℕ)) PmtError) → GivesUnmodified tile tile r → GivesUnmodified tile (plain label tile) (plain label r)

@@ -1,7 +1,5 @@
 -- The queue of a walk, as its front is taken.
-use Rattle.std.proofs.Common.{◌≡◌}
-use Rattle.pm_reader.specs.WalkSteps.{queue_of}
-use Rattle.pm_reader.specs.declared.walk.WalkState.{WalkState}
+use Rattle.pm_reader.proofs.Common.{queue_of, WalkState, ◌≡◌}
 
 -- the same entries are in the queue, and all else is as it was
 pub record SameQueue (s t : WalkState) : Type 0 where

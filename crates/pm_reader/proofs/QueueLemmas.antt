@@ -1,16 +1,8 @@
 -- The walk by a queue is the walk by levels.
-use Rattle.std.proofs.Common.{◌≡◌, ◌≢◌, ◌∙◌, ℕ, zero, suc, ◌+◌, ◌<◌, ◌≤◌, Bool, true, false, List, [], ◌∷◌, ◌++◌, nat_eq, Result, Ok, Err, refl, sym, ap, subst, arith, append_assoc, append-nil, flat_map}
-use Rattle.std.proofs.lemmas.Bool.Decides.{nat_tests}
-use Rattle.pm_format.specs.Directory.{Entry}
-use Rattle.pm_format.specs.LookUp.{leaf_of}
-use Rattle.pm_format.specs.WellFormed.{AllTiles}
-use Rattle.pm_format.specs.declared.error.PmtError.{PmtError}
+use Rattle.pm_reader.proofs.Common.{AllTiles, along, ap, append-nil, append_assoc, arith, Bool, entries_below, Entry, Err, false, flat_map, Header, Item, leaf_of, levels, List, nat_eq, nat_tests, Ok}
+use Rattle.pm_reader.proofs.Common.{PmtError, queued, queued_by, refl, Result, subst, suc, sym, true, zero, ℕ, [], ◌++◌, ◌+◌, ◌<◌, ◌∙◌, ◌∷◌, ◌≡◌, ◌≢◌, ◌≤◌}
 use Rattle.pm_format.specs.declared.error.PmtError.TheVariants as errors
-use Rattle.pm_format.specs.declared.header.Header.{Header}
 use Rattle.pm_reader.proofs.LevelLemmas.{below_leaf, below_tile}
-use Rattle.pm_reader.specs.Levels.{entries_below}
-use Rattle.pm_reader.specs.Queue.{queued, queued_by}
-use Rattle.pm_reader.specs.Walk.{Item, along, levels}
 
 abbrev After : Header → List ℕ → ℕ → Result (List Entry) PmtError → List Entry → List Item
 After h b left l es = elim l [ Err r ↦ Err r ∷ [] | Ok leaf ↦ along h b left es ]

@@ -1,16 +1,6 @@
 -- A reader and its cache, from one call to the next.
-use Rattle.std.proofs.Common.{◌≡◌, inl, inr, ℕ, ◌+◌, List, Option, None, Some, IfSome, Result, sym, ap, subst, arith}
-use Rattle.pm_format.specs.LookUp.{archive_tile, hops, hops_by, hops_opened, tile_by, tile_opened}
-use Rattle.pm_format.specs.declared.error.PmtError.{PmtError}
-use Rattle.pm_reader.specs.Answers.{Gives}
-use Rattle.pm_reader.specs.Archives.{IsCacheable, ReadsByHops}
-use Rattle.pm_reader.specs.Caches.{Held}
-use Rattle.pm_reader.specs.Levels.{IsTrusted}
-use Rattle.pm_reader.specs.Opening.{OpensAs}
-use Rattle.pm_reader.specs.ReadsFrom.{ReadsFrom}
-use Rattle.pm_reader.specs.Versions.{GivesUnmodified}
-use Rattle.pm_reader.specs.Way.{Finds, FindsUnmodified}
-use Rattle.pm_reader.specs.declared.state.ReaderState.{ReaderState}
+use Rattle.pm_reader.proofs.Common.{ap, archive_tile, arith, Finds, FindsUnmodified, Gives, GivesUnmodified, Held, hops, hops_by, hops_opened, IfSome, inl, inr, IsCacheable, IsTrusted, List, None}
+use Rattle.pm_reader.proofs.Common.{OpensAs, Option, PmtError, ReaderState, ReadsByHops, ReadsFrom, Result, Some, subst, sym, tile_by, tile_opened, ℕ, ◌+◌, ◌≡◌}
 
 -- the look-up by the state's parts is that of the archive
 pub tile_is : (b : List ℕ) (s : ReaderState) (t : ℕ) → OpensAs b s → tile_by 6 s.header b s.root t ≡ archive_tile b t

@@ -1,14 +1,8 @@
 -- What the recently used directories are, after a use and after one is put.
-use Rattle.std.proofs.Common.{◌≡◌, ◌⊎◌, ◌∙◌, inl, inr, ℕ, ◌<◌, Bool, true, false, List, length, nat_eq, is_some, option_map, slice_get, Option, None, Some, Result, Ok, Err, IfOk, IsTrue, refl, sym, ap, subst}
+use Rattle.pm_reader.proofs.Common.{AddsOnly, answer_of, ap, Bool, Bounded, Entry, Err, false, FetchLeaves, from_found, HoldsSame, IfOk, inl, inr, is_some, IsTrue, IsUsed, IsWithin, length, List}
+use Rattle.pm_reader.proofs.Common.{nat_eq, None, NotCached, Ok, Option, option_map, PmtError, Puts, PutsRecent, refl, Result, scan, slice_get, Some, subst, sym, true, used, ℕ, ◌<◌, ◌∙◌, ◌≡◌, ◌⊎◌}
 use Rattle.std.specs.Map.{lookup}
-use Rattle.bounded_lru.specs.Bounded.{Bounded, IsWithin, Puts, used}
 use Rattle.bounded_lru.proofs.HeldLemmas.{found-with_pair, latest-promoted, lookup-promoted, lookup-with_pair, used-none}
-use Rattle.pm_format.specs.Directory.{Entry}
-use Rattle.pm_format.specs.Scan.{scan}
-use Rattle.pm_format.specs.declared.error.PmtError.{PmtError}
-use Rattle.pm_reader.specs.Caches.{AddsOnly, answer_of, from_found}
-use Rattle.pm_reader.specs.MapCaches.{FetchLeaves, HoldsSame, IsUsed, PutsRecent}
-use Rattle.pm_reader.specs.declared.cache.DirCacheResult.TheVariants.{NotCached}
 
 abbrev Uses : Type 0
 Uses = Bounded (List Entry)

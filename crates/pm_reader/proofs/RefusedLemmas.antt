@@ -1,14 +1,9 @@
 -- Why a reader isn't made, whatever would have been made, and what is tied where it is.
-use Rattle.std.proofs.Common.{arith, ◌≡◌, ◌<◌, ◌≤◌, ◌^◌, ◌-◌, ◌+◌, ℕ, min, List, Option, Some, None, IfSome, Result, Ok, Err, subst, sym}
+use Rattle.pm_reader.proofs.Common.{arith, Err, Held, IfSome, IsOpen, IsOpenFailure, List, min, None, Ok, OpenCauses, Option, PmtError, ReaderState, ReadsFrom, Result, Rose, Some, subst, sym, ℕ, ◌+◌}
+use Rattle.pm_reader.proofs.Common.{◌-◌, ◌<◌, ◌^◌, ◌≡◌, ◌≤◌}
 use Rattle.std.proofs.Math.Nat.{min-eq_left}
-use Rattle.base_values.specs.Counts.{Rose}
-use Rattle.pm_format.specs.declared.error.PmtError.{PmtError}
 use Rattle.pm_format.specs.declared.error.PmtError.TheVariants as errors
 use Rattle.pm_format.specs.declared.error.ReadCause.TheVariants as causes
-use Rattle.pm_reader.specs.Caches.{Held}
-use Rattle.pm_reader.specs.Opening.{IsOpen, IsOpenFailure, OpenCauses}
-use Rattle.pm_reader.specs.ReadsFrom.{ReadsFrom}
-use Rattle.pm_reader.specs.declared.state.ReaderState.{ReaderState}
 
 module _ (A B : Type 0) (before now : ℕ) where
   pub causes_again : (e : PmtError) → OpenCauses {A = A} before now (Err e) → OpenCauses {A = B} before now (Err e)

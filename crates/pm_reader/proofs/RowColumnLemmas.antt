@@ -1,10 +1,8 @@
 -- The rows of four columns are its entries.
-use Rattle.std.proofs.Common.{◌≡◌, ℕ, zero, suc, ◌+◌, ◌-◌, ◌^◌, Bool, true, false, List, [], ◌∷◌, Option, Some, None, nat_lt, nat_eq, if◌then◌else◌, option_map, refl, sym, ◌∙◌, ap}
-use Rattle.pm_format.specs.Varint.{number_at, u32_at, u64_at}
-use Rattle.pm_format.specs.Directory.{Entry, ◌>>=◌, column, dir_of, entries_of, entry, ids_from, offset_of, offsets_from}
-use Rattle.pm_format.proofs.ColumnLemmas.{put}
+use Rattle.pm_reader.proofs.Common.{ap, Bool, column, dir_of, entries_of, Entry, entry, false, fit, ids_from, if◌then◌else◌, List, nat_eq, nat_lt, None, number_at, offset_of, offsets_from, Option}
+use Rattle.pm_reader.proofs.Common.{option_map, put, refl, rows, Some, suc, sym, true, u32_at, u64_at, zero, ℕ, [], ◌+◌, ◌-◌, ◌>>=◌, ◌^◌, ◌∙◌, ◌∷◌, ◌≡◌}
 use Rattle.pm_format.proofs.OptionLemmas.{bind_none, bind_same}
-use Rattle.pm_reader.specs.Rows.{after, fit, rows}
+use Rattle.pm_reader.specs.Rows.{after}
 
 -- an end above u64 is as none
 offset_fit : (sum n : ℕ) → offset_of (fit sum) n ≡ offset_of (Some sum) n

@@ -1,15 +1,10 @@
 -- One turn of the loops over columns and rows.
-use Rattle.std.proofs.Common.{◌≡◌, ℕ, suc, ◌+◌, ◌-◌, ◌<◌, ◌≤◌, true, false, List, ◌∷◌, length, Option, Some, None, IfSome, nat_le, if◌then◌else◌, option_map, Result, Ok, Err, refl, sym, ◌∙◌, ap, arith, drop, subst}
-use Rattle.std.specs.Result.{IfErr, IsErrAnd, OnErr}
-use Rattle.std.proofs.lemmas.Bool.Decides.{nat_tests}
-use Rattle.pm_format.specs.declared.error.PmtError.{PmtError}
+use Rattle.pm_reader.proofs.Common.{ap, AreWithin, arith, column, column_next, column_none, covers, drop, Entry, Err, false, found_in, IfErr, IfSome, if◌then◌else◌, IsErrAnd, last_below, length, List}
+use Rattle.pm_reader.proofs.Common.{nat_le, nat_tests, None, number_at, Ok, one_less, OnErr, Option, option_map, PmtError, put, refl, Result, rows_at, scan, Some, subst, suc, sym, true, ℕ, ◌+◌, ◌-◌}
+use Rattle.pm_reader.proofs.Common.{◌<◌, ◌>>=◌, ◌∙◌, ◌∷◌, ◌≡◌, ◌≤◌}
 use Rattle.pm_format.specs.declared.error.PmtError.TheVariants as errors
-use Rattle.pm_format.specs.Varint.{number_at}
-use Rattle.pm_format.specs.Directory.{Entry, ◌>>=◌, column}
-use Rattle.pm_format.specs.Scan.{covers, last_below, scan}
-use Rattle.pm_format.proofs.ColumnLemmas.{column_next, column_none, one_less, put}
 use Rattle.pm_reader.specs.declared.view.cursors.Cursors.{Cursors}
-use Rattle.pm_reader.specs.Rows.{AreWithin, after, found_in, rows_at}
+use Rattle.pm_reader.specs.Rows.{after}
 
 -- what holds at all holds where there is an error
 pub holds_on_err : {T E : Type 0} {P : Type 0} (r : Result T E) → P → OnErr r P

@@ -1,18 +1,11 @@
 -- Look-ups in sound archives end well.
-use Rattle.std.proofs.Common.{◌≡◌, ◌≢◌, inl, inr, ℕ, zero, suc, ◌+◌, ◌≤◌, ◌<◌, Bool, true, false, List, [], ◌∷◌, nat_eq, Option, None, Some, Result, Ok, Err, refl, sym, ap, subst, arith}
-use Rattle.std.specs.Prelude.{Contains, IsOk, IsSome}
-use Rattle.std.proofs.lemmas.Bool.Decides.{nat_tests}
-use Rattle.std.proofs.lemmas.List.Elements.{Contains-append_cases}
+use Rattle.pm_reader.proofs.Common.{ap, archive_tile, arith, Bool, Contains, Contains-append_cases, data_behind, Entry, entry_from, Err, false, Header, inl, inr, IsOk, IsSome, leaf_of, List, nat_eq}
+use Rattle.pm_reader.proofs.Common.{nat_tests, None, Ok, Option, PmtError, range_of, Reached, reached_last, reached_leaf, reached_none, reached_tile, refl, Result, scan, Some, subst, suc, sym}
+use Rattle.pm_reader.proofs.Common.{tile_by, tile_opened, true, zero, ℕ, [], ◌+◌, ◌<◌, ◌∷◌, ◌≡◌, ◌≢◌, ◌≤◌}
 use Rattle.tile_ids.specs.declared.id.TheConstants.{MAX_TILE_ID}
-use Rattle.pm_format.specs.Directory.{Entry}
-use Rattle.pm_format.specs.LookUp.{Reached, archive_tile, data_behind, entry_from, leaf_of, range_of, tile_by, tile_opened}
-use Rattle.pm_format.proofs.LookUpLemmas.{reached_last, reached_leaf, reached_none, reached_tile}
-use Rattle.pm_format.specs.Scan.{scan}
 use Rattle.pm_format.specs.Sound.{EachEntry, HasData, Sound, SoundDirectory}
-use Rattle.pm_format.specs.declared.error.PmtError.{PmtError}
 use Rattle.pm_format.specs.declared.error.PmtError.TheVariants as errors
 use Rattle.pm_format.specs.declared.error.ReadCause.TheVariants as causes
-use Rattle.pm_format.specs.declared.header.Header.{Header}
 use Rattle.pm_reader.proofs.LevelLemmas.{scan_is_in, single_is}
 use Rattle.pm_reader.proofs.QueueLemmas.{is_some}
 

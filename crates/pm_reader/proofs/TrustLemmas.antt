@@ -1,10 +1,6 @@
 -- A cache stays trusted.
-use Rattle.std.proofs.Common.{◌≡◌, ◌∙◌, inl, inr, ℕ, ◌+◌, List, Option, None, Some, IfSome, Ok, sym, ap, arith}
-use Rattle.pm_format.specs.Directory.{Entry, entry}
-use Rattle.pm_format.specs.LookUp.{leaf_of}
-use Rattle.pm_format.specs.declared.header.Header.{Header}
-use Rattle.pm_reader.specs.Caches.{AddsNone, AddsOnly, Held}
-use Rattle.pm_reader.specs.Levels.{HoldsLeaves, IsLeafEntry, IsTrusted}
+use Rattle.pm_reader.proofs.Common.{AddsNone, AddsOnly, ap, arith, Entry, entry, Header, Held, HoldsLeaves, IfSome, inl, inr, IsLeafEntry, IsTrusted, leaf_of, List, None, Ok, Option, Some, sym, ℕ}
+use Rattle.pm_reader.proofs.Common.{◌+◌, ◌∙◌, ◌≡◌}
 
 pub trust_kept : (h : Header) (b : List ℕ) (root : List Entry) (old new : Held) (idle still : Type 0) → AddsNone old new → (idle → still) → IsTrusted h b root old idle → IsTrusted h b root new still
 trust_kept h b root old new idle still adds stays t = record {

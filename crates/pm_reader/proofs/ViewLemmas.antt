@@ -1,12 +1,7 @@
 -- What is opened, and a text, as a view has them.
-use Rattle.std.proofs.Common.{◌≡◌, ℕ, Bool, true, false, refl, List, if◌then◌else◌, Result, Ok, Err, sym, ◌∙◌, ap}
-use Rattle.std.specs.Str.{IsUtf8, is_utf8}
+use Rattle.pm_reader.proofs.Common.{ap, Bool, Err, false, headed, Header, if◌then◌else◌, is_utf8, IsUtf8, List, Ok, Opened, PmtError, refl, Result, sym, text_read, true, viewed, ℕ, ◌∙◌, ◌≡◌}
 use Rattle.std.proofs.lemmas.Str.{IsUtf8-from_is_utf8, is_utf8-from_IsUtf8}
-use Rattle.pm_format.specs.declared.error.PmtError.{PmtError}
 use Rattle.pm_format.specs.declared.error.PmtError.TheVariants as errors
-use Rattle.pm_format.specs.declared.header.Header.{Header}
-use Rattle.pm_format.specs.Opened.{Opened}
-use Rattle.pm_reader.specs.View.{headed, text_read, viewed}
 
 pub view_opens : (b : List ℕ) (o : Result Opened PmtError) (h : Header) → headed o ≡ Ok h → Ok b ≡ viewed b o
 view_opens b (Ok o) h e = refl

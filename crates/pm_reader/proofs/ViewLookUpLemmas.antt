@@ -1,16 +1,8 @@
 -- One step of a look-up, from bytes that are to be a directory.
-use Rattle.std.proofs.Common.{◌≡◌, ℕ, zero, suc, ◌+◌, ◌-◌, true, false, List, nat_eq, Option, Some, None, Result, Ok, Err, refl, sym, ◌∙◌, ap, arith}
-use Rattle.std.proofs.lemmas.Bool.Decides.{nat_tests}
-use Rattle.pm_format.specs.declared.error.PmtError.{PmtError}
+use Rattle.pm_reader.proofs.Common.{ap, arith, data_behind, data_of, dir_of, Entry, entry_from, Err, false, found_in, Header, List, nat_eq, nat_tests, None, Ok, Option, PmtError, range_of, reached}
+use Rattle.pm_reader.proofs.Common.{reached_last, reached_leaf, reached_none, reached_tile, refl, Result, scan, Some, suc, sym, through, tile_by, tile_in, true, zero, ℕ, ◌+◌, ◌-◌, ◌∙◌, ◌≡◌}
 use Rattle.pm_format.specs.declared.error.PmtError.TheVariants as errors
 use Rattle.pm_format.specs.declared.error.ReadCause.TheVariants as causes
-use Rattle.pm_format.specs.declared.header.Header.{Header}
-use Rattle.pm_format.specs.Directory.{Entry, dir_of}
-use Rattle.pm_format.specs.LookUp.{data_behind, data_of, entry_from, range_of, reached, through, tile_by}
-use Rattle.pm_format.proofs.LookUpLemmas.{reached_last, reached_leaf, reached_none, reached_tile}
-use Rattle.pm_format.specs.Scan.{scan}
-use Rattle.pm_reader.specs.Rows.{found_in}
-use Rattle.pm_reader.specs.View.{tile_in}
 
 -- from what bytes that are to be a directory have for an id
 led : (n : ℕ) (h : Header) (b : List ℕ) (t : ℕ) (x : Option (List Entry)) (found : Option Entry) → Ok found ≡ found_in t x → tile_in n h b t x ≡ data_behind h b (entry_from n h b t found)

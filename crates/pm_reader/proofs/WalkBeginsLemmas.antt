@@ -1,14 +1,6 @@
 -- A walk begins with the whole archive left.
-use Rattle.std.proofs.Common.{◌≡◌, ◌∙◌, ℕ, false, cond, List, [], ◌++◌, drop, flat_map, append-nil, Option, Some, None, IfSome, sym, ap}
-use Rattle.pm_format.specs.Directory.{Entry}
-use Rattle.pm_reader.specs.Caches.{Held}
-use Rattle.pm_reader.specs.Opening.{OpensAs}
-use Rattle.pm_reader.specs.Queue.{queued}
-use Rattle.pm_reader.specs.ReadsFrom.{ReadsFrom}
-use Rattle.pm_reader.specs.Walk.{walk, walk_opened}
-use Rattle.pm_reader.specs.WalkSteps.{left_of, queue_of}
-use Rattle.pm_reader.specs.declared.state.ReaderState.{ReaderState}
-use Rattle.pm_reader.specs.declared.walk.WalkState.{WalkState}
+use Rattle.pm_reader.proofs.Common.{ap, append-nil, cond, drop, Entry, false, flat_map, Held, IfSome, left_of, List, None, OpensAs, Option, queue_of, queued, ReaderState, ReadsFrom, Some, sym, walk}
+use Rattle.pm_reader.proofs.Common.{walk_opened, WalkState, ℕ, [], ◌++◌, ◌∙◌, ◌≡◌}
 use Rattle.pm_reader.proofs.QueueLemmas.{queue_is_walk}
 
 pub begins : (b : List ℕ) (s : ReaderState) (w : WalkState) (budget : ℕ) → OpensAs b s → queue_of w ≡ s.root → w.header ≡ s.header → w.budget ≡ budget → w.ended ≡ false → left_of b w ≡ walk b budget

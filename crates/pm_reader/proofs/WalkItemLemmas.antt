@@ -1,15 +1,8 @@
 -- What a step of a walk gives, and what it leaves.
-use Rattle.std.proofs.Common.{◌≡◌, ◌∙◌, ℕ, zero, suc, ◌+◌, ◌<◌, true, false, cond, List, [], ◌∷◌, nat_eq, Option, Some, None, IfSome, Result, Ok, Err, refl, sym, ap, subst, arith}
-use Rattle.pm_format.specs.Directory.{Entry}
-use Rattle.pm_format.specs.LookUp.{leaf_of}
-use Rattle.pm_format.specs.declared.error.PmtError.{PmtError}
+use Rattle.pm_reader.proofs.Common.{ap, arith, cond, Enters, Entry, Err, false, Gives, IfSome, IsRefused, Item, leaf_of, left_of, List, nat_eq, None, Ok, Option, PmtError, queue_of, queued, refl}
+use Rattle.pm_reader.proofs.Common.{Result, Some, subst, suc, sym, true, WalkState, Yields, zero, ℕ, [], ◌+◌, ◌<◌, ◌∙◌, ◌∷◌, ◌≡◌}
 use Rattle.pm_format.specs.declared.error.PmtError.TheVariants as errors
 use Rattle.pm_format.specs.declared.error.ReadCause.TheVariants as causes
-use Rattle.pm_reader.specs.Answers.{Gives}
-use Rattle.pm_reader.specs.Queue.{queued}
-use Rattle.pm_reader.specs.Walk.{Item}
-use Rattle.pm_reader.specs.WalkSteps.{Enters, IsRefused, Yields, left_of, queue_of}
-use Rattle.pm_reader.specs.declared.walk.WalkState.{WalkState}
 use Rattle.pm_reader.proofs.QueueLemmas.{queued_end, queued_leaf, queued_none, queued_tile}
 
 -- a state from which the first entry was taken

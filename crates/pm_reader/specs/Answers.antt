@@ -1,9 +1,6 @@
 -- What calls of a reader answer, and why.
 use Rattle.std.specs.Prelude.{◌≡◌, ◌≢◌, ℕ, List, Option, Some, None, Result, Ok, Err, IfSome, IfOk}
-use Rattle.base_values.specs.Counts.{Rose}
-use Rattle.pm_format.specs.LookUp.{range_of}
-use Rattle.byte_media.specs.declared.backend.BackendResponse.{BackendResponse}
-use Rattle.pm_format.specs.declared.error.PmtError.{PmtError}
+use Rattle.pm_reader.specs.Common.{BackendResponse, PmtError, range_of, Rose}
 use Rattle.pm_format.specs.declared.error.PmtError.TheVariants as errors
 use Rattle.pm_format.specs.declared.error.ReadCause.TheVariants as causes
 

@@ -1,7 +1,6 @@
 -- Look-ups in archives.
 use Rattle.std.specs.Prelude.{◌≡◌, ◌⊎◌, ℕ, ◌+◌, ◌≤◌, List, Ok}
-use Rattle.pm_format.specs.LookUp.{hops}
-use Rattle.pm_format.specs.Opened.{Opened, opened}
+use Rattle.pm_reader.specs.Common.{hops, Opened, opened}
 use Rattle.pm_reader.specs.Levels.{HasOneLength}
 
 -- each leaf offset of the archive is used with one length

@@ -1,8 +1,6 @@
 -- Caches of directories: what one holds, and what its calls answer.
 use Rattle.std.specs.Prelude.{◌≡◌, ◌⊎◌, ℕ, List, Option, Some, None, Result, Ok, Err}
-use Rattle.pm_format.specs.Directory.{Entry}
-use Rattle.pm_format.specs.Scan.{scan}
-use Rattle.pm_format.specs.declared.error.PmtError.{PmtError}
+use Rattle.pm_reader.specs.Common.{Entry, PmtError, scan}
 use Rattle.pm_reader.specs.declared.cache.DirCacheResult.{DirCacheResult}
 use Rattle.pm_reader.specs.declared.cache.DirCacheResult.TheVariants.{NotCached, NotFound, Found}
 

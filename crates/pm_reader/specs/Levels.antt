@@ -1,8 +1,6 @@
 -- The levels of directories, and what a cache of them is trusted with.
 use Rattle.std.specs.Prelude.{◌≡◌, ◌⊎◌, ℕ, zero, suc, ◌+◌, ◌<◌, true, false, List, [], flat_map, nat_eq, Contains, Option, Some, Ok, Err, IfSome}
-use Rattle.pm_format.specs.Directory.{Entry}
-use Rattle.pm_format.specs.LookUp.{leaf_of}
-use Rattle.pm_format.specs.declared.header.Header.{Header}
+use Rattle.pm_reader.specs.Common.{Entry, Header, leaf_of}
 use Rattle.pm_reader.specs.Caches.{Held}
 
 -- the entries of the leaf that an entry names; none where it names no leaf, or one that doesn't lie in the bytes or doesn't decode

@@ -2,10 +2,7 @@
 use Rattle.std.specs.Prelude.{◌≡◌, ◌≢◌, ◌⊎◌, ℕ, List, length, true, Option, Some, None, Result, Ok, Err, nat_eq}
 use Rattle.std.specs.HashMap.{get}
 use Rattle.std.specs.Map.{lookup}
-use Rattle.bounded_lru.specs.Bounded.{Bounded, IsWithin, fits, used, with_pair}
-use Rattle.pm_format.specs.Directory.{Entry}
-use Rattle.pm_format.specs.Scan.{scan}
-use Rattle.pm_format.specs.declared.error.PmtError.{PmtError}
+use Rattle.pm_reader.specs.Common.{Bounded, Entry, fits, IsWithin, PmtError, scan, used, with_pair}
 use Rattle.pm_reader.specs.Caches.{CacheLimits, Held}
 use Rattle.pm_reader.specs.declared.cache.map.HashMapCache.{HashMapCache}
 use Rattle.pm_reader.specs.declared.cache.recent.LruDirCache.{LruDirCache}

@@ -1,11 +1,8 @@
 -- The metadata of an archive.
 use Rattle.std.specs.Prelude.{◌≡◌, ◌≢◌, ℕ, List, Result, Ok, Err}
-use Rattle.std.specs.Str.{IsUtf8}
-use Rattle.base_values.specs.Counts.{Rose}
-use Rattle.pm_format.specs.declared.error.PmtError.{PmtError}
+use Rattle.pm_reader.specs.Common.{Header, IsUtf8, PmtError, Rose}
 use Rattle.pm_format.specs.declared.error.PmtError.TheVariants as errors
 use Rattle.pm_format.specs.declared.error.ReadCause.TheVariants as causes
-use Rattle.pm_format.specs.declared.header.Header.{Header}
 use Rattle.pm_reader.specs.Answers.{Gives, range_read}
 
 -- where the header says that the metadata is

@@ -1,10 +1,6 @@
 -- Opening an archive: what is answered and why, and what an opened reader owns.
 use Rattle.std.specs.Prelude.{◌≡◌, ℕ, ◌+◌, List, length, take, drop, nat_lt, if◌then◌else◌, Option, Some, None, Result, Ok, Err, IfSome}
-use Rattle.base_values.specs.Counts.{Rose}
-use Rattle.pm_format.specs.Directory.{Entry}
-use Rattle.pm_format.specs.Opened.{opened}
-use Rattle.pm_format.specs.declared.header.Header.{Header}
-use Rattle.pm_format.specs.declared.error.PmtError.{PmtError}
+use Rattle.pm_reader.specs.Common.{Entry, Header, opened, PmtError, Rose}
 use Rattle.pm_format.specs.declared.error.PmtError.TheVariants as errors
 use Rattle.pm_format.specs.declared.error.ReadCause.TheVariants as causes
 use Rattle.pm_reader.specs.declared.state.ReaderState.{ReaderState}

@@ -1,9 +1,7 @@
 -- The walk by a queue of entries: a leaf's entries go to its end.
 use Rattle.std.specs.Prelude.{ℕ, zero, suc, true, false, List, [], ◌∷◌, ◌++◌, nat_eq, Ok, Err}
-use Rattle.pm_format.specs.Directory.{Entry}
-use Rattle.pm_format.specs.LookUp.{leaf_of}
+use Rattle.pm_reader.specs.Common.{Entry, Header, leaf_of}
 use Rattle.pm_format.specs.declared.error.PmtError.TheVariants as errors
-use Rattle.pm_format.specs.declared.header.Header.{Header}
 use Rattle.pm_reader.specs.Walk.{Item}
 
 -- the items up to the first leaf entry, and what it gives with what stands behind it

@@ -1,7 +1,6 @@
 -- What a reader that isn't made leaves of the backend that it would have borrowed.
 use Rattle.std.specs.Prelude.{ℕ, List, Option, Result}
-use Rattle.base_values.specs.Counts.{Grew}
-use Rattle.pm_format.specs.declared.error.PmtError.{PmtError}
+use Rattle.pm_reader.specs.Common.{Grew, PmtError}
 use Rattle.pm_reader.specs.Opening.{OpenCauses}
 use Rattle.pm_reader.specs.Reads.{ReadsOnly}
 

@@ -1,10 +1,9 @@
 -- A directory's rows, read in step from its four columns, and what they have for an id.
 use Rattle.std.specs.Prelude.{ℕ, zero, suc, ◌+◌, ◌^◌, ◌≤◌, List, [], ◌∷◌, length, drop, Option, Some, None, nat_lt, if◌then◌else◌, option_map, Result, Ok, Err}
-use Rattle.pm_format.specs.declared.error.PmtError.{PmtError}
+use Rattle.pm_reader.specs.Common.{covers, Entry, entry, offset_of, PmtError, scan}
 use Rattle.pm_format.specs.declared.error.PmtError.TheVariants as errors
 use Rattle.pm_format.specs.Varint.{u32_at, u64_at}
-use Rattle.pm_format.specs.Directory.{Entry, ◌>>=◌, entry, offset_of}
-use Rattle.pm_format.specs.Scan.{covers, scan}
+use Rattle.pm_format.specs.Directory.{◌>>=◌}
 use Rattle.pm_reader.specs.declared.view.cursors.Cursors.{Cursors}
 
 -- a number, where it is within u64

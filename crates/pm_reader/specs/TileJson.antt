@@ -1,9 +1,7 @@
 -- The document that an archive says of itself.
 use Rattle.std.specs.Prelude.{◌≡◌, ℕ, List, Option, Some, None, Result, Ok, Err}
-use Rattle.std.specs.Str.{IsUtf8}
-use Rattle.tile_json.specs.Reading.{tilejson_in}
+use Rattle.pm_reader.specs.Common.{IsUtf8, PmtError, tilejson_in}
 use Rattle.tile_json.specs.declared.document.TileJson.{TileJson}
-use Rattle.pm_format.specs.declared.error.PmtError.{PmtError}
 use Rattle.pm_format.specs.declared.error.PmtError.TheVariants as errors
 use Rattle.pm_reader.specs.Metadata.{MetadataAnswers, MetadataCauses}
 

@@ -1,11 +1,7 @@
 -- The walk along all entries of an archive, level by level.
 use Rattle.std.specs.Prelude.{ℕ, zero, suc, true, false, List, [], ◌∷◌, ◌++◌, flat_map, nat_eq, Result, Ok, Err}
-use Rattle.pm_format.specs.Directory.{Entry}
-use Rattle.pm_format.specs.LookUp.{leaf_of}
-use Rattle.pm_format.specs.Opened.{Opened, opened}
-use Rattle.pm_format.specs.declared.error.PmtError.{PmtError}
+use Rattle.pm_reader.specs.Common.{Entry, Header, leaf_of, Opened, opened, PmtError}
 use Rattle.pm_format.specs.declared.error.PmtError.TheVariants as errors
-use Rattle.pm_format.specs.declared.header.Header.{Header}
 use Rattle.pm_reader.specs.Levels.{entries_below}
 
 -- an entry of a tile, or the refusal that ends the walk

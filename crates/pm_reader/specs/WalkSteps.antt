@@ -1,11 +1,8 @@
 -- One step of a walk.
 use Rattle.std.specs.Prelude.{◌≡◌, ℕ, ◌+◌, ◌-◌, ◌*◌, ◌^◌, ◌≤◌, Bool, cond, List, [], ◌∷◌, ◌++◌, drop, length, flat_map, Option, Some, None, Ok, Err}
-use Rattle.pm_format.specs.Directory.{Entry}
-use Rattle.pm_format.specs.declared.error.PmtError.{PmtError}
+use Rattle.pm_reader.specs.Common.{Entry, Header, leaf_of, PmtError}
 use Rattle.pm_format.specs.declared.error.PmtError.TheVariants as errors
 use Rattle.pm_format.specs.declared.error.ReadCause.TheVariants as causes
-use Rattle.pm_format.specs.declared.header.Header.{Header}
-use Rattle.pm_format.specs.LookUp.{leaf_of}
 use Rattle.pm_reader.specs.Answers.{Gives, LookUpCauses}
 use Rattle.pm_reader.specs.Queue.{queued}
 use Rattle.pm_reader.specs.Reads.{GrewBetween}

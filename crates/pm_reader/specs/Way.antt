@@ -1,9 +1,6 @@
 -- The way of a look-up through leaves.
 use Rattle.std.specs.Prelude.{ℕ, ◌+◌, ◌≤◌, List, Option, Result}
-use Rattle.pm_format.specs.Directory.{Entry}
-use Rattle.pm_format.specs.LookUp.{entry_from, hops_by, hops_from, tile_by}
-use Rattle.pm_format.specs.declared.error.PmtError.{PmtError}
-use Rattle.pm_format.specs.declared.header.Header.{Header}
+use Rattle.pm_reader.specs.Common.{Entry, entry_from, Header, hops_by, hops_from, PmtError, tile_by}
 use Rattle.pm_reader.specs.Answers.{Gives}
 use Rattle.pm_reader.specs.Caches.{Held}
 use Rattle.pm_reader.specs.Levels.{IsTrusted}

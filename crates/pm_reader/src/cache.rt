@@ -1,6 +1,6 @@
 // Caches of directories, by the places where they lie.
 ghost use Rattle.std.specs.Prelude.{◌≡◌, ℕ, List, Option, None, Ok, Some, IfOk, IsTrue, option_copied};
-ghost use Rattle.pm_format.specs.Directory.{Entry};
+ghost use Rattle.pm_reader.specs.Common.{Entry};
 ghost use Rattle.pm_reader.specs.Caches.{AddsNone, AddsOnly, AnswersFetched, AnswersHeld, CacheLimits, answer_of, from_found};
 
 mod kept;

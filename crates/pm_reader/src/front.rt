@@ -1,7 +1,6 @@
 // The front of an archive: its header and its root.
 ghost use Rattle.std.specs.Prelude.{◌≡◌, ◌⊎◌, Ok, Err, IfOk, IfErr, option_copied};
-ghost use Rattle.pm_format.specs.Directory.{dir_of};
-ghost use Rattle.pm_format.specs.Opened.{opened_front, root_decoded, root_placed};
+ghost use Rattle.pm_reader.specs.Common.{dir_of, opened_front, root_decoded, root_placed};
 ghost use Rattle.pm_reader.specs.Opening.{root_range};
 
 use pm_format::{Compression, Directory, Header, PmtError, PmtResult};

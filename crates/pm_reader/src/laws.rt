@@ -1,8 +1,6 @@
 //! Laws of look-ups.
 ghost use Rattle.std.specs.Prelude.{◌≡◌, ℕ, suc, ◌+◌, Bool, List, IsOk};
-ghost use Rattle.pm_format.specs.declared.header.Header.{Header};
-ghost use Rattle.pm_format.specs.Directory.{Entry};
-ghost use Rattle.pm_format.specs.LookUp.{archive_tile};
+ghost use Rattle.pm_reader.specs.Common.{archive_tile, Entry, Header};
 ghost use Rattle.pm_format.specs.Options.{Options};
 ghost use Rattle.pm_format.specs.Sound.{Sound};
 ghost use Rattle.pm_format.specs.WellFormed.{WellFormed};

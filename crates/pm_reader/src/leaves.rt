@@ -1,6 +1,6 @@
 // Leaves: read, or found in a cache, and followed to the entry of a tile.
 ghost use Rattle.std.specs.Prelude.{◌≡◌, ◌≤◌, ◌-◌, IfSome};
-ghost use Rattle.pm_format.specs.LookUp.{leaf_of};
+ghost use Rattle.pm_reader.specs.Common.{leaf_of};
 ghost use Rattle.pm_reader.specs.Answers.{Gives, IsWhole, LookUpCauses};
 ghost use Rattle.pm_reader.specs.Caches.{CacheLimits};
 ghost use Rattle.pm_reader.specs.Levels.{IsAtLevel, IsLeafEntry, IsTrusted};

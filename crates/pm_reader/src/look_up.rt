@@ -1,6 +1,6 @@
 // Look-ups of tiles.
 ghost use Rattle.std.specs.Prelude.{◌≡◌, IfSome};
-ghost use Rattle.pm_format.specs.LookUp.{archive_tile};
+ghost use Rattle.pm_reader.specs.Common.{archive_tile};
 ghost use Rattle.pm_reader.specs.Answers.{FoundTextAt, Gives, IsWhole, LookUpCauses, contents_of, tile_of};
 ghost use Rattle.pm_reader.specs.Archives.{IsCacheable, ReadsByHops};
 ghost use Rattle.pm_reader.specs.Caches.{CacheLimits};

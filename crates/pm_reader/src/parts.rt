@@ -1,6 +1,6 @@
 // Parts of an archive at given places: directories of the leaf part, and contents of the data part.
 ghost use Rattle.std.specs.Prelude.{◌≡◌, ◌+◌, IfSome};
-ghost use Rattle.pm_format.specs.LookUp.{directory_at};
+ghost use Rattle.pm_reader.specs.Common.{directory_at};
 ghost use Rattle.pm_reader.specs.Answers.{Gives, IsWhole, LookUpCauses, RangeCauses, range_read};
 ghost use Rattle.pm_reader.specs.Opening.{header_of};
 ghost use Rattle.pm_reader.specs.Reads.{GrewBetween, ReadsOnly, reads_done};

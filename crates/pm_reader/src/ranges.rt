@@ -1,6 +1,6 @@
 // Ranges of a backend's bytes.
 ghost use Rattle.std.specs.Prelude.{◌≡◌, ◌<◌, ◌+◌, ◌^◌, IfSome, IfOk, IsErrOf};
-ghost use Rattle.std.specs.Option.{SomeIff};
+ghost use Rattle.pm_reader.specs.Common.{SomeIff};
 ghost use Rattle.pm_reader.specs.Answers.{Gives, HasTextAt, IsWhole, LookUpCauses, bytes_of, range_read};
 ghost use Rattle.pm_reader.specs.Reads.{GrewBetween, ReadsOnly, reads_done};
 

@@ -1,8 +1,6 @@
 // A reader that borrows its backend, and holds a cache of directories.
 ghost use Rattle.std.specs.Prelude.{◌≡◌, ◌≢◌, ◌<◌, ◌-◌, ◌^◌, ℕ, None, Err, false, IfSome, IfOk, IfErr};
-ghost use Rattle.std.specs.Borrow.{sem, RestsIfErr};
-ghost use Rattle.base_values.specs.Counts.{Grew};
-ghost use Rattle.pm_format.specs.LookUp.{archive_tile};
+ghost use Rattle.pm_reader.specs.Common.{archive_tile, Grew, RestsIfErr, sem};
 ghost use Rattle.pm_format.specs.declared.error.PmtError.TheVariants as errors;
 ghost use Rattle.pm_format.specs.declared.error.ReadCause.TheVariants as causes;
 ghost use Rattle.pm_reader.specs.Answers.{Gives, IsWhole, LookUpCauses};

@@ -1,6 +1,6 @@
 // The state of a reader: all that it owns, beside the backend that it borrows.
 ghost use Rattle.std.specs.Prelude.{◌≡◌, IfSome, IfOk, take};
-ghost use Rattle.base_values.specs.Counts.{Grew};
+ghost use Rattle.pm_reader.specs.Common.{Grew};
 ghost use Rattle.pm_reader.specs.Reads.{ReadsOnly};
 ghost use Rattle.pm_reader.specs.Opening.{FrontCauses, HasVersionOf, IsOpen, OpenAnswers, OpenCauses, header_of, root_of};
 

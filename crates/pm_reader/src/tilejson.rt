@@ -1,7 +1,7 @@
 // The document that an archive says of itself.
 ghost use Rattle.std.specs.Prelude.{◌≡◌, IfSome};
 ghost use Rattle.pm_format.specs.TileJson.{tilejson_of};
-ghost use Rattle.tile_json.specs.Reading.{tilejson_in};
+ghost use Rattle.pm_reader.specs.Common.{tilejson_in};
 ghost use Rattle.pm_reader.specs.Metadata.{metadata_read};
 ghost use Rattle.pm_reader.specs.Opening.{header_of};
 ghost use Rattle.pm_reader.specs.Reads.{GrewBetween, ReadsOnly};

@@ -1,6 +1,6 @@
 // Tiles by the state of a reader, over a backend that isn't borrowed any longer than the call.
 ghost use Rattle.std.specs.Prelude.{◌≡◌, IfSome};
-ghost use Rattle.pm_format.specs.LookUp.{archive_tile};
+ghost use Rattle.pm_reader.specs.Common.{archive_tile};
 ghost use Rattle.pm_reader.specs.Answers.{IsWhole};
 ghost use Rattle.pm_reader.specs.Archives.{IsCacheable, ReadsByHops};
 ghost use Rattle.pm_reader.specs.Caches.{CacheLimits};

@@ -1,7 +1,6 @@
 // A view of an archive in its bytes.
 ghost use Rattle.std.specs.Prelude.{◌≡◌, IfErr, IfOk, Err, Ok, Some, take};
-ghost use Rattle.pm_format.specs.LookUp.{archive_tile};
-ghost use Rattle.pm_format.specs.Opened.{opened, opened_front};
+ghost use Rattle.pm_reader.specs.Common.{archive_tile, opened, opened_front};
 ghost use Rattle.pm_reader.specs.Opening.{IsOpenRefusal};
 ghost use Rattle.pm_reader.specs.View.{IsRooted, IsTextRefusal, IsTileRefusal, headed, metadata_of, text_behind, text_read, tile_behind, viewed};
 
@@ -32,7 +31,7 @@ pub struct ArchiveView<'b> {
 
 impl<'b> Model for ArchiveView<'b> {
     ghost use Rattle.std.specs.Prelude.{List, ℕ};
-    ghost use Rattle.pm_format.specs.Opened.{opened};
+    ghost use Rattle.pm_reader.specs.Common.{opened};
     ghost use Rattle.pm_reader.specs.View.{IsRooted};
 
     ghost Value = { List ℕ };

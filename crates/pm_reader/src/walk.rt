@@ -1,7 +1,6 @@
 // A walk along all entries, by a queue of directories.
 ghost use Rattle.std.specs.Prelude.{◌≡◌, ◌≤◌, ◌<◌, ◌+◌, ◌^◌, ◌++◌, ℕ, List, [], None, true, false, length, IfSome, IfErr, OnOk, OnErr};
-ghost use Rattle.std.specs.Option.{option_to_list};
-ghost use Rattle.pm_format.specs.LookUp.{leaf_of};
+ghost use Rattle.pm_reader.specs.Common.{leaf_of, option_to_list};
 ghost use Rattle.pm_reader.specs.Answers.{Gives, LookUpCauses};
 ghost use Rattle.pm_reader.specs.Opening.{OpensAs};
 ghost use Rattle.pm_reader.specs.Reads.{GrewBetween, ReadsOnly, reads_done};

@@ -1,13 +1,6 @@
 -- The parts of a tile entry in intervals that are apart.
-use Rattle.std.proofs.Common.{◌≡◌, ◌∙◌, ◌≢◌, ◌+◌, ◌-◌, ◌≤◌, ℕ, Bool, true, false, List, [], ◌∷◌, ◌++◌, length, max, min, nat_le, nat_eq, if◌then◌else◌, Option, Some, refl, ap, sym, subst, arith}
-use Rattle.std.proofs.lemmas.Bool.Decides.{nat_tests}
-use Rattle.std.proofs.lemmas.List.{append-nil, append_assoc}
-use Rattle.tile_ids.specs.declared.id.TheConstants.{MAX_TILE_ID}
-use Rattle.pm_format.specs.Directory.{Entry, entry}
-use Rattle.pm_walk.specs.Collecting.{AreOrdered, Collects}
-use Rattle.pm_walk.specs.Intervals.{AreApart}
-use Rattle.pm_walk.specs.Parts.{clip, clip_all, parts, parts_of}
-use Rattle.pm_walk.specs.Collected.{Collected}
+use Rattle.pm_walk.proofs.Common.{ap, append-nil, append_assoc, AreApart, AreOrdered, arith, Bool, clip, clip_all, Collected, Collects, Entry, entry, false, if◌then◌else◌, length, List, max}
+use Rattle.pm_walk.proofs.Common.{MAX_TILE_ID, min, nat_eq, nat_le, nat_tests, Option, parts, parts_of, refl, Some, subst, sym, true, ℕ, [], ◌++◌, ◌+◌, ◌-◌, ◌∙◌, ◌∷◌, ◌≡◌, ◌≢◌, ◌≤◌}
 use Rattle.pm_walk.proofs.CoveringLemmas.{le_by, ordered_append, to_le}
 use Rattle.pm_walk.proofs.CollectingLemmas.{collects_nothing, collects_twice, ordered_later}
 

@@ -1,10 +1,6 @@
 -- Room for tiles.
-use Rattle.std.proofs.Common.{◌≡◌, ◌∙◌, ◌+◌, ◌-◌, ◌≤◌, ◌<◌, ℕ, Bool, true, false, nat_le, if◌then◌else◌, List, [], ◌∷◌, Option, None, Some, refl, sym, arith}
-use Rattle.std.proofs.lemmas.Bool.Decides.{nat_tests}
-use Rattle.std.proofs.lemmas.Option.{none-some}
-use Rattle.pm_format.specs.Directory.{Entry}
-use Rattle.pm_walk.specs.Collecting.{room_after}
-use Rattle.pm_walk.specs.Parts.{tile_count}
+use Rattle.pm_walk.proofs.Common.{arith, Bool, Entry, false, if◌then◌else◌, List, nat_le, nat_tests, None, none-some, Option, refl, room_after, Some, sym, tile_count, true, ℕ, [], ◌+◌, ◌-◌, ◌<◌, ◌∙◌}
+use Rattle.pm_walk.proofs.Common.{◌∷◌, ◌≡◌, ◌≤◌}
 use Rattle.pm_walk.proofs.CollectingLemmas.{room_none}
 
 -- room that is left says that there was enough, and none that there wasn't

@@ -1,13 +1,6 @@
 -- Parts that are collected.
-use Rattle.std.proofs.Common.{◌≡◌, ◌∙◌, ◌+◌, ◌≤◌, ℕ, true, List, [], ◌∷◌, ◌++◌, Option, None, Some, IfSome, refl, ap, sym, arith}
-use Rattle.std.proofs.lemmas.Bool.Decides.{nat_tests}
-use Rattle.std.proofs.lemmas.List.{append-nil, append_assoc}
-use Rattle.std.proofs.lemmas.Option.{none-some}
-use Rattle.tile_ids.specs.declared.id.TheConstants.{MAX_TILE_ID}
-use Rattle.pm_format.specs.Directory.{Entry}
-use Rattle.pm_walk.specs.Collecting.{AreOrdered, Collects, room_after, taken}
-use Rattle.pm_walk.specs.Intervals.{stays_within}
-use Rattle.pm_walk.specs.Collected.{Collected}
+use Rattle.pm_walk.proofs.Common.{ap, append-nil, append_assoc, AreOrdered, arith, Collected, Collects, Entry, IfSome, List, MAX_TILE_ID, nat_tests, None, none-some, Option, refl, room_after, Some}
+use Rattle.pm_walk.proofs.Common.{stays_within, sym, taken, true, ℕ, [], ◌++◌, ◌+◌, ◌∙◌, ◌∷◌, ◌≡◌, ◌≤◌}
 
 pub if_some : {A : Type 0} (o : Option ℕ) → A → IfSome o (λ _. A)
 if_some None a = tt

@@ -1,11 +1,5 @@
 -- Contents that are kept beside entries.
-use Rattle.std.proofs.Common.{◌≡◌, ◌∙◌, ℕ, List, [], length, map, Option, None, Some, IfSome, ap, sym}
-use Rattle.pm_format.specs.declared.header.Header.{Header}
-use Rattle.pm_format.specs.Directory.{Entry}
-use Rattle.pm_walk.specs.Collecting.{KeepsContents, contents_of}
-use Rattle.pm_walk.specs.declared.extent.Extent.{Extent}
-use Rattle.pm_walk.specs.declared.extent.Extent.TheVariants.{Within, Whole}
-use Rattle.pm_walk.specs.Collected.{Collected}
+use Rattle.pm_walk.proofs.Common.{ap, Collected, contents_of, Entry, Extent, Header, IfSome, KeepsContents, length, List, map, None, Option, Some, sym, Whole, Within, ℕ, [], ◌∙◌, ◌≡◌}
 
 none_told : (told : Option (List ℕ)) (h : Header) (es : List Entry) (cs : List (List ℕ)) → es ≡ [] → cs ≡ [] → IfSome told (λ b. cs ≡ map (contents_of h b) es)
 none_told None h es cs bare none = tt

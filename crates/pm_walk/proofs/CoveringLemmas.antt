@@ -1,13 +1,7 @@
 -- Which of some tile entries in order has an id.
-use Rattle.std.proofs.Common.{◌≡◌, ◌∙◌, ◌+◌, ◌-◌, ◌≤◌, ◌<◌, ℕ, Bool, true, false, nat_le, nat_lt, nat_eq, ◌&&◌, ◌||◌, if◌then◌else◌, List, [], ◌∷◌, ◌++◌, max, min, Option, None, Some, refl, ap, sym, arith}
-use Rattle.std.proofs.lemmas.Bool.Decides.{nat_tests}
-use Rattle.std.proofs.lemmas.Bool.{and_from, and_parts, true≢false}
-use Rattle.std.proofs.lemmas.List.{append_assoc}
-use Rattle.std.proofs.lemmas.Option.{none-some}
-use Rattle.pm_format.specs.Directory.{Entry, entry}
-use Rattle.pm_walk.specs.Collecting.{AreOrdered}
-use Rattle.pm_walk.specs.Intervals.{in_intervals, lies_in, stays_within}
-use Rattle.pm_walk.specs.Parts.{clip, clip_all, parts, parts_of}
+use Rattle.pm_walk.proofs.Common.{and_from, and_parts, ap, append_assoc, AreOrdered, arith, Bool, clip, clip_all, Entry, entry, false, if◌then◌else◌, in_intervals, lies_in, List, max, min, nat_eq}
+use Rattle.pm_walk.proofs.Common.{nat_le, nat_lt, nat_tests, None, none-some, Option, parts, parts_of, refl, Some, stays_within, sym, true, true≢false, ℕ, [], ◌&&◌, ◌++◌, ◌+◌, ◌-◌, ◌<◌, ◌||◌, ◌∙◌}
+use Rattle.pm_walk.proofs.Common.{◌∷◌, ◌≡◌, ◌≤◌}
 
 -- whether an id lies in a run
 abbrev pub in_run : ℕ → ℕ → ℕ → Bool

@@ -1,17 +1,7 @@
 -- What a walk from the root has given.
-use Rattle.std.proofs.Common.{◌≡◌, ◌∙◌, ◌+◌, ◌≤◌, ℕ, true, is_some, List, [], Option, None, Some, IfSome, Result, Ok, Err, refl, ap, sym, subst}
-use Rattle.pm_format.specs.declared.header.Header.{Header}
-use Rattle.pm_format.specs.Directory.{Entry}
-use Rattle.pm_walk.specs.Collected.{Collected}
+use Rattle.pm_walk.proofs.Common.{ap, Collected, Entry, Err, Extent, Gathers, Header, Holds, IfSome, is_some, List, None, nothing, Ok, Option, refl, Result, Some, subst, sym, TooManyTiles, true}
+use Rattle.pm_walk.proofs.Common.{walked, WalkError, WalksAll, Whole, ℕ, [], ◌+◌, ◌∙◌, ◌≡◌, ◌≤◌}
 use Rattle.pm_walk.specs.Gathered.{HoldsGiven, IsGathered}
-use Rattle.pm_walk.specs.Gathering.{Gathers}
-use Rattle.pm_walk.specs.Steps.{WalksAll}
-use Rattle.pm_walk.specs.Taker.{Holds, nothing}
-use Rattle.pm_walk.specs.Walk.{walked}
-use Rattle.pm_walk.specs.declared.error.WalkError.{WalkError}
-use Rattle.pm_walk.specs.declared.error.WalkError.TheVariants.{TooManyTiles}
-use Rattle.pm_walk.specs.declared.extent.Extent.{Extent}
-use Rattle.pm_walk.specs.declared.extent.Extent.TheVariants.{Whole}
 use Rattle.pm_walk.proofs.ContentsLemmas.{contents_first}
 use Rattle.pm_walk.proofs.GatheringLemmas.{RootWalk, all_gathered, none_left, room_first, told_root, walk_refused}
 use Rattle.pm_walk.proofs.LyingLemmas.{kept_all}

@@ -1,18 +1,8 @@
 -- What a walk from the root comes to.
-use Rattle.std.proofs.Common.{◌≡◌, ◌∙◌, ◌<◌, ℕ, true, is_some, List, [], ◌++◌, Option, None, Some, IfSome, Result, Ok, Err, refl, ap, sym, subst}
+use Rattle.pm_walk.proofs.Common.{ap, Archive, Collected, Entry, Err, Extent, full, Gathers, HasRoom, Header, IfSome, is_some, IsFew, IsFine, List, None, Ok, Option, pieces, refl, Refuses, Result}
+use Rattle.pm_walk.proofs.Common.{room_after, Some, Stops, StopsWith, subst, sym, tile_count, TooManyTiles, true, Walked, walked, WalkError, Walks, Whole, Within, ℕ, [], ◌++◌, ◌<◌, ◌∙◌, ◌≡◌}
 use Rattle.pm_format.specs.declared.error.PmtError.TheVariants as errors
 use Rattle.pm_format.specs.declared.error.ReadCause.TheVariants as causes
-use Rattle.pm_format.specs.declared.header.Header.{Header}
-use Rattle.pm_format.specs.Directory.{Entry}
-use Rattle.pm_walk.specs.Collecting.{HasRoom, Refuses, Stops, StopsWith, Walks, room_after}
-use Rattle.pm_walk.specs.Gathering.{Gathers, IsFew, IsFine}
-use Rattle.pm_walk.specs.Parts.{full, pieces, tile_count}
-use Rattle.pm_walk.specs.Walk.{Walked, walked}
-use Rattle.pm_walk.specs.declared.error.WalkError.{WalkError}
-use Rattle.pm_walk.specs.declared.error.WalkError.TheVariants.{Archive, TooManyTiles}
-use Rattle.pm_walk.specs.declared.extent.Extent.{Extent}
-use Rattle.pm_walk.specs.declared.extent.Extent.TheVariants.{Within, Whole}
-use Rattle.pm_walk.specs.Collected.{Collected}
 use Rattle.pm_walk.proofs.CollectLemmas.{enough, too_many}
 use Rattle.pm_walk.proofs.ToldLemmas.{one_told}
 

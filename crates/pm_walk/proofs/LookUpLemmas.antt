@@ -1,21 +1,9 @@
 -- What look-ups end at, by a walk that isn't refused.
-use Rattle.std.proofs.Common.{◌≡◌, ◌∙◌, ◌⊎◌, inl, inr, ◌-◌, ◌≤◌, ◌<◌, ℕ, zero, suc, Bool, true, false, not, nat_le, nat_lt, nat_eq, ◌&&◌, ◌||◌, if◌then◌else◌, List, [], ◌∷◌, Option, None, Some, Result, Ok, Err, refl, ap, sym, arith}
-use Rattle.std.proofs.lemmas.Bool.{and_parts, cases_lt}
-use Rattle.std.proofs.lemmas.Bool.Decides.{nat_tests}
-use Rattle.std.proofs.lemmas.List.{append-nil}
-use Rattle.std.proofs.lemmas.Option.{none-some}
-use Rattle.pm_format.specs.declared.error.PmtError.{PmtError}
-use Rattle.pm_format.specs.declared.header.Header.{Header}
-use Rattle.pm_format.specs.Directory.{Entry, ◌>>=◌}
-use Rattle.pm_format.specs.LookUp.{entry_from, leaf_of}
+use Rattle.pm_walk.proofs.Common.{and_parts, ap, append-nil, Archive, arith, below, Bool, cases_lt, Entry, entry_from, entry_walk, Err, Extent, false, fits_depth, Header, if◌then◌else◌, in_intervals}
+use Rattle.pm_walk.proofs.Common.{inl, inr, is_below, is_met, is_zero, leaf_of, leaf_walk, lies_in, List, meets, meets_any, meets_one, nat_eq, nat_le, nat_lt, nat_tests, None, none-some, not, Ok}
+use Rattle.pm_walk.proofs.Common.{Option, PmtError, refl, Result, Some, suc, sym, true, walk_each, Walked, walked, Whole, Within, zero, ℕ, [], ◌&&◌, ◌-◌, ◌<◌, ◌>>=◌, ◌||◌, ◌∙◌, ◌∷◌, ◌≡◌, ◌≤◌, ◌⊎◌}
 use Rattle.pm_format.specs.Scan.{covers, last_below, scan}
 use Rattle.pm_format.proofs.LookUpLemmas.{reached_leaf, reached_none, reached_tile}
-use Rattle.pm_walk.specs.Intervals.{in_intervals, is_below, is_met, lies_in, meets_any, meets_one}
-use Rattle.pm_walk.specs.Walk.{Walked, below, entry_walk, fits_depth, leaf_walk, meets, walk_each, walked}
-use Rattle.pm_walk.specs.declared.error.WalkError.TheVariants.{Archive}
-use Rattle.pm_walk.specs.declared.extent.Extent.{Extent}
-use Rattle.pm_walk.specs.declared.extent.Extent.TheVariants.{Within, Whole}
-use Rattle.pm_reader.proofs.SoundTileLemmas.{is_zero}
 use Rattle.pm_walk.proofs.OrderLemmas.{IsOrderly, first_ordered, orderly, unrefused}
 use Rattle.pm_walk.proofs.CoveringLemmas.{covering, covering_before, covering_behind, covers_here, covers_later, has_id, none_above, none_below}
 use Rattle.pm_walk.proofs.TestingLemmas.{tile_stands}

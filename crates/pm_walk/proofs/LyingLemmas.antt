@@ -1,14 +1,7 @@
 -- Parts in intervals, and how many tiles they have.
-use Rattle.std.proofs.Common.{◌≡◌, ◌∙◌, ◌+◌, ◌-◌, ◌≤◌, ℕ, Bool, true, false, ◌||◌, nat_le, nat_eq, max, min, if◌then◌else◌, List, [], ◌∷◌, ◌++◌, Option, None, Some, IfSome, is_some, refl, ap, sym, subst, arith}
-use Rattle.std.proofs.lemmas.Bool.{and_from, or_left, or_right}
-use Rattle.std.proofs.lemmas.Bool.Decides.{nat_tests}
-use Rattle.pm_format.specs.Directory.{Entry, entry}
-use Rattle.pm_walk.specs.Collecting.{AllLieIn, AllShallow, Collects, KeepWithin, KeepsTo}
-use Rattle.pm_walk.specs.Intervals.{in_intervals, lies_in}
-use Rattle.pm_walk.specs.Parts.{clip, clip_all, parts_of, tile_count}
-use Rattle.pm_walk.specs.declared.extent.Extent.{Extent}
-use Rattle.pm_walk.specs.declared.extent.Extent.TheVariants.{Within, Whole}
-use Rattle.pm_walk.specs.Collected.{Collected}
+use Rattle.pm_walk.proofs.Common.{AllLieIn, AllShallow, and_from, ap, arith, Bool, clip, clip_all, Collected, Collects, Entry, entry, Extent, false, IfSome, if◌then◌else◌, in_intervals, is_some}
+use Rattle.pm_walk.proofs.Common.{KeepsTo, KeepWithin, lies_in, List, max, min, nat_eq, nat_le, nat_tests, None, Option, or_left, or_right, parts_of, refl, Some, subst, sym, tile_count, true, Whole}
+use Rattle.pm_walk.proofs.Common.{Within, ℕ, [], ◌++◌, ◌+◌, ◌-◌, ◌||◌, ◌∙◌, ◌∷◌, ◌≡◌, ◌≤◌}
 use Rattle.pm_walk.proofs.CollectLemmas.{room_taken}
 
 -- The parts of an entry.

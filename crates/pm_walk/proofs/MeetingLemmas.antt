@@ -1,23 +1,10 @@
 -- What an entry that is met makes of what was collected.
-use Rattle.std.proofs.Common.{◌≡◌, ◌≢◌, arith, ◌↔◌, ◌∙◌, IsTrue, ◌+◌, ℕ, zero, suc, Bool, true, false, not, nat_eq, if◌then◌else◌, List, Option, None, Some, IfSome, Result, Ok, Err, refl, ap, sym, subst}
-use Rattle.std.proofs.lemmas.Bool.{false≢true}
-use Rattle.std.proofs.lemmas.Bool.Decides.{nat_tests}
-use Rattle.pm_format.specs.declared.error.PmtError.{PmtError}
+use Rattle.pm_walk.proofs.Common.{ap, Archive, arith, below, Bool, Collected, Collects, directory_at, Entry, entry_walk, Err, Extent, false, false≢true, fits_depth, Header, Holds, IfSome}
+use Rattle.pm_walk.proofs.Common.{if◌then◌else◌, IsTrue, leaf_of, leaf_walk, List, Meets, meets, MeetsEntry, nat_eq, nat_tests, None, not, Ok, Option, pieces, PmtError, refl, Refuses, Result}
+use Rattle.pm_walk.proofs.Common.{room_after, Some, subst, suc, sym, TakesTile, tile_walk, true, Walked, walked, WalkError, Walks, zero, ℕ, ◌+◌, ◌↔◌, ◌∙◌, ◌≡◌, ◌≢◌}
 use Rattle.pm_format.specs.declared.error.PmtError.TheVariants as errors
 use Rattle.pm_format.specs.declared.error.ReadCause.TheVariants as causes
-use Rattle.pm_format.specs.declared.header.Header.{Header}
-use Rattle.pm_format.specs.Directory.{Entry}
-use Rattle.pm_format.specs.LookUp.{directory_at, leaf_of}
 use Rattle.pm_reader.specs.Answers.{Gives}
-use Rattle.pm_walk.specs.Collected.{Collected}
-use Rattle.pm_walk.specs.Collecting.{Collects, Meets, Refuses, Walks, room_after}
-use Rattle.pm_walk.specs.Parts.{pieces}
-use Rattle.pm_walk.specs.Steps.{MeetsEntry, TakesTile}
-use Rattle.pm_walk.specs.Taker.{Holds}
-use Rattle.pm_walk.specs.Walk.{Walked, below, entry_walk, fits_depth, leaf_walk, meets, tile_walk, walked}
-use Rattle.pm_walk.specs.declared.error.WalkError.{WalkError}
-use Rattle.pm_walk.specs.declared.error.WalkError.TheVariants.{Archive}
-use Rattle.pm_walk.specs.declared.extent.Extent.{Extent}
 use Rattle.pm_walk.proofs.CollectingLemmas.{collects_nothing, ordered_end, starts_within}
 use Rattle.pm_walk.proofs.TakingLemmas.{same_kept, stops_room}
 use Rattle.pm_walk.proofs.ToldLemmas.{any_told, one_told}

@@ -1,20 +1,8 @@
 -- The tile entries of a walk that isn't refused, in order.
-use Rattle.std.proofs.Common.{◌≡◌, ◌∙◌, ◌+◌, ◌≤◌, ℕ, zero, suc, Bool, true, false, nat_eq, List, [], ◌∷◌, ◌++◌, Option, None, Some, Result, Ok, Err, refl, ap, sym, subst, arith}
-use Rattle.std.proofs.lemmas.Bool.Decides.{nat_tests}
-use Rattle.std.proofs.lemmas.List.{append-nil}
-use Rattle.std.proofs.lemmas.Option.{none-some, same_Some}
-use Rattle.pm_format.specs.declared.error.PmtError.{PmtError}
+use Rattle.pm_walk.proofs.Common.{ap, append-nil, Archive, AreOrdered, arith, below, Bool, end_before, Entry, entry_walk, Err, Extent, false, Header, is_zero, leaf_of, leaf_walk, List, meets, nat_eq}
+use Rattle.pm_walk.proofs.Common.{nat_tests, None, none-some, nothing_met, Ok, Option, PmtError, refl, refuses, Result, same_Some, Some, stands, stays_within, subst, suc, sym, then_walk, tile_walk}
+use Rattle.pm_walk.proofs.Common.{true, walk_each, Walked, walked, WalkError, zero, ℕ, [], ◌++◌, ◌+◌, ◌∙◌, ◌∷◌, ◌≡◌, ◌≤◌}
 use Rattle.pm_format.specs.declared.error.PmtError.TheVariants as errors
-use Rattle.pm_format.specs.declared.header.Header.{Header}
-use Rattle.pm_format.specs.Directory.{Entry}
-use Rattle.pm_format.specs.LookUp.{leaf_of}
-use Rattle.pm_reader.proofs.SoundTileLemmas.{is_zero}
-use Rattle.pm_walk.specs.Collecting.{AreOrdered}
-use Rattle.pm_walk.specs.Intervals.{stays_within}
-use Rattle.pm_walk.specs.Walk.{Walked, below, end_before, entry_walk, leaf_walk, meets, nothing_met, refuses, stands, then_walk, tile_walk, walk_each, walked}
-use Rattle.pm_walk.specs.declared.error.WalkError.{WalkError}
-use Rattle.pm_walk.specs.declared.error.WalkError.TheVariants.{Archive}
-use Rattle.pm_walk.specs.declared.extent.Extent.{Extent}
 use Rattle.pm_walk.proofs.CoveringLemmas.{ordered_append}
 use Rattle.pm_walk.proofs.TestingLemmas.{tile_fits, tile_stands}
 use Rattle.pm_walk.proofs.WalkingLemmas.{Stood, stood_by, walked_is}

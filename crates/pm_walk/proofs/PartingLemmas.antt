@@ -1,13 +1,5 @@
 -- The parts of a tile entry that were given to what takes them.
-use Rattle.std.proofs.Common.{◌≡◌, ◌≢◌, ◌+◌, ◌≤◌, ℕ, List, [], ◌∷◌, length, Option, Some, subst, arith}
-use Rattle.tile_ids.specs.declared.id.TheConstants.{MAX_TILE_ID}
-use Rattle.pm_format.specs.Directory.{Entry}
-use Rattle.pm_walk.specs.Collected.{Collected}
-use Rattle.pm_walk.specs.Collecting.{AreOrdered}
-use Rattle.pm_walk.specs.Intervals.{AreApart}
-use Rattle.pm_walk.specs.Parts.{clip}
-use Rattle.pm_walk.specs.Steps.{AddsParts}
-use Rattle.pm_walk.specs.Taker.{Holds, with_part}
+use Rattle.pm_walk.proofs.Common.{AddsParts, AreApart, AreOrdered, arith, clip, Collected, Entry, Holds, length, List, MAX_TILE_ID, Option, Some, subst, with_part, ℕ, [], ◌+◌, ◌∷◌, ◌≡◌, ◌≢◌, ◌≤◌}
 use Rattle.pm_walk.proofs.ClippingLemmas.{Clipping, Reached, all_clipped, all_reached, clipping, is_clip, nothing_clipped, past_none, past_one, reach_none, reach_one, reaching}
 use Rattle.pm_walk.proofs.CollectingLemmas.{ordered_later}
 use Rattle.pm_walk.proofs.TakerLemmas.{part_collects, part_ordered}

@@ -1,21 +1,11 @@
 -- The tile entries of a whole walk that isn't refused pass their tests.
-use Rattle.std.proofs.Common.{◌≡◌, ◌≢◌, ◌∙◌, ◌+◌, ℕ, zero, suc, Bool, true, false, nat_eq, if◌then◌else◌, List, [], ◌∷◌, ◌++◌, Option, None, Some, IsSome, Result, Ok, Err, refl, ap, sym, subst, arith}
-use Rattle.std.proofs.lemmas.Bool.{true≢false}
-use Rattle.std.proofs.lemmas.Option.{none-some, same_Some}
-use Rattle.pm_format.specs.declared.error.PmtError.{PmtError}
-use Rattle.pm_format.specs.declared.header.Header.{Header}
-use Rattle.pm_format.specs.Directory.{Entry}
-use Rattle.pm_format.specs.LookUp.{leaf_of, range_of}
-use Rattle.pm_format.specs.Opened.{Opened}
+use Rattle.pm_walk.proofs.Common.{all_walked, AllShallow, ap, Archive, AreOrdered, arith, Bool, end_before, Entry, entry_walk, Err, false, full, Header, if◌then◌else◌, IsSome, leaf_of, leaf_walk}
+use Rattle.pm_walk.proofs.Common.{List, nat_eq, None, none-some, nothing_met, Ok, Opened, Option, PmtError, range_of, range_refusal, refl, Result, run_refusal, same_Some, Some, subst, suc, sym}
+use Rattle.pm_walk.proofs.Common.{tile_refusal, tile_walk, true, true≢false, walk_each, Walked, walked, Whole, zero, ℕ, [], ◌++◌, ◌+◌, ◌∙◌, ◌∷◌, ◌≡◌, ◌≢◌}
 use Rattle.pm_walk.proofs.ClippingLemmas.{from_low}
 use Rattle.pm_walk.proofs.OrderLemmas.{unrefused, walked_ordered}
 use Rattle.pm_walk.proofs.TestingLemmas.{run_shallow, tile_stands}
 use Rattle.pm_walk.proofs.WalkingLemmas.{walked_is}
-use Rattle.pm_walk.specs.Collecting.{AllShallow, AreOrdered}
-use Rattle.pm_walk.specs.Parts.{full}
-use Rattle.pm_walk.specs.Walk.{Walked, all_walked, end_before, entry_walk, leaf_walk, nothing_met, range_refusal, run_refusal, tile_refusal, tile_walk, walk_each, walked}
-use Rattle.pm_walk.specs.declared.error.WalkError.TheVariants.{Archive}
-use Rattle.pm_walk.specs.declared.extent.Extent.TheVariants.{Whole}
 
 -- the contents of these lie in the archive, and are at least one byte
 abbrev pub contents_at : Header → List ℕ → Entry → Option (List ℕ)

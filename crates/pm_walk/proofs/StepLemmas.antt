@@ -1,17 +1,7 @@
 -- What a walk along the entries of a directory makes of what was collected.
-use Rattle.std.proofs.Common.{◌≡◌, ◌-◌, ℕ, Bool, true, false, List, length, Option, None, Some, IfSome, OnOk, Result, Ok, Err, refl, subst}
+use Rattle.pm_walk.proofs.Common.{Archive, AreApart, AreOrdered, below, Bool, Collected, Entry, entry_walk, Err, Extent, false, Header, Holds, IfSome, KeepsContents, Kept, length, List, MeetReads}
+use Rattle.pm_walk.proofs.Common.{MeetsEntry, None, Ok, OnOk, Option, refl, Result, Some, subst, true, WalkError, WalksAll, ℕ, ◌-◌, ◌≡◌}
 use Rattle.pm_format.specs.declared.error.PmtError.TheVariants as errors
-use Rattle.pm_format.specs.declared.header.Header.{Header}
-use Rattle.pm_format.specs.Directory.{Entry}
-use Rattle.pm_walk.specs.Collected.{Collected}
-use Rattle.pm_walk.specs.Collecting.{AreOrdered, KeepsContents, MeetReads}
-use Rattle.pm_walk.specs.Intervals.{AreApart}
-use Rattle.pm_walk.specs.Steps.{Kept, MeetsEntry, WalksAll}
-use Rattle.pm_walk.specs.Taker.{Holds}
-use Rattle.pm_walk.specs.Walk.{below, entry_walk}
-use Rattle.pm_walk.specs.declared.error.WalkError.{WalkError}
-use Rattle.pm_walk.specs.declared.error.WalkError.TheVariants.{Archive}
-use Rattle.pm_walk.specs.declared.extent.Extent.{Extent}
 use Rattle.pm_walk.proofs.TakingLemmas.{same_kept}
 use Rattle.pm_walk.proofs.WalkToldLemmas.{AtFront, Below, Goes, order_end, order_leaf, order_step, told_all_gone, told_fallen, told_past, told_past_leaf, told_stopped, told_stopped_below}
 use Rattle.pm_walk.proofs.WalkingLemmas.{SoFar, begun_at, reach}

@@ -1,10 +1,6 @@
 -- Parts that were given to what takes them.
-use Rattle.std.proofs.Common.{◌≡◌, ◌≢◌, ◌+◌, ◌≤◌, ℕ, true, List, [], ◌∷◌, ◌++◌, Option, None, Some, is_some, refl, sym, arith}
-use Rattle.tile_ids.specs.declared.id.TheConstants.{MAX_TILE_ID}
-use Rattle.pm_format.specs.Directory.{Entry}
-use Rattle.pm_walk.specs.Collected.{Collected}
-use Rattle.pm_walk.specs.Collecting.{AreOrdered, Collects, taken}
-use Rattle.pm_walk.specs.Taker.{beside, with_part}
+use Rattle.pm_walk.proofs.Common.{AreOrdered, arith, beside, Collected, Collects, Entry, is_some, List, MAX_TILE_ID, None, Option, refl, Some, sym, taken, true, with_part, ℕ, [], ◌++◌, ◌+◌, ◌∷◌, ◌≡◌}
+use Rattle.pm_walk.proofs.Common.{◌≢◌, ◌≤◌}
 use Rattle.pm_walk.proofs.CollectingLemmas.{ordered_later, ordered_push}
 
 -- one more part was collected

@@ -1,25 +1,11 @@
 -- What the tests of a tile entry make of what was collected.
-use Rattle.std.proofs.Common.{◌≡◌, ◌↔◌, IsTrue, ◌≢◌, ◌∙◌, ◌+◌, ◌≤◌, ℕ, Bool, true, false, nat_eq, nat_le, if◌then◌else◌, List, [], ◌∷◌, ◌++◌, length, map, Option, None, Some, IfSome, IfErr, OnOk, is_some, Result, Ok, Err, refl, ap, sym, subst, arith}
-use Rattle.std.proofs.lemmas.Bool.{false≢true}
-use Rattle.std.proofs.lemmas.Bool.Decides.{nat_tests}
-use Rattle.std.proofs.lemmas.List.{append-nil, length-append, map-append}
+use Rattle.pm_walk.proofs.Common.{AddsParts, ap, append-nil, Archive, AreContentsOf, arith, Bool, Collected, Collects, contents_of, Entry, Err, Extent, false, false≢true, full, full_of, HasRoom}
+use Rattle.pm_walk.proofs.Common.{Header, Holds, IfErr, IfSome, if◌then◌else◌, is_some, IsTaken, IsTrue, Kept, length, length-append, List, map, map-append, MAX_TILE_ID, nat_eq, nat_le, nat_tests}
+use Rattle.pm_walk.proofs.Common.{None, Ok, OnOk, Option, parts_of, refl, Refuses, Result, room_after, Some, StopsWith, subst, sym, taken, Takes, TakesTile, tile_by, tile_refusal, tile_walk}
+use Rattle.pm_walk.proofs.Common.{TooManyTiles, true, WalkError, Walks, Whole, with_part, Within, ℕ, [], ◌++◌, ◌+◌, ◌↔◌, ◌∙◌, ◌∷◌, ◌≡◌, ◌≢◌, ◌≤◌}
 use Rattle.std.specs.Prelude.{unwrap_or}
-use Rattle.tile_ids.specs.declared.id.TheConstants.{MAX_TILE_ID}
 use Rattle.pm_format.specs.declared.error.PmtError.TheVariants as errors
 use Rattle.pm_format.specs.declared.error.ReadCause.TheVariants as causes
-use Rattle.pm_format.specs.declared.header.Header.{Header}
-use Rattle.pm_format.specs.Directory.{Entry}
-use Rattle.pm_walk.specs.Collected.{Collected}
-use Rattle.pm_walk.specs.Collecting.{AreContentsOf, Collects, HasRoom, Refuses, StopsWith, Walks, contents_of, room_after, taken}
-use Rattle.pm_walk.specs.Parts.{full, full_of, parts_of}
-use Rattle.pm_walk.specs.Steps.{AddsParts, Kept, TakesTile}
-use Rattle.pm_walk.specs.Taker.{Holds, with_part}
-use Rattle.pm_walk.specs.Taking.{IsTaken, Takes}
-use Rattle.pm_walk.specs.Walk.{tile_by, tile_refusal, tile_walk}
-use Rattle.pm_walk.specs.declared.error.WalkError.{WalkError}
-use Rattle.pm_walk.specs.declared.error.WalkError.TheVariants.{Archive, TooManyTiles}
-use Rattle.pm_walk.specs.declared.extent.Extent.{Extent}
-use Rattle.pm_walk.specs.declared.extent.Extent.TheVariants.{Within, Whole}
 use Rattle.pm_walk.proofs.CollectingLemmas.{collects_nothing, ordered_later}
 use Rattle.pm_walk.proofs.LyingLemmas.{keeps_more, parts_lie}
 use Rattle.pm_walk.proofs.TakerLemmas.{part_collects, part_ordered, part_there}

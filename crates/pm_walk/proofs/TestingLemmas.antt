@@ -1,19 +1,9 @@
 -- The tests of a tile entry.
-use Rattle.std.proofs.Common.{◌≡◌, ◌+◌, ◌≤◌, ℕ, Bool, true, false, nat_eq, nat_le, if◌then◌else◌, max, List, [], ◌∷◌, Option, None, Some, refl, sym, ◌∙◌}
-use Rattle.std.proofs.lemmas.Bool.{true≢false}
-use Rattle.pm_walk.specs.Collecting.{IsShallow}
-use Rattle.std.proofs.lemmas.Option.{none-some}
-use Rattle.tile_ids.specs.declared.id.TheConstants.{MAX_TILE_ID}
+use Rattle.pm_walk.proofs.Common.{Archive, Bool, Entry, Extent, false, Header, if◌then◌else◌, InvalidTileId, IsShallow, List, max, MAX_TILE_ID, nat_eq, nat_le, None, none-some, Option, range_of}
+use Rattle.pm_walk.proofs.Common.{range_refusal, refl, run_refusal, Some, sym, tile_by, tile_reads, tile_refusal, tile_walk, TooDeep, true, true≢false, WalkError, Whole, Within, ℕ, [], ◌+◌, ◌∙◌, ◌∷◌}
+use Rattle.pm_walk.proofs.Common.{◌≡◌, ◌≤◌}
 use Rattle.pm_format.specs.declared.error.PmtError.TheVariants as errors
 use Rattle.pm_format.specs.declared.error.ReadCause.TheVariants as causes
-use Rattle.pm_format.specs.declared.header.Header.{Header}
-use Rattle.pm_format.specs.Directory.{Entry}
-use Rattle.pm_format.specs.LookUp.{range_of}
-use Rattle.pm_walk.specs.Walk.{range_refusal, run_refusal, tile_by, tile_reads, tile_refusal, tile_walk}
-use Rattle.pm_walk.specs.declared.error.WalkError.{WalkError}
-use Rattle.pm_walk.specs.declared.error.WalkError.TheVariants.{Archive, InvalidTileId, TooDeep}
-use Rattle.pm_walk.specs.declared.extent.Extent.{Extent}
-use Rattle.pm_walk.specs.declared.extent.Extent.TheVariants.{Within, Whole}
 use Rattle.pm_walk.specs.declared.extent.TheConstants.{FIRST_TOO_DEEP}
 use Rattle.pm_walk.proofs.CoveringLemmas.{le_by}
 

@@ -1,5 +1,5 @@
 -- Facts on bytes that may be told.
-use Rattle.std.proofs.Common.{◌≡◌, ℕ, List, Option, None, Some, IfSome, subst}
+use Rattle.pm_walk.proofs.Common.{IfSome, List, None, Option, Some, subst, ℕ, ◌≡◌}
 
 -- two facts on the same bytes make a third
 pub both_told : (P Q R : List ℕ → Type 0) (told again : Option (List ℕ)) → again ≡ told → ((b : List ℕ) → P b → Q b → R b) → IfSome told P → IfSome again Q → IfSome told R

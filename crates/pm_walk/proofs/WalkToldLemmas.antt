@@ -1,17 +1,8 @@
 -- A walk over bytes that may be told.
-use Rattle.std.proofs.Common.{◌≡◌, ◌∙◌, ◌+◌, ◌-◌, ◌≤◌, ℕ, zero, suc, Bool, true, false, List, ◌∷◌, length, Option, None, Some, IfSome, Result, Ok, Err, refl, ap, sym, subst, arith}
-use Rattle.std.proofs.lemmas.Bool.Decides.{nat_tests}
+use Rattle.pm_walk.proofs.Common.{ap, Archive, AreOrdered, arith, below, Bool, Collected, end_before, Entry, entry_walk, Err, Extent, false, Header, IfSome, IsMetLeaf, leaf_of, length, List}
+use Rattle.pm_walk.proofs.Common.{MeetReads, Meets, meets, nat_tests, None, Ok, Option, refl, Result, Some, stands, stays_within, subst, suc, sym, true, walked, WalkError, Walks, zero, ℕ, ◌+◌, ◌-◌}
+use Rattle.pm_walk.proofs.Common.{◌∙◌, ◌∷◌, ◌≡◌, ◌≤◌}
 use Rattle.pm_format.specs.declared.error.PmtError.TheVariants as errors
-use Rattle.pm_format.specs.declared.header.Header.{Header}
-use Rattle.pm_format.specs.Directory.{Entry}
-use Rattle.pm_format.specs.LookUp.{leaf_of}
-use Rattle.pm_walk.specs.Collecting.{AreOrdered, IsMetLeaf, MeetReads, Meets, Walks}
-use Rattle.pm_walk.specs.Intervals.{stays_within}
-use Rattle.pm_walk.specs.Walk.{below, end_before, entry_walk, meets, stands, walked}
-use Rattle.pm_walk.specs.declared.error.WalkError.{WalkError}
-use Rattle.pm_walk.specs.declared.error.WalkError.TheVariants.{Archive}
-use Rattle.pm_walk.specs.declared.extent.Extent.{Extent}
-use Rattle.pm_walk.specs.Collected.{Collected}
 use Rattle.pm_walk.proofs.ClippingLemmas.{no_items}
 use Rattle.pm_walk.proofs.CollectingLemmas.{ordered_end, ordered_later, starts_within}
 use Rattle.pm_walk.proofs.ToldLemmas.{both_told}

@@ -1,22 +1,11 @@
 -- A walk along the entries of a directory.
-use Rattle.std.proofs.Common.{◌≡◌, ◌∙◌, ◌+◌, ◌≤◌, ℕ, zero, suc, true, false, nat_eq, nat_le, ◌&&◌, List, [], ◌∷◌, ◌++◌, Option, None, Some, Ok, refl, ap, sym, subst, arith}
-use Rattle.std.proofs.lemmas.Bool.{and_parts}
+use Rattle.pm_walk.proofs.Common.{and_parts, ap, append-nil, append_assoc, Archive, arith, below, Collected, Collects, end_before, Entry, entry_walk, Extent, false, fits_depth, full_of, Header}
+use Rattle.pm_walk.proofs.Common.{is_below, leaf_of, leaf_read, leaf_walk, List, meets, nat_eq, nat_le, None, nothing_met, Ok, Option, parts_of, pieces, refl, Refuses, refuses, rises, room_after}
+use Rattle.pm_walk.proofs.Common.{Some, stands, stays_within, Stops, subst, suc, sym, then_walk, tile_walk, TooManyTiles, true, walk_each, Walked, walked, WalkError, Walks, Whole, Within, zero, ℕ, []}
+use Rattle.pm_walk.proofs.Common.{◌&&◌, ◌++◌, ◌+◌, ◌∙◌, ◌∷◌, ◌≡◌, ◌≤◌}
 use Rattle.std.proofs.lemmas.Grind.{flat_map-append}
-use Rattle.std.proofs.lemmas.List.{append-nil, append_assoc}
 use Rattle.pm_format.specs.declared.error.PmtError.TheVariants as errors
 use Rattle.pm_format.specs.declared.error.ReadCause.TheVariants as causes
-use Rattle.pm_format.specs.declared.header.Header.{Header}
-use Rattle.pm_format.specs.Directory.{Entry}
-use Rattle.pm_format.specs.LookUp.{leaf_of}
-use Rattle.pm_walk.specs.Collecting.{Collects, Refuses, Stops, Walks, room_after}
-use Rattle.pm_walk.specs.Intervals.{is_below, stays_within}
-use Rattle.pm_walk.specs.Parts.{full_of, parts_of, pieces}
-use Rattle.pm_walk.specs.Walk.{Walked, below, end_before, entry_walk, fits_depth, leaf_read, leaf_walk, meets, nothing_met, refuses, rises, stands, then_walk, tile_walk, walk_each, walked}
-use Rattle.pm_walk.specs.declared.error.WalkError.{WalkError}
-use Rattle.pm_walk.specs.declared.error.WalkError.TheVariants.{Archive, TooManyTiles}
-use Rattle.pm_walk.specs.declared.extent.Extent.{Extent}
-use Rattle.pm_walk.specs.declared.extent.Extent.TheVariants.{Within, Whole}
-use Rattle.pm_walk.specs.Collected.{Collected}
 use Rattle.pm_walk.proofs.CollectingLemmas.{collects_nothing, collects_twice, room_append, room_none}
 
 pub walked_is : (ext : Extent) (n : ℕ) (h : Header) (b : List ℕ) (is : List (ℕ × ℕ)) (low : ℕ) (limit : Option ℕ) (es : List Entry) → walked ext n h b is low limit es ≡ walk_each n (entry_walk ext (below ext n h b is) h b is) None low limit es

@@ -1,22 +1,11 @@
 -- The map of an archive, by the tile entries of its walk.
-use Rattle.std.proofs.Common.{◌≡◌, ◌∙◌, ◌+◌, ◌^◌, ◌≤◌, ◌<◌, ◌⊎◌, inl, inr, ℕ, Bool, true, false, nat_le, nat_lt, nat_eq, ◌&&◌, if◌then◌else◌, List, [], ◌∷◌, ◌++◌, length, take, drop, Option, None, Some, Result, Ok, Err, refl, ap, sym, arith}
-use Rattle.std.proofs.lemmas.Bool.{and_parts}
-use Rattle.std.proofs.lemmas.Bool.Decides.{nat_tests}
-use Rattle.std.proofs.lemmas.Option.{none-some}
-use Rattle.tile_ids.specs.declared.id.TheConstants.{MAX_TILE_ID}
-use Rattle.pm_format.specs.declared.error.PmtError.{PmtError}
+use Rattle.pm_walk.proofs.Common.{all_walked, and_parts, ap, archive_map, archive_tile, AreOrdered, arith, Bool, data_behind, drop, Entry, Err, Extent, false, filled, full, Header, if◌then◌else◌, inl}
+use Rattle.pm_walk.proofs.Common.{inr, length, List, MAX_TILE_ID, nat_eq, nat_le, nat_lt, nat_tests, None, none-some, Ok, Opened, opened, Option, PmtError, range_of, refl, Result, Some, sym, take}
+use Rattle.pm_walk.proofs.Common.{tile_opened, true, walked, Whole, ℕ, [], ◌&&◌, ◌++◌, ◌+◌, ◌<◌, ◌^◌, ◌∙◌, ◌∷◌, ◌≡◌, ◌≤◌, ◌⊎◌}
 use Rattle.pm_format.specs.declared.error.PmtError.TheVariants as errors
 use Rattle.pm_format.specs.declared.error.ReadCause.TheVariants as causes
-use Rattle.pm_format.specs.declared.header.Header.{Header}
-use Rattle.pm_format.specs.Directory.{Entry}
-use Rattle.pm_format.specs.LookUp.{archive_map, archive_tile, data_behind, filled, range_of, tile_by, tile_opened}
-use Rattle.pm_format.specs.Opened.{Opened, opened}
+use Rattle.pm_format.specs.LookUp.{tile_by}
 use Rattle.pm_format.proofs.SearchLemmas.{le_or}
-use Rattle.pm_walk.specs.Collecting.{AreOrdered}
-use Rattle.pm_walk.specs.Parts.{full}
-use Rattle.pm_walk.specs.Walk.{all_walked, walked}
-use Rattle.pm_walk.specs.declared.extent.Extent.{Extent}
-use Rattle.pm_walk.specs.declared.extent.Extent.TheVariants.{Whole}
 use Rattle.pm_walk.proofs.CoveringLemmas.{covering, covers_here, covers_later, has_id, none_below}
 use Rattle.pm_walk.proofs.LookUpLemmas.{IsSought, walked_looked}
 use Rattle.pm_walk.proofs.OrderLemmas.{walked_ordered}

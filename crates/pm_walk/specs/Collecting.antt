@@ -1,12 +1,8 @@
 -- Parts that are collected while there is room for their tiles.
 use Rattle.std.specs.Prelude.{◌≡◌, ◌≢◌, ℕ, ◌+◌, ◌-◌, ◌≤◌, ◌<◌, true, List, [], ◌∷◌, ◌++◌, nat_le, if◌then◌else◌, Option, Some, None, is_some, Result, Ok, Err, IfSome, length, map, unwrap_or}
-use Rattle.tile_ids.specs.declared.id.TheConstants.{MAX_TILE_ID}
+use Rattle.pm_walk.specs.Common.{Entry, Header, leaf_of, LookUpCauses, MAX_TILE_ID, range_of}
 use Rattle.pm_format.specs.declared.error.PmtError.TheVariants as errors
 use Rattle.pm_format.specs.declared.error.ReadCause.TheVariants as causes
-use Rattle.pm_format.specs.declared.header.Header.{Header}
-use Rattle.pm_format.specs.Directory.{Entry}
-use Rattle.pm_format.specs.LookUp.{leaf_of, range_of}
-use Rattle.pm_reader.specs.Answers.{LookUpCauses}
 use Rattle.pm_walk.specs.Collected.{Collected}
 use Rattle.pm_walk.specs.Intervals.{in_intervals, stays_within}
 use Rattle.pm_walk.specs.Parts.{pieces, tile_count}

@@ -1,7 +1,6 @@
 -- What was given of an archive's tile entries.
 use Rattle.std.specs.Prelude.{◌≤◌, ℕ, List, [], Option, None, Ok, IfSome}
-use Rattle.pm_format.specs.declared.header.Header.{Header}
-use Rattle.pm_format.specs.Directory.{Entry}
+use Rattle.pm_walk.specs.Common.{Entry, Header}
 use Rattle.pm_walk.specs.Collected.{Collected}
 use Rattle.pm_walk.specs.Collecting.{AllShallow, AreContentsOf, AreOrdered, KeepWithin, KeepsContents}
 use Rattle.pm_walk.specs.Gathering.{Gathers}

@@ -2,7 +2,7 @@
 use Rattle.std.specs.Prelude.{◌≡◌, ◌≤◌, ◌<◌, ℕ, List, Some, None, Result, Ok, Err}
 use Rattle.pm_format.specs.declared.error.PmtError.TheVariants as errors
 use Rattle.pm_format.specs.declared.error.ReadCause.TheVariants as causes
-use Rattle.pm_format.specs.Directory.{Entry}
+use Rattle.pm_walk.specs.Common.{Entry}
 use Rattle.pm_walk.specs.Parts.{pieces, tile_count}
 use Rattle.pm_walk.specs.Walk.{Walked}
 use Rattle.pm_walk.specs.declared.error.WalkError.{WalkError}

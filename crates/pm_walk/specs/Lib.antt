@@ -1,3 +1,4 @@
+pub mod Common
 pub mod Intervals
 pub mod Walk
 pub mod Parts

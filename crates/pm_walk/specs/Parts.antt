@@ -1,7 +1,7 @@
 -- The parts of tile entries that lie in intervals.
 use Rattle.std.specs.Prelude.{◌≡◌, ℕ, ◌+◌, ◌-◌, List, [], ◌∷◌, ◌++◌, flat_map, max, min, nat_le, nat_eq, if◌then◌else◌, refl}
 use Rattle.std.specs.List.{range_with_len}
-use Rattle.pm_format.specs.Directory.{Entry, entry}
+use Rattle.pm_walk.specs.Common.{Entry, entry}
 use Rattle.pm_walk.specs.declared.extent.Extent.{Extent}
 use Rattle.pm_walk.specs.declared.extent.Extent.TheVariants.{Within, Whole}
 

@@ -1,7 +1,6 @@
 -- What the steps of a walk make of what was collected.
 use Rattle.std.specs.Prelude.{◌≡◌, ℕ, ◌+◌, ◌≤◌, true, List, Option, Some, Result, IfErr, IfOk, IfSome, OnOk}
-use Rattle.pm_format.specs.declared.header.Header.{Header}
-use Rattle.pm_format.specs.Directory.{Entry}
+use Rattle.pm_walk.specs.Common.{Entry, Header}
 use Rattle.pm_walk.specs.Collected.{Collected}
 use Rattle.pm_walk.specs.Collecting.{AreOrdered, Collects, HasRoom, IsMetLeaf, KeepsContents, KeepsTo, Meets, StopsWith, Walks}
 use Rattle.pm_walk.specs.Intervals.{AreApart, stays_within}

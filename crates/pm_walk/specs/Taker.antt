@@ -1,6 +1,6 @@
 -- What takes the parts of a walk, and what it holds of them.
 use Rattle.std.specs.Prelude.{◌≡◌, ℕ, List, [], ◌∷◌, ◌++◌, Option, Some, None, Result, OnOk}
-use Rattle.pm_format.specs.Directory.{Entry}
+use Rattle.pm_walk.specs.Common.{Entry}
 use Rattle.pm_walk.specs.Collected.{Collected}
 use Rattle.pm_walk.specs.Collecting.{taken}
 

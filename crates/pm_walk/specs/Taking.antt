@@ -2,9 +2,7 @@
 use Rattle.std.specs.Prelude.{◌≡◌, ◌≢◌, ◌+◌, ℕ, true, List, nat_eq, if◌then◌else◌, Option, Some, None, is_some, Result, Ok, Err}
 use Rattle.pm_format.specs.declared.error.PmtError.TheVariants as errors
 use Rattle.pm_format.specs.declared.error.ReadCause.TheVariants as causes
-use Rattle.pm_format.specs.declared.header.Header.{Header}
-use Rattle.pm_format.specs.Directory.{Entry}
-use Rattle.pm_format.specs.LookUp.{range_of}
+use Rattle.pm_walk.specs.Common.{Entry, Header, range_of}
 use Rattle.pm_walk.specs.Collecting.{IsShallow, taken}
 use Rattle.pm_walk.specs.Walk.{run_refusal, tile_refusal}
 use Rattle.pm_walk.specs.declared.error.WalkError.{WalkError}

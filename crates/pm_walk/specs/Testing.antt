@@ -1,7 +1,6 @@
 -- What the tests of a tile entry answer.
 use Rattle.std.specs.Prelude.{◌≡◌, ◌≢◌, ◌≤◌, ◌<◌, List, ℕ, Option, None, Result, Ok, Err}
-use Rattle.tile_ids.specs.declared.id.TheConstants.{MAX_TILE_ID}
-use Rattle.pm_format.specs.declared.error.PmtError.{PmtError}
+use Rattle.pm_walk.specs.Common.{MAX_TILE_ID, PmtError}
 use Rattle.pm_format.specs.declared.error.PmtError.TheVariants as errors
 use Rattle.pm_format.specs.declared.error.ReadCause.TheVariants as causes
 use Rattle.pm_walk.specs.declared.error.WalkError.{WalkError}

@@ -1,13 +1,9 @@
 -- A walk along directories, from the root on: the tile entries that it comes to, or the first refusal.
 use Rattle.std.specs.Prelude.{◌≡◌, ℕ, zero, suc, ◌+◌, Bool, true, false, List, [], ◌∷◌, ◌++◌, max, nat_lt, nat_le, nat_eq, not, ◌&&◌, if◌then◌else◌, Option, Some, None, Result, Ok, Err, refl}
-use Rattle.tile_ids.specs.declared.id.TheConstants.{MAX_TILE_ID}
+use Rattle.pm_walk.specs.Common.{Entry, entry, Header, leaf_of, MAX_TILE_ID, PmtError, range_of}
 use Rattle.tile_ids.specs.Hilbert.{pyramid}
-use Rattle.pm_format.specs.declared.error.PmtError.{PmtError}
 use Rattle.pm_format.specs.declared.error.PmtError.TheVariants as errors
 use Rattle.pm_format.specs.declared.error.ReadCause.TheVariants as causes
-use Rattle.pm_format.specs.declared.header.Header.{Header}
-use Rattle.pm_format.specs.Directory.{Entry, entry}
-use Rattle.pm_format.specs.LookUp.{leaf_of, range_of}
 use Rattle.pm_format.specs.Opened.{Opened}
 use Rattle.pm_walk.specs.Intervals.{is_below, is_met, stays_within}
 use Rattle.pm_walk.specs.declared.error.WalkError.{WalkError}

@@ -1,7 +1,6 @@
 // The tile entries of an archive that opens.
 ghost use Rattle.std.specs.Prelude.{◌≡◌, ◌≤◌, ◌+◌, true, [], None, Ok, Err, IfSome, IfOk, IfErr, is_some};
-ghost use Rattle.pm_reader.specs.Opening.{header_of, root_of};
-ghost use Rattle.pm_reader.specs.Reads.{ReadsOnly};
+ghost use Rattle.pm_walk.specs.Common.{header_of, ReadsOnly, root_of};
 ghost use Rattle.pm_walk.specs.Collecting.{AllLieIn, AreOrdered, StopCauses};
 ghost use Rattle.pm_walk.specs.Gathered.{HoldsGiven, IsGathered};
 ghost use Rattle.pm_walk.specs.Gathering.{Gathers};

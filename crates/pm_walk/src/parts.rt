@@ -1,6 +1,6 @@
 // The parts of tile entries that lie in intervals.
 ghost use Rattle.std.specs.Prelude.{◌≡◌, ◌≢◌, ◌+◌, ◌≤◌, [], ◌∷◌, MatchOption, OnOk};
-ghost use Rattle.tile_ids.specs.declared.id.TheConstants.{MAX_TILE_ID};
+ghost use Rattle.pm_walk.specs.Common.{MAX_TILE_ID};
 ghost use Rattle.pm_walk.specs.Collected.{Collected};
 ghost use Rattle.pm_walk.specs.Parts.{clip};
 ghost use Rattle.pm_walk.specs.Steps.{AddsParts};

@@ -1,7 +1,6 @@
 // What takes the tile entries of a walk.
 ghost use Rattle.std.specs.Prelude.{◌≡◌, ◌≢◌, ◌+◌, ◌≤◌, ℕ, List, [], ◌∷◌, ◌++◌, OnOk};
-ghost use Rattle.tile_ids.specs.declared.id.TheConstants.{MAX_TILE_ID};
-ghost use Rattle.pm_format.specs.Directory.{Entry};
+ghost use Rattle.pm_walk.specs.Common.{Entry, MAX_TILE_ID};
 ghost use Rattle.pm_walk.specs.Collected.{Collected};
 ghost use Rattle.pm_walk.specs.Collecting.{taken};
 ghost use Rattle.pm_walk.specs.Taker.{Holds, with_part};

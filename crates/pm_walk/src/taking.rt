@@ -1,8 +1,6 @@
 // A tile entry that is met: tested, and collected.
 ghost use Rattle.std.specs.Prelude.{◌≡◌, ◌≢◌, ◌+◌, ◌≤◌, ℕ, List, Option, [], IfSome, IfOk, IfErr};
-ghost use Rattle.pm_format.specs.declared.header.Header.{Header};
-ghost use Rattle.pm_reader.specs.Opening.{header_of};
-ghost use Rattle.pm_reader.specs.Reads.{ReadsOnly};
+ghost use Rattle.pm_walk.specs.Common.{Header, header_of, ReadsOnly};
 ghost use Rattle.pm_walk.specs.Collected.{Collected};
 ghost use Rattle.pm_walk.specs.Collecting.{StopCauses};
 ghost use Rattle.pm_walk.specs.Steps.{TakesTile};

@@ -1,9 +1,6 @@
 // The tests of a tile entry where the whole is walked.
 ghost use Rattle.std.specs.Prelude.{◌≡◌, ◌≢◌, ◌+◌, IfSome};
-ghost use Rattle.pm_format.specs.LookUp.{range_of};
-ghost use Rattle.pm_reader.specs.Answers.{RangeCauses};
-ghost use Rattle.pm_reader.specs.Opening.{header_of};
-ghost use Rattle.pm_reader.specs.Reads.{GrewBetween, ReadsOnly, reads_done};
+ghost use Rattle.pm_walk.specs.Common.{GrewBetween, header_of, range_of, RangeCauses, reads_done, ReadsOnly};
 ghost use Rattle.pm_walk.specs.Testing.{IsOfRun, RangeTests};
 ghost use Rattle.pm_walk.specs.Walk.{run_refusal};
 

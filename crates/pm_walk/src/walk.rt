@@ -1,7 +1,6 @@
 // The walk along the directories that are met, each read once.
 ghost use Rattle.std.specs.Prelude.{◌≡◌, ◌≢◌, ◌+◌, ◌≤◌, true, IfSome, IfOk, IfErr};
-ghost use Rattle.pm_reader.specs.Opening.{header_of};
-ghost use Rattle.pm_reader.specs.Reads.{ReadsOnly};
+ghost use Rattle.pm_walk.specs.Common.{header_of, ReadsOnly};
 ghost use Rattle.pm_walk.specs.Collected.{Collected};
 ghost use Rattle.pm_walk.specs.Collecting.{MeetReads, StopCauses};
 ghost use Rattle.pm_walk.specs.Intervals.{stays_within};

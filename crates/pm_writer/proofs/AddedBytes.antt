@@ -1,28 +1,9 @@
 -- Bytes that are added to a medium, behind the contents that it has.
-use Rattle.std.proofs.Common.{◌≡◌, ℕ, ◌+◌, ◌<◌, ◌≤◌, ◌^◌, Bool, true, false, List, [], ◌∷◌, ◌++◌, length, take, drop, flat_map, Option, Some, None, IfSome, is_some, refl, sym, ◌∙◌, ap, arith, subst, append_assoc, append-nil, length-append}
-use Rattle.std.proofs.lemmas.List.{drop_at}
-use Rattle.std.specs.List.{list_any}
-use Rattle.std.specs.Str.{bytes_eq}
-use Rattle.byte_media.specs.Media.{IsWithin, written}
-use Rattle.tile_hash.specs.Xxh3.{xxh3_64}
-use Rattle.pm_format.specs.Options.{Options}
-use Rattle.pm_writer.specs.Adds.{contents_from}
-use Rattle.pm_contents.specs.Places.{put_new, IsNew, found_in, fresh}
-use Rattle.pm_contents.specs.Contents.{Finds, IsAlike, IsTold}
-use Rattle.pm_contents.specs.Sought.{piece_sought, place_sought}
-use Rattle.pm_contents.specs.Pieces.{BothTold, WroteFront}
-use Rattle.pm_contents.specs.declared.contents.Contents.{Contents}
-use Rattle.pm_contents.specs.declared.sought.Sought.{Sought}
-use Rattle.pm_contents.proofs.Told.{if_both, if_some_map}
-use Rattle.pm_contents.proofs.ContentLemmas.{finds_alike}
-use Rattle.pm_contents.proofs.PlaceLemmas.{flat_push, fresh_known, fresh_new}
-use Rattle.pm_writer.specs.Means.{Means}
-use Rattle.pm_writer.specs.Pieces.{IsHidden}
-use Rattle.pm_writer.specs.Took.{Took}
-use Rattle.pm_writer.specs.Writing.{FilledFits, Writes, begun, data_end, data_of, has_failed, zeros}
-use Rattle.pm_writer.specs.declared.adds.Adds.{Adds}
+use Rattle.pm_writer.proofs.Common.{Adds, ap, append-nil, append_assoc, arith, begun, Bool, BothTold, bytes_eq, Contents, contents_from, data_end, data_of, drop, drop_at, false, FilledFits, Finds}
+use Rattle.pm_writer.proofs.Common.{finds_alike, flat_map, flat_push, found_in, fresh, fresh_known, fresh_new, has_failed, if_both, if_some_map, IfSome, is_some, IsAlike, IsHidden, IsNew, IsTold}
+use Rattle.pm_writer.proofs.Common.{IsWithin, length, length-append, List, list_any, Means, None, Option, Options, piece_sought, place_sought, put_new, refl, Some, Sought, subst, sym, take, Took}
+use Rattle.pm_writer.proofs.Common.{true, WriterState, Writes, written, WroteFront, xxh3_64, zeros, ℕ, [], ◌++◌, ◌+◌, ◌<◌, ◌^◌, ◌∙◌, ◌∷◌, ◌≡◌, ◌≤◌}
 use Rattle.pm_contents.specs.declared.sought.Sought.TheVariants as sought
-use Rattle.pm_writer.specs.declared.state.WriterState.{WriterState}
 use Rattle.pm_writer.proofs.Beginning.{begun_is_hidden, zeros_length}
 use Rattle.pm_writer.proofs.ContentLemmas.{contents_push}
 use Rattle.pm_writer.proofs.MediumPieces.{both_now, both_tell, hidden_behind, written_behind}

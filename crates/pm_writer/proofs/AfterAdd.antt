@@ -1,20 +1,7 @@
 -- The state after an add.
-use Rattle.std.proofs.Common.{◌≡◌, ℕ, ◌<◌, ◌≤◌, ◌^◌, ◌&&◌, Bool, true, false, List, [], ◌∷◌, ◌++◌, length, flat_map, nat_lt, Some, refl, sym, ◌∙◌, ap, arith, subst, Vec, Global}
-use Rattle.std.specs.List.{list_any}
-use Rattle.std.specs.Str.{bytes_eq}
-use Rattle.tile_hash.specs.Xxh3.{xxh3_64}
-use Rattle.tile_ids.specs.declared.id.TheConstants.{MAX_TILE_ID}
-use Rattle.pm_format.specs.Directory.{Entry}
-use Rattle.pm_writer.specs.Adds.{contents_from, unsorted, longest_run}
-use Rattle.pm_contents.specs.Places.{place_in, put_new, found_in}
-use Rattle.pm_contents.specs.Contents.{Holds}
-use Rattle.pm_contents.specs.declared.contents.Contents.{Contents}
-use Rattle.pm_contents.proofs.PlaceLemmas.{place_new, found_is}
-use Rattle.pm_writer.specs.Archive.{ids_of, rising}
-use Rattle.pm_writer.specs.Bounds.{AddsFilled, AllLow, AllSized}
-use Rattle.pm_writer.specs.Growing.{put}
-use Rattle.pm_writer.specs.Means.{HasEntries, Means, is_above, last_of}
-use Rattle.pm_writer.specs.declared.adds.Adds.{Adds}
+use Rattle.pm_writer.proofs.Common.{Adds, AddsFilled, AllLow, AllSized, ap, arith, Bool, bytes_eq, Contents, contents_from, Entry, false, flat_map, found_in, found_is, Global, HasEntries, Holds}
+use Rattle.pm_writer.proofs.Common.{ids_of, is_above, last_of, length, List, list_any, longest_run, MAX_TILE_ID, Means, nat_lt, place_in, place_new, put, put_new, refl, rising, Some, subst, sym, true}
+use Rattle.pm_writer.proofs.Common.{unsorted, Vec, xxh3_64, ℕ, [], ◌&&◌, ◌++◌, ◌<◌, ◌^◌, ◌∙◌, ◌∷◌, ◌≡◌, ◌≤◌}
 use Rattle.pm_writer.proofs.ContentLemmas.{add_known, add_new, contents_push}
 
 filled_more : (adds : List (ℕ × List ℕ)) (a : ℕ × List ℕ) → AddsFilled adds → 0 < length a.1 → AddsFilled (adds ++ a ∷ [])

@@ -1,23 +1,9 @@
 -- The parts of the archive of adds, as they are assembled.
-use Rattle.std.proofs.Common.{◌≡◌, ℕ, ◌+◌, ◌<◌, ◌≤◌, ◌^◌, Bool, List, [], ◌++◌, length, sum_by, nat_eq, if◌then◌else◌, sym, ◌∙◌, ap, arith, subst, length-append}
-use Rattle.pm_format.specs.Directory.{DirFits, Entry}
-use Rattle.pm_format.specs.Options.{Options}
-use Rattle.pm_format.specs.WellFormed.{header_of, leaf_part, tile_entries}
-use Rattle.pm_writer.specs.Adds.{contents_from, entries_of_adds}
-use Rattle.pm_writer.specs.Archivable.{IsArchivable}
-use Rattle.pm_writer.specs.Archive.{archive, ids_of, parts_of, rising}
-use Rattle.pm_writer.specs.Bounds.{AllShort, OptionsFit}
-use Rattle.pm_writer.specs.Causes.{ArchiveFits}
-use Rattle.pm_writer.specs.Cutting.{AreDirectories}
-use Rattle.pm_writer.specs.Leaves.{below_layout, laid}
-use Rattle.pm_writer.specs.Places.{header_with, places_of, places_with}
-use Rattle.pm_writer.specs.Settings.{options_with}
-use Rattle.pm_writer.specs.Twice.{Distinct}
-use Rattle.pm_writer.specs.Writing.{IsStateOf, data_end, data_of}
-use Rattle.pm_writer.specs.declared.cutting.Directories.{Directories}
+use Rattle.pm_writer.proofs.Common.{AllShort, ap, archive, ArchiveFits, AreDirectories, arith, below_layout, Bool, contents_from, data_end, data_of, Directories, DirFits, Distinct, entries_of_adds}
+use Rattle.pm_writer.proofs.Common.{Entry, header_of, header_with, ids_of, if◌then◌else◌, IsArchivable, IsStateOf, laid, leaf_part, length, length-append, List, nat_eq, Options, options_with}
+use Rattle.pm_writer.proofs.Common.{OptionsFit, parts_of, places_of, places_with, rising, subst, sum_by, sym, tile_entries, WriterState, ℕ, [], ◌++◌, ◌+◌, ◌<◌, ◌^◌, ◌∙◌, ◌≡◌, ◌≤◌}
 use Rattle.pm_writer.specs.declared.places.ArchivePlaces.{ArchivePlaces}
 use Rattle.pm_writer.specs.declared.settings.Settings.{Settings}
-use Rattle.pm_writer.specs.declared.state.WriterState.{WriterState}
 use Rattle.pm_writer.proofs.Bounds.{entries_fit, runs_few}
 use Rattle.pm_writer.proofs.Formed.{entries_are}
 use Rattle.pm_writer.proofs.Parts.{archive_laid, before_length, before_of, layout_of}

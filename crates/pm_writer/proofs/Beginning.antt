@@ -1,13 +1,6 @@
 -- The first pieces of an archive on an empty medium.
-use Rattle.std.proofs.Common.{◌≡◌, ℕ, zero, suc, ◌≤◌, inl, inr, List, [], ◌∷◌, ◌++◌, length, take, get_or, Option, Some, IfSome, refl, sym, ◌∙◌, ap, arith, subst, append-nil}
-use Rattle.std.proofs.Math.ListN.{get_or-append}
-use Rattle.std.proofs.lemmas.List.{get_or-replicate, length-replicate}
-use Rattle.byte_media.specs.Media.{IsWithin, written}
-use Rattle.pm_format.specs.Options.{Options}
-use Rattle.pm_contents.proofs.Told.{if_some_map}
-use Rattle.pm_writer.specs.Pieces.{IsHidden}
-use Rattle.pm_contents.specs.Pieces.{BothTold, WroteFront}
-use Rattle.pm_writer.specs.Writing.{begun, data_of, zeros}
+use Rattle.pm_writer.proofs.Common.{ap, append-nil, arith, begun, BothTold, data_of, get_or, get_or-append, get_or-replicate, if_some_map, IfSome, inl, inr, IsHidden, IsWithin, length}
+use Rattle.pm_writer.proofs.Common.{length-replicate, List, Option, Options, refl, Some, subst, suc, sym, take, written, WroteFront, zero, zeros, ℕ, [], ◌++◌, ◌∙◌, ◌∷◌, ◌≡◌, ◌≤◌}
 use Rattle.pm_writer.proofs.MediumPieces.{both_now, hidden_behind, hidden_front, written_behind}
 use Rattle.pm_writer.proofs.Runs.{le_or}
 

@@ -1,12 +1,6 @@
 -- The blocks of adds with one more behind.
-use Rattle.std.proofs.Common.{◌≡◌, ◌≢◌, ℕ, ◌+◌, ◌*◌, ◌/◌, ◌<◌, ◌≤◌, Bool, true, false, List, [], ◌∷◌, ◌++◌, length, flat_map, nat_eq, ◌&&◌, refl, sym, ◌∙◌, ap, arith, append-nil, lit<}
-use Rattle.std.proofs.lemmas.Bool.Decides.{nat_tests}
-use Rattle.std.proofs.Math.Nat.{lt-div-mul-add}
-use Rattle.std.proofs.lemmas.Slice.Eq.{bytes_eq-Decides}
-use Rattle.std.specs.Str.{bytes_eq}
-use Rattle.pm_format.specs.Directory.{Entry, entry}
-use Rattle.pm_writer.specs.Adds.{Block, onto, blocks, entries_at, unsorted, longest_run}
-use Rattle.pm_writer.specs.Growing.{put, Separates}
+use Rattle.pm_writer.proofs.Common.{ap, append-nil, arith, Block, blocks, Bool, bytes_eq, bytes_eq-Decides, entries_at, Entry, entry, false, flat_map, length, List, lit<, longest_run, lt-div-mul-add}
+use Rattle.pm_writer.proofs.Common.{nat_eq, nat_tests, onto, put, refl, Separates, sym, true, unsorted, ℕ, [], ◌&&◌, ◌*◌, ◌++◌, ◌+◌, ◌/◌, ◌<◌, ◌∙◌, ◌∷◌, ◌≡◌, ◌≢◌, ◌≤◌}
 use Rattle.pm_writer.proofs.Runs.{put_append, runs_more, runs_other, runs_some}
 
 abbrev pub single : ℕ × List ℕ → Block

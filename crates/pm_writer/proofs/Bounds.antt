@@ -1,25 +1,13 @@
 -- The bounds of the entries, from those of the adds.
-use Rattle.std.proofs.Common.{◌≡◌, ℕ, zero, suc, ◌+◌, ◌-◌, ◌/◌, ◌<◌, ◌≤◌, ◌^◌, inl, inr, Bool, true, false, List, [], ◌∷◌, ◌++◌, length, flat_map, refl, sym, ◌∙◌, ap, arith, subst, length-append, lit<, sum_by, if◌then◌else◌, nat_eq}
-use Rattle.std.proofs.lemmas.List.Sums.{sum_by-cons}
-use Rattle.pm_format.specs.Directory.{DirFits, Entry, entry}
-use Rattle.pm_format.specs.Header.{HeaderFits}
-use Rattle.pm_contents.proofs.PlaceLemmas.{content_between}
-use Rattle.pm_writer.specs.Adds.{Block, blocks, runs, entries_at, unsorted, longest_run, contents_from, entries_of_adds}
-use Rattle.pm_contents.specs.Places.{place_in}
-use Rattle.pm_format.specs.Options.{Options}
-use Rattle.pm_writer.specs.Archive.{archive, ids_of, parts_of, rising}
+use Rattle.pm_writer.proofs.Common.{AddsFilled, AllLow, AllRead, AllSized, ap, archive, arith, below_layout, Block, blocks, Bool, ConsistsOf, content_between, contents_from, DirFits, Distinct}
+use Rattle.pm_writer.proofs.Common.{entries_at, entries_of_adds, Entry, entry, false, flat_map, HeaderFits, ids_of, if◌then◌else◌, inl, inr, IsArchivable, IsIn, length, length-append, List, lit<}
+use Rattle.pm_writer.proofs.Common.{longest_run, MAX_TILE_ID, nat_eq, Options, OptionsFit, parts_of, place_in, refl, rising, runs, subst, suc, sum_by, sum_by-cons, sym, true, unsorted, zero, ℕ, []}
+use Rattle.pm_writer.proofs.Common.{◌++◌, ◌+◌, ◌-◌, ◌/◌, ◌<◌, ◌^◌, ◌∙◌, ◌∷◌, ◌≡◌, ◌≤◌}
 use Rattle.pm_writer.proofs.Parted.{in_append}
 use Rattle.pm_writer.proofs.Parts.{archive_laid, before_length, before_of, below_of, head_of, layout_of, root_fits, tiles_of}
-use Rattle.tile_ids.specs.declared.id.TheConstants.{MAX_TILE_ID}
-use Rattle.pm_format.specs.WellFormed.{AllRead, ConsistsOf}
-use Rattle.pm_writer.specs.Archivable.{IsArchivable}
-use Rattle.pm_writer.specs.Leaves.{below_layout}
-use Rattle.pm_writer.specs.Bounds.{AddsFilled, AllLow, AllSized, OptionsFit}
-use Rattle.pm_writer.specs.Twice.{Distinct}
 use Rattle.pm_writer.proofs.Runs.{le_or, runs_none, runs_short, runs_long}
 use Rattle.pm_writer.proofs.ContentLemmas.{all_had, Filled, contents_filled}
 use Rattle.pm_writer.proofs.Ordered.{NotFalling, AllRun, Apart, falling_sorted}
-use Rattle.pm_writer.specs.Maps.{IsIn}
 use Rattle.pm_writer.proofs.Found.{IsAdd, unsorted_has, had_add, run_in, entries_apart}
 use Rattle.pm_writer.proofs.Reading.{all_run}
 use Rattle.pm_writer.proofs.Formed.{archive_directories, ends_low, entries_are, formed, of_entry}

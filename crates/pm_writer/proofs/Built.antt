@@ -1,10 +1,6 @@
 -- The directories that are built are those of the layout.
-use Rattle.std.proofs.Common.{◌≡◌, ℕ, true, false, List, [], Option, Some, None, MatchOption, sym, ◌∙◌, ap, subst}
-use Rattle.pm_format.specs.Directory.{Entry, dir_bytes}
-use Rattle.pm_format.specs.WellFormed.{root_of}
-use Rattle.pm_writer.specs.Cutting.{IsCut, IsLaid, IsRooted, named}
-use Rattle.pm_writer.specs.Leaves.{end_of, fits_root, found_uppers, laid, pieces, stands_in_root}
-use Rattle.pm_writer.specs.declared.level.Level.{Level}
+use Rattle.pm_writer.proofs.Common.{ap, dir_bytes, end_of, Entry, false, fits_root, found_uppers, IsCut, IsLaid, IsRooted, laid, Level, List, MatchOption, named, None, Option, pieces, root_of, Some}
+use Rattle.pm_writer.proofs.Common.{stands_in_root, subst, sym, true, ℕ, [], ◌∙◌, ◌≡◌}
 use Rattle.pm_writer.proofs.Laying.{laid_flat, laid_leaves}
 use Rattle.pm_writer.proofs.Trying.{Trying, trying_found}
 

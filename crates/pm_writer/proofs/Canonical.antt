@@ -1,13 +1,8 @@
 -- A list of pairs by rising id is determined by its map.
-use Rattle.std.proofs.Common.{◌≡◌, ℕ, ◌<◌, ◌⊎◌, inl, inr, true, List, [], ◌∷◌, Some, None, T, refl, sym, ◌∙◌, ap, arith, subst}
+use Rattle.pm_writer.proofs.Common.{ap, archive, archive_map, arith, canon, entries, entries-from_sorted, find, FinMap, from_entries, from_sorted, get, get-entries, get-from_entries, get-from_sorted}
+use Rattle.pm_writer.proofs.Common.{inl, inr, is_sorted, IsArchivable, List, nat_cmp, nat_cmp-IsAntisymmetric, None, Options, refl, RisingAdds, same_map, Some, subst, sym, T, tile_in, true, ℕ, []}
+use Rattle.pm_writer.proofs.Common.{◌<◌, ◌∙◌, ◌∷◌, ◌≡◌, ◌⊎◌}
 use Rattle.std.specs.Cmp.{nat_cmp_total}
-use Rattle.std.specs.FinMap.{FinMap, entries, entries-from_sorted, find, from_entries, from_sorted, get, get-entries, get-from_entries, get-from_sorted, is_sorted, nat_cmp-IsAntisymmetric, same_map}
-use Rattle.std.specs.Ordering.{nat_cmp}
-use Rattle.pm_format.specs.LookUp.{archive_map}
-use Rattle.pm_format.specs.Options.{Options}
-use Rattle.pm_writer.specs.Archivable.{IsArchivable}
-use Rattle.pm_writer.specs.Archive.{archive, canon, tile_in}
-use Rattle.pm_writer.specs.Maps.{RisingAdds}
 use Rattle.pm_writer.proofs.Parted.{none_below, rest_rises, tile_here, tile_later}
 use Rattle.pm_writer.proofs.Sorted.{sorted_map}
 use Rattle.pm_writer.proofs.Runs.{eq_or}

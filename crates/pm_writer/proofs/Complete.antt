@@ -1,14 +1,8 @@
 -- What fits is refused by faults and want of memory alone.
-use Rattle.std.proofs.Common.{◌≡◌, ℕ, ◌<◌, ◌^◌, false, List, Err, refl, arith}
-use Rattle.pm_format.specs.Options.{Options}
-use Rattle.pm_format.specs.declared.compression.Compression.{Compression}
+use Rattle.pm_writer.proofs.Common.{AddCauses, ArchiveFits, arith, Compression, CreateCauses, Distinct, Err, false, FinishCauses, List, Options, PmtError, PutCauses, refl, ℕ, ◌<◌, ◌^◌, ◌≡◌}
 use Rattle.pm_format.specs.declared.compression.Compression.TheVariants as compression
-use Rattle.pm_format.specs.declared.error.PmtError.{PmtError}
 use Rattle.pm_format.specs.declared.error.PmtError.TheVariants as errors
 use Rattle.pm_format.specs.declared.error.ReadCause.TheVariants as causes
-use Rattle.pm_writer.specs.Causes.{AddCauses, ArchiveFits, CreateCauses, FinishCauses}
-use Rattle.pm_writer.specs.Pieces.{PutCauses}
-use Rattle.pm_writer.specs.Twice.{Distinct}
 
 -- the beginning of a writer whose directories are labelled plain
 pub start_refused : (A : Type 0) (label : Compression) (before now : ℕ) (e : PmtError) → label ≡ compression.None → CreateCauses {A = A} label before now (Err e) → PutCauses before now (Err e)

@@ -1,13 +1,7 @@
 -- Contents, once each, and their places.
-use Rattle.std.proofs.Common.{◌≡◌, ℕ, ◌+◌, ◌<◌, inl, inr, Bool, true, false, List, [], ◌∷◌, ◌++◌, length, flat_map, ◌&&◌, nat_eq, refl, sym, ◌∙◌, arith}
-use Rattle.std.specs.Str.{bytes_eq}
-use Rattle.std.specs.List.{list_any}
-use Rattle.pm_format.specs.Directory.{Entry}
-use Rattle.pm_contents.proofs.PlaceLemmas.{Has, has_append, has_front, has_last, place_here, place_later, place_new, place_stays, put_new_had, put_new_keeps, same_or}
-use Rattle.pm_writer.specs.Adds.{Block, contents_from, onto, blocks, entries_at, unsorted, longest_run}
-use Rattle.pm_contents.specs.Places.{put_new, place_in}
-use Rattle.pm_writer.specs.Growing.{put, Separates}
-use Rattle.pm_writer.specs.Bounds.{AddsFilled}
+use Rattle.pm_writer.proofs.Common.{AddsFilled, arith, Block, blocks, Bool, bytes_eq, contents_from, entries_at, Entry, false, flat_map, Has, has_append, has_front, has_last, inl, inr, length, List}
+use Rattle.pm_writer.proofs.Common.{list_any, longest_run, nat_eq, onto, place_here, place_in, place_later, place_new, place_stays, put, put_new, put_new_had, put_new_keeps, refl, same_or, Separates}
+use Rattle.pm_writer.proofs.Common.{sym, true, unsorted, ℕ, [], ◌&&◌, ◌++◌, ◌+◌, ◌<◌, ◌∙◌, ◌∷◌, ◌≡◌}
 use Rattle.pm_writer.proofs.Blocks.{one_more, AllBlocks}
 
 -- one more add

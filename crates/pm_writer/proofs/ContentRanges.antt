@@ -1,9 +1,5 @@
 -- Ranges of bytes that are laid one behind another.
-use Rattle.std.proofs.Common.{◌≡◌, ℕ, ◌+◌, ◌<◌, ◌^◌, List, ◌++◌, length, flat_map, Some, ◌∙◌, ap, arith, append_assoc, length-append}
-use Rattle.pm_contents.specs.Places.{place_in}
-use Rattle.pm_contents.proofs.PlaceLemmas.{Has, content_between}
-use Rattle.pm_format.specs.LookUp.{range_of}
-use Rattle.pm_format.proofs.Ranges.{range_at}
+use Rattle.pm_writer.proofs.Common.{ap, append_assoc, arith, content_between, flat_map, Has, length, length-append, List, place_in, range_at, range_of, Some, ℕ, ◌++◌, ◌+◌, ◌<◌, ◌^◌, ◌∙◌, ◌≡◌}
 
 -- the range of a content in the data part
 pub content_range : (b front : List ℕ) (cs : List (List ℕ)) (rest x : List ℕ) → b ≡ front ++ (flat_map (λ c. c) cs ++ rest) → length b < 2 ^ 64 → Has cs x → range_of b (length front + place_in cs x) (length x) ≡ Some x

@@ -1,12 +1,6 @@
 -- As many entries at least.
-use Rattle.std.proofs.Common.{◌≡◌, ℕ, ◌+◌, ◌-◌, ◌<◌, ◌≤◌, inl, inr, Bool, true, false, List, [], ◌∷◌, length, Option, Some, None, nat_lt, nat_eq, refl, sym, ◌∙◌, ap, arith, subst}
-use Rattle.std.proofs.lemmas.Bool.Decides.{nat_tests}
-use Rattle.pm_format.specs.Directory.{Entry, ◌>>=◌}
-use Rattle.pm_format.specs.Scan.{last_below, covers, scan}
-use Rattle.pm_format.specs.LookUp.{range_of}
-use Rattle.pm_writer.specs.Adds.{entries_of_adds}
-use Rattle.pm_writer.specs.Maps.{Tiles, RisingAdds, given, Gives, Covers, IsIn}
-use Rattle.pm_writer.specs.Archive.{tile_in}
+use Rattle.pm_writer.proofs.Common.{ap, arith, Bool, Covers, covers, entries_of_adds, Entry, false, given, Gives, inl, inr, IsIn, last_below, length, List, nat_eq, nat_lt, nat_tests, None, Option}
+use Rattle.pm_writer.proofs.Common.{range_of, refl, RisingAdds, scan, Some, subst, sym, tile_in, Tiles, true, ℕ, [], ◌+◌, ◌-◌, ◌<◌, ◌>>=◌, ◌∙◌, ◌∷◌, ◌≡◌, ◌≤◌}
 use Rattle.pm_writer.proofs.Cuts.{Needed, needed_rest, needed_first}
 use Rattle.pm_writer.proofs.Parted.{tile_some}
 use Rattle.pm_writer.proofs.Giving.{archive_needed, archive_begins, one_each, tiles_rest}

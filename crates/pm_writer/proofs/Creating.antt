@@ -1,12 +1,7 @@
 -- Why a writer isn't made, whatever would have been made.
-use Rattle.std.proofs.Common.{arith, ◌≡◌, ◌<◌, ◌≤◌, ◌^◌, ◌-◌, ◌+◌, ℕ, min, Result, Ok, Err, subst, sym}
-use Rattle.std.proofs.Math.Nat.{min-eq_left}
-use Rattle.base_values.specs.Counts.{Rose}
-use Rattle.pm_format.specs.declared.compression.Compression.{Compression}
-use Rattle.pm_format.specs.declared.error.PmtError.{PmtError}
+use Rattle.pm_writer.proofs.Common.{arith, Compression, CreateCauses, CreateRefusals, Err, min, min-eq_left, Ok, PmtError, Result, Rose, subst, sym, ℕ, ◌+◌, ◌-◌, ◌<◌, ◌^◌, ◌≡◌, ◌≤◌}
 use Rattle.pm_format.specs.declared.error.PmtError.TheVariants as errors
 use Rattle.pm_format.specs.declared.error.ReadCause.TheVariants as causes
-use Rattle.pm_writer.specs.Causes.{CreateCauses, CreateRefusals}
 
 module _ (A B : Type 0) (label : Compression) (before now : ℕ) where
   pub causes_again : (e : PmtError) → CreateCauses {A = A} label before now (Err e) → CreateCauses {A = B} label before now (Err e)

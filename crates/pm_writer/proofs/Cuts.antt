@@ -1,8 +1,5 @@
 -- Where the entries of an archive begin.
-use Rattle.std.proofs.Common.{◌≡◌, ◌≢◌, ℕ, ◌+◌, ◌-◌, ◌<◌, ◌≤◌, ◌⊎◌, inl, inr, List, [], ◌∷◌, Option, refl, sym, ap, arith, subst}
-use Rattle.pm_format.specs.Directory.{Entry}
-use Rattle.pm_writer.specs.Adds.{longest_run}
-use Rattle.pm_writer.specs.Maps.{IsIn}
+use Rattle.pm_writer.proofs.Common.{ap, arith, Entry, inl, inr, IsIn, List, longest_run, Option, refl, subst, sym, ℕ, [], ◌+◌, ◌-◌, ◌<◌, ◌∷◌, ◌≡◌, ◌≢◌, ◌≤◌, ◌⊎◌}
 
 -- an entry begins where the map changes, or where a full run before it ends
 abbrev pub Needed : (ℕ → Option (List ℕ)) → List Entry → Type 0

@@ -1,16 +1,9 @@
 -- Directories cut one after another.
-use Rattle.std.proofs.Common.{All, ◌≡◌, ℕ, zero, suc, ◌+◌, ◌<◌, ◌≤◌, ◌^◌, min, Bool, true, false, List, [], ◌∷◌, ◌++◌, length, flat_map, take, drop, refl, sym, ◌∙◌, ap, arith, subst, append_assoc, append-nil, length-append, length-drop, lit<, map, None, nat_lt}
-use Rattle.std.proofs.lemmas.List.{drop_min, length-map, take_min}
-use Rattle.std.proofs.lemmas.Grind.{flat_map-append}
-use Rattle.pm_format.specs.Varint.{varint, short_of}
-use Rattle.pm_format.specs.Directory.{DirFits, Entry, IsWritable, dir_bytes, entry, spell_all, starts_from, steps_from, wide_as}
-use Rattle.pm_format.specs.WellFormed.{AllSome, first_id, joined, root_of}
-use Rattle.pm_writer.specs.Bounds.{AllShort}
-use Rattle.pm_writer.specs.Cutting.{AreDirectories, HasMore, IsCut, IsLaid, IsShort, named}
-use Rattle.pm_writer.specs.Leaves.{Layout, cut, end_of, pieces}
+use Rattle.pm_writer.proofs.Common.{All, AllShort, AllSome, ap, append-nil, append_assoc, AreDirectories, arith, Bool, cut, dir_bytes, Directories, DirFits, drop, drop_min, end_of, Entry, entry}
+use Rattle.pm_writer.proofs.Common.{false, first_id, flat_map, flat_map-append, HasMore, IsCut, IsLaid, IsShort, IsWritable, joined, Layout, length, length-append, length-drop, length-map, Level}
+use Rattle.pm_writer.proofs.Common.{List, lit<, map, min, named, nat_lt, None, pieces, refl, root_of, short_of, spell_all, starts_from, steps_from, subst, suc, sym, take, take_min, true, varint}
+use Rattle.pm_writer.proofs.Common.{wide_as, zero, ℕ, [], ◌++◌, ◌+◌, ◌<◌, ◌^◌, ◌∙◌, ◌∷◌, ◌≡◌, ◌≤◌}
 use Rattle.pm_format.specs.declared.wide_entry.WideEntry.{WideEntry}
-use Rattle.pm_writer.specs.declared.cutting.Directories.{Directories}
-use Rattle.pm_writer.specs.declared.level.Level.{Level}
 use Rattle.pm_writer.proofs.Walking.{cut_joined, cut_some}
 
 -- any number of steps that is enough cuts the same directories

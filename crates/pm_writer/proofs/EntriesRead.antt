@@ -1,16 +1,6 @@
 -- The tile entries that the archive of adds has.
-use Rattle.std.proofs.Common.{◌≡◌, ℕ, zero, suc, ◌-◌, ◌≤◌, false, List, [], ◌∷◌, length, flat_map, nat_eq, refl, sym, ◌∙◌, ap, arith, subst, IfOk, Result}
-use Rattle.std.proofs.lemmas.Bool.Decides.{nat_tests}
-use Rattle.pm_format.specs.declared.error.PmtError.{PmtError}
-use Rattle.pm_format.specs.declared.header.Header.{Header}
-use Rattle.pm_format.specs.Directory.{Entry}
-use Rattle.pm_format.specs.Opened.{Opened, opened}
-use Rattle.pm_format.specs.Options.{Options}
-use Rattle.pm_writer.specs.Adds.{entries_of_adds}
-use Rattle.pm_writer.specs.Archivable.{IsArchivable}
-use Rattle.pm_writer.specs.Archive.{archive, tile_in}
-use Rattle.pm_writer.specs.Maps.{Covers, Gives, IsIn, RisingAdds, Tiles}
-use Rattle.pm_writer.specs.TileEntries.{entries_by, entries_opened, entries_read}
+use Rattle.pm_writer.proofs.Common.{ap, archive, arith, Covers, entries_by, entries_of_adds, entries_opened, entries_read, Entry, false, flat_map, Gives, Header, IfOk, IsArchivable, IsIn, length}
+use Rattle.pm_writer.proofs.Common.{List, nat_eq, nat_tests, Opened, opened, Options, PmtError, refl, Result, RisingAdds, subst, suc, sym, tile_in, Tiles, zero, ℕ, [], ◌-◌, ◌∙◌, ◌∷◌, ◌≡◌, ◌≤◌}
 use Rattle.pm_writer.proofs.Bounds.{all_again}
 use Rattle.pm_writer.proofs.Counting.{no_less}
 use Rattle.pm_writer.proofs.Formed.{entries_are}

@@ -1,24 +1,9 @@
 -- Few and short adds have an archive that can be written.
-use Rattle.std.proofs.Common.{◌≡◌, ℕ, zero, suc, ◌+◌, ◌*◌, ◌/◌, ◌<◌, ◌≤◌, ◌^◌, inl, inr, Bool, true, false, List, [], ◌∷◌, ◌++◌, length, map, flat_map, sum_by, drop, None, refl, sym, ◌∙◌, ap, arith, subst, length-append}
-use Rattle.std.proofs.Math.Nat.{mul-le-mul_right}
-use Rattle.std.proofs.lemmas.Bool.Decides.{nat_tests}
-use Rattle.std.proofs.lemmas.List.{drop_all, length-drop, length-map}
-use Rattle.std.proofs.lemmas.List.Sums.{sum_by-cons, sum_by-append}
-use Rattle.std.specs.List.{list_any}
-use Rattle.std.specs.Str.{bytes_eq}
-use Rattle.pm_format.proofs.DirectoryAgain.{length_starts, length_steps}
-use Rattle.pm_format.specs.Directory.{Entry, dir_bytes, spell_all, starts_from, steps_from}
-use Rattle.pm_format.specs.Options.{Options}
-use Rattle.pm_format.specs.Varint.{varint}
-use Rattle.pm_format.specs.WellFormed.{AllAtMost, AllSome, joined, root_of}
-use Rattle.pm_writer.specs.Adds.{contents_from, entries_of_adds}
-use Rattle.pm_contents.specs.Places.{put_new}
-use Rattle.pm_contents.proofs.PlaceLemmas.{flat_push}
-use Rattle.pm_writer.specs.Bounds.{AllShort, AllSized, OptionsFit}
-use Rattle.pm_writer.specs.Causes.{ArchiveFits}
-use Rattle.pm_writer.specs.Few.{AreFew}
-use Rattle.pm_writer.specs.Leaves.{Layout, below_layout, cut, end_of, fits_root, laid, pieces, stands_in_root, uppers_by}
-use Rattle.pm_writer.specs.Writing.{AddFits, add_to, data_of}
+use Rattle.pm_writer.proofs.Common.{add_to, AddFits, AllAtMost, AllShort, AllSized, AllSome, ap, ArchiveFits, AreFew, arith, below_layout, Bool, bytes_eq, contents_from, cut, data_of, dir_bytes, drop}
+use Rattle.pm_writer.proofs.Common.{drop_all, end_of, entries_of_adds, Entry, false, fits_root, flat_map, flat_push, inl, inr, joined, laid, Layout, length, length-append, length-drop, length-map}
+use Rattle.pm_writer.proofs.Common.{length_starts, length_steps, List, list_any, map, mul-le-mul_right, nat_tests, None, Options, OptionsFit, pieces, put_new, refl, root_of, spell_all, stands_in_root}
+use Rattle.pm_writer.proofs.Common.{starts_from, steps_from, subst, suc, sum_by, sum_by-append, sum_by-cons, sym, true, uppers_by, varint, zero, ℕ, [], ◌*◌, ◌++◌, ◌+◌, ◌/◌, ◌<◌, ◌^◌, ◌∙◌, ◌∷◌, ◌≡◌}
+use Rattle.pm_writer.proofs.Common.{◌≤◌}
 use Rattle.pm_writer.proofs.CuttingLemmas.{root_length, short_both}
 use Rattle.pm_writer.proofs.Formed.{addressed}
 use Rattle.pm_writer.proofs.Laying.{IsLaidAs, cut_most, laid_as, laid_flat, laid_leaves, laid_uppers}

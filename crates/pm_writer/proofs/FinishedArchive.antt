@@ -1,17 +1,7 @@
 -- The bytes after an archive is finished.
-use Rattle.std.proofs.Common.{◌≡◌, ℕ, ◌+◌, ◌-◌, ◌≤◌, inl, inr, false, List, ◌++◌, length, drop, replicate, Option, IfSome, refl, sym, ◌∙◌, ap, arith, subst, append_assoc}
-use Rattle.std.proofs.lemmas.List.{drop-append-le, drop-replicate}
-use Rattle.pm_format.specs.Directory.{dir_bytes}
-use Rattle.pm_format.specs.Header.{header_bytes}
-use Rattle.pm_format.specs.Options.{Options}
-use Rattle.pm_format.specs.WellFormed.{archive_bytes, header_of, leaf_part}
-use Rattle.pm_writer.specs.Bounds.{OptionsFit}
-use Rattle.pm_writer.specs.Archive.{archive, ids_of, parts_of, rising}
-use Rattle.pm_writer.specs.Pieces.{IsHidden, IsHiddenOr, IsOpenTo, finished}
-use Rattle.pm_contents.specs.Pieces.{BothTold}
-use Rattle.pm_contents.proofs.Told.{if_some_map}
-use Rattle.pm_writer.specs.Writing.{IsStateOf, Writes, begun, data_end, data_of, has_failed, zeros}
-use Rattle.pm_writer.specs.declared.state.WriterState.{WriterState}
+use Rattle.pm_writer.proofs.Common.{ap, append_assoc, archive, archive_bytes, arith, begun, BothTold, data_end, data_of, dir_bytes, drop, drop-append-le, drop-replicate, false, finished, has_failed}
+use Rattle.pm_writer.proofs.Common.{header_bytes, header_of, ids_of, if_some_map, IfSome, inl, inr, IsHidden, IsHiddenOr, IsOpenTo, IsStateOf, leaf_part, length, List, Option, Options, OptionsFit}
+use Rattle.pm_writer.proofs.Common.{parts_of, refl, replicate, rising, subst, sym, WriterState, Writes, zeros, ℕ, ◌++◌, ◌+◌, ◌-◌, ◌∙◌, ◌≡◌, ◌≤◌}
 use Rattle.pm_writer.proofs.AddedBytes.{begun_length}
 use Rattle.pm_writer.proofs.Beginning.{begun_hidden, zeros_length}
 use Rattle.pm_writer.proofs.MediumPieces.{both_now}

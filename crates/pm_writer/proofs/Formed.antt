@@ -1,24 +1,11 @@
 -- The archive is well formed.
-use Rattle.std.proofs.Common.{◌≡◌, ◌≢◌, ℕ, zero, suc, ◌+◌, ◌-◌, ◌*◌, ◌/◌, ◌<◌, ◌≤◌, ◌^◌, ◌⊎◌, inl, inr, Bool, true, false, not, List, [], ◌∷◌, ◌++◌, length, flat_map, filter, sum_by, Option, Some, None, IsSome, nat_eq, ◌&&◌, refl, sym, ◌∙◌, ap, arith, subst, append-nil, length-append, lit<}
-use Rattle.std.proofs.lemmas.List.Sums.{sum_by-cons, sum_by-append}
-use Rattle.std.proofs.lemmas.Bool.Decides.{nat_tests}
-use Rattle.std.specs.Str.{bytes_eq}
-use Rattle.std.specs.List.{list_any}
-use Rattle.pm_format.specs.Directory.{DirFits, Entry, dir_bytes, entry}
-use Rattle.pm_format.specs.Header.{HeaderFits}
-use Rattle.pm_writer.specs.Adds.{Block, onto, blocks, runs, entries_at, longest_run, unsorted, contents_from, entries_of_adds}
-use Rattle.pm_contents.specs.Places.{put_new, place_in}
-use Rattle.pm_contents.proofs.PlaceLemmas.{Has, same_or, has_front, has_equal, has_later, place_here, place_later}
-use Rattle.pm_writer.specs.Leaves.{Layout, below_layout, end_of}
-use Rattle.pm_format.specs.WellFormed.{AllAtMost, AllIn, AllLeaves, AllNamed, AllRead, AllSome, AllTiles, ConsistsOf, InContents, IsFlat, IsNamed, NamesLeaves, NamesUppers, joined, root_of, tile_entries}
-use Rattle.pm_format.specs.Options.{Options}
-use Rattle.pm_writer.specs.Archive.{archive, ids_of, parts_of, rising}
+use Rattle.pm_writer.proofs.Common.{AddsFilled, AllAtMost, AllIn, AllLeaves, AllLow, AllNamed, AllRead, AllShort, AllSome, AllTiles, ap, append-nil, archive, archive_opens, arith, below_layout, Block}
+use Rattle.pm_writer.proofs.Common.{blocks, Bool, bytes_eq, ConsistsOf, contents_from, dir_bytes, DirFits, Distinct, end_of, entries_at, entries_of_adds, Entry, entry, false, filter, flat_map, Has}
+use Rattle.pm_writer.proofs.Common.{has_equal, has_front, has_later, HeaderFits, ids_of, InContents, inl, inr, IsFlat, IsIn, IsNamed, IsSome, joined, Layout, length, length-append, List, list_any}
+use Rattle.pm_writer.proofs.Common.{lit<, longest_run, MAX_TILE_ID, NamesLeaves, NamesUppers, nat_eq, nat_tests, None, not, onto, Option, Options, OptionsFit, parts_of, place_here, place_in}
+use Rattle.pm_writer.proofs.Common.{place_later, put_new, range_of, refl, rising, root_of, runs, same_or, Some, SoundDirectory, subst, suc, sum_by, sum_by-append, sum_by-cons, sym, tile_entries, true}
+use Rattle.pm_writer.proofs.Common.{unsorted, zero, ℕ, [], ◌&&◌, ◌*◌, ◌++◌, ◌+◌, ◌-◌, ◌/◌, ◌<◌, ◌^◌, ◌∙◌, ◌∷◌, ◌≡◌, ◌≢◌, ◌≤◌, ◌⊎◌}
 use Rattle.pm_writer.proofs.Parts.{archive_laid, before_length, before_of, below_of, head_of, layout_of, root_fits, tiles_of}
-use Rattle.tile_ids.specs.declared.id.TheConstants.{MAX_TILE_ID}
-use Rattle.pm_format.specs.LookUp.{range_of}
-use Rattle.pm_format.specs.Sound.{SoundDirectory}
-use Rattle.pm_writer.specs.Bounds.{AddsFilled, AllLow, AllShort, OptionsFit}
-use Rattle.pm_writer.specs.Twice.{Distinct}
 use Rattle.pm_writer.proofs.Runs.{le_or, runs_none, runs_short, runs_long}
 use Rattle.pm_writer.proofs.Blocks.{single, longer, enough}
 use Rattle.pm_writer.proofs.ContentLemmas.{contents_filled, Filled, all_had}
@@ -26,9 +13,7 @@ use Rattle.pm_writer.proofs.Ordered.{AllRun, same_sorted}
 use Rattle.pm_writer.proofs.SoundTiles.{run_left, run_right, tiles_sound}
 use Rattle.pm_writer.proofs.Levels.{tower_sound}
 use Rattle.pm_writer.proofs.Towers.{all_read, archive_tower, laying_of, levels_of, through_six}
-use Rattle.pm_writer.specs.Maps.{IsIn}
 use Rattle.pm_writer.proofs.Found.{IsAdd, Given, given_of, had_add, run_in, add_covered, tile_of_add, entries_apart}
-use Rattle.pm_format.proofs.ArchiveOpens.{archive_opens}
 use Rattle.pm_writer.proofs.Laying.{IsLaidAs, LeavesOf}
 use Rattle.pm_writer.proofs.ContentRanges.{content_range}
 use Rattle.pm_writer.proofs.Reading.{all_run}

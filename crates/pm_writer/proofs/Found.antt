@@ -1,22 +1,13 @@
 -- What the flat list of entries gives.
-use Rattle.std.proofs.Common.{◌≡◌, ℕ, zero, suc, ◌+◌, ◌-◌, ◌/◌, ◌<◌, ◌≤◌, ◌⊎◌, inl, inr, Bool, true, false, List, [], ◌∷◌, length, flat_map, Option, Some, None, nat_le, nat_lt, nat_eq, if◌then◌else◌, refl, sym, ◌∙◌, ap, arith, subst, MatchOption, lit<}
-use Rattle.std.proofs.lemmas.List.Sums.{sum_by-cons}
-use Rattle.std.proofs.lemmas.Bool.Decides.{nat_tests}
-use Rattle.std.proofs.lemmas.Slice.Eq.{bytes_eq-Decides}
-use Rattle.std.specs.Str.{bytes_eq}
-use Rattle.pm_format.specs.Directory.{Entry, entry, ◌>>=◌}
-use Rattle.pm_format.specs.Scan.{last_below, covers, scan}
-use Rattle.pm_writer.specs.Adds.{Block, onto, blocks, runs, entries_at, unsorted, longest_run, contents_from, entries_of_adds, sorted, sorted_in}
-use Rattle.pm_contents.specs.Places.{place_in}
-use Rattle.pm_contents.proofs.PlaceLemmas.{Has}
-use Rattle.pm_writer.specs.Twice.{adds_at, Distinct, covering, times}
+use Rattle.pm_writer.proofs.Common.{adds_at, ap, arith, Block, blocks, Bool, bytes_eq, bytes_eq-Decides, contents_from, covering, Covers, covers, Distinct, entries_at, entries_of_adds, Entry, entry}
+use Rattle.pm_writer.proofs.Common.{false, flat_map, Has, if◌then◌else◌, inl, inr, IsIn, last_below, length, List, lit<, longest_run, MatchOption, nat_eq, nat_le, nat_lt, nat_tests, None, onto}
+use Rattle.pm_writer.proofs.Common.{Option, place_in, refl, runs, scan, Some, sorted, sorted_in, subst, suc, sum_by-cons, sym, tile_in, times, true, unsorted, zero, ℕ, [], ◌+◌, ◌-◌, ◌/◌, ◌<◌, ◌>>=◌}
+use Rattle.pm_writer.proofs.Common.{◌∙◌, ◌∷◌, ◌≡◌, ◌≤◌, ◌⊎◌}
 use Rattle.pm_writer.proofs.Runs.{eq_or, le_or, runs_none, runs_short, runs_long}
 use Rattle.pm_writer.proofs.Blocks.{AllBlocks, single, longer}
 use Rattle.pm_writer.proofs.ContentLemmas.{AllHad, all_had}
 use Rattle.pm_writer.proofs.Times.{times_cons, times_adds, covering_yes, covering_low, covering_high}
 use Rattle.pm_writer.proofs.Ordered.{NotFalling, Apart, AllRun, falling_sorted, same_sorted}
-use Rattle.pm_writer.specs.Archive.{tile_in}
-use Rattle.pm_writer.specs.Maps.{Covers, IsIn}
 use Rattle.pm_writer.proofs.Walking.{last_no, last_yes}
 use Rattle.pm_writer.proofs.Parted.{in_append, tile_here, tile_later}
 

@@ -1,13 +1,6 @@
 -- What a directory of tile entries gives at the ids of an entry.
-use Rattle.std.proofs.Common.{◌≡◌, ℕ, ◌-◌, ◌<◌, ◌≤◌, ◌⊎◌, inl, inr, true, false, List, [], ◌∷◌, Option, Some, None, nat_lt, nat_eq, refl, sym, ◌∙◌, ap, arith, subst}
-use Rattle.std.proofs.lemmas.Bool.Decides.{nat_tests}
-use Rattle.pm_format.specs.Directory.{Entry, ◌>>=◌}
-use Rattle.pm_format.specs.Scan.{last_below, covers, scan}
-use Rattle.pm_format.specs.LookUp.{range_of}
-use Rattle.pm_writer.specs.Adds.{longest_run, contents_from, entries_of_adds, blocks}
-use Rattle.pm_contents.specs.Places.{place_in}
-use Rattle.pm_writer.specs.Maps.{Tiles, RisingAdds, given, Gives, Covers, IsIn}
-use Rattle.pm_writer.specs.Archive.{tile_in}
+use Rattle.pm_writer.proofs.Common.{ap, arith, blocks, contents_from, Covers, covers, entries_of_adds, Entry, false, given, Gives, inl, inr, IsIn, last_below, List, longest_run, nat_eq, nat_lt}
+use Rattle.pm_writer.proofs.Common.{nat_tests, None, Option, place_in, range_of, refl, RisingAdds, scan, Some, subst, sym, tile_in, Tiles, true, ℕ, [], ◌-◌, ◌<◌, ◌>>=◌, ◌∙◌, ◌∷◌, ◌≡◌, ◌≤◌, ◌⊎◌}
 use Rattle.pm_writer.proofs.Cuts.{Needed, SameFrom, one_beginning}
 use Rattle.pm_writer.proofs.Parted.{parted, needed_entries, begins, sorted_already, tile_some}
 use Rattle.pm_writer.proofs.Walking.{last_no, last_yes}

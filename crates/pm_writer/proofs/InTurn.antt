@@ -1,9 +1,6 @@
 -- Adds that are added one after another.
-use Rattle.std.proofs.Common.{◌≡◌, ◌≢◌, ℕ, ◌+◌, ◌<◌, List, [], ◌∷◌, ◌++◌, length, get_or, take, drop, refl, sym, ◌∙◌, ap, subst}
-use Rattle.std.proofs.lemmas.List.{drop_more, take_more, take-append-drop}
-use Rattle.pm_format.specs.Options.{Options}
-use Rattle.pm_writer.specs.Few.{AreFew}
-use Rattle.pm_writer.specs.Writing.{AddFits, add_to}
+use Rattle.pm_writer.proofs.Common.{add_to, AddFits, ap, AreFew, drop, drop_more, get_or, length, List, Options, refl, subst, sym, take, take-append-drop, take_more, ℕ, [], ◌++◌, ◌+◌, ◌<◌, ◌∙◌, ◌∷◌}
+use Rattle.pm_writer.proofs.Common.{◌≡◌, ◌≢◌}
 use Rattle.pm_writer.proofs.Few.{add_fits}
 
 -- a filled add stands behind those before it

@@ -1,18 +1,12 @@
 -- Only bytes whose directories are labelled plain open.
-use Rattle.std.proofs.Common.{◌≡◌, ℕ, ◌+◌, inl, inr, Bool, true, false, List, length, take, slice_index, nat_lt, if◌then◌else◌, Option, Some, None, Result, Ok, Err, OnOk, zero, suc, refl, sym, ◌∙◌, ap, arith}
-use Rattle.std.proofs.lemmas.List.{get_or-take}
-use Rattle.std.specs.List.{slice_get}
+use Rattle.pm_writer.proofs.Common.{ap, arith, Bool, byte_at, bytes_eq, Compression, compressions, Err, false, fields, get_or-take, Header, if◌then◌else◌, inl, inr, IsHidden, IsHiddenOr, labelled}
+use Rattle.pm_writer.proofs.Common.{length, List, magic, nat_lt, None, Ok, OnOk, Opened, opened, opened_front, Option, PmtError, refl, Result, root_labelled, root_placed, slice_get, slice_index, Some}
+use Rattle.pm_writer.proofs.Common.{suc, sym, take, tile_types, true, zero, ℕ, ◌+◌, ◌∙◌, ◌≡◌}
 use Rattle.std.specs.Prelude.{codes}
-use Rattle.std.specs.Str.{bytes_eq}
-use Rattle.pm_format.specs.declared.compression.Compression.{Compression}
 use Rattle.pm_format.specs.declared.compression.Compression.TheVariants as compression
 use Rattle.pm_format.specs.declared.tile_type.TileType.{TileType}
-use Rattle.pm_format.specs.declared.error.PmtError.{PmtError}
 use Rattle.pm_format.specs.declared.error.PmtError.TheVariants as errors
-use Rattle.pm_format.specs.declared.header.Header.{Header}
-use Rattle.pm_format.specs.Header.{byte_at, compressions, fields, head, labelled, magic, tile_types}
-use Rattle.pm_format.specs.Opened.{Opened, opened, opened_front, root_labelled, root_placed}
-use Rattle.pm_writer.specs.Pieces.{IsHidden, IsHiddenOr}
+use Rattle.pm_format.specs.Header.{head}
 
 -- the byte whose label is plain is 1
 plain_is_one : (n : ℕ) → slice_get compressions n ≡ Some compression.None → n ≡ 1

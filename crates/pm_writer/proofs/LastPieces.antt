@@ -1,10 +1,7 @@
 -- The pieces that finish an archive, one after another.
-use Rattle.std.proofs.Common.{◌≡◌, ℕ, zero, suc, append-nil, ◌+◌, ◌≤◌, ◌<◌, inl, inr, List, [], ◌∷◌, ◌++◌, length, take, drop, get_or, set, Option, Result, Ok, Err, OnOk, IfSome, refl, sym, ◌∙◌, ap, arith, subst, length-append}
-use Rattle.std.proofs.Math.ListN.{get_or-append}
-use Rattle.std.proofs.lemmas.List.{get_or-take, length-take-le, take-append-drop}
-use Rattle.byte_media.specs.Media.{written}
-use Rattle.pm_writer.specs.Pieces.{IsHidden, IsHiddenOr, IsOpenTo, finished}
-use Rattle.pm_contents.specs.Pieces.{BothTold, WroteFront}
+use Rattle.pm_writer.proofs.Common.{ap, append-nil, arith, BothTold, drop, Err, finished, get_or, get_or-append, get_or-take, IfSome, inl, inr, IsHidden, IsHiddenOr, IsOpenTo, length, length-append}
+use Rattle.pm_writer.proofs.Common.{length-take-le, List, Ok, OnOk, Option, refl, Result, set, subst, suc, sym, take, take-append-drop, written, WroteFront, zero, ℕ, [], ◌++◌, ◌+◌, ◌<◌, ◌∙◌, ◌∷◌, ◌≡◌}
+use Rattle.pm_writer.proofs.Common.{◌≤◌}
 use Rattle.pm_writer.proofs.MediumPieces.{both_then, both_with, hidden_behind, hidden_front, header_written, label_written, root_written, written_behind, zeroed_hidden}
 
 -- the bytes with the root in front, and the leaves behind

@@ -1,9 +1,6 @@
 -- What a layout is: a flat root, or one that names leaves or upper directories.
-use Rattle.std.proofs.Common.{◌≡◌, ℕ, zero, suc, ◌≤◌, inl, inr, ◌⊎◌, Bool, true, false, ◌&&◌, List, [], ◌∷◌, length, drop, refl, ◌∙◌, sym, ap, arith, subst}
-use Rattle.std.proofs.lemmas.List.{length-take}
-use Rattle.pm_format.specs.Directory.{Entry, dir_bytes}
-use Rattle.pm_format.specs.WellFormed.{AllAtMost, AllSome, joined, root_of}
-use Rattle.pm_writer.specs.Leaves.{Layout, cut, end_of, fits_root, found_uppers, laid, named_leaves, pieces, stands_in_root}
+use Rattle.pm_writer.proofs.Common.{AllAtMost, AllSome, ap, arith, Bool, cut, dir_bytes, drop, end_of, Entry, false, fits_root, found_uppers, inl, inr, joined, laid, Layout, length, length-take, List}
+use Rattle.pm_writer.proofs.Common.{named_leaves, pieces, refl, root_of, stands_in_root, subst, suc, sym, true, zero, ℕ, [], ◌&&◌, ◌∙◌, ◌∷◌, ◌≡◌, ◌≤◌, ◌⊎◌}
 use Rattle.pm_writer.proofs.Trying.{cut_by, tested, uppers_fit}
 use Rattle.pm_writer.proofs.Walking.{cut_joined, cut_some}
 

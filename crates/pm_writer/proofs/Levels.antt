@@ -1,21 +1,12 @@
 -- Levels of directories between a root and the entries of tiles.
-use Rattle.std.proofs.Common.{◌≡◌, ◌≢◌, ℕ, zero, suc, ◌+◌, ◌<◌, ◌≤◌, ◌^◌, true, false, List, [], ◌∷◌, ◌++◌, length, flat_map, Option, Some, None, Result, Ok, Err, nat_eq, refl, sym, ◌∙◌, ap, arith, subst, MatchOption, append_assoc, append-nil, length-append}
-use Rattle.std.proofs.lemmas.Grind.{flat_map-append}
-use Rattle.std.proofs.lemmas.Bool.Decides.{nat_tests}
-use Rattle.pm_format.specs.Directory.{Entry, dir_bytes, dir_of, entry}
-use Rattle.pm_format.specs.LookUp.{data_behind, data_of, entry_from, hops_by, hops_from, leaf_of, range_of, tile_by}
-use Rattle.pm_format.specs.Scan.{scan}
-use Rattle.pm_format.specs.Sound.{EachEntry, HasData, SoundDirectory}
-use Rattle.pm_format.specs.WellFormed.{AllRead, AllSome, first_id, joined, root_of}
-use Rattle.pm_format.specs.declared.error.PmtError.{PmtError}
+use Rattle.pm_writer.proofs.Common.{AllRead, AllSome, ap, append-nil, append_assoc, arith, data_behind, dir_bytes, dir_of, EachEntry, end_of, entries_below, entries_by, Entry, entry, entry_from, Err}
+use Rattle.pm_writer.proofs.Common.{false, first_id, flat_map, flat_map-append, HasData, Header, hops_by, hops_from, joined, leaf_of, length, length-append, List, MatchOption, Names, nat_eq}
+use Rattle.pm_writer.proofs.Common.{nat_tests, None, Ok, Option, PmtError, range_at, range_of, refl, Result, Rising, root_of, scan, Some, SoundDirectory, subst, suc, sym, Through, tile_by, true, zero}
+use Rattle.pm_writer.proofs.Common.{ℕ, [], ◌++◌, ◌+◌, ◌<◌, ◌^◌, ◌∙◌, ◌∷◌, ◌≡◌, ◌≢◌, ◌≤◌}
+use Rattle.pm_format.specs.LookUp.{data_of}
 use Rattle.pm_format.specs.declared.error.PmtError.TheVariants as errors
 use Rattle.pm_format.specs.declared.error.ReadCause.TheVariants as causes
-use Rattle.pm_format.specs.declared.header.Header.{Header}
 use Rattle.pm_format.proofs.LookUpLemmas.{reached_leaf, reached_none, reached_tile}
-use Rattle.pm_format.proofs.Ranges.{range_at}
-use Rattle.pm_writer.specs.Leaves.{end_of}
-use Rattle.pm_writer.specs.Through.{Names, Rising, Through}
-use Rattle.pm_writer.specs.TileEntries.{entries_below, entries_by}
 use Rattle.pm_writer.proofs.Walking.{names_rise, through}
 
 -- each of the directories that lie from a place on is read from there

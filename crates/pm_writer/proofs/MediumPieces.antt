@@ -1,14 +1,9 @@
 -- Pieces written one after another, where the bytes are told.
 use Rattle.pm_writer.proofs.Runs.{le_or}
-use Rattle.std.proofs.Common.{◌≡◌, ℕ, ◌+◌, ◌-◌, ◌<◌, ◌≤◌, inl, inr, List, [], ◌∷◌, ◌++◌, length, take, drop, get_or, set, Option, Some, None, IfSome, is_some, Ok, refl, sym, ◌∙◌, ap, arith, append_assoc, append-nil}
-use Rattle.std.proofs.Math.ListN.{get_or-append}
-use Rattle.std.proofs.lemmas.List.{drop_all, drop-append-le, get_or-append_right, get_or-drop, get_or-take, length-take-le, take-append-drop, take-append-le, take_all, drop_at}
-use Rattle.std.proofs.Math.ListN.{length-set}
-use Rattle.std.proofs.lemmas.List.{drop_more, get_or-set_same, take-set-le, drop-set-lt}
+use Rattle.pm_writer.proofs.Common.{ap, append-nil, append_assoc, arith, BothTold, drop, drop-append-le, drop-set-lt, drop_all, drop_at, drop_more, get_or, get_or-append, get_or-append_right}
+use Rattle.pm_writer.proofs.Common.{get_or-drop, get_or-set_same, get_or-take, IfSome, inl, inr, is_some, IsHidden, length, length-set, length-take-le, List, None, Ok, Option, refl, set, Some, sym}
+use Rattle.pm_writer.proofs.Common.{take, take-append-drop, take-append-le, take-set-le, take_all, WriteLeaves, written, WroteFront, ℕ, [], ◌++◌, ◌+◌, ◌-◌, ◌<◌, ◌∙◌, ◌∷◌, ◌≡◌, ◌≤◌}
 use Rattle.byte_media.specs.declared.medium.WriteFault.TheVariants as writes
-use Rattle.byte_media.specs.Media.{WriteLeaves, written}
-use Rattle.pm_writer.specs.Pieces.{IsHidden}
-use Rattle.pm_contents.specs.Pieces.{BothTold, WroteFront}
 
 pub both_map : (R S : List ℕ → List ℕ → Type 0) (old new : Option (List ℕ)) → ((b c : List ℕ) → R b c → S b c) → BothTold R old new → BothTold S old new
 both_map R S None None f h = h

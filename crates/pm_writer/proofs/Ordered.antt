@@ -1,17 +1,9 @@
 -- Entries in order of their ids.
-use Rattle.std.proofs.Common.{◌≡◌, ◌≢◌, ℕ, zero, suc, ◌+◌, ◌-◌, ◌<◌, ◌≤◌, inl, inr, Bool, true, false, List, [], ◌∷◌, ◌++◌, length, get_or, drop, sum_by, Option, Some, None, nat_le, nat_lt, nat_eq, if◌then◌else◌, refl, sym, ◌∙◌, ap, arith, subst, MatchOption, flat_map, ◌/◌, lit<, length-drop}
-use Rattle.std.proofs.lemmas.List.Sums.{sum_by-cons}
-use Rattle.std.proofs.lemmas.List.Sorted.{sum_by-IsPermutation, All-permutation}
-use Rattle.std.proofs.lemmas.List.Elements.{All-nil, All-cons, All-head, All-tail}
-use Rattle.std.proofs.lemmas.List.{drop_more, get_or_default}
-use Rattle.std.specs.List.{All}
+use Rattle.pm_writer.proofs.Common.{adds_at, All, All-cons, All-head, All-nil, All-permutation, All-tail, ap, arith, Block, blocks, Bool, contents_from, covering, Distinct, drop, drop_more}
+use Rattle.pm_writer.proofs.Common.{entries_at, entries_of_adds, Entry, entry, false, first_within, flat_map, get_or, get_or_default, if◌then◌else◌, inl, inr, IsLeastTwice, length, length-drop, List}
+use Rattle.pm_writer.proofs.Common.{lit<, longest_run, MatchOption, nat_eq, nat_le, nat_lt, nat_tests, None, Option, place_in, refl, Rising, runs, Some, sorted, sorted_in, subst, suc, sum_by}
+use Rattle.pm_writer.proofs.Common.{sum_by-cons, sum_by-IsPermutation, sym, times, true, unsorted, zero, ℕ, [], ◌++◌, ◌+◌, ◌-◌, ◌/◌, ◌<◌, ◌∙◌, ◌∷◌, ◌≡◌, ◌≢◌, ◌≤◌}
 use Rattle.std.specs.List.Sorted.{IsPermutation, IsNonDecreasingBy}
-use Rattle.std.proofs.lemmas.Bool.Decides.{nat_tests}
-use Rattle.pm_format.specs.Directory.{Entry, entry}
-use Rattle.pm_writer.specs.Adds.{Block, blocks, runs, entries_at, unsorted, longest_run, contents_from, entries_of_adds, sorted, sorted_in}
-use Rattle.pm_contents.specs.Places.{place_in}
-use Rattle.pm_writer.specs.Through.{Rising}
-use Rattle.pm_writer.specs.Twice.{adds_at, IsLeastTwice, Distinct, covering, times, first_within}
 use Rattle.pm_writer.proofs.Runs.{le_or, runs_none, runs_short, runs_long}
 use Rattle.pm_writer.proofs.Times.{times_adds, times_cons, covering_yes, covering_low, covering_high}
 

@@ -1,13 +1,7 @@
 -- The blocks of rising adds, and their entries.
-use Rattle.std.proofs.Common.{◌≡◌, ◌≢◌, ℕ, zero, suc, ◌+◌, ◌-◌, ◌/◌, ◌<◌, ◌≤◌, ◌⊎◌, inl, inr, Bool, true, false, List, [], ◌∷◌, ◌++◌, length, flat_map, Option, Some, None, nat_le, nat_eq, refl, sym, ◌∙◌, ap, arith, subst, append-nil, add-one}
-use Rattle.std.proofs.lemmas.Bool.Decides.{nat_tests}
-use Rattle.std.proofs.lemmas.Slice.Eq.{bytes_eq-Decides}
-use Rattle.std.specs.Str.{bytes_eq}
-use Rattle.pm_format.specs.Directory.{Entry, entry}
-use Rattle.pm_writer.specs.Adds.{Block, onto, blocks, runs, entries_at, sorted, sorted_in, longest_run}
-use Rattle.pm_writer.specs.Maps.{RisingAdds, IsIn}
-use Rattle.pm_writer.specs.Archive.{tile_in}
-use Rattle.tile_ids.specs.declared.id.TheConstants.{MAX_TILE_ID}
+use Rattle.pm_writer.proofs.Common.{add-one, ap, append-nil, arith, Block, blocks, Bool, bytes_eq, bytes_eq-Decides, entries_at, Entry, entry, false, flat_map, inl, inr, IsIn, length, List}
+use Rattle.pm_writer.proofs.Common.{longest_run, MAX_TILE_ID, nat_eq, nat_le, nat_tests, None, onto, Option, refl, RisingAdds, runs, Some, sorted, sorted_in, subst, suc, sym, tile_in, true, zero, ℕ}
+use Rattle.pm_writer.proofs.Common.{[], ◌++◌, ◌+◌, ◌-◌, ◌/◌, ◌<◌, ◌∙◌, ◌∷◌, ◌≡◌, ◌≢◌, ◌≤◌, ◌⊎◌}
 use Rattle.pm_writer.proofs.Cuts.{Needed}
 use Rattle.pm_writer.proofs.Runs.{le_or, runs_none, runs_short, runs_long}
 use Rattle.pm_writer.proofs.Blocks.{single, longer}

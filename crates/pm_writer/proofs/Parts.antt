@@ -1,15 +1,7 @@
 -- The bytes of the archive of adds, part by part.
-use Rattle.std.proofs.Common.{◌≡◌, ℕ, ◌+◌, ◌≤◌, List, [], ◌++◌, length, flat_map, sym, ◌∙◌, ap, arith, append_assoc, length-append}
-use Rattle.pm_format.specs.Directory.{dir_bytes}
-use Rattle.pm_format.specs.Options.{Options}
-use Rattle.pm_format.specs.WellFormed.{archive_bytes, front_bytes, header_of}
-use Rattle.pm_format.specs.declared.header.Header.{Header}
-use Rattle.pm_format.proofs.ArchiveOpens.{front_length}
-use Rattle.pm_writer.specs.Adds.{contents_from, entries_of_adds}
-use Rattle.pm_writer.specs.Archive.{archive, ids_of, parts_of, rising}
-use Rattle.pm_writer.specs.Bounds.{OptionsFit}
+use Rattle.pm_writer.proofs.Common.{ap, append_assoc, archive, archive_bytes, arith, below_layout, contents_from, dir_bytes, entries_of_adds, flat_map, front_bytes, front_length, Header, header_of}
+use Rattle.pm_writer.proofs.Common.{ids_of, laid, Layout, length, length-append, List, Options, OptionsFit, parts_of, rising, sym, ℕ, [], ◌++◌, ◌+◌, ◌∙◌, ◌≡◌, ◌≤◌}
 use Rattle.pm_writer.proofs.Laying.{root_small}
-use Rattle.pm_writer.specs.Leaves.{Layout, below_layout, laid}
 
 abbrev pub layout_of : Options → List (ℕ × List ℕ) → Layout
 layout_of o adds = laid o.max_leaf_entries (entries_of_adds adds)

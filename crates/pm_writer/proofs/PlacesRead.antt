@@ -1,17 +1,8 @@
 -- The places of an archive, read from its bytes.
-use Rattle.std.proofs.Common.{◌≡◌, ◌≢◌, ℕ, zero, suc, ◌+◌, inl, inr, Bool, true, false, List, [], ◌∷◌, ◌++◌, filter, flat_map, length, Some, nat_eq, refl, sym, ◌∙◌, ap, arith, subst}
-use Rattle.std.proofs.lemmas.Grind.{flat_map-append}
-use Rattle.std.proofs.lemmas.Bool.Decides.{nat_tests}
-use Rattle.pm_format.specs.Directory.{Entry, dir_bytes}
-use Rattle.pm_format.specs.Options.{Options}
-use Rattle.pm_format.specs.WellFormed.{AllSome, joined, root_of}
-use Rattle.pm_format.specs.declared.header.Header.{Header}
-use Rattle.pm_writer.specs.Adds.{entries_of_adds}
-use Rattle.pm_writer.specs.Archivable.{IsArchivable}
-use Rattle.pm_writer.specs.Archive.{archive}
+use Rattle.pm_writer.proofs.Common.{AllSome, ap, archive, arith, Bool, dir_bytes, end_of, entries_of_adds, Entry, false, filter, flat_map, flat_map-append, Header, inl, inr, IsArchivable, joined}
+use Rattle.pm_writer.proofs.Common.{Layout, length, List, nat_eq, nat_tests, Options, places_of, places_opened, places_read, refl, root_of, Some, subst, suc, sym, true, zero, ℕ, [], ◌++◌, ◌+◌, ◌∙◌}
+use Rattle.pm_writer.proofs.Common.{◌∷◌, ◌≡◌, ◌≢◌}
 use Rattle.pm_writer.specs.DirectoriesRead.{directories_by, has_leaves, has_tiles, leaves_among, uppers_among, with_below}
-use Rattle.pm_writer.specs.Leaves.{Layout, end_of}
-use Rattle.pm_writer.specs.Places.{places_of, places_opened, places_read}
 use Rattle.pm_writer.proofs.Bounds.{all_again}
 use Rattle.pm_writer.proofs.Laying.{IsLaidAs}
 use Rattle.pm_writer.proofs.Levels.{AllFound, Tower}

@@ -1,7 +1,5 @@
 -- The last entry of a list of entries, as the code finds it.
-use Rattle.std.proofs.Common.{◌≡◌, ℕ, zero, suc, ◌+◌, true, false, List, [], ◌∷◌, ◌++◌, length, set, get_or, refl, ap, arith}
-use Rattle.pm_format.specs.Directory.{Entry, entry}
-use Rattle.pm_writer.specs.Growing.{grows, put}
+use Rattle.pm_writer.proofs.Common.{ap, arith, Entry, entry, false, get_or, grows, length, List, put, refl, set, suc, true, zero, ℕ, [], ◌++◌, ◌+◌, ◌∷◌, ◌≡◌}
 
 pub put_grows : (limit id offset len n : ℕ) (es : List Entry) (x : Entry) → suc n ≡ length es → x ≡ get_or es n x → grows limit id offset x ≡ true
     → put limit id offset len es ≡ set es n (record x { run_length = x.run_length + 1 })

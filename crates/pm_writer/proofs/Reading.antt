@@ -1,22 +1,10 @@
 -- The archive, read by its root and the directories below it.
-use Rattle.std.proofs.Common.{◌≡◌, ℕ, ◌+◌, ◌-◌, ◌<◌, ◌≤◌, ◌^◌, Bool, true, false, List, [], ◌∷◌, length, Option, Some, None, Result, Ok, Err, nat_le, nat_eq, refl, sym, ◌∙◌, ap, arith, subst, MatchOption}
-use Rattle.std.proofs.lemmas.Bool.Decides.{nat_tests}
-use Rattle.pm_format.specs.Directory.{Entry}
-use Rattle.pm_format.specs.Scan.{scan}
-use Rattle.pm_format.specs.declared.header.Header.{Header}
-use Rattle.pm_format.specs.declared.error.PmtError.{PmtError}
+use Rattle.pm_writer.proofs.Common.{AllRead, ap, archive, arith, below_layout, blocks, Bool, contents_from, Distinct, entries_of_adds, Entry, Err, false, Header, hops_by, length, List, MatchOption}
+use Rattle.pm_writer.proofs.Common.{nat_eq, nat_le, nat_tests, None, Ok, Option, Options, OptionsFit, place_in, PmtError, range_of, refl, Result, Rising, scan, Some, sorted, sorted_in, subst, sym}
+use Rattle.pm_writer.proofs.Common.{tile_by, tile_in, true, unsorted, ℕ, [], ◌+◌, ◌-◌, ◌<◌, ◌^◌, ◌∙◌, ◌∷◌, ◌≡◌, ◌≤◌}
 use Rattle.pm_format.specs.declared.error.PmtError.TheVariants as errors
 use Rattle.pm_format.specs.declared.error.ReadCause.TheVariants as causes
-use Rattle.pm_format.specs.LookUp.{data_of, hops_by, range_of, tile_by}
-use Rattle.pm_format.specs.Options.{Options}
-use Rattle.pm_format.specs.WellFormed.{AllRead}
-use Rattle.pm_writer.specs.Adds.{blocks, contents_from, entries_of_adds, sorted, sorted_in, unsorted}
-use Rattle.pm_contents.specs.Places.{place_in}
-use Rattle.pm_writer.specs.Archive.{archive, tile_in}
-use Rattle.pm_writer.specs.Bounds.{OptionsFit}
-use Rattle.pm_writer.specs.Leaves.{below_layout}
-use Rattle.pm_writer.specs.Through.{Rising}
-use Rattle.pm_writer.specs.Twice.{Distinct}
+use Rattle.pm_format.specs.LookUp.{data_of}
 use Rattle.pm_writer.proofs.ContentRanges.{content_range}
 use Rattle.pm_writer.proofs.Found.{Answer, entries_apart, flat_answer, run_in, scan_is}
 use Rattle.pm_writer.proofs.Levels.{deep, hop_here, hop_none, tile_here, tile_none, tower_hops, tower_tile}

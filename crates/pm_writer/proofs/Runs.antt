@@ -1,9 +1,6 @@
 -- The runs of a block that is one longer.
-use Rattle.std.proofs.Common.{◌≡◌, ◌≢◌, ℕ, zero, suc, ◌+◌, ◌-◌, ◌*◌, ◌<◌, ◌≤◌, ◌⊎◌, inl, inr, Bool, true, false, List, [], ◌∷◌, ◌++◌, nat_lt, nat_le, nat_eq, refl, sym, ◌∙◌, ap, arith, subst}
-use Rattle.std.proofs.lemmas.Bool.Decides.{nat_tests}
-use Rattle.pm_format.specs.Directory.{Entry, entry}
-use Rattle.pm_writer.specs.Adds.{runs}
-use Rattle.pm_writer.specs.Growing.{grows, put}
+use Rattle.pm_writer.proofs.Common.{ap, arith, Bool, Entry, entry, false, grows, inl, inr, List, nat_eq, nat_le, nat_lt, nat_tests, put, refl, runs, subst, suc, sym, true, zero, ℕ, [], ◌*◌, ◌++◌, ◌+◌}
+use Rattle.pm_writer.proofs.Common.{◌-◌, ◌<◌, ◌∙◌, ◌∷◌, ◌≡◌, ◌≢◌, ◌≤◌, ◌⊎◌}
 
 pub le_or : (m n : ℕ) → (m ≤ n) ⊎ (n < m)
 le_or m n = grind arith

@@ -1,22 +1,8 @@
 -- Adds whose ids strictly rise.
-use Rattle.std.proofs.Common.{◌≡◌, ◌≢◌, ℕ, suc, ◌+◌, ◌<◌, ◌≤◌, inl, inr, true, false, cond, List, [], ◌∷◌, length, All, Some, nat_eq, nat_lt, refl, sym, ◌∙◌, ap, arith, subst}
+use Rattle.pm_writer.proofs.Common.{adds_at, AddsFilled, All, All-head, All-tail, AllLow, ap, archive, archive_map, AreFew, arith, below_all, cond, Distinct, eq_by_cmp, false, find, ids_of, inl, inr}
+use Rattle.pm_writer.proofs.Common.{is_lt, is_sorted, IsArchivable, length, List, MAX_TILE_ID, nat_cmp, nat_eq, nat_lt, nat_tests, Options, OptionsFit, parts_of, refl, rising, RisingAdds, Some, subst}
+use Rattle.pm_writer.proofs.Common.{suc, sum_by-cons, sym, tile_in, true, WellFormed, ℕ, [], ◌+◌, ◌<◌, ◌∙◌, ◌∷◌, ◌≡◌, ◌≢◌, ◌≤◌}
 use Rattle.std.proofs.lemmas.Bool.{and_parts}
-use Rattle.std.proofs.lemmas.Bool.Decides.{nat_tests}
-use Rattle.std.proofs.lemmas.List.Elements.{All-head, All-tail}
-use Rattle.std.proofs.lemmas.List.Sums.{sum_by-cons}
-use Rattle.std.specs.FinMap.{find, is_sorted}
-use Rattle.std.specs.FinMap.Entries.{below_all}
-use Rattle.std.specs.Ordering.{eq_by_cmp, is_lt, nat_cmp}
-use Rattle.tile_ids.specs.declared.id.TheConstants.{MAX_TILE_ID}
-use Rattle.pm_format.specs.LookUp.{archive_map}
-use Rattle.pm_format.specs.Options.{Options}
-use Rattle.pm_format.specs.WellFormed.{WellFormed}
-use Rattle.pm_writer.specs.Archivable.{IsArchivable}
-use Rattle.pm_writer.specs.Archive.{archive, ids_of, parts_of, rising, tile_in}
-use Rattle.pm_writer.specs.Bounds.{AddsFilled, AllLow, OptionsFit}
-use Rattle.pm_writer.specs.Few.{AreFew}
-use Rattle.pm_writer.specs.Maps.{RisingAdds}
-use Rattle.pm_writer.specs.Twice.{Distinct, adds_at}
 use Rattle.pm_writer.proofs.Few.{archive_fits}
 use Rattle.pm_writer.proofs.Parted.{tile_here, tile_later}
 use Rattle.pm_writer.proofs.Bounds.{whole_formed}

@@ -1,12 +1,7 @@
 -- A directory of tile entries is sound.
-use Rattle.std.proofs.Common.{◌≡◌, ◌≢◌, ℕ, zero, suc, ◌+◌, ◌≤◌, inl, inr, List, [], ◌∷◌, ◌++◌, Ok, IsSome, refl, ap, arith}
-use Rattle.pm_format.specs.Directory.{Entry}
-use Rattle.pm_format.specs.declared.header.Header.{Header}
-use Rattle.pm_format.specs.LookUp.{range_of, leaf_of}
-use Rattle.pm_format.specs.Sound.{EachEntry, SoundDirectory}
+use Rattle.pm_writer.proofs.Common.{ap, arith, EachEntry, Entry, Header, inl, inr, IsIn, IsSome, leaf_of, List, Ok, range_of, refl, SoundDirectory, suc, zero, ℕ, [], ◌++◌, ◌+◌, ◌∷◌, ◌≡◌, ◌≢◌, ◌≤◌}
 use Rattle.pm_writer.proofs.Found.{run_in}
 use Rattle.pm_writer.proofs.Ordered.{AllRun, Apart}
-use Rattle.pm_writer.specs.Maps.{IsIn}
 
 after : (e d : Entry) (es : List Entry) → Apart (e ∷ es) → IsIn d es → e.tile_id + e.run_length ≤ d.tile_id
 after e d [] w i = absurd i

@@ -1,11 +1,7 @@
 -- How often an id is covered.
-use Rattle.std.proofs.Common.{◌≡◌, ℕ, zero, suc, ◌+◌, ◌-◌, ◌*◌, ◌/◌, ◌<◌, ◌≤◌, inl, inr, Bool, true, false, List, [], ◌∷◌, length, flat_map, sum_by, nat_le, nat_lt, nat_eq, ◌&&◌, if◌then◌else◌, refl, sym, ◌∙◌, ap, arith, subst, lit<}
-use Rattle.std.proofs.lemmas.List.Sums.{sum_by-cons, sum_by-append}
-use Rattle.std.proofs.lemmas.Bool.Decides.{nat_tests}
-use Rattle.std.specs.Str.{bytes_eq}
-use Rattle.pm_format.specs.Directory.{Entry, entry}
-use Rattle.pm_writer.specs.Adds.{Block, onto, blocks, runs, entries_at, unsorted, longest_run}
-use Rattle.pm_writer.specs.Twice.{adds_at, covering, times}
+use Rattle.pm_writer.proofs.Common.{adds_at, ap, arith, Block, blocks, Bool, bytes_eq, covering, entries_at, Entry, entry, false, flat_map, if◌then◌else◌, inl, inr, length, List, lit<, longest_run}
+use Rattle.pm_writer.proofs.Common.{nat_eq, nat_le, nat_lt, nat_tests, onto, refl, runs, subst, suc, sum_by, sum_by-append, sum_by-cons, sym, times, true, unsorted, zero, ℕ, [], ◌&&◌, ◌*◌, ◌+◌, ◌-◌}
+use Rattle.pm_writer.proofs.Common.{◌/◌, ◌<◌, ◌∙◌, ◌∷◌, ◌≡◌, ◌≤◌}
 use Rattle.pm_writer.proofs.Runs.{le_or, runs_none, runs_short, runs_long}
 use Rattle.pm_writer.proofs.Blocks.{single, longer, enough}
 

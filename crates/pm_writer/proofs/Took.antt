@@ -1,27 +1,10 @@
 -- What adds are taken for: their ids and lengths stay, and all that follows from these.
-use Rattle.std.proofs.Common.{◌≡◌, ◌≢◌, ℕ, suc, ◌+◌, ◌<◌, ◌≤◌, ◌&&◌, false, List, [], ◌∷◌, ◌++◌, length, sum_by, get_or, take, drop, All, Option, Some, None, Result, Ok, Err, IfSome, IfOk, is_some, refl, sym, ◌∙◌, ap, arith, subst}
-use Rattle.std.proofs.lemmas.List.{drop_more, take-append-drop}
-use Rattle.std.proofs.lemmas.List.Elements.{All-cons, All-head, All-tail}
-use Rattle.std.proofs.lemmas.List.Sums.{sum_by-cons}
-use Rattle.std.specs.FinMap.{is_sorted}
-use Rattle.std.specs.FinMap.Entries.{below_all}
-use Rattle.std.specs.Ordering.{is_lt, nat_cmp}
+use Rattle.pm_writer.proofs.Common.{add_to, AddFits, All, All-cons, All-head, All-tail, AllSized, ap, AreFew, arith, below_all, Contents, drop, drop_more, Err, false, found_in, found_itself, FoundAs}
+use Rattle.pm_writer.proofs.Common.{get_or, has_failed, IfOk, IfSome, is_lt, is_some, is_sorted, IsUnasked, length, List, MAX_TILE_ID, nat_cmp, None, Ok, Option, Options, place_sought, refl, Result}
+use Rattle.pm_writer.proofs.Common.{Some, Sought, subst, suc, sum_by, sum_by-cons, sym, take, take-append-drop, Took, TookAll, TookBy, WriterState, Writes, xxh3_64, ℕ, [], ◌&&◌, ◌++◌, ◌+◌, ◌<◌, ◌∙◌}
+use Rattle.pm_writer.proofs.Common.{◌∷◌, ◌≡◌, ◌≢◌, ◌≤◌}
 use Rattle.byte_media.specs.declared.medium.WriteFault.{WriteFault}
-use Rattle.tile_ids.specs.declared.id.TheConstants.{MAX_TILE_ID}
-use Rattle.pm_format.specs.Options.{Options}
-use Rattle.pm_writer.specs.Bounds.{AllSized}
-use Rattle.pm_writer.specs.Few.{AreFew}
-use Rattle.tile_hash.specs.Xxh3.{xxh3_64}
-use Rattle.pm_contents.specs.Contents.{IsUnasked}
-use Rattle.pm_contents.specs.Places.{found_in}
-use Rattle.pm_contents.specs.Sought.{FoundAs, place_sought}
 use Rattle.pm_contents.specs.Span.{Stood}
-use Rattle.pm_contents.specs.declared.contents.Contents.{Contents}
-use Rattle.pm_contents.specs.declared.sought.Sought.{Sought}
-use Rattle.pm_contents.proofs.SeekLemmas.{found_itself}
-use Rattle.pm_writer.specs.Took.{Took, TookAll, TookBy}
-use Rattle.pm_writer.specs.Writing.{AddFits, Writes, add_to, has_failed}
-use Rattle.pm_writer.specs.declared.state.WriterState.{WriterState}
 use Rattle.pm_writer.proofs.Few.{add_fits}
 
 -- data may be taken for itself

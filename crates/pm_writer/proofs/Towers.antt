@@ -1,16 +1,7 @@
 -- The directories of a layout, read from the bytes of an archive.
-use Rattle.std.proofs.Common.{◌≡◌, ℕ, ◌+◌, ◌-◌, ◌<◌, ◌≤◌, ◌^◌, inl, inr, List, [], ◌∷◌, ◌++◌, length, flat_map, Some, nat_eq, false, refl, sym, ◌∙◌, ap, arith, subst, append_assoc, append-nil, length-append}
-use Rattle.std.proofs.lemmas.Grind.{flat_map-append}
-use Rattle.std.proofs.lemmas.Bool.Decides.{nat_tests}
-use Rattle.pm_format.specs.Directory.{DirFits, Entry, dir_bytes, dir_of}
-use Rattle.pm_format.specs.Options.{Options}
-use Rattle.pm_format.specs.WellFormed.{AllRead, AllSome, joined, root_of}
-use Rattle.pm_format.specs.declared.header.Header.{Header}
-use Rattle.pm_format.proofs.DirectoryAgain.{directory_again}
-use Rattle.pm_writer.specs.Adds.{entries_of_adds}
-use Rattle.pm_writer.specs.Archive.{archive}
-use Rattle.pm_writer.specs.Bounds.{AllShort, OptionsFit}
-use Rattle.pm_writer.specs.Leaves.{Layout, below_layout, end_of}
+use Rattle.pm_writer.proofs.Common.{AllRead, AllShort, AllSome, ap, append-nil, append_assoc, archive, arith, below_layout, dir_bytes, dir_of, directory_again, DirFits, end_of, entries_of_adds, Entry}
+use Rattle.pm_writer.proofs.Common.{false, flat_map, flat_map-append, Header, inl, inr, joined, Layout, length, length-append, List, nat_eq, nat_tests, Options, OptionsFit, refl, root_of, Some, subst}
+use Rattle.pm_writer.proofs.Common.{sym, ℕ, [], ◌++◌, ◌+◌, ◌-◌, ◌<◌, ◌^◌, ◌∙◌, ◌∷◌, ◌≡◌, ◌≤◌}
 use Rattle.pm_writer.proofs.CuttingLemmas.{fits_zero, level_fits, root_length, short_left, short_right}
 use Rattle.pm_writer.proofs.Laying.{IsLaidAs, laid_as}
 use Rattle.pm_writer.proofs.Levels.{AllFound, Tower, all_found, deep, deep_is}

@@ -1,11 +1,7 @@
 -- The first size whose root fits.
-use Rattle.std.proofs.Common.{◌≡◌, ℕ, zero, suc, ◌+◌, ◌-◌, ◌/◌, ◌<◌, ◌≤◌, inl, inr, Bool, true, false, List, [], ◌∷◌, ◌++◌, length, map, take, drop, nat_le, nat_lt, None, refl, sym, ◌∙◌, ap, arith, subst, append-nil, length-append}
-use Rattle.std.proofs.lemmas.List.{drop_all}
-use Rattle.std.proofs.lemmas.Bool.Decides.{nat_tests}
-use Rattle.pm_format.specs.Varint.{varint, short_of}
-use Rattle.pm_format.specs.Directory.{Entry, dir_bytes, spell_all, steps_from, starts_from}
-use Rattle.pm_writer.specs.Leaves.{cut, fits_root, pieces, uppers_by}
-use Rattle.pm_format.specs.WellFormed.{root_of}
+use Rattle.pm_writer.proofs.Common.{ap, append-nil, arith, Bool, cut, dir_bytes, drop, drop_all, Entry, false, fits_root, inl, inr, length, length-append, List, map, nat_le, nat_lt, nat_tests, None}
+use Rattle.pm_writer.proofs.Common.{pieces, refl, root_of, short_of, spell_all, starts_from, steps_from, subst, suc, sym, take, true, uppers_by, varint, zero, ℕ, [], ◌++◌, ◌+◌, ◌-◌, ◌/◌, ◌<◌, ◌∙◌}
+use Rattle.pm_writer.proofs.Common.{◌∷◌, ◌≡◌, ◌≤◌}
 use Rattle.pm_writer.proofs.Runs.{le_or}
 
 pub short_length : (k n : ℕ) → length (short_of k n) ≤ k

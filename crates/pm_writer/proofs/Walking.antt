@@ -1,12 +1,7 @@
 -- A walk through the entries that name directories beside a walk through all entries of these.
-use Rattle.std.proofs.Common.{◌≡◌, ◌≢◌, ℕ, zero, suc, ◌+◌, ◌<◌, ◌≤◌, inl, inr, true, false, List, [], ◌∷◌, ◌++◌, length, flat_map, take, drop, Option, Some, None, nat_le, if◌then◌else◌, refl, sym, ◌∙◌, ap, arith, subst, append_assoc, append-nil, length-append, length-drop, take-append-drop}
-use Rattle.std.proofs.lemmas.List.{nil_from_length}
-use Rattle.std.proofs.lemmas.Bool.Decides.{nat_tests}
-use Rattle.pm_format.specs.Directory.{Entry, entry, dir_bytes, ◌>>=◌}
-use Rattle.pm_format.specs.Scan.{last_below, covers, scan}
-use Rattle.pm_writer.specs.Leaves.{cut, end_of, pieces}
-use Rattle.pm_format.specs.WellFormed.{AllSome, first_id, joined, root_of}
-use Rattle.pm_writer.specs.Through.{Rising, Names, Through}
+use Rattle.pm_writer.proofs.Common.{AllSome, ap, append-nil, append_assoc, arith, covers, cut, dir_bytes, drop, end_of, Entry, entry, false, first_id, flat_map, if◌then◌else◌, inl, inr, joined}
+use Rattle.pm_writer.proofs.Common.{last_below, length, length-append, length-drop, List, Names, nat_le, nat_tests, nil_from_length, None, Option, pieces, refl, Rising, root_of, scan, Some, subst}
+use Rattle.pm_writer.proofs.Common.{suc, sym, take, take-append-drop, Through, true, zero, ℕ, [], ◌++◌, ◌+◌, ◌<◌, ◌>>=◌, ◌∙◌, ◌∷◌, ◌≡◌, ◌≢◌, ◌≤◌}
 use Rattle.pm_writer.proofs.Runs.{le_or}
 
 pub last_yes : (t : ℕ) (found : Option Entry) (e : Entry) (es : List Entry) → e.tile_id ≤ t → last_below t found (e ∷ es) ≡ last_below t (Some e) es

@@ -1,16 +1,8 @@
 -- What is read from the archive of adds.
-use Rattle.std.proofs.Common.{◌≡◌, ℕ, ◌<◌, ◌≤◌, ◌^◌, inl, inr, true, false, List, [], ◌∷◌, length, Option, Some, None, Ok, MatchOption, nat_le, refl, sym, ◌∙◌, ap, arith, subst}
-use Rattle.std.proofs.lemmas.Bool.Decides.{nat_tests}
-use Rattle.tile_ids.specs.declared.id.TheConstants.{MAX_TILE_ID}
-use Rattle.pm_format.specs.Directory.{Entry, dir_bytes}
-use Rattle.pm_format.specs.LookUp.{archive_map, archive_tile, data_of, filled, hops, hops_opened, tile_opened}
-use Rattle.pm_format.specs.Opened.{opened}
-use Rattle.pm_format.specs.Options.{Options}
-use Rattle.pm_format.specs.Scan.{scan}
-use Rattle.pm_writer.specs.Adds.{entries_of_adds}
-use Rattle.pm_writer.specs.Archivable.{IsArchivable}
-use Rattle.pm_writer.specs.Archive.{archive, tile_in}
-use Rattle.pm_writer.specs.Bounds.{AddsFilled, AllLow}
+use Rattle.pm_writer.proofs.Common.{AddsFilled, AllLow, ap, archive, archive_map, archive_tile, arith, dir_bytes, entries_of_adds, Entry, false, filled, hops, hops_opened, inl, inr, IsArchivable}
+use Rattle.pm_writer.proofs.Common.{length, List, MatchOption, MAX_TILE_ID, nat_le, nat_tests, None, Ok, opened, Option, Options, refl, scan, Some, subst, sym, tile_in, tile_opened, true, ℕ, [], ◌<◌}
+use Rattle.pm_writer.proofs.Common.{◌^◌, ◌∙◌, ◌∷◌, ◌≡◌, ◌≤◌}
+use Rattle.pm_format.specs.LookUp.{data_of}
 use Rattle.pm_writer.proofs.Bounds.{all_again, whole_formed}
 use Rattle.pm_writer.proofs.Parted.{tile_here, tile_later}
 use Rattle.pm_writer.proofs.Parts.{head_of, layout_of, root_fits}

@@ -1,8 +1,6 @@
 -- What an add does to a writer, by the medium before and after it and the writer's state before and after it.
 use Rattle.std.specs.Prelude.{◌≡◌, ℕ, List, [], Option, Result, OnOk, OnErr, length}
-use Rattle.pm_format.specs.Options.{Options}
-use Rattle.pm_format.specs.declared.compression.Compression.{Compression}
-use Rattle.pm_format.specs.declared.error.PmtError.{PmtError}
+use Rattle.pm_writer.specs.Common.{Compression, Options, PmtError}
 use Rattle.pm_writer.specs.Adds.{contents_from}
 use Rattle.pm_writer.specs.Causes.{AddCauses}
 use Rattle.pm_writer.specs.Took.{AreUnlike, TookBy}

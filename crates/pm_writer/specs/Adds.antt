@@ -1,8 +1,7 @@
 -- The contents and entries of a list of adds, each an id and bytes.
 use Rattle.std.specs.Prelude.{◌≡◌, ℕ, zero, suc, ◌+◌, ◌-◌, ◌/◌, List, [], ◌∷◌, length, flat_map, nat_le, nat_eq, ◌&&◌, if◌then◌else◌, refl}
 use Rattle.std.specs.Str.{bytes_eq}
-use Rattle.pm_contents.specs.Places.{place_in, put_new}
-use Rattle.pm_format.specs.Directory.{Entry, entry}
+use Rattle.pm_writer.specs.Common.{Entry, entry, place_in, put_new}
 
 -- the different byte strings in order of first add
 abbrev pub contents_from : List (List ℕ) → List (ℕ × List ℕ) → List (List ℕ)

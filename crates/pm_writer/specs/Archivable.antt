@@ -1,7 +1,6 @@
 -- When a list of adds has an archive that can be written.
 use Rattle.std.specs.Prelude.{ℕ, ◌<◌, ◌^◌, List, length}
-use Rattle.pm_format.specs.Options.{Options}
-use Rattle.pm_format.specs.WellFormed.{below_root}
+use Rattle.pm_writer.specs.Common.{below_root, Options}
 use Rattle.pm_writer.specs.Archive.{archive, parts_of}
 use Rattle.pm_writer.specs.Bounds.{AddsFilled, AllLow, AllShort, AllSized, OptionsFit}
 use Rattle.pm_writer.specs.Twice.{Distinct}

@@ -1,17 +1,8 @@
 -- The one archive of a list of adds, and that of a map.
 use Rattle.std.specs.Prelude.{◌≡◌, ℕ, Bool, true, List, [], ◌∷◌, map, nat_lt, nat_eq, ◌&&◌, if◌then◌else◌, Option, Some, None, refl}
-use Rattle.std.specs.FinMap.{FinMap, entries}
-use Rattle.std.specs.Ordering.{nat_cmp}
+use Rattle.pm_writer.specs.Common.{archive_bytes, archive_map, default_options, dir_bytes, dir_of, entries, FinMap, head, nat_cmp, one_tile, opened, Options, Parts, reached, scan, tile_by, u64_at}
+use Rattle.pm_writer.specs.Common.{varint}
 use Rattle.pm_format.specs.declared.tile_type.TileType.TheVariants as tile_type
-use Rattle.pm_format.specs.Directory.{dir_of, dir_bytes}
-use Rattle.pm_format.specs.Header.{head}
-use Rattle.pm_format.specs.LookUp.{archive_map, reached, tile_by}
-use Rattle.pm_format.specs.Opened.{opened}
-use Rattle.pm_format.specs.Options.{Options, default_options}
-use Rattle.pm_format.specs.Scan.{scan}
-use Rattle.pm_format.specs.Varint.{varint, u64_at}
-use Rattle.pm_format.specs.Vectors.{one_tile}
-use Rattle.pm_format.specs.WellFormed.{Parts, archive_bytes}
 use Rattle.pm_writer.specs.Adds.{contents_from, entries_of_adds}
 use Rattle.pm_writer.specs.Leaves.{laid}
 

@@ -1,9 +1,7 @@
 -- Adds and options within the bounds of the format.
 use Rattle.std.specs.Prelude.{ℕ, ◌<◌, ◌≤◌, ◌^◌, List, [], ◌∷◌, length, FitsSigned}
 use Rattle.std.specs.Int.{w32}
-use Rattle.tile_ids.specs.declared.id.TheConstants.{MAX_TILE_ID}
-use Rattle.pm_format.specs.Directory.{Entry, dir_bytes}
-use Rattle.pm_format.specs.Options.{Options}
+use Rattle.pm_writer.specs.Common.{dir_bytes, Entry, MAX_TILE_ID, Options}
 
 -- no add is empty
 abbrev pub AddsFilled : List (ℕ × List ℕ) → Type 0

@@ -1,15 +1,11 @@
 -- Why a call of a writer ends as it does. Each answer that isn't named never comes.
 use Rattle.std.specs.Prelude.{◌≡◌, ◌≢◌, ℕ, ◌<◌, ◌^◌, Bool, true, false, List, length, Result, Ok, Err}
-use Rattle.base_values.specs.Counts.{Rose}
-use Rattle.pm_format.specs.Options.{Options}
-use Rattle.pm_format.specs.WellFormed.{below_root}
+use Rattle.pm_writer.specs.Common.{below_root, Compression, Options, PmtError, Rose}
 use Rattle.pm_writer.specs.Archivable.{IsArchivable}
 use Rattle.pm_writer.specs.Archive.{archive, parts_of}
 use Rattle.pm_writer.specs.Bounds.{AllShort}
 use Rattle.pm_writer.specs.Twice.{Distinct, IsLeastTwice}
-use Rattle.pm_format.specs.declared.compression.Compression.{Compression}
 use Rattle.pm_format.specs.declared.compression.Compression.TheVariants as compression
-use Rattle.pm_format.specs.declared.error.PmtError.{PmtError}
 use Rattle.pm_format.specs.declared.error.PmtError.TheVariants as errors
 use Rattle.pm_format.specs.declared.error.ReadCause.TheVariants as causes
 

@@ -1,7 +1,6 @@
 -- Directories that are put one behind another, and those of an archive as bytes.
 use Rattle.std.specs.Prelude.{◌≡◌, ℕ, ◌+◌, ◌<◌, ◌^◌, List, [], ◌∷◌, ◌++◌, length, map, flat_map}
-use Rattle.pm_format.specs.Directory.{Entry, dir_bytes, entry, wide_as}
-use Rattle.pm_format.specs.WellFormed.{first_id, root_of}
+use Rattle.pm_writer.specs.Common.{dir_bytes, Entry, entry, first_id, root_of, wide_as}
 use Rattle.pm_format.specs.declared.wide_entry.WideEntry.{WideEntry}
 use Rattle.pm_writer.specs.Leaves.{Layout, below_layout, end_of}
 use Rattle.pm_writer.specs.declared.cutting.Directories.{Directories}

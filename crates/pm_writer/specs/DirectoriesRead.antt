@@ -1,11 +1,7 @@
 -- The directories below the root that the bytes of an archive have.
 use Rattle.std.specs.Prelude.{ℕ, zero, suc, Bool, List, [], ◌∷◌, filter, flat_map, length, nat_eq, not, if◌then◌else◌, Result, Ok, Err}
 use Rattle.std.specs.List.{list_any}
-use Rattle.pm_format.specs.declared.error.PmtError.{PmtError}
-use Rattle.pm_format.specs.declared.header.Header.{Header}
-use Rattle.pm_format.specs.Directory.{Entry}
-use Rattle.pm_format.specs.LookUp.{leaf_of}
-use Rattle.pm_format.specs.Opened.{Opened}
+use Rattle.pm_writer.specs.Common.{Entry, Header, leaf_of, Opened, PmtError}
 
 -- a directory that is read, and those below it
 abbrev pub with_below : (Entry → List (List Entry)) → Result (List Entry) PmtError → List (List Entry)

@@ -1,6 +1,6 @@
 -- Adds that are few and short.
 use Rattle.std.specs.Prelude.{ℕ, ◌<◌, ◌^◌, List, length, sum_by}
-use Rattle.pm_format.specs.Options.{Options}
+use Rattle.pm_writer.specs.Common.{Options}
 use Rattle.pm_writer.specs.Bounds.{AllSized}
 
 -- fewer than 2^32 adds, none of 2^32 bytes or more, of fewer than 2^60 bytes together, and metadata of fewer than 2^63 bytes

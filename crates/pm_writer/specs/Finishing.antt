@@ -1,7 +1,6 @@
 -- The parts of an archive that are written behind its contents.
 use Rattle.std.specs.Prelude.{◌≡◌, ℕ, List}
-use Rattle.pm_format.specs.Options.{Options}
-use Rattle.pm_format.specs.WellFormed.{header_of}
+use Rattle.pm_writer.specs.Common.{header_of, Options}
 use Rattle.pm_writer.specs.Archive.{ids_of, parts_of, rising}
 use Rattle.pm_writer.specs.Adds.{entries_of_adds}
 use Rattle.pm_writer.specs.Cutting.{AreDirectories}

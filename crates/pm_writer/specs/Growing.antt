@@ -1,6 +1,6 @@
 -- One more add.
 use Rattle.std.specs.Prelude.{◌≡◌, ℕ, ◌+◌, Bool, List, [], ◌∷◌, nat_lt, nat_eq, ◌&&◌, if◌then◌else◌}
-use Rattle.pm_format.specs.Directory.{Entry, entry}
+use Rattle.pm_writer.specs.Common.{Entry, entry}
 
 -- the entry is the one before the id, of the same contents, and its run isn't full
 abbrev pub grows : ℕ → ℕ → ℕ → Entry → Bool

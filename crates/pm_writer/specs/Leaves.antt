@@ -1,7 +1,6 @@
 -- A root for a list of entries, and directories below it where they don't fit.
 use Rattle.std.specs.Prelude.{◌≡◌, ℕ, zero, suc, ◌+◌, ◌/◌, Bool, true, false, List, [], ◌∷◌, ◌++◌, length, take, drop, nat_lt, nat_le, ◌&&◌, flat_map, refl}
-use Rattle.pm_format.specs.Directory.{Entry, entry, dir_bytes}
-use Rattle.pm_format.specs.WellFormed.{root_of}
+use Rattle.pm_writer.specs.Common.{dir_bytes, Entry, entry, root_of}
 use Rattle.pm_format.specs.declared.header.TheConstants.{MAX_ROOT}
 
 -- directories of a size, the last one shorter

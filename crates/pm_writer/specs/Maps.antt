@@ -1,9 +1,7 @@
 -- Directories of tile entries alone, and the map that they give.
 use Rattle.std.specs.Prelude.{◌≡◌, ◌≢◌, ◌⊎◌, ℕ, ◌+◌, ◌<◌, ◌≤◌, List, [], ◌∷◌, Option, Some}
-use Rattle.tile_ids.specs.declared.id.TheConstants.{MAX_TILE_ID}
-use Rattle.pm_format.specs.Directory.{Entry, ◌>>=◌}
-use Rattle.pm_format.specs.Scan.{scan}
-use Rattle.pm_format.specs.LookUp.{range_of}
+use Rattle.pm_writer.specs.Common.{Entry, MAX_TILE_ID, range_of, scan}
+use Rattle.pm_format.specs.Directory.{◌>>=◌}
 use Rattle.pm_writer.specs.Adds.{longest_run}
 
 -- adds by rising id, none of them empty: the pairs of a map

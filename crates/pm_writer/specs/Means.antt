@@ -1,9 +1,7 @@
 -- What the state of adds means.
 use Rattle.std.specs.Prelude.{◌≡◌, ℕ, Bool, true, List, [], ◌∷◌, nat_lt, Option, Some, None}
 use Rattle.pm_writer.specs.Adds.{contents_from, unsorted}
-use Rattle.pm_contents.specs.Places.{place_in}
-use Rattle.pm_contents.specs.Contents.{Holds}
-use Rattle.tile_hash.specs.Xxh3.{xxh3_64}
+use Rattle.pm_writer.specs.Common.{Holds, place_in, xxh3_64}
 use Rattle.pm_writer.specs.Archive.{ids_of, rising}
 use Rattle.pm_writer.specs.Bounds.{AddsFilled, AllLow, AllSized}
 use Rattle.pm_writer.specs.declared.adds.Adds.{Adds}

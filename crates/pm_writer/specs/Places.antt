@@ -1,15 +1,7 @@
 -- Where the parts of an archive lie, and what it counts.
 use Rattle.std.specs.Prelude.{◌≡◌, ℕ, ◌+◌, Bool, List, [], length, nat_eq, if◌then◌else◌, Option, Some, None, Result, Ok, Err, refl}
-use Rattle.pm_format.specs.Opened.{Opened, opened}
-use Rattle.pm_format.specs.Options.{Options}
-use Rattle.pm_format.specs.Directory.{dir_of}
-use Rattle.pm_format.specs.Header.{head}
-use Rattle.pm_format.specs.Varint.{u64_at}
-use Rattle.pm_format.specs.Vectors.{one_tile}
-use Rattle.pm_format.specs.WellFormed.{header_of}
+use Rattle.pm_writer.specs.Common.{dir_of, head, Header, header_of, one_tile, Opened, opened, Options, PmtError, u64_at}
 use Rattle.pm_format.specs.declared.compression.Compression.TheVariants as compression
-use Rattle.pm_format.specs.declared.error.PmtError.{PmtError}
-use Rattle.pm_format.specs.declared.header.Header.{Header}
 use Rattle.pm_writer.specs.DirectoriesRead.{directories_read, leaves_among, uppers_among}
 use Rattle.pm_writer.specs.Archive.{archive, ids_of, parts_of, rising}
 use Rattle.pm_writer.specs.declared.cutting.Directories.{Directories}

@@ -1,8 +1,7 @@
 -- What a writer that isn't made leaves of the medium that it would have borrowed.
 use Rattle.std.specs.Prelude.{◌≡◌, ◌≢◌, ◌≤◌, ℕ, List, Option, is_some, IfSome, Result}
-use Rattle.pm_format.specs.declared.compression.Compression.{Compression}
+use Rattle.pm_writer.specs.Common.{Compression, PmtError}
 use Rattle.pm_format.specs.declared.compression.Compression.TheVariants as compression
-use Rattle.pm_format.specs.declared.error.PmtError.{PmtError}
 use Rattle.pm_writer.specs.Causes.{CreateCauses}
 use Rattle.pm_writer.specs.Pieces.{IsHidden}
 

@@ -1,6 +1,6 @@
 -- The options of a writer as it keeps them.
 use Rattle.std.specs.Prelude.{ℕ, List, codes, Option, unwrap_or}
-use Rattle.pm_format.specs.Options.{Options}
+use Rattle.pm_writer.specs.Common.{Options}
 use Rattle.pm_writer.specs.declared.settings.Settings.{Settings}
 
 -- the options that these settings and this metadata are

@@ -1,6 +1,6 @@
 -- A writer together with the medium that it borrows.
 use Rattle.std.specs.Prelude.{ℕ, List, Option}
-use Rattle.pm_format.specs.Options.{Options}
+use Rattle.pm_writer.specs.Common.{Options}
 use Rattle.pm_writer.specs.Writing.{Writes}
 use Rattle.pm_writer.specs.declared.state.WriterState.{WriterState}
 use Rattle.pm_writer.specs.declared.stream.PmTilesStreamWriter.{PmTilesStreamWriter}

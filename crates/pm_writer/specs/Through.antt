@@ -1,8 +1,6 @@
 -- A look-up through a level of directories.
 use Rattle.std.specs.Prelude.{◌≡◌, ℕ, ◌+◌, ◌<◌, List, [], ◌∷◌, ◌++◌, length, flat_map, None, MatchOption}
-use Rattle.pm_format.specs.Directory.{Entry, entry, dir_bytes}
-use Rattle.pm_format.specs.Scan.{scan}
-use Rattle.pm_format.specs.WellFormed.{first_id}
+use Rattle.pm_writer.specs.Common.{dir_bytes, Entry, entry, first_id, scan}
 
 -- ids strictly rise
 abbrev pub Rising : List Entry → Type 0

@@ -1,10 +1,6 @@
 -- The tile entries that the bytes of an archive have.
 use Rattle.std.specs.Prelude.{ℕ, zero, suc, List, [], ◌∷◌, flat_map, nat_eq, if◌then◌else◌, Result, Ok, Err}
-use Rattle.pm_format.specs.declared.error.PmtError.{PmtError}
-use Rattle.pm_format.specs.declared.header.Header.{Header}
-use Rattle.pm_format.specs.Directory.{Entry}
-use Rattle.pm_format.specs.LookUp.{leaf_of}
-use Rattle.pm_format.specs.Opened.{Opened, opened}
+use Rattle.pm_writer.specs.Common.{Entry, Header, leaf_of, Opened, opened, PmtError}
 
 -- those of a leaf that is read
 abbrev pub entries_below : (Entry → List Entry) → Result (List Entry) PmtError → List Entry

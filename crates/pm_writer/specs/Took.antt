@@ -1,7 +1,6 @@
 -- What data is taken for, as a writer compares it with what its medium answers: a medium that tells nothing may answer other bytes than were written.
 use Rattle.std.specs.Prelude.{◌≡◌, ◌≢◌, ℕ, List, [], ◌∷◌, length, All, Option, Some, None}
-use Rattle.tile_hash.specs.Xxh3.{xxh3_64}
-use Rattle.pm_contents.specs.Places.{IsBytes}
+use Rattle.pm_writer.specs.Common.{IsBytes, xxh3_64}
 use Rattle.pm_contents.specs.Span.{Stood}
 
 -- the data itself where the medium tells its bytes, and else data of its length and digest, or a mark of its length that no data is equal to

@@ -1,6 +1,6 @@
 -- Ids that were added twice.
 use Rattle.std.specs.Prelude.{ℕ, ◌+◌, ◌-◌, ◌<◌, ◌≤◌, List, [], ◌∷◌, sum_by, nat_le, nat_lt, nat_eq, ◌&&◌, if◌then◌else◌, Option, Some, None}
-use Rattle.pm_format.specs.Directory.{Entry}
+use Rattle.pm_writer.specs.Common.{Entry}
 
 -- how many adds are at an id
 abbrev pub adds_at : List (ℕ × List ℕ) → ℕ → ℕ

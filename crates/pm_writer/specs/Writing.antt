@@ -1,12 +1,9 @@
 -- What a writer has put onto its medium.
 use Rattle.std.specs.Prelude.{◌≡◌, ℕ, ◌+◌, ◌-◌, ◌<◌, ◌^◌, Bool, false, List, [], ◌∷◌, ◌++◌, length, replicate, flat_map, Option, IfSome, vec_len}
-use Rattle.std.specs.Vec.{vec_capacity}
-use Rattle.pm_format.specs.Options.{Options}
+use Rattle.pm_writer.specs.Common.{Finds, Options, vec_capacity, xxh3_64}
 use Rattle.pm_format.specs.declared.compression.Compression.TheVariants as compression
 use Rattle.pm_writer.specs.Adds.{contents_from}
-use Rattle.tile_hash.specs.Xxh3.{xxh3_64}
 use Rattle.pm_writer.specs.Bounds.{OptionsFit}
-use Rattle.pm_contents.specs.Contents.{Finds}
 use Rattle.pm_writer.specs.Means.{Means}
 use Rattle.pm_writer.specs.Pieces.{IsHidden}
 use Rattle.pm_writer.specs.Settings.{options_with}

@@ -1,17 +1,12 @@
 // Adds to an archive that is begun.
 ghost use Rattle.std.specs.Prelude.{◌≡◌, ◌≤◌, ◌<◌, ◌+◌, ◌^◌, ℕ, List, [], ◌∷◌, ◌++◌, false, length, None, Err, IfOk, IfErr, OnOk, IsTrue, IsFalse};
-ghost use Rattle.byte_media.specs.Kept.{KeepsMedium, ReadsOnly};
+ghost use Rattle.pm_writer.specs.Common.{FoundAs, id_of, IsSought, KeepsMedium, MAX_TILE_ID, Options, piece_sought, place_sought, ReadsOnly, xxh3_64};
 ghost use Rattle.pm_writer.specs.Adding.{IsAdded, IsCaused, IsQuiet, IsUnadded, TakenFor, WhereWrites, WritesSome};
-ghost use Rattle.tile_ids.specs.declared.id.TheConstants.{MAX_TILE_ID};
-ghost use Rattle.tile_ids.specs.Hilbert.{id_of};
-ghost use Rattle.pm_format.specs.Options.{Options};
 ghost use Rattle.pm_format.specs.declared.compression.Compression.TheVariants as compression;
 ghost use Rattle.pm_writer.specs.Causes.{AddCauses, failed_after};
 ghost use Rattle.pm_writer.specs.Adds.{contents_from};
-ghost use Rattle.pm_contents.specs.Sought.{FoundAs, IsSought, piece_sought, place_sought};
 ghost use Rattle.pm_writer.specs.Pieces.{PutCauses};
 ghost use Rattle.pm_writer.specs.Took.{Took};
-ghost use Rattle.tile_hash.specs.Xxh3.{xxh3_64};
 ghost use Rattle.pm_writer.specs.Writing.{FilledFits, Writes, has_failed};
 
 use crate::WriterState;

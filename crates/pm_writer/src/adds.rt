@@ -1,21 +1,13 @@
 // The adds so far: their contents once each, and their entries.
 ghost use Rattle.std.specs.Prelude.{◌≡◌, ◌<◌, ◌≤◌, ◌&&◌, ◌+◌, ℕ, List, [], ◌∷◌, ◌++◌, ◌^◌, length, IfSome, IfOk, OnOk, OnErr, IsErrOf, vec_len};
-ghost use Rattle.std.specs.Vec.{vec_capacity};
-ghost use Rattle.byte_media.specs.Kept.{KeepsMedium, ReadsOnly};
+ghost use Rattle.pm_writer.specs.Common.{Finds, found_in, FoundAs, IsAlike, IsSought, IsTold, IsWithin, KeepsMedium, LeavesPiece, MAX_TILE_ID, piece_sought, place_sought, ReadsOnly, Rose};
+ghost use Rattle.pm_writer.specs.Common.{vec_capacity, xxh3_64};
 ghost use Rattle.pm_writer.specs.Adding.{TakenFor};
-ghost use Rattle.base_values.specs.Counts.{Rose};
-ghost use Rattle.tile_ids.specs.declared.id.TheConstants.{MAX_TILE_ID};
-ghost use Rattle.byte_media.specs.Media.{IsWithin};
 ghost use Rattle.pm_writer.specs.Adds.{contents_from, longest_run};
 ghost use Rattle.pm_writer.specs.Archive.{ids_of, rising};
-ghost use Rattle.pm_contents.specs.Contents.{Finds, IsAlike, IsTold};
-ghost use Rattle.pm_contents.specs.Sought.{FoundAs, IsSought, piece_sought, place_sought};
-ghost use Rattle.pm_contents.specs.Places.{found_in};
-ghost use Rattle.pm_contents.specs.Pieces.{LeavesPiece};
 ghost use Rattle.pm_writer.specs.Growing.{grows, put};
 ghost use Rattle.pm_writer.specs.Means.{Means, is_above};
 ghost use Rattle.pm_writer.specs.Took.{AreUnlike};
-ghost use Rattle.tile_hash.specs.Xxh3.{xxh3_64};
 
 use base_values::OutOfMemory;
 use pm_contents::{Contents, Sought};

@@ -1,6 +1,6 @@
 // The options of an archive, before there is a medium.
 ghost use Rattle.std.specs.Prelude.{◌≡◌, ◌≤◌, ◌<◌, ◌^◌, length, Some};
-ghost use Rattle.pm_format.specs.Options.{default_options};
+ghost use Rattle.pm_writer.specs.Common.{default_options};
 ghost use Rattle.pm_writer.specs.Bounds.{OptionsFit};
 ghost use Rattle.pm_writer.specs.Settings.{options_with};
 
@@ -18,7 +18,7 @@ pub struct PmTilesWriter {
 
 impl Model for PmTilesWriter {
     ghost use Rattle.std.specs.Prelude.{◌≤◌};
-    ghost use Rattle.pm_format.specs.Options.{Options};
+    ghost use Rattle.pm_writer.specs.Common.{Options};
     ghost use Rattle.pm_writer.specs.Settings.{metadata_of, options_with};
 
     ghost Value = { Options };

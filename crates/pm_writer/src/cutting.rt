@@ -1,6 +1,6 @@
 // The directories of an archive as bytes: one flat root, or a root that names leaves or upper directories of them.
 ghost use Rattle.std.specs.Prelude.{◌≡◌, ◌≤◌, ◌<◌, ◌^◌, length, map, true, false, IfOk, MatchOption};
-ghost use Rattle.pm_format.specs.Directory.{DirFits, IsWritable, dir_bytes, wide_as};
+ghost use Rattle.pm_writer.specs.Common.{dir_bytes, DirFits, IsWritable, wide_as};
 ghost use Rattle.pm_writer.specs.Bounds.{AllShort};
 ghost use Rattle.pm_writer.specs.Causes.{SizeCauses};
 ghost use Rattle.pm_writer.specs.Cutting.{AreDirectories, IsLaid, IsRooted};

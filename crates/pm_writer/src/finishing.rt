@@ -1,8 +1,7 @@
 // The end of an archive: its directories and its header.
 ghost use Rattle.std.specs.Prelude.{◌≡◌, ◌<◌, ◌^◌, ℕ, List, sum_by, IfSome, IfOk, OnOk};
-ghost use Rattle.byte_media.specs.Kept.{KeepsMedium};
+ghost use Rattle.pm_writer.specs.Common.{KeepsMedium, Options};
 ghost use Rattle.pm_writer.specs.Adding.{WhereWrites, WritesSome};
-ghost use Rattle.pm_format.specs.Options.{Options};
 ghost use Rattle.pm_writer.specs.Archive.{archive};
 ghost use Rattle.pm_writer.specs.Causes.{AssembleCauses, FinishCauses};
 ghost use Rattle.pm_writer.specs.Finishing.{IsAssembled};

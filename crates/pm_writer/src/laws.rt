@@ -1,17 +1,8 @@
 // Laws of archives: facts about their definitions, as contracts of functions that do nothing.
 ghost use Rattle.std.specs.Prelude.{◌≡◌, ◌≢◌, ◌<◌, ◌≤◌, ◌+◌, ◌^◌, ℕ, true, List, [], ◌∷◌, ◌++◌, All, length, get_or, take, sum_by, slice_index, MatchOption, Ok, OnOk, IfOk, Err, false, Some, None};
-ghost use Rattle.std.specs.FinMap.{FinMap, entries, find, from_entries, get, is_sorted};
-ghost use Rattle.std.specs.Ordering.{nat_cmp};
-ghost use Rattle.tile_ids.specs.declared.id.TheConstants.{MAX_TILE_ID};
-ghost use Rattle.pm_format.specs.declared.compression.Compression.{Compression};
+ghost use Rattle.pm_writer.specs.Common.{AllAtMost, archive_map, archive_tile, below_root, Compression, ConsistsOf, data_of, data_part, dir_bytes, DirFits, entries, Entry, find, FinMap, from_entries};
+ghost use Rattle.pm_writer.specs.Common.{get, header_of, hops, is_sorted, MAX_TILE_ID, nat_cmp, opened, Options, PmtError, root_of, scan, WellFormed};
 ghost use Rattle.pm_format.specs.declared.compression.Compression.TheVariants as compression;
-ghost use Rattle.pm_format.specs.declared.error.PmtError.{PmtError};
-ghost use Rattle.pm_format.specs.Directory.{DirFits, Entry, dir_bytes};
-ghost use Rattle.pm_format.specs.LookUp.{archive_map, archive_tile, data_of, hops};
-ghost use Rattle.pm_format.specs.Opened.{opened};
-ghost use Rattle.pm_format.specs.Options.{Options};
-ghost use Rattle.pm_format.specs.Scan.{scan};
-ghost use Rattle.pm_format.specs.WellFormed.{AllAtMost, ConsistsOf, WellFormed, below_root, data_part, header_of, root_of};
 ghost use Rattle.pm_writer.specs.Adds.{entries_of_adds, longest_run, unsorted};
 ghost use Rattle.pm_writer.specs.Archivable.{IsArchivable};
 ghost use Rattle.pm_writer.specs.Archive.{archive, canon, ids_of, parts_of, rising, tile_in};

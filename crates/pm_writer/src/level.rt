@@ -1,6 +1,6 @@
 // Directories one behind another, and an entry for each.
 ghost use Rattle.std.specs.Prelude.{ℕ, List, [], ◌≤◌, ◌<◌, ◌+◌, ◌^◌, ◌↔◌, All, IsTrue, length, map, IfOk, OnOk};
-ghost use Rattle.pm_format.specs.Directory.{Entry, IsWritable};
+ghost use Rattle.pm_writer.specs.Common.{Entry, IsWritable};
 ghost use Rattle.pm_writer.specs.Bounds.{AllShort};
 ghost use Rattle.pm_writer.specs.Cutting.{HasMore, IsCut, IsShort, named};
 ghost use Rattle.pm_writer.specs.Leaves.{pieces};

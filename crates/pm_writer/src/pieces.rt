@@ -1,9 +1,7 @@
 // Pieces that are written to a medium, and the order in which an archive is finished.
 ghost use Rattle.std.specs.Prelude.{◌≡◌, ◌≤◌, ◌<◌, ◌+◌, ◌^◌, length, IfSome, OnOk, IsErrOf};
-ghost use Rattle.byte_media.specs.Kept.{KeepsMedium};
-ghost use Rattle.byte_media.specs.Media.{EndsBelow, IsWithin, written};
+ghost use Rattle.pm_writer.specs.Common.{BothTold, EndsBelow, IsWithin, KeepsMedium, written, WroteFront};
 ghost use Rattle.pm_writer.specs.Pieces.{IsHiddenOr, IsOpenTo, PutCauses, finished};
-ghost use Rattle.pm_contents.specs.Pieces.{BothTold, WroteFront};
 
 use pm_format::{Header, Medium, PmtError, PmtResult, ReadCause, WriteFault};
 

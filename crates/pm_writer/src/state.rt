@@ -1,7 +1,7 @@
 // The state of a writer: all that it owns, beside the medium that it borrows.
 ghost use Rattle.std.specs.Prelude.{◌≡◌, ◌≢◌, ◌≤◌, ◌<◌, ◌+◌, ℕ, List, [], Option, false, IfSome, IfOk, OnOk, is_some};
 ghost use Rattle.pm_format.specs.declared.compression.Compression.TheVariants as compression;
-ghost use Rattle.pm_format.specs.Options.{Options};
+ghost use Rattle.pm_writer.specs.Common.{Options};
 ghost use Rattle.pm_writer.specs.Causes.{CreateCauses};
 ghost use Rattle.pm_writer.specs.Pieces.{IsHidden};
 ghost use Rattle.pm_writer.specs.Writing.{Writes, has_failed, room, zeros};

@@ -1,5 +1,5 @@
 -- The options of a set label directories `None`.
-use Rattle.std.proofs.Common.{◌∙◌, ap, ℕ, Option, Some, None, refl}
+use Rattle.set_conversion.proofs.Common.{ap, None, Option, refl, Some, ℕ, ◌∙◌}
 use Rattle.std.specs.Prelude.{unwrap_or}
 use Rattle.mb_loaded.specs.State.{State}
 use Rattle.pm_format.specs.Options.{Options}

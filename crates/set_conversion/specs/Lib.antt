@@ -1,3 +1,4 @@
+pub mod Common
 pub mod Words
 pub mod Outcome
 pub mod SaidOptions

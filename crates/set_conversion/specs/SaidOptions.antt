@@ -2,7 +2,7 @@
 use Rattle.std.specs.Prelude.{Bool}
 use Rattle.pm_format.specs.Options.{Options, default_options}
 use Rattle.pm_format.specs.declared.tile_type.TileType.TheVariants as types
-use Rattle.tile_bridge.specs.declared.options.ConvertOptions.{ConvertOptions}
+use Rattle.set_conversion.specs.Common.{ConvertOptions}
 
 -- options of an archive of which nothing is known yet; directories are labelled `None`
 abbrev pub plain_options : Options

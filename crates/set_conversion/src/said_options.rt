@@ -21,7 +21,7 @@ pub struct OptionsOfSet {
 }
 
 impl Model for OptionsOfSet {
-    ghost use Rattle.tile_bridge.specs.declared.options.ConvertOptions.{ConvertOptions};
+    ghost use Rattle.set_conversion.specs.Common.{ConvertOptions};
 
     ghost Value = { ConvertOptions };
 

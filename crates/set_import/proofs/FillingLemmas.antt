@@ -1,38 +1,17 @@
 -- A store that is filled from an archive, by what its calls answer.
-use Rattle.std.proofs.Common.{◌≡◌, ◌∙◌, ◌⊎◌, ◌≤◌, ◌+◌, sym, ap, subst, ℕ, Bool, true, false, List, [], Option, Some, None, IfSome, IsErrOf, Result, Ok, Err, inl, inr, refl, arith}
-use Rattle.std.specs.Prelude.{◌↔◌, IfErr}
-use Rattle.std.proofs.lemmas.Bool.{true≢false}
+use Rattle.set_import.proofs.Common.{anything, ap, Archive, arith, Bool, document_edits, editable, Edited, edits_loaded, Err, false, flat_made, fresh, Held, held_edited, held_filled, IfErr, IfSome}
+use Rattle.set_import.proofs.Common.{ImportCauses, ImportError, inl, inr, is_unwritten, IsAnswered, IsAnsweredAs, IsBase, IsBegun, IsErrOf, IsFilled, IsFilledSet, IsLeft, IsLoadedFrom, IsSaidBy}
+use Rattle.set_import.proofs.Common.{IsSound, List, MakesChanges, MbtError, named_still, None, of_store_error, Ok, Option, OutOfMemory, PmtError, refl, Result, SaidAnswers, SaidCauses, Some, started}
+use Rattle.set_import.proofs.Common.{State, state_edited, state_filled, state_of, Store, subst, sym, Tables, TileJson, tiles_put, true, true≢false, ℕ, [], ◌+◌, ◌↔◌, ◌∙◌, ◌≡◌, ◌≤◌, ◌⊎◌}
 use Rattle.base_values.specs.Counts.{Rose}
 use Rattle.mb_edit.proofs.PutLemmas.{put_loaded, put_named, put_state}
-use Rattle.mb_edit.specs.Put.{tiles_put}
 use Rattle.mb_load.proofs.CommittedLemmas.{is_committed}
-use Rattle.mb_load.specs.Begun.{IsBegun}
 use Rattle.mb_load.specs.Committed.{IsCommitted}
-use Rattle.mb_load.specs.Committing.{MakesChanges}
-use Rattle.mb_load.specs.LoadedFrom.{IsLoadedFrom}
-use Rattle.mb_load.specs.StateOf.{state_of}
-use Rattle.mb_loaded.specs.Held.{Edited, Held, fresh}
-use Rattle.mb_loaded.specs.State.{State}
-use Rattle.mb_metadata.proofs.NameEditLemmas.{edits_loaded, named_still}
-use Rattle.mb_metadata.specs.Inserting.{document_edits}
-use Rattle.mb_metadata.specs.NameEdits.{held_edited, state_edited}
-use Rattle.mb_store.specs.Store.{IsSound}
 use Rattle.mb_tables.specs.Refusals as tests
-use Rattle.mb_tables.specs.Table.{Tables}
-use Rattle.mb_tables.specs.declared.error.MbtError.{MbtError}
 use Rattle.mb_tables.specs.declared.error.MbtError.TheVariants as stores
-use Rattle.pm_format.specs.declared.error.PmtError.{PmtError}
 use Rattle.pm_format.specs.declared.error.PmtError.TheVariants as errors
 use Rattle.pm_format.specs.declared.error.ReadCause.TheVariants as causes
-use Rattle.set_import.specs.Filling.{IsAnsweredAs, IsFilled, IsFilledSet, IsLeft, flat_made, held_filled, is_unwritten, started, state_filled}
-use Rattle.set_import.specs.Said.{IsSaidBy, SaidAnswers, SaidCauses}
-use Rattle.tile_import.proofs.AnswerLemmas.{anything}
-use Rattle.tile_import.specs.Import.{ImportCauses, IsAnswered, of_store_error}
 use Rattle.tile_import.specs.Refusals.{is_free}
-use Rattle.tile_import.specs.Storing.{IsBase, editable}
-use Rattle.tile_import.specs.declared.error.ImportError.{ImportError}
-use Rattle.tile_import.specs.declared.error.ImportError.TheVariants.{Archive, Store, OutOfMemory}
-use Rattle.tile_json.specs.declared.document.TileJson.{TileJson}
 
 -- an error that a store may answer in any call
 pub either_free : (e : MbtError) → (e ≡ stores.StoreFault) ⊎ (e ≡ stores.OutOfMemory) → tests.is_free e ≡ true

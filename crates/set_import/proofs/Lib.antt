@@ -1,3 +1,4 @@
+mod Common
 pub mod FillingLemmas
 pub mod NewSetLemmas
 pub mod RoundTripLemmas

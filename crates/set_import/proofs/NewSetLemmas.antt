@@ -1,54 +1,31 @@
 -- A set that is made of an archive where nothing was described.
-use Rattle.std.proofs.Common.{◌≡◌, ◌∙◌, ◌⊎◌, inl, inr, ap, sym, subst, ℕ, Bool, List, [], ◌∷◌, true, false, Option, Some, None, Result, Ok, Err, is_some, length, refl, arith}
-use Rattle.std.specs.Prelude.{AllPairs, IfOk, OnOk, codes, option_and_then, option_map}
-use Rattle.std.specs.FinMap.{empty, get, get-empty}
-use Rattle.std.specs.Ordering.{nat_cmp}
+use Rattle.set_import.proofs.Common.{address, AllPairs, ap, archive_map, arith, begun, Bool, codes, document_edits, editable, empty, Err, false, false≢true, Flat, flat_made, fresh, get, get-empty}
+use Rattle.set_import.proofs.Common.{get-patched, HasTilesOf, Held, IfOk, inl, inr, is_some, IsBase, IsBegun, IsMade, IsSaidBy, IsSound, length, List, MbtError, names_edited, NamesAlgorithm, nat_cmp}
+use Rattle.set_import.proofs.Common.{None, Ok, OnOk, Option, option_and_then, option_map, patched, patched_at, Place, place_cmp, refl, Result, Some, started, started_by, State, state_filled, state_of}
+use Rattle.set_import.proofs.Common.{state_put, subst, sym, Tables, TileJson, TileSet, true, width, with_tables, ℕ, [], ◌∙◌, ◌∷◌, ◌≡◌, ◌⊎◌}
 use Rattle.std.specs.Cmp.Lexicographic.{slice_cmp}
-use Rattle.std.proofs.lemmas.Bool.{false≢true}
 use Rattle.std.proofs.lemmas.List.Elements.{All-nil}
 use Rattle.set_options.proofs.NameLemmas.{algorithm_unsaid}
 use Rattle.set_options.specs.Document.{IsDocumentOf}
 use Rattle.mb_constraints.specs.Algorithm.{algorithm_by, unknown_name}
 use Rattle.mb_constraints.specs.Described.{index_missing, metadata_missing}
-use Rattle.mb_edit.proofs.LawLemmas.{get-patched}
-use Rattle.mb_edit.specs.Patched.{patched, patched_at}
-use Rattle.mb_edit.specs.Put.{state_put}
 use Rattle.mb_load.proofs.EmptyLemmas.{from_empty}
 use Rattle.mb_load.proofs.StateAgain.{state_again}
-use Rattle.mb_load.specs.Begun.{IsBegun, begun}
 use Rattle.mb_load.specs.EmptyTables.{AreEmpty}
 use Rattle.mb_loaded.specs.Empty.{empty_state}
-use Rattle.mb_loaded.specs.Held.{Held, fresh}
-use Rattle.mb_load.specs.LoadedFrom.{NamesAlgorithm}
-use Rattle.mb_load.specs.StateOf.{state_of}
-use Rattle.mb_loaded.specs.State.{State}
 use Rattle.mb_metadata.proofs.ReadBackLemmas.{algorithm_unnamed}
 use Rattle.mb_metadata.proofs.UpdateLemmas.{ok_same}
-use Rattle.mb_metadata.specs.Inserting.{document_edits}
-use Rattle.mb_metadata.specs.NameEdits.{names_edited}
 use Rattle.mb_store.specs.Store as stores
-use Rattle.mb_store.specs.Store.{IsSound, with_tables}
 use Rattle.mb_tables.specs.Described.{is_table, names_apart}
 use Rattle.mb_tables.specs.Detection.{layout_of, patch_type_of}
 use Rattle.mb_tables.specs.Key.{clash}
 use Rattle.mb_tables.specs.Refusals.{then}
 use Rattle.mb_tables.specs.Schema.{set_tables}
-use Rattle.mb_tables.specs.Table.{Tables, width}
-use Rattle.mb_tables.specs.Tiles.{Place, TileSet, place_cmp}
 use Rattle.mb_tables.specs.declared.description.TableDesc.{TableDesc}
-use Rattle.mb_tables.specs.declared.error.MbtError.{MbtError}
-use Rattle.mb_tables.specs.declared.kind.MbtType.TheVariants.{Flat}
 use Rattle.mb_tables.specs.declared.table.TableName.{TableName}
 use Rattle.mb_tables.specs.declared.table.TableName.TheVariants.{Metadata, Tiles}
-use Rattle.pm_format.specs.LookUp.{archive_map}
-use Rattle.set_import.specs.Filling.{IsMade, flat_made, started, started_by, state_filled}
 use Rattle.set_import.specs.NewSet.{IsNewSet}
-use Rattle.set_import.specs.Said.{IsSaidBy}
-use Rattle.mb_lists.specs.Places.{address}
 use Rattle.tile_hash.specs.declared.algorithm.HashAlgorithm.TheVariants.{Md5}
-use Rattle.tile_import.specs.Storing.{IsBase, editable}
-use Rattle.tile_import.specs.Tiles.{HasTilesOf}
-use Rattle.tile_json.specs.declared.document.TileJson.{TileJson}
 
 -- a table that isn't described has no rows
 no_rows : (t : Tables) → IsSound t → t.descriptions ≡ [] → (table : TableName) → t.rows table ≡ []

@@ -1,27 +1,17 @@
 -- The archive of a set into which another one was imported.
-use Rattle.std.proofs.Common.{◌≡◌, ◌∙◌, ◌<◌, ◌≤◌, ℕ, Bool, true, false, nat_le, if◌then◌else◌, is_some, cond, List, [], ◌∷◌, Option, Some, None, Result, Ok, Err, refl, ap, sym, subst, arith}
+use Rattle.set_import.proofs.Common.{address, ap, archive_map, archive_tile, arith, Bool, cond, contains_key, empty, Err, false, filled, FinMap, get, get-empty, get-patched, HasTilesOf, if◌then◌else◌}
+use Rattle.set_import.proofs.Common.{is_solid, is_some, List, nat_cmp, nat_cmp-IsAntisymmetric, nat_le, None, Ok, Option, option_map, patched, patched_at, Place, place_cmp, PmtError, refl, Result}
+use Rattle.set_import.proofs.Common.{same_map, solid, Some, State, state_put, subst, sym, TileSet, true, ℕ, [], ◌<◌, ◌∙◌, ◌∷◌, ◌≡◌, ◌≤◌}
 use Rattle.std.proofs.lemmas.Option.{none-some}
-use Rattle.std.specs.Option.{option_map}
 use Rattle.std.specs.Cmp.{nat_cmp_total}
-use Rattle.std.specs.Ordering.{nat_cmp}
-use Rattle.std.specs.FinMap.{FinMap, contains_key, empty, get, get-empty, nat_cmp-IsAntisymmetric, same_map}
 use Rattle.tile_ids.specs.Hilbert.{pyramid}
 use Rattle.tile_ids.specs.declared.id.TheConstants.{MAX_TILE_ID}
-use Rattle.pm_format.specs.LookUp.{archive_map, archive_tile, filled}
 use Rattle.pm_format.specs.Options.{Options}
-use Rattle.pm_format.specs.declared.error.PmtError.{PmtError}
 use Rattle.pm_writer.specs.Archive.{canon}
-use Rattle.mb_edit.proofs.LawLemmas.{get-patched}
-use Rattle.mb_edit.specs.Patched.{patched, patched_at}
-use Rattle.mb_edit.specs.Put.{state_put}
-use Rattle.mb_loaded.specs.State.{State}
 use Rattle.mb_tables.proofs.TileLemmas.{get-solid}
-use Rattle.mb_tables.specs.Tiles.{Place, TileSet, is_solid, place_cmp, solid}
 use Rattle.tile_bridge.specs.Convert.{HoldsExactly, IsArchiveOf}
-use Rattle.mb_lists.specs.Places.{address}
 use Rattle.tile_import.proofs.PlacingLemmas.{At, place_address, place_on_board}
 use Rattle.tile_import.specs.Putting.{place_of_id}
-use Rattle.tile_import.specs.Tiles.{HasTilesOf}
 
 -- tiles that are put into a set without any
 put_alone : (tiles : TileSet) (p : Place) → get (patched empty tiles) p ≡ patched_at (λ bytes. Some (Some bytes)) (get tiles p) None

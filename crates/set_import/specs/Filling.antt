@@ -2,33 +2,17 @@
 -- document into its metadata; the tables of a flat set are made before
 -- it where nothing is described.
 use Rattle.std.specs.Prelude.{◌≡◌, ◌⊎◌, ℕ, codes, Bool, true, false, List, [], ◌∷◌, Option, Some, IfSome, Result, Ok, Err}
-use Rattle.std.specs.FinMap.{len}
-use Rattle.mb_edit.specs.Put.{state_put, tiles_put}
+use Rattle.set_import.specs.Common.{Answers, Archive, created, document_edits, Flat, HasTilesOf, held_edited, ImportCauses, ImportError, is_edited, IsAnswered, IsPutOver, len, MakesChanges}
+use Rattle.set_import.specs.Common.{OutOfMemory, PmtError, State, state_edited, state_of, state_put, Store, Tables, TileJson, tiles_put, TileSet}
 use Rattle.mb_load.specs.Committed.{IsCommitted}
-use Rattle.mb_load.specs.Committing.{MakesChanges}
-use Rattle.mb_load.specs.StateOf.{state_of}
 use Rattle.mb_loaded.specs.Held.{Held, fresh}
-use Rattle.mb_loaded.specs.State.{State}
-use Rattle.mb_metadata.specs.Inserting.{document_edits}
-use Rattle.mb_metadata.specs.NameEdits.{held_edited, is_edited, state_edited}
-use Rattle.mb_store.specs.Store.{created}
 use Rattle.mb_tables.specs.Schema.{set_tables}
-use Rattle.mb_tables.specs.Table.{Tables}
-use Rattle.mb_tables.specs.Tiles.{TileSet}
 use Rattle.mb_tables.specs.declared.cell.Cell.TheVariants.{Text}
 use Rattle.mb_tables.specs.declared.description.TableDesc.{TableDesc}
 use Rattle.mb_tables.specs.declared.error.MbtError.TheVariants as stores
-use Rattle.mb_tables.specs.declared.kind.MbtType.TheVariants.{Flat}
-use Rattle.pm_format.specs.declared.error.PmtError.{PmtError}
 use Rattle.pm_format.specs.declared.error.PmtError.TheVariants as errors
 use Rattle.set_import.specs.Said.{IsSaidAs, IsSaidBy}
-use Rattle.tile_import.specs.Import.{Answers, ImportCauses, IsAnswered}
-use Rattle.tile_import.specs.PutOver.{IsPutOver}
 use Rattle.tile_import.specs.Refusals.{is_free}
-use Rattle.tile_import.specs.Tiles.{HasTilesOf}
-use Rattle.tile_import.specs.declared.error.ImportError.{ImportError}
-use Rattle.tile_import.specs.declared.error.ImportError.TheVariants.{Archive, Store, OutOfMemory}
-use Rattle.tile_json.specs.declared.document.TileJson.{TileJson}
 
 -- tables, with those of a flat set described too
 abbrev pub flat_made : Tables → Tables

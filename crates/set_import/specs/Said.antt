@@ -3,15 +3,10 @@ use Rattle.std.specs.Prelude.{◌≡◌, ◌⊎◌, ℕ, List, None, Result, Ok,
 use Rattle.std.specs.Str.{IsUtf8}
 use Rattle.set_options.specs.Document.{IsDocumentOf, object_in}
 use Rattle.pm_format.specs.Opened.{Opened, opened}
-use Rattle.pm_format.specs.declared.error.PmtError.{PmtError}
+use Rattle.set_import.specs.Common.{Archive, ArchiveCauses, ImportError, metadata_read, MetadataAnswers, OutOfMemory, PmtError, TileJson}
 use Rattle.pm_format.specs.declared.error.PmtError.TheVariants as errors
 use Rattle.pm_format.specs.declared.error.ReadCause.TheVariants as causes
 use Rattle.pm_format.specs.declared.header.Header.{Header}
-use Rattle.pm_reader.specs.Metadata.{MetadataAnswers, metadata_read}
-use Rattle.tile_import.specs.Import.{ArchiveCauses}
-use Rattle.tile_import.specs.declared.error.ImportError.{ImportError}
-use Rattle.tile_import.specs.declared.error.ImportError.TheVariants.{Archive, OutOfMemory}
-use Rattle.tile_json.specs.declared.document.TileJson.{TileJson}
 
 -- the document of a header and a text, refused exactly where the text is no object of JSON
 abbrev pub IsDocumentBy : Header → List ℕ → Result TileJson PmtError → Type 0

@@ -3,8 +3,7 @@ use Rattle.std.specs.Prelude.{◌≡◌, ℕ, Result, Ok, Err, refl}
 use Rattle.mb_tables.specs.declared.error.MbtError.TheVariants as stores
 use Rattle.pm_format.specs.Status.{archive_status}
 use Rattle.pm_format.specs.declared.status.TheConstants.{DONE, REFUSED, FAULT, OUT_OF_MEMORY}
-use Rattle.tile_import.specs.declared.error.ImportError.{ImportError}
-use Rattle.tile_import.specs.declared.error.ImportError.TheVariants.{Archive, Store, OutOfMemory}
+use Rattle.set_import.specs.Common.{Archive, ImportError, OutOfMemory, Store}
 
 -- a refusal that the failing of the archive or the store brought, and want of memory, have their own
 abbrev pub status_of : Result ℕ ImportError → ℕ

@@ -1,13 +1,7 @@
 // A store that is filled from an archive.
 ghost use Rattle.std.specs.Prelude.{◌≡◌, ◌≤◌, ◌+◌, IfErr, IfOk, IfSome, false, true};
-ghost use Rattle.mb_load.specs.LoadedFrom.{IsLoadedFrom};
-ghost use Rattle.mb_metadata.specs.Inserting.{IsWithoutFloat};
-ghost use Rattle.mb_store.specs.Kept.{Keeps};
-ghost use Rattle.mb_tables.specs.Table.{Tables};
-ghost use Rattle.pm_reader.specs.Reads.{ReadsOnly};
+ghost use Rattle.set_import.specs.Common.{count_in, ImportCauses, IsAnswered, IsLoadedFrom, IsPutAnswer, IsWithoutFloat, Keeps, PutCauses, reads_at_most, ReadsOnly, Tables};
 ghost use Rattle.set_import.specs.Filling.{IsFilled, IsFilledSet, IsLeft, is_unwritten, started};
-ghost use Rattle.tile_import.specs.Import.{ImportCauses, IsAnswered, reads_at_most};
-ghost use Rattle.tile_import.specs.PutOver.{IsPutAnswer, PutCauses, count_in};
 
 use crate::storing::{base_of, store_set};
 use mb_loaded::Loaded;

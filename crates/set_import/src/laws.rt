@@ -1,7 +1,6 @@
 //! Laws of sets that are made of archives.
 ghost use Rattle.std.specs.Prelude.{◌≡◌, ℕ, List, [], Some};
-ghost use Rattle.mb_store.specs.Store.{IsSound};
-ghost use Rattle.mb_tables.specs.Table.{Tables};
+ghost use Rattle.set_import.specs.Common.{IsSound, Tables};
 ghost use Rattle.set_import.specs.Filling.{IsMade};
 ghost use Rattle.set_import.specs.NewSet.{IsNewSet};
 

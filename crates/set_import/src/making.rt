@@ -1,9 +1,7 @@
 // A set that is made of an archive.
 ghost use Rattle.std.specs.Prelude.{◌≡◌, ◌≤◌, ◌+◌, IfErr, IfOk, IfSome, false, true};
-ghost use Rattle.mb_store.specs.Kept.{Keeps};
-ghost use Rattle.pm_reader.specs.Reads.{ReadsOnly};
+ghost use Rattle.set_import.specs.Common.{Keeps, reads_at_most, ReadsOnly};
 ghost use Rattle.set_import.specs.Filling.{IsAnsweredAs, IsLeft, IsMade, MadeCauses, is_unwritten};
-ghost use Rattle.tile_import.specs.Import.{reads_at_most};
 
 use crate::filling::fill;
 use crate::said::said_document;

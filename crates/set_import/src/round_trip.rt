@@ -1,15 +1,11 @@
 //! Laws of archives that are imported and exported again.
 ghost use Rattle.std.specs.Prelude.{◌≡◌, ℕ, List};
-ghost use Rattle.std.specs.FinMap.{FinMap, empty, get};
+ghost use Rattle.set_import.specs.Common.{empty, FinMap, get, HasTilesOf, State, state_put, TileSet};
 ghost use Rattle.std.specs.Ordering.{nat_cmp};
 ghost use Rattle.pm_format.specs.LookUp.{archive_map};
 ghost use Rattle.pm_format.specs.Options.{Options};
 ghost use Rattle.pm_writer.specs.Archive.{canon};
-ghost use Rattle.mb_edit.specs.Put.{state_put};
-ghost use Rattle.mb_loaded.specs.State.{State};
-ghost use Rattle.mb_tables.specs.Tiles.{TileSet};
 ghost use Rattle.tile_bridge.specs.Convert.{HoldsExactly, IsArchiveOf};
-ghost use Rattle.tile_import.specs.Tiles.{HasTilesOf};
 
 /// A set that had no tiles before an archive was imported into it has an archive with the same tiles under the same ids.
 pub fn imported_and_exported()

@@ -1,9 +1,7 @@
 // What an archive says of itself.
 ghost use Rattle.std.specs.Prelude.{◌≤◌, ◌+◌, IfErr, IfOk, IfSome};
-ghost use Rattle.mb_metadata.specs.Inserting.{IsWithoutFloat};
-ghost use Rattle.pm_reader.specs.Metadata.{metadata_read};
+ghost use Rattle.set_import.specs.Common.{GrewBetween, IsWithoutFloat, metadata_read, ReadsOnly};
 ghost use Rattle.pm_reader.specs.Opening.{header_of};
-ghost use Rattle.pm_reader.specs.Reads.{GrewBetween, ReadsOnly};
 ghost use Rattle.pm_reader.specs.TileJson.{DocumentCauses};
 ghost use Rattle.set_import.specs.Said.{DocumentAnswers, IsDocumentBy, SaidAnswers, SaidCauses};
 

@@ -1,10 +1,9 @@
 // The set that an archive goes into, and its commit.
 ghost use Rattle.std.specs.Prelude.{◌≡◌, ◌⊎◌, ◌↔◌, [], IfErr, IfOk, IsTrue, OnErr, OnOk, true};
 ghost use Rattle.mb_load.specs.Begun.{IsBegun};
-ghost use Rattle.mb_load.specs.Committing.{MakesChanges};
-ghost use Rattle.mb_load.specs.LoadedFrom.{IsLoadedFrom};
+ghost use Rattle.set_import.specs.Common.{FaultsCounted, IsLoadedFrom, Keeps, MakesChanges};
 ghost use Rattle.mb_loaded.specs.Changing.{AreChangesOf};
-ghost use Rattle.mb_store.specs.Kept.{FaultsCounted, Keeps, ReadsOnly};
+ghost use Rattle.mb_store.specs.Kept.{ReadsOnly};
 ghost use Rattle.mb_tables.specs.Refusals.{is_free};
 ghost use Rattle.set_import.specs.Filling.{flat_made, started};
 ghost use Rattle.tile_import.specs.Storing.{IsBase, editable, state_in};

@@ -1,7 +1,6 @@
 -- The text of degrees is read as the number that it was made of.
-use Rattle.std.proofs.Common.{◌≡◌, ◌∙◌, ap, sym, subst, ℕ, zero, suc, ◌+◌, ◌-◌, ◌*◌, ◌/◌, ◌%◌, ◌^◌, ◌<◌, ◌≤◌, List, [], ◌∷◌, ◌++◌, Bool, true, false, ◌&&◌, cond, nat_eq, nat_le, nat_lt, Option, Some, None, ℤ, pos, negsuc, length, refl, arith, append_assoc, append-nil, length-append, codes, option_and_then, option_map}
-use Rattle.std.specs.Char.{is_ascii_digit}
-use Rattle.std.specs.Fmt.{decimal}
+use Rattle.set_options.proofs.Common.{ap, append-nil, append_assoc, arith, Bool, codes, cond, decimal, false, is_ascii_digit, length, length-append, List, nat_eq, nat_le, nat_lt, negsuc, None, Option}
+use Rattle.set_options.proofs.Common.{option_and_then, option_map, pos, refl, Some, subst, suc, sym, true, zero, ℕ, ℤ, [], ◌%◌, ◌&&◌, ◌*◌, ◌++◌, ◌+◌, ◌-◌, ◌/◌, ◌<◌, ◌^◌, ◌∙◌, ◌∷◌, ◌≡◌, ◌≤◌}
 use Rattle.std.proofs.lemmas.Bool.Decides.{nat_tests}
 use Rattle.std.proofs.lemmas.Fmt.{decimal_by_steps, decimal_digit, length-decimal-le}
 use Rattle.set_options.specs.DegreesText.{IsWithin, degrees_text, fraction_text, size_text}

@@ -1,7 +1,6 @@
 -- More parts than bounds and a center have.
-use Rattle.std.proofs.Common.{◌≡◌, ◌<◌, ℕ, List, [], ◌∷◌, length, None, refl, arith}
+use Rattle.set_options.proofs.Common.{arith, length, List, None, parted, refl, ℕ, [], ◌<◌, ◌∷◌, ◌≡◌}
 use Rattle.line_words.proofs.PartingLemmas.{some_part}
-use Rattle.line_words.specs.Parting.{parted}
 use Rattle.set_options.specs.Extents.{bounds_of, center_of}
 
 five : (a b c d : List ℕ) (parts : List (List ℕ)) → 0 < length parts → bounds_of (a ∷ b ∷ c ∷ d ∷ parts) ≡ None

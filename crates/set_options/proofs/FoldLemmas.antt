@@ -1,6 +1,5 @@
 -- What is made of the elements of a list, one after another.
-use Rattle.std.proofs.Common.{◌≡◌, ◌∙◌, ap, sym, ℕ, ◌+◌, ◌<◌, ◌≤◌, List, Option, Some, None, fold, length, take, refl}
-use Rattle.std.specs.Prelude.{IfSome, slice_get}
+use Rattle.set_options.proofs.Common.{ap, fold, IfSome, length, List, None, Option, refl, slice_get, Some, sym, take, ℕ, ◌+◌, ◌<◌, ◌∙◌, ◌≡◌, ◌≤◌}
 use Rattle.std.proofs.lemmas.List.{take_all}
 use Rattle.std.proofs.lemmas.List.Sums.{fold_more}
 use Rattle.std.proofs.lemmas.Option.{get_or_from_slice_get, none-some, slice_get-get_or}

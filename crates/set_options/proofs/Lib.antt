@@ -1,3 +1,4 @@
+mod Common
 pub mod ExtentLemmas
 pub mod FoldLemmas
 pub mod StepLemmas

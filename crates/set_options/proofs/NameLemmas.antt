@@ -1,18 +1,10 @@
 -- Documents of archives say no algorithm of digests: a set takes its own.
-use Rattle.std.proofs.Common.{◌≡◌, ◌∙◌, ap, ℕ, List, Bool, true, false, cond, Option, Some, None, nat_cmp, bytes_eq, refl}
-use Rattle.std.specs.Prelude.{codes}
-use Rattle.std.specs.Cmp.Lexicographic.{nat_list_cmp_total, slice_cmp}
-use Rattle.std.specs.FinMap.{empty, get, get-empty, get-insert, insert}
+use Rattle.set_options.proofs.Common.{ap, Bool, bytes_eq, codes, cond, Data, document_of, empty, false, format_of, get, get-empty, get-insert, Header, insert, is_left_out, IsOfMembers, JsonMap, List}
+use Rattle.set_options.proofs.Common.{member, Members, names_in, nat_cmp, nat_list_cmp_total, no_members, None, Option, refl, slice_cmp, Some, string, TileJson, true, with_any, with_name, with_names}
+use Rattle.set_options.proofs.Common.{ℕ, ◌∙◌, ◌≡◌}
 use Rattle.std.proofs.lemmas.Bool.{true≢false}
 use Rattle.std.proofs.lemmas.Map.Text.{is_eq-slice_cmp}
 use Rattle.std.proofs.lemmas.Slice.Eq.{bytes_eq-Decides}
-use Rattle.set_options.specs.Document.{IsOfMembers, document_of, format_of, with_any}
-use Rattle.set_options.specs.Parting.{names_in, with_name, with_names}
-use Rattle.mb_metadata.specs.Inserting.{JsonMap}
-use Rattle.pm_format.specs.declared.header.Header.{Header}
-use Rattle.serde_json.specs.Data.{Data, string, Members, no_members, member}
-use Rattle.set_options.specs.ArchiveJson.{is_left_out}
-use Rattle.tile_json.specs.declared.document.TileJson.{TileJson}
 
 abbrev hash_name : List ℕ
 hash_name = codes "hash_algorithm"

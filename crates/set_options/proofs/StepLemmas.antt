@@ -1,12 +1,8 @@
 -- A tile, and a name, as a set gives it.
-use Rattle.std.proofs.Common.{◌≡◌, ◌∙◌, ap, sym, ℕ, List, Option}
-use Rattle.mb_lists.specs.Entries.{blob_cell, place_at, text_cell}
+use Rattle.set_options.proofs.Common.{ap, blob_cell, Cell, List, Members, Option, place_at, sym, text_cell, with_cell, with_entry, with_tile, ℕ, ◌∙◌, ◌≡◌}
 use Rattle.mb_tables.specs.Tiles.{Place}
-use Rattle.mb_tables.specs.declared.cell.Cell.{Cell}
-use Rattle.serde_json.specs.Data.{Members}
 use Rattle.tile_ids.specs.Coord.{Coord}
-use Rattle.set_options.specs.ArchiveJson.{with_entry, with_name}
-use Rattle.set_options.specs.Facts.{with_cell, with_tile}
+use Rattle.set_options.specs.ArchiveJson.{with_name}
 use Rattle.set_options.specs.declared.facts.TileFacts.{TileFacts}
 
 -- the tile of an entry

@@ -1,19 +1,10 @@
 -- Documents of archives hold no number as a float: all that they have beside their fields are texts.
-use Rattle.std.proofs.Common.{◌≡◌, sym, subst, ℕ, List, [], ◌∷◌, Bool, true, false, cond, Option, Some, None, Ordering, Less, Equal, Greater, refl, arith}
-use Rattle.std.specs.Prelude.{All, codes}
-use Rattle.std.specs.Cmp.Lexicographic.{nat_list_cmp_total, slice_cmp}
-use Rattle.std.specs.FinMap.{empty, entries, entries-insert, insert, len, len-empty, len-entries, put}
+use Rattle.set_options.proofs.Common.{All, arith, Bool, codes, cond, Data, document_of, empty, entries, entries-insert, Equal, false, format_of, Greater, HasNoFloat, Header, insert, is_left_out}
+use Rattle.set_options.proofs.Common.{IsOfMembers, IsWithoutFloat, JsonMap, len, len-empty, len-entries, Less, List, member, Members, names_in, nat_cmp, nat_list_cmp_total, no_members, None, Option}
+use Rattle.set_options.proofs.Common.{Ordering, put, refl, slice_cmp, Some, string, subst, sym, TileJson, true, with_any, with_name, with_names, ℕ, [], ◌∷◌, ◌≡◌}
 use Rattle.std.specs.FinMap.Entries.{by_order}
-use Rattle.std.specs.Ordering.{nat_cmp}
 use Rattle.std.proofs.lemmas.List.Elements.{All-cons, All-head, All-nil, All-tail}
-use Rattle.set_options.specs.Document.{IsOfMembers, document_of, format_of, with_any}
-use Rattle.set_options.specs.Parting.{names_in, with_name, with_names}
-use Rattle.mb_metadata.specs.Inserting.{HasNoFloat, IsWithoutFloat, JsonMap}
-use Rattle.pm_format.specs.declared.header.Header.{Header}
-use Rattle.serde_json.specs.Data.{Data, string, Members, no_members, member}
 use Rattle.serde_json.specs.Written.{has_float}
-use Rattle.set_options.specs.ArchiveJson.{is_left_out}
-use Rattle.tile_json.specs.declared.document.TileJson.{TileJson}
 
 abbrev Entry : Type 0
 Entry = List ℕ × Data

@@ -1,15 +1,7 @@
 -- The metadata of an archive: what a set says of itself, as an object of JSON.
 use Rattle.std.specs.Prelude.{◌≡◌, ◌≤◌, ◌||◌, ℕ, Bool, false, cond, List, Option, Some, None, codes, fold, unwrap_or, refl}
-use Rattle.std.specs.FinMap.{entries}
-use Rattle.std.specs.Option.{option_and_then}
-use Rattle.std.specs.Str.{bytes_eq}
-use Rattle.mb_lists.specs.Entries.{text_cell}
-use Rattle.mb_lists.specs.Metadata.{Names, text_at}
-use Rattle.mb_tables.specs.declared.cell.Cell.{Cell}
-use Rattle.mb_tables.specs.declared.cell.Cell.TheVariants.{Text}
-use Rattle.serde_json.specs.Data.{Data, string, object, Members, no_members, member, put, depth}
-use Rattle.serde_json.specs.Find.{as_object}
-use Rattle.serde_json.specs.Read.{max_depth, read}
+use Rattle.set_options.specs.Common.{as_object, bytes_eq, Cell, Data, depth, entries, max_depth, member, Members, Names, no_members, object, option_and_then, put, read, string, Text, text_at}
+use Rattle.set_options.specs.Common.{text_cell}
 use Rattle.json.specs.Lex.{tokens}
 use Rattle.json.specs.Print.{print}
 use Rattle.serde_json.specs.Written.{compact_text, has_float, IsInOrder}

@@ -1,8 +1,6 @@
 -- Degrees in decimal, as whole ten millionths.
 use Rattle.std.specs.Prelude.{◌≡◌, ℕ, zero, suc, ◌+◌, ◌-◌, ◌*◌, ◌&&◌, ℤ, pos, negsuc, List, [], ◌∷◌, length, nat_eq, nat_le, cond, Option, Some, None, codes, refl}
-use Rattle.std.specs.Char.{is_ascii_digit}
-use Rattle.std.specs.Option.{option_and_then, option_map}
-use Rattle.std.specs.List.{list_all}
+use Rattle.set_options.specs.Common.{is_ascii_digit, list_all, option_and_then, option_map}
 
 -- no more than 180 degrees
 abbrev pub within : ℕ → Option ℕ

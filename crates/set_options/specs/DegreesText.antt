@@ -1,6 +1,6 @@
 -- Ten millionths of a degree as decimals: the shortest text that says them exactly.
 use Rattle.std.specs.Prelude.{◌≡◌, ℕ, zero, suc, ◌≤◌, ◌*◌, ◌/◌, ◌%◌, ◌++◌, ℤ, pos, negsuc, List, [], Some, nat_eq, cond, codes, unsigned_abs, refl}
-use Rattle.std.specs.Fmt.{decimal, digits}
+use Rattle.set_options.specs.Common.{decimal, digits}
 use Rattle.std.specs.Int.{is_negative}
 use Rattle.set_options.specs.Degrees.{degrees_of}
 

@@ -1,18 +1,10 @@
 -- What an archive says of itself, by its header and the text of its metadata, as the document that is put into a set.
 use Rattle.std.specs.Prelude.{◌≡◌, ℕ, true, false, List, [], Option, Some, None, Result, Ok, Err, codes, refl}
-use Rattle.std.specs.FinMap.{insert}
-use Rattle.std.specs.Option.{option_and_then}
+use Rattle.set_options.specs.Common.{as_object, Header, insert, is_bare, JsonMap, Members, object, option_and_then, read, string, TileType}
 use Rattle.set_options.specs.ExtentsText.{bounds_said, center_said}
 use Rattle.set_options.specs.Parting.{kept_in, names_in}
-use Rattle.mb_metadata.specs.Inserting.{JsonMap}
-use Rattle.mb_metadata.specs.SaidJson.{is_bare}
 use Rattle.pm_format.specs.TileJson.{tilejson_of}
-use Rattle.pm_format.specs.declared.header.Header.{Header}
-use Rattle.pm_format.specs.declared.tile_type.TileType.{TileType}
 use Rattle.pm_format.specs.declared.tile_type.TileType.TheVariants as types
-use Rattle.serde_json.specs.Data.{string, object, Members}
-use Rattle.serde_json.specs.Find.{as_object}
-use Rattle.serde_json.specs.Read.{read}
 use Rattle.set_options.specs.ArchiveJson.{IsTextOf}
 use Rattle.set_options.specs.Format.{type_named, type_of}
 use Rattle.tile_json.specs.declared.document.TileJson.{TileJson}

@@ -1,11 +1,7 @@
 -- The bounds and the center that texts of metadata say (MBTiles 1.3).
 use Rattle.std.specs.Prelude.{◌≡◌, ℕ, ◌-◌, ◌&&◌, ℤ, pos, negsuc, ◌+ℤ◌, int_div, Bool, not, List, [], ◌∷◌, length, take, drop, cond, Option, Some, None, codes, refl}
-use Rattle.std.specs.Char.{is_ascii_whitespace}
-use Rattle.std.specs.List.{prefix_len, suffix_len}
-use Rattle.std.specs.Option.{option_and_then}
-use Rattle.std.specs.Ordering.{int_cmp, is_gt, is_lt}
+use Rattle.set_options.specs.Common.{int_cmp, is_ascii_whitespace, is_gt, is_lt, option_and_then, parted, prefix_len, suffix_len}
 use Rattle.line_words.specs.Number.{number_to}
-use Rattle.line_words.specs.Parting.{parted}
 use Rattle.set_options.specs.Degrees.{degrees_of}
 use Rattle.set_options.specs.declared.extents.SetBounds.{SetBounds}
 use Rattle.set_options.specs.declared.extents.SetCenter.{SetCenter}

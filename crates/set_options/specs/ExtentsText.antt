@@ -1,11 +1,9 @@
 -- The bounds and the center of a header, where a set has to say them.
 use Rattle.std.specs.Prelude.{◌≡◌, ℕ, ◌++◌, ◌&&◌, ◌||◌, ℤ, pos, negsuc, Bool, not, cond, nat_eq, List, Option, Some, None, codes, refl}
-use Rattle.std.specs.Fmt.{decimal}
-use Rattle.std.specs.Ordering.{int_cmp, is_eq, is_gt, is_lt}
+use Rattle.set_options.specs.Common.{decimal, Header, int_cmp, is_eq, is_gt, is_lt}
 use Rattle.set_options.specs.DegreesText.{degrees_text}
 use Rattle.pm_format.specs.HeaderDefaults.{default_header}
 use Rattle.pm_format.specs.declared.compression.Compression.TheVariants as compression
-use Rattle.pm_format.specs.declared.header.Header.{Header}
 use Rattle.pm_format.specs.declared.tile_type.TileType.TheVariants as types
 use Rattle.set_options.specs.Extents.{is_latitude, middle_of}
 use Rattle.set_options.specs.declared.extents.SetBounds.{SetBounds}

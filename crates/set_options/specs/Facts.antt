@@ -1,13 +1,9 @@
 -- What the tiles of a set say of an archive: the zooms of those of at least one byte, and how these are compressed.
 use Rattle.std.specs.Prelude.{◌≡◌, ℕ, ◌&&◌, ◌||◌, not, Bool, true, false, cond, nat_eq, min, max, List, [], ◌∷◌, Option, Some, None, fold, refl}
-use Rattle.std.specs.FinMap.{entries}
-use Rattle.mb_lists.specs.Entries.{blob_cell}
+use Rattle.set_options.specs.Common.{Blob, blob_cell, Cell, entries, TileType}
 use Rattle.mb_tables.specs.Tiles.{Place, TileSet}
-use Rattle.mb_tables.specs.declared.cell.Cell.{Cell}
-use Rattle.mb_tables.specs.declared.cell.Cell.TheVariants.{Blob}
 use Rattle.pm_format.specs.declared.compression.Compression.{Compression}
 use Rattle.pm_format.specs.declared.compression.Compression.TheVariants as labels
-use Rattle.pm_format.specs.declared.tile_type.TileType.{TileType}
 use Rattle.pm_format.specs.declared.tile_type.TileType.TheVariants as types
 use Rattle.set_options.specs.declared.facts.TileFacts.{TileFacts}
 

@@ -1,7 +1,6 @@
 -- The type of tiles that a text under the name `format` says.
 use Rattle.std.specs.Prelude.{◌≡◌, ℕ, ◌||◌, Bool, cond, List, Option, Some, None, codes, refl}
-use Rattle.std.specs.Str.{str_eq_ignore_ascii_case}
-use Rattle.pm_format.specs.declared.tile_type.TileType.{TileType}
+use Rattle.set_options.specs.Common.{str_eq_ignore_ascii_case, TileType}
 use Rattle.pm_format.specs.declared.tile_type.TileType.TheVariants as types
 use Rattle.set_options.specs.Extents.{trimmed}
 

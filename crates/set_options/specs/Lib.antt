@@ -1,3 +1,4 @@
+pub mod Common
 pub mod ArchiveJson
 pub mod Degrees
 pub mod Extents

@@ -1,7 +1,6 @@
 -- The options of an archive that a set gives.
 use Rattle.std.specs.Prelude.{◌≡◌, ℕ, pos, List, Option, Some, None, codes, unwrap_or, refl}
-use Rattle.std.specs.Option.{option_and_then}
-use Rattle.mb_lists.specs.Metadata.{text_at}
+use Rattle.set_options.specs.Common.{option_and_then, text_at}
 use Rattle.mb_loaded.specs.State.{State}
 use Rattle.pm_format.specs.Options.{Options, default_options}
 use Rattle.set_options.specs.ArchiveJson.{IsTextOf, archive_data}

@@ -1,8 +1,6 @@
 -- The members of an archive's metadata in two parts: the texts that become names of a set, and what the name `json` keeps.
 use Rattle.std.specs.Prelude.{◌≡◌, ℕ, List, codes, cond, refl}
-use Rattle.std.specs.FinMap.{empty, insert}
-use Rattle.mb_metadata.specs.Inserting.{JsonMap}
-use Rattle.serde_json.specs.Data.{Num, Data, null, boolean, number, string, array, object, Members, no_members, member, put}
+use Rattle.set_options.specs.Common.{array, boolean, Data, empty, insert, JsonMap, member, Members, no_members, null, Num, number, object, put, string}
 use Rattle.set_options.specs.ArchiveJson.{is_left_out}
 
 -- the names with a member more: a text, unless the header says it, or it says nothing of an archive

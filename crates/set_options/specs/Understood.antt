@@ -1,11 +1,7 @@
 -- Whether a row of metadata is in a form that its name asks for.
 use Rattle.std.specs.Prelude.{◌≡◌, ℕ, Bool, true, false, not, is_some, if◌then◌else◌, List, Some, codes, refl}
-use Rattle.std.specs.Option.{option_and_then}
-use Rattle.std.specs.Str.{bytes_eq}
-use Rattle.pm_format.specs.declared.tile_type.TileType.{TileType}
+use Rattle.set_options.specs.Common.{as_object, bytes_eq, option_and_then, read, TileType}
 use Rattle.pm_format.specs.declared.tile_type.TileType.TheVariants as types
-use Rattle.serde_json.specs.Find.{as_object}
-use Rattle.serde_json.specs.Read.{read}
 use Rattle.set_options.specs.Extents.{bounds_in, center_in}
 use Rattle.set_options.specs.Format.{type_named, type_of}
 

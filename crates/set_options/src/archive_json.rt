@@ -1,9 +1,6 @@
 // The metadata of an archive, as an object of JSON.
 ghost use Rattle.std.specs.Prelude.{◌≡◌, codes, IfOk, OnOk, Some, unwrap_or};
-ghost use Rattle.mb_lists.specs.Metadata.{text_at};
-ghost use Rattle.serde_json.specs.Data.{no_members};
-ghost use Rattle.serde_json.specs.Find.{as_object};
-ghost use Rattle.serde_json.specs.View.{members_view, view};
+ghost use Rattle.set_options.specs.Common.{as_object, members_view, no_members, text_at, view};
 ghost use Rattle.set_options.specs.ArchiveJson.{archive_data, archive_members, is_left_out, members_in, with_name, IsTextOf};
 
 use base_values::{OutOfMemory, TextVal};

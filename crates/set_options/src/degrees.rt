@@ -1,7 +1,6 @@
 // Degrees in decimal, as whole ten millionths.
 ghost use Rattle.std.specs.Prelude.{◌≡◌, ◌≤◌, IfSome};
-ghost use Rattle.std.specs.Char.{is_ascii_digit};
-ghost use Rattle.std.specs.List.{list_all};
+ghost use Rattle.set_options.specs.Common.{is_ascii_digit, list_all};
 ghost use Rattle.set_options.specs.Degrees.{behind_point, degrees_of, magnitude, minus, rounded, whole, with_digit, within};
 
 // A number of ten millionths, where it is no more than 180 degrees.

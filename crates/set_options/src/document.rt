@@ -1,12 +1,7 @@
 // The document that an archive says of itself.
 ghost use Rattle.std.specs.Prelude.{◌≡◌, IfOk, IsErrOf, None, OnOk, Some, codes, option_copied, option_map};
-ghost use Rattle.std.specs.FinMap.{insert};
+ghost use Rattle.set_options.specs.Common.{as_object, insert, is_bare, IsWithoutFloat, members_view, object, string, view};
 ghost use Rattle.set_options.specs.Document.{IsAnswered, IsJsonOf, IsOfMembers, document_of, format_of, names_of, object_in, with_any};
-ghost use Rattle.mb_metadata.specs.Inserting.{IsWithoutFloat};
-ghost use Rattle.mb_metadata.specs.SaidJson.{is_bare};
-ghost use Rattle.serde_json.specs.Data.{object, string};
-ghost use Rattle.serde_json.specs.Find.{as_object};
-ghost use Rattle.serde_json.specs.View.{members_view, view};
 ghost use Rattle.set_options.specs.ArchiveJson.{IsTextOf};
 
 use crate::extents_text::{bounds_said, center_said};

@@ -1,6 +1,6 @@
 // The bounds and the center that texts of metadata say.
 ghost use Rattle.std.specs.Prelude.{◌≡◌, ◌∷◌, [], MatchOption};
-ghost use Rattle.line_words.specs.Parting.{parted};
+ghost use Rattle.set_options.specs.Common.{parted};
 ghost use Rattle.set_options.specs.Extents.{bounds_at, bounds_in, bounds_within, center_at, center_in, is_latitude, latitude_of, longitude_of, middle_of, trimmed, zoom_said};
 
 use crate::degrees::degrees_of;

@@ -1,7 +1,6 @@
 // The options of an archive that a set gives.
 ghost use Rattle.std.specs.Prelude.{◌≡◌, codes, IfOk};
-ghost use Rattle.std.specs.Option.{option_and_then};
-ghost use Rattle.mb_lists.specs.Metadata.{text_at};
+ghost use Rattle.set_options.specs.Common.{option_and_then, text_at};
 ghost use Rattle.set_options.specs.Extents.{bounds_in, center_in};
 ghost use Rattle.set_options.specs.Format.{type_of};
 ghost use Rattle.set_options.specs.OptionsOfSet.{AreOptionsOfSet, IsSaidBy, unsaid_center, with_bounds, with_center, with_center_zoom, writer_of};

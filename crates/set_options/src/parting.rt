@@ -1,8 +1,7 @@
 // The members of an archive's metadata in two parts.
 ghost use Rattle.std.specs.Prelude.{◌≡◌, IfOk, OnOk, string_bytes};
 ghost use Rattle.set_options.specs.Parting.{kept_in, names_in, with_kept, with_name};
-ghost use Rattle.serde_json.specs.Data.{string};
-ghost use Rattle.serde_json.specs.View.{members_view, view};
+ghost use Rattle.set_options.specs.Common.{members_view, string, view};
 
 use crate::is_left_out;
 use base_values::{OutOfMemory, TextVal};

@@ -1,9 +1,6 @@
 // Whether a row of metadata is in a form that its name asks for.
 ghost use Rattle.std.specs.Prelude.{◌≡◌, is_some, IfOk, Some};
-ghost use Rattle.std.specs.Option.{option_and_then};
-ghost use Rattle.serde_json.specs.Find.{as_object};
-ghost use Rattle.serde_json.specs.Read.{read};
-ghost use Rattle.serde_json.specs.View.{view};
+ghost use Rattle.set_options.specs.Common.{as_object, option_and_then, read, view};
 ghost use Rattle.set_options.specs.Format.{type_of};
 ghost use Rattle.set_options.specs.Understood.{is_known, is_understood};
 

@@ -1,27 +1,12 @@
 -- The adds of a set's tiles.
-use Rattle.std.proofs.Common.{◌≡◌, ℕ, suc, ◌<◌, ◌≤◌, ◌≢◌, inl, inr, Bool, true, false, cond, ◌&&◌, filter_map, List, [], ◌∷◌, length, get_or, map, All, Option, Some, None, refl, sym, subst, ◌∙◌, ap, arith}
-use Rattle.std.proofs.lemmas.Bool.{and_parts, and_from}
-use Rattle.std.proofs.lemmas.Bool.Decides.{nat_tests}
-use Rattle.std.proofs.lemmas.List.Elements.{All-cons, All-nil}
-use Rattle.std.proofs.lemmas.List.Sorted.{All-permutation, IsPermutation-map}
+use Rattle.tile_bridge.proofs.Common.{Add, add_of, address, address_within, All, All-cons, All-nil, All-permutation, AllByRecursion, and_from, and_parts, ap, archive_map, AreAddsOf, arith, Bool}
+use Rattle.tile_bridge.proofs.Common.{bytes_at, cond, cons_option, content_at, entries, entries_sorted, eq_by_cmp, eq_by_cmp_equiv, Equal, false, filter_map, get, get-entries, get_or, Greater}
+use Rattle.tile_bridge.proofs.Common.{HoldsExactly, inl, inr, InRange, is_eq, is_lt, is_solid, is_sorted, IsDistinct, IsNonDecreasingBy, IsPermutation, IsPermutation-map, length, Less, List, map}
+use Rattle.tile_bridge.proofs.Common.{MAX_TILE_ID, nat_cmp, nat_cmp-IsAntisymmetric, nat_cmp_total, nat_tests, None, one_tie, Option, Place, place_cmp, Ranged, refl, same_place, shown, solid, Some}
+use Rattle.tile_bridge.proofs.Common.{subst, suc, sym, TileSet, true, ℕ, [], ◌&&◌, ◌<◌, ◌∙◌, ◌∷◌, ◌≡◌, ◌≢◌, ◌≤◌}
 use Rattle.std.proofs.lemmas.Map.Keys.{IsDistinct-cons, IsDistinct-head, IsDistinct-tail, IsDistinct-IsPermutation}
-use Rattle.std.specs.List.{AllByRecursion, IsDistinct, cons_option}
-use Rattle.std.specs.List.Sorted.{IsNonDecreasingBy, IsPermutation}
-use Rattle.std.specs.declared.cmp.Ordering.TheVariants.{Less, Equal, Greater}
-use Rattle.std.specs.Ordering.{nat_cmp, is_lt, is_eq, eq_by_cmp}
-use Rattle.std.specs.Cmp.{eq_by_cmp_equiv, nat_cmp_total}
-use Rattle.std.specs.FinMap.{entries, entries_sorted, get, get-entries, is_sorted, nat_cmp-IsAntisymmetric}
-use Rattle.tile_ids.specs.declared.id.TheConstants.{MAX_TILE_ID}
 use Rattle.mb_tables.proofs.TileLemmas.{places_total, get-solid}
-use Rattle.mb_tables.specs.Tiles.{Place, TileSet, is_solid, place_cmp, solid}
-use Rattle.pm_format.specs.LookUp.{archive_map}
-use Rattle.tile_bridge.specs.Adds.{AreAddsOf, Ranged, add_of, bytes_at, content_at, shown}
-use Rattle.mb_lists.specs.Places.{InRange, address}
-use Rattle.tile_bridge.specs.Convert.{HoldsExactly}
-use Rattle.tile_bridge.specs.declared.adds.Add.{Add}
 use Rattle.tile_bridge.proofs.Members.{Has, find_has, has_back, has_find, has_permuted, sorted_true}
-use Rattle.mb_lists.proofs.AddressLemmas.{address_within, one_tie}
-use Rattle.mb_load.proofs.EditedFrom.{same_place}
 
 abbrev pub Pairs : Type 0
 Pairs = List (Place × Option (List ℕ))

@@ -1,28 +1,14 @@
 -- What a base holds after its patches.
-use Rattle.std.proofs.Common.{◌≡◌, ◌∙◌, ap, sym, subst, refl, arith, ℕ, suc, nat_eq, length, Bool, true, false, cond, ◌||◌, not, List, [], ◌∷◌, filter, Option, Some, None, Ok, inr, is_some}
-use Rattle.std.proofs.lemmas.Bool.Decides.{nat_tests}
-use Rattle.std.specs.Prelude.{option_and_then}
-use Rattle.std.specs.Option.{option_map_or}
-use Rattle.std.specs.FinMap.{contains_key, empty, get, get-empty}
+use Rattle.tile_bridge.proofs.Common.{all_held, all_patched, ap, AreStatesOf, AreToldBy, arith, at_place, Bool, Cell, cond, contains_key, ConvertOptions, empty, false, filter, fresh, get, get-empty}
+use Rattle.tile_bridge.proofs.Common.{Held, inr, is_patched_at, is_patched_row, is_some, IsBaseAfter, IsBaseOf, IsBaseWith, IsHeldFrom, IsLoadedFrom, IsPatched, IsStored, length, List, NamesAlgorithm}
+use Rattle.tile_bridge.proofs.Common.{nat_eq, nat_tests, None, not, Ok, Option, option_and_then, option_map_or, outcome, Place, place_cmp, place_of, refl, Some, stands_in, State, state_of, subst, suc}
+use Rattle.tile_bridge.proofs.Common.{sym, Tables, tested, then, true, ℕ, [], ◌||◌, ◌∙◌, ◌∷◌, ◌≡◌}
 use Rattle.mb_edit.proofs.FrameLemmas.{null_names_stay, tile_rows_stay}
-use Rattle.mb_edit.specs.Applying.{stands_in}
 use Rattle.mb_load.specs.Committing.{MakesChanges}
 use Rattle.mb_load.proofs.CommittedLemmas.{is_committed}
 use Rattle.mb_load.specs.Committed.{IsCommitted}
-use Rattle.mb_loaded.specs.Held.{Held, fresh}
-use Rattle.mb_load.specs.LoadedFrom.{IsLoadedFrom, NamesAlgorithm}
-use Rattle.mb_loaded.specs.State.{State}
-use Rattle.mb_load.specs.StateOf.{state_of}
 use Rattle.mb_store.specs.Store.{IsSound}
 use Rattle.mb_tables.specs.Kind.{tile_table}
-use Rattle.mb_tables.specs.Table.{Tables}
-use Rattle.mb_tables.specs.Tiles.{Place, place_cmp, place_of}
-use Rattle.mb_tables.specs.declared.cell.Cell.{Cell}
-use Rattle.tile_bridge.specs.Base.{IsBaseAfter}
-use Rattle.tile_bridge.specs.Leaves.{IsBaseOf}
-use Rattle.tile_bridge.specs.Outcome.{all_patched, at_place, outcome, tested, then}
-use Rattle.tile_bridge.specs.Patching.{AreStatesOf, AreToldBy, IsBaseWith, IsHeldFrom, IsPatched, IsStored, all_held, is_patched_at, is_patched_row}
-use Rattle.tile_bridge.specs.declared.options.ConvertOptions.{ConvertOptions}
 use Rattle.tile_bridge.proofs.PatchedRows.{AreReferenced, IsRowPut, all_edited, all_put, all_referenced, has_one, places_on_board, same_places}
 
 -- tables after the commit of patches

@@ -1,35 +1,13 @@
 -- What a conversion owes: the archive of the adds is that of the set.
-use Rattle.std.proofs.Common.{◌≡◌, inl, inr, ℕ, ◌<◌, ◌^◌, true, false, List, [], ◌∷◌, length, map, Option, Some, None, is_some, IfSome, Ok, Err, refl, sym, subst, ◌∙◌, ap, arith}
-use Rattle.std.specs.Cmp.{nat_cmp_total}
-use Rattle.std.specs.Ordering.{nat_cmp}
-use Rattle.std.specs.FinMap.{find, from_entries, get, get-from_entries}
-use Rattle.tile_ids.specs.Coord.{Coord}
-use Rattle.tile_ids.specs.Hilbert.{id_of}
-use Rattle.mb_tables.specs.Tiles.{TileSet}
-use Rattle.pm_format.specs.LookUp.{archive_map}
-use Rattle.pm_format.specs.Options.{Options}
+use Rattle.tile_bridge.proofs.Common.{ap, archive, archive_map, AreAddsOf, AreFew, arith, CanBeWritten, ConvertError, ConvertReport, Coord, Err, false, find, from_entries, get, get-from_entries}
+use Rattle.tile_bridge.proofs.Common.{id_of, IfSome, inl, inr, is_some, IsArchiveOf, IsConverted, IsHiddenOr, IsHindered, length, List, map, nat_cmp, nat_cmp_total, None, of_read_error, Ok, Option}
+use Rattle.tile_bridge.proofs.Common.{Options, OptionsFit, overflows, places_of, places_read, PmtError, ReadBackCauses, refl, SetCauses, SetLeaves, ShowsNoPart, Some, sorted_archivable, sorted_formed}
+use Rattle.tile_bridge.proofs.Common.{sorted_map, subst, sym, TileSet, told_themselves, TookAll, true, WellFormed, ℕ, [], ◌<◌, ◌^◌, ◌∙◌, ◌∷◌, ◌≡◌}
 use Rattle.pm_writer.proofs.Canonical.{canon_is}
 use Rattle.pm_writer.proofs.PlacesRead.{places_are}
-use Rattle.pm_writer.proofs.Sorted.{sorted_archivable, sorted_formed, sorted_map}
-use Rattle.pm_writer.proofs.Took.{told_themselves}
 use Rattle.pm_writer.specs.Archivable.{IsArchivable}
-use Rattle.pm_writer.specs.Bounds.{OptionsFit}
-use Rattle.pm_writer.specs.Few.{AreFew}
-use Rattle.pm_writer.specs.Archive.{archive}
-use Rattle.pm_writer.specs.Pieces.{IsHiddenOr}
-use Rattle.pm_writer.specs.Places.{places_of, places_read}
-use Rattle.pm_writer.specs.Took.{TookAll}
-use Rattle.pm_format.specs.WellFormed.{WellFormed}
 use Rattle.pm_format.specs.declared.error.ReadCause.TheVariants as causes
-use Rattle.tile_bridge.specs.Adds.{AreAddsOf}
-use Rattle.tile_bridge.specs.Convert.{IsArchiveOf, IsConverted, SetCauses, SetLeaves, ShowsNoPart}
-use Rattle.tile_bridge.specs.Outcome.{overflows}
-use Rattle.tile_bridge.specs.ReadingBack.{IsHindered, ReadBackCauses, of_read_error}
-use Rattle.tile_bridge.specs.Writing.{CanBeWritten}
-use Rattle.pm_format.specs.declared.error.PmtError.{PmtError}
 use Rattle.pm_format.specs.declared.error.PmtError.TheVariants as errors
-use Rattle.tile_bridge.specs.declared.error.ConvertError.{ConvertError}
-use Rattle.tile_bridge.specs.declared.report.ConvertReport.{ConvertReport}
 use Rattle.tile_bridge.proofs.AddLemmas.{holds_adds}
 
 -- a fact on told bytes, after a call that changed nothing told

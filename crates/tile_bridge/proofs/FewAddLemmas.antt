@@ -1,20 +1,7 @@
 -- The adds of a set that doesn't overflow are few and short.
-use Rattle.std.proofs.Common.{◌≡◌, ℕ, suc, ◌+◌, ◌<◌, ◌≤◌, ◌^◌, Bool, true, false, ◌||◌, List, [], ◌∷◌, length, sum_by, All, nat_le, Option, Some, None, refl, sym, ◌∙◌, ap, arith}
-use Rattle.std.proofs.lemmas.Bool.Decides.{nat_tests}
-use Rattle.std.proofs.lemmas.List.Elements.{All-cons, All-head, All-nil, All-tail}
-use Rattle.std.proofs.lemmas.List.Sorted.{All-permutation, length_permutation, sum_by-IsPermutation}
-use Rattle.std.proofs.lemmas.List.Sums.{sum_by-cons}
-use Rattle.std.specs.List.{cons_option, list_any}
-use Rattle.std.specs.List.Sorted.{IsPermutation}
-use Rattle.std.specs.FinMap.{entries}
-use Rattle.mb_loaded.specs.Aggregate.{bytes_of}
-use Rattle.mb_tables.specs.Tiles.{Place, TileSet}
-use Rattle.pm_format.specs.Options.{Options}
-use Rattle.pm_writer.specs.Bounds.{AllSized}
-use Rattle.pm_writer.specs.Few.{AreFew}
-use Rattle.tile_bridge.specs.Adds.{add_of}
-use Rattle.mb_lists.specs.Places.{address}
-use Rattle.tile_bridge.specs.Outcome.{overflows}
+use Rattle.tile_bridge.proofs.Common.{add_of, address, All, All-cons, All-head, All-nil, All-permutation, All-tail, AllSized, ap, AreFew, arith, Bool, bytes_of, cons_option, entries, false}
+use Rattle.tile_bridge.proofs.Common.{IsPermutation, length, length_permutation, List, list_any, nat_le, nat_tests, None, Option, Options, overflows, Place, refl, Some, suc, sum_by, sum_by-cons}
+use Rattle.tile_bridge.proofs.Common.{sum_by-IsPermutation, sym, TileSet, true, ℕ, [], ◌+◌, ◌<◌, ◌^◌, ◌||◌, ◌∙◌, ◌∷◌, ◌≡◌, ◌≤◌}
 use Rattle.tile_bridge.proofs.AddLemmas.{Pairs, added}
 
 or_parts : (a b : Bool) → a || b ≡ false → (a ≡ false) × (b ≡ false)

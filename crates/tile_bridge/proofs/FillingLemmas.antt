@@ -1,24 +1,10 @@
 -- The tiles of a set, one after another.
-use Rattle.std.proofs.lemmas.Bool.Decides.{nat_tests}
-use Rattle.std.proofs.Common.{◌≡◌, ℕ, true, false, nat_eq, zero, suc, ◌+◌, ◌<◌, ◌≤◌, ◌≢◌, List, [], ◌∷◌, ◌++◌, append-nil, length, take, Option, Some, None, IfSome, refl, sym, subst, ◌∙◌, ap, arith}
-use Rattle.std.proofs.lemmas.List.{map-append, take_all, take_more}
-use Rattle.std.proofs.lemmas.List.Elements.{All-append, All-cons, All-nil, filter_map-append}
-use Rattle.std.proofs.lemmas.Option.{get_or_from_slice_get}
-use Rattle.std.specs.Prelude.{slice_get, unwrap_or}
-use Rattle.std.specs.List.{cons_option}
-use Rattle.std.specs.Option.{option_map}
-use Rattle.std.specs.FinMap.{entries, len, len-entries}
-use Rattle.tile_ids.specs.Coord.{Coord, IsCoord}
-use Rattle.tile_ids.specs.Hilbert.{id_of}
-use Rattle.mb_loaded.specs.Aggregate.{bytes_of}
+use Rattle.tile_bridge.proofs.Common.{Add, add_of, address, All-append, All-cons, All-nil, ap, append-nil, AreFilled, AreWithin, arith, bytes_at, bytes_of, Cell, cell_bytes, cons_option, Coord}
+use Rattle.tile_bridge.proofs.Common.{coord_address, coord_placed, entries, false, filter_map-append, get_or_from_slice_get, id_of, IfSome, InRange, IsCoord, len, len-entries, length, List}
+use Rattle.tile_bridge.proofs.Common.{map-append, nat_eq, nat_tests, None, Option, option_map, Place, Ranged, refl, shown, slice_get, Some, subst, suc, sym, take, take_all, take_more, TileSet, true}
+use Rattle.tile_bridge.proofs.Common.{unwrap_or, zero, ℕ, [], ◌++◌, ◌+◌, ◌<◌, ◌∙◌, ◌∷◌, ◌≡◌, ◌≢◌, ◌≤◌}
 use Rattle.mb_lists.specs.Entries.{blob_cell, place_at}
-use Rattle.mb_tables.specs.Tiles.{Place, TileSet}
-use Rattle.mb_tables.specs.declared.cell.Cell.{Cell}
-use Rattle.tile_bridge.specs.Adds.{AreFilled, AreWithin, Ranged, add_of, bytes_at, cell_bytes, shown}
-use Rattle.mb_lists.specs.Places.{InRange, address}
-use Rattle.tile_bridge.specs.declared.adds.Add.{Add}
 use Rattle.tile_bridge.proofs.AddLemmas.{Pairs, added}
-use Rattle.mb_lists.proofs.AddressLemmas.{coord_address, coord_placed}
 
 -- what a tile's cell has
 cell_has : (c : Option (List ℕ)) (cell : Cell) → blob_cell c ≡ cell → cell_bytes cell ≡ bytes_of c

@@ -1,25 +1,11 @@
 -- Patches one after another.
-use Rattle.std.proofs.Common.{◌≡◌, ◌∙◌, ap, sym, subst, refl, arith, ℕ, suc, zero, ◌+◌, ◌<◌, ◌≤◌, Bool, true, false, cond, List, [], ◌∷◌, ◌++◌, drop, get_or, length, map, set, take, Option, Some, None, Result, Ok, Err, IfErr, IfSome, IsErrAnd}
+use Rattle.tile_bridge.proofs.Common.{All-get_or, All-set, all_held, all_patched, and_parts, ap, AreOnlyRead, AreToldBy, arith, at_place, Bool, cond, ConvertError, drop, drop_all, drop_more}
+use Rattle.tile_bridge.proofs.Common.{due_patch, due_patches, Err, false, get_or, get_or-map, get_or-set_same, HasFailed, Held, held_patched, IfErr, IfSome, IndexEntryOverflow, IsDue, IsErrAnd}
+use Rattle.tile_bridge.proofs.Common.{IsLoadedFrom, IsPatchedBy, IsPatchedByAll, IsRefused, length, length-map, length-set, List, list_all, map, map-append, map-set, NamesAlgorithm, None, NoneFell}
+use Rattle.tile_bridge.proofs.Common.{Ok, one_patched, Option, OutOfMemory, refl, Refuses, Result, Rose, RoseAt, set, slice_index, Some, State, state_of, step, Store, StoreFault, subst, suc, sym}
+use Rattle.tile_bridge.proofs.Common.{Tables, take, take_all, take_more, then, true, zero, ℕ, [], ◌++◌, ◌+◌, ◌<◌, ◌∙◌, ◌∷◌, ◌≡◌, ◌≤◌}
 use Rattle.std.proofs.Math.Seq.{map-set_same}
-use Rattle.std.proofs.lemmas.Bool.{and_parts}
-use Rattle.std.proofs.lemmas.List.{drop_all, drop_more, get_or-map, get_or-set_same, length-map, length-set, map-append, map-set, take_all, take_more}
-use Rattle.std.proofs.lemmas.List.Elements.{All-get_or, All-set}
-use Rattle.std.specs.Prelude.{slice_index}
-use Rattle.std.specs.List.{list_all}
-use Rattle.base_values.specs.Counts.{Rose}
-use Rattle.mb_edit.specs.HeldPatched.{held_patched}
-use Rattle.mb_edit.specs.Step.{step}
-use Rattle.mb_loaded.specs.Held.{Held}
-use Rattle.mb_load.specs.LoadedFrom.{IsLoadedFrom, NamesAlgorithm}
-use Rattle.mb_loaded.specs.State.{State}
-use Rattle.mb_load.specs.StateOf.{state_of}
-use Rattle.mb_tables.specs.Table.{Tables}
 use Rattle.mb_store.specs.Kept.{ReadsOnly}
-use Rattle.tile_bridge.specs.Outcome.{all_patched, at_place, one_patched, then}
-use Rattle.tile_bridge.specs.Patching.{AreToldBy, IsPatchedBy, IsPatchedByAll, all_held}
-use Rattle.tile_bridge.specs.Stores.{AreOnlyRead, HasFailed, IsDue, IsRefused, NoneFell, Refuses, RoseAt, due_patch, due_patches}
-use Rattle.tile_bridge.specs.declared.error.ConvertError.{ConvertError}
-use Rattle.tile_bridge.specs.declared.error.ConvertError.TheVariants.{IndexEntryOverflow, OutOfMemory, Store, StoreFault}
 
 -- all of these tell
 abbrev pub AllTell : List Bool → Type 0

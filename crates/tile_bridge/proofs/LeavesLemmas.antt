@@ -1,19 +1,8 @@
 -- What a conversion leaves, and what that says where the options are its caller's, whatever the set.
-use Rattle.std.proofs.Common.{◌≡◌, sym, subst, refl, inl, inr, ℕ, Bool, true, List, Option, Some, None, IfOk, IfSome, Result, Ok, Err}
-use Rattle.tile_ids.specs.Coord.{Coord}
-use Rattle.mb_loaded.specs.Aggregate.{aggregate}
-use Rattle.mb_loaded.specs.State.{State}
-use Rattle.mb_tables.specs.Table.{Tables}
-use Rattle.pm_format.specs.Options.{Options}
+use Rattle.tile_bridge.proofs.Common.{aggregate, BaseLeaves, Bool, ConvertCauses, ConvertError, ConvertLeaves, ConvertOptions, ConvertReport, Coord, Err, HasAggregate, HasPlaces, IfOk, IfSome, inl}
+use Rattle.tile_bridge.proofs.Common.{inr, IsBaseOf, IsConverted, IsDue, IsEmpty, IsOfSet, IsUntouched, Leaves, LeavesPart, List, MediumFault, None, Ok, Option, Options, OutOfMemory, ReadBack, refl}
+use Rattle.tile_bridge.proofs.Common.{Result, SetCauses, SetLeaves, Some, State, subst, sym, Tables, true, ℕ, ◌≡◌}
 use Rattle.tile_bridge.proofs.OutcomeLemmas.{part_same, same_both, set_leaves, untold}
-use Rattle.tile_bridge.specs.Base.{BaseLeaves}
-use Rattle.tile_bridge.specs.Convert.{ConvertCauses, ConvertLeaves, HasAggregate, HasPlaces, IsConverted, IsEmpty, LeavesPart, SetCauses, SetLeaves}
-use Rattle.tile_bridge.specs.Leaves.{IsBaseOf, IsOfSet, IsUntouched, Leaves}
-use Rattle.tile_bridge.specs.Stores.{IsDue}
-use Rattle.tile_bridge.specs.declared.error.ConvertError.{ConvertError}
-use Rattle.tile_bridge.specs.declared.error.ConvertError.TheVariants.{MediumFault, OutOfMemory, ReadBack}
-use Rattle.tile_bridge.specs.declared.options.ConvertOptions.{ConvertOptions}
-use Rattle.tile_bridge.specs.declared.report.ConvertReport.{ConvertReport}
 
 module _ (gives : State → Options → Type 0) (due : Option (Result State ConvertError)) (o : ConvertOptions) (base_tells : Bool) (tells : List Bool) (told : List Tables) (coords : List Coord)
     (r : Result ConvertReport ConvertError) (old mid new : Option (List ℕ)) (base base_now : Tables) where

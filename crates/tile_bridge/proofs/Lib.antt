@@ -1,3 +1,4 @@
+mod Common
 pub mod AddLemmas
 pub mod BaseLemmas
 pub mod ConvertLemmas

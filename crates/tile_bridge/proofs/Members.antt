@@ -1,14 +1,8 @@
 -- What a list of entries has, and what is found in it.
-use Rattle.std.proofs.Common.{◌≡◌, ℕ, zero, suc, ◌<◌, ◌⊎◌, inl, inr, Bool, true, false, cond, ◌&&◌, List, [], ◌∷◌, length, get_or, Some, T, refl, sym, ◌∙◌, ap, arith}
-use Rattle.std.proofs.lemmas.Bool.{and_parts}
-use Rattle.std.proofs.lemmas.List.Sorted.{Contains-permutation, IsPermutation-sym}
+use Rattle.tile_bridge.proofs.Common.{and_parts, ap, arith, Bool, cond, Contains, Contains-permutation, eq_by_cmp, Equal, false, find, get_or, Greater, inl, inr, is_eq, is_lt, is_sorted}
+use Rattle.tile_bridge.proofs.Common.{IsPermutation, IsPermutation-sym, IsTotalOrder, length, Less, List, ordering_reverse, refl, Some, suc, sym, T, tied_itself, true, zero, ℕ, [], ◌&&◌, ◌<◌, ◌∙◌}
+use Rattle.tile_bridge.proofs.Common.{◌∷◌, ◌≡◌, ◌⊎◌}
 use Rattle.std.specs.declared.cmp.Ordering.{Ordering}
-use Rattle.std.specs.declared.cmp.Ordering.TheVariants.{Less, Equal, Greater}
-use Rattle.std.specs.Ordering.{is_lt, is_eq, eq_by_cmp, ordering_reverse}
-use Rattle.std.specs.Cmp.{IsTotalOrder, tied_itself}
-use Rattle.std.specs.List.{Contains}
-use Rattle.std.specs.List.Sorted.{IsPermutation}
-use Rattle.std.specs.FinMap.{find, is_sorted}
 use Rattle.mb_lists.proofs.Items.{equal_of}
 
 abbrev pub Has : {X : Type 0} → X → List X → Type 0

@@ -1,15 +1,8 @@
 -- What a conversion answers and leaves, by what is due.
-use Rattle.std.proofs.Common.{◌≡◌, inl, inr, ℕ, List, [], ◌∷◌, Option, Some, None, IfSome, Result, Ok, Err, IsErrAnd, refl, sym, subst, ap}
-use Rattle.std.specs.Prelude.{IsOk, is_ok}
-use Rattle.tile_ids.specs.Coord.{Coord}
-use Rattle.mb_loaded.specs.State.{State}
+use Rattle.tile_bridge.proofs.Common.{ap, ConvertCauses, ConvertError, ConvertLeaves, ConvertReport, Coord, Err, IfSome, IndexEntryOverflow, inl, inr, is_ok, IsDue, IsEmpty, IsErrAnd, IsOk, IsPlain}
+use Rattle.tile_bridge.proofs.Common.{IsStoreError, LeavesPart, List, MediumFault, None, Ok, Option, Options, OutOfMemory, ReadBack, refl, Refuses, Result, SetCauses, SetLeaves, ShowsNoPart, Some}
+use Rattle.tile_bridge.proofs.Common.{State, Store, StoreFault, subst, sym, ℕ, [], ◌∷◌, ◌≡◌}
 use Rattle.pm_contents.specs.Pieces.{BothTold}
-use Rattle.pm_format.specs.Options.{Options}
-use Rattle.tile_bridge.specs.Convert.{ConvertCauses, ConvertLeaves, IsEmpty, IsPlain, LeavesPart, SetCauses, SetLeaves, ShowsNoPart}
-use Rattle.tile_bridge.specs.Stores.{IsDue, IsStoreError, Refuses}
-use Rattle.tile_bridge.specs.declared.error.ConvertError.{ConvertError}
-use Rattle.tile_bridge.specs.declared.error.ConvertError.TheVariants.{Store, IndexEntryOverflow, StoreFault, MediumFault, ReadBack, OutOfMemory}
-use Rattle.tile_bridge.specs.declared.report.ConvertReport.{ConvertReport}
 
 -- a fact on bytes of which each is what it was
 pub same_both : (P : List ℕ → List ℕ → Type 0) (old new : Option (List ℕ)) → new ≡ old → ((b : List ℕ) → P b b) → BothTold P old new

@@ -1,30 +1,17 @@
 -- The rows of the places that patches have.
-use Rattle.std.proofs.Common.{◌≡◌, ◌∙◌, ap, sym, subst, refl, ℕ, Bool, true, false, ◌||◌, List, [], ◌∷◌, ◌++◌, Option, Some, None, Ok, ◌⊎◌, inl, inr, is_some}
-use Rattle.std.proofs.lemmas.Bool.{false≢true}
-use Rattle.std.specs.Prelude.{option_map, option_to_list}
-use Rattle.std.specs.List.{list_any}
-use Rattle.std.specs.FinMap.{contains_key, get}
+use Rattle.tile_bridge.proofs.Common.{all_held, ap, AreStatesOf, Bool, Cell, contains_key, false, false≢true, get, has_place, Held, held_patched, inl, inr, is_patched_at, is_some, List, list_any}
+use Rattle.tile_bridge.proofs.Common.{names_patched, None, nulls_cleared, Ok, Option, option_map, option_to_list, Place, put_row, refl, rows_put, Some, State, state_of, state_patched, stay_named}
+use Rattle.tile_bridge.proofs.Common.{subst, sym, Tables, tiles_patched, true, ℕ, [], ◌++◌, ◌||◌, ◌∙◌, ◌∷◌, ◌≡◌, ◌⊎◌}
 use Rattle.mb_edit.proofs.EditedLemmas.{places_edited}
 use Rattle.mb_edit.proofs.PatchedLemmas.{get-patched_by}
 use Rattle.mb_edit.proofs.StateLemmas.{patched_state}
-use Rattle.mb_edit.specs.Applying.{put_row}
-use Rattle.mb_edit.specs.HeldPatched.{held_patched, names_patched, nulls_cleared, tiles_patched}
 use Rattle.mb_edit.specs.Patched.{patched_at}
-use Rattle.mb_edit.specs.Step.{state_patched}
-use Rattle.mb_load.proofs.EditedFrom.{stay_named}
 use Rattle.mb_load.proofs.LoadsFrom.{state_whole}
 use Rattle.mb_loaded.specs.Changing.{cells_for, front, tile_row}
 use Rattle.mb_loaded.specs.Edits.{dates_for, id_for}
-use Rattle.mb_loaded.specs.Held.{Held}
 use Rattle.mb_loaded.specs.Editable.{IsOnBoard}
-use Rattle.mb_loaded.specs.State.{State}
-use Rattle.mb_load.specs.StateOf.{state_of}
 use Rattle.mb_lists.specs.declared.dates.Dates.{Dates}
-use Rattle.mb_tables.specs.Table.{Tables}
-use Rattle.mb_tables.specs.Tiles.{Place}
-use Rattle.mb_tables.specs.declared.cell.Cell.{Cell}
 use Rattle.mb_tables.specs.declared.kind.MbtType.{MbtType}
-use Rattle.tile_bridge.specs.Patching.{AreStatesOf, all_held, has_place, is_patched_at, rows_put}
 use Rattle.tile_hash.specs.declared.algorithm.HashAlgorithm.{HashAlgorithm}
 
 -- whether one of the patches has a place

@@ -1,15 +1,8 @@
 -- Reading the archive back that was written.
-use Rattle.std.proofs.Common.{◌≡◌, ℕ, ◌+◌, ◌<◌, ◌≤◌, Bool, true, List, [], ◌∷◌, ◌++◌, length, get_or, map, take, Option, None, Some, IfSome, Result, Ok, Err, IsErrAnd, sym, subst, ◌∙◌, ap, arith}
-use Rattle.std.specs.Prelude.{IsOk}
-use Rattle.std.proofs.lemmas.List.{map-append, take_all, take_more}
-use Rattle.byte_media.specs.Kept.{ReadsOnly}
-use Rattle.tile_ids.specs.Coord.{Coord}
-use Rattle.tile_ids.specs.Hilbert.{id_of}
-use Rattle.pm_format.specs.LookUp.{archive_map}
-use Rattle.pm_format.specs.Options.{Options}
+use Rattle.tile_bridge.proofs.Common.{answered, answered_by, ap, archive_map, arith, Bool, Coord, Err, get_or, GivesTile, GrewFrom, header_of, id_of, IfSome, IsErrAnd, IsHindered, IsOk, length, List}
+use Rattle.tile_bridge.proofs.Common.{map, map-append, None, Ok, Option, Options, PmtError, ReadsAnswers, ReadsOnly, Result, Some, subst, sym, take, take_all, take_more, true, WellFormed, ℕ, [], ◌++◌}
+use Rattle.tile_bridge.proofs.Common.{◌+◌, ◌<◌, ◌∙◌, ◌∷◌, ◌≡◌, ◌≤◌}
 use Rattle.pm_format.specs.Sound.{Sound}
-use Rattle.pm_format.specs.WellFormed.{WellFormed, header_of}
-use Rattle.pm_format.specs.declared.error.PmtError.{PmtError}
 use Rattle.pm_format.specs.declared.error.PmtError.TheVariants as errors
 use Rattle.pm_format.specs.declared.error.ReadCause.TheVariants as causes
 use Rattle.pm_reader.proofs.SoundTileLemmas.{sound_tile}
@@ -18,7 +11,6 @@ use Rattle.pm_reader.specs.Archives.{UsesOneLength}
 use Rattle.pm_reader.specs.Caches.{Held}
 use Rattle.pm_reader.specs.ReadsFrom.{ReadsFrom}
 use Rattle.pm_reader.specs.declared.state.ReaderState.{ReaderState}
-use Rattle.tile_bridge.specs.ReadingBack.{GivesTile, GrewFrom, IsHindered, ReadsAnswers, answered, answered_by}
 
 -- a well-formed archive is sound
 pub is_sound : (b : List ℕ) (o : Options) (clustered : Bool) → WellFormed b o clustered → Sound b

@@ -1,17 +1,8 @@
 -- What is due of a base and its patches.
-use Rattle.std.proofs.Common.{◌≡◌, ◌∙◌, ap, sym, subst, refl, Bool, true, false, cond, ◌&&◌, List, map, Option, Some, None, Result, Ok, Err, IfErr, IfSome, IsErrAnd}
+use Rattle.tile_bridge.proofs.Common.{all_patched, ap, at_place, Bool, cond, ConvertError, ConvertOptions, due, due_at, due_patches, Err, false, Held, IfErr, IfSome, IsDue, IsErrAnd, IsHeldFrom}
+use Rattle.tile_bridge.proofs.Common.{IsLoadedFrom, IsPatchedByAll, IsRefused, List, list_all, map, NamesAlgorithm, None, nothing_edited, Ok, Option, outcome, refl, Refuses, Result, Some, State}
+use Rattle.tile_bridge.proofs.Common.{state_of, subst, sym, Tables, tested, then, true, ◌&&◌, ◌∙◌, ◌≡◌}
 use Rattle.std.proofs.lemmas.List.Folds.{list_all-map}
-use Rattle.std.specs.List.{list_all}
-use Rattle.mb_loaded.specs.Held.{Held, nothing_edited}
-use Rattle.mb_load.specs.LoadedFrom.{IsLoadedFrom, NamesAlgorithm}
-use Rattle.mb_loaded.specs.State.{State}
-use Rattle.mb_load.specs.StateOf.{state_of}
-use Rattle.mb_tables.specs.Table.{Tables}
-use Rattle.tile_bridge.specs.Outcome.{all_patched, at_place, due, outcome, tested, then}
-use Rattle.tile_bridge.specs.Patching.{IsHeldFrom, IsPatchedByAll}
-use Rattle.tile_bridge.specs.Stores.{IsDue, IsRefused, Refuses, due_at, due_patches}
-use Rattle.tile_bridge.specs.declared.error.ConvertError.{ConvertError}
-use Rattle.tile_bridge.specs.declared.options.ConvertOptions.{ConvertOptions}
 use Rattle.tile_bridge.proofs.FoldLemmas.{refuses_on}
 
 module _ {S P : Type 0} (tells : S → Bool) (told : S → Tables) (patch_tells : P → Bool) (patch_told : P → Tables) (base : S) (patches : List P) (options : ConvertOptions) (s : State) (is : tells base ≡ true → state_of (told base) ≡ Ok s) where

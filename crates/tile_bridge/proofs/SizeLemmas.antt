@@ -1,17 +1,7 @@
 -- What is known while tiles are counted.
-use Rattle.std.proofs.Common.{◌≡◌, ℕ, ◌+◌, ◌<◌, ◌≤◌, ◌^◌, Bool, true, false, ◌||◌, List, [], ◌∷◌, drop, length, sum_by, nat_le, Option, Some, refl, sym, ◌∙◌, ap, arith}
-use Rattle.std.proofs.lemmas.Bool.Decides.{nat_tests}
-use Rattle.std.proofs.lemmas.List.{drop_all, drop_more}
-use Rattle.std.proofs.lemmas.List.Sums.{sum_by-cons}
-use Rattle.std.proofs.lemmas.Option.{get_or_from_slice_get}
-use Rattle.std.specs.Prelude.{slice_get, unwrap_or}
-use Rattle.std.specs.List.{list_any}
-use Rattle.std.specs.Option.{option_map}
-use Rattle.std.specs.FinMap.{entries, len, len-entries}
-use Rattle.mb_loaded.specs.Aggregate.{bytes_of}
-use Rattle.mb_tables.specs.Tiles.{Place, TileSet}
-use Rattle.tile_bridge.specs.Adds.{bytes_at}
-use Rattle.tile_bridge.specs.Outcome.{overflows}
+use Rattle.tile_bridge.proofs.Common.{ap, arith, Bool, bytes_at, bytes_of, drop, drop_all, drop_more, entries, false, get_or_from_slice_get, len, len-entries, length, List, list_any, nat_le}
+use Rattle.tile_bridge.proofs.Common.{nat_tests, Option, option_map, overflows, Place, refl, slice_get, Some, sum_by, sum_by-cons, sym, TileSet, true, unwrap_or, ℕ, [], ◌+◌, ◌<◌, ◌^◌, ◌||◌, ◌∙◌, ◌∷◌}
+use Rattle.tile_bridge.proofs.Common.{◌≡◌, ◌≤◌}
 use Rattle.tile_bridge.proofs.AddLemmas.{Pairs}
 use Rattle.tile_bridge.proofs.FillingLemmas.{below_len, there_is}
 

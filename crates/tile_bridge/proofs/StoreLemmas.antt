@@ -1,18 +1,7 @@
 -- What is due of a store.
-use Rattle.std.proofs.Common.{◌≡◌, ℕ, Bool, true, false, Ok, Err, refl, sym, subst, ◌∙◌, ap}
-use Rattle.std.proofs.lemmas.Bool.{false≢true}
-use Rattle.mb_edit.specs.Step.{step}
-use Rattle.mb_tables.specs.Refusals.{is_free}
-use Rattle.mb_loaded.specs.State.{State}
-use Rattle.mb_load.specs.StateOf.{state_of}
-use Rattle.mb_tables.specs.Table.{Tables}
-use Rattle.mb_tables.specs.declared.error.MbtError.{MbtError}
+use Rattle.tile_bridge.proofs.Common.{ap, at_place, Bool, ConvertError, due_at, due_patch, Err, false, false≢true, HoldsState, is_free, IsDue, IsRefused, MbtError, Ok, refl, refusal_at, Refuses}
+use Rattle.tile_bridge.proofs.Common.{State, state_of, step, Store, subst, sym, Tables, then, true, ℕ, ◌∙◌, ◌≡◌}
 use Rattle.mb_tables.specs.declared.error.MbtError.TheVariants.{OutOfMemory, StoreFault}
-use Rattle.tile_bridge.specs.Outcome.{at_place, then}
-use Rattle.tile_bridge.specs.Patching.{HoldsState}
-use Rattle.tile_bridge.specs.Stores.{IsDue, IsRefused, Refuses, due_at, due_patch, refusal_at}
-use Rattle.tile_bridge.specs.declared.error.ConvertError.{ConvertError}
-use Rattle.tile_bridge.specs.declared.error.ConvertError.TheVariants.{Store}
 
 -- the refusal of a store that can't be loaded
 pub load_refused : (place : ℕ) (tells : Bool) (t : Tables) (e : MbtError) (x : ConvertError) → x ≡ refusal_at place e → (tells ≡ true → is_free e ≡ false → state_of t ≡ Err e) → Refuses (due_at place tells t) x

@@ -1,24 +1,14 @@
 -- Adds written one after another.
-use Rattle.std.proofs.Common.{◌≡◌, ℕ, ◌+◌, ◌<◌, ◌≤◌, Bool, false, All, ◌≢◌, List, [], length, get_or, take, Option, Result, Ok, Err, IfOk, IsErrAnd, refl, sym, subst, ◌∙◌, ap, arith}
-use Rattle.std.proofs.lemmas.List.{get_or-map, length-map}
-use Rattle.pm_format.specs.Options.{Options}
+use Rattle.tile_bridge.proofs.Common.{Add, add_to, AddFits, adds_distinct, All, ap, arith, Bool, bytes_at, CanBeWritten, Err, false, few_took, filled_took, get_or, get_or-map, IfOk, IsErrAnd, length}
+use Rattle.tile_bridge.proofs.Common.{length-map, List, low_took, Ok, Option, Options, places_of, PmtError, refl, Result, shown, sorted_took, subst, sym, take, TileSet, Took, took_fits_at, TookAll}
+use Rattle.tile_bridge.proofs.Common.{WriteCauses, ℕ, [], ◌+◌, ◌<◌, ◌∙◌, ◌≡◌, ◌≢◌, ◌≤◌}
 use Rattle.pm_format.specs.declared.compression.Compression.TheVariants as compression
-use Rattle.pm_format.specs.declared.error.PmtError.{PmtError}
 use Rattle.pm_format.specs.declared.error.PmtError.TheVariants as errors
 use Rattle.pm_format.specs.declared.error.ReadCause.TheVariants as causes
 use Rattle.pm_writer.proofs.InTurn.{added_at}
-use Rattle.pm_writer.proofs.Took.{few_took, filled_took, low_took, sorted_took, took_fits_at}
 use Rattle.pm_writer.proofs.Few.{archive_fits}
-use Rattle.pm_writer.proofs.Sorted.{adds_distinct}
 use Rattle.pm_writer.specs.Causes.{AddCauses, FinishCauses}
-use Rattle.pm_writer.specs.Places.{places_of}
-use Rattle.pm_writer.specs.Took.{Took, TookAll}
-use Rattle.pm_writer.specs.Writing.{AddFits, add_to}
 use Rattle.pm_writer.specs.declared.places.ArchivePlaces.{ArchivePlaces}
-use Rattle.mb_tables.specs.Tiles.{TileSet}
-use Rattle.tile_bridge.specs.Adds.{bytes_at, shown}
-use Rattle.tile_bridge.specs.Writing.{CanBeWritten, WriteCauses}
-use Rattle.tile_bridge.specs.declared.adds.Add.{Add}
 
 -- the add of a number, as it is seen
 shown_at : (tiles : TileSet) (adds : List Add) (i : ℕ) (a : Add) → i < length adds → a ≡ get_or adds i a → get_or (shown tiles adds) i (a.id, bytes_at tiles a.index) ≡ (a.id, bytes_at tiles a.index)

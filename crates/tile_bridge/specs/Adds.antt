@@ -1,14 +1,7 @@
 -- The adds of a tile set: the ids and bytes of its tiles of at least one byte.
 use Rattle.std.specs.Prelude.{◌≡◌, ◌≢◌, ◌≤◌, ◌<◌, ℕ, true, List, [], ◌∷◌, map, filter_map, slice_get, take, unwrap_or, Option, Some, None, All}
-use Rattle.std.specs.Option.{option_map}
-use Rattle.std.specs.FinMap.{entries, find, get, is_sorted, len}
-use Rattle.std.specs.Ordering.{nat_cmp}
-use Rattle.tile_ids.specs.declared.id.TheConstants.{MAX_TILE_ID}
-use Rattle.mb_loaded.specs.Aggregate.{bytes_of}
-use Rattle.mb_tables.specs.Tiles.{Place, TileSet, solid}
-use Rattle.mb_tables.specs.declared.cell.Cell.{Cell}
+use Rattle.tile_bridge.specs.Common.{address, bytes_of, Cell, entries, find, get, InRange, is_sorted, len, MAX_TILE_ID, nat_cmp, option_map, Place, solid, TileSet}
 use Rattle.mb_tables.specs.declared.cell.Cell.TheVariants.{Blob}
-use Rattle.mb_lists.specs.Places.{InRange, address}
 use Rattle.tile_bridge.specs.declared.adds.Add.{Add}
 
 -- the bytes under an id, if any

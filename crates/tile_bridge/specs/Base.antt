@@ -1,9 +1,6 @@
 -- What a conversion leaves of its base.
 use Rattle.std.specs.Prelude.{ℕ, ◌≡◌, ◌⊎◌, Bool, true, List, Option, Result, Ok, Err, IfSome}
-use Rattle.tile_ids.specs.Coord.{Coord}
-use Rattle.mb_loaded.specs.Aggregate.{aggregate}
-use Rattle.mb_loaded.specs.State.{State}
-use Rattle.mb_tables.specs.Table.{Tables}
+use Rattle.tile_bridge.specs.Common.{aggregate, Coord, State, Tables}
 use Rattle.tile_bridge.specs.Convert.{IsConverted}
 use Rattle.tile_bridge.specs.Outcome.{outcome}
 use Rattle.tile_bridge.specs.Patching.{AreToldBy, IsBaseWith}

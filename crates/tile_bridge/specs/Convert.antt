@@ -1,23 +1,9 @@
 -- What a conversion answers, and what it leaves.
 use Rattle.std.specs.Prelude.{ℕ, ◌≡◌, ◌≢◌, ◌⊎◌, ◌<◌, true, false, List, [], ◌∷◌, length, map, Option, Some, None, Result, Ok, Err, IfSome, IsOk}
-use Rattle.std.specs.FinMap.{FinMap, get}
-use Rattle.std.specs.Ordering.{nat_cmp}
-use Rattle.tile_ids.specs.Coord.{Coord}
-use Rattle.tile_ids.specs.Hilbert.{id_of}
-use Rattle.mb_loaded.specs.Aggregate.{aggregate}
-use Rattle.mb_tables.specs.Refusals.{is_free}
-use Rattle.mb_loaded.specs.State.{State}
-use Rattle.mb_tables.specs.Tiles.{Place, TileSet, solid}
+use Rattle.tile_bridge.specs.Common.{address, aggregate, archive_map, canon, Coord, FinMap, get, id_of, is_free, IsHidden, nat_cmp, Options, Place, places_of, places_read, solid, State, TileSet}
+use Rattle.tile_bridge.specs.Common.{TookAll, WellFormed}
 use Rattle.pm_contents.specs.Pieces.{BothTold}
 use Rattle.pm_format.specs.declared.compression.Compression.TheVariants as compression
-use Rattle.pm_format.specs.LookUp.{archive_map}
-use Rattle.pm_format.specs.Options.{Options}
-use Rattle.pm_format.specs.WellFormed.{WellFormed}
-use Rattle.pm_writer.specs.Archive.{canon}
-use Rattle.pm_writer.specs.Pieces.{IsHidden}
-use Rattle.pm_writer.specs.Places.{places_of, places_read}
-use Rattle.pm_writer.specs.Took.{TookAll}
-use Rattle.mb_lists.specs.Places.{address}
 use Rattle.tile_bridge.specs.Adds.{AreAddsOf}
 use Rattle.tile_bridge.specs.ReadingBack.{IsReadBack}
 use Rattle.tile_bridge.specs.Stores.{IsDue, IsRefused}

@@ -1,10 +1,6 @@
 -- What a conversion leaves, whichever way it ends.
 use Rattle.std.specs.Prelude.{ℕ, ◌≡◌, ◌⊎◌, Bool, true, List, Option, Result, OnOk, IfOk}
-use Rattle.tile_ids.specs.Coord.{Coord}
-use Rattle.mb_loaded.specs.Aggregate.{aggregate}
-use Rattle.mb_loaded.specs.State.{State}
-use Rattle.mb_tables.specs.Table.{Tables}
-use Rattle.pm_format.specs.Options.{Options}
+use Rattle.tile_bridge.specs.Common.{aggregate, Coord, Options, State, Tables}
 use Rattle.tile_bridge.specs.Base.{IsBaseAfter}
 use Rattle.tile_bridge.specs.Convert.{HasPlaces, IsEmpty, SetCauses, SetLeaves}
 use Rattle.tile_bridge.specs.Stores.{IsDue}

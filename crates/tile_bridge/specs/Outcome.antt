@@ -1,17 +1,8 @@
 -- What a conversion comes to: the state of the set that is converted, or the first refusal.
 use Rattle.std.specs.Prelude.{ℕ, codes, suc, ◌^◌, Bool, cond, ◌&&◌, ◌||◌, List, [], ◌∷◌, length, map, sum_by, nat_le, Option, Some, None, Result, Ok, Err}
-use Rattle.std.specs.List.{list_all, list_any}
+use Rattle.tile_bridge.specs.Common.{aggregate, bytes_of, entries, list_all, list_any, MbtError, State, state_of, step, Tables, TileSet, unless}
 use Rattle.std.specs.Str.{bytes_eq}
-use Rattle.std.specs.FinMap.{entries}
-use Rattle.mb_loaded.specs.Aggregate.{aggregate, bytes_of}
 use Rattle.mb_lists.specs.Metadata.{text_at}
-use Rattle.mb_tables.specs.Refusals.{unless}
-use Rattle.mb_loaded.specs.State.{State}
-use Rattle.mb_load.specs.StateOf.{state_of}
-use Rattle.mb_edit.specs.Step.{step}
-use Rattle.mb_tables.specs.Table.{Tables}
-use Rattle.mb_tables.specs.Tiles.{TileSet}
-use Rattle.mb_tables.specs.declared.error.MbtError.{MbtError}
 use Rattle.mb_tables.specs.declared.error.MbtError.TheVariants.{AggHashMismatch, AggHashValueNotFound}
 use Rattle.tile_bridge.specs.declared.error.ConvertError.{ConvertError}
 use Rattle.tile_bridge.specs.declared.error.ConvertError.TheVariants.{IndexEntryOverflow, Store}

@@ -1,24 +1,13 @@
 -- What patches make of a base.
 use Rattle.std.specs.Prelude.{ℕ, ◌≡◌, Bool, true, false, not, List, [], ◌∷◌, filter, map, Option, Some, Result, Ok, Err}
-use Rattle.std.specs.List.{list_any}
-use Rattle.std.specs.Option.{option_map_or}
-use Rattle.std.specs.FinMap.{contains_key, get}
+use Rattle.tile_bridge.specs.Common.{Cell, cell_at, contains_key, fresh, get, Held, IsLoadedFrom, list_any, MbtError, NamesAlgorithm, option_map_or, Place, place_of, State, state_of, step, Tables}
 use Rattle.mb_edit.specs.Applying.{put_row}
 use Rattle.mb_load.specs.Committing.{MakesChanges}
 use Rattle.mb_edit.specs.HeldPatched.{held_patched}
-use Rattle.mb_edit.specs.Step.{step}
 use Rattle.mb_loaded.specs.Changing.{content_table, tile_key}
 use Rattle.mb_load.specs.Committed.{is_set_table, rows_under}
-use Rattle.mb_loaded.specs.Held.{Held, fresh}
-use Rattle.mb_load.specs.LoadedFrom.{IsLoadedFrom, NamesAlgorithm}
-use Rattle.mb_loaded.specs.State.{State}
-use Rattle.mb_load.specs.StateOf.{state_of}
 use Rattle.mb_tables.specs.Cell.{is_null}
 use Rattle.mb_tables.specs.Kind.{tile_table}
-use Rattle.mb_tables.specs.Table.{Tables}
-use Rattle.mb_tables.specs.Tiles.{Place, cell_at, place_of}
-use Rattle.mb_tables.specs.declared.cell.Cell.{Cell}
-use Rattle.mb_tables.specs.declared.error.MbtError.{MbtError}
 use Rattle.mb_tables.specs.declared.table.TableName.{TableName}
 use Rattle.mb_tables.specs.declared.table.TableName.TheVariants.{Metadata}
 use Rattle.tile_bridge.specs.Outcome.{all_patched, tested}

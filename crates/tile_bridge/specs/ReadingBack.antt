@@ -1,10 +1,6 @@
 -- Reading the archive back that was written: what is answered, and why not.
 use Rattle.std.specs.Prelude.{◌≡◌, ◌≢◌, ℕ, ◌+◌, ◌-◌, ◌^◌, ◌≤◌, min, List, [], ◌∷◌, map, Option, Some, None, Result, Ok, Err}
-use Rattle.tile_ids.specs.Coord.{Coord}
-use Rattle.base_values.specs.Counts.{Rose}
-use Rattle.tile_ids.specs.Hilbert.{id_of}
-use Rattle.pm_format.specs.LookUp.{archive_map, archive_tile}
-use Rattle.pm_format.specs.declared.error.PmtError.{PmtError}
+use Rattle.tile_bridge.specs.Common.{archive_map, archive_tile, Coord, id_of, PmtError, Rose}
 use Rattle.pm_format.specs.declared.error.PmtError.TheVariants as errors
 use Rattle.pm_format.specs.declared.error.ReadCause.TheVariants as causes
 use Rattle.pm_reader.specs.Opening.{IsOpenRefusal}

@@ -1,12 +1,6 @@
 -- What the stores of a conversion come to.
 use Rattle.std.specs.Prelude.{ℕ, ◌≡◌, ◌≤◌, Bool, false, cond, List, ◌∷◌, map, All, slice_index, Option, Some, None, Result, IfSome, Ok, Err}
-use Rattle.std.specs.List.{list_all}
-use Rattle.base_values.specs.Counts.{Rose}
-use Rattle.mb_tables.specs.Refusals.{is_free}
-use Rattle.mb_loaded.specs.State.{State}
-use Rattle.mb_load.specs.StateOf.{state_of}
-use Rattle.mb_tables.specs.Table.{Tables}
-use Rattle.mb_tables.specs.declared.error.MbtError.{MbtError}
+use Rattle.tile_bridge.specs.Common.{is_free, list_all, MbtError, Rose, State, state_of, Tables}
 use Rattle.mb_tables.specs.declared.error.MbtError.TheVariants as errors
 use Rattle.tile_bridge.specs.Outcome.{all_patched, at_place, one_patched}
 use Rattle.tile_bridge.specs.declared.error.ConvertError.{ConvertError}

@@ -1,11 +1,7 @@
 // The adds of a set: its tiles of at least one byte by their ids.
 ghost use Rattle.std.specs.Prelude.{◌≡◌, ◌+◌, ◌<◌, ◌^◌, IfOk, OnOk, false, length};
-ghost use Rattle.std.specs.FinMap.{len};
+ghost use Rattle.tile_bridge.specs.Common.{AreFew, id_of, IsCoord, len, Options};
 ghost use Rattle.std.specs.List.Sorted.{IsNonDecreasingBy, IsPermutation};
-ghost use Rattle.tile_ids.specs.Coord.{IsCoord};
-ghost use Rattle.tile_ids.specs.Hilbert.{id_of};
-ghost use Rattle.pm_format.specs.Options.{Options};
-ghost use Rattle.pm_writer.specs.Few.{AreFew};
 ghost use Rattle.tile_bridge.specs.Adds.{AreAddsOf, AreFilled, AreWithin, bytes_at, cell_bytes, shown};
 ghost use Rattle.tile_bridge.specs.Outcome.{overflows};
 

@@ -1,9 +1,6 @@
 // The conversion of a set.
 ghost use Rattle.std.specs.Prelude.{◌≡◌, ◌+◌, ◌∷◌, false, map, ℕ, IfOk, IsErrOf};
-ghost use Rattle.base_values.specs.Counts.{Rose};
-ghost use Rattle.byte_media.specs.Kept.{KeepsMedium};
-ghost use Rattle.mb_loaded.specs.Aggregate.{aggregate};
-ghost use Rattle.mb_store.specs.Kept.{Keeps};
+ghost use Rattle.tile_bridge.specs.Common.{aggregate, Keeps, KeepsMedium, Rose};
 ghost use Rattle.tile_bridge.specs.Convert.{ConvertCauses, HasPlaces, IsEmpty, IsPlain, SetCauses, SetLeaves};
 ghost use Rattle.tile_bridge.specs.Leaves.{Leaves};
 ghost use Rattle.tile_bridge.specs.Outcome.{due, overflows};

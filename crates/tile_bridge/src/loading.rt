@@ -1,11 +1,6 @@
 // The stores of a conversion are loaded.
 ghost use Rattle.std.specs.Prelude.{◌≡◌, ◌≢◌, ℕ, true, Err, IfErr, IfOk, IsErrOf, Ok};
-ghost use Rattle.base_values.specs.Counts.{Rose};
-ghost use Rattle.mb_loaded.specs.Held.{nothing_edited};
-ghost use Rattle.mb_load.specs.StateOf.{state_of};
-ghost use Rattle.mb_load.specs.LoadedFrom.{IsLoadable, IsLoadedFrom, NamesAlgorithm};
-ghost use Rattle.mb_store.specs.Kept.{ReadsOnly};
-ghost use Rattle.mb_store.specs.MemStore.{told_of};
+ghost use Rattle.tile_bridge.specs.Common.{IsLoadable, IsLoadedFrom, NamesAlgorithm, nothing_edited, ReadsOnly, Rose, state_of, told_of};
 ghost use Rattle.tile_bridge.specs.Patching.{HoldsState};
 ghost use Rattle.tile_bridge.specs.Stores.{Refuses, due_at, refusal_at};
 

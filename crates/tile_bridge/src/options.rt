@@ -1,7 +1,6 @@
 // How a set is converted.
 ghost use Rattle.std.specs.Prelude.{◌≡◌, IfOk, IfSome, unwrap_or};
-ghost use Rattle.mb_loaded.specs.State.{State};
-ghost use Rattle.pm_format.specs.Options.{Options};
+ghost use Rattle.tile_bridge.specs.Common.{Options, State};
 ghost use Rattle.tile_bridge.specs.Convert.{IsPlain};
 ghost use Rattle.tile_bridge.specs.declared.options.ConvertOptions.{ConvertOptions};
 

@@ -1,8 +1,6 @@
 // The conversion of stores that are let go.
 ghost use Rattle.std.specs.Prelude.{◌+◌, map, ℕ, false, true, IfOk, IsErrOf};
-ghost use Rattle.base_values.specs.Counts.{Rose};
-ghost use Rattle.byte_media.specs.Kept.{KeepsMedium};
-ghost use Rattle.mb_store.specs.MemStore.{told_of};
+ghost use Rattle.tile_bridge.specs.Common.{KeepsMedium, Rose, told_of};
 ghost use Rattle.tile_bridge.specs.Convert.{ConvertCauses};
 ghost use Rattle.tile_bridge.specs.Leaves.{Leaves};
 ghost use Rattle.tile_bridge.specs.Outcome.{due};

@@ -1,9 +1,6 @@
 // Patches of a base, one after another.
 ghost use Rattle.std.specs.Prelude.{◌≡◌, ℕ, suc, map, true, IfErr, IfOk, IsErrOf, OnErr, OnOk};
-ghost use Rattle.base_values.specs.Counts.{Rose};
-ghost use Rattle.mb_load.specs.LoadedFrom.{IsLoadedFrom, NamesAlgorithm};
-ghost use Rattle.mb_tables.specs.Table.{Tables};
-ghost use Rattle.mb_store.specs.Kept.{Keeps, ReadsOnly};
+ghost use Rattle.tile_bridge.specs.Common.{IsLoadedFrom, Keeps, NamesAlgorithm, ReadsOnly, Rose, Tables};
 ghost use Rattle.tile_bridge.specs.Patching.{IsPatchedBy, IsPatchedByAll, IsStored};
 ghost use Rattle.tile_bridge.specs.Stores.{AreOnlyRead, IsDue, IsStoreError, Refuses, RoseAt, due_patch, due_patches};
 

@@ -1,10 +1,7 @@
 // The tiles at coordinates, read from the archive that was written.
 ghost use Rattle.std.specs.Prelude.{◌≡◌, ◌≤◌, ◌+◌, true, IfSome, IfOk};
 ghost use Rattle.byte_media.specs.Kept.{ReadsOnly};
-ghost use Rattle.tile_ids.specs.Hilbert.{id_of};
-ghost use Rattle.pm_format.specs.LookUp.{filled};
-ghost use Rattle.pm_format.specs.Options.{Options};
-ghost use Rattle.pm_format.specs.WellFormed.{WellFormed};
+ghost use Rattle.tile_bridge.specs.Common.{filled, id_of, Options, WellFormed};
 ghost use Rattle.pm_reader.specs.Answers.{LookUpCauses};
 ghost use Rattle.pm_reader.specs.Archives.{UsesOneLength};
 ghost use Rattle.pm_reader.specs.MapCaches.{held_in_map};

@@ -1,9 +1,6 @@
 // The set that is converted.
 ghost use Rattle.std.specs.Prelude.{◌≡◌, ◌≢◌, ◌∷◌, ℕ, cond, false, true, Err, IfErr, IfOk, IsErrOf, None, Ok, Some, map};
-ghost use Rattle.mb_tables.specs.Refusals.{is_free};
-ghost use Rattle.mb_loaded.specs.Aggregate.{aggregate};
-ghost use Rattle.mb_store.specs.Kept.{ReadsOnly};
-ghost use Rattle.mb_store.specs.MemStore.{told_of};
+ghost use Rattle.tile_bridge.specs.Common.{aggregate, is_free, ReadsOnly, told_of};
 ghost use Rattle.tile_bridge.specs.Outcome.{due, overflows, tested, unverified};
 ghost use Rattle.tile_bridge.specs.Patching.{IsHeldFrom};
 ghost use Rattle.tile_bridge.specs.Stores.{AreOnlyRead, IsDue, Refuses, RoseAt};

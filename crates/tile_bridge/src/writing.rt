@@ -1,13 +1,7 @@
 // The archive of a set, written to a medium.
 ghost use Rattle.std.specs.Prelude.{◌≡◌, ◌<◌, ℕ, List, [], Option, false, length, IfSome, IfOk, OnOk, OnErr};
-ghost use Rattle.std.specs.FinMap.{len};
-ghost use Rattle.byte_media.specs.Kept.{KeepsMedium};
-ghost use Rattle.pm_format.specs.Options.{Options};
+ghost use Rattle.tile_bridge.specs.Common.{archive, IsHidden, IsHiddenOr, KeepsMedium, len, Options, places_of, TookAll};
 ghost use Rattle.pm_format.specs.declared.compression.Compression.TheVariants as compression;
-ghost use Rattle.pm_writer.specs.Archive.{archive};
-ghost use Rattle.pm_writer.specs.Pieces.{IsHidden, IsHiddenOr};
-ghost use Rattle.pm_writer.specs.Places.{places_of};
-ghost use Rattle.pm_writer.specs.Took.{TookAll};
 ghost use Rattle.pm_writer.specs.Writing.{Writes, has_failed};
 ghost use Rattle.tile_bridge.specs.Adds.{AreWithin, shown};
 ghost use Rattle.tile_bridge.specs.Writing.{CanBeWritten, WriteCauses};

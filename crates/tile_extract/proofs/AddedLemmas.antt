@@ -1,26 +1,12 @@
 -- The tiles that parts come to, added in order.
-use Rattle.std.proofs.Common.{◌≡◌, ◌∙◌, ◌+◌, ◌^◌, ◌≤◌, ◌<◌, ℕ, zero, suc, Bool, true, false, nat_lt, ◌&&◌, List, [], ◌∷◌, length, Option, Result, Ok, Err, refl, sym, subst, arith}
-use Rattle.std.proofs.lemmas.Bool.{and_from, and_parts, true≢false}
-use Rattle.std.proofs.lemmas.Bool.Decides.{nat_tests}
-use Rattle.std.proofs.lemmas.List.{append-nil, append_assoc}
-use Rattle.std.specs.FinMap.{is_sorted}
+use Rattle.tile_extract.proofs.Common.{add_to, AddCauses, AddFits, and_from, and_parts, append-nil, append_assoc, arith, Bool, ByRoom, data_end, EndsBy, Err, ExtractError, false, has_room}
+use Rattle.tile_extract.proofs.Common.{IndexEntryOverflow, is_lt, is_sorted, length, List, lt_by, MediumFault, nat_cmp, nat_lt, nat_tests, never, of_write_error, Ok, Option, Options, PmtError, Puts}
+use Rattle.tile_extract.proofs.Common.{PutsAll, range_with_len, refl, Result, Rises, Rose, subst, suc, sym, to_lt, Took, true, true≢false, WriterState, zero, ℕ, [], ◌&&◌, ◌+◌, ◌<◌, ◌^◌, ◌∙◌, ◌∷◌, ◌≡◌}
+use Rattle.tile_extract.proofs.Common.{◌≤◌}
 use Rattle.std.specs.FinMap.Entries.{below_all}
-use Rattle.std.specs.List.{range_with_len}
-use Rattle.std.specs.Ordering.{is_lt, nat_cmp}
-use Rattle.base_values.specs.Counts.{Rose}
 use Rattle.pm_format.specs.declared.compression.Compression.TheVariants as compression
-use Rattle.pm_format.specs.declared.error.PmtError.{PmtError}
 use Rattle.pm_format.specs.declared.error.PmtError.TheVariants as errors
 use Rattle.pm_format.specs.declared.error.ReadCause.TheVariants as causes
-use Rattle.pm_format.specs.Options.{Options}
-use Rattle.pm_writer.specs.Causes.{AddCauses}
-use Rattle.pm_writer.specs.Took.{Took}
-use Rattle.pm_writer.specs.Writing.{AddFits, add_to, data_end}
-use Rattle.pm_writer.specs.declared.state.WriterState.{WriterState}
-use Rattle.pm_walk.proofs.CoveringLemmas.{lt_by, never, to_lt}
-use Rattle.tile_extract.specs.Written.{ByRoom, EndsBy, Puts, PutsAll, Rises, has_room, of_write_error}
-use Rattle.tile_extract.specs.declared.error.ExtractError.{ExtractError}
-use Rattle.tile_extract.specs.declared.error.ExtractError.TheVariants.{IndexEntryOverflow, MediumFault}
 
 -- the same bytes at ids
 abbrev pub at_each : List ℕ → List ℕ → List (ℕ × List ℕ)

@@ -1,39 +1,15 @@
 -- What can be extracted is.
-use Rattle.std.proofs.Common.{◌≡◌, ◌∙◌, ◌⊎◌, inl, inr, ◌+◌, ◌^◌, ◌≤◌, ◌<◌, ℕ, Bool, true, false, nat_le, nat_lt, ◌&&◌, if◌then◌else◌, not, T, List, [], ◌∷◌, length, length-take, take, drop, Option, None, Some, IsSome, Result, Ok, Err, refl, ap, sym, subst, arith}
-use Rattle.std.proofs.lemmas.Bool.{and_from}
-use Rattle.std.proofs.lemmas.Option.{none-some}
-use Rattle.std.specs.Cmp.{nat_cmp_total}
-use Rattle.std.specs.FinMap.{entries, find, from_entries, get, get-from_entries, nat_cmp-IsAntisymmetric, same_map}
-use Rattle.std.specs.Ordering.{nat_cmp}
-use Rattle.std.specs.Str.{IsUtf8}
-use Rattle.tile_ids.specs.Coord.{Coord}
-use Rattle.base_values.specs.Counts.{Rose}
-use Rattle.pm_format.specs.declared.error.PmtError.{PmtError}
+use Rattle.tile_extract.proofs.Common.{add_to, Added, Adds, and_from, Answers, ap, Archive, ArchiveFits, ArchivePlaces, AreOrdered, arith, Bool, CanExtract, Causes, Coord, count_met, data_end, drop}
+use Rattle.tile_extract.proofs.Common.{Due, EndsWell, entries, entries_sorted, Entry, Err, ExtractError, false, find, from_entries, get, get-from_entries, has_room, Header, ids_of, if◌then◌else◌}
+use Rattle.tile_extract.proofs.Common.{IndexEntryOverflow, inl, inr, intervals, InvalidZoom, IsDoneOrWanting, IsEarly, IsLate, IsMetadataRefused, IsSome, IsUtf8, length, length-take, List}
+use Rattle.tile_extract.proofs.Common.{MediumFault, MediumNotEmpty, met_of, metadata_read, nat_cmp, nat_cmp-IsAntisymmetric, nat_cmp_total, nat_le, nat_lt, None, none-some, not, Ok, Opened, opened}
+use Rattle.tile_extract.proofs.Common.{Option, Options, options_from, OutOfMemory, parts_met, PmtError, put_all, put_next, put_parts, range_of, ReadCauses, refl, Result, Rose, same_map, Some, Source}
+use Rattle.tile_extract.proofs.Common.{subst, sym, T, take, tile_found, to_lt, TooManyTiles, true, ℕ, [], ◌&&◌, ◌+◌, ◌<◌, ◌^◌, ◌∙◌, ◌∷◌, ◌≡◌, ◌≤◌, ◌⊎◌}
 use Rattle.pm_format.specs.declared.error.PmtError.TheVariants as errors
 use Rattle.pm_format.specs.declared.error.ReadCause.TheVariants as causes
-use Rattle.pm_format.specs.declared.header.Header.{Header}
-use Rattle.pm_format.specs.Directory.{Entry}
-use Rattle.pm_format.specs.LookUp.{range_of}
-use Rattle.pm_format.specs.Opened.{Opened, opened}
-use Rattle.pm_format.specs.Options.{Options}
-use Rattle.pm_reader.specs.Metadata.{metadata_read}
 use Rattle.pm_writer.proofs.AddedBytes.{end_more}
-use Rattle.pm_writer.proofs.Canonical.{entries_sorted}
-use Rattle.pm_writer.proofs.Sorted.{tile_found}
-use Rattle.pm_writer.specs.Causes.{ArchiveFits}
-use Rattle.pm_writer.specs.Writing.{add_to, data_end}
-use Rattle.pm_writer.specs.declared.places.ArchivePlaces.{ArchivePlaces}
-use Rattle.pm_walk.specs.Collecting.{AreOrdered}
 use Rattle.pm_walk.specs.declared.error.WalkError.TheVariants as walk
-use Rattle.tile_extract.specs.Completeness.{CanExtract, EndsWell, IsDoneOrWanting}
-use Rattle.tile_extract.specs.Cut.{intervals, options_from}
-use Rattle.tile_extract.specs.Extract.{Answers, Causes, Added, Due, IsEarly, IsLate, IsMetadataRefused, ReadCauses, Source, count_met, parts_met}
-use Rattle.tile_extract.specs.Met.{met_of}
-use Rattle.tile_extract.specs.Written.{Adds, has_room, ids_of, put_all, put_next, put_parts}
-use Rattle.tile_extract.specs.declared.error.ExtractError.{ExtractError}
-use Rattle.tile_extract.specs.declared.error.ExtractError.TheVariants.{Archive, IndexEntryOverflow, InvalidZoom, MediumFault, MediumNotEmpty, OutOfMemory, TooManyTiles}
 use Rattle.tile_extract.proofs.AddedLemmas.{ends_nothing, ok_is, sorted_by}
-use Rattle.pm_walk.proofs.CoveringLemmas.{to_lt}
 use Rattle.tile_extract.proofs.CutLemmas.{cut_held, parts_in_order}
 use Rattle.tile_extract.proofs.SoundLemmas.{AreThere, GoesWell, archive_well, parts_there}
 use Rattle.tile_extract.proofs.TileLemmas.{add_all, add_each, bytes_at, all_held, all_rise}

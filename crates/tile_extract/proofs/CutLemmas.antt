@@ -1,28 +1,14 @@
 -- The tiles of the part that is extracted, by the parts of the tile entries that are met.
-use Rattle.std.proofs.Common.{◌≡◌, ◌∙◌, ◌+◌, ◌<◌, inl, inr, ℕ, Bool, true, false, nat_le, nat_lt, nat_eq, if◌then◌else◌, List, [], ◌∷◌, ◌++◌, length, Option, None, Some, Result, Ok, Err, refl, ap, sym, arith}
-use Rattle.std.proofs.lemmas.Bool.{and_parts}
-use Rattle.std.proofs.lemmas.Bool.Decides.{nat_tests}
-use Rattle.tile_ids.specs.Coord.{Coord}
-use Rattle.tile_ids.specs.declared.id.TheConstants.{MAX_TILE_ID}
-use Rattle.pm_format.specs.declared.error.PmtError.{PmtError}
+use Rattle.tile_extract.proofs.Common.{and_parts, ap, archive_map, archive_tile, AreOrdered, arith, Bool, clip_all, clips_inside, clips_none, Coord, covering, covering_behind, covers_here}
+use Rattle.tile_extract.proofs.Common.{covers_later, cut, empty_held, Entry, Err, false, filled, has_id, Header, held, if◌then◌else◌, in_intervals, inl, inr, intervals, IsPartOf, length, List}
+use Rattle.tile_extract.proofs.Common.{MAX_TILE_ID, met_of, nat_eq, nat_le, nat_lt, nat_tests, None, none_below, none_past, Ok, Opened, opened, Option, parts, parts_none, parts_of, parts_ordered}
+use Rattle.tile_extract.proofs.Common.{parts_outside, PmtError, range_of, refl, Result, Some, sym, true, Within, ℕ, [], ◌++◌, ◌+◌, ◌<◌, ◌∙◌, ◌∷◌, ◌≡◌}
 use Rattle.pm_format.specs.declared.error.PmtError.TheVariants as errors
 use Rattle.pm_format.specs.declared.error.ReadCause.TheVariants as causes
-use Rattle.pm_format.specs.declared.header.Header.{Header}
-use Rattle.pm_format.specs.Directory.{Entry}
-use Rattle.pm_format.specs.LookUp.{archive_map, archive_tile, filled, range_of}
-use Rattle.pm_format.specs.Opened.{Opened, opened}
-use Rattle.pm_walk.specs.Collecting.{AreOrdered}
-use Rattle.pm_walk.specs.Intervals.{in_intervals}
-use Rattle.tile_extract.specs.Cut.{cut, intervals}
-use Rattle.tile_extract.specs.Met.{met_of}
-use Rattle.pm_walk.specs.Parts.{clip_all, parts, parts_of}
-use Rattle.pm_walk.specs.declared.extent.Extent.TheVariants.{Within}
-use Rattle.pm_walk.proofs.CoveringLemmas.{IsPartOf, clips_inside, clips_none, covering, covering_behind, covers_here, covers_later, has_id, none_below, parts_none, parts_outside}
-use Rattle.pm_walk.proofs.ClippingLemmas.{parts_ordered}
 use Rattle.tile_extract.proofs.IntervalLemmas.{apart}
 use Rattle.pm_walk.proofs.OrderLemmas.{walked_ordered}
 use Rattle.pm_format.proofs.SearchLemmas.{le_or}
-use Rattle.pm_walk.proofs.WholeLemmas.{empty_held, held, none_past, tile_found}
+use Rattle.pm_walk.proofs.WholeLemmas.{tile_found}
 
 -- a part of an entry leads to the same bytes
 part_held : (h : Header) (b : List ℕ) (e p : Entry) → IsPartOf e p → held h b (Some p) ≡ held h b (Some e)

@@ -1,40 +1,20 @@
 -- The archive of the parts of a source, finished or refused.
-use Rattle.std.proofs.Common.{◌≡◌, ◌∙◌, inl, inr, ℕ, true, List, [], length, Option, None, Some, IfSome, is_some, Result, Ok, Err, refl, ap, sym, subst, arith}
-use Rattle.std.specs.Cmp.{nat_cmp_total}
-use Rattle.std.specs.FinMap.{find, from_entries, get, get-from_entries}
-use Rattle.std.specs.Ordering.{nat_cmp}
-use Rattle.tile_ids.specs.Coord.{Coord}
-use Rattle.pm_format.specs.declared.error.PmtError.{PmtError}
+use Rattle.tile_extract.proofs.Common.{Added, Adds, Answers, ap, Archive, archive, archive_map, ArchivePlaces, AreAt, AreKept, arith, both_told, canon_is, ComesTo, Coord, covering, cut, Due}
+use Rattle.tile_extract.proofs.Common.{entries_sorted, Entry, Err, ExtractError, find, from_entries, get, get-from_entries, Header, held, IfSome, IndexEntryOverflow, inl, inr, intervals, IntoBytes}
+use Rattle.tile_extract.proofs.Common.{IntoLeaves, is_some, IsCollected, IsDone, IsExtract, IsHidden, IsLate, IsWritten, LeavesUncompared, length, List, MayBeTile, MediumFault, nat_cmp, nat_cmp_total}
+use Rattle.tile_extract.proofs.Common.{None, Ok, one_told, Option, Options, options_from, options_of, options_opened, options_with, OutOfMemory, Overflows, PartsOverflow, PartsRefuse, places_read}
+use Rattle.tile_extract.proofs.Common.{PmtError, put_parts, refl, Result, Rises, ShowsNone, ShowsNoPart, Some, sorted_formed, subst, sym, tile_found, tile_in, true, walked, Within, WriteCauses}
+use Rattle.tile_extract.proofs.Common.{WritesParts, ℕ, [], ◌∙◌, ◌≡◌}
 use Rattle.pm_format.specs.declared.error.PmtError.TheVariants as errors
 use Rattle.pm_format.specs.declared.error.ReadCause.TheVariants as causes
-use Rattle.pm_format.specs.declared.header.Header.{Header}
-use Rattle.pm_format.specs.Directory.{Entry}
-use Rattle.pm_format.specs.LookUp.{archive_map}
-use Rattle.pm_format.specs.Options.{Options}
 use Rattle.pm_format.specs.WellFormed.{WellFormed}
-use Rattle.pm_writer.proofs.Canonical.{canon_is, entries_sorted}
 use Rattle.pm_writer.proofs.PlacesRead.{places_are}
-use Rattle.pm_writer.proofs.Sorted.{sorted_formed, tile_found}
-use Rattle.pm_writer.specs.Archive.{archive, tile_in}
-use Rattle.pm_writer.specs.Pieces.{IsHidden}
-use Rattle.pm_writer.specs.Places.{places_read}
-use Rattle.pm_writer.specs.declared.places.ArchivePlaces.{ArchivePlaces}
-use Rattle.tile_extract.specs.Cut.{cut, intervals, options_from, options_of, options_opened, options_with}
-use Rattle.tile_extract.specs.Extract.{Added, Answers, AreKept, Due, IntoBytes, IntoLeaves, IsCollected, IsDone, IsExtract, IsLate, LeavesUncompared, MayBeTile, Overflows, ShowsNoPart}
-use Rattle.pm_walk.specs.Walk.{walked}
-use Rattle.pm_walk.specs.declared.extent.Extent.TheVariants.{Within}
-use Rattle.tile_extract.specs.Written.{Adds, AreAt, ComesTo, IsWritten, PartsOverflow, PartsRefuse, Rises, ShowsNone, WriteCauses, WritesParts, put_parts}
-use Rattle.tile_extract.specs.declared.error.ExtractError.{ExtractError}
-use Rattle.tile_extract.specs.declared.error.ExtractError.TheVariants.{Archive, IndexEntryOverflow, MediumFault, OutOfMemory}
 use Rattle.tile_extract.proofs.AddedLemmas.{sorted_by}
-use Rattle.pm_walk.proofs.CoveringLemmas.{covering}
-use Rattle.pm_walk.proofs.WholeLemmas.{held}
 use Rattle.tile_extract.proofs.CutLemmas.{cut_held}
 use Rattle.tile_extract.proofs.LyingLemmas.{found_lies}
 use Rattle.tile_extract.proofs.PartsLemmas.{comes_as}
 use Rattle.tile_extract.proofs.PlanLemmas.{Found, source_of}
 use Rattle.tile_extract.proofs.TileLemmas.{all_held, put_is}
-use Rattle.pm_walk.proofs.ToldLemmas.{both_told, one_told}
 
 -- what is found of a source, and the parts of its tiles
 pub record Planned (c : Coord) (m most : ℕ) (h : Header) (es : List Entry) (text : List ℕ) (ps : List Entry) (b : List ℕ) : Type 0 where

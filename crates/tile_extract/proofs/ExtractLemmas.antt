@@ -1,19 +1,11 @@
 -- What collecting the parts of an extraction comes to.
-use Rattle.std.proofs.Common.{◌≡◌, ℕ, List, Option, IfSome, None, Ok, Err, refl, sym, subst}
+use Rattle.tile_extract.proofs.Common.{CollectCauses, CollectRefuses, Entry, Err, ExtractError, Header, IfSome, IsCollected, List, None, of_walk_error, Ok, one_told, Option, refl, StopCauses, subst}
+use Rattle.tile_extract.proofs.Common.{sym, Walked, walked, Within, ℕ, ◌≡◌}
 use Rattle.pm_format.specs.declared.error.PmtError.TheVariants as errors
 use Rattle.pm_format.specs.declared.error.ReadCause.TheVariants as causes
-use Rattle.pm_format.specs.declared.header.Header.{Header}
-use Rattle.pm_format.specs.Directory.{Entry}
-use Rattle.pm_walk.specs.Collecting.{StopCauses}
 use Rattle.pm_walk.specs.Gathering.{Gathers}
-use Rattle.pm_walk.specs.Walk.{Walked, walked}
 use Rattle.pm_walk.specs.declared.error.WalkError.{WalkError}
 use Rattle.pm_walk.specs.declared.error.WalkError.TheVariants as walk
-use Rattle.pm_walk.specs.declared.extent.Extent.TheVariants.{Within}
-use Rattle.pm_walk.proofs.ToldLemmas.{one_told}
-use Rattle.tile_extract.specs.declared.error.ExtractError.{ExtractError}
-use Rattle.tile_extract.specs.Extract.{CollectCauses, CollectRefuses, IsCollected}
-use Rattle.tile_extract.specs.Written.{of_walk_error}
 
 walk_refused : (w : Walked) (is : List (ℕ × ℕ)) (most before now : ℕ) (x : WalkError) → StopCauses Within before now x → Gathers Within w is most (Err x) → CollectRefuses w is most (of_walk_error most x)
 walk_refused w is most before now (walk.Archive errors.OutOfMemory) cause r = tt

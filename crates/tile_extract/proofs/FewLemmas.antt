@@ -1,31 +1,11 @@
 -- From a sound archive each part of few enough tiles can be extracted.
-use Rattle.std.proofs.Common.{◌≡◌, ◌∙◌, ◌+◌, ◌*◌, ◌^◌, ◌≤◌, ◌<◌, ℕ, zero, suc, All, Bool, true, false, nat_le, nat_lt, ◌&&◌, if◌then◌else◌, List, [], ◌∷◌, ◌++◌, length, length-append, length-take, sum_by, take, drop, None, Some, Ok, sym, subst, arith}
+use Rattle.tile_extract.proofs.Common.{add_to, Adds, All, AllSized, ArchiveFits, AreOrdered, arith, Bool, CanExtract, Coord, count_met, data_end, drop, entries, entries_sorted, Entry, false}
+use Rattle.tile_extract.proofs.Common.{from_entries, get-from_entries, Header, ids_of, if◌then◌else◌, intervals, IsUtf8, IsValid, length, length-append, length-take, List, met_of, metadata_read}
+use Rattle.tile_extract.proofs.Common.{nat_cmp, nat_cmp_total, nat_le, nat_lt, None, Ok, Options, options_from, parts_met, range_with_len, Some, Sound, subst, suc, sum_by, sym, take, tile_count}
+use Rattle.tile_extract.proofs.Common.{tile_found, true, zero, ℕ, [], ◌&&◌, ◌*◌, ◌++◌, ◌+◌, ◌<◌, ◌^◌, ◌∙◌, ◌∷◌, ◌≡◌, ◌≤◌}
 use Rattle.std.proofs.lemmas.List.Sums.{sum_by-cons}
-use Rattle.std.specs.Cmp.{nat_cmp_total}
-use Rattle.std.specs.FinMap.{entries, from_entries, get-from_entries}
-use Rattle.std.specs.List.{range_with_len}
-use Rattle.std.specs.Ordering.{nat_cmp}
-use Rattle.std.specs.Str.{IsUtf8}
-use Rattle.tile_ids.specs.Coord.{Coord}
-use Rattle.pm_format.specs.declared.header.Header.{Header}
-use Rattle.pm_format.specs.Directory.{Entry}
-use Rattle.pm_format.specs.Options.{Options}
-use Rattle.pm_format.specs.Sound.{Sound}
-use Rattle.pm_reader.specs.Metadata.{metadata_read}
-use Rattle.pm_writer.proofs.Canonical.{entries_sorted}
 use Rattle.pm_writer.proofs.Few.{archive_fits, data_length}
-use Rattle.pm_writer.proofs.Sorted.{tile_found}
-use Rattle.pm_writer.specs.Bounds.{AllSized}
-use Rattle.pm_writer.specs.Causes.{ArchiveFits}
 use Rattle.pm_writer.specs.Few.{AreFew}
-use Rattle.pm_writer.specs.Writing.{add_to, data_end}
-use Rattle.pm_walk.specs.Collecting.{AreOrdered}
-use Rattle.tile_extract.specs.Completeness.{CanExtract}
-use Rattle.tile_extract.specs.Cut.{intervals, options_from}
-use Rattle.tile_extract.specs.Extract.{IsValid, count_met, parts_met}
-use Rattle.tile_extract.specs.Met.{met_of}
-use Rattle.pm_walk.specs.Parts.{tile_count}
-use Rattle.tile_extract.specs.Written.{Adds, ids_of}
 use Rattle.tile_extract.proofs.AddedLemmas.{ends_nothing, sorted_by}
 use Rattle.tile_extract.proofs.CutLemmas.{cut_held, parts_in_order}
 use Rattle.tile_extract.proofs.FitLemmas.{options_fit}

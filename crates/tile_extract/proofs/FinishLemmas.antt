@@ -1,24 +1,11 @@
 -- The archive of parts, finished or refused.
-use Rattle.std.proofs.Common.{◌≡◌, ◌∙◌, inl, inr, ◌≤◌, ℕ, Bool, false, List, Option, None, Some, IfSome, is_some, Ok, Err, sym, arith}
-use Rattle.std.proofs.lemmas.Bool.{true≢false}
-use Rattle.pm_format.specs.declared.error.PmtError.{PmtError}
+use Rattle.tile_extract.proofs.Common.{adds_distinct, archive, ArchivePlaces, arith, Bool, ComesTo, Entry, Err, false, FinishCauses, Header, IfSome, IndexEntryOverflow, inl, inr, is_some, IsHiddenOr}
+use Rattle.tile_extract.proofs.Common.{IsWritten, List, None, of_write_error, Ok, one_told, Option, Options, OutOfMemory, PartsAdded, PartsOverflow, places_of, PmtError, ShowsNone, Some, sym}
+use Rattle.tile_extract.proofs.Common.{true≢false, WriteCauses, WriterState, WritesParts, ℕ, ◌∙◌, ◌≡◌, ◌≤◌}
 use Rattle.pm_format.specs.declared.error.PmtError.TheVariants as errors
 use Rattle.pm_format.specs.declared.error.ReadCause.TheVariants as causes
-use Rattle.pm_format.specs.declared.header.Header.{Header}
-use Rattle.pm_format.specs.Directory.{Entry}
-use Rattle.pm_format.specs.Options.{Options}
-use Rattle.pm_writer.specs.Archive.{archive}
-use Rattle.pm_writer.specs.Causes.{FinishCauses}
-use Rattle.pm_writer.specs.Pieces.{IsHiddenOr}
-use Rattle.pm_writer.specs.Places.{places_of}
-use Rattle.pm_writer.specs.declared.places.ArchivePlaces.{ArchivePlaces}
-use Rattle.pm_writer.specs.declared.state.WriterState.{WriterState}
-use Rattle.pm_writer.proofs.Sorted.{adds_distinct}
-use Rattle.tile_extract.specs.Written.{ComesTo, IsWritten, PartsAdded, PartsOverflow, ShowsNone, WriteCauses, WritesParts, of_write_error}
-use Rattle.tile_extract.specs.declared.error.ExtractError.TheVariants.{IndexEntryOverflow, OutOfMemory}
 use Rattle.tile_extract.proofs.AddedLemmas.{sorted_by}
 use Rattle.tile_extract.proofs.PartsLemmas.{comes_as}
-use Rattle.pm_walk.proofs.ToldLemmas.{one_told}
 
 -- an archive that is finished, or not
 pub finished : (o : Options) (h : Header) (source : Option (List ℕ)) (ps : List Entry) (mid told : Option (List ℕ)) (s : WriterState) (failed : Bool) (before now : ℕ) (p : ArchivePlaces) (a : PartsAdded o h source ps mid s) → is_some told ≡ is_some mid

@@ -1,22 +1,15 @@
 -- What an archive says beside its tiles lies within its types.
-use Rattle.std.proofs.Common.{◌≡◌, ◌∙◌, ◌+◌, ◌<◌, ◌^◌, ℕ, ℤ, zero, suc, Bool, true, false, nat_lt, if◌then◌else◌, codes, All, FitsSigned, w32, List, [], ◌∷◌, length, drop, take, slice_get, slice_index, Option, None, Some, Result, Ok, Err, refl, ap, sym, subst, arith}
+use Rattle.tile_extract.proofs.Common.{All, ap, arith, Bool, bytes_eq, codes, Coord, dir_of, drop, Entry, Err, false, FitsSigned, Header, if◌then◌else◌, IsValid, length, List, nat_lt, None, Ok}
+use Rattle.tile_extract.proofs.Common.{Opened, opened, Option, options_from, OptionsFit, PmtError, refl, Result, root_decoded, root_labelled, root_placed, slice_get, slice_index, Some, subst, suc}
+use Rattle.tile_extract.proofs.Common.{sym, take, true, w32, zero, ℕ, ℤ, [], ◌+◌, ◌<◌, ◌^◌, ◌∙◌, ◌∷◌, ◌≡◌}
 use Rattle.std.proofs.lemmas.List.Elements.{All-head, All-tail, All-take}
 use Rattle.std.specs.Int.{Width, cast_signed}
-use Rattle.std.specs.Str.{bytes_eq}
 use Rattle.pm_format.specs.declared.compression.Compression.{Compression}
 use Rattle.pm_format.specs.declared.compression.Compression.TheVariants as compression
-use Rattle.pm_format.specs.declared.error.PmtError.{PmtError}
 use Rattle.pm_format.specs.declared.error.PmtError.TheVariants as errors
-use Rattle.pm_format.specs.declared.header.Header.{Header}
 use Rattle.pm_format.specs.declared.header.TheConstants.{HEADER_SIZE, ROOT_END}
 use Rattle.pm_format.specs.declared.tile_type.TileType.{TileType}
-use Rattle.pm_format.specs.Directory.{Entry, dir_of}
 use Rattle.pm_format.specs.Header.{byte_at, compressions, fields, head, labelled, magic, tile_types}
-use Rattle.pm_format.specs.Opened.{Opened, opened, root_decoded, root_labelled, root_placed}
-use Rattle.pm_writer.specs.Bounds.{OptionsFit}
-use Rattle.tile_ids.specs.Coord.{Coord}
-use Rattle.tile_extract.specs.Cut.{options_from}
-use Rattle.tile_extract.specs.Extract.{IsValid}
 use borrow.Author.Differences.{fits_in, read_fits}
 
 -- a signed number of any bits lies within its type

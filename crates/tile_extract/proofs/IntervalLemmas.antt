@@ -1,13 +1,10 @@
 -- The intervals of a tile, zoom by zoom.
-use Rattle.std.proofs.Common.{◌≡◌, ◌∙◌, ◌+◌, ◌-◌, ◌^◌, ◌≤◌, ℕ, zero, suc, List, [], ◌∷◌, ◌++◌, ap, sym, arith}
-use Rattle.std.proofs.lemmas.List.{append-nil, append_assoc}
-use Rattle.tile_ids.specs.Coord.{Coord, IsCoord}
+use Rattle.tile_extract.proofs.Common.{ap, append-nil, append_assoc, AreApart, arith, Coord, interval, intervals, intervals_from, IsCoord, List, suc, sym, zero, ℕ, [], ◌++◌, ◌+◌, ◌-◌, ◌^◌, ◌∙◌, ◌∷◌}
+use Rattle.tile_extract.proofs.Common.{◌≡◌, ◌≤◌}
 use Rattle.tile_ids.specs.Hilbert.{number_of, pyramid}
 use Rattle.tile_ids.specs.Interval.{IsInterval}
 use Rattle.tile_ids.proofs.Curve.{four_pos, hilbert_below, pyramid_next}
 use Rattle.tile_ids.proofs.SubtreeLemmas.{block_below, ends_of_interval}
-use Rattle.pm_walk.specs.Intervals.{AreApart}
-use Rattle.tile_extract.specs.Cut.{interval, intervals, intervals_from}
 
 -- the interval of a zoom lies within its ids
 apart_from : (c : Coord) (n z low : ℕ) → c.z ≤ z → low ≤ pyramid z → AreApart low (intervals_from c z n)

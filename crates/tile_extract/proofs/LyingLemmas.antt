@@ -1,14 +1,6 @@
 -- Adds in intervals, and how many they are.
-use Rattle.std.proofs.Common.{◌≡◌, ◌+◌, ◌-◌, ◌≤◌, ◌<◌, ℕ, zero, suc, Bool, true, false, cond, List, [], ◌∷◌, length, Some, Ok, refl, ap, sym, subst, arith}
-use Rattle.std.proofs.lemmas.Bool.Decides.{nat_tests}
-use Rattle.std.proofs.lemmas.List.{length-append}
-use Rattle.std.specs.FinMap.{find}
-use Rattle.std.specs.List.{range_with_len}
-use Rattle.std.specs.Ordering.{eq_by_cmp, nat_cmp}
-use Rattle.pm_format.specs.Options.{Options}
-use Rattle.pm_writer.specs.Writing.{add_to}
-use Rattle.pm_walk.specs.Intervals.{in_intervals}
-use Rattle.tile_extract.specs.Written.{Adds, AddsLieIn, PutsAll, has_room}
+use Rattle.tile_extract.proofs.Common.{add_to, Adds, AddsLieIn, ap, arith, Bool, cond, eq_by_cmp, false, find, has_room, in_intervals, length, length-append, List, nat_cmp, nat_tests, Ok, Options}
+use Rattle.tile_extract.proofs.Common.{PutsAll, range_with_len, refl, Some, subst, suc, sym, true, zero, ℕ, [], ◌+◌, ◌-◌, ◌<◌, ◌∷◌, ◌≡◌, ◌≤◌}
 use Rattle.tile_extract.proofs.AddedLemmas.{ok_is, with_room}
 
 adds_add : (is : List (ℕ × ℕ)) (done : Adds) (id : ℕ) (taken : List ℕ) → in_intervals id is ≡ true → AddsLieIn is done → AddsLieIn is (add_to done id taken)

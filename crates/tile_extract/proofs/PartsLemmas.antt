@@ -1,25 +1,12 @@
 -- Parts that are added one after another.
-use Rattle.std.proofs.Common.{◌≡◌, ◌∙◌, ◌+◌, ◌≤◌, ℕ, Bool, true, false, List, [], ◌∷◌, length, Option, None, Some, IfSome, is_some, Result, Ok, Err, refl, ap, sym, subst, arith}
-use Rattle.pm_format.specs.declared.error.PmtError.{PmtError}
+use Rattle.tile_extract.proofs.Common.{add_to, Adds, AddsLieIn, AllLieIn, ap, Archive, AreOrdered, arith, Bool, both_told, ByRoom, ComesTo, EndsBy, Entry, Err, ExtractError, false, Gives, has_room}
+use Rattle.tile_extract.proofs.Common.{Header, ids_of, IfSome, IndexEntryOverflow, is_some, length, List, MediumFault, None, of_read_error, Ok, one_told, Option, Options, OutOfMemory, PartsPut}
+use Rattle.tile_extract.proofs.Common.{PartsRefuse, PmtError, put_all, put_next, put_parts, Puts, PutsAll, PutsFound, PutsNext, PutsParts, range_of, range_read, RangeCauses, refl, Result, Some, subst}
+use Rattle.tile_extract.proofs.Common.{sym, tile_count, Took, took_as, true, WriterState, Writes, ℕ, [], ◌+◌, ◌∙◌, ◌∷◌, ◌≡◌, ◌≤◌}
 use Rattle.pm_format.specs.declared.error.PmtError.TheVariants as errors
 use Rattle.pm_format.specs.declared.error.ReadCause.TheVariants as causes
-use Rattle.pm_format.specs.declared.header.Header.{Header}
-use Rattle.pm_format.specs.Directory.{Entry}
-use Rattle.pm_format.specs.LookUp.{range_of}
-use Rattle.pm_format.specs.Options.{Options}
-use Rattle.pm_reader.specs.Answers.{Gives, RangeCauses, range_read}
-use Rattle.pm_writer.proofs.Took.{took_as}
-use Rattle.pm_writer.specs.Took.{Took}
-use Rattle.pm_writer.specs.Writing.{Writes, add_to}
-use Rattle.pm_writer.specs.declared.state.WriterState.{WriterState}
-use Rattle.pm_walk.specs.Collecting.{AllLieIn, AreOrdered}
-use Rattle.pm_walk.specs.Parts.{tile_count}
-use Rattle.tile_extract.specs.Written.{Adds, AddsLieIn, ByRoom, ComesTo, EndsBy, PartsPut, PartsRefuse, Puts, PutsAll, PutsFound, PutsNext, PutsParts, has_room, ids_of, of_read_error, put_all, put_next, put_parts}
-use Rattle.tile_extract.specs.declared.error.ExtractError.{ExtractError}
-use Rattle.tile_extract.specs.declared.error.ExtractError.TheVariants.{Archive, IndexEntryOverflow, MediumFault, OutOfMemory}
 use Rattle.tile_extract.proofs.AddedLemmas.{ends_all, ends_later, ends_rise}
 use Rattle.tile_extract.proofs.LyingLemmas.{puts_few, puts_lie}
-use Rattle.pm_walk.proofs.ToldLemmas.{both_told, one_told}
 
 -- a range that is read, and one that isn't there
 range_found : (b : List ℕ) (at len : ℕ) (bytes : List ℕ) → range_read b at len ≡ Ok bytes → range_of b at len ≡ Some bytes

@@ -1,21 +1,9 @@
 -- What an extraction answers and leaves, by what is found of the source.
-use Rattle.std.proofs.Common.{◌≡◌, inl, inr, ◌≤◌, ℕ, List, [], slice_index, Option, None, IfSome, Ok, Err, ap, arith}
-use Rattle.std.specs.Str.{IsUtf8}
-use Rattle.tile_ids.specs.Coord.{Coord}
-use Rattle.pm_format.specs.declared.error.PmtError.{PmtError}
+use Rattle.tile_extract.proofs.Common.{Answers, ap, Archive, arith, CollectCauses, CollectRefuses, Coord, Entry, Err, ExtractError, Header, IfSome, inl, inr, intervals, IntoBytes, IntoCauses}
+use Rattle.tile_extract.proofs.Common.{IntoLeaves, InvalidZoom, IsEarly, IsEmpty, IsUtf8, List, MediumNotEmpty, metadata_read, None, Ok, one_told, opened, Option, OutOfMemory, PmtError, ReadCauses}
+use Rattle.tile_extract.proofs.Common.{Refuses, slice_index, Source, TooManyTiles, walked, Within, ℕ, [], ◌≡◌, ◌≤◌}
 use Rattle.pm_format.specs.declared.error.PmtError.TheVariants as errors
 use Rattle.pm_format.specs.declared.error.ReadCause.TheVariants as causes
-use Rattle.pm_format.specs.declared.header.Header.{Header}
-use Rattle.pm_format.specs.Directory.{Entry}
-use Rattle.pm_format.specs.Opened.{opened}
-use Rattle.pm_reader.specs.Metadata.{metadata_read}
-use Rattle.tile_extract.specs.Cut.{intervals}
-use Rattle.tile_extract.specs.Extract.{Answers, CollectCauses, CollectRefuses, IntoBytes, IntoCauses, IntoLeaves, IsEarly, IsEmpty, ReadCauses, Refuses, Source}
-use Rattle.pm_walk.specs.Walk.{walked}
-use Rattle.pm_walk.specs.declared.extent.Extent.TheVariants.{Within}
-use Rattle.tile_extract.specs.declared.error.ExtractError.{ExtractError}
-use Rattle.tile_extract.specs.declared.error.ExtractError.TheVariants.{Archive, InvalidZoom, MediumNotEmpty, OutOfMemory, TooManyTiles}
-use Rattle.pm_walk.proofs.ToldLemmas.{one_told}
 
 -- an error that comes before the archive is begun
 abbrev pub ComesEarly : List ℕ → Coord → ℕ → ℕ → ExtractError → Type 0

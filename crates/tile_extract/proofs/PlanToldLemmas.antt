@@ -1,18 +1,10 @@
 -- The steps of an extraction over a source that may tell its bytes.
-use Rattle.std.proofs.Common.{◌≡◌, ℕ, List, Option, None, Some, IfSome, Ok, Err, subst}
-use Rattle.tile_ids.specs.Coord.{Coord}
-use Rattle.pm_format.specs.Directory.{Entry}
-use Rattle.pm_reader.specs.Opening.{header_of, root_of}
+use Rattle.tile_extract.proofs.Common.{Answers, CollectCauses, CollectRefuses, Coord, Entry, Err, ExtractError, header_of, IfSome, intervals, IsCollected, List, None, Ok, one_told, Option, root_of}
+use Rattle.tile_extract.proofs.Common.{Some, subst, Walked, walked, Within, ℕ, ◌≡◌}
 use Rattle.pm_reader.specs.declared.state.ReaderState.{ReaderState}
-use Rattle.tile_extract.specs.Cut.{intervals}
-use Rattle.tile_extract.specs.Extract.{Answers, CollectCauses, CollectRefuses, IsCollected}
-use Rattle.pm_walk.specs.Walk.{Walked, walked}
-use Rattle.pm_walk.specs.declared.extent.Extent.TheVariants.{Within}
 use Rattle.tile_extract.specs.Opening.{SourceRead}
-use Rattle.tile_extract.specs.declared.error.ExtractError.{ExtractError}
 use Rattle.tile_extract.proofs.DoneLemmas.{Planned}
 use Rattle.tile_extract.proofs.PlanLemmas.{ComesEarly, Found, collect_early, early_answers}
-use Rattle.pm_walk.proofs.ToldLemmas.{one_told}
 
 -- the walk of an opened reader
 abbrev pub walk_of : Coord → ℕ → ReaderState → List ℕ → Walked

@@ -1,12 +1,6 @@
 -- Where the words ask for what can be extracted and no count rose, a run is done, or memory ran out.
-use Rattle.std.proofs.Common.{◌≡◌, ℕ, List, [], Option, None, Some, Result, IfSome, sym, subst}
-use Rattle.tile_ids.specs.Coord.{Coord}
-use Rattle.base_values.specs.Counts.{Rose}
-use Rattle.pm_writer.specs.declared.places.ArchivePlaces.{ArchivePlaces}
-use Rattle.tile_extract.specs.Completeness.{CanExtract, IsDoneOrWanting}
-use Rattle.tile_extract.specs.Extract.{Answers, Causes}
-use Rattle.tile_extract.specs.Words.{Asked, asked}
-use Rattle.tile_extract.specs.declared.error.ExtractError.{ExtractError}
+use Rattle.tile_extract.proofs.Common.{Answers, ArchivePlaces, Asked, asked, CanExtract, Causes, Coord, ExtractError, IfSome, IsDoneOrWanting, List, None, Option, Result, Rose, Some, subst, sym, ℕ}
+use Rattle.tile_extract.proofs.Common.{[], ◌≡◌}
 use Rattle.tile_extract.proofs.CompleteLemmas.{all_end_well}
 
 -- an answer that ends well, where the medium tells that it is empty

@@ -1,16 +1,10 @@
 -- Entries of directories have lengths below 2^32.
-use Rattle.std.proofs.Common.{◌≡◌, ◌+◌, ◌^◌, ◌<◌, ℕ, zero, suc, Bool, true, false, nat_lt, if◌then◌else◌, List, [], ◌∷◌, length, Option, None, Some, option_map, Result, Ok, Err, refl, ap, subst}
-use Rattle.std.proofs.lemmas.Option.{none-some}
-use Rattle.pm_format.specs.declared.error.PmtError.{PmtError}
+use Rattle.tile_extract.proofs.Common.{ap, Bool, column, dir_of, entries_of, Entry, Err, false, Header, ids_from, if◌then◌else◌, leaf_of, length, List, lt_by, nat_lt, None, none-some, offsets_from}
+use Rattle.tile_extract.proofs.Common.{Ok, Opened, opened, Option, option_map, PmtError, range_of, refl, Result, Some, subst, suc, true, zero, ℕ, [], ◌+◌, ◌<◌, ◌^◌, ◌∷◌, ◌≡◌}
 use Rattle.pm_format.specs.declared.error.PmtError.TheVariants as errors
 use Rattle.pm_format.specs.declared.error.ReadCause.TheVariants as causes
-use Rattle.pm_format.specs.declared.header.Header.{Header}
-use Rattle.pm_format.specs.Directory.{Entry, column, dir_of, entries_of, ids_from, offsets_from}
-use Rattle.pm_format.specs.LookUp.{leaf_of, range_of}
-use Rattle.pm_format.specs.Opened.{Opened, opened}
 use Rattle.pm_format.specs.Varint.{below, number_at, spelled, u64_at}
 use Rattle.pm_format.proofs.OptionLemmas.{bind_some, map_some}
-use Rattle.pm_walk.proofs.CoveringLemmas.{lt_by}
 use Rattle.tile_extract.proofs.FitLemmas.{opened_parts}
 
 -- each length fits u32

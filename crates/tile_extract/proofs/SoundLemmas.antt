@@ -1,22 +1,11 @@
 -- The walk of a sound archive isn't refused, and comes to tiles that are there.
-use Rattle.std.proofs.Common.{◌≡◌, ◌∙◌, ◌≢◌, ◌+◌, ◌^◌, ◌≤◌, ◌<◌, ℕ, zero, suc, Bool, true, false, not, nat_le, nat_eq, ◌&&◌, if◌then◌else◌, ◌-◌, max, min, List, [], ◌∷◌, ◌++◌, Option, None, Some, Ok, refl, ap, sym, subst, arith}
-use Rattle.std.proofs.lemmas.Bool.{and_from}
-use Rattle.std.proofs.lemmas.Bool.Decides.{nat_tests}
-use Rattle.tile_ids.specs.declared.id.TheConstants.{MAX_TILE_ID}
+use Rattle.tile_extract.proofs.Common.{and_from, ap, arith, Bool, clip, clip_all, Coord, EachEntry, Entry, entry, entry_walk, false, fits_depth, HasData, Header, if◌then◌else◌, intervals, is_below}
+use Rattle.tile_extract.proofs.Common.{is_met, leaf_of, List, max, MAX_TILE_ID, met_of, min, nat_eq, nat_le, nat_tests, None, not, nothing_met, Ok, Option, parts, parts_of, refl, rises, Some, Sound}
+use Rattle.tile_extract.proofs.Common.{SoundDirectory, stands, stays_within, subst, suc, sym, then_walk, tile_by, to_le, to_lt, true, walk_each, Walked, walked, Within, zero, ℕ, [], ◌&&◌, ◌++◌, ◌+◌}
+use Rattle.tile_extract.proofs.Common.{◌-◌, ◌<◌, ◌^◌, ◌∙◌, ◌∷◌, ◌≡◌, ◌≢◌, ◌≤◌}
 use Rattle.pm_format.specs.declared.error.PmtError.TheVariants as errors
-use Rattle.pm_format.specs.declared.header.Header.{Header}
-use Rattle.pm_format.specs.Directory.{Entry, entry}
-use Rattle.pm_format.specs.LookUp.{leaf_of}
-use Rattle.pm_format.specs.Sound.{EachEntry, HasData, Sound, SoundDirectory}
-use Rattle.tile_ids.specs.Coord.{Coord}
-use Rattle.tile_extract.specs.Cut.{intervals}
-use Rattle.pm_walk.specs.Intervals.{is_below, is_met, stays_within}
-use Rattle.pm_walk.specs.Walk.{Walked, below, entry_walk, fits_depth, nothing_met, rises, stands, then_walk, tile_by, walk_each, walked}
+use Rattle.pm_walk.specs.Walk.{below}
 use Rattle.pm_walk.specs.declared.error.WalkError.TheVariants.{Archive}
-use Rattle.pm_walk.specs.declared.extent.Extent.TheVariants.{Within}
-use Rattle.tile_extract.specs.Met.{met_of}
-use Rattle.pm_walk.specs.Parts.{clip, clip_all, parts, parts_of}
-use Rattle.pm_walk.proofs.CoveringLemmas.{to_le, to_lt}
 use Rattle.pm_reader.proofs.QueueLemmas.{is_tile}
 use Rattle.pm_reader.proofs.SoundTileLemmas.{head_below, is_zero}
 use Rattle.tile_extract.proofs.ShortLemmas.{AreShort, leaf_short, root_short}

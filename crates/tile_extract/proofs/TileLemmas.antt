@@ -1,25 +1,11 @@
 -- The tiles of what parts come to, by their ids.
-use Rattle.std.proofs.Common.{◌≡◌, ◌∙◌, ◌≢◌, ◌+◌, ℕ, zero, suc, Bool, true, false, nat_le, nat_lt, nat_eq, ◌&&◌, if◌then◌else◌, List, [], ◌∷◌, ◌++◌, Option, None, Some, Result, Ok, Err, refl, ap, sym, arith}
-use Rattle.std.proofs.lemmas.Bool.{and_parts}
-use Rattle.std.proofs.lemmas.Bool.Decides.{nat_tests}
-use Rattle.std.proofs.lemmas.List.{append-nil, append_assoc}
-use Rattle.std.specs.List.{range_with_len}
-use Rattle.pm_format.specs.declared.error.PmtError.{PmtError}
+use Rattle.tile_extract.proofs.Common.{add_to, Adds, and_parts, ap, append-nil, append_assoc, Archive, AreOrdered, arith, Bool, covering, EndsBy, Entry, Err, ExtractError, false, filled, has_id}
+use Rattle.tile_extract.proofs.Common.{has_room, Header, held, ids_of, if◌then◌else◌, in_run, IndexEntryOverflow, List, lt_by, nat_eq, nat_le, nat_lt, nat_tests, None, none_below, Ok, Option, Options}
+use Rattle.tile_extract.proofs.Common.{PmtError, put_all, put_next, put_parts, range_of, range_with_len, refl, Result, Rises, Some, suc, sym, tile_in, true, zero, ℕ, [], ◌&&◌, ◌++◌, ◌+◌, ◌∙◌, ◌∷◌}
+use Rattle.tile_extract.proofs.Common.{◌≡◌, ◌≢◌}
 use Rattle.pm_format.specs.declared.error.PmtError.TheVariants as errors
 use Rattle.pm_format.specs.declared.error.ReadCause.TheVariants as causes
-use Rattle.pm_format.specs.declared.header.Header.{Header}
-use Rattle.pm_format.specs.Directory.{Entry}
-use Rattle.pm_format.specs.LookUp.{filled, range_of}
-use Rattle.pm_format.specs.Options.{Options}
-use Rattle.pm_writer.specs.Archive.{tile_in}
-use Rattle.pm_walk.specs.Collecting.{AreOrdered}
-use Rattle.pm_writer.specs.Writing.{add_to}
-use Rattle.tile_extract.specs.Written.{Adds, EndsBy, Rises, has_room, ids_of, put_all, put_next, put_parts}
-use Rattle.tile_extract.specs.declared.error.ExtractError.{ExtractError}
-use Rattle.tile_extract.specs.declared.error.ExtractError.TheVariants.{Archive, IndexEntryOverflow}
 use Rattle.tile_extract.proofs.AddedLemmas.{at_each, ends_add, ends_later, ends_rise, ok_is}
-use Rattle.pm_walk.proofs.CoveringLemmas.{covering, has_id, in_run, lt_by, none_below}
-use Rattle.pm_walk.proofs.WholeLemmas.{held}
 
 -- the bytes that an entry leads to, none where they aren't there
 abbrev pub bytes_at : Header → List ℕ → Entry → List ℕ

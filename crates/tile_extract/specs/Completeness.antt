@@ -1,16 +1,6 @@
 -- Archives of which each subtree is extracted, where memory suffices and nothing fails.
 use Rattle.std.specs.Prelude.{◌≡◌, ◌<◌, ◌≤◌, ◌^◌, ℕ, List, [], Some, Result, Ok, Err}
-use Rattle.std.specs.FinMap.{FinMap, entries, get}
-use Rattle.std.specs.Ordering.{nat_cmp}
-use Rattle.std.specs.Str.{IsUtf8}
-use Rattle.tile_ids.specs.Coord.{Coord}
-use Rattle.base_values.specs.Counts.{Rose}
-use Rattle.pm_format.specs.LookUp.{archive_map}
-use Rattle.pm_format.specs.Sound.{Sound}
-use Rattle.pm_reader.specs.Metadata.{metadata_read}
-use Rattle.pm_writer.specs.Causes.{ArchiveFits}
-use Rattle.pm_writer.specs.Writing.{data_end}
-use Rattle.pm_writer.specs.declared.places.ArchivePlaces.{ArchivePlaces}
+use Rattle.tile_extract.specs.Common.{archive_map, ArchiveFits, ArchivePlaces, Coord, data_end, entries, FinMap, get, IsUtf8, metadata_read, nat_cmp, Rose, Sound}
 use Rattle.tile_extract.specs.Cut.{cut, options_from}
 use Rattle.tile_extract.specs.Extract.{Answers, Causes, IsValid, count_met}
 use Rattle.tile_extract.specs.declared.error.ExtractError.{ExtractError}

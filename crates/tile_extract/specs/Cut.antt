@@ -1,14 +1,8 @@
 -- The part of an archive that is extracted, and what the new archive says beside its tiles.
 use Rattle.std.specs.Prelude.{◌≡◌, ℕ, zero, suc, ◌+◌, ◌-◌, ◌*◌, ◌^◌, List, [], ◌∷◌, if◌then◌else◌, Option, Some, None, Result, Ok, Err, refl}
-use Rattle.tile_ids.specs.Coord.{Coord}
+use Rattle.tile_extract.specs.Common.{Coord, Header, in_intervals, metadata_read, Opened, opened, Options, PmtError}
 use Rattle.tile_ids.specs.Hilbert.{number_of, pyramid}
 use Rattle.pm_format.specs.declared.compression.Compression.TheVariants as compression
-use Rattle.pm_format.specs.declared.error.PmtError.{PmtError}
-use Rattle.pm_format.specs.declared.header.Header.{Header}
-use Rattle.pm_format.specs.Opened.{Opened, opened}
-use Rattle.pm_format.specs.Options.{Options}
-use Rattle.pm_reader.specs.Metadata.{metadata_read}
-use Rattle.pm_walk.specs.Intervals.{in_intervals}
 
 -- the first and the last id of the descendants of a tile at a zoom
 abbrev pub interval : Coord → ℕ → ℕ × ℕ

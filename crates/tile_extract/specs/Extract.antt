@@ -1,35 +1,15 @@
 -- What an extraction answers, why, and what it leaves.
 use Rattle.std.specs.Prelude.{◌+◌, ◌≡◌, ◌≢◌, ◌⊎◌, ◌≤◌, ◌<◌, ℕ, true, List, [], ◌∷◌, length, Option, Some, None, Result, Ok, Err, IfSome}
-use Rattle.std.specs.FinMap.{FinMap, entries, get}
-use Rattle.std.specs.Ordering.{nat_cmp}
-use Rattle.std.specs.Str.{IsUtf8}
-use Rattle.tile_ids.specs.Coord.{Coord}
-use Rattle.base_values.specs.Counts.{Rose}
-use Rattle.pm_format.specs.declared.error.PmtError.{PmtError}
+use Rattle.tile_extract.specs.Common.{AllLieIn, archive_map, ArchiveFits, ArchivePlaces, AreOrdered, canon, Coord, entries, Entry, FinMap, get, in_intervals, IsArchivable, IsHidden, IsOpenRefusal}
+use Rattle.tile_extract.specs.Common.{IsUtf8, metadata_read, nat_cmp, Opened, opened, Options, parts, places_of, places_read, PmtError, Rose, tile_count, Walked}
 use Rattle.pm_format.specs.declared.error.PmtError.TheVariants as errors
 use Rattle.pm_format.specs.declared.error.ReadCause.TheVariants as causes
-use Rattle.pm_format.specs.Directory.{Entry}
-use Rattle.pm_format.specs.LookUp.{archive_map}
-use Rattle.pm_format.specs.Opened.{Opened, opened}
-use Rattle.pm_format.specs.Options.{Options}
 use Rattle.pm_format.specs.WellFormed.{WellFormed}
 use Rattle.pm_reader.specs.Answers.{LookUpCauses}
-use Rattle.pm_reader.specs.Metadata.{metadata_read}
-use Rattle.pm_reader.specs.Opening.{IsOpenRefusal}
-use Rattle.pm_writer.specs.Archivable.{IsArchivable}
-use Rattle.pm_writer.specs.Archive.{canon}
-use Rattle.pm_writer.specs.Causes.{ArchiveFits}
-use Rattle.pm_writer.specs.Pieces.{IsHidden}
 use Rattle.pm_contents.specs.Pieces.{BothTold}
-use Rattle.pm_writer.specs.Places.{places_of, places_read}
-use Rattle.pm_writer.specs.declared.places.ArchivePlaces.{ArchivePlaces}
-use Rattle.pm_walk.specs.Intervals.{in_intervals}
 use Rattle.tile_extract.specs.Cut.{cut, intervals, options_from, options_of}
-use Rattle.pm_walk.specs.Collecting.{AllLieIn, AreOrdered}
-use Rattle.pm_walk.specs.Walk.{Walked}
 use Rattle.pm_walk.specs.declared.error.WalkError.TheVariants as walk
 use Rattle.tile_extract.specs.Met.{met_of}
-use Rattle.pm_walk.specs.Parts.{parts, tile_count}
 use Rattle.tile_extract.specs.Written.{ComesTo}
 use Rattle.tile_extract.specs.declared.error.ExtractError.{ExtractError}
 use Rattle.tile_extract.specs.declared.error.ExtractError.TheVariants.{InvalidZoom, MediumNotEmpty, Archive, TooManyTiles, IndexEntryOverflow, MediumFault, OutOfMemory}

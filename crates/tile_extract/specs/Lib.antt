@@ -1,3 +1,4 @@
+pub mod Common
 pub mod Cut
 pub mod Met
 pub mod Written

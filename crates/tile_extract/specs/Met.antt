@@ -1,8 +1,6 @@
 -- The directories that the intervals of a tile meet: their tile entries, or the first refusal.
 use Rattle.std.specs.Prelude.{ℕ, List, None}
-use Rattle.tile_ids.specs.Coord.{Coord}
-use Rattle.pm_format.specs.Opened.{Opened}
-use Rattle.pm_walk.specs.Walk.{Walked, walked}
+use Rattle.tile_extract.specs.Common.{Coord, Opened, Walked, walked}
 use Rattle.pm_walk.specs.declared.extent.Extent.TheVariants.{Within}
 use Rattle.tile_extract.specs.Cut.{intervals}
 

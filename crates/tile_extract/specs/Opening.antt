@@ -1,13 +1,8 @@
 -- The tests before the tiles of an archive are sought: the medium is empty, and the source opens and has metadata.
 use Rattle.std.specs.Prelude.{◌≡◌, ◌⊎◌, ◌<◌, ℕ, List, length, Option, Result, Ok, Err, IfSome}
-use Rattle.std.specs.Str.{IsUtf8}
-use Rattle.base_values.specs.Counts.{Rose}
-use Rattle.pm_format.specs.declared.error.PmtError.{PmtError}
+use Rattle.tile_extract.specs.Common.{header_of, IsUtf8, metadata_read, Opened, opened, OpensAs, PmtError, Rose}
 use Rattle.pm_format.specs.declared.error.PmtError.TheVariants as errors
 use Rattle.pm_format.specs.declared.error.ReadCause.TheVariants as causes
-use Rattle.pm_format.specs.Opened.{Opened, opened}
-use Rattle.pm_reader.specs.Metadata.{metadata_read}
-use Rattle.pm_reader.specs.Opening.{OpensAs, header_of}
 use Rattle.pm_reader.specs.declared.state.ReaderState.{ReaderState}
 use Rattle.tile_extract.specs.Extract.{IsEmpty, IsMetadataRefused, ReadCauses}
 use Rattle.tile_extract.specs.declared.error.ExtractError.{ExtractError}

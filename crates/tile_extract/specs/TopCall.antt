@@ -1,6 +1,6 @@
 -- What a run of the extractor ends in.
 use Rattle.std.specs.Prelude.{Option, Some, None, Result, Ok, Err}
-use Rattle.pm_writer.specs.declared.places.ArchivePlaces.{ArchivePlaces}
+use Rattle.tile_extract.specs.Common.{ArchivePlaces}
 use Rattle.tile_extract.specs.Words.{Asked}
 use Rattle.tile_extract.specs.declared.error.ExtractError.{ExtractError}
 use Rattle.tile_extract.specs.declared.error.ExtractError.TheVariants as errors

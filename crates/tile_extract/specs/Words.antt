@@ -2,7 +2,7 @@
 use Rattle.std.specs.Prelude.{◌≡◌, ℕ, ◌-◌, ◌^◌, List, [], ◌∷◌, Option, Some, None, codes, refl}
 use Rattle.std.specs.Option.{option_and_then, option_map}
 use Rattle.line_words.specs.Number.{number_to}
-use Rattle.tile_ids.specs.Coord.{Coord}
+use Rattle.tile_extract.specs.Common.{Coord}
 
 -- a tile, the greatest zoom of its descendants, and how many tiles there may be
 pub record Asked : Type 0 where

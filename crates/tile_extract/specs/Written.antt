@@ -1,25 +1,11 @@
 -- The tiles of parts in order, added to an archive that is begun.
 use Rattle.std.specs.Prelude.{◌≡◌, ◌≢◌, ◌⊎◌, ◌+◌, ◌≤◌, ℕ, ◌^◌, Bool, true, false, List, [], ◌∷◌, ◌++◌, length, nat_lt, ◌&&◌, Option, Some, None, Result, Ok, Err, IfSome}
-use Rattle.base_values.specs.Counts.{Rose}
-use Rattle.pm_format.specs.declared.error.PmtError.{PmtError}
+use Rattle.tile_extract.specs.Common.{add_to, AllLieIn, archive, ArchiveFits, ArchivePlaces, data_end, Entry, Header, in_intervals, IsArchivable, IsHidden, Options, places_of, PmtError, range_of}
+use Rattle.tile_extract.specs.Common.{Rose, tile_count, Writes}
 use Rattle.pm_format.specs.declared.error.PmtError.TheVariants as errors
 use Rattle.pm_format.specs.declared.error.ReadCause.TheVariants as causes
-use Rattle.pm_format.specs.declared.header.Header.{Header}
-use Rattle.pm_format.specs.Directory.{Entry}
-use Rattle.pm_format.specs.LookUp.{range_of}
-use Rattle.pm_format.specs.Options.{Options}
-use Rattle.pm_writer.specs.Archivable.{IsArchivable}
-use Rattle.pm_writer.specs.Archive.{archive}
-use Rattle.pm_writer.specs.Causes.{ArchiveFits}
-use Rattle.pm_writer.specs.Pieces.{IsHidden}
-use Rattle.pm_writer.specs.Places.{places_of}
 use Rattle.pm_writer.specs.Took.{Took}
-use Rattle.pm_writer.specs.Writing.{Writes, add_to, data_end}
-use Rattle.pm_writer.specs.declared.places.ArchivePlaces.{ArchivePlaces}
 use Rattle.pm_writer.specs.declared.state.WriterState.{WriterState}
-use Rattle.pm_walk.specs.Collecting.{AllLieIn}
-use Rattle.pm_walk.specs.Intervals.{in_intervals}
-use Rattle.pm_walk.specs.Parts.{tile_count}
 pub use Rattle.pm_walk.specs.Parts.{ids_of}
 use Rattle.pm_walk.specs.declared.error.WalkError.{WalkError}
 use Rattle.pm_walk.specs.declared.error.WalkError.TheVariants as walk

@@ -1,11 +1,7 @@
 // The parts of one subtree, and what its archive says beside its tiles.
 ghost use Rattle.std.specs.Prelude.{◌≡◌, ◌≤◌, ◌+◌, None, IfSome, IfOk, IfErr};
-ghost use Rattle.pm_reader.specs.Opening.{header_of, root_of};
-ghost use Rattle.pm_reader.specs.Reads.{ReadsOnly};
-ghost use Rattle.pm_walk.specs.Collecting.{AllLieIn, AreOrdered};
-ghost use Rattle.pm_walk.specs.Walk.{walked};
+ghost use Rattle.tile_extract.specs.Common.{AllLieIn, AreOrdered, header_of, ReadsOnly, root_of, tile_count, walked};
 ghost use Rattle.pm_walk.specs.declared.extent.Extent.TheVariants as extents;
-ghost use Rattle.pm_walk.specs.Parts.{tile_count};
 ghost use Rattle.tile_extract.specs.Cut.{intervals, options_from};
 ghost use Rattle.tile_extract.specs.Extract.{CollectCauses, CollectRefuses, IsCollected};
 ghost use Rattle.tile_extract.specs.Written.{of_walk_error};

@@ -1,7 +1,6 @@
 // The archive of a subtree, from one archive to another.
 ghost use Rattle.std.specs.Prelude.{◌≤◌, ◌+◌, IfSome};
-ghost use Rattle.byte_media.specs.Kept.{KeepsMedium};
-ghost use Rattle.pm_reader.specs.Reads.{ReadsOnly};
+ghost use Rattle.tile_extract.specs.Common.{KeepsMedium, ReadsOnly};
 ghost use Rattle.tile_extract.specs.Extract.{Answers, Causes, IntoCauses, IntoLeaves, IsEmpty, IsValid, Leaves, LeavesUncompared, LeavesUnread, reads_at_most};
 
 use crate::ExtractError;

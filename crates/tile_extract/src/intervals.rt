@@ -1,7 +1,6 @@
 // The ids of what lies below a tile, zoom by zoom.
 ghost use Rattle.std.specs.Prelude.{◌≡◌, ◌≤◌, IfOk};
-ghost use Rattle.tile_ids.specs.Coord.{IsCoord};
-ghost use Rattle.pm_walk.specs.Intervals.{AreApart};
+ghost use Rattle.tile_extract.specs.Common.{AreApart, IsCoord};
 ghost use Rattle.tile_extract.specs.Cut.{interval, intervals};
 
 use base_values::OutOfMemory;

@@ -1,13 +1,9 @@
 //! Laws of extraction.
 ghost use Rattle.std.specs.Prelude.{◌≡◌, ◌<◌, ◌≤◌, ◌^◌, ℕ, All, List, Ok, Result, length};
-ghost use Rattle.std.specs.Str.{IsUtf8};
-ghost use Rattle.pm_format.specs.Sound.{Sound};
-ghost use Rattle.pm_reader.specs.Metadata.{metadata_read};
-ghost use Rattle.pm_writer.specs.declared.places.ArchivePlaces.{ArchivePlaces};
+ghost use Rattle.tile_extract.specs.Common.{ArchivePlaces, Coord, IsUtf8, metadata_read, Sound};
 ghost use Rattle.tile_extract.specs.Completeness.{CanExtract, EndsWell};
 ghost use Rattle.tile_extract.specs.Extract.{IsValid, count_met};
 ghost use Rattle.tile_extract.specs.declared.error.ExtractError.{ExtractError};
-ghost use Rattle.tile_ids.specs.Coord.{Coord};
 
 /// Where an archive is sound, its metadata a text, the zoom valid, the medium empty and told, the tiles few enough, the new archive within its bounds, and no count of faults rose, `extract` answers `Ok` or
 /// `OutOfMemory`.

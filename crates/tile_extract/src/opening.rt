@@ -1,7 +1,6 @@
 // What is tested before the tiles of an archive are sought.
 ghost use Rattle.std.specs.Prelude.{◌≡◌, ◌≤◌, ◌+◌, IfOk, IfErr, IfSome};
-ghost use Rattle.pm_format.specs.Opened.{opened};
-ghost use Rattle.pm_reader.specs.Reads.{ReadsOnly};
+ghost use Rattle.tile_extract.specs.Common.{opened, ReadsOnly};
 ghost use Rattle.tile_extract.specs.Extract.{IsValid};
 ghost use Rattle.tile_extract.specs.Opening.{MediumTested, SourceCauses, SourceRead, opening_reads};
 

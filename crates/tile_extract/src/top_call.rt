@@ -1,8 +1,6 @@
 // The whole extractor as one call.
 ghost use Rattle.std.specs.Prelude.{◌≡◌, ◌≢◌, ◌+◌, ◌≤◌, [], Some, IfSome};
-ghost use Rattle.base_values.specs.Counts.{Rose};
-ghost use Rattle.byte_media.specs.Kept.{KeepsMedium};
-ghost use Rattle.pm_reader.specs.Reads.{ReadsOnly};
+ghost use Rattle.tile_extract.specs.Common.{KeepsMedium, ReadsOnly, Rose};
 ghost use Rattle.tile_extract.specs.Completeness.{CanExtract, IsDoneOrWanting};
 ghost use Rattle.tile_extract.specs.Extract.{Answers, Causes, Leaves, LeavesUncompared, LeavesUnread, reads_at_most};
 ghost use Rattle.tile_extract.specs.TopCall.{IsFor, OfExtract};

@@ -1,16 +1,9 @@
 // The tiles of parts, written to a medium.
 ghost use Rattle.std.specs.Prelude.{◌≡◌, ◌+◌, ◌≤◌, [], length, false, IfSome, OnOk, IsErrOf, None};
-ghost use Rattle.base_values.specs.Counts.{Rose};
-ghost use Rattle.byte_media.specs.Kept.{KeepsMedium};
+ghost use Rattle.tile_extract.specs.Common.{AreOrdered, has_failed, header_of, KeepsMedium, Options, ReadsOnly, Rose, tile_count, Writes};
 ghost use Rattle.tile_ids.specs.declared.id.TheConstants.{MAX_TILE_ID};
-ghost use Rattle.pm_format.specs.Options.{Options};
 ghost use Rattle.pm_format.specs.declared.compression.Compression.TheVariants as compression;
-ghost use Rattle.pm_reader.specs.Opening.{header_of};
-ghost use Rattle.pm_reader.specs.Reads.{ReadsOnly};
 ghost use Rattle.pm_writer.specs.Adding.{WhereWrites, WritesSome};
-ghost use Rattle.pm_writer.specs.Writing.{Writes, has_failed};
-ghost use Rattle.pm_walk.specs.Collecting.{AreOrdered};
-ghost use Rattle.pm_walk.specs.Parts.{tile_count};
 ghost use Rattle.tile_extract.specs.Written.{PartsPut, Puts, ShowsNone, WriteCauses, WritesParts, ids_of, of_read_error, of_write_error};
 
 use crate::ExtractError;

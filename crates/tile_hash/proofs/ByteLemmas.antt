@@ -1,7 +1,6 @@
 -- Lists that have the same bytes from some byte on, and the words that are read there.
-use Rattle.std.proofs.Common.{◌≡◌, ℕ, ◌+◌, ◌<◌, ◌≤◌, List, ◌++◌, length, take, drop, slice_index, refl, sym, ap, ◌∙◌, arith, lit<, add-zero, add_assoc, append_assoc}
-use Rattle.std.proofs.lemmas.List.{get_or_append_left, get_or-append-add, get_or-take, get_or-drop, take-append-drop}
-use Rattle.tile_hash.specs.Words.{word64}
+use Rattle.tile_hash.proofs.Common.{add-zero, add_assoc, ap, append_assoc, arith, drop, get_or-append-add, get_or-drop, get_or-take, get_or_append_left, length, List, lit<, refl, slice_index, sym}
+use Rattle.tile_hash.proofs.Common.{take, take-append-drop, word64, ℕ, ◌++◌, ◌+◌, ◌<◌, ◌∙◌, ◌≡◌, ◌≤◌}
 
 -- n bytes from byte i of b are those from byte j of c
 abbrev pub SameBytes : ℕ → List ℕ → ℕ → List ℕ → ℕ → Type 0

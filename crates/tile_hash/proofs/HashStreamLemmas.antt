@@ -1,9 +1,6 @@
 -- What a stream of each algorithm has taken.
-use Rattle.std.proofs.Common.{◌≡◌, ℕ, List, [], ◌∷◌, ◌++◌, Result, IfOk, refl, sym, subst, ◌∙◌, ap}
-use Rattle.tile_hash.specs.Digest.{digest}
-use Rattle.tile_hash.specs.Fnv.{fnv1a, hashed_from, offset_basis, byte_hashed}
+use Rattle.tile_hash.proofs.Common.{ap, byte_hashed, digest, fnv1a, HashAlgorithm, hashed_from, IfOk, List, offset_basis, refl, Result, subst, sym, ℕ, [], ◌++◌, ◌∙◌, ◌∷◌, ◌≡◌}
 use Rattle.tile_hash.specs.HashStream.{HasTaken, Took, algorithm_of}
-use Rattle.tile_hash.specs.declared.algorithm.HashAlgorithm.{HashAlgorithm}
 use Rattle.tile_hash.specs.declared.hash_stream.HashStream.{HashStream}
 use Rattle.tile_hash.specs.declared.hash_stream.Hasher.{Hasher}
 

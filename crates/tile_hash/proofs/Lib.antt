@@ -1,3 +1,4 @@
+mod Common
 pub mod ByteLemmas
 pub mod HashStreamLemmas
 pub mod StepLemmas

@@ -1,12 +1,7 @@
 -- One more turn of each loop.
-use Rattle.std.proofs.Common.{◌≡◌, ℕ, ◌+◌, ◌*◌, ◌%◌, ◌<◌, ◌≤◌, List, length, slice_index, drop, add-one, drop-cons, refl}
-use Rattle.std.proofs.lemmas.List.{drop_all}
-use Rattle.tile_hash.specs.Words.{add64, word64}
-use Rattle.tile_hash.specs.Fnv.{byte_hashed, hashed_from}
+use Rattle.tile_hash.proofs.Common.{add-one, add64, after_bytes, after_words, blocks, byte_hashed, byte_taken, drop, drop-cons, drop_all, first_mixes, hashed_from, lanes_after, length, List, mix}
+use Rattle.tile_hash.proofs.Common.{more_mixes, pair, pairs, refl, scrambled, slice_index, stripe_taken, striped, stripes, taken, word64, word_taken, ℕ, ◌%◌, ◌*◌, ◌+◌, ◌<◌, ◌≡◌, ◌≤◌}
 use Rattle.tile_hash.specs.Xxh64 as X
-use Rattle.tile_hash.specs.Xxh64.{lanes_after, after_words, after_bytes, word_taken, byte_taken}
-use Rattle.tile_hash.specs.Xxh3Stream.{stripe_taken, taken}
-use Rattle.tile_hash.specs.Xxh3.{pair, pairs, mix, first_mixes, more_mixes, striped, stripes, scrambled, blocks}
 
 -- what the bytes behind the first i make of the hash stays the same
 pub hashed_step : (bytes : List ℕ) (hash i : ℕ) → i < length bytes

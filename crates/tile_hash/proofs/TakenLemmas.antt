@@ -1,9 +1,6 @@
 -- The lanes of XXH3 along the stripes of a list, whatever the block.
-use Rattle.std.proofs.Common.{◌≡◌, ℕ, zero, suc, ◌+◌, ◌-◌, ◌*◌, ◌/◌, ◌%◌, ◌<◌, ◌≤◌, inl, inr, List, ◌++◌, length, refl, sym, ◌∙◌, arith, lit<, add-one, add-zero, add-suc}
-use Rattle.std.proofs.lemmas.Bool.{cases_eq, eq-eqb, ne_eqb}
-use Rattle.tile_hash.specs.Words.{word64}
-use Rattle.tile_hash.specs.Xxh3.{lane, striped, scrambled, stripes, blocks, first_lanes, all_stripes, block_count, stripe_count}
-use Rattle.tile_hash.specs.Xxh3Stream.{stripe_taken, taken}
+use Rattle.tile_hash.proofs.Common.{add-one, add-suc, add-zero, all_stripes, arith, block_count, blocks, cases_eq, eq-eqb, first_lanes, inl, inr, lane, length, List, lit<, ne_eqb, refl, scrambled}
+use Rattle.tile_hash.proofs.Common.{stripe_count, stripe_taken, striped, stripes, suc, sym, taken, word64, zero, ℕ, ◌%◌, ◌*◌, ◌++◌, ◌+◌, ◌-◌, ◌/◌, ◌<◌, ◌∙◌, ◌≡◌, ◌≤◌}
 use Rattle.tile_hash.proofs.ByteLemmas.{SameBytes, word_within, same_within, same_front}
 use Rattle.tile_hash.proofs.StepLemmas.{taken_more, stripes_more, blocks_more}
 

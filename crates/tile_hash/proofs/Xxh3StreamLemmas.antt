@@ -1,12 +1,8 @@
 -- XXH3 of a list that grows piece by piece.
-use Rattle.std.proofs.Common.{◌≡◌, ◌≢◌, ℕ, ◌+◌, ◌-◌, ◌*◌, ◌/◌, ◌%◌, ◌^◌, ◌<◌, ◌≤◌, inl, inr, List, [], ◌++◌, length, take, drop, refl, sym, ap, ◌∙◌, arith, add-zero, zero-add, length-append, length-drop}
-use Rattle.std.proofs.lemmas.List.{drop-append-le, append-nil, append_assoc, take-append-drop, drop-drop, take_at, take_rest, take_all, length-take-le}
-use Rattle.std.proofs.lemmas.Bool.{cases_eq, lt-leb}
-use Rattle.std.proofs.lemmas.Slice.{take-put_mid}
-use borrow.Rule.Slice.PartMut.{put_mid}
-use Rattle.tile_hash.specs.Words.{mul64, prime64_1}
-use Rattle.tile_hash.specs.Xxh3.{first_lanes, striped, xxh3_64, of_long, all_lanes, all_stripes, lanes_merged}
-use Rattle.tile_hash.specs.Xxh3Stream.{HasTaken, taken}
+use Rattle.tile_hash.proofs.Common.{add-zero, all_lanes, all_stripes, ap, append-nil, append_assoc, arith, cases_eq, drop, drop-append-le, drop-drop, first_lanes, inl, inr, lanes_merged, length}
+use Rattle.tile_hash.proofs.Common.{length-append, length-drop, length-take-le, List, lt-leb, mul64, of_long, prime64_1, put_mid, refl, striped, sym, take, take-append-drop, take-put_mid, take_all}
+use Rattle.tile_hash.proofs.Common.{take_at, take_rest, taken, xxh3_64, zero-add, ℕ, [], ◌%◌, ◌*◌, ◌++◌, ◌+◌, ◌-◌, ◌/◌, ◌<◌, ◌^◌, ◌∙◌, ◌≡◌, ◌≢◌, ◌≤◌}
+use Rattle.tile_hash.specs.Xxh3Stream.{HasTaken}
 use Rattle.tile_hash.specs.declared.xxh3.stream.Xxh3Stream.{Xxh3Stream}
 use Rattle.tile_hash.proofs.ByteLemmas.{SameBytes, same_end, same_front, same_behind}
 use Rattle.tile_hash.proofs.TakenLemmas.{same_taken, taken_on, taken_front, all_taken, same_stripe}

@@ -1,12 +1,7 @@
 -- XXH64 of a list that grows piece by piece.
-use Rattle.std.proofs.Common.{◌≡◌, ℕ, zero, suc, ◌+◌, ◌-◌, ◌*◌, ◌/◌, ◌%◌, ◌^◌, ◌<◌, ◌≤◌, List, [], ◌++◌, length, take, drop, Bool, true, false, ◌&&◌, nat_lt, nat_eq, refl, sym, ap, subst, ◌∙◌, arith, add-zero, length-append}
-use Rattle.std.proofs.lemmas.List.{drop-append-le, drop_all}
-use Rattle.std.proofs.lemmas.Bool.Decides.{nat_tests}
-use Rattle.std.proofs.lemmas.Slice.{take-put_mid}
-use borrow.Rule.Slice.PartMut.{put_mid}
-use Rattle.tile_hash.specs.Words.{word64}
-use Rattle.tile_hash.specs.Xxh64.{striped, lanes_after, begun, xxh64, after_rest, avalanche, first_lanes}
-use Rattle.tile_hash.specs.Xxh64Stream.{HasTaken}
+use Rattle.tile_hash.proofs.Common.{add-zero, after_rest, ap, arith, avalanche, begun, Bool, drop, drop-append-le, drop_all, false, HasTaken, lanes_after, length, length-append, List, nat_eq, nat_lt}
+use Rattle.tile_hash.proofs.Common.{nat_tests, put_mid, refl, subst, suc, sym, take, take-put_mid, true, word64, xxh64, zero, ℕ, [], ◌%◌, ◌&&◌, ◌*◌, ◌++◌, ◌+◌, ◌-◌, ◌/◌, ◌<◌, ◌^◌, ◌∙◌, ◌≡◌, ◌≤◌}
+use Rattle.tile_hash.specs.Xxh64.{striped, first_lanes}
 use Rattle.tile_hash.specs.declared.xxh_64.stream.Xxh64Stream.{Xxh64Stream}
 use Rattle.tile_hash.proofs.ByteLemmas.{SameBytes, word_within, first_word, same_front, same_behind, same_end}
 use Rattle.tile_hash.proofs.StepLemmas.{lanes_more}

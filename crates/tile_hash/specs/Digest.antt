@@ -1,9 +1,6 @@
 -- The text of the bytes under an algorithm, and the algorithms' names.
 use Rattle.std.specs.Prelude.{ℕ, List, codes}
-use Rattle.std.specs.Int.{w64, to_be_bytes}
-use Rattle.std.specs.Fmt.{decimal}
-use Rattle.hex.specs.Hex.{encode_upper}
-use Rattle.md5.specs.Md5.{md5}
+use Rattle.tile_hash.specs.Common.{decimal, encode_upper, md5, to_be_bytes, w64}
 use Rattle.tile_hash.specs.Fnv.{fnv1a}
 use Rattle.tile_hash.specs.Xxh64.{xxh64}
 use Rattle.tile_hash.specs.Xxh3.{xxh3_64}

@@ -1,6 +1,6 @@
 -- The digest of bytes that come in pieces.
 use Rattle.std.specs.Prelude.{◌≡◌, ℕ, List}
-use Rattle.md5.specs.Md5.{Holds}
+use Rattle.tile_hash.specs.Common.{Holds}
 use Rattle.tile_hash.specs.Fnv.{fnv1a}
 use Rattle.tile_hash.specs.Xxh64Stream as Xxh64Stream
 use Rattle.tile_hash.specs.Xxh3Stream as Xxh3Stream

@@ -1,3 +1,4 @@
+pub mod Common
 pub mod Digest
 pub mod Fnv
 pub mod HashStream

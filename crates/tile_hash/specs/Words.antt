@@ -1,6 +1,6 @@
 -- Numbers of 64 bits, as the xxHash specification writes them: sums and products are modulo 2 ^ 64, and words are read low byte first.
 use Rattle.std.specs.Prelude.{ℕ, ◌+◌, ◌*◌, ◌/◌, ◌%◌, ◌^◌, List, [], ◌∷◌, slice_index, bit_xor}
-use Rattle.std.specs.Int.{w32, w64, rotate_left, from_le_bytes}
+use Rattle.tile_hash.specs.Common.{from_le_bytes, rotate_left, w32, w64}
 
 abbrev pub add64 : ℕ → ℕ → ℕ
 add64 x y = (x + y) % 2 ^ 64

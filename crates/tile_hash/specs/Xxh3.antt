@@ -1,6 +1,6 @@
 -- XXH3 with 64 bits and seed 0, as a function of the whole list (the xxHash specification, "XXH3 algorithm overview").
 use Rattle.std.specs.Prelude.{ℕ, zero, suc, ◌+◌, ◌-◌, ◌*◌, ◌/◌, ◌%◌, ◌^◌, nat_le, List, [], ◌∷◌, length, slice_index, bit_xor, bit_or, if◌then◌else◌}
-use Rattle.std.specs.Int.{w64, swap_bytes}
+use Rattle.tile_hash.specs.Common.{swap_bytes, w64}
 use Rattle.tile_hash.specs.Words.{add64, mul64, rotl, xor_shifted, word32, word64, prime64_1, prime64_2, prime64_3, prime64_4, prime64_5, prime32_1, prime32_2, prime32_3}
 use Rattle.tile_hash.specs.Xxh64.{avalanche}
 use Rattle.tile_hash.specs.Secret.{secret}

@@ -1,6 +1,6 @@
 // The digests by their names.
 ghost use Rattle.std.specs.Prelude.{◌≡◌, map, IfOk, IfSome};
-ghost use Rattle.std.specs.Char.{to_ascii_lowercase};
+ghost use Rattle.tile_hash.specs.Common.{to_ascii_lowercase};
 ghost use Rattle.tile_hash.specs.Digest.{name_of, digest};
 ghost use Rattle.tile_hash.specs.declared.algorithm.HashAlgorithm.{HashAlgorithm};
 

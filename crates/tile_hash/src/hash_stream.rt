@@ -1,7 +1,6 @@
 // The digest of bytes that come in pieces.
 ghost use Rattle.std.specs.Prelude.{◌≡◌, ℕ, ◌++◌, List, [], IfOk};
-ghost use Rattle.std.specs.Fmt.{decimal};
-ghost use Rattle.hex.specs.Hex.{encode_upper};
+ghost use Rattle.tile_hash.specs.Common.{decimal, encode_upper};
 ghost use Rattle.tile_hash.specs.Digest.{digest};
 ghost use Rattle.tile_hash.specs.HashStream.{HasTaken};
 ghost use Rattle.tile_hash.specs.declared.algorithm.HashAlgorithm.{HashAlgorithm};

@@ -1,8 +1,6 @@
 // A digest's text of up to 32 bytes, in place.
 ghost use Rattle.std.specs.Prelude.{◌≡◌, ◌≤◌, length};
-ghost use Rattle.std.specs.Fmt.{decimal};
-ghost use Rattle.hex.specs.Hex.{encode_upper};
-ghost use Rattle.md5.specs.Md5.{md5};
+ghost use Rattle.tile_hash.specs.Common.{decimal, encode_upper, md5};
 ghost use Rattle.tile_hash.specs.Digest.{word_text};
 
 use crate::md5_hex::write_upper_hex;

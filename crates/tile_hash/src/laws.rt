@@ -1,6 +1,6 @@
 //! Laws of the digests, over the definitions that the calls are proved by. None of these functions does anything.
 ghost use Rattle.std.specs.Prelude.{◌≡◌, ℕ, List, map};
-ghost use Rattle.std.specs.Char.{to_ascii_uppercase};
+ghost use Rattle.tile_hash.specs.Common.{to_ascii_uppercase};
 ghost use Rattle.tile_hash.specs.Digest.{digest};
 ghost use Rattle.tile_hash.specs.declared.algorithm.HashAlgorithm.{HashAlgorithm};
 

@@ -1,7 +1,6 @@
 // MD5 as text, and bytes as upper-case hexadecimal digits.
 ghost use Rattle.std.specs.Prelude.{◌≡◌, ◌*◌, length};
-ghost use Rattle.hex.specs.Hex.{encode_upper};
-ghost use Rattle.md5.specs.Md5.{md5};
+ghost use Rattle.tile_hash.specs.Common.{encode_upper, md5};
 
 use md5::{Digest, Md5};
 

@@ -1,12 +1,8 @@
 -- Each number of a zoom has one place, and each id one coordinate.
-use Rattle.std.proofs.Common.{◌≡◌, ℕ, zero, suc, ◌+◌, ◌-◌, ◌*◌, ◌/◌, ◌%◌, ◌^◌, ◌<◌, ◌≤◌, ◌⊎◌, inl, inr, Bool, true, false, nat_lt, nat_le, if◌then◌else◌, refl, sym, ◌∙◌, ap, arith, subst, lit<}
-use Rattle.std.proofs.Math.Nat.{pow-succ', pow-le-pow_right}
-use Rattle.std.proofs.lemmas.Nat.{div-mul-add, mod-mul-add, div_below}
-use Rattle.std.proofs.lemmas.Bool.Decides.{nat_tests}
-use Rattle.tile_ids.specs.declared.id.TheConstants.{MAX_TILE_ID}
-use Rattle.tile_ids.specs.Coord.{Coord, IsCoord}
+use Rattle.tile_ids.proofs.Common.{ap, arith, Bool, Coord, coord_of, div-mul-add, div_below, false, hilbert, id_of, if◌then◌else◌, inl, inr, IsCoord, lit<, MAX_TILE_ID, mod-mul-add, nat_le, nat_lt}
+use Rattle.tile_ids.proofs.Common.{nat_tests, pow-le-pow_right, pow-succ', pyramid, quarter, refl, subst, suc, sym, tile_id, true, turned, zero, zoom_up_to, ℕ, ◌%◌, ◌*◌, ◌+◌, ◌-◌, ◌/◌, ◌<◌, ◌^◌, ◌∙◌}
+use Rattle.tile_ids.proofs.Common.{◌≡◌, ◌≤◌, ◌⊎◌}
 pub use Rattle.tile_ids.specs.Hilbert.{place, unturned}
-use Rattle.tile_ids.specs.Hilbert.{hilbert, quarter, turned, pyramid, tile_id, id_of, zoom_up_to, coord_of}
 use Rattle.tile_ids.proofs.Curve.{hilbert_below, four_pos, pyramid_next, within_pyramid}
 
 -- r is the place whose quarter is q and whose place in the quarter is p

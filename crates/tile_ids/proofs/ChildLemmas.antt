@@ -1,8 +1,5 @@
 -- The numbers of a tile's four children.
-use Rattle.std.proofs.Common.{◌≡◌, ℕ, suc, ◌+◌, ◌*◌, ◌/◌, ◌%◌, ◌^◌, ◌<◌, sym, ◌∙◌, ap, arith, subst}
-use Rattle.std.proofs.Math.Nat.{pow-succ'}
-use Rattle.tile_ids.specs.Coord.{Coord, IsCoord, IsChild}
-use Rattle.tile_ids.specs.Hilbert.{hilbert, pyramid, tile_id, number_of}
+use Rattle.tile_ids.proofs.Common.{ap, arith, Coord, hilbert, IsChild, IsCoord, number_of, pow-succ', pyramid, subst, suc, sym, tile_id, ℕ, ◌%◌, ◌*◌, ◌+◌, ◌/◌, ◌<◌, ◌^◌, ◌∙◌, ◌≡◌}
 use Rattle.tile_ids.proofs.Curve.{hilbert_below}
 use Rattle.tile_ids.proofs.Bijection.{same_place, one_id}
 use Rattle.tile_ids.proofs.HalvingLemmas.{hilbert-quarter}

@@ -1,10 +1,6 @@
 -- Numbers along the curve are below four to the zoom, and how many tiles the zooms below have.
-use Rattle.std.proofs.Common.{◌≡◌, ℕ, zero, suc, ◌+◌, ◌*◌, ◌%◌, ◌^◌, ◌<◌, ◌≤◌, refl, sym, ◌∙◌, arith, lit<}
-use Rattle.std.proofs.Math.Nat.{pow-succ', pow-le-pow_right, mul-le-mul_left}
-use Rattle.std.proofs.lemmas.Nat.{pow-add, pow_below, mul-pow}
-use Rattle.std.proofs.lemmas.Bool.Decides.{nat_tests}
-use Rattle.tile_ids.specs.declared.id.TheConstants.{MAX_TILE_ID}
-use Rattle.tile_ids.specs.Hilbert.{hilbert, quarter, turned, pyramid}
+use Rattle.tile_ids.proofs.Common.{arith, hilbert, lit<, MAX_TILE_ID, mul-le-mul_left, mul-pow, nat_tests, pow-add, pow-le-pow_right, pow-succ', pow_below, pyramid, quarter, refl, suc, sym, turned}
+use Rattle.tile_ids.proofs.Common.{zero, ℕ, ◌%◌, ◌*◌, ◌+◌, ◌<◌, ◌^◌, ◌∙◌, ◌≡◌, ◌≤◌}
 
 pub quarter_below : (s x y : ℕ) → quarter s x y ≤ 3
 quarter_below s x y = grind (arith, nat_tests)

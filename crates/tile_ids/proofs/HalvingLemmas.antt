@@ -1,8 +1,6 @@
 -- The number of a tile's parent is a quarter of its own, and so on for each zoom above.
-use Rattle.std.proofs.Common.{◌≡◌, ℕ, zero, suc, ◌+◌, ◌*◌, ◌/◌, ◌^◌, ◌<◌, ◌≤◌, Bool, true, false, nat_lt, refl, sym, ◌∙◌, ap, arith, subst}
-use Rattle.std.proofs.Math.Nat.{pow-succ', div-div-eq-div-mul}
-use Rattle.std.proofs.lemmas.Bool.Decides.{nat_tests}
-use Rattle.tile_ids.specs.Hilbert.{hilbert, quarter, turned}
+use Rattle.tile_ids.proofs.Common.{ap, arith, Bool, div-div-eq-div-mul, false, hilbert, nat_lt, nat_tests, pow-succ', quarter, refl, subst, suc, sym, true, turned, zero, ℕ, ◌*◌, ◌+◌, ◌/◌, ◌<◌, ◌^◌}
+use Rattle.tile_ids.proofs.Common.{◌∙◌, ◌≡◌, ◌≤◌}
 use Rattle.tile_ids.proofs.Curve.{quarter_below}
 
 -- a turn and a halving, in either order, where w is twice s

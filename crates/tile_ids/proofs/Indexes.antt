@@ -1,8 +1,6 @@
 -- Stored indexes and the coordinates that they give.
-use Rattle.std.proofs.Common.{◌≡◌, ℕ, ◌^◌, ◌<◌, ◌≤◌, ◌↔◌, Bool, true, false, nat_lt, nat_le, ℤ, pos, refl, sym, ap, subst, arith}
+use Rattle.tile_ids.proofs.Common.{ap, arith, Bool, Coord, false, index_of, inverted_y, IsIndexOf, nat_le, nat_lt, nat_tests, pos, refl, subst, sym, tile_index, true, ℕ, ℤ, ◌<◌, ◌^◌, ◌↔◌, ◌≡◌, ◌≤◌}
 use Rattle.std.specs.Prelude.{Option, Some}
-use Rattle.std.proofs.lemmas.Bool.Decides.{nat_tests}
-use Rattle.tile_ids.specs.Coord.{Coord, IsIndexOf, inverted_y, index_of, tile_index}
 
 pub inverted_twice : (zoom y : ℕ) → y < 2 ^ zoom → inverted_y zoom (inverted_y zoom y) ≡ y
 inverted_twice zoom y h = omega arith

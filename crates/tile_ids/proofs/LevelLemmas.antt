@@ -1,9 +1,6 @@
 -- The curve in each of its four orientations, one level at a time and two.
-use Rattle.std.proofs.Common.{◌≡◌, ℕ, zero, suc, ◌+◌, ◌-◌, ◌*◌, ◌/◌, ◌%◌, ◌^◌, ◌<◌, ◌≤◌, true, false, nat_lt, refl, sym, ◌∙◌, ap, arith, subst, lit<}
-use Rattle.std.proofs.Math.Nat.{pow-succ'}
-use Rattle.std.proofs.lemmas.Bool.Decides.{nat_tests}
-use Rattle.tile_ids.specs.Hilbert.{hilbert, quarter, turned}
-use Rattle.tile_ids.specs.Orientation.{oriented, IsSixteenth}
+use Rattle.tile_ids.proofs.Common.{ap, arith, false, hilbert, IsSixteenth, lit<, nat_lt, nat_tests, oriented, pow-succ', quarter, refl, subst, suc, sym, true, turned, zero, ℕ, ◌%◌, ◌*◌, ◌+◌, ◌-◌, ◌/◌}
+use Rattle.tile_ids.proofs.Common.{◌<◌, ◌^◌, ◌∙◌, ◌≡◌, ◌≤◌}
 use Rattle.tile_ids.proofs.Curve.{quarter_below}
 
 -- the orientation of the curve in a quarter of a square in which it runs in orientation o

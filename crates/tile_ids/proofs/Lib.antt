@@ -1,3 +1,4 @@
+mod Common
 pub mod Bijection
 pub mod ChildLemmas
 pub mod Curve

@@ -1,10 +1,6 @@
 -- Tiles of one zoom whose numbers follow each other share a side.
-use Rattle.std.proofs.Common.{◌≡◌, ℕ, zero, suc, ◌+◌, ◌-◌, ◌*◌, ◌/◌, ◌%◌, ◌^◌, ◌<◌, ◌⊎◌, inl, inr, true, false, nat_lt, refl, sym, ◌∙◌, ap, arith, subst}
-use Rattle.std.proofs.Math.Nat.{pow-succ'}
-use Rattle.std.proofs.lemmas.Nat.{div-mul-add, mod-mul-add, div_below, pow_pos}
-use Rattle.std.proofs.lemmas.Bool.Decides.{nat_tests}
-use Rattle.tile_ids.specs.Coord.{Coord, IsCoord, ShareSide}
-use Rattle.tile_ids.specs.Hilbert.{hilbert, pyramid, tile_id, number_of, id_of}
+use Rattle.tile_ids.proofs.Common.{ap, arith, Coord, div-mul-add, div_below, false, hilbert, id_of, inl, inr, IsCoord, mod-mul-add, nat_lt, nat_tests, number_of, pow-succ', pow_pos, pyramid, refl}
+use Rattle.tile_ids.proofs.Common.{ShareSide, subst, suc, sym, tile_id, true, zero, ℕ, ◌%◌, ◌*◌, ◌+◌, ◌-◌, ◌/◌, ◌<◌, ◌^◌, ◌∙◌, ◌≡◌, ◌⊎◌}
 use Rattle.tile_ids.proofs.Curve.{four_pos, hilbert_below}
 use Rattle.tile_ids.proofs.Bijection.{unturned, place, placed, place-hilbert, Parted, parted}
 

@@ -1,7 +1,5 @@
 -- The table of how many tiles the zooms below have together.
-use Rattle.std.proofs.Common.{◌≡◌, ℕ, zero, suc, ◌+◌, ◌≤◌, ◌<◌, List, [], ◌∷◌, get_or, refl, ◌∙◌, ap, arith}
-use Rattle.tile_ids.specs.declared.id.TheConstants.{PYRAMID_SIZE_BY_ZOOM}
-use Rattle.tile_ids.specs.Hilbert.{pyramid}
+use Rattle.tile_ids.proofs.Common.{ap, arith, get_or, List, pyramid, PYRAMID_SIZE_BY_ZOOM, refl, suc, zero, ℕ, [], ◌+◌, ◌<◌, ◌∙◌, ◌∷◌, ◌≡◌, ◌≤◌}
 
 abbrev sizes_from : ℕ → ℕ → List ℕ
 sizes_from zero z = []

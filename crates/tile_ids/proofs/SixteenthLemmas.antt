@@ -1,7 +1,6 @@
 -- What the tables of the sixteenths hold.
-use Rattle.std.proofs.Common.{◌≡◌, ℕ, zero, suc, ◌+◌, ◌*◌, ◌/◌, ◌%◌, ◌<◌, List, [], ◌∷◌, get_or, refl, sym, ◌∙◌, ap, arith}
+use Rattle.tile_ids.proofs.Common.{ap, arith, get_or, IsSixteenth, List, refl, suc, sym, zero, ℕ, [], ◌%◌, ◌*◌, ◌+◌, ◌/◌, ◌<◌, ◌∙◌, ◌∷◌, ◌≡◌}
 use Rattle.tile_ids.specs.declared.orientation.TheConstants.{NUMBERS, PLACES}
-use Rattle.tile_ids.specs.Orientation.{IsSixteenth}
 use Rattle.tile_ids.proofs.LevelLemmas.{number_at, within_at, number_below, within_below, is_sixteenth}
 
 -- the values of f at the n numbers from m on

@@ -1,10 +1,6 @@
 -- The ids of a tile's descendants at a zoom are those of one interval.
-use Rattle.std.proofs.Common.{◌≡◌, ℕ, suc, ◌+◌, ◌-◌, ◌*◌, ◌/◌, ◌%◌, ◌^◌, ◌<◌, ◌≤◌, ◌↔◌, refl, sym, ◌∙◌, ap, arith, subst}
-use Rattle.std.proofs.Math.Nat.{mul-le-mul_right}
-use Rattle.std.proofs.lemmas.Nat.{pow_pos, pow-add, div_below, div-add-mod', div-mul-add}
-use Rattle.tile_ids.specs.declared.id.TheConstants.{MAX_TILE_ID}
-use Rattle.tile_ids.specs.Coord.{Coord, IsCoord, IsDescendant}
-use Rattle.tile_ids.specs.Hilbert.{hilbert, pyramid, tile_id, number_of, id_of}
+use Rattle.tile_ids.proofs.Common.{ap, arith, Coord, div-add-mod', div-mul-add, div_below, hilbert, id_of, IsCoord, IsDescendant, MAX_TILE_ID, mul-le-mul_right, number_of, pow-add, pow_pos, pyramid}
+use Rattle.tile_ids.proofs.Common.{refl, subst, suc, sym, tile_id, ℕ, ◌%◌, ◌*◌, ◌+◌, ◌-◌, ◌/◌, ◌<◌, ◌^◌, ◌↔◌, ◌∙◌, ◌≡◌, ◌≤◌}
 use Rattle.tile_ids.specs.Interval.{IsInterval, HoldsDescendants}
 use Rattle.tile_ids.proofs.Curve.{hilbert_below, four_pos}
 use Rattle.tile_ids.proofs.Bijection.{place, placed, same_place, id_within}

@@ -1,10 +1,6 @@
 -- What the loops over two levels at a time keep.
-use Rattle.std.proofs.Common.{◌≡◌, ℕ, zero, suc, ◌+◌, ◌-◌, ◌*◌, ◌/◌, ◌%◌, ◌^◌, ◌<◌, ◌≤◌, true, nat_lt, refl, sym, ◌∙◌, ap, arith, subst, lit<}
-use Rattle.std.proofs.Math.Nat.{pow-succ', pow-le-pow_right, le-mul_of_pos_right, mul-le-mul_left, div-div-eq-div-mul}
-use Rattle.std.proofs.lemmas.Nat.{pow_pos, mod-pow-add, mod_below, div-mul-add, mod-mul-add}
-use Rattle.std.proofs.lemmas.Bool.Decides.{nat_tests}
-use Rattle.tile_ids.specs.Hilbert.{hilbert, quarter, turned}
-use Rattle.tile_ids.specs.Orientation.{oriented, IsSixteenth}
+use Rattle.tile_ids.proofs.Common.{ap, arith, div-div-eq-div-mul, div-mul-add, hilbert, IsSixteenth, le-mul_of_pos_right, lit<, mod-mul-add, mod-pow-add, mod_below, mul-le-mul_left, nat_lt, nat_tests}
+use Rattle.tile_ids.proofs.Common.{oriented, pow-le-pow_right, pow-succ', pow_pos, quarter, refl, subst, suc, sym, true, turned, zero, ℕ, ◌%◌, ◌*◌, ◌+◌, ◌-◌, ◌/◌, ◌<◌, ◌^◌, ◌∙◌, ◌≡◌, ◌≤◌}
 use Rattle.tile_ids.proofs.Curve.{hilbert_below, area_below, four_pos, squared}
 
 -- from r levels above a zoom, seen in orientation r, the curve begins with the places of the zoom, and in their order

@@ -1,7 +1,5 @@
 -- The zoom of an id.
-use Rattle.std.proofs.Common.{ℕ, suc, ◌+◌, ◌*◌, ◌/◌, ◌^◌, ◌<◌, ◌≤◌, arith, lit<}
-use Rattle.std.proofs.Math.Nat.{pow-succ', pow-le-pow_right}
-use Rattle.tile_ids.specs.Hilbert.{pyramid}
+use Rattle.tile_ids.proofs.Common.{arith, lit<, pow-le-pow_right, pow-succ', pyramid, suc, ℕ, ◌*◌, ◌+◌, ◌/◌, ◌<◌, ◌^◌, ◌≤◌}
 use Rattle.tile_ids.proofs.Curve.{squared, pyramid_exact}
 
 -- half the place of the highest bit of three times the id and one is the zoom

@@ -1,26 +1,12 @@
 -- What an import answers, by what loading, reading and storing do.
-use Rattle.std.proofs.Common.{◌≡◌, ◌∙◌, ℕ, Bool, true, false, List, Option, Some, None, IfSome, Result, Ok, Err, refl, ap, sym, subst}
-use Rattle.std.proofs.lemmas.Bool.{true≢false}
-use Rattle.std.specs.FinMap.{len}
-use Rattle.mb_edit.specs.Put.{may_put}
+use Rattle.tile_import.proofs.Common.{Answers, ap, Bool, editable, editable_due, Err, false, found_due, HasTilesOf, IfSome, import_due, ImportCauses, ImportError, is_editable, is_free, IsAnswered}
+use Rattle.tile_import.proofs.Common.{IsPutAnswer, IsRead, len, List, may_put, MbtError, None, of_store_error, Ok, Option, OutOfMemory, put_due, PutCauses, Reads, refl, Result, Some, State, Store}
+use Rattle.tile_import.proofs.Common.{StoreCauses, subst, sym, Tables, then, TileSet, true, true≢false, unless_numbered, ℕ, ◌∙◌, ◌≡◌}
 use Rattle.mb_load.specs.Begun.{IsBegun, begun}
-use Rattle.mb_loaded.specs.Editable.{is_editable}
-use Rattle.mb_loaded.specs.State.{State}
 use Rattle.mb_load.specs.StateOf.{state_of}
-use Rattle.mb_tables.specs.Refusals.{then}
 use Rattle.mb_tables.specs.Refusals as tests
-use Rattle.mb_tables.specs.Table.{Tables}
-use Rattle.mb_tables.specs.Tiles.{TileSet}
-use Rattle.mb_tables.specs.declared.error.MbtError.{MbtError}
 use Rattle.mb_tables.specs.declared.error.MbtError.TheVariants as stores
 use Rattle.tile_import.proofs.RefusalLemmas.{something_read}
-use Rattle.tile_import.specs.Import.{Answers, ImportCauses, IsAnswered, StoreCauses, editable_due, found_due, import_due, of_store_error, put_due}
-use Rattle.tile_import.specs.PutOver.{IsPutAnswer, PutCauses}
-use Rattle.tile_import.specs.Refusals.{IsRead, Reads, is_free}
-use Rattle.tile_import.specs.Tiles.{HasTilesOf}
-use Rattle.tile_import.specs.Storing.{editable, unless_numbered}
-use Rattle.tile_import.specs.declared.error.ImportError.{ImportError}
-use Rattle.tile_import.specs.declared.error.ImportError.TheVariants.{Store, OutOfMemory}
 
 -- what told bytes give, or anything
 pub anything : (told : Option (List ℕ)) (most : ℕ) → (found : Result TileSet ImportError) × IfSome told (λ b. IsRead most b found)

@@ -1,18 +1,8 @@
 -- What a set has after the tiles of entries were put into it.
-use Rattle.std.proofs.Common.{◌≡◌, ◌∙◌, ◌+◌, ◌≤◌, ◌<◌, ℕ, Bool, true, false, nat_le, nat_lt, List, [], ◌∷◌, ◌++◌, length, Option, Some, None, OnOk, Result, Ok, Err, cond, refl, ap, sym, arith}
-use Rattle.std.proofs.lemmas.Bool.{and_parts}
-use Rattle.std.proofs.lemmas.Bool.Decides.{nat_tests}
-use Rattle.std.proofs.lemmas.List.{length-append}
-use Rattle.std.specs.FinMap.{empty, get, len}
-use Rattle.pm_format.specs.Directory.{Entry}
-use Rattle.pm_format.specs.declared.header.Header.{Header}
-use Rattle.mb_tables.specs.Tiles.{Place, TileSet}
-use Rattle.mb_lists.specs.Places.{InRange, address}
-use Rattle.pm_walk.specs.Collecting.{AllShallow, AreOrdered, contents_of}
-use Rattle.pm_walk.specs.Parts.{tile_count}
-use Rattle.pm_walk.proofs.CoveringLemmas.{covering, covers_here, covers_later, has_id, in_run, none_below}
+use Rattle.tile_import.proofs.Common.{address, AllShallow, and_parts, ap, AreOnBoard, AreOrdered, arith, Bool, cond, contents_of, covering, covers_here, covers_later, empty, Entry, Err, false, get}
+use Rattle.tile_import.proofs.Common.{has_id, Header, ids_of, in_run, InRange, IsMadeOf, len, length, length-append, List, nat_le, nat_lt, nat_tests, None, none_below, Ok, OnOk, Option, Place, refl}
+use Rattle.tile_import.proofs.Common.{Result, Some, sym, tile_count, TileSet, true, with_contents, with_entries, with_ids, ℕ, [], ◌++◌, ◌+◌, ◌<◌, ◌∙◌, ◌∷◌, ◌≡◌, ◌≤◌}
 use Rattle.tile_import.proofs.PlacingLemmas.{At, get_run, run_few, run_on_board}
-use Rattle.tile_import.specs.Putting.{AreOnBoard, IsMadeOf, ids_of, with_contents, with_entries, with_ids}
 
 -- the contents of an entry that was found, or what was there
 abbrev pub found_at : Header → List ℕ → Option Entry → At → At

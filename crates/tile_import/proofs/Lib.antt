@@ -1,3 +1,4 @@
+mod Common
 pub mod PlacingLemmas
 pub mod EntryLemmas
 pub mod TilesLemmas

@@ -1,25 +1,15 @@
 -- What a set has after the same bytes were put at the places of ids.
-use Rattle.std.proofs.Common.{◌≡◌, ◌≢◌, ◌∙◌, ◌⊎◌, inl, inr, ◌+◌, ◌≤◌, ◌<◌, ℕ, zero, suc, Bool, true, false, ◌&&◌, ◌||◌, nat_le, nat_lt, List, [], ◌∷◌, map, Option, Some, OnOk, Result, Ok, Err, cond, is_some, refl, ap, sym, subst, arith}
-use Rattle.std.proofs.lemmas.Bool.Decides.{nat_tests}
+use Rattle.tile_import.proofs.Common.{address, ap, AreOnBoard, arith, Bool, cond, contains_key, Coord, coord_of, Err, false, FIRST_TOO_DEEP, get, get-insert, Held, hilbert, id_of, id_within, in_run}
+use Rattle.tile_import.proofs.Common.{inl, inr, InRange, insert, is_coord_of, is_some, IsCoord, IsOnBoard, len, len-insert, List, lt_or, map, MAX_TILE_ID, nat_le, nat_lt, nat_tests, Ok, OnOk, Option}
+use Rattle.tile_import.proofs.Common.{Place, place_at, place_cmp, place_of_id, pyramid, refl, Result, Some, subst, suc, sym, tile_id, TileSet, true, with_ids, zero, ℕ, [], ◌&&◌, ◌+◌, ◌<◌, ◌||◌, ◌∙◌}
+use Rattle.tile_import.proofs.Common.{◌∷◌, ◌≡◌, ◌≢◌, ◌≤◌, ◌⊎◌}
 use Rattle.std.specs.List.{range_with_len}
 use Rattle.std.specs.Ordering.{eq_by_cmp, nat_cmp}
-use Rattle.std.specs.FinMap.{contains_key, get, get-insert, insert, len, len-insert}
-use Rattle.tile_ids.proofs.Bijection.{has_id, is_coord_of, id_within, lt_or}
-use Rattle.tile_ids.specs.Coord.{Coord, IsCoord}
-use Rattle.tile_ids.specs.Hilbert.{coord_of, hilbert, id_of, pyramid, tile_id}
-use Rattle.tile_ids.specs.declared.id.TheConstants.{MAX_TILE_ID}
-use Rattle.mb_lists.specs.Entries.{place_at}
+use Rattle.tile_ids.proofs.Bijection.{has_id}
 use Rattle.mb_lists.proofs.Places.{same_place}
 use Rattle.mb_loaded.specs.Edits.{with_tile, with_tiles}
-use Rattle.mb_loaded.specs.Held.{Held}
-use Rattle.mb_loaded.specs.Editable.{IsOnBoard}
 use Rattle.mb_tables.proofs.TileLemmas.{places_total}
-use Rattle.mb_tables.specs.Tiles.{Place, TileSet, place_cmp}
 use Rattle.mb_lists.proofs.AddressLemmas.{coord_address, coord_placed, one_tie}
-use Rattle.mb_lists.specs.Places.{InRange, address}
-use Rattle.pm_walk.proofs.CoveringLemmas.{in_run}
-use Rattle.pm_walk.specs.declared.extent.TheConstants.{FIRST_TOO_DEEP}
-use Rattle.tile_import.specs.Putting.{AreOnBoard, place_of_id, with_ids}
 
 -- what a set has at a place
 abbrev pub At : Type 0

@@ -1,37 +1,17 @@
 -- Refusals of an archive, and why they come.
-use Rattle.std.proofs.Common.{◌≡◌, ◌∙◌, ◌+◌, ◌≤◌, ◌<◌, ◌^◌, inl, inr, ℕ, false, nat_le, if◌then◌else◌, List, [], Option, Some, None, IfSome, Result, Ok, Err, refl, ap, sym, subst, arith}
-use Rattle.std.proofs.lemmas.Bool.{true≢false}
-use Rattle.std.proofs.lemmas.Bool.Decides.{nat_tests}
-use Rattle.std.specs.Option.{option_map}
-use Rattle.std.specs.FinMap.{empty}
-use Rattle.tile_ids.proofs.Bijection.{has_id, pyramid_grows}
+use Rattle.tile_import.proofs.Common.{all_walked, ap, Archive, AreContentsOf, arith, Coord, coord_of, empty, Entry, Err, false, FIRST_TOO_DEEP, full, hilbert, IfSome, if◌then◌else◌, ImportError, inl}
+use Rattle.tile_import.proofs.Common.{inr, IsCoord, IsRead, List, lt_or, MAX_TILE_ID, nat_le, nat_tests, None, of_read_error, of_walk_error, Ok, Opened, opened, Option, option_map, OutOfMemory}
+use Rattle.tile_import.proofs.Common.{PmtError, pyramid, pyramid_grows, ReadCauses, Reads, refl, refusal_opened, Result, Some, StopCauses, subst, sym, tile_count, tile_id, TileSet, to_le}
+use Rattle.tile_import.proofs.Common.{TooManyTiles, true≢false, walk_refusal, Walked, WalkError, with_contents, with_entries, ℕ, [], ◌+◌, ◌<◌, ◌^◌, ◌∙◌, ◌≡◌, ◌≤◌}
+use Rattle.tile_ids.proofs.Bijection.{has_id}
 use Rattle.tile_ids.proofs.Curve.{hilbert_below}
-use Rattle.tile_ids.specs.Coord.{Coord, IsCoord}
-use Rattle.tile_ids.specs.Hilbert.{coord_of, hilbert, pyramid, tile_id}
-use Rattle.tile_ids.specs.declared.id.TheConstants.{MAX_TILE_ID}
-use Rattle.pm_format.specs.Directory.{Entry}
-use Rattle.pm_format.specs.Opened.{Opened, opened}
-use Rattle.pm_format.specs.declared.error.PmtError.{PmtError}
 use Rattle.pm_format.specs.declared.error.PmtError.TheVariants as errors
 use Rattle.pm_format.specs.declared.error.ReadCause.TheVariants as causes
 use Rattle.pm_reader.specs.Answers.{LookUpCauses}
-use Rattle.pm_walk.proofs.CoveringLemmas.{to_le}
-use Rattle.pm_walk.specs.Collecting.{AreContentsOf, StopCauses}
 use Rattle.pm_walk.specs.Gathering.{Gathers}
-use Rattle.pm_walk.specs.Parts.{full, tile_count}
-use Rattle.pm_walk.specs.Walk.{Walked, all_walked}
-use Rattle.pm_walk.specs.declared.error.WalkError.{WalkError}
 use Rattle.pm_walk.specs.declared.error.WalkError.TheVariants as walks
 use Rattle.pm_walk.specs.declared.extent.Extent.TheVariants.{Whole}
-use Rattle.pm_walk.specs.declared.extent.TheConstants.{FIRST_TOO_DEEP}
-use Rattle.mb_tables.specs.Tiles.{TileSet}
-use Rattle.tile_ids.proofs.Bijection.{lt_or}
 use Rattle.tile_import.proofs.TilesLemmas.{tiles_are}
-use Rattle.tile_import.specs.Import.{ReadCauses}
-use Rattle.tile_import.specs.Putting.{with_contents, with_entries}
-use Rattle.tile_import.specs.Refusals.{IsRead, Reads, of_read_error, of_walk_error, refusal_opened, walk_refusal}
-use Rattle.tile_import.specs.declared.error.ImportError.{ImportError}
-use Rattle.tile_import.specs.declared.error.ImportError.TheVariants.{Archive, OutOfMemory, TooManyTiles}
 
 -- a refusal of the walk is due where there are few before it, and too many tiles else
 many_test : (n most : ℕ) → most < n → nat_le n most ≡ false

@@ -1,13 +1,7 @@
 -- Sets into which tiles can be put.
-use Rattle.std.proofs.Common.{◌≡◌, ◌∙◌, ap, sym, Bool, true, false, Some, None, Ok, Err, refl}
-use Rattle.std.proofs.lemmas.Option.{none-some}
-use Rattle.mb_loaded.specs.Editable.{is_editable}
-use Rattle.mb_loaded.specs.State.{State}
-use Rattle.mb_tables.specs.Refusals.{unless}
-use Rattle.mb_tables.specs.declared.error.MbtError.{MbtError}
+use Rattle.tile_import.proofs.Common.{ap, Bool, editable, Err, false, is_editable, MbtError, None, none-some, Ok, refl, Some, State, sym, true, unless, unless_numbered, ◌∙◌, ◌≡◌}
 use Rattle.mb_tables.specs.declared.error.MbtError.TheVariants.{UnsupportedCopyOperation}
 use Rattle.mb_tables.specs.declared.kind.MbtType.{MbtType}
-use Rattle.tile_import.specs.Storing.{editable, unless_numbered}
 
 pub refused_as : (s : State) (layout : MbtType) (e : MbtError) → layout ≡ s.layout → unless (is_editable layout) UnsupportedCopyOperation ≡ Some e → editable s ≡ Err e
 refused_as s layout e same is = ap (λ l. unless_numbered s (is_editable l)) (sym same) ∙ by (is_editable layout) is

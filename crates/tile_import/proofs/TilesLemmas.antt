@@ -1,32 +1,15 @@
 -- The tiles that are read are those of the archive.
-use Rattle.std.proofs.Common.{◌≡◌, ◌≢◌, ◌∙◌, ◌+◌, ◌≤◌, ◌<◌, ◌^◌, ℕ, Bool, true, false, ◌&&◌, nat_le, nat_lt, if◌then◌else◌, List, [], ◌∷◌, length, map, take, drop, Option, Some, None, IsSome, is_some, Result, Ok, Err, refl, ap, sym, arith}
-use Rattle.std.proofs.lemmas.Bool.{and_parts, false≢true}
-use Rattle.std.proofs.lemmas.Bool.Decides.{nat_tests}
-use Rattle.std.proofs.lemmas.List.{length-drop, length-take-le}
-use Rattle.std.proofs.lemmas.Option.{none-some}
-use Rattle.std.specs.Option.{option_map}
+use Rattle.tile_import.proofs.Common.{address, all_walked, AllShallow, and_parts, ap, AreOnBoard, arith, Bool, contents_of, covering, drop, empty, Entry, Err, false, false≢true, FIRST_TOO_DEEP, full}
+use Rattle.tile_import.proofs.Common.{get-empty, has_id, HasTilesOf, Header, if◌then◌else◌, InRange, is_some, IsOnBoard, IsSome, length, length-drop, length-take-le, List, map, nat_le, nat_lt}
+use Rattle.tile_import.proofs.Common.{nat_tests, None, none-some, Ok, Opened, opened, Option, option_map, Place, place_cmp, PmtError, refl, Result, Some, sym, take, true, with_entries, ℕ, [], ◌&&◌}
+use Rattle.tile_import.proofs.Common.{◌+◌, ◌<◌, ◌^◌, ◌∙◌, ◌∷◌, ◌≡◌, ◌≢◌, ◌≤◌}
 use Rattle.std.specs.Prelude.{unwrap_or}
-use Rattle.std.specs.FinMap.{empty, get-empty}
-use Rattle.pm_format.specs.declared.error.PmtError.{PmtError}
 use Rattle.pm_format.specs.declared.error.PmtError.TheVariants as errors
 use Rattle.pm_format.specs.declared.error.ReadCause.TheVariants as causes
-use Rattle.pm_format.specs.declared.header.Header.{Header}
-use Rattle.pm_format.specs.Directory.{Entry}
 use Rattle.pm_format.specs.LookUp.{filled, range_of}
-use Rattle.pm_format.specs.Opened.{Opened, opened}
-use Rattle.pm_walk.proofs.CoveringLemmas.{covering, has_id}
 use Rattle.pm_walk.proofs.WholeLemmas.{held, whole_map}
-use Rattle.pm_walk.specs.Collecting.{AllShallow, contents_of}
-use Rattle.pm_walk.specs.Parts.{full}
-use Rattle.pm_walk.specs.Walk.{all_walked}
-use Rattle.pm_walk.specs.declared.extent.TheConstants.{FIRST_TOO_DEEP}
-use Rattle.mb_loaded.specs.Editable.{IsOnBoard}
-use Rattle.mb_tables.specs.Tiles.{Place, place_cmp}
-use Rattle.mb_lists.specs.Places.{InRange, address}
 use Rattle.tile_import.proofs.EntryLemmas.{contents_on_board, found_at, get_entries}
 use Rattle.pm_walk.proofs.PassedLemmas.{AllThere, all_ordered, all_shallow, all_there, contents_at}
-use Rattle.tile_import.specs.Putting.{AreOnBoard, with_entries}
-use Rattle.tile_import.specs.Tiles.{HasTilesOf}
 
 in_range : (p : Place) → IsOnBoard p → InRange p
 in_range p on = let zoom : p.zoom < 31 = on.zoom in record { zoom = omega arith; column = on.column; row = on.row }

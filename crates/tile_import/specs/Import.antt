@@ -1,23 +1,11 @@
 -- What an import answers, why, and what it leaves.
 use Rattle.std.specs.Prelude.{◌≡◌, ◌≢◌, ◌≤◌, ◌<◌, ◌+◌, ℕ, Bool, true, false, List, Option, Some, None, Result, Ok, Err, IfSome}
-use Rattle.std.specs.FinMap.{len}
-use Rattle.base_values.specs.Counts.{Rose}
+use Rattle.tile_import.specs.Common.{all_walked, is_editable, IsOpenRefusal, len, MAX_TILE_ID, may_put, MbtError, Opened, opened, PmtError, Rose, State, Tables, TileSet}
 use Rattle.tile_ids.specs.Coord.{IsCoord}
-use Rattle.tile_ids.specs.declared.id.TheConstants.{MAX_TILE_ID}
-use Rattle.pm_format.specs.Opened.{Opened, opened}
-use Rattle.pm_format.specs.declared.error.PmtError.{PmtError}
 use Rattle.pm_format.specs.declared.error.PmtError.TheVariants as errors
 use Rattle.pm_format.specs.declared.error.ReadCause.TheVariants as causes
-use Rattle.pm_reader.specs.Opening.{IsOpenRefusal}
-use Rattle.pm_walk.specs.Walk.{all_walked}
-use Rattle.mb_edit.specs.Put.{may_put}
 use Rattle.mb_edit.specs.PutTables.{ArePut}
-use Rattle.mb_loaded.specs.Editable.{is_editable}
-use Rattle.mb_loaded.specs.State.{State}
 use Rattle.mb_load.specs.StateOf.{state_of}
-use Rattle.mb_tables.specs.Table.{Tables}
-use Rattle.mb_tables.specs.Tiles.{TileSet}
-use Rattle.mb_tables.specs.declared.error.MbtError.{MbtError}
 use Rattle.mb_tables.specs.declared.error.MbtError.TheVariants as stores
 use Rattle.tile_import.specs.Refusals.{IsRead, is_free}
 use Rattle.tile_import.specs.Tiles.{HasTilesOf}

@@ -1,11 +1,7 @@
 -- The tiles of an archive over those of a loaded set: what is answered, why, and what set is given.
 use Rattle.std.specs.Prelude.{◌≡◌, ◌≤◌, ℕ, false, List, Option, None, Result, Ok, Err, IfSome}
-use Rattle.std.specs.FinMap.{len}
-use Rattle.mb_edit.specs.Put.{may_put, tiles_put}
-use Rattle.mb_loaded.specs.Held.{Held}
-use Rattle.mb_loaded.specs.State.{State}
+use Rattle.tile_import.specs.Common.{Held, len, may_put, State, tiles_put, TileSet}
 use Rattle.mb_tables.specs.Refusals as tests
-use Rattle.mb_tables.specs.Tiles.{TileSet}
 use Rattle.tile_import.specs.Import.{Answers, ReadCauses, found_due}
 use Rattle.tile_import.specs.Putting.{AreOnBoard}
 use Rattle.tile_import.specs.Refusals.{IsRead}

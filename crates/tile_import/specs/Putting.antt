@@ -1,12 +1,8 @@
 -- The tiles of tile entries, put one after another into a set.
 use Rattle.std.specs.Prelude.{◌≡◌, ℕ, true, List, [], ◌∷◌, length, map, Some}
-use Rattle.std.specs.FinMap.{contains_key, empty, insert}
-use Rattle.tile_ids.specs.Hilbert.{coord_of}
+use Rattle.tile_import.specs.Common.{contains_key, coord_of, empty, insert, IsOnBoard, Place, place_at, TileSet}
 use Rattle.pm_format.specs.declared.header.Header.{Header}
 use Rattle.pm_format.specs.Directory.{Entry}
-use Rattle.mb_lists.specs.Entries.{place_at}
-use Rattle.mb_loaded.specs.Editable.{IsOnBoard}
-use Rattle.mb_tables.specs.Tiles.{Place, TileSet}
 use Rattle.pm_walk.specs.Collecting.{contents_of}
 pub use Rattle.pm_walk.specs.Parts.{ids_of}
 

@@ -1,10 +1,7 @@
 -- The tiles of a set that was read, and the ids of refusals.
 use Rattle.std.specs.Prelude.{◌≤◌, Result, Ok, Err}
-use Rattle.tile_ids.specs.declared.id.TheConstants.{MAX_TILE_ID}
-use Rattle.pm_walk.specs.declared.error.WalkError.{WalkError}
+use Rattle.tile_import.specs.Common.{Held, MAX_TILE_ID, TileSet, WalkError}
 use Rattle.pm_walk.specs.declared.error.WalkError.TheVariants.{TooDeep}
-use Rattle.mb_loaded.specs.Held.{Held}
-use Rattle.mb_tables.specs.Tiles.{TileSet}
 use Rattle.tile_import.specs.declared.error.ImportError.{ImportError}
 
 abbrev pub tiles_of : Result Held ImportError → Result TileSet ImportError

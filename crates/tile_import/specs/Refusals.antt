@@ -1,16 +1,10 @@
 -- The first refusal of an archive.
 use Rattle.std.specs.Prelude.{◌≡◌, ℕ, Bool, true, false, nat_le, if◌then◌else◌, List, Option, Some, None, Result, Ok, Err}
-use Rattle.std.specs.Option.{option_map}
-use Rattle.tile_ids.specs.Hilbert.{coord_of}
-use Rattle.pm_format.specs.declared.error.PmtError.{PmtError}
+use Rattle.tile_import.specs.Common.{all_walked, coord_of, Opened, opened, option_map, PmtError, TileSet, Walked, WalkError}
 use Rattle.pm_format.specs.declared.error.PmtError.TheVariants as errors
 use Rattle.pm_format.specs.declared.error.ReadCause.TheVariants as causes
-use Rattle.pm_format.specs.Opened.{Opened, opened}
 use Rattle.pm_walk.specs.Parts.{full, tile_count}
-use Rattle.pm_walk.specs.Walk.{Walked, all_walked}
-use Rattle.pm_walk.specs.declared.error.WalkError.{WalkError}
 use Rattle.pm_walk.specs.declared.error.WalkError.TheVariants as walks
-use Rattle.mb_tables.specs.Tiles.{TileSet}
 use Rattle.mb_tables.specs.declared.error.MbtError.TheVariants as stores
 use Rattle.tile_import.specs.Tiles.{HasTilesOf}
 use Rattle.tile_import.specs.declared.error.ImportError.{ImportError}

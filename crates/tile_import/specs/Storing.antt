@@ -1,11 +1,6 @@
 -- A set that tiles are put into.
 use Rattle.std.specs.Prelude.{◌≡◌, Bool, true, false, Result, Ok, Err}
-use Rattle.mb_loaded.specs.Held.{Held, nothing_edited}
-use Rattle.mb_load.specs.LoadedFrom.{IsLoadedFrom, NamesAlgorithm}
-use Rattle.mb_loaded.specs.Editable.{is_editable}
-use Rattle.mb_loaded.specs.State.{State}
-use Rattle.mb_tables.specs.Table.{Tables}
-use Rattle.mb_tables.specs.declared.error.MbtError.{MbtError}
+use Rattle.tile_import.specs.Common.{Held, is_editable, IsLoadedFrom, MbtError, NamesAlgorithm, nothing_edited, State, Tables}
 use Rattle.mb_tables.specs.declared.error.MbtError.TheVariants.{UnsupportedCopyOperation}
 
 -- a set as it was loaded from tables

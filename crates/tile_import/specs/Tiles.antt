@@ -1,11 +1,7 @@
 -- The tiles of an archive by their places.
 use Rattle.std.specs.Prelude.{◌≡◌, ◌<◌, ℕ, true, List, Some}
-use Rattle.std.specs.Option.{option_map}
-use Rattle.std.specs.FinMap.{contains_key, get}
-use Rattle.tile_ids.specs.Hilbert.{pyramid}
+use Rattle.tile_import.specs.Common.{contains_key, get, IsOnBoard, option_map, Place, pyramid, TileSet}
 use Rattle.pm_format.specs.LookUp.{archive_map}
-use Rattle.mb_loaded.specs.Editable.{IsOnBoard}
-use Rattle.mb_tables.specs.Tiles.{Place, TileSet}
 use Rattle.mb_lists.specs.Places.{address}
 
 -- A set has exactly the tiles of at least one byte of an archive, each at the place of its id, and the archive has none of zoom 31.

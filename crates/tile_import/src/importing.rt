@@ -1,7 +1,6 @@
 // The import of an archive into a set.
-ghost use Rattle.mb_store.specs.Kept.{Keeps};
+ghost use Rattle.tile_import.specs.Common.{Keeps, ReadsOnly};
 ghost use Rattle.std.specs.Prelude.{◌≡◌, ◌≤◌, ◌+◌, IfOk, IfSome, OnErr, true};
-ghost use Rattle.pm_reader.specs.Reads.{ReadsOnly};
 ghost use Rattle.tile_import.specs.Import.{ImportCauses, IsAnswered, IsImported, reads_at_most};
 
 use crate::ImportError;

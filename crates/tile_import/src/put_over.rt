@@ -1,10 +1,6 @@
 // The tiles of an archive over those of a loaded set.
 ghost use Rattle.std.specs.Prelude.{◌≡◌, ◌≢◌, ◌≤◌, ◌+◌, IfErr, IfOk, IfSome, None, Some, false};
-ghost use Rattle.mb_edit.specs.Put.{may_put, tiles_put};
-ghost use Rattle.mb_load.specs.LoadedFrom.{AllOnBoard, IsLoadedFrom};
-ghost use Rattle.mb_tables.specs.Refusals.{is_free};
-ghost use Rattle.mb_tables.specs.Table.{Tables};
-ghost use Rattle.pm_reader.specs.Reads.{ReadsOnly};
+ghost use Rattle.tile_import.specs.Common.{AllOnBoard, is_free, IsLoadedFrom, may_put, ReadsOnly, Tables, tiles_put};
 ghost use Rattle.tile_import.specs.Import.{of_store_error, reads_at_most};
 ghost use Rattle.tile_import.specs.PutOver.{IsPutAnswer, IsPutOver, PutCauses, count_in};
 

@@ -1,12 +1,6 @@
 // The tiles of an archive.
 ghost use Rattle.std.specs.Prelude.{◌≡◌, ◌≤◌, ◌+◌, IfErr, IfOk, IfSome};
-ghost use Rattle.std.specs.FinMap.{len};
-ghost use Rattle.tile_ids.specs.Hilbert.{coord_of};
-ghost use Rattle.tile_ids.specs.declared.id.TheConstants.{MAX_TILE_ID};
-ghost use Rattle.mb_load.specs.LoadedFrom.{AllOnBoard};
-ghost use Rattle.pm_reader.specs.Opening.{IsOpen, header_of, root_of};
-ghost use Rattle.pm_reader.specs.Reads.{ReadsOnly};
-ghost use Rattle.pm_walk.specs.Walk.{all_walked};
+ghost use Rattle.tile_import.specs.Common.{all_walked, AllOnBoard, coord_of, header_of, IsOpen, len, MAX_TILE_ID, ReadsOnly, root_of};
 ghost use Rattle.tile_import.specs.Import.{ReadCauses, reads_at_most};
 ghost use Rattle.tile_import.specs.Reading.{IsTileId, tiles_of};
 ghost use Rattle.tile_import.specs.Refusals.{Reads, of_read_error, of_walk_error};

@@ -1,12 +1,10 @@
 // The set that an archive is imported into.
-ghost use Rattle.mb_store.specs.Kept.{Keeps, ReadsOnly};
+ghost use Rattle.tile_import.specs.Common.{is_free, IsLoadedFrom, Keeps, Rose};
+ghost use Rattle.mb_store.specs.Kept.{ReadsOnly};
 ghost use Rattle.std.specs.Prelude.{◌≡◌, IfErr, IfOk, IsErrOf, OnErr, OnOk, true};
-ghost use Rattle.base_values.specs.Counts.{Rose};
 ghost use Rattle.mb_load.specs.Begun.{IsBegun};
 ghost use Rattle.mb_loaded.specs.Changing.{AreChangesOf};
 ghost use Rattle.mb_load.specs.Committing.{MakesChanges};
-ghost use Rattle.mb_load.specs.LoadedFrom.{IsLoadedFrom};
-ghost use Rattle.mb_tables.specs.Refusals.{is_free};
 ghost use Rattle.tile_import.specs.Storing.{IsBase, editable, state_in};
 
 use base_values::OutOfMemory;

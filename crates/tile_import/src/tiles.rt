@@ -1,7 +1,6 @@
 // The tiles of tile entries, as a set of their own.
 ghost use Rattle.std.specs.Prelude.{◌≡◌, ◌≤◌, ◌+◌, [], IfOk, OnOk, map};
-ghost use Rattle.tile_ids.specs.declared.id.TheConstants.{MAX_TILE_ID};
-ghost use Rattle.mb_lists.specs.Entries.{place_at};
+ghost use Rattle.tile_import.specs.Common.{MAX_TILE_ID, place_at};
 ghost use Rattle.tile_import.specs.Putting.{IsMadeOf, ids_of, place_of_id, with_ids};
 
 use base_values::{BlobVal, OutOfMemory};

@@ -1,16 +1,12 @@
 -- A layer is read member by member, each taken out of what the ones before it left.
 use Rattle.std.specs.Result.{IsErrAnd}
-use Rattle.tile_json.specs.LayerReading.{of_five, optional, zoom_of, id_in, fields_in, description_in, minzoom_in, maxzoom_in, layer_made, layer_with, others}
-use Rattle.std.specs.FinMap.{FinMap, empty}
-use Rattle.std.specs.Cmp.Lexicographic.{slice_cmp}
-use Rattle.std.proofs.Common.{◌≡◌, ℕ, List, Option, Some, None, option_and_then, option_map, Result, Ok, Err, false, bytes_eq, nat_cmp, refl, sym, ap, ◌∙◌, codes}
-use Rattle.serde_json.specs.Data.{Data, Members}
-use Rattle.serde_json.specs.Find.{get_member, as_str, as_object}
+use Rattle.tile_json.proofs.Common.{ap, as_object, as_str, bytes_eq, codes, Data, description_in, empty, Err, false, fields_in, FinMap, get_member, id_in, layer_made, layer_with, List, maxzoom_in}
+use Rattle.tile_json.proofs.Common.{Members, minzoom_in, nat_cmp, None, of_five, Ok, Option, option_and_then, option_map, optional, others, refl, Result, slice_cmp, Some, sym, with_all, with_texts}
+use Rattle.tile_json.proofs.Common.{without, zoom_of, ℕ, ◌∙◌, ◌≡◌}
 use Rattle.tile_json.specs.declared.error.DocumentError.{DocumentError}
 use Rattle.tile_json.specs.declared.error.DocumentError.TheVariants.{Invalid, OutOfMemory}
 use Rattle.tile_json.specs.declared.layer.VectorLayer.{VectorLayer}
 use Rattle.tile_json.specs.Errors.{Answers}
-use Rattle.tile_json.specs.Members.{without, with_all, with_texts}
 use Rattle.tile_json.proofs.MemberLemmas.{get_without}
 
 -- a refusal that is handed on

@@ -1,3 +1,4 @@
+mod Common
 mod LayerLemmas
 mod MapLemmas
 mod PlaceLemmas

@@ -1,12 +1,7 @@
 -- A finite map that is seen through the list of its entries, and what an edit of the list at the place of a key does to it.
-use Rattle.std.proofs.Common.{◌≡◌, ℕ, ◌<◌, ◌≤◌, List, [], Bool, true, false, T, length, get_or, set, Some, None, refl, sym, ap, subst, ◌∙◌}
-use Rattle.std.specs.declared.cmp.Ordering.{Ordering}
-use Rattle.std.specs.List.{insert}
-use Rattle.std.specs.Cmp.{IsTotalOrder}
+use Rattle.tile_json.proofs.Common.{ap, Bool, empty_of_len, entries, entries-from_sorted, entries-insert, false, find, FinMap, from_sorted, get-entries, get_or, insert, is_sorted, is_sorted-put, IsAt}
+use Rattle.tile_json.proofs.Common.{IsGap, IsTotalOrder, len-entries, length, List, None, Ordering, put, refl, same_entries_map, set, Some, subst, sym, T, true, ℕ, [], ◌<◌, ◌∙◌, ◌≡◌, ◌≤◌}
 use Rattle.std.specs.FinMap as map
-use Rattle.std.specs.FinMap.{FinMap, entries, from_sorted, find, put, is_sorted, same_entries_map, entries-from_sorted, entries-insert, empty_of_len, get-entries, len-entries}
-use Rattle.std.specs.FinMap.Entries.{is_sorted-put}
-use Rattle.tile_json.specs.Places.{IsAt, IsGap}
 use Rattle.tile_json.proofs.PlaceLemmas.{put_over, put_between, place_within, find_there, find_missing}
 
 holds : (b : Bool) → b ≡ true → T b

@@ -1,16 +1,11 @@
 -- The members of an object, and one taken out.
-use Rattle.std.proofs.Common.{◌≡◌, ℕ, List, [], ◌∷◌, Bool, true, false, true≢false, cond, is_eq, Option, Some, nat_cmp, string_bytes, bytes_eq, Ordering, Less, Equal, Greater, refl, sym, ap, ◌∙◌}
+use Rattle.tile_json.proofs.Common.{ap, Bool, bytes_eq, cond, Data, Entry, Equal, false, get_member, Greater, is_eq, Less, List, match_ordering, member, Members, members_view, nat_cmp, no_members}
+use Rattle.tile_json.proofs.Common.{Option, refl, slice_cmp, Some, string_bytes, sym, true, true≢false, view, without, ℕ, [], ◌∙◌, ◌∷◌, ◌≡◌}
+use Rattle.std.proofs.Common.{Ordering}
 use Rattle.std.proofs.lemmas.Map.Text.{is_eq-slice_cmp}
 use Rattle.std.proofs.lemmas.Slice.Eq.{bytes_eq-Decides}
 use Rattle.std.specs.BTreeMap.{is_at}
 use Rattle.std.specs.Map.{remove_entry}
-use Rattle.std.specs.Cmp.Lexicographic.{slice_cmp}
-use Rattle.std.specs.Ordering.{match_ordering}
-use Rattle.serde_json.proofs.Views.{Entry}
-use Rattle.serde_json.specs.Data.{Data, Members, no_members, member}
-use Rattle.serde_json.specs.Find.{get_member}
-use Rattle.serde_json.specs.View.{view, members_view}
-use Rattle.tile_json.specs.Members.{without}
 
 view_if : (b : Bool) (es fs : List Entry) → members_view (cond b es fs) ≡ cond b (members_view es) (members_view fs)
 view_if true es fs = refl

@@ -1,15 +1,10 @@
 -- What stands at the place of a key, and what an edit there does to a finite map.
-use Rattle.std.proofs.Common.{◌≡◌, ℕ, zero, suc, ◌+◌, ◌<◌, ◌≤◌, List, [], ◌∷◌, length, get_or, set, Bool, true, false, cond, ◌&&◌, true≢false, Some, None, Result, Ok, Err, IfOk, IfErr, refl, sym, ap, ◌∙◌, arith}
-use Rattle.std.specs.declared.cmp.Ordering.{Ordering}
+use Rattle.tile_json.proofs.Common.{alike_right, ap, arith, below_all, Bool, by_order, cond, Err, false, find, get_or, IfErr, IfOk, insert, is_eq, is_lt, is_sorted, IsAt, IsGap, IsTotalOrder, length}
+use Rattle.tile_json.proofs.Common.{List, None, Ok, Ordering, ordering_index, ordering_reverse, put, refl, Result, set, Some, StandsAt, suc, sym, tied_back, true, true≢false, zero, ℕ, [], ◌&&◌, ◌+◌}
+use Rattle.tile_json.proofs.Common.{◌<◌, ◌∙◌, ◌∷◌, ◌≡◌, ◌≤◌}
 use Rattle.std.specs.declared.cmp.Ordering.TheVariants.{Less, Equal, Greater}
-use Rattle.std.specs.Ordering.{is_lt, is_eq, ordering_reverse, ordering_index}
-use Rattle.std.specs.Cmp.{IsTotalOrder, alike_right, tied_back}
-use Rattle.std.specs.List.{insert}
 use Rattle.std.specs.List.Sorted.{IsNonDecreasingBy, IsSearchInRange, IsBinarySearchResult}
 use Rattle.std.proofs.lemmas.List.Sorted.{searchable_from_sorted}
-use Rattle.std.specs.FinMap.{find, put, is_sorted}
-use Rattle.std.specs.FinMap.Entries.{below_all, by_order}
-use Rattle.tile_json.specs.Places.{StandsAt, IsAt, IsGap}
 
 both_of : (a b : Bool) → (a && b) ≡ true → (a ≡ true) × (b ≡ true)
 both_of true b h = (refl, h)

@@ -1,9 +1,9 @@
 -- The code of values of JSON, by which a proof tells them apart.
 use Rattle.std.specs.Prelude.{◌≡◌, ℕ, ℤ, List, Float, T, nat_eq, ◌⊎◌}
 use Rattle.std.proofs.Common.{ap, subst, inl, inr, refl}
-use Rattle.std.specs.Coded.{Coded, code_by, coded_ℕ, coded_ℤ, coded_bool, coded_list, coded⊎}
+use Rattle.tile_json.specs.Common.{array, boolean, code_by, Coded, coded_bool, coded_list, coded_ℕ, coded_ℤ, coded⊎, Data, float, item, Items, member, Members, negative, no_items, no_members, null}
+use Rattle.tile_json.specs.Common.{Num, number, object, string, unsigned}
 use base.Stored.{Gv, gnil, gnum, gcons, num, coded_float}
-use Rattle.serde_json.specs.Data.{Num, unsigned, negative, float, Data, null, boolean, number, string, array, object, Items, no_items, item, Members, no_members, member}
 
 abbrev num_sum : Num → ℕ ⊎ (ℤ ⊎ Float)
 num_sum (unsigned n) = inl n

@@ -1,6 +1,6 @@
 -- Values of JSON without a member.
 use Rattle.std.specs.Prelude.{◌≡◌, refl, ℕ, List, codes}
-use Rattle.serde_json.specs.Data.{Data, null, boolean, number, string, array, object, no_members, member}
+use Rattle.tile_json.specs.Common.{array, boolean, Data, member, no_members, null, number, object, string}
 use Rattle.tile_json.specs.Members.{without}
 
 -- an object without the member of a name; any other value as it is

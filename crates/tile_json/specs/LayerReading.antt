@@ -1,10 +1,7 @@
 -- The layers that a value of JSON lists (TileJSON 3.0.0, `vector_layers`).
 use Rattle.std.specs.Prelude.{◌≡◌, refl, ℕ, List, [], ◌∷◌, codes, nat_lt, Option, Some, None, option_map, option_and_then, if◌then◌else◌}
-use Rattle.std.specs.Ordering.{nat_cmp}
-use Rattle.std.specs.Cmp.Lexicographic.{slice_cmp}
-use Rattle.std.specs.FinMap.{FinMap, empty}
-use Rattle.serde_json.specs.Data.{unsigned, Data, null, number, string, object, Items, no_items, item, Members, no_members, member}
-use Rattle.serde_json.specs.Find.{get_member, as_str, as_number, as_u64, as_array, as_object}
+use Rattle.tile_json.specs.Common.{as_array, as_number, as_object, as_str, as_u64, Data, empty, FinMap, get_member, item, Items, member, Members, nat_cmp, no_items, no_members, null, number, object}
+use Rattle.tile_json.specs.Common.{slice_cmp, string, unsigned}
 use Rattle.tile_json.specs.Members.{without, with_all, with_texts}
 use Rattle.tile_json.specs.declared.layer.VectorLayer.{VectorLayer}
 

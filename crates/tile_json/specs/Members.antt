@@ -1,10 +1,6 @@
 -- The members of an object of JSON.
 use Rattle.std.specs.Prelude.{ℕ, List, Option, Some, option_and_then, if◌then◌else◌}
-use Rattle.std.specs.Ordering.{nat_cmp, is_eq}
-use Rattle.std.specs.Cmp.Lexicographic.{slice_cmp}
-use Rattle.std.specs.FinMap.{FinMap, insert}
-use Rattle.serde_json.specs.Data.{Data, Members, no_members, member}
-use Rattle.serde_json.specs.Find.{as_str}
+use Rattle.tile_json.specs.Common.{as_str, Data, FinMap, insert, is_eq, member, Members, nat_cmp, no_members, slice_cmp}
 
 -- all but the one of a name
 abbrev pub without : List ℕ → Members → Members

@@ -1,11 +1,8 @@
 -- What the metadata of an archive, a text of JSON, adds to a document.
 use Rattle.std.specs.Prelude.{◌≡◌, ℕ, List, ◌||◌, codes, Option, Some, None, option_map, option_and_then, if◌then◌else◌, refl}
-use Rattle.std.specs.FinMap.{insert}
+use Rattle.tile_json.specs.Common.{array, as_object, boolean, Data, has_float, insert, member, Members, no_members, null, Num, number, object, string}
 use Rattle.std.specs.Str.{bytes_eq}
-use Rattle.serde_json.specs.Data.{Num, Data, null, boolean, number, string, array, object, Members, no_members, member}
-use Rattle.serde_json.specs.Find.{as_object}
 use Rattle.serde_json.specs.Read.{read}
-use Rattle.serde_json.specs.Written.{has_float}
 use Rattle.tile_json.specs.LayerReading.{layers_of}
 use Rattle.tile_json.specs.declared.document.TileJson.{TileJson}
 

@@ -1,7 +1,6 @@
 // Numbers that are held as floats.
 ghost use Rattle.std.specs.Prelude.{◌≡◌};
-ghost use Rattle.serde_json.specs.View.{view, items_view, members_view};
-ghost use Rattle.serde_json.specs.Written.{has_float, items_have_float, members_have_float};
+ghost use Rattle.tile_json.specs.Common.{has_float, items_have_float, items_view, members_have_float, members_view, view};
 
 use serde_json::{Map, Value};
 

@@ -1,7 +1,6 @@
 // Values of JSON from texts, and members taken out of them.
 ghost use Rattle.std.specs.Prelude.{◌≡◌, option_map};
-ghost use Rattle.serde_json.specs.Find.{get};
-ghost use Rattle.serde_json.specs.View.{view};
+ghost use Rattle.tile_json.specs.Common.{get, view};
 ghost use Rattle.tile_json.specs.Errors.{Answers};
 ghost use Rattle.tile_json.specs.JsonReading.{without_member};
 ghost use Rattle.tile_json.specs.Reading.{whole_data};

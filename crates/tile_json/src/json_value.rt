@@ -1,6 +1,6 @@
 // A value of JSON, which contracts see as its data.
 ghost use Rattle.std.specs.Prelude.{◌≡◌};
-ghost use Rattle.serde_json.specs.View.{view};
+ghost use Rattle.tile_json.specs.Common.{view};
 
 use serde_json::Value;
 use std::marker::Model;
@@ -12,7 +12,7 @@ pub struct JsonVal {
 }
 
 impl Model for JsonVal {
-    ghost use Rattle.serde_json.specs.Data.{Data};
+    ghost use Rattle.tile_json.specs.Common.{Data};
     ghost use Rattle.serde_json.specs.View.{view as data_of};
     ghost use Rattle.tile_json.specs.JsonCode.{coded_data};
 

@@ -30,7 +30,7 @@ pub struct LayerList {
 
 impl Model for LayerList {
     ghost use Rattle.std.specs.Prelude.{List};
-    ghost use Rattle.std.specs.Coded.{coded_list};
+    ghost use Rattle.tile_json.specs.Common.{coded_list};
     ghost use Rattle.tile_json.specs.declared.layer.VectorLayer.{VectorLayer};
     ghost use Rattle.tile_json.specs.contracts.layer.VectorLayer as layer;
 

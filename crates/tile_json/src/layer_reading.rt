@@ -1,8 +1,7 @@
 // The layers that a value of JSON lists.
 ghost use Rattle.std.specs.Prelude.{◌≡◌, option_and_then, option_map};
 ghost use Rattle.std.specs.FinMap as map;
-ghost use Rattle.serde_json.specs.Find.{as_object, as_str};
-ghost use Rattle.serde_json.specs.View.{items_view, members_view, view};
+ghost use Rattle.tile_json.specs.Common.{as_object, as_str, items_view, members_view, view};
 ghost use Rattle.tile_json.specs.Errors.{Answers};
 ghost use Rattle.tile_json.specs.LayerReading.{layer_of, layer_with, layers_in, layers_of, optional, zoom_of};
 ghost use Rattle.tile_json.specs.Members.{with_texts};
@@ -14,7 +13,7 @@ use serde_json::{Map, Value};
 use std::alloc::Global;
 
 impl LayerList {
-    ghost use Rattle.serde_json.specs.View.{view};
+    ghost use Rattle.tile_json.specs.Common.{view};
     ghost use Rattle.tile_json.specs.Errors.{Answers};
     ghost use Rattle.tile_json.specs.LayerReading.{layers_of};
 

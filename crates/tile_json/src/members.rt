@@ -1,8 +1,7 @@
 // The members of an object of JSON.
 ghost use Rattle.std.specs.Prelude.{◌≡◌, Some, option_map};
 ghost use Rattle.std.specs.FinMap as map;
-ghost use Rattle.serde_json.specs.Find.{get_member};
-ghost use Rattle.serde_json.specs.View.{view, members_view};
+ghost use Rattle.tile_json.specs.Common.{get_member, members_view, view};
 ghost use Rattle.tile_json.specs.Errors.{Answers};
 ghost use Rattle.tile_json.specs.Members.{with_all, with_texts, without};
 

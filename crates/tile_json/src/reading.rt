@@ -1,6 +1,6 @@
 // A document from the metadata of an archive.
 ghost use Rattle.std.specs.Prelude.{◌≡◌, Some, string_bytes};
-ghost use Rattle.serde_json.specs.View.{members_view, view};
+ghost use Rattle.tile_json.specs.Common.{members_view, view};
 ghost use Rattle.tile_json.specs.Errors.{Answers, Leaves};
 ghost use Rattle.tile_json.specs.Reading.{tilejson_in, whole_data, with_member, with_members, with_other, with_text, with_value};
 

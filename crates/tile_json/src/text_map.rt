@@ -1,7 +1,6 @@
 // A map from texts, in the order of their bytes.
 ghost use Rattle.std.specs.Prelude.{◌≡◌, ◌<◌, slice_get, Some, None, IfOk, IfErr, OnOk, OnErr, option_map};
-ghost use Rattle.std.specs.Ordering.{nat_cmp};
-ghost use Rattle.std.specs.Cmp.Lexicographic.{slice_cmp};
+ghost use Rattle.tile_json.specs.Common.{nat_cmp, slice_cmp};
 ghost use Rattle.std.specs.FinMap as map;
 ghost use Rattle.tile_json.specs.Places.{IsAt, IsGap};
 
@@ -24,10 +23,8 @@ pub struct TextMap<V> {
 
 impl<V> Model for TextMap<V> {
     ghost use Rattle.std.specs.Prelude.{IsTrue};
-    ghost use Rattle.std.specs.Ordering.{nat_cmp};
-    ghost use Rattle.std.specs.Cmp.Lexicographic.{slice_cmp};
+    ghost use Rattle.tile_json.specs.Common.{coded_list, coded_ℕ, nat_cmp, slice_cmp};
     ghost use Rattle.std.specs.FinMap as map;
-    ghost use Rattle.std.specs.Coded.{coded_ℕ, coded_list};
 
     ghost Value = { map.FinMap (slice_cmp nat_cmp) V };
 

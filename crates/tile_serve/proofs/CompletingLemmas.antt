@@ -1,20 +1,10 @@
 -- Where the words are limits, the input is short, the archive opens and no count rose, a run is done, or memory ran out.
-use Rattle.std.proofs.Common.{◌≡◌, ◌⊎◌, inl, inr, ℕ, ◌<◌, true, List, length, Option, None, Some, Result, Ok, Err, IsOk, IfSome, is_some, refl, arith}
-use Rattle.base_values.specs.Counts.{Rose}
-use Rattle.byte_streams.specs.declared.input.TheConstants.{MAX_INPUT}
-use Rattle.byte_streams.specs.Input.{IsShort}
-use Rattle.pm_format.specs.Opened.{opened}
-use Rattle.pm_format.specs.declared.error.PmtError.{PmtError}
+use Rattle.tile_serve.proofs.Common.{arith, Done, Err, IfSome, inl, InputFault, InputTooLong, inr, is_some, IsFor, IsOk, IsShort, IsUniform, IsUnmodifiedRun, length, List, MAX_INPUT, None, Ok, opened}
+use Rattle.tile_serve.proofs.Common.{OpeningCauses, OpensFor, Option, OutOfMemory, OutputFault, PmtError, refl, Refused, RefusesOpening, Result, Rose, ServeError, ServeLimits, ServeOutcome, Some}
+use Rattle.tile_serve.proofs.Common.{SourceCauses, true, Usage, ℕ, ◌<◌, ◌≡◌, ◌⊎◌}
 use Rattle.pm_format.specs.declared.error.PmtError.TheVariants as pm
 use Rattle.pm_format.specs.declared.error.ReadCause.TheVariants as causes
-use Rattle.tile_serve.specs.Answers.{IsUniform, OpeningCauses, RefusesOpening}
-use Rattle.tile_serve.specs.Serving.{IsUnmodifiedRun}
-use Rattle.tile_serve.specs.TopCall.{IsFor, OpensFor, SourceCauses}
-use Rattle.tile_serve.specs.declared.error.ServeError.{ServeError}
 use Rattle.tile_serve.specs.declared.error.ServeError.TheVariants as errors
-use Rattle.tile_serve.specs.declared.limits.ServeLimits.{ServeLimits}
-use Rattle.tile_serve.specs.declared.outcome.ServeOutcome.{ServeOutcome}
-use Rattle.tile_serve.specs.declared.outcome.ServeOutcome.TheVariants.{Done, Refused, Usage, InputFault, OutputFault, InputTooLong, OutOfMemory}
 
 long_short : (input : Option (List ℕ)) → IsShort input → is_some input ≡ true → IfSome input (λ bytes. MAX_INPUT < length bytes) → ⊥
 long_short None short some long = absurd (cc)

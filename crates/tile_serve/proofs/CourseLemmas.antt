@@ -1,19 +1,9 @@
 -- How lines go on, one after another: what the server reads and holds.
-use Rattle.std.proofs.Common.{◌≡◌, ℕ, Bool, true, false, List, [], ◌∷◌, ◌++◌, Option, None, Some, Ok, Err, IfSome, refl, sym, subst}
-use Rattle.bounded_lru.specs.Bounded.{Bounded}
-use Rattle.byte_streams.specs.declared.sink.SinkFault.{SinkFault}
+use Rattle.tile_serve.proofs.Common.{AreAnswered, Bool, Bounded, Compares, Course, course, Done, Err, false, Goes, HasTexts, IfSome, is_read, IsAnswered, IsReadFor, IsWanting, LeavesTiles, LinesTexts}
+use Rattle.tile_serve.proofs.Common.{List, None, of_serve, of_sink, Ok, Option, ReadsFor, refl, request_of, ServeError, ServeOutcome, SinkFault, Some, subst, sym, Texts, tiles_after, tiles_behind}
+use Rattle.tile_serve.proofs.Common.{true, UsesOneLength, ℕ, [], ◌++◌, ◌∷◌, ◌≡◌}
 use Rattle.byte_streams.specs.declared.sink.SinkFault.TheVariants as sink
-use Rattle.pm_reader.specs.Archives.{UsesOneLength}
-use Rattle.tile_serve.specs.Answers.{Compares, HasTexts, IsReadFor, IsWanting, LeavesTiles, ReadsFor}
-use Rattle.tile_serve.specs.Course.{AreAnswered, Course, Goes, IsAnswered, Texts, course, tiles_behind}
-use Rattle.tile_serve.specs.Outcomes.{of_serve, of_sink}
-use Rattle.tile_serve.specs.Request.{request_of}
-use Rattle.tile_serve.specs.Serving.{LinesTexts}
-use Rattle.tile_serve.specs.Tiles.{is_read, tiles_after}
-use Rattle.tile_serve.specs.declared.error.ServeError.{ServeError}
 use Rattle.tile_serve.specs.declared.error.ServeError.TheVariants as errors
-use Rattle.tile_serve.specs.declared.outcome.ServeOutcome.{ServeOutcome}
-use Rattle.tile_serve.specs.declared.outcome.ServeOutcome.TheVariants.{Done}
 
 abbrev Tiles : Type 0
 Tiles = Bounded (List ℕ)

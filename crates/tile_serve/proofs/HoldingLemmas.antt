@@ -1,16 +1,10 @@
 -- What tiles are held, after a use and after one is put.
-use Rattle.std.proofs.Common.{◌≡◌, ◌⊎◌, ◌∙◌, inl, inr, ℕ, Bool, true, false, List, length, nat_eq, is_some, option_map, slice_get, if◌then◌else◌, Option, None, Some, Result, Ok, Err, IfOk, refl, sym, ap, subst, arith}
-use Rattle.std.specs.Map.{lookup}
+use Rattle.tile_serve.proofs.Common.{ap, AreTiles, arith, Bool, Bounded, Contains-with_pair, Err, false, fits, Found, found_at, IfOk, if◌then◌else◌, inl, inr, is_held, is_some, latest-promoted}
+use Rattle.tile_serve.proofs.Common.{LeavesFound, length, List, lookup, nat_eq, None, Ok, Option, option_map, refl, Result, ServeError, slice_get, Some, subst, sym, Tile, tiles_asked, true, used}
+use Rattle.tile_serve.proofs.Common.{used-none, with_found, with_pair, ℕ, ◌∙◌, ◌≡◌, ◌⊎◌}
 use Rattle.std.proofs.lemmas.Bool.Decides.{nat_tests}
 use Rattle.lru.proofs.CallerLemmas.{Contains-lookup, Contains-promoted}
-use Rattle.bounded_lru.specs.Bounded.{Bounded, fits, used, with_pair}
-use Rattle.bounded_lru.proofs.HeldLemmas.{Contains-with_pair, latest-promoted, used-none}
-use Rattle.tile_serve.specs.Reply.{found_at}
-use Rattle.tile_serve.specs.Tiles.{AreTiles, LeavesFound, is_held, tiles_asked, with_found}
-use Rattle.tile_serve.specs.declared.error.ServeError.{ServeError}
 use Rattle.tile_serve.specs.declared.error.ServeError.TheVariants as errors
-use Rattle.tile_serve.specs.declared.found.Found.{Found}
-use Rattle.tile_serve.specs.declared.found.Found.TheVariants.{Tile}
 
 abbrev Tiles : Type 0
 Tiles = Bounded (List ℕ)

@@ -1,3 +1,4 @@
+mod Common
 pub mod CompletingLemmas
 pub mod CourseLemmas
 pub mod HoldingLemmas

@@ -1,27 +1,14 @@
 -- One line after another, and what the output gains by them.
-use Rattle.std.proofs.Common.{◌≡◌, ◌∙◌, ℕ, ◌+◌, ◌≤◌, true, List, [], ◌∷◌, ◌++◌, length, take, flat_map, Option, None, Some, Result, Ok, Err, IfErr, IfSome, IsErrAnd, refl, sym, ap, subst, arith, append_assoc, append-nil, length-append}
+use Rattle.tile_serve.proofs.Common.{Answers, ap, append-nil, append_assoc, AreAnswered, arith, Bounded, Causes, Course, course, Done, Err, flat_map, Gains, GainsFront, Goes, IfErr, IfSome, is_read}
+use Rattle.tile_serve.proofs.Common.{IsAnswered, IsErrAnd, IsStop, IsUniform, IsUnmodified, IsUnmodifiedRun, length, length-append, lines_of, LinesEnd, List, no_byte, None, of_serve, of_sink, Ok}
+use Rattle.tile_serve.proofs.Common.{Option, outcome_of, OutOfMemory, OutputFault, refl, RefusalCauses, Refused, RefusedAt, replies, reply, request_of, Result, Rose, Served, ServeError, ServeOutcome}
+use Rattle.tile_serve.proofs.Common.{SinkFault, Some, subst, sym, take, Texts, tiles_after, true, UsesOneLength, WritesLine, WritesLines, ℕ, [], ◌++◌, ◌+◌, ◌∙◌, ◌∷◌, ◌≡◌, ◌≤◌}
 use Rattle.std.proofs.lemmas.Grind.{flat_map-append}
 use Rattle.std.proofs.Math.Seq.{take-append-add}
 use Rattle.std.proofs.lemmas.List.{take-append-le}
-use Rattle.bounded_lru.specs.Bounded.{Bounded}
 use Rattle.byte_streams.proofs.StreamsLemmas.{Gains-more, Gains-nil}
-use Rattle.byte_streams.specs.Streams.{Gains, GainsFront}
-use Rattle.byte_streams.specs.declared.sink.SinkFault.{SinkFault}
 use Rattle.byte_streams.specs.declared.sink.SinkFault.TheVariants as sink
-use Rattle.line_words.specs.Lines.{lines_of, no_byte}
-use Rattle.pm_reader.specs.Archives.{UsesOneLength}
-use Rattle.base_values.specs.Counts.{Rose}
-use Rattle.tile_serve.specs.Answers.{Answers, Causes, IsUniform, IsUnmodified}
-use Rattle.tile_serve.specs.Outcomes.{of_serve, of_sink, outcome_of}
-use Rattle.tile_serve.specs.Reply.{replies, reply}
-use Rattle.tile_serve.specs.Course.{AreAnswered, Course, Goes, IsAnswered, Texts, course}
-use Rattle.tile_serve.specs.Request.{request_of}
-use Rattle.tile_serve.specs.Serving.{IsStop, IsUnmodifiedRun, LinesEnd, RefusalCauses, RefusedAt, Served, WritesLine, WritesLines}
-use Rattle.tile_serve.specs.Tiles.{is_read, tiles_after}
-use Rattle.tile_serve.specs.declared.error.ServeError.{ServeError}
 use Rattle.tile_serve.specs.declared.error.ServeError.TheVariants as errors
-use Rattle.tile_serve.specs.declared.outcome.ServeOutcome.{ServeOutcome}
-use Rattle.tile_serve.specs.declared.outcome.ServeOutcome.TheVariants.{Done, Refused, OutputFault, OutOfMemory}
 use Rattle.tile_serve.proofs.CourseLemmas.{GoesTold, answered_more, tiles_more}
 
 abbrev Held : Type 0

@@ -1,14 +1,7 @@
 -- Lines over an archive that one read opened.
-use Rattle.std.proofs.Common.{◌≡◌, ◌∙◌, ℕ, ◌≤◌, List, [], Option, None, Some, IfSome, sym, subst}
-use Rattle.base_values.specs.Counts.{Grew}
-use Rattle.bounded_lru.specs.Bounded.{Bounded, bounded}
-use Rattle.pm_reader.specs.Archives.{UsesOneLength}
-use Rattle.tile_serve.specs.Course.{Course, IsBegun, Texts, course}
-use Rattle.tile_serve.specs.Serving.{LinesTexts, RunTexts, Writes, WritesLines}
+use Rattle.tile_serve.proofs.Common.{Bounded, bounded, Course, course, Grew, IfSome, InputFault, InputTooLong, IsBegun, LinesTexts, List, None, Option, OutOfMemory, OutputFault, Refused, RunTexts}
+use Rattle.tile_serve.proofs.Common.{ServeLimits, ServeOutcome, Some, subst, sym, Texts, Usage, UsesOneLength, Writes, WritesLines, ℕ, [], ◌∙◌, ◌≡◌, ◌≤◌}
 use Rattle.tile_serve.specs.declared.error.ServeError.TheVariants as errors
-use Rattle.tile_serve.specs.declared.limits.ServeLimits.{ServeLimits}
-use Rattle.tile_serve.specs.declared.outcome.ServeOutcome.{ServeOutcome}
-use Rattle.tile_serve.specs.declared.outcome.ServeOutcome.TheVariants.{Refused, Usage, InputFault, OutputFault, InputTooLong, OutOfMemory}
 
 abbrev Held : Type 0
 Held = Option (List ℕ)

@@ -1,11 +1,7 @@
 -- Why a server isn't made.
-use Rattle.std.proofs.Common.{arith, ◌≡◌, ◌<◌, ◌^◌, ◌-◌, ℕ, Result, Err, IfErr}
-use Rattle.std.proofs.lemmas.Result.{IfErr-at_err}
-use Rattle.base_values.specs.Counts.{Rose}
+use Rattle.tile_serve.proofs.Common.{arith, Err, IfErr, IfErr-at_err, IsOpeningError, OpeningCauses, Result, Rose, ServeError, ℕ, ◌-◌, ◌<◌, ◌^◌, ◌≡◌}
 use Rattle.pm_format.specs.declared.error.PmtError.TheVariants as opening
 use Rattle.pm_format.specs.declared.error.ReadCause.TheVariants as causes
-use Rattle.tile_serve.specs.Answers.{IsOpeningError, OpeningCauses}
-use Rattle.tile_serve.specs.declared.error.ServeError.{ServeError}
 use Rattle.tile_serve.specs.declared.error.ServeError.TheVariants as errors
 
 pub failure : (before now : ℕ) (e : ServeError) → OpeningCauses before now e → IsOpeningError e

@@ -1,18 +1,8 @@
 -- What is answered to a line, by what was found for its id.
-use Rattle.std.proofs.Common.{◌≡◌, ◌≢◌, ◌∙◌, inl, inr, ℕ, Bool, true, false, List, nat_eq, if◌then◌else◌, Option, None, Some, Result, Ok, Err, IfSome, IfOk, OnErr, refl, sym, ap, subst}
-use Rattle.std.specs.Map.{lookup}
-use Rattle.bounded_lru.specs.Bounded.{Bounded, used}
-use Rattle.bounded_lru.proofs.HeldLemmas.{used-none}
-use Rattle.pm_format.specs.LookUp.{archive_tile}
-use Rattle.pm_reader.specs.Archives.{UsesOneLength}
-use Rattle.tile_serve.specs.Answers.{Compares, Finds, HasTexts, IsReadFor, IsThere, IsUniform, IsUnmodified, IsWanting, LeavesTiles}
-use Rattle.tile_serve.specs.Reply.{found_at}
-use Rattle.tile_serve.specs.Request.{Request, asked, request_of}
-use Rattle.tile_serve.specs.Tiles.{AreTiles, LeavesFound, is_held, is_read, tiles_after, tiles_asked, with_found}
-use Rattle.tile_serve.specs.declared.error.ServeError.{ServeError}
+use Rattle.tile_serve.proofs.Common.{ap, archive_tile, AreTiles, asked, Bool, Bounded, Compares, Err, false, Finds, Found, found_at, HasTexts, IfOk, IfSome, if◌then◌else◌, inl, inr, is_held, is_read}
+use Rattle.tile_serve.proofs.Common.{IsReadFor, IsThere, IsUniform, IsUnmodified, IsWanting, LeavesFound, LeavesTiles, List, lookup, nat_eq, None, Ok, OnErr, Option, refl, Request, request_of, Result}
+use Rattle.tile_serve.proofs.Common.{ServeError, Some, subst, sym, Tile, tiles_after, tiles_asked, true, used, used-none, UsesOneLength, with_found, ℕ, ◌∙◌, ◌≡◌, ◌≢◌}
 use Rattle.tile_serve.specs.declared.error.ServeError.TheVariants as errors
-use Rattle.tile_serve.specs.declared.found.Found.{Found}
-use Rattle.tile_serve.specs.declared.found.Found.TheVariants.{Tile}
 use Rattle.tile_serve.proofs.HoldingLemmas.{asked_unheld, found_held, tiles_found, tiles_used, used_or_same}
 
 abbrev Tiles : Type 0

@@ -1,27 +1,11 @@
 -- A run, from the opening to the last line.
-use Rattle.std.proofs.Common.{◌≡◌, ◌∙◌, ℕ, ◌≤◌, List, ◌++◌, append-nil, Option, None, Some, Result, Ok, Err, IsOk, IfSome, refl, sym, ap, subst, arith}
-use Rattle.base_values.specs.Counts.{Grew}
-use Rattle.byte_streams.specs.Input.{InputCounts}
-use Rattle.byte_streams.specs.Streams.{IsAtEnd, Loses}
+use Rattle.tile_serve.proofs.Common.{ap, append-nil, arith, Done, Err, Grew, IfSome, InputCounts, InputFault, InputTooLong, IsAtEnd, IsFor, IsOk, IsRead, IsServing, IsSilent, IsUnmodifiedRun}
+use Rattle.tile_serve.proofs.Common.{IsUnopened, LinesEnd, List, Loses, MAX_INPUT, None, of_input, of_serve, Ok, opened, OpeningCauses, OpensFor, Option, OutOfMemory, OutputFault, PmtError, refl}
+use Rattle.tile_serve.proofs.Common.{RefusalCauses, Refused, RefusesOpening, replies, Result, RunTexts, ServeError, ServeLimits, ServeOutcome, ServerState, Some, SourceCauses, subst, sym, Taken}
+use Rattle.tile_serve.proofs.Common.{Texts, Usage, UsesOneLength, Writes, ℕ, ◌++◌, ◌∙◌, ◌≡◌, ◌≤◌}
 use Rattle.byte_streams.specs.declared.input.InputError.{InputError}
 use Rattle.byte_streams.specs.declared.input.InputError.TheVariants as input
-use Rattle.byte_streams.specs.declared.input.TheConstants.{MAX_INPUT}
-use Rattle.pm_format.specs.Opened.{opened}
-use Rattle.pm_format.specs.declared.error.PmtError.{PmtError}
-use Rattle.pm_reader.specs.Archives.{UsesOneLength}
-use Rattle.tile_serve.specs.Answers.{OpeningCauses, RefusesOpening}
-use Rattle.tile_serve.specs.Outcomes.{of_input, of_serve}
-use Rattle.tile_serve.specs.Reply.{replies}
-use Rattle.tile_serve.specs.Course.{Texts}
-use Rattle.tile_serve.specs.Serving.{IsUnmodifiedRun, LinesEnd, RefusalCauses, RunTexts, Writes}
-use Rattle.tile_serve.specs.State.{IsServing}
-use Rattle.tile_serve.specs.TopCall.{IsFor, IsRead, IsSilent, IsUnopened, OpensFor, SourceCauses, Taken}
-use Rattle.tile_serve.specs.declared.error.ServeError.{ServeError}
 use Rattle.tile_serve.specs.declared.error.ServeError.TheVariants as errors
-use Rattle.tile_serve.specs.declared.limits.ServeLimits.{ServeLimits}
-use Rattle.tile_serve.specs.declared.outcome.ServeOutcome.{ServeOutcome}
-use Rattle.tile_serve.specs.declared.outcome.ServeOutcome.TheVariants.{Done, Refused, Usage, InputFault, OutputFault, InputTooLong, OutOfMemory}
-use Rattle.tile_serve.specs.declared.state.ServerState.{ServerState}
 use Rattle.tile_serve.proofs.LinesLemmas.{front_none, rose_before}
 
 abbrev Held : Type 0

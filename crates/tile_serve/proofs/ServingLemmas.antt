@@ -1,15 +1,11 @@
 -- A state that serves, from one call to the next.
-use Rattle.std.proofs.Common.{◌≡◌, ◌∙◌, ℕ, List, length, Option, None, Some, Result, Ok, Err, IfSome, IsErrAnd, refl, sym, ap, subst}
-use Rattle.bounded_lru.specs.Bounded.{Bounded, IsWithin}
-use Rattle.pm_reader.specs.Archives.{UsesOneLength}
+use Rattle.tile_serve.proofs.Common.{ap, AreTiles, Bounded, Err, IfSome, IsErrAnd, IsServing, IsWithin, length, List, None, Ok, opened_as, Option, refl, Result, ServerState, Serves, Some, subst, sym}
+use Rattle.tile_serve.proofs.Common.{tiles_of, UsesOneLength, ℕ, ◌∙◌, ◌≡◌}
 use Rattle.pm_reader.specs.Caches.{CacheLimits}
 use Rattle.pm_reader.specs.MapCaches.{IsLimited, held_by_use, uses_of}
 use Rattle.pm_reader.specs.ReadsFrom.{ReadsFrom}
 use Rattle.pm_reader.specs.declared.cache.recent.LruDirCache.{LruDirCache}
 use Rattle.pm_reader.specs.declared.state.ReaderState.{ReaderState}
-use Rattle.tile_serve.specs.State.{IsServing, Serves, opened_as, tiles_of}
-use Rattle.tile_serve.specs.Tiles.{AreTiles}
-use Rattle.tile_serve.specs.declared.state.ServerState.{ServerState}
 
 -- what is held under told bytes
 pub tiles_told : (told : Option (List ℕ)) (versions : Option (ℕ → Option (List ℕ))) (s : ServerState) → IsServing told versions s → IfSome told (λ b. UsesOneLength b → AreTiles b (tiles_of s).pairs)

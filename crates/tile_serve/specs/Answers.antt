@@ -1,14 +1,8 @@
 -- What a server answers to a line, and why.
 use Rattle.std.specs.Prelude.{◌≡◌, ◌≢◌, ◌⊎◌, ◌≤◌, ℕ, true, List, Option, Some, None, Result, Ok, Err, IfSome}
-use Rattle.base_values.specs.Counts.{Rose}
-use Rattle.bounded_lru.specs.Bounded.{Bounded}
-use Rattle.pm_format.specs.LookUp.{archive_tile}
-use Rattle.pm_format.specs.declared.error.PmtError.{PmtError}
+use Rattle.tile_serve.specs.Common.{Agree, archive_tile, Bounded, IsOpenFailure, IsOpenRefusal, PmtError, ReadsByHops, Rose, UsesOneLength}
 use Rattle.pm_format.specs.declared.error.PmtError.TheVariants as errors
 use Rattle.pm_format.specs.declared.error.ReadCause.TheVariants as causes
-use Rattle.pm_reader.specs.Archives.{ReadsByHops, UsesOneLength}
-use Rattle.pm_reader.specs.Opening.{IsOpenFailure, IsOpenRefusal}
-use Rattle.pm_reader.specs.Versions.{Agree}
 use Rattle.tile_serve.specs.Reply.{found_in, reply}
 use Rattle.tile_serve.specs.Request.{Request, request_of}
 use Rattle.tile_serve.specs.Tiles.{is_read, tiles_after}

@@ -1,8 +1,6 @@
 -- Lines that are answered one after another, by what the server holds and how often it read.
 use Rattle.std.specs.Prelude.{◌≡◌, ℕ, true, List, [], ◌∷◌, Option, Some, IfSome}
-use Rattle.bounded_lru.specs.Bounded.{Bounded, bounded}
-use Rattle.pm_reader.specs.Versions.{Agree}
-use Rattle.base_values.specs.Counts.{Grew}
+use Rattle.tile_serve.specs.Common.{Agree, Bounded, bounded, Grew}
 use Rattle.tile_serve.specs.Answers.{IsReadFor, ReadsFor}
 use Rattle.tile_serve.specs.Request.{request_of}
 use Rattle.tile_serve.specs.Tiles.{is_read, tiles_after}

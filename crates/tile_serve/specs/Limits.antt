@@ -1,7 +1,6 @@
 -- The limits that words spell.
 use Rattle.std.specs.Prelude.{◌≡◌, ◌≤◌, ℕ, nat_eq, if◌then◌else◌, List, [], ◌∷◌, Option, Some, None, codes, refl}
-use Rattle.std.specs.Option.{option_and_then, option_map}
-use Rattle.line_words.specs.Number.{number_to}
+use Rattle.tile_serve.specs.Common.{number_to, option_and_then, option_map}
 use Rattle.tile_serve.specs.declared.limits.ServeLimits.{ServeLimits}
 
 abbrev pub limits : ℕ → ℕ → ℕ → ℕ → ServeLimits

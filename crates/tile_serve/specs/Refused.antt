@@ -1,7 +1,6 @@
 -- What a server that isn't made leaves of the backend that it would have borrowed.
 use Rattle.std.specs.Prelude.{ℕ, List, Option, Result, IfErr}
-use Rattle.base_values.specs.Counts.{Grew}
-use Rattle.pm_reader.specs.Reads.{ReadsOnly}
+use Rattle.tile_serve.specs.Common.{Grew, ReadsOnly}
 use Rattle.tile_serve.specs.Answers.{OpeningCauses}
 use Rattle.tile_serve.specs.declared.error.ServeError.{ServeError}
 

@@ -1,10 +1,7 @@
 -- The reply to a line, as a server without caches gives it.
 use Rattle.std.specs.Prelude.{ℕ, ◌++◌, if◌then◌else◌, List, [], ◌∷◌, flat_map, Option, Some, None, Result, Ok, Err, codes}
-use Rattle.std.specs.Str.{bytes_eq}
+use Rattle.tile_serve.specs.Common.{archive_tile, bytes_eq, lines_of, PmtError}
 use Rattle.hex.specs.Hex.{encode_lower}
-use Rattle.line_words.specs.Lines.{lines_of}
-use Rattle.pm_format.specs.LookUp.{archive_tile}
-use Rattle.pm_format.specs.declared.error.PmtError.{PmtError}
 use Rattle.pm_format.specs.declared.error.PmtError.TheVariants as errors
 use Rattle.pm_format.specs.declared.error.ReadCause.TheVariants as causes
 use Rattle.tile_hash.specs.Digest.{digest}

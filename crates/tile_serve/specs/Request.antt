@@ -1,11 +1,7 @@
 -- What a line asks for: a tile, and maybe the tag of the bytes that the asker has.
 use Rattle.std.specs.Prelude.{◌≡◌, ℕ, ◌-◌, ◌^◌, Bool, ◌&&◌, ◌||◌, nat_eq, nat_le, if◌then◌else◌, List, [], ◌∷◌, length, Option, None, codes, refl}
 use Rattle.std.specs.Char.{is_ascii_digit}
-use Rattle.std.specs.List.{list_all}
-use Rattle.std.specs.Option.{option_and_then, option_map}
-use Rattle.std.specs.Str.{bytes_eq}
-use Rattle.line_words.specs.Number.{number_to}
-use Rattle.line_words.specs.Parting.{parted, words_of}
+use Rattle.tile_serve.specs.Common.{bytes_eq, list_all, number_to, option_and_then, option_map, parted, words_of}
 use Rattle.tile_ids.specs.Hilbert.{id_of}
 
 -- an id, and a tag, which is empty where none is given

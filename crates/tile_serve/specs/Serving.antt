@@ -1,9 +1,6 @@
 -- What the output gains by lines.
 use Rattle.std.specs.Prelude.{◌≡◌, ◌≢◌, ◌≤◌, ℕ, true, ◌++◌, List, ◌∷◌, flat_map, Option, Some, IfSome, Err}
-use Rattle.base_values.specs.Counts.{Grew}
-use Rattle.bounded_lru.specs.Bounded.{Bounded}
-use Rattle.byte_streams.specs.Streams.{Gains, GainsFront}
-use Rattle.line_words.specs.Lines.{lines_of}
+use Rattle.tile_serve.specs.Common.{Bounded, Gains, GainsFront, Grew, lines_of}
 use Rattle.tile_serve.specs.Answers.{Answers, Causes, ReadsFor}
 use Rattle.tile_serve.specs.Course.{AreAnswered, Course, IsBegun, Texts, tiles_behind}
 use Rattle.tile_serve.specs.Reply.{replies, reply}

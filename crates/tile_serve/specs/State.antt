@@ -1,10 +1,8 @@
 -- What a server owns beside the backend.
 use Rattle.std.specs.Prelude.{◌≡◌, ℕ, List, length, Option, IfSome}
-use Rattle.bounded_lru.specs.Bounded.{Bounded, IsWithin}
+use Rattle.tile_serve.specs.Common.{Bounded, IsWithin, UsesOneLength, version_of}
 use Rattle.pm_format.specs.Directory.{Entry}
-use Rattle.pm_reader.specs.Archives.{UsesOneLength}
 use Rattle.pm_reader.specs.MapCaches.{held_by_use, uses_of}
-use Rattle.pm_reader.specs.Opening.{version_of}
 use Rattle.pm_reader.specs.ReadsFrom.{ReadsFrom}
 use Rattle.tile_serve.specs.Tiles.{AreTiles}
 use Rattle.tile_serve.specs.declared.state.ServerState.{ServerState}

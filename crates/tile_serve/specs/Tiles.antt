@@ -1,7 +1,6 @@
 -- The tiles that are held, the latest used first.
 use Rattle.std.specs.Prelude.{◌≡◌, ◌⊎◌, ℕ, Bool, true, false, if◌then◌else◌, List, length, nat_eq, Contains, Option, Some, None, is_some, Result, Ok, Err}
-use Rattle.std.specs.Map.{lookup}
-use Rattle.bounded_lru.specs.Bounded.{Bounded, fits, used, with_pair}
+use Rattle.tile_serve.specs.Common.{Bounded, fits, lookup, used, with_pair}
 use Rattle.tile_serve.specs.Reply.{found_at}
 use Rattle.tile_serve.specs.Request.{Request}
 use Rattle.tile_serve.specs.declared.error.ServeError.{ServeError}

@@ -1,7 +1,6 @@
 -- What a run of the server ends in, and why.
 use Rattle.std.specs.Prelude.{◌≤◌, ◌<◌, ℕ, ◌+◌, ◌-◌, ◌^◌, List, Option, Some, None, Result, IsOk}
-use Rattle.byte_streams.specs.declared.input.TheConstants.{MAX_INPUT}
-use Rattle.pm_format.specs.declared.error.PmtError.{PmtError}
+use Rattle.tile_serve.specs.Common.{MAX_INPUT, PmtError}
 use Rattle.tile_serve.specs.Answers.{OpeningCauses, RefusesOpening}
 use Rattle.tile_serve.specs.Serving.{RefusalCauses}
 use Rattle.tile_serve.specs.declared.error.ServeError.TheVariants as serve

@@ -1,7 +1,6 @@
 // Requests, as lines spell them.
 ghost use Rattle.std.specs.Prelude.{◌≡◌, None, Some, MatchOption};
-ghost use Rattle.std.specs.List.{list_all};
-ghost use Rattle.line_words.specs.Parting.{words_of};
+ghost use Rattle.tile_serve.specs.Common.{list_all, words_of};
 ghost use Rattle.tile_serve.specs.Request.{asked, id_at, is_tag, is_tag_digit, request_by, request_of};
 
 use line_words::{first_word, four_words, is_word, parse_number, three_words};

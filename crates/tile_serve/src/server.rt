@@ -1,12 +1,9 @@
 // A server that borrows its backend.
 ghost use Rattle.std.specs.Prelude.{◌≡◌, ◌≢◌, ◌<◌, ◌-◌, ◌^◌, [], false, length, Err, Some, IfErr, IfOk, IfSome};
 ghost use Rattle.std.specs.Borrow.{sem, RestsIfErr};
-ghost use Rattle.base_values.specs.Counts.{Grew};
-ghost use Rattle.bounded_lru.specs.Bounded.{IsWithin, bounded, weight_of};
-ghost use Rattle.pm_format.specs.Opened.{opened};
+ghost use Rattle.tile_serve.specs.Common.{bounded, Grew, GrewBetween, IsWithin, opened, ReadsOnly, weight_of};
 ghost use Rattle.pm_format.specs.declared.error.PmtError.TheVariants as errors;
 ghost use Rattle.pm_format.specs.declared.error.ReadCause.TheVariants as causes;
-ghost use Rattle.pm_reader.specs.Reads.{GrewBetween, ReadsOnly};
 ghost use Rattle.tile_serve.specs.Answers.{Answers, Causes, Compares, HasTexts, IsOpeningError, IsReadFor, IsUniform, IsUnmodified, IsWanting, LeavesTiles, OverOneLength, ReadsFor, RefusesOpening};
 ghost use Rattle.tile_serve.specs.Limits.{IsLimits};
 ghost use Rattle.tile_serve.specs.Refused.{LeftByOpening};

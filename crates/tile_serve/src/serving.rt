@@ -1,9 +1,6 @@
 // The lines of an input, one after another.
 ghost use Rattle.std.specs.Prelude.{◌≡◌, ◌≤◌, ℕ, List, IfErr};
-ghost use Rattle.base_values.specs.Counts.{Rose};
-ghost use Rattle.bounded_lru.specs.Bounded.{Bounded};
-ghost use Rattle.byte_streams.specs.Kept.{KeepsSink};
-ghost use Rattle.pm_reader.specs.Reads.{ReadsOnly};
+ghost use Rattle.tile_serve.specs.Common.{Bounded, KeepsSink, ReadsOnly, Rose};
 ghost use Rattle.tile_serve.specs.Answers.{IsUniform, OverOneLength};
 ghost use Rattle.tile_serve.specs.Course.{Goes, course};
 ghost use Rattle.tile_serve.specs.Outcomes.{outcome_of};

@@ -1,12 +1,6 @@
 // What a server owns, and how it answers a line.
 ghost use Rattle.std.specs.Prelude.{◌≡◌, true, false, [], length, Some, None, IfOk, IfErr, IfSome, OnOk, OnErr};
-ghost use Rattle.base_values.specs.Counts.{Grew};
-ghost use Rattle.bounded_lru.specs.Bounded.{IsWithin, bounded, weight_of};
-ghost use Rattle.pm_format.specs.LookUp.{archive_tile};
-ghost use Rattle.pm_format.specs.Opened.{opened};
-ghost use Rattle.pm_reader.specs.Archives.{ReadsByHops};
-ghost use Rattle.pm_reader.specs.Opening.{HasVersionOf, IsOpen};
-ghost use Rattle.pm_reader.specs.Reads.{GrewBetween, ReadsOnly};
+ghost use Rattle.tile_serve.specs.Common.{archive_tile, bounded, Grew, GrewBetween, HasVersionOf, IsOpen, IsWithin, opened, ReadsByHops, ReadsOnly, weight_of};
 ghost use Rattle.tile_serve.specs.Answers.{Answers, Causes, Compares, Finds, HasTexts, IsReadFor, IsThere, IsUniform, IsUnmodified, IsWanting, LeavesTiles, OpeningCauses, OverOneLength, ReadsFor, RefusesOpening, opening_error};
 ghost use Rattle.tile_serve.specs.Limits.{IsLimits};
 ghost use Rattle.tile_serve.specs.Request.{request_of};

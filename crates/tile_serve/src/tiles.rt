@@ -1,7 +1,6 @@
 // The tiles that are held.
 ghost use Rattle.std.specs.Prelude.{◌≡◌, ◌≤◌, [], length, nat_eq, option_map, slice_get, Some, IfOk, OnOk, OnErr};
-ghost use Rattle.std.specs.Map.{lookup};
-ghost use Rattle.bounded_lru.specs.Bounded.{IsWithin, bounded, used, weight_of};
+ghost use Rattle.tile_serve.specs.Common.{bounded, IsWithin, lookup, used, weight_of};
 ghost use Rattle.tile_serve.specs.Tiles.{with_tile};
 
 use crate::kept::KeptTile;
@@ -20,7 +19,7 @@ pub(crate) struct TileCache {
 
 impl Model for TileCache {
     ghost use Rattle.std.specs.Prelude.{◌≡◌, ℕ, List, is_some, true};
-    ghost use Rattle.bounded_lru.specs.Bounded.{Bounded};
+    ghost use Rattle.tile_serve.specs.Common.{Bounded};
 
     ghost Value = { Bounded (List ℕ) };
 

@@ -1,12 +1,7 @@
 // The whole server as one call.
 ghost use Rattle.std.specs.Prelude.{◌≡◌, ◌⊎◌, ◌<◌, true, IfSome, IsOk, is_some, length};
-ghost use Rattle.base_values.specs.Counts.{Rose};
+ghost use Rattle.tile_serve.specs.Common.{IsAtEnd, KeepsSink, KeepsSource, MAX_INPUT, opened, ReadsOnly, Rose};
 ghost use Rattle.byte_streams.specs.Input.{IsShort};
-ghost use Rattle.byte_streams.specs.Kept.{KeepsSink, KeepsSource};
-ghost use Rattle.byte_streams.specs.Streams.{IsAtEnd};
-ghost use Rattle.byte_streams.specs.declared.input.TheConstants.{MAX_INPUT};
-ghost use Rattle.pm_format.specs.Opened.{opened};
-ghost use Rattle.pm_reader.specs.Reads.{ReadsOnly};
 ghost use Rattle.tile_serve.specs.Answers.{IsUniform, OverOneLength};
 ghost use Rattle.tile_serve.specs.Limits.{IsLimits, limits_in};
 ghost use Rattle.tile_serve.specs.Outcomes.{outcome_of};

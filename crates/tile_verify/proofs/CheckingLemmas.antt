@@ -1,16 +1,7 @@
 -- The check of a whole archive, over bytes that may be told.
-use Rattle.std.proofs.Common.{◌≡◌, ◌∙◌, ◌+◌, ℕ, List, [], ◌++◌, map, Option, None, Some, IfSome, Ok, ap, sym, subst}
-use Rattle.tile_ids.specs.declared.id.TheConstants.{MAX_TILE_ID}
-use Rattle.pm_format.specs.Directory.{Entry}
-use Rattle.pm_format.specs.Opened.{Opened, opened}
-use Rattle.pm_reader.specs.Opening.{IsOpen, header_of, root_of}
+use Rattle.tile_verify.proofs.Common.{Answers, ap, capped, counted, Entry, header_of, IfSome, IsOpen, List, map, MAX_TILE_ID, Met, None, Ok, Opened, opened, Option, part_of, report_by, report_of}
+use Rattle.tile_verify.proofs.Common.{root_of, root_spot, Some, subst, sym, tiles_below, tiles_of, VerifyReport, walk_of, walked, Walks, ℕ, [], ◌++◌, ◌+◌, ◌∙◌, ◌≡◌}
 use Rattle.pm_reader.specs.declared.state.ReaderState.{ReaderState}
-use Rattle.tile_verify.specs.Checking.{Answers}
-use Rattle.tile_verify.specs.FirstBreak.{root_spot, walk_of, walked}
-use Rattle.tile_verify.specs.Tiles.{capped, counted, part_of, report_by, report_of, tiles_below, tiles_of}
-use Rattle.tile_verify.specs.Walking.{Walks}
-use Rattle.tile_verify.specs.declared.report.VerifyReport.{VerifyReport}
-use Rattle.tile_verify.specs.declared.walk.Met.{Met}
 use Rattle.tile_verify.proofs.SoundLemmas.{same_opened, sound_from_walk}
 use Rattle.tile_verify.proofs.WalkingLemmas.{counted_from_zero}
 

@@ -1,15 +1,6 @@
 -- An entry that is met.
-use Rattle.std.proofs.Common.{◌≡◌, ◌≢◌, ◌↔◌, ℕ, zero, suc, Bool, true, false, IsTrue, nat_eq, List, Option, None, Some, Result, Err, refl, ap, sym, subst, IfSome, arith}
-use Rattle.std.proofs.lemmas.Bool.Decides.{nat_tests}
-use Rattle.pm_format.specs.Directory.{Entry}
-use Rattle.pm_format.specs.LookUp.{leaf_of}
-use Rattle.pm_format.specs.declared.header.Header.{Header}
-use Rattle.pm_reader.proofs.QueueLemmas.{is_tile}
-use Rattle.tile_verify.specs.FirstBreak.{Walked, below, entry_walk, leaf_walk, one_deeper, place, tile_walk, walked}
-use Rattle.tile_verify.specs.Walking.{IsBreak, LeafRead, Meets}
-use Rattle.tile_verify.specs.declared.error.VerifyError.{VerifyError}
-use Rattle.tile_verify.specs.declared.walk.Met.{Met}
-use Rattle.tile_verify.specs.declared.walk.Spot.{Spot}
+use Rattle.tile_verify.proofs.Common.{ap, arith, below, Bool, Entry, entry_walk, Err, false, Header, IfSome, is_tile, IsBreak, IsTrue, leaf_of, leaf_walk, LeafRead, List, Meets, Met, nat_eq}
+use Rattle.tile_verify.proofs.Common.{nat_tests, None, one_deeper, Option, place, refl, Result, Some, Spot, subst, suc, sym, tile_walk, true, VerifyError, Walked, walked, zero, ℕ, ◌↔◌, ◌≡◌, ◌≢◌}
 
 -- what an entry leads to, by its run
 pub leaf_met : (inner : Spot → ℕ → ℕ → List Entry → Walked) (h : Header) (b : List ℕ) (at : Spot) (index : ℕ) (e : Entry) (end : ℕ) → e.run_length ≡ 0

@@ -1,11 +1,6 @@
 -- How often a check reads.
-use Rattle.std.proofs.Common.{◌≡◌, ◌⊎◌, inl, inr, ◌+◌, ◌-◌, ◌^◌, ◌≤◌, ℕ, Bool, true, false, min, nat_lt, Err, refl, arith}
-use Rattle.std.proofs.lemmas.Bool.Decides.{nat_tests}
-use Rattle.base_values.specs.Counts.{Grew, Rose}
-use Rattle.tile_verify.specs.Checking.{ReadsMade}
-use Rattle.tile_verify.specs.Walking.{WalkCauses, WalkReads}
-use Rattle.tile_verify.specs.declared.error.VerifyError.{VerifyError}
-use Rattle.tile_verify.specs.declared.error.VerifyError.TheVariants.{Opening, Fault, Short}
+use Rattle.tile_verify.proofs.Common.{arith, Bool, Err, false, Fault, Grew, inl, inr, min, nat_lt, nat_tests, Opening, ReadsMade, refl, Rose, Short, true, VerifyError, WalkCauses, WalkReads, ℕ, ◌+◌}
+use Rattle.tile_verify.proofs.Common.{◌-◌, ◌^◌, ◌≡◌, ◌≤◌, ◌⊎◌}
 
 -- the same end, seen from an earlier count
 pub made_later : (start before now : ℕ) (e : VerifyError) → start ≤ before → WalkReads {A = Unit {0}} before now (Err e) → WalkReads {A = Unit {0}} start now (Err e)

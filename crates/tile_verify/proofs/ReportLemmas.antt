@@ -1,7 +1,7 @@
 -- What a report counts: different ranges, by the order of ranges.
-use Rattle.std.proofs.Common.{◌≡◌, ◌∙◌, ◌<◌, ◌+◌, ◌||◌, ℕ, Bool, true, false, cond, List, [], ◌∷◌, length, map, get_or, refl, ap, sym, subst, arith}
+use Rattle.tile_verify.proofs.Common.{addressed_by, ap, arith, Bool, cond, dedup, dedup_from, false, get_or, get_or-map, length, length-map, List, list_any, map, range_cmp, range_of_part, refl}
+use Rattle.tile_verify.proofs.Common.{report_by, same_range, subst, sym, true, VerifyReport, ℕ, [], ◌+◌, ◌<◌, ◌||◌, ◌∙◌, ◌∷◌, ◌≡◌}
 use Rattle.std.specs.Cmp.{IsTotalOrder}
-use Rattle.std.specs.List.{dedup, dedup_from, list_any}
 use Rattle.std.specs.List.Sorted.{IsPermutation, IsSorted, IsSortedByKey}
 use Rattle.std.specs.declared.cmp.Ordering.{Ordering}
 use Rattle.std.specs.declared.cmp.Ordering.TheVariants.{Less, Equal, Greater}
@@ -9,13 +9,10 @@ use Rattle.std.specs.Ordering.{is_eq, is_lt, nat_cmp, ordering_then}
 use Rattle.std.proofs.lemmas.Bool.{false≢true}
 use Rattle.std.specs.Set.{distinct_count, is_member}
 use Rattle.std.proofs.lemmas.Cmp.{eq_by_cmp_equiv, nat_cmp_total, on_total, then_total}
-use Rattle.std.proofs.lemmas.List.{get_or-map, length-map}
 use Rattle.std.proofs.lemmas.List.Kept.{IsStrictlySortedBy-dedup}
 use Rattle.std.proofs.lemmas.List.Sorted.{IsPermutation-map, list_any-IsPermutation}
 use Rattle.std.proofs.lemmas.Map.Keys.{IsDistinct-from_sorted}
 use Rattle.std.proofs.lemmas.Map.Made.{length-from_keys}
-use Rattle.tile_verify.specs.Tiles.{addressed_by, range_cmp, range_of_part, report_by, same_range}
-use Rattle.tile_verify.specs.declared.report.VerifyReport.{VerifyReport}
 
 range_total : IsTotalOrder range_cmp
 range_total = then_total (on_total (λ (x : ℕ × ℕ). x.0) nat_cmp_total) (on_total (λ (x : ℕ × ℕ). x.1) nat_cmp_total)

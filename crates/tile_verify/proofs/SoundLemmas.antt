@@ -1,21 +1,12 @@
 -- An archive is sound exactly where its walk finds no break.
-use Rattle.std.proofs.Common.{◌≡◌, ◌∙◌, ◌≢◌, ◌+◌, ◌≤◌, ◌<◌, ◌||◌, ℕ, zero, suc, Bool, true, false, nat_eq, nat_lt, nat_le, not, T, List, [], ◌∷◌, Option, None, Some, IsSome, Result, Ok, Err, if◌then◌else◌, refl, ap, sym, subst, arith}
-use Rattle.std.proofs.lemmas.Bool.Decides.{nat_tests}
-use Rattle.std.proofs.lemmas.Option.{none-some}
-use Rattle.tile_ids.specs.declared.id.TheConstants.{MAX_TILE_ID}
-use Rattle.pm_format.specs.Directory.{Entry}
-use Rattle.pm_format.specs.LookUp.{leaf_of, range_of}
-use Rattle.pm_format.specs.Opened.{Opened, opened}
-use Rattle.pm_format.specs.Sound.{EachEntry, HasData, Sound, SoundDirectory}
-use Rattle.pm_format.specs.declared.error.PmtError.{PmtError}
+use Rattle.tile_verify.proofs.Common.{ap, arith, Bool, breaks, Entry, entry_break, entry_walk, Err, falls, false, first_break, Header, if◌then◌else◌, intact, IsSome, leaf_of, leaf_walk, limits_break}
+use Rattle.tile_verify.proofs.Common.{List, MAX_TILE_ID, nat_eq, nat_le, nat_lt, nat_tests, None, none-some, not, Ok, one_deeper, Opened, opened, Option, overlaps, Place, place, PmtError, range_of}
+use Rattle.tile_verify.proofs.Common.{Reason, refl, Result, root_spot, Some, Sound, Spot, subst, suc, sym, T, then_walk, tile_walk, true, two_turns, walk_each, Walked, walked, zero, ℕ, [], ◌+◌, ◌<◌}
+use Rattle.tile_verify.proofs.Common.{◌||◌, ◌∙◌, ◌∷◌, ◌≡◌, ◌≢◌, ◌≤◌}
+use Rattle.pm_format.specs.Sound.{EachEntry, HasData, SoundDirectory}
 use Rattle.pm_format.specs.declared.error.PmtError.TheVariants as errors
-use Rattle.pm_format.specs.declared.header.Header.{Header}
 use Rattle.pm_reader.proofs.SoundTileLemmas.{head_below}
-use Rattle.tile_verify.specs.FirstBreak.{Walked, breaks, entry_break, entry_walk, falls, first_break, intact, leaf_walk, limits_break, one_deeper, overlaps, place, root_spot, then_walk, tile_walk, two_turns, walk_each, walked}
-use Rattle.tile_verify.specs.declared.broken.Place.{Place}
-use Rattle.tile_verify.specs.declared.broken.Reason.{Reason}
 use Rattle.tile_verify.specs.declared.broken.Reason.TheVariants as reason
-use Rattle.tile_verify.specs.declared.walk.Spot.{Spot}
 use Rattle.tile_verify.proofs.MeetingLemmas.{leaf_met, tile_met}
 use Rattle.tile_verify.proofs.WalkingLemmas.{walked_is}
 

@@ -1,15 +1,6 @@
 -- A walk over bytes that may be told.
-use Rattle.std.proofs.Common.{◌≡◌, ◌∙◌, ◌≢◌, ◌+◌, ◌-◌, ◌≤◌, ℕ, zero, suc, List, [], ◌∷◌, length, Option, None, Some, IfSome, Result, Ok, Err, refl, ap, sym, subst, arith}
-use Rattle.pm_format.specs.Directory.{Entry}
-use Rattle.pm_format.specs.declared.header.Header.{Header}
-use Rattle.tile_verify.specs.FirstBreak.{end_before, limits_break, one_deeper, place, walked}
-use Rattle.tile_verify.specs.Tiles.{tiles_below}
-use Rattle.tile_verify.specs.Walking.{Meets, ReadsIn, Walks}
-use Rattle.tile_verify.specs.declared.broken.Reason.{Reason}
-use Rattle.tile_verify.specs.declared.error.VerifyError.{VerifyError}
-use Rattle.tile_verify.specs.declared.error.VerifyError.TheVariants.{Broken}
-use Rattle.tile_verify.specs.declared.walk.Met.{Met}
-use Rattle.tile_verify.specs.declared.walk.Spot.{Spot}
+use Rattle.tile_verify.proofs.Common.{ap, arith, Broken, end_before, Entry, Err, Header, IfSome, length, limits_break, List, Meets, Met, None, Ok, one_deeper, Option, place, ReadsIn, Reason, refl}
+use Rattle.tile_verify.proofs.Common.{Result, Some, Spot, subst, suc, sym, tiles_below, VerifyError, walked, Walks, zero, ℕ, [], ◌+◌, ◌-◌, ◌∙◌, ◌∷◌, ◌≡◌, ◌≢◌, ◌≤◌}
 use Rattle.tile_verify.proofs.WalkingLemmas.{SoFar, all_gone, begun, not_within, past_leaf, past_tile, stopped, stopped_below}
 
 -- what a walk answers, and how often it reads

@@ -1,22 +1,10 @@
 -- A walk along the entries of a directory.
-use Rattle.std.proofs.Common.{◌≡◌, ◌∙◌, ◌+◌, ◌-◌, ◌≤◌, ℕ, zero, suc, true, false, nat_eq, List, [], ◌∷◌, ◌++◌, length, map, flat_map, Option, None, Some, Ok, Err, refl, ap, sym, subst, arith}
-use Rattle.std.proofs.lemmas.List.{append-nil, append_assoc, map-append}
-use Rattle.std.proofs.lemmas.Option.{none-some}
-use Rattle.pm_format.specs.Directory.{Entry}
-use Rattle.pm_format.specs.LookUp.{leaf_of, range_of}
-use Rattle.pm_format.specs.declared.header.Header.{Header}
+use Rattle.tile_verify.proofs.Common.{Adds, ap, append-nil, append_assoc, arith, below, breaks, Broken, capped, counted, end_before, Entry, entry_walk, Err, false, Fault, flat_map, Header, in_leaf}
+use Rattle.tile_verify.proofs.Common.{inside, intact, is_tile, IsBreak, leaf_of, leaf_read, leaf_walk, length, limits_break, List, map, map-append, Meets, Met, nat_eq, None, none-some, Ok, one_deeper}
+use Rattle.tile_verify.proofs.Common.{Option, OutOfMemory, part_of, Place, place, range_of, ReadsIn, Reason, refl, Some, Spot, subst, suc, sym, then_walk, tile_walk, tiles_at, tiles_below, true}
+use Rattle.tile_verify.proofs.Common.{two_turns, VerifyError, walk_each, Walked, walked, Walks, zero, ℕ, [], ◌++◌, ◌+◌, ◌-◌, ◌∙◌, ◌∷◌, ◌≡◌, ◌≤◌}
 use Rattle.tile_verify.specs.FirstBreak as FirstBreak
-use Rattle.tile_verify.specs.FirstBreak.{Walked, below, breaks, entry_walk, end_before, intact, leaf_walk, leaf_read, limits_break, one_deeper, place, then_walk, tile_walk, two_turns, walk_each, walked}
-use Rattle.tile_verify.specs.Tiles.{capped, counted, in_leaf, inside, part_of, tiles_at, tiles_below}
-use Rattle.tile_verify.specs.Walking.{Adds, IsBreak, Meets, ReadsIn, Walks}
-use Rattle.tile_verify.specs.declared.broken.Place.{Place}
-use Rattle.tile_verify.specs.declared.broken.Reason.{Reason}
 use Rattle.tile_verify.specs.declared.broken.Reason.TheVariants as reason
-use Rattle.tile_verify.specs.declared.error.VerifyError.{VerifyError}
-use Rattle.tile_verify.specs.declared.error.VerifyError.TheVariants.{Broken, Fault, OutOfMemory}
-use Rattle.tile_verify.specs.declared.walk.Met.{Met}
-use Rattle.tile_verify.specs.declared.walk.Spot.{Spot}
-use Rattle.pm_reader.proofs.QueueLemmas.{is_tile}
 use Rattle.tile_verify.proofs.MeetingLemmas.{leaf_met, tile_met}
 
 pub counted_twice : (n j k : ℕ) → counted (counted n j) k ≡ counted n (j + k)

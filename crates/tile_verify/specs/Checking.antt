@@ -1,12 +1,8 @@
 -- What a check answers, and why.
 use Rattle.std.specs.Prelude.{◌≡◌, ◌≢◌, ◌≤◌, ◌+◌, ◌-◌, ◌^◌, min, ℕ, List, Some, Result, Ok, Err}
-use Rattle.base_values.specs.Counts.{Grew, Rose}
-use Rattle.pm_format.specs.declared.error.PmtError.{PmtError}
+use Rattle.tile_verify.specs.Common.{Grew, IsOpenRefusal, Opened, opened, PmtError, Rose, Sound}
 use Rattle.pm_format.specs.declared.error.PmtError.TheVariants as errors
 use Rattle.pm_format.specs.declared.error.ReadCause.TheVariants as causes
-use Rattle.pm_format.specs.Opened.{Opened, opened}
-use Rattle.pm_format.specs.Sound.{Sound}
-use Rattle.pm_reader.specs.Opening.{IsOpenRefusal}
 use Rattle.tile_verify.specs.FirstBreak.{walk_of}
 use Rattle.tile_verify.specs.Tiles.{capped, report_of}
 use Rattle.tile_verify.specs.declared.error.VerifyError.{VerifyError}

@@ -1,12 +1,8 @@
 -- The first broken part of an archive, and how far a check comes until then.
 use Rattle.std.specs.Prelude.{◌≡◌, ℕ, zero, suc, ◌+◌, Bool, true, false, List, [], ◌∷◌, nat_lt, nat_le, nat_eq, ◌||◌, if◌then◌else◌, Option, Some, None, Result, Ok, Err, refl}
 use Rattle.tile_ids.specs.declared.id.TheConstants.{MAX_TILE_ID}
-use Rattle.pm_format.specs.declared.error.PmtError.{PmtError}
+use Rattle.tile_verify.specs.Common.{Entry, entry, Header, leaf_of, Opened, PmtError, range_of}
 use Rattle.pm_format.specs.declared.error.PmtError.TheVariants as errors
-use Rattle.pm_format.specs.declared.header.Header.{Header}
-use Rattle.pm_format.specs.Directory.{Entry, entry}
-use Rattle.pm_format.specs.LookUp.{leaf_of, range_of}
-use Rattle.pm_format.specs.Opened.{Opened}
 use Rattle.tile_verify.specs.declared.broken.Place.{Place}
 use Rattle.tile_verify.specs.declared.broken.Reason.{Reason}
 use Rattle.tile_verify.specs.declared.walk.Spot.{Spot}

@@ -3,11 +3,7 @@ use Rattle.std.specs.Prelude.{ℕ, zero, suc, ◌+◌, ◌^◌, ◌-◌, Bool, L
 use Rattle.std.specs.declared.cmp.Ordering.{Ordering}
 use Rattle.std.specs.Ordering.{eq_by_cmp, nat_cmp, ordering_then}
 use Rattle.std.specs.Set.{distinct_count}
-use Rattle.pm_format.specs.declared.header.Header.{Header}
-use Rattle.pm_format.specs.declared.error.PmtError.{PmtError}
-use Rattle.pm_format.specs.Directory.{Entry}
-use Rattle.pm_format.specs.LookUp.{leaf_of}
-use Rattle.pm_format.specs.Opened.{Opened}
+use Rattle.tile_verify.specs.Common.{Entry, Header, leaf_of, Opened, PmtError}
 use Rattle.tile_verify.specs.FirstBreak.{walk_of}
 use Rattle.tile_verify.specs.declared.report.VerifyReport.{VerifyReport}
 

@@ -1,9 +1,6 @@
 -- What one step of a walk leaves, and how often it reads.
 use Rattle.std.specs.Prelude.{◌≡◌, ◌≢◌, ◌+◌, ◌≤◌, ℕ, List, [], ◌∷◌, ◌++◌, map, Option, None, Some, Result, Ok, Err}
-use Rattle.base_values.specs.Counts.{Rose}
-use Rattle.pm_format.specs.declared.header.Header.{Header}
-use Rattle.pm_format.specs.Directory.{Entry}
-use Rattle.pm_format.specs.LookUp.{leaf_of}
+use Rattle.tile_verify.specs.Common.{Entry, Header, leaf_of, Rose}
 use Rattle.tile_verify.specs.FirstBreak.{Walked, below, entry_walk, leaf_walk, place, tile_walk}
 use Rattle.tile_verify.specs.Tiles.{counted, part_of}
 use Rattle.tile_verify.specs.declared.error.VerifyError.{VerifyError}

@@ -1,7 +1,6 @@
 //! Laws of the first break.
 ghost use Rattle.std.specs.Prelude.{◌≡◌, List, ℕ, None, Ok};
-ghost use Rattle.pm_format.specs.Opened.{Opened, opened};
-ghost use Rattle.pm_format.specs.Sound.{Sound};
+ghost use Rattle.tile_verify.specs.Common.{Opened, opened, Sound};
 ghost use Rattle.tile_verify.specs.FirstBreak.{first_break};
 
 /// There is no first break exactly where an archive is sound.

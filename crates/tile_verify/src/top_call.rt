@@ -1,7 +1,6 @@
 // The whole verifier as one call.
 ghost use Rattle.std.specs.Prelude.{◌≡◌, ◌≢◌, ◌+◌, ◌≤◌, IfSome};
-ghost use Rattle.pm_format.specs.Opened.{opened};
-ghost use Rattle.pm_reader.specs.Reads.{ReadsOnly};
+ghost use Rattle.tile_verify.specs.Common.{opened, ReadsOnly};
 ghost use Rattle.tile_verify.specs.Checking.{Answers, Causes, ReadsMade, reads_at_most};
 ghost use Rattle.tile_verify.specs.TopCall.{IsFor, OfCheck};
 

@@ -1,7 +1,6 @@
 // The walk along all directories of an archive, each read once.
 ghost use Rattle.std.specs.Prelude.{◌≡◌, ◌≢◌, ◌<◌, ◌+◌, ◌≤◌, [], ◌∷◌, length, IfSome, IfOk, IfErr, OnOk};
-ghost use Rattle.pm_reader.specs.Opening.{header_of};
-ghost use Rattle.pm_reader.specs.Reads.{ReadsOnly};
+ghost use Rattle.tile_verify.specs.Common.{header_of, ReadsOnly};
 ghost use Rattle.tile_verify.specs.FirstBreak.{end_before, place, walked};
 ghost use Rattle.tile_verify.specs.Tiles.{tiles_below};
 ghost use Rattle.tile_verify.specs.Walking.{Adds, LeafRead, Meets, ReadsIn, TileRead, WalkCauses, WalkReads, Walks};

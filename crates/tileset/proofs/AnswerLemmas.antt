@@ -1,18 +1,10 @@
 -- The answer of a run, from what is known of its script.
-use Rattle.std.proofs.Common.{◌≡◌, ◌≤◌, ◌<◌, ◌⊎◌, ℕ, inl, inr, true, false, List, [], length, nat_lt, if◌then◌else◌, Option, Some, None, Result, Ok, Err, refl, sym, subst, ◌∙◌, ap, arith}
-use Rattle.std.specs.Result.{IsErrAnd}
-use Rattle.std.proofs.lemmas.Bool.Decides.{nat_tests}
-use Rattle.byte_streams.specs.Input.{IsShort}
+use Rattle.tileset.proofs.Common.{answer, answer_command, answer_input, answer_label, answer_script, answer_set, ap, arith, Bulk, Command, command, converted, ConvertFile, ConvertHex, Err, false}
+use Rattle.tileset.proofs.Common.{Given, Gives, if◌then◌else◌, inl, inr, IsErrAnd, IsScript, IsScriptOf, IsShort, IsTold, IsValid, length, List, LoadCauses, MAX_INPUT, nat_lt, nat_tests, None, Ok}
+use Rattle.tileset.proofs.Common.{Option, Outcome, outcome_of, refl, Result, Script, script_of, ScriptCauses, Some, Spells, State, subst, sym, TellsScript, true, Yields, ℕ, [], ◌<◌, ◌∙◌, ◌≡◌, ◌≤◌}
+use Rattle.tileset.proofs.Common.{◌⊎◌}
 use Rattle.pm_format.specs.declared.compression.Compression.TheVariants as compression
-use Rattle.mb_loaded.specs.State.{State}
-use Rattle.tileset.specs.Run.{Given, Gives, IsScript, IsScriptOf, IsTold, IsValid, LoadCauses, ScriptCauses, Spells, TellsScript, Yields, answer, answer_command, answer_input, answer_label, answer_script, answer_set, converted, outcome_of}
-use Rattle.tileset_script.specs.Script.{Script, script_of}
-use Rattle.tileset_script.specs.Words.{command}
-use Rattle.byte_streams.specs.declared.input.TheConstants.{MAX_INPUT}
-use Rattle.tileset.specs.declared.outcome.Outcome.{Outcome}
 use Rattle.tileset.specs.declared.outcome.Outcome.TheVariants.{Done, BadScript, InputFault, OutputFault, MediumFault, OutOfMemory, InputTooLong}
-use Rattle.tileset_script.specs.declared.words.Command.{Command}
-use Rattle.tileset_script.specs.declared.words.Command.TheVariants.{ConvertHex, ConvertFile, Bulk}
 use Rattle.tileset.proofs.RunLemmas.{err_outcome}
 
 below_limit : (n : ℕ) → n ≤ MAX_INPUT → nat_lt MAX_INPUT n ≡ false

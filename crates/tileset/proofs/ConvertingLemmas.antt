@@ -1,15 +1,9 @@
 -- Stores in memory that don't fail.
-use Rattle.std.proofs.Common.{◌≡◌, ℕ, zero, suc, All, true, cond, List, [], ◌∷◌, map, slice_index, Some, None, Result, Ok, Err, IfErr, IsErrOf, refl, subst, ap, arith}
+use Rattle.tileset.proofs.Common.{All, ap, arith, cond, ConvertError, ConvertOptions, ConvertReport, due, Err, faults_of, IfErr, IsErrOf, IsSteady, List, list_all, map, None, Ok, outcome, refl}
+use Rattle.tileset.proofs.Common.{Result, slice_index, Some, StoreFault, subst, suc, told_of, true, zero, ℕ, [], ◌∷◌, ◌≡◌}
 use Rattle.std.proofs.lemmas.List.Elements.{All-head, All-tail}
-use Rattle.std.specs.List.{list_all}
-use Rattle.mb_store.specs.MemStore.{IsSteady, faults_of, told_of}
 use Rattle.mb_store.specs.declared.mem_store.MemStore.{MemStore}
-use Rattle.tile_bridge.specs.Outcome.{due, outcome}
 use Rattle.tile_bridge.specs.Stores.{HasFailed, RoseAt}
-use Rattle.tile_bridge.specs.declared.error.ConvertError.{ConvertError}
-use Rattle.tile_bridge.specs.declared.error.ConvertError.TheVariants.{StoreFault}
-use Rattle.tile_bridge.specs.declared.options.ConvertOptions.{ConvertOptions}
-use Rattle.tile_bridge.specs.declared.report.ConvertReport.{ConvertReport}
 use Rattle.tileset.specs.Converting.{IsNoStoreFault}
 use Rattle.tileset_script.specs.Section.{NeverFails}
 

@@ -1,11 +1,8 @@
 -- A dump, written piece by piece.
-use Rattle.std.proofs.Common.{◌≡◌, ℕ, ◌+◌, ◌-◌, ◌%◌, ◌<◌, ◌≤◌, ◌⊎◌, inl, inr, min, nat_le, Bool, true, false, List, [], ◌++◌, length, take, drop, Option, Some, None, IfSome, refl, sym, subst, ◌∙◌, ap, arith, append_assoc, append-nil, take-add, length-append, length-drop}
-use Rattle.std.proofs.lemmas.List.{take_all, take_at, drop_at, take-append-le, take-append-drop, length-take-le}
-use Rattle.std.proofs.lemmas.Bool.Decides.{nat_tests}
-use Rattle.tileset.specs.HexDump.{hex_dump}
-use Rattle.byte_streams.specs.Streams.{Gains, GainsFront}
+use Rattle.tileset.proofs.Common.{ap, append-nil, append_assoc, arith, Bool, drop, drop_at, false, Gains, Gains-more, Gains-nil, GainsFront, hex_dump, IfSome, inl, inr, length, length-append}
+use Rattle.tileset.proofs.Common.{length-drop, length-take-le, List, min, nat_le, nat_tests, None, Option, refl, Some, subst, sym, take, take-add, take-append-drop, take-append-le, take_all, take_at}
+use Rattle.tileset.proofs.Common.{true, ℕ, [], ◌%◌, ◌++◌, ◌+◌, ◌-◌, ◌<◌, ◌∙◌, ◌≡◌, ◌≤◌, ◌⊎◌}
 use Rattle.tileset.proofs.HexDumpLemmas.{hex_dump-append, hex_dump-none}
-use Rattle.byte_streams.proofs.StreamsLemmas.{Gains-more, Gains-nil}
 
 -- the lines of one more piece
 piece_more : (b : List ℕ) (at size : ℕ) → at % 32 ≡ 0 → at + size ≤ length b → hex_dump 0 (take (at + size) b) ≡ hex_dump 0 (take at b) ++ hex_dump at (take size (drop at b))

@@ -1,11 +1,9 @@
 -- one line of a dump after another
-use Rattle.std.proofs.Common.{◌≡◌, ◌≢◌, ℕ, zero, suc, ◌+◌, ◌*◌, ◌/◌, ◌%◌, ◌^◌, ◌<◌, ◌≤◌, min, List, [], ◌∷◌, ◌++◌, length, take, drop, nat_eq, false, refl, sym, ◌∙◌, ap, arith, length-drop, length-append, append_assoc, append-nil, replicate}
+use Rattle.tileset.proofs.Common.{ap, append-nil, append_assoc, arith, drop, drop-append-le, drop_all, encode_lower, encode_with, false, hex_dump, hex_lines, length, length-append, length-drop, List}
+use Rattle.tileset.proofs.Common.{min, nat_eq, nat_tests, place_text, refl, replicate, shown_line, suc, sym, take, take-append-le, take_all, trimmed, zero, ℕ, [], ◌%◌, ◌*◌, ◌++◌, ◌+◌, ◌/◌, ◌<◌, ◌^◌}
+use Rattle.tileset.proofs.Common.{◌∙◌, ◌∷◌, ◌≡◌, ◌≢◌, ◌≤◌}
 use Rattle.std.proofs.Math.Seq.{take-append-add}
-use Rattle.std.proofs.lemmas.Bool.Decides.{nat_tests}
-use Rattle.std.proofs.lemmas.List.{take_all, drop_all, take-append-le, drop-append-le}
 use Rattle.std.specs.Int.{to_be_bytes, w32}
-use Rattle.hex.specs.Hex.{encode_lower, encode_with}
-use Rattle.tileset.specs.HexDump.{hex_lines, hex_dump, place_text, shown_line, trimmed}
 
 -- a zero in front goes
 pub trimmed-zero : (n m : ℕ) (digits tail : List ℕ) → n ≡ m + 1 → digits ≡ 48 ∷ tail → trimmed n digits ≡ trimmed m tail

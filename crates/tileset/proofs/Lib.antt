@@ -1,3 +1,4 @@
+mod Common
 pub mod ConvertingLemmas
 pub mod AnswerLemmas
 pub mod DumpLemmas

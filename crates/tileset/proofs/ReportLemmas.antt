@@ -1,23 +1,11 @@
 -- The report, from what a conversion answers.
-use Rattle.std.proofs.Common.{◌≡◌, ℕ, zero, suc, ◌≤◌, min, Bool, is_some, List, [], ◌∷◌, ◌++◌, length, drop, map, flat_map, Option, Some, None, Result, Ok, Err, IfErr, IfSome, IsErrOf, OnOk, subst, refl, sym, ◌∙◌, ap, arith, append-nil}
-use Rattle.std.proofs.lemmas.List.{drop_all}
-use Rattle.tile_ids.specs.Coord.{Coord}
-use Rattle.tile_ids.specs.Hilbert.{id_of}
-use Rattle.pm_format.specs.LookUp.{archive_map}
-use Rattle.pm_writer.specs.Places.{places_read}
-use Rattle.tile_bridge.specs.declared.report.ConvertReport.{ConvertReport}
-use Rattle.tileset.specs.HexDump.{hex_dump}
+use Rattle.tileset.proofs.Common.{answer_lines, ap, append-nil, archive_map, arith, Bool, Bulk, Command, command_text, ConvertFile, ConvertReport, Coord, drop, drop_all, Err, flat_map, Gains}
+use Rattle.tileset.proofs.Common.{Gains-more, GainsFront, hex_dump, id_of, IfErr, IfSome, is_some, IsErrOf, IsReported, length, LinesCauses, List, map, min, None, Ok, OnOk, Option, Outcome}
+use Rattle.tileset.proofs.Common.{places_read, refl, ReportCauses, Result, Some, subst, suc, summary, sym, zero, ℕ, [], ◌++◌, ◌∙◌, ◌∷◌, ◌≡◌, ◌≤◌}
 use Rattle.tileset.specs.Places.{places_text}
 use Rattle.tileset.specs.Report.{bulk_text, file_text, number_lines, query_lines, query_line, report_text, summary_lines}
-use Rattle.tileset.specs.Run.{IsReported, LinesCauses, ReportCauses, command_text}
-use Rattle.tileset.specs.declared.outcome.Outcome.{Outcome}
 use Rattle.tileset.specs.declared.outcome.Outcome.TheVariants as outcomes
-use Rattle.byte_streams.specs.Streams.{Gains, GainsFront}
-use Rattle.tileset_script.specs.declared.words.Command.{Command}
-use Rattle.tileset_script.specs.declared.words.Command.TheVariants.{Bulk, ConvertFile}
-use Rattle.tileset.specs.Summary.{answer_lines, summary}
 use Rattle.tileset.proofs.DumpLemmas.{front_longer, front_more}
-use Rattle.byte_streams.proofs.StreamsLemmas.{Gains-more}
 
 no_tiles : (cs : List Coord) → answer_lines cs [] ≡ []
 no_tiles [] = refl

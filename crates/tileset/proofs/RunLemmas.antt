@@ -1,23 +1,15 @@
 -- What a run answers and leaves once there is a script.
-use Rattle.std.proofs.Common.{◌≡◌, ◌⊎◌, ℕ, inl, inr, List, [], ◌∷◌, Option, Some, None, IfSome, Result, Ok, Err, refl, sym, subst, ◌∙◌}
-use Rattle.std.specs.Result.{IsErrAnd}
-use Rattle.tile_ids.specs.Coord.{Coord}
+use Rattle.tileset.proofs.Common.{AnsweredBy, Causes, Command, command_text, ConvertCauses, converted, ConvertLeaves, ConvertReport, Coord, Err, Gains, GainsFront, Given, HasAggregate, HasBegun}
+use Rattle.tileset.proofs.Common.{HoldsArchive, IfSome, inl, inr, IsArchiveOf, IsConvertible, IsEmpty, IsErrAnd, IsScript, LeavesMedium, LeavesOutput, LeavesPart, LeftBy, List, MediumFault, None, Ok}
+use Rattle.tileset.proofs.Common.{Option, Outcome, outcome_of, OutOfMemory, ReadBack, refl, ReportCauses, Result, Script, Some, SomeBegun, State, subst, sym, text_of, WrittenBy, ℕ, [], ◌∙◌, ◌∷◌, ◌≡◌}
+use Rattle.tileset.proofs.Common.{◌⊎◌}
 use Rattle.pm_contents.specs.Pieces.{BothTold}
-use Rattle.mb_loaded.specs.State.{State}
-use Rattle.tile_bridge.specs.Convert.{ConvertCauses, ConvertLeaves, HasAggregate, IsArchiveOf, IsEmpty, LeavesPart}
-use Rattle.tile_bridge.specs.declared.error.ConvertError.TheVariants.{MediumFault, ReadBack, OutOfMemory}
-use Rattle.tile_bridge.specs.declared.report.ConvertReport.{ConvertReport}
 use Rattle.tile_bridge.specs.ReadingBack.{IsReadBack}
 use Rattle.pm_format.specs.declared.error.PmtError.{PmtError}
 use Rattle.pm_format.specs.declared.error.PmtError.TheVariants as errors
 use Rattle.pm_format.specs.declared.error.ReadCause.TheVariants as causes
 use Rattle.tileset.specs.Dump.{IsOtherRange}
-use Rattle.tileset.specs.Run.{AnsweredBy, Causes, Given, HasBegun, HoldsArchive, IsConvertible, IsScript, LeavesMedium, LeavesOutput, LeftBy, ReportCauses, SomeBegun, WrittenBy, command_text, converted, outcome_of, text_of}
-use Rattle.byte_streams.specs.Streams.{Gains, GainsFront}
-use Rattle.tileset_script.specs.Script.{Script}
-use Rattle.tileset.specs.declared.outcome.Outcome.{Outcome}
 use Rattle.tileset.specs.declared.outcome.Outcome.TheVariants as outcomes
-use Rattle.tileset_script.specs.declared.words.Command.{Command}
 
 pub err_outcome : (r : Result Unit Outcome) (o : Outcome) → IsErrAnd r (λ x. x ≡ o) → outcome_of r ≡ o
 err_outcome (Ok x) o h = absurd h

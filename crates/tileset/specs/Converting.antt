@@ -1,5 +1,5 @@
 -- Conversions whose stores don't fail.
-use Rattle.tile_bridge.specs.declared.error.ConvertError.{ConvertError}
+use Rattle.tileset.specs.Common.{ConvertError}
 use Rattle.tile_bridge.specs.declared.error.ConvertError.TheVariants.{StoreFault}
 use Rattle.tile_bridge.specs.declared.options.ConvertOptions.{ConvertOptions}
 use Rattle.tileset_script.specs.declared.script.options.ScriptOptions.{ScriptOptions}

@@ -1,8 +1,7 @@
 -- Bytes in lines of 32, those that are all zero left out.
 use Rattle.std.specs.Prelude.{◌≡◌, ℕ, zero, suc, ◌+◌, List, [], ◌∷◌, ◌++◌, length, take, drop, replicate, nat_eq, if◌then◌else◌, codes, refl}
-use Rattle.std.specs.List.{list_all}
+use Rattle.tileset.specs.Common.{encode_lower, encode_with, list_all}
 use Rattle.std.specs.Int.{to_be_bytes, w64}
-use Rattle.hex.specs.Hex.{encode_lower, encode_with}
 
 -- the digits without zeros in front, of which at most so many go
 abbrev pub trimmed : ℕ → List ℕ → List ℕ

@@ -1,3 +1,4 @@
+pub mod Common
 pub mod Converting
 pub mod Dump
 pub mod HexDump

@@ -1,12 +1,10 @@
 -- The status and the line of each outcome.
 use Rattle.std.specs.Prelude.{◌≡◌, ℕ, ◌++◌, List, [], codes, refl}
-use Rattle.std.specs.Fmt.{decimal}
-use Rattle.pm_format.specs.declared.compression.Compression.{Compression}
+use Rattle.tileset.specs.Common.{Compression, ConvertError, decimal}
 use Rattle.pm_format.specs.declared.compression.Compression.TheVariants as compression
 use Rattle.pm_format.specs.ErrorName.{error_name}
 use Rattle.pm_format.specs.declared.error.PmtError.TheVariants as errors
 use Rattle.pm_format.specs.declared.status.TheConstants.{DONE, REFUSED, USAGE, NO_INPUT, INPUT_FAULT, OUTPUT_FAULT, FAULT, OUT_OF_MEMORY, INPUT_TOO_LONG, READ_BACK}
-use Rattle.tile_bridge.specs.declared.error.ConvertError.{ConvertError}
 use Rattle.tile_bridge.specs.declared.error.ConvertError.TheVariants as convert
 use Rattle.tileset.specs.RefusalText.{store_text}
 use Rattle.tileset.specs.declared.outcome.Outcome.{Outcome}

@@ -1,5 +1,5 @@
 -- The outcomes that errors end a run in.
-use Rattle.tile_bridge.specs.declared.error.ConvertError.{ConvertError}
+use Rattle.tileset.specs.Common.{ConvertError}
 use Rattle.tile_bridge.specs.declared.error.ConvertError.TheVariants as convert
 use Rattle.byte_media.specs.declared.backend.ReadFault.{ReadFault}
 use Rattle.byte_media.specs.declared.backend.ReadFault.TheVariants as read

@@ -1,7 +1,6 @@
 -- The lines of the command bulk.
 use Rattle.std.specs.Prelude.{ℕ, Bool, true, false, ◌++◌, List, [], codes}
-use Rattle.std.specs.Fmt.{decimal}
-use Rattle.pm_writer.specs.declared.places.ArchivePlaces.{ArchivePlaces}
+use Rattle.tileset.specs.Common.{ArchivePlaces, decimal}
 
 -- the line of a name and its number, before further lines
 abbrev pub number_line : List ℕ → ℕ → List ℕ → List ℕ

@@ -1,9 +1,7 @@
 -- The words in which the refusal of a store is shown.
 use Rattle.std.specs.Prelude.{◌≡◌, ℕ, ◌&&◌, not, List, [], ◌∷◌, ◌++◌, codes, flat_map, if◌then◌else◌, nat_eq, refl}
 use Rattle.std.specs.Char.{is_ascii_graphic}
-use Rattle.std.specs.Fmt.{signed_decimal}
-use Rattle.hex.specs.Hex.{encode_lower, encode_upper, encode_with}
-use Rattle.mb_tables.specs.Kind.{layout_words}
+use Rattle.tileset.specs.Common.{encode_lower, encode_upper, encode_with, layout_words, signed_decimal}
 use Rattle.mb_tables.specs.Table.{table_text}
 use Rattle.mb_tables.specs.declared.cell.Cell.{Cell}
 use Rattle.mb_tables.specs.declared.cell.Cell.TheVariants.{Null, Int, Text, Blob, Other}

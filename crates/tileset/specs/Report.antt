@@ -1,12 +1,6 @@
 -- The text that is written on the way to Done.
 use Rattle.std.specs.Prelude.{ℕ, Bool, ◌++◌, List, [], flat_map, Option, Some, None, codes}
-use Rattle.std.specs.Fmt.{decimal}
-use Rattle.hex.specs.Hex.{encode_lower}
-use Rattle.tile_ids.specs.Coord.{Coord}
-use Rattle.tile_ids.specs.Hilbert.{id_of}
-use Rattle.pm_format.specs.LookUp.{archive_map}
-use Rattle.pm_writer.specs.Places.{places_read}
-use Rattle.pm_writer.specs.declared.places.ArchivePlaces.{ArchivePlaces}
+use Rattle.tileset.specs.Common.{archive_map, ArchivePlaces, Coord, decimal, encode_lower, id_of, places_read}
 use Rattle.tileset.specs.HexDump.{hex_dump}
 use Rattle.tileset.specs.Places.{places_text}
 

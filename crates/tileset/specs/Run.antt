@@ -1,28 +1,16 @@
 -- What a run answers, and what it leaves.
 use Rattle.std.specs.Prelude.{ℕ, ◌≡◌, ◌≢◌, ◌+◌, ◌-◌, ◌^◌, ◌≤◌, ◌<◌, ◌⊎◌, false, List, [], ◌∷◌, length, map, nat_lt, if◌then◌else◌, Option, Some, None, is_some, Result, Ok, Err, IfSome, IsOk}
-use Rattle.tile_ids.specs.Coord.{Coord}
-use Rattle.tile_ids.specs.Hilbert.{id_of}
+use Rattle.tileset.specs.Common.{archive_map, bulk_script, command, Compression, ConvertError, ConvertReport, Coord, Gains, GainsFront, id_of, IsArchiveOf, IsAtEnd, IsEmpty, IsPlain, IsShort}
+use Rattle.tileset.specs.Common.{LeavesPart, outcome, places_read, Script, script_of}
 use Rattle.pm_contents.specs.Pieces.{BothTold}
-use Rattle.pm_format.specs.declared.compression.Compression.{Compression}
 use Rattle.pm_format.specs.declared.compression.Compression.TheVariants as compression
-use Rattle.pm_format.specs.LookUp.{archive_map}
-use Rattle.pm_writer.specs.Places.{places_read}
 use Rattle.mb_tables.specs.Refusals.{is_free}
 use Rattle.mb_loaded.specs.State.{State}
 use Rattle.mb_loaded.specs.Aggregate.{aggregate}
-use Rattle.tile_bridge.specs.Convert.{IsArchiveOf, IsEmpty, IsPlain, LeavesPart}
-use Rattle.tile_bridge.specs.Outcome.{outcome}
 use Rattle.tile_bridge.specs.ReadingBack.{IsReadBack}
-use Rattle.tile_bridge.specs.declared.error.ConvertError.{ConvertError}
 use Rattle.tile_bridge.specs.declared.error.ConvertError.TheVariants as refusals
-use Rattle.tile_bridge.specs.declared.report.ConvertReport.{ConvertReport}
-use Rattle.tileset_script.specs.Bulk.{bulk_script}
 use Rattle.tileset.specs.Dump.{IsOtherRange}
 use Rattle.tileset.specs.Report.{bulk_text, file_text, report_text}
-use Rattle.tileset_script.specs.Script.{Script, script_of}
-use Rattle.byte_streams.specs.Input.{IsShort}
-use Rattle.byte_streams.specs.Streams.{Gains, GainsFront, IsAtEnd}
-use Rattle.tileset_script.specs.Words.{command}
 use Rattle.byte_streams.specs.declared.input.TheConstants.{MAX_INPUT}
 use Rattle.tileset.specs.declared.outcome.Outcome.{Outcome}
 use Rattle.tileset.specs.declared.outcome.Outcome.TheVariants.{Done, Refused, Usage, BadScript, InputFault, OutputFault, MediumFault, OutOfMemory, InputTooLong, ReadBack}

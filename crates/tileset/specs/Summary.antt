@@ -1,7 +1,6 @@
 -- The lines of a report before the bytes, by what was answered.
 use Rattle.std.specs.Prelude.{ℕ, ◌++◌, List, [], ◌∷◌, Option}
-use Rattle.tile_ids.specs.Coord.{Coord}
-use Rattle.tile_bridge.specs.declared.report.ConvertReport.{ConvertReport}
+use Rattle.tileset.specs.Common.{ConvertReport, Coord}
 use Rattle.tileset.specs.Report.{number_lines, query_line}
 
 abbrev pub answer_lines : List Coord → List (Option (List ℕ)) → List ℕ

@@ -1,10 +1,7 @@
 // The conversion of a script's stores, which are tables in memory and don't fail.
 ghost use Rattle.std.specs.Prelude.{◌≡◌, All, Some, IfErr, IfOk, IsErrOf, map};
-ghost use Rattle.base_values.specs.Counts.{Rose};
-ghost use Rattle.byte_media.specs.Kept.{KeepsMedium};
+ghost use Rattle.tileset.specs.Common.{ConvertCauses, ConvertLeaves, HasAggregate, KeepsMedium, outcome, Rose};
 ghost use Rattle.mb_store.specs.MemStore.{told_of};
-ghost use Rattle.tile_bridge.specs.Convert.{ConvertCauses, ConvertLeaves, HasAggregate};
-ghost use Rattle.tile_bridge.specs.Outcome.{outcome};
 ghost use Rattle.tileset_script.specs.Section.{NeverFails};
 ghost use Rattle.tileset.specs.Converting.{IsNoStoreFault, options_for};
 

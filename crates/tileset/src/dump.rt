@@ -1,11 +1,8 @@
 // The dump of a medium's bytes, read back and written piece by piece.
 ghost use Rattle.std.specs.Prelude.{◌≡◌, ◌≤◌, ◌<◌, ◌+◌, ◌^◌, length, take, drop, IfSome, OnOk, IsErrOf};
-ghost use Rattle.base_values.specs.Counts.{Rose};
-ghost use Rattle.byte_streams.specs.Kept.{KeepsSink};
-ghost use Rattle.byte_media.specs.Kept.{KeepsMedium};
+ghost use Rattle.tileset.specs.Common.{Gains, GainsFront, KeepsMedium, KeepsSink, Rose};
 ghost use Rattle.tileset.specs.Dump.{DumpCauses, HasLength};
 ghost use Rattle.tileset.specs.HexDump.{hex_dump};
-ghost use Rattle.byte_streams.specs.Streams.{Gains, GainsFront};
 
 use crate::hex_dump::push_hex_dump;
 use crate::{Outcome, Sink, write_all};

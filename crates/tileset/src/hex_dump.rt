@@ -1,7 +1,6 @@
 // The lines of an archive's bytes in hexadecimal.
 ghost use Rattle.std.specs.Prelude.{◌≡◌, ◌≤◌, ◌<◌, ◌+◌, ◌*◌, ◌^◌, ◌++◌, codes, length, nat_eq, take, OnOk};
-ghost use Rattle.std.specs.List.{list_all};
-ghost use Rattle.hex.specs.Hex.{encode_lower};
+ghost use Rattle.tileset.specs.Common.{encode_lower, list_all};
 ghost use Rattle.tileset.specs.HexDump.{hex_dump, shown_line, hex_line, place_text, trimmed};
 
 use hex_pairs::encode_into;

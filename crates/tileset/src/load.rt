@@ -1,16 +1,10 @@
 // The script that the input spells.
 ghost use Rattle.std.specs.Prelude.{◌≡◌, Some, IfOk, IfErr, IfSome, OnOk, IsErrOf, map};
 ghost use Rattle.std.specs.Option.{option_to_list};
-ghost use Rattle.base_values.specs.Counts.{Rose};
-ghost use Rattle.byte_streams.specs.Input.{IsShort};
-ghost use Rattle.byte_streams.specs.Kept.{KeepsSource};
-ghost use Rattle.tileset_script.specs.Bulk.{bulk_script};
+ghost use Rattle.tileset.specs.Common.{bulk_script, IsAtEnd, IsCommand, IsShort, KeepsSource, Rose, script_text, ScriptNeverFails};
 ghost use Rattle.tileset_script.specs.LeafEntries.{IsLeafEntries};
-ghost use Rattle.tileset_script.specs.Reading.{ScriptNeverFails, script_text};
 ghost use Rattle.tileset.specs.Run.{IsReadFor, IsScriptOf, IsUntaken, LoadCauses, LoadTakes, ScriptCauses, Spells};
-ghost use Rattle.byte_streams.specs.Streams.{IsAtEnd};
 ghost use Rattle.tileset_script.specs.Setting.{options_of};
-ghost use Rattle.tileset_script.specs.Words.{IsCommand};
 ghost use Rattle.tileset_script.specs.declared.script.setting.Setting.TheVariants.{MaxLeafEntries};
 ghost use Rattle.tileset_script.specs.declared.words.Command.TheVariants as commands;
 

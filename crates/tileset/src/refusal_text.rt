@@ -1,6 +1,6 @@
 // The words in which the refusal of a store is shown.
 ghost use Rattle.std.specs.Prelude.{◌≡◌, ◌++◌, [], ◌∷◌, codes, flat_map, IfOk, OnOk, string_bytes};
-ghost use Rattle.mb_tables.specs.Kind.{layout_words};
+ghost use Rattle.tileset.specs.Common.{layout_words};
 ghost use Rattle.tileset.specs.RefusalText.{cell_text, spaced, spelled_byte, store_fields, store_name, store_text};
 
 use base_values::OutOfMemory;

@@ -1,12 +1,9 @@
 // The report on a written archive.
 ghost use Rattle.std.specs.Prelude.{◌≡◌, IfSome, IfErr, OnOk, IsErrOf};
-ghost use Rattle.base_values.specs.Counts.{Rose};
-ghost use Rattle.byte_streams.specs.Kept.{KeepsSink};
-ghost use Rattle.byte_media.specs.Kept.{KeepsMedium};
+ghost use Rattle.tileset.specs.Common.{Gains, GainsFront, KeepsMedium, KeepsSink, Rose};
 ghost use Rattle.tileset.specs.Places.{places_text};
 ghost use Rattle.tileset.specs.Report.{report_text};
 ghost use Rattle.tileset.specs.Run.{IsReported, LinesCauses, ReportCauses, command_text};
-ghost use Rattle.byte_streams.specs.Streams.{Gains, GainsFront};
 ghost use Rattle.tileset.specs.Summary.{summary};
 
 use crate::dump::write_dump;

@@ -1,12 +1,7 @@
 // The whole converter as one call.
 ghost use Rattle.std.specs.Prelude.{◌≡◌, ◌⊎◌, Ok, IsErrOf};
-ghost use Rattle.base_values.specs.Counts.{Rose};
-ghost use Rattle.byte_streams.specs.Kept.{KeepsSink, KeepsSource};
-ghost use Rattle.byte_media.specs.Kept.{KeepsMedium};
-ghost use Rattle.tileset_script.specs.Reading.{ScriptNeverFails, script_text};
+ghost use Rattle.tileset.specs.Common.{command, KeepsMedium, KeepsSink, KeepsSource, Rose, Script, script_text, ScriptNeverFails};
 ghost use Rattle.tileset.specs.Run.{AnsweredBy, Causes, Gives, IsReadFor, IsUntaken, IsValid, LeavesMedium, LeavesOutput, LeftBy, Taken, WrittenBy, answer, answer_script, given_of, outcome_of};
-ghost use Rattle.tileset_script.specs.Script.{Script};
-ghost use Rattle.tileset_script.specs.Words.{command};
 
 use crate::converting::convert_stores;
 use crate::load::script_for;

@@ -1,17 +1,9 @@
 -- Ids and their coordinates, and the rows of the first ids.
-use Rattle.std.proofs.Common.{◌≡◌, ℕ, suc, ◌+◌, ◌/◌, List, true, refl, ◌∙◌, ap, arith}
+use Rattle.tileset_script.proofs.Common.{ap, arith, bulk_tables, Cell, coord_of, List, no_rows, numbered_row, refl, row_added, set_tables, suc, Tables, Takes, Tiles, true, with_row, ℕ, ◌+◌, ◌/◌, ◌∙◌}
+use Rattle.tileset_script.proofs.Common.{◌≡◌}
 pub use Rattle.tile_ids.proofs.Bijection.{is_coord_of}
-use Rattle.tile_ids.specs.Hilbert.{coord_of}
-use Rattle.mb_store.specs.Store.{no_rows, with_row}
-use Rattle.mb_tables.specs.Schema.{set_tables}
-use Rattle.mb_tables.specs.Table.{Tables}
-use Rattle.mb_tables.specs.declared.cell.Cell.{Cell}
 use Rattle.mb_tables.specs.declared.kind.MbtType.TheVariants.{Flat}
-use Rattle.mb_tables.specs.declared.table.TableName.TheVariants.{Tiles}
 use Rattle.tileset_script.proofs.RowLemmas.{row_stands}
-use Rattle.tileset_script.specs.Bulk.{bulk_tables, numbered_row}
-use Rattle.tileset_script.specs.Reading.{Takes}
-use Rattle.tileset_script.specs.Script.{row_added}
 
 -- no tile, and one more
 pub no_tiles : (repeat : ℕ) → no_rows (set_tables Flat) ≡ bulk_tables 0 repeat

@@ -1,15 +1,9 @@
 -- The stores of a draft.
-use Rattle.std.proofs.Common.{◌≡◌, ◌<◌, ◌++◌, All, List, [], ◌∷◌, get_or, length, map, remove, Option, Some, None, IfSome, sym, ◌∙◌, ap, subst, arith}
-use Rattle.std.proofs.lemmas.List.{map-append}
+use Rattle.tileset_script.proofs.Common.{All, ap, arith, Coord, ended, get_or, IfSome, length, List, map, map-append, NeverFails, None, Option, option_map, option_to_list, options_of, remove, Script}
+use Rattle.tileset_script.proofs.Common.{Some, subst, sym, told_of, [], ◌++◌, ◌<◌, ◌∙◌, ◌∷◌, ◌≡◌}
 use Rattle.std.proofs.lemmas.List.Elements.{All-append, All-head, All-nil, All-push, All-tail}
-use Rattle.std.specs.Option.{option_map, option_to_list}
-use Rattle.mb_store.specs.MemStore.{told_of}
-use Rattle.tileset_script.specs.Section.{NeverFails}
 use Rattle.mb_store.specs.declared.mem_store.MemStore.{MemStore}
 use Rattle.tileset_script.specs.declared.script.options.ScriptOptions.{ScriptOptions}
-use Rattle.tile_ids.specs.Coord.{Coord}
-use Rattle.tileset_script.specs.Script.{Script, ended}
-use Rattle.tileset_script.specs.Setting.{options_of}
 use Rattle.tileset_script.specs.declared.script.setting.Setting.{Setting}
 use Rattle.tileset_script.specs.declared.section.Section.{Section}
 

@@ -1,3 +1,4 @@
+mod Common
 pub mod BulkLemmas
 pub mod DraftLemmas
 pub mod ReaderLemmas

@@ -1,11 +1,6 @@
 -- What a reader of a script keeps, from the first byte to the last.
-use Rattle.std.proofs.Common.{◌≡◌, ◌++◌, ℕ, true, false, List, [], length, Some, None, Err, sym, ◌∙◌, ap, arith}
-use Rattle.std.proofs.lemmas.List.{append_assoc, append-nil}
-use Rattle.line_words.specs.Lines.{lines_of}
-use Rattle.line_words.specs.Parting.{HasNo}
-use Rattle.tileset_script.specs.Reader.{HasRead, due_of}
-use Rattle.tileset_script.specs.Reading.{TakesLines, drafted}
-use Rattle.tileset_script.specs.Script.{Draft, no_lines, script_from, script_of}
+use Rattle.tileset_script.proofs.Common.{ap, append-nil, append_assoc, arith, Draft, drafted, due_of, Err, false, HasNo, HasRead, length, lines_of, List, no_lines, None, script_from, script_of, Some}
+use Rattle.tileset_script.proofs.Common.{sym, TakesLines, true, ℕ, [], ◌++◌, ◌∙◌, ◌≡◌}
 use Rattle.tileset_script.specs.declared.script.reader.ScriptReader.{ScriptReader}
 use Rattle.tileset_script.proofs.ScriptLemmas.{lines_begin}
 

@@ -1,16 +1,8 @@
 -- Rows of words, a cell at a time, and rows that are added.
-use Rattle.std.proofs.Common.{Bor, ◌≡◌, ℕ, suc, ◌+◌, ◌-◌, ◌<◌, Bool, true, false, not, ◌&&◌, if◌then◌else◌, List, [], ◌∷◌, ◌++◌, length, Option, Some, None, MatchOption, refl, sym, ◌∙◌, ap, arith, append_assoc}
-use Rattle.std.specs.Option.{option_and_then, option_copied, option_map}
-use Rattle.mb_store.specs.Store.{is_duplicate, with_row}
-use Rattle.mb_tables.specs.Described.{is_table}
-use Rattle.mb_tables.specs.Table.{Tables}
-use Rattle.mb_tables.specs.declared.cell.Cell.{Cell}
-use Rattle.mb_tables.specs.declared.table.TableName.{TableName}
-use Rattle.line_words.proofs.PartingLemmas.{some_part}
+use Rattle.tileset_script.proofs.Common.{ap, append_assoc, arith, Bool, Bor, Cell, false, if◌then◌else◌, is_duplicate, is_table, length, List, MatchOption, None, not, Option, option_and_then}
+use Rattle.tileset_script.proofs.Common.{option_copied, option_map, refl, row_added, row_of, Some, some_part, suc, sym, TableName, Tables, Takes, true, with_row, words_of, ℕ, [], ◌&&◌, ◌++◌, ◌+◌, ◌-◌}
+use Rattle.tileset_script.proofs.Common.{◌<◌, ◌∙◌, ◌∷◌, ◌≡◌}
 use Rattle.tileset_script.specs.Cell.{cell_of}
-use Rattle.line_words.specs.Parting.{words_of}
-use Rattle.tileset_script.specs.Reading.{Takes}
-use Rattle.tileset_script.specs.Script.{row_added, row_of}
 
 -- the words of what may be left
 abbrev pub words_left : Option (List ℕ) → List (List ℕ)

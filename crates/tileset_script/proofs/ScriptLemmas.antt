@@ -1,11 +1,6 @@
 -- Scripts, a line at a time.
-use Rattle.std.proofs.Common.{◌<◌, ◌+◌, ◌∷◌, true, false, length, arith, ◌≡◌, ℕ, List, [], Option, Some, None, Result, Err, refl, sym, ◌∙◌, ap}
-use Rattle.std.specs.Option.{option_and_then}
-use Rattle.line_words.specs.Lines.{lines_of}
-use Rattle.line_words.proofs.PartingLemmas.{last_line}
-use Rattle.line_words.specs.Parting.{HasNo, parted}
-use Rattle.tileset_script.specs.Reading.{Takes}
-use Rattle.tileset_script.specs.Script.{Draft, Script, at_end, line_of, no_lines, script_from, script_of, with_line}
+use Rattle.tileset_script.proofs.Common.{ap, arith, at_end, Draft, Err, false, HasNo, last_line, length, line_of, lines_of, List, no_lines, None, Option, option_and_then, parted, refl, Result, Script}
+use Rattle.tileset_script.proofs.Common.{script_from, script_of, Some, sym, Takes, true, with_line, ℕ, [], ◌+◌, ◌<◌, ◌∙◌, ◌∷◌, ◌≡◌}
 
 -- the first line, and the last
 pub lines_begin : (d : Draft) (input : List ℕ) → d ≡ no_lines → script_from 1 d (lines_of input) ≡ script_of input

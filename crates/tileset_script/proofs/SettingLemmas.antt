@@ -1,9 +1,5 @@
 -- Settings of names and values.
-use Rattle.std.proofs.Common.{◌≡◌, ◌≢◌, ℕ, ◌<◌, false, if◌then◌else◌, List, [], ◌∷◌, length, None, codes, refl, ap, arith}
-use Rattle.std.specs.Str.{bytes_eq}
-use Rattle.line_words.proofs.PartingLemmas.{some_part}
-use Rattle.line_words.specs.Parting.{words_of}
-use Rattle.tileset_script.specs.Setting.{bounds_of, center_of, setting_of}
+use Rattle.tileset_script.proofs.Common.{ap, arith, bounds_of, bytes_eq, center_of, codes, false, if◌then◌else◌, length, List, None, refl, setting_of, some_part, words_of, ℕ, [], ◌<◌, ◌∷◌, ◌≡◌, ◌≢◌}
 
 -- an option of another name has one value
 unset : (name : List ℕ) (words : List (List ℕ)) → 0 < length words → length words ≢ 1 → bytes_eq name (codes "center") ≡ false → bytes_eq name (codes "bounds") ≡ false → setting_of name words ≡ None

@@ -1,12 +1,8 @@
 -- Texts, a byte at a time.
-use Rattle.std.proofs.Common.{◌≡◌, ℕ, ◌-◌, ◌<◌, ◌≤◌, Bool, true, false, List, [], ◌∷◌, ◌++◌, length, take, drop, get_or, nat_eq, if◌then◌else◌, Option, Some, None, refl, sym, ◌∙◌, ap, arith, append-nil}
+use Rattle.tileset_script.proofs.Common.{ap, append-nil, arith, Bool, byte_of, drop, false, get_or, if_utf8, if◌then◌else◌, is_utf8, is_utf8-from_IsUtf8, IsUtf8, IsUtf8-from_is_utf8, length, List}
+use Rattle.tileset_script.proofs.Common.{nat_eq, None, Option, option_and_then, option_map, plain, refl, Some, sym, take, take_all, true, unescaped, ℕ, [], ◌++◌, ◌-◌, ◌<◌, ◌∙◌, ◌∷◌, ◌≡◌, ◌≤◌}
 use Rattle.std.proofs.lemmas.Bool.Decides.{nat_tests}
-use Rattle.std.proofs.lemmas.List.{take_all}
-use Rattle.std.proofs.lemmas.Str.{IsUtf8-from_is_utf8, is_utf8-from_IsUtf8}
 use Rattle.std.specs.Char.{is_ascii_graphic}
-use Rattle.std.specs.Option.{option_and_then, option_map}
-use Rattle.std.specs.Str.{IsUtf8, is_utf8}
-use Rattle.tileset_script.specs.Text.{byte_of, if_utf8, plain, unescaped}
 
 -- a byte that is no `%`
 plain_first : (b : ℕ) (tail : List ℕ) → nat_eq b 37 ≡ false → unescaped (b ∷ tail) ≡ plain b (unescaped tail)

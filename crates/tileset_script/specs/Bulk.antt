@@ -1,16 +1,8 @@
 -- Sets that are made from two numbers.
 use Rattle.std.specs.Prelude.{ℕ, zero, suc, ◌/◌, pos, List, [], ◌∷◌, map, Option}
-use Rattle.std.specs.Option.{option_to_list}
+use Rattle.tileset_script.specs.Common.{Blob, Cell, Coord, coord_of, Int, inverted_y, no_rows, option_to_list, set_tables, Tables, Tiles, with_row}
 use Rattle.std.specs.Fmt.{decimal}
-use Rattle.tile_ids.specs.Coord.{Coord, inverted_y}
-use Rattle.tile_ids.specs.Hilbert.{coord_of}
-use Rattle.mb_store.specs.Store.{no_rows, with_row}
-use Rattle.mb_tables.specs.Schema.{set_tables}
-use Rattle.mb_tables.specs.Table.{Tables}
-use Rattle.mb_tables.specs.declared.cell.Cell.{Cell}
-use Rattle.mb_tables.specs.declared.cell.Cell.TheVariants.{Int, Blob}
 use Rattle.mb_tables.specs.declared.kind.MbtType.TheVariants.{Flat}
-use Rattle.mb_tables.specs.declared.table.TableName.TheVariants.{Tiles}
 use Rattle.tileset_script.specs.Script.{Script}
 use Rattle.tileset_script.specs.Setting.{options_of}
 use Rattle.tileset_script.specs.declared.script.setting.Setting.TheVariants.{MaxLeafEntries}

@@ -1,12 +1,7 @@
 -- Cells as words of a script.
 use Rattle.std.specs.Prelude.{◌≡◌, ◌^◌, ℕ, negsuc, List, [], ◌∷◌, nat_eq, if◌then◌else◌, Option, Some, None, Result, Ok, Err, codes, refl}
-use Rattle.std.specs.Option.{option_map}
-use Rattle.std.specs.Str.{chars, is_utf8}
+use Rattle.tileset_script.specs.Common.{Blob, Cell, chars, decode_of, decode_pairs, Int, integer_below, is_utf8, Null, option_map, Other, Text}
 use Rattle.hex.specs.declared.error.FromHexError.{FromHexError}
-use Rattle.hex.specs.Hex.{decode_of, decode_pairs}
-use Rattle.mb_tables.specs.declared.cell.Cell.{Cell}
-use Rattle.mb_tables.specs.declared.cell.Cell.TheVariants.{Null, Int, Text, Blob, Other}
-use Rattle.line_words.specs.Number.{integer_below}
 use Rattle.tileset_script.specs.Text.{text_of, unescaped}
 
 -- this cell, where no letter follows

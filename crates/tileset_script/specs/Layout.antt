@@ -1,11 +1,8 @@
 -- The layouts that a script names, and the tables that each describes.
 use Rattle.std.specs.Prelude.{◌≡◌, ℕ, List, [], ◌∷◌, ◌++◌, true, false, if◌then◌else◌, Option, Some, None, Ok, Err, codes, refl}
-use Rattle.std.specs.Option.{option_map}
-use Rattle.std.specs.Str.{bytes_eq}
-use Rattle.mb_tables.specs.Columns.{patch_columns}
+use Rattle.tileset_script.specs.Common.{bytes_eq, Metadata, option_map, patch_columns, set_tables, table_of, Tiles}
 use Rattle.mb_tables.specs.Detection.{detected, patch_type_of}
 use Rattle.mb_tables.specs.PatchType.{patch_text}
-use Rattle.mb_tables.specs.Schema.{set_tables, table_of}
 use Rattle.mb_tables.specs.declared.description.TableDesc.{TableDesc}
 use Rattle.mb_tables.specs.declared.description.TableKind.TheVariants.{Table}
 use Rattle.mb_tables.specs.declared.error.MbtError.TheVariants.{InvalidDataFormat, NoUniquenessConstraint}
@@ -13,7 +10,6 @@ use Rattle.mb_tables.specs.declared.kind.MbtType.{MbtType}
 use Rattle.mb_tables.specs.declared.kind.MbtType.TheVariants as kinds
 use Rattle.mb_tables.specs.declared.kind.NormalizedSchema.TheVariants.{Hash, DedupId}
 use Rattle.mb_tables.specs.declared.patch_type.PatchType.TheVariants.{BinDiffRaw}
-use Rattle.mb_tables.specs.declared.table.TableName.TheVariants.{Tiles, Metadata}
 use Rattle.tileset_script.specs.declared.layout.Layout.{Layout}
 use Rattle.tileset_script.specs.declared.layout.Layout.TheVariants.{Set, FlatNoIndex, FlatBsdiff, Nothing}
 

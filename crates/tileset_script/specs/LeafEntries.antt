@@ -1,7 +1,6 @@
 -- How many entries a directory of tile entries below the root may have, as a word.
 use Rattle.std.specs.Prelude.{◌≡◌, ℕ, ◌≤◌, List, nat_le, if◌then◌else◌, Option, Some, None, codes, refl}
-use Rattle.std.specs.Option.{option_and_then}
-use Rattle.line_words.specs.Number.{number_to}
+use Rattle.tileset_script.specs.Common.{number_to, option_and_then}
 
 abbrev pub at_least : ℕ → ℕ → Option ℕ
 at_least limit n = if nat_le limit n then Some n else None

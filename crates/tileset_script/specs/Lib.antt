@@ -1,3 +1,4 @@
+pub mod Common
 pub mod Bulk
 pub mod Cell
 pub mod Layout

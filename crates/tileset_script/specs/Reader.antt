@@ -1,7 +1,6 @@
 -- What a reader of a script keeps of the bytes that it took.
 use Rattle.std.specs.Prelude.{ℕ, ◌≡◌, ◌≤◌, ◌+◌, ◌++◌, Bool, true, false, List, length, Result, Err}
-use Rattle.line_words.specs.Lines.{lines_of}
-use Rattle.line_words.specs.Parting.{HasNo}
+use Rattle.tileset_script.specs.Common.{HasNo, lines_of}
 use Rattle.tileset_script.specs.Reading.{DraftNeverFails, drafted}
 use Rattle.tileset_script.specs.Script.{Draft, Script, script_from, script_of}
 use Rattle.tileset_script.specs.declared.script.reader.ScriptReader.{ScriptReader}

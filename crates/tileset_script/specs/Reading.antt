@@ -1,9 +1,6 @@
 -- What the reading of a script answers.
 use Rattle.std.specs.Prelude.{ℕ, ◌≡◌, ◌≤◌, ◌+◌, ◌++◌, Bool, true, false, All, List, length, map, Option, Some, None, Result, Ok, Err, IfSome}
-use Rattle.std.specs.Option.{option_map}
-use Rattle.line_words.specs.Lines.{lines_of}
-use Rattle.mb_store.specs.MemStore.{told_of}
-use Rattle.mb_tables.specs.Table.{width}
+use Rattle.tileset_script.specs.Common.{lines_of, option_map, told_of, width}
 use Rattle.tileset_script.specs.Script.{script_from, script_of}
 use Rattle.tileset_script.specs.Script as definition
 use Rattle.tileset_script.specs.Section.{NeverFails}

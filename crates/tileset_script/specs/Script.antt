@@ -1,21 +1,11 @@
 -- Scripts: what they say, or the number of their first bad line.
 use Rattle.std.specs.Prelude.{ℕ, zero, suc, ◌+◌, is_some, not, ◌&&◌, List, [], ◌∷◌, ◌++◌, ◌-◌, ◌^◌, nat_eq, length, if◌then◌else◌, Option, Some, None, Result, Ok, Err, codes}
-use Rattle.std.specs.List.{find}
-use Rattle.std.specs.Option.{option_and_then, option_map, option_to_list}
-use Rattle.std.specs.Str.{bytes_eq}
+use Rattle.tileset_script.specs.Common.{bytes_eq, Cell, Coord, find, is_duplicate, is_table, lines_of, no_rows, number_to, option_and_then, option_map, option_to_list, table_text, TableName, Tables}
+use Rattle.tileset_script.specs.Common.{width, with_row, words_of}
 use Rattle.tileset_script.specs.declared.script.options.ScriptOptions.{ScriptOptions}
-use Rattle.tile_ids.specs.Coord.{Coord}
 use Rattle.mb_store.specs.Sizes.{all_tables}
-use Rattle.mb_store.specs.Store.{is_duplicate, no_rows, with_row}
-use Rattle.mb_tables.specs.Described.{is_table}
-use Rattle.mb_tables.specs.Table.{Tables, table_text, width}
-use Rattle.mb_tables.specs.declared.cell.Cell.{Cell}
-use Rattle.mb_tables.specs.declared.table.TableName.{TableName}
 use Rattle.tileset_script.specs.Cell.{cell_of}
 use Rattle.tileset_script.specs.Layout.{layout_named, tables_of}
-use Rattle.line_words.specs.Lines.{lines_of}
-use Rattle.line_words.specs.Number.{number_to}
-use Rattle.line_words.specs.Parting.{words_of}
 use Rattle.tileset_script.specs.Setting.{options_of, setting_of}
 use Rattle.tileset_script.specs.declared.layout.Layout.{Layout}
 use Rattle.tileset_script.specs.declared.script.line.Line.{Line}

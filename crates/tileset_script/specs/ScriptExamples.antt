@@ -1,16 +1,9 @@
 -- Scripts, and bad lines.
 use Rattle.std.specs.Prelude.{◌≡◌, List, [], ◌∷◌, map, Option, Some, None, Result, Ok, Err, ℕ, codes, pos, refl}
-use Rattle.hex.specs.Hex.{decode_pairs}
-use Rattle.mb_store.specs.Store.{no_rows}
-use Rattle.mb_tables.specs.declared.cell.Cell.{Cell}
-use Rattle.mb_tables.specs.declared.cell.Cell.TheVariants.{Null, Int, Blob, Other}
+use Rattle.tileset_script.specs.Common.{Blob, Cell, decode_pairs, Int, lines_of, Metadata, no_rows, Null, Other, parted, TableName, Tiles}
 use Rattle.mb_tables.specs.declared.kind.MbtType.TheVariants as kinds
-use Rattle.mb_tables.specs.declared.table.TableName.{TableName}
-use Rattle.mb_tables.specs.declared.table.TableName.TheVariants.{Tiles, Metadata}
 use Rattle.pm_format.specs.declared.tile_type.TileType.TheVariants.{Png}
 use Rattle.tileset_script.specs.Layout.{tables_of}
-use Rattle.line_words.specs.Lines.{lines_of}
-use Rattle.line_words.specs.Parting.{parted}
 use Rattle.tileset_script.specs.Script.{Script, line_of, script_of}
 use Rattle.tileset_script.specs.Setting.{options_of}
 use Rattle.tileset_script.specs.declared.layout.Layout.TheVariants.{Set}

@@ -1,6 +1,6 @@
 -- Stores that a script makes.
 use Rattle.std.specs.Prelude.{◌≡◌}
-use Rattle.mb_store.specs.MemStore.{IsSteady, faults_of}
+use Rattle.tileset_script.specs.Common.{faults_of, IsSteady}
 use Rattle.mb_store.specs.declared.mem_store.MemStore.{MemStore}
 
 -- no call of a store failed, and none is to fail

@@ -1,15 +1,12 @@
 -- The options that lines of a script give.
 use Rattle.std.specs.Prelude.{◌≡◌, ℕ, ◌^◌, ℤ, Bool, true, false, List, [], ◌∷◌, if◌then◌else◌, Option, Some, None, codes, negsuc, pos, refl}
-use Rattle.std.specs.List.{list_any}
-use Rattle.std.specs.Option.{option_and_then, option_map}
-use Rattle.std.specs.Str.{bytes_eq}
+use Rattle.tileset_script.specs.Common.{bytes_eq, integer_below, list_any, number_to, option_and_then, option_map}
 use Rattle.pm_format.specs.Options.{Options, default_options}
 use Rattle.pm_format.specs.declared.compression.Compression.{Compression}
 use Rattle.pm_format.specs.declared.compression.Compression.TheVariants as compressions
 use Rattle.pm_format.specs.declared.tile_type.TileType.{TileType}
 use Rattle.pm_format.specs.declared.tile_type.TileType.TheVariants as types
 use Rattle.tileset_script.specs.declared.script.options.ScriptOptions.{ScriptOptions}
-use Rattle.line_words.specs.Number.{integer_below, number_to}
 use Rattle.tileset_script.specs.LeafEntries.{leaf_entries_of}
 use Rattle.tileset_script.specs.Text.{text_of}
 use Rattle.tileset_script.specs.declared.script.setting.Setting.{Setting}

@@ -1,9 +1,7 @@
 -- Texts as words of a script.
 use Rattle.std.specs.Prelude.{◌≡◌, ℕ, ◌+◌, ◌*◌, List, [], ◌∷◌, nat_eq, if◌then◌else◌, Option, Some, None, codes, refl}
 use Rattle.std.specs.Char.{is_ascii_graphic}
-use Rattle.std.specs.Option.{option_and_then, option_map}
-use Rattle.std.specs.Str.{is_utf8}
-use Rattle.hex.specs.Hex.{hex_digit_value}
+use Rattle.tileset_script.specs.Common.{hex_digit_value, is_utf8, option_and_then, option_map}
 
 -- a byte that stands for itself, before others
 abbrev pub plain : ℕ → Option (List ℕ) → Option (List ℕ)

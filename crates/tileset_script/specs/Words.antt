@@ -1,8 +1,6 @@
 -- The commands that words are.
 use Rattle.std.specs.Prelude.{◌≡◌, ℕ, ◌≤◌, ◌<◌, ◌&&◌, List, [], ◌∷◌, nat_eq, if◌then◌else◌, Option, Some, None, IfSome, codes, refl}
-use Rattle.std.specs.Option.{option_and_then}
-use Rattle.std.specs.Str.{bytes_eq}
-use Rattle.line_words.specs.Number.{number_to}
+use Rattle.tileset_script.specs.Common.{bytes_eq, number_to, option_and_then}
 use Rattle.tileset_script.specs.LeafEntries.{IsLeafEntries, leaf_entries_of}
 use Rattle.tileset_script.specs.declared.words.Command.{Command}
 use Rattle.tileset_script.specs.declared.words.Command.TheVariants.{ConvertHex, ConvertFile, Bulk}

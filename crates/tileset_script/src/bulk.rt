@@ -1,7 +1,6 @@
 // Sets that are made from two numbers.
 ghost use Rattle.std.specs.Prelude.{◌≡◌, ◌≤◌, ◌<◌, ◌/◌, length, IfOk};
-ghost use Rattle.mb_store.specs.MemStore.{told_of};
-ghost use Rattle.tile_ids.specs.Hilbert.{coord_of};
+ghost use Rattle.tileset_script.specs.Common.{coord_of, told_of};
 ghost use Rattle.tileset_script.specs.Bulk.{bulk_tables, numbered_row};
 ghost use Rattle.tileset_script.specs.Section.{NeverFails};
 

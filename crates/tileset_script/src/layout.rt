@@ -1,8 +1,6 @@
 // The layouts that a script names.
 ghost use Rattle.std.specs.Prelude.{◌≡◌, [], ◌∷◌, ◌++◌, IfOk, OnOk};
-ghost use Rattle.mb_tables.specs.Described.{is_table};
-ghost use Rattle.mb_tables.specs.Columns.{patch_columns};
-ghost use Rattle.mb_tables.specs.Schema.{column_of, set_tables, table_of};
+ghost use Rattle.tileset_script.specs.Common.{column_of, is_table, patch_columns, set_tables, table_of};
 ghost use Rattle.tileset_script.specs.Layout.{bsdiff_table, layout_named, set_named, tables_of, unindexed};
 
 use base_values::{OutOfMemory, TextVal};

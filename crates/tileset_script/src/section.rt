@@ -1,6 +1,6 @@
 // A store of a script, while its rows come.
 ghost use Rattle.std.specs.Prelude.{◌≡◌};
-ghost use Rattle.mb_store.specs.MemStore.{told_of};
+ghost use Rattle.tileset_script.specs.Common.{told_of};
 ghost use Rattle.tileset_script.specs.Layout.{tables_of};
 
 use crate::layout::{Layout, has_table, tables_of};
@@ -18,9 +18,7 @@ pub struct Section {
 
 impl Section {
     ghost use Rattle.std.specs.Prelude.{◌≡◌, length, IfOk};
-    ghost use Rattle.mb_store.specs.MemStore.{told_of};
-    ghost use Rattle.mb_store.specs.Store.{no_rows};
-    ghost use Rattle.mb_tables.specs.Table.{width};
+    ghost use Rattle.tileset_script.specs.Common.{no_rows, told_of, width};
     ghost use Rattle.tileset_script.specs.Layout.{tables_of};
     ghost use Rattle.tileset_script.specs.Script.{row_added};
     ghost use Rattle.tileset_script.specs.Reading.{Takes};

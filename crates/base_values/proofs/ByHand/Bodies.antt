@@ -1,10 +1,8 @@
 -- The parts of a body that a proof by hand names: what follows the first n statements, the first statement, and the k-th arm of a switch.
 use Prim.Native.Nat.{ℕ, zero, suc}
-use seplogic.Ra.Ura.{Ura}
-use mir.Syntax.{Body, skip, seq, assign, block, loop, cond, switch, exit, return, call, call_v, unreachable, lend_static, Arms, arm, default, no_default}
+use Rattle.base_values.proofs.Common.{any_q, arm, Arms, assign, block, Body, call, call_v, cond, default, exit, lend_static, Logic, loop, no_default, Post, post, return, seq, skip, switch}
+use Rattle.base_values.proofs.Common.{unreachable, Ura}
 use prog.Wp.{Env, Calls, Loops, Wp, after_seq}
-use types.Logic.{Logic}
-use types.Kit.{Post, any_q, post}
 
 abbrev parts : Body → Body × Body
 parts skip = (skip, skip)

@@ -1,23 +1,16 @@
 -- A `&mut` that a call borrows for less than its own lifetime, and has again afterwards. Assumes `Logic`.
 --     Loan, lends_within      the loan under a new name, the token of its lifetime, and the way back from what the call leaves
 --     gives_back              the reference again, at the last value of the loan
-use mathlib.Core.List.{[], ◌∷◌}
+use Rattle.base_values.proofs.Common.{all, all_e, apply∗, assume, await, by, done, each, ent, fdead, flft, frame, fres, GName, later, Lft, Lifetime, Logic, move, MutBor, MutRef, pick, qed, RattleType}
+use Rattle.base_values.proofs.Common.{raw, sem, sep, Share, show, split, SProp, updating, Ura, use1, use2, use3, vptr, wand, !, [], ‵, ◌$◌, ◌∵◌, ◌∷◌, ◌⊛◌}
 use Prim.Native.Nat.{ℕ}
-use seplogic.Ra.Ura.{Ura}
 use base.Fraction.{full_share}
 use base.FractionLaws.{common}
-use base.Fml.{Lft, GName, Share, flft, fdead, fres}
-use base.Logic.{SProp, ent, sep, wand, all, all_e, apply∗}
 use base.Share
-use mir.Syntax.{Lifetime}
-use mir.Val.{vptr}
-use types.Logic.{Logic, sem}
-use types.Kit.{‵, raw, ◌⊛◌, some, later, ◌$◌, ◌∵◌, !, qed, by, move, use1, use2, use3, split, pick, frame, assume, each, show, await, updating, now as at_once, done}
+use types.Kit.{some, now as at_once}
 use types.Tokens.{lft_new, lft_end, lft-common}
 use contract.BorrowLft.{meet_⊑_left}
 use denote.Lend.{LentAgain, lends_again, comes_back}
-use denote.RattleType.{RattleType}
-use denote.Ref.{MutBor, MutRef}
 
 module _ {M : Type 1} {𝓤 : Ura M} (𝓛 : Logic 𝓤) (R : RattleType) (ℓ : Lifetime) (κ : Lft) (q : Share) (r : MutBor R.Denot) where
   open 𝓛 use {H, A}

@@ -1,15 +1,6 @@
 -- How a proof by hand takes a pair apart. Assumes `Logic`.
-use mathlib.Core.Path.{◌≡◌, ap, ◌∙◌}
-use lib.Dec.{T}
-use mathlib.Core.List.{List, [], ◌∷◌, ◌++◌}
-use seplogic.Ra.Ura.{Ura}
-use mir.Val.{Val, vstruct, of_list, has_ty, WT}
-use types.Logic.{Logic}
-use types.Kit.{Item, Goal, Seq, ‵, ◌$◌, move, drop, fpick, fsplit, fsplit3, feq_l}
-use denote.RattleType.{RattleType}
-use denote.Steps.{only}
-use denote.Param.{layout}
-use denote.Param.Laws.{Laws}
+use Rattle.base_values.proofs.Common.{ap, drop, feq_l, fpick, fsplit, fsplit3, Goal, has_ty, Item, Laws, layout, List, Logic, move, of_list, only, RattleType, Seq, T, Ura, Val, vstruct, WT, [], ‵}
+use Rattle.base_values.proofs.Common.{◌$◌, ◌++◌, ◌∙◌, ◌∷◌, ◌≡◌}
 use denote.Struct.Tuple.{Tuple}
 use Rattle.base_values.proofs.ByHand.Values.{one_of}
 

@@ -1,17 +1,8 @@
 -- What a constructor that may refuse leaves of what it would borrow, for a proof by hand. Assumes `Logic`.
-use mathlib.Core.Path.{◌≡◌, refl, sym, subst}
+use Rattle.base_values.proofs.Common.{done, emp, ent, Err, fpack, fres, GName, Logic, MutBor, Ok, OnErr, OnOk, qed, RattleType, refl, Result, sem, subst, sym, Ura, use0, !, [], ‵, ◌$◌, ◌∵◌, ◌∷◌, ◌≡◌}
 use mathlib.Core.Option.{some}
-use mathlib.Core.List.{[], ◌∷◌}
-use seplogic.Ra.Ura.{Ura}
-use base.Logic.{ent, emp}
-use base.Fml.{GName, fres}
-use types.Logic.{Logic, sem}
-use types.Kit.{‵, ◌$◌, ◌∵◌, !, qed, use0, fpack, done}
-use denote.RattleType.{RattleType}
-use denote.Ref.{MutBor}
 use denote.Follow.{follows, follows_by, such_by}
 use borrow.Follows.Kept.{follows_itself}
-use Rattle.std.specs.Prelude.{Result, Ok, Err, OnOk, OnErr}
 use Rattle.std.specs.Borrow.{RestsIfErr, name_if_ok}
 
 module _ {M : Type 1} {𝓤 : Ura M} (𝓛 : Logic 𝓤) (R : RattleType) (s : MutBor R.Denot) {V : Type 0} (name : V → GName) (E : Type 0) (P : R.Denot → Type 0) where

@@ -1,25 +1,14 @@
 -- How a proof by hand makes a `Result` and takes one apart. Assumes `Logic`.
-use mathlib.Core.Path.{◌≡◌, refl, ap, ◌∙◌}
-use lib.Dec.{T}
+use Rattle.base_values.proofs.Common.{ap, done, drop, emp, ent, Err, feq_i, feq_l, fjoin, fpack, fpick, fsplit, Goal, has_ty, heard, id⊢, Item, join, Laws, layout, List, Logic, move, nothing, of_list}
+use Rattle.base_values.proofs.Common.{Ok, only, owns, param, param_laws, peeks, qed, RattleType, raw, refl, Result, rewrite, sem, sep, Seq, split, SProp, T, Ty, Ura, use0, use1, Val, Valss, WT, !, []}
+use Rattle.base_values.proofs.Common.{‵, ◌$◌, ◌++◌, ◌∙◌, ◌∵◌, ◌∷◌, ◌≡◌, ◌⊛◌}
 use mathlib.Core.Bool.{Bool, true, false, ◌&&◌}
-use mathlib.Core.List.{List, [], ◌∷◌, ◌++◌}
-use seplogic.Ra.Ura.{Ura}
-use mir.Val.{Val, of_list, has_ty, WT}
-use mir.Syntax.{Ty}
-use base.Logic.{SProp, ent, sep, emp, id⊢}
-use types.Logic.{Logic, sem}
-use types.Kit.{Item, Goal, Seq, ‵, raw, ◌⊛◌, ◌$◌, ◌∵◌, !, qed, move, drop, split, join, use0, use1, rewrite, fsplit, fpick, feq_l, fjoin, fpack, feq_i, done}
 use contract.Monad.{fact, fact_i}
 use types.Match.{live}
-use denote.RattleType.{RattleType, Valss, owns}
-use denote.Steps.{nothing, only, peeks, heard}
 use denote.Laws.{Typed, Is, shows}
-use denote.Param.{param, layout}
-use denote.Param.Laws.{Laws, param_laws}
 use denote.Enum.Row.{tagged_with}
 use denote.Enum.Enum.{form_of, in_a_row}
 use denote.Enum.Declared.{shape}
-use Rattle.std.specs.Prelude.{Result, Ok, Err}
 use Rattle.std.specs.contracts.result.Result as RS
 
 module _ {M : Type 1} {𝓤 : Ura M} (𝓛 : Logic 𝓤) (R R' : RattleType) where

@@ -1,6 +1,6 @@
 // The fields of a header, read at their places.
 ghost use Rattle.std.specs.Prelude.{◌≡◌, ◌+◌, ◌≤◌, length, slice_get, OnOk, IfErr, Err};
-ghost use Rattle.std.specs.Int.{w64};
+ghost use Rattle.pm_format.specs.Common.{w64};
 ghost use Rattle.pm_format.specs.Header.{word_at, degrees_at, byte_at, fields, labelled, head, compressions, tile_types};
 
 use crate::{Compression, HEADER_SIZE, Header, PmtError, TileType};

@@ -13,7 +13,7 @@ pub(crate) struct KeptDirectory {
 
 impl Model for KeptDirectory {
     ghost use Rattle.std.specs.Prelude.{List};
-    ghost use Rattle.pm_format.specs.Directory.{Entry};
+    ghost use Rattle.pm_reader.specs.Common.{Entry};
 
     ghost Value = { List Entry };
 

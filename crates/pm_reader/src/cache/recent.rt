@@ -1,7 +1,6 @@
 // The cache that gives up the directories that were used longest ago.
 ghost use Rattle.std.specs.Prelude.{◌≡◌, ◌≤◌, ℕ, [], Ok, None, Some, IfOk, IsTrue, length};
-ghost use Rattle.bounded_lru.specs.Bounded.{IsWithin, Puts, bounded};
-ghost use Rattle.pm_format.specs.Directory.{Entry};
+ghost use Rattle.pm_reader.specs.Common.{bounded, Entry, IsWithin, Puts};
 ghost use Rattle.pm_reader.specs.Caches.{AddsOnly, AnswersFetched, AnswersHeld, CacheLimits, answer_of};
 ghost use Rattle.pm_reader.specs.MapCaches.{FetchLeaves, HoldsSame, IsLimited, IsUsed, PutsRecent, held_by_use, uses_of};
 

@@ -1,7 +1,6 @@
 // Ranges of an archive's bytes, and the way through leaves to a tile.
 ghost use Rattle.std.specs.Prelude.{◌≡◌, ◌+◌, IfErr, option_copied};
-ghost use Rattle.pm_format.specs.Directory.{dir_of};
-ghost use Rattle.pm_format.specs.LookUp.{data_of, range_of};
+ghost use Rattle.pm_reader.specs.Common.{data_of, dir_of, range_of};
 ghost use Rattle.pm_reader.specs.View.{IsTileRefusal, tile_behind, tile_in};
 
 use super::scan::find_in;

@@ -1,6 +1,6 @@
 // What a directory has for an id, found in its bytes.
 ghost use Rattle.std.specs.Prelude.{◌≡◌, ◌≤◌, ◌^◌, Some, None, length, drop, IfOk, IfErr, IfSome, OnErr};
-ghost use Rattle.pm_format.specs.Directory.{column, dir_of};
+ghost use Rattle.pm_reader.specs.Common.{column, dir_of};
 ghost use Rattle.pm_reader.specs.Rows.{AreWithin, after, covered, found_in, rows_at};
 
 use super::cursors::{Cursors, next_entry};

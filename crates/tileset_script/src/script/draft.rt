@@ -1,7 +1,6 @@
 // What the lines of a script said so far.
 ghost use Rattle.std.specs.Prelude.{◌≡◌, ◌++◌, length, IfOk, IfSome, OnOk};
-ghost use Rattle.std.specs.Option.{option_map, option_to_list};
-ghost use Rattle.mb_tables.specs.Table.{width};
+ghost use Rattle.tileset_script.specs.Common.{option_map, option_to_list, width};
 ghost use Rattle.tileset_script.specs.Script.{begun, ended, no_lines, with_line};
 
 use super::ParsedScript;

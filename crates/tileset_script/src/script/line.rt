@@ -1,7 +1,6 @@
 // What one line of a script says.
 ghost use Rattle.std.specs.Prelude.{◌≡◌, ◌-◌, length, IfOk, IfSome};
-ghost use Rattle.mb_tables.specs.Table.{width};
-ghost use Rattle.line_words.specs.Parting.{words_of};
+ghost use Rattle.tileset_script.specs.Common.{width, words_of};
 ghost use Rattle.tileset_script.specs.Reading.{IsWide};
 ghost use Rattle.tileset_script.specs.Script.{layout_words, line_by, line_of, option_words, query_line, query_words, row_of, row_words, table_named};
 

@@ -1,6 +1,6 @@
 // Scripts that are read as their text comes.
 ghost use Rattle.std.specs.Prelude.{◌≡◌, ◌<◌, ◌++◌, ◌^◌, [], List, ℕ, IfOk, OnOk, length};
-ghost use Rattle.line_words.specs.Parting.{HasNo};
+ghost use Rattle.tileset_script.specs.Common.{HasNo};
 
 use super::draft::Draft;
 use super::reading::{end, take_lines};

@@ -1,8 +1,6 @@
 // Scripts, a line at a time.
 ghost use Rattle.std.specs.Prelude.{◌<◌, ◌+◌, ◌-◌, ◌^◌, IfOk, IfSome, OnOk, length};
-ghost use Rattle.std.specs.Option.{option_and_then, option_copied};
-ghost use Rattle.line_words.specs.Lines.{lines_of};
-ghost use Rattle.line_words.specs.Parting.{HasNo};
+ghost use Rattle.tileset_script.specs.Common.{HasNo, lines_of, option_and_then, option_copied};
 ghost use Rattle.tileset_script.specs.Reading.{ScriptNeverFails, DraftNeverFails, EndsAs, Reads, Takes, TakesLines, drafted};
 ghost use Rattle.tileset_script.specs.Script.{at_end, line_of, script_from, with_line};
 

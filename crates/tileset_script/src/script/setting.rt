@@ -1,8 +1,6 @@
 // The options that lines of a script give.
 ghost use Rattle.std.specs.Prelude.{◌≡◌, false, codes, IfOk};
-ghost use Rattle.std.specs.List.{list_any};
-ghost use Rattle.std.specs.Str.{bytes_eq};
-ghost use Rattle.line_words.specs.Parting.{words_of};
+ghost use Rattle.tileset_script.specs.Common.{bytes_eq, list_any, words_of};
 ghost use Rattle.tileset_script.specs.Setting.{bounds_of, center_of, compression_named, degrees_of, is_force, is_verify, options_of, setting_of, type_in, type_named, with_setting, with_value, without_value, writer_of, zoom_of};
 
 use super::options::ScriptOptions;

@@ -1,7 +1,6 @@
 // Texts as words of a script.
 ghost use Rattle.std.specs.Prelude.{◌≡◌, ◌≤◌, ◌∷◌, length, IfOk, IfSome, MatchOption};
-ghost use Rattle.std.specs.Option.{option_map};
-ghost use Rattle.hex.specs.Hex.{hex_digit_value};
+ghost use Rattle.tileset_script.specs.Common.{hex_digit_value, option_map};
 ghost use Rattle.tileset_script.specs.Text.{byte_of, if_utf8, text_of, unescaped};
 
 use base_values::{OutOfMemory, TextVal};

@@ -1,7 +1,4 @@
-use Rattle.std.proofs.Common.{ℕ, List, Some}
-use Rattle.byte_media.specs.MemMedium.{held}
-use Rattle.pm_format.specs.Options.{Options}
-use Rattle.pm_writer.specs.Writing.{Writes}
+use Rattle.archive_rows.proofs.Common.{held, List, Options, Some, Writes, ℕ}
 use Rattle.archive_rows.proofs.adds.all_stated.Given as goal
 
 abbrev pub invariant-loop-turn : goal.invariant-loop-turn

@@ -1,4 +1,4 @@
-use Rattle.std.proofs.Common.{[]}
+use Rattle.archive_rows.proofs.Common.{[]}
 use Rattle.archive_rows.proofs.contents.answer.Goals as goal
 
 pub loop-turn-init : goal.loop-turn-init

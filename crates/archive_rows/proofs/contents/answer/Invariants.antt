@@ -1,4 +1,4 @@
-use Rattle.std.proofs.Common.{ℕ, List}
+use Rattle.archive_rows.proofs.Common.{List, ℕ}
 use Rattle.pm_contents.specs.Contents.{Holds}
 use Rattle.archive_rows.proofs.contents.answer.Given as goal
 

@@ -1,4 +1,4 @@
-use Rattle.std.proofs.Common.{ℕ, List, refl}
+use Rattle.archive_rows.proofs.Common.{List, refl, ℕ}
 use Rattle.pm_contents.specs.Places.{put_new}
 use Rattle.pm_contents.proofs.ContentLemmas.{holds_alike}
 use Rattle.archive_rows.proofs.contents.put.Goals as goal

@@ -1,5 +1,5 @@
 -- the server stays that of its backend
-use Rattle.std.proofs.Common.{◌≡◌}
+use Rattle.archive_rows.proofs.Common.{◌≡◌}
 use Rattle.tile_serve.specs.Server.{IsTied}
 use Rattle.archive_rows.proofs.serving.answer_lines.Given as goal
 

@@ -1,5 +1,4 @@
-use Rattle.std.proofs.Common.{◌≡◌}
-use Rattle.pm_reader.specs.Tied.{IsTied}
+use Rattle.archive_rows.proofs.Common.{IsTied, ◌≡◌}
 use Rattle.archive_rows.proofs.sweep.gather.Given as goal
 
 abbrev pub invariant-loop-id : goal.invariant-loop-id

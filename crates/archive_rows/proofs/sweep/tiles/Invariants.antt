@@ -1,5 +1,4 @@
-use Rattle.std.proofs.Common.{◌≡◌}
-use Rattle.pm_reader.specs.Tied.{IsTied}
+use Rattle.archive_rows.proofs.Common.{IsTied, ◌≡◌}
 use Rattle.archive_rows.proofs.sweep.tiles.Given as goal
 
 abbrev pub invariant-loop-word : goal.invariant-loop-word

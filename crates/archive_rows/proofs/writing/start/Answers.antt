@@ -1,4 +1,4 @@
-use Rattle.std.proofs.Common.{[]}
+use Rattle.archive_rows.proofs.Common.{[]}
 use Rattle.archive_rows.proofs.writing.start.Goals as goal
 
 pub all_stated-requires : goal.all_stated-requires

@@ -1,5 +1,4 @@
-use Rattle.std.proofs.Common.{◌-◌, ℕ, sym, subst, arith}
-use Rattle.lru.specs.LruCache.{LruCache}
+use Rattle.bounded_lru.proofs.Common.{arith, LruCache, subst, sym, ℕ, ◌-◌}
 use Rattle.bounded_lru.proofs.GivingUpLemmas.{Lightened, lightened, shortened}
 use Rattle.bounded_lru.proofs.lighten.lighten.Goals as goal
 

@@ -1,4 +1,4 @@
-use Rattle.std.proofs.Common.{length}
+use Rattle.bounded_lru.proofs.Common.{length}
 use Rattle.bounded_lru.proofs.GivingUpLemmas.{Lightened}
 use Rattle.bounded_lru.proofs.lighten.lighten.Given as goal
 

@@ -1,5 +1,5 @@
 -- no more came than the buffer has room for
-use Rattle.std.proofs.Common.{◌≤◌, length}
+use Rattle.byte_media.proofs.Common.{length, ◌≤◌}
 use Rattle.byte_media.proofs.file_backend.fill.Given as goal
 
 abbrev pub invariant-loop : goal.invariant-loop

@@ -1,8 +1,5 @@
 -- what was taken so far is what the source lost
-use Rattle.std.proofs.Common.{ℕ, ◌≡◌, ◌≤◌, ◌-◌, List, length}
-use Rattle.byte_streams.specs.Kept.{KeepsSource}
-use Rattle.byte_streams.specs.Streams.{Loses}
-use Rattle.base_values.specs.Counts.{Grew}
+use Rattle.byte_streams.proofs.Common.{Grew, KeepsSource, length, List, Loses, ℕ, ◌-◌, ◌≡◌, ◌≤◌}
 use Rattle.byte_streams.specs.declared.input.TheConstants.{MAX_INPUT}
 use Rattle.byte_streams.proofs.input.take_input.Given as goal
 

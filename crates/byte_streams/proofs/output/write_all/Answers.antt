@@ -1,4 +1,4 @@
-use Rattle.std.proofs.Common.{rules}
+use Rattle.byte_streams.proofs.Common.{rules}
 use Rattle.byte_streams.proofs.KeptLemmas.{sink_then}
 use Rattle.byte_streams.proofs.StreamsLemmas.{Gains-part}
 use Rattle.byte_streams.proofs.output.write_all.Goals as goal

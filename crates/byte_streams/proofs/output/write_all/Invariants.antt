@@ -1,7 +1,5 @@
 -- what the sink gained is the front that was written
-use Rattle.std.proofs.Common.{◌≤◌, ◌-◌, length, take}
-use Rattle.byte_streams.specs.Kept.{KeepsSink}
-use Rattle.byte_streams.specs.Streams.{Gains}
+use Rattle.byte_streams.proofs.Common.{Gains, KeepsSink, length, take, ◌-◌, ◌≤◌}
 use Rattle.byte_streams.proofs.output.write_all.Given as goal
 
 abbrev pub invariant-loop-done : goal.invariant-loop-done

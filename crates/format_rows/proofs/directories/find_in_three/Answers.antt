@@ -1,4 +1,4 @@
-use Rattle.std.proofs.Common.{arith, ◌-◌}
+use Rattle.format_rows.proofs.Common.{arith, ◌-◌}
 use Rattle.format_rows.proofs.StepLemmas.{at_most_two}
 use Rattle.format_rows.proofs.directories.find_in_three.Goals as goal
 

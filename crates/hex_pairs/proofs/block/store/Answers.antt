@@ -1,5 +1,4 @@
-use Rattle.std.proofs.Common.{◌+◌, arith}
-use Rattle.std.proofs.lemmas.Simd.{length-put_chunk, take_more_put_chunk}
+use Rattle.hex_pairs.proofs.Common.{arith, length-put_chunk, take_more_put_chunk, ◌+◌}
 use Rattle.hex_pairs.proofs.block.store.Goals as goal
 
 pub returns-clause-written : goal.returns-clause-written

@@ -1,5 +1,4 @@
-use Rattle.std.proofs.Common.{arith, rules, slice_index, ap, ◌*◌, ◌+◌}
-use Rattle.hex.proofs.Pairs.{decode_done, decode_err, decode_step}
+use Rattle.hex_pairs.proofs.Common.{ap, arith, decode_done, decode_err, decode_step, rules, slice_index, ◌*◌, ◌+◌}
 use Rattle.hex_pairs.specs.Decoded.{bytes_of}
 use Rattle.hex_pairs.proofs.ReadLemmas.{front_read}
 use Rattle.hex_pairs.proofs.TableLemmas.{pair_read, pair_wrong}

@@ -1,6 +1,4 @@
-use Rattle.std.proofs.Common.{◌≡◌, ◌*◌, take, drop}
-use Rattle.hex.specs.Hex.{decode_pairs}
-use Rattle.hex.proofs.Pairs.{prepend}
+use Rattle.hex_pairs.proofs.Common.{decode_pairs, drop, prepend, take, ◌*◌, ◌≡◌}
 use Rattle.hex_pairs.proofs.decoding.decode_into.Given as goal
 
 abbrev pub invariant-loop-i : goal.invariant-loop-i

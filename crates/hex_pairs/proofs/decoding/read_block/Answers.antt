@@ -1,5 +1,4 @@
-use Rattle.std.proofs.Common.{◌*◌, ◌++◌, ap, ◌∙◌, subst, take}
-use Rattle.hex_pairs.specs.ValueLanes.{AreDigits, paired}
+use Rattle.hex_pairs.proofs.Common.{ap, AreDigits, paired, subst, take, ◌*◌, ◌++◌, ◌∙◌}
 use Rattle.hex_pairs.proofs.ReadLemmas.{AreDigits-append, two_loads}
 use Rattle.hex_pairs.proofs.decoding.read_block.Goals as goal
 

@@ -1,4 +1,4 @@
-use Rattle.std.proofs.Common.{rules}
+use Rattle.hex_pairs.proofs.Common.{rules}
 use Rattle.hex_pairs.proofs.ReadLemmas.{more_bytes, more_digits}
 use Rattle.hex_pairs.proofs.decoding.read_blocks.Goals as goal
 

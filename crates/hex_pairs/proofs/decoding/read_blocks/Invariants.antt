@@ -1,6 +1,5 @@
 -- the digits so far are digits, and their bytes are written
-use Rattle.std.proofs.Common.{◌≡◌, ◌-◌, ◌*◌, ◌≤◌, length, take}
-use Rattle.hex_pairs.specs.ValueLanes.{AreDigits, paired}
+use Rattle.hex_pairs.proofs.Common.{AreDigits, length, paired, take, ◌*◌, ◌-◌, ◌≡◌, ◌≤◌}
 use Rattle.hex_pairs.proofs.decoding.read_blocks.Given as goal
 
 abbrev pub invariant-loop-bytes : goal.invariant-loop-bytes

@@ -1,6 +1,4 @@
-use Rattle.std.proofs.Common.{◌/◌, arith}
-use Rattle.std.proofs.lemmas.Simd.{zip2_splat}
-use Rattle.hex_pairs.specs.declared.digit_lanes.TheConstants.{DIGITS}
+use Rattle.hex_pairs.proofs.Common.{arith, DIGITS, zip2_splat, ◌/◌}
 use Rattle.hex_pairs.proofs.DigitLemmas.{down, high_ok}
 use Rattle.hex_pairs.proofs.LaneLemmas.{looked_up}
 use Rattle.hex_pairs.proofs.digit_lanes.high_digits.Goals as goal

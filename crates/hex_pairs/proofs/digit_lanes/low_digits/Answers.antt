@@ -1,5 +1,4 @@
-use Rattle.std.proofs.Common.{◌%◌, arith}
-use Rattle.hex_pairs.specs.declared.digit_lanes.TheConstants.{DIGITS}
+use Rattle.hex_pairs.proofs.Common.{arith, DIGITS, ◌%◌}
 use Rattle.hex_pairs.proofs.DigitLemmas.{low_ok, lower_half}
 use Rattle.hex_pairs.proofs.LaneLemmas.{looked_up}
 use Rattle.hex_pairs.proofs.digit_lanes.low_digits.Goals as goal

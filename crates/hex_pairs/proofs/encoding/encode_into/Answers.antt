@@ -1,4 +1,4 @@
-use Rattle.std.proofs.Common.{rules}
+use Rattle.hex_pairs.proofs.Common.{rules}
 use Rattle.hex_pairs.proofs.DigitLemmas.{all_written, block_written, none_written}
 use Rattle.hex_pairs.proofs.encoding.encode_into.Goals as goal
 

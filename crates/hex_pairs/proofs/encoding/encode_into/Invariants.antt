@@ -1,6 +1,5 @@
 -- the digits of the bytes so far are written
-use Rattle.std.proofs.Common.{◌≡◌, ◌-◌, ◌*◌, ◌≤◌, length, take}
-use Rattle.hex.specs.Hex.{encode_lower}
+use Rattle.hex_pairs.proofs.Common.{encode_lower, length, take, ◌*◌, ◌-◌, ◌≡◌, ◌≤◌}
 use Rattle.hex_pairs.proofs.encoding.encode_into.Given as goal
 
 abbrev pub invariant-loop-at : goal.invariant-loop-at

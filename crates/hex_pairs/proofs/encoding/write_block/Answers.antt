@@ -1,4 +1,4 @@
-use Rattle.std.proofs.Common.{◌*◌}
+use Rattle.hex_pairs.proofs.Common.{◌*◌}
 use Rattle.hex_pairs.proofs.DigitLemmas.{two_stores}
 use Rattle.hex_pairs.proofs.encoding.write_block.Goals as goal
 

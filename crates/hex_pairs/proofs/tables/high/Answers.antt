@@ -1,4 +1,4 @@
-use Rattle.std.proofs.Common.{arith}
+use Rattle.hex_pairs.proofs.Common.{arith}
 use Rattle.hex_pairs.proofs.TableLemmas.{high_read}
 use Rattle.hex_pairs.proofs.tables.high.Goals as goal
 

@@ -1,6 +1,5 @@
-use Rattle.std.proofs.Common.{sym, ◌∙◌, arith}
+use Rattle.line_words.proofs.Common.{arith, number_to, sym, ◌∙◌}
 use Rattle.line_words.proofs.NumberLemmas.{digit_refused}
-use Rattle.line_words.specs.Number.{number_to}
 use Rattle.line_words.proofs.number.parse_number.Goals as goal
 
 pub returns-in_err-number-clause-value : goal.returns-in_err-number-clause-value

@@ -1,7 +1,5 @@
 -- what the digits so far and the rest make
-use Rattle.std.proofs.Common.{◌≡◌, ◌≤◌, drop}
-use Rattle.std.specs.Option.{option_and_then}
-use Rattle.line_words.specs.Number.{at_most, digits_behind, number_to}
+use Rattle.line_words.proofs.Common.{at_most, digits_behind, drop, number_to, option_and_then, ◌≡◌, ◌≤◌}
 use Rattle.line_words.proofs.number.parse_number.Given as goal
 
 abbrev pub invariant-loop-byte : goal.invariant-loop-byte

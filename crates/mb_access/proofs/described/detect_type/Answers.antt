@@ -1,6 +1,4 @@
-use Rattle.std.proofs.Common.{◌∙◌}
-use Rattle.std.proofs.lemmas.Result.{err_from_is_err_and}
-use Rattle.mb_tables.specs.Detection.{detected}
+use Rattle.mb_access.proofs.Common.{detected, err_from_is_err_and, ◌∙◌}
 use Rattle.mb_access.proofs.DescribedLemmas.{described_err}
 use Rattle.mb_access.proofs.described.detect_type.Goals as goal
 

@@ -1,6 +1,4 @@
-use Rattle.std.proofs.Common.{◌∙◌}
-use Rattle.std.proofs.lemmas.Result.{err_from_is_err_and}
-use Rattle.mb_access.specs.Described.{missing_answer}
+use Rattle.mb_access.proofs.Common.{err_from_is_err_and, missing_answer, ◌∙◌}
 use Rattle.mb_access.proofs.DescribedLemmas.{described_err}
 use Rattle.mb_access.proofs.described.missing_tile_index.Goals as goal
 

@@ -1,7 +1,5 @@
-use Rattle.std.proofs.Common.{◌∙◌, ◌<◌, ◌≤◌, ◌+◌, ◌-◌, ◌/◌, sym, arith}
-use Rattle.std.specs.FinMap.{len}
+use Rattle.mb_access.proofs.Common.{arith, len, place_at, sym, ◌+◌, ◌-◌, ◌/◌, ◌<◌, ◌∙◌, ◌≤◌}
 use Rattle.mb_access.proofs.FindingLemmas.{all_between, index_here, index_nowhere, narrower}
-use Rattle.mb_lists.specs.Entries.{place_at}
 use Rattle.mb_access.proofs.finding.sought_index.Goals as goal
 
 pub loop-span-init : goal.loop-span-init

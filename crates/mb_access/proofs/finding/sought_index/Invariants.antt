@@ -1,7 +1,6 @@
 -- Where the tile is sought.
-use Rattle.std.proofs.Common.{◌-◌}
+use Rattle.mb_access.proofs.Common.{place_at, ◌-◌}
 use Rattle.mb_access.proofs.FindingLemmas.{Between}
-use Rattle.mb_lists.specs.Entries.{place_at}
 use Rattle.mb_access.proofs.finding.sought_index.Given as goal
 
 abbrev pub invariant-loop-span : goal.invariant-loop-span

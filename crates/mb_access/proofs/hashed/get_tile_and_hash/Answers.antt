@@ -1,7 +1,5 @@
-use Rattle.std.proofs.Common.{◌∙◌}
-use Rattle.std.proofs.lemmas.Result.{err_from_is_err_and}
+use Rattle.mb_access.proofs.Common.{coord_in, err_from_is_err_and, ◌∙◌}
 use Rattle.mb_access.proofs.HashedLemmas.{hashed_err, hashed_free, hashed_ok, row_by_same}
-use Rattle.mb_access.specs.Reads.{coord_in}
 use Rattle.mb_access.proofs.hashed.get_tile_and_hash.Goals as goal
 
 pub returns-in_err-set-clause-answer : goal.returns-in_err-set-clause-answer

@@ -1,4 +1,4 @@
-use Rattle.std.proofs.Common.{sym}
+use Rattle.mb_access.proofs.Common.{sym}
 use Rattle.mb_access.proofs.StreamRows.{as_many, found_at, has_passed}
 use Rattle.mb_access.proofs.laws.rows_have_each_tile_once.Goals as goal
 

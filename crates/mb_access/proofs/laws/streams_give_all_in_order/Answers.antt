@@ -1,4 +1,4 @@
-use Rattle.std.proofs.Common.{refl}
+use Rattle.mb_access.proofs.Common.{refl}
 use Rattle.mb_access.proofs.StreamRunLemmas.{coords_go_on, front, tiles_go_on, whole}
 use Rattle.mb_access.proofs.laws.streams_give_all_in_order.Goals as goal
 

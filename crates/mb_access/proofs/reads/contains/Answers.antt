@@ -1,7 +1,4 @@
-use Rattle.std.proofs.Common.{ap, sym, Ok}
-use Rattle.std.proofs.lemmas.Result.{err_from_is_err_and}
-use Rattle.mb_access.specs.Reads.{contains_answer}
-use Rattle.mb_load.proofs.BegunLemmas.{begun_err, begun_ok}
+use Rattle.mb_access.proofs.Common.{ap, begun_err, begun_ok, contains_answer, err_from_is_err_and, Ok, sym}
 use Rattle.mb_access.proofs.reads.contains.Goals as goal
 
 pub returns-in_err-set-clause-answer : goal.returns-in_err-set-clause-answer

@@ -1,6 +1,4 @@
-use Rattle.std.proofs.lemmas.Result.{err_from_is_err_and}
-use Rattle.mb_access.specs.Reads.{tile_answer}
-use Rattle.mb_load.proofs.BegunLemmas.{begun_err, begun_ok}
+use Rattle.mb_access.proofs.Common.{begun_err, begun_ok, err_from_is_err_and, tile_answer}
 use Rattle.mb_access.proofs.reads.get_tile.Goals as goal
 
 pub returns-in_err-set-clause-answer : goal.returns-in_err-set-clause-answer

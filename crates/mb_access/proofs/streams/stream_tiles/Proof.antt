@@ -1,16 +1,7 @@
 -- A stream of tiles is made of a store. Assumes `Logic`.
-use Rattle.std.proofs.Common.{◌∷◌, [], List, refl}
-use mir.Syntax.{erased, named}
-use mir.Val.{Val, vstruct, of_list}
-use types.Kit.{‵, ◌$◌, ◌∵◌, !, qed, move, fjoin, fpack, feq_i, done}
-use denote.Param.{param}
-use denote.RattleType.{Valss}
-use denote.Ref.{MutRef}
-use denote.Signature.{named_lft}
-use denote.Steps.{nothing}
+use Rattle.mb_access.proofs.Common.{done, erased, feq_i, fjoin, fpack, List, move, MutRef, named, named_lft, nothing, of_list, param, qed, refl, tiles_loaded, Val, Valss, vstruct, within, !, [], ‵}
+use Rattle.mb_access.proofs.Common.{◌$◌, ◌∵◌, ◌∷◌}
 use denote.Struct.Declared as Declared
-use denote.Struct.Struct.{within}
-use Rattle.mb_access.specs.Streams.{tiles_loaded}
 use Rattle.mb_access.specs.contracts.stream_state.StreamState as S-type
 use Rattle.mb_access.specs.contracts.streams.Tiles as W-type
 use Rattle.mb_access.specs.contracts.streams.stream_tiles.Key.{name as #self}

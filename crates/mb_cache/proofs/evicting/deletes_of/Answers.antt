@@ -1,11 +1,5 @@
-use Rattle.std.proofs.Common.{List, None, refl, sym, subst, take, ◌+◌}
-use Rattle.std.proofs.lemmas.List.{take_more}
+use Rattle.mb_cache.proofs.Common.{AreDeletes, Change, Entry, List, None, refl, subst, sym, take, take_more, TileCache, with_change, ◌+◌}
 use Rattle.mb_cache.proofs.EvictLemmas.{deletes_more}
-use Rattle.mb_cache.specs.Evicting.{AreDeletes}
-use Rattle.mb_cache.specs.declared.entries.Entry.{Entry}
-use Rattle.mb_store.specs.Changes.{with_change}
-use Rattle.mb_store.specs.declared.change.Change.{Change}
-use Rattle.mb_tables.specs.declared.table.TableName.TheVariants.{TileCache}
 use Rattle.mb_cache.proofs.evicting.deletes_of.Goals as goal
 
 pub loop-entry-preserved : goal.loop-entry-preserved

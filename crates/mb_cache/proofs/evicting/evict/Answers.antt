@@ -1,8 +1,5 @@
-use Rattle.std.proofs.Common.{List, ◌∙◌, ap, length, sym, subst}
+use Rattle.mb_cache.proofs.Common.{Agrees, ap, AreDeletes, Entry, length, List, subst, sym, without, ◌∙◌}
 use Rattle.mb_cache.proofs.EvictLemmas.{agrees_after, evicted}
-use Rattle.mb_cache.specs.Evicting.{AreDeletes}
-use Rattle.mb_cache.specs.State.{Agrees, without}
-use Rattle.mb_cache.specs.declared.entries.Entry.{Entry}
 use Rattle.mb_cache.proofs.evicting.evict.Goals as goal
 
 pub returns-clause-evicted : goal.returns-clause-evicted

@@ -1,4 +1,4 @@
-use Rattle.std.proofs.Common.{◌≡◌, drop}
+use Rattle.mb_cache.proofs.Common.{drop, ◌≡◌}
 use Rattle.mb_cache.proofs.evicting.pop_all.Given as goal
 
 -- what is behind what is left to remove is what is behind all of it

@@ -1,8 +1,5 @@
-use Rattle.std.proofs.Common.{◌∙◌, ap, sym}
-use Rattle.std.proofs.lemmas.Result.{err_from_is_err_and}
-use Rattle.std.specs.Option.{option_copied, option_or}
+use Rattle.mb_cache.proofs.Common.{algorithm_unknown, ap, err_from_is_err_and, option_copied, option_or, sym, unknown_name, ◌∙◌}
 use Rattle.mb_cache.proofs.NamedLemmas.{algorithm_stored}
-use Rattle.mb_constraints.specs.Algorithm.{algorithm_unknown, unknown_name}
 use Rattle.mb_cache.proofs.names.test_names.Goals as goal
 
 pub returns-in_err-algorithm_by : goal.returns-in_err-algorithm_by

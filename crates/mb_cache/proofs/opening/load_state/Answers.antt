@@ -1,14 +1,7 @@
-use Rattle.std.proofs.Common.{◌≡◌, ◌∙◌, [], Ok, ap, refl, sym}
-use Rattle.std.proofs.lemmas.Result.{err_from_is_err_and}
+use Rattle.mb_cache.proofs.Common.{ap, Cache, described_answer, err_from_is_err_and, made, Metadata, no_fault, Ok, refl, sym, Tables, tile_kind_wrong, TileCache, [], ◌∙◌, ◌≡◌}
 use Rattle.mb_cache.proofs.OpenLemmas.{described_refused, rows_refused}
 use Rattle.mb_cache.proofs.OwnLemmas.{described_no_fault, due_agrees, due_rows, no_tables, opens_err, opens_store, own_described, own_kind}
 use Rattle.mb_cache.proofs.RowOrder.{kinds_first}
-use Rattle.mb_cache.specs.Opening.{described_answer}
-use Rattle.mb_load.proofs.StateLemmas.{made, no_fault}
-use Rattle.mb_tables.specs.CellKinds.{tile_kind_wrong}
-use Rattle.mb_tables.specs.Table.{Tables}
-use Rattle.mb_tables.specs.declared.kind.MbtType.TheVariants.{Cache}
-use Rattle.mb_tables.specs.declared.table.TableName.TheVariants.{Metadata, TileCache}
 use Rattle.mb_cache.proofs.opening.load_state.Goals as goal
 
 pub returns-in_err-tables-clause-own : goal.returns-in_err-tables-clause-own

@@ -1,9 +1,5 @@
-use Rattle.std.proofs.Common.{List, ◌∙◌, ◌++◌, ◌-◌, subst, take}
-use Rattle.std.proofs.lemmas.Result.{err_from_is_err_and}
+use Rattle.mb_cache.proofs.Common.{Cell, err_from_is_err_and, List, SeesRows, subst, take, TileCache, ◌++◌, ◌-◌, ◌∙◌}
 use Rattle.mb_cache.proofs.PageLemmas.{page_wrong, whole_page}
-use Rattle.mb_cache.specs.Seen.{SeesRows}
-use Rattle.mb_tables.specs.declared.cell.Cell.{Cell}
-use Rattle.mb_tables.specs.declared.table.TableName.TheVariants.{TileCache}
 use Rattle.mb_cache.proofs.pages.read_page.Goals as goal
 
 pub returns-in_err-see-clause-refused : goal.returns-in_err-see-clause-refused

@@ -1,8 +1,4 @@
-use Rattle.std.proofs.Common.{◌≡◌, ◌∙◌, ◌-◌, List, [], ap, arith, length, subst, sym, take}
-use Rattle.mb_cache.specs.Seen.{SeesRows}
-use Rattle.mb_tables.specs.Table.{Tables}
-use Rattle.mb_tables.specs.declared.cell.Cell.{Cell}
-use Rattle.mb_tables.specs.declared.table.TableName.TheVariants.{TileCache}
+use Rattle.mb_cache.proofs.Common.{ap, arith, Cell, length, List, SeesRows, subst, sym, Tables, take, TileCache, [], ◌-◌, ◌∙◌, ◌≡◌}
 use Rattle.mb_cache.proofs.pages.read_rows.Goals as goal
 
 pub loop-left-init : goal.loop-left-init

@@ -1,8 +1,4 @@
-use Rattle.std.proofs.Common.{◌≡◌, ◌≤◌, ◌-◌, List, length, take, true}
-use Rattle.mb_cache.specs.Seen.{SeesRows}
-use Rattle.mb_store.specs.Kept.{ReadsOnly}
-use Rattle.mb_tables.specs.declared.cell.Cell.{Cell}
-use Rattle.mb_tables.specs.declared.table.TableName.TheVariants.{TileCache}
+use Rattle.mb_cache.proofs.Common.{Cell, length, List, ReadsOnly, SeesRows, take, TileCache, true, ◌-◌, ◌≡◌, ◌≤◌}
 use Rattle.mb_cache.proofs.pages.read_rows.Given as goal
 
 abbrev pub invariant-loop-left : goal.invariant-loop-left

@@ -1,8 +1,5 @@
-use Rattle.std.specs.Map.Iter.{deref}
-use Rattle.std.proofs.lemmas.Map.Iter.{rest_more}
-use Rattle.std.specs.List.{take_while}
+use Rattle.mb_cache.proofs.Common.{deref, is_expired_entry, rest_more, take_while}
 use Rattle.mb_cache.proofs.PurgeLemmas.{one_expired}
-use Rattle.mb_cache.specs.Entries.{is_expired_entry}
 use Rattle.mb_cache.proofs.purging.expired.Goals as goal
 
 pub loop-entry-preserved : goal.loop-entry-preserved

@@ -1,6 +1,4 @@
-use Rattle.std.proofs.Common.{◌≡◌, ◌++◌}
-use Rattle.std.specs.List.{take_while}
-use Rattle.mb_cache.specs.Entries.{is_expired_entry}
+use Rattle.mb_cache.proofs.Common.{is_expired_entry, take_while, ◌++◌, ◌≡◌}
 use Rattle.mb_cache.proofs.purging.expired.Given as goal
 
 -- the entries so far, and those that are still to come

@@ -1,13 +1,6 @@
-use Rattle.std.proofs.Common.{◌≡◌, ◌∙◌, ◌&&◌, List, ap, not, subst}
-use Rattle.std.specs.BTreeSet.{insert_key}
+use Rattle.mb_cache.proofs.Common.{ap, Change, Commits, entry_at, entry_cmp, has_entry, insert_key, is_replaced, List, moment_cell, not, place_at, put_row, subst, ◌&&◌, ◌∙◌, ◌≡◌}
 use Rattle.mb_cache.proofs.PutLemmas.{back_as, replaced, still_agrees}
 use Rattle.mb_cache.proofs.StillLemmas.{still}
-use Rattle.mb_cache.specs.Entries.{entry_at, has_entry}
-use Rattle.mb_cache.specs.EntryOrder.{entry_cmp}
-use Rattle.mb_cache.specs.Setting.{is_replaced, moment_cell, put_row}
-use Rattle.mb_lists.specs.Entries.{place_at}
-use Rattle.mb_store.specs.Committing.{Commits}
-use Rattle.mb_store.specs.declared.change.Change.{Change}
 use Rattle.mb_cache.proofs.setting.put.Goals as goal
 
 pub returns-in-Ok-clause-agrees : goal.returns-in-Ok-clause-agrees

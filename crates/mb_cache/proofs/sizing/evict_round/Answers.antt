@@ -1,6 +1,5 @@
-use Rattle.std.proofs.Common.{◌≡◌, ◌∙◌, List, ap, drop, length, subst, sym, take}
+use Rattle.mb_cache.proofs.Common.{ap, drop, Entry, length, List, subst, sym, take, ◌∙◌, ◌≡◌}
 use Rattle.mb_cache.proofs.RoundLemmas.{drop_round, take_round}
-use Rattle.mb_cache.specs.declared.entries.Entry.{Entry}
 use Rattle.mb_cache.proofs.sizing.evict_round.Goals as goal
 
 pub evict-requires-clause-first : goal.evict-requires-clause-first

@@ -1,11 +1,6 @@
-use Rattle.std.proofs.Common.{◌≡◌, ◌∙◌, ◌<◌, ◌≤◌, [], ap, arith, refl, sym, subst}
-use Rattle.std.proofs.lemmas.Bool.{false≢true}
+use Rattle.mb_cache.proofs.Common.{Agrees, ap, arith, false≢true, live_size_of, oversize, refl, SomeRounds, subst, sym, Tables, [], ◌<◌, ◌∙◌, ◌≡◌, ◌≤◌}
 use Rattle.mb_cache.proofs.RoundLemmas.{cut_next, going_ends, going_stops, ok_same, on_err, rounds_all, rounds_count, rounds_next, rounds_none, rounds_some, rounds_still, shorter, some_still}
 use Rattle.mb_cache.proofs.SizeLemmas.{next_live}
-use Rattle.mb_cache.specs.Sizing.{SomeRounds, oversize}
-use Rattle.mb_cache.specs.State.{Agrees}
-use Rattle.mb_store.specs.Sizes.{live_size_of}
-use Rattle.mb_tables.specs.Table.{Tables}
 use Rattle.mb_cache.proofs.sizing.evict_rounds.Goals.{else-loop-size-test, then-loop-size-test+else-not-is_empty}
 use Rattle.mb_cache.proofs.sizing.evict_rounds.Goals as goal
 

@@ -1,9 +1,5 @@
-use Rattle.std.proofs.Common.{◌≡◌, true, length}
+use Rattle.mb_cache.proofs.Common.{Agrees, Keeps, length, live_size_of, true, WithoutRounds, ◌≡◌}
 use Rattle.mb_cache.proofs.RoundLemmas.{Rounds}
-use Rattle.mb_cache.specs.Sizing.{WithoutRounds}
-use Rattle.mb_cache.specs.State.{Agrees}
-use Rattle.mb_store.specs.Kept.{Keeps}
-use Rattle.mb_store.specs.Sizes.{live_size_of}
 use Rattle.mb_cache.proofs.sizing.evict_rounds.Given as goal
 
 abbrev pub invariant-loop-size : goal.invariant-loop-size

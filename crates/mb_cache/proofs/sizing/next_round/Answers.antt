@@ -1,6 +1,4 @@
-use Rattle.std.proofs.Common.{arith}
-use Rattle.std.specs.Map.Iter.{deref}
-use Rattle.std.proofs.lemmas.Map.Iter.{rest_all}
+use Rattle.mb_cache.proofs.Common.{arith, deref, rest_all}
 use Rattle.mb_cache.proofs.RoundLemmas.{round_full, round_last}
 use Rattle.mb_cache.proofs.sizing.next_round.Goals as goal
 

@@ -1,4 +1,4 @@
-use Rattle.std.proofs.Common.{◌≡◌, ◌≤◌, ◌++◌, length}
+use Rattle.mb_cache.proofs.Common.{length, ◌++◌, ◌≡◌, ◌≤◌}
 use Rattle.mb_cache.proofs.sizing.next_round.Given as goal
 
 -- the entries so far, and those behind them

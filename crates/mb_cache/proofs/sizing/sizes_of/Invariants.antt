@@ -1,6 +1,4 @@
-use Rattle.std.proofs.Common.{◌≡◌, ◌-◌, ◌^◌, true, min, take}
-use Rattle.mb_cache.specs.Sizing.{sizes_at}
-use Rattle.mb_store.specs.Kept.{ReadsOnly}
+use Rattle.mb_cache.proofs.Common.{min, ReadsOnly, sizes_at, take, true, ◌-◌, ◌^◌, ◌≡◌}
 use Rattle.mb_cache.proofs.sizing.sizes_of.Given as goal
 
 abbrev pub invariant-loop-entry : goal.invariant-loop-entry

@@ -1,6 +1,4 @@
-use Rattle.std.proofs.lemmas.Result.{err_from_is_err_and}
-use Rattle.mb_check.specs.AggregateHash.{stored_answer}
-use Rattle.mb_load.proofs.BegunLemmas.{begun_err, begun_ok}
+use Rattle.mb_check.proofs.Common.{begun_err, begun_ok, err_from_is_err_and, stored_answer}
 use Rattle.mb_check.proofs.aggregate.get_agg_tiles_hash.Goals as goal
 
 pub returns-in_err-set-clause-answer : goal.returns-in_err-set-clause-answer

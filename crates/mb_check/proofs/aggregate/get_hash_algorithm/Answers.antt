@@ -1,7 +1,4 @@
-use Rattle.std.proofs.Common.{ap, sym, Ok}
-use Rattle.std.proofs.lemmas.Result.{err_from_is_err_and}
-use Rattle.mb_check.specs.AggregateHash.{algorithm_answer}
-use Rattle.mb_load.proofs.BegunLemmas.{begun_err, begun_ok}
+use Rattle.mb_check.proofs.Common.{algorithm_answer, ap, begun_err, begun_ok, err_from_is_err_and, Ok, sym}
 use Rattle.mb_check.proofs.aggregate.get_hash_algorithm.Goals as goal
 
 pub returns-in_err-set-clause-answer : goal.returns-in_err-set-clause-answer

@@ -1,6 +1,4 @@
-use Rattle.std.proofs.lemmas.Result.{err_from_is_err_and}
-use Rattle.mb_check.specs.PatchInfo.{info_answer}
-use Rattle.mb_load.proofs.BegunLemmas.{begun_err, begun_ok}
+use Rattle.mb_check.proofs.Common.{begun_err, begun_ok, err_from_is_err_and, info_answer}
 use Rattle.mb_check.proofs.patch_info.examine_diff.Goals as goal
 
 pub returns-in_err-set-clause-answer : goal.returns-in_err-set-clause-answer

@@ -1,7 +1,4 @@
-use Rattle.std.proofs.Common.{Ok, refl}
-use Rattle.std.proofs.lemmas.Result.{err_from_is_err_and}
-use Rattle.mb_check.specs.Validation.{rows_answer}
-use Rattle.mb_load.proofs.BegunLemmas.{begun_err, begun_ok}
+use Rattle.mb_check.proofs.Common.{begun_err, begun_ok, err_from_is_err_and, Ok, refl, rows_answer}
 use Rattle.mb_check.proofs.rows.check_each_tile_hash.Goals as goal
 
 pub returns-in_err-_set-clause-answer : goal.returns-in_err-_set-clause-answer

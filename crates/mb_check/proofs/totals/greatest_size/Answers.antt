@@ -1,6 +1,5 @@
-use Rattle.std.proofs.Common.{◌∙◌, ◌+◌, ap, arith, drop, map}
+use Rattle.mb_check.proofs.Common.{ap, arith, drop, map, ZoomInfo, ◌+◌, ◌∙◌}
 use Rattle.mb_check.proofs.SizesLemmas.{greatest_all, greatest_end, greatest_step}
-use Rattle.mb_check.specs.declared.zoom_info.ZoomInfo.{ZoomInfo}
 use Rattle.mb_check.proofs.totals.greatest_size.Goals as goal
 
 pub loop-info-preserved : goal.loop-info-preserved

@@ -1,6 +1,4 @@
-use Rattle.std.proofs.Common.{◌≡◌, ◌∙◌, ap, sym, arith, filter_map, get_or}
-use Rattle.mb_check.specs.Sizes.{info_by, no_sizes}
-use Rattle.mb_check.specs.Totals.{below}
+use Rattle.mb_check.proofs.Common.{ap, arith, below, filter_map, get_or, info_by, no_sizes, sym, ◌∙◌, ◌≡◌}
 use Rattle.mb_check.proofs.SizesLemmas.{one_info}
 use Rattle.mb_check.proofs.totals.infos_of.Goals as goal
 

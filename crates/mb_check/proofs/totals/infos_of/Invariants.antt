@@ -1,6 +1,4 @@
-use Rattle.std.proofs.Common.{◌≡◌, get_or, filter_map}
-use Rattle.mb_check.specs.Sizes.{info_by, no_sizes}
-use Rattle.mb_check.specs.Totals.{below}
+use Rattle.mb_check.proofs.Common.{below, filter_map, get_or, info_by, no_sizes, ◌≡◌}
 use Rattle.mb_check.proofs.totals.infos_of.Given as goal
 
 abbrev pub invariant-loop-zoom : goal.invariant-loop-zoom

@@ -1,6 +1,5 @@
-use Rattle.std.proofs.Common.{◌∙◌, ◌+◌, ap, arith, drop, map}
+use Rattle.mb_check.proofs.Common.{ap, arith, drop, map, ZoomInfo, ◌+◌, ◌∙◌}
 use Rattle.mb_check.proofs.SizesLemmas.{least_all, least_end, least_step}
-use Rattle.mb_check.specs.declared.zoom_info.ZoomInfo.{ZoomInfo}
 use Rattle.mb_check.proofs.totals.least_size.Goals as goal
 
 pub loop-info-preserved : goal.loop-info-preserved

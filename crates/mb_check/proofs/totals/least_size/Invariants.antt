@@ -1,4 +1,4 @@
-use Rattle.std.proofs.Common.{◌≡◌, None, drop, map}
+use Rattle.mb_check.proofs.Common.{drop, map, None, ◌≡◌}
 use Rattle.mb_check.proofs.SizesLemmas.{least_all}
 use Rattle.mb_check.proofs.totals.least_size.Given as goal
 

@@ -1,5 +1,4 @@
-use Rattle.std.proofs.Common.{arith}
-use Rattle.std.specs.FinMap.{entries, len-entries}
+use Rattle.mb_check.proofs.Common.{arith, entries, len-entries}
 use Rattle.mb_check.proofs.SizesLemmas.{all_taken, one_taken}
 use Rattle.mb_check.proofs.totals.take_tiles.Goals as goal
 

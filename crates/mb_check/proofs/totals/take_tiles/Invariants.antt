@@ -1,4 +1,4 @@
-use Rattle.std.specs.FinMap.{entries}
+use Rattle.mb_check.proofs.Common.{entries}
 use Rattle.mb_check.proofs.SizesLemmas.{AreTaken}
 use Rattle.mb_check.proofs.totals.take_tiles.Given as goal
 

@@ -1,5 +1,4 @@
-use Rattle.std.proofs.Common.{arith}
-use Rattle.std.specs.FinMap.{entries, len-entries}
+use Rattle.mb_check.proofs.Common.{arith, entries, len-entries}
 use Rattle.mb_check.proofs.SizesLemmas.{total_end, total_more}
 use Rattle.mb_check.proofs.totals.total_size.Goals as goal
 

@@ -1,7 +1,4 @@
-use Rattle.std.proofs.Common.{◌≡◌, length, sum_by, take}
-use Rattle.std.specs.FinMap.{entries}
-use Rattle.mb_check.specs.Totals.{capped}
-use Rattle.mb_loaded.specs.Aggregate.{bytes_of}
+use Rattle.mb_check.proofs.Common.{bytes_of, capped, entries, length, sum_by, take, ◌≡◌}
 use Rattle.mb_check.proofs.totals.total_size.Given as goal
 
 abbrev pub invariant-loop-index : goal.invariant-loop-index

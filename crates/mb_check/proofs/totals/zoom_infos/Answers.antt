@@ -1,7 +1,4 @@
-use Rattle.std.proofs.Common.{◌≡◌, ◌∙◌, subst, IfOk, List, replicate}
-use Rattle.std.proofs.lemmas.List.{get_or-replicate}
-use Rattle.mb_check.specs.Sizes.{no_sizes}
-use Rattle.mb_check.specs.declared.zoom_info.ZoomInfo.{ZoomInfo}
+use Rattle.mb_check.proofs.Common.{get_or-replicate, IfOk, List, no_sizes, replicate, subst, ZoomInfo, ◌∙◌, ◌≡◌}
 use Rattle.mb_check.proofs.SizesLemmas.{zooms_same}
 use Rattle.mb_check.proofs.totals.zoom_infos.Goals as goal
 

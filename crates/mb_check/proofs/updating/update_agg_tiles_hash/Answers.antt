@@ -1,12 +1,5 @@
-use Rattle.std.proofs.Common.{◌≡◌, ◌∙◌, ap, sym, subst, refl, true, Ok}
-use Rattle.std.proofs.lemmas.Result.{err_from_is_err_and}
-use Rattle.mb_check.specs.AggregateHash.{own_hash_answer}
-use Rattle.mb_load.proofs.BegunLemmas.{begun_err, begun_free, begun_ok}
+use Rattle.mb_check.proofs.Common.{ap, begun_err, begun_free, begun_ok, err_from_is_err_and, Held, IsLoadedFrom, MakesChanges, Ok, own_hash_answer, refl, subst, sym, Tables, true, ◌∙◌, ◌≡◌}
 use Rattle.mb_check.proofs.UpdatedLemmas.{hashed_loaded, hashed_updated}
-use Rattle.mb_load.specs.Committing.{MakesChanges}
-use Rattle.mb_loaded.specs.Held.{Held}
-use Rattle.mb_load.specs.LoadedFrom.{IsLoadedFrom}
-use Rattle.mb_tables.specs.Table.{Tables}
 use Rattle.mb_check.proofs.updating.update_agg_tiles_hash.Goals as goal
 
 pub commit_loaded-requires : goal.commit_loaded-requires

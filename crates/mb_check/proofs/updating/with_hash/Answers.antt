@@ -1,7 +1,5 @@
-use Rattle.std.proofs.Common.{◌≡◌, subst}
-use Rattle.std.specs.Prelude.{IfOk}
+use Rattle.mb_check.proofs.Common.{Held, IfOk, subst, ◌≡◌}
 use Rattle.mb_check.proofs.UpdatedLemmas.{hashed_by}
-use Rattle.mb_loaded.specs.Held.{Held}
 use Rattle.mb_check.proofs.updating.with_hash.Goals as goal
 
 pub returns : goal.returns

@@ -1,8 +1,5 @@
-use Rattle.std.proofs.Common.{◌∙◌, ap, sym, Ok}
-use Rattle.std.proofs.lemmas.Result.{err_from_is_err_and}
-use Rattle.mb_check.specs.Validation.{validated}
+use Rattle.mb_check.proofs.Common.{ap, begun_err, begun_ok, err_from_is_err_and, Ok, sym, validated, ◌∙◌}
 use Rattle.mb_check.specs.declared.validation.AggHashType.TheVariants.{Off}
-use Rattle.mb_load.proofs.BegunLemmas.{begun_err, begun_ok}
 use Rattle.mb_check.proofs.validation.load_alone.Goals as goal
 
 pub returns-in_err-_set-clause-answer : goal.returns-in_err-_set-clause-answer

@@ -1,7 +1,5 @@
 -- what is left is refused as all are
-use Rattle.std.proofs.Common.{◌≡◌, drop}
-use Rattle.mb_constraints.specs.Hashes.{wrong_id}
-use Rattle.mb_tables.specs.Refusals.{first_refused}
+use Rattle.mb_constraints.proofs.Common.{drop, first_refused, wrong_id, ◌≡◌}
 use Rattle.mb_constraints.proofs.hashes.test_content_hashes.Given as goal
 
 abbrev pub invariant-loop-content : goal.invariant-loop-content

@@ -1,5 +1,4 @@
-use Rattle.std.proofs.lemmas.Result.{err_from_is_err_and}
-use Rattle.mb_lists.proofs.Refused.{passes, refuses}
+use Rattle.mb_constraints.proofs.Common.{err_from_is_err_and, passes, refuses}
 use Rattle.mb_constraints.proofs.hashes.test_tile_hashes.Goals as goal
 
 pub returns-in_err-test_tile_hash : goal.returns-in_err-test_tile_hash

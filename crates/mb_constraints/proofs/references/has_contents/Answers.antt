@@ -1,8 +1,4 @@
-use Rattle.std.proofs.Common.{rules, ◌≡◌, ◌∙◌, false}
-use Rattle.std.specs.Prelude.{is_some}
-use Rattle.mb_lists.specs.FromRows.{index_by}
-use Rattle.mb_lists.proofs.IdLemmas.{id_named}
-use Rattle.mb_tables.specs.Cell.{is_null}
+use Rattle.mb_constraints.proofs.Common.{false, id_named, index_by, is_null, is_some, rules, ◌∙◌, ◌≡◌}
 use Rattle.mb_constraints.proofs.references.has_contents.Goals as goal
 
 pub returns : goal.returns

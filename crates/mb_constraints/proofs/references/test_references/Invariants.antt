@@ -1,8 +1,5 @@
 -- what is left is refused as all are
-use Rattle.std.proofs.Common.{◌≡◌, drop}
-use Rattle.mb_lists.specs.FromRows.{rows_kept}
-use Rattle.mb_constraints.specs.References.{missing_reference}
-use Rattle.mb_tables.specs.Refusals.{first_refused}
+use Rattle.mb_constraints.proofs.Common.{drop, first_refused, missing_reference, rows_kept, ◌≡◌}
 use Rattle.mb_constraints.proofs.references.test_references.Given as goal
 
 abbrev pub invariant-loop-row : goal.invariant-loop-row

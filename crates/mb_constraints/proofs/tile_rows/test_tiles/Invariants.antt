@@ -1,8 +1,5 @@
 -- what is left is refused as all are
-use Rattle.std.proofs.Common.{◌≡◌, drop}
-use Rattle.mb_lists.specs.FromRows.{rows_kept}
-use Rattle.mb_tables.specs.Refusals.{first_refused}
-use Rattle.mb_constraints.specs.TileRows.{bad_tile}
+use Rattle.mb_constraints.proofs.Common.{bad_tile, drop, first_refused, rows_kept, ◌≡◌}
 use Rattle.mb_constraints.proofs.tile_rows.test_tiles.Given as goal
 
 abbrev pub invariant-loop-row : goal.invariant-loop-row

@@ -1,7 +1,5 @@
-use Rattle.std.proofs.Common.{◌∙◌, ap}
+use Rattle.mb_copy.proofs.Common.{ap, Held, place_at, ◌∙◌}
 use Rattle.mb_copy.proofs.ClearedLemmas.{all_removed, by_keys, one_removed}
-use Rattle.mb_lists.specs.Entries.{place_at}
-use Rattle.mb_loaded.specs.Held.{Held}
 use Rattle.mb_copy.proofs.chosen.clear_coords.Goals as goal
 
 pub loop-coord-preserved : goal.loop-coord-preserved

@@ -1,7 +1,6 @@
 -- what is left, cleared from what was left of the set, gives what all give
-use Rattle.std.proofs.Common.{◌≡◌, drop}
+use Rattle.mb_copy.proofs.Common.{drop, place_at, ◌≡◌}
 use Rattle.mb_copy.proofs.ClearedLemmas.{removed_by}
-use Rattle.mb_lists.specs.Entries.{place_at}
 use Rattle.mb_copy.proofs.chosen.clear_coords.Given as goal
 
 abbrev pub invariant-loop-coord : goal.invariant-loop-coord

@@ -1,7 +1,5 @@
-use Rattle.std.proofs.Common.{◌∙◌, ap}
-use Rattle.std.specs.FinMap.{remove}
+use Rattle.mb_copy.proofs.Common.{ap, Held, remove, ◌∙◌}
 use Rattle.mb_copy.proofs.ClearedLemmas.{all_removed, by_itself, itself, one_name_removed}
-use Rattle.mb_loaded.specs.Held.{Held}
 use Rattle.mb_copy.proofs.chosen.clear_names.Goals as goal
 
 pub loop-name-preserved : goal.loop-name-preserved

@@ -1,5 +1,5 @@
 -- what is left, cleared from what was left of the set, gives what all give
-use Rattle.std.proofs.Common.{◌≡◌, drop}
+use Rattle.mb_copy.proofs.Common.{drop, ◌≡◌}
 use Rattle.mb_copy.proofs.ClearedLemmas.{itself, removed_by}
 use Rattle.mb_copy.proofs.chosen.clear_names.Given as goal
 

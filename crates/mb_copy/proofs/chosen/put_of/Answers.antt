@@ -1,13 +1,6 @@
-use Rattle.std.proofs.Common.{◌∙◌, ap, map}
-use Rattle.std.proofs.lemmas.Cmp.{nat_list_cmp_total}
+use Rattle.mb_copy.proofs.Common.{ap, Held, is_put, is_put_name, map, names_antisymmetric, names_to_put, nat_list_cmp_total, place_at, places_antisymmetric, places_total, removed_all, tiles_to_put}
+use Rattle.mb_copy.proofs.Common.{times_to_put, ◌∙◌}
 use Rattle.mb_copy.proofs.ClearedLemmas.{cleared, settled_as}
-use Rattle.mb_copy.specs.Chosen.{is_put, is_put_name, names_to_put, tiles_to_put, times_to_put}
-use Rattle.mb_copy.specs.Clearing.{removed_all}
-use Rattle.mb_lists.proofs.NameLemmas.{names_antisymmetric}
-use Rattle.mb_lists.proofs.Places.{places_antisymmetric}
-use Rattle.mb_lists.specs.Entries.{place_at}
-use Rattle.mb_loaded.specs.Held.{Held}
-use Rattle.mb_tables.proofs.TileLemmas.{places_total}
 use Rattle.mb_copy.proofs.chosen.put_of.Goals as goal
 
 pub returns-clause-tiles : goal.returns-clause-tiles

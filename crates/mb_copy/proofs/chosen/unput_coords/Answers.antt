@@ -1,8 +1,5 @@
-use Rattle.std.proofs.Common.{◌≡◌, None, arith}
-use Rattle.std.specs.FinMap.{entries, len-entries}
+use Rattle.mb_copy.proofs.Common.{arith, blob_cell, entries, is_put, len-entries, None, place_at, ◌≡◌}
 use Rattle.mb_copy.proofs.ClearedLemmas.{all_failing, one_failing}
-use Rattle.mb_copy.specs.Chosen.{is_put}
-use Rattle.mb_lists.specs.Entries.{blob_cell, place_at}
 use Rattle.mb_copy.proofs.chosen.unput_coords.Goals as goal
 
 pub loop-index-preserved : goal.loop-index-preserved

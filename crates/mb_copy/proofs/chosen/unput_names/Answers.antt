@@ -1,8 +1,5 @@
-use Rattle.std.proofs.Common.{◌≡◌, ◌∙◌, [], None, arith, sym}
-use Rattle.std.specs.FinMap.{entries, len-entries}
+use Rattle.mb_copy.proofs.Common.{arith, entries, is_put_name, len-entries, None, sym, text_cell, [], ◌∙◌, ◌≡◌}
 use Rattle.mb_copy.proofs.ClearedLemmas.{all_failing, itself, mapped_itself, one_failing}
-use Rattle.mb_copy.specs.Chosen.{is_put_name}
-use Rattle.mb_lists.specs.Entries.{text_cell}
 use Rattle.mb_copy.proofs.chosen.unput_names.Goals as goal
 
 pub loop-index-preserved : goal.loop-index-preserved

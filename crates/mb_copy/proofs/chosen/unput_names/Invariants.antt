@@ -1,8 +1,6 @@
 -- the names so far are those that aren't put
-use Rattle.std.proofs.Common.{◌≡◌, map, take}
-use Rattle.std.specs.FinMap.{entries}
+use Rattle.mb_copy.proofs.Common.{entries, map, take, unput_names, ◌≡◌}
 use Rattle.mb_copy.proofs.ClearedLemmas.{itself}
-use Rattle.mb_copy.specs.Clearing.{unput_names}
 use Rattle.mb_copy.proofs.chosen.unput_names.Given as goal
 
 abbrev pub invariant-loop-index : goal.invariant-loop-index

@@ -1,9 +1,6 @@
-use Rattle.std.proofs.Common.{◌≡◌, ◌∙◌, sym, subst, true, inl, inr}
-use Rattle.std.proofs.lemmas.Result.{err_from_is_err_and}
+use Rattle.mb_copy.proofs.Common.{err_from_is_err_and, inl, inr, MakesChanges, subst, sym, Tables, true, ◌∙◌, ◌≡◌}
 use Rattle.mb_copy.proofs.AnswerLemmas.{store_free}
 use Rattle.mb_copy.proofs.MadeLemmas.{made_as, schema_empty}
-use Rattle.mb_load.specs.Committing.{MakesChanges}
-use Rattle.mb_tables.specs.Table.{Tables}
 use Rattle.mb_copy.proofs.commit_anew.commit_anew.Goals as goal
 
 pub commit_loaded-requires : goal.commit_loaded-requires

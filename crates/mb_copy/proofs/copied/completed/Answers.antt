@@ -1,7 +1,5 @@
-use Rattle.std.proofs.Common.{sym, subst}
+use Rattle.mb_copy.proofs.Common.{Held, IsPutIn, subst, sym}
 use Rattle.mb_copy.proofs.CopiedLemmas.{completed_is}
-use Rattle.mb_copy.specs.HeldCopied.{IsPutIn}
-use Rattle.mb_loaded.specs.Held.{Held}
 use Rattle.mb_copy.proofs.copied.completed.Goals as goal
 
 pub with_times-requires : goal.with_times-requires

@@ -1,9 +1,5 @@
-use Rattle.std.proofs.Common.{◌∙◌, ap, sym}
-use Rattle.std.proofs.lemmas.Result.{err_from_is_err_and}
+use Rattle.mb_copy.proofs.Common.{ap, bytes_put, err_from_is_err_and, id_collides, may_copy, sym, TileSet, ◌∙◌}
 use Rattle.mb_copy.proofs.CopiedLemmas.{copied_is, tests_as, twice_passed, twice_refused}
-use Rattle.mb_copy.specs.CopyOrder.{may_copy}
-use Rattle.mb_edit.specs.PatchingOrder.{bytes_put, id_collides}
-use Rattle.mb_tables.specs.Tiles.{TileSet}
 use Rattle.mb_copy.proofs.copied.copied.Goals as goal
 
 pub returns-in_err-test_duplicates-clause-tests : goal.returns-in_err-test_duplicates-clause-tests

@@ -1,8 +1,5 @@
-use Rattle.std.proofs.Common.{◌∙◌, ap, sym}
-use Rattle.std.proofs.lemmas.Result.{err_from_is_err_and}
+use Rattle.mb_copy.proofs.Common.{ap, err_from_is_err_and, Held, held_completed, sym, ◌∙◌}
 use Rattle.mb_copy.proofs.CopiedLemmas.{ids_alone, put_in_as}
-use Rattle.mb_copy.specs.HeldCopied.{held_completed}
-use Rattle.mb_loaded.specs.Held.{Held}
 use Rattle.mb_copy.proofs.copied.put_over.Goals as goal
 
 pub completed-requires : goal.completed-requires

@@ -1,5 +1,4 @@
-use Rattle.std.proofs.Common.{◌∙◌, sym}
-use Rattle.std.proofs.lemmas.Result.{err_from_is_err_and}
+use Rattle.mb_copy.proofs.Common.{err_from_is_err_and, sym, ◌∙◌}
 use Rattle.mb_copy.proofs.HashLemmas.{anew_passed, anew_refused, hash_of_copy, hash_off_copy}
 use Rattle.mb_copy.proofs.copying.copied_after.Goals as goal
 

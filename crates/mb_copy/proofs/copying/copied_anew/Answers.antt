@@ -1,8 +1,5 @@
-use Rattle.std.proofs.Common.{◌≡◌, ◌∙◌, ap}
+use Rattle.mb_copy.proofs.Common.{ap, fresh, Held, is_editable, made_state, may_copy, ◌∙◌, ◌≡◌}
 use Rattle.mb_copy.proofs.CopiedLemmas.{made_is, made_value, tests_as}
-use Rattle.mb_copy.specs.CopyOrder.{made_state, may_copy}
-use Rattle.mb_loaded.specs.Held.{Held, fresh}
-use Rattle.mb_loaded.specs.Editable.{is_editable}
 use Rattle.mb_copy.proofs.copying.copied_anew.Goals as goal
 
 pub copied-requires-clause-editable : goal.copied-requires-clause-editable

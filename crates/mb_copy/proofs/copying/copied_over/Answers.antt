@@ -1,12 +1,5 @@
-use Rattle.std.proofs.Common.{◌∙◌, ap, sym}
-use Rattle.std.proofs.lemmas.Result.{err_from_is_err_and}
+use Rattle.mb_copy.proofs.Common.{ap, asked_type, err_from_is_err_and, holds, is_editable, kind_wrong, may_copy, may_copy_over, sym, unless, UnsupportedCopyOperation, ◌∙◌}
 use Rattle.mb_copy.proofs.CopiedLemmas.{both_passed, edit_refused, kind_refused, tests_as}
-use Rattle.mb_copy.specs.CopyOrder.{may_copy, may_copy_over}
-use Rattle.mb_copy.specs.Target.{asked_type, kind_wrong}
-use Rattle.mb_edit.proofs.PassedLemmas.{holds}
-use Rattle.mb_loaded.specs.Editable.{is_editable}
-use Rattle.mb_tables.specs.Refusals.{unless}
-use Rattle.mb_tables.specs.declared.error.MbtError.TheVariants.{UnsupportedCopyOperation}
 use Rattle.mb_copy.proofs.copying.copied_over.Goals as goal
 
 pub returns-in_err-test_kind-clause-tests : goal.returns-in_err-test_kind-clause-tests

@@ -1,7 +1,4 @@
-use Rattle.std.proofs.Common.{◌∙◌, ap, sym}
-use Rattle.std.proofs.lemmas.Bool.{false≢true}
-use Rattle.std.proofs.lemmas.Result.{err_from_is_err_and}
-use Rattle.mb_constraints.specs.DiffHashes.{refused_by}
+use Rattle.mb_copy.proofs.Common.{ap, err_from_is_err_and, false≢true, refused_by, sym, ◌∙◌}
 use Rattle.mb_copy.proofs.HashLemmas.{ids_passed}
 use Rattle.mb_copy.proofs.PutLemmas.{anew_left, anew_loaded, anew_started, is_anew}
 use Rattle.mb_copy.proofs.copying.copy_anew.Goals as goal

@@ -1,12 +1,6 @@
-use Rattle.std.proofs.Common.{◌≡◌, ◌∙◌, ap, sym, subst, Option, true}
-use Rattle.std.proofs.lemmas.Bool.{false≢true}
-use Rattle.std.proofs.lemmas.Result.{err_from_is_err_and}
+use Rattle.mb_copy.proofs.Common.{Answers, ap, err_from_is_err_and, false≢true, MbtError, Option, refused_by, subst, sym, Tables, true, ◌∙◌, ◌≡◌}
 use Rattle.mb_copy.proofs.AnswerLemmas.{anew_into, anew_moved, begun_moved, free_into, left_moved, mode_into, over_into, over_left, over_moved, store_free}
-use Rattle.mb_constraints.specs.DiffHashes.{refused_by}
 use Rattle.mb_copy.proofs.HashLemmas.{none_expected}
-use Rattle.mb_tables.specs.Refusals.{Answers}
-use Rattle.mb_tables.specs.Table.{Tables}
-use Rattle.mb_tables.specs.declared.error.MbtError.{MbtError}
 use Rattle.mb_copy.proofs.copying.copy_into.Goals as goal
 
 pub copy_anew-requires-clause-none : goal.copy_anew-requires-clause-none

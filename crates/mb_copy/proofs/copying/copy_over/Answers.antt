@@ -1,12 +1,5 @@
-use Rattle.std.proofs.Common.{◌≡◌, ◌∙◌, ap, sym, subst, true, Ok}
-use Rattle.std.proofs.lemmas.Result.{err_from_is_err_and}
-use Rattle.mb_constraints.specs.DiffHashes.{refused_by}
+use Rattle.mb_copy.proofs.Common.{ap, begun_err, begun_free, begun_ok, err_from_is_err_and, IsLoadedFrom, MakesChanges, Ok, over_answer, refused_by, subst, sym, Tables, true, ◌∙◌, ◌≡◌}
 use Rattle.mb_copy.proofs.PutLemmas.{is_over, over_loaded}
-use Rattle.mb_copy.specs.CopyOrder.{over_answer}
-use Rattle.mb_load.proofs.BegunLemmas.{begun_err, begun_free, begun_ok}
-use Rattle.mb_load.specs.Committing.{MakesChanges}
-use Rattle.mb_load.specs.LoadedFrom.{IsLoadedFrom}
-use Rattle.mb_tables.specs.Table.{Tables}
 use Rattle.mb_copy.proofs.copying.copy_over.Goals as goal
 
 pub commit_loaded-requires : goal.commit_loaded-requires

@@ -1,9 +1,6 @@
-use Rattle.std.proofs.Common.{◌≡◌, ◌∙◌, ap, sym, true}
-use Rattle.std.proofs.lemmas.Bool.{false≢true}
-use Rattle.std.proofs.lemmas.Result.{err_from_is_err_and}
+use Rattle.mb_copy.proofs.Common.{ap, err_from_is_err_and, false≢true, sym, Tables, true, ◌∙◌, ◌≡◌}
 use Rattle.mb_copy.proofs.AnswerLemmas.{left_moved, store_free}
 use Rattle.mb_copy.proofs.PatchAnswerLemmas.{anew_patched, copied_moved, filled_patched, free_patched}
-use Rattle.mb_tables.specs.Table.{Tables}
 use Rattle.mb_copy.proofs.copying_patched.copy_patched.Goals as goal
 
 pub copy_patched_anew-requires-clause-none : goal.copy_patched_anew-requires-clause-none

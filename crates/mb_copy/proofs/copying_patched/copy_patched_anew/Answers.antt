@@ -1,8 +1,6 @@
-use Rattle.std.proofs.Common.{ap, sym, subst}
+use Rattle.mb_copy.proofs.Common.{ap, IsSource, State, subst, sym}
 use Rattle.mb_copy.proofs.PatchAnswerLemmas.{copied_patched, left_patched, patched_due}
 use Rattle.mb_copy.proofs.PatchedSourceLemmas.{still_source}
-use Rattle.mb_copy.specs.Clearing.{IsSource}
-use Rattle.mb_loaded.specs.State.{State}
 use Rattle.mb_copy.proofs.copying_patched.copy_patched_anew.Goals as goal
 
 pub copy_anew-requires-clause-source : goal.copy_anew-requires-clause-source

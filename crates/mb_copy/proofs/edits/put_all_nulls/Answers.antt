@@ -1,7 +1,4 @@
-use Rattle.std.proofs.Common.{◌∙◌, arith}
-use Rattle.std.specs.FinMap.{entries, len-entries}
-use Rattle.mb_copy.specs.HeldCopied.{null_put}
-use Rattle.mb_edit.proofs.FromLast.{none_made, one_before}
+use Rattle.mb_copy.proofs.Common.{arith, entries, len-entries, none_made, null_put, one_before, ◌∙◌}
 use Rattle.mb_copy.proofs.edits.put_all_nulls.Goals as goal
 
 pub loop-left-init : goal.loop-left-init

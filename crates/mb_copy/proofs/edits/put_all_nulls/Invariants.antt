@@ -1,7 +1,4 @@
-use Rattle.std.proofs.Common.{◌≡◌, ◌≤◌, drop, length}
-use Rattle.std.specs.FinMap.{entries}
-use Rattle.mb_copy.specs.HeldCopied.{null_put}
-use Rattle.mb_loaded.specs.FromLast.{from_last}
+use Rattle.mb_copy.proofs.Common.{drop, entries, from_last, length, null_put, ◌≡◌, ◌≤◌}
 use Rattle.mb_copy.proofs.edits.put_all_nulls.Given as goal
 
 abbrev pub invariant-loop-left : goal.invariant-loop-left

@@ -1,9 +1,5 @@
-use Rattle.std.proofs.Common.{◌∙◌, ap, arith}
-use Rattle.std.specs.FinMap.{contains_key, entries, len-entries}
+use Rattle.mb_copy.proofs.Common.{ap, arith, contains_key, entries, len-entries, none_made, one_before, State, time_put, ◌∙◌}
 use Rattle.mb_copy.proofs.TileStateLemmas.{times_state_last}
-use Rattle.mb_copy.specs.HeldCopied.{time_put}
-use Rattle.mb_edit.proofs.FromLast.{none_made, one_before}
-use Rattle.mb_loaded.specs.State.{State}
 use Rattle.mb_copy.proofs.edits.put_all_times.Goals as goal
 
 pub loop-left-init : goal.loop-left-init

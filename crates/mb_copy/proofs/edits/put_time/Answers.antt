@@ -1,7 +1,5 @@
-use Rattle.std.proofs.Common.{◌≡◌, arith}
-use Rattle.std.specs.FinMap.{len-entries}
+use Rattle.mb_copy.proofs.Common.{arith, blob_cell, len-entries, place_at, ◌≡◌}
 use Rattle.mb_copy.proofs.EntryLemmas.{entry_there}
-use Rattle.mb_lists.specs.Entries.{blob_cell, place_at}
 use Rattle.mb_copy.proofs.edits.put_time.Goals as goal
 
 pub put_times_at-requires-clause-there : goal.put_times_at-requires-clause-there

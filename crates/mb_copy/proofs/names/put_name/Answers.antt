@@ -1,6 +1,4 @@
-use Rattle.std.proofs.Common.{◌<◌, arith, length}
-use Rattle.std.specs.FinMap.{entries, len-entries}
-use Rattle.mb_edit.proofs.EntryLemmas.{value_is_text}
+use Rattle.mb_copy.proofs.Common.{arith, entries, len-entries, length, value_is_text, ◌<◌}
 use Rattle.mb_copy.proofs.names.put_name.Goals as goal
 
 pub set_metadata-requires : goal.set_metadata-requires

@@ -1,7 +1,4 @@
-use Rattle.std.proofs.Common.{◌∙◌, arith}
-use Rattle.std.specs.FinMap.{entries, len-entries}
-use Rattle.mb_copy.specs.HeldCopied.{name_put}
-use Rattle.mb_edit.proofs.FromLast.{none_made, one_before}
+use Rattle.mb_copy.proofs.Common.{arith, entries, len-entries, name_put, none_made, one_before, ◌∙◌}
 use Rattle.mb_copy.proofs.names.put_names.Goals as goal
 
 pub loop-left-init : goal.loop-left-init

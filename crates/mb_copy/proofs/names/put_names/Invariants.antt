@@ -1,7 +1,4 @@
-use Rattle.std.proofs.Common.{◌≡◌, ◌≤◌, drop, length}
-use Rattle.std.specs.FinMap.{entries}
-use Rattle.mb_copy.specs.HeldCopied.{name_put}
-use Rattle.mb_loaded.specs.FromLast.{from_last}
+use Rattle.mb_copy.proofs.Common.{drop, entries, from_last, length, name_put, ◌≡◌, ◌≤◌}
 use Rattle.mb_copy.proofs.names.put_names.Given as goal
 
 abbrev pub invariant-loop-left : goal.invariant-loop-left

@@ -1,7 +1,6 @@
 use Rattle.mb_copy.proofs.ClearedLemmas.{settled_as}
 use Rattle.mb_copy.proofs.NameStateLemmas.{names_are}
-use Rattle.mb_copy.specs.HeldCopied.{held_with_names}
-use Rattle.mb_loaded.specs.Held.{Held}
+use Rattle.mb_copy.proofs.Common.{Held, held_with_names}
 use Rattle.mb_copy.proofs.names.with_names.Goals as goal
 
 pub returns : goal.returns

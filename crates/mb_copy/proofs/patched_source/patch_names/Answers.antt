@@ -1,7 +1,4 @@
-use Rattle.std.proofs.Common.{◌∙◌, arith}
-use Rattle.std.specs.FinMap.{entries, len-entries}
-use Rattle.mb_copy.specs.PatchedSource.{name_patched}
-use Rattle.mb_edit.proofs.FromLast.{none_made, one_before}
+use Rattle.mb_copy.proofs.Common.{arith, entries, len-entries, name_patched, none_made, one_before, ◌∙◌}
 use Rattle.mb_copy.proofs.patched_source.patch_names.Goals as goal
 
 pub loop-left-init : goal.loop-left-init

@@ -1,7 +1,4 @@
-use Rattle.std.proofs.Common.{◌≡◌, ◌≤◌, drop, length}
-use Rattle.std.specs.FinMap.{entries}
-use Rattle.mb_copy.specs.PatchedSource.{name_patched}
-use Rattle.mb_loaded.specs.FromLast.{from_last}
+use Rattle.mb_copy.proofs.Common.{drop, entries, from_last, length, name_patched, ◌≡◌, ◌≤◌}
 use Rattle.mb_copy.proofs.patched_source.patch_names.Given as goal
 
 abbrev pub invariant-loop-left : goal.invariant-loop-left

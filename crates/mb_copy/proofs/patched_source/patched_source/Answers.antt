@@ -1,9 +1,6 @@
-use Rattle.std.proofs.Common.{◌∙◌, ap}
+use Rattle.mb_copy.proofs.Common.{ap, Held, source_patched, tiles_put, ◌∙◌}
 use Rattle.mb_copy.proofs.ClearedLemmas.{settled_as}
 use Rattle.mb_copy.proofs.PatchedSourceLemmas.{patched_is}
-use Rattle.mb_copy.specs.PatchedSource.{source_patched}
-use Rattle.mb_edit.specs.Put.{tiles_put}
-use Rattle.mb_loaded.specs.Held.{Held}
 use Rattle.mb_copy.proofs.patched_source.patched_source.Goals as goal
 
 pub returns : goal.returns

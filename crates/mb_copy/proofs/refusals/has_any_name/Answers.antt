@@ -1,7 +1,5 @@
-use Rattle.std.proofs.Common.{arith}
-use Rattle.std.specs.FinMap.{entries, len-entries}
+use Rattle.mb_copy.proofs.Common.{arith, entries, len-entries, name_there}
 use Rattle.mb_copy.proofs.EntryLemmas.{none_at_all, none_yet, one_found}
-use Rattle.mb_copy.specs.Chosen.{name_there}
 use Rattle.mb_copy.proofs.refusals.has_any_name.Goals as goal
 
 pub returns-then-has_name : goal.returns-then-has_name

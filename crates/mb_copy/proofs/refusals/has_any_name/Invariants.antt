@@ -1,8 +1,5 @@
 -- none so far is copied and there
-use Rattle.std.proofs.Common.{◌≡◌, drop}
-use Rattle.std.specs.FinMap.{entries}
-use Rattle.std.specs.List.{list_any}
-use Rattle.mb_copy.specs.Chosen.{name_there}
+use Rattle.mb_copy.proofs.Common.{drop, entries, list_any, name_there, ◌≡◌}
 use Rattle.mb_copy.proofs.refusals.has_any_name.Given as goal
 
 abbrev pub invariant-loop-index : goal.invariant-loop-index

@@ -1,4 +1,4 @@
-use Rattle.std.proofs.Common.{◌∙◌}
+use Rattle.mb_copy.proofs.Common.{◌∙◌}
 use Rattle.mb_copy.proofs.WantedLemmas.{held, not_empty}
 use Rattle.mb_copy.proofs.wanted.place_passes.Goals as goal
 

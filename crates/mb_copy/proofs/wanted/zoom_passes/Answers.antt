@@ -1,4 +1,4 @@
-use Rattle.std.proofs.Common.{◌∙◌}
+use Rattle.mb_copy.proofs.Common.{◌∙◌}
 use Rattle.mb_copy.proofs.WantedLemmas.{listed, not_empty}
 use Rattle.mb_copy.proofs.wanted.zoom_passes.Goals as goal
 

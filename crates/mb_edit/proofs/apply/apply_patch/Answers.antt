@@ -1,14 +1,7 @@
-use Rattle.std.proofs.Common.{◌≡◌, ◌∙◌, ap, sym, subst, true, false, Ok, Err}
-use Rattle.std.proofs.lemmas.Bool.{false≢true}
+use Rattle.mb_edit.proofs.Common.{answer_of, ap, Err, false, false≢true, is_free, IsLoadedFrom, MakesChanges, Ok, state_of, subst, sym, Tables, true, ◌∙◌, ◌≡◌}
 use Rattle.std.proofs.lemmas.Result.{err_from_is_err_and}
-use Rattle.mb_load.specs.Committing.{MakesChanges}
 use Rattle.mb_edit.proofs.AnswerLemmas.{base_refused, patch_refused, some_tables, step_answered}
-use Rattle.mb_edit.specs.Applying.{answer_of}
 use Rattle.mb_edit.proofs.ApplyLemmas.{next_applied, next_loaded}
-use Rattle.mb_load.specs.LoadedFrom.{IsLoadedFrom}
-use Rattle.mb_load.specs.StateOf.{state_of}
-use Rattle.mb_tables.specs.Refusals.{is_free}
-use Rattle.mb_tables.specs.Table.{Tables}
 use Rattle.mb_edit.proofs.apply.apply_patch.Goals as goal
 
 pub commit_loaded-requires : goal.commit_loaded-requires

@@ -1,5 +1,4 @@
-use Rattle.std.proofs.Common.{arith, ◌<◌, length}
-use Rattle.std.specs.FinMap.{entries, len-entries}
+use Rattle.mb_edit.proofs.Common.{arith, entries, len-entries, length, ◌<◌}
 use Rattle.mb_edit.proofs.EntryLemmas.{bytes_read, past_end}
 use Rattle.mb_edit.proofs.collision.bytes_at.Goals as goal
 

@@ -1,9 +1,6 @@
-use Rattle.std.proofs.Common.{◌≡◌, Some, None, rules}
+use Rattle.mb_edit.proofs.Common.{cell_cmp, digest, entries, None, rules, Some, ◌≡◌}
 use Rattle.std.specs.BTreeMap.{get}
-use Rattle.std.specs.FinMap.{entries}
 use Rattle.mb_edit.proofs.MarkLemmas.{by_false, by_none, by_true}
-use Rattle.mb_tables.specs.Cell.{cell_cmp}
-use Rattle.tile_hash.specs.Digest.{digest}
 use Rattle.mb_edit.proofs.collision.collides_with.Goals as goal
 
 pub returns-in-None : goal.returns-in-None

@@ -1,15 +1,6 @@
-use Rattle.std.proofs.Common.{◌≡◌, ◌∙◌, ap, sym, subst, List, ℕ, Option, Some, cond, refl}
+use Rattle.mb_edit.proofs.Common.{ap, bytes_of, Cell, cell_cmp, cond, digest, entries, IfSome, is_eq, List, Mark, Option, refl, Some, subst, sym, Text, ℕ, ◌∙◌, ◌≡◌}
 use Rattle.std.specs.BTreeMap as tree
-use Rattle.std.specs.Ordering.{is_eq}
-use Rattle.std.specs.Prelude.{IfSome}
-use Rattle.std.specs.FinMap.{entries}
-use Rattle.mb_edit.specs.Marks.{bytes_of}
-use Rattle.mb_edit.specs.declared.collision.Mark.{Mark}
 use Rattle.mb_edit.proofs.MarkLemmas.{met_more}
-use Rattle.mb_tables.specs.Cell.{cell_cmp}
-use Rattle.mb_tables.specs.declared.cell.Cell.{Cell}
-use Rattle.mb_tables.specs.declared.cell.Cell.TheVariants.{Text}
-use Rattle.tile_hash.specs.Digest.{digest}
 use Rattle.mb_edit.proofs.collision.meet.Goals as goal
 
 pub returns-then-collides : goal.returns-then-collides

@@ -1,6 +1,4 @@
-use Rattle.std.proofs.Common.{◌≡◌, ◌∙◌, not}
-use Rattle.std.specs.FinMap.{get}
-use Rattle.std.specs.Str.{bytes_eq}
+use Rattle.mb_edit.proofs.Common.{bytes_eq, get, not, ◌∙◌, ◌≡◌}
 use Rattle.mb_edit.proofs.EntryLemmas.{other_blob}
 use Rattle.mb_edit.proofs.OrderLemmas.{same_two}
 use Rattle.mb_edit.proofs.collision.stands_for_other.Goals as goal

@@ -1,14 +1,6 @@
-use Rattle.std.proofs.Common.{◌≡◌, ◌∙◌, ◌-◌, ap, sym, subst, List, arith, drop, filter_map, length}
-use Rattle.std.specs.FinMap.{entries, len-entries}
-use Rattle.mb_edit.specs.Marks.{AreMarked}
-use Rattle.std.specs.Prelude.{slice_get}
-use Rattle.std.proofs.lemmas.List.{length-map}
-use Rattle.mb_lists.specs.Entries.{blob_cell}
-use Rattle.mb_loaded.specs.GivenIds.{cell_id}
-use Rattle.mb_tables.specs.declared.cell.Cell.{Cell}
+use Rattle.mb_edit.proofs.Common.{ap, AreMarked, arith, blob_cell, Cell, cell_id, digest, drop, entries, filter_map, len-entries, length, length-map, List, slice_get, subst, sym, ◌-◌, ◌∙◌, ◌≡◌}
 use Rattle.mb_edit.proofs.EntryLemmas.{id_read, past_end}
 use Rattle.mb_edit.proofs.MarkLemmas.{none_marked, none_put, put_before}
-use Rattle.tile_hash.specs.Digest.{digest}
 use Rattle.mb_edit.proofs.collision.test_contents.Goals as goal
 
 pub loop-left-init : goal.loop-left-init

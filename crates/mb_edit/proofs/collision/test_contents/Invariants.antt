@@ -1,7 +1,4 @@
-use Rattle.std.proofs.Common.{◌≤◌, drop, filter_map, length}
-use Rattle.std.specs.FinMap.{entries}
-use Rattle.mb_edit.specs.Marks.{AreMarked}
-use Rattle.tile_hash.specs.Digest.{digest}
+use Rattle.mb_edit.proofs.Common.{AreMarked, digest, drop, entries, filter_map, length, ◌≤◌}
 use Rattle.mb_edit.proofs.collision.test_contents.Given as goal
 
 abbrev pub invariant-loop-left : goal.invariant-loop-left

@@ -1,6 +1,4 @@
-use Rattle.std.proofs.Common.{◌∙◌, arith}
-use Rattle.std.specs.FinMap.{entries, len-entries}
-use Rattle.mb_edit.specs.HeldPatched.{null_cleared}
+use Rattle.mb_edit.proofs.Common.{arith, entries, len-entries, null_cleared, ◌∙◌}
 use Rattle.mb_edit.proofs.FromLast.{none_made, one_before}
 use Rattle.mb_edit.proofs.patch.clear_nulls.Goals as goal
 

@@ -1,6 +1,4 @@
-use Rattle.std.proofs.Common.{◌≡◌, ◌≤◌, drop, length}
-use Rattle.std.specs.FinMap.{entries}
-use Rattle.mb_edit.specs.HeldPatched.{from_last, null_cleared}
+use Rattle.mb_edit.proofs.Common.{drop, entries, from_last, length, null_cleared, ◌≡◌, ◌≤◌}
 use Rattle.mb_edit.proofs.patch.clear_nulls.Given as goal
 
 abbrev pub invariant-loop-left : goal.invariant-loop-left

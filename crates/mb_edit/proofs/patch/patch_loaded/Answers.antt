@@ -1,9 +1,7 @@
-use Rattle.std.proofs.Common.{sym, subst}
+use Rattle.mb_edit.proofs.Common.{Held, IsLoadedFrom, NamesAlgorithm, subst, sym}
 use Rattle.mb_edit.proofs.ApplyLemmas.{named_after}
 use Rattle.mb_edit.proofs.LoadedLemmas.{patched_loaded}
 use Rattle.mb_edit.proofs.StepLemmas.{step_made}
-use Rattle.mb_loaded.specs.Held.{Held}
-use Rattle.mb_load.specs.LoadedFrom.{IsLoadedFrom, NamesAlgorithm}
 use Rattle.mb_edit.proofs.patch.patch_loaded.Goals as goal
 
 pub returns-clause-answer : goal.returns-clause-answer

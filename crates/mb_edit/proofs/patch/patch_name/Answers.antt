@@ -1,5 +1,4 @@
-use Rattle.std.proofs.Common.{◌<◌, arith, length}
-use Rattle.std.specs.FinMap.{entries, len-entries}
+use Rattle.mb_edit.proofs.Common.{arith, entries, len-entries, length, ◌<◌}
 use Rattle.mb_edit.proofs.EntryLemmas.{value_is_text}
 use Rattle.mb_edit.proofs.patch.patch_name.Goals as goal
 

@@ -1,6 +1,4 @@
-use Rattle.std.proofs.Common.{◌≡◌, ◌≤◌, drop, length}
-use Rattle.std.specs.FinMap.{entries}
-use Rattle.mb_edit.specs.HeldPatched.{from_last, name_patched}
+use Rattle.mb_edit.proofs.Common.{drop, entries, from_last, length, name_patched, ◌≡◌, ◌≤◌}
 use Rattle.mb_edit.proofs.patch.patch_names.Given as goal
 
 abbrev pub invariant-loop-left : goal.invariant-loop-left

@@ -1,8 +1,4 @@
-use Rattle.std.proofs.Common.{◌∙◌, is_some, subst, sym, Result}
-use Rattle.mb_constraints.specs.DiffHashes.{base_refused, refused_by, unless_forced}
-use Rattle.mb_tables.specs.Refusals.{Tests}
-use Rattle.mb_tables.specs.declared.error.MbtError.{MbtError}
-use Rattle.mb_lists.specs.Metadata.{after_hash, agg_hash, before_hash}
+use Rattle.mb_edit.proofs.Common.{after_hash, agg_hash, base_refused, before_hash, is_some, MbtError, refused_by, Result, subst, sym, Tests, unless_forced, ◌∙◌}
 use Rattle.mb_edit.proofs.OrderLemmas.{base_tests, same_three}
 use Rattle.mb_edit.proofs.patching_order.test_hashes_of_base.Goals as goal
 

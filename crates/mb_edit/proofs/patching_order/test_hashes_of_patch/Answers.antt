@@ -1,8 +1,4 @@
-use Rattle.std.proofs.Common.{◌∙◌, is_some, subst, sym, Result}
-use Rattle.mb_constraints.specs.DiffHashes.{patch_refused, refused_by, unless_forced}
-use Rattle.mb_tables.specs.Refusals.{Tests}
-use Rattle.mb_tables.specs.declared.error.MbtError.{MbtError}
-use Rattle.mb_lists.specs.Metadata.{after_hash, before_hash}
+use Rattle.mb_edit.proofs.Common.{after_hash, before_hash, is_some, MbtError, patch_refused, refused_by, Result, subst, sym, Tests, unless_forced, ◌∙◌}
 use Rattle.mb_edit.proofs.OrderLemmas.{patch_tests, same_two}
 use Rattle.mb_edit.proofs.patching_order.test_hashes_of_patch.Goals as goal
 

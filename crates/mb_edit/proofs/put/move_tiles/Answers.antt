@@ -1,8 +1,5 @@
-use Rattle.std.proofs.Common.{◌≡◌, ◌∙◌, ap, sym, subst, None}
-use Rattle.mb_edit.specs.Put.{may_put}
+use Rattle.mb_edit.proofs.Common.{ap, Held, IsLoadedFrom, may_put, NamesAlgorithm, None, subst, sym, ◌∙◌, ◌≡◌}
 use Rattle.mb_edit.proofs.PutLemmas.{both_pass, put_loaded, put_named, put_state}
-use Rattle.mb_loaded.specs.Held.{Held}
-use Rattle.mb_load.specs.LoadedFrom.{IsLoadedFrom, NamesAlgorithm}
 use Rattle.mb_edit.proofs.put.move_tiles.Goals as goal
 
 pub returns-clause-state : goal.returns-clause-state

@@ -1,8 +1,5 @@
-use Rattle.std.proofs.Common.{◌∙◌, map}
-use Rattle.std.specs.Prelude.{reverse}
-use Rattle.std.specs.FinMap.{empty}
+use Rattle.mb_insert.proofs.Common.{empty, entry_of, map, reverse, ◌∙◌}
 use Rattle.mb_insert.proofs.ChosenLemmas.{all_in_turn, all_put, by_first, put_in_turn, settled}
-use Rattle.mb_insert.specs.Batch.{entry_of}
 use Rattle.mb_insert.proofs.batch.last_tiles.Goals as goal
 
 pub returns : goal.returns

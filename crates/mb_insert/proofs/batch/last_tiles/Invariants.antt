@@ -1,6 +1,5 @@
 -- what is left, put one after another over what was put, makes what all make
-use Rattle.std.proofs.Common.{◌≡◌, drop}
-use Rattle.std.specs.FinMap.{empty}
+use Rattle.mb_insert.proofs.Common.{drop, empty, ◌≡◌}
 use Rattle.mb_insert.proofs.ChosenLemmas.{put_in_turn}
 use Rattle.mb_insert.proofs.batch.last_tiles.Given as goal
 

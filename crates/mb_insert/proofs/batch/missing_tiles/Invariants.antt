@@ -1,4 +1,4 @@
-use Rattle.std.proofs.Common.{◌≡◌, ◌≤◌, drop, length}
+use Rattle.mb_insert.proofs.Common.{drop, length, ◌≡◌, ◌≤◌}
 use Rattle.mb_insert.proofs.ChosenLemmas.{missing_of}
 use Rattle.mb_insert.proofs.batch.missing_tiles.Given as goal
 

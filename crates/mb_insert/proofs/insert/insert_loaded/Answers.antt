@@ -1,7 +1,5 @@
-use Rattle.std.proofs.Common.{◌∙◌, ap, sym}
-use Rattle.std.specs.FinMap.{contains_key}
+use Rattle.mb_insert.proofs.Common.{ap, contains_key, sym, TileSet, ◌∙◌}
 use Rattle.mb_insert.proofs.CoordLemmas.{all_coords, put_on_board}
-use Rattle.mb_tables.specs.Tiles.{TileSet}
 use Rattle.mb_insert.proofs.insert.insert_loaded.Goals as goal
 
 pub chosen_tiles-requires : goal.chosen_tiles-requires

@@ -1,12 +1,7 @@
-use Rattle.std.proofs.Common.{◌≡◌, ◌∙◌, ap, sym, subst, true, Ok}
-use Rattle.std.proofs.lemmas.Result.{err_from_is_err_and}
+use Rattle.mb_insert.proofs.Common.{ap, err_from_is_err_and, insertion, IsLoadedFrom, MakesChanges, Ok, subst, sym, Tables, true, ◌∙◌, ◌≡◌}
 use Rattle.mb_constraints.specs.DiffHashes.{refused_by}
 use Rattle.mb_insert.proofs.InsertedLemmas.{is_inserted}
-use Rattle.mb_insert.specs.Insertion.{insertion}
 use Rattle.mb_load.proofs.BegunLemmas.{begun_err, begun_free, begun_ok}
-use Rattle.mb_load.specs.Committing.{MakesChanges}
-use Rattle.mb_load.specs.LoadedFrom.{IsLoadedFrom}
-use Rattle.mb_tables.specs.Table.{Tables}
 use Rattle.mb_insert.proofs.insert.insert_tiles.Goals as goal
 
 pub commit_loaded-requires : goal.commit_loaded-requires

@@ -1,7 +1,5 @@
-use Rattle.std.proofs.Common.{◌∙◌, ap, rules, sym}
-use Rattle.std.specs.FinMap.{len}
+use Rattle.mb_insert.proofs.Common.{ap, len, rules, sym, TileSet, ◌∙◌}
 use Rattle.mb_insert.proofs.CountLemmas.{as_many, fewer}
-use Rattle.mb_tables.specs.Tiles.{TileSet}
 use Rattle.mb_insert.proofs.tests_of_batch.test_all_put.Goals as goal
 
 pub returns-then-tile_count-batch : goal.returns-then-tile_count-batch

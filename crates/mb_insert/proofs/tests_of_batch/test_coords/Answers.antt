@@ -1,4 +1,4 @@
-use Rattle.std.proofs.lemmas.Result.{err_from_is_err_and}
+use Rattle.mb_insert.proofs.Common.{err_from_is_err_and}
 use Rattle.mb_lists.proofs.Refused.{passes, refuses}
 use Rattle.mb_insert.proofs.tests_of_batch.test_coords.Goals as goal
 

@@ -1,7 +1,5 @@
 -- what is left is refused as all are
-use Rattle.std.proofs.Common.{◌≡◌, drop}
-use Rattle.mb_insert.specs.Insertion.{bad_coord}
-use Rattle.mb_tables.specs.Refusals.{first_refused}
+use Rattle.mb_insert.proofs.Common.{bad_coord, drop, first_refused, ◌≡◌}
 use Rattle.mb_insert.proofs.tests_of_batch.test_coords.Given as goal
 
 abbrev pub invariant-loop-tile : goal.invariant-loop-tile

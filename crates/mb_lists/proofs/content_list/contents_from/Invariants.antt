@@ -1,7 +1,5 @@
 -- the contents so far, and those of the rows that are left
-use Rattle.std.proofs.Common.{◌≡◌, ◌++◌, map}
-use Rattle.std.specs.Vec.Iter.{into_iter_items}
-use Rattle.mb_lists.specs.FromRows.{content_from}
+use Rattle.mb_lists.proofs.Common.{content_from, into_iter_items, map, ◌++◌, ◌≡◌}
 use Rattle.mb_lists.proofs.content_list.contents_from.Given as goal
 
 abbrev pub invariant-loop-row : goal.invariant-loop-row

@@ -1,6 +1,5 @@
 -- the indexes so far, and those of the contents that are left
-use Rattle.std.proofs.Common.{◌≡◌, ◌++◌, drop}
-use Rattle.mb_lists.specs.FromRows.{ids_from}
+use Rattle.mb_lists.proofs.Common.{drop, ids_from, ◌++◌, ◌≡◌}
 use Rattle.mb_lists.proofs.content_list.ids_of.Given as goal
 
 abbrev pub invariant-loop-index : goal.invariant-loop-index

@@ -1,7 +1,5 @@
 -- the last tile at the coordinate among those that are left is the last of all
-use Rattle.std.proofs.Common.{◌≡◌, ◌≤◌, length, take}
-use Rattle.mb_lists.specs.Dating.{last_at}
-use Rattle.mb_lists.specs.Entries.{place_at}
+use Rattle.mb_lists.proofs.Common.{last_at, length, place_at, take, ◌≡◌, ◌≤◌}
 use Rattle.mb_lists.proofs.dating.last_contents.Given as goal
 
 abbrev pub invariant-loop-left : goal.invariant-loop-left

@@ -1,11 +1,6 @@
-use Rattle.std.proofs.Common.{rules, ◌∙◌}
-use Rattle.std.proofs.lemmas.Fn.{always_returns_same}
-use Rattle.mb_lists.specs.Entries.{id_at}
-use Rattle.mb_lists.specs.declared.entries.StoredTile.{StoredTile}
+use Rattle.mb_lists.proofs.Common.{always_returns_same, cell_cmp, cells_total, id_at, rules, StoredTile, ◌∙◌}
 use Rattle.mb_lists.proofs.Dropped.{found_any}
 use Rattle.mb_lists.proofs.dropping.has_id.Goals as goal
-use Rattle.mb_tables.specs.Cell.{cell_cmp}
-use Rattle.mb_tables.specs.CellOrder.{cells_total}
 
 pub returns : goal.returns
 returns c =

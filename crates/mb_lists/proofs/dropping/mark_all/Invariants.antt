@@ -1,6 +1,5 @@
 -- what is left makes of these contents what all make of the first, and their ids and cells are those of the first
-use Rattle.std.proofs.Common.{◌≡◌, drop}
-use Rattle.mb_lists.specs.Dropping.{marked_unnamed}
+use Rattle.mb_lists.proofs.Common.{drop, marked_unnamed, ◌≡◌}
 use Rattle.mb_lists.proofs.Dropped.{AreLike}
 use Rattle.mb_lists.proofs.dropping.mark_all.Given as goal
 

@@ -1,16 +1,7 @@
-use Rattle.std.proofs.Common.{rules}
-use Rattle.std.specs.Ordering.{is_lt}
-use Rattle.std.specs.Prelude.{not}
-use Rattle.std.proofs.lemmas.Fn.{always_returns_same}
-use Rattle.std.proofs.lemmas.List.Sorted.{answers_always, ranks_by}
-use Rattle.mb_lists.specs.Entries.{id_at, is_gone}
-use Rattle.mb_lists.specs.Keyed.{behind}
-use Rattle.mb_lists.specs.declared.entries.StoredTile.{StoredTile}
+use Rattle.mb_lists.proofs.Common.{always_returns_same, answers_always, behind, cell_cmp, cells_total, id_at, is_gone, is_lt, not, ranks_by, rules, StoredTile}
 use Rattle.mb_lists.proofs.Dropped.{ids_rise}
 use Rattle.mb_lists.proofs.Settling.{behind_total, parted}
 use Rattle.mb_lists.proofs.dropping.sort_named.Goals as goal
-use Rattle.mb_tables.specs.Cell.{cell_cmp}
-use Rattle.mb_tables.specs.CellOrder.{cells_total}
 
 pub returns-clause-order : goal.returns-clause-order
 returns-clause-order c =

@@ -1,8 +1,5 @@
 -- the names so far, and those of the rows that are left
-use Rattle.std.proofs.Common.{◌≡◌, ◌++◌}
-use Rattle.std.specs.Prelude.{filter_map}
-use Rattle.std.specs.Vec.Iter.{into_iter_items}
-use Rattle.mb_lists.specs.FromRows.{name_from}
+use Rattle.mb_lists.proofs.Common.{filter_map, into_iter_items, name_from, ◌++◌, ◌≡◌}
 use Rattle.mb_lists.proofs.name_list.names_from.Given as goal
 
 abbrev pub invariant-loop-row : goal.invariant-loop-row

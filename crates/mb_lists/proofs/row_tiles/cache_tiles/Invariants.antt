@@ -1,7 +1,5 @@
 -- the contents and tiles so far, and those of the rows that are left
-use Rattle.std.proofs.Common.{◌≡◌, ◌++◌, length, map}
-use Rattle.std.specs.Vec.Iter.{into_iter_items}
-use Rattle.mb_lists.specs.FromRows.{dates_from, own_content, own_tiles}
+use Rattle.mb_lists.proofs.Common.{dates_from, into_iter_items, length, map, own_content, own_tiles, ◌++◌, ◌≡◌}
 use Rattle.mb_lists.proofs.row_tiles.cache_tiles.Given as goal
 
 abbrev pub invariant-loop-row : goal.invariant-loop-row

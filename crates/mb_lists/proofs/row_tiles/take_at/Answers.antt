@@ -1,4 +1,4 @@
-use Rattle.std.proofs.Common.{◌<◌, ◌≤◌, ◌∙◌, sym, length, arith}
+use Rattle.mb_lists.proofs.Common.{arith, length, sym, ◌<◌, ◌∙◌, ◌≤◌}
 use Rattle.mb_tables.proofs.RowLemmas.{cell_before, cell_past, cell_within}
 use Rattle.mb_lists.proofs.row_tiles.take_at.Goals as goal
 

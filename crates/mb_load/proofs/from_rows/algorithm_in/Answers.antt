@@ -1,7 +1,4 @@
-use Rattle.std.proofs.Common.{◌≡◌, ◌∙◌, subst, ℕ, List, Option}
-use Rattle.std.specs.Prelude.{IfOk}
-use Rattle.mb_constraints.specs.Algorithm.{algorithm_by, unknown_name}
-use Rattle.mb_tables.specs.Refusals.{Tests}
+use Rattle.mb_load.proofs.Common.{algorithm_by, IfOk, List, Option, subst, Tests, unknown_name, ℕ, ◌∙◌, ◌≡◌}
 use Rattle.mb_constraints.proofs.AlgorithmLemmas.{stored_is}
 use Rattle.mb_load.proofs.from_rows.algorithm_in.Goals as goal
 

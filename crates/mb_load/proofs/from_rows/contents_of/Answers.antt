@@ -1,15 +1,6 @@
-use Rattle.std.proofs.Common.{rules, ◌≡◌, ◌∙◌, sym, subst, List, Option, map, true, false}
-use Rattle.std.specs.Prelude.{IfNone, IfSome}
-use Rattle.std.specs.List.Sorted.{IsPermutation}
-use Rattle.mb_lists.specs.Entries.{AreContentsInOrder, id_at}
-use Rattle.mb_lists.specs.FromRows.{content_from, ids_from}
-use Rattle.mb_lists.specs.Keyed.{are_distinct}
-use Rattle.mb_tables.specs.CellKinds.{content_kind_wrong, tile_kind_wrong}
-use Rattle.std.specs.Option.{option_or}
+use Rattle.mb_load.proofs.Common.{all_new, all_present, are_distinct, AreContentsInOrder, cell_cmp, Content, content_from, content_kind_wrong, false, id_at, ids_from, ids_pass, ids_refused, IfNone}
+use Rattle.mb_load.proofs.Common.{IfSome, IsPermutation, kinds_pass, kinds_refused, List, map, Option, option_or, rows_same, rules, subst, sym, tile_kind_wrong, true, ◌∙◌, ◌≡◌}
 use Rattle.mb_lists.specs.declared.content_list.ContentList.{ContentList}
-use Rattle.mb_lists.specs.declared.entries.Content.{Content}
-use Rattle.mb_constraints.proofs.ContentTests.{all_new, all_present, ids_pass, ids_refused, kinds_pass, kinds_refused, rows_same}
-use Rattle.mb_tables.specs.Cell.{cell_cmp}
 use Rattle.mb_load.proofs.from_rows.contents_of.Goals as goal
 
 pub in_order-requires : goal.in_order-requires

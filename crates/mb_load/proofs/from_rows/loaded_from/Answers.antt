@@ -1,7 +1,4 @@
-use Rattle.std.proofs.Common.{◌≡◌, ◌∙◌, ap, sym, None}
-use Rattle.std.proofs.lemmas.Result.{err_from_is_err_and}
-use Rattle.mb_constraints.specs.Algorithm.{algorithm_of}
-use Rattle.mb_lists.specs.FromRows.{rows_kept}
+use Rattle.mb_load.proofs.Common.{algorithm_of, ap, err_from_is_err_and, None, rows_kept, sym, ◌∙◌, ◌≡◌}
 use Rattle.mb_load.proofs.Due.{due_algorithm, due_ids, due_names, due_places, due_tests, ids_due, tests_due}
 use Rattle.mb_load.proofs.Final.{ArePassed, set_due, twice_due}
 use Rattle.mb_load.proofs.from_rows.loaded_from.Goals as goal

@@ -1,11 +1,4 @@
-use Rattle.std.proofs.Common.{◌∙◌, ap, sym, None}
-use Rattle.std.proofs.lemmas.Result.{err_from_is_err_and}
-use Rattle.mb_lists.specs.FromRows.{rows_kept}
-use Rattle.mb_constraints.specs.Hashes.{wrong_id}
-use Rattle.mb_constraints.specs.References.{reference_missing}
-use Rattle.mb_tables.specs.Refusals.{first_refused}
-use Rattle.mb_constraints.specs.TileRows.{tile_bad}
-use Rattle.mb_constraints.proofs.ContentTests.{last_tested}
+use Rattle.mb_load.proofs.Common.{ap, err_from_is_err_and, first_refused, last_tested, None, reference_missing, rows_kept, sym, tile_bad, wrong_id, ◌∙◌}
 use Rattle.mb_load.proofs.from_rows.test_rows.Goals as goal
 
 pub returns-in_err-test_content_hashes : goal.returns-in_err-test_content_hashes

@@ -1,5 +1,4 @@
-use Rattle.std.proofs.Common.{◌∙◌, ap, sym, ℕ, List, Option}
-use Rattle.std.specs.Prelude.{option_and_then}
+use Rattle.mb_load.proofs.Common.{ap, List, Option, option_and_then, sym, ℕ, ◌∙◌}
 use Rattle.mb_lists.proofs.ReaderLemmas.{name_found, name_missing}
 use Rattle.mb_load.proofs.from_rows.text_under.Goals as goal
 

@@ -1,4 +1,4 @@
-use Rattle.std.proofs.Common.{rules, ◌∙◌, sym}
+use Rattle.mb_load.proofs.Common.{rules, sym, ◌∙◌}
 use Rattle.mb_load.proofs.DescribedLemmas.{layouts_found, indexes_found, all_refused, never_fault}
 use Rattle.mb_load.proofs.loading.layout_in.Goals as goal
 

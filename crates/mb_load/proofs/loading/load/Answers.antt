@@ -1,15 +1,6 @@
-use Rattle.std.proofs.Common.{◌∙◌, ap, sym}
-use Rattle.std.proofs.lemmas.Result.{err_from_is_err_and}
-use Rattle.mb_lists.specs.Contents.{content_rows}
-use Rattle.mb_constraints.specs.Described.{index_missing, metadata_missing}
+use Rattle.mb_load.proofs.Common.{ap, content_rows, err_from_is_err_and, index_missing, layout_of, List, Metadata, metadata_missing, patch_type_of, sym, TableDesc, Tables, tile_table, ◌∙◌}
 use Rattle.mb_load.proofs.LoadsFrom.{answer_loaded, answer_named, answer_whole}
 use Rattle.mb_load.proofs.StateLemmas.{answer_of, no_fault, own_of, own_of_store, own_refused}
-use Rattle.mb_tables.specs.Detection.{layout_of, patch_type_of}
-use Rattle.mb_tables.specs.Kind.{tile_table}
-use Rattle.mb_tables.specs.Table.{Tables}
-use Rattle.mb_tables.specs.declared.description.TableDesc.{TableDesc}
-use Rattle.mb_tables.specs.declared.table.TableName.TheVariants.{Metadata}
-use Rattle.std.proofs.Common.{List}
 use Rattle.mb_load.proofs.loading.load.Goals as goal
 
 pub returns-in_err-descriptions-clause-own : goal.returns-in_err-descriptions-clause-own

@@ -1,7 +1,6 @@
-use Rattle.std.proofs.Common.{refl}
+use Rattle.mb_load.proofs.Common.{refl, told_of, told_sound}
 use Rattle.mb_load.proofs.LoadsFrom.{answer_loaded, answer_named, answer_whole}
 use Rattle.mb_load.proofs.StateLemmas.{answer_of}
-use Rattle.mb_store.specs.MemStore.{told_of, told_sound}
 use Rattle.mb_load.proofs.loading.load_owned.Goals as goal
 
 pub returns-clause-answer : goal.returns-clause-answer

@@ -1,8 +1,5 @@
-use Rattle.std.proofs.Common.{◌≡◌, ◌∙◌, List, ap, arith, drop, subst, take}
-use Rattle.std.specs.Prelude.{IfOk}
+use Rattle.mb_load.proofs.Common.{ap, arith, Cell, drop, IfOk, List, subst, Tables, take, ◌∙◌, ◌≡◌}
 use Rattle.std.proofs.lemmas.List.{take_all}
-use Rattle.mb_tables.specs.Table.{Tables}
-use Rattle.mb_tables.specs.declared.cell.Cell.{Cell}
 use Rattle.mb_load.proofs.reading.read_table.Goals as goal
 
 pub returns-clause-answer : goal.returns-clause-answer

@@ -1,10 +1,4 @@
-use Rattle.std.proofs.Common.{◌∙◌, ap}
-use Rattle.mb_lists.specs.Contents.{content_rows}
-use Rattle.mb_store.specs.MemStore.{told_of}
-use Rattle.mb_store.specs.Store.{without_rows}
-use Rattle.mb_tables.specs.Kind.{tile_table}
-use Rattle.mb_tables.specs.Table.{Tables}
-use Rattle.mb_tables.specs.declared.table.TableName.TheVariants.{Metadata}
+use Rattle.mb_load.proofs.Common.{ap, content_rows, Metadata, Tables, tile_table, told_of, without_rows, ◌∙◌}
 use Rattle.mb_load.proofs.OwnedLemmas.{contents_stay, tiles_stay}
 use Rattle.mb_load.proofs.reading.take_all.Goals as goal
 

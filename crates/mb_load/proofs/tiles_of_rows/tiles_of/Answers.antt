@@ -1,7 +1,4 @@
-use Rattle.std.proofs.Common.{◌∙◌, List, ℕ, ap}
-use Rattle.mb_lists.specs.Entries.{contents_held}
-use Rattle.mb_lists.specs.FromRows.{rows_kept}
-use Rattle.mb_lists.specs.declared.entries.Content.{Content}
+use Rattle.mb_load.proofs.Common.{ap, Content, contents_held, List, rows_kept, ℕ, ◌∙◌}
 use Rattle.mb_lists.proofs.ContentMap.{contents_are}
 use Rattle.mb_load.proofs.TilesOfRows.{cached_of, flat_of, hashed_of, indexed_of, kept_of, named_of}
 use Rattle.mb_load.proofs.tiles_of_rows.tiles_of.Goals as goal

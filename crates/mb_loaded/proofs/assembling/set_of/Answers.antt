@@ -1,9 +1,6 @@
-use Rattle.std.proofs.lemmas.List.Sorted.{All-permutation, IsPermutation-sym}
-use Rattle.mb_lists.specs.Entries.{IsDated, IsTile, place_of}
+use Rattle.mb_loaded.proofs.Common.{All-permutation, apart_permuted, distinct_from_apart, IsDated, IsPermutation-sym, IsTile, place_of, places_total}
 use Rattle.mb_loaded.proofs.DatedLemmas.{listed_have_ids}
 use Rattle.mb_loaded.proofs.HeldLemmas.{held_permuted, tiles_are}
-use Rattle.mb_lists.proofs.Sorting.{apart_permuted, distinct_from_apart}
-use Rattle.mb_tables.proofs.TileLemmas.{places_total}
 use Rattle.mb_loaded.proofs.assembling.set_of.Goals as goal
 
 pub invariant_of-result : goal.invariant_of-result

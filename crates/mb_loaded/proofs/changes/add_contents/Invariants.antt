@@ -1,6 +1,4 @@
-use Rattle.std.proofs.Common.{◌≡◌, ◌++◌, take}
-use Rattle.std.specs.Prelude.{filter_map}
-use Rattle.mb_loaded.specs.PutRows.{listed_change}
+use Rattle.mb_loaded.proofs.Common.{filter_map, listed_change, take, ◌++◌, ◌≡◌}
 use Rattle.mb_loaded.proofs.changes.add_contents.Given as goal
 
 abbrev pub invariant-loop-index : goal.invariant-loop-index

@@ -1,6 +1,4 @@
-use Rattle.std.proofs.Common.{◌≡◌, ◌++◌, take}
-use Rattle.std.specs.Prelude.{filter_map}
-use Rattle.mb_loaded.specs.PutRows.{name_change}
+use Rattle.mb_loaded.proofs.Common.{filter_map, name_change, take, ◌++◌, ◌≡◌}
 use Rattle.mb_loaded.proofs.changes.add_names.Given as goal
 
 abbrev pub invariant-loop-entry : goal.invariant-loop-entry

@@ -1,6 +1,4 @@
-use Rattle.std.proofs.Common.{◌≡◌, take}
-use Rattle.std.specs.Prelude.{filter_map}
-use Rattle.mb_loaded.specs.PutRows.{tile_change}
+use Rattle.mb_loaded.proofs.Common.{filter_map, take, tile_change, ◌≡◌}
 use Rattle.mb_loaded.proofs.changes.add_tiles.Given as goal
 
 abbrev pub invariant-loop-tile : goal.invariant-loop-tile

@@ -1,6 +1,4 @@
-use Rattle.std.proofs.Common.{◌∙◌, ◌+◌, ◌-◌, ap, sym, Some, refl, arith}
-use Rattle.std.specs.Vec.{with_item}
-use Rattle.std.proofs.lemmas.Option.{slice_get-get_or}
+use Rattle.mb_loaded.proofs.Common.{ap, arith, refl, slice_get-get_or, Some, sym, with_item, ◌+◌, ◌-◌, ◌∙◌}
 use Rattle.mb_loaded.proofs.CopyLemmas.{added, known_copy, listed_copy}
 use Rattle.mb_loaded.proofs.copying.copied.Goals as goal
 

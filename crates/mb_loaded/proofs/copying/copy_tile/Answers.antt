@@ -1,9 +1,6 @@
-use Rattle.std.proofs.Common.{◌≡◌, ◌∙◌, ap, get_or}
-use Rattle.mb_lists.specs.Entries.{content_at}
-use Rattle.mb_lists.specs.declared.entries.Content.{Content}
+use Rattle.mb_loaded.proofs.Common.{ap, Blob, Content, content_at, get_or, ◌∙◌, ◌≡◌}
 use Rattle.mb_loaded.proofs.CopyLemmas.{named_content, tile_put, tile_removed}
 use Rattle.mb_loaded.proofs.copying.copy_tile.Goals as goal
-use Rattle.mb_tables.specs.declared.cell.Cell.TheVariants.{Blob}
 
 pub returns-in_ok-put_at-in-Blob : goal.returns-in_ok-put_at-in-Blob
 returns-in_ok-put_at-in-Blob c =

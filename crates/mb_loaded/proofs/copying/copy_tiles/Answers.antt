@@ -1,4 +1,4 @@
-use Rattle.std.proofs.Common.{arith}
+use Rattle.mb_loaded.proofs.Common.{arith}
 use Rattle.mb_loaded.proofs.CopyLemmas.{one_copied}
 use Rattle.mb_loaded.proofs.copying.copy_tiles.Goals as goal
 

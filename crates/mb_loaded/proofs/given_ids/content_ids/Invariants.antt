@@ -1,5 +1,4 @@
-use Rattle.std.proofs.Common.{◌≡◌, map, take}
-use Rattle.mb_loaded.specs.GivenIds.{content_id}
+use Rattle.mb_loaded.proofs.Common.{content_id, map, take, ◌≡◌}
 use Rattle.mb_loaded.proofs.given_ids.content_ids.Given as goal
 
 abbrev pub invariant-loop-content : goal.invariant-loop-content

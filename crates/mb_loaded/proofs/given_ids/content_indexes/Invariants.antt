@@ -1,4 +1,4 @@
-use Rattle.std.proofs.Common.{◌≡◌, map, take}
+use Rattle.mb_loaded.proofs.Common.{map, take, ◌≡◌}
 use Rattle.mb_loaded.proofs.given_ids.content_indexes.Given as goal
 
 abbrev pub invariant-loop-tile : goal.invariant-loop-tile

@@ -1,4 +1,4 @@
-use Rattle.std.proofs.Common.{◌<◌, arith, length}
+use Rattle.mb_loaded.proofs.Common.{arith, length, ◌<◌}
 use Rattle.mb_loaded.proofs.TakenLemmas.{contents_next}
 use Rattle.mb_loaded.proofs.into_changes.add_contents.Goals as goal
 

@@ -1,6 +1,4 @@
-use Rattle.std.proofs.Common.{◌≡◌, ◌≤◌, ◌-◌, ◌++◌, length, take}
-use Rattle.std.specs.Prelude.{filter_map}
-use Rattle.mb_loaded.specs.PutRows.{listed_change}
+use Rattle.mb_loaded.proofs.Common.{filter_map, length, listed_change, take, ◌++◌, ◌-◌, ◌≡◌, ◌≤◌}
 use Rattle.mb_loaded.proofs.TakenLemmas.{LeftFrom}
 use Rattle.mb_loaded.proofs.into_changes.add_contents.Given as goal
 

@@ -1,6 +1,4 @@
-use Rattle.std.proofs.Common.{◌∙◌, ap, arith, filter_map, length, refl, subst, sym, take_all}
-use Rattle.mb_lists.specs.Entries.{IsTile}
-use Rattle.mb_loaded.specs.PutRows.{tile_change}
+use Rattle.mb_loaded.proofs.Common.{ap, arith, filter_map, IsTile, length, refl, subst, sym, take_all, tile_change, ◌∙◌}
 use Rattle.mb_loaded.proofs.TakenLemmas.{all_taken, spent_next, still_there, tile_still, tile_taken}
 use Rattle.mb_loaded.proofs.into_changes.add_tiles.Goals as goal
 

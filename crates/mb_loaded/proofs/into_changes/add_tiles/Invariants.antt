@@ -1,7 +1,4 @@
-use Rattle.std.proofs.Common.{◌≡◌, ◌≤◌, drop, length, take}
-use Rattle.std.specs.Prelude.{filter_map}
-use Rattle.mb_loaded.specs.PutRows.{tile_change}
-use Rattle.mb_loaded.specs.Taking.{AreUnspent}
+use Rattle.mb_loaded.proofs.Common.{AreUnspent, drop, filter_map, length, take, tile_change, ◌≡◌, ◌≤◌}
 use Rattle.mb_loaded.proofs.into_changes.add_tiles.Given as goal
 
 abbrev pub invariant-loop-tile : goal.invariant-loop-tile

@@ -1,11 +1,7 @@
-use Rattle.std.proofs.Common.{◌≡◌, ◌∙◌, ap, List, subst, sym, true}
-use Rattle.mb_lists.specs.Entries.{id_at}
-use Rattle.mb_lists.specs.declared.entries.Content.{Content}
-use Rattle.mb_loaded.specs.Taking.{Spends}
+use Rattle.mb_loaded.proofs.Common.{ap, Content, id_at, is_null, List, Spends, subst, sym, true, ◌∙◌, ◌≡◌}
 use Rattle.mb_loaded.proofs.CopyLemmas.{named_content}
 use Rattle.mb_loaded.proofs.TakenLemmas.{spends_taken}
 use Rattle.mb_loaded.proofs.into_changes.spent_row.Goals as goal
-use Rattle.mb_tables.specs.Cell.{is_null}
 
 pub returns-then-is_null-clause-spent : goal.returns-then-is_null-clause-spent
 returns-then-is_null-clause-spent c =

@@ -1,6 +1,4 @@
-use Rattle.std.proofs.Common.{◌≡◌, ◌<◌, ◌∙◌, arith, length, subst, sym, ℕ}
-use Rattle.mb_lists.specs.declared.entries.Standing.TheVariants.{Put}
-use Rattle.mb_lists.specs.declared.entries.StoredTile.{StoredTile}
+use Rattle.mb_loaded.proofs.Common.{arith, length, Put, StoredTile, subst, sym, ℕ, ◌<◌, ◌∙◌, ◌≡◌}
 use Rattle.mb_loaded.proofs.TakenLemmas.{all_noted, use_noted}
 use Rattle.mb_loaded.proofs.last_uses.last_uses.Goals as goal
 

@@ -1,4 +1,4 @@
-use Rattle.std.proofs.Common.{◌≡◌, ◌≤◌, ◌-◌, length}
+use Rattle.mb_loaded.proofs.Common.{length, ◌-◌, ◌≡◌, ◌≤◌}
 use Rattle.mb_loaded.proofs.TakenLemmas.{LastBelow}
 use Rattle.mb_loaded.proofs.last_uses.last_uses.Given as goal
 

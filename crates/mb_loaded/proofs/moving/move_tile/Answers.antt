@@ -1,12 +1,6 @@
-use Rattle.std.proofs.Common.{◌≡◌, ◌<◌, ◌∙◌, ap, arith, length, sym, Some}
-use Rattle.std.specs.Prelude.{slice_get}
-use Rattle.std.proofs.lemmas.Option.{slice_get-get_or}
-use Rattle.mb_lists.specs.Entries.{content_at}
-use Rattle.mb_lists.specs.declared.entries.Content.{Content}
-use Rattle.mb_loaded.specs.GivenIds.{cell_id}
+use Rattle.mb_loaded.proofs.Common.{ap, arith, Blob, cell_id, Content, content_at, length, slice_get, slice_get-get_or, Some, sym, ◌<◌, ◌∙◌, ◌≡◌}
 use Rattle.mb_loaded.proofs.MoveLemmas.{moved_before, moved_now, null_left, on_ok}
 use Rattle.mb_loaded.proofs.moving.move_tile.Goals as goal
-use Rattle.mb_tables.specs.declared.cell.Cell.TheVariants.{Blob}
 
 pub returns-then-known-gt0 : goal.returns-then-known-gt0
 returns-then-known-gt0 c first is left whole given =

@@ -1,14 +1,7 @@
-use Rattle.std.proofs.Common.{◌≡◌, ◌<◌, ◌-◌, ◌∙◌, ap, arith, length, subst, sym, List, Some}
-use Rattle.std.specs.Prelude.{slice_get}
-use Rattle.std.specs.Option.{option_map}
-use Rattle.std.proofs.lemmas.Option.{same_Some, slice_get-get_or, slice_get-map}
-use Rattle.mb_lists.specs.Entries.{IsTile}
-use Rattle.mb_loaded.specs.Copying.{id_of}
+use Rattle.mb_loaded.proofs.Common.{ap, arith, Cell, HashAlgorithm, id_of, IsTile, length, List, MbtType, option_map, same_Some, slice_get, slice_get-get_or, slice_get-map, Some, subst, sym, ◌-◌, ◌<◌}
+use Rattle.mb_loaded.proofs.Common.{◌∙◌, ◌≡◌}
 use Rattle.mb_loaded.proofs.CopyLemmas.{one_copied}
 use Rattle.mb_loaded.proofs.moving.move_tiles.Goals as goal
-use Rattle.mb_tables.specs.declared.cell.Cell.{Cell}
-use Rattle.mb_tables.specs.declared.kind.MbtType.{MbtType}
-use Rattle.tile_hash.specs.declared.algorithm.HashAlgorithm.{HashAlgorithm}
 
 pub loop-left-preserved : goal.loop-left-preserved
 loop-left-preserved c =

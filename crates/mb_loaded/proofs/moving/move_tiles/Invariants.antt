@@ -1,6 +1,4 @@
-use Rattle.std.proofs.Common.{◌≤◌, drop, length}
-use Rattle.mb_loaded.specs.Copying.{Edits, IsCopying, tiles_copied}
-use Rattle.mb_loaded.specs.Moving.{AreLeft}
+use Rattle.mb_loaded.proofs.Common.{AreLeft, drop, Edits, IsCopying, length, tiles_copied, ◌≤◌}
 use Rattle.mb_loaded.proofs.moving.move_tiles.Given as goal
 
 abbrev pub invariant-loop-left : goal.invariant-loop-left

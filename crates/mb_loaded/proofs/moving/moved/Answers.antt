@@ -1,5 +1,4 @@
-use Rattle.std.proofs.Common.{◌+◌, refl, arith}
-use Rattle.std.specs.Vec.{with_item}
+use Rattle.mb_loaded.proofs.Common.{arith, refl, with_item, ◌+◌}
 use Rattle.mb_loaded.proofs.CopyLemmas.{added, listed_copy}
 use Rattle.mb_loaded.proofs.moving.moved.Goals as goal
 

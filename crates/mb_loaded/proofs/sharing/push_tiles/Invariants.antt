@@ -1,5 +1,4 @@
-use Rattle.std.proofs.Common.{◌≡◌, ◌++◌, map, take}
-use Rattle.mb_loaded.specs.Sharing.{tile_with}
+use Rattle.mb_loaded.proofs.Common.{map, take, tile_with, ◌++◌, ◌≡◌}
 use Rattle.mb_loaded.proofs.sharing.push_tiles.Given as goal
 
 abbrev pub invariant-loop-coord : goal.invariant-loop-coord

@@ -1,6 +1,4 @@
-use Rattle.std.proofs.Common.{◌<◌, ◌≤◌, ◌∙◌, ℕ, List, length, subst, sym}
-use Rattle.mb_lists.specs.declared.entries.Content.{Content}
-use Rattle.mb_loaded.specs.Taking.{AreUnspent, IsSpent}
+use Rattle.mb_loaded.proofs.Common.{AreUnspent, Content, IsSpent, length, List, subst, sym, ℕ, ◌<◌, ◌∙◌, ◌≤◌}
 use Rattle.mb_loaded.proofs.TakenLemmas.{cut_unspent}
 use Rattle.mb_loaded.proofs.spending.drop_spent.Goals as goal
 

@@ -1,8 +1,6 @@
-use Rattle.std.proofs.Common.{◌∙◌, sym}
-use Rattle.mb_lists.specs.Entries.{id_at}
+use Rattle.mb_loaded.proofs.Common.{id_at, is_null, sym, ◌∙◌}
 use Rattle.mb_loaded.proofs.TakenLemmas.{less_from, none_null}
 use Rattle.mb_loaded.proofs.spending.is_spent.Goals as goal
-use Rattle.mb_tables.specs.Cell.{is_null}
 
 pub returns-in-None : goal.returns-in-None
 returns-in-None c = λ holds. (

@@ -1,6 +1,4 @@
-use Rattle.std.proofs.Common.{◌≡◌, ◌-◌, ℕ, arith, inl, inr, subst}
-use Rattle.std.proofs.lemmas.Bool.{cases_lt}
-use Rattle.mb_loaded.specs.Taking.{IsSpent}
+use Rattle.mb_loaded.proofs.Common.{arith, cases_lt, inl, inr, IsSpent, subst, ℕ, ◌-◌, ◌≡◌}
 use Rattle.mb_loaded.proofs.spending.unspent_count.Goals as goal
 
 pub loop-left-init : goal.loop-left-init

@@ -1,5 +1,4 @@
-use Rattle.std.proofs.Common.{◌<◌, ◌≤◌, ℕ, length}
-use Rattle.mb_loaded.specs.Taking.{IsSpent}
+use Rattle.mb_loaded.proofs.Common.{IsSpent, length, ℕ, ◌<◌, ◌≤◌}
 use Rattle.mb_loaded.proofs.spending.unspent_count.Given as goal
 
 -- the contents that were passed are spent

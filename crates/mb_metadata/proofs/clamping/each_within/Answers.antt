@@ -1,7 +1,5 @@
-use Rattle.std.proofs.Common.{rules}
-use Rattle.std.proofs.lemmas.List.{take_all, drop_all}
+use Rattle.mb_metadata.proofs.Common.{drop_all, layer_within, rules, take_all}
 use Rattle.std.proofs.lemmas.List.Edits.{map_over_more}
-use Rattle.mb_metadata.specs.Clamping.{layer_within}
 use Rattle.mb_metadata.proofs.clamping.each_within.Goals as goal
 
 pub loop-index-preserved : goal.loop-index-preserved

@@ -1,6 +1,5 @@
 -- The layers so far have their zooms, and those that are left are as they were.
-use Rattle.std.proofs.Common.{◌≡◌, ◌++◌, map, take, drop}
-use Rattle.mb_metadata.specs.Clamping.{layer_within}
+use Rattle.mb_metadata.proofs.Common.{drop, layer_within, map, take, ◌++◌, ◌≡◌}
 use Rattle.mb_metadata.proofs.clamping.each_within.Given as goal
 
 abbrev pub invariant-loop-index : goal.invariant-loop-index

@@ -1,6 +1,5 @@
-use Rattle.std.proofs.Common.{◌∙◌, ap}
+use Rattle.mb_metadata.proofs.Common.{ap, compact_text, has_float, ◌∙◌}
 use Rattle.mb_metadata.proofs.JsonLemmas.{no_float_layers}
-use Rattle.serde_json.specs.Written.{compact_text, has_float}
 use Rattle.mb_metadata.proofs.document_text.layers_text.Goals as goal
 
 pub returns : goal.returns

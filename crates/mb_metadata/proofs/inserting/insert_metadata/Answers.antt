@@ -1,9 +1,5 @@
-use Rattle.std.proofs.Common.{◌≡◌, ◌∙◌, sym, refl, true, Ok}
-use Rattle.std.proofs.lemmas.Result.{err_from_is_err_and}
-use Rattle.mb_load.proofs.BegunLemmas.{begun_err, begun_free, begun_ok}
+use Rattle.mb_metadata.proofs.Common.{begun_err, begun_free, begun_ok, done_answer, err_from_is_err_and, insert_edits, Ok, refl, sym, true, ◌∙◌, ◌≡◌}
 use Rattle.mb_metadata.proofs.NameEditLemmas.{edits_names, is_fresh}
-use Rattle.mb_metadata.specs.NameEdits.{done_answer}
-use Rattle.mb_metadata.specs.Inserting.{insert_edits}
 use Rattle.mb_metadata.proofs.inserting.insert_metadata.Goals as goal
 
 pub commit_edits-requires : goal.commit_edits-requires

@@ -1,5 +1,4 @@
-use Rattle.std.proofs.Common.{arith}
-use Rattle.std.specs.FinMap.{entries, len-entries}
+use Rattle.mb_metadata.proofs.Common.{arith, entries, len-entries}
 use Rattle.mb_metadata.proofs.InsertLemmas.{others_end, others_more}
 use Rattle.mb_metadata.proofs.inserting.other_edits.Goals as goal
 

@@ -1,8 +1,5 @@
 -- The edits of the entries so far.
-use Rattle.std.proofs.Common.{◌≡◌, map, take}
-use Rattle.std.specs.FinMap.{entries}
-use Rattle.mb_metadata.specs.Inserting.{data_text}
-use Rattle.mb_metadata.specs.NameEdits.{put_of}
+use Rattle.mb_metadata.proofs.Common.{data_text, entries, map, put_of, take, ◌≡◌}
 use Rattle.mb_metadata.proofs.inserting.other_edits.Given as goal
 
 abbrev pub invariant-loop-index : goal.invariant-loop-index

@@ -1,9 +1,5 @@
-use Rattle.std.proofs.Common.{◌∙◌, arith}
-use Rattle.std.specs.FinMap.{entries, len-entries}
+use Rattle.mb_metadata.proofs.Common.{arith, as_it_is, entries, len-entries, members_view, no_members, view, with_entries, ◌∙◌}
 use Rattle.mb_metadata.proofs.JsonLemmas.{entries_end, entries_kept}
-use Rattle.mb_metadata.specs.LayerJson.{as_it_is, with_entries}
-use Rattle.serde_json.specs.Data.{no_members}
-use Rattle.serde_json.specs.View.{members_view, view}
 use Rattle.mb_metadata.proofs.json_object.json_members.Goals as goal
 
 pub loop-index-preserved : goal.loop-index-preserved

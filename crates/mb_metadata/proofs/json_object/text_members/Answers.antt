@@ -1,9 +1,5 @@
-use Rattle.std.proofs.Common.{◌∙◌, ap, arith}
-use Rattle.std.specs.FinMap.{entries, len-entries}
+use Rattle.mb_metadata.proofs.Common.{ap, arith, entries, len-entries, members_view, no_members, string, view, with_entries, ◌∙◌}
 use Rattle.mb_metadata.proofs.JsonLemmas.{entries_end, entries_kept}
-use Rattle.mb_metadata.specs.LayerJson.{with_entries}
-use Rattle.serde_json.specs.Data.{no_members, string}
-use Rattle.serde_json.specs.View.{members_view, view}
 use Rattle.mb_metadata.proofs.json_object.text_members.Goals as goal
 
 pub loop-index-preserved : goal.loop-index-preserved

@@ -1,9 +1,5 @@
 -- Putting what is left gives what putting all gives.
-use Rattle.std.proofs.Common.{◌≡◌, drop}
-use Rattle.std.specs.FinMap.{entries}
-use Rattle.mb_metadata.specs.LayerJson.{with_entries}
-use Rattle.serde_json.specs.Data.{no_members, string}
-use Rattle.serde_json.specs.View.{members_view}
+use Rattle.mb_metadata.proofs.Common.{drop, entries, members_view, no_members, string, with_entries, ◌≡◌}
 use Rattle.mb_metadata.proofs.json_object.text_members.Given as goal
 
 abbrev pub invariant-loop-index : goal.invariant-loop-index

@@ -1,8 +1,5 @@
-use Rattle.std.proofs.Common.{codes, option_map, refl}
+use Rattle.mb_metadata.proofs.Common.{bounds_text, center_text, codes, document_edits, names_edited, option_map, refl, said}
 use Rattle.mb_metadata.proofs.ReadBackLemmas.{read_at}
-use Rattle.mb_metadata.specs.Inserting.{bounds_text, center_text, document_edits}
-use Rattle.mb_metadata.specs.NameEdits.{names_edited}
-use Rattle.mb_metadata.specs.Said.{said}
 use Rattle.mb_metadata.proofs.laws.extents_are_read_as_texts.Goals as goal
 
 pub returns-clause-bounds : goal.returns-clause-bounds

@@ -1,4 +1,4 @@
-use Rattle.std.proofs.Common.{None, codes, refl}
+use Rattle.mb_metadata.proofs.Common.{codes, None, refl}
 use Rattle.mb_metadata.proofs.ReadBackLemmas.{other_read, read_at}
 use Rattle.mb_metadata.proofs.laws.others_are_read_back.Goals as goal
 

@@ -1,4 +1,4 @@
-use Rattle.std.proofs.Common.{codes, refl}
+use Rattle.mb_metadata.proofs.Common.{codes, refl}
 use Rattle.mb_metadata.proofs.ReadBackLemmas.{read_at}
 use Rattle.mb_metadata.proofs.laws.texts_are_read_back.Goals as goal
 

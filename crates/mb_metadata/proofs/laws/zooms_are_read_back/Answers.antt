@@ -1,7 +1,5 @@
-use Rattle.std.proofs.Common.{codes, refl}
+use Rattle.mb_metadata.proofs.Common.{codes, maxzoom_within, minzoom_within, refl, span, zooms_of}
 use Rattle.mb_metadata.proofs.ReadBackLemmas.{zoom_now}
-use Rattle.mb_metadata.specs.Clamping.{maxzoom_within, minzoom_within}
-use Rattle.mb_metadata.specs.Zooms.{span, zooms_of}
 use Rattle.mb_metadata.proofs.laws.zooms_are_read_back.Goals as goal
 
 pub returns-clause-minzoom : goal.returns-clause-minzoom

@@ -1,7 +1,5 @@
 -- The objects of the layers so far.
-use Rattle.std.proofs.Common.{◌≡◌, map, take}
-use Rattle.mb_metadata.specs.LayerJson.{layer_data}
-use Rattle.serde_json.specs.View.{view}
+use Rattle.mb_metadata.proofs.Common.{layer_data, map, take, view, ◌≡◌}
 use Rattle.mb_metadata.proofs.layer_json.layer_values.Given as goal
 
 abbrev pub invariant-loop-layer : goal.invariant-loop-layer

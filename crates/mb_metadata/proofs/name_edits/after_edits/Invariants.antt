@@ -1,7 +1,6 @@
 -- Making the edits that are left gives what making all gives.
-use Rattle.std.proofs.Common.{◌≡◌}
+use Rattle.mb_metadata.proofs.Common.{held_edited, ◌≡◌}
 use Rattle.std.specs.Vec.Iter.{into_iter_items}
-use Rattle.mb_metadata.specs.NameEdits.{held_edited}
 use Rattle.mb_metadata.proofs.name_edits.after_edits.Given as goal
 
 abbrev pub invariant-loop-edit : goal.invariant-loop-edit

@@ -1,6 +1,4 @@
-use Rattle.std.proofs.Common.{◌∙◌, sym, subst, arith}
-use Rattle.mb_loaded.specs.Held.{Held}
-use Rattle.mb_load.specs.LoadedFrom.{IsLoadedFrom}
+use Rattle.mb_metadata.proofs.Common.{arith, Held, IsLoadedFrom, subst, sym, ◌∙◌}
 use Rattle.mb_metadata.proofs.NameEditLemmas.{edits_committed, edits_loaded, some_edits}
 use Rattle.mb_metadata.proofs.name_edits.commit_edits.Goals as goal
 

@@ -1,7 +1,5 @@
 -- The names so far.
-use Rattle.std.proofs.Common.{◌≡◌, take}
-use Rattle.std.specs.FinMap.{entries}
-use Rattle.mb_metadata.specs.Others.{others_of}
+use Rattle.mb_metadata.proofs.Common.{entries, others_of, take, ◌≡◌}
 use Rattle.mb_metadata.proofs.others.others_said.Given as goal
 
 abbrev pub invariant-loop-index : goal.invariant-loop-index

@@ -1,4 +1,4 @@
-use Rattle.std.proofs.Common.{◌∙◌}
+use Rattle.mb_metadata.proofs.Common.{◌∙◌}
 use Rattle.mb_metadata.proofs.ReadingLemmas.{document_same}
 use Rattle.mb_metadata.proofs.reading.document_said.Goals as goal
 

@@ -1,6 +1,4 @@
-use Rattle.std.proofs.lemmas.Result.{err_from_is_err_and}
-use Rattle.mb_metadata.specs.Reading.{metadata_answer}
-use Rattle.mb_load.proofs.BegunLemmas.{begun_err, begun_ok}
+use Rattle.mb_metadata.proofs.Common.{begun_err, begun_ok, err_from_is_err_and, metadata_answer}
 use Rattle.mb_metadata.proofs.reading.get_metadata.Goals as goal
 
 pub returns-in_err-set-clause-answer : goal.returns-in_err-set-clause-answer

@@ -1,4 +1,4 @@
-use Rattle.std.proofs.Common.{◌∙◌}
+use Rattle.mb_metadata.proofs.Common.{◌∙◌}
 use Rattle.mb_metadata.proofs.ReadingLemmas.{metadata_same}
 use Rattle.mb_metadata.proofs.reading.metadata_of.Goals as goal
 

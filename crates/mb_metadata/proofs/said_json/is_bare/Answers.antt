@@ -1,7 +1,4 @@
-use Rattle.std.proofs.Common.{◌∙◌, ap, sym}
-use Rattle.serde_json.proofs.Views.{view-Object}
-use Rattle.serde_json.specs.View.{view}
-use Rattle.mb_metadata.specs.SaidJson.{is_bare}
+use Rattle.mb_metadata.proofs.Common.{ap, is_bare, sym, view, view-Object, ◌∙◌}
 use Rattle.mb_metadata.proofs.BareLemmas.{bare}
 use Rattle.mb_metadata.proofs.said_json.is_bare.Goals as goal
 

@@ -1,6 +1,4 @@
-use Rattle.std.proofs.lemmas.Result.{err_from_is_err_and}
-use Rattle.mb_metadata.specs.Values.{zoom_value_answer}
-use Rattle.mb_load.proofs.BegunLemmas.{begun_err, begun_ok}
+use Rattle.mb_metadata.proofs.Common.{begun_err, begun_ok, err_from_is_err_and, zoom_value_answer}
 use Rattle.mb_metadata.proofs.values.get_metadata_zoom_value.Goals as goal
 
 pub returns-in_err-set-clause-answer : goal.returns-in_err-set-clause-answer

@@ -1,9 +1,5 @@
-use Rattle.std.proofs.Common.{◌≡◌, ◌∙◌, sym, refl, true, Ok}
-use Rattle.std.proofs.lemmas.Result.{err_from_is_err_and}
-use Rattle.mb_load.proofs.BegunLemmas.{begun_err, begun_free, begun_ok}
+use Rattle.mb_metadata.proofs.Common.{begun_err, begun_free, begun_ok, done_answer, err_from_is_err_and, Ok, refl, set_edits, sym, true, ◌∙◌, ◌≡◌}
 use Rattle.mb_metadata.proofs.NameEditLemmas.{edits_names, is_fresh}
-use Rattle.mb_metadata.specs.NameEdits.{done_answer}
-use Rattle.mb_metadata.specs.Values.{set_edits}
 use Rattle.mb_metadata.proofs.values.set_metadata_value.Goals as goal
 
 pub commit_edits-requires : goal.commit_edits-requires

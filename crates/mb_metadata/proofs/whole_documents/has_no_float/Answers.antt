@@ -1,5 +1,4 @@
-use Rattle.std.proofs.Common.{arith, refl}
-use Rattle.std.specs.FinMap.{len-entries}
+use Rattle.mb_metadata.proofs.Common.{arith, len-entries, refl}
 use Rattle.mb_metadata.proofs.whole_documents.has_no_float.Goals as goal
 
 pub returns : goal.returns

@@ -1,8 +1,5 @@
 -- the values so far have no float
-use Rattle.std.proofs.Common.{◌≡◌, ◌<◌, ℕ, List, get_or, false}
-use Rattle.std.specs.FinMap.{entries}
-use Rattle.serde_json.specs.Data.{Data}
-use Rattle.serde_json.specs.Written.{has_float}
+use Rattle.mb_metadata.proofs.Common.{Data, entries, false, get_or, has_float, List, ℕ, ◌<◌, ◌≡◌}
 use Rattle.mb_metadata.proofs.whole_documents.has_no_float.Given as goal
 
 abbrev pub invariant-loop-index : goal.invariant-loop-index

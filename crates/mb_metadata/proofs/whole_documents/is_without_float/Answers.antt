@@ -1,4 +1,4 @@
-use Rattle.std.specs.Prelude.{refl}
+use Rattle.mb_metadata.proofs.Common.{refl}
 use Rattle.mb_metadata.proofs.whole_documents.is_without_float.Goals as goal
 
 pub returns : goal.returns

@@ -1,4 +1,4 @@
-use Rattle.std.proofs.Common.{◌∙◌}
+use Rattle.mb_metadata.proofs.Common.{◌∙◌}
 use Rattle.mb_metadata.proofs.NumberLemmas.{number_read}
 use Rattle.mb_metadata.proofs.zoom_text.zoom_of.Goals as goal
 

@@ -1,7 +1,4 @@
-use Rattle.std.proofs.Common.{ap, sym, Ok}
-use Rattle.std.proofs.lemmas.Result.{err_from_is_err_and}
-use Rattle.mb_metadata.specs.Zooms.{zooms_answer}
-use Rattle.mb_load.proofs.BegunLemmas.{begun_err, begun_ok}
+use Rattle.mb_metadata.proofs.Common.{ap, begun_err, begun_ok, err_from_is_err_and, Ok, sym, zooms_answer}
 use Rattle.mb_metadata.proofs.zooms.compute_min_max_zoom.Goals as goal
 
 pub returns-in_err-set-clause-answer : goal.returns-in_err-set-clause-answer

@@ -1,5 +1,4 @@
-use Rattle.std.proofs.Common.{arith}
-use Rattle.std.specs.FinMap.{entries, len-entries}
+use Rattle.mb_metadata.proofs.Common.{arith, entries, len-entries}
 use Rattle.mb_metadata.proofs.ZoomLemmas.{span_end, span_more}
 use Rattle.mb_metadata.proofs.zooms.zooms_in.Goals as goal
 

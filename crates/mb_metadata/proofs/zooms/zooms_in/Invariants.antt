@@ -1,6 +1,4 @@
-use Rattle.std.proofs.Common.{◌≡◌, map, take}
-use Rattle.std.specs.FinMap.{entries}
-use Rattle.mb_metadata.specs.Zooms.{span}
+use Rattle.mb_metadata.proofs.Common.{entries, map, span, take, ◌≡◌}
 use Rattle.mb_metadata.proofs.zooms.zooms_in.Given as goal
 
 abbrev pub invariant-loop-index : goal.invariant-loop-index

@@ -1,4 +1,4 @@
-use Rattle.sqlite.specs.Held.{state}
+use Rattle.mb_reading.proofs.Common.{state}
 use Rattle.mb_reading.proofs.AskLemmas.{commits_nothing}
 use Rattle.mb_reading.proofs.asking.ask.Goals as goal
 

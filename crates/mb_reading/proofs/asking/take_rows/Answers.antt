@@ -1,10 +1,5 @@
-use Rattle.std.proofs.Common.{rules, ◌≡◌, [], ◌∷◌, ◌++◌, None, Some, ap, option_copied, refl, subst, sym, ◌∙◌}
-use Rattle.sqlite.specs.Given.{row_if}
-use Rattle.sqlite.specs.Held.{state}
-use Rattle.sqlite.specs.State.{CommitsShowing, FailsToQuery, HasCleanDisk, Survives}
-use Rattle.mb_store.specs.MemStore.{told_of}
-use Rattle.mb_reading.specs.Asking.{Refuses}
-use Rattle.mb_reading.specs.Filling.{NeverFails}
+use Rattle.mb_reading.proofs.Common.{ap, CommitsShowing, FailsToQuery, HasCleanDisk, NeverFails, None, option_copied, refl, Refuses, row_if, rules, Some, state, subst, Survives, sym, told_of, []}
+use Rattle.mb_reading.proofs.Common.{◌++◌, ◌∙◌, ◌∷◌, ◌≡◌}
 use Rattle.mb_reading.proofs.AskLemmas.{begun, clean_before, commits_nothing, commits_then, ends, goes_on, refuses, refuses_on}
 use Rattle.mb_reading.proofs.asking.take_rows.Goals as goal
 use Rattle.mb_reading.proofs.asking.take_rows.Goals.{else-rows-test, then-rows-test+in_ok-advance+in-Some+then-is_err}

@@ -1,12 +1,5 @@
 -- the rows so far are taken, and begin the answer of the first state, which stays
-use Rattle.std.proofs.Common.{◌≡◌, List, []}
-use Rattle.sqlite.specs.Given.{HasGiven}
-use Rattle.sqlite.specs.Held.{state}
-use Rattle.sqlite.specs.State.{HasCleanDisk, IsUnchanged}
-use Rattle.sqlite_value.specs.Order.{Row}
-use Rattle.mb_store.specs.MemStore.{told_of}
-use Rattle.mb_reading.specs.Asking.{CommitsNothing}
-use Rattle.mb_reading.specs.Filling.{HasTaken, NeverFails, read_of}
+use Rattle.mb_reading.proofs.Common.{CommitsNothing, HasCleanDisk, HasGiven, HasTaken, IsUnchanged, List, NeverFails, read_of, Row, state, told_of, [], ◌≡◌}
 use Rattle.mb_reading.proofs.asking.take_rows.Given as goal
 
 abbrev pub invariant-rows : goal.invariant-rows

@@ -1,4 +1,4 @@
-use Rattle.std.proofs.Common.{rules, ◌≡◌, None, ap, ◌∙◌}
+use Rattle.mb_reading.proofs.Common.{ap, None, rules, ◌∙◌, ◌≡◌}
 use Rattle.mb_reading.proofs.FillLemmas.{full_store, odd_answers}
 use Rattle.mb_reading.proofs.filling.finish.Goals as goal
 

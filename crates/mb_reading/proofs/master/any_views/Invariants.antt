@@ -1,7 +1,5 @@
 -- none so far makes such a view
-use Rattle.std.proofs.Common.{◌≡◌, false, take}
-use Rattle.std.specs.List.{list_any}
-use Rattle.mb_reading.specs.Master.{views}
+use Rattle.mb_reading.proofs.Common.{false, list_any, take, views, ◌≡◌}
 use Rattle.mb_reading.proofs.master.any_views.Given as goal
 
 abbrev pub invariant-loop-index : goal.invariant-loop-index

@@ -1,5 +1,5 @@
 -- no more came than the buffer has room for
-use Rattle.std.proofs.Common.{◌≤◌, length}
+use Rattle.mb_reading.proofs.Common.{length, ◌≤◌}
 use Rattle.mb_reading.proofs.read_only.fill.Given as goal
 
 abbrev pub invariant-loop : goal.invariant-loop

@@ -1,8 +1,4 @@
-use Rattle.std.proofs.Common.{◌≡◌, ◌∙◌, Some, subst, sym}
-use Rattle.sqlite.specs.Held.{state}
-use Rattle.mb_tables.specs.declared.table.TableName.TheVariants.{Metadata, Tiles}
-use Rattle.mb_reading.specs.Filling.{read_of}
-use Rattle.mb_reading.specs.Master.{first_layout, is_there}
+use Rattle.mb_reading.proofs.Common.{first_layout, is_there, Metadata, read_of, Some, state, subst, sym, Tiles, ◌∙◌, ◌≡◌}
 use Rattle.mb_reading.proofs.AskLemmas.{clean_before, stays_by, stays_then}
 use Rattle.mb_reading.proofs.ReadLemmas.{reads_set}
 use Rattle.mb_reading.proofs.reading.read_all.Goals as goal

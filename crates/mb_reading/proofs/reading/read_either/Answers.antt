@@ -1,8 +1,4 @@
-use Rattle.std.proofs.Common.{IfNone, IfSome, subst}
-use Rattle.sqlite.specs.Held.{state}
-use Rattle.mb_tables.specs.declared.kind.MbtType.TheVariants.{Flat}
-use Rattle.mb_reading.specs.Asking.{LacksLayout, ReadsLayout}
-use Rattle.mb_reading.specs.Filling.{IsRead, read_of}
+use Rattle.mb_reading.proofs.Common.{Flat, IfNone, IfSome, IsRead, LacksLayout, read_of, ReadsLayout, state, subst}
 use Rattle.mb_reading.proofs.AskLemmas.{clean_before, stays_then}
 use Rattle.mb_reading.proofs.FillLemmas.{is_set}
 use Rattle.mb_reading.proofs.ReadLemmas.{reads_first, reads_flat}

@@ -1,10 +1,4 @@
-use Rattle.std.proofs.Common.{◌≡◌, ◌∙◌, true, ap, IfNone, IfSome, refl, subst}
-use Rattle.sqlite.specs.Held.{state}
-use Rattle.mb_store.specs.MemStore.{told_of}
-use Rattle.mb_tables.specs.declared.table.TableName.TheVariants.{Metadata}
-use Rattle.mb_reading.specs.Asking.{IsUnfit, ReadsTable}
-use Rattle.mb_reading.specs.Filling.{IsFilled, Read, read_of, start}
-use Rattle.mb_reading.specs.LeftOut.{nothing_left}
+use Rattle.mb_reading.proofs.Common.{ap, IfNone, IfSome, IsFilled, IsUnfit, Metadata, nothing_left, Read, read_of, ReadsTable, refl, start, state, subst, told_of, true, ◌∙◌, ◌≡◌}
 use Rattle.mb_reading.proofs.AskLemmas.{clean_before, commits_then, stays_then}
 use Rattle.mb_reading.proofs.FillLemmas.{has_tile_table, is_read}
 use Rattle.mb_reading.proofs.ReadLemmas.{lacks_contents, lacks_tiles, never_unfit, reads_layout}

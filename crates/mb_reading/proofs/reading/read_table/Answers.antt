@@ -1,7 +1,4 @@
-use Rattle.std.proofs.Common.{rules, ◌≡◌, true, false, IfNone, IfOk, IfSome, Result, Option, Ok, Err, Some, None}
-use Rattle.sqlite.specs.Held.{state}
-use Rattle.mb_reading.specs.Asking.{IsUnfit, ReadsTable, is_input}
-use Rattle.mb_reading.specs.Filling.{IsFull, IsOdd, may_lack, read_of}
+use Rattle.mb_reading.proofs.Common.{Err, false, IfNone, IfOk, IfSome, is_input, IsFull, IsOdd, IsUnfit, may_lack, None, Ok, Option, read_of, ReadsTable, Result, rules, Some, state, true, ◌≡◌}
 use Rattle.mb_reading.proofs.AskLemmas.{input_by}
 use Rattle.mb_reading.proofs.ReadLemmas.{reads_nothing, reads_table, unfit_by_rows, unfit_by_text}
 use Rattle.mb_reading.proofs.TextLemmas.{rows_ask}

@@ -1,8 +1,4 @@
-use Rattle.std.proofs.Common.{rules, ◌≡◌, arith, inl, inr, subst}
-use Rattle.sqlite.specs.Held.{state}
-use Rattle.sqlite.specs.State.{HasCleanDisk}
-use Rattle.mb_sqlite.specs.Making.{AreMade, ArePrepared, Commits, begun}
-use Rattle.mb_sqlite.specs.Resting.{Rests}
+use Rattle.mb_sqlite.proofs.Common.{AreMade, ArePrepared, arith, begun, Commits, HasCleanDisk, inl, inr, Rests, rules, state, subst, ◌≡◌}
 use Rattle.mb_sqlite.proofs.CommitLemmas.{commits_made, done_once}
 use Rattle.mb_sqlite.proofs.ReadyLemmas.{on_err}
 use Rattle.mb_sqlite.proofs.RestingLemmas.{rests_back, rests_failed, rests_undone}

@@ -1,10 +1,4 @@
-use Rattle.std.proofs.Common.{◌≡◌, take}
-use Rattle.sqlite.specs.Held.{state}
-use Rattle.sqlite.specs.State.{HasCleanDisk}
-use Rattle.mb_sqlite.specs.Committing.{CommitsNothing}
-use Rattle.mb_sqlite.specs.Creation.{making_order}
-use Rattle.mb_sqlite.specs.Making.{ArePassed}
-use Rattle.mb_sqlite.specs.Resting.{KeepsInside, StaysInside}
+use Rattle.mb_sqlite.proofs.Common.{ArePassed, CommitsNothing, HasCleanDisk, KeepsInside, making_order, state, StaysInside, take, ◌≡◌}
 use Rattle.mb_sqlite.proofs.making.make_missing.Given as goal
 
 abbrev pub invariant-loop-table : goal.invariant-loop-table

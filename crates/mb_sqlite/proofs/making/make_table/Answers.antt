@@ -1,4 +1,4 @@
-use Rattle.std.proofs.Common.{◌∙◌, ap, arith, option_copied, sym}
+use Rattle.mb_sqlite.proofs.Common.{ap, arith, option_copied, sym, ◌∙◌}
 use Rattle.mb_sqlite.proofs.PassingLemmas.{arises_by, stays_none, stays_there}
 use Rattle.mb_sqlite.proofs.making.make_table.Goals as goal
 

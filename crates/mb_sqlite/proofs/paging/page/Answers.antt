@@ -1,7 +1,4 @@
-use Rattle.std.proofs.Common.{ℤ, List, Option, drop, subst, take}
-use Rattle.std.specs.List.{AllZip}
-use Rattle.sqlite_value.specs.Order.{Row}
-use Rattle.mb_sqlite.specs.Reading.{IsRowOf, RisesTo}
+use Rattle.mb_sqlite.proofs.Common.{AllZip, drop, IsRowOf, List, Option, RisesTo, Row, subst, take, ℤ}
 use Rattle.mb_sqlite.proofs.paging.page.Goals as goal
 
 pub returns-clause-paged : goal.returns-clause-paged

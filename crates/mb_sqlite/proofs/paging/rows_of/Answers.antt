@@ -1,12 +1,6 @@
-use Rattle.std.proofs.Common.{rules, w64, ◌≡◌, ◌+◌, ◌++◌, ◌∷◌, ◌∙◌, [], List, All, Some, arith, ap, drop, length, length-append, subst, sym, take}
-use Rattle.std.specs.List.{AllZip}
+use Rattle.mb_sqlite.proofs.Common.{All, AllZip, ap, arith, Cell, column, drop, Int, IsRowOf, length, length-append, List, RisesTo, rules, Some, subst, sym, take, to_z-of_z, w64, width, [], ◌++◌, ◌+◌}
+use Rattle.mb_sqlite.proofs.Common.{◌∙◌, ◌∷◌, ◌≡◌}
 use Rattle.std.proofs.lemmas.List.Elements.{All-push}
-use Rattle.std.proofs.lemmas.Int.{to_z-of_z}
-use Rattle.sqlite_value.specs.Order.{column}
-use Rattle.sqlite_value.specs.declared.value.Value.TheVariants.{Int}
-use Rattle.mb_tables.specs.Table.{width}
-use Rattle.mb_tables.specs.declared.cell.Cell.{Cell}
-use Rattle.mb_sqlite.specs.Reading.{IsRowOf, RisesTo}
 use Rattle.mb_sqlite.proofs.ReadingLemmas.{AllZip-enough, AllZip-next}
 use Rattle.mb_sqlite.proofs.RisingLemmas.{RisesTo-enough, RisesTo-next, rises_beyond, rises_none}
 use Rattle.mb_sqlite.proofs.paging.rows_of.Goals as goal

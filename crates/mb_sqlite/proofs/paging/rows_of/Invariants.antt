@@ -1,7 +1,4 @@
-use Rattle.std.proofs.Common.{◌≡◌, ◌≤◌, All, length, take}
-use Rattle.std.specs.List.{AllZip}
-use Rattle.mb_tables.specs.Table.{width}
-use Rattle.mb_sqlite.specs.Reading.{IsRowOf, RisesTo}
+use Rattle.mb_sqlite.proofs.Common.{All, AllZip, IsRowOf, length, RisesTo, take, width, ◌≡◌, ◌≤◌}
 use Rattle.mb_sqlite.proofs.paging.rows_of.Given as goal
 
 abbrev pub invariant-loop-answer : goal.invariant-loop-answer

@@ -1,6 +1,4 @@
-use Rattle.std.proofs.Common.{rules, ◌≡◌, ◌∙◌, ap, length, subst}
-use Rattle.mb_sqlite.specs.Cursor.{MovesPast, cursor_past}
-use Rattle.mb_sqlite.specs.Reading.{ArePaged, Within}
+use Rattle.mb_sqlite.proofs.Common.{ap, ArePaged, cursor_past, length, MovesPast, rules, subst, Within, ◌∙◌, ◌≡◌}
 use Rattle.mb_sqlite.proofs.reading.page.Goals as goal
 
 pub returns-clause-paged : goal.returns-clause-paged

@@ -1,5 +1,4 @@
-use Rattle.std.proofs.Common.{rules}
-use Rattle.mb_sqlite.specs.Reading.{ArePaged}
+use Rattle.mb_sqlite.proofs.Common.{ArePaged, rules}
 use Rattle.mb_sqlite.proofs.CommitLemmas.{seen_back}
 use Rattle.mb_sqlite.proofs.RestingLemmas.{rests_back}
 use Rattle.mb_sqlite.proofs.reading.page_after.Goals as goal

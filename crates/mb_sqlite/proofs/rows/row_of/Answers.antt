@@ -1,8 +1,5 @@
-use Rattle.std.proofs.Common.{◌≡◌, ◌+◌, ◌++◌, ◌∷◌, ◌∙◌, [], List, arith, ap, length, length-append, subst, sym, take}
-use Rattle.std.specs.List.{AllZip}
+use Rattle.mb_sqlite.proofs.Common.{AllZip, ap, arith, Cell, IsReadAs, length, length-append, List, subst, sym, take, [], ◌++◌, ◌+◌, ◌∙◌, ◌∷◌, ◌≡◌}
 use Rattle.sqlite_value.specs.declared.value.Value.TheVariants as sql
-use Rattle.mb_tables.specs.declared.cell.Cell.{Cell}
-use Rattle.mb_sqlite.specs.Stored.{IsReadAs}
 use Rattle.mb_sqlite.proofs.ReadingLemmas.{AllZip-next}
 use Rattle.mb_sqlite.proofs.rows.row_of.Goals as goal
 

@@ -1,7 +1,5 @@
-use Rattle.std.proofs.Common.{rules, ◌≡◌, ◌∙◌, IsUtf8, ap, length, sym}
-use Rattle.sqlite_value.specs.Value.{owned}
+use Rattle.mb_sqlite.proofs.Common.{ap, IsUtf8, length, owned, rules, sym, value_size, ◌∙◌, ◌≡◌}
 use Rattle.sqlite_value.specs.declared.value.Value.TheVariants as sql
-use Rattle.mb_sqlite.specs.Sizing.{value_size}
 use Rattle.mb_sqlite.proofs.SizingLemmas.{other_size, utf8_size}
 use Rattle.mb_sqlite.proofs.rows.value_size.Goals as goal
 

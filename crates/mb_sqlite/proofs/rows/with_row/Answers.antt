@@ -1,7 +1,5 @@
-use Rattle.std.proofs.Common.{rules, ◌≡◌, ◌+◌, ◌-◌, ◌^◌, min}
-use Rattle.sqlite_value.specs.Value.{owned}
+use Rattle.mb_sqlite.proofs.Common.{min, owned, rules, value_size, ◌+◌, ◌-◌, ◌^◌, ◌≡◌}
 use Rattle.sqlite_value.specs.declared.value.Value.TheVariants as sql
-use Rattle.mb_sqlite.specs.Sizing.{value_size}
 use Rattle.mb_sqlite.proofs.SizingLemmas.{sum_taken}
 use Rattle.mb_sqlite.proofs.rows.with_row.Goals as goal
 

@@ -1,5 +1,4 @@
-use Rattle.std.proofs.Common.{◌≡◌, ◌+◌, ◌-◌, ◌^◌, min, sum_by, take}
-use Rattle.mb_sqlite.specs.Sizing.{value_size}
+use Rattle.mb_sqlite.proofs.Common.{min, sum_by, take, value_size, ◌+◌, ◌-◌, ◌^◌, ◌≡◌}
 use Rattle.mb_sqlite.proofs.rows.with_row.Given as goal
 
 abbrev pub invariant-loop-at : goal.invariant-loop-at

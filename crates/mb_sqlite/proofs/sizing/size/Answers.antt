@@ -1,7 +1,4 @@
-use Rattle.std.proofs.Common.{◌∙◌, arith, refl}
-use Rattle.std.proofs.lemmas.Option.{slice_get-get_or}
-use Rattle.mb_tables.specs.declared.table.TableName.TheVariants.{Tiles}
-use Rattle.mb_sqlite.specs.Creation.{making_order}
+use Rattle.mb_sqlite.proofs.Common.{arith, making_order, refl, slice_get-get_or, Tiles, ◌∙◌}
 use Rattle.mb_sqlite.proofs.CommitLemmas.{nothing_then, nothing_yet}
 use Rattle.mb_sqlite.proofs.RestingLemmas.{inside_then, inside_yet, stays_then, stays_yet}
 use Rattle.mb_sqlite.proofs.SizingLemmas.{live_size_is, next_table, no_tables}

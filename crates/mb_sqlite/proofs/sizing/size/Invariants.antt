@@ -1,11 +1,4 @@
-use Rattle.std.proofs.Common.{◌≡◌, ℕ, ◌-◌, ◌^◌, min, take}
-use Rattle.sqlite.specs.Held.{state}
-use Rattle.sqlite.specs.State.{HasCleanDisk}
-use Rattle.mb_sqlite.specs.Committing.{CommitsNothing}
-use Rattle.mb_sqlite.specs.Creation.{making_order}
-use Rattle.mb_sqlite.specs.Making.{Steps}
-use Rattle.mb_sqlite.specs.Resting.{KeepsInside, StaysInside}
-use Rattle.mb_sqlite.specs.Sizing.{AddsTable}
+use Rattle.mb_sqlite.proofs.Common.{AddsTable, CommitsNothing, HasCleanDisk, KeepsInside, making_order, min, state, StaysInside, Steps, take, ℕ, ◌-◌, ◌^◌, ◌≡◌}
 use Rattle.mb_sqlite.proofs.sizing.size.Given as goal
 
 abbrev pub invariant-loop-table : goal.invariant-loop-table

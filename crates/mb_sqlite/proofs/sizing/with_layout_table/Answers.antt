@@ -1,6 +1,4 @@
-use Rattle.std.proofs.Common.{rules, ◌≡◌, false, refl, true}
-use Rattle.mb_tables.specs.Described.{is_table}
-use Rattle.mb_tables.specs.Schema.{set_tables}
+use Rattle.mb_sqlite.proofs.Common.{false, is_table, refl, rules, set_tables, true, ◌≡◌}
 use Rattle.mb_sqlite.proofs.ReadyLemmas.{by_false, by_true}
 use Rattle.mb_sqlite.proofs.sizing.with_layout_table.Goals as goal
 

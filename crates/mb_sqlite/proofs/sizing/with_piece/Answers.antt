@@ -1,7 +1,4 @@
-use Rattle.std.proofs.Common.{rules, ◌≡◌, ◌+◌, ◌-◌, ◌^◌, ◌==◌, ℤ, List, Option, drop, length, min, subst, take}
-use Rattle.sqlite_value.specs.Order.{Row}
-use Rattle.mb_sqlite.specs.Reading.{RisesTo}
-use Rattle.mb_sqlite.specs.Sizing.{piece, piece_size}
+use Rattle.mb_sqlite.proofs.Common.{drop, length, List, min, Option, piece, piece_size, RisesTo, Row, rules, subst, take, ℤ, ◌+◌, ◌-◌, ◌==◌, ◌^◌, ◌≡◌}
 use Rattle.mb_sqlite.proofs.sizing.with_piece.Goals as goal
 
 pub returns-clause-piece : goal.returns-clause-piece

@@ -1,10 +1,4 @@
-use Rattle.std.proofs.Common.{rules, w64, ◌≡◌, ◌+◌, ◌-◌, ◌^◌, ◌∙◌, Some, ap, arith, drop, min, subst, sum_by, sym, take}
-use Rattle.std.proofs.lemmas.Int.{to_z-of_z}
-use Rattle.sqlite_value.specs.Order.{column}
-use Rattle.sqlite_value.specs.declared.value.Value.TheVariants.{Int}
-use Rattle.mb_tables.specs.Table.{width}
-use Rattle.mb_sqlite.specs.Reading.{RisesTo}
-use Rattle.mb_sqlite.specs.Sizing.{answer_size}
+use Rattle.mb_sqlite.proofs.Common.{answer_size, ap, arith, column, drop, Int, min, RisesTo, rules, Some, subst, sum_by, sym, take, to_z-of_z, w64, width, ◌+◌, ◌-◌, ◌^◌, ◌∙◌, ◌≡◌}
 use Rattle.mb_sqlite.proofs.RisingLemmas.{RisesTo-enough, RisesTo-next, rises_beyond, rises_none}
 use Rattle.mb_sqlite.proofs.SizingLemmas.{sum_enough, sum_taken}
 use Rattle.mb_sqlite.proofs.sizing.with_rows.Goals as goal

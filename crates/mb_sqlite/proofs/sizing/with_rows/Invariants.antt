@@ -1,6 +1,4 @@
-use Rattle.std.proofs.Common.{◌≡◌, ◌≤◌, ◌+◌, ◌-◌, ◌^◌, min, sum_by, take}
-use Rattle.mb_sqlite.specs.Reading.{RisesTo}
-use Rattle.mb_sqlite.specs.Sizing.{answer_size}
+use Rattle.mb_sqlite.proofs.Common.{answer_size, min, RisesTo, sum_by, take, ◌+◌, ◌-◌, ◌^◌, ◌≡◌, ◌≤◌}
 use Rattle.mb_sqlite.proofs.sizing.with_rows.Given as goal
 
 abbrev pub invariant-loop-answer : goal.invariant-loop-answer

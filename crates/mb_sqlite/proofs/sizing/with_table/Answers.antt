@@ -1,4 +1,4 @@
-use Rattle.std.proofs.Common.{◌∙◌, arith, refl}
+use Rattle.mb_sqlite.proofs.Common.{arith, refl, ◌∙◌}
 use Rattle.mb_sqlite.proofs.CommitLemmas.{nothing_then, nothing_yet}
 use Rattle.mb_sqlite.proofs.RestingLemmas.{inside_then, inside_yet, stays_then, stays_yet}
 use Rattle.mb_sqlite.proofs.SizingLemmas.{next_piece, no_pieces, table_size}

@@ -1,8 +1,4 @@
-use Rattle.std.proofs.Common.{◌≡◌}
-use Rattle.sqlite.specs.Held.{state}
-use Rattle.sqlite.specs.State.{HasCleanDisk}
-use Rattle.mb_sqlite.specs.Committing.{CommitsNothing}
-use Rattle.mb_sqlite.specs.Resting.{KeepsInside, StaysInside}
+use Rattle.mb_sqlite.proofs.Common.{CommitsNothing, HasCleanDisk, KeepsInside, state, StaysInside, ◌≡◌}
 use Rattle.mb_sqlite.proofs.SizingLemmas.{ArePieces}
 use Rattle.mb_sqlite.proofs.sizing.with_table.Given as goal
 

@@ -1,4 +1,4 @@
-use Rattle.std.proofs.Common.{ap, sym}
+use Rattle.mb_sqlite.proofs.Common.{ap, sym}
 use Rattle.mb_sqlite.specs.Statements.{found_text}
 use Rattle.mb_sqlite.proofs.statements.found_in.Goals as goal
 

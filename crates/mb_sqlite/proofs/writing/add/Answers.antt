@@ -1,6 +1,4 @@
-use Rattle.std.proofs.Common.{subst}
-use Rattle.sqlite.specs.Values.{bound}
-use Rattle.mb_sqlite.specs.Making.{Adds, IsRun}
+use Rattle.mb_sqlite.proofs.Common.{Adds, bound, IsRun, subst}
 use Rattle.mb_sqlite.proofs.writing.add.Goals as goal
 
 pub returns-clause-adds : goal.returns-clause-adds

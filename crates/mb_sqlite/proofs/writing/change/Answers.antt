@@ -1,8 +1,7 @@
-use Rattle.std.proofs.Common.{◌∙◌, arith, refl}
+use Rattle.mb_sqlite.proofs.Common.{arith, Changed, refl, ◌∙◌}
 use Rattle.mb_sqlite.proofs.CommitLemmas.{kept_then, kept_yet, nothing_then, nothing_yet}
 use Rattle.mb_sqlite.proofs.RestingLemmas.{stays_then, stays_yet}
 use Rattle.mb_sqlite.proofs.StepLemmas.{Steps-next, Steps-none}
-use Rattle.mb_sqlite.specs.Making.{Changed}
 use Rattle.mb_sqlite.proofs.writing.change.Goals as goal
 
 pub loop-at-init : goal.loop-at-init

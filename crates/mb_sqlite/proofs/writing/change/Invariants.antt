@@ -1,9 +1,4 @@
-use Rattle.std.proofs.Common.{◌≡◌, take}
-use Rattle.sqlite.specs.Held.{state}
-use Rattle.sqlite.specs.State.{HasCleanDisk}
-use Rattle.mb_sqlite.specs.Committing.{CommitsNothing, KeepsCommitted}
-use Rattle.mb_sqlite.specs.Making.{AreChanged}
-use Rattle.mb_sqlite.specs.Resting.{StaysInside}
+use Rattle.mb_sqlite.proofs.Common.{AreChanged, CommitsNothing, HasCleanDisk, KeepsCommitted, state, StaysInside, take, ◌≡◌}
 use Rattle.mb_sqlite.proofs.writing.change.Given as goal
 
 abbrev pub invariant-loop-at : goal.invariant-loop-at

@@ -1,7 +1,4 @@
-use Rattle.std.proofs.Common.{rules, ◌≡◌, Some, MatchOption, ap, arith, option_copied, refl, subst, sym, true}
-use Rattle.mb_tables.specs.Described.{is_table}
-use Rattle.mb_tables.specs.Schema.{set_tables}
-use Rattle.mb_sqlite.specs.Making.{Adds}
+use Rattle.mb_sqlite.proofs.Common.{Adds, ap, arith, is_table, MatchOption, option_copied, refl, rules, set_tables, Some, subst, sym, true, ◌≡◌}
 use Rattle.mb_sqlite.proofs.WritingLemmas.{changed_by}
 use Rattle.mb_sqlite.proofs.writing.change_one.Goals as goal
 

@@ -1,9 +1,4 @@
-use Rattle.std.proofs.Common.{rules, ◌≡◌, refl, subst}
-use Rattle.sqlite.specs.Held.{state}
-use Rattle.sqlite.specs.State.{HasCleanDisk}
-use Rattle.mb_sqlite.specs.Committing.{CommitsOnce, KeepsCommitted}
-use Rattle.mb_sqlite.specs.Making.{AreChanged, Commits, begun}
-use Rattle.mb_sqlite.specs.Resting.{Rests}
+use Rattle.mb_sqlite.proofs.Common.{AreChanged, begun, Commits, CommitsOnce, HasCleanDisk, KeepsCommitted, refl, Rests, rules, state, subst, ◌≡◌}
 use Rattle.mb_sqlite.proofs.CommitLemmas.{commits_made, nothing_once, undone_nothing, undone_keeps, failed_keeps, done_once}
 use Rattle.mb_sqlite.proofs.ReadyLemmas.{on_err}
 use Rattle.mb_sqlite.proofs.RestingLemmas.{kept_inside, rests_back, rests_failed}

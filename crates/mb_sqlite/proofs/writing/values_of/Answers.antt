@@ -1,10 +1,4 @@
-use Rattle.std.proofs.Common.{◌≡◌, ◌+◌, ◌++◌, ◌∷◌, ◌∙◌, [], ap, subst, sym, take}
-use Rattle.std.specs.List.{AllZip}
-use Rattle.std.proofs.lemmas.List.{map-append}
-use Rattle.sqlite.specs.Values.{bound, bound_value}
-use Rattle.sqlite_value.specs.Order.{Row}
-use Rattle.sqlite_value.specs.Value.{owned}
-use Rattle.mb_sqlite.specs.Stored.{IsWrittenAs}
+use Rattle.mb_sqlite.proofs.Common.{AllZip, ap, bound, bound_value, IsWrittenAs, map-append, owned, Row, subst, sym, take, [], ◌++◌, ◌+◌, ◌∙◌, ◌∷◌, ◌≡◌}
 use Rattle.mb_sqlite.proofs.ReadingLemmas.{AllZip-next}
 use Rattle.mb_sqlite.proofs.WritingLemmas.{written_bound}
 use Rattle.mb_sqlite.proofs.writing.values_of.Goals as goal

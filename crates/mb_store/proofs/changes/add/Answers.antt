@@ -1,12 +1,5 @@
-use Rattle.std.proofs.Common.{◌≡◌, ◌∙◌, ◌++◌, sym, ap, subst, cond, is_ok, if◌then◌else◌, length, Some, List, [], ◌∷◌, Result}
+use Rattle.mb_store.proofs.Common.{ap, Change, cond, get, if◌then◌else◌, is_eq, is_ok, IsIndex, length, List, Result, RowKey, Some, subst, sym, table_key_cmp, TableKey, [], ◌++◌, ◌∙◌, ◌∷◌, ◌≡◌}
 use Rattle.std.specs.declared.alloc.AllocFailed.{AllocFailed}
-use Rattle.std.specs.Ordering.{is_eq}
-use Rattle.mb_store.specs.declared.change.Change.{Change}
-use Rattle.std.specs.BTreeMap.{get}
-use Rattle.mb_store.specs.ChangeIndex.{IsIndex}
-use Rattle.mb_store.specs.TableKey.{table_key_cmp}
-use Rattle.mb_tables.specs.declared.key.RowKey.{RowKey}
-use Rattle.mb_store.specs.declared.table_key.TableKey.{TableKey}
 use Rattle.mb_store.proofs.IndexLemmas.{set-with_change, push-with_change, IsIndex-set, IsIndex-push}
 use Rattle.mb_store.proofs.changes.add.Goals as goal
 

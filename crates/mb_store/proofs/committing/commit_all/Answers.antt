@@ -1,4 +1,4 @@
-use Rattle.mb_store.specs.ByTable.{at}
+use Rattle.mb_store.proofs.Common.{at}
 use Rattle.mb_store.proofs.EditLemmas.{committed, undone}
 use Rattle.mb_store.proofs.committing.commit_all.Goals as goal
 

@@ -1,10 +1,4 @@
-use Rattle.std.proofs.Common.{◌≡◌}
-use Rattle.mb_store.specs.ByTable.{at}
-use Rattle.mb_store.specs.Editing.{early_rows}
-use Rattle.mb_store.specs.MemTables.{MemTables}
-use Rattle.mb_store.specs.TableRows.{AreStored}
-use Rattle.mb_tables.specs.declared.table.TableName.TheVariants.{Tiles, TilesWithHash, Map, Images, TilesShallow, TilesData, TileCache, Metadata}
-use Rattle.mb_tables.proofs.TableLemmas.{by_tables}
+use Rattle.mb_store.proofs.Common.{AreStored, at, by_tables, early_rows, Images, Map, MemTables, Metadata, TileCache, Tiles, TilesData, TilesShallow, TilesWithHash, ◌≡◌}
 use Rattle.mb_store.proofs.EditLemmas.{early_still}
 use Rattle.mb_store.proofs.committing.put_tables.Goals as goal
 

@@ -1,4 +1,4 @@
-use Rattle.mb_tables.specs.declared.table.TableName.TheVariants.{Tiles, TilesWithHash, Map, Images, TilesShallow, TilesData, TileCache, Metadata}
+use Rattle.mb_store.proofs.Common.{Images, Map, Metadata, TileCache, Tiles, TilesData, TilesShallow, TilesWithHash}
 use Rattle.mb_store.proofs.committing.remove_tables.Goals as goal
 
 pub remove_table-requires : goal.remove_table-requires

@@ -1,4 +1,4 @@
-use Rattle.std.proofs.Common.{◌≡◌, take}
+use Rattle.mb_store.proofs.Common.{take, ◌≡◌}
 use Rattle.mb_store.proofs.describing.clone_all.Given as goal
 
 abbrev pub invariant-loop-table : goal.invariant-loop-table

@@ -1,8 +1,4 @@
-use Rattle.std.proofs.Common.{◌≡◌, ◌∙◌, sym, subst, ap, drop, ◌+◌, ◌++◌, List, [], ◌∷◌, Vec, Global}
-use Rattle.std.specs.List.{list_any}
-use Rattle.std.specs.Str.{bytes_eq}
-use Rattle.mb_store.specs.Store.{with_tables}
-use Rattle.mb_tables.specs.declared.description.TableDesc.{TableDesc}
+use Rattle.mb_store.proofs.Common.{ap, bytes_eq, drop, Global, List, list_any, subst, sym, TableDesc, Vec, with_tables, [], ◌++◌, ◌+◌, ◌∙◌, ◌∷◌, ◌≡◌}
 use Rattle.mb_store.proofs.DescribedLemmas.{next_named, next_new}
 use Rattle.mb_store.proofs.describing.with_tables.Goals as goal
 use Rattle.mb_store.proofs.describing.with_tables.Goals.{then-not-is_named+in_ok-try_clone+in_ok-push, else-not-is_named}

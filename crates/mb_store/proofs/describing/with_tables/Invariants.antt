@@ -1,5 +1,4 @@
-use Rattle.std.proofs.Common.{◌≡◌, drop}
-use Rattle.mb_store.specs.Store.{with_tables}
+use Rattle.mb_store.proofs.Common.{drop, with_tables, ◌≡◌}
 use Rattle.mb_store.proofs.describing.with_tables.Given as goal
 
 abbrev pub invariant-loop-table : goal.invariant-loop-table

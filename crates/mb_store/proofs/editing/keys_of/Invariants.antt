@@ -1,5 +1,4 @@
-use Rattle.std.proofs.Common.{◌≡◌, ◌++◌, drop}
-use Rattle.mb_store.specs.Editing.{keys_of}
+use Rattle.mb_store.proofs.Common.{drop, keys_of, ◌++◌, ◌≡◌}
 use Rattle.mb_store.proofs.editing.keys_of.Given as goal
 
 -- the keys so far, and those of the changes that are left

@@ -1,4 +1,4 @@
-use Rattle.mb_store.specs.Editing.{AreBeingAdded}
+use Rattle.mb_store.proofs.Common.{AreBeingAdded}
 use Rattle.mb_store.proofs.editing.put_all.Given as goal
 
 abbrev pub invariant-loop-change : goal.invariant-loop-change

@@ -1,9 +1,4 @@
-use Rattle.std.proofs.Common.{◌≡◌, ◌∙◌, List, Some, None, find, length, refl, sym, ap}
-use Rattle.std.specs.BTreeMap.{is_at}
-use Rattle.std.specs.List.{list_any}
-use Rattle.std.specs.Option.{option_copied}
-use Rattle.std.specs.Set.{remove_key}
-use Rattle.mb_store.specs.StoredRow.{Stored, is_early, stored_cmp}
+use Rattle.mb_store.proofs.Common.{ap, find, is_at, is_early, length, List, list_any, None, option_copied, refl, remove_key, Some, Stored, stored_cmp, sym, ◌∙◌, ◌≡◌}
 use Rattle.mb_store.proofs.EditLemmas.{one_less, others_same, stored_without, there}
 use Rattle.mb_store.proofs.StoredLemmas.{not_found}
 use Rattle.mb_store.proofs.editing.remove.Goals as goal

@@ -1,6 +1,4 @@
-use Rattle.std.proofs.Common.{◌≡◌, filter, length, not}
-use Rattle.mb_store.specs.StoredRow.{is_early}
-use Rattle.mb_store.specs.TableRows.{AreStored}
+use Rattle.mb_store.proofs.Common.{AreStored, filter, is_early, length, not, ◌≡◌}
 use Rattle.mb_store.proofs.editing.remove.Given as goal
 
 -- the key stays, and no other rows are removed

@@ -1,7 +1,4 @@
-use Rattle.std.proofs.Common.{◌≡◌}
-use Rattle.std.specs.Vec.Iter.{into_iter_items}
-use Rattle.mb_store.specs.Editing.{removed}
-use Rattle.mb_store.specs.TableRows.{AreStored}
+use Rattle.mb_store.proofs.Common.{AreStored, into_iter_items, removed, ◌≡◌}
 use Rattle.mb_store.proofs.editing.remove_all.Given as goal
 
 -- what the keys that are left leave of what there is, is what all leave of all

@@ -1,6 +1,5 @@
-use Rattle.std.proofs.Common.{rules, nat_lt, refl}
+use Rattle.mb_store.proofs.Common.{nat_lt, refl, rules, Stored}
 use Rattle.std.proofs.lemmas.Fn.{filter_same}
-use Rattle.mb_store.specs.StoredRow.{Stored}
 use Rattle.mb_store.proofs.EditLemmas.{stored_filtered}
 use Rattle.mb_store.proofs.editing.undo.Goals as goal
 

@@ -1,5 +1,4 @@
-use Rattle.std.proofs.Common.{◌≡◌, ◌∙◌, [], refl, sym}
-use Rattle.std.proofs.lemmas.Bool.{eqb-true}
+use Rattle.mb_store.proofs.Common.{eqb-true, refl, sym, [], ◌∙◌, ◌≡◌}
 use Rattle.mb_store.proofs.GatheredLemmas.{no_length, told_settled, told_still}
 use Rattle.mb_store.proofs.gathering.opens.Goals as goal
 

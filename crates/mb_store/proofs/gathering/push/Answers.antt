@@ -1,9 +1,4 @@
-use Rattle.std.proofs.Common.{◌≡◌, ◌∙◌, [], List, sym, ap, subst}
-use Rattle.mb_tables.specs.declared.cell.Cell.{Cell}
-use Rattle.mb_tables.specs.declared.table.TableName.{TableName}
-use Rattle.mb_store.specs.ByTable.{at}
-use Rattle.mb_store.specs.Gathered.{told_at}
-use Rattle.mb_store.specs.StoredRow.{own_key}
+use Rattle.mb_store.proofs.Common.{ap, at, Cell, List, own_key, subst, sym, TableName, told_at, [], ◌∙◌, ◌≡◌}
 use Rattle.mb_store.proofs.GatheringLemmas.{gathered_count, gathered_duplicate, gathered_err, gathered_ok}
 use Rattle.mb_store.proofs.gathering.push.Goals as goal
 use Rattle.mb_store.proofs.gathering.push.Goals.{After-add}

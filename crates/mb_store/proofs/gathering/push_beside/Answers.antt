@@ -1,8 +1,4 @@
-use Rattle.std.proofs.Common.{◌&&◌, List, sym, subst}
-use Rattle.std.specs.List.{list_any}
-use Rattle.mb_tables.specs.Key.{clash}
-use Rattle.mb_tables.specs.declared.cell.Cell.{Cell}
-use Rattle.mb_store.specs.Errors.{RefusesTwice}
+use Rattle.mb_store.proofs.Common.{Cell, clash, List, list_any, RefusesTwice, subst, sym, ◌&&◌}
 use Rattle.mb_store.proofs.GatheredLemmas.{told_other}
 use Rattle.mb_store.proofs.GatheringLemmas.{beside_count, beside_err, beside_ok}
 use Rattle.mb_store.proofs.gathering.push_beside.Goals as goal

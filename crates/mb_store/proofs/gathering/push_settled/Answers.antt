@@ -1,10 +1,4 @@
-use Rattle.std.proofs.Common.{◌&&◌, List, subst}
-use Rattle.std.specs.List.{list_any}
-use Rattle.mb_tables.specs.Key.{clash}
-use Rattle.mb_tables.specs.declared.cell.Cell.{Cell}
-use Rattle.mb_tables.specs.declared.table.TableName.{TableName}
-use Rattle.mb_store.specs.Errors.{RefusesTwice}
-use Rattle.mb_store.specs.Gathered.{told_at}
+use Rattle.mb_store.proofs.Common.{Cell, clash, List, list_any, RefusesTwice, subst, TableName, told_at, ◌&&◌}
 use Rattle.mb_store.proofs.GatheringLemmas.{plain, settled_count, settled_err, settled_ok}
 use Rattle.mb_store.proofs.gathering.push_settled.Goals as goal
 

@@ -1,13 +1,4 @@
-use Rattle.std.proofs.Common.{◌≡◌, ◌∙◌, ◌&&◌, List, not, sym, ap, refl}
-use Rattle.std.specs.List.{list_any}
-use Rattle.std.proofs.lemmas.Bool.{false≢true}
-use Rattle.mb_tables.specs.Cell.{is_null}
-use Rattle.mb_tables.specs.Key.{clash}
-use Rattle.mb_tables.specs.Table.{key_of}
-use Rattle.mb_tables.specs.declared.cell.Cell.{Cell}
-use Rattle.mb_store.specs.Gathered.{told_at}
-use Rattle.mb_store.specs.StoredRow.{Stored}
-use Rattle.mb_store.specs.TableRows.{has_equal}
+use Rattle.mb_store.proofs.Common.{ap, Cell, clash, false≢true, has_equal, is_null, key_of, List, list_any, not, refl, Stored, sym, told_at, ◌&&◌, ◌∙◌, ◌≡◌}
 use Rattle.mb_store.proofs.GatheredLemmas.{wanting}
 use Rattle.mb_store.proofs.PushLemmas.{clash_single}
 use Rattle.mb_store.proofs.gathering.refusal.Goals as goal

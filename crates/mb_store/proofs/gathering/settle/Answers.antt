@@ -1,7 +1,5 @@
-use Rattle.std.proofs.Common.{◌∙◌, ap, refl, sym}
+use Rattle.mb_store.proofs.Common.{all_rows, ap, refl, sym, TableRows, ◌∙◌}
 use Rattle.std.specs.Vec.{vec_items}
-use Rattle.mb_store.specs.GatheredRows.{all_rows}
-use Rattle.mb_store.specs.declared.table_rows.TableRows.{TableRows}
 use Rattle.mb_store.proofs.GatheredLemmas.{put_again, put_told, told_still}
 use Rattle.mb_store.proofs.gathering.settle.Goals as goal
 

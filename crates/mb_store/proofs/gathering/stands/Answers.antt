@@ -1,10 +1,4 @@
-use Rattle.std.proofs.Common.{◌≡◌, ◌∙◌, ◌&&◌, ◌||◌, List, true, false, sym, ap}
-use Rattle.mb_store.specs.Gathered.{told_at}
-use Rattle.mb_store.specs.GatheredRows.{has_own}
-use Rattle.mb_store.specs.MemTables.{rows_at}
-use Rattle.mb_store.specs.StoredRow.{Stored, own_key}
-use Rattle.mb_store.specs.TableRows.{has_equal, rows_in}
-use Rattle.mb_store.specs.declared.table_rows.TableRows.{TableRows}
+use Rattle.mb_store.proofs.Common.{ap, false, has_equal, has_own, List, own_key, rows_at, rows_in, Stored, sym, TableRows, told_at, true, ◌&&◌, ◌||◌, ◌∙◌, ◌≡◌}
 use Rattle.mb_store.proofs.GatheringLemmas.{equal_told}
 use Rattle.mb_store.proofs.gathering.stands.Goals as goal
 

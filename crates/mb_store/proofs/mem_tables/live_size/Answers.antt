@@ -1,4 +1,4 @@
-use Rattle.std.proofs.Common.{arith}
+use Rattle.mb_store.proofs.Common.{arith}
 use Rattle.mb_store.proofs.mem_tables.live_size.Goals as goal
 
 pub returns : goal.returns

@@ -1,8 +1,4 @@
-use Rattle.std.proofs.Common.{subst, sym}
-use Rattle.mb_store.specs.ByTable.{at}
-use Rattle.mb_store.specs.TableRows.{AreStored}
-use Rattle.mb_tables.specs.declared.table.TableName.TheVariants.{Tiles, TilesWithHash, Map, Images, TilesShallow, TilesData, TileCache, Metadata}
-use Rattle.mb_tables.proofs.TableLemmas.{by_tables}
+use Rattle.mb_store.proofs.Common.{AreStored, at, by_tables, Images, Map, Metadata, subst, sym, TileCache, Tiles, TilesData, TilesShallow, TilesWithHash}
 use Rattle.mb_store.proofs.mem_tables.push.Goals as goal
 
 pub push-requires-clause-stored : goal.push-requires-clause-stored

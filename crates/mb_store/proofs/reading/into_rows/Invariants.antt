@@ -1,6 +1,5 @@
 -- the rows so far, and those that are left
-use Rattle.std.proofs.Common.{◌≡◌, ◌++◌}
-use Rattle.mb_store.specs.StoredRow.{rows_of}
+use Rattle.mb_store.proofs.Common.{rows_of, ◌++◌, ◌≡◌}
 use Rattle.mb_store.proofs.reading.into_rows.Given as goal
 
 abbrev pub invariant-loop-row : goal.invariant-loop-row

@@ -1,6 +1,4 @@
-use Rattle.std.proofs.Common.{◌++◌, ◌∷◌, ◌-◌, ◌∙◌, [], List, take, drop, ap, arith}
-use Rattle.mb_tables.specs.declared.cell.Cell.{Cell}
-use Rattle.mb_store.specs.StoredRow.{Stored, rows_of}
+use Rattle.mb_store.proofs.Common.{ap, arith, Cell, drop, List, rows_of, Stored, take, [], ◌++◌, ◌-◌, ◌∙◌, ◌∷◌}
 use Rattle.mb_store.proofs.ReadingLemmas.{none_there, none_wanted, page_next, page_whole}
 use Rattle.mb_store.proofs.reading.page_of.Goals as goal
 

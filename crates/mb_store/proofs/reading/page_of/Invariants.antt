@@ -1,5 +1,4 @@
-use Rattle.std.proofs.Common.{◌≡◌, ◌++◌, take}
-use Rattle.mb_store.specs.StoredRow.{rows_of}
+use Rattle.mb_store.proofs.Common.{rows_of, take, ◌++◌, ◌≡◌}
 use Rattle.mb_store.proofs.reading.page_of.Given as goal
 
 -- the page so far, and what is still to come

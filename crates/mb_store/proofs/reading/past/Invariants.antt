@@ -1,4 +1,4 @@
-use Rattle.std.proofs.Common.{◌≡◌, drop}
+use Rattle.mb_store.proofs.Common.{drop, ◌≡◌}
 use Rattle.mb_store.proofs.reading.past.Given as goal
 
 -- what is behind what is left to pass is what is behind all of it

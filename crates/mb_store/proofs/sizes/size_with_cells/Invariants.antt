@@ -1,5 +1,4 @@
-use Rattle.std.proofs.Common.{◌≡◌, ◌+◌, ◌-◌, ◌^◌, min, take, sum_by}
-use Rattle.mb_store.specs.Sizes.{cell_size}
+use Rattle.mb_store.proofs.Common.{cell_size, min, sum_by, take, ◌+◌, ◌-◌, ◌^◌, ◌≡◌}
 use Rattle.mb_store.proofs.sizes.size_with_cells.Given as goal
 
 abbrev pub invariant-loop-cell : goal.invariant-loop-cell

@@ -1,6 +1,4 @@
-use Rattle.std.proofs.Common.{◌≡◌, ◌+◌, ◌-◌, ◌<◌, ◌^◌, length, min, sum_by}
-use Rattle.mb_store.specs.Sizes.{row_size}
-use Rattle.mb_store.specs.StoredRow.{rows_of}
+use Rattle.mb_store.proofs.Common.{length, min, row_size, rows_of, sum_by, ◌+◌, ◌-◌, ◌<◌, ◌^◌, ◌≡◌}
 use Rattle.mb_store.proofs.sizes.with_rows.Given as goal
 
 -- the sum so far with the rows that are left

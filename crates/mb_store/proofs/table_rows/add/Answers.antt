@@ -1,6 +1,4 @@
-use Rattle.std.proofs.Common.{◌+◌, ◌∙◌, ap, arith, length}
-use Rattle.std.specs.BTreeSet.{insert_key}
-use Rattle.mb_store.specs.StoredRow.{stored_cmp}
+use Rattle.mb_store.proofs.Common.{ap, arith, insert_key, length, stored_cmp, ◌+◌, ◌∙◌}
 use Rattle.mb_store.proofs.StoredLemmas.{add_count, add_placed, add_stored}
 use Rattle.mb_store.proofs.table_rows.add.Goals as goal
 

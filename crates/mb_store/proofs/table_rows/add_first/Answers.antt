@@ -1,9 +1,4 @@
-use Rattle.std.proofs.Common.{◌≡◌, ◌∙◌, ap, arith, length, refl, sym, true, false}
-use Rattle.std.specs.BTreeMap.{is_at}
-use Rattle.std.specs.BTreeSet.{insert_key}
-use Rattle.std.specs.List.{list_any}
-use Rattle.mb_store.specs.StoredRow.{rows_of, stored_cmp}
-use Rattle.mb_store.specs.TableRows.{has_equal, rows_in}
+use Rattle.mb_store.proofs.Common.{ap, arith, false, has_equal, insert_key, is_at, length, list_any, refl, rows_in, rows_of, stored_cmp, sym, true, ◌∙◌, ◌≡◌}
 use Rattle.mb_store.proofs.PushLemmas.{first_found, first_placed, none_equal, not_added}
 use Rattle.mb_store.proofs.StoredLemmas.{add_count, add_stored}
 use Rattle.mb_store.proofs.table_rows.add_first.Goals as goal

@@ -1,6 +1,4 @@
-use Rattle.std.proofs.Common.{◌≡◌, List, subst, sym, Option}
-use Rattle.std.specs.Prelude.{IfOk}
-use Rattle.mb_tables.specs.declared.cell.Cell.{Cell}
+use Rattle.mb_store.proofs.Common.{Cell, IfOk, List, Option, subst, sym, ◌≡◌}
 use Rattle.mb_store.proofs.StoredLemmas.{key_found_in}
 use Rattle.mb_store.proofs.table_rows.find_in.Goals as goal
 

@@ -1,5 +1,4 @@
-use Rattle.std.proofs.Common.{◌∙◌, sym, ap}
-use Rattle.std.specs.Prelude.{is_some}
+use Rattle.mb_store.proofs.Common.{ap, is_some, sym, ◌∙◌}
 use Rattle.mb_store.proofs.PushLemmas.{equal_found}
 use Rattle.mb_store.proofs.StoredLemmas.{copied_some}
 use Rattle.mb_store.proofs.table_rows.has_equal.Goals as goal

@@ -1,13 +1,4 @@
-use Rattle.std.proofs.Common.{◌≡◌, ◌∙◌, ◌↔◌, ◌&&◌, true, false, not, List, ap, sym, subst}
-use Rattle.std.specs.Prelude.{IsErrOf}
-use Rattle.std.specs.List.{list_any}
-use Rattle.mb_tables.specs.Cell.{is_null}
-use Rattle.mb_tables.specs.Key.{clash}
-use Rattle.mb_tables.specs.Table.{key_of}
-use Rattle.mb_tables.specs.declared.cell.Cell.{Cell}
-use Rattle.mb_tables.specs.declared.error.MbtError.TheVariants.{DuplicateRow}
-use Rattle.mb_store.specs.StoredRow.{Stored}
-use Rattle.mb_store.specs.TableRows.{has_equal, rows_in}
+use Rattle.mb_store.proofs.Common.{ap, Cell, clash, DuplicateRow, false, has_equal, is_null, IsErrOf, key_of, List, list_any, not, rows_in, Stored, subst, sym, true, ◌&&◌, ◌↔◌, ◌∙◌, ◌≡◌}
 use Rattle.mb_store.proofs.PushLemmas.{clash_single, none_equal}
 use Rattle.mb_store.proofs.table_rows.push.Goals as goal
 

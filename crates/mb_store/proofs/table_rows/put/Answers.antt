@@ -1,4 +1,4 @@
-use Rattle.std.proofs.Common.{arith, length}
+use Rattle.mb_store.proofs.Common.{arith, length}
 use Rattle.mb_store.proofs.StoredLemmas.{add_count, add_stored}
 use Rattle.mb_store.proofs.table_rows.put.Goals as goal
 

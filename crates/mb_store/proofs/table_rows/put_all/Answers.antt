@@ -1,6 +1,4 @@
-use Rattle.std.proofs.Common.{◌∙◌, List, sym, ap}
-use Rattle.mb_store.specs.GatheredRows.{all_rows}
-use Rattle.mb_store.specs.StoredRow.{Stored}
+use Rattle.mb_store.proofs.Common.{all_rows, ap, List, Stored, sym, ◌∙◌}
 use Rattle.mb_store.proofs.GatheredLemmas.{first_left}
 use Rattle.mb_store.proofs.RowsPut.{last_moved}
 use Rattle.mb_store.proofs.table_rows.put_all.Goals as goal

@@ -1,7 +1,5 @@
 -- the rows at their places with those that are left
-use Rattle.std.proofs.Common.{◌≡◌, length}
-use Rattle.mb_store.specs.GatheredRows.{AreFirst, all_rows}
-use Rattle.mb_store.specs.TableRows.{AreStored}
+use Rattle.mb_store.proofs.Common.{all_rows, AreFirst, AreStored, length, ◌≡◌}
 use Rattle.mb_store.proofs.table_rows.put_all.Given as goal
 
 abbrev pub invariant-loop-row : goal.invariant-loop-row

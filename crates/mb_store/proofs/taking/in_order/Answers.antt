@@ -1,7 +1,4 @@
-use Rattle.std.proofs.Common.{subst}
-use Rattle.std.specs.List.Sorted.{IsStrictlySortedBy}
-use Rattle.mb_store.specs.StoredRow.{stored_cmp}
-use Rattle.mb_store.specs.declared.table_rows.TableRows.{TableRows}
+use Rattle.mb_store.proofs.Common.{IsStrictlySortedBy, stored_cmp, subst, TableRows}
 use Rattle.mb_store.proofs.GatheredLemmas.{told_order}
 use Rattle.mb_store.proofs.taking.in_order.Goals as goal
 

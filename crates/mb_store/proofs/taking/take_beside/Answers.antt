@@ -1,7 +1,4 @@
-use Rattle.std.proofs.Common.{◌≡◌, ◌∙◌, List, [], sym, subst}
-use Rattle.std.specs.Prelude.{IfOk}
-use Rattle.mb_tables.specs.declared.cell.Cell.{Cell}
-use Rattle.mb_store.specs.MemTables.{rows_at}
+use Rattle.mb_store.proofs.Common.{Cell, IfOk, List, rows_at, subst, sym, [], ◌∙◌, ◌≡◌}
 use Rattle.mb_store.proofs.GatheredLemmas.{told_other}
 use Rattle.mb_store.proofs.GatheringLemmas.{beside_with}
 use Rattle.mb_store.proofs.WithRows.{with_rows-own}

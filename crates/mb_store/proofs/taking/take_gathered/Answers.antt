@@ -1,11 +1,4 @@
-use Rattle.std.proofs.Common.{◌≡◌, ◌∙◌, [], List, sym, ap, subst}
-use Rattle.std.specs.Prelude.{IfOk}
-use Rattle.std.specs.List.Sorted.{IsPermutation}
-use Rattle.mb_tables.specs.declared.cell.Cell.{Cell}
-use Rattle.mb_tables.specs.declared.table.TableName.{TableName}
-use Rattle.mb_store.specs.ByTable.{at}
-use Rattle.mb_store.specs.StoredRow.{Stored, rows_of}
-use Rattle.mb_store.specs.declared.gathered.Gathered.{Gathered}
+use Rattle.mb_store.proofs.Common.{ap, at, Cell, Gathered, IfOk, IsPermutation, List, rows_of, Stored, subst, sym, TableName, [], ◌∙◌, ◌≡◌}
 use Rattle.mb_store.proofs.GatheredLemmas.{told_own}
 use Rattle.mb_store.proofs.GatheringLemmas.{list_taken}
 use Rattle.mb_store.proofs.RowsPut.{sorted_all}

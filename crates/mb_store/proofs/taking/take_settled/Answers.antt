@@ -1,8 +1,4 @@
-use Rattle.std.proofs.Common.{◌≡◌, ◌∙◌, List, [], ap, subst}
-use Rattle.std.specs.Prelude.{IfOk}
-use Rattle.mb_tables.specs.declared.cell.Cell.{Cell}
-use Rattle.mb_tables.specs.declared.table.TableName.{TableName}
-use Rattle.mb_store.specs.Gathered.{told_at}
+use Rattle.mb_store.proofs.Common.{ap, Cell, IfOk, List, subst, TableName, told_at, [], ◌∙◌, ◌≡◌}
 use Rattle.mb_store.proofs.GatheringLemmas.{cut_told, plain, settled_with}
 use Rattle.mb_store.proofs.taking.take_settled.Goals as goal
 

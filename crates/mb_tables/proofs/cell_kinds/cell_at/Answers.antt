@@ -1,7 +1,4 @@
-use Rattle.std.proofs.Common.{◌∙◌, List, ap, sym}
-use Rattle.std.specs.Prelude.{slice_get, unwrap_or}
-use Rattle.mb_tables.specs.declared.cell.Cell.{Cell}
-use Rattle.mb_tables.specs.declared.cell.Cell.TheVariants.{Null}
+use Rattle.mb_tables.proofs.Common.{ap, Cell, List, Null, slice_get, sym, unwrap_or, ◌∙◌}
 use Rattle.mb_tables.proofs.RowLemmas.{cell_at_get}
 use Rattle.mb_tables.proofs.cell_kinds.cell_at.Goals as goal
 

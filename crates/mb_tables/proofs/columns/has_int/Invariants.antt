@@ -1,4 +1,4 @@
-use Rattle.std.proofs.Common.{◌≡◌, length}
+use Rattle.mb_tables.proofs.Common.{length, ◌≡◌}
 use Rattle.mb_tables.specs.Columns.{has_int}
 use Rattle.mb_tables.proofs.columns.has_int.Given as goal
 

@@ -1,4 +1,4 @@
-use Rattle.std.proofs.Common.{◌≡◌, take}
+use Rattle.mb_tables.proofs.Common.{take, ◌≡◌}
 use Rattle.mb_tables.proofs.index.clone_texts.Given as goal
 
 abbrev pub invariant-loop-text : goal.invariant-loop-text

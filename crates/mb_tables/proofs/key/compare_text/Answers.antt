@@ -1,9 +1,5 @@
-use Rattle.std.proofs.Common.{◌≡◌, ◌≤◌, ◌∙◌, List, [], ◌∷◌, length, get_or, ap, arith}
-use Rattle.std.specs.Ordering.{ordering_then}
+use Rattle.mb_tables.proofs.Common.{ap, arith, Cell, cell_cmp, cells_cmp, get_or, length, List, ordering_then, Text, [], ◌∙◌, ◌∷◌, ◌≡◌, ◌≤◌}
 use Rattle.std.specs.declared.cmp.Ordering.TheVariants.{Greater}
-use Rattle.mb_tables.specs.Cell.{cell_cmp, cells_cmp}
-use Rattle.mb_tables.specs.declared.cell.Cell.{Cell}
-use Rattle.mb_tables.specs.declared.cell.Cell.TheVariants.{Text}
 use Rattle.mb_tables.proofs.key.compare_text.Goals as goal
 
 -- a longer list and one cell

@@ -1,8 +1,5 @@
-use Rattle.std.proofs.Common.{◌∙◌, ap, sym}
-use Rattle.std.proofs.lemmas.Bool.{false≢true}
-use Rattle.std.proofs.lemmas.Result.{err_from_is_err_and}
+use Rattle.mb_tree.proofs.Common.{ap, err_from_is_err_and, false≢true, made_if, sym, ◌∙◌}
 use Rattle.mb_tree.proofs.BaseLemmas.{base_wanting, is_new, is_old, made_new, new_from, new_named, new_whole, old_from, old_made, old_moved}
-use Rattle.mb_tree.specs.Base.{made_if}
 use Rattle.mb_tree.proofs.base.base_of.Goals as goal
 
 pub returns-in_err-is_empty_database-clause-answer : goal.returns-in_err-is_empty_database-clause-answer

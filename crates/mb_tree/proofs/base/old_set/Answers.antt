@@ -1,8 +1,5 @@
-use Rattle.std.proofs.Common.{◌∙◌, ap, refl, sym}
-use Rattle.std.proofs.lemmas.Result.{err_from_is_err_and}
+use Rattle.mb_tree.proofs.Common.{ap, err_from_is_err_and, Flat, MismatchedTargetType, refl, sym, ◌∙◌}
 use Rattle.mb_tree.proofs.BaseLemmas.{loads_flat, loads_other, loads_refused}
-use Rattle.mb_tables.specs.declared.error.MbtError.TheVariants.{MismatchedTargetType}
-use Rattle.mb_tables.specs.declared.kind.MbtType.TheVariants.{Flat}
 use Rattle.mb_tree.proofs.RefusalLemmas.{not_tree}
 use Rattle.mb_tree.proofs.base.old_set.Goals as goal
 

@@ -1,7 +1,5 @@
-use Rattle.std.proofs.Common.{ap}
-use Rattle.std.specs.Prelude.{option_and_then}
+use Rattle.mb_tree.proofs.Common.{ap, option_and_then, plain_of}
 use Rattle.mb_tree.proofs.PlainLemmas.{read_back, read_behind}
-use Rattle.mb_tree.specs.RoundTrip.{plain_of}
 use Rattle.mb_tree.proofs.laws.paths_are_plain.Goals as goal
 
 pub returns-clause-read : goal.returns-clause-read

@@ -1,6 +1,4 @@
-use Rattle.std.proofs.Common.{◌∙◌, ap, is_some, sym}
-use Rattle.std.specs.Prelude.{option_copied}
-use Rattle.std.proofs.lemmas.Bool.{false≢true}
+use Rattle.mb_tree.proofs.Common.{ap, false≢true, is_some, option_copied, sym, ◌∙◌}
 use Rattle.mb_tree.proofs.MemTreeLemmas.{copied, got}
 use Rattle.mb_tree.proofs.mem_tree.copy_at.Goals as goal
 

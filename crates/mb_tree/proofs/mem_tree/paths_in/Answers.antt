@@ -1,4 +1,4 @@
-use Rattle.std.proofs.Common.{◌∙◌, ◌++◌, ap, append-nil, sym, List, ℕ}
+use Rattle.mb_tree.proofs.Common.{ap, append-nil, List, sym, ℕ, ◌++◌, ◌∙◌}
 use Rattle.mb_tree.proofs.MemTreeLemmas.{paths_are}
 use Rattle.mb_tree.proofs.mem_tree.paths_in.Goals as goal
 

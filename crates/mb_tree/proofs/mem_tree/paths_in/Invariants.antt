@@ -1,5 +1,4 @@
-use Rattle.std.proofs.Common.{◌≡◌, ◌++◌}
-use Rattle.std.specs.BTreeMap.{keys}
+use Rattle.mb_tree.proofs.Common.{keys, ◌++◌, ◌≡◌}
 use Rattle.mb_tree.proofs.mem_tree.paths_in.Given as goal
 
 abbrev pub invariant-loop-path : goal.invariant-loop-path

@@ -1,7 +1,5 @@
-use Rattle.std.proofs.Common.{◌∙◌, ap₂}
-use Rattle.std.specs.FinMap.{insert}
+use Rattle.mb_tree.proofs.Common.{ap₂, files_of_list, insert, ◌∙◌}
 use Rattle.mb_tree.proofs.MemTreeLemmas.{put_is}
-use Rattle.mb_tree.specs.Files.{files_of_list}
 use Rattle.mb_tree.proofs.mem_tree.put.Goals as goal
 
 pub returns-clause-ok : goal.returns-clause-ok

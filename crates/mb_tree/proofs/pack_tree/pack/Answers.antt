@@ -1,12 +1,7 @@
-use Rattle.std.proofs.Common.{◌≡◌, ◌∙◌, ap, sym, subst, true}
-use Rattle.std.proofs.lemmas.Result.{err_from_is_err_and}
-use Rattle.mb_load.specs.Committing.{MakesChanges}
-use Rattle.mb_load.specs.LoadedFrom.{IsLoadedFrom}
-use Rattle.mb_tables.specs.Table.{Tables}
+use Rattle.mb_tree.proofs.Common.{ap, err_from_is_err_and, IsLoadedFrom, made, made_if, MakesChanges, subst, sym, Tables, true, ◌∙◌, ◌≡◌}
 use Rattle.mb_tree.proofs.AnswerLemmas.{all_packed, base_refused, base_told, ended}
 use Rattle.mb_tree.proofs.PackLemmas.{is_packed, packs_loaded}
 use Rattle.mb_tree.proofs.RefusalLemmas.{free_wanting}
-use Rattle.mb_tree.specs.Base.{made, made_if}
 use Rattle.mb_tree.proofs.pack_tree.pack.Goals as goal
 
 pub commit_base-requires : goal.commit_base-requires

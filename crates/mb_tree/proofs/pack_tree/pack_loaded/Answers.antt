@@ -1,15 +1,8 @@
-use Rattle.std.proofs.Common.{◌≡◌, ◌∙◌, Err, List, Option, ap, subst, sym, ℕ, true}
-use Rattle.std.specs.Prelude.{All}
-use Rattle.std.specs.FinMap.{contains_key}
-use Rattle.std.proofs.lemmas.Result.{err_from_is_err_and}
+use Rattle.mb_tree.proofs.Common.{All, ap, contains_key, Err, err_from_is_err_and, FileFormat, first_format, List, Option, paths_of, subst, sym, true, with_format, with_zooms, ℕ, ◌∙◌, ◌≡◌}
 use Rattle.mb_tree.proofs.FileLemmas.{all_there, moved_all}
 use Rattle.mb_tree.proofs.PackLemmas.{all_fit, are_packed}
 use Rattle.mb_tree.proofs.PathRefusals.{paths_no_fault, refuses_none, unfaulted}
 use Rattle.mb_tree.proofs.UnpackLemmas.{tree_wanting}
-use Rattle.mb_tree.specs.Files.{paths_of}
-use Rattle.mb_tree.specs.Packed.{with_format, with_zooms}
-use Rattle.mb_tree.specs.Packing.{first_format}
-use Rattle.mb_tree.specs.declared.format.FileFormat.{FileFormat}
 use Rattle.mb_tree.proofs.pack_tree.pack_loaded.Goals as goal
 
 pub put_files-requires-clause-fit : goal.put_files-requires-clause-fit

@@ -1,9 +1,5 @@
-use Rattle.std.proofs.Common.{◌∙◌, ap, sym}
-use Rattle.std.specs.FinMap.{get}
-use Rattle.mb_loaded.specs.Edits.{with_tile}
-use Rattle.mb_tables.specs.Tiles.{Place}
+use Rattle.mb_tree.proofs.Common.{ap, get, Place, sym, tile_path, with_tile, ◌∙◌}
 use Rattle.mb_tree.proofs.FileLemmas.{passed, taken}
-use Rattle.mb_tree.specs.TilePath.{tile_path}
 use Rattle.mb_tree.proofs.packing.put_file.Goals as goal
 
 pub returns-in_default-clause-put : goal.returns-in_default-clause-put

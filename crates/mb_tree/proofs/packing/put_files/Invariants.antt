@@ -1,7 +1,5 @@
 -- the files of the paths so far are read, and their tiles put
-use Rattle.std.proofs.Common.{take}
-use Rattle.mb_store.specs.Kept.{ReadsOnly}
-use Rattle.mb_tree.specs.PackSteps.{AreAllRead}
+use Rattle.mb_tree.proofs.Common.{AreAllRead, ReadsOnly, take}
 use Rattle.mb_tree.proofs.packing.put_files.Given as goal
 
 abbrev pub invariant-loop-path : goal.invariant-loop-path

@@ -1,4 +1,4 @@
-use Rattle.std.proofs.Common.{◌∙◌, rules, sym}
+use Rattle.mb_tree.proofs.Common.{rules, sym, ◌∙◌}
 use Rattle.mb_tree.proofs.PackLemmas.{apart_passes, twice_refuses}
 use Rattle.mb_tree.proofs.packing.test_apart.Goals as goal
 

@@ -1,6 +1,5 @@
-use Rattle.std.proofs.Common.{◌∙◌, ap, arith, is_some, sym}
+use Rattle.mb_tree.proofs.Common.{ap, arith, is_some, sym, tile_path, ◌∙◌}
 use Rattle.mb_tree.proofs.PathLoops.{not_counted, some_counted}
-use Rattle.mb_tree.specs.TilePath.{tile_path}
 use Rattle.mb_tree.proofs.tests_of_paths.count_tiles.Goals.{else-is_some, then-is_some}
 use Rattle.mb_tree.proofs.tests_of_paths.count_tiles.Goals as goal
 

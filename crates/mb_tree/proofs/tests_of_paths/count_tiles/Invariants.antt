@@ -1,5 +1,4 @@
-use Rattle.std.proofs.Common.{◌≡◌, ◌≤◌, filter_map, length, take}
-use Rattle.mb_tree.specs.TilePath.{tile_path}
+use Rattle.mb_tree.proofs.Common.{filter_map, length, take, tile_path, ◌≡◌, ◌≤◌}
 use Rattle.mb_tree.proofs.tests_of_paths.count_tiles.Given as goal
 
 abbrev pub invariant-loop-path : goal.invariant-loop-path

@@ -1,6 +1,5 @@
 -- what is left has the first format of all
-use Rattle.std.proofs.Common.{◌≡◌, drop}
-use Rattle.mb_tree.specs.Packing.{first_format}
+use Rattle.mb_tree.proofs.Common.{drop, first_format, ◌≡◌}
 use Rattle.mb_tree.proofs.tests_of_paths.first_format.Given as goal
 
 abbrev pub invariant-loop-path : goal.invariant-loop-path

@@ -1,4 +1,4 @@
-use Rattle.std.proofs.lemmas.Result.{err_from_is_err_and}
+use Rattle.mb_tree.proofs.Common.{err_from_is_err_and}
 use Rattle.mb_lists.proofs.Refused.{passes, refuses}
 use Rattle.mb_tree.proofs.tests_of_paths.test_each.Goals as goal
 

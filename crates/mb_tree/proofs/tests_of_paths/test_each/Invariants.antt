@@ -1,7 +1,5 @@
 -- what is left is refused as all are
-use Rattle.std.proofs.Common.{◌≡◌, drop}
-use Rattle.mb_tables.specs.Refusals.{first_refused}
-use Rattle.mb_tree.specs.Packing.{path_refused}
+use Rattle.mb_tree.proofs.Common.{drop, first_refused, path_refused, ◌≡◌}
 use Rattle.mb_tree.proofs.tests_of_paths.test_each.Given as goal
 
 abbrev pub invariant-loop-path : goal.invariant-loop-path

@@ -1,5 +1,4 @@
-use Rattle.std.proofs.Common.{◌∙◌}
-use Rattle.mb_metadata.proofs.NumberLemmas.{number_read}
+use Rattle.mb_tree.proofs.Common.{number_read, ◌∙◌}
 use Rattle.mb_tree.proofs.tile_path.number_of.Goals as goal
 
 pub returns : goal.returns

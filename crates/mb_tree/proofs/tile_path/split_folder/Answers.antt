@@ -1,4 +1,4 @@
-use Rattle.std.proofs.Common.{arith}
+use Rattle.mb_tree.proofs.Common.{arith}
 use Rattle.mb_tree.proofs.SplitLemmas.{split_is}
 use Rattle.mb_tree.proofs.tile_path.split_folder.Goals as goal
 

@@ -1,5 +1,4 @@
-use Rattle.std.proofs.Common.{◌∙◌, ap, refl, Err}
-use Rattle.std.proofs.lemmas.Result.{err_from_is_err_and}
+use Rattle.mb_tree.proofs.Common.{ap, Err, err_from_is_err_and, refl, ◌∙◌}
 use Rattle.mb_tree.proofs.UnpackLemmas.{all_written, format_refused, load_refused, tree_wanting, writing_ended}
 use Rattle.mb_tree.proofs.RefusalLemmas.{no_tree_fault}
 use Rattle.mb_tree.proofs.unpack_tree.unpack.Goals as goal

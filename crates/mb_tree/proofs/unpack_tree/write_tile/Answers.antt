@@ -1,5 +1,4 @@
-use Rattle.std.proofs.Common.{◌∙◌, arith, rules}
-use Rattle.std.specs.FinMap.{len-entries}
+use Rattle.mb_tree.proofs.Common.{arith, len-entries, rules, ◌∙◌}
 use Rattle.mb_tree.proofs.UnpackLemmas.{wrote}
 use Rattle.mb_tree.proofs.unpack_tree.write_tile.Goals as goal
 

@@ -1,7 +1,5 @@
-use Rattle.std.proofs.Common.{◌∙◌, arith}
-use Rattle.std.specs.FinMap.{entries, len-entries}
+use Rattle.mb_tree.proofs.Common.{arith, entries, file_of, files_of, IsFront, len-entries, ◌∙◌}
 use Rattle.mb_tree.proofs.UnpackLemmas.{front_of, keeps_both, on_err, put_all, put_more}
-use Rattle.mb_tree.specs.Unpacked.{IsFront, file_of, files_of}
 use Rattle.mb_tree.proofs.unpack_tree.write_tiles.Goals as goal
 
 pub loop-index-preserved : goal.loop-index-preserved

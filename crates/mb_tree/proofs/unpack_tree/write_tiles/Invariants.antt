@@ -1,9 +1,5 @@
 -- the files of the tiles so far are written
-use Rattle.std.proofs.Common.{◌≡◌, filter_map, take, true}
-use Rattle.std.specs.FinMap.{entries}
-use Rattle.mb_store.specs.Kept.{Keeps}
-use Rattle.mb_tree.specs.Files.{written}
-use Rattle.mb_tree.specs.Unpacked.{file_of}
+use Rattle.mb_tree.proofs.Common.{entries, file_of, filter_map, Keeps, take, true, written, ◌≡◌}
 use Rattle.mb_tree.proofs.unpack_tree.write_tiles.Given as goal
 
 abbrev pub invariant-loop-index : goal.invariant-loop-index

@@ -1,4 +1,4 @@
-use Rattle.std.proofs.Common.{◌≡◌, ◌%◌, ◌<◌, ℕ, get_or, arith, subst}
+use Rattle.pm_format.proofs.Common.{arith, get_or, subst, ℕ, ◌%◌, ◌<◌, ◌≡◌}
 use Rattle.pm_format.proofs.VarintReadingLemmas.{Reading, reading_end, reading_more, reading_last, reading_big, at_place, added, sum_fits, sum_low}
 use Rattle.pm_format.proofs.varint.read_number.Goals as goal
 

@@ -1,4 +1,4 @@
-use Rattle.pm_format.specs.Varint.{u32_at}
+use Rattle.pm_format.proofs.Common.{u32_at}
 use Rattle.pm_format.proofs.varint.read_varint_u32.Goals as goal
 
 pub returns-clause-found : goal.returns-clause-found

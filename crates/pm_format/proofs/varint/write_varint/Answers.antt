@@ -1,4 +1,4 @@
-use Rattle.std.proofs.Common.{rules, ◌≡◌, ◌+◌, ◌++◌, ◌%◌, [], ◌∷◌, length, arith}
+use Rattle.pm_format.proofs.Common.{arith, length, rules, [], ◌%◌, ◌++◌, ◌+◌, ◌∷◌, ◌≡◌}
 use Rattle.std.proofs.lemmas.Grind.{common_steps}
 use Rattle.pm_format.proofs.VarintLemmas.{completes_more, completes_first, take_keeps}
 use Rattle.pm_format.proofs.varint.write_varint.Goals as goal

@@ -1,5 +1,4 @@
-use Rattle.std.proofs.Common.{◌≡◌, ◌++◌, ℕ, take}
-use Rattle.pm_format.specs.Varint.{varint}
+use Rattle.pm_format.proofs.Common.{take, varint, ℕ, ◌++◌, ◌≡◌}
 use Rattle.pm_format.proofs.VarintLemmas.{Completes}
 use Rattle.pm_format.proofs.varint.write_varint.Given as goal
 

@@ -1,5 +1,4 @@
-use Rattle.std.proofs.Common.{◌≤◌, length, sym, arith}
-use Rattle.std.proofs.lemmas.List.{length-take-le, take_all}
+use Rattle.pm_reader.proofs.Common.{arith, length, length-take-le, sym, take_all, ◌≤◌}
 use Rattle.pm_reader.proofs.view.front_of.Goals as goal
 
 pub slice_bounds-result-end : goal.slice_bounds-result-end

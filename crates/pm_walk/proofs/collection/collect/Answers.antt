@@ -1,11 +1,4 @@
-use Rattle.std.proofs.Common.{◌≤◌, List, None, Ok, IfSome, sym, subst}
-use Rattle.pm_format.specs.Directory.{Entry}
-use Rattle.pm_reader.specs.Opening.{header_of, root_of}
-use Rattle.pm_walk.specs.Collecting.{AllLieIn, AreOrdered}
-use Rattle.pm_walk.specs.Gathering.{Gathers}
-use Rattle.pm_walk.specs.Parts.{tile_count}
-use Rattle.pm_walk.specs.Walk.{walked}
-use Rattle.pm_walk.specs.declared.extent.Extent.TheVariants.{Within}
+use Rattle.pm_walk.proofs.Common.{AllLieIn, AreOrdered, Entry, Gathers, header_of, IfSome, List, None, Ok, root_of, subst, sym, tile_count, walked, Within, ◌≤◌}
 use Rattle.pm_walk.proofs.collection.collect.Goals as goal
 
 pub returns-in-Ok-clause-gathered : goal.returns-in-Ok-clause-gathered

@@ -1,5 +1,4 @@
-use Rattle.std.proofs.Common.{Err, Ok}
-use Rattle.pm_reader.specs.Opening.{header_of, root_of}
+use Rattle.pm_walk.proofs.Common.{Err, header_of, Ok, root_of}
 use Rattle.pm_walk.proofs.GatheredLemmas.{root_gathered, root_reads, root_refused, root_too_many}
 use Rattle.pm_walk.proofs.collection.gather.Goals as goal
 

@@ -1,4 +1,4 @@
-use Rattle.pm_reader.specs.Opening.{header_of, root_of}
+use Rattle.pm_walk.proofs.Common.{header_of, root_of}
 use Rattle.pm_walk.proofs.GatheredLemmas.{all_given}
 use Rattle.pm_walk.proofs.collection.take_entries.Goals as goal
 

@@ -1,5 +1,4 @@
-use Rattle.std.proofs.Common.{◌≡◌, true, length}
-use Rattle.pm_walk.specs.Intervals.{is_below, meets_any}
+use Rattle.pm_walk.proofs.Common.{is_below, length, meets_any, true, ◌≡◌}
 use Rattle.pm_walk.proofs.intervals.is_met.Given as goal
 
 abbrev pub invariant-loop-interval : goal.invariant-loop-interval

@@ -1,4 +1,4 @@
-use Rattle.std.proofs.Common.{◌≢◌, arith}
+use Rattle.pm_walk.proofs.Common.{arith, ◌≢◌}
 use Rattle.pm_walk.proofs.PartingLemmas.{all_parted, empty_parted, none_parted, past_part, past_without}
 use Rattle.pm_walk.proofs.parts.add_entry.Goals as goal
 

@@ -1,6 +1,4 @@
-use Rattle.std.proofs.Common.{◌≢◌, length}
-use Rattle.pm_walk.specs.Collected.{Collected}
-use Rattle.pm_walk.specs.Taker.{Holds}
+use Rattle.pm_walk.proofs.Common.{Collected, Holds, length, ◌≢◌}
 use Rattle.pm_walk.proofs.PartingLemmas.{Parting}
 use Rattle.pm_walk.proofs.parts.add_entry.Given as goal
 

@@ -1,7 +1,4 @@
-use Rattle.std.proofs.Common.{IfErr, sym, subst}
-use Rattle.pm_reader.specs.Opening.{header_of}
-use Rattle.pm_walk.specs.Collecting.{StopCauses}
-use Rattle.pm_walk.specs.Steps.{TakesTile}
+use Rattle.pm_walk.proofs.Common.{header_of, IfErr, StopCauses, subst, sym, TakesTile}
 use Rattle.pm_walk.proofs.TakingLemmas.{whole_as}
 use Rattle.pm_walk.proofs.taking.take.Goals as goal
 

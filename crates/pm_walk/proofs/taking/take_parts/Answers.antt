@@ -1,4 +1,4 @@
-use Rattle.pm_walk.specs.declared.extent.Extent.TheVariants.{Within}
+use Rattle.pm_walk.proofs.Common.{Within}
 use Rattle.pm_walk.proofs.TakingLemmas.{parts_taken, past_ids, want_tile, within_test}
 use Rattle.pm_walk.proofs.taking.take_parts.Goals as goal
 

@@ -1,8 +1,4 @@
-use Rattle.std.proofs.Common.{◌∙◌, ◌+◌, ◌≤◌, ap, Ok, Some, IfOk, IfSome, subst, arith}
-use Rattle.tile_ids.specs.declared.id.TheConstants.{MAX_TILE_ID}
-use Rattle.pm_reader.specs.Opening.{header_of}
-use Rattle.pm_walk.specs.Taking.{IsTaken, Takes}
-use Rattle.pm_walk.specs.declared.extent.Extent.TheVariants.{Whole}
+use Rattle.pm_walk.proofs.Common.{ap, arith, header_of, IfOk, IfSome, IsTaken, MAX_TILE_ID, Ok, Some, subst, Takes, Whole, ◌+◌, ◌∙◌, ◌≤◌}
 use Rattle.pm_walk.proofs.TakingLemmas.{empty_taken, want_tile, whole_refused, whole_taken}
 use Rattle.pm_walk.proofs.taking.take_whole.Goals as goal
 

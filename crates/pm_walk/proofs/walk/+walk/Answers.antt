@@ -1,5 +1,4 @@
-use Rattle.std.proofs.Common.{◌∙◌, ap, Ok, refl, arith}
-use Rattle.pm_reader.specs.Opening.{header_of}
+use Rattle.pm_walk.proofs.Common.{ap, arith, header_of, Ok, refl, ◌∙◌}
 use Rattle.pm_walk.proofs.StepLemmas.{begins, ends, falls, passes, passes_leaf, stops, stops_under}
 use Rattle.pm_walk.proofs.walk.+walk.Goals as goal
 

@@ -1,8 +1,4 @@
-use Rattle.std.proofs.Common.{length}
-use Rattle.pm_reader.specs.Opening.{header_of}
-use Rattle.pm_reader.specs.Reads.{ReadsOnly}
-use Rattle.pm_walk.specs.Collected.{Collected}
-use Rattle.pm_walk.specs.Taker.{Holds}
+use Rattle.pm_walk.proofs.Common.{Collected, header_of, Holds, length, ReadsOnly}
 use Rattle.pm_walk.proofs.StepLemmas.{OnTheWay}
 use Rattle.pm_walk.proofs.walk.+walk.Given as goal
 

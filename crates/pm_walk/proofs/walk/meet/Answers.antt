@@ -1,6 +1,4 @@
-use Rattle.std.proofs.Common.{◌∙◌, ap}
-use Rattle.pm_reader.specs.Opening.{header_of}
-use Rattle.pm_walk.specs.Walk.{meets}
+use Rattle.pm_walk.proofs.Common.{ap, header_of, meets, ◌∙◌}
 use Rattle.pm_walk.proofs.MeetingLemmas.{leaf_left, leaf_met, leaf_refused, leaf_run, leaf_unmet, tile_met, tile_refused, tile_run}
 use Rattle.pm_walk.proofs.walk.meet.Goals as goal
 

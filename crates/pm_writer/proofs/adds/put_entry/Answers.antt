@@ -1,8 +1,4 @@
-use Rattle.std.proofs.Common.{◌≡◌, ◌+◌, ◌-◌, ◌++◌, [], ◌∷◌, set, sym, ◌∙◌, ap, arith}
-use Rattle.std.proofs.lemmas.Grind.{common_steps}
-use Rattle.pm_writer.specs.Adds.{longest_run}
-use Rattle.pm_format.specs.Directory.{entry}
-use Rattle.pm_writer.specs.Growing.{put}
+use Rattle.pm_writer.proofs.Common.{ap, arith, common_steps, entry, longest_run, put, set, sym, [], ◌++◌, ◌+◌, ◌-◌, ◌∙◌, ◌∷◌, ◌≡◌}
 use Rattle.pm_writer.proofs.Putting.{put_grows, put_pushes, put_first}
 use Rattle.pm_writer.proofs.adds.put_entry.Goals as goal
 use Rattle.pm_writer.proofs.adds.put_entry.Goals.{then-count-gt0+else-is_next, else-count-gt0}

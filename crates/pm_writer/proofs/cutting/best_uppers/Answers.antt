@@ -1,7 +1,4 @@
-use Rattle.std.proofs.Common.{◌∙◌, map, arith, ap, sym}
-use Rattle.std.proofs.lemmas.List.{length-map}
-use Rattle.pm_format.specs.Directory.{dir_bytes, wide_as}
-use Rattle.pm_writer.specs.Leaves.{fits_root}
+use Rattle.pm_writer.proofs.Common.{ap, arith, dir_bytes, fits_root, length-map, map, sym, wide_as, ◌∙◌}
 use Rattle.pm_writer.proofs.Built.{in_none, in_some, not_rooted, rooted}
 use Rattle.pm_writer.proofs.Trying.{tried_short, trying_first, trying_more}
 use Rattle.pm_writer.proofs.cutting.best_uppers.Goals as goal

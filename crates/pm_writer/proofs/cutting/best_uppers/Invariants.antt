@@ -1,5 +1,4 @@
-use Rattle.std.proofs.Common.{length, map, ◌-◌}
-use Rattle.pm_format.specs.Directory.{wide_as}
+use Rattle.pm_writer.proofs.Common.{length, map, wide_as, ◌-◌}
 use Rattle.pm_writer.proofs.Trying.{Trying}
 use Rattle.pm_writer.proofs.cutting.best_uppers.Given as goal
 

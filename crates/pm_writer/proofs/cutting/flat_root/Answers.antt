@@ -1,6 +1,4 @@
-use Rattle.std.proofs.Common.{sym, subst}
-use Rattle.pm_format.specs.Directory.{IsWritable}
-use Rattle.pm_format.proofs.DirectoryPieces.{fits_writable, same_entries}
+use Rattle.pm_writer.proofs.Common.{fits_writable, IsWritable, same_entries, subst, sym}
 use Rattle.pm_writer.proofs.cutting.flat_root.Goals as goal
 
 pub root_bytes-requires : goal.root_bytes-requires

@@ -1,4 +1,4 @@
-use Rattle.std.proofs.Common.{◌≡◌, ◌+◌, drop, sum_by}
+use Rattle.pm_writer.proofs.Common.{drop, sum_by, ◌+◌, ◌≡◌}
 use Rattle.pm_writer.proofs.finishing.addressed_tiles.Given as goal
 
 abbrev pub invariant-loop-entry : goal.invariant-loop-entry

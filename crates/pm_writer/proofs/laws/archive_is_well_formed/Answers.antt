@@ -1,4 +1,4 @@
-use Rattle.pm_writer.specs.Archive.{parts_of}
+use Rattle.pm_writer.proofs.Common.{parts_of}
 use Rattle.pm_writer.proofs.Bounds.{whole_formed}
 use Rattle.pm_writer.proofs.laws.archive_is_well_formed.Goals as goal
 

@@ -1,5 +1,4 @@
-use Rattle.std.proofs.Common.{length}
-use Rattle.pm_writer.specs.Writing.{AddFits}
+use Rattle.pm_writer.proofs.Common.{AddFits, length}
 use Rattle.pm_writer.proofs.Complete.{add_refused, finish_refused, start_refused}
 use Rattle.pm_writer.proofs.laws.only_faults_refuse_what_fits.Goals as goal
 

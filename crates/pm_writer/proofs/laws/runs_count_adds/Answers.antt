@@ -1,4 +1,4 @@
-use Rattle.std.proofs.Common.{sym}
+use Rattle.pm_writer.proofs.Common.{sym}
 use Rattle.pm_writer.proofs.Formed.{addressed}
 use Rattle.pm_writer.proofs.laws.runs_count_adds.Goals as goal
 

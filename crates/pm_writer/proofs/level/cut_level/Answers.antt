@@ -1,8 +1,4 @@
-use Rattle.std.proofs.Common.{arith, length, map, take, drop, min, ◌<◌, ap, sym, ◌∙◌, ◌≡◌, subst}
-use Rattle.std.proofs.lemmas.Grind.{common_steps}
-use Rattle.std.proofs.lemmas.List.{drop-map, length-map, take-map}
-use Rattle.pm_format.specs.Directory.{IsWritable}
-use Rattle.pm_writer.specs.Cutting.{HasMore}
+use Rattle.pm_writer.proofs.Common.{ap, arith, common_steps, drop, drop-map, HasMore, IsWritable, length, length-map, map, min, subst, sym, take, take-map, ◌<◌, ◌∙◌, ◌≡◌}
 use Rattle.pm_writer.proofs.CuttingLemmas.{Cuts, cut_writable, cuts_end, cuts_first, cuts_more, part_writable, take_part}
 use Rattle.pm_writer.proofs.level.cut_level.Goals as goal
 

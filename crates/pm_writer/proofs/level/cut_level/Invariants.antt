@@ -1,4 +1,4 @@
-use Rattle.std.proofs.Common.{length, map}
+use Rattle.pm_writer.proofs.Common.{length, map}
 use Rattle.pm_writer.proofs.CuttingLemmas.{Cuts}
 use Rattle.pm_writer.proofs.level.cut_level.Given as goal
 

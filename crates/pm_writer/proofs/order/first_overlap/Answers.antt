@@ -1,5 +1,4 @@
-use Rattle.std.proofs.Common.{arith, sym, ap, Some, ◌∙◌}
-use Rattle.pm_format.specs.Directory.{entry}
+use Rattle.pm_writer.proofs.Common.{ap, arith, entry, Some, sym, ◌∙◌}
 use Rattle.pm_writer.proofs.Ordered.{within_found, within_on, within_none}
 use Rattle.pm_writer.proofs.order.first_overlap.Goals as goal
 

@@ -1,5 +1,4 @@
-use Rattle.std.proofs.Common.{◌≡◌, ◌-◌, drop}
-use Rattle.pm_writer.specs.Twice.{first_within}
+use Rattle.pm_writer.proofs.Common.{drop, first_within, ◌-◌, ◌≡◌}
 use Rattle.pm_writer.proofs.order.first_overlap.Given as goal
 
 abbrev pub invariant-loop-i : goal.invariant-loop-i

@@ -1,5 +1,4 @@
-use Rattle.std.proofs.Common.{rules}
-use Rattle.std.proofs.lemmas.List.Sorted.{IsNonDecreasingBy-from_sort_by_key}
+use Rattle.pm_writer.proofs.Common.{IsNonDecreasingBy-from_sort_by_key, rules}
 use Rattle.pm_writer.proofs.order.sort_by_id.Goals as goal
 
 pub returns-clause-rising : goal.returns-clause-rising

@@ -1,7 +1,4 @@
-use Rattle.std.proofs.Common.{◌≡◌, length, set, ◌∙◌}
-use Rattle.std.proofs.Common.{rules}
-use Rattle.std.proofs.Math.ListN.{length-set}
-use Rattle.pm_writer.specs.Pieces.{finished}
+use Rattle.pm_writer.proofs.Common.{finished, length, length-set, rules, set, ◌∙◌, ◌≡◌}
 use Rattle.pm_writer.proofs.LastPieces.{on_ok_map, after_header, after_label, after_leaves, after_root, stops_in_header, stops_in_label, stops_in_root}
 use Rattle.pm_writer.proofs.pieces.write_parts.Goals as goal
 

@@ -1,5 +1,4 @@
-use Rattle.std.proofs.Common.{rules}
-use Rattle.pm_writer.specs.Writing.{zeros}
+use Rattle.pm_writer.proofs.Common.{rules, zeros}
 use Rattle.pm_writer.proofs.state.zero_bytes.Goals as goal
 
 pub returns : goal.returns

@@ -1,5 +1,5 @@
 -- the rest is shorter
-use Rattle.std.proofs.Common.{length}
+use Rattle.set_conversion.proofs.Common.{length}
 use Rattle.set_conversion.proofs.words.+asked_after.Given as goal
 
 abbrev pub decreases-asked_after : goal.decreases-asked_after

@@ -1,5 +1,5 @@
 -- the rest is shorter
-use Rattle.std.proofs.Common.{length}
+use Rattle.set_conversion.proofs.Common.{length}
 use Rattle.set_conversion.proofs.words.+with_files.Given as goal
 
 abbrev pub decreases-with_files : goal.decreases-with_files

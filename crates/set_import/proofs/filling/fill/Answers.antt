@@ -1,12 +1,6 @@
-use Rattle.std.proofs.Common.{◌∙◌, Err, Ok, ap, arith, inl, sym, subst}
-use Rattle.mb_load.specs.Committing.{MakesChanges}
-use Rattle.mb_load.specs.LoadedFrom.{IsLoadedFrom}
-use Rattle.mb_tables.specs.Table.{Tables}
+use Rattle.set_import.proofs.Common.{ap, arith, Err, ImportCauses, inl, is_unwritten, IsAnswered, IsBase, IsLeft, IsLoadedFrom, load_answered, loaded_state, MakesChanges, Ok, put_answered, put_causes}
+use Rattle.set_import.proofs.Common.{started, subst, sym, Tables, ◌∙◌}
 use Rattle.set_import.proofs.FillingLemmas.{are_filled, are_left, either_free, free_answered, later_causes, moved_begun, moved_new, not_unwritten}
-use Rattle.set_import.specs.Filling.{IsLeft, is_unwritten, started}
-use Rattle.tile_import.proofs.AnswerLemmas.{load_answered, loaded_state, put_answered, put_causes}
-use Rattle.tile_import.specs.Import.{ImportCauses, IsAnswered}
-use Rattle.tile_import.specs.Storing.{IsBase}
 use Rattle.set_import.proofs.filling.fill.Goals as goal
 
 pub base_of-requires : goal.base_of-requires

@@ -1,9 +1,4 @@
-use Rattle.std.proofs.Common.{sym, subst}
-use Rattle.std.proofs.lemmas.Bool.{true≢false}
-use Rattle.mb_load.specs.LoadedFrom.{IsLoadedFrom}
-use Rattle.mb_loaded.specs.Held.{Held}
-use Rattle.mb_metadata.proofs.NameEditLemmas.{edits_loaded}
-use Rattle.mb_metadata.specs.Inserting.{document_edits}
+use Rattle.set_import.proofs.Common.{document_edits, edits_loaded, Held, IsLoadedFrom, subst, sym, true≢false}
 use Rattle.set_import.proofs.filling.filled_set.Goals as goal
 
 pub returns-in-Ok-with_document-clause-filled : goal.returns-in-Ok-with_document-clause-filled

@@ -1,6 +1,5 @@
-use Rattle.std.proofs.Common.{Err, List, Ok, Option, ℕ, subst}
+use Rattle.set_import.proofs.Common.{Err, IsFilled, List, Ok, Option, started, subst, ℕ}
 use Rattle.set_import.proofs.FillingLemmas.{filled_answer, unread}
-use Rattle.set_import.specs.Filling.{IsFilled, started}
 use Rattle.set_import.proofs.making.import_as_said.Goals as goal
 
 pub returns-in-Err-clause-answer : goal.returns-in-Err-clause-answer

@@ -1,4 +1,4 @@
-use Rattle.std.proofs.Common.{◌∙◌, sym}
+use Rattle.set_import.proofs.Common.{sym, ◌∙◌}
 use Rattle.set_import.proofs.RoundTripLemmas.{canonical}
 use Rattle.set_import.proofs.round_trip.exported_as_it_was.Goals as goal
 

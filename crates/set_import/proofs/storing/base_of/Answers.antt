@@ -1,10 +1,5 @@
-use Rattle.std.proofs.Common.{◌≡◌, ◌∙◌, Ok, ap, sym, subst}
-use Rattle.std.proofs.lemmas.Bool.{false≢true}
-use Rattle.mb_load.specs.Begun.{IsBegun}
-use Rattle.mb_loaded.specs.Held.{Held}
+use Rattle.set_import.proofs.Common.{ap, editable, false≢true, Held, IsBase, IsBegun, Ok, started, state_in, subst, sym, ◌∙◌, ◌≡◌}
 use Rattle.set_import.proofs.NewSetLemmas.{base_new, begun_new, begun_old, base_old}
-use Rattle.set_import.specs.Filling.{started}
-use Rattle.tile_import.specs.Storing.{IsBase, editable, state_in}
 use Rattle.set_import.proofs.storing.base_of.Goals as goal
 
 pub returns-then-branch-clause-answer : goal.returns-then-branch-clause-answer

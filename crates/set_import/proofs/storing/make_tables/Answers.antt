@@ -1,5 +1,4 @@
-use Rattle.std.proofs.Common.{◌∙◌, sym}
-use Rattle.std.proofs.lemmas.Bool.{false≢true}
+use Rattle.set_import.proofs.Common.{false≢true, sym, ◌∙◌}
 use Rattle.set_import.proofs.FillingLemmas.{each_free}
 use Rattle.set_import.proofs.NewSetLemmas.{made_by, started_old}
 use Rattle.set_import.proofs.storing.make_tables.Goals as goal

@@ -1,8 +1,6 @@
-use Rattle.std.proofs.Common.{◌∙◌, inl, refl, sym, subst}
+use Rattle.set_import.proofs.Common.{inl, IsLoadedFrom, refl, subst, sym, Tables, ◌∙◌}
 use Rattle.mb_load.proofs.FrameLemmas.{of_tables}
-use Rattle.mb_load.specs.LoadedFrom.{IsLoadedFrom}
 use Rattle.mb_store.specs.Committing.{Commits}
-use Rattle.mb_tables.specs.Table.{Tables}
 use Rattle.set_import.proofs.NewSetLemmas.{left_by}
 use Rattle.set_import.proofs.storing.store_set.Goals as goal
 

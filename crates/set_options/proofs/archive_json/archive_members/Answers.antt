@@ -1,12 +1,6 @@
-use Rattle.std.proofs.Common.{◌≡◌, [], None, arith}
-use Rattle.std.specs.Prelude.{codes}
-use Rattle.std.specs.FinMap.{entries, len-entries}
-use Rattle.mb_lists.specs.Entries.{text_cell}
-use Rattle.mb_lists.specs.Metadata.{text_at}
-use Rattle.serde_json.specs.View.{members_view}
+use Rattle.set_options.proofs.Common.{arith, codes, entries, len-entries, members_in, members_view, None, text_at, text_cell, with_entry, [], ◌≡◌}
 use Rattle.set_options.proofs.FoldLemmas.{fold_at, fold_end}
 use Rattle.set_options.proofs.StepLemmas.{name_step}
-use Rattle.set_options.specs.ArchiveJson.{members_in, with_entry}
 use Rattle.set_options.proofs.archive_json.archive_members.Goals as goal
 
 pub loop-index-preserved : goal.loop-index-preserved

@@ -1,5 +1,5 @@
 -- the rest is shorter
-use Rattle.std.proofs.Common.{length}
+use Rattle.set_options.proofs.Common.{length}
 use Rattle.set_options.proofs.degrees.+whole.Given as goal
 
 abbrev pub decreases-whole : goal.decreases-whole

@@ -1,5 +1,5 @@
 use Rattle.set_options.proofs.WholeLemmas.{document_whole}
-use Rattle.serde_json.specs.View.{members_view}
+use Rattle.set_options.proofs.Common.{members_view}
 use Rattle.set_options.proofs.document.document_of_archive.Goals as goal
 
 pub returns-in-Ok-document_of_members-clause-answer : goal.returns-in-Ok-document_of_members-clause-answer

@@ -1,5 +1,4 @@
-use Rattle.std.proofs.Common.{◌∙◌, ap, subst}
-use Rattle.set_options.specs.Document.{IsJsonOf, document_of}
+use Rattle.set_options.proofs.Common.{ap, document_of, IsJsonOf, subst, ◌∙◌}
 use Rattle.set_options.proofs.document.document_of_members.Goals as goal
 
 pub returns : goal.returns

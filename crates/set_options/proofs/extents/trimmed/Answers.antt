@@ -1,7 +1,4 @@
-use Rattle.std.proofs.Common.{drop, refl}
-use Rattle.std.proofs.lemmas.Str.Ascii.{trim_ascii_is}
-use Rattle.std.specs.Char.{is_ascii_whitespace}
-use Rattle.std.specs.List.{prefix_len}
+use Rattle.set_options.proofs.Common.{drop, is_ascii_whitespace, prefix_len, refl, trim_ascii_is}
 use Rattle.set_options.proofs.extents.trimmed.Goals as goal
 
 pub returns : goal.returns

@@ -1,9 +1,6 @@
-use Rattle.std.proofs.Common.{◌≡◌, None, arith}
-use Rattle.std.specs.FinMap.{entries, len-entries}
-use Rattle.mb_lists.specs.Entries.{blob_cell, place_at}
+use Rattle.set_options.proofs.Common.{arith, blob_cell, entries, len-entries, no_facts, None, place_at, with_tile, ◌≡◌}
 use Rattle.set_options.proofs.FoldLemmas.{fold_at, fold_end}
 use Rattle.set_options.proofs.StepLemmas.{tile_step}
-use Rattle.set_options.specs.Facts.{no_facts, with_tile}
 use Rattle.set_options.proofs.facts.facts_of.Goals as goal
 
 pub loop-index-preserved : goal.loop-index-preserved

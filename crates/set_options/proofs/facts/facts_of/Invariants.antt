@@ -1,7 +1,5 @@
 -- what the tiles so far say
-use Rattle.std.proofs.Common.{◌≡◌, fold, take}
-use Rattle.std.specs.FinMap.{entries}
-use Rattle.set_options.specs.Facts.{no_facts, with_tile}
+use Rattle.set_options.proofs.Common.{entries, fold, no_facts, take, with_tile, ◌≡◌}
 use Rattle.set_options.proofs.facts.facts_of.Given as goal
 
 abbrev pub invariant-loop-index : goal.invariant-loop-index

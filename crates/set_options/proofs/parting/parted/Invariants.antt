@@ -1,7 +1,5 @@
 -- Putting what is left gives what putting all gives.
-use Rattle.std.proofs.Common.{◌≡◌}
-use Rattle.serde_json.specs.View.{members_view}
-use Rattle.set_options.specs.Parting.{kept_in, names_in, with_all_kept, with_names}
+use Rattle.set_options.proofs.Common.{kept_in, members_view, names_in, with_all_kept, with_names, ◌≡◌}
 use Rattle.set_options.proofs.parting.parted.Given as goal
 
 abbrev pub invariant-loop-name : goal.invariant-loop-name

@@ -1,5 +1,5 @@
 -- the tiles of at least one byte so far
-use Rattle.tile_bridge.specs.Adds.{AreFilled}
+use Rattle.tile_bridge.proofs.Common.{AreFilled}
 use Rattle.tile_bridge.proofs.adds.filled_tiles.Given as goal
 
 abbrev pub invariant-loop-index : goal.invariant-loop-index

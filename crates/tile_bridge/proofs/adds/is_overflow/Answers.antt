@@ -1,4 +1,4 @@
-use Rattle.std.proofs.Common.{arith, sym}
+use Rattle.tile_bridge.proofs.Common.{arith, sym}
 use Rattle.tile_bridge.proofs.SizeLemmas.{all_counted, counted_more, is_long, is_much, many}
 use Rattle.tile_bridge.proofs.adds.is_overflow.Goals as goal
 use Rattle.tile_bridge.proofs.adds.is_overflow.Goals.{then-length-via-then-length, then-length-via-else-length+then-total}

@@ -1,8 +1,4 @@
-use Rattle.std.proofs.Common.{arith, ◌<◌}
-use Rattle.std.proofs.lemmas.List.Sorted.{All-permutation}
-use Rattle.std.specs.FinMap.{len}
-use Rattle.tile_bridge.specs.Adds.{shown}
-use Rattle.tile_bridge.specs.declared.adds.Add.{Add}
+use Rattle.tile_bridge.proofs.Common.{Add, All-permutation, arith, len, shown, ◌<◌}
 use Rattle.tile_bridge.proofs.AddLemmas.{adds_are, permuted}
 use Rattle.tile_bridge.proofs.FewAddLemmas.{adds_few}
 use Rattle.tile_bridge.proofs.FillingLemmas.{all_filled}

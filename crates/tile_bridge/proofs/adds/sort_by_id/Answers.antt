@@ -1,5 +1,4 @@
-use Rattle.std.proofs.Common.{rules}
-use Rattle.std.proofs.lemmas.List.Sorted.{IsNonDecreasingBy-from_sort_by_key}
+use Rattle.tile_bridge.proofs.Common.{IsNonDecreasingBy-from_sort_by_key, rules}
 use Rattle.tile_bridge.proofs.adds.sort_by_id.Goals as goal
 
 pub returns-clause-rising : goal.returns-clause-rising

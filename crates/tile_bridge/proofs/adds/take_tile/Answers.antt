@@ -1,4 +1,4 @@
-use Rattle.std.proofs.Common.{rules, tests, [], ◌∷◌, ◌++◌, ◌∙◌, ap, sym}
+use Rattle.tile_bridge.proofs.Common.{ap, rules, sym, tests, [], ◌++◌, ◌∙◌, ◌∷◌}
 use Rattle.tile_bridge.proofs.FillingLemmas.{empty_passed, filled_more, nil_of, not_nil_of}
 use Rattle.tile_bridge.proofs.adds.take_tile.Goals as goal
 

@@ -1,4 +1,4 @@
-use Rattle.std.proofs.Common.{◌∙◌}
+use Rattle.tile_bridge.proofs.Common.{◌∙◌}
 use Rattle.tile_bridge.proofs.FillingLemmas.{bytes_read}
 use Rattle.tile_bridge.proofs.adds.tile_bytes.Goals as goal
 

@@ -1,11 +1,4 @@
-use Rattle.std.proofs.Common.{rules, arith, map, not, subst, sym, ◌∙◌, ap}
-use Rattle.std.specs.Prelude.{unwrap_or}
-use Rattle.std.proofs.lemmas.List.{length-map}
-use Rattle.tile_bridge.specs.Convert.{ConvertCauses, IsEmpty, SetCauses}
-use Rattle.tile_bridge.specs.Leaves.{Leaves}
-use Rattle.tile_bridge.specs.Outcome.{due}
-use Rattle.tile_bridge.specs.Patching.{IsStored}
-use Rattle.tile_bridge.specs.declared.options.ConvertOptions.{ConvertOptions}
+use Rattle.tile_bridge.proofs.Common.{ap, arith, ConvertCauses, ConvertOptions, due, IsEmpty, IsStored, Leaves, length-map, map, not, rules, SetCauses, subst, sym, unwrap_or, ◌∙◌}
 use Rattle.tile_bridge.proofs.BaseLemmas.{base_of}
 use Rattle.tile_bridge.proofs.ConvertLemmas.{none_told}
 use Rattle.tile_bridge.proofs.FoldLemmas.{as_long}

@@ -1,9 +1,4 @@
-use Rattle.std.proofs.Common.{◌≡◌, ℕ, List, is_some, IfSome, subst, ◌∙◌, ap}
-use Rattle.pm_writer.specs.Archive.{archive}
-use Rattle.pm_writer.specs.Pieces.{IsHiddenOr}
-use Rattle.pm_writer.specs.Places.{places_of}
-use Rattle.pm_writer.specs.Took.{TookAll}
-use Rattle.tile_bridge.specs.Adds.{shown}
+use Rattle.tile_bridge.proofs.Common.{ap, archive, IfSome, is_some, IsHiddenOr, List, places_of, shown, subst, TookAll, ℕ, ◌∙◌, ◌≡◌}
 use Rattle.tile_bridge.proofs.ConvertLemmas.{leaves_all, leaves_part, leaves_whole, read_refused, ready, told_same}
 use Rattle.tile_bridge.proofs.conversion.convert_set.Goals as goal
 

@@ -1,5 +1,4 @@
-use Rattle.std.proofs.Common.{true}
-use Rattle.mb_store.specs.MemStore.{told_of}
+use Rattle.tile_bridge.proofs.Common.{told_of, true}
 use Rattle.tile_bridge.proofs.StoreLemmas.{load_refused}
 use Rattle.tile_bridge.proofs.loading.load_base.Goals as goal
 

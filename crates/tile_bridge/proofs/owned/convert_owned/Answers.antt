@@ -1,11 +1,4 @@
-use Rattle.std.proofs.Common.{rules, ap, map, subst, sym, ◌∙◌, true, false, Err}
-use Rattle.std.specs.Prelude.{unwrap_or}
-use Rattle.mb_store.specs.MemStore.{told_of}
-use Rattle.mb_store.specs.declared.mem_store.MemStore.{MemStore}
-use Rattle.tile_bridge.specs.Convert.{ConvertCauses, IsEmpty, SetCauses}
-use Rattle.tile_bridge.specs.Leaves.{Leaves}
-use Rattle.tile_bridge.specs.Outcome.{due}
-use Rattle.tile_bridge.specs.declared.options.ConvertOptions.{ConvertOptions}
+use Rattle.tile_bridge.proofs.Common.{ap, ConvertCauses, ConvertOptions, due, Err, false, IsEmpty, Leaves, map, MemStore, rules, SetCauses, subst, sym, told_of, true, unwrap_or, ◌∙◌}
 use Rattle.tile_bridge.proofs.ConvertLemmas.{none_told}
 use Rattle.tile_bridge.proofs.FoldLemmas.{has_failed}
 use Rattle.tile_bridge.proofs.LeavesLemmas.{of_set}

@@ -1,4 +1,4 @@
-use Rattle.std.proofs.Common.{arith, ap, Err}
+use Rattle.tile_bridge.proofs.Common.{ap, arith, Err}
 use Rattle.tile_bridge.proofs.FoldLemmas.{as_long, due_all, fault_after, folded_more, folded_none, read_after, refused_after, some_all}
 use Rattle.tile_bridge.proofs.patching.patch_all.Goals as goal
 

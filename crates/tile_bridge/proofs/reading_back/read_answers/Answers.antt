@@ -1,6 +1,4 @@
-use Rattle.std.proofs.Common.{arith}
-use Rattle.byte_media.proofs.KeptLemmas.{reads_then}
-use Rattle.tile_ids.specs.Hilbert.{id_of}
+use Rattle.tile_bridge.proofs.Common.{arith, id_of, reads_then}
 use Rattle.tile_bridge.proofs.ReadingBackLemmas.{all_answers, answer_more, memory_answers, reads_more, tile_answers}
 use Rattle.tile_bridge.proofs.reading_back.read_answers.Goals as goal
 

@@ -1,6 +1,4 @@
-use Rattle.std.proofs.Common.{true}
-use Rattle.mb_store.specs.MemStore.{told_of}
-use Rattle.mb_store.specs.declared.mem_store.MemStore.{MemStore}
+use Rattle.tile_bridge.proofs.Common.{MemStore, told_of, true}
 use Rattle.tile_bridge.proofs.ResolveLemmas.{base_refused, patches_refused, state_due, tests_refused}
 use Rattle.tile_bridge.proofs.resolving.resolve_owned.Goals as goal
 

@@ -1,9 +1,4 @@
-use Rattle.std.proofs.Common.{rules, take, subst, ap, sym, ◌∙◌}
-use Rattle.byte_media.proofs.KeptLemmas.{medium_then}
-use Rattle.pm_writer.proofs.Took.{took_as, took_more}
-use Rattle.pm_writer.specs.Took.{Took, TookAll}
-use Rattle.pm_writer.specs.Writing.{add_to}
-use Rattle.tile_bridge.specs.Adds.{shown}
+use Rattle.tile_bridge.proofs.Common.{add_to, ap, medium_then, rules, shown, subst, sym, take, Took, took_as, took_more, TookAll, ◌∙◌}
 use Rattle.tile_bridge.proofs.WritingLemmas.{add_refused, added_to, fits_at}
 use Rattle.tile_bridge.proofs.writing.add_all.Goals as goal
 

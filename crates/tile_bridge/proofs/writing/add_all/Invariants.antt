@@ -1,10 +1,5 @@
 -- the archive of what the adds so far are taken for is begun
-use Rattle.std.proofs.Common.{◌≡◌, ℕ, false, List, [], take}
-use Rattle.byte_media.specs.Kept.{KeepsMedium}
-use Rattle.pm_format.specs.Options.{Options}
-use Rattle.pm_writer.specs.Took.{TookAll}
-use Rattle.pm_writer.specs.Writing.{Writes, has_failed}
-use Rattle.tile_bridge.specs.Adds.{shown}
+use Rattle.tile_bridge.proofs.Common.{false, has_failed, KeepsMedium, List, Options, shown, take, TookAll, Writes, ℕ, [], ◌≡◌}
 use Rattle.tile_bridge.proofs.writing.add_all.Given as goal
 
 abbrev pub invariant-loop-index : goal.invariant-loop-index

@@ -1,9 +1,5 @@
-use Rattle.std.proofs.Common.{◌≡◌, rules, sym, ◌∙◌}
+use Rattle.tile_bridge.proofs.Common.{all_took_as, archive, IsHiddenOr, rules, shown, sym, told_as_given, ◌∙◌, ◌≡◌}
 use Rattle.std.proofs.lemmas.Result.{on_ok_weaker}
-use Rattle.pm_writer.proofs.Took.{all_took_as, told_as_given}
-use Rattle.pm_writer.specs.Archive.{archive}
-use Rattle.pm_writer.specs.Pieces.{IsHiddenOr}
-use Rattle.tile_bridge.specs.Adds.{shown}
 use Rattle.tile_bridge.proofs.WritingLemmas.{finish_refused, placed, written_took}
 use Rattle.tile_bridge.proofs.writing.write_archive.Goals as goal
 

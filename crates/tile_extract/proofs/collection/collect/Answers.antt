@@ -1,9 +1,4 @@
-use Rattle.std.proofs.Common.{◌∙◌, sym, subst}
-use Rattle.pm_reader.specs.Opening.{header_of, root_of}
-use Rattle.pm_walk.specs.Collecting.{AllLieIn}
-use Rattle.pm_walk.specs.Intervals.{AreApart}
-use Rattle.tile_extract.specs.Cut.{intervals}
-use Rattle.tile_extract.specs.Extract.{CollectCauses}
+use Rattle.tile_extract.proofs.Common.{AllLieIn, AreApart, CollectCauses, header_of, intervals, root_of, subst, sym, ◌∙◌}
 use Rattle.tile_extract.proofs.ExtractLemmas.{told_collected, told_refused, walk_causes}
 use Rattle.tile_extract.proofs.collection.collect.Goals as goal
 

@@ -1,7 +1,4 @@
-use Rattle.std.proofs.Common.{◌∙◌, IfSome, Ok, Err, ap, sym, subst}
-use Rattle.pm_reader.specs.Opening.{header_of, root_of}
-use Rattle.tile_extract.specs.Cut.{options_from}
-use Rattle.tile_extract.specs.Written.{ShowsNone, WritesParts}
+use Rattle.tile_extract.proofs.Common.{ap, Err, header_of, IfSome, Ok, options_from, root_of, ShowsNone, subst, sym, WritesParts, ◌∙◌}
 use Rattle.tile_extract.proofs.DoneLemmas.{err_answers, err_leaves, err_uncompared, ok_answers, ok_leaves}
 use Rattle.tile_extract.proofs.PlanLemmas.{collect_causes, early_leaves}
 use Rattle.tile_extract.proofs.PlanToldLemmas.{answered, planned, uncollected}

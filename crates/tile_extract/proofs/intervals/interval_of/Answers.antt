@@ -1,4 +1,4 @@
-use Rattle.std.proofs.Common.{◌∙◌, sym}
+use Rattle.tile_extract.proofs.Common.{sym, ◌∙◌}
 use Rattle.tile_extract.proofs.IntervalLemmas.{is_interval, pair_is}
 use Rattle.tile_extract.proofs.intervals.interval_of.Goals as goal
 

@@ -1,6 +1,4 @@
-use Rattle.std.proofs.Common.{◌∙◌, ◌+◌, ◌-◌, [], ◌∷◌, ◌++◌, ap, sym, subst, arith}
-use Rattle.pm_walk.specs.Intervals.{AreApart}
-use Rattle.tile_extract.specs.Cut.{intervals_from}
+use Rattle.tile_extract.proofs.Common.{ap, AreApart, arith, intervals_from, subst, sym, [], ◌++◌, ◌+◌, ◌-◌, ◌∙◌, ◌∷◌}
 use Rattle.tile_extract.proofs.IntervalLemmas.{all_found, apart, more_intervals, none_yet}
 use Rattle.tile_extract.proofs.intervals.intervals_of.Goals as goal
 

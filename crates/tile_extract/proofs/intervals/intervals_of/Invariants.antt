@@ -1,5 +1,4 @@
-use Rattle.std.proofs.Common.{◌≡◌, ◌+◌, ◌-◌, ◌≤◌, ◌++◌}
-use Rattle.tile_extract.specs.Cut.{intervals, intervals_from}
+use Rattle.tile_extract.proofs.Common.{intervals, intervals_from, ◌++◌, ◌+◌, ◌-◌, ◌≡◌, ◌≤◌}
 use Rattle.tile_extract.proofs.intervals.intervals_of.Given as goal
 
 abbrev pub invariant-loop-zoom : goal.invariant-loop-zoom

@@ -1,5 +1,4 @@
-use Rattle.std.proofs.Common.{Err}
-use Rattle.tile_extract.specs.Words.{asked_in}
+use Rattle.tile_extract.proofs.Common.{asked_in, Err}
 use Rattle.tile_extract.proofs.RunLemmas.{run_well}
 use Rattle.tile_extract.proofs.top_call.run_extract.Goals as goal
 

@@ -1,10 +1,5 @@
-use Rattle.std.proofs.Common.{◌∙◌, length, Err, Ok, refl, ap, sym, subst, arith}
+use Rattle.tile_extract.proofs.Common.{add_to, ap, arith, Err, ids_of, length, medium_same, medium_then, Ok, Puts, PutsAll, refl, subst, sym, Took, took_as, written_fits, ◌∙◌}
 use Rattle.std.proofs.lemmas.List.FromFn.{length-range_with_len}
-use Rattle.byte_media.proofs.KeptLemmas.{medium_same, medium_then}
-use Rattle.pm_writer.proofs.Took.{took_as, written_fits}
-use Rattle.pm_writer.specs.Took.{Took}
-use Rattle.pm_writer.specs.Writing.{add_to}
-use Rattle.tile_extract.specs.Written.{Puts, PutsAll, ids_of}
 use Rattle.tile_extract.proofs.AddedLemmas.{PutsOn, add_faulted, add_refused, err_is, puts_next}
 use Rattle.tile_extract.proofs.writing.add_part.Goals as goal
 

@@ -1,9 +1,4 @@
-use Rattle.std.proofs.Common.{◌≡◌, ◌≤◌, ◌+◌, ℕ, false, List, length}
-use Rattle.byte_media.specs.Kept.{KeepsMedium}
-use Rattle.pm_format.specs.Options.{Options}
-use Rattle.pm_writer.specs.Took.{Took}
-use Rattle.pm_writer.specs.Writing.{Writes, has_failed}
-use Rattle.tile_extract.specs.Written.{ids_of}
+use Rattle.tile_extract.proofs.Common.{false, has_failed, ids_of, KeepsMedium, length, List, Options, Took, Writes, ℕ, ◌+◌, ◌≡◌, ◌≤◌}
 use Rattle.tile_extract.proofs.AddedLemmas.{PutsOn}
 use Rattle.tile_extract.proofs.writing.add_part.Given as goal
 

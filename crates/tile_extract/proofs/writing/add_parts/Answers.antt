@@ -1,10 +1,4 @@
-use Rattle.std.proofs.Common.{◌≡◌, ◌+◌, ◌∷◌, length, Err, Ok, IfSome, ap, sym, subst, arith}
-use Rattle.byte_media.proofs.KeptLemmas.{medium_then, reads_then}
-use Rattle.pm_reader.specs.Answers.{Gives, range_read}
-use Rattle.pm_reader.specs.Opening.{header_of}
-use Rattle.pm_walk.specs.Parts.{tile_count}
-use Rattle.tile_extract.specs.Written.{PartsPut}
-use Rattle.pm_walk.proofs.ClippingLemmas.{no_items}
+use Rattle.tile_extract.proofs.Common.{ap, arith, Err, Gives, header_of, IfSome, length, medium_then, no_items, Ok, PartsPut, range_read, reads_then, subst, sym, tile_count, ◌+◌, ◌∷◌, ◌≡◌}
 use Rattle.tile_extract.proofs.PartsLemmas.{put_all_parts, put_more, put_refused, read_at, read_refused, rest_ordered}
 use Rattle.tile_extract.proofs.writing.add_parts.Goals as goal
 

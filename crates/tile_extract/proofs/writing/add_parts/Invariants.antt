@@ -1,11 +1,4 @@
-use Rattle.std.proofs.Common.{◌≡◌, ◌≤◌, ◌+◌, ℕ, false, List, [], None, length}
-use Rattle.byte_media.specs.Kept.{KeepsMedium}
-use Rattle.pm_format.specs.Options.{Options}
-use Rattle.pm_reader.specs.Opening.{header_of}
-use Rattle.pm_reader.specs.Reads.{ReadsOnly}
-use Rattle.pm_writer.specs.Writing.{Writes, has_failed}
-use Rattle.pm_walk.specs.Collecting.{AreOrdered}
-use Rattle.pm_walk.specs.Parts.{tile_count}
+use Rattle.tile_extract.proofs.Common.{AreOrdered, false, has_failed, header_of, KeepsMedium, length, List, None, Options, ReadsOnly, tile_count, Writes, ℕ, [], ◌+◌, ◌≡◌, ◌≤◌}
 use Rattle.tile_extract.proofs.PartsLemmas.{PutSoFar}
 use Rattle.tile_extract.proofs.writing.add_parts.Given as goal
 

@@ -1,7 +1,4 @@
-use Rattle.std.proofs.Common.{rules, Err, sym, subst, arith}
-use Rattle.pm_reader.specs.Opening.{header_of}
-use Rattle.pm_writer.specs.declared.places.ArchivePlaces.{ArchivePlaces}
-use Rattle.tile_extract.specs.Written.{WriteCauses, WritesParts}
+use Rattle.tile_extract.proofs.Common.{ArchivePlaces, arith, Err, header_of, rules, subst, sym, WriteCauses, WritesParts}
 use Rattle.tile_extract.proofs.FinishLemmas.{finish_causes, finish_refused, finish_shows, finished}
 use Rattle.tile_extract.proofs.writing.write_parts.Goals as goal
 

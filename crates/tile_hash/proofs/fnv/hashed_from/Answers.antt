@@ -1,5 +1,4 @@
-use Rattle.std.proofs.Common.{ℕ, ◌+◌, arith, sym, ◌∙◌, ap, drop}
-use Rattle.tile_hash.specs.Fnv.{byte_hashed, hashed_from}
+use Rattle.tile_hash.proofs.Common.{ap, arith, byte_hashed, drop, hashed_from, sym, ℕ, ◌+◌, ◌∙◌}
 use Rattle.tile_hash.proofs.StepLemmas.{hashed_step, hashed_done}
 use Rattle.tile_hash.proofs.fnv.hashed_from.Goals as goal
 

@@ -1,5 +1,4 @@
-use Rattle.std.proofs.Common.{◌≡◌, drop}
-use Rattle.tile_hash.specs.Fnv.{hashed_from}
+use Rattle.tile_hash.proofs.Common.{drop, hashed_from, ◌≡◌}
 use Rattle.tile_hash.proofs.fnv.hashed_from.Given as goal
 
 abbrev pub invariant-loop-byte : goal.invariant-loop-byte

@@ -1,5 +1,4 @@
-use Rattle.std.proofs.Common.{◌≡◌}
-use Rattle.tile_hash.specs.Xxh64.{after_half, after_bytes}
+use Rattle.tile_hash.proofs.Common.{after_bytes, after_half, ◌≡◌}
 use Rattle.tile_hash.proofs.xxh_64.after_rest.Given as goal
 
 abbrev pub invariant-loop-i : goal.invariant-loop-i

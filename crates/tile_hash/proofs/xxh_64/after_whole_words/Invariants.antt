@@ -1,5 +1,4 @@
-use Rattle.std.proofs.Common.{◌≡◌}
-use Rattle.tile_hash.specs.Xxh64.{after_words}
+use Rattle.tile_hash.proofs.Common.{after_words, ◌≡◌}
 use Rattle.tile_hash.proofs.xxh_64.after_whole_words.Given as goal
 
 abbrev pub invariant-loop-i : goal.invariant-loop-i

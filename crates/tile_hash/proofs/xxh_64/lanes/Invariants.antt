@@ -1,5 +1,4 @@
-use Rattle.std.proofs.Common.{◌≡◌}
-use Rattle.tile_hash.specs.Xxh64.{lanes_after}
+use Rattle.tile_hash.proofs.Common.{lanes_after, ◌≡◌}
 use Rattle.tile_hash.proofs.xxh_64.lanes.Given as goal
 
 abbrev pub invariant-loop-i : goal.invariant-loop-i

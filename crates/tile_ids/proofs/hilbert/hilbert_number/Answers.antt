@@ -1,4 +1,4 @@
-use Rattle.std.proofs.Common.{arith}
+use Rattle.tile_ids.proofs.Common.{arith}
 use Rattle.tile_ids.proofs.Curve.{hilbert_below}
 use Rattle.tile_ids.proofs.WalkLemmas.{first, walk_begin, walk_more, walk_below, walked}
 use Rattle.tile_ids.proofs.hilbert.hilbert_number.Goals as goal

@@ -1,4 +1,4 @@
-use Rattle.std.proofs.Common.{arith}
+use Rattle.tile_ids.proofs.Common.{arith}
 use Rattle.tile_ids.proofs.WalkLemmas.{first, return_begin, return_more, return_below, returned}
 use Rattle.tile_ids.proofs.hilbert.hilbert_place.Goals as goal
 

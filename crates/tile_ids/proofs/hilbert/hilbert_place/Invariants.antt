@@ -1,4 +1,4 @@
-use Rattle.std.proofs.Common.{◌/◌}
+use Rattle.tile_ids.proofs.Common.{◌/◌}
 use Rattle.tile_ids.proofs.WalkLemmas.{Returning}
 use Rattle.tile_ids.proofs.hilbert.hilbert_place.Given as goal
 

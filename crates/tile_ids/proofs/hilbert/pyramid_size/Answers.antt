@@ -1,4 +1,4 @@
-use Rattle.std.proofs.Common.{refl}
+use Rattle.tile_ids.proofs.Common.{refl}
 use Rattle.tile_ids.proofs.Curve.{area_of}
 use Rattle.tile_ids.proofs.hilbert.pyramid_size.Goals as goal
 

@@ -1,4 +1,4 @@
-use Rattle.std.proofs.Common.{◌≤◌, ◌-◌, ◌^◌, refl, ap, ◌∙◌, arith}
+use Rattle.tile_ids.proofs.Common.{ap, arith, refl, ◌-◌, ◌^◌, ◌∙◌, ◌≤◌}
 use Rattle.tile_ids.proofs.Curve.{area_of, area_below}
 use Rattle.tile_ids.proofs.SubtreeLemmas.{block_below}
 use Rattle.tile_ids.proofs.interval.block.Goals as goal

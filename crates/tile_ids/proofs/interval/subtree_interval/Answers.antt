@@ -1,4 +1,4 @@
-use Rattle.std.proofs.Common.{arith}
+use Rattle.tile_ids.proofs.Common.{arith}
 use Rattle.tile_ids.proofs.Curve.{four_pos}
 use Rattle.tile_ids.proofs.SubtreeLemmas.{block_interval, interval_within, interval_law}
 use Rattle.tile_ids.proofs.interval.subtree_interval.Goals as goal

@@ -1,4 +1,4 @@
-use Rattle.tile_ids.specs.Hilbert.{last_tile}
+use Rattle.tile_ids.proofs.Common.{last_tile}
 use Rattle.tile_ids.proofs.Bijection.{id_within}
 use Rattle.tile_ids.proofs.laws.last_id_is_the_maximum.Goals as goal
 

@@ -1,4 +1,4 @@
-use Rattle.std.proofs.Common.{refl}
+use Rattle.tile_ids.proofs.Common.{refl}
 use Rattle.tile_ids.proofs.SixteenthLemmas.{number_read}
 use Rattle.tile_ids.proofs.orientation.number_entry.Goals as goal
 

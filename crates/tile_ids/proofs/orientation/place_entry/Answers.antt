@@ -1,4 +1,4 @@
-use Rattle.std.proofs.Common.{refl}
+use Rattle.tile_ids.proofs.Common.{refl}
 use Rattle.tile_ids.proofs.SixteenthLemmas.{place_read}
 use Rattle.tile_ids.proofs.orientation.place_entry.Goals as goal
 

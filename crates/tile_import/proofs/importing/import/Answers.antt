@@ -1,11 +1,8 @@
-use Rattle.std.proofs.Common.{◌∙◌, Err, Ok, sym, subst}
+use Rattle.tile_import.proofs.Common.{Err, Held, IsAnswered, Ok, subst, sym, Tables, ◌∙◌}
 use Rattle.mb_edit.proofs.PutTableLemmas.{are_put}
 use Rattle.mb_edit.specs.PutTables.{ArePut}
 use Rattle.mb_load.specs.Committing.{MakesChanges}
-use Rattle.mb_loaded.specs.Held.{Held}
-use Rattle.mb_tables.specs.Table.{Tables}
 use Rattle.tile_import.proofs.AnswerLemmas.{commit_answered, load_answered, loaded_state, put_answered, put_causes}
-use Rattle.tile_import.specs.Import.{IsAnswered}
 use Rattle.tile_import.proofs.importing.import.Goals as goal
 
 pub returns-in-Err-clause-answer : goal.returns-in-Err-clause-answer

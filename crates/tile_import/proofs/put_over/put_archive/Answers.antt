@@ -1,6 +1,5 @@
-use Rattle.std.proofs.Common.{◌≡◌, Err, sym, subst}
+use Rattle.tile_import.proofs.Common.{Err, IsPutAnswer, PutCauses, subst, sym, ◌≡◌}
 use Rattle.tile_import.proofs.AnswerLemmas.{all_put, are_tiles, put_refused, read_answered, unput_causes}
-use Rattle.tile_import.specs.PutOver.{IsPutAnswer, PutCauses}
 use Rattle.tile_import.proofs.put_over.put_archive.Goals as goal
 
 pub returns-in-Err-clause-answer : goal.returns-in-Err-clause-answer

@@ -1,5 +1,4 @@
-use Rattle.std.proofs.Common.{◌∙◌}
-use Rattle.tile_ids.proofs.Bijection.{is_coord_of}
+use Rattle.tile_import.proofs.Common.{is_coord_of, ◌∙◌}
 use Rattle.tile_import.proofs.reading.coord_at.Goals as goal
 
 pub returns : goal.returns

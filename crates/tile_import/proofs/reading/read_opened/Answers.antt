@@ -1,13 +1,7 @@
-use Rattle.std.proofs.Common.{◌∙◌, ◌≤◌, List, ℕ, Option, sym, subst, arith}
-use Rattle.std.specs.FinMap.{empty, len, len-empty}
-use Rattle.mb_tables.specs.Tiles.{TileSet, place_cmp}
-use Rattle.pm_reader.specs.Opening.{header_of, root_of}
-use Rattle.pm_walk.specs.Parts.{tile_count}
+use Rattle.tile_import.proofs.Common.{AreOnBoard, arith, empty, header_of, len, len-empty, List, Option, place_cmp, ReadCauses, root_of, subst, sym, tile_count, TileSet, ℕ, ◌∙◌, ◌≤◌}
 use Rattle.tile_import.proofs.EntryLemmas.{contents_few, contents_on_board}
 use Rattle.tile_import.proofs.RefusalLemmas.{stop_causes, tiles_taken, want_read}
 use Rattle.tile_import.proofs.TilesLemmas.{none_on_board}
-use Rattle.tile_import.specs.Import.{ReadCauses}
-use Rattle.tile_import.specs.Putting.{AreOnBoard}
 use Rattle.tile_import.proofs.reading.read_opened.Goals as goal
 
 pub returns-in-Err-clause-causes : goal.returns-in-Err-clause-causes

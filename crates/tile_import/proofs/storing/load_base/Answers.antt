@@ -1,8 +1,7 @@
-use Rattle.std.proofs.Common.{Ok}
+use Rattle.tile_import.proofs.Common.{editable, Ok}
 use Rattle.std.proofs.lemmas.Result.{err_from_is_err_and}
 use Rattle.mb_load.proofs.BegunLemmas.{begun_err, begun_ok}
 use Rattle.tile_import.proofs.StoringLemmas.{refused_as, taken_as}
-use Rattle.tile_import.specs.Storing.{editable}
 use Rattle.tile_import.proofs.storing.load_base.Goals as goal
 
 pub returns-in_err-set-clause-answer : goal.returns-in_err-set-clause-answer

@@ -1,7 +1,5 @@
 -- the coordinates so far, and those of the ids that are left
-use Rattle.std.proofs.Common.{◌≡◌, ◌++◌, map}
-use Rattle.mb_lists.specs.Entries.{place_at}
-use Rattle.tile_import.specs.Putting.{ids_of, place_of_id}
+use Rattle.tile_import.proofs.Common.{ids_of, map, place_at, place_of_id, ◌++◌, ◌≡◌}
 use Rattle.tile_import.proofs.tiles.coords_of.Given as goal
 
 abbrev pub invariant-loop-id : goal.invariant-loop-id

@@ -1,6 +1,4 @@
-use Rattle.std.proofs.Common.{ap, map, ◌∙◌}
-use Rattle.mb_lists.specs.Entries.{place_at}
-use Rattle.tile_import.specs.Putting.{ids_of}
+use Rattle.tile_import.proofs.Common.{ap, ids_of, map, place_at, ◌∙◌}
 use Rattle.tile_import.proofs.PlacingLemmas.{run_placed}
 use Rattle.tile_import.proofs.tiles.put_run.Goals as goal
 

@@ -1,8 +1,4 @@
-use Rattle.std.proofs.Common.{Some, ap, ◌∙◌}
-use Rattle.std.specs.FinMap.{empty}
-use Rattle.serde_json.specs.View.{members_view}
-use Rattle.tile_json.specs.LayerReading.{layer_with}
-use Rattle.tile_json.specs.Members.{with_all}
+use Rattle.tile_json.proofs.Common.{ap, empty, layer_with, members_view, Some, with_all, ◌∙◌}
 use Rattle.tile_json.proofs.LayerLemmas.{handed_on, read_id, read_fields, read_description, read_minzoom, read_maxzoom, others_are, no_fields, no_description, no_minzoom, no_maxzoom, whole_layer}
 use Rattle.tile_json.proofs.layer_reading.layer_of_members.Goals as goal
 

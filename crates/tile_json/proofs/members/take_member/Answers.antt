@@ -1,6 +1,4 @@
-use Rattle.std.proofs.Common.{option_map, ap, ◌∙◌}
-use Rattle.serde_json.proofs.Views.{view-lookup}
-use Rattle.serde_json.specs.View.{view, members_view}
+use Rattle.tile_json.proofs.Common.{ap, members_view, option_map, view, view-lookup, ◌∙◌}
 use Rattle.tile_json.proofs.MemberLemmas.{view_removed}
 use Rattle.tile_json.proofs.members.take_member.Goals as goal
 

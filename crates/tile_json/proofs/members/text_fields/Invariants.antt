@@ -1,8 +1,6 @@
 -- Putting what is left gives what putting all gives.
-use Rattle.std.proofs.Common.{◌≡◌}
+use Rattle.tile_json.proofs.Common.{members_view, with_texts, ◌≡◌}
 use Rattle.std.specs.FinMap as map
-use Rattle.serde_json.specs.View.{members_view}
-use Rattle.tile_json.specs.Members.{with_texts}
 use Rattle.tile_json.proofs.members.text_fields.Given as goal
 
 abbrev pub invariant-loop-name : goal.invariant-loop-name

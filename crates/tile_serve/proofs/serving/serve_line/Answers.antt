@@ -1,6 +1,4 @@
-use Rattle.std.proofs.Common.{ℕ, List}
-use Rattle.tile_serve.specs.Outcomes.{outcome_of}
-use Rattle.tile_serve.specs.State.{opened_as, tiles_of}
+use Rattle.tile_serve.proofs.Common.{List, opened_as, outcome_of, tiles_of, ℕ}
 use Rattle.tile_serve.proofs.CourseLemmas.{goes_done, goes_refused, goes_stopped, texts_refused, texts_stopped}
 use Rattle.tile_serve.proofs.LinesLemmas.{end_refused, end_stopped, line_refused, line_stopped, line_written, outcome_is, serve_no_fault, stops_serve, stops_sink, unmodified_refused, unmodified_stopped}
 use Rattle.tile_serve.proofs.serving.serve_line.Goals as goal

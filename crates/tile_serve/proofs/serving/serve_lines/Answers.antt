@@ -1,14 +1,6 @@
-use Rattle.std.proofs.Common.{rules, arith, ◌≡◌, ◌∙◌, ◌∷◌, [], refl, sym, subst, IfSome}
-use Rattle.byte_media.proofs.KeptLemmas.{reads_same, reads_then}
+use Rattle.tile_serve.proofs.Common.{arith, course, Done, IfSome, lines_of, opened_as, outcome_of, reads_same, reads_then, refl, rules, ServeOutcome, subst, sym, tiles_of, UsesOneLength, WritesLine}
+use Rattle.tile_serve.proofs.Common.{WritesLines, [], ◌∙◌, ◌∷◌, ◌≡◌}
 use Rattle.byte_streams.proofs.KeptLemmas.{sink_same, sink_then}
-use Rattle.line_words.specs.Lines.{lines_of}
-use Rattle.pm_reader.specs.Archives.{UsesOneLength}
-use Rattle.tile_serve.specs.Course.{course}
-use Rattle.tile_serve.specs.Outcomes.{outcome_of}
-use Rattle.tile_serve.specs.Serving.{WritesLine, WritesLines}
-use Rattle.tile_serve.specs.State.{opened_as, tiles_of}
-use Rattle.tile_serve.specs.declared.outcome.ServeOutcome.{ServeOutcome}
-use Rattle.tile_serve.specs.declared.outcome.ServeOutcome.TheVariants.{Done}
 use Rattle.tile_serve.proofs.CourseLemmas.{goes_later, texts_later}
 use Rattle.tile_serve.proofs.LinesLemmas.{end_later, fault_later, outcome_is, serving_begun, serving_done, serving_more, serving_stopped, unmodified_again}
 use Rattle.tile_serve.proofs.ServingLemmas.{told_again}

@@ -1,11 +1,5 @@
 -- the lines so far were answered, and their replies written
-use Rattle.std.proofs.Common.{◌≡◌, ◌≤◌, length, IfSome}
-use Rattle.byte_streams.specs.Kept.{KeepsSink}
-use Rattle.pm_reader.specs.Archives.{UsesOneLength}
-use Rattle.pm_reader.specs.Reads.{ReadsOnly}
-use Rattle.tile_serve.specs.Course.{course}
-use Rattle.tile_serve.specs.Serving.{Served}
-use Rattle.tile_serve.specs.State.{IsServing, opened_as, tiles_of}
+use Rattle.tile_serve.proofs.Common.{course, IfSome, IsServing, KeepsSink, length, opened_as, ReadsOnly, Served, tiles_of, UsesOneLength, ◌≡◌, ◌≤◌}
 use Rattle.tile_serve.proofs.serving.serve_lines.Given as goal
 
 abbrev pub invariant-loop-line : goal.invariant-loop-line

@@ -1,9 +1,6 @@
-use Rattle.std.proofs.Common.{rules, ◌≡◌, Some}
-use Rattle.tile_serve.specs.Limits.{limits_in}
-use Rattle.tile_serve.specs.Outcomes.{outcome_of}
+use Rattle.tile_serve.proofs.Common.{InputFault, InputTooLong, limits_in, outcome_of, rules, Some, Usage, ◌≡◌}
 use Rattle.tile_serve.proofs.LinesLemmas.{outcome_is}
 use Rattle.tile_serve.proofs.RunLemmas.{for_some, read_as, read_opened, taken_read, taken_unread, unread, writes_input}
-use Rattle.tile_serve.specs.declared.outcome.ServeOutcome.TheVariants.{InputFault, InputTooLong, Usage}
 use Rattle.tile_serve.proofs.top_call.attempt.Goals as goal
 
 pub returns-in_err-requests-clause-words : goal.returns-in_err-requests-clause-words

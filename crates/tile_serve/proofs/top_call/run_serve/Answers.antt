@@ -1,4 +1,4 @@
-use Rattle.tile_serve.specs.Limits.{limits_in}
+use Rattle.tile_serve.proofs.Common.{limits_in}
 use Rattle.tile_serve.proofs.CompletingLemmas.{complete_by}
 use Rattle.tile_serve.proofs.top_call.run_serve.Goals as goal
 

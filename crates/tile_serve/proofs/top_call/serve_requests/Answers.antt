@@ -1,7 +1,4 @@
-use Rattle.std.proofs.Common.{refl}
-use Rattle.byte_media.proofs.KeptLemmas.{reads_then}
-use Rattle.tile_serve.specs.Outcomes.{outcome_of}
-use Rattle.tile_serve.specs.State.{opened_as, tiles_of}
+use Rattle.tile_serve.proofs.Common.{opened_as, outcome_of, reads_then, refl, tiles_of}
 use Rattle.tile_serve.proofs.LinesLemmas.{outcome_is, unmodified_again}
 use Rattle.tile_serve.proofs.OpenedLemmas.{begun_by, lines_texts, lines_write}
 use Rattle.tile_serve.proofs.RunLemmas.{lines_cause, lines_loud, lines_open, lines_read, unopened}

@@ -1,5 +1,4 @@
-use Rattle.std.proofs.Common.{◌≡◌, ◌+◌, ◌-◌, ◌^◌, ◌≤◌, length, sum_by}
-use Rattle.tile_verify.specs.Tiles.{addressed_by, capped, run_of}
+use Rattle.tile_verify.proofs.Common.{addressed_by, capped, length, run_of, sum_by, ◌+◌, ◌-◌, ◌^◌, ◌≡◌, ◌≤◌}
 use Rattle.tile_verify.proofs.report.addressed.Given as goal
 
 abbrev pub invariant-loop-tile : goal.invariant-loop-tile

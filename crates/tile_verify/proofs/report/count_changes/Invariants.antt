@@ -1,6 +1,4 @@
-use Rattle.std.proofs.Common.{◌≡◌, ◌+◌, ◌≤◌, length, map}
-use Rattle.std.specs.List.{dedup, dedup_from}
-use Rattle.tile_verify.specs.Tiles.{range_of_part, same_range}
+use Rattle.tile_verify.proofs.Common.{dedup, dedup_from, length, map, range_of_part, same_range, ◌+◌, ◌≡◌, ◌≤◌}
 use Rattle.tile_verify.proofs.report.count_changes.Given as goal
 
 abbrev pub invariant-loop-part : goal.invariant-loop-part

@@ -1,5 +1,4 @@
-use Rattle.std.proofs.Common.{length, ◌-◌, ◌≡◌, None, drop}
-use Rattle.tile_verify.specs.FirstBreak.{limits_break}
+use Rattle.tile_verify.proofs.Common.{drop, length, limits_break, None, ◌-◌, ◌≡◌}
 use Rattle.tile_verify.proofs.tests_of_entries.limits_reason.Given as goal
 
 abbrev pub invariant-loop-index : goal.invariant-loop-index

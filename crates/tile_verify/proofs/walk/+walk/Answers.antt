@@ -1,7 +1,6 @@
-use Rattle.std.proofs.Common.{◌∙◌, ◌≢◌, ◌+◌, ap, sym, subst, Ok, IfSome, refl, arith}
+use Rattle.tile_verify.proofs.Common.{ap, arith, header_of, IfSome, Ok, refl, subst, sym, ◌+◌, ◌∙◌, ◌≢◌}
 use Rattle.std.proofs.lemmas.Grind.{common_steps}
 use Rattle.byte_media.proofs.KeptLemmas.{reads_same, reads_then}
-use Rattle.pm_reader.specs.Opening.{header_of}
 use Rattle.tile_verify.proofs.ReadsLemmas.{made_later}
 use Rattle.tile_verify.proofs.ToldLemmas.{told_all_gone, told_begun, told_not_within, told_past_leaf, told_past_tile, told_stopped, told_stopped_below}
 use Rattle.tile_verify.proofs.walk.+walk.Goals as goal

@@ -1,7 +1,4 @@
-use Rattle.std.proofs.Common.{◌≡◌, ◌≤◌, length, None, IfSome}
-use Rattle.pm_reader.specs.Opening.{header_of}
-use Rattle.pm_reader.specs.Reads.{ReadsOnly}
-use Rattle.tile_verify.specs.FirstBreak.{limits_break}
+use Rattle.tile_verify.proofs.Common.{header_of, IfSome, length, limits_break, None, ReadsOnly, ◌≡◌, ◌≤◌}
 use Rattle.tile_verify.proofs.WalkingLemmas.{SoFar}
 use Rattle.tile_verify.proofs.walk.+walk.Given as goal
 

@@ -1,9 +1,5 @@
-use Rattle.std.proofs.Common.{IfOk, Some, map, subst}
-use Rattle.mb_store.specs.MemStore.{told_of}
+use Rattle.tileset.proofs.Common.{ConvertCauses, ConvertLeaves, ConvertOptions, HasAggregate, IfOk, map, outcome, Some, subst, told_of}
 use Rattle.tile_bridge.proofs.LeavesLemmas.{stated_aggregate, stated_leaves}
-use Rattle.tile_bridge.specs.Convert.{ConvertCauses, ConvertLeaves, HasAggregate}
-use Rattle.tile_bridge.specs.Outcome.{outcome}
-use Rattle.tile_bridge.specs.declared.options.ConvertOptions.{ConvertOptions}
 use Rattle.tileset.proofs.ConvertingLemmas.{due_told, no_store_fault}
 use Rattle.tileset.proofs.converting.convert_stores.Goals as goal
 

@@ -1,4 +1,4 @@
-use Rattle.std.proofs.Common.{rules}
+use Rattle.tileset.proofs.Common.{rules}
 use Rattle.tileset.proofs.DumpLemmas.{gains_start, gains_piece, front_piece, moved}
 use Rattle.byte_media.proofs.KeptLemmas.{medium_same, medium_then}
 use Rattle.byte_streams.proofs.KeptLemmas.{sink_same, sink_then}

@@ -1,9 +1,5 @@
 -- the lines of what was written so far
-use Rattle.std.proofs.Common.{◌≡◌, ◌≤◌, ◌<◌, ◌-◌, ◌%◌, take, IfSome}
-use Rattle.byte_streams.specs.Kept.{KeepsSink}
-use Rattle.byte_media.specs.Kept.{KeepsMedium}
-use Rattle.tileset.specs.HexDump.{hex_dump}
-use Rattle.byte_streams.specs.Streams.{Gains}
+use Rattle.tileset.proofs.Common.{Gains, hex_dump, IfSome, KeepsMedium, KeepsSink, take, ◌%◌, ◌-◌, ◌<◌, ◌≡◌, ◌≤◌}
 use Rattle.tileset.proofs.dump.write_dump.Given as goal
 
 abbrev pub invariant-loop-at : goal.invariant-loop-at

@@ -1,4 +1,4 @@
-use Rattle.std.proofs.Common.{rules, ◌≡◌, ◌*◌, ◌++◌, ◌∙◌, ap, arith, codes, length}
+use Rattle.tileset.proofs.Common.{ap, arith, codes, length, rules, ◌*◌, ◌++◌, ◌∙◌, ◌≡◌}
 use Rattle.tileset.proofs.HexDumpLemmas.{ended}
 use Rattle.tileset.proofs.hex_dump.ended_digits.Goals as goal
 

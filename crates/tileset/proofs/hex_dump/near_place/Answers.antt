@@ -1,5 +1,4 @@
-use Rattle.std.proofs.Common.{ap, codes, ◌++◌, ◌∙◌}
-use Rattle.hex.specs.Hex.{encode_lower}
+use Rattle.tileset.proofs.Common.{ap, codes, encode_lower, ◌++◌, ◌∙◌}
 use Rattle.tileset.proofs.HexDumpLemmas.{near_place}
 use Rattle.tileset.proofs.hex_dump.near_place.Goals as goal
 

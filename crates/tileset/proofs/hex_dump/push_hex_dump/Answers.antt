@@ -1,4 +1,4 @@
-use Rattle.std.proofs.Common.{◌<◌, ◌≤◌, length, rules}
+use Rattle.tileset.proofs.Common.{length, rules, ◌<◌, ◌≤◌}
 use Rattle.tileset.proofs.HexDumpLemmas.{one_line_on, no_line}
 use Rattle.tileset.proofs.hex_dump.push_hex_dump.Goals as goal
 

@@ -1,6 +1,5 @@
 -- what is written so far and the dump of the rest are the whole
-use Rattle.std.proofs.Common.{◌≡◌, ◌≤◌, ◌<◌, ◌+◌, ◌++◌, length}
-use Rattle.tileset.specs.HexDump.{hex_dump}
+use Rattle.tileset.proofs.Common.{hex_dump, length, ◌++◌, ◌+◌, ◌<◌, ◌≡◌, ◌≤◌}
 use Rattle.tileset.proofs.hex_dump.push_hex_dump.Given as goal
 
 abbrev pub invariant-loop-rest : goal.invariant-loop-rest

@@ -1,6 +1,5 @@
 -- what is left, with as many zeros as may still go
-use Rattle.std.proofs.Common.{◌≡◌, ◌-◌}
-use Rattle.tileset.specs.HexDump.{trimmed}
+use Rattle.tileset.proofs.Common.{trimmed, ◌-◌, ◌≡◌}
 use Rattle.tileset.proofs.hex_dump.without_zeros.Given as goal
 
 abbrev pub invariant-loop-i : goal.invariant-loop-i

@@ -1,9 +1,5 @@
-use Rattle.std.proofs.Common.{◌≡◌, ◌∙◌, ℕ, ◌<◌, ◌≤◌, ◌^◌, ◌++◌, List, Option, Some, None, Ok, length, ap, sym, subst, arith, append-nil}
-use Rattle.byte_streams.specs.Input.{IsShort, TakesAll}
-use Rattle.byte_streams.specs.Streams.{IsAtEnd}
-use Rattle.byte_streams.specs.declared.input.TheConstants.{MAX_INPUT}
-use Rattle.tileset_script.specs.Script.{Script, script_of}
-use Rattle.tileset.specs.Run.{Spells}
+use Rattle.tileset.proofs.Common.{ap, append-nil, arith, IsAtEnd, IsShort, length, List, MAX_INPUT, None, Ok, Option, Script, script_of, Some, Spells, subst, sym, TakesAll, ℕ, ◌++◌, ◌<◌, ◌^◌, ◌∙◌}
+use Rattle.tileset.proofs.Common.{◌≡◌, ◌≤◌}
 use Rattle.tileset.proofs.load.load.Goals as goal
 
 -- what was left was short, and spells what was read of it

@@ -1,5 +1,5 @@
 -- the bytes so far
-use Rattle.std.proofs.Common.{◌≡◌, ◌++◌, codes, flat_map, string_bytes, take}
+use Rattle.tileset.proofs.Common.{codes, flat_map, string_bytes, take, ◌++◌, ◌≡◌}
 use Rattle.tileset.specs.RefusalText.{spelled_byte}
 use Rattle.tileset.proofs.refusal_text.spelled.Given as goal
 

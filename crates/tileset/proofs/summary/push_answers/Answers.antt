@@ -1,4 +1,4 @@
-use Rattle.std.proofs.Common.{rules}
+use Rattle.tileset.proofs.Common.{rules}
 use Rattle.tileset.proofs.ReportLemmas.{answers_done}
 use Rattle.tileset.proofs.summary.push_answers.Goals as goal
 

@@ -1,6 +1,5 @@
 -- the lines so far, and those of the rest
-use Rattle.std.proofs.Common.{◌≡◌, ◌++◌, drop}
-use Rattle.tileset.specs.Summary.{answer_lines}
+use Rattle.tileset.proofs.Common.{answer_lines, drop, ◌++◌, ◌≡◌}
 use Rattle.tileset.proofs.summary.push_answers.Given as goal
 
 abbrev pub invariant-loop-i : goal.invariant-loop-i

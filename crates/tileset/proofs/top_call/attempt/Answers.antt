@@ -1,6 +1,4 @@
-use Rattle.std.proofs.Common.{rules}
-use Rattle.tileset_script.specs.Reading.{script_text}
-use Rattle.tileset.specs.Run.{Given, IsScript}
+use Rattle.tileset.proofs.Common.{Given, IsScript, rules, script_text}
 use Rattle.tileset.proofs.AnswerLemmas.{exact_by, exact_unread}
 use Rattle.tileset.proofs.RunLemmas.{causes_by, medium_by, output_by}
 use Rattle.tileset.proofs.top_call.attempt.Goals as goal

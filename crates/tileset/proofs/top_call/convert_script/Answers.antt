@@ -1,6 +1,5 @@
 use Rattle.tileset.proofs.RunLemmas.{archive_left, done_output, reported_causes, reported_medium, reported_output, text_moved}
-use Rattle.byte_streams.specs.Streams.{Gains, GainsFront}
-use Rattle.tileset_script.specs.Reading.{script_text}
+use Rattle.tileset.proofs.Common.{Gains, GainsFront, script_text}
 use Rattle.tileset.proofs.top_call.convert_script.Goals as goal
 
 pub returns-in_err-write_report-clause-causes : goal.returns-in_err-write_report-clause-causes

@@ -1,4 +1,4 @@
-use Rattle.tileset.specs.Run.{Given}
+use Rattle.tileset.proofs.Common.{Given}
 use Rattle.tileset.proofs.AnswerLemmas.{complete_by}
 use Rattle.tileset.proofs.top_call.run.Goals as goal
 

@@ -1,6 +1,4 @@
-use Rattle.std.proofs.Common.{rules, ◌∙◌, ◌/◌, ap}
-use Rattle.mb_store.specs.MemStore.{told_of}
-use Rattle.tileset_script.specs.Bulk.{numbered_row}
+use Rattle.tileset_script.proofs.Common.{ap, numbered_row, rules, told_of, ◌/◌, ◌∙◌}
 use Rattle.tileset_script.proofs.BulkLemmas.{no_tiles, one_more}
 use Rattle.tileset_script.proofs.bulk.bulk_base.Goals as goal
 

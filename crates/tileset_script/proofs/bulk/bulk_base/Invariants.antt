@@ -1,8 +1,5 @@
 -- the rows of the ids so far
-use Rattle.std.proofs.Common.{◌≡◌}
-use Rattle.mb_store.specs.MemStore.{told_of}
-use Rattle.tileset_script.specs.Section.{NeverFails}
-use Rattle.tileset_script.specs.Bulk.{bulk_tables}
+use Rattle.tileset_script.proofs.Common.{bulk_tables, NeverFails, told_of, ◌≡◌}
 use Rattle.tileset_script.proofs.bulk.bulk_base.Given as goal
 
 abbrev pub invariant-loop-id : goal.invariant-loop-id

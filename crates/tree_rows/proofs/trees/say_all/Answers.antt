@@ -1,7 +1,7 @@
 use Rattle.std.proofs.Common.{◌≡◌, ◌∙◌, List, ap, subst, sym, ℕ, true}
 use Rattle.std.specs.Prelude.{All}
 use Rattle.std.specs.FinMap.{contains_key}
-use Rattle.mb_tree.proofs.FileLemmas.{all_there}
+use Rattle.tree_rows.proofs.Common.{all_there}
 use Rattle.mb_tree.specs.Files.{paths_of}
 use Rattle.tree_rows.proofs.trees.say_all.Goals as goal
 

@@ -1,4 +1,4 @@
-use Rattle.mb_tree.proofs.FileLemmas.{reads_both}
+use Rattle.tree_rows.proofs.Common.{reads_both}
 use Rattle.tree_rows.proofs.trees.say_files.Goals as goal
 
 pub loop-path-preserved : goal.loop-path-preserved

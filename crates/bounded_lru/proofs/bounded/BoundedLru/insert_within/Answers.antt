@@ -1,4 +1,4 @@
-use Rattle.std.proofs.Common.{arith}
+use Rattle.bounded_lru.proofs.Common.{arith}
 use Rattle.bounded_lru.proofs.PuttingLemmas.{others_weigh, put_light}
 use Rattle.bounded_lru.proofs.bounded.BoundedLru.insert_within.Goals as goal
 

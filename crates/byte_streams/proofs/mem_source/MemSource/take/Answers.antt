@@ -1,4 +1,4 @@
-use Rattle.std.proofs.Common.{rules, arith, ◌∙◌, ◌+◌, ◌-◌, ap, take, drop}
+use Rattle.byte_streams.proofs.Common.{ap, arith, drop, rules, take, ◌+◌, ◌-◌, ◌∙◌}
 use Rattle.byte_streams.proofs.MemSourceLemmas.{next_bytes}
 use Rattle.byte_streams.proofs.mem_source.MemSource.take.Goals as goal
 

@@ -1,10 +1,5 @@
 -- The call's answer is handed on. Assumes `Logic`.
-use Rattle.std.proofs.Common.{[], refl}
-use base.Logic.{id⊢}
-use mir.Syntax.{named}
-use denote.Param.{layout, param}
-use denote.Param.Laws.{param_laws}
-use denote.Signature.{named_lft}
+use Rattle.mb_access.proofs.Common.{id⊢, layout, named, named_lft, param, param_laws, refl, []}
 use Rattle.std.proofs.result.Result.TheLaws as result
 use Rattle.std.specs.contracts.result.Result as RS
 use Rattle.mb_tables.proofs.error.MbtError.TheLaws as error

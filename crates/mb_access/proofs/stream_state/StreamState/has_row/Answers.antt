@@ -1,7 +1,5 @@
-use Rattle.std.proofs.Common.{◌≡◌, ◌∙◌, ap, ◌+◌, ◌-◌, ◌++◌, ◌≤◌, arith, drop, length, take}
+use Rattle.mb_access.proofs.Common.{ap, arith, drop, length, TableName, take, tile_table, ◌++◌, ◌+◌, ◌-◌, ◌∙◌, ◌≡◌, ◌≤◌}
 use Rattle.mb_access.proofs.StreamPages.{page_read}
-use Rattle.mb_tables.specs.Kind.{tile_table}
-use Rattle.mb_tables.specs.declared.table.TableName.{TableName}
 use Rattle.mb_access.proofs.stream_state.StreamState.has_row.Goals as goal
 
 pub returns-clause-rows : goal.returns-clause-rows

@@ -1,6 +1,5 @@
-use Rattle.std.proofs.Common.{◌≡◌, ◌-◌, suc, arith}
+use Rattle.mb_access.proofs.Common.{arith, next_row, suc, ◌-◌, ◌≡◌}
 use Rattle.mb_access.proofs.StreamLoop.{index_given, index_own, refilled}
-use Rattle.mb_access.specs.StreamSteps.{next_row}
 use Rattle.mb_access.proofs.stream_state.StreamState.next_index.Goals as goal
 
 pub returns-in-Some-clause-items : goal.returns-in-Some-clause-items

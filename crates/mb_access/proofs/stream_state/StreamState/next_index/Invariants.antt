@@ -1,4 +1,4 @@
-use Rattle.std.proofs.Common.{◌+◌, ◌-◌, length}
+use Rattle.mb_access.proofs.Common.{length, ◌+◌, ◌-◌}
 use Rattle.mb_access.proofs.StreamLoop.{Streaming}
 use Rattle.mb_access.proofs.stream_state.StreamState.next_index.Given as goal
 

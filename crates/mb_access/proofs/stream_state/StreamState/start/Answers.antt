@@ -1,13 +1,6 @@
-use Rattle.std.proofs.Common.{◌≡◌, ◌∙◌, ap, ◌-◌, ◌++◌, Ok, filter_map, length, refl, take}
-use Rattle.std.proofs.lemmas.Result.{err_from_is_err_and}
-use Rattle.std.specs.FinMap.{len}
+use Rattle.mb_access.proofs.Common.{ap, begun_err, begun_free, begun_ok, err_from_is_err_and, filter_map, len, length, Ok, refl, store_free, TableName, Tables, take, tile_by_row, tile_table, ◌++◌}
+use Rattle.mb_access.proofs.Common.{◌-◌, ◌∙◌, ◌≡◌}
 use Rattle.mb_access.proofs.StreamRows.{all_left, has_passed}
-use Rattle.mb_access.specs.StreamSteps.{tile_by_row}
-use Rattle.mb_load.proofs.BegunLemmas.{begun_err, begun_free, begun_ok}
-use Rattle.mb_load.proofs.StateLemmas.{store_free}
-use Rattle.mb_tables.specs.Kind.{tile_table}
-use Rattle.mb_tables.specs.Table.{Tables}
-use Rattle.mb_tables.specs.declared.table.TableName.{TableName}
 use Rattle.mb_access.proofs.stream_state.StreamState.start.Goals as goal
 
 pub returns-in_err-set-clause-answer : goal.returns-in_err-set-clause-answer

@@ -1,5 +1,5 @@
 -- The store is lent to `CacheState::open`, and held again where that succeeds. What a refusal leaves is what that call left. Assumes `Logic`.
-use Rattle.std.proofs.Common.{◌≡◌, ℕ, List, [], ◌∷◌, ◌++◌, refl, lit<, Ok, Err}
+use Rattle.mb_cache.proofs.Common.{Err, IfErr-at_err, List, lit<, Ok, refl, ℕ, [], ◌++◌, ◌∷◌, ◌≡◌}
 use base.Fml.{Lft, Share, GName, Incl-trans, ftrue, flft, fres}
 use base.Logic.{SProp, emp, id⊢}
 use mir.Syntax.{Fn, a_type, named, dcons, dnil}
@@ -31,7 +31,6 @@ use denote.Triple.Spec.{triple_of}
 use denote.Triple.Table.{framed}
 use denote.Triple.Walked.{Stays, stay_dropped, Goes-dropped, Goes-spent_ref, walk_of}
 use Rattle.std.proofs.raw_atomic.Walks.{proved_at, leaves}
-use Rattle.std.proofs.lemmas.Result.{IfErr-at_err}
 use Rattle.std.proofs.alloc.Global.TheLaws as global
 use Rattle.std.specs.contracts.alloc.Global as G-type
 use Rattle.base_values.proofs.ByHand.Bodies.{after, head, arm_body, then_runs}

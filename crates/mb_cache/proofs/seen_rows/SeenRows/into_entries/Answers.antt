@@ -1,8 +1,5 @@
-use Rattle.std.proofs.Common.{◌∙◌, ap, sym, []}
-use Rattle.std.specs.Option.{option_or}
+use Rattle.mb_cache.proofs.Common.{ap, Cache, option_or, place_twice, sym, [], ◌∙◌}
 use Rattle.mb_cache.proofs.RowOrder.{bad_no_fault, entries_held, tiles_tested}
-use Rattle.mb_constraints.specs.TileRows.{place_twice}
-use Rattle.mb_tables.specs.declared.kind.MbtType.TheVariants.{Cache}
 use Rattle.mb_cache.proofs.seen_rows.SeenRows.into_entries.Goals as goal
 
 pub returns-in-Some-clause-tests : goal.returns-in-Some-clause-tests

@@ -1,7 +1,5 @@
-use Rattle.std.proofs.Common.{Option, subst}
+use Rattle.mb_cache.proofs.Common.{MbtError, Option, subst, Tests}
 use Rattle.mb_cache.proofs.RowOrder.{tiles_left}
-use Rattle.mb_tables.specs.Refusals.{Tests}
-use Rattle.mb_tables.specs.declared.error.MbtError.{MbtError}
 use Rattle.mb_cache.proofs.seen_rows.SeenRows.settle.Goals as goal
 
 pub returns-clause-tests : goal.returns-clause-tests

@@ -1,4 +1,4 @@
-use Rattle.std.proofs.Common.{rules, ◌≡◌, ◌∙◌, Some, false, is_some, refl, sym, true}
+use Rattle.mb_cache.proofs.Common.{false, is_some, refl, rules, Some, sym, true, ◌∙◌, ◌≡◌}
 use Rattle.mb_cache.proofs.SeenLemmas.{bad_found, bad_stays, is_none, ok_then, page_taken}
 use Rattle.mb_cache.proofs.seen_rows.SeenRows.take.Goals as goal
 

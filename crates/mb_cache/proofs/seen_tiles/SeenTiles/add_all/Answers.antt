@@ -1,7 +1,5 @@
-use Rattle.std.proofs.Common.{◌++◌, arith, subst, sym, take_all}
-use Rattle.std.proofs.lemmas.List.{append-nil}
+use Rattle.mb_cache.proofs.Common.{append-nil, arith, SeesTiles, subst, sym, take_all, ◌++◌}
 use Rattle.mb_cache.proofs.SeenLemmas.{row_good, tiles_next}
-use Rattle.mb_cache.specs.Seen.{SeesTiles}
 use Rattle.mb_cache.proofs.seen_tiles.SeenTiles.add_all.Goals as goal
 
 pub loop-row-init : goal.loop-row-init

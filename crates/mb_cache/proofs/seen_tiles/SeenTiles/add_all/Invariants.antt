@@ -1,6 +1,4 @@
-use Rattle.std.proofs.Common.{◌++◌, List, take}
-use Rattle.mb_cache.specs.Seen.{SeesTiles}
-use Rattle.mb_tables.specs.declared.cell.Cell.{Cell}
+use Rattle.mb_cache.proofs.Common.{Cell, List, SeesTiles, take, ◌++◌}
 use Rattle.mb_cache.proofs.seen_tiles.SeenTiles.add_all.Given as goal
 
 abbrev pub invariant-loop-row : goal.invariant-loop-row

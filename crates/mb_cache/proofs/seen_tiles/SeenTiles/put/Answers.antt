@@ -1,7 +1,5 @@
-use Rattle.std.proofs.Common.{◌∙◌, ◌&&◌, ap, sym, refl}
+use Rattle.mb_cache.proofs.Common.{ap, entry_at, refl, row_place, spot_at, sym, ◌&&◌, ◌∙◌}
 use Rattle.mb_cache.proofs.SeenLemmas.{tile_more}
-use Rattle.mb_cache.specs.Entries.{entry_at, row_place}
-use Rattle.mb_cache.specs.Seen.{spot_at}
 use Rattle.mb_cache.proofs.seen_tiles.SeenTiles.put.Goals as goal
 
 pub returns : goal.returns

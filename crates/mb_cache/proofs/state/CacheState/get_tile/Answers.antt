@@ -1,7 +1,5 @@
-use Rattle.std.proofs.Common.{◌∙◌, sym}
-use Rattle.std.proofs.lemmas.Result.{err_from_is_err_and}
+use Rattle.mb_cache.proofs.Common.{bytes_of, err_from_is_err_and, sym, ◌∙◌}
 use Rattle.mb_cache.proofs.ReadLemmas.{read_free}
-use Rattle.mb_cache.specs.Reading.{bytes_of}
 use Rattle.mb_cache.proofs.state.CacheState.get_tile.Goals as goal
 
 pub returns-in_err-row-clause-answer : goal.returns-in_err-row-clause-answer

@@ -1,11 +1,7 @@
-use Rattle.std.proofs.Common.{◌≡◌, ◌∙◌, Some, ap, inr}
-use Rattle.std.proofs.lemmas.Result.{err_from_is_err_and}
+use Rattle.mb_cache.proofs.Common.{ap, Cache, err_from_is_err_and, inr, layout_of, Some, Tables, ◌∙◌, ◌≡◌}
 use Rattle.mb_cache.proofs.OpenLemmas.{agrees_opened, begun_layout, begun_may, opened_as}
 use Rattle.mb_cache.proofs.OwnLemmas.{on_ok, own_begin}
 use Rattle.mb_cache.proofs.RoundLemmas.{on_err}
-use Rattle.mb_tables.specs.Detection.{layout_of}
-use Rattle.mb_tables.specs.Table.{Tables}
-use Rattle.mb_tables.specs.declared.kind.MbtType.TheVariants.{Cache}
 use Rattle.mb_cache.proofs.state.CacheState.open.Goals as goal
 
 pub returns-in_err-begin-clause-own : goal.returns-in_err-begin-clause-own

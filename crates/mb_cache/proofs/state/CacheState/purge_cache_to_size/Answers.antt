@@ -1,5 +1,5 @@
 use Rattle.mb_cache.proofs.RoundLemmas.{on_err, some_none}
-use Rattle.mb_cache.specs.Sizing.{SomeRounds}
+use Rattle.mb_cache.proofs.Common.{SomeRounds}
 use Rattle.mb_cache.proofs.state.CacheState.purge_cache_to_size.Goals as goal
 
 pub returns-in_err-live-clause-err : goal.returns-in_err-live-clause-err

@@ -1,7 +1,5 @@
-use Rattle.std.proofs.Common.{◌≡◌, ◌∙◌, List, ap, drop, length, rules, sym, subst}
+use Rattle.mb_cache.proofs.Common.{Agrees, ap, drop, Entry, length, List, rules, subst, sym, without, ◌∙◌, ◌≡◌}
 use Rattle.mb_cache.proofs.PurgeLemmas.{purged_count, purged_same}
-use Rattle.mb_cache.specs.State.{Agrees, without}
-use Rattle.mb_cache.specs.declared.entries.Entry.{Entry}
 use Rattle.mb_cache.proofs.state.CacheState.purge_expired.Goals as goal
 
 pub returns-clause-count : goal.returns-clause-count

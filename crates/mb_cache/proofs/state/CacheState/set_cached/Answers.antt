@@ -1,15 +1,5 @@
-use Rattle.std.proofs.Common.{◌≡◌, ◌∙◌, List, ap, subst, sym, true}
-use Rattle.std.specs.Prelude.{OnOk, option_map}
+use Rattle.mb_cache.proofs.Common.{ap, Cell, cell_at, coord_in, Entry, entry_at, entry_of, List, old_entry, OnOk, option_map, place_at, ReplacesEntry, row_at, subst, sym, Tables, true, ◌∙◌, ◌≡◌}
 use Rattle.mb_cache.proofs.PutLemmas.{found_entry, sets, sets_entry}
-use Rattle.mb_cache.specs.Entries.{entry_at, entry_of}
-use Rattle.mb_cache.specs.Finding.{coord_in}
-use Rattle.mb_cache.specs.Setting.{ReplacesEntry, old_entry}
-use Rattle.mb_cache.specs.State.{row_at}
-use Rattle.mb_cache.specs.declared.entries.Entry.{Entry}
-use Rattle.mb_lists.specs.Entries.{place_at}
-use Rattle.mb_tables.specs.Table.{Tables}
-use Rattle.mb_tables.specs.Tiles.{cell_at}
-use Rattle.mb_tables.specs.declared.cell.Cell.{Cell}
 use Rattle.mb_cache.proofs.state.CacheState.set_cached.Goals as goal
 
 pub put-requires-clause-found : goal.put-requires-clause-found

@@ -1,14 +1,5 @@
-use Rattle.std.proofs.Common.{◌≡◌, ◌∙◌, List, Some, ap, is_some, subst, sym, true}
-use Rattle.std.specs.Prelude.{option_map}
+use Rattle.mb_cache.proofs.Common.{ap, contents_of, coord_in, Entry, entry_of, is_some, List, option_map, place_at, ReplacesEntry, row_at, Some, subst, sym, Tables, true, ◌∙◌, ◌≡◌}
 use Rattle.mb_cache.proofs.PutLemmas.{found_contents, found_entry, updates_entry}
-use Rattle.mb_cache.specs.Entries.{entry_of}
-use Rattle.mb_cache.specs.Finding.{coord_in}
-use Rattle.mb_cache.specs.Setting.{ReplacesEntry}
-use Rattle.mb_cache.specs.State.{row_at}
-use Rattle.mb_cache.specs.declared.entries.Entry.{Entry}
-use Rattle.mb_lists.specs.Entries.{place_at}
-use Rattle.mb_tables.specs.Table.{Tables}
-use Rattle.mb_tables.specs.Tiles.{contents_of}
 use Rattle.mb_cache.proofs.state.CacheState.update_cached_meta.Goals as goal
 
 pub put-requires-clause-found : goal.put-requires-clause-found

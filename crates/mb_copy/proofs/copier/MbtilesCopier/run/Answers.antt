@@ -1,5 +1,4 @@
-use Rattle.std.proofs.Common.{inl, refl}
-use Rattle.std.proofs.lemmas.Result.{err_from_is_err_and}
+use Rattle.mb_copy.proofs.Common.{err_from_is_err_and, inl, refl}
 use Rattle.mb_copy.proofs.AnswerLemmas.{all_copied, all_left, hash_refused, put_answered, source_refused}
 use Rattle.mb_copy.proofs.PutLemmas.{is_source}
 use Rattle.mb_copy.proofs.copier.MbtilesCopier.run.Goals as goal

@@ -1,5 +1,4 @@
-use Rattle.std.proofs.Common.{inl, refl}
-use Rattle.std.proofs.lemmas.Result.{err_from_is_err_and}
+use Rattle.mb_copy.proofs.Common.{err_from_is_err_and, inl, refl}
 use Rattle.mb_copy.proofs.AnswerLemmas.{all_left}
 use Rattle.mb_copy.proofs.PatchAnswerLemmas.{patch_refused, patch_untaken, patched_answered, patched_copied, source_refused, source_untaken}
 use Rattle.mb_copy.proofs.PutLemmas.{is_source}

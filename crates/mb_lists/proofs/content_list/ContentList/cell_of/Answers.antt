@@ -1,7 +1,4 @@
-use Rattle.std.proofs.Common.{◌∙◌, List, ap, sym}
-use Rattle.std.specs.Prelude.{slice_get, unwrap_or}
-use Rattle.std.specs.Option.{option_map}
-use Rattle.mb_lists.specs.declared.entries.Content.{Content}
+use Rattle.mb_lists.proofs.Common.{ap, Content, List, option_map, slice_get, sym, unwrap_or, ◌∙◌}
 use Rattle.mb_lists.proofs.IdLemmas.{cell_at_index, no_cell_under}
 use Rattle.mb_lists.proofs.content_list.ContentList.cell_of.Goals as goal
 

@@ -1,16 +1,8 @@
-use Rattle.std.proofs.Common.{ℕ, ◌≡◌, ◌∙◌, ◌+◌, ◌<◌, ap, sym, subst, false, get_or, length, map, List, rules}
-use Rattle.std.specs.Ordering.{is_lt}
-use Rattle.std.proofs.lemmas.Fn.{always_returns_same}
-use Rattle.std.proofs.lemmas.List.Sorted.{ranks_by}
-use Rattle.mb_lists.specs.Entries.{AreContentsInOrder, id_at, is_content_gone}
-use Rattle.mb_lists.specs.FromRows.{ids_from}
-use Rattle.mb_lists.specs.Keyed.{are_distinct}
+use Rattle.mb_lists.proofs.Common.{always_returns_same, ap, are_distinct, AreContentsInOrder, cell_cmp, cell_cmp-IsAntisymmetric, cells_total, false, get_or, id_at, ids_from, is_content_gone, is_lt}
+use Rattle.mb_lists.proofs.Common.{length, List, map, ranks_by, rules, subst, sym, ℕ, ◌+◌, ◌<◌, ◌∙◌, ◌≡◌}
 use Rattle.mb_lists.proofs.ContentLemmas.{none_gone}
 use Rattle.mb_lists.proofs.Sorting.{not_rising, sorted_in_order}
 use Rattle.mb_lists.proofs.content_list.ContentList.in_order.Goals as goal
-use Rattle.mb_tables.proofs.CellLemmas.{cell_cmp-IsAntisymmetric}
-use Rattle.mb_tables.specs.Cell.{cell_cmp}
-use Rattle.mb_tables.specs.CellOrder.{cells_total}
 
 pub returns-clause-order : goal.returns-clause-order
 returns-clause-order c =

@@ -1,11 +1,6 @@
-use Rattle.std.proofs.Common.{List, ℕ, ◌++◌, ◌∙◌, ap, append-nil, subst, sym}
-use Rattle.mb_lists.specs.Entries.{id_at, newest_ids}
-use Rattle.mb_lists.specs.Keyed.{StandsAs}
+use Rattle.mb_lists.proofs.Common.{ap, append-nil, cell_cmp, cell_cmp-IsAntisymmetric, cells_total, id_at, List, newest_ids, StandsAs, subst, sym, ℕ, ◌++◌, ◌∙◌}
 use Rattle.mb_lists.proofs.StandsLemmas.{not_listed, stands_itself}
 use Rattle.mb_lists.proofs.content_list.ContentList.list.Goals as goal
-use Rattle.mb_tables.proofs.CellLemmas.{cell_cmp-IsAntisymmetric}
-use Rattle.mb_tables.specs.Cell.{cell_cmp}
-use Rattle.mb_tables.specs.CellOrder.{cells_total}
 
 pub returns-then-is_null-clause-same : goal.returns-then-is_null-clause-same
 returns-then-is_null-clause-same c =

@@ -1,15 +1,6 @@
-use Rattle.std.proofs.Common.{List, ℕ, rules, sym, subst}
-use Rattle.std.specs.Ordering.{eq_by_cmp, is_lt}
-use Rattle.std.proofs.lemmas.Fn.{always_returns_same, dedup_same}
-use Rattle.std.proofs.lemmas.List.Sorted.{ranks_by}
-use Rattle.mb_lists.specs.Entries.{id_at}
-use Rattle.mb_lists.specs.Keyed.{Apart}
-use Rattle.mb_lists.specs.declared.entries.Content.{Content}
+use Rattle.mb_lists.proofs.Common.{always_returns_same, Apart, cell_cmp, cell_cmp-IsAntisymmetric, cells_total, Content, dedup_same, eq_by_cmp, id_at, is_lt, List, ranks_by, rules, subst, sym, ℕ}
 use Rattle.mb_lists.proofs.Newest.{dedup_apart, newest_from, newest_stands}
 use Rattle.mb_lists.proofs.content_list.ContentList.newest.Goals as goal
-use Rattle.mb_tables.proofs.CellLemmas.{cell_cmp-IsAntisymmetric}
-use Rattle.mb_tables.specs.Cell.{cell_cmp}
-use Rattle.mb_tables.specs.CellOrder.{cells_total}
 
 pub settle-live-requires : goal.settle-live-requires
 settle-live-requires c =

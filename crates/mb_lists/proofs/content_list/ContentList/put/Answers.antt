@@ -1,15 +1,8 @@
-use Rattle.std.proofs.Common.{List, ℕ, ◌-◌, ◌∙◌, ap, drop, length, subst, take}
-use Rattle.std.specs.Prelude.{position}
-use Rattle.mb_lists.specs.Entries.{id_at, is_content_gone}
-use Rattle.mb_lists.specs.Keyed.{IsAt, IsGap, at_key}
-use Rattle.mb_lists.specs.declared.entries.Content.{Content}
+use Rattle.mb_lists.proofs.Common.{ap, at_key, Cell, cell_cmp, cell_cmp-IsAntisymmetric, cells_total, Content, drop, id_at, is_content_gone, IsAt, IsGap, length, List, position, subst, take, ℕ, ◌-◌}
+use Rattle.mb_lists.proofs.Common.{◌∙◌}
 use Rattle.mb_lists.proofs.ListEdits.{slice_from}
 use Rattle.mb_lists.proofs.StandsLemmas.{id_read, over, placed}
 use Rattle.mb_lists.proofs.content_list.ContentList.put.Goals as goal
-use Rattle.mb_tables.proofs.CellLemmas.{cell_cmp-IsAntisymmetric}
-use Rattle.mb_tables.specs.Cell.{cell_cmp}
-use Rattle.mb_tables.specs.CellOrder.{cells_total}
-use Rattle.mb_tables.specs.declared.cell.Cell.{Cell}
 
 pub returns-in-Ok-clause-order : goal.returns-in-Ok-clause-order
 returns-in-Ok-clause-order c =

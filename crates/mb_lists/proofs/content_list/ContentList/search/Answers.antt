@@ -1,11 +1,6 @@
-use Rattle.std.proofs.Common.{ℕ, rules}
-use Rattle.std.proofs.lemmas.Fn.{always_returns_same}
-use Rattle.mb_lists.specs.Entries.{id_at, is_content_gone}
+use Rattle.mb_lists.proofs.Common.{always_returns_same, cell_cmp, cell_cmp-IsAntisymmetric, cells_total, id_at, is_content_gone, rules, ℕ}
 use Rattle.mb_lists.proofs.Ordered.{search_found, search_absent}
 use Rattle.mb_lists.proofs.content_list.ContentList.search.Goals as goal
-use Rattle.mb_tables.proofs.CellLemmas.{cell_cmp-IsAntisymmetric}
-use Rattle.mb_tables.specs.Cell.{cell_cmp}
-use Rattle.mb_tables.specs.CellOrder.{cells_total}
 
 pub returns-clause-found : goal.returns-clause-found
 returns-clause-found c =

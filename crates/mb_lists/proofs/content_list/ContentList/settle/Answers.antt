@@ -1,14 +1,6 @@
-use Rattle.std.proofs.Common.{rules, ℕ}
-use Rattle.std.specs.Prelude.{not}
-use Rattle.std.specs.Ordering.{is_lt}
-use Rattle.std.proofs.lemmas.Fn.{always_returns_same}
-use Rattle.std.proofs.lemmas.List.Sorted.{ranks_by}
-use Rattle.mb_lists.specs.Entries.{id_at, is_content_gone}
-use Rattle.mb_lists.specs.Keyed.{behind}
+use Rattle.mb_lists.proofs.Common.{always_returns_same, behind, cell_cmp, cells_total, id_at, is_content_gone, is_lt, not, ranks_by, rules, ℕ}
 use Rattle.mb_lists.proofs.Settling.{behind_total, parted, settled_in_order}
 use Rattle.mb_lists.proofs.content_list.ContentList.settle.Goals as goal
-use Rattle.mb_tables.specs.Cell.{cell_cmp}
-use Rattle.mb_tables.specs.CellOrder.{cells_total}
 
 pub returns-clause-order : goal.returns-clause-order
 returns-clause-order c =

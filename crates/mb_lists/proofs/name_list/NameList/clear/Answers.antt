@@ -1,8 +1,4 @@
-use Rattle.std.proofs.Common.{ℕ, List, ◌++◌, ◌∷◌, [], ◌∙◌, ap, refl}
-use Rattle.std.specs.List.{remove}
-use Rattle.std.proofs.lemmas.Cmp.{nat_list_cmp_total}
-use Rattle.mb_lists.specs.Clearing.{name_mark}
-use Rattle.mb_lists.specs.Entries.{is_name_gone, name_of}
+use Rattle.mb_lists.proofs.Common.{ap, is_name_gone, List, name_mark, name_of, nat_list_cmp_total, refl, remove, ℕ, [], ◌++◌, ◌∙◌, ◌∷◌}
 use Rattle.mb_lists.proofs.NameLemmas.{names_antisymmetric}
 use Rattle.mb_lists.proofs.StandsLemmas.{marked_at, no_mark}
 use Rattle.mb_lists.proofs.name_list.NameList.clear.Goals as goal

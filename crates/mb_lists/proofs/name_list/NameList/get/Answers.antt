@@ -1,6 +1,4 @@
-use Rattle.std.proofs.Common.{ap, sym, ◌∙◌, Some}
-use Rattle.std.specs.Cmp.Lexicographic.{nat_list_cmp_total}
-use Rattle.mb_lists.specs.Entries.{name_of, is_name_gone}
+use Rattle.mb_lists.proofs.Common.{ap, is_name_gone, name_of, nat_list_cmp_total, Some, sym, ◌∙◌}
 use Rattle.mb_lists.proofs.Ordered.{at_live, gap_live}
 use Rattle.mb_lists.proofs.NameLemmas.{names_antisymmetric}
 use Rattle.mb_lists.proofs.name_list.NameList.get.Goals as goal

@@ -1,11 +1,5 @@
-use Rattle.std.proofs.Common.{ℕ, ◌+◌, ◌<◌, false, get_or, rules, subst, sym, ◌≡◌, length}
-use Rattle.std.specs.Ordering.{is_lt}
-use Rattle.std.proofs.lemmas.List.Sorted.{answers_always, ranks_by}
-use Rattle.std.specs.Cmp.Lexicographic.{slice_cmp}
-use Rattle.std.specs.Ordering.{nat_cmp}
-use Rattle.std.specs.Cmp.Lexicographic.{nat_list_cmp_total}
-use Rattle.mb_lists.specs.Entries.{name_of, is_name_gone, AreNamesInOrder}
-use Rattle.mb_lists.specs.declared.entries.StoredName.{StoredName}
+use Rattle.mb_lists.proofs.Common.{answers_always, AreNamesInOrder, false, get_or, is_lt, is_name_gone, length, name_of, nat_cmp, nat_list_cmp_total, ranks_by, rules, slice_cmp, StoredName, subst}
+use Rattle.mb_lists.proofs.Common.{sym, ℕ, ◌+◌, ◌<◌, ◌≡◌}
 use Rattle.mb_lists.proofs.NameLemmas.{names_antisymmetric}
 use Rattle.mb_lists.proofs.Sorting.{not_rising, sorted_in_order}
 use Rattle.mb_lists.proofs.name_list.NameList.in_order.Goals as goal

@@ -1,12 +1,4 @@
-use Rattle.std.proofs.Common.{List, rules, sym, subst}
-use Rattle.std.specs.Ordering.{eq_by_cmp, is_lt, nat_cmp}
-use Rattle.std.specs.Cmp.Lexicographic.{slice_cmp}
-use Rattle.std.proofs.lemmas.Cmp.{nat_list_cmp_total}
-use Rattle.std.proofs.lemmas.Fn.{dedup_same}
-use Rattle.std.proofs.lemmas.List.Sorted.{answers_always, ranks_by}
-use Rattle.mb_lists.specs.Entries.{name_of}
-use Rattle.mb_lists.specs.Keyed.{Apart}
-use Rattle.mb_lists.specs.declared.entries.StoredName.{StoredName}
+use Rattle.mb_lists.proofs.Common.{answers_always, Apart, dedup_same, eq_by_cmp, is_lt, List, name_of, nat_cmp, nat_list_cmp_total, ranks_by, rules, slice_cmp, StoredName, subst, sym}
 use Rattle.mb_lists.proofs.Newest.{dedup_apart, newest_from, newest_stands}
 use Rattle.mb_lists.proofs.NameLemmas.{names_antisymmetric}
 use Rattle.mb_lists.proofs.name_list.NameList.newest.Goals as goal

@@ -1,15 +1,5 @@
-use Rattle.std.proofs.Common.{rules, ◌≡◌, ◌∙◌, ap, sym, subst, List, map, true, false}
-use Rattle.std.specs.Prelude.{All}
-use Rattle.std.specs.Cmp.Lexicographic.{slice_cmp, nat_list_cmp_total}
-use Rattle.std.specs.FinMap.{from_entries}
-use Rattle.std.specs.List.{list_all}
-use Rattle.std.specs.Ordering.{nat_cmp}
-use Rattle.std.proofs.lemmas.List.Sorted.{All-permutation, IsPermutation-sym}
-use Rattle.mb_lists.specs.Entries.{IsName, is_name_gone, name_of, name_value}
-use Rattle.mb_lists.specs.Keyed.{are_distinct, entries_by}
-use Rattle.mb_tables.specs.CellKinds.{has_name_kinds}
-use Rattle.mb_lists.specs.declared.entries.Standing.TheVariants.{Kept}
-use Rattle.mb_lists.specs.declared.entries.StoredName.{StoredName}
+use Rattle.mb_lists.proofs.Common.{All, All-permutation, ap, are_distinct, entries_by, false, from_entries, has_name_kinds, is_name_gone, IsName, IsPermutation-sym, Kept, List, list_all, map, name_of}
+use Rattle.mb_lists.proofs.Common.{name_value, nat_cmp, nat_list_cmp_total, rules, slice_cmp, StoredName, subst, sym, true, ◌∙◌, ◌≡◌}
 use Rattle.mb_lists.proofs.NameLemmas.{named_entries, names_alive, names_antisymmetric, name_texts, names_kept, names_pass, names_refused}
 use Rattle.mb_lists.proofs.Sorting.{apart_permuted, distinct_from_apart, map_permuted}
 use Rattle.mb_lists.proofs.name_list.NameList.of_rows.Goals as goal

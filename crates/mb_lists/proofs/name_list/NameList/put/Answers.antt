@@ -1,11 +1,4 @@
-use Rattle.std.proofs.Common.{ℕ, List, ◌-◌, ◌∙◌, ap, drop, length, subst, take}
-use Rattle.std.specs.Prelude.{position}
-use Rattle.std.specs.Cmp.Lexicographic.{slice_cmp}
-use Rattle.std.specs.Ordering.{nat_cmp}
-use Rattle.std.proofs.lemmas.Cmp.{nat_list_cmp_total}
-use Rattle.mb_lists.specs.Entries.{is_name_gone, name_of}
-use Rattle.mb_lists.specs.Keyed.{IsAt, IsGap, at_key}
-use Rattle.mb_lists.specs.declared.entries.StoredName.{StoredName}
+use Rattle.mb_lists.proofs.Common.{ap, at_key, drop, is_name_gone, IsAt, IsGap, length, List, name_of, nat_cmp, nat_list_cmp_total, position, slice_cmp, StoredName, subst, take, ℕ, ◌-◌, ◌∙◌}
 use Rattle.mb_lists.proofs.ListEdits.{slice_from}
 use Rattle.mb_lists.proofs.NameLemmas.{names_antisymmetric}
 use Rattle.mb_lists.proofs.StandsLemmas.{over, placed}

@@ -1,10 +1,4 @@
-use Rattle.std.proofs.Common.{rules}
-use Rattle.std.proofs.lemmas.Fn.{always_returns_same}
-use Rattle.std.specs.Cmp.Lexicographic.{slice_cmp}
-use Rattle.std.specs.Ordering.{nat_cmp}
-use Rattle.std.specs.Cmp.Lexicographic.{nat_list_cmp_total}
-use Rattle.mb_lists.specs.Entries.{name_of, is_name_gone}
-use Rattle.mb_lists.specs.declared.entries.StoredName.{StoredName}
+use Rattle.mb_lists.proofs.Common.{always_returns_same, is_name_gone, name_of, nat_cmp, nat_list_cmp_total, rules, slice_cmp, StoredName}
 use Rattle.mb_lists.proofs.Ordered.{search_found, search_absent}
 use Rattle.mb_lists.proofs.NameLemmas.{names_antisymmetric}
 use Rattle.mb_lists.proofs.name_list.NameList.search.Goals as goal

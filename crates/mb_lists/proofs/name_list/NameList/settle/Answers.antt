@@ -1,12 +1,4 @@
-use Rattle.std.proofs.Common.{rules}
-use Rattle.std.specs.Prelude.{not}
-use Rattle.std.specs.Ordering.{is_lt, nat_cmp}
-use Rattle.std.specs.Cmp.Lexicographic.{slice_cmp}
-use Rattle.std.proofs.lemmas.Cmp.{nat_list_cmp_total}
-use Rattle.std.proofs.lemmas.List.Sorted.{answers_always, ranks_by}
-use Rattle.mb_lists.specs.Entries.{is_name_gone, name_of}
-use Rattle.mb_lists.specs.Keyed.{behind}
-use Rattle.mb_lists.specs.declared.entries.StoredName.{StoredName}
+use Rattle.mb_lists.proofs.Common.{answers_always, behind, is_lt, is_name_gone, name_of, nat_cmp, nat_list_cmp_total, not, ranks_by, rules, slice_cmp, StoredName}
 use Rattle.mb_lists.proofs.Settling.{behind_total, parted, settled_in_order}
 use Rattle.mb_lists.proofs.name_list.NameList.settle.Goals as goal
 

@@ -1,10 +1,7 @@
-use Rattle.mb_lists.specs.Clearing.{tile_mark}
-use Rattle.mb_lists.specs.Entries.{is_gone, place_at, place_of}
+use Rattle.mb_lists.proofs.Common.{is_gone, place_at, place_of, places_total, refl, tile_mark}
 use Rattle.mb_lists.proofs.Places.{places_antisymmetric}
 use Rattle.mb_lists.proofs.StandsLemmas.{marked_at, no_mark}
 use Rattle.mb_lists.proofs.tile_list.TileList.clear.Goals as goal
-use Rattle.mb_tables.proofs.TileLemmas.{places_total}
-use Rattle.std.proofs.Common.{refl}
 
 pub returns-in-Ok-clause-order : goal.returns-in-Ok-clause-order
 returns-in-Ok-clause-order c = (marked_at places_total places_antisymmetric place_of is_gone c.args.self.now.live c.args.self.now.items.items c.mark_tile.new.items.items c.in-Ok.at (tile_mark c.args.coord) c.in-Ok.ensures.found refl c.requires c.mark_tile.ensures).0

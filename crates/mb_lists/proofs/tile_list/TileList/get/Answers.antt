@@ -1,6 +1,4 @@
-use Rattle.std.proofs.Common.{ap, sym, ◌∙◌, Some}
-use Rattle.mb_tables.proofs.TileLemmas.{places_total}
-use Rattle.mb_lists.specs.Entries.{place_at, place_of, is_gone}
+use Rattle.mb_lists.proofs.Common.{ap, is_gone, place_at, place_of, places_total, Some, sym, ◌∙◌}
 use Rattle.mb_lists.proofs.Ordered.{at_live, gap_live}
 use Rattle.mb_lists.proofs.Places.{places_antisymmetric}
 use Rattle.mb_lists.proofs.tile_list.TileList.get.Goals as goal

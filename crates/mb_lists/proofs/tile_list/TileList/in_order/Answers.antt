@@ -1,10 +1,4 @@
-use Rattle.std.proofs.Common.{ℕ, ◌+◌, ◌<◌, false, get_or, rules, subst, sym, ◌≡◌, length}
-use Rattle.std.specs.Ordering.{is_lt}
-use Rattle.std.proofs.lemmas.List.Sorted.{answers_always, ranks_by}
-use Rattle.mb_tables.specs.Tiles.{place_cmp}
-use Rattle.mb_tables.proofs.TileLemmas.{places_total}
-use Rattle.mb_lists.specs.Entries.{place_of, is_gone, AreInOrder}
-use Rattle.mb_lists.specs.declared.entries.StoredTile.{StoredTile}
+use Rattle.mb_lists.proofs.Common.{answers_always, AreInOrder, false, get_or, is_gone, is_lt, length, place_cmp, place_of, places_total, ranks_by, rules, StoredTile, subst, sym, ℕ, ◌+◌, ◌<◌, ◌≡◌}
 use Rattle.mb_lists.proofs.Places.{places_antisymmetric}
 use Rattle.mb_lists.proofs.Sorting.{not_rising, sorted_in_order}
 use Rattle.mb_lists.proofs.tile_list.TileList.in_order.Goals as goal

@@ -1,15 +1,7 @@
-use Rattle.std.proofs.Common.{List, rules, sym, subst}
-use Rattle.std.specs.Ordering.{eq_by_cmp, is_lt}
-use Rattle.std.proofs.lemmas.Fn.{dedup_same}
-use Rattle.std.proofs.lemmas.List.Sorted.{answers_always, ranks_by}
-use Rattle.mb_lists.specs.Entries.{place_of}
-use Rattle.mb_lists.specs.Keyed.{Apart}
-use Rattle.mb_lists.specs.declared.entries.StoredTile.{StoredTile}
+use Rattle.mb_lists.proofs.Common.{answers_always, Apart, dedup_same, eq_by_cmp, is_lt, List, place_cmp, place_of, places_total, ranks_by, rules, StoredTile, subst, sym}
 use Rattle.mb_lists.proofs.Newest.{dedup_apart, newest_from, newest_stands}
 use Rattle.mb_lists.proofs.Places.{places_antisymmetric}
 use Rattle.mb_lists.proofs.tile_list.TileList.newest.Goals as goal
-use Rattle.mb_tables.proofs.TileLemmas.{places_total}
-use Rattle.mb_tables.specs.Tiles.{place_cmp}
 
 pub settle-live-requires : goal.settle-live-requires
 settle-live-requires c =

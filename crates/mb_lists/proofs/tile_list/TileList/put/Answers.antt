@@ -1,9 +1,8 @@
-use Rattle.mb_lists.specs.Entries.{is_gone, place_of}
+use Rattle.mb_lists.proofs.Common.{is_gone, place_of, places_total}
 use Rattle.mb_lists.proofs.ListEdits.{slice_from}
 use Rattle.mb_lists.proofs.Places.{places_antisymmetric}
 use Rattle.mb_lists.proofs.StandsLemmas.{over, placed}
 use Rattle.mb_lists.proofs.tile_list.TileList.put.Goals as goal
-use Rattle.mb_tables.proofs.TileLemmas.{places_total}
 
 pub returns-in-Ok-clause-order : goal.returns-in-Ok-clause-order
 returns-in-Ok-clause-order c = (over places_total places_antisymmetric place_of is_gone c.args.self.now.live c.args.self.now.items.items c.in-Ok.at c.args.tile c.in-Ok.ensures.found c.requires.live c.requires.order).0

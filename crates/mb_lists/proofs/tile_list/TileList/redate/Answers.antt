@@ -1,4 +1,4 @@
-use Rattle.mb_lists.specs.Entries.{place_at}
+use Rattle.mb_lists.proofs.Common.{place_at}
 use Rattle.mb_lists.proofs.DatingLemmas.{redated_at, redated_not}
 use Rattle.mb_lists.proofs.tile_list.TileList.redate.Goals as goal
 

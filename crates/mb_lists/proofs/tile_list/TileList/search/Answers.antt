@@ -1,9 +1,4 @@
-use Rattle.std.proofs.Common.{rules}
-use Rattle.std.proofs.lemmas.Fn.{always_returns_same}
-use Rattle.mb_tables.specs.Tiles.{place_cmp}
-use Rattle.mb_tables.proofs.TileLemmas.{places_total}
-use Rattle.mb_lists.specs.Entries.{place_at, place_of, is_gone}
-use Rattle.mb_lists.specs.declared.entries.StoredTile.{StoredTile}
+use Rattle.mb_lists.proofs.Common.{always_returns_same, is_gone, place_at, place_cmp, place_of, places_total, rules, StoredTile}
 use Rattle.mb_lists.proofs.Ordered.{search_found, search_absent}
 use Rattle.mb_lists.proofs.Places.{places_antisymmetric}
 use Rattle.mb_lists.proofs.tile_list.TileList.search.Goals as goal

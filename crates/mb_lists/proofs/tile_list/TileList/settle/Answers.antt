@@ -1,14 +1,6 @@
-use Rattle.std.proofs.Common.{rules}
-use Rattle.std.specs.Prelude.{not}
-use Rattle.std.specs.Ordering.{is_lt}
-use Rattle.std.proofs.lemmas.List.Sorted.{answers_always, ranks_by}
-use Rattle.mb_lists.specs.Entries.{is_gone, place_of}
-use Rattle.mb_lists.specs.Keyed.{behind}
-use Rattle.mb_lists.specs.declared.entries.StoredTile.{StoredTile}
+use Rattle.mb_lists.proofs.Common.{answers_always, behind, is_gone, is_lt, not, place_cmp, place_of, places_total, ranks_by, rules, StoredTile}
 use Rattle.mb_lists.proofs.Settling.{behind_total, parted, settled_in_order}
 use Rattle.mb_lists.proofs.tile_list.TileList.settle.Goals as goal
-use Rattle.mb_tables.proofs.TileLemmas.{places_total}
-use Rattle.mb_tables.specs.Tiles.{place_cmp}
 
 pub returns-clause-order : goal.returns-clause-order
 returns-clause-order c =

@@ -1,4 +1,4 @@
-use Rattle.std.proofs.Common.{◌∙◌}
+use Rattle.mb_loaded.proofs.Common.{◌∙◌}
 use Rattle.mb_loaded.proofs.EditViews.{held_unnamed}
 use Rattle.mb_loaded.proofs.editing.Editing.clear_metadata.Goals as goal
 

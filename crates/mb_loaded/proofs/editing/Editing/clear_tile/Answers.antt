@@ -1,5 +1,4 @@
-use Rattle.std.proofs.Common.{[], ◌∷◌, ◌++◌, ◌∙◌, ap}
-use Rattle.mb_lists.specs.declared.entries.StoredTile.{StoredTile}
+use Rattle.mb_loaded.proofs.Common.{ap, StoredTile, [], ◌++◌, ◌∙◌, ◌∷◌}
 use Rattle.mb_loaded.proofs.EditViews.{gone_dated, gone_whole, held_gone}
 use Rattle.mb_loaded.proofs.editing.Editing.clear_tile.Goals as goal
 

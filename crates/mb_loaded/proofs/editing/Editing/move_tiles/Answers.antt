@@ -1,12 +1,5 @@
-use Rattle.std.proofs.Common.{◌≡◌, ◌∙◌, ap, refl, sym, subst, List, length, map, take, false}
-use Rattle.std.specs.Prelude.{All}
-use Rattle.std.proofs.lemmas.List.{length-replicate}
-use Rattle.mb_lists.specs.Entries.{IsTile, is_gone}
-use Rattle.mb_lists.specs.declared.entries.StoredTile.{StoredTile}
-use Rattle.mb_loaded.specs.Copying.{id_of, tiles_copied}
-use Rattle.mb_loaded.specs.FromLast.{from_last, tile_patched, tiles_put}
-use Rattle.mb_loaded.specs.GivenIds.{ids_given}
-use Rattle.mb_loaded.specs.Held.{Held}
+use Rattle.mb_loaded.proofs.Common.{All, ap, false, from_last, Held, id_of, ids_given, is_gone, IsTile, length, length-replicate, List, map, refl, StoredTile, subst, sym, take, tile_patched}
+use Rattle.mb_loaded.proofs.Common.{tiles_copied, tiles_put, ◌∙◌, ◌≡◌}
 use Rattle.mb_loaded.proofs.CopyLemmas.{dated_moved, ids_moved, no_copy, tiles_moved}
 use Rattle.mb_loaded.proofs.GivenLemmas.{live_ids, live_tiles, live_whole, none_gone}
 use Rattle.mb_loaded.proofs.MoveLemmas.{none_moved, same_held}

@@ -1,10 +1,4 @@
-use Rattle.std.proofs.Common.{◌∙◌, ap, sym, List, map, take}
-use Rattle.mb_lists.specs.declared.entries.Content.{Content}
-use Rattle.mb_lists.specs.declared.entries.StoredTile.{StoredTile}
-use Rattle.mb_loaded.specs.Copying.{id_of, tiles_copied}
-use Rattle.mb_loaded.specs.FromLast.{from_last, tile_patched, tiles_put}
-use Rattle.mb_loaded.specs.GivenIds.{ids_given}
-use Rattle.mb_loaded.specs.Held.{Held}
+use Rattle.mb_loaded.proofs.Common.{ap, Content, from_last, Held, id_of, ids_given, List, map, StoredTile, sym, take, tile_patched, tiles_copied, tiles_put, ◌∙◌}
 use Rattle.mb_loaded.proofs.GivenLemmas.{live_ids, live_tiles}
 use Rattle.mb_loaded.proofs.editing.Editing.put_tiles.Goals as goal
 

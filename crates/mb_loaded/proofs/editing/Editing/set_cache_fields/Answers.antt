@@ -1,13 +1,6 @@
-use Rattle.std.proofs.Common.{◌≡◌, ◌∙◌, ap, true}
-use Rattle.std.specs.FinMap.{contains_key}
-use Rattle.mb_lists.specs.Entries.{newest_ids, newest_names, newest_tiles, place_at}
-use Rattle.mb_loaded.specs.Edits.{with_dates}
-use Rattle.mb_loaded.specs.HeldEntries.{held_of}
-use Rattle.mb_loaded.specs.Held.{Held}
-use Rattle.mb_lists.specs.declared.dates.Dates.{Dates}
+use Rattle.mb_loaded.proofs.Common.{ap, Cache, contains_key, Dates, Held, held_of, newest_ids, newest_names, newest_tiles, place_at, true, with_dates, ◌∙◌, ◌≡◌}
 use Rattle.mb_loaded.proofs.DatedViews.{dated_dated, dated_view, dated_whole}
 use Rattle.mb_loaded.proofs.editing.Editing.set_cache_fields.Goals as goal
-use Rattle.mb_tables.specs.declared.kind.MbtType.TheVariants.{Cache}
 
 pub invariant_of-self-2 : goal.invariant_of-self-2
 invariant_of-self-2 c =

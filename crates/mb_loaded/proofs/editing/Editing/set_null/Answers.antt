@@ -1,10 +1,6 @@
-use Rattle.std.proofs.Common.{◌++◌, ◌∷◌, ◌∙◌, List, [], ap, is_some}
-use Rattle.mb_lists.specs.declared.entries.Content.{Content}
-use Rattle.mb_lists.specs.declared.entries.Standing.TheVariants.{Put}
-use Rattle.mb_lists.specs.declared.entries.StoredTile.{StoredTile}
+use Rattle.mb_loaded.proofs.Common.{ap, Content, contents_of, is_some, List, Put, StoredTile, [], ◌++◌, ◌∙◌, ◌∷◌}
 use Rattle.mb_loaded.proofs.EditViews.{kept_ids, null_view, put_dated, put_whole}
 use Rattle.mb_loaded.proofs.editing.Editing.set_null.Goals as goal
-use Rattle.mb_tables.specs.Tiles.{contents_of}
 
 pub invariant_of-self-2 : goal.invariant_of-self-2
 invariant_of-self-2 c =

@@ -1,10 +1,6 @@
-use Rattle.std.proofs.Common.{◌++◌, ◌∷◌, ◌∙◌, List, ℕ, [], ap, refl}
-use Rattle.mb_lists.specs.Clearing.{listed}
-use Rattle.mb_lists.specs.declared.entries.Standing.TheVariants.{Put}
-use Rattle.mb_lists.specs.declared.entries.StoredTile.{StoredTile}
+use Rattle.mb_loaded.proofs.Common.{ap, Blob, List, listed, Put, refl, StoredTile, ℕ, [], ◌++◌, ◌∙◌, ◌∷◌}
 use Rattle.mb_loaded.proofs.EditViews.{put_dated, put_ids, put_view, put_whole}
 use Rattle.mb_loaded.proofs.editing.Editing.set_tile.Goals as goal
-use Rattle.mb_tables.specs.declared.cell.Cell.TheVariants.{Blob}
 
 pub invariant_of-self-2 : goal.invariant_of-self-2
 invariant_of-self-2 c =

@@ -1,7 +1,4 @@
-use Rattle.std.proofs.Common.{◌≡◌, ◌++◌, ◌∷◌, ◌∙◌, List, ℕ, [], ap, false, length, nat_eq, refl, sym}
-use Rattle.mb_lists.specs.Clearing.{listed}
-use Rattle.mb_lists.specs.declared.entries.Content.{Content}
-use Rattle.mb_loaded.specs.Copying.{put_content}
+use Rattle.mb_loaded.proofs.Common.{ap, Content, false, length, List, listed, nat_eq, put_content, refl, sym, ℕ, [], ◌++◌, ◌∙◌, ◌∷◌, ◌≡◌}
 use Rattle.mb_loaded.proofs.EditViews.{put_ids}
 use Rattle.mb_loaded.proofs.ShareLemmas.{shared_dated, shared_view, shared_whole}
 use Rattle.mb_loaded.proofs.editing.Editing.set_tiles.Goals as goal

@@ -1,7 +1,4 @@
-use Rattle.std.proofs.Common.{◌∙◌, List, subst, sym}
-use Rattle.std.specs.Prelude.{All}
-use Rattle.mb_lists.specs.Entries.{AreContentsInOrder, HasId, IsDated, IsName, IsTile}
-use Rattle.mb_lists.specs.declared.entries.Content.{Content}
+use Rattle.mb_loaded.proofs.Common.{All, AreContentsInOrder, Content, HasId, IsDated, IsName, IsTile, List, subst, sym, ◌∙◌}
 use Rattle.mb_loaded.proofs.EditViews.{all_from, held_settled}
 use Rattle.mb_loaded.proofs.editing.Editing.settle.Goals as goal
 

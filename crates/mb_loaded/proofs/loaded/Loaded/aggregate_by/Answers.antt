@@ -1,6 +1,4 @@
-use Rattle.std.proofs.Common.{◌∙◌, arith}
-use Rattle.std.specs.FinMap.{entries, len-entries}
-use Rattle.mb_loaded.specs.Aggregate.{in_hexadecimal}
+use Rattle.mb_loaded.proofs.Common.{arith, entries, in_hexadecimal, len-entries, ◌∙◌}
 use Rattle.mb_loaded.proofs.AggregateLemmas.{tile_hashed, none_hashed, all_hashed}
 use Rattle.mb_loaded.proofs.loaded.Loaded.aggregate_by.Goals as goal
 

@@ -1,7 +1,4 @@
-use Rattle.std.proofs.Common.{flat_map, take}
-use Rattle.std.specs.FinMap.{entries}
-use Rattle.mb_loaded.specs.Aggregate.{in_hexadecimal, tile_text}
-use Rattle.tile_hash.specs.HashStream.{HasTaken}
+use Rattle.mb_loaded.proofs.Common.{entries, flat_map, HasTaken, in_hexadecimal, take, tile_text}
 use Rattle.mb_loaded.proofs.loaded.Loaded.aggregate_by.Given as goal
 
 abbrev pub invariant-loop-index : goal.invariant-loop-index

@@ -1,8 +1,4 @@
-use Rattle.std.proofs.Common.{◌∙◌, ap, sym}
-use Rattle.std.specs.FinMap.{get}
-use Rattle.mb_lists.specs.Entries.{place_at}
-use Rattle.mb_loaded.specs.Held.{Held}
-use Rattle.mb_lists.proofs.ReaderLemmas.{dates_found, dates_missing}
+use Rattle.mb_loaded.proofs.Common.{ap, dates_found, dates_missing, get, Held, place_at, sym, ◌∙◌}
 use Rattle.mb_loaded.proofs.loaded.Loaded.cache_fields.Goals as goal
 
 pub returns-in-Some : goal.returns-in-Some

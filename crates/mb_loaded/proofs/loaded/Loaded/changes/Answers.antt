@@ -1,13 +1,6 @@
-use Rattle.std.proofs.Common.{◌≡◌, ◌∙◌, ◌++◌, ap, false, subst, sym}
-use Rattle.std.specs.Prelude.{All, filter_map}
-use Rattle.mb_loaded.specs.Changing.{AreChangesOf, content_table}
-use Rattle.mb_loaded.specs.HeldEntries.{held_of}
-use Rattle.mb_loaded.specs.PutRows.{listed_change, name_change, tile_change}
+use Rattle.mb_loaded.proofs.Common.{All, ap, AreChangesOf, Change, content_table, false, filter_map, held_of, listed_change, Metadata, name_change, subst, sym, table_eq, tile_change, ◌++◌, ◌∙◌, ◌≡◌}
 use Rattle.mb_loaded.proofs.Covering.{are_changes, names_last, tiles_first}
 use Rattle.mb_loaded.proofs.loaded.Loaded.changes.Goals as goal
-use Rattle.mb_store.specs.declared.change.Change.{Change}
-use Rattle.mb_tables.specs.Table.{table_eq}
-use Rattle.mb_tables.specs.declared.table.TableName.TheVariants.{Metadata}
 
 pub add_contents-requires-clause-others : goal.add_contents-requires-clause-others
 add_contents-requires-clause-others c =

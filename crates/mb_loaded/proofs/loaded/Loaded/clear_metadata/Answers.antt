@@ -1,6 +1,4 @@
-use Rattle.std.proofs.Common.{ap, ◌∙◌}
-use Rattle.mb_loaded.specs.Edits.{without_name}
-use Rattle.mb_loaded.specs.Held.{Held}
+use Rattle.mb_loaded.proofs.Common.{ap, Held, without_name, ◌∙◌}
 use Rattle.mb_loaded.proofs.PlacedViews.{cleared_texts, name_cleared}
 use Rattle.mb_loaded.proofs.loaded.Loaded.clear_metadata.Goals as goal
 

@@ -1,8 +1,4 @@
-use Rattle.std.proofs.Common.{ap, sym, ◌∙◌}
-use Rattle.std.proofs.lemmas.Bool.{false≢true}
-use Rattle.mb_loaded.specs.Edits.{without_tile}
-use Rattle.mb_lists.specs.Entries.{IsDated, IsTile, place_at}
-use Rattle.mb_loaded.specs.Held.{Held}
+use Rattle.mb_loaded.proofs.Common.{ap, false≢true, Held, IsDated, IsTile, place_at, sym, without_tile, ◌∙◌}
 use Rattle.mb_loaded.proofs.PlacedViews.{cleared_all, tile_cleared}
 use Rattle.mb_loaded.proofs.loaded.Loaded.clear_tile.Goals as goal
 

@@ -1,10 +1,4 @@
-use Rattle.std.proofs.Common.{◌∙◌, List, ap, sym}
-use Rattle.std.specs.Prelude.{slice_get}
-use Rattle.std.specs.FinMap.{get}
-use Rattle.std.specs.Option.{option_map}
-use Rattle.mb_loaded.specs.Held.{Held}
-use Rattle.mb_lists.specs.declared.entries.Content.{Content}
-use Rattle.mb_lists.proofs.ReaderLemmas.{content_none, content_some}
+use Rattle.mb_loaded.proofs.Common.{ap, Content, content_none, content_some, get, Held, List, option_map, slice_get, sym, ◌∙◌}
 use Rattle.mb_loaded.proofs.loaded.Loaded.content.Goals as goal
 
 pub returns-in-Some : goal.returns-in-Some

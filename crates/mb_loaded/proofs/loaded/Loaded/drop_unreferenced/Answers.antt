@@ -1,20 +1,7 @@
-use Rattle.std.proofs.Common.{List, ◌≡◌, ◌∙◌, ap, sym, subst, length, take}
-use Rattle.std.specs.Prelude.{All}
-use Rattle.std.specs.Vec.{with_items}
-use Rattle.std.proofs.lemmas.List.{with_items_is}
-use Rattle.std.proofs.lemmas.List.Sorted.{IsPermutation-trans}
-use Rattle.mb_lists.specs.Dropping.{marked_unnamed}
-use Rattle.mb_lists.specs.Entries.{AreContentsInOrder, HasId, IsTile, id_at, place_of}
-use Rattle.mb_loaded.specs.HeldEntries.{held_of}
-use Rattle.mb_lists.specs.Keyed.{Apart}
-use Rattle.mb_loaded.specs.Edits.{only_referenced}
-use Rattle.mb_lists.specs.declared.entries.Content.{Content}
-use Rattle.mb_lists.proofs.Dropped.{like_all}
+use Rattle.mb_loaded.proofs.Common.{All, ap, Apart, apart_permuted, AreContentsInOrder, cell_cmp, Content, HasId, held_of, id_at, IsPermutation-trans, IsTile, length, like_all, List, marked_unnamed}
+use Rattle.mb_loaded.proofs.Common.{only_referenced, place_of, places_total, subst, sym, take, with_items, with_items_is, ◌∙◌, ◌≡◌}
 use Rattle.mb_loaded.proofs.DroppedHeld.{apart_left, dated_left, held_dropped, ids_left, tiles_left}
-use Rattle.mb_lists.proofs.Sorting.{apart_permuted}
 use Rattle.mb_loaded.proofs.loaded.Loaded.drop_unreferenced.Goals as goal
-use Rattle.mb_tables.proofs.TileLemmas.{places_total}
-use Rattle.mb_tables.specs.Cell.{cell_cmp}
 
 pub settle-contents-requires : goal.settle-contents-requires
 settle-contents-requires c =

@@ -1,4 +1,4 @@
-use Rattle.std.proofs.Common.{◌∙◌}
+use Rattle.mb_loaded.proofs.Common.{◌∙◌}
 use Rattle.mb_loaded.proofs.EditViews.{held_opened}
 use Rattle.mb_loaded.proofs.loaded.Loaded.edit.Goals as goal
 

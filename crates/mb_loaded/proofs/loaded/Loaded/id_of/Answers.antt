@@ -1,10 +1,4 @@
-use Rattle.std.proofs.Common.{◌∙◌, List, Some, None, cond, ap, sym}
-use Rattle.std.specs.FinMap.{get}
-use Rattle.mb_lists.specs.Entries.{id_at, place_at}
-use Rattle.mb_loaded.specs.Held.{Held}
-use Rattle.mb_lists.specs.declared.entries.Content.{Content}
-use Rattle.mb_lists.proofs.ReaderLemmas.{id_none, id_some}
-use Rattle.mb_tables.specs.Cell.{is_null}
+use Rattle.mb_loaded.proofs.Common.{ap, cond, Content, get, Held, id_at, id_none, id_some, is_null, List, None, place_at, Some, sym, ◌∙◌}
 use Rattle.mb_loaded.proofs.loaded.Loaded.id_of.Goals as goal
 
 pub returns-in-Some : goal.returns-in-Some

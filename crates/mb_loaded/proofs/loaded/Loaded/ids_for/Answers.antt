@@ -1,12 +1,6 @@
-use Rattle.std.proofs.Common.{◌≡◌, ◌∙◌, ◌<◌, ap, sym, subst, ℕ, List, length, map, take}
-use Rattle.std.specs.Prelude.{All}
-use Rattle.std.proofs.lemmas.List.{length-map}
-use Rattle.mb_lists.specs.declared.entries.StoredTile.{StoredTile}
-use Rattle.mb_loaded.specs.GivenIds.{content_id, ids_at, ids_given}
-use Rattle.mb_loaded.specs.Held.{Held}
+use Rattle.mb_loaded.proofs.Common.{All, ap, Cell, content_id, Held, ids_at, ids_given, length, length-map, List, map, StoredTile, subst, sym, take, ℕ, ◌<◌, ◌∙◌, ◌≡◌}
 use Rattle.mb_loaded.proofs.GivenLemmas.{ids_found, live_ids, live_within}
 use Rattle.mb_loaded.proofs.loaded.Loaded.ids_for.Goals as goal
-use Rattle.mb_tables.specs.declared.cell.Cell.{Cell}
 
 pub invariant_of-result : goal.invariant_of-result
 invariant_of-result c =

@@ -1,16 +1,8 @@
-use Rattle.std.proofs.Common.{◌≡◌, ◌∙◌, ◌++◌, ap, false, List, subst, sym, ℕ}
-use Rattle.std.specs.Prelude.{All, filter_map}
-use Rattle.mb_lists.specs.declared.entries.StoredTile.{StoredTile}
-use Rattle.mb_loaded.specs.Changing.{AreChangesOf, content_table}
-use Rattle.mb_loaded.specs.HeldEntries.{held_of}
-use Rattle.mb_loaded.specs.PutRows.{listed_change, name_change, tile_change}
-use Rattle.mb_loaded.specs.Taking.{AreLast}
+use Rattle.mb_loaded.proofs.Common.{All, ap, AreChangesOf, AreLast, Change, content_table, false, filter_map, held_of, List, listed_change, Metadata, name_change, StoredTile, subst, sym, table_eq}
+use Rattle.mb_loaded.proofs.Common.{tile_change, ℕ, ◌++◌, ◌∙◌, ◌≡◌}
 use Rattle.mb_loaded.proofs.Covering.{are_changes, names_last, tiles_first}
 use Rattle.mb_loaded.proofs.TakenLemmas.{listed_left}
 use Rattle.mb_loaded.proofs.loaded.Loaded.into_changes.Goals as goal
-use Rattle.mb_store.specs.declared.change.Change.{Change}
-use Rattle.mb_tables.specs.Table.{table_eq}
-use Rattle.mb_tables.specs.declared.table.TableName.TheVariants.{Metadata}
 
 pub add_tiles-requires-clause-last : goal.add_tiles-requires-clause-last
 add_tiles-requires-clause-last c =

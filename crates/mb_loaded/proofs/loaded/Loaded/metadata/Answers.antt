@@ -1,9 +1,4 @@
-use Rattle.std.proofs.Common.{◌∙◌, ap, sym}
-use Rattle.std.specs.FinMap.{get}
-use Rattle.std.specs.Option.{option_map}
-use Rattle.mb_lists.specs.Entries.{text_cell}
-use Rattle.mb_loaded.specs.Held.{Held}
-use Rattle.mb_lists.proofs.ReaderLemmas.{name_missing, name_some}
+use Rattle.mb_loaded.proofs.Common.{ap, get, Held, name_missing, name_some, option_map, sym, text_cell, ◌∙◌}
 use Rattle.mb_loaded.proofs.loaded.Loaded.metadata.Goals as goal
 
 pub returns-in-Some : goal.returns-in-Some

@@ -1,9 +1,4 @@
-use Rattle.std.proofs.Common.{List, ℕ, ◌≡◌, ◌∙◌, ◌<◌, ap, sym, subst, arith}
-use Rattle.std.specs.Prelude.{IfSome, slice_get}
-use Rattle.std.specs.FinMap.{entries, len}
-use Rattle.mb_lists.specs.Entries.{text_cell}
-use Rattle.mb_loaded.specs.Held.{Held}
-use Rattle.mb_lists.proofs.ReaderLemmas.{name_read, names_count}
+use Rattle.mb_loaded.proofs.Common.{ap, arith, entries, Held, IfSome, len, List, name_read, names_count, slice_get, subst, sym, text_cell, ℕ, ◌<◌, ◌∙◌, ◌≡◌}
 use Rattle.mb_loaded.proofs.loaded.Loaded.metadata_at.Goals as goal
 
 pub index-entry-requires : goal.index-entry-requires

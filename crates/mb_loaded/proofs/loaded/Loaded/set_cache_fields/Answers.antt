@@ -1,13 +1,7 @@
-use Rattle.std.proofs.Common.{◌≡◌, ◌∙◌, ap}
-use Rattle.std.specs.FinMap.{contains_key}
-use Rattle.mb_loaded.specs.Edits.{with_dates}
-use Rattle.mb_lists.specs.Entries.{IsDated, IsTile, place_at}
-use Rattle.mb_loaded.specs.Held.{Held}
-use Rattle.mb_lists.specs.declared.dates.Dates.{Dates}
+use Rattle.mb_loaded.proofs.Common.{ap, Cache, contains_key, Dates, Held, IsDated, IsTile, place_at, with_dates, ◌∙◌, ◌≡◌}
 use Rattle.mb_loaded.proofs.DatedLemmas.{times_stay}
 use Rattle.mb_loaded.proofs.PlacedViews.{redated_all, tile_redated}
 use Rattle.mb_loaded.proofs.loaded.Loaded.set_cache_fields.Goals as goal
-use Rattle.mb_tables.specs.declared.kind.MbtType.TheVariants.{Cache}
 
 pub invariant_of-self : goal.invariant_of-self
 invariant_of-self c =

@@ -1,18 +1,7 @@
-use Rattle.std.proofs.Common.{List, [], ◌∷◌, ◌++◌, ap, subst, refl, ◌∙◌}
-use Rattle.std.specs.Cmp.Lexicographic.{slice_cmp}
-use Rattle.std.specs.Ordering.{nat_cmp}
-use Rattle.std.proofs.lemmas.Cmp.{nat_list_cmp_total}
-use Rattle.mb_loaded.specs.Edits.{with_name}
-use Rattle.mb_lists.specs.Entries.{IsName, name_of, newest_names}
-use Rattle.mb_loaded.specs.Held.{Held}
-use Rattle.mb_lists.specs.Keyed.{StandsAs}
-use Rattle.mb_lists.specs.Metadata.{text_of}
-use Rattle.mb_lists.specs.declared.entries.Standing.TheVariants.{Put}
-use Rattle.mb_lists.specs.declared.entries.StoredName.{StoredName}
+use Rattle.mb_loaded.proofs.Common.{ap, Held, IsName, List, name_of, names_antisymmetric, nat_cmp, nat_list_cmp_total, newest_names, Put, refl, slice_cmp, stands_from, StandsAs, StoredName, subst}
+use Rattle.mb_loaded.proofs.Common.{text_of, with_name, [], ◌++◌, ◌∙◌, ◌∷◌}
 use Rattle.mb_loaded.proofs.EditViews.{all_from, named_texts}
-use Rattle.mb_lists.proofs.NameLemmas.{names_antisymmetric}
 use Rattle.mb_loaded.proofs.PlacedViews.{name_placed}
-use Rattle.mb_lists.proofs.StandsLemmas.{stands_from}
 use Rattle.mb_loaded.proofs.loaded.Loaded.set_metadata.Goals as goal
 
 pub invariant_of-self-2 : goal.invariant_of-self-2

@@ -1,18 +1,8 @@
-use Rattle.std.proofs.Common.{List, [], ◌∷◌, ◌++◌, ap, subst, refl, is_some, ◌∙◌}
-use Rattle.mb_loaded.specs.Edits.{with_null}
-use Rattle.mb_lists.specs.Entries.{IsDated, IsTile, newest_tiles, place_at, place_of}
-use Rattle.mb_loaded.specs.Held.{Held}
-use Rattle.mb_lists.specs.Keyed.{StandsAs}
-use Rattle.mb_lists.specs.declared.entries.Content.{Content}
-use Rattle.mb_lists.specs.declared.entries.Standing.TheVariants.{Put}
-use Rattle.mb_lists.specs.declared.entries.StoredTile.{StoredTile}
+use Rattle.mb_loaded.proofs.Common.{ap, Content, contents_of, Held, is_some, IsDated, IsTile, List, newest_tiles, place_at, place_cmp, place_of, places_antisymmetric, places_total, Put, refl}
+use Rattle.mb_loaded.proofs.Common.{stands_from, StandsAs, StoredTile, subst, with_null, [], ◌++◌, ◌∙◌, ◌∷◌}
 use Rattle.mb_loaded.proofs.EditViews.{all_from, kept_ids, put_dated, put_whole}
 use Rattle.mb_loaded.proofs.PlacedViews.{more_in_order, null_placed}
-use Rattle.mb_lists.proofs.Places.{places_antisymmetric}
-use Rattle.mb_lists.proofs.StandsLemmas.{stands_from}
 use Rattle.mb_loaded.proofs.loaded.Loaded.set_null.Goals as goal
-use Rattle.mb_tables.proofs.TileLemmas.{places_total}
-use Rattle.mb_tables.specs.Tiles.{contents_of, place_cmp}
 
 pub invariant_of-self-2 : goal.invariant_of-self-2
 invariant_of-self-2 c =

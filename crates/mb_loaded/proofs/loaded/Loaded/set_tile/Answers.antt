@@ -1,25 +1,9 @@
-use Rattle.std.proofs.Common.{List, ℕ, [], ◌∷◌, ◌++◌, ◌≡◌, ap, subst, sym, refl, ◌∙◌}
-use Rattle.std.specs.Prelude.{All}
-use Rattle.mb_lists.specs.Clearing.{listed}
-use Rattle.mb_loaded.specs.Edits.{with_tile}
-use Rattle.mb_lists.specs.Entries.{AreContentsInOrder, HasId, IsDated, IsTile, id_at, newest_ids, newest_tiles, place_at, place_of}
-use Rattle.mb_loaded.specs.HeldEntries.{held_of}
-use Rattle.mb_loaded.specs.Held.{Held}
-use Rattle.mb_lists.specs.Keyed.{StandsAs}
-use Rattle.mb_lists.specs.declared.entries.Content.{Content}
-use Rattle.mb_lists.specs.declared.entries.Standing.TheVariants.{Put}
-use Rattle.mb_lists.specs.declared.entries.StoredTile.{StoredTile}
+use Rattle.mb_loaded.proofs.Common.{All, ap, AreContentsInOrder, Blob, cell_cmp, cell_cmp-IsAntisymmetric, cells_total, Content, HasId, Held, held_of, id_at, IsDated, IsTile, List, listed, newest_ids}
+use Rattle.mb_loaded.proofs.Common.{newest_tiles, place_at, place_cmp, place_of, places_antisymmetric, places_total, Put, refl, stands_from, StandsAs, StoredTile, subst, sym, with_tile, ℕ, [], ◌++◌}
+use Rattle.mb_loaded.proofs.Common.{◌∙◌, ◌∷◌, ◌≡◌}
 use Rattle.mb_loaded.proofs.EditViews.{all_from, put_dated, put_ids, put_whole}
 use Rattle.mb_loaded.proofs.PlacedViews.{more_in_order, new_live, put_placed}
-use Rattle.mb_lists.proofs.Places.{places_antisymmetric}
-use Rattle.mb_lists.proofs.StandsLemmas.{stands_from}
 use Rattle.mb_loaded.proofs.loaded.Loaded.set_tile.Goals as goal
-use Rattle.mb_tables.proofs.CellLemmas.{cell_cmp-IsAntisymmetric}
-use Rattle.mb_tables.proofs.TileLemmas.{places_total}
-use Rattle.mb_tables.specs.Cell.{cell_cmp}
-use Rattle.mb_tables.specs.CellOrder.{cells_total}
-use Rattle.mb_tables.specs.Tiles.{place_cmp}
-use Rattle.mb_tables.specs.declared.cell.Cell.TheVariants.{Blob}
 
 pub list-requires-clause-order : goal.list-requires-clause-order
 list-requires-clause-order c =

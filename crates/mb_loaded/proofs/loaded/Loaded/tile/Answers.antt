@@ -1,11 +1,4 @@
-use Rattle.std.proofs.Common.{◌∙◌, List, ap, sym}
-use Rattle.std.specs.Prelude.{slice_get}
-use Rattle.std.specs.FinMap.{get}
-use Rattle.std.specs.Option.{option_map}
-use Rattle.mb_lists.specs.Entries.{blob_cell, place_at}
-use Rattle.mb_loaded.specs.Held.{Held}
-use Rattle.mb_lists.specs.declared.entries.Content.{Content}
-use Rattle.mb_lists.proofs.ReaderLemmas.{tile_none, tile_some}
+use Rattle.mb_loaded.proofs.Common.{ap, blob_cell, Content, get, Held, List, option_map, place_at, slice_get, sym, tile_none, tile_some, ◌∙◌}
 use Rattle.mb_loaded.proofs.loaded.Loaded.tile.Goals as goal
 
 pub returns-in-Some : goal.returns-in-Some

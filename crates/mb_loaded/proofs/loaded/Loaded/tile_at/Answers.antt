@@ -1,9 +1,4 @@
-use Rattle.std.proofs.Common.{◌≡◌, ◌∙◌, ◌<◌, ap, sym, subst, arith}
-use Rattle.std.specs.Prelude.{IfSome, slice_get}
-use Rattle.std.specs.FinMap.{entries, len}
-use Rattle.mb_lists.specs.Entries.{blob_cell, place_at}
-use Rattle.mb_loaded.specs.Held.{Held}
-use Rattle.mb_lists.proofs.ReaderLemmas.{tile_read, tile_within, tiles_count}
+use Rattle.mb_loaded.proofs.Common.{ap, arith, blob_cell, entries, Held, IfSome, len, place_at, slice_get, subst, sym, tile_read, tile_within, tiles_count, ◌<◌, ◌∙◌, ◌≡◌}
 use Rattle.mb_loaded.proofs.loaded.Loaded.tile_at.Goals as goal
 
 pub index-tile-requires : goal.index-tile-requires

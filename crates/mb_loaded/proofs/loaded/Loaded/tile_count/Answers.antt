@@ -1,7 +1,4 @@
-use Rattle.std.proofs.Common.{◌∙◌, ap, sym}
-use Rattle.std.specs.FinMap.{len}
-use Rattle.mb_loaded.specs.Held.{Held}
-use Rattle.mb_lists.proofs.ReaderLemmas.{tiles_count}
+use Rattle.mb_loaded.proofs.Common.{ap, Held, len, sym, tiles_count, ◌∙◌}
 use Rattle.mb_loaded.proofs.loaded.Loaded.tile_count.Goals as goal
 
 pub returns : goal.returns

@@ -1,7 +1,4 @@
-use Rattle.std.proofs.Common.{rules, ◌≡◌, ◌∙◌, true, Some, ap, refl}
-use Rattle.mb_store.specs.MemStore.{told_of}
-use Rattle.mb_reading.specs.Filling.{noted, read_of, step_of, taken}
-use Rattle.mb_reading.specs.LeftOut.{counted}
+use Rattle.mb_reading.proofs.Common.{ap, counted, noted, read_of, refl, rules, Some, step_of, taken, told_of, true, ◌∙◌, ◌≡◌}
 use Rattle.mb_reading.proofs.FillLemmas.{noted_by, takes_over, takes_row, takes_odd, none_by, some_by}
 use Rattle.mb_reading.proofs.filling.Filling.take.Goals as goal
 

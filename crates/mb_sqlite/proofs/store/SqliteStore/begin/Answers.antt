@@ -1,4 +1,4 @@
-use Rattle.std.proofs.Common.{rules, ◌≡◌, false, inl, refl, true}
+use Rattle.mb_sqlite.proofs.Common.{false, inl, refl, rules, true, ◌≡◌}
 use Rattle.mb_sqlite.proofs.CommitLemmas.{nothing_once, nothing_yet}
 use Rattle.mb_sqlite.proofs.ReadyLemmas.{leaves_failed, leaves_inside, leaves_ready, ready_now, ready_yet}
 use Rattle.mb_sqlite.proofs.store.SqliteStore.begin.Goals as goal

@@ -1,5 +1,4 @@
-use Rattle.std.proofs.Common.{subst, inl, inr, refl}
-use Rattle.mb_sqlite.specs.Committing.{MakesChanges, RefusesChanges}
+use Rattle.mb_sqlite.proofs.Common.{inl, inr, MakesChanges, refl, RefusesChanges, subst}
 use Rattle.mb_sqlite.proofs.ReadyLemmas.{on_err}
 use Rattle.mb_sqlite.proofs.store.SqliteStore.committed.Goals as goal
 

@@ -1,5 +1,4 @@
-use Rattle.std.proofs.Common.{inl, refl, inr}
-use Rattle.mb_sqlite.specs.Reading.{IsCounted}
+use Rattle.mb_sqlite.proofs.Common.{inl, inr, IsCounted, refl}
 use Rattle.mb_sqlite.proofs.CommitLemmas.{once_then}
 use Rattle.mb_sqlite.proofs.ReadyLemmas.{leaves_ready, sees_ready}
 use Rattle.mb_sqlite.proofs.store.SqliteStore.counted_rows.Goals as goal

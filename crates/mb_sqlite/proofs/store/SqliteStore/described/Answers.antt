@@ -1,4 +1,4 @@
-use Rattle.std.proofs.Common.{inl, refl}
+use Rattle.mb_sqlite.proofs.Common.{inl, refl}
 use Rattle.mb_sqlite.proofs.ReadyLemmas.{leaves_ready}
 use Rattle.mb_sqlite.proofs.store.SqliteStore.described.Goals as goal
 

@@ -1,5 +1,4 @@
-use Rattle.std.proofs.Common.{inl, refl, inr}
-use Rattle.mb_sqlite.specs.Reading.{IsFound}
+use Rattle.mb_sqlite.proofs.Common.{inl, inr, IsFound, refl}
 use Rattle.mb_sqlite.proofs.CommitLemmas.{once_then}
 use Rattle.mb_sqlite.proofs.ReadyLemmas.{leaves_ready, sees_ready}
 use Rattle.mb_sqlite.proofs.store.SqliteStore.found.Goals as goal

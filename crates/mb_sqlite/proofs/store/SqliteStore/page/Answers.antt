@@ -1,7 +1,4 @@
-use Rattle.std.proofs.Common.{subst, inl, refl, inr}
-use Rattle.std.specs.Prelude.{IfOk}
-use Rattle.mb_sqlite.specs.Committing.{OnceReady, Sees}
-use Rattle.mb_sqlite.specs.Cursor.{MovesPast}
+use Rattle.mb_sqlite.proofs.Common.{IfOk, inl, inr, MovesPast, OnceReady, refl, Sees, subst}
 use Rattle.mb_sqlite.proofs.CommitLemmas.{once_then}
 use Rattle.mb_sqlite.proofs.ReadyLemmas.{leaves_ready, sees_ready}
 use Rattle.mb_sqlite.proofs.store.SqliteStore.page.Goals as goal

@@ -1,7 +1,4 @@
-use Rattle.std.proofs.Common.{inr, subst}
-use Rattle.std.specs.Prelude.{IfOk}
-use Rattle.mb_sqlite.specs.Committing.{OnceReady, Sees}
-use Rattle.mb_sqlite.specs.Sizing.{IsLiveSize}
+use Rattle.mb_sqlite.proofs.Common.{IfOk, inr, IsLiveSize, OnceReady, Sees, subst}
 use Rattle.mb_sqlite.proofs.CommitLemmas.{once_then}
 use Rattle.mb_sqlite.proofs.ReadyLemmas.{leaves_ready, sees_ready}
 use Rattle.mb_sqlite.proofs.store.SqliteStore.size.Goals as goal

@@ -1,4 +1,4 @@
-use Rattle.std.proofs.Common.{None, refl}
+use Rattle.mb_store.proofs.Common.{None, refl}
 use Rattle.mb_store.proofs.ChangeLemmas.{AreChanges-after}
 use Rattle.mb_store.proofs.changes.Changes.delete.Goals as goal
 

@@ -1,5 +1,4 @@
-use Rattle.std.proofs.Common.{Some}
-use Rattle.std.proofs.lemmas.Bool.{and_from, eq-eqb}
+use Rattle.mb_store.proofs.Common.{and_from, eq-eqb, Some}
 use Rattle.mb_store.proofs.ChangeLemmas.{AreChanges-after}
 use Rattle.mb_store.proofs.changes.Changes.put.Goals as goal
 

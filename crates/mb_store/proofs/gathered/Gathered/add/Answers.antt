@@ -1,8 +1,4 @@
-use Rattle.std.proofs.Common.{◌++◌, ◌∷◌, ◌∙◌, [], List, Ok, Err, sym, subst}
-use Rattle.mb_tables.specs.declared.cell.Cell.{Cell}
-use Rattle.mb_store.specs.Errors.{RefusesTwice}
-use Rattle.mb_store.specs.GatheredRows.{has_own}
-use Rattle.mb_store.specs.StoredRow.{own_key}
+use Rattle.mb_store.proofs.Common.{Cell, Err, has_own, List, Ok, own_key, RefusesTwice, subst, sym, [], ◌++◌, ◌∙◌, ◌∷◌}
 use Rattle.mb_store.proofs.GatheredLemmas.{new_is, seen_pushed}
 use Rattle.mb_store.proofs.gathered.Gathered.add.Goals as goal
 

@@ -1,7 +1,4 @@
-use Rattle.std.proofs.Common.{◌≡◌, ◌∙◌, true, false, sym, refl}
-use Rattle.std.specs.List.{list_any}
-use Rattle.std.proofs.lemmas.Bool.{false≢true}
-use Rattle.mb_store.specs.Gathered.{same_numbers}
+use Rattle.mb_store.proofs.Common.{false, false≢true, list_any, refl, same_numbers, sym, true, ◌∙◌, ◌≡◌}
 use Rattle.mb_store.proofs.GatheredLemmas.{wanting}
 use Rattle.mb_store.proofs.gathered.Gathered.refuse.Goals as goal
 

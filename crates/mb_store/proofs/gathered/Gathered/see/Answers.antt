@@ -1,9 +1,4 @@
-use Rattle.std.proofs.Common.{◌≡◌, ◌∙◌, ◌↔◌, true, false, List, sym, refl, subst}
-use Rattle.std.specs.List.{list_any}
-use Rattle.mb_tables.specs.declared.error.MbtError.TheVariants.{DuplicateRow}
-use Rattle.mb_store.specs.Gathered.{same_numbers}
-use Rattle.mb_store.specs.GatheredRows.{has_own}
-use Rattle.mb_store.specs.StoredRow.{Stored, numbers_cells}
+use Rattle.mb_store.proofs.Common.{DuplicateRow, false, has_own, List, list_any, numbers_cells, refl, same_numbers, Stored, subst, sym, true, ◌↔◌, ◌∙◌, ◌≡◌}
 use Rattle.mb_store.proofs.GatheredLemmas.{refused_by}
 use Rattle.mb_store.proofs.PushLemmas.{none_equal, not_added}
 use Rattle.mb_store.proofs.gathered.Gathered.see.Goals as goal

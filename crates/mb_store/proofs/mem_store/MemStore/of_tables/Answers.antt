@@ -1,4 +1,4 @@
-use Rattle.mb_store.specs.MemStore.{told_of}
+use Rattle.mb_store.proofs.Common.{told_of}
 use Rattle.mb_store.proofs.GatheredLemmas.{tables_none}
 use Rattle.mb_store.proofs.HeldLemmas.{held_none}
 use Rattle.mb_store.proofs.mem_store.MemStore.of_tables.Goals as goal

@@ -1,5 +1,4 @@
-use Rattle.std.proofs.Common.{◌∙◌}
-use Rattle.mb_store.specs.MemStore.{told_of}
+use Rattle.mb_store.proofs.Common.{told_of, ◌∙◌}
 use Rattle.mb_store.proofs.HeldLemmas.{held_pushed}
 use Rattle.mb_store.proofs.mem_store.MemStore.push_row.Goals as goal
 

@@ -1,4 +1,4 @@
-use Rattle.mb_store.specs.MemStore.{told_of}
+use Rattle.mb_store.proofs.Common.{told_of}
 use Rattle.mb_store.proofs.HeldLemmas.{plain_settled}
 use Rattle.mb_store.proofs.mem_store.MemStore.settle.Goals as goal
 

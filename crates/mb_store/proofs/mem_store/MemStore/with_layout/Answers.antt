@@ -1,5 +1,4 @@
-use Rattle.std.proofs.Common.{◌∙◌, ap}
-use Rattle.mb_store.specs.Store.{no_rows}
+use Rattle.mb_store.proofs.Common.{ap, no_rows, ◌∙◌}
 use Rattle.mb_store.proofs.mem_store.MemStore.with_layout.Goals as goal
 
 pub returns-clause-told : goal.returns-clause-told

@@ -1,10 +1,4 @@
-use Rattle.std.proofs.Common.{◌∙◌, List, ap, sym, subst}
-use Rattle.mb_tables.specs.Table.{Tables}
-use Rattle.mb_tables.specs.declared.description.TableDesc.{TableDesc}
-use Rattle.mb_store.specs.Committing.{AreOfTables}
-use Rattle.mb_store.specs.MemStore.{told_of}
-use Rattle.mb_store.specs.MemTables.{rows_at}
-use Rattle.mb_store.specs.declared.change.Change.{Change}
+use Rattle.mb_store.proofs.Common.{ap, AreOfTables, Change, List, rows_at, subst, sym, TableDesc, Tables, told_of, ◌∙◌}
 use Rattle.mb_store.proofs.GatheredLemmas.{tables_same, tables_settled}
 use Rattle.mb_store.proofs.HeldLemmas.{commits_told, held_kept, kept_settled, on_err}
 use Rattle.mb_store.proofs.KeptCommit.{kept_after}

@@ -1,7 +1,4 @@
-use Rattle.std.proofs.Common.{◌∙◌, sym, subst, ap}
-use Rattle.mb_store.specs.Gathered.{told_at}
-use Rattle.mb_store.specs.MemTables.{AreKeyed}
-use Rattle.mb_store.specs.Store.{IsSound, with_tables}
+use Rattle.mb_store.proofs.Common.{ap, AreKeyed, IsSound, subst, sym, told_at, with_tables, ◌∙◌}
 use Rattle.mb_store.proofs.DescribedLemmas.{sound_tables}
 use Rattle.mb_store.proofs.HeldLemmas.{held_described, tables_as}
 use Rattle.mb_store.proofs.mem_store.MemStoreTileStore.create.Goals as goal

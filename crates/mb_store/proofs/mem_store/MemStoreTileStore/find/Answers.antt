@@ -1,10 +1,4 @@
-use Rattle.std.proofs.Common.{◌≡◌, ◌∙◌, sym, subst, ap, length, find, List, Option}
-use Rattle.std.specs.Prelude.{IfSome}
-use Rattle.mb_tables.specs.Key.{has_key}
-use Rattle.mb_tables.specs.Table.{width}
-use Rattle.mb_tables.specs.declared.cell.Cell.{Cell}
-use Rattle.mb_store.specs.TableRows.{rows_in}
-use Rattle.mb_store.specs.declared.table_rows.TableRows.{TableRows}
+use Rattle.mb_store.proofs.Common.{ap, Cell, find, has_key, IfSome, length, List, Option, rows_in, subst, sym, TableRows, width, ◌∙◌, ◌≡◌}
 use Rattle.mb_store.proofs.HeldLemmas.{kept_settled}
 use Rattle.mb_store.proofs.StoredLemmas.{find-All}
 use Rattle.mb_store.proofs.mem_store.MemStoreTileStore.find.Goals as goal

@@ -1,11 +1,4 @@
-use Rattle.std.proofs.Common.{◌≡◌, ◌∙◌, sym, subst, ap, drop, length, take, List}
-use Rattle.std.specs.Prelude.{All}
-use Rattle.std.proofs.lemmas.List.Elements.{All-drop, All-take}
-use Rattle.mb_tables.specs.Table.{width}
-use Rattle.mb_tables.specs.declared.cell.Cell.{Cell}
-use Rattle.mb_store.specs.MemTables.{rows_at}
-use Rattle.mb_store.specs.TableRows.{rows_in}
-use Rattle.mb_store.specs.declared.table_rows.TableRows.{TableRows}
+use Rattle.mb_store.proofs.Common.{All, All-drop, All-take, ap, Cell, drop, length, List, rows_at, rows_in, subst, sym, TableRows, take, width, ◌∙◌, ◌≡◌}
 use Rattle.mb_store.proofs.HeldLemmas.{kept_settled}
 use Rattle.mb_store.proofs.mem_store.MemStoreTileStore.rows.Goals as goal
 

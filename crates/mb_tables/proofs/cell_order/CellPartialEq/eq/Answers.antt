@@ -1,4 +1,4 @@
-use Rattle.std.proofs.Common.{◌∙◌}
+use Rattle.mb_tables.proofs.Common.{◌∙◌}
 use Rattle.std.specs.Cmp.Lexicographic.{texts_ties}
 use Rattle.mb_tables.proofs.cell_order.CellPartialEq.eq.Goals as goal
 

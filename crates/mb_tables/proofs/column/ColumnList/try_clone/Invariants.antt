@@ -1,4 +1,4 @@
-use Rattle.std.proofs.Common.{◌≡◌, take}
+use Rattle.mb_tables.proofs.Common.{take, ◌≡◌}
 use Rattle.mb_tables.proofs.column.ColumnList.try_clone.Given as goal
 
 abbrev pub invariant-loop-column : goal.invariant-loop-column

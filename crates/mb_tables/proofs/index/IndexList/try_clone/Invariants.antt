@@ -1,4 +1,4 @@
-use Rattle.std.proofs.Common.{◌≡◌, take}
+use Rattle.mb_tables.proofs.Common.{take, ◌≡◌}
 use Rattle.mb_tables.proofs.index.IndexList.try_clone.Given as goal
 
 abbrev pub invariant-loop-index : goal.invariant-loop-index

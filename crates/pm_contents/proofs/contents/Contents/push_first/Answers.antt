@@ -1,7 +1,6 @@
-use Rattle.std.proofs.Common.{◌≡◌, ◌+◌, None, refl, ap, ◌∙◌, if◌then◌else◌}
+use Rattle.pm_contents.proofs.Common.{ap, Contents, if◌then◌else◌, None, refl, ◌+◌, ◌∙◌, ◌≡◌}
 use Rattle.std.specs.HashMap.{hash_map_len}
 use Rattle.std.specs.Option.{is_some}
-use Rattle.pm_contents.specs.declared.contents.Contents.{Contents}
 use Rattle.pm_contents.proofs.ContentLemmas.{IsFirst, finds_first, holds_first}
 use Rattle.pm_contents.proofs.contents.Contents.push_first.Goals as goal
 

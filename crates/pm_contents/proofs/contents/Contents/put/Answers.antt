@@ -1,9 +1,5 @@
-use Rattle.std.proofs.Common.{◌≡◌, ◌≢◌, length, Option, Some, IfSome, OnOk, sym, ◌∙◌, ap, subst}
+use Rattle.pm_contents.proofs.Common.{ap, Finds, first_of, found_in, FoundAs, Holds, IfSome, IsNew, IsSought, length, OnOk, Option, place_sought, put_new, Some, Span, subst, sym, ◌∙◌, ◌≡◌, ◌≢◌}
 use Rattle.std.proofs.lemmas.Result.{IfOk-weaker}
-use Rattle.pm_contents.specs.Contents.{Finds, Holds, first_of}
-use Rattle.pm_contents.specs.Places.{IsNew, found_in, put_new}
-use Rattle.pm_contents.specs.Sought.{FoundAs, IsSought, place_sought}
-use Rattle.pm_contents.specs.declared.span.Span.{Span}
 use Rattle.pm_contents.specs.declared.sought.Sought.TheVariants as sought
 use Rattle.pm_contents.proofs.ContentLemmas.{place_put}
 use Rattle.pm_contents.proofs.contents.Contents.put.Goals as goal

@@ -1,4 +1,4 @@
-use Rattle.std.proofs.Common.{refl}
+use Rattle.pm_contents.proofs.Common.{refl}
 use Rattle.pm_contents.proofs.ContentLemmas.{finds_alike, holds_alike}
 use Rattle.pm_contents.proofs.contents.Contents.put_first.Goals as goal
 

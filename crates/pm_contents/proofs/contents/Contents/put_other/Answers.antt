@@ -1,7 +1,4 @@
-use Rattle.std.proofs.Common.{◌≡◌, ◌+◌, None, Some, length, refl, ap, rules}
-use Rattle.std.specs.BTreeMap.{Updates, btree_map_len}
-use Rattle.pm_contents.specs.Contents.{content_cmp}
-use Rattle.pm_contents.specs.declared.contents.Contents.{Contents}
+use Rattle.pm_contents.proofs.Common.{ap, btree_map_len, content_cmp, Contents, length, None, refl, rules, Some, Updates, ◌+◌, ◌≡◌}
 use Rattle.pm_contents.proofs.ContentLemmas.{IsOther, finds_other, holds_other, others_back}
 use Rattle.pm_contents.proofs.contents.Contents.put_other.Given.{Over}
 use Rattle.pm_contents.proofs.contents.Contents.put_other.Goals as goal

@@ -1,4 +1,4 @@
-use Rattle.std.proofs.Common.{Some, Err, ap, sym, ◌∙◌, arith, length-drop}
+use Rattle.pm_format.proofs.Common.{ap, arith, Err, length-drop, Some, sym, ◌∙◌}
 use Rattle.pm_format.proofs.OptionLemmas.{same_error}
 use Rattle.pm_format.proofs.DecodingLemmas.{counted, uncounted, too_many}
 use Rattle.pm_format.proofs.directory.Directory.decode.Goals as goal

@@ -1,5 +1,4 @@
-use Rattle.std.proofs.Common.{◌∙◌, sym, subst}
-use Rattle.pm_format.specs.Directory.{IsWritable}
+use Rattle.pm_format.proofs.Common.{IsWritable, subst, sym, ◌∙◌}
 use Rattle.pm_format.proofs.DirectoryPieces.{not_falling_zero, placed_writable, same_entries}
 use Rattle.pm_format.proofs.directory.Directory.encode.Goals as goal
 

@@ -1,5 +1,4 @@
-use Rattle.std.proofs.Common.{◌≡◌, ◌-◌, suc, arith, subst, sym, ◌∙◌, ap}
-use Rattle.pm_format.specs.Scan.{Parts, scan}
+use Rattle.pm_format.proofs.Common.{ap, arith, Parts, scan, subst, suc, sym, ◌-◌, ◌∙◌, ◌≡◌}
 use Rattle.pm_format.proofs.SearchLemmas.{scan_none, scan_at}
 use Rattle.pm_format.proofs.directory.Directory.find_tile_id_counted.Goals as goal
 

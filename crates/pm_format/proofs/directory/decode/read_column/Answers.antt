@@ -1,4 +1,4 @@
-use Rattle.std.proofs.Common.{rules, ◌≡◌, ◌++◌, [], ◌∷◌, sym, ◌∙◌}
+use Rattle.pm_format.proofs.Common.{rules, sym, [], ◌++◌, ◌∙◌, ◌∷◌, ◌≡◌}
 use Rattle.pm_format.proofs.ColumnLemmas.{column_step, column_stop, u32_number}
 use Rattle.pm_format.proofs.directory.decode.read_column.Goals as goal
 

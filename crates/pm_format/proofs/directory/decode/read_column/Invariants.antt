@@ -1,4 +1,4 @@
-use Rattle.std.proofs.Common.{◌^◌}
+use Rattle.pm_format.proofs.Common.{◌^◌}
 use Rattle.pm_format.proofs.ColumnLemmas.{ColumnReading}
 use Rattle.pm_format.proofs.directory.decode.read_column.Given as goal
 

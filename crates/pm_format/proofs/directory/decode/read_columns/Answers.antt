@@ -1,5 +1,4 @@
-use Rattle.std.proofs.Common.{Err, ap, ◌∙◌}
-use Rattle.std.proofs.lemmas.Result.{IfOk-weaker}
+use Rattle.pm_format.proofs.Common.{ap, Err, IfOk-weaker, ◌∙◌}
 use Rattle.pm_format.proofs.OptionLemmas.{same_error}
 use Rattle.pm_format.proofs.DecodingLemmas.{no_columns, no_runs, no_lengths, columns_from, columns_rise}
 use Rattle.pm_format.proofs.directory.decode.read_columns.Goals as goal

@@ -1,6 +1,4 @@
-use Rattle.std.proofs.Common.{rules, ◌≡◌, ◌++◌, [], ◌∷◌, ◌+◌, ◌<◌, ◌^◌, ℕ, None, sym, ◌∙◌, get_or, subst}
-use Rattle.std.specs.Option.{SomeIff}
-use Rattle.pm_format.specs.Directory.{entry, offset_of}
+use Rattle.pm_format.proofs.Common.{entry, get_or, None, offset_of, rules, SomeIff, subst, sym, ℕ, [], ◌++◌, ◌+◌, ◌<◌, ◌^◌, ◌∙◌, ◌∷◌, ◌≡◌}
 use Rattle.pm_format.proofs.ColumnLemmas.{u64_number}
 use Rattle.pm_format.proofs.EntryLemmas.{entries_step, entries_stop, entries_unplaced, entries_done}
 use Rattle.pm_format.proofs.directory.decode.read_entries.Goals as goal

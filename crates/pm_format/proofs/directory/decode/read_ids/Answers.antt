@@ -1,4 +1,4 @@
-use Rattle.std.proofs.Common.{rules, ◌≡◌, ◌≤◌, ◌+◌, ◌^◌, ◌++◌, [], ◌∷◌, ℕ, sym, ◌∙◌, arith, subst}
+use Rattle.pm_format.proofs.Common.{arith, rules, subst, sym, ℕ, [], ◌++◌, ◌+◌, ◌^◌, ◌∙◌, ◌∷◌, ◌≡◌, ◌≤◌}
 use Rattle.pm_format.proofs.ColumnLemmas.{IdsReading, ids_step, ids_stop, ids_pass, u64_number}
 use Rattle.pm_format.proofs.directory.decode.read_ids.Goals as goal
 

@@ -1,6 +1,4 @@
-use Rattle.std.proofs.Common.{◌∙◌, ◌++◌, [], ap, length, map, sym}
-use Rattle.std.proofs.lemmas.List.{length-map}
-use Rattle.pm_format.specs.Varint.{varint}
+use Rattle.pm_format.proofs.Common.{ap, length, length-map, map, sym, varint, [], ◌++◌, ◌∙◌}
 use Rattle.pm_format.proofs.DirectoryPieces.{directory_written}
 use Rattle.pm_format.proofs.directory.encode.encode_entries.Goals as goal
 

@@ -1,5 +1,4 @@
-use Rattle.std.proofs.Common.{◌≡◌, ◌++◌, drop, map}
-use Rattle.pm_format.specs.Directory.{IsWritable, spell_all, steps_from}
+use Rattle.pm_format.proofs.Common.{drop, IsWritable, map, spell_all, steps_from, ◌++◌, ◌≡◌}
 use Rattle.pm_format.proofs.directory.encode.write_ids.Given as goal
 
 abbrev pub invariant-loop-entry : goal.invariant-loop-entry

@@ -1,5 +1,4 @@
-use Rattle.std.proofs.Common.{◌≡◌, ℕ, ◌++◌, drop, map, None}
-use Rattle.pm_format.specs.Directory.{IsWritable, spell_all, starts_from}
+use Rattle.pm_format.proofs.Common.{drop, IsWritable, map, None, spell_all, starts_from, ℕ, ◌++◌, ◌≡◌}
 use Rattle.pm_format.proofs.directory.encode.write_offsets.Given as goal
 
 abbrev pub invariant-loop-entry : goal.invariant-loop-entry

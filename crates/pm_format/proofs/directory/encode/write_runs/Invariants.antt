@@ -1,5 +1,4 @@
-use Rattle.std.proofs.Common.{◌≡◌, ◌++◌, drop, map}
-use Rattle.pm_format.specs.Directory.{spell_all}
+use Rattle.pm_format.proofs.Common.{drop, map, spell_all, ◌++◌, ◌≡◌}
 use Rattle.pm_format.proofs.directory.encode.write_runs.Given as goal
 
 abbrev pub invariant-loop-entry : goal.invariant-loop-entry

@@ -1,4 +1,4 @@
-use Rattle.std.proofs.Common.{refl}
+use Rattle.pm_format.proofs.Common.{refl}
 use Rattle.pm_format.proofs.SearchLemmas.{go_right, go_left, not_yet}
 use Rattle.pm_format.proofs.directory.search.count_begun.Goals as goal
 

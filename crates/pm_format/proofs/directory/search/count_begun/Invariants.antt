@@ -1,4 +1,4 @@
-use Rattle.std.proofs.Common.{◌-◌}
+use Rattle.pm_format.proofs.Common.{◌-◌}
 use Rattle.pm_format.proofs.SearchLemmas.{Searching}
 use Rattle.pm_format.proofs.directory.search.count_begun.Given as goal
 

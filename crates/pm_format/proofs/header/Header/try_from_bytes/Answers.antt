@@ -1,7 +1,5 @@
-use Rattle.std.proofs.Common.{◌≡◌, ◌∙◌, ap, refl, slice_get, Some, None, Ok, Err}
-use Rattle.std.proofs.lemmas.Result.{err_from_is_err_and}
+use Rattle.pm_format.proofs.Common.{ap, byte_at, compressions, Err, err_from_is_err_and, head, None, Ok, refl, slice_get, Some, tile_types, ◌∙◌, ◌≡◌}
 use Rattle.pm_format.specs.declared.error.PmtError.TheVariants as errors
-use Rattle.pm_format.specs.Header.{head, compressions, tile_types, byte_at}
 use Rattle.pm_format.proofs.LabelLemmas.{found_by_ok, none_by_err, cause_of_err}
 use Rattle.pm_format.proofs.header.Header.try_from_bytes.Goals as goal
 

@@ -1,6 +1,4 @@
-use Rattle.std.proofs.Common.{rules, refl, FitsSigned, w32}
-use Rattle.std.proofs.lemmas.Int.{to_z-of_z}
-use Rattle.pm_format.specs.Header.{fields}
+use Rattle.pm_format.proofs.Common.{fields, FitsSigned, refl, rules, to_z-of_z, w32}
 use Rattle.pm_format.proofs.header.reading.read_fields.Goals as goal
 
 pub returns : goal.returns

@@ -1,5 +1,4 @@
-use Rattle.std.proofs.Common.{rules, append_assoc, FitsSigned, w32}
-use Rattle.std.proofs.lemmas.Int.{to_z-of_z}
+use Rattle.pm_format.proofs.Common.{append_assoc, FitsSigned, rules, to_z-of_z, w32}
 use Rattle.pm_format.proofs.header.writing.put_bounds.Goals as goal
 
 pub returns : goal.returns

@@ -1,4 +1,4 @@
-use Rattle.std.proofs.Common.{append_assoc}
+use Rattle.pm_format.proofs.Common.{append_assoc}
 use Rattle.pm_format.proofs.header.writing.put_counts.Goals as goal
 
 pub returns : goal.returns

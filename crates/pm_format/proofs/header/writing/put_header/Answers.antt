@@ -1,6 +1,4 @@
-use Rattle.std.proofs.Common.{rules, ◌≤◌, ◌∙◌, arith, sym, append_assoc, length}
-use Rattle.std.proofs.lemmas.List.{take_all}
-use Rattle.pm_format.specs.declared.header.TheConstants.{HEADER_SIZE}
+use Rattle.pm_format.proofs.Common.{append_assoc, arith, HEADER_SIZE, length, rules, sym, take_all, ◌∙◌, ◌≤◌}
 use Rattle.pm_format.proofs.header.writing.put_header.Goals as goal
 
 pub returns-clause-bytes : goal.returns-clause-bytes

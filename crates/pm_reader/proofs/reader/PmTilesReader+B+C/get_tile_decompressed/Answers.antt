@@ -1,4 +1,4 @@
-use Rattle.pm_reader.specs.Archives.{IsCacheable}
+use Rattle.pm_reader.proofs.Common.{IsCacheable}
 use Rattle.pm_reader.proofs.PlainLemmas.{plain_answer_if, plain_causes, plain_whole}
 use Rattle.pm_reader.proofs.reader.PmTilesReader+B+C.get_tile_decompressed.Goals as goal
 

@@ -1,47 +1,22 @@
 -- The backend is lent to `open_with`, and held again where that succeeds. What a refusal leaves is what `open_with` left. Assumes `Logic`.
-use Rattle.std.proofs.Common.{◌≡◌, ℕ, List, [], ◌∷◌, ◌++◌, ◌∙◌, refl, ap, lit<, None, Ok, Err}
-use base.Fml.{Lft, Share, GName, Incl-trans, ftrue, flft, fres}
-use base.Logic.{SProp, emp, id⊢}
-use mir.Syntax.{Fn, a_type, named, dcons, dnil}
-use mir.MapTy.{inst_fn}
-use mir.Val.{Val, vptr, vstruct, of_list}
-use prog.Wp.{Env, WpFn}
-use types.Match.{live, vrt, in_variant}
-use types.Kit.{Item, ‵, raw, ◌⊛◌, prop, some, later, at_ret, ◌$◌, ◌∵◌, !, qed, by, move, drop, use0, use1, use2, use3, split, split3, join, pick, await, rewrite, regoal, fsplit, fsplit3, fjoin, fpack, feq_i}
-use types.Run.{stop, fld, addr, lit, of_opd, no_more, and_then, first, switches_on, exec, returns, enter}
-use types.Part.{whole, sub, agg}
-use types.ByLocal.{alloc_all, pass_all, free_all, look_at, get, get_in, get_tag, through, sets, sets_last, lands_as, env}
-use contract.BorrowLft.{◌⊑◌, meet_⊑_right}
-use contract.Lifetimes.{Lfts}
-use contract.Monad.{fact, fact_i}
-use contract.Running.{tables}
-use denote.Exit.{yes, no}
-use denote.Param.{param, layout, bounded}
-use denote.Param.Laws.{param_laws}
-use denote.RattleType.{RattleType, Valss, owns}
-use denote.Ref.{MutBor, MutRef, mut_Tells}
-use denote.Signature.{plain, mut_ref_to, type_at, types_at, named_lft}
-use denote.Steps.{nothing, heard}
+use Rattle.pm_reader.proofs.Common.{a_type, addr, after, agg, alloc_all, alone, and_then, and_tt, ap, Args, arm_body, as_fields, at_exit, at_ret, await, Back, beside, bounded, by, by_result, calls_at}
+use Rattle.pm_reader.proofs.Common.{dcons, dnil, emp, enter, Env, env, Err, err_of, err_out, exec, fact, fact_i, feq_i, first, fjoin, fld, flft, Fn, fpack, framed, free_all, fres, fsplit, fsplit3}
+use Rattle.pm_reader.proofs.Common.{ftrue, get, get_in, get_tag, gives_back, GName, Goes-dropped, Goes-spent_ref, head, heard, holds, id⊢, in_variant, Incl-trans, inst_fn, join, lands_as, Lasts}
+use Rattle.pm_reader.proofs.Common.{lasts, later, layout, leaves, LeftByOpening, lends_within, Lft, Lfts, List, lit, lit<, live, look_at, meet_⊑_right, move, mut_ref_to, mut_Tells, MutBor, MutRef}
+use Rattle.pm_reader.proofs.Common.{named, named_lft, no, no_more, None, nothing, of_list, of_opd, Ok, ok_of, ok_out, owns, param, param_laws, pass_all, pick, plain, prop, proved_at, qed, RattleType}
+use Rattle.pm_reader.proofs.Common.{raw, refl, regoal, rests_err, rests_ok, returns, rewrite, sets, sets_last, Share, some, split, split3, SProp, stay_dropped, Stays, stop, sub, switches_on, tables}
+use Rattle.pm_reader.proofs.Common.{then_runs, told, triple_of, type_at, types_at, use0, use1, use2, use3, Val, Valss, vptr, vrt, vstruct, walk_of, whole, within, WpFn, yes, ℕ, !, [], ‵, ◌$◌, ◌++◌}
+use Rattle.pm_reader.proofs.Common.{◌∙◌, ◌∵◌, ◌∷◌, ◌≡◌, ◌⊑◌, ◌⊛◌}
+use types.Kit.{Item, drop}
+use types.ByLocal.{through}
 use denote.Struct.Declared as Declared
-use denote.Struct.Struct.{as_fields, within}
 use denote.Struct.Tuple.{Tuple, tuple_laws}
-use denote.Triple.Call.{calls_at}
-use denote.Triple.Clauses.{Lasts, lasts, at_exit}
-use denote.Triple.Entry.{Args}
-use denote.Triple.Spec.{triple_of}
-use denote.Triple.Table.{framed}
-use denote.Triple.Walked.{Stays, stay_dropped, Goes-dropped, Goes-spent_ref, walk_of}
-use Rattle.std.proofs.raw_atomic.Walks.{proved_at, leaves}
 use Rattle.std.proofs.alloc.Global.TheLaws as global
 use Rattle.std.specs.contracts.alloc.Global as G-type
 use Rattle.pm_format.proofs.error.PmtError.TheLaws as error-laws
 use Rattle.pm_format.specs.contracts.error.PmtError as E-type
 use Rattle.pm_format.specs.declared.error.PmtError.TheVariants as errors
 use Rattle.pm_format.specs.declared.error.ReadCause.TheVariants as causes
-use Rattle.base_values.proofs.ByHand.Bodies.{after, head, arm_body, then_runs}
-use Rattle.base_values.proofs.ByHand.Values.{alone, and_tt, by_result, told, holds, beside, ok_out, err_out, ok_of, err_of}
-use Rattle.base_values.proofs.ByHand.Rests.{rests_ok, rests_err}
-use Rattle.base_values.proofs.ByHand.Lending.{Back, lends_within, gives_back}
 use Rattle.pm_reader.proofs.state.ReaderState.TheLaws as state
 use Rattle.pm_reader.specs.contracts.state.ReaderState as S-type
 use Rattle.pm_reader.specs.contracts.reader.PmTilesReader as W-type
@@ -51,7 +26,6 @@ use Rattle.pm_reader.specs.contracts.reader.PmTilesReader+B+C.try_from_cached_so
 use Rattle.pm_reader.specs.contracts.reader.PmTilesReader+B+C.try_from_cached_source.Key.{name as #self}
 use Rattle.pm_reader.proofs.reader.PmTilesReader+B+C.try_from_cached_source.Statement.{statement}
 use Rattle.pm_reader.proofs.reader.PmTilesReader+B+C.try_from_cached_source.Code as code
-use Rattle.pm_reader.specs.Refused.{LeftByOpening}
 use Rattle.base_values.proofs.ByHand.Pairs.{pair_out}
 use Rattle.pm_reader.proofs.RefusedLemmas.{causes_again, failure, is_ok, no_fault, fits_cache, opens_again}
 

@@ -1,6 +1,4 @@
-use Rattle.std.proofs.Common.{◌∙◌, ap, arith}
-use Rattle.pm_format.specs.LookUp.{entry_from}
-use Rattle.pm_format.proofs.LookUpLemmas.{reached_last, reached_none, reached_tile}
+use Rattle.pm_reader.proofs.Common.{ap, arith, entry_from, reached_last, reached_none, reached_tile, ◌∙◌}
 use Rattle.pm_reader.proofs.FollowingToldLemmas.{is_leaf, is_tile, told_none, told_on, told_refused}
 use Rattle.pm_reader.proofs.state.ReaderState.+follow.Goals as goal
 

@@ -1,4 +1,4 @@
-use Rattle.std.proofs.Common.{false, refl}
+use Rattle.pm_reader.proofs.Common.{false, refl}
 use Rattle.pm_reader.proofs.WalkBeginsLemmas.{begins, queue_begins}
 use Rattle.pm_reader.proofs.state.ReaderState.entries.Goals as goal
 

@@ -1,4 +1,4 @@
-use Rattle.std.proofs.Common.{arith}
+use Rattle.pm_reader.proofs.Common.{arith}
 use Rattle.pm_reader.proofs.TrustLemmas.{told_kept, told_more}
 use Rattle.pm_reader.proofs.state.ReaderState.find_in_leaf.Goals as goal
 

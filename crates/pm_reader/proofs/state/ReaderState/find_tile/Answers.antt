@@ -1,4 +1,4 @@
-use Rattle.std.proofs.Common.{◌∙◌}
+use Rattle.pm_reader.proofs.Common.{◌∙◌}
 use Rattle.pm_reader.proofs.FoundTileLemmas.{told_found, told_none, told_past, told_refused}
 use Rattle.pm_reader.proofs.state.ReaderState.find_tile.Goals as goal
 

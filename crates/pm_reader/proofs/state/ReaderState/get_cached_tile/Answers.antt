@@ -1,4 +1,4 @@
-use Rattle.std.proofs.Common.{ap, refl, Ok}
+use Rattle.pm_reader.proofs.Common.{ap, Ok, refl}
 use Rattle.pm_reader.proofs.ReadsFromLemmas.{found_answer, found_hops, found_trusts, reads_on}
 use Rattle.pm_reader.proofs.state.ReaderState.get_cached_tile.Goals as goal
 

@@ -1,8 +1,6 @@
-use Rattle.std.proofs.Common.{ap, subst, ◌∙◌}
+use Rattle.pm_reader.proofs.Common.{ap, headed, IsOpenRefusal, subst, viewed, ◌∙◌}
 use Rattle.pm_reader.proofs.OpeningLemmas.{Within, front_within, opened_by_front}
-use Rattle.pm_reader.specs.View.{headed, viewed}
 use Rattle.pm_reader.proofs.RowReadLemmas.{refused_as, said_of}
-use Rattle.pm_reader.specs.Opening.{IsOpenRefusal}
 use Rattle.pm_reader.proofs.ViewLemmas.{view_opens}
 use Rattle.pm_reader.proofs.view.ArchiveView.open.Goals as goal
 

@@ -1,4 +1,4 @@
-use Rattle.std.proofs.Common.{◌≡◌, true, false, Ok, refl, sym, ap, ◌∙◌, arith}
+use Rattle.pm_reader.proofs.Common.{ap, arith, false, Ok, refl, sym, true, ◌∙◌, ◌≡◌}
 use Rattle.pm_reader.proofs.ViewLookUpLemmas.{at_leaf_next, at_leaf_past, in_leaf_last, in_none, in_tile}
 use Rattle.pm_reader.proofs.view.follow.+follow.Goals as goal
 

@@ -1,6 +1,5 @@
-use Rattle.std.proofs.Common.{Err, ap, sym, ◌∙◌, arith, length-drop}
+use Rattle.pm_reader.proofs.Common.{ap, arith, Err, found_in, length-drop, sym, ◌∙◌}
 use Rattle.pm_format.proofs.DecodingLemmas.{too_many, uncounted}
-use Rattle.pm_reader.specs.Rows.{found_in}
 use Rattle.pm_reader.proofs.RowReadLemmas.{refused_as}
 use Rattle.pm_reader.proofs.RowColumnLemmas.{dir_rows, no_ids, no_lengths, no_runs}
 use Rattle.pm_reader.proofs.view.scan.find_in.Goals as goal

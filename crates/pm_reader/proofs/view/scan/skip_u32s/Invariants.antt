@@ -1,4 +1,4 @@
-use Rattle.std.proofs.Common.{◌^◌}
+use Rattle.pm_reader.proofs.Common.{◌^◌}
 use Rattle.pm_reader.proofs.RowReadLemmas.{Skipping}
 use Rattle.pm_reader.proofs.view.scan.skip_u32s.Given as goal
 

@@ -1,5 +1,4 @@
-use Rattle.std.proofs.Common.{sym, ◌∙◌}
-use Rattle.pm_format.proofs.ColumnLemmas.{u64_number}
+use Rattle.pm_reader.proofs.Common.{sym, u64_number, ◌∙◌}
 use Rattle.pm_reader.proofs.RowReadLemmas.{holds_on_err, skip_first, skip_step, skip_stop, skip_done}
 use Rattle.pm_reader.proofs.view.scan.skip_u64s.Goals as goal
 

@@ -1,4 +1,4 @@
-use Rattle.std.proofs.Common.{◌≤◌, ◌<◌, Ok, Err, ap, sym, ◌∙◌, arith}
+use Rattle.pm_reader.proofs.Common.{ap, arith, Err, Ok, sym, ◌<◌, ◌∙◌, ◌≤◌}
 use Rattle.pm_reader.proofs.RowReadLemmas.{refused_as, walk_first, walk_begun, walk_later, walk_stop, walk_done}
 use Rattle.pm_reader.proofs.view.scan.walk.Goals as goal
 use Rattle.pm_reader.proofs.view.scan.walk.Goals.{then-tile_id-id, else-tile_id-id}

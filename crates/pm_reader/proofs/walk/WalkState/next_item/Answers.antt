@@ -1,4 +1,4 @@
-use Rattle.std.proofs.Common.{◌∙◌, ap, length, true, refl, arith}
+use Rattle.pm_reader.proofs.Common.{ap, arith, length, refl, true, ◌∙◌}
 use Rattle.pm_reader.proofs.FollowingToldLemmas.{is_leaf, is_tile}
 use Rattle.pm_reader.proofs.WalkItemLemmas.{Took, told_entered, told_none, told_refused, told_spent, told_tile}
 use Rattle.pm_reader.proofs.walk.WalkState.next_item.Goals as goal

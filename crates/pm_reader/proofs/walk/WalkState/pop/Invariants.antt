@@ -1,4 +1,4 @@
-use Rattle.std.proofs.Common.{length}
+use Rattle.pm_reader.proofs.Common.{length}
 use Rattle.pm_reader.proofs.PoppingLemmas.{SameQueue}
 use Rattle.pm_reader.proofs.walk.WalkState.pop.Given as goal
 

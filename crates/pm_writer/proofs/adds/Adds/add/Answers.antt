@@ -1,10 +1,4 @@
-use Rattle.std.proofs.Common.{◌<◌, [], length, sym, subst, ap, ◌∙◌, arith}
-use Rattle.std.proofs.lemmas.Result.{err_from_is_err_and}
-use Rattle.tile_hash.specs.Xxh3.{xxh3_64}
-use Rattle.pm_writer.specs.Adds.{contents_from, longest_run}
-use Rattle.pm_contents.specs.Contents.{Finds}
-use Rattle.pm_contents.proofs.ContentLemmas.{holds_alike}
-use Rattle.pm_writer.specs.Growing.{put}
+use Rattle.pm_writer.proofs.Common.{ap, arith, contents_from, err_from_is_err_and, Finds, holds_alike, length, longest_run, put, subst, sym, xxh3_64, [], ◌<◌, ◌∙◌}
 use Rattle.pm_writer.proofs.AfterAdd.{more_after}
 use Rattle.pm_writer.proofs.ContentLemmas.{contents_push}
 use Rattle.pm_writer.proofs.adds.Adds.add.Goals as goal

@@ -1,5 +1,4 @@
-use Rattle.std.proofs.Common.{sym, ap, ◌∙◌}
-use Rattle.pm_writer.specs.Twice.{first_within}
+use Rattle.pm_writer.proofs.Common.{ap, first_within, sym, ◌∙◌}
 use Rattle.pm_writer.proofs.Ordered.{sorted_entries, least_twice}
 use Rattle.pm_writer.proofs.adds.Adds.into_entries.Goals as goal
 

@@ -1,5 +1,4 @@
-use Rattle.std.proofs.Common.{refl}
-use Rattle.tile_hash.specs.Xxh3.{xxh3_64}
+use Rattle.pm_writer.proofs.Common.{refl, xxh3_64}
 use Rattle.pm_writer.proofs.adds.Adds.new.Goals as goal
 
 pub returns-clause-means : goal.returns-clause-means

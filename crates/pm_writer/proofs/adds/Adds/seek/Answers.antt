@@ -1,8 +1,4 @@
-use Rattle.std.proofs.Common.{[], length, subst, sym}
-use Rattle.tile_hash.specs.Xxh3.{xxh3_64}
-use Rattle.pm_contents.specs.Contents.{IsUnasked}
-use Rattle.pm_contents.proofs.SeekLemmas.{unasked_of}
-use Rattle.pm_writer.specs.Adds.{contents_from}
+use Rattle.pm_writer.proofs.Common.{contents_from, IsUnasked, length, subst, sym, unasked_of, xxh3_64, []}
 use Rattle.pm_writer.proofs.Took.{sought_as}
 use Rattle.pm_writer.proofs.adds.Adds.seek.Goals as goal
 

@@ -1,5 +1,5 @@
 -- `create` lends the medium to `start`, and holds it again where that succeeds. What a refusal leaves is what `start` left. Assumes `Logic`.
-use Rattle.std.proofs.Common.{◌≡◌, ℕ, List, [], ◌∷◌, ◌++◌, refl, lit<, Ok, Err, IfSome}
+use Rattle.pm_writer.proofs.Common.{Err, IfSome, List, lit<, Ok, refl, ℕ, [], ◌++◌, ◌∷◌, ◌≡◌}
 use base.Fml.{Lft, Share, GName, Incl-trans, ftrue, flft, fres}
 use base.Logic.{SProp, emp, id⊢}
 use mir.Syntax.{Fn, a_type, named, dcons, dnil}

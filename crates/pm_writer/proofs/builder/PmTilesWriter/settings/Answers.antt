@@ -1,6 +1,4 @@
-use Rattle.std.proofs.Common.{◌≡◌, rules, sym, subst}
-use Rattle.pm_writer.specs.Bounds.{OptionsFit}
-use Rattle.pm_writer.specs.Settings.{options_with}
+use Rattle.pm_writer.proofs.Common.{options_with, OptionsFit, rules, subst, sym, ◌≡◌}
 use Rattle.pm_writer.proofs.builder.PmTilesWriter.settings.Goals as goal
 
 pub returns-clause-fit : goal.returns-clause-fit

@@ -1,7 +1,5 @@
-use Rattle.std.proofs.Common.{◌≡◌, ◌+◌, rules, ◌∙◌, ap, arith, length, []}
-use Rattle.pm_writer.specs.Writing.{begun, zeros}
+use Rattle.pm_writer.proofs.Common.{ap, arith, begun, if_some_map, length, rules, zeros, [], ◌+◌, ◌∙◌, ◌≡◌}
 use Rattle.pm_writer.proofs.Beginning.{begun_is_hidden, metadata_hidden, metadata_written, room_enough, room_hidden, room_written}
-use Rattle.pm_contents.proofs.Told.{if_some_map}
 use Rattle.pm_writer.proofs.builder.PmTilesWriter.start.Goals as goal
 
 pub returns-in_err-put-clause-hidden : goal.returns-in_err-put-clause-hidden

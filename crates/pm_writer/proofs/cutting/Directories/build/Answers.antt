@@ -1,6 +1,4 @@
-use Rattle.std.proofs.Common.{◌∙◌, ap, sym}
-use Rattle.pm_format.specs.Directory.{dir_bytes}
-use Rattle.pm_writer.specs.Leaves.{laid, stands_in_root}
+use Rattle.pm_writer.proofs.Common.{ap, dir_bytes, laid, stands_in_root, sym, ◌∙◌}
 use Rattle.pm_writer.proofs.Built.{in_some, flat_laid}
 use Rattle.pm_writer.proofs.cutting.Directories.build.Goals as goal
 

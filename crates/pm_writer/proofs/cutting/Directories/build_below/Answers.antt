@@ -1,8 +1,4 @@
-use Rattle.std.proofs.Common.{◌∙◌, ap, map, sym, subst}
-use Rattle.pm_format.specs.Directory.{IsWritable, dir_bytes, wide_as}
-use Rattle.pm_format.proofs.DirectoryPieces.{fits_writable, same_entries}
-use Rattle.pm_writer.specs.Cutting.{IsCut}
-use Rattle.pm_writer.specs.Leaves.{fits_root, laid, pieces}
+use Rattle.pm_writer.proofs.Common.{ap, dir_bytes, fits_root, fits_writable, IsCut, IsWritable, laid, map, pieces, same_entries, subst, sym, wide_as, ◌∙◌}
 use Rattle.pm_writer.proofs.Built.{in_some, leaves_laid}
 use Rattle.pm_writer.proofs.cutting.Directories.build_below.Goals as goal
 

@@ -1,5 +1,4 @@
-use Rattle.std.proofs.Common.{rules, ◌≡◌, ap, length, refl, ◌++◌, ◌∙◌}
-use Rattle.pm_writer.specs.Leaves.{end_of}
+use Rattle.pm_writer.proofs.Common.{ap, end_of, length, refl, rules, ◌++◌, ◌∙◌, ◌≡◌}
 use Rattle.pm_writer.proofs.CuttingLemmas.{joined_are, short_both, short_left, short_right}
 use Rattle.pm_writer.proofs.cutting.Directories.join.Goals as goal
 

@@ -1,5 +1,4 @@
-use Rattle.std.proofs.Common.{All, sym, subst}
-use Rattle.pm_writer.specs.Cutting.{IsShort}
+use Rattle.pm_writer.proofs.Common.{All, IsShort, subst, sym}
 use Rattle.pm_writer.proofs.CuttingLemmas.{short_by, short_named}
 use Rattle.pm_writer.proofs.level.Level.is_short.Goals as goal
 

@@ -1,7 +1,4 @@
-use Rattle.std.proofs.Common.{◌≡◌, ◌+◌, ◌<◌, ◌^◌, length, refl, sym, ◌∙◌, arith, subst}
-use Rattle.std.proofs.lemmas.Result.{err_from_is_err_and, on_ok_weaker}
-use Rattle.pm_writer.specs.Took.{Took, TookBy}
-use Rattle.pm_writer.specs.Writing.{FilledFits}
+use Rattle.pm_writer.proofs.Common.{arith, err_from_is_err_and, FilledFits, length, on_ok_weaker, refl, subst, sym, Took, TookBy, ◌+◌, ◌<◌, ◌^◌, ◌∙◌, ◌≡◌}
 use Rattle.pm_writer.proofs.AddedBytes.{ends_at, new_long}
 use Rattle.pm_writer.proofs.Complete.{put_refused}
 use Rattle.pm_writer.proofs.Took.{itself_by, took_length}

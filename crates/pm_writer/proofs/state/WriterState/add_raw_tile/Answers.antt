@@ -1,7 +1,5 @@
 use Rattle.pm_format.specs.declared.compression.Compression.TheVariants as compression
-use Rattle.pm_writer.specs.Causes.{AddCauses}
-use Rattle.pm_writer.specs.Writing.{AddFits, has_failed}
-use Rattle.std.proofs.Common.{length, subst}
+use Rattle.pm_writer.proofs.Common.{AddCauses, AddFits, has_failed, length, subst}
 use Rattle.pm_writer.proofs.state.WriterState.add_raw_tile.Goals as goal
 
 pub returns-clause-causes : goal.returns-clause-causes

@@ -1,8 +1,5 @@
-use Rattle.std.proofs.Common.{false, ℕ, List, ◌≡◌, ◌<◌, ◌^◌, length, ap, rules, subst}
-use Rattle.std.proofs.lemmas.Result.{on_ok_weaker}
+use Rattle.pm_writer.proofs.Common.{AddCauses, AddFits, ap, data_end, false, FilledFits, has_failed, length, List, on_ok_weaker, rules, subst, Writes, ℕ, ◌<◌, ◌^◌, ◌≡◌}
 use Rattle.pm_format.specs.declared.compression.Compression.TheVariants as compression
-use Rattle.pm_writer.specs.Causes.{AddCauses}
-use Rattle.pm_writer.specs.Writing.{AddFits, FilledFits, Writes, data_end, has_failed}
 use Rattle.pm_writer.proofs.Took.{filled_taken, itself_by}
 use Rattle.pm_writer.proofs.state.WriterState.add_raw_tile_by_id.Goals as goal
 

@@ -1,6 +1,4 @@
-use Rattle.std.proofs.Common.{◌≡◌, ◌+◌, refl, arith}
-use Rattle.pm_contents.specs.Sought.{piece_sought}
-use Rattle.pm_contents.specs.Pieces.{BothTold, WroteFront}
+use Rattle.pm_writer.proofs.Common.{arith, BothTold, piece_sought, refl, WroteFront, ◌+◌, ◌≡◌}
 use Rattle.pm_writer.proofs.AddedBytes.{added_writes, ends_at, failed_writes, same_writes, sought_fits, within_end}
 use Rattle.pm_writer.proofs.Took.{took_length}
 use Rattle.pm_writer.proofs.state.WriterState.add_sought.Goals as goal

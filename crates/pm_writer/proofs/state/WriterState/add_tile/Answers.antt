@@ -1,4 +1,4 @@
-use Rattle.std.proofs.Common.{rules}
+use Rattle.pm_writer.proofs.Common.{rules}
 use Rattle.pm_writer.proofs.Took.{itself_by}
 use Rattle.pm_writer.proofs.state.WriterState.add_tile.Goals as goal
 

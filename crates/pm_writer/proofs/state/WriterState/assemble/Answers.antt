@@ -1,8 +1,4 @@
-use Rattle.std.proofs.Common.{arith, ap, length, ◌∙◌, ◌≡◌, ◌≤◌, ◌<◌, ◌^◌, ◌-◌, subst, sum_by, sym}
-use Rattle.pm_writer.specs.Archive.{archive}
-use Rattle.pm_writer.specs.Bounds.{AllShort}
-use Rattle.pm_writer.specs.Adds.{entries_of_adds}
-use Rattle.pm_writer.specs.Leaves.{below_layout, laid}
+use Rattle.pm_writer.proofs.Common.{AllShort, ap, archive, arith, below_layout, entries_of_adds, laid, length, subst, sum_by, sym, ◌-◌, ◌<◌, ◌^◌, ◌∙◌, ◌≡◌, ◌≤◌}
 use Rattle.pm_writer.proofs.AssembledParts.{archivable, archive_length, below_built, ends_by, header_is, most_is, places_are, state_fits, state_runs, too_long}
 use Rattle.pm_writer.proofs.state.WriterState.assemble.Goals as goal
 

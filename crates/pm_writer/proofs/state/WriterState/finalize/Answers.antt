@@ -1,5 +1,4 @@
-use Rattle.std.proofs.Common.{arith, ap, length, ◌∙◌}
-use Rattle.pm_format.specs.Header.{header_bytes}
+use Rattle.pm_writer.proofs.Common.{ap, arith, header_bytes, length, ◌∙◌}
 use Rattle.pm_writer.proofs.AssembledParts.{archive_length}
 use Rattle.pm_writer.proofs.FinishedArchive.{open_to, shown_told, state_of, whole_told}
 use Rattle.pm_writer.proofs.Parts.{root_fits}

@@ -1,4 +1,4 @@
-use Rattle.std.proofs.Common.{refl}
+use Rattle.pm_writer.proofs.Common.{refl}
 use Rattle.pm_writer.proofs.AddedBytes.{ends_at, told_contents, within_end}
 use Rattle.pm_writer.proofs.state.WriterState.seek.Goals as goal
 

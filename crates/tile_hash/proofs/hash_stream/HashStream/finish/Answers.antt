@@ -1,7 +1,4 @@
-use Rattle.std.proofs.Common.{ap, ◌∙◌}
-use Rattle.std.specs.Fmt.{decimal}
-use Rattle.hex.specs.Hex.{encode_upper}
-use Rattle.tile_hash.specs.Digest.{word_text}
+use Rattle.tile_hash.proofs.Common.{ap, decimal, encode_upper, word_text, ◌∙◌}
 use Rattle.tile_hash.proofs.HashStreamLemmas.{text_taken}
 use Rattle.tile_hash.proofs.hash_stream.HashStream.finish.Goals as goal
 

@@ -1,4 +1,4 @@
-use Rattle.std.proofs.Common.{[], refl}
+use Rattle.tile_hash.proofs.Common.{refl, []}
 use Rattle.tile_hash.proofs.HashStreamLemmas.{has_taken, none_hashed}
 use Rattle.tile_hash.proofs.hash_stream.HashStream.new.Goals as goal
 

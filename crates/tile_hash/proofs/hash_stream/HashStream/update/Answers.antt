@@ -1,4 +1,4 @@
-use Rattle.std.proofs.Common.{refl}
+use Rattle.tile_hash.proofs.Common.{refl}
 use Rattle.tile_hash.proofs.HashStreamLemmas.{taken_by, has_taken, more_hashed}
 use Rattle.tile_hash.proofs.hash_stream.HashStream.update.Goals as goal
 

@@ -1,5 +1,4 @@
-use Rattle.std.proofs.Common.{arith, ◌∙◌}
-use Rattle.std.proofs.lemmas.List.{take_all}
+use Rattle.tile_hash.proofs.Common.{arith, take_all, ◌∙◌}
 use Rattle.tile_hash.proofs.hash_text.HashText.of_md5.Goals as goal
 
 pub returns : goal.returns

@@ -1,6 +1,4 @@
-use Rattle.std.proofs.Common.{arith, ◌∙◌, ap}
-use Rattle.std.proofs.lemmas.List.{take-append-le, take_all}
-use Rattle.hex.specs.Hex.{encode_upper}
+use Rattle.tile_hash.proofs.Common.{ap, arith, encode_upper, take-append-le, take_all, ◌∙◌}
 use Rattle.tile_hash.proofs.hash_text.HashText.of_word.Goals as goal
 
 pub returns : goal.returns

@@ -1,5 +1,4 @@
-use Rattle.std.proofs.Common.{◌≡◌}
-use Rattle.tile_hash.specs.Xxh3.{blocks}
+use Rattle.tile_hash.proofs.Common.{blocks, ◌≡◌}
 use Rattle.tile_hash.proofs.xxh3.long.blocks.Given as goal
 
 abbrev pub invariant-loop-i : goal.invariant-loop-i

@@ -1,5 +1,4 @@
-use Rattle.std.proofs.Common.{◌≡◌}
-use Rattle.tile_hash.specs.Xxh3.{stripes}
+use Rattle.tile_hash.proofs.Common.{stripes, ◌≡◌}
 use Rattle.tile_hash.proofs.xxh3.long.stripes.Given as goal
 
 abbrev pub invariant-loop-i : goal.invariant-loop-i

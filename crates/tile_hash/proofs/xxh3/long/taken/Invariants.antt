@@ -1,5 +1,4 @@
-use Rattle.std.proofs.Common.{◌≡◌}
-use Rattle.tile_hash.specs.Xxh3Stream.{taken}
+use Rattle.tile_hash.proofs.Common.{taken, ◌≡◌}
 use Rattle.tile_hash.proofs.xxh3.long.taken.Given as goal
 
 abbrev pub invariant-loop-i : goal.invariant-loop-i

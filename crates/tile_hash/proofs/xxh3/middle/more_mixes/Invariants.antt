@@ -1,5 +1,4 @@
-use Rattle.std.proofs.Common.{◌≡◌}
-use Rattle.tile_hash.specs.Xxh3.{more_mixes}
+use Rattle.tile_hash.proofs.Common.{more_mixes, ◌≡◌}
 use Rattle.tile_hash.proofs.xxh3.middle.more_mixes.Given as goal
 
 abbrev pub invariant-loop-i : goal.invariant-loop-i

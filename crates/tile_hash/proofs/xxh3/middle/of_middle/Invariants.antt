@@ -1,5 +1,4 @@
-use Rattle.std.proofs.Common.{◌≡◌}
-use Rattle.tile_hash.specs.Xxh3.{pairs}
+use Rattle.tile_hash.proofs.Common.{pairs, ◌≡◌}
 use Rattle.tile_hash.proofs.xxh3.middle.of_middle.Given as goal
 
 abbrev pub invariant-loop-i : goal.invariant-loop-i

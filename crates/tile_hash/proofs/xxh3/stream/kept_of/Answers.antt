@@ -1,4 +1,4 @@
-use Rattle.std.proofs.Common.{refl, arith, ◌∙◌}
+use Rattle.tile_hash.proofs.Common.{arith, refl, ◌∙◌}
 use Rattle.tile_hash.proofs.Xxh3StreamLemmas.{kept_joined}
 use Rattle.tile_hash.proofs.xxh3.stream.kept_of.Goals as goal
 

@@ -1,5 +1,4 @@
-use Rattle.std.proofs.Common.{arith}
-use Rattle.tile_ids.specs.Hilbert.{tile_id}
+use Rattle.tile_ids.proofs.Common.{arith, tile_id}
 use Rattle.tile_ids.proofs.coord.TileCoordFromTileId.from.Goals as goal
 
 pub returns : goal.returns

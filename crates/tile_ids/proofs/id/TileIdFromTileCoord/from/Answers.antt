@@ -1,5 +1,4 @@
-use Rattle.std.proofs.Common.{◌≤◌, refl, arith}
-use Rattle.tile_ids.specs.Hilbert.{tile_id}
+use Rattle.tile_ids.proofs.Common.{arith, refl, tile_id, ◌≤◌}
 use Rattle.tile_ids.proofs.Curve.{within_pyramid}
 use Rattle.tile_ids.proofs.id.TileIdFromTileCoord.from.Goals as goal
 

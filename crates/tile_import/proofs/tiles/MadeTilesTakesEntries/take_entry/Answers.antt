@@ -1,5 +1,4 @@
-use Rattle.std.proofs.Common.{◌≡◌, OnOk, subst}
-use Rattle.tile_import.specs.Putting.{ids_of, with_ids}
+use Rattle.tile_import.proofs.Common.{ids_of, OnOk, subst, with_ids, ◌≡◌}
 use Rattle.tile_import.proofs.EntryLemmas.{made_more}
 use Rattle.tile_import.proofs.tiles.MadeTilesTakesEntries.take_entry.Goals as goal
 

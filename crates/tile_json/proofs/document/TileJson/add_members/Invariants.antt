@@ -1,6 +1,5 @@
 -- Adding what is left gives what adding all gives.
-use Rattle.std.proofs.Common.{◌≡◌}
-use Rattle.serde_json.specs.View.{members_view}
+use Rattle.tile_json.proofs.Common.{members_view, ◌≡◌}
 use Rattle.tile_json.specs.Reading.{with_members}
 use Rattle.tile_json.proofs.document.TileJson.add_members.Given as goal
 

@@ -1,8 +1,6 @@
 -- The layers so far, and those that are left, are all layers.
-use Rattle.std.proofs.Common.{◌≡◌, ◌++◌, option_map}
+use Rattle.tile_json.proofs.Common.{items_view, layers_in, option_map, ◌++◌, ◌≡◌}
 use Rattle.std.specs.Vec.Iter.{into_iter_items}
-use Rattle.serde_json.specs.View.{items_view}
-use Rattle.tile_json.specs.LayerReading.{layers_in}
 use Rattle.tile_json.proofs.layer.LayerList.from_json.Given as goal
 
 abbrev pub invariant-loop-item : goal.invariant-loop-item

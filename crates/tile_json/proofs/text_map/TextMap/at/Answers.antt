@@ -1,4 +1,4 @@
-use Rattle.std.proofs.Common.{◌<◌, Some, ap, sym, arith, ◌∙◌}
+use Rattle.tile_json.proofs.Common.{ap, arith, Some, sym, ◌<◌, ◌∙◌}
 use Rattle.std.proofs.lemmas.Option.{slice_get_read}
 use Rattle.tile_json.proofs.MapLemmas.{entries_are, len_is}
 use Rattle.tile_json.proofs.text_map.TextMap.at.Goals as goal

@@ -1,5 +1,4 @@
-use Rattle.std.proofs.Common.{sym, arith}
-use Rattle.std.specs.Cmp.Lexicographic.{nat_list_cmp_total}
+use Rattle.tile_json.proofs.Common.{arith, nat_list_cmp_total, sym}
 use Rattle.tile_json.proofs.MapLemmas.{found_below, get_found, get_missing}
 use Rattle.tile_json.proofs.text_map.TextMap.get.Goals as goal
 

@@ -1,5 +1,4 @@
-use Rattle.std.proofs.Common.{arith, rules}
-use Rattle.std.specs.Cmp.Lexicographic.{nat_list_cmp_total}
+use Rattle.tile_json.proofs.Common.{arith, nat_list_cmp_total, rules}
 use Rattle.tile_json.proofs.MapLemmas.{found_below, gap_within, get_missing, written_over, added}
 use Rattle.tile_json.proofs.text_map.TextMap.insert.Goals as goal
 

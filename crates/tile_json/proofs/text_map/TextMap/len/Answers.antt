@@ -1,4 +1,4 @@
-use Rattle.std.proofs.Common.{sym, ◌∙◌}
+use Rattle.tile_json.proofs.Common.{sym, ◌∙◌}
 use Rattle.tile_json.proofs.MapLemmas.{len_is}
 use Rattle.tile_json.proofs.text_map.TextMap.len.Goals as goal
 

@@ -1,7 +1,4 @@
-use Rattle.std.proofs.Common.{ap, ◌∙◌}
-use Rattle.std.specs.Ordering.{nat_cmp}
-use Rattle.std.specs.Cmp.Lexicographic.{slice_cmp}
-use Rattle.std.specs.FinMap.{from_sorted}
+use Rattle.tile_json.proofs.Common.{ap, from_sorted, nat_cmp, slice_cmp, ◌∙◌}
 use Rattle.tile_json.proofs.MapLemmas.{from_sorted_nil}
 use Rattle.tile_json.proofs.text_map.TextMap.new.Goals as goal
 

@@ -1,7 +1,5 @@
-use Rattle.std.proofs.Common.{◌≡◌, rules}
+use Rattle.tile_json.proofs.Common.{nat_cmp, nat_list_cmp_total, rules, slice_cmp, ◌≡◌}
 use Rattle.std.proofs.lemmas.Fn.{always_returns_same}
-use Rattle.std.specs.Ordering.{nat_cmp}
-use Rattle.std.specs.Cmp.Lexicographic.{slice_cmp, nat_list_cmp_total}
 use Rattle.tile_json.proofs.MapLemmas.{entries_are}
 use Rattle.tile_json.proofs.PlaceLemmas.{searched}
 use Rattle.tile_json.proofs.text_map.TextMap.search.Goals as goal

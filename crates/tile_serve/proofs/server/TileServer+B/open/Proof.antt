@@ -1,5 +1,5 @@
 -- The backend is lent to `ServerState::open`, and held again where that succeeds. What a refusal leaves is what that call left. Assumes `Logic`.
-use Rattle.std.proofs.Common.{◌≡◌, ℕ, List, [], ◌∷◌, ◌++◌, refl, lit<, Ok, Err}
+use Rattle.tile_serve.proofs.Common.{Err, IfErr-at_err, IsLimits, List, lit<, Ok, refl, ℕ, [], ◌++◌, ◌∷◌, ◌≡◌}
 use base.Fml.{Lft, Share, GName, Incl-trans, ftrue, flft, fres}
 use base.Logic.{SProp, emp, id⊢}
 use mir.Syntax.{Fn, a_type, named, dcons, dnil}
@@ -31,7 +31,6 @@ use denote.Triple.Spec.{triple_of}
 use denote.Triple.Table.{framed}
 use denote.Triple.Walked.{Stays, stay_dropped, Goes-dropped, Goes-spent_ref, walk_of}
 use Rattle.std.proofs.raw_atomic.Walks.{proved_at, leaves}
-use Rattle.std.proofs.lemmas.Result.{IfErr-at_err}
 use Rattle.std.proofs.alloc.Global.TheLaws as global
 use Rattle.std.specs.contracts.alloc.Global as G-type
 use Rattle.base_values.proofs.ByHand.Bodies.{after, head, arm_body, then_runs}
@@ -51,7 +50,6 @@ use Rattle.tile_serve.specs.contracts.server.TileServer+B.open as f
 use Rattle.tile_serve.specs.contracts.server.TileServer+B.open.Key.{name as #self}
 use Rattle.tile_serve.proofs.server.TileServer+B.open.Statement.{statement}
 use Rattle.tile_serve.proofs.server.TileServer+B.open.Code as code
-use Rattle.tile_serve.specs.Limits.{IsLimits}
 use Rattle.tile_serve.specs.Refused.{LeftByOpening}
 use Rattle.tile_serve.proofs.RefusedLemmas.{failure, no_fault}
 

@@ -1,10 +1,5 @@
-use Rattle.std.proofs.Common.{rules, ◌≡◌, ℕ, List, [], Some, Result, Ok, IfSome, sym, subst}
-use Rattle.pm_reader.specs.Archives.{UsesOneLength}
-use Rattle.tile_serve.specs.Answers.{IsUnmodified, IsWanting, LeavesTiles}
-use Rattle.tile_serve.specs.Request.{asked, request_of}
-use Rattle.tile_serve.specs.State.{opened_as, tiles_of}
-use Rattle.tile_serve.specs.declared.error.ServeError.{ServeError}
-use Rattle.tile_serve.specs.declared.found.Found.{Found}
+use Rattle.tile_serve.proofs.Common.{asked, Found, IfSome, IsUnmodified, IsWanting, LeavesTiles, List, Ok, opened_as, request_of, Result, rules, ServeError, Some, subst, sym, tiles_of, UsesOneLength}
+use Rattle.tile_serve.proofs.Common.{ℕ, [], ◌≡◌}
 use Rattle.tile_serve.proofs.HoldingLemmas.{bounds_stay}
 use Rattle.tile_serve.proofs.ReplyingLemmas.{compares_found, held_unread, tiles_error, unmodified_after, wanting_asked}
 use Rattle.tile_serve.proofs.ServingLemmas.{handed}

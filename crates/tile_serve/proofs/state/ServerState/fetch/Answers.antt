@@ -1,4 +1,4 @@
-use Rattle.std.proofs.Common.{refl}
+use Rattle.tile_serve.proofs.Common.{refl}
 use Rattle.tile_serve.proofs.ServingLemmas.{fetched, limited}
 use Rattle.tile_serve.proofs.state.ServerState.fetch.Goals as goal
 

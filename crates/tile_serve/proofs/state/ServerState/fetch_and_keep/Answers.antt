@@ -1,8 +1,4 @@
-use Rattle.pm_format.specs.LookUp.{archive_tile}
-use Rattle.pm_reader.specs.Archives.{UsesOneLength}
-use Rattle.std.proofs.Common.{Ok}
-use Rattle.tile_serve.specs.Answers.{Finds}
-use Rattle.tile_serve.specs.State.{tiles_of}
+use Rattle.tile_serve.proofs.Common.{archive_tile, Finds, Ok, tiles_of, UsesOneLength}
 use Rattle.tile_serve.proofs.ReplyingLemmas.{tiles_found_told}
 use Rattle.tile_serve.proofs.ServingLemmas.{serves_by, tiles_told, told_again}
 use Rattle.tile_serve.proofs.state.ServerState.fetch_and_keep.Goals as goal

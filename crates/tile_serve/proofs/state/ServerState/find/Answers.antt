@@ -1,6 +1,4 @@
-use Rattle.std.proofs.Common.{rules, ◌≡◌, None, Some, nat_eq, refl}
-use Rattle.std.specs.Map.{lookup}
-use Rattle.tile_serve.specs.State.{tiles_of}
+use Rattle.tile_serve.proofs.Common.{lookup, nat_eq, None, refl, rules, Some, tiles_of, ◌≡◌}
 use Rattle.tile_serve.proofs.ReplyingLemmas.{finds_held, leaves_fetched, tiles_used_told}
 use Rattle.tile_serve.proofs.ServingLemmas.{serves_by, tiles_told}
 use Rattle.tile_serve.proofs.state.ServerState.find.Goals as goal

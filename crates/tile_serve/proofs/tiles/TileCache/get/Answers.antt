@@ -1,6 +1,4 @@
-use Rattle.std.proofs.Common.{◌≡◌, ℕ, List, nat_eq, IfOk, subst}
-use Rattle.std.specs.Map.{lookup}
-use Rattle.bounded_lru.specs.Bounded.{Bounded}
+use Rattle.tile_serve.proofs.Common.{Bounded, IfOk, List, lookup, nat_eq, subst, ℕ, ◌≡◌}
 use Rattle.tile_serve.proofs.HoldingLemmas.{held_copy}
 use Rattle.tile_serve.proofs.tiles.TileCache.get.Goals as goal
 

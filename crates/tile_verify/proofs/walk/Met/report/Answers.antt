@@ -1,7 +1,5 @@
-use Rattle.std.proofs.Common.{rules, ◌≡◌, ◌∙◌, ap, length, map, arith}
-use Rattle.std.specs.List.{dedup}
+use Rattle.tile_verify.proofs.Common.{addressed_by, ap, arith, dedup, length, map, range_of_part, rules, same_range, ◌∙◌, ◌≡◌}
 use Rattle.std.proofs.lemmas.Fn.{always_returns_same}
-use Rattle.tile_verify.specs.Tiles.{addressed_by, range_of_part, same_range}
 use Rattle.tile_verify.proofs.ReportLemmas.{changes_counted, report_is}
 use Rattle.tile_verify.proofs.walk.Met.report.Goals as goal
 

@@ -1,8 +1,5 @@
-use Rattle.std.proofs.Common.{rules, ◌≡◌, ◌+◌, ◌-◌, sym, ◌∙◌, ap, arith}
-use Rattle.std.specs.Option.{option_copied}
+use Rattle.tileset_script.proofs.Common.{ap, arith, option_copied, row_of, rules, sym, words_of, ◌+◌, ◌-◌, ◌∙◌, ◌≡◌}
 use Rattle.tileset_script.proofs.RowLemmas.{behind_cells, cell_bad, cell_more, first_split, word_left, word_missing, words_left}
-use Rattle.line_words.specs.Parting.{words_of}
-use Rattle.tileset_script.specs.Script.{row_of}
 use Rattle.tileset_script.proofs.script.line.parse_row.Goals as goal
 
 pub returns-in_default-clause-row : goal.returns-in_default-clause-row

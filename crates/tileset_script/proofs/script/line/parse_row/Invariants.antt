@@ -1,9 +1,6 @@
 -- the cells so far, and those of the words that are left
-use Rattle.std.proofs.Common.{◌≡◌, ◌-◌, length}
-use Rattle.std.specs.Option.{option_copied}
+use Rattle.tileset_script.proofs.Common.{length, option_copied, row_of, words_of, ◌-◌, ◌≡◌}
 use Rattle.tileset_script.proofs.RowLemmas.{behind_cells, words_left}
-use Rattle.line_words.specs.Parting.{words_of}
-use Rattle.tileset_script.specs.Script.{row_of}
 use Rattle.tileset_script.proofs.script.line.parse_row.Given as goal
 
 abbrev pub invariant-loop : goal.invariant-loop

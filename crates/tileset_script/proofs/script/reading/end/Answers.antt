@@ -1,6 +1,5 @@
-use Rattle.std.proofs.Common.{arith, rules, subst, sym, ◌<◌, length}
+use Rattle.tileset_script.proofs.Common.{arith, drafted, EndsAs, length, rules, subst, sym, ◌<◌}
 use Rattle.std.proofs.lemmas.Bool.{eqb-false, eqb-true}
-use Rattle.tileset_script.specs.Reading.{EndsAs, drafted}
 use Rattle.tileset_script.proofs.ScriptLemmas.{ends_bad, ends_bare, ends_last}
 use Rattle.tileset_script.proofs.script.reading.end.Goals as goal
 

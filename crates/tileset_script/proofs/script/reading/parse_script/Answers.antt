@@ -1,8 +1,4 @@
-use Rattle.std.proofs.Common.{arith, length, subst, sym}
-use Rattle.std.specs.Prelude.{IfSome}
-use Rattle.std.specs.Option.{option_copied}
-use Rattle.line_words.specs.Parting.{HasNo}
-use Rattle.tileset_script.specs.Reading.{EndsAs, TakesLines, drafted}
+use Rattle.tileset_script.proofs.Common.{arith, drafted, EndsAs, HasNo, IfSome, length, option_copied, subst, sym, TakesLines}
 use Rattle.tileset_script.proofs.ReaderLemmas.{parse_ends, parse_stops}
 use Rattle.tileset_script.proofs.script.reading.parse_script.Goals as goal
 

@@ -1,6 +1,5 @@
 -- what the lines so far come to
-use Rattle.std.proofs.Common.{◌<◌, ◌+◌, ◌^◌, Some, length}
-use Rattle.tileset_script.specs.Reading.{DraftNeverFails, TakesLines, drafted}
+use Rattle.tileset_script.proofs.Common.{drafted, DraftNeverFails, length, Some, TakesLines, ◌+◌, ◌<◌, ◌^◌}
 use Rattle.tileset_script.proofs.script.reading.take_lines.Given as goal
 
 abbrev pub invariant-loop-line : goal.invariant-loop-line

@@ -1,7 +1,6 @@
 -- the last type so far, and that of the rest
-use Rattle.std.proofs.Common.{◌≡◌, drop}
+use Rattle.tileset_script.proofs.Common.{drop, type_in, ◌≡◌}
 use Rattle.pm_format.specs.declared.tile_type.TileType.TheVariants.{Unknown}
-use Rattle.tileset_script.specs.Setting.{type_in}
 use Rattle.tileset_script.proofs.script.setting.last_type.Given as goal
 
 abbrev pub invariant-loop-setting : goal.invariant-loop-setting

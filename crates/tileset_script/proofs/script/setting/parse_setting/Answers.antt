@@ -1,4 +1,4 @@
-use Rattle.std.proofs.Common.{rules, sym}
+use Rattle.tileset_script.proofs.Common.{rules, sym}
 use Rattle.tileset_script.proofs.SettingLemmas.{no_setting}
 use Rattle.tileset_script.proofs.script.setting.parse_setting.Goals as goal
 

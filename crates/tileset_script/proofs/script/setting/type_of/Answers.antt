@@ -1,6 +1,4 @@
-use Rattle.std.proofs.Common.{codes, sym, ap, arith, rules}
-use Rattle.std.proofs.lemmas.Slice.Eq.{text_from_reads}
-use Rattle.tileset_script.specs.Setting.{type_named}
+use Rattle.tileset_script.proofs.Common.{ap, arith, codes, rules, sym, text_from_reads, type_named}
 use Rattle.tileset_script.proofs.script.setting.type_of.Goals as goal
 
 pub returns-in-unknown : goal.returns-in-unknown

@@ -1,7 +1,6 @@
 -- the options so far, and what the rest makes of them
-use Rattle.std.proofs.Common.{◌≡◌}
+use Rattle.tileset_script.proofs.Common.{with_settings, writer_of, ◌≡◌}
 use Rattle.std.specs.Vec.Iter.{into_iter_items}
-use Rattle.tileset_script.specs.Setting.{writer_of, with_settings}
 use Rattle.tileset_script.proofs.script.setting.writer_of.Given as goal
 
 abbrev pub invariant-loop-setting : goal.invariant-loop-setting

@@ -1,4 +1,4 @@
-use Rattle.std.proofs.Common.{sym}
+use Rattle.tileset_script.proofs.Common.{sym}
 use Rattle.tileset_script.proofs.TextLemmas.{digits_taken}
 use Rattle.tileset_script.proofs.script.text.escaped_byte.Goals as goal
 

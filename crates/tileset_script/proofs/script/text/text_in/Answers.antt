@@ -1,6 +1,4 @@
-use Rattle.std.proofs.Common.{◌≡◌, false, true, Some, sym, ◌∙◌, ap, subst}
-use Rattle.std.proofs.lemmas.Str.{IsUtf8-had}
-use Rattle.std.specs.Str.{IsUtf8}
+use Rattle.tileset_script.proofs.Common.{ap, false, IsUtf8, IsUtf8-had, Some, subst, sym, true, ◌∙◌, ◌≡◌}
 use Rattle.std.specs.String.{string_bytes}
 use Rattle.tileset_script.proofs.TextLemmas.{text_bad, text_good}
 use Rattle.tileset_script.proofs.script.text.text_in.Goals as goal

@@ -1,7 +1,5 @@
-use Rattle.std.proofs.Common.{arith}
-use Rattle.std.proofs.lemmas.List.{nil_from_length}
+use Rattle.tileset_script.proofs.Common.{arith, nil_from_length, unescaped}
 use Rattle.tileset_script.proofs.TextLemmas.{bytes_end}
-use Rattle.tileset_script.specs.Text.{unescaped}
 use Rattle.tileset_script.proofs.script.text.unescape.Goals as goal
 
 pub returns : goal.returns

@@ -1,7 +1,5 @@
 -- the bytes so far, and those of the rest
-use Rattle.std.proofs.Common.{◌≡◌, ◌++◌, length}
-use Rattle.std.specs.Option.{option_map}
-use Rattle.tileset_script.specs.Text.{unescaped}
+use Rattle.tileset_script.proofs.Common.{length, option_map, unescaped, ◌++◌, ◌≡◌}
 use Rattle.tileset_script.proofs.script.text.unescape.Given as goal
 
 abbrev pub invariant-loop-rest : goal.invariant-loop-rest

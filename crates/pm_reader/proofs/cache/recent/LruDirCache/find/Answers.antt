@@ -1,9 +1,4 @@
-use Rattle.std.proofs.Common.{◌≡◌, ◌∙◌, List, Option, None, Some, refl, ap, subst}
-use Rattle.pm_format.specs.Directory.{Entry}
-use Rattle.pm_format.specs.Scan.{scan}
-use Rattle.pm_reader.specs.Caches.{answer_of, from_found}
-use Rattle.pm_reader.specs.MapCaches.{held_by_use}
-use Rattle.pm_reader.specs.declared.cache.DirCacheResult.TheVariants.{NotCached}
+use Rattle.pm_reader.proofs.Common.{answer_of, ap, Entry, from_found, held_by_use, List, None, NotCached, Option, refl, scan, Some, subst, ◌∙◌, ◌≡◌}
 use Rattle.pm_reader.proofs.RecentLemmas.{latest_held}
 use Rattle.pm_reader.proofs.cache.recent.LruDirCache.find.Goals as goal
 

@@ -1,4 +1,4 @@
-use Rattle.std.proofs.Common.{◌∙◌}
+use Rattle.pm_reader.proofs.Common.{◌∙◌}
 use Rattle.pm_reader.proofs.RecentLemmas.{fetched_put}
 use Rattle.pm_reader.proofs.cache.recent.LruDirCacheDirectoryCache.get_dir_entry_or_insert.Goals as goal
 

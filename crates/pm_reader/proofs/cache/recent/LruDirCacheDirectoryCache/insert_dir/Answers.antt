@@ -1,6 +1,4 @@
-use Rattle.std.proofs.Common.{List, length, subst}
-use Rattle.bounded_lru.specs.Bounded.{Puts}
-use Rattle.pm_format.specs.Directory.{Entry}
+use Rattle.pm_reader.proofs.Common.{Entry, length, List, Puts, subst}
 use Rattle.pm_reader.proofs.RecentLemmas.{adds_put, held_put}
 use Rattle.pm_reader.proofs.cache.recent.LruDirCacheDirectoryCache.insert_dir.Goals as goal
 

@@ -1,4 +1,4 @@
-use Rattle.std.proofs.Common.{refl, ◌∙◌}
+use Rattle.tile_hash.proofs.Common.{refl, ◌∙◌}
 use Rattle.tile_hash.proofs.Xxh3StreamLemmas.{taken_hash}
 use Rattle.tile_hash.proofs.xxh3.stream.Xxh3Stream.finish.Goals as goal
 

@@ -1,4 +1,4 @@
-use Rattle.std.proofs.Common.{refl, arith}
+use Rattle.tile_hash.proofs.Common.{arith, refl}
 use Rattle.tile_hash.proofs.Xxh3StreamLemmas.{taken_behind}
 use Rattle.tile_hash.proofs.xxh3.stream.Xxh3Stream.take.Goals as goal
 

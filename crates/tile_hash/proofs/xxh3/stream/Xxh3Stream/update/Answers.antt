@@ -1,4 +1,4 @@
-use Rattle.std.proofs.Common.{subst}
+use Rattle.tile_hash.proofs.Common.{subst}
 use Rattle.tile_hash.specs.Xxh3Stream.{HasTaken}
 use Rattle.tile_hash.proofs.ByteLemmas.{behind_parts}
 use Rattle.tile_hash.proofs.xxh3.stream.Xxh3Stream.update.Goals as goal

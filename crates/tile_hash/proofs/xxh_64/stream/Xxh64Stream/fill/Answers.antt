@@ -1,4 +1,4 @@
-use Rattle.std.proofs.Common.{refl, arith}
+use Rattle.tile_hash.proofs.Common.{arith, refl}
 use Rattle.tile_hash.proofs.Xxh64StreamLemmas.{taken_filled}
 use Rattle.tile_hash.proofs.xxh_64.stream.Xxh64Stream.fill.Goals as goal
 

@@ -1,4 +1,4 @@
-use Rattle.std.proofs.Common.{refl, ◌∙◌}
+use Rattle.tile_hash.proofs.Common.{refl, ◌∙◌}
 use Rattle.tile_hash.proofs.Xxh64StreamLemmas.{taken_hash}
 use Rattle.tile_hash.proofs.xxh_64.stream.Xxh64Stream.finish.Goals as goal
 

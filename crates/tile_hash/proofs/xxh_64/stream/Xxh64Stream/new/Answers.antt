@@ -1,4 +1,4 @@
-use Rattle.std.proofs.Common.{refl}
+use Rattle.tile_hash.proofs.Common.{refl}
 use Rattle.tile_hash.proofs.Xxh64StreamLemmas.{taken_none}
 use Rattle.tile_hash.proofs.xxh_64.stream.Xxh64Stream.new.Goals as goal
 

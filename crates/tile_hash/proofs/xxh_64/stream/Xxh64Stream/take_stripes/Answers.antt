@@ -1,4 +1,4 @@
-use Rattle.std.proofs.Common.{◌≡◌, ◌/◌, ◌%◌, length, refl, arith, ◌∙◌}
+use Rattle.tile_hash.proofs.Common.{arith, length, refl, ◌%◌, ◌/◌, ◌∙◌, ◌≡◌}
 use Rattle.tile_hash.proofs.Xxh64StreamLemmas.{lanes_begin, lanes_behind, taken_whole}
 use Rattle.tile_hash.proofs.xxh_64.stream.Xxh64Stream.take_stripes.Goals as goal
 

@@ -1,6 +1,4 @@
-use Rattle.std.proofs.Common.{◌≡◌, ℕ, ◌+◌, ◌/◌, ◌%◌, List, ◌++◌, length}
-use Rattle.tile_hash.specs.Xxh64.{lanes_after}
-use Rattle.tile_hash.specs.Xxh64Stream.{HasTaken}
+use Rattle.tile_hash.proofs.Common.{HasTaken, lanes_after, length, List, ℕ, ◌%◌, ◌++◌, ◌+◌, ◌/◌, ◌≡◌}
 use Rattle.tile_hash.proofs.xxh_64.stream.Xxh64Stream.take_stripes.Given as goal
 
 abbrev pub invariant-loop-i : goal.invariant-loop-i

@@ -1,5 +1,4 @@
-use Rattle.std.proofs.Common.{subst}
-use Rattle.tile_hash.specs.Xxh64Stream.{HasTaken}
+use Rattle.tile_hash.proofs.Common.{HasTaken, subst}
 use Rattle.tile_hash.proofs.ByteLemmas.{behind_parts}
 use Rattle.tile_hash.proofs.xxh_64.stream.Xxh64Stream.update.Goals as goal
 

@@ -1,4 +1,4 @@
-use Rattle.std.proofs.Common.{rules}
+use Rattle.tileset_script.proofs.Common.{rules}
 use Rattle.tileset_script.proofs.DraftLemmas.{moved_unfailing}
 use Rattle.tileset_script.proofs.script.draft.Draft.begin.Goals as goal
 

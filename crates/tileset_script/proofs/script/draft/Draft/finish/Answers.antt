@@ -1,4 +1,4 @@
-use Rattle.std.proofs.Common.{rules}
+use Rattle.tileset_script.proofs.Common.{rules}
 use Rattle.tileset_script.proofs.DraftLemmas.{first_removed, patches_unfailing, script_ended}
 use Rattle.tileset_script.proofs.script.draft.Draft.finish.Goals as goal
 

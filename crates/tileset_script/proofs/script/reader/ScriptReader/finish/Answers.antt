@@ -1,8 +1,4 @@
-use Rattle.std.proofs.Common.{◌<◌, ◌-◌, ◌^◌, arith, length, subst, sym}
-use Rattle.line_words.specs.Lines.{lines_of}
-use Rattle.line_words.specs.Parting.{HasNo}
-use Rattle.tileset_script.specs.Reading.{EndsAs, drafted}
-use Rattle.tileset_script.specs.Script.{script_from}
+use Rattle.tileset_script.proofs.Common.{arith, drafted, EndsAs, HasNo, length, lines_of, script_from, subst, sym, ◌-◌, ◌<◌, ◌^◌}
 use Rattle.tileset_script.proofs.ReaderLemmas.{read_bad, read_good}
 use Rattle.tileset_script.proofs.script.reader.ScriptReader.finish.Goals as goal
 

@@ -1,5 +1,4 @@
-use Rattle.std.proofs.Common.{ap, arith, length}
-use Rattle.tileset_script.specs.Reading.{drafted}
+use Rattle.tileset_script.proofs.Common.{ap, arith, drafted, length}
 use Rattle.tileset_script.proofs.ReaderLemmas.{no_part, read_none}
 use Rattle.tileset_script.proofs.script.reader.ScriptReader.new.Goals as goal
 

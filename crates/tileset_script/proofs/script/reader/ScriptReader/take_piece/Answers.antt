@@ -1,5 +1,4 @@
-use Rattle.std.proofs.Common.{◌≡◌, ◌<◌, ◌+◌, ◌++◌, ◌^◌, OnOk, length, ap₂, arith, subst, sym, ◌∙◌, length-append, take-append-drop}
-use Rattle.tileset_script.specs.Reader.{HasRead}
+use Rattle.tileset_script.proofs.Common.{ap₂, arith, HasRead, length, length-append, OnOk, subst, sym, take-append-drop, ◌++◌, ◌+◌, ◌<◌, ◌^◌, ◌∙◌, ◌≡◌}
 use Rattle.tileset_script.proofs.ReaderLemmas.{pieces_joined}
 use Rattle.tileset_script.proofs.script.reader.ScriptReader.take_piece.Goals as goal
 

@@ -1,0 +1,2 @@
+-- What the crate's proofs name of the crates below and of its specs, passed on from one place. Declares nothing.
+pub use Rattle.std.proofs.Common.{arith, suc, zero, ℕ, ◌-◌, ◌^◌, ◌≤◌}

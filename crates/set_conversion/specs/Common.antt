@@ -1,0 +1,2 @@
+-- What the crate's specs and sources name of the crates below, passed on from one place. Declares nothing.
+pub use Rattle.tile_bridge.specs.declared.options.ConvertOptions.{ConvertOptions}

@@ -1,0 +1,17 @@
+-- What the crate's proofs name of the crates below and of its specs, passed on from one place. Declares nothing.
+pub use Rattle.mb_lists.specs.Entries.{place_at}
+pub use Rattle.mb_metadata.specs.Inserting.{HasNoFloat}
+pub use Rattle.set_options.specs.ArchiveJson.{is_left_out, members_in, with_entry}
+pub use Rattle.set_options.specs.Common.{blob_cell, bytes_eq, Cell, Data, decimal, empty, entries, Header, insert, is_ascii_digit, is_ascii_whitespace, IsWithoutFloat, JsonMap, member, Members}
+pub use Rattle.set_options.specs.Common.{members_view, no_members, option_and_then, option_map, prefix_len, string, text_at, text_cell}
+unfoldable pub use Rattle.set_options.specs.Common.{parted}
+pub use Rattle.set_options.specs.Document.{document_of, format_of, IsJsonOf, IsOfMembers, with_any}
+pub use Rattle.set_options.specs.Facts.{no_facts, with_cell, with_tile}
+pub use Rattle.set_options.specs.Parting.{kept_in, names_in, with_all_kept, with_name, with_names}
+pub use Rattle.std.proofs.Common.{ap, append-nil, append_assoc, arith, Bool, cond, drop, Equal, false, fold, Greater, length, length-append, Less, List, nat_cmp, nat_eq, nat_le, nat_lt, negsuc, None}
+pub use Rattle.std.proofs.Common.{Option, Ordering, pos, refl, Some, subst, suc, sym, take, true, zero, ℕ, ℤ, [], ◌%◌, ◌&&◌, ◌*◌, ◌++◌, ◌+◌, ◌-◌, ◌/◌, ◌<◌, ◌^◌, ◌∙◌, ◌∷◌, ◌≡◌, ◌≤◌}
+pub use Rattle.std.proofs.lemmas.Str.Ascii.{trim_ascii_is}
+pub use Rattle.std.specs.Cmp.Lexicographic.{nat_list_cmp_total, slice_cmp}
+pub use Rattle.std.specs.FinMap.{entries-insert, get, get-empty, get-insert, len, len-empty, len-entries, put}
+pub use Rattle.std.specs.Prelude.{All, codes, IfSome, slice_get}
+pub use Rattle.tile_json.specs.declared.document.TileJson.{TileJson}
