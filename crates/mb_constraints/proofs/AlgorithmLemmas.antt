@@ -1,13 +1,15 @@
 -- The algorithm that a name stands for.
-use Rattle.mb_constraints.proofs.Common.{ap, Bool, bytes_eq, Cell, codes, false, filter_map, find, HashAlgorithm, IfSome, List, name_of, names_held, None, none-some, Option, option_and_then, refl}
-use Rattle.mb_constraints.proofs.Common.{Some, sym, true, ℕ, ◌∙◌, ◌≡◌}
+use Rattle.mb_constraints.proofs.Common.{ap, Bool, Cell, codes, false, filter_map, find, HashAlgorithm, IfSome, List, names_held, None, none-some, Option, option_and_then, refl, Some, sym, true, ℕ}
+use Rattle.mb_constraints.proofs.Common.{◌∙◌, ◌≡◌}
 use Rattle.std.specs.Cmp.Lexicographic.{nat_list_cmp_total}
 use Rattle.std.specs.FinMap.{get, get-from_entries}
+use Rattle.std.specs.Str.{bytes_eq}
 use Rattle.std.proofs.lemmas.Slice.Eq.{bytes_eq-Decides}
 use Rattle.mb_lists.proofs.Finding.{find_none}
 use Rattle.mb_lists.specs.Metadata.{name_entry, names_of}
 use Rattle.mb_lists.specs.declared.entries.StoredName.{StoredName}
 use Rattle.mb_constraints.specs.Algorithm.{algorithms, stored_algorithm}
+use Rattle.tile_hash.specs.Digest.{name_of}
 use Rattle.tile_hash.specs.declared.algorithm.HashAlgorithm.TheVariants.{Md5}
 
 -- each name is found

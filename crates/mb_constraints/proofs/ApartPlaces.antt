@@ -1,15 +1,17 @@
 -- Rows that a unique index keeps apart have no place twice.
 use Rattle.mb_constraints.proofs.Common.{AllPairs, ap, are_distinct, arith, Bool, Cell, cell_at, cells_eq, cells_eq-Decides, cond, cons_option, contents_in, contents_of, false, false≢true, filter_map}
-use Rattle.mb_constraints.proofs.Common.{get_or_from_slice_get, Hash, Int, is_null, List, list_any, map, MbtType, nat_lt, None, none-some, Normalized, not, NoUniquenessConstraint, number_below}
-use Rattle.mb_constraints.proofs.Common.{Option, option_and_then, Place, place_cmp, place_of, place_twice, pos, refl, slice_get, slice_get_within, Some, suc, sym, take, tile_in, tile_of, tile_table}
-use Rattle.mb_constraints.proofs.Common.{true, unless, ℕ, ℤ, [], ◌&&◌, ◌^◌, ◌∙◌, ◌∷◌, ◌≡◌}
+use Rattle.mb_constraints.proofs.Common.{get_or_from_slice_get, Hash, is_null, List, list_any, map, MbtType, nat_lt, None, none-some, Normalized, not, NoUniquenessConstraint, number_below, Option}
+use Rattle.mb_constraints.proofs.Common.{option_and_then, Place, place_cmp, place_of, place_twice, pos, refl, slice_get, slice_get_within, Some, suc, sym, take, tile_in, tile_of, true, unless, ℕ, ℤ}
+use Rattle.mb_constraints.proofs.Common.{[], ◌&&◌, ◌^◌, ◌∙◌, ◌∷◌, ◌≡◌}
 use Rattle.std.specs.Ordering.{eq_by_cmp}
 use Rattle.mb_lists.proofs.Items.{equal_of}
 use Rattle.mb_lists.proofs.Places.{places_antisymmetric}
 use Rattle.mb_store.specs.Store.{IsSound}
 use Rattle.mb_tables.specs.Described.{is_keyed}
+use Rattle.mb_tables.specs.Kind.{tile_table}
 use Rattle.mb_tables.specs.Key.{clash}
 use Rattle.mb_tables.specs.Table.{Tables, key_of}
+use Rattle.mb_tables.specs.declared.cell.Cell.TheVariants.{Int}
 
 -- a place's numbers are its row's first three cells
 number_is : (limit : ℕ) (c : Cell) (n : ℕ) → number_below limit c ≡ Some n → c ≡ Int (pos n)

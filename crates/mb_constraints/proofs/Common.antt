@@ -1,6 +1,6 @@
 -- What the crate's proofs name of the crates below and of its specs, passed on from one place. Declares nothing.
-pub use Rattle.mb_constraints.specs.Common.{AreIndexed, bytes_eq, Cell, cell_at, cell_eq, content_of, first_refused, HashAlgorithm, Int, InvalidDataFormat, InvalidTileIndex, is_null, list_any}
-pub use Rattle.mb_constraints.specs.Common.{MbtError, MbtType, name_of, Normalized, NoUniquenessConstraint, option_or, Place, place_cmp, place_of, rows_kept, tile_of, tile_table, unless}
+pub use Rattle.mb_constraints.specs.Common.{AreIndexed, Cell, cell_at, cell_eq, content_of, first_refused, HashAlgorithm, InvalidDataFormat, InvalidTileIndex, is_null, list_any, MbtError, MbtType}
+pub use Rattle.mb_constraints.specs.Common.{Normalized, NoUniquenessConstraint, option_or, Place, place_cmp, place_of, rows_kept, tile_of, unless}
 pub use Rattle.mb_constraints.specs.Hashes.{hash_wrong, wrong_content_hash, wrong_id, wrong_tile_hash}
 pub use Rattle.mb_constraints.specs.References.{missing_reference}
 pub use Rattle.mb_constraints.specs.TileRows.{bad_tile, contents_in, dates_in, id_in, place_twice, tile_in}

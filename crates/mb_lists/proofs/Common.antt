@@ -1,8 +1,8 @@
 -- What the crate's proofs name of the crates below and of its specs, passed on from one place. Declares nothing.
 pub use Rattle.mb_lists.specs.Clearing.{Clears, listed, name_mark, tile_mark, unmarked}
-pub use Rattle.mb_lists.specs.Common.{Blob, bool_cmp, Cell, cell_at, cell_cmp, cell_eq, cons_option, content_of, Coord, eq_by_cmp, from_entries, get, insert, Int, InvalidDataFormat, inverted_y, is_lt}
-pub use Rattle.mb_lists.specs.Common.{is_null, is_text, IsPartitionPoint, IsPermutation, IsSortedBy, list_all, list_any, MbtError, name_kind_wrong, nat_cmp, Null, Ordering, ordering_then, Other}
-pub use Rattle.mb_lists.specs.Common.{Place, place_cmp, remove, slice_cmp, Text, tile_index, unless}
+pub use Rattle.mb_lists.specs.Common.{Blob, bool_cmp, Cell, cell_at, cell_cmp, cell_eq, cons_option, content_of, Coord, eq_by_cmp, from_entries, get, insert, Int, inverted_y, is_lt, is_null, is_text}
+pub use Rattle.mb_lists.specs.Common.{IsPartitionPoint, IsPermutation, IsSortedBy, list_all, list_any, MbtError, name_kind_wrong, nat_cmp, Null, Ordering, ordering_then, Other, Place, place_cmp}
+pub use Rattle.mb_lists.specs.Common.{remove, slice_cmp, Text, tile_index, unless}
 pub use Rattle.mb_lists.specs.Contents.{are_apart, content_entry, contents_by_id, fronts}
 pub use Rattle.mb_lists.specs.Dating.{last_at, redated, Redates}
 pub use Rattle.mb_lists.specs.Dropping.{is_unnamed, marked, marked_unnamed}

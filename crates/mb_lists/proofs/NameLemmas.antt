@@ -1,8 +1,9 @@
 -- Rows of metadata, and the names that are kept of them.
 use Rattle.mb_lists.proofs.Common.{All, All-cons, ap, are_distinct, arith, Blob, Bool, Cell, cell_at, cell_cmp, entries_by, eq_by_cmp, false, false≢true, filter, filter_map, fronts, has_name_kinds}
-use Rattle.mb_lists.proofs.Common.{Int, InvalidDataFormat, is_name_gone, is_null, is_text, IsAntisymmetric, IsName, Kept, List, list_all, list_any, map, name_entry, name_from, name_kind_wrong}
-use Rattle.mb_lists.proofs.Common.{name_of, name_twice, name_value, nat_cmp, nat_cmp-IsAntisymmetric, None, not, Null, Option, option_or, Other, refl, slice_cmp, slice_cmp-IsAntisymmetric, Some, Text}
-use Rattle.mb_lists.proofs.Common.{text_of, true, unless, ℕ, [], ◌&&◌, ◌∙◌, ◌∷◌, ◌≡◌}
+use Rattle.mb_lists.proofs.Common.{Int, is_name_gone, is_null, is_text, IsAntisymmetric, IsName, Kept, List, list_all, list_any, map, name_entry, name_from, name_kind_wrong, name_of, name_twice}
+use Rattle.mb_lists.proofs.Common.{name_value, nat_cmp, nat_cmp-IsAntisymmetric, None, not, Null, Option, option_or, Other, refl, slice_cmp, slice_cmp-IsAntisymmetric, Some, Text, text_of, true}
+use Rattle.mb_lists.proofs.Common.{unless, ℕ, [], ◌&&◌, ◌∙◌, ◌∷◌, ◌≡◌}
+use Rattle.mb_tables.specs.declared.error.MbtError.TheVariants.{InvalidDataFormat}
 
 -- the entries of the names are those of the rows
 pub named_entries : (rows : List (List Cell)) → entries_by name_of name_value (filter_map name_from rows) ≡ filter_map name_entry rows

@@ -21,10 +21,10 @@ unfoldable pub use Rattle.mb_loaded.specs.Aggregate.{aggregate}
 pub use Rattle.mb_loaded.specs.Changing.{AreChangesOf, cells_for, content_row_by, content_table, front, hash_cell, id_edited, is_own_table, name_edited, name_row_by, place_edited, tile_key}
 pub use Rattle.mb_loaded.specs.Changing.{tile_row_by}
 pub use Rattle.mb_loaded.specs.Common.{Apart, AreContentsInOrder, AreInOrder, AreNamesInOrder, Blob, blob_cell, Cache, Cell, cell_cmp, cell_eq, Change, contains_key, Content, content_at, Contents}
-pub use Rattle.mb_loaded.specs.Common.{contents_held, Coord, Dates, digest, empty, entries, entries_by, FinMap, Flat, FlatWithHash, from_entries, get, Hash, HashAlgorithm, HasId, id_at, if_edited}
-pub use Rattle.mb_loaded.specs.Common.{insert, Int, IntId, is_gone, is_null, is_text, IsDated, IsName, IsTile, Kept, key_width, len, listed, MbtType, Metadata, name_of, Names, names_held, nat_cmp}
-pub use Rattle.mb_loaded.specs.Common.{newest_ids, newest_names, newest_tiles, Normalized, Null, PatchType, Place, place_at, place_cmp, place_of, Put, Removed, retain_keys, RowKey, slice_cmp}
-pub use Rattle.mb_loaded.specs.Common.{StoredName, StoredTile, table_eq, Text, text_cell, text_of, TextId, Tile, tile_dates, tile_id, tile_mark, tile_table, tile_value, tiles_held, TileSet}
+pub use Rattle.mb_loaded.specs.Common.{contents_held, Coord, Dates, digest, empty, entries, entries_by, FinMap, Flat, FlatWithHash, from_entries, get, HashAlgorithm, HasId, id_at, if_edited, insert}
+pub use Rattle.mb_loaded.specs.Common.{Int, IntId, is_gone, is_null, IsDated, IsName, IsTile, Kept, key_width, len, listed, MbtType, Metadata, name_of, Names, names_held, nat_cmp, newest_ids}
+pub use Rattle.mb_loaded.specs.Common.{newest_names, newest_tiles, Normalized, Null, PatchType, Place, place_at, place_cmp, place_of, Put, Removed, retain_keys, RowKey, slice_cmp, StoredName}
+pub use Rattle.mb_loaded.specs.Common.{StoredTile, table_eq, Text, text_cell, text_of, TextId, Tile, tile_dates, tile_id, tile_mark, tile_table, tile_value, tiles_held, TileSet}
 pub use Rattle.mb_loaded.specs.Copying.{Adds, AreCopies, Edits, entry_of, held_copying, id_of, IsCopied, IsCopying, IsPutAt, put_content, Puts, Removes, tile_copied, tiles_copied}
 pub use Rattle.mb_loaded.specs.Edits.{dates_for, id_for, is_named, no_dates, only_referenced, removed_name, removed_tile, unnamed_ids, with_content, with_dates, with_key, with_name, with_null}
 pub use Rattle.mb_loaded.specs.Edits.{with_tile, with_tiles, with_value, without_name, without_tile}

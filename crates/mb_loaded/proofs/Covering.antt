@@ -1,16 +1,18 @@
 -- The changes of all entries are those of the set.
 use Rattle.mb_loaded.proofs.Common.{All, ap, Apart, AreChangesOf, at_key, Blob, blob_cell, Bool, Cache, Cell, cell_cmp, cell_cmp-IsAntisymmetric, cells_for, cells_kept, cells_total, Change, change_by}
 use Rattle.mb_loaded.proofs.Common.{cond, contains_key, Content, content_at, content_row_by, content_table, content_value, contents_of, Dates, Decides-eqb, digest_cell, entries_by, equal_of, false}
-use Rattle.mb_loaded.proofs.Common.{false≢true, filter_map, find, Flat, FlatWithHash, found_in, found_itself, from_entries, front, get, get_or, get_or_from_slice_get, Hash, hash_cell, HashAlgorithm}
-use Rattle.mb_loaded.proofs.Common.{Held, held_of, id_at, id_edited, id_key, if_edited, inl, inr, Int, IntId, is_null, is_own_table, is_removed, is_some, is_text, IsAntisymmetric, IsName, IsTile}
-use Rattle.mb_loaded.proofs.Common.{IsTotalOrder, Kept, List, listed_change, look_up, MbtType, Metadata, name_change, name_edited, name_of, name_row_by, name_value, names_antisymmetric, nat_cmp}
-use Rattle.mb_loaded.proofs.Common.{nat_list_cmp_total, no_dates, None, Normalized, nothing, Null, Option, option_and_then, option_map, or_left, or_right, Ordering, PatchType, place_cmp, place_edited}
-use Rattle.mb_loaded.proofs.Common.{place_of, places_antisymmetric, places_total, Put, refl, Removed, row_of_content, row_of_name, row_of_tile, RowKey, slice_cmp, slice_get, slice_get-get_or}
-use Rattle.mb_loaded.proofs.Common.{slice_get_within, Some, Standing, StoredName, StoredTile, subst, sym, table_eq, table_number, TableName, Text, text_cell, text_of, TextId, Tile, tile_change}
-use Rattle.mb_loaded.proofs.Common.{tile_dates, tile_id, tile_key, tile_row_by, tile_table, tile_value, tiles_held, true, unless_removed, unwrap_or, ℕ, ℤ, [], ◌++◌, ◌||◌, ◌∙◌, ◌∷◌, ◌≡◌, ◌⊎◌}
+use Rattle.mb_loaded.proofs.Common.{false≢true, filter_map, find, Flat, FlatWithHash, found_in, found_itself, from_entries, front, get, get_or, get_or_from_slice_get, hash_cell, HashAlgorithm, Held}
+use Rattle.mb_loaded.proofs.Common.{held_of, id_at, id_edited, id_key, if_edited, inl, inr, Int, IntId, is_null, is_own_table, is_removed, is_some, IsAntisymmetric, IsName, IsTile, IsTotalOrder, Kept}
+use Rattle.mb_loaded.proofs.Common.{List, listed_change, look_up, MbtType, Metadata, name_change, name_edited, name_of, name_row_by, name_value, names_antisymmetric, nat_cmp, nat_list_cmp_total}
+use Rattle.mb_loaded.proofs.Common.{no_dates, None, Normalized, nothing, Null, Option, option_and_then, option_map, or_left, or_right, Ordering, PatchType, place_cmp, place_edited, place_of}
+use Rattle.mb_loaded.proofs.Common.{places_antisymmetric, places_total, Put, refl, Removed, row_of_content, row_of_name, row_of_tile, RowKey, slice_cmp, slice_get, slice_get-get_or, slice_get_within}
+use Rattle.mb_loaded.proofs.Common.{Some, Standing, StoredName, StoredTile, subst, sym, table_eq, table_number, TableName, Text, text_cell, text_of, TextId, Tile, tile_change, tile_dates, tile_id}
+use Rattle.mb_loaded.proofs.Common.{tile_key, tile_row_by, tile_table, tile_value, tiles_held, true, unless_removed, unwrap_or, ℕ, ℤ, [], ◌++◌, ◌||◌, ◌∙◌, ◌∷◌, ◌≡◌, ◌⊎◌}
+use Rattle.mb_tables.specs.CellKinds.{is_text}
 use Rattle.mb_loaded.proofs.ChangeSteps.{change_cases, of_content, of_name, of_tile}
 use Rattle.mb_loaded.proofs.Listed.{at_right, in_append, in_mapped, keeps_mapped}
 use Rattle.mb_loaded.proofs.MoreContents.{at_left}
+use Rattle.mb_tables.specs.declared.kind.NormalizedSchema.TheVariants.{Hash}
 
 -- the tables of a layout are different
 pub table_itself : (t u : TableName) → t ≡ u → table_eq t u ≡ true

@@ -1,5 +1,5 @@
 -- What the crate's proofs name of the crates below and of its specs, passed on from one place. Declares nothing.
-pub use Rattle.pm_contents.specs.Common.{btree_map_len, bytes_eq, get, IsWithin, texts_ties}
+pub use Rattle.pm_contents.specs.Common.{btree_map_len, bytes_eq, get}
 pub use Rattle.pm_contents.specs.Contents.{content_cmp, Finds, first_of, Holds, in_span, IsAlike, IsTold, IsUnasked, place_by, place_of}
 pub use Rattle.pm_contents.specs.Places.{found_in, fresh, IsAt, IsBytes, IsNew, place_in, put_new}
 pub use Rattle.pm_contents.specs.Sought.{FoundAs, IsSought, place_sought}

@@ -1,10 +1,11 @@
 -- Contents that are found by their digests, with one content more or less.
 use Rattle.pm_contents.proofs.Common.{ap, arith, Bool, btree_map_len, BTreeMap, bytes_eq, cond, content_cmp, Contents, drop, drop-append-le, eq-eqb, eqb-true, false, Finds, first_of, flat_map}
 use Rattle.pm_contents.proofs.Common.{found_in, FoundAs, get, Holds, IfSome, in_span, inl, inr, is_at, IsAlike, IsAt, IsBytes, IsNew, IsUnasked, length, length-append, length-drop, List, nat_eq, None}
-use Rattle.pm_contents.proofs.Common.{Option, place_by, place_of, put_new, refl, Some, Span, subst, sym, take, take-append-le, texts_ties, true, Updates, ℕ, [], ◌++◌, ◌+◌, ◌∙◌, ◌∷◌, ◌≡◌, ◌≢◌, ◌≤◌}
+use Rattle.pm_contents.proofs.Common.{Option, place_by, place_of, put_new, refl, Some, Span, subst, sym, take, take-append-le, true, Updates, ℕ, [], ◌++◌, ◌+◌, ◌∙◌, ◌∷◌, ◌≡◌, ◌≢◌, ◌≤◌}
 use Rattle.std.proofs.Math.Seq.{drop-append_seam, take-length}
 use Rattle.std.proofs.lemmas.Option.{IfSome_then}
 use Rattle.std.specs.HashMap as hashed
+use Rattle.std.specs.Cmp.Lexicographic.{texts_ties}
 use Rattle.pm_contents.specs.declared.sought.Sought.TheVariants as sought
 use Rattle.pm_contents.proofs.PlaceLemmas.{content_between, count_push, flat_push, found_is, found_keeps, found_push_other, found_push_same, put_behind, same_or, total_push}
 

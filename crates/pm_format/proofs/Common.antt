@@ -1,7 +1,7 @@
 -- What the crate's proofs name of the crates below and of its specs, passed on from one place. Declares nothing.
 pub use Rattle.pm_format.specs.Columns.{entries_at, ids_at}
 unfoldable pub use Rattle.pm_format.specs.Columns.{columns_at}
-pub use Rattle.pm_format.specs.Common.{cast_signed, cast_unsigned, from_le_bytes, ok_or, range_with_len, SomeIff, w32}
+pub use Rattle.pm_format.specs.Common.{ok_or, SomeIff, w32}
 pub use Rattle.pm_format.specs.Directory.{column, DirFits, entries_of, Entry, entry, ids_from, IdsDontFall, IsPlaced, IsWritable, NotFalling, offset_of, offsets_from, spell_all, starts_from}
 pub use Rattle.pm_format.specs.Directory.{steps_from, ◌>>=◌}
 unfoldable pub use Rattle.pm_format.specs.Directory.{dir_bytes, dir_of}

@@ -1,7 +1,8 @@
 -- What is written as a header is read again.
-use Rattle.pm_format.proofs.Common.{ap, arith, bit, Bool, cast_signed, cast_unsigned, compression_byte, compressions, degree_bytes, false, fields, FitsSigned, from_le_bytes}
-use Rattle.pm_format.proofs.Common.{from_le_bytes-to_le_bytes_4, from_le_bytes-to_le_bytes_8, head, Header, header_bytes, HEADER_SIZE, HeaderFits, ints, length, length-append, List, nat_eq, nat_lt}
-use Rattle.pm_format.proofs.Common.{nat_tests, Ok, refl, slice_get, Some, tile_type_byte, tile_types, to_z-of_z, true, w32, ℕ, ℤ, ◌++◌, ◌+◌, ◌<◌, ◌^◌, ◌∙◌, ◌≡◌}
+use Rattle.pm_format.proofs.Common.{ap, arith, bit, Bool, compression_byte, compressions, degree_bytes, false, fields, FitsSigned, from_le_bytes-to_le_bytes_4, from_le_bytes-to_le_bytes_8, head}
+use Rattle.pm_format.proofs.Common.{Header, header_bytes, HEADER_SIZE, HeaderFits, ints, length, length-append, List, nat_eq, nat_lt, nat_tests, Ok, refl, slice_get, Some, tile_type_byte, tile_types}
+use Rattle.pm_format.proofs.Common.{to_z-of_z, true, w32, ℕ, ℤ, ◌++◌, ◌+◌, ◌<◌, ◌^◌, ◌∙◌, ◌≡◌}
+use Rattle.std.specs.Int.{from_le_bytes, cast_signed, cast_unsigned}
 use Rattle.pm_format.specs.declared.compression.Compression.{Compression}
 use Rattle.pm_format.specs.declared.compression.Compression.TheVariants as compression
 use Rattle.pm_format.specs.declared.tile_type.TileType.{TileType}

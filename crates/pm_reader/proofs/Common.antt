@@ -20,8 +20,8 @@ pub use Rattle.pm_format.specs.declared.compression.Compression.{Compression}
 pub use Rattle.pm_reader.specs.Answers.{Gives, IsWhole, range_read, tile_of}
 pub use Rattle.pm_reader.specs.Archives.{IsCacheable, ReadsByHops, UsesOneLength}
 pub use Rattle.pm_reader.specs.Caches.{AddsNone, AddsOnly, answer_of, from_found, Held}
-pub use Rattle.pm_reader.specs.Common.{archive_tile, BackendResponse, Bounded, column, covers, data_of, Entry, entry, entry_from, Header, hops, hops_from, IsUtf8, IsWithin, leaf_of, offset_of, Opened}
-pub use Rattle.pm_reader.specs.Common.{opened_front, PmtError, Puts, range_of, root_decoded, root_placed, Rose, used}
+pub use Rattle.pm_reader.specs.Common.{archive_tile, Bounded, column, covers, data_of, Entry, entry, entry_from, Header, hops, hops_from, IsUtf8, IsWithin, leaf_of, offset_of, Opened, opened_front}
+pub use Rattle.pm_reader.specs.Common.{PmtError, Puts, range_of, root_decoded, root_placed, used}
 unfoldable pub use Rattle.pm_reader.specs.Common.{dir_of, hops_by, is_utf8, opened, scan, tile_by}
 pub use Rattle.pm_reader.specs.Levels.{entries_below, HasOneLength, HoldsLeaves, IsAtLevel, IsLeafEntry, IsTrusted}
 unfoldable pub use Rattle.pm_reader.specs.Levels.{level}

@@ -1,6 +1,7 @@
 -- What a look-up of a tile answers.
-use Rattle.pm_reader.proofs.Common.{ap, arith, BackendResponse, data_behind, data_of, Entry, entry_from, Err, Finds, Follows, Gives, Header, Held, hops_by, hops_from, IfSome, IsAtLevel, IsErrAnd}
-use Rattle.pm_reader.proofs.Common.{IsTrusted, level, List, None, Ok, Option, PmtError, range_of, range_read, Result, scan, Some, subst, sym, tile_by, tile_of, ℕ, ◌+◌, ◌-◌, ◌∙◌, ◌≡◌, ◌≤◌}
+use Rattle.pm_reader.proofs.Common.{ap, arith, data_behind, data_of, Entry, entry_from, Err, Finds, Follows, Gives, Header, Held, hops_by, hops_from, IfSome, IsAtLevel, IsErrAnd, IsTrusted, level}
+use Rattle.pm_reader.proofs.Common.{List, None, Ok, Option, PmtError, range_of, range_read, Result, scan, Some, subst, sym, tile_by, tile_of, ℕ, ◌+◌, ◌-◌, ◌∙◌, ◌≡◌, ◌≤◌}
+use Rattle.byte_media.specs.declared.backend.BackendResponse.{BackendResponse}
 use Rattle.pm_reader.proofs.FollowingLemmas.{gives_refused}
 use Rattle.pm_reader.proofs.LevelLemmas.{scan_is_in}
 

@@ -1,7 +1,8 @@
 -- Why a reader isn't made, whatever would have been made, and what is tied where it is.
-use Rattle.pm_reader.proofs.Common.{arith, Err, Held, IfSome, IsOpen, IsOpenFailure, List, min, None, Ok, OpenCauses, Option, PmtError, ReaderState, ReadsFrom, Result, Rose, Some, subst, sym, ℕ, ◌+◌}
-use Rattle.pm_reader.proofs.Common.{◌-◌, ◌<◌, ◌^◌, ◌≡◌, ◌≤◌}
+use Rattle.pm_reader.proofs.Common.{arith, Err, Held, IfSome, IsOpen, IsOpenFailure, List, min, None, Ok, OpenCauses, Option, PmtError, ReaderState, ReadsFrom, Result, Some, subst, sym, ℕ, ◌+◌, ◌-◌}
+use Rattle.pm_reader.proofs.Common.{◌<◌, ◌^◌, ◌≡◌, ◌≤◌}
 use Rattle.std.proofs.Math.Nat.{min-eq_left}
+use Rattle.base_values.specs.Counts.{Rose}
 use Rattle.pm_format.specs.declared.error.PmtError.TheVariants as errors
 use Rattle.pm_format.specs.declared.error.ReadCause.TheVariants as causes
 

@@ -30,7 +30,7 @@ pub use Rattle.pm_writer.specs.Bounds.{AddsFilled, AllLow, AllShort, AllSized, O
 pub use Rattle.pm_writer.specs.Causes.{AddCauses, ArchiveFits, CreateCauses, CreateRefusals, FinishCauses}
 pub use Rattle.pm_writer.specs.Common.{AllAtMost, archive_map, archive_tile, BothTold, Compression, ConsistsOf, DirFits, entries, Entry, entry, find, Finds, FinMap, first_id, found_in, FoundAs}
 pub use Rattle.pm_writer.specs.Common.{from_entries, get, Header, header_of, Holds, hops, is_sorted, IsAlike, IsTold, IsWithin, IsWritable, leaf_of, MAX_TILE_ID, nat_cmp, Opened, Options}
-pub use Rattle.pm_writer.specs.Common.{piece_sought, place_in, place_sought, PmtError, put_new, range_of, root_of, Rose, WellFormed, wide_as, written, WroteFront}
+pub use Rattle.pm_writer.specs.Common.{piece_sought, place_in, place_sought, PmtError, put_new, range_of, root_of, WellFormed, wide_as, written, WroteFront}
 unfoldable pub use Rattle.pm_writer.specs.Common.{archive_bytes, dir_bytes, dir_of, opened, scan, tile_by, varint, xxh3_64}
 pub use Rattle.pm_writer.specs.Cutting.{AreDirectories, HasMore, IsCut, IsLaid, IsRooted, IsShort, named}
 pub use Rattle.pm_writer.specs.Few.{AreFew}

@@ -1,5 +1,6 @@
 -- Why a writer isn't made, whatever would have been made.
-use Rattle.pm_writer.proofs.Common.{arith, Compression, CreateCauses, CreateRefusals, Err, min, min-eq_left, Ok, PmtError, Result, Rose, subst, sym, ℕ, ◌+◌, ◌-◌, ◌<◌, ◌^◌, ◌≡◌, ◌≤◌}
+use Rattle.pm_writer.proofs.Common.{arith, Compression, CreateCauses, CreateRefusals, Err, min, min-eq_left, Ok, PmtError, Result, subst, sym, ℕ, ◌+◌, ◌-◌, ◌<◌, ◌^◌, ◌≡◌, ◌≤◌}
+use Rattle.base_values.specs.Counts.{Rose}
 use Rattle.pm_format.specs.declared.error.PmtError.TheVariants as errors
 use Rattle.pm_format.specs.declared.error.ReadCause.TheVariants as causes
 

@@ -1,4 +1,5 @@
-use Rattle.pm_contents.proofs.Common.{arith, content_cmp, first_of, get, IsWithin, None, rules, Some, ◌+◌, ◌≡◌}
+use Rattle.pm_contents.proofs.Common.{arith, content_cmp, first_of, get, None, rules, Some, ◌+◌, ◌≡◌}
+use Rattle.byte_media.specs.Media.{IsWithin}
 use Rattle.pm_contents.specs.declared.sought.Sought.TheVariants as sought
 use Rattle.pm_contents.proofs.SeekLemmas.{found_first, found_none, found_other, known_first, known_none, known_other, span_ends}
 use Rattle.pm_contents.proofs.Told.{if_some_map}

@@ -1,4 +1,5 @@
-use Rattle.pm_format.proofs.Common.{ap, arith, length, List, range_with_len, suc, sym, ℕ, ◌+◌, ◌-◌, ◌<◌, ◌∙◌, ◌∷◌, ◌≡◌}
+use Rattle.pm_format.proofs.Common.{ap, arith, length, List, suc, sym, ℕ, ◌+◌, ◌-◌, ◌<◌, ◌∙◌, ◌∷◌, ◌≡◌}
+use Rattle.std.specs.List.{range_with_len}
 use Rattle.pm_format.proofs.entry_coords.DirEntryCoordsIterIterator.next.Goals as goal
 
 run_next : (id run taken first : ℕ) (s : List ℕ) → range_with_len (id + taken) (run - taken) ≡ s → taken < run → first ≡ id + taken → s ≡ first ∷ range_with_len (id + (taken + 1)) (run - (taken + 1))
