@@ -8,7 +8,7 @@ pub use Rattle.std.proofs.lemmas.Bool.Decides.{nat_tests}
 pub use Rattle.std.proofs.lemmas.List.{append-nil, drop-append-le, drop-drop, drop_all, get_or-append-add, get_or-drop, get_or-take, get_or_append_left, length-take-le, map-append, take-append-drop}
 pub use Rattle.std.proofs.lemmas.List.{take-append-le, take_all, take_at, take_rest}
 pub use Rattle.std.proofs.lemmas.Slice.{take-put_mid}
-pub use Rattle.tile_hash.specs.Common.{decimal, encode_upper, to_ascii_uppercase}
+pub use Rattle.tile_hash.specs.Common.{decimal, encode_upper}
 pub use Rattle.tile_hash.specs.Digest.{digest, word_text}
 pub use Rattle.tile_hash.specs.Fnv.{byte_hashed, fnv1a, offset_basis}
 unfoldable pub use Rattle.tile_hash.specs.Fnv.{hashed_from}

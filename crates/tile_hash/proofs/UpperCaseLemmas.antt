@@ -1,8 +1,9 @@
 -- Upper-case digits, and texts that have no lower-case letter.
 use Rattle.tile_hash.proofs.Common.{arith, byte_hashed, decimal, digest, encode_lower, encode_upper, encode_with, HashAlgorithm, hashed_from, List, lower_digits, map, map-append, nat_tests}
-use Rattle.tile_hash.proofs.Common.{offset_basis, refl, slice_index, sym, to_ascii_uppercase, upper_digits, ℕ, [], ◌%◌, ◌+◌, ◌/◌, ◌<◌, ◌^◌, ◌∷◌, ◌≡◌}
+use Rattle.tile_hash.proofs.Common.{offset_basis, refl, slice_index, sym, upper_digits, ℕ, [], ◌%◌, ◌+◌, ◌/◌, ◌<◌, ◌^◌, ◌∷◌, ◌≡◌}
 use Rattle.std.proofs.Math.ListN.{get_or-map}
 use Rattle.std.proofs.lemmas.Fmt.{decimal_by_steps}
+use Rattle.std.specs.Char.{to_ascii_uppercase}
 use Rattle.tile_hash.specs.declared.algorithm.HashAlgorithm.TheVariants.{Md5, Fnv1a, Fnv1aDecimal, Xxh64, Xxh3}
 
 -- a lower-case digit, raised, is the upper-case one, and an upper-case digit stays

@@ -9,8 +9,7 @@ pub use Rattle.std.specs.FinMap.Entries.{below_all, by_order, is_sorted-put}
 pub use Rattle.std.specs.List.{insert}
 pub use Rattle.std.specs.Ordering.{is_lt, match_ordering, ordering_index, ordering_reverse}
 pub use Rattle.std.specs.declared.cmp.Ordering.{Ordering}
-pub use Rattle.tile_json.specs.Common.{as_object, as_str, Data, empty, FinMap, get_member, is_eq, items_have_float, items_view, member, Members, members_have_float, members_view, nat_cmp, no_members}
-pub use Rattle.tile_json.specs.Common.{slice_cmp, view}
+pub use Rattle.tile_json.specs.Common.{as_object, as_str, Data, empty, FinMap, get_member, is_eq, items_view, member, Members, members_view, nat_cmp, no_members, slice_cmp, view}
 pub use Rattle.tile_json.specs.LayerReading.{description_in, fields_in, id_in, layer_made, layer_with, layers_in, maxzoom_in, minzoom_in, of_five, optional, others, zoom_of}
 pub use Rattle.tile_json.specs.Members.{with_all, with_texts, without}
 pub use Rattle.tile_json.specs.Places.{IsAt, IsGap, StandsAt}

@@ -1,5 +1,6 @@
 -- What is left has a float exactly where the whole has one.
-use Rattle.tile_json.proofs.Common.{drop, items_have_float, items_view, members_have_float, members_view, ◌≡◌}
+use Rattle.tile_json.proofs.Common.{drop, items_view, members_view, ◌≡◌}
+use Rattle.serde_json.specs.Written.{items_have_float, members_have_float}
 use Rattle.tile_json.proofs.floats.+floats.Given as goal
 
 abbrev pub invariant-items_have_float-loop-item : goal.invariant-items_have_float-loop-item
