@@ -101,7 +101,7 @@ fn layer_values(alloc: Global, layers: &[VectorLayer]) -> Result<Vec<Value>, Out
 }
 
 /// An object with the list of layers under `vector_layers`.
-pub(crate) fn layers_value(alloc: Global, layers: &LayerList) -> Result<Value, OutOfMemory>
+pub fn layers_value(alloc: Global, layers: &LayerList) -> Result<Value, OutOfMemory>
     ensures { IfOk result (λ v. view v ≡ layers_data layers.now) }
 {
     let items = Value::Array(layer_values(alloc, layers.as_slice())?);

@@ -21,6 +21,7 @@ mod zoom_text;
 mod zooms;
 
 pub use inserting::{insert_metadata, with_document};
+pub use layer_json::layers_value;
 pub use metadata::Metadata;
 pub use reading::get_metadata;
 pub use updating::{update_metadata, with_zooms};

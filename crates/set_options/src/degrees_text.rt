@@ -35,7 +35,7 @@ fn size_text(alloc: Global, size: u32) -> Result<String, OutOfMemory>
 }
 
 /// The shortest decimal that says a number of ten millionths of a degree exactly.
-pub(crate) fn degrees_text(alloc: Global, degrees: i32) -> Result<String, OutOfMemory>
+pub fn degrees_text(alloc: Global, degrees: i32) -> Result<String, OutOfMemory>
     ensures { IfOk result (λ text. string_bytes text ≡ degrees_text degrees) }
 {
     let size = size_text(alloc, degrees.unsigned_abs())?;

@@ -3,7 +3,7 @@
 
 mod archive_json;
 mod degrees;
-mod degrees_text;
+pub mod degrees_text;
 mod document;
 mod extents;
 mod extents_text;
