@@ -2,7 +2,8 @@
 use Rattle.mb_load.proofs.Common.{ap, AreTimes, Bool, Cache, cond, contains_key, Dates, dates_are, dates_for, dates_some, eq_by_cmp, false, false≢true, FinMap, get, Held, insert, is_cache}
 use Rattle.mb_load.proofs.Common.{is_normalized, is_some, IsLoadable, IsLoadedFrom, IsOnBoard, None, Option, Place, place_cmp, places_total, refl, Some, subst, sym, Tables, true, with_dates}
 use Rattle.mb_load.proofs.Common.{with_null, with_value, ◌&&◌, ◌∙◌, ◌≡◌}
-use Rattle.mb_load.proofs.EditedFrom.{at_other, by_test, fits_same, put_at, put_key, put_placed, same_place, unedited}
+use Rattle.mb_lists.proofs.Places.{same_place}
+use Rattle.mb_load.proofs.EditedFrom.{at_other, by_test, fits_same, put_at, put_key, put_placed, unedited}
 
 module _ (t : Tables) (h : Held) (p : Place) (loaded : IsLoadedFrom t h) where
   -- what stays elsewhere

@@ -5,7 +5,8 @@ pub use Rattle.mb_edit.specs.Applying.{put_row, stands_in}
 pub use Rattle.mb_edit.specs.HeldPatched.{held_patched, names_patched, nulls_cleared, tiles_patched}
 pub use Rattle.mb_edit.specs.Step.{state_patched}
 pub use Rattle.mb_lists.proofs.AddressLemmas.{address_within, coord_address, coord_placed, one_tie}
-pub use Rattle.mb_load.proofs.EditedFrom.{same_place, stay_named}
+pub use Rattle.mb_lists.proofs.Places.{same_place}
+pub use Rattle.mb_load.proofs.EditedFrom.{stay_named}
 pub use Rattle.mb_store.specs.declared.mem_store.MemStore.{MemStore}
 pub use Rattle.mb_tables.specs.Tiles.{is_solid, place_cmp}
 pub use Rattle.pm_format.specs.WellFormed.{header_of}
