@@ -1,8 +1,10 @@
 -- Ids and their coordinates, and the rows of the first ids.
-use Rattle.tileset_script.proofs.Common.{ap, arith, bulk_tables, Cell, coord_of, List, no_rows, numbered_row, refl, row_added, set_tables, suc, Tables, Takes, Tiles, true, with_row, ℕ, ◌+◌, ◌/◌, ◌∙◌}
-use Rattle.tileset_script.proofs.Common.{◌≡◌}
+use Rattle.tileset_script.proofs.Common.{ap, arith, bulk_tables, Cell, List, no_rows, numbered_row, refl, row_added, suc, Tables, Takes, true, with_row, ℕ, ◌+◌, ◌/◌, ◌∙◌, ◌≡◌}
 pub use Rattle.tile_ids.proofs.Bijection.{is_coord_of}
+use Rattle.tile_ids.specs.Hilbert.{coord_of}
+use Rattle.mb_tables.specs.Schema.{set_tables}
 use Rattle.mb_tables.specs.declared.kind.MbtType.TheVariants.{Flat}
+use Rattle.mb_tables.specs.declared.table.TableName.TheVariants.{Tiles}
 use Rattle.tileset_script.proofs.RowLemmas.{row_stands}
 
 -- no tile, and one more

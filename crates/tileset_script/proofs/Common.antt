@@ -9,9 +9,8 @@ pub use Rattle.std.proofs.lemmas.Str.{is_utf8-from_IsUtf8, IsUtf8-from_is_utf8, 
 pub use Rattle.std.specs.Str.{IsUtf8}
 pub use Rattle.tileset_script.specs.Bulk.{numbered_row}
 unfoldable pub use Rattle.tileset_script.specs.Bulk.{bulk_tables}
-pub use Rattle.tileset_script.specs.Common.{bytes_eq, Cell, Coord, HasNo, is_duplicate, is_table, no_rows, option_and_then, option_copied, option_map, option_to_list, set_tables, TableName, Tables}
-pub use Rattle.tileset_script.specs.Common.{Tiles, with_row, words_of}
-unfoldable pub use Rattle.tileset_script.specs.Common.{coord_of, is_utf8, lines_of, parted, told_of}
+pub use Rattle.tileset_script.specs.Common.{bytes_eq, Cell, HasNo, is_duplicate, no_rows, option_and_then, option_copied, option_map, option_to_list, Tables, with_row, words_of}
+unfoldable pub use Rattle.tileset_script.specs.Common.{is_utf8, lines_of, parted, told_of}
 pub use Rattle.tileset_script.specs.Reader.{due_of, HasRead}
 pub use Rattle.tileset_script.specs.Reading.{drafted, DraftNeverFails, EndsAs, Takes, TakesLines}
 pub use Rattle.tileset_script.specs.Script.{at_end, Draft, ended, no_lines, row_added, row_of, Script, script_from, with_line}

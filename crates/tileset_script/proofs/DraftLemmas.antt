@@ -1,9 +1,10 @@
 -- The stores of a draft.
-use Rattle.tileset_script.proofs.Common.{All, ap, arith, Coord, ended, get_or, IfSome, length, List, map, map-append, NeverFails, None, Option, option_map, option_to_list, options_of, remove, Script}
-use Rattle.tileset_script.proofs.Common.{Some, subst, sym, told_of, [], ◌++◌, ◌<◌, ◌∙◌, ◌∷◌, ◌≡◌}
+use Rattle.tileset_script.proofs.Common.{All, ap, arith, ended, get_or, IfSome, length, List, map, map-append, NeverFails, None, Option, option_map, option_to_list, options_of, remove, Script, Some}
+use Rattle.tileset_script.proofs.Common.{subst, sym, told_of, [], ◌++◌, ◌<◌, ◌∙◌, ◌∷◌, ◌≡◌}
 use Rattle.std.proofs.lemmas.List.Elements.{All-append, All-head, All-nil, All-push, All-tail}
 use Rattle.mb_store.specs.declared.mem_store.MemStore.{MemStore}
 use Rattle.tileset_script.specs.declared.script.options.ScriptOptions.{ScriptOptions}
+use Rattle.tile_ids.specs.Coord.{Coord}
 use Rattle.tileset_script.specs.declared.script.setting.Setting.{Setting}
 use Rattle.tileset_script.specs.declared.section.Section.{Section}
 

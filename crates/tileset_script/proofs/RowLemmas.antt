@@ -1,7 +1,8 @@
 -- Rows of words, a cell at a time, and rows that are added.
-use Rattle.tileset_script.proofs.Common.{ap, append_assoc, arith, Bool, Bor, Cell, false, if◌then◌else◌, is_duplicate, is_table, length, List, MatchOption, None, not, Option, option_and_then}
-use Rattle.tileset_script.proofs.Common.{option_copied, option_map, refl, row_added, row_of, Some, some_part, suc, sym, TableName, Tables, Takes, true, with_row, words_of, ℕ, [], ◌&&◌, ◌++◌, ◌+◌, ◌-◌}
-use Rattle.tileset_script.proofs.Common.{◌<◌, ◌∙◌, ◌∷◌, ◌≡◌}
+use Rattle.tileset_script.proofs.Common.{ap, append_assoc, arith, Bool, Bor, Cell, false, if◌then◌else◌, is_duplicate, length, List, MatchOption, None, not, Option, option_and_then, option_copied}
+use Rattle.tileset_script.proofs.Common.{option_map, refl, row_added, row_of, Some, some_part, suc, sym, Tables, Takes, true, with_row, words_of, ℕ, [], ◌&&◌, ◌++◌, ◌+◌, ◌-◌, ◌<◌, ◌∙◌, ◌∷◌, ◌≡◌}
+use Rattle.mb_tables.specs.Described.{is_table}
+use Rattle.mb_tables.specs.declared.table.TableName.{TableName}
 use Rattle.tileset_script.specs.Cell.{cell_of}
 
 -- the words of what may be left
