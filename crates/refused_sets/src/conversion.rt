@@ -12,6 +12,7 @@ use tile_bridge::{ConvertError, ConvertOptions, ConvertReport, convert};
 use tile_ids::TileCoord;
 
 /// The archive of a set after its patches, and the answers from it.
+#[tactic(auto, using(tile_bridge::proofs::LeavesLemmas::stated_leaves))]
 pub fn converted<S: TileStore, P: TileStore, M: Medium>(
     alloc: Global,
     base: &mut S,
@@ -27,6 +28,7 @@ pub fn converted<S: TileStore, P: TileStore, M: Medium>(
 }
 
 /// The aggregate hash of a set after its patches.
+#[tactic(auto, using(tile_bridge::proofs::LeavesLemmas::stated_aggregate))]
 pub fn summed<S: TileStore, P: TileStore, M: Medium>(
     alloc: Global,
     base: &mut S,
@@ -42,6 +44,7 @@ pub fn summed<S: TileStore, P: TileStore, M: Medium>(
 }
 
 /// What a base holds after its patches.
+#[tactic(auto, using(tile_bridge::proofs::LeavesLemmas::stated_base))]
 pub fn base_after<S: TileStore, P: TileStore, M: Medium>(
     alloc: Global,
     base: &mut S,
