@@ -59,14 +59,14 @@ free_answered most told tells store e free =
     }
 
 -- why a call of a store is refused
-store_causes : (most before now old new : ℕ) (e : MbtError) → (IsErrOf {T = Unit {0}} (Err e) stores.StoreFault → Rose old new) → ImportCauses most before now old new (Err (of_store_error e))
+store_causes : {T : Type 0} (most before now old new : ℕ) (e : MbtError) → (IsErrOf {T = T} (Err e) stores.StoreFault → Rose old new) → ImportCauses most before now old new (Err (of_store_error e))
 store_causes most before now old new stores.StoreFault fault = fault refl
 store_causes most before now old new stores.OutOfMemory fault = tt
 store_causes most before now old new e fault = tt
 
 -- the same where other calls of the store came before
-pub later_causes : (most before now f m new : ℕ) (e : MbtError) → f ≤ m → (IsErrOf {T = Unit {0}} (Err e) stores.StoreFault → Rose m new) → ImportCauses most before now f new (Err (of_store_error e))
-later_causes most before now f m new e le fault = store_causes most before now f new e (λ is. let rose = fault is in omega (arith, le, rose))
+pub later_causes : {T : Type 0} (most before now f m new : ℕ) (e : MbtError) → f ≤ m → (IsErrOf {T = T} (Err e) stores.StoreFault → Rose m new) → ImportCauses most before now f new (Err (of_store_error e))
+later_causes {T} most before now f m new e le fault = store_causes {T = T} most before now f new e (λ is. let rose = fault is in omega (arith, le, rose))
 
 -- a set with tiles and names over it is loaded from tables still, and its commit fills them
 module _ (told : Option (List ℕ)) (t : TileJson) (made new : Tables) (n : ℕ) (base next : Held) (begun : IsBase made base) (filled : IsFilledSet told t base next n) where

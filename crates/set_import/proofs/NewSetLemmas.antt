@@ -105,7 +105,7 @@ base_new t sound none = subst (λ (x : Tables). IsBase x (fresh (empty_state Fla
   named = none_named;
 }
 
-nothing : Tables
+abbrev nothing : Tables
 nothing = stores.no_rows []
 
 nothing_sound : IsSound nothing

@@ -14,9 +14,9 @@ pub returns-clause-committed : goal.returns-clause-committed
 returns-clause-committed g c told = record {
   changes = c.in_ok-changes.changes;
   are = c.in_ok-changes.ensures;
-  made = subst (λ (t : Tables). Commits c.in_ok-changes.changes t (g.S.TileStore.told c.commit.new.store)) (c.in_ok-make_tables.ensures.made told) (c.in_ok-commit.ensures.ok (c.make_tables.ensures.kept.tells ∙ told));
+  made = subst (λ (t : Tables). Commits c.in_ok-changes.changes t (g.S.TileStore.told c.commit.new.self)) (c.in_ok-make_tables.ensures.made told) (c.in_ok-commit.ensures.ok (c.make_tables.ensures.kept.tells ∙ told));
 }
 
 pub returns-in_err-commit-clause-left : goal.returns-in_err-commit-clause-left
 returns-in_err-commit-clause-left g c told =
-    left_by (g.S.TileStore.told c.args.store.now) (g.S.TileStore.told c.make_tables.new.store) (g.S.TileStore.told c.commit.new.store) (c.in_ok-make_tables.ensures.made told) c.in_err-commit.ensures.err
+    left_by (g.S.TileStore.told c.args.store.now) (g.S.TileStore.told c.make_tables.new.store) (g.S.TileStore.told c.commit.new.self) (c.in_ok-make_tables.ensures.made told) c.in_err-commit.ensures.err
