@@ -1,8 +1,8 @@
 -- A set that is made of an archive where nothing was described.
 use Rattle.set_import.proofs.Common.{address, AllPairs, ap, archive_map, arith, begun, Bool, codes, document_edits, editable, empty, Err, false, false≢true, Flat, flat_made, fresh, get, get-empty}
-use Rattle.set_import.proofs.Common.{get-patched, HasTilesOf, Held, IfOk, inl, inr, is_some, IsBase, IsBegun, IsMade, IsSaidBy, IsSound, length, List, MbtError, names_edited, NamesAlgorithm, nat_cmp}
+use Rattle.set_import.proofs.Common.{get-patched, HasTilesOf, Held, IfErr, IfOk, inl, inr, is_some, IsBase, IsBegun, IsMade, IsSaidBy, IsSound, length, List, MbtError, names_edited, NamesAlgorithm, nat_cmp}
 use Rattle.set_import.proofs.Common.{None, Ok, OnOk, Option, option_and_then, option_map, patched, patched_at, Place, place_cmp, refl, Result, Some, started, started_by, State, state_filled, state_of}
-use Rattle.set_import.proofs.Common.{state_put, subst, sym, Tables, TileJson, TileSet, true, width, with_tables, ℕ, [], ◌∙◌, ◌∷◌, ◌≡◌, ◌⊎◌}
+use Rattle.set_import.proofs.Common.{subst, sym, Tables, TileJson, TileSet, true, width, with_tables, ℕ, [], ◌∙◌, ◌∷◌, ◌≡◌, ◌⊎◌}
 use Rattle.std.specs.Cmp.Lexicographic.{slice_cmp}
 use Rattle.std.proofs.lemmas.List.Elements.{All-nil}
 use Rattle.set_options.proofs.NameLemmas.{algorithm_unsaid}
@@ -163,6 +163,11 @@ left_by old mid new made kept = by old.descriptions refl
     by : (ds : List TableDesc) → old.descriptions ≡ ds → (new ≡ old) ⊎ ((old.descriptions ≡ []) × (new ≡ flat_made old))
     by [] is = inr (is, kept ∙ (made ∙ started_new old is))
     by (d ∷ ds) is = inl (kept ∙ (made ∙ ap (started_by old) is))
+
+-- what holds anyway holds after a refusal
+pub at_refusal : {T E P : Type 0} (r : Result T E) → P → IfErr r (λ _. P)
+at_refusal (Ok x) p = tt
+at_refusal (Err e) p = p
 
 pub new_set : (b : List ℕ) (old new : Tables) (n : ℕ) → IsSound old → old.descriptions ≡ [] → IsMade (Some b) old new n → IsNewSet b new
 new_set b old new n sound none made =

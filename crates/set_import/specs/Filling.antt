@@ -1,7 +1,7 @@
 -- What becomes of a store that is filled from an archive: in one commit tiles are put over those of its set and a
 -- document into its metadata; the tables of a flat set are made before
 -- it where nothing is described.
-use Rattle.std.specs.Prelude.{◌≡◌, ◌⊎◌, ℕ, codes, Bool, true, false, List, [], ◌∷◌, Option, Some, IfSome, Result, Ok, Err}
+use Rattle.std.specs.Prelude.{◌≡◌, ◌⊎◌, ℕ, codes, Bool, true, false, List, [], ◌∷◌, Option, IfSome, Result, Ok, Err}
 use Rattle.set_import.specs.Common.{Answers, Archive, created, document_edits, Flat, HasTilesOf, held_edited, ImportCauses, ImportError, is_edited, IsAnswered, IsPutOver, len, MakesChanges}
 use Rattle.set_import.specs.Common.{OutOfMemory, PmtError, State, state_edited, state_of, state_put, Store, Tables, TileJson, tiles_put, TileSet}
 use Rattle.mb_load.specs.Committed.{IsCommitted}

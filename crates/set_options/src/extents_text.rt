@@ -41,7 +41,7 @@ fn bounds_of(header: &Header) -> SetBounds
     }
 }
 
-#[tactic(auto, unfolding(crate::specs::Extents::same))]
+#[tactic(auto, unfolding(crate::specs::ExtentsText::same))]
 fn same(one: i32, other: i32) -> bool
     ensures { result ≡ same one other }
 {
@@ -49,7 +49,7 @@ fn same(one: i32, other: i32) -> bool
 }
 
 // Whether bounds are those of the world, with which a header begins.
-#[tactic(auto, unfolding(crate::specs::Extents::are_of_world))]
+#[tactic(auto, unfolding(crate::specs::ExtentsText::are_of_world))]
 fn are_of_world(bounds: SetBounds) -> bool
     ensures { result ≡ are_of_world bounds }
 {
@@ -59,28 +59,28 @@ fn are_of_world(bounds: SetBounds) -> bool
         && same(bounds.north, 850_511_290)
 }
 
-#[tactic(auto, unfolding(crate::specs::Extents::is_longitude))]
+#[tactic(auto, unfolding(crate::specs::ExtentsText::is_longitude))]
 fn is_longitude(degrees: i32) -> bool
     ensures { result ≡ is_longitude degrees }
 {
     !degrees.cmp(&1_800_000_000).is_gt() && !degrees.cmp(&-1_800_000_000).is_lt()
 }
 
-#[tactic(auto, unfolding(crate::specs::Extents::is_said_latitude))]
+#[tactic(auto, unfolding(crate::specs::ExtentsText::is_said_latitude))]
 fn is_latitude(degrees: i32) -> bool
     ensures { result ≡ is_said_latitude degrees }
 {
     !degrees.cmp(&900_000_000).is_gt() && !degrees.cmp(&-900_000_000).is_lt()
 }
 
-#[tactic(auto, unfolding(crate::specs::Extents::is_above))]
+#[tactic(auto, unfolding(crate::specs::ExtentsText::is_above))]
 fn is_above(one: i32, other: i32) -> bool
     ensures { result ≡ is_above one other }
 {
     one.cmp(&other).is_gt()
 }
 
-#[tactic(auto, unfolding(crate::specs::Extents::are_in_range))]
+#[tactic(auto, unfolding(crate::specs::ExtentsText::are_in_range))]
 fn are_in_range(bounds: SetBounds) -> bool
     ensures { result ≡ are_in_range bounds }
 {
@@ -91,7 +91,7 @@ fn are_in_range(bounds: SetBounds) -> bool
 }
 
 // Whether bounds are read back from what a set says.
-#[tactic(auto, unfolding(crate::specs::Extents::are_sayable))]
+#[tactic(auto, unfolding(crate::specs::ExtentsText::are_sayable))]
 fn are_sayable(bounds: SetBounds) -> bool
     ensures { result ≡ are_sayable bounds }
 {
@@ -99,7 +99,7 @@ fn are_sayable(bounds: SetBounds) -> bool
 }
 
 // Whether the center is at the place of another.
-#[tactic(auto, unfolding(crate::specs::Extents::is_at))]
+#[tactic(auto, unfolding(crate::specs::ExtentsText::is_at))]
 fn is_at(header: &Header, center: SetCenter) -> bool
     ensures { result ≡ is_at header.now center }
 {
@@ -107,7 +107,7 @@ fn is_at(header: &Header, center: SetCenter) -> bool
 }
 
 // Whether the center is at the least zoom, or at zoom 0 in the bounds of the world.
-#[tactic(auto, unfolding(crate::specs::Extents::is_at_first_zoom))]
+#[tactic(auto, unfolding(crate::specs::ExtentsText::is_at_first_zoom))]
 fn is_at_first_zoom(header: &Header, bounds: SetBounds) -> bool
     ensures { result ≡ is_at_first_zoom header.now bounds }
 {
@@ -116,7 +116,7 @@ fn is_at_first_zoom(header: &Header, bounds: SetBounds) -> bool
 }
 
 // Whether the center is the one that a set of these bounds has without a word.
-#[tactic(auto, unfolding(crate::specs::Extents::is_middle_of))]
+#[tactic(auto, unfolding(crate::specs::ExtentsText::is_middle_of))]
 fn is_middle_of(header: &Header, bounds: SetBounds) -> bool
     ensures { result ≡ is_middle_of header.now bounds }
 {
@@ -124,7 +124,7 @@ fn is_middle_of(header: &Header, bounds: SetBounds) -> bool
 }
 
 // Whether a set without a center has another one than the header.
-#[tactic(auto, unfolding(crate::specs::Extents::has_own_center))]
+#[tactic(auto, unfolding(crate::specs::ExtentsText::has_own_center))]
 fn has_own_center(header: &Header) -> bool
     ensures { result ≡ has_own_center header.now }
 {

@@ -1,4 +1,4 @@
-use Rattle.set_import.proofs.Common.{ap, editable, false≢true, Held, IsBase, IsBegun, Ok, started, state_in, subst, sym, ◌∙◌, ◌≡◌}
+use Rattle.set_import.proofs.Common.{editable, false≢true, Held, IsBase, IsBegun, Ok, started, state_in, subst, sym, ◌∙◌}
 use Rattle.set_import.proofs.NewSetLemmas.{base_new, begun_new, begun_old, base_old}
 use Rattle.set_import.proofs.storing.base_of.Goals as goal
 

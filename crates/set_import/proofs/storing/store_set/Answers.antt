@@ -1,7 +1,7 @@
-use Rattle.set_import.proofs.Common.{inl, IsLoadedFrom, refl, subst, sym, Tables, ◌∙◌}
+use Rattle.set_import.proofs.Common.{IsLoadedFrom, subst, sym, Tables, ◌∙◌}
 use Rattle.mb_load.proofs.FrameLemmas.{of_tables}
 use Rattle.mb_store.specs.Committing.{Commits}
-use Rattle.set_import.proofs.NewSetLemmas.{left_by}
+use Rattle.set_import.proofs.NewSetLemmas.{at_refusal, left_by}
 use Rattle.set_import.proofs.storing.store_set.Goals as goal
 
 pub commit-requires : goal.commit-requires
@@ -19,4 +19,5 @@ returns-clause-committed g c told = record {
 
 pub returns-in_err-commit-clause-left : goal.returns-in_err-commit-clause-left
 returns-in_err-commit-clause-left g c told =
-    left_by (g.S.TileStore.told c.args.store.now) (g.S.TileStore.told c.make_tables.new.store) (g.S.TileStore.told c.commit.new.self) (c.in_ok-make_tables.ensures.made told) c.in_err-commit.ensures.err
+    at_refusal c.from_residual-in_err-commit.result
+    (left_by (g.S.TileStore.told c.args.store.now) (g.S.TileStore.told c.make_tables.new.store) (g.S.TileStore.told c.commit.new.self) (c.in_ok-make_tables.ensures.made told) c.in_err-commit.ensures.err)
