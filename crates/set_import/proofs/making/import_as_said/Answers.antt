@@ -19,7 +19,7 @@ returns-in-Ok-fill-clause-made g c tells = record {
   filled = subst (λ (o : Option (List ℕ)). IsFilled o c.in-Ok.document (started (g.S.TileStore.told c.args.store.now)) (g.S.TileStore.told c.fill.new.store) c.in-Ok-fill.count) c.said_document.ensures.kept.told (c.in-Ok-fill.ensures.filled tells);
 }
 
-pub returns-in-Err-fill-clause-answer : goal.returns-in-Err-fill-clause-answer
-returns-in-Err-fill-clause-answer g c =
+pub returns-clause-answer : goal.returns-clause-answer
+returns-clause-answer g c =
     filled_answer (g.B.Backend.told c.args.backend.now) (g.B.Backend.told c.said_document.new.backend) c.args.max_tiles (g.S.TileStore.tells c.args.store.now) (g.S.TileStore.told c.args.store.now) c.in-Ok.document (Err c.in-Err-fill.error)
     c.said_document.ensures.kept.told c.in-Ok.ensures.answer c.in-Err-fill.ensures.answer
