@@ -31,7 +31,7 @@ for name in name version type format minzoom maxzoom description; do
 done
 holds [ "$(value_of back.mbtiles bounds)" = '-169.397,-66.799,164.023,65.319' ]
 # the same way once more, from the database that the program made: byte for byte what it gave before
-run "$bin/mbtiles-to-pmtiles" back.mbtiles again.pmtiles
+run "$bin/mbtiles-to-pmtiles" --hash back.mbtiles again.pmtiles
 status 0
 prints '^tiles 74, contents 74$'
 prints '^aggregate EC2E17497F1A0710C140C58302E3A394$'

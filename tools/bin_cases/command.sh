@@ -7,7 +7,12 @@ for way in '' --by-script; do
     fresh "a set of another tool${way:+, $way}"
     run "$bin/mbtiles-to-pmtiles" $way "$top/examples/places.mbtiles" places.pmtiles
     status 0
+    holds [ "$(wc -l <out)" = 2 ]
+    cp out plain
+    run "$bin/mbtiles-to-pmtiles" $way --overwrite --hash "$top/examples/places.mbtiles" places.pmtiles
+    status 0
     holds [ "$(wc -l <out)" = 3 ]
+    holds [ "$(head -n 2 out)" = "$(cat plain)" ]
     prints '^tiles 74, contents 74$'
     prints '^bytes [0-9]*$'
     prints '^aggregate EC2E17497F1A0710C140C58302E3A394$'

@@ -292,3 +292,20 @@ run "$convert" a.mbtiles made.pmtiles
 whole 3 2
 holds same_has '3 0 1 2 1 {"a": [1, 2], "empty": "", "name": "town", "vector_layers": []}'
 ends
+
+fresh 'a set that is larger than the memory that there is'
+set_of a.mbtiles "with recursive n(v) as (values (0) union all select v + 1 from n where v < 1999) insert into tiles select 6, v % 64, v / 64, randomblob(60000) from n"
+run bash -c 'ulimit -v 81920; exec "$0" a.mbtiles made.pmtiles' "$here/crates/mbtiles_to_pmtiles_program/out/mbtiles_to_pmtiles_program"
+status 0
+prints '^tiles 2000, contents 2000$'
+holds same made.pmtiles a.mbtiles
+run bash -c 'ulimit -v 81920; exec "$0" --hash a.mbtiles hashed.pmtiles' "$here/crates/mbtiles_to_pmtiles_program/out/mbtiles_to_pmtiles_program"
+status 0
+prints '^aggregate [0-9A-F]\{32\}$'
+holds cmp -s made.pmtiles hashed.pmtiles
+# all tiles are held where there are patches
+set_of b.mbtiles "$one"
+run bash -c 'ulimit -v 81920; exec "$0" --force a.mbtiles b.mbtiles patched.pmtiles' "$here/crates/mbtiles_to_pmtiles_program/out/mbtiles_to_pmtiles_program"
+status 7
+holds [ ! -e patched.pmtiles ]
+ends

@@ -14,6 +14,17 @@ wait_for() {
     done
 }
 
+# the same until a process holds the file's lock, which it takes behind the making of the file
+wait_for_lock() {
+    wait_for "$1" "$2" || return 1
+    for _ in $(seq 2000); do
+        inode=$(stat -c %i "$1" 2>/dev/null) || return 1
+        grep -q ":$inode " /proc/locks && return 0
+        is_gone "$2" && return 1
+        sleep 0.005
+    done
+}
+
 fresh 'what a stopped run left is made anew'
 set_of a.mbtiles "$one"
 for place in program wrapper; do
@@ -70,7 +81,7 @@ for place in program wrapper; do
     rm -f made.pmtiles
     "$program" a.mbtiles made.pmtiles >first.out 2>&1 </dev/null &
     made=$!
-    if wait_for made.pmtiles.new $made; then
+    if wait_for_lock made.pmtiles.new $made; then
         kill -STOP $made
         if [ ! -e made.pmtiles ]; then
             run "$convert" b.mbtiles made.pmtiles

@@ -1,11 +1,12 @@
 # Writes the input and the wanted output of crates/archive_rows, the archive that crates/tile_verify_program reads,
 # and the runs that crates/tile_serve_program and crates/tile_extract_program store. The wanted answers are worked out
-# by pmtiles.py and shown.py, from the definitions of the format alone, and by serve_cases.py, extract_cases.py and
+# by pmtiles.py and shown.py, from the definitions of the format alone, and by serve_cases.py, extract_cases.py, box_cases.py and
 # short_cases.py beside this script.
 #
 import hashlib
 import random
 
+from cases import box_cases
 from cases import extract_cases
 from cases import serve_cases
 from cases import short_cases
@@ -764,7 +765,7 @@ def main():
     for rows in (few_tiles, one_digest, one_number, labels, options, faults, bulk, one_tile, versions, failing_reads, one_changed_field, hostile_table, leaf_cycle, checks, parts, documents, deep, random_archives,
                  caches, large):
         rows()
-    for others in (serve_cases, extract_cases, short_cases):
+    for others in (serve_cases, extract_cases, box_cases, short_cases):
         others.write()
     ROWS.write()
     Rows('tile_verify_program').write_data('one_tile.pmtiles', ONE)

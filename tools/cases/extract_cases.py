@@ -9,7 +9,7 @@ from cases.archive_program import row
 from cases.rows import Rows, word
 from cases.sample_archives import CYCLE, OF_ZOOM_ONE, ONE, TREES, root_of, some_leaves, tree
 from models import pmtiles as pm
-from models.extraction import ALL, U32, Ends, Run, asked, clipped, label, spans
+from models.extraction import ALL, U32, Run, asked, clipped, label, spans
 
 # Rows.
 
@@ -47,10 +47,7 @@ def run(words, medium_fails=0, source_fails=0):
 def extract(words):
     """The same by the call that takes a tile and numbers."""
     done = Run(Held.data, Held.begun, 0, 0)
-    try:
-        said = f'Ok({done.extract(*asked(words.split()))})'
-    except Ends as end:
-        said = 'Err(' + end.args[0][len('Refused('):]
+    said = done.result(lambda: done.extract(*asked(words.split())))
     row(f'extract from 0 tile 0 {words}', said, label(done.held), done.source.calls)
     say_held(done)
 
@@ -198,14 +195,19 @@ def ranges_of_leaves():
                 run(words)
 
 
-def many_tiles():
-    """All tiles of zooms 0 to 6 in leaves of 16 entries, and what is cut out of them, which is itself cut."""
+def wide_tree():
+    """All tiles of zooms 0 to 6 in leaves of 16 entries."""
     adds = [(t, str(t // 3 if t % 5 else 7).encode()) for t in range(pm.below(7))]
     data = tree(pm.cut(pm.entries_of(adds, {d: (i * 4, len(d)) for i, d in enumerate(sorted({d for _, d in adds}))}), 16),
                 b''.join(d.ljust(4) for d in sorted({d for _, d in adds})), most=(16,))
     for t, d in random.Random(3).sample(adds, 50):
         assert pm.archive_tile(data, t) == d
-    hold(data)
+    return data
+
+
+def many_tiles():
+    """What is cut out of all tiles of zooms 0 to 6, which is itself cut."""
+    hold(wide_tree())
     for words in ('0 0 0 6 5461', '0 0 0 6 5460', '0 0 0 5 2000', '1 0 0 6 5461', '1 1 1 6 1365', '1 1 1 6 1364', '2 0 3 6 400', '3 5 2 6 85', '5 31 31 6 5', '6 63 0 6 1', '6 63 0 6 0', '7 100 3 9 5', '6 0 63 31 9',
                   '0 0 0 0 1', '4 7 8 4 1', '4 8 7 5 5'):
         run(words)
@@ -243,37 +245,41 @@ def some_directory(chance, leaf_room, data_room):
     return entries
 
 
+def random_archive(chance):
+    """An archive whose leaves lie over one another, with places past the end, or with a byte changed."""
+    kinds = [some_directory(chance, 40, 12) for _ in range(3)]
+    leaves = b''.join(map(pm.directory, kinds))
+    places = [(sum(len(pm.directory(d)) for d in kinds[:i]), len(pm.directory(kinds[i]))) for i in range(3)]
+    root, t = [], 0
+    for _ in range(chance.randrange(1, 6)):
+        if chance.random() < 0.5:
+            i = chance.randrange(3)
+            t = max(t, kinds[i][0][0] - chance.randrange(2))
+            root.append((t, *places[i], 0))
+            t += chance.choice([3, 6, 9, 12])
+        else:
+            root.append((t, chance.randrange(12), chance.randrange(1, 9), chance.randrange(1, 4)))
+            t += chance.randrange(1, 5)
+    spelled = pm.directory(root)
+    data = bytes(chance.randrange(48, 52) for _ in range(12))
+    h = pm.default_header()
+    h.update(root_length=len(spelled), metadata_length=2, data_offset=16386, data_length=12, leaf_offset=16398, leaf_length=len(leaves))
+    if chance.random() < 0.1:
+        h[chance.choice(pm.PLACES)] = chance.choice([0, 127, 16384, 16390, 2 ** 60, ALL])
+    front = pm.header(h) + spelled
+    whole = front + bytes(pm.FRONT - len(front)) + b'{}' + data + leaves
+    if chance.random() < 0.3:
+        at = chance.choice([chance.randrange(127), chance.randrange(127, 127 + len(spelled)), chance.randrange(16398, len(whole))])
+        whole = whole[:at] + bytes([chance.randrange(256)]) + whole[at + 1:]
+    if chance.random() < 0.1:
+        whole = whole[:chance.randrange(16380, len(whole))]
+    return whole
+
+
 def random_archives():
-    """Archives whose leaves lie over one another, with places past the end, and some with a byte changed."""
     chance = random.Random(12)
     for _ in range(150):
-        kinds = [some_directory(chance, 40, 12) for _ in range(3)]
-        leaves = b''.join(map(pm.directory, kinds))
-        places = [(sum(len(pm.directory(d)) for d in kinds[:i]), len(pm.directory(kinds[i]))) for i in range(3)]
-        root, t = [], 0
-        for _ in range(chance.randrange(1, 6)):
-            if chance.random() < 0.5:
-                i = chance.randrange(3)
-                t = max(t, kinds[i][0][0] - chance.randrange(2))
-                root.append((t, *places[i], 0))
-                t += chance.choice([3, 6, 9, 12])
-            else:
-                root.append((t, chance.randrange(12), chance.randrange(1, 9), chance.randrange(1, 4)))
-                t += chance.randrange(1, 5)
-        spelled = pm.directory(root)
-        data = bytes(chance.randrange(48, 52) for _ in range(12))
-        h = pm.default_header()
-        h.update(root_length=len(spelled), metadata_length=2, data_offset=16386, data_length=12, leaf_offset=16398, leaf_length=len(leaves))
-        if chance.random() < 0.1:
-            h[chance.choice(pm.PLACES)] = chance.choice([0, 127, 16384, 16390, 2 ** 60, ALL])
-        front = pm.header(h) + spelled
-        whole = front + bytes(pm.FRONT - len(front)) + b'{}' + data + leaves
-        if chance.random() < 0.3:
-            at = chance.choice([chance.randrange(127), chance.randrange(127, 127 + len(spelled)), chance.randrange(16398, len(whole))])
-            whole = whole[:at] + bytes([chance.randrange(256)]) + whole[at + 1:]
-        if chance.random() < 0.1:
-            whole = whole[:chance.randrange(16380, len(whole))]
-        hold(whole)
+        hold(random_archive(chance))
         z = chance.randrange(3)
         run(f'{z} {chance.randrange(2 ** z)} {chance.randrange(2 ** z)} {z + chance.randrange(3)} {chance.choice([3, 40, 40])}')
         run('0 0 0 2 40')

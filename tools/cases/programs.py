@@ -1,4 +1,5 @@
-"""Writes the stored runs of tileset_program, tile_verify_program, mbtiles_to_pmtiles_program and pmtiles_to_mbtiles_program, and what is beside the examples.
+"""Writes the stored runs of tileset_program, tile_verify_program, mbtiles_to_pmtiles_program, pmtiles_to_mbtiles_program
+and fatyngu_program, and what is beside the examples.
 
     tools/make_cases programs
 
@@ -12,7 +13,9 @@ import sqlite3
 from cases.made_cases import DESCRIBED
 from cases.rows import TOP, Rows
 from cases.tileset_rows import ONE_TILE, adds_of, archive, options_said, report_of, told
+from models import pmtiles
 from models.mbtiles import script_of
+from models.names import COMPRESSIONS, TYPES as TILE_TYPES
 from models.scripts import parsed
 from models.sets import Text, converted
 
@@ -54,6 +57,32 @@ def converted_files(script, path, patches):
     return told(state, dict(archive(options_said(state), adds_of(state.tiles))[1]))
 
 
+def degrees(number):
+    """Ten millionths of a degree as degrees, without zeros at the end."""
+    whole, rest = divmod(abs(number), 10 ** 7)
+    return ('-' if number < 0 else '') + (f'{whole}.{rest:07}'.rstrip('0').rstrip('.'))
+
+
+def shown(data):
+    """What is printed of the header of an archive."""
+    h, _ = pmtiles.opened(data)
+    bounds = ','.join(degrees(h[name]) for name in pmtiles.DEGREES)
+    center = f"{degrees(h['center_lon'])},{degrees(h['center_lat'])},{h['center_zoom']}"
+    yield f"version {h['version']}"
+    yield f"type {TILE_TYPES[h['type']].lower()}"
+    yield f"tile compression {COMPRESSIONS[h['tile']].lower()}"
+    yield f"directory compression {COMPRESSIONS[h['internal']].lower()}"
+    yield f"zooms {h['min_zoom']} to {h['max_zoom']}"
+    yield f'bounds {bounds} degrees'
+    yield f'center {center}'
+    yield f"addressed tiles {h['addressed']}"
+    yield f"tile entries {h['entries']}"
+    yield f"tile contents {h['contents']}"
+    yield f"clustered {'yes' if h['clustered'] else 'no'}"
+    for part, name in [('root directory', 'root'), ('metadata', 'metadata'), ('leaf directories', 'leaf'), ('tile data', 'data')]:
+        yield f"{part} {h[name + '_length']} bytes at {h[name + '_offset']}"
+
+
 def main():
     text, bytes_shown, _ = report_of(ONE_TILE)
     write('convert\nhex\n', 'crates', 'tileset_program', 'args')
@@ -77,6 +106,9 @@ def main():
     write('sound 0 1 1 1\n', 'crates', 'tile_verify_program', 'stdout')
     write('described.pmtiles\nmade.mbtiles\n2\n', 'crates', 'pmtiles_to_mbtiles_program', 'args')
     Rows('pmtiles_to_mbtiles_program').write_data('described.pmtiles', DESCRIBED)
+    write('show\ndescribed.pmtiles\n', 'crates', 'fatyngu_program', 'args')
+    Rows('fatyngu_program').write_data('described.pmtiles', DESCRIBED)
+    write(''.join(f'{line}\n' for line in shown(DESCRIBED)), 'crates', 'fatyngu_program', 'stdout')
 
 
 if __name__ == '__main__':

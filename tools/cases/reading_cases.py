@@ -17,6 +17,10 @@ LAYOUTS = (('images', 'map'), ('tiles_data', 'tiles_shallow'), ('tiles_with_hash
 LINKS = {'map': 'tile_id', 'tiles_shallow': 'tile_data_id'}
 
 
+# the statements of all cases so far
+STATEMENTS = []
+
+
 class Odd(Exception):
     """A value that no set has in its column, or a key that stands twice: the refusal's words."""
 
@@ -238,6 +242,7 @@ def case(rows, *statements):
     rows.row('reading ' + ';'.join(statement.replace(' ', '~') for statement in statements), answer)
     if tables is not None:
         rows.rows.append(('set all', ''.join(say_rows(tables, name) for name in TABLES)))
+    STATEMENTS.append(statements)
 
 
 FLAT = 'CREATE TABLE tiles (zoom_level INTEGER, tile_column INTEGER, tile_row INTEGER, tile_data BLOB)'

@@ -199,6 +199,7 @@ def bulk(tiles, repeat, most=None):
 # Cases.
 
 CASES = []
+SCRIPTS = []
 
 
 def shown(data, most):
@@ -268,6 +269,8 @@ def outcome(words, script, medium=b""):
 
 def run(script, words=("convert", "hex"), medium=b""):
     script = script.encode() if isinstance(script, str) else script
+    if words == ("convert", "hex") and not medium:
+        SCRIPTS.append(script)
     case(["run", " ".join(words), escaped(script), "", medium.hex()], outcome(list(words), script, medium))
 
 
@@ -665,6 +668,139 @@ def says_of_itself():
         yield text(flags, *wrong)
 
 
+def streamed(script, held=b"", name="streamed"):
+    """A conversion of a script's base that holds no contents: what the archive and the answers are, and the hash of all
+    tiles where it is verified, or wanted for itself (`hashed`). The options are the script's, or those that the base says
+    of itself."""
+    by_itself = name == "streamed-said"
+    script = script.encode() if isinstance(script, str) else script
+    given = parsed(script)
+    rows = rows_of(words_of(given.stores[0]), escaped)
+    fields = [name, escaped(script), held.hex()]
+    if held:
+        return case(fields, f"1|refused: medium not empty {len(held)}|{rows}|{len(held)}|{shown(held, 64)}")
+    if given.options["internal-compression"] != 1 and not by_itself:
+        return case(fields, f"1|refused: unsupported compression {LABELS[given.options['internal-compression']]}|{rows}|0|")
+    state = converted(given.stores[:1], given.options["force"], given.options["verify"])
+    if isinstance(state, bytes):
+        return case(fields, f"1|{shown(b'refused: ' + state, 4000)}|{rows}|0|")
+    adds = adds_of(state.tiles)
+    whole, numbers = archive(options_said(state) if by_itself else given.options, adds)
+    found, numbers = dict(adds), dict(numbers)
+    answers = [found.get(tile_id(z, x, y)) for z, x, y in given.queries]
+    tiles = "".join(("none" if it is None else shown(it, 4000)) + " " for it in answers)
+    text = told(state, numbers)
+    if not given.options["verify"] and name != "hashed":
+        text = text[:text.index("aggregate ")] + "aggregate \n"
+    case(fields, f"{tiles}|0|{shown(text.encode(), 4000)}|{rows}|{len(whole)}|{shown(whole, 64)}")
+
+
+def changing(script, number, other, wanted):
+    """A conversion of a store that shows another row, or none, where one is sought a second time."""
+    case(["changing", escaped(script.encode()), str(number), *(map(str, other or []))], wanted)
+
+
+def streams():
+    """Conversions that hold no contents, of every script so far that has no patch, and of stores that change."""
+    for script in dict.fromkeys(SCRIPTS):
+        given = parsed(script)
+        if not isinstance(given, int) and len(given.stores) == 1 and len(script) < 20000:
+            streamed(script)
+    for script, held in [(ONE_TILE, b"a"), ("base none\n", b"c"), ("option internal-compression gzip\nbase flat\n", b"PMTiles")]:
+        streamed(script, held)
+    for script in [ONE_TILE, NO_TILE, *(it for it in worked_sets() if it.count("\n") < 30)]:
+        if base_after(parsed(script.encode()))[0] is None:
+            hindered(script, "hindered-streamed")
+    changed = f"1|refused: StoreFault {2 ** 64 - 1}"
+    for layout in ("flat", "flat-with-hash", "cache"):
+        tiles = {(0, 0, 0): b"0", (1, 0, 0): b"11", (1, 0, 1): b"1", (1, 1, 1): b"0"}
+        script = text(store("base", layout, tiles, []), "query 0 0 0")
+        for number in range(1, 5):
+            changing(script, number, None, f"{changed}|0")
+            changing(script, number, (2, 0, 0), f"{changed}|0")
+        # by rising id: 0/0/0, then 1/0/0 from the top, which is row 1 from the bottom
+        changing(script, 1, (1, 0, 1), f"{changed}|0")
+        changing(script, 1, (1, 0, 0), f"{changed}|0")
+        changing(script, 1, (1, 1, 1), "0||1")
+        changing(script, 9, None, "0||1")
+
+
+# Places of several zooms, whose ids stand in another order, with contents that are null or have no byte, and digests that
+# end in other zooms, columns and rows.
+APART = {(0, 0, 0): b"0", (1, 0, 0): b"11", (1, 0, 1): b"1", (1, 1, 0): None, (1, 1, 1): b"", (2, 3, 0): b"0", (3, 0, 7): b"one", (10, 5, 1000): b"two" * 50, (10, 5, 1001): b"\x00", (30, 2 ** 30 - 1, 0): b"last", (30, 0, 2 ** 30 - 1): b"first"}
+
+
+def hashed_sets():
+    """Sets of every layout and algorithm, each with the hash of its tiles, the same by the bytes of tiles alone, by another
+    row of them, and none."""
+    for algorithm in [b"md5", b"fnv1a", b"fnv1a-decimal", b"xxh64", b"xxh3"]:
+        for layout in GOOD_LAYOUTS:
+            for tiles in [APART, {(2, 1, 1): None}, {}]:
+                names = {} if algorithm == b"md5" else {"hash_algorithm": algorithm}
+                script = text(store("base", layout, tiles, named(**names), algorithm), "query 3 0 0", "query 1 1 0")
+                right = converted(parsed(script.encode()).stores, False, False).aggregate()
+                turned = {(z, x, 2 ** z - 1 - y): data for (z, x, y), data in tiles.items()}
+                other = converted(parsed(text(store("base", layout, turned, named(**names), algorithm)).encode()).stores, False, False).aggregate()
+                yield script, [text(store("base", layout, tiles, named(**names, agg_tiles_hash=stored), algorithm), "query 3 0 0", "query 1 1 0") for stored in dict.fromkeys([right, other, right[:-1], None])]
+
+
+def hashes():
+    """Conversions that hold no contents and hash all of them: to verify the hash, and for itself. Then each call of their
+    objects fails, and the store changes, in the reading of the hash and in that of the archive."""
+    for script, stored in hashed_sets():
+        streamed(script, name="hashed")
+        streamed("option verify\n" + script)
+        for it in stored:
+            streamed("option verify\n" + it)
+    for sets in [worked_sets, verified_sets, refused_sets]:
+        for script in sets():
+            if not isinstance(parsed(script.encode()), int):
+                streamed(script, name="hashed")
+    for script, held in [(ONE_TILE, b"a"), ("base none\n", b"c"), ("option internal-compression gzip\nbase flat\n", b"PMTiles")]:
+        streamed(script, held, "hashed")
+    few = {(0, 0, 0): b"0", (1, 0, 0): b"11", (1, 0, 1): b"1", (1, 1, 1): b"0", (2, 0, 0): None}
+    changed = f"1|refused: StoreFault {2 ** 64 - 1}"
+    for layout in GOOD_LAYOUTS:
+        script = text(store("base", layout, few), "query 0 0 0")
+        right = converted(parsed(script.encode()).stores, False, False).aggregate()
+        script = text("option verify", store("base", layout, few, named(agg_tiles_hash=right)), "query 0 0 0")
+        hindered(script, "hindered-streamed")
+        hindered(script, "hindered-hashed")
+        hindered(text(store("base", layout, few), "query 0 0 0"), "hindered-hashed")
+        if layout not in ("flat", "flat-with-hash", "cache"):
+            continue
+        for number in range(1, 9):
+            label = "none" if number < 5 else "0"
+            changing(script, number, None, f"{changed}|{label}")
+            changing(script, number, (3, 0, 0), f"{changed}|{label}")
+        # by place for the hash: 0/0/0, 1/0/0, 1/0/1 and 1/1/1, rows from the bottom; by id for the archive: 1/0/1 before 1/0/0
+        for number, place in [(2, (1, 0, 0)), (3, (1, 0, 1)), (6, (1, 0, 1)), (7, (1, 0, 0)), (1, (1, 1, 1)), (4, (0, 0, 0)), (8, (0, 0, 0))]:
+            changing(script, number, place, "0||1")
+        for number, place in [(2, (1, 0, 1)), (3, (1, 0, 0)), (6, (1, 0, 0)), (7, (1, 0, 1))]:
+            changing(script, number, place, f"{changed}|{'none' if number < 5 else '0'}")
+        changing(script, 9, None, "0||1")
+
+
+def streams_by_itself():
+    """Conversions that hold no contents, with the options that the base says of itself: the bytes are those of the
+    conversion that holds all of them."""
+    scripts = [script for sets in [says_of_itself, worked_sets, verified_sets, refused_sets] for script in sets()]
+    for script in dict.fromkeys(scripts):
+        given = parsed(script.encode())
+        if not isinstance(given, int) and len(given.stores) == 1:
+            streamed(script, name="streamed-said")
+    # the label of vector tiles is that of all of them, the last and those of many pages too; the zooms are the outermost
+    gzip, other = b"\x1f\x8b", b"\x1f"
+    for tiles in [{(7, k, 0): gzip for k in range(40)} | {(7, 40, 0): other}, {(2, 0, 0): other, (9, 1, 1): gzip, (9, 1, 2): b""}, {(9, k % 500, k // 500): gzip for k in range(1030)} | {(12, 0, 0): other}]:
+        for layout in ("flat", "flat-with-hash", "cache"):
+            if len(tiles) < 100 or layout == "flat":
+                streamed(text(store("base", layout, tiles, named(format=b"pbf", name=b"town")), "query 7 0 127"), name="streamed-said")
+    for script, held in [(ONE_TILE, b"a"), ("base none\n", b"c")]:
+        streamed(script, held, "streamed-said")
+    for script in [ONE_TILE, NO_TILE]:
+        hindered(script, "hindered-streamed-said")
+
+
 def says():
     """What such conversions come to, and the same of other sets; then each call of their objects fails in turn."""
     for script in says_of_itself():
@@ -690,6 +826,7 @@ def asks():
                           (["--", "a", "b"], "2"), (["--force", "--", "--verify", "b"], "force 2"), (["--", "--", "b"], "2"), (["--", "a"], "none"), (["--"], "none"), (["--Force", "a", "b"], "none"),
                           (["-force", "a", "b"], "none"), (["-", "a", "b"], "3"), (["a", "-"], "2"), (["--help", "a", "b"], "none"), (["--forced", "a", "b"], "none"),
                           (["a", "--force", "b"], "force 2"), (["a", "b", "--strict"], "strict 2"), (["--strict", "a", "--overwrite", "b", "--force", "c"], "force overwrite strict 3"), (["a", "--strict", "--", "--force"], "strict 2"),
+                          (["--hash", "a", "b"], "hash 2"), (["a", "b", "--hash", "--verify"], "verify hash 2"), (["a", "--hash"], "none"),
                           (["a", "--", "b", "--strict"], "3"), (["a", "b", "--", "--", "-x"], "4"), (["a", "b", "-x"], "none"), (["a", "b", "--nothing"], "none"), (["a", "--strict"], "none"), (["a", "b", "--"], "2")]:
         case(["asked", " ".join(words)], wanted)
 
@@ -707,7 +844,10 @@ def main():
     sets()
     many_rows()
     bases()
+    streams()
+    hashes()
     says()
+    streams_by_itself()
     asks()
     many_tiles()
     on_file()

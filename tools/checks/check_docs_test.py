@@ -41,7 +41,7 @@ PLANTS = (
     ("a file behind `run` that is left out", trust, "docs/TRUST.md", "; `pm_contents`: `Pieces` 21", "", "`pm_contents`: `Pieces`"),
     ("another sum", trust, "docs/TRUST.md", "| 156 |", "| 165 |", "| 156 |"),
     ("a crate of the kit that is left out", trust, "docs/TRUST.md", "`sqlite_trees`, ", "", "the crate sqlite_trees of the kit isn't named"),
-    ("a crate of the kit that isn't used", trust, "docs/TRUST.md", "`sqlite_trees`, ", "`sqlite_trees`, `sqlite_wal`, ", "no crate of crates.txt names sqlite_wal"),
+    ("a crate of the kit that isn't used", trust, "docs/TRUST.md", "`sqlite_trees`, ", "`sqlite_trees`, `sqlite_draft`, ", "no crate of crates.txt names sqlite_draft"),
     ("a call without a row", safety, "docs/SAFETY.md", "| `TileCoord::new` |", "| `TileCoord::make` |", "writes: | `TileCoord::new`"),
     ("another refusal", safety, "docs/SAFETY.md", "| `TileCoord::new` | `InvalidCoordinate` |", "| `TileCoord::new` | `InvalidTileId` |", "`TileCoord::new` | `InvalidCoordinate`"),
     ("a clause that the call hasn't", safety, "docs/SAFETY.md", "| `InvalidTileId` | `valid`, ", "| `InvalidTileId` | `found`, ", "`InvalidTileId` | `valid`"),

@@ -37,6 +37,7 @@ WORKERS = 4
 LINES = {
     'copied_into_an_empty_destination': ('copy_rows', [('src new flat 1 tiles i0 i0 i0 x30', 0, 8)], 'MbtilesCopier::run'),
     'imported_and_back': ('import_rows', [('hold x504d54696c6573037f0000', 0, 10)], 'import convert'),
+    'made_of_an_archive': ('import_rows', [('made bytes 2', 2, 5), ('set new normalized 4 metadata tname told', 0, 4)], 'import_as_said'),
     'made_tables': ('set_rows', [(f'create {word}', 2, 5) for word in ('flat', 'flat-with-hash', 'normalized', 'cache', 'metadata', 'view')],
                     'create_flat_tables create_flat_with_hash_tables create_normalized_tables create_cache_tables create_metadata_table create_tiles_with_hash_view is_empty_database '
                     'TileStore::create TileStore::describe'),
@@ -63,7 +64,7 @@ LINES = {
 
 # Lines whose call may leave the tables of a new set, still empty, where it is refused behind their making, and the
 # line that makes such a set.
-MADE = {b'run type=normalized-with-view': b'dst new normalized-with-view 0', b'tree pack xyz': b'set new flat 0', b'open': b'new layout cache'}
+MADE = {b'run type=normalized-with-view': b'dst new normalized-with-view 0', b'tree pack xyz': b'set new flat 0', b'open': b'new layout cache', b'made bytes 2': b'set new flat 0'}
 
 # Words, and what is read from standard input.
 CHAIN = 'base flat\nrow metadata tagg_tiles_hash tA\nrow tiles i0 i0 i0 x30\n{}patch flat\nrow metadata tagg_tiles_hash_before_apply tA\nrow metadata tagg_tiles_hash_after_apply tB\n'

@@ -1,5 +1,5 @@
-# The part of an archive below a tile, by its definition: the archive that an extraction makes, its outcome, and how
-# often it asks its source and its medium.
+# A part of an archive, as that below a tile, by its definition: the archive that an extraction makes, its outcome, and
+# how often it asks its source and its medium.
 from models import pmtiles as pm
 
 U32, U64 = 2 ** 32, 2 ** 64
@@ -141,21 +141,33 @@ class Run:
         return adds
 
     def extract(self, z, x, y, greatest, most):
-        if not z <= greatest <= 31:
-            refused(f'InvalidZoom {{ tile: {z}, asked: {greatest} }}')
+        """The archive of a tile and its descendants."""
+        return self.extract_part(lambda: spans(z, x, y, greatest), z, greatest, most)
+
+    def extract_part(self, wanted, least, greatest, most):
+        """The archive of the tiles in the intervals that a call gives."""
+        if not least <= greatest <= 31:
+            refused(f'InvalidZoom {{ tile: {least}, asked: {greatest} }}')
         self.medium.call()
         if self.begun:
             refused(f'MediumNotEmpty {{ length: {len(self.begun)} }}')
         self.source.call()
-        h, text, parts = self.parts(spans(z, x, y, greatest), most)
+        h, text, parts = self.parts(wanted(), most)
         for _ in ('room for the root', 'metadata'):
             self.write()
         adds = self.add(h, parts)
-        archive, places = pm.archive(adds, text, min_zoom=z, max_zoom=greatest, **{name: h[name] for name in LABELS})
+        archive, places = pm.archive(adds, text, min_zoom=least, max_zoom=greatest, **{name: h[name] for name in LABELS})
         for _ in ('leaves', 'root', 'header', 'label of directories'):
             self.write()
         self.held = archive
         return 'ArchivePlaces { ' + ', '.join(f'{n}: {places[n]}' for n in PLACES) + ' }'
+
+    def result(self, call):
+        """The text of a result."""
+        try:
+            return f'Ok({call()})'
+        except Ends as end:
+            return 'Err(' + end.args[0][len('Refused('):]
 
     def outcome(self, words):
         """The text of an outcome and its status."""

@@ -1,4 +1,5 @@
 // Extractions from a source to a new medium.
+use crate::boxes::{extract_boxes, extract_ids};
 use crate::kept::Kept;
 use crate::media::{digest, holding, part};
 use pm_format::{Backend, MemMedium};
@@ -61,6 +62,8 @@ pub fn over<B: Backend>(
     match call {
         "run" => run(alloc, out, source, &mut kept.extracted, words),
         "tile" => of_tile(alloc, out, source, &mut kept.extracted, words),
+        "boxes" => extract_boxes(alloc, out, source, &mut kept.extracted, words),
+        "ids" => extract_ids(alloc, out, source, &mut kept.extracted, words),
         _ => None,
     }?;
     say(out, &kept.extracted.as_bytes().get(97))

@@ -3,6 +3,7 @@
 
 mod adds;
 mod asking;
+mod boxes;
 mod bulk;
 mod caches;
 mod contents;
@@ -40,6 +41,8 @@ impl Rows for Kept {
             "view" => viewing::answer(alloc, out, self.backend.medium.as_bytes(), &mut words),
             "changes" => verifying::changes(alloc, out, self.backend.medium.as_bytes(), &mut words),
             "short" => shorts::answer(alloc, out, self, &mut words),
+            "boxes" => boxes::answer(alloc, out, &mut words),
+            "said" => boxes::of_header(alloc, out, &mut self.backend, &mut words),
             "extract" => extracting::answer(alloc, out, self, &mut words),
             call => asking::answer(alloc, out, &mut self.backend, call, &mut words),
         }

@@ -1,4 +1,5 @@
 mod Common
+mod AnswerLemmas
 mod AskLemmas
 mod CellLemmas
 mod DiskLemmas

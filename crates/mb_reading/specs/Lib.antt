@@ -1,5 +1,6 @@
 pub mod Common
 pub mod Cells
+pub mod Answer
 pub mod Rows
 pub mod Texts
 pub mod LeftOut

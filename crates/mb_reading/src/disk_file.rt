@@ -6,12 +6,12 @@ use crate::read_only::ReadOnly;
 use sqlite_disk::{Disk, Tally};
 use std::io::{self, ErrorKind};
 
-// Where the bytes are.
+/// Where the bytes are.
 #[derive(Drop)]
-pub(crate) enum DiskFile<D: Disk> {
-    // In a file, which no call writes.
+pub enum DiskFile<D: Disk> {
+    /// In a file, which no call writes.
     OnDisk(ReadOnly),
-    // On another disk, where they can be written.
+    /// On another disk, where they can be written.
     InMemory(D),
 }
 

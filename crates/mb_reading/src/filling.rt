@@ -4,7 +4,7 @@ ghost use Rattle.mb_reading.specs.Common.{is_duplicate, is_table, TableName, tol
 ghost use Rattle.mb_reading.specs.Filling.{HasTaken, IsFull, IsOdd, NeverFails, Takes, fits_one, is_fit, may_lack, misplaced, read_of, step_of, taken, with_new};
 ghost use Rattle.mb_reading.specs.Rows.{row_in};
 
-use crate::rows::{is_placed, row_of};
+use crate::rows::{is_placed, row_of_answer};
 use crate::value_kind::kind_of;
 use crate::{ReadError, SetRead, ValueKind};
 use base_values::OutOfMemory;
@@ -14,25 +14,25 @@ use mb_tables::{Cell, Row, RowKey, TableName};
 use std::alloc::Global;
 use tile_ids::invert_y_value;
 
-// What became of an answer.
+/// What became of an answer.
 #[derive(Clone, Copy, Debug, PartialEq, Eq)]
-pub(crate) enum Step {
-    // Its row was added.
+pub enum Step {
+    /// Its row was added.
     Added,
-    // Its zoom, column or row is no whole number.
+    /// Its zoom, column or row is no whole number.
     NoNumber,
-    // Its zoom is 31 or more.
+    /// Its zoom is 31 or more.
     TooDeep,
-    // It lies outside the grid of its zoom.
+    /// It lies outside the grid of its zoom.
     Outside,
-    // The table has a row of its key.
+    /// The table has a row of its key.
     Repeated,
-    // It has a value that no set has there.
+    /// It has a value that no set has there.
     Odd,
 }
 
-// What becomes of a row without a place of zoom 0 to 30.
-fn misplaced(row: &Row) -> Step
+/// What becomes of a row without a place of zoom 0 to 30.
+pub fn misplaced(row: &Row) -> Step
     ensures { result ≡ misplaced row.now }
 {
     match row.cells() {
@@ -79,7 +79,7 @@ fn take_answer(
     ensures described { (told_of store.new).descriptions ≡ (told_of store.old).descriptions }
     ensures unfailing { NeverFails store.old → NeverFails store.new }
 {
-    let Some(row) = row_of(alloc, table, answer)? else {
+    let Some(row) = row_of_answer(alloc, table, answer)? else {
         return Ok(Step::Odd);
     };
     if !is_placed(table, &row) {
@@ -115,7 +115,7 @@ fn test_repeated(alloc: Global, store: &mut MemStore, answer: &sqlite::Row) -> R
     ensures unfailing { NeverFails store.old → NeverFails store.new }
 {
     let table = TableName::Tiles;
-    let Some(row) = row_of(alloc, table, answer)? else {
+    let Some(row) = row_of_answer(alloc, table, answer)? else {
         return Ok(());
     };
     let Some(there) = tile_at(alloc, store, &row)? else {
@@ -202,7 +202,7 @@ impl Filling {
             return Ok(());
         }
         let step = take_answer(alloc, &mut self.so_far.store, table, answer)?;
-        self.so_far.left_out = self.so_far.left_out.counted(table, answer, step);
+        self.so_far.left_out = self.so_far.left_out.counted_answer(table, answer, step);
         if let Err(error) = test_step(alloc, &mut self.so_far.store, table, answer, step) {
             self.refused = Some(error);
         }

@@ -1,9 +1,11 @@
 // What a reading leaves out, counted.
 ghost use Rattle.std.specs.Prelude.{◌≡◌};
-ghost use Rattle.mb_reading.specs.Common.{column, owned};
+ghost use Rattle.mb_reading.specs.Answer.{answer_row};
+ghost use Rattle.mb_reading.specs.Common.{owned};
 ghost use Rattle.mb_reading.specs.LeftOut.{counted, nothing_left, one_more, or_first, place_value, place_values};
 
-use crate::filling::Step;
+use crate::answer::answer_of;
+use crate::{Answer, Step};
 use mb_tables::TableName;
 use sqlite::types::ValueRef;
 use std::fmt;
@@ -63,29 +65,18 @@ fn place_value(value: ValueRef<'_>) -> PlaceValue
     }
 }
 
-// The value of an answer in a column of places.
-#[tactic(auto, using(crate::proofs::MasterLemmas::past_end))]
-fn value_at(answer: &sqlite::Row, at: usize) -> PlaceValue
-    ensures { result ≡ place_value (column answer.now at) }
-{
-    match answer.get_ref(at) {
-        Ok(value) => place_value(value),
-        Err(_) => PlaceValue::Null,
-    }
-}
-
-fn place_values(answer: &sqlite::Row) -> PlaceValues
-    ensures { result ≡ place_values answer.now }
+fn place_values(answer: Answer<'_>) -> PlaceValues
+    ensures { result ≡ place_values (answer_row answer.entry) }
 {
     PlaceValues {
-        zoom_level: value_at(answer, 0),
-        tile_column: value_at(answer, 1),
-        tile_row: value_at(answer, 2),
+        zoom_level: place_value(answer.first),
+        tile_column: place_value(answer.second),
+        tile_row: place_value(answer.third),
     }
 }
 
-fn or_first(first: Option<PlaceValues>, answer: &sqlite::Row) -> Option<PlaceValues>
-    ensures { result ≡ or_first first (place_values answer.now) }
+fn or_first(first: Option<PlaceValues>, answer: Answer<'_>) -> Option<PlaceValues>
+    ensures { result ≡ or_first first (place_values (answer_row answer.entry)) }
 {
     match first {
         Some(first) => Some(first),
@@ -100,8 +91,8 @@ fn one_more(count: u64) -> u64
 }
 
 impl LeftOut {
-    // Nothing.
-    pub(crate) const NOTHING: LeftOut = LeftOut {
+    /// Nothing.
+    pub const NOTHING: LeftOut = LeftOut {
         without_number: 0,
         too_deep: 0,
         outside_grid: 0,
@@ -110,9 +101,9 @@ impl LeftOut {
         repeated_names: 0,
     };
 
-    // With an answer of which this became.
-    pub(crate) fn counted(self, table: TableName, answer: &sqlite::Row, step: Step) -> LeftOut
-        ensures { result ≡ counted table answer.now step self }
+    /// With a row of a table of which this became, by its values.
+    pub fn counted(self, table: TableName, answer: Answer<'_>, step: Step) -> LeftOut
+        ensures { result ≡ counted table (answer_row answer.entry) step self }
     {
         match (table, step) {
             (_, Step::NoNumber) => LeftOut {
@@ -140,6 +131,19 @@ impl LeftOut {
             },
             _ => self,
         }
+    }
+
+    // With an answer of which this became.
+    #[tactic(auto, using(crate::proofs::AnswerLemmas::same_count))]
+    pub(crate) fn counted_answer(
+        self,
+        table: TableName,
+        answer: &sqlite::Row,
+        step: Step,
+    ) -> LeftOut
+        ensures { result ≡ counted table answer.now step self }
+    {
+        self.counted(table, answer_of(answer), step)
     }
 }
 

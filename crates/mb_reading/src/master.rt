@@ -44,8 +44,8 @@ fn names_own(table: TableName, answer: &sqlite::Row) -> bool
     is_text(answer, 0, "table") && names_it(table, answer)
 }
 
-// Whether a table or a view of the name is there.
-pub(crate) fn is_there(master: &[sqlite::Row], table: TableName) -> bool
+/// Whether a table or a view of the name is there. Each answer is the kind of one, its name in lower case and the text that makes it.
+pub fn is_there(master: &[sqlite::Row], table: TableName) -> bool
     ensures { result ≡ is_there master.now table }
 {
     master.iter().any(|answer| names_it(table, answer))
@@ -157,12 +157,10 @@ fn behind_view(
     }
 }
 
-// The layout in which a set is read first: a table `tiles` as itself, a view by what it has, and without either by the tables.
+/// The layout in which a set is read first: a table `tiles` as itself, a view by what it has, and without either by the tables. Each answer is the kind of a table or view, its name in lower case and
+/// the text that makes it.
 #[tactic(auto, unfolding(crate::specs::Master::first_layout))]
-pub(crate) fn first_layout(
-    alloc: Global,
-    master: &[sqlite::Row],
-) -> Result<Option<MbtType>, OutOfMemory>
+pub fn first_layout(alloc: Global, master: &[sqlite::Row]) -> Result<Option<MbtType>, OutOfMemory>
     ensures { IfOk result (λ layout. layout ≡ first_layout master.now) }
 {
     if is_own(master, TableName::Tiles) {

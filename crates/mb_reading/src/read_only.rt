@@ -10,9 +10,9 @@ use std::fs::File;
 use std::io::{self, ErrorKind};
 use std::os::unix::fs::FileExt;
 
-// The file, the key under which digests of its pages are taken, how many calls failed, and how many of them found other bytes than before.
+/// A file that is read, with the key under which digests of its pages are taken, how many calls failed, and how many of them found other bytes than before.
 #[derive(Drop)]
-pub(crate) struct ReadOnly {
+pub struct ReadOnly {
     file: File,
     key: u64,
     faults: u64,

@@ -21,8 +21,8 @@ pub enum ValueKind {
     Blob,
 }
 
-// The kind of a value.
-pub(crate) fn kind_of(value: ValueRef<'_>) -> ValueKind
+/// The kind of a value.
+pub fn kind_of(value: ValueRef<'_>) -> ValueKind
     ensures { result ≡ kind_of (owned value.entry) }
 {
     match value {

@@ -6,6 +6,11 @@ pub on_err : {X E : Type 0} (r : Result X E) (P : Type 0) → P → OnErr r P
 on_err (Ok x) P p = tt
 on_err (Err e) P p = p
 
+-- what a step answers is what is handed on of it
+pub handed : {X E F : Type 0} (answer : Result X E) (result : Result X F) (P : X → Type 0) → IfOk result (λ x. answer ≡ Ok x) → IfOk answer P → IfOk result P
+handed answer (Ok x) P is p = subst (λ r. IfOk r P) is p
+handed answer (Err e) P is p = tt
+
 pub by_true : (b : Bool) (A B : Type 0) → b ≡ true → A → MatchBool b A B
 by_true b A B is a = subst (λ b. MatchBool b A B) (sym is) a
 

@@ -1,7 +1,6 @@
 //! A store of tables over a database of `sqlite`.
 #![tactic(auto)]
 
-mod calls;
 mod cursor;
 mod failure;
 pub mod laws;

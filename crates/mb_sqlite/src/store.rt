@@ -9,9 +9,11 @@ ghost use Rattle.mb_sqlite.specs.Reading.{IsCounted, IsFound};
 ghost use Rattle.mb_sqlite.specs.Sizing.{IsLiveSize};
 
 use crate::cursor::Cursor;
-use crate::failure::counted;
+use crate::failure::{Failure, counted};
+use crate::layout::{are_named, has_table};
+use crate::{making, reading, writing};
 use mb_store::{Changes, StoreError, TileStore};
-use mb_tables::{MbtType, Row, RowKey, TableDesc, TableName};
+use mb_tables::{MbtType, Row, RowKey, TableDesc, TableName, set_tables};
 use sqlite::{Alter, Connection};
 use std::alloc::Global;
 
@@ -23,10 +25,10 @@ use std::alloc::Global;
 /// Numbers, texts, blobs and NULL are cells as they are. A real, and a text that isn't UTF-8, is `Cell::Other`.
 pub struct SqliteStore<S: Alter> {
     alloc: Global,
-    pub(crate) connection: Connection<S>,
-    pub(crate) layout: MbtType,
-    pub(crate) is_made: bool,
-    pub(crate) cursor: Option<Cursor>,
+    connection: Connection<S>,
+    layout: MbtType,
+    is_made: bool,
+    cursor: Option<Cursor>,
     faults: u64,
 }
 
@@ -61,6 +63,34 @@ impl<S: Alter> SqliteStore<S> {
             cursor: None,
             faults: 0,
         }
+    }
+
+    // Makes the tables that aren't there, at the first call. A connection in a transaction is a fault.
+    fn begin(&mut self) -> Result<(), StoreError>
+        ensures made { OnOk result (self.new.is_made ≡ true) }
+        ensures same { self.old.is_made ≡ true → self.new.connection ≡ self.old.connection }
+        ensures once { MakesOnce S.Store self.old self.new }
+        ensures ready { OnOk result (IsPrepared S.Store self.old self.new) }
+        ensures outside { OnOk result (self.old.connection.in_transaction ≡ false) }
+        ensures ended { OnOk result (self.new.connection.in_transaction ≡ false) }
+        ensures inside { IsInside self.old → IsErrOf result StoreError.Fault }
+        ensures alone { IsInside self.old → self.new.connection ≡ self.old.connection }
+        ensures leaves { LeavesStore S.Store self.old self.new }
+        ensures layout { self.new.layout ≡ self.old.layout }
+        ensures cursor { self.new.cursor ≡ self.old.cursor }
+        ensures faults { self.old.faults ≤ self.new.faults }
+        ensures fault { IsErrOf result StoreError.Fault → Rose self.old.faults self.new.faults }
+    {
+        if !self.connection.is_autocommit() {
+            return counted(&mut self.faults, Err(Failure::Fault));
+        }
+        if !self.is_made {
+            match making::make(&mut self.connection, self.layout) {
+                Ok(()) => self.is_made = true,
+                Err(failure) => return counted(&mut self.faults, Err(failure)),
+            }
+        }
+        Ok(())
     }
 
     /// The connection again, to close it. A file that isn't closed keeps its log beside it.
@@ -104,8 +134,8 @@ impl<S: Alter> TileStore for SqliteStore<S> {
         ensures faults { self.old.faults ≤ self.new.faults }
         ensures fault { IsErrOf result StoreError.Fault → Rose self.old.faults self.new.faults }
     {
-        let answer = self.described(alloc);
-        counted(&mut self.faults, answer)
+        self.begin()?;
+        Ok(set_tables(alloc, self.layout)?)
     }
 
     fn count_rows(&mut self, table: TableName) -> Result<u64, StoreError>
@@ -123,7 +153,11 @@ impl<S: Alter> TileStore for SqliteStore<S> {
         ensures faults { self.old.faults ≤ self.new.faults }
         ensures fault { IsErrOf result StoreError.Fault → Rose self.old.faults self.new.faults }
     {
-        let answer = self.counted_rows(table);
+        self.begin()?;
+        if !has_table(self.layout, table) {
+            return Ok(0);
+        }
+        let answer = reading::count(&mut self.connection, table);
         counted(&mut self.faults, answer)
     }
 
@@ -154,7 +188,12 @@ impl<S: Alter> TileStore for SqliteStore<S> {
         ensures faults { self.old.faults ≤ self.new.faults }
         ensures fault { IsErrOf result StoreError.Fault → Rose self.old.faults self.new.faults }
     {
-        let answer = self.page(alloc, table, from, limit);
+        self.begin()?;
+        if !has_table(self.layout, table) {
+            return Ok(Vec::new(alloc));
+        }
+        let (connection, cursor) = (&mut self.connection, &mut self.cursor);
+        let answer = reading::page(alloc, connection, cursor, table, from, limit);
         counted(&mut self.faults, answer)
     }
 
@@ -180,7 +219,11 @@ impl<S: Alter> TileStore for SqliteStore<S> {
         ensures faults { self.old.faults ≤ self.new.faults }
         ensures fault { IsErrOf result StoreError.Fault → Rose self.old.faults self.new.faults }
     {
-        let answer = self.found(alloc, table, key);
+        self.begin()?;
+        if !has_table(self.layout, table) {
+            return Ok(None);
+        }
+        let answer = reading::find(alloc, &mut self.connection, table, key);
         counted(&mut self.faults, answer)
     }
 
@@ -197,8 +240,12 @@ impl<S: Alter> TileStore for SqliteStore<S> {
         ensures faults { self.old.faults ≤ self.new.faults }
         ensures fault { IsErrOf result StoreError.Fault → Rose self.old.faults self.new.faults }
     {
-        let answer = self.created(alloc, tables);
-        counted(&mut self.faults, answer)
+        self.begin()?;
+        let own = set_tables(alloc, self.layout)?;
+        if !are_named(own.as_slice(), tables) {
+            return counted(&mut self.faults, Err(Failure::Fault));
+        }
+        Ok(())
     }
 
     /// Makes all changes in one transaction. A change of a table that the layout doesn't have, and a row with a `Cell::Other`, is a fault.
@@ -216,8 +263,12 @@ impl<S: Alter> TileStore for SqliteStore<S> {
         ensures faults { self.old.faults ≤ self.new.faults }
         ensures fault { IsErrOf result StoreError.Fault → Rose self.old.faults self.new.faults }
     {
-        let answer = self.committed(alloc, changes);
-        counted(&mut self.faults, answer)
+        self.begin()?;
+        self.cursor = None;
+        match writing::commit(alloc, &mut self.connection, self.layout, changes) {
+            Ok(()) => Ok(()),
+            Err(failure) => counted(&mut self.faults, Err(failure)),
+        }
     }
 
     /// The bytes of all texts and blobs, and 8 for each other cell, over all rows of the layout's tables; at most the greatest `u64`.
@@ -235,7 +286,8 @@ impl<S: Alter> TileStore for SqliteStore<S> {
         ensures faults { self.old.faults ≤ self.new.faults }
         ensures fault { IsErrOf result StoreError.Fault → Rose self.old.faults self.new.faults }
     {
-        let answer = self.size();
+        self.begin()?;
+        let answer = reading::size(&mut self.connection, self.layout);
         counted(&mut self.faults, answer)
     }
 

@@ -1,5 +1,6 @@
 // Sets in files are converted to an archive, which is put at its place once it is whole.
 use crate::TOOL;
+use crate::paged::{Paged, convert_pages};
 use crate::reading::{read_set, read_sets};
 use crate::saying::say_outcome;
 use base_values::TextVal;
@@ -11,14 +12,15 @@ use program_words::{
 use set_conversion::{ConversionFlags, ConversionOutcome, OptionsOfSet};
 use std::fs;
 use tile_bridge::{ConvertReport, convert_owned};
+use tile_streaming::StreamReport;
 
-// Reads the base and the patches, and converts them to a medium.
-fn convert_sets(
+// Reads the base and the patches into memory, and converts them to a medium.
+fn convert_held(
     rt: &HostRuntime,
     flags: ConversionFlags,
     sets: &[TextVal],
     medium: &mut FileMedium,
-) -> Result<ConvertReport, ConversionOutcome> {
+) -> Result<StreamReport, ConversionOutcome> {
     let [first, rest @ ..] = sets else {
         return Err(ConversionOutcome::Usage);
     };
@@ -31,20 +33,41 @@ fn convert_sets(
         return Err(ConversionOutcome::MediumFault);
     }
     step.end(rt, TOOL);
-    Ok(report)
+    let is_hashed = flags.hash || flags.verify || !rest.is_empty();
+    Ok(reported(report, is_hashed))
 }
 
-// Converts into the file beside the archive's place.
+// The report with the hash where it is wanted.
+fn reported(report: ConvertReport, is_hashed: bool) -> StreamReport {
+    let ConvertReport {
+        answers,
+        aggregate,
+        places,
+    } = report;
+    StreamReport {
+        answers,
+        aggregate: if is_hashed { Some(aggregate) } else { None },
+        places,
+    }
+}
+
+// Converts into the file beside the archive's place: a set without patches from the pages of its file, where these are
+// understood, and all others by way of memory.
 fn convert_beside(
     rt: &HostRuntime,
     flags: ConversionFlags,
     sets: &[TextVal],
     beside: &str,
-) -> Result<ConvertReport, ConversionOutcome> {
-    match FileMedium::open(rt, beside) {
-        Ok(mut medium) => convert_sets(rt, flags, sets, &mut medium),
-        Err(_) => Err(ConversionOutcome::MediumFault),
+) -> Result<StreamReport, ConversionOutcome> {
+    let Ok(mut medium) = FileMedium::open(rt, beside) else {
+        return Err(ConversionOutcome::MediumFault);
+    };
+    if let [set] = sets {
+        if let Paged::Ended(answer) = convert_pages(rt, flags, set.as_str(), &mut medium) {
+            return answer;
+        }
     }
+    convert_held(rt, flags, sets, &mut medium)
 }
 
 // Makes the file beside the archive's place.
@@ -64,7 +87,7 @@ fn put(
     rt: &HostRuntime,
     flags: ConversionFlags,
     (beside, out): (&Beside, &str),
-    report: ConvertReport,
+    report: StreamReport,
 ) -> ConversionOutcome {
     let put = if flags.overwrite {
         put_over(rt, TOOL, beside, out)

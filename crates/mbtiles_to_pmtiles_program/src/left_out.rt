@@ -1,7 +1,7 @@
 // What of a set doesn't come into its archive. Standard error tells it.
 use crate::TOOL;
 use mb_reading::LeftOut;
-use mb_store::{MemStore, StoreError, TileStore};
+use mb_store::{StoreError, TileStore};
 use mb_tables::{Cell, Row, TableName};
 use set_conversion::ConversionOutcome;
 use set_options::is_understood;
@@ -73,10 +73,10 @@ fn say_page(rt: &HostRuntime, path: &str, rows: &[Row]) -> Result<bool, Conversi
 }
 
 // Tells of those of the metadata. Whether there are none.
-fn say_metadata(
+fn say_metadata<S: TileStore>(
     rt: &HostRuntime,
     path: &str,
-    store: &mut MemStore,
+    store: &mut S,
 ) -> Result<bool, ConversionOutcome> {
     let mut is_whole = true;
     for page in 0..u64::MAX / PAGE {
@@ -94,10 +94,10 @@ fn say_metadata(
 }
 
 /// Tells what of a set that was read is left out of its archive, a line for the rows of tiles and one for each thing of the metadata. Whether nothing is.
-pub fn say_left_out(
+pub fn say_left_out<S: TileStore>(
     rt: &HostRuntime,
     path: &str,
-    store: &mut MemStore,
+    store: &mut S,
     left: &LeftOut,
 ) -> Result<bool, ConversionOutcome> {
     let tiles = say_misplaced(rt, path, left);

@@ -3,6 +3,7 @@
 
 mod converting;
 mod left_out;
+mod paged;
 mod reading;
 mod saying;
 
@@ -15,21 +16,28 @@ use std::process::ExitCode;
 const HELP: &str = "Makes an archive of the PMTiles format of a set of map tiles in an MBTiles
 file, and of patches to it.
 
-usage: mbtiles-to-pmtiles [--force] [--verify] [--overwrite] [--strict]
+usage: mbtiles-to-pmtiles [--force] [--verify] [--hash] [--overwrite] [--strict]
                           BASE.mbtiles [PATCH.mbtiles ..] OUT.pmtiles
 
 Patches are put on the base in their order; no set's file is changed. Type and
 label of the tiles, zooms, bounds, center and metadata are those that the set
 says to which they come. OUT is written beside its place, as OUT.new, and put
-there once it is whole. Three lines at the end say how many tiles and different
-contents OUT has, its bytes, and the aggregate hash of its tiles. On a terminal
-each step is told.
+there once it is whole. Lines at the end say how many tiles and different contents
+OUT has, its bytes, and, where it was made, the aggregate hash of its tiles. On a
+terminal each step is told.
+
+A set without patches whose tiles stand in one table takes some 100 bytes of memory
+a tile, whatever its tiles weigh; with patches, of a set with tables of its own for
+contents, and where its file isn't understood page by page, all tiles are held in
+memory.
 
 --force      takes patches without the hashes that chain them; without it each
              has to name the aggregate hash of the set that it is for, and
              that of what comes of it
 --verify     asks for the aggregate hash of what is converted, which has to be
              stored and right; hashes of single tiles are always tested
+--hash       prints the aggregate hash of the tiles, which is also made where it is
+             verified, and where there are patches
 --overwrite  replaces OUT where it is there; without it that is refused
 --strict     refuses a set of which rows of tiles or metadata would be left out
 --           what follows are files, also where they begin with a dash
@@ -44,7 +52,7 @@ of memory, 9 read back, 10 a set's file is in a form that isn't read here
 ";
 
 const USAGE: &str =
-    "usage: mbtiles-to-pmtiles [--force] [--verify] [--overwrite] [--strict] BASE.mbtiles [PATCH.mbtiles ..] OUT.pmtiles
+    "usage: mbtiles-to-pmtiles [--force] [--verify] [--hash] [--overwrite] [--strict] BASE.mbtiles [PATCH.mbtiles ..] OUT.pmtiles
 ";
 
 const VERSION: &str = "mbtiles-to-pmtiles 0.1.0\n";

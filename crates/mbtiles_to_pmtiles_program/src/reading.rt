@@ -41,10 +41,15 @@ fn told(
     if say_left_out(rt, path, &mut store, &left_out)? || !is_strict {
         return Ok(store);
     }
+    Err(refuse_left_out(rt, path))
+}
+
+/// Says that a strict run takes no set that lacks anything.
+pub fn refuse_left_out(rt: &HostRuntime, path: &str) -> ConversionOutcome {
     let _ = eprintln!(rt;
         "{TOOL}: {path} is refused: --strict takes no set that something is left out of"
     );
-    Err(ConversionOutcome::LeftOut)
+    ConversionOutcome::LeftOut
 }
 
 /// Reads the set in a file. Standard error says why it isn't read, or what of it is left out.

@@ -12,6 +12,7 @@ ghost use Rattle.pm_writer.specs.Writing.{FilledFits, Writes, has_failed};
 use crate::WriterState;
 use pm_contents::Sought;
 use pm_format::{Compression, Medium, PmtError, PmtResult, ReadCause, WriteFault};
+use tile_hash::xxh3_64;
 use tile_ids::{TileCoord, TileId};
 
 impl WriterState {
@@ -29,8 +30,9 @@ impl WriterState {
         !sought.is_new() || u64::from(size) <= u64::MAX - end
     }
 
-    // What bytes are found as. After a fault the writer has failed.
-    fn seek<M: Medium>(&mut self, medium: &mut M, bytes: &[u8]) -> PmtResult<Sought>
+    // What bytes of this digest are found as. After a fault the writer has failed.
+    fn seek<M: Medium>(&mut self, medium: &mut M, digest: u64, bytes: &[u8]) -> PmtResult<Sought>
+        requires digest { digest ≡ xxh3_64 bytes.now }
         requires alive { has_failed self.old ≡ false }
         requires some { 0 < length bytes.now }
         requires writes { WritesSome (M.told medium.old) self.old }
@@ -49,7 +51,10 @@ impl WriterState {
         ensures reads { M.reads medium.new ≤ M.reads medium.old + 1 }
         ensures kept { ReadsOnly M.told M.versions M.faults M.steady medium.old medium.new }
     {
-        match self.adds.seek(self.alloc, medium, self.data_offset, bytes) {
+        match self
+            .adds
+            .seek(self.alloc, medium, self.data_offset, digest, bytes)
+        {
             Ok(sought) => Ok(sought),
             Err(WriteFault::OutOfMemory) => Err(PmtError::OutOfMemory),
             Err(WriteFault::Fault) => {
@@ -102,8 +107,15 @@ impl WriterState {
         }
     }
 
-    // Adds bytes of which there is at least one.
-    fn add_filled<M: Medium>(&mut self, medium: &mut M, id: u64, bytes: &[u8]) -> PmtResult<()>
+    // Adds bytes of this digest, of which there is at least one.
+    fn add_filled<M: Medium>(
+        &mut self,
+        medium: &mut M,
+        id: u64,
+        digest: u64,
+        bytes: &[u8],
+    ) -> PmtResult<()>
+        requires digest { digest ≡ xxh3_64 bytes.now }
         requires alive { has_failed self.old ≡ false }
         requires id { id ≤ MAX_TILE_ID }
         requires some { 0 < length bytes.now }
@@ -125,7 +137,7 @@ impl WriterState {
         let Ok(size) = u32::try_from(bytes.len()) else {
             return Err(PmtError::IndexEntryOverflow);
         };
-        let sought = self.seek(medium, bytes)?;
+        let sought = self.seek(medium, digest, bytes)?;
         if !self.fits(size, &sought) {
             return Err(PmtError::IndexEntryOverflow);
         }
@@ -160,13 +172,39 @@ impl WriterState {
         ensures kept { KeepsMedium M.told M.versions M.reads M.faults M.steady
             medium.old medium.new }
     {
+        self.add_raw_tile_with_digest(medium, id, xxh3_64(bytes), bytes)
+    }
+
+    /// Adds the bytes of the tile with this id as they are: `add_raw_tile_by_id` for a caller that has their XXH3 digest.
+    pub fn add_raw_tile_with_digest<M: Medium>(
+        &mut self,
+        medium: &mut M,
+        id: TileId,
+        digest: u64,
+        bytes: &[u8],
+    ) -> PmtResult<()>
+        requires digest { digest ≡ xxh3_64 bytes.now }
+        requires writes { WritesSome (M.told medium.old) self.old }
+        ensures writes { WritesSome (M.told medium.new) self.new }
+        ensures added { IsAdded M.told M.reads medium.old medium.new self.old self.new
+            id bytes.now result }
+        ensures refused { IsUnadded M.told medium.old medium.new self.old self.new result }
+        ensures causes { IsCaused (λ _. compression.None) M.told M.reads M.faults
+            medium.old medium.new self.old id bytes.now result }
+        ensures empty { length bytes.now ≡ 0 → (self.new ≡ self.old) × (medium.new ≡ medium.old) }
+        ensures failed { has_failed self.new ≡ failed_after (has_failed self.old) result }
+        ensures reads { M.reads medium.new ≤ M.reads medium.old + 1 }
+        ensures quiet { IsQuiet M.told M.reads medium.old medium.new self.old bytes.now }
+        ensures kept { KeepsMedium M.told M.versions M.reads M.faults M.steady
+            medium.old medium.new }
+    {
         if self.failed {
             return Err(PmtError::Failed);
         }
         if bytes.is_empty() {
             return Ok(());
         }
-        self.add_filled(medium, id.value(), bytes)
+        self.add_filled(medium, id.value(), digest, bytes)
     }
 
     /// Adds the bytes of a tile as they are: `add_raw_tile_by_id` of the coordinate's id.

@@ -13,7 +13,6 @@ use base_values::OutOfMemory;
 use pm_contents::{Contents, Sought};
 use pm_format::{DirEntry, Medium, WriteFault};
 use std::alloc::{AllocError, Global};
-use tile_hash::xxh3_64;
 
 /// The contents and entries of the adds so far.
 #[derive(Drop)]
@@ -112,14 +111,16 @@ impl Adds {
         Ok(())
     }
 
-    /// What bytes are found as, among contents that lie on a medium from a place on: `Contents::seek`.
+    /// What bytes of this digest are found as, among contents that lie on a medium from a place on: `Contents::seek`.
     pub(crate) fn seek<M: Medium>(
         &self,
         alloc: Global,
         medium: &mut M,
         from: u64,
+        digest: u64,
         bytes: &[u8],
     ) -> Result<Sought, WriteFault>
+        requires digest { digest ≡ xxh3_64 bytes.now }
         requires some { 0 < length bytes.now }
         requires ends { from + self.now.contents.total < 2 ^ 64 }
         requires within { IfSome (M.told medium.old) (IsWithin (from + self.now.contents.total)) }
@@ -139,8 +140,7 @@ impl Adds {
         ensures reads { M.reads medium.new ≤ M.reads medium.old + 1 }
         ensures kept { ReadsOnly M.told M.versions M.faults M.steady medium.old medium.new }
     {
-        self.contents
-            .seek(alloc, medium, from, xxh3_64(bytes), bytes)
+        self.contents.seek(alloc, medium, from, digest, bytes)
     }
 
     /// Adds bytes that were sought. New ones are written behind the others on the medium. Memory is taken before anything is written. Refused, the adds are as before.

@@ -1,2 +1,3 @@
 mod Common
+pub mod HeldLemmas
 pub mod PlainLemmas

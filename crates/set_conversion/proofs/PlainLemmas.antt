@@ -20,7 +20,7 @@ zoomed (Some zoom) o plain = plain
 centered : (c : SetCenter) (o : Options) → IsPlain o → IsPlain (with_center c o)
 centered c o plain = zoomed c.zoom (record o { center_longitude = c.longitude; center_latitude = c.latitude }) plain
 
-said_plain : (o : SetOptions) → IsPlain (writer_of o)
+pub said_plain : (o : SetOptions) → IsPlain (writer_of o)
 said_plain o = centered (unwrap_or o.center (unsaid_center o.bounds o.zooms.0)) (with_bounds o.bounds _) (bounded o.bounds _ refl)
 
 pub plain_of_set : (s : State) (o : Options) → AreOptionsOfSet s o → IsPlain o

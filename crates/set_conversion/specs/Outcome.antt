@@ -1,5 +1,5 @@
 -- The status of each outcome, and the text that is printed of it.
-use Rattle.std.specs.Prelude.{◌≡◌, ℕ, ◌++◌, List, [], codes, refl}
+use Rattle.std.specs.Prelude.{◌≡◌, ℕ, ◌++◌, List, [], codes, Option, Some, None, refl}
 use Rattle.std.specs.Fmt.{decimal}
 use Rattle.pm_format.specs.declared.status.TheConstants.{DONE, REFUSED, USAGE, NO_INPUT, INPUT_FAULT, OUTPUT_FAULT, FAULT, OUT_OF_MEMORY, READ_BACK, OTHER_FORM}
 use Rattle.tile_bridge.specs.declared.error.ConvertError.{ConvertError}
@@ -33,9 +33,11 @@ status OutOfMemory = OUT_OF_MEMORY
 status (ReadBack e) = READ_BACK
 status OtherForm = OTHER_FORM
 
--- the lines on an archive: its aggregate hash, how many tiles and different contents it has, and how long it is
-abbrev pub report_lines : List ℕ → ℕ → ℕ → ℕ → List ℕ
-report_lines aggregate addressed contents total =
+-- the lines on an archive: how many tiles and different contents it has, how long it is, and the aggregate hash of its tiles where there is one
+abbrev pub report_lines : Option (List ℕ) → ℕ → ℕ → ℕ → List ℕ
+report_lines None addressed contents total =
+    codes "tiles " ++ (decimal addressed ++ (codes ", contents " ++ (decimal contents ++ (codes "\nbytes " ++ (decimal total ++ codes "\n")))))
+report_lines (Some aggregate) addressed contents total =
     codes "tiles " ++ (decimal addressed ++ (codes ", contents " ++ (decimal contents ++ (codes "\nbytes " ++ (decimal total ++ (codes "\naggregate " ++ (aggregate ++ codes "\n")))))))
 
 abbrev pub text : ConversionOutcome → List ℕ

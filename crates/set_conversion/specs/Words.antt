@@ -27,8 +27,9 @@ abbrev pub with_flag : ConversionFlags → List ℕ → Option ConversionFlags
 with_flag flags word =
     if bytes_eq word (codes "--force") then Some (record flags { force = true })
     else (if bytes_eq word (codes "--verify") then Some (record flags { verify = true })
+    else (if bytes_eq word (codes "--hash") then Some (record flags { hash = true })
     else (if bytes_eq word (codes "--overwrite") then Some (record flags { overwrite = true })
-    else (if bytes_eq word (codes "--strict") then Some (record flags { strict = true }) else None)))
+    else (if bytes_eq word (codes "--strict") then Some (record flags { strict = true }) else None))))
 
 -- words as files, behind others
 abbrev pub with_files : List (List ℕ) → List (List ℕ) → List (List ℕ)
@@ -44,22 +45,22 @@ asked_after flags files (word ∷ words) =
     else asked_after flags (files ++ (word ∷ [])) words)
 
 abbrev pub no_flags : ConversionFlags
-no_flags = record { force = false; verify = false; overwrite = false; strict = false }
+no_flags = record { force = false; verify = false; hash = false; overwrite = false; strict = false }
 
 -- flags in any order, in front of files, among them or behind, and two files at least
 abbrev pub asked_in : List (List ℕ) → Option Asked
 asked_in words = asked_after no_flags [] words
 
 pub a_base_and_a_patch : asked_in (codes "--verify" ∷ codes "--force" ∷ codes "a" ∷ codes "b" ∷ codes "c" ∷ []) ≡
-    Some (asked (record { force = true; verify = true; overwrite = false; strict = false }) (codes "a" ∷ codes "b" ∷ codes "c" ∷ []))
+    Some (asked (record { force = true; verify = true; hash = false; overwrite = false; strict = false }) (codes "a" ∷ codes "b" ∷ codes "c" ∷ []))
 a_base_and_a_patch = refl
 
 pub files_with_dashes : asked_in (codes "--overwrite" ∷ codes "--" ∷ codes "--force" ∷ codes "-b" ∷ []) ≡
-    Some (asked (record { force = false; verify = false; overwrite = true; strict = false }) (codes "--force" ∷ codes "-b" ∷ []))
+    Some (asked (record { force = false; verify = false; hash = false; overwrite = true; strict = false }) (codes "--force" ∷ codes "-b" ∷ []))
 files_with_dashes = refl
 
 pub flags_behind_files : asked_in (codes "a" ∷ codes "--strict" ∷ codes "b" ∷ codes "--force" ∷ []) ≡
-    Some (asked (record { force = true; verify = false; overwrite = false; strict = true }) (codes "a" ∷ codes "b" ∷ []))
+    Some (asked (record { force = true; verify = false; hash = false; overwrite = false; strict = true }) (codes "a" ∷ codes "b" ∷ []))
 flags_behind_files = refl
 
 pub a_lone_dash : asked_in (codes "a" ∷ codes "-" ∷ []) ≡ Some (asked no_flags (codes "a" ∷ codes "-" ∷ []))

@@ -4,13 +4,14 @@ ghost use Rattle.set_conversion.specs.Outcome.{status};
 
 use pm_format::{PmtError, status};
 use std::alloc::AllocError;
-use tile_bridge::{ConvertError, ConvertReport};
+use tile_bridge::ConvertError;
+use tile_streaming::StreamReport;
 
 /// How a conversion of the sets in files ends.
 #[derive(Debug, Drop)]
 pub enum ConversionOutcome {
     /// The archive is written and at its place.
-    Done(ConvertReport),
+    Done(StreamReport),
     /// The conversion is refused.
     Refused(ConvertError),
     /// A file is there that isn't to be replaced, or is one of the sets.

@@ -6,27 +6,32 @@ use crate::ConversionOutcome;
 use base_values::{OutOfMemory, TextVal};
 use pm_writer::ArchivePlaces;
 use std::alloc::Global;
-use tile_bridge::ConvertReport;
+use tile_streaming::StreamReport;
 
-// The three lines on an archive.
-fn report_lines(alloc: Global, report: &ConvertReport) -> Result<String, OutOfMemory>
+// The lines on an archive, with the hash of its tiles where there is one.
+fn report_lines(alloc: Global, report: &StreamReport) -> Result<String, OutOfMemory>
     ensures { IfOk result (λ text. string_bytes text ≡ report_lines report.now.aggregate
         report.now.places.addressed report.now.places.contents report.now.places.length) }
 {
-    let hash = report.aggregate.as_str();
     let ArchivePlaces {
         addressed,
         contents,
         length,
         ..
     } = report.places;
-    Ok(format!(in alloc;
-        "tiles {addressed}, contents {contents}\nbytes {length}\naggregate {hash}\n"
-    )?)
+    Ok(match &report.aggregate {
+        Some(hash) => {
+            let hash = hash.as_str();
+            format!(in alloc;
+                "tiles {addressed}, contents {contents}\nbytes {length}\naggregate {hash}\n"
+            )?
+        }
+        None => format!(in alloc; "tiles {addressed}, contents {contents}\nbytes {length}\n")?,
+    })
 }
 
-/// The text that is printed of an outcome: how many tiles and different contents the archive has, its bytes, and the aggregate hash of its tiles, in three lines; nothing
-/// where it isn't `Done`.
+/// The text that is printed of an outcome: a line with how many tiles and different contents the archive has, one with its
+/// bytes, and one with the aggregate hash of its tiles where that was made; nothing where it isn't `Done`.
 pub fn conversion_text(alloc: Global, outcome: &ConversionOutcome) -> Result<TextVal, OutOfMemory>
     ensures { IfOk result (λ t. t ≡ text outcome.now) }
 {

@@ -12,6 +12,8 @@ pub struct ConversionFlags {
     pub force: bool,
     /// Whether the stored aggregate hash of the set that is converted has to be there and right.
     pub verify: bool,
+    /// Whether the aggregate hash of the tiles is printed.
+    pub hash: bool,
     /// Whether an archive that is there is replaced.
     pub overwrite: bool,
     /// Whether nothing that the set says may be left out of the archive.
@@ -31,6 +33,7 @@ fn no_flags() -> ConversionFlags
     ConversionFlags {
         force: false,
         verify: false,
+        hash: false,
         overwrite: false,
         strict: false,
     }
@@ -44,6 +47,7 @@ fn with_flag(flags: ConversionFlags, word: &str) -> Option<ConversionFlags>
     match word {
         "--force" => flags.force = true,
         "--verify" => flags.verify = true,
+        "--hash" => flags.hash = true,
         "--overwrite" => flags.overwrite = true,
         "--strict" => flags.strict = true,
         _ => return None,
@@ -123,7 +127,7 @@ fn asked_after(
     }
 }
 
-/// The flags and the files that words ask for: `--force`, `--verify`, `--overwrite` and `--strict` anywhere in front of
+/// The flags and the files that words ask for: `--force`, `--verify`, `--hash`, `--overwrite` and `--strict` anywhere in front of
 /// `--`, and the file of the base, those of its patches in their order, and that of the archive. Words behind `--` are
 /// files, also where they begin with a dash, and a dash alone is one anywhere. None for other words: without two files at
 /// least, or where another word in front of `--` begins with a dash.

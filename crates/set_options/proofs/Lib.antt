@@ -5,3 +5,5 @@ pub mod StepLemmas
 pub mod DegreesLemmas
 pub mod NameLemmas
 pub mod WholeLemmas
+pub mod SetNameLemmas
+pub mod FactLemmas

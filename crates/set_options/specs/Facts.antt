@@ -17,14 +17,14 @@ abbrev pub with_zoom : Option (ℕ × ℕ) → ℕ → Option (ℕ × ℕ)
 with_zoom None zoom = Some (zoom, zoom)
 with_zoom (Some zooms) zoom = Some (min zooms.0 zoom, max zooms.1 zoom)
 
--- a tile more of at least one byte
-abbrev pub with_filled : TileFacts → ℕ → List ℕ → TileFacts
-with_filled f zoom bytes = record { zooms = with_zoom f.zooms zoom; gzip = f.gzip || is_gzip bytes; plain = f.plain || not (is_gzip bytes) }
+-- a tile more of at least one byte, which begins as gzip begins, or doesn't
+abbrev pub with_filled : TileFacts → ℕ → Bool → TileFacts
+with_filled f zoom gzip = record { zooms = with_zoom f.zooms zoom; gzip = f.gzip || gzip; plain = f.plain || not gzip }
 
 -- a tile more; null, and no byte, say nothing
 abbrev pub with_bytes : TileFacts → ℕ → List ℕ → TileFacts
 with_bytes f zoom [] = f
-with_bytes f zoom (byte ∷ bytes) = with_filled f zoom (byte ∷ bytes)
+with_bytes f zoom (byte ∷ bytes) = with_filled f zoom (is_gzip (byte ∷ bytes))
 
 abbrev pub with_cell : TileFacts → ℕ → Cell → TileFacts
 with_cell f zoom (Blob bytes) = with_bytes f zoom bytes

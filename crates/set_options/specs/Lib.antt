@@ -10,3 +10,4 @@ pub mod DegreesText
 pub mod Document
 pub mod ExtentsText
 pub mod Parting
+pub mod SetNames

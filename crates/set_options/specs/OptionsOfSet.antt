@@ -1,6 +1,6 @@
 -- The options of an archive that a set gives.
-use Rattle.std.specs.Prelude.{◌≡◌, ℕ, pos, List, Option, Some, None, codes, unwrap_or, refl}
-use Rattle.set_options.specs.Common.{option_and_then, text_at}
+use Rattle.std.specs.Prelude.{◌≡◌, ℕ, pos, List, Option, Some, None, codes, unwrap_or}
+use Rattle.set_options.specs.Common.{Names, option_and_then, text_at}
 use Rattle.mb_loaded.specs.State.{State}
 use Rattle.pm_format.specs.Options.{Options, default_options}
 use Rattle.set_options.specs.ArchiveJson.{IsTextOf, archive_data}
@@ -9,22 +9,31 @@ use Rattle.set_options.specs.Facts.{facts_of, label_of}
 use Rattle.set_options.specs.Format.{type_of}
 use Rattle.set_options.specs.declared.extents.SetBounds.{SetBounds}
 use Rattle.set_options.specs.declared.extents.SetCenter.{SetCenter}
+use Rattle.set_options.specs.declared.facts.TileFacts.{TileFacts}
 use Rattle.set_options.specs.declared.options.SetOptions.{SetOptions}
 
--- what a set says, with this text as the archive's metadata
-abbrev pub said_by : State → List ℕ → SetOptions
-said_by s text = record {
-  tile_type = type_of (text_at s.metadata (codes "format"));
-  tile_compression = label_of (type_of (text_at s.metadata (codes "format"))) (facts_of s.tiles);
-  zooms = unwrap_or (facts_of s.tiles).zooms (0, 0);
-  bounds = option_and_then bounds_in (text_at s.metadata (codes "bounds"));
-  center = option_and_then center_in (text_at s.metadata (codes "center"));
+-- what names and tiles say, with this text as the archive's metadata
+abbrev pub said_of : Names → TileFacts → List ℕ → SetOptions
+said_of names facts text = record {
+  tile_type = type_of (text_at names (codes "format"));
+  tile_compression = label_of (type_of (text_at names (codes "format"))) facts;
+  zooms = unwrap_or facts.zooms (0, 0);
+  bounds = option_and_then bounds_in (text_at names (codes "bounds"));
+  center = option_and_then center_in (text_at names (codes "center"));
   metadata = text;
 }
 
+-- options are what names and tiles say
+abbrev pub AreSaidOf : Names → TileFacts → SetOptions → Type 0
+AreSaidOf names facts o = IsTextOf o.metadata (archive_data names) × (o ≡ said_of names facts o.metadata)
+
+-- what a set says, with this text as the archive's metadata
+abbrev pub said_by : State → List ℕ → SetOptions
+said_by s text = said_of s.metadata (facts_of s.tiles) text
+
 -- options are what a set says of itself
 abbrev pub IsSaidBy : State → SetOptions → Type 0
-IsSaidBy s o = IsTextOf o.metadata (archive_data s.metadata) × (o ≡ said_by s o.metadata)
+IsSaidBy s o = AreSaidOf s.metadata (facts_of s.tiles) o
 
 -- bounds that aren't said are the whole world
 abbrev pub with_bounds : Option SetBounds → Options → Options

@@ -1,5 +1,5 @@
 -- Whether a row of metadata is in a form that its name asks for.
-use Rattle.std.specs.Prelude.{◌≡◌, ℕ, Bool, true, false, not, is_some, if◌then◌else◌, List, Some, codes, refl}
+use Rattle.std.specs.Prelude.{◌≡◌, ℕ, Bool, true, false, is_some, if◌then◌else◌, List, Some, codes, refl}
 use Rattle.set_options.specs.Common.{as_object, bytes_eq, option_and_then, read, TileType}
 use Rattle.pm_format.specs.declared.tile_type.TileType.TheVariants as types
 use Rattle.set_options.specs.Extents.{bounds_in, center_in}

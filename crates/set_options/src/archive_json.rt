@@ -3,8 +3,8 @@ ghost use Rattle.std.specs.Prelude.{◌≡◌, codes, IfOk, OnOk, Some, unwrap_o
 ghost use Rattle.set_options.specs.Common.{as_object, members_view, no_members, text_at, view};
 ghost use Rattle.set_options.specs.ArchiveJson.{archive_data, archive_members, is_left_out, members_in, with_name, IsTextOf};
 
+use crate::set_names::HasNames;
 use base_values::{OutOfMemory, TextVal};
-use mb_loaded::Loaded;
 use mb_store::Cell;
 use serde_json::{Map, Value};
 use std::alloc::Global;
@@ -70,33 +70,32 @@ fn members_of(alloc: Global, text: &str) -> Result<Map<String, Value>, OutOfMemo
 }
 
 // The members that the name `json` says.
-fn members_said(alloc: Global, set: &Loaded) -> Result<Map<String, Value>, OutOfMemory>
+fn members_said<N: HasNames>(alloc: Global, names: &N) -> Result<Map<String, Value>, OutOfMemory>
     ensures { IfOk result
-        (λ m. members_view m.entries ≡ members_in (text_at set.now.state.metadata (codes "json"))) }
+        (λ m. members_view m.entries ≡ members_in (text_at (N.names names.now) (codes "json"))) }
 {
-    match set.text("json") {
+    match names.said("json") {
         Some(text) => members_of(alloc, text.as_str()),
         None => Ok(Map::new(alloc)),
     }
 }
 
 // All members of an archive's metadata.
-fn archive_members(alloc: Global, set: &Loaded) -> Result<Map<String, Value>, OutOfMemory>
-    ensures { IfOk result
-        (λ m. members_view m.entries ≡ archive_members set.now.state.metadata) }
+fn archive_members<N: HasNames>(alloc: Global, names: &N) -> Result<Map<String, Value>, OutOfMemory>
+    ensures { IfOk result (λ m. members_view m.entries ≡ archive_members (N.names names.now)) }
 {
-    let mut members = members_said(alloc, set)?;
-    for index in 0..set.metadata_count() {
-        let (name, value) = set.metadata_at(index);
+    let mut members = members_said(alloc, names)?;
+    for index in 0..names.name_count() {
+        let (name, value) = names.name_at(index);
         put_name(alloc, &mut members, name, value)?;
     }
     Ok(members)
 }
 
 /// The text of an archive's metadata.
-pub(crate) fn archive_text(alloc: Global, set: &Loaded) -> Result<TextVal, OutOfMemory>
-    ensures { IfOk result (λ text. IsTextOf text (archive_data set.now.state.metadata)) }
+pub(crate) fn archive_text<N: HasNames>(alloc: Global, names: &N) -> Result<TextVal, OutOfMemory>
+    ensures { IfOk result (λ text. IsTextOf text (archive_data (N.names names.now))) }
 {
-    let value = Value::Object(archive_members(alloc, set)?);
+    let value = Value::Object(archive_members(alloc, names)?);
     Ok(TextVal::new(value.to_string(alloc)?))
 }

@@ -1,24 +1,24 @@
 // What the tiles of a set say of an archive.
 ghost use Rattle.std.specs.Prelude.{◌≡◌};
-ghost use Rattle.set_options.specs.Facts.{facts_of, is_gzip, label_of, with_bytes, with_cell, with_zoom};
+ghost use Rattle.set_options.specs.Facts.{facts_of, is_gzip, label_of, no_facts, with_bytes, with_cell, with_filled, with_zoom};
 
 use mb_loaded::Loaded;
 use mb_store::Cell;
 use pm_format::{Compression, TileType};
 
-/// What the tiles of at least one byte say.
+/// What the tiles of at least one byte say of an archive.
 #[derive(Clone, Copy, Debug)]
-pub(crate) struct TileFacts {
+pub struct TileFacts {
     /// Their least and greatest zoom.
-    pub(crate) zooms: Option<(u8, u8)>,
+    pub zooms: Option<(u8, u8)>,
     /// Whether one of them begins as gzip begins.
-    pub(crate) gzip: bool,
+    pub gzip: bool,
     /// Whether one of them doesn't.
-    pub(crate) plain: bool,
+    pub plain: bool,
 }
 
-// Whether bytes begin as gzip begins.
-fn is_gzip(bytes: &[u8]) -> bool
+/// Whether bytes begin as gzip begins: with 31 and 139.
+pub fn is_gzip(bytes: &[u8]) -> bool
     ensures { result ≡ is_gzip bytes.now }
 {
     match bytes {
@@ -37,6 +37,30 @@ fn with_zoom(span: Option<(u8, u8)>, zoom: u8) -> Option<(u8, u8)>
     }
 }
 
+impl TileFacts {
+    /// What no tile says.
+    pub fn none() -> TileFacts
+        ensures { result ≡ no_facts }
+    {
+        TileFacts {
+            zooms: None,
+            gzip: false,
+            plain: false,
+        }
+    }
+
+    /// The same with a tile more of at least one byte: its zoom, and whether it begins as gzip begins.
+    pub fn with_tile(self, zoom: u8, gzip: bool) -> TileFacts
+        ensures { result ≡ with_filled self zoom gzip }
+    {
+        TileFacts {
+            zooms: with_zoom(self.zooms, zoom),
+            gzip: self.gzip || gzip,
+            plain: self.plain || !gzip,
+        }
+    }
+}
+
 // A tile more.
 fn with_bytes(facts: TileFacts, zoom: u8, bytes: &[u8]) -> TileFacts
     ensures { result ≡ with_bytes facts zoom bytes.now }
@@ -44,12 +68,7 @@ fn with_bytes(facts: TileFacts, zoom: u8, bytes: &[u8]) -> TileFacts
     if bytes.is_empty() {
         return facts;
     }
-    let gzip = is_gzip(bytes);
-    TileFacts {
-        zooms: with_zoom(facts.zooms, zoom),
-        gzip: facts.gzip || gzip,
-        plain: facts.plain || !gzip,
-    }
+    facts.with_tile(zoom, is_gzip(bytes))
 }
 
 // The same of the tile's cell.
@@ -66,11 +85,7 @@ fn with_cell(facts: TileFacts, zoom: u8, cell: &Cell) -> TileFacts
 pub(crate) fn facts_of(set: &Loaded) -> TileFacts
     ensures { result ≡ facts_of set.now.state.tiles }
 {
-    let mut facts = TileFacts {
-        zooms: None,
-        gzip: false,
-        plain: false,
-    };
+    let mut facts = TileFacts::none();
     for index in 0..set.tile_count() {
         let (coord, cell) = set.tile_at(index);
         let next = with_cell(facts, coord.z(), cell);

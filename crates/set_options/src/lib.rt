@@ -12,10 +12,13 @@ mod format;
 pub mod laws;
 mod options;
 mod parting;
+mod set_names;
 mod understood;
 
 pub use archive_json::is_left_out;
 pub use document::document_of_archive;
 pub use extents::{SetBounds, SetCenter};
+pub use facts::{TileFacts, is_gzip};
 pub use options::{SetOptions, options_of_set};
+pub use set_names::SetNames;
 pub use understood::is_understood;

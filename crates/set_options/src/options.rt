@@ -3,13 +3,14 @@ ghost use Rattle.std.specs.Prelude.{◌≡◌, codes, IfOk};
 ghost use Rattle.set_options.specs.Common.{option_and_then, text_at};
 ghost use Rattle.set_options.specs.Extents.{bounds_in, center_in};
 ghost use Rattle.set_options.specs.Format.{type_of};
-ghost use Rattle.set_options.specs.OptionsOfSet.{AreOptionsOfSet, IsSaidBy, unsaid_center, with_bounds, with_center, with_center_zoom, writer_of};
+ghost use Rattle.set_options.specs.OptionsOfSet.{AreOptionsOfSet, AreSaidOf, IsSaidBy, unsaid_center, with_bounds, with_center, with_center_zoom, writer_of};
 
 use crate::archive_json::archive_text;
 use crate::extents::{bounds_in, center_in};
 use crate::facts::{facts_of, label_of};
 use crate::format::type_of;
-use crate::{SetBounds, SetCenter};
+use crate::set_names::HasNames;
+use crate::{SetBounds, SetCenter, SetNames, TileFacts};
 use base_values::{OutOfMemory, TextVal};
 use mb_loaded::Loaded;
 use pm_format::{Compression, TileType};
@@ -34,24 +35,44 @@ pub struct SetOptions {
 }
 
 // The type that the text under `format` says.
-fn type_said(set: &Loaded) -> TileType
-    ensures { result ≡ type_of (text_at set.now.state.metadata (codes "format")) }
+fn type_said<N: HasNames>(names: &N) -> TileType
+    ensures { result ≡ type_of (text_at (N.names names.now) (codes "format")) }
 {
-    type_of(set.text("format"))
+    type_of(names.said("format"))
 }
 
 // The bounds that the text under `bounds` says.
-fn bounds_said(set: &Loaded) -> Option<SetBounds>
-    ensures { result ≡ option_and_then bounds_in (text_at set.now.state.metadata (codes "bounds")) }
+fn bounds_said<N: HasNames>(names: &N) -> Option<SetBounds>
+    ensures { result ≡ option_and_then bounds_in (text_at (N.names names.now) (codes "bounds")) }
 {
-    bounds_in(set.text("bounds")?.as_str().as_bytes())
+    bounds_in(names.said("bounds")?.as_str().as_bytes())
 }
 
 // The center that the text under `center` says.
-fn center_said(set: &Loaded) -> Option<SetCenter>
-    ensures { result ≡ option_and_then center_in (text_at set.now.state.metadata (codes "center")) }
+fn center_said<N: HasNames>(names: &N) -> Option<SetCenter>
+    ensures { result ≡ option_and_then center_in (text_at (N.names names.now) (codes "center")) }
 {
-    center_in(set.text("center")?.as_str().as_bytes())
+    center_in(names.said("center")?.as_str().as_bytes())
+}
+
+// What names and tiles say.
+fn said_of<N: HasNames>(
+    alloc: Global,
+    names: &N,
+    facts: TileFacts,
+) -> Result<SetOptions, OutOfMemory>
+    ensures { IfOk result (AreSaidOf (N.names names.now) facts) }
+{
+    let tile_type = type_said(names);
+    let metadata = archive_text(alloc, names)?;
+    Ok(SetOptions {
+        tile_type,
+        tile_compression: label_of(tile_type, facts),
+        zooms: facts.zooms.unwrap_or((0, 0)),
+        bounds: bounds_said(names),
+        center: center_said(names),
+        metadata,
+    })
 }
 
 impl SetOptions {
@@ -66,17 +87,18 @@ impl SetOptions {
     pub fn of_set(alloc: Global, set: &Loaded) -> Result<SetOptions, OutOfMemory>
         ensures { IfOk result (IsSaidBy set.now.state) }
     {
-        let tile_type = type_said(set);
-        let facts = facts_of(set);
-        let metadata = archive_text(alloc, set)?;
-        Ok(SetOptions {
-            tile_type,
-            tile_compression: label_of(tile_type, facts),
-            zooms: facts.zooms.unwrap_or((0, 0)),
-            bounds: bounds_said(set),
-            center: center_said(set),
-            metadata,
-        })
+        said_of(alloc, set, facts_of(set))
+    }
+
+    /// What the names of a set and its tiles say of its archive, as `of_set` has it of a loaded set.
+    pub fn of_parts(
+        alloc: Global,
+        names: &SetNames,
+        facts: TileFacts,
+    ) -> Result<SetOptions, OutOfMemory>
+        ensures { IfOk result (AreSaidOf names.now facts) }
+    {
+        said_of(alloc, names, facts)
     }
 
     /// The writer of the archive that these options are of. Where they say no bounds, it has those of the world; where

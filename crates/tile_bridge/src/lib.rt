@@ -17,4 +17,5 @@ pub use conversion::convert;
 pub use error::ConvertError;
 pub use options::{ArchiveOptions, ConvertOptions};
 pub use owned::convert_owned;
+pub use reading_back::read_answers;
 pub use report::{Answers, ConvertReport};

@@ -59,7 +59,7 @@ fn read_answer<B: Backend>(
 ///
 /// Over a well-formed archive that the backend tells, no refusal comes but `Reading(Fault)`, which comes only where the count of faults rose, and want of memory. The opening
 /// is one read, and so is each answer of at least one byte at least.
-pub(crate) fn read_answers<B: Backend>(
+pub fn read_answers<B: Backend>(
     alloc: Global,
     backend: &mut B,
     coords: &[TileCoord],

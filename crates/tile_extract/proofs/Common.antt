@@ -26,6 +26,7 @@ pub use Rattle.pm_writer.specs.Pieces.{IsHiddenOr}
 pub use Rattle.pm_writer.specs.Took.{Took}
 pub use Rattle.pm_writer.specs.Writing.{AddFits}
 pub use Rattle.pm_writer.specs.declared.state.WriterState.{WriterState}
+pub use Rattle.std.proofs.Common.{OnOk, ◌||◌, ◌%◌, ◌/◌, ◌==◌, ◌↔◌}
 pub use Rattle.std.proofs.Common.{All, ap, arith, Bool, codes, cond, drop, Err, false, FitsSigned, IfSome, if◌then◌else◌, inl, inr, is_some, IsSome, length, length-append, length-take, List, max, min}
 pub use Rattle.std.proofs.Common.{nat_eq, nat_le, nat_lt, None, not, Ok, Option, option_map, refl, Result, rules, slice_get, slice_index, Some, subst, suc, sum_by, sym, T, take, true, w32, zero, ℕ, ℤ}
 pub use Rattle.std.proofs.Common.{[], ◌&&◌, ◌*◌, ◌++◌, ◌+◌, ◌-◌, ◌<◌, ◌^◌, ◌∙◌, ◌∷◌, ◌≡◌, ◌≢◌, ◌≤◌, ◌⊎◌}
@@ -42,16 +43,27 @@ pub use Rattle.tile_extract.specs.Common.{add_to, AllLieIn, archive_map, Archive
 pub use Rattle.tile_extract.specs.Common.{in_intervals, IsCoord, IsHidden, IsUtf8, KeepsMedium, metadata_read, nat_cmp, Opened, Options, parts, places_of, places_read, PmtError, range_of, ReadsOnly}
 pub use Rattle.tile_extract.specs.Common.{root_of, Rose, Sound, tile_count, Walked, Writes}
 unfoldable pub use Rattle.tile_extract.specs.Common.{archive, opened, walked}
-pub use Rattle.tile_extract.specs.Completeness.{CanExtract, EndsWell, IsDoneOrWanting}
-pub use Rattle.tile_extract.specs.Cut.{cut, interval, intervals_from, options_from, options_of, options_opened, options_with}
+pub use Rattle.tile_extract.specs.Boxes.{AreParted, area_of, box_covers, box_holds, box_meets, boxes_hold, in_boxes, widened, zooms_of}
+pub use Rattle.tile_extract.specs.Common.{filter, id_of, list_any, number_of, pyramid}
+unfoldable pub use Rattle.tile_extract.specs.Common.{coord_of}
+pub use Rattle.tile_extract.specs.Completeness.{CanExtract, EndsWell, IsDoneOrWanting, PartCanExtract, PartEndsWell}
+pub use Rattle.tile_extract.specs.Cut.{interval, intervals_from, subtree}
 unfoldable pub use Rattle.tile_extract.specs.Cut.{intervals}
-pub use Rattle.tile_extract.specs.Extract.{Added, Answers, AreKept, Causes, CollectCauses, CollectRefuses, count_met, Due, IntoBytes, IntoCauses, IntoLeaves, IsCollected, IsDone, IsEarly, IsEmpty}
-pub use Rattle.tile_extract.specs.Extract.{IsExtract, IsLate, IsMetadataRefused, IsValid, LeavesUncompared, MayBeTile, Overflows, parts_met, ReadCauses, Refuses, ShowsNoPart, Source}
+pub use Rattle.tile_extract.specs.Extract.{Added, AreKept, CollectCauses, CollectRefuses, Due, HasZooms, IntoBytes, IntoCauses, IntoLeaves, IsCollected, IsDone, IsEarly, IsEmpty, IsExtract, IsLate}
+pub use Rattle.tile_extract.specs.Extract.{IsMetadataRefused, MayBeTile, Overflows, part_count, PartAnswers, PartCauses, parts_met, PartUncompared, ReadCauses, Refuses, ShowsNoPart, Source}
+pub use Rattle.tile_extract.specs.Gathering.{AllWanted, block_start, Gathered, low_behind, PartedBelow, Wants}
 pub use Rattle.tile_extract.specs.Met.{met_of}
+pub use Rattle.tile_extract.specs.Part.{cut, options_of, options_opened, options_with, part_options}
+pub use Rattle.tile_extract.specs.Subtree.{Answers, Causes, count_met, IsValid}
 pub use Rattle.tile_extract.specs.Words.{Asked, asked, asked_in}
 pub use Rattle.tile_extract.specs.Written.{Adds, AddsLieIn, AreAt, ByRoom, ComesTo, EndsBy, ids_of, IsWritten, of_read_error, of_walk_error, of_write_error, PartsAdded, PartsOverflow, PartsPut}
 pub use Rattle.tile_extract.specs.Written.{PartsRefuse, put_all, put_next, put_parts, Puts, PutsAll, PutsFound, PutsNext, PutsParts, Rises, ShowsNone, WriteCauses, WritesParts}
 unfoldable pub use Rattle.tile_extract.specs.Written.{has_room}
 pub use Rattle.tile_extract.specs.declared.error.ExtractError.{ExtractError}
 pub use Rattle.tile_extract.specs.declared.error.ExtractError.TheVariants.{Archive, IndexEntryOverflow, InvalidZoom, MediumFault, MediumNotEmpty, OutOfMemory, TooManyTiles}
-pub use Rattle.tile_ids.specs.declared.id.TheConstants.{MAX_TILE_ID}
+pub use Rattle.tile_extract.specs.declared.part.TilePart.{TilePart}
+pub use Rattle.tile_extract.specs.declared.zoom_box.ZoomBox.{ZoomBox}
+pub use Rattle.pm_walk.specs.Intervals.{lies_in}
+unfoldable pub use Rattle.tile_ids.specs.Hilbert.{tile_id}
+pub use Rattle.tile_ids.specs.Coord.{IsDescendant}
+pub use Rattle.tile_ids.specs.declared.id.TheConstants.{MAX_TILE_ID, PYRAMID_SIZE_BY_ZOOM}

@@ -1,9 +1,10 @@
 -- What can be extracted is.
-use Rattle.tile_extract.proofs.Common.{add_to, Added, Adds, and_from, Answers, ap, Archive, ArchiveFits, ArchivePlaces, AreOrdered, arith, Bool, CanExtract, Causes, Coord, count_met, data_end, drop}
-use Rattle.tile_extract.proofs.Common.{Due, EndsWell, entries, entries_sorted, Entry, Err, ExtractError, false, find, from_entries, get, get-from_entries, has_room, Header, ids_of, if◌then◌else◌}
-use Rattle.tile_extract.proofs.Common.{IndexEntryOverflow, inl, inr, intervals, InvalidZoom, IsDoneOrWanting, IsEarly, IsLate, IsMetadataRefused, IsSome, IsUtf8, length, length-take, List}
+use Rattle.tile_extract.proofs.Common.{AreApart, Coord, EndsWell, subtree}
+use Rattle.tile_extract.proofs.Common.{add_to, Added, Adds, and_from, PartAnswers, ap, Archive, ArchiveFits, ArchivePlaces, AreOrdered, arith, Bool, PartCanExtract, PartCauses, TilePart, part_count, data_end, drop}
+use Rattle.tile_extract.proofs.Common.{Due, PartEndsWell, entries, entries_sorted, Entry, Err, ExtractError, false, find, from_entries, get, get-from_entries, has_room, Header, ids_of, if◌then◌else◌}
+use Rattle.tile_extract.proofs.Common.{IndexEntryOverflow, inl, inr, InvalidZoom, IsDoneOrWanting, IsEarly, IsLate, IsMetadataRefused, IsSome, IsUtf8, length, length-take, List}
 use Rattle.tile_extract.proofs.Common.{MediumFault, MediumNotEmpty, met_of, metadata_read, nat_cmp, nat_cmp-IsAntisymmetric, nat_cmp_total, nat_le, nat_lt, None, none-some, not, Ok, Opened, opened}
-use Rattle.tile_extract.proofs.Common.{Option, Options, options_from, OutOfMemory, parts_met, PmtError, put_all, put_next, put_parts, range_of, ReadCauses, refl, Result, Rose, same_map, Some, Source}
+use Rattle.tile_extract.proofs.Common.{Option, Options, part_options, OutOfMemory, parts_met, PmtError, put_all, put_next, put_parts, range_of, ReadCauses, refl, Result, Rose, same_map, Some, Source}
 use Rattle.tile_extract.proofs.Common.{subst, sym, T, take, tile_found, to_lt, TooManyTiles, true, ℕ, [], ◌&&◌, ◌+◌, ◌<◌, ◌^◌, ◌∙◌, ◌∷◌, ◌≡◌, ◌≤◌, ◌⊎◌}
 use Rattle.pm_format.specs.declared.error.PmtError.TheVariants as errors
 use Rattle.pm_format.specs.declared.error.ReadCause.TheVariants as causes
@@ -11,6 +12,7 @@ use Rattle.pm_writer.proofs.AddedBytes.{end_more}
 use Rattle.pm_walk.specs.declared.error.WalkError.TheVariants as walk
 use Rattle.tile_extract.proofs.AddedLemmas.{ends_nothing, ok_is, sorted_by}
 use Rattle.tile_extract.proofs.CutLemmas.{cut_held, parts_in_order}
+use Rattle.tile_extract.proofs.IntervalLemmas.{apart}
 use Rattle.tile_extract.proofs.SoundLemmas.{AreThere, GoesWell, archive_well, parts_there}
 use Rattle.tile_extract.proofs.TileLemmas.{add_all, add_each, bytes_at, all_held, all_rise}
 
@@ -61,33 +63,33 @@ all_put o h b (p ∷ ps) done there ends = by_range (range_of b (h.data_offset +
         ∙ next (add_each bytes done (ids_of p)) ends
 
 -- the parts of a sound archive are added one after another
-module _ (b : List ℕ) (c : Coord) (m most : ℕ) (can : CanExtract b c m most) where
+module _ (b : List ℕ) (part : TilePart) (most : ℕ) (order : AreApart 0 part.intervals) (can : PartCanExtract b part most) where
   abbrev head : Header
   head = can.sound.found.0
 
   abbrev pieces : List Entry
-  pieces = parts_met b can.sound.found c m
+  pieces = parts_met b can.sound.found part
 
   abbrev opts : Options
-  opts = options_from head can.text c m
+  opts = part_options head can.text part
 
   abbrev all : Adds
   all = add_all head b pieces []
 
-  well : GoesWell head b (met_of b can.sound.found c m)
-  well = archive_well b can.sound c m
+  well : GoesWell head b (met_of b can.sound.found part)
+  well = archive_well b can.sound part
 
   in_order : AreOrdered 0 pieces None
-  in_order = parts_in_order b can.sound.found c m well.fine
+  in_order = parts_in_order b can.sound.found part order well.fine
 
   entries_are : entries can.tiles ≡ all
   entries_are =
       let sorted = sorted_by 0 all (all_rise head b pieces 0 [] in_order ends_nothing) in
-      let same : (id : ℕ) → get can.tiles id ≡ find nat_cmp id all = λ id. can.are id ∙ cut_held b can.sound.found c m id can.sound.opens well.fine ∙ sym (all_held head b pieces id in_order) ∙ tile_found all id in
+      let same : (id : ℕ) → get can.tiles id ≡ find nat_cmp id all = λ id. can.are id ∙ cut_held b can.sound.found part id can.sound.opens well.fine ∙ sym (all_held head b pieces id in_order) ∙ tile_found all id in
       ap entries (same_map nat_cmp_total nat_cmp-IsAntisymmetric can.tiles (from_entries all) (λ id. same id ∙ sym (get-from_entries nat_cmp_total all id))) ∙ entries_sorted all sorted
 
   put : put_parts opts head b pieces [] ≡ Ok all
-  put = all_put opts head b pieces [] (parts_there head b (intervals c m) (met_of b can.sound.found c m).entries well.there) (subst (λ l. data_end opts l < 2 ^ 64) entries_are can.ends)
+  put = all_put opts head b pieces [] (parts_there head b part.intervals (met_of b can.sound.found part).entries well.there) (subst (λ l. data_end opts l < 2 ^ 64) entries_are can.ends)
 
   -- what another reading of the archive finds
   same_found : (o : Opened) → opened b ≡ Ok o → o ≡ can.sound.found
@@ -96,44 +98,44 @@ module _ (b : List ℕ) (c : Coord) (m most : ℕ) (can : CanExtract b c m most)
   same_text : (o : Opened) (text : List ℕ) → opened b ≡ Ok o → metadata_read b o.0 ≡ Ok text → text ≡ can.text
   same_text o text opens is = ok_is text can.text (sym is ∙ ap (λ p. metadata_read b p.0) (same_found o opens) ∙ can.metadata)
 
-  put_again : (d : Due b c m most) → Added (Some []) b c m most d (Ok all)
+  put_again : (d : Due b part most) → Added (Some []) b part most d (Ok all)
   put_again d =
-      ap (λ t. put_parts (options_from d.source.found.0 t c m) d.source.found.0 b (parts_met b d.source.found c m) []) (same_text d.source.found d.source.text d.source.opens d.source.metadata)
-      ∙ ap (λ o. put_parts (options_from o.0 can.text c m) o.0 b (parts_met b o c m) []) (same_found d.source.found d.source.opens) ∙ put
+      ap (λ t. put_parts (part_options d.source.found.0 t part) d.source.found.0 b (parts_met b d.source.found part) []) (same_text d.source.found d.source.text d.source.opens d.source.metadata)
+      ∙ ap (λ o. put_parts (part_options o.0 can.text part) o.0 b (parts_met b o part) []) (same_found d.source.found d.source.opens) ∙ put
 
   -- no refusal comes
   no_metadata : (r : Result (List ℕ) PmtError) (e : PmtError) → r ≡ Ok can.text → IsMetadataRefused r e → ⊥
   no_metadata r errors.InvalidMetadataUtf8Encoding is refused = refused.2 (subst IsUtf8 (ok_is can.text refused.0 (sym is ∙ refused.1)) can.utf8)
   no_metadata r e is refused = let bad : Ok can.text ≡ Err e = sym is ∙ refused in absurd (cc)
 
-  no_early : (e : PmtError) → (e ≡ errors.Reading causes.Fault → ⊥) → IsEarly b c m e → ⊥
+  no_early : (e : PmtError) → (e ≡ errors.Reading causes.Fault → ⊥) → IsEarly b part e → ⊥
   no_early (errors.Reading causes.Fault) fault is = fault refl
   no_early (errors.UnexpectedNumberOfBytesReturned asked got) fault is = is
   no_early errors.OutOfMemory fault is = is
   no_early e fault (inl is) = let bad : Ok can.sound.found ≡ Err e = sym can.sound.opens ∙ is in absurd (cc)
   no_early e fault (inr (inl is)) = no_metadata (metadata_read b is.0.0) e (ap (λ p. metadata_read b p.0) (same_found is.0 is.1) ∙ can.metadata) is.2
   no_early e fault (inr (inr is)) =
-      none-some (walk.Archive e) (sym (ap (λ o. (met_of b o c m).refusal) (same_found is.0.found is.0.opens) ∙ well.fine) ∙ is.1)
+      none-some (walk.Archive e) (sym (ap (λ o. (met_of b o part).refusal) (same_found is.0.found is.0.opens) ∙ well.fine) ∙ is.1)
 
-  no_late : (e : PmtError) → (e ≡ errors.Reading causes.Fault → ⊥) → IsLate (Some []) b c m most e → ⊥
+  no_late : (e : PmtError) → (e ≡ errors.Reading causes.Fault → ⊥) → IsLate (Some []) b part most e → ⊥
   no_late (errors.Reading causes.Fault) fault is = fault refl
   no_late (errors.UnexpectedNumberOfBytesReturned asked got) fault is = is
   no_late e fault is = let bad : Ok all ≡ Err (Archive e) = sym (put_again is.0) ∙ is.1 in absurd (cc)
 
-  no_overflow : (d : Due b c m most) → (Added (Some []) b c m most d (Err IndexEntryOverflow) ⊎ ((adds : Adds) × Added (Some []) b c m most d (Ok adds) × (ArchiveFits (options_from d.source.found.0 d.source.text c m) adds → ⊥))) → ⊥
+  no_overflow : (d : Due b part most) → (Added (Some []) b part most d (Err IndexEntryOverflow) ⊎ ((adds : Adds) × Added (Some []) b part most d (Ok adds) × (ArchiveFits (part_options d.source.found.0 d.source.text part) adds → ⊥))) → ⊥
   no_overflow d (inl is) = let bad : Ok all ≡ Err IndexEntryOverflow = sym (put_again d) ∙ is in absurd (cc)
   no_overflow d (inr is) =
       let same : is.0 ≡ all = ok_is is.0 all (sym is.1 ∙ put_again d) in
       let fits : ArchiveFits opts is.0 = subst (ArchiveFits opts) (sym same) (subst (ArchiveFits opts) entries_are can.fits) in
-      is.2 (subst (λ o. ArchiveFits (options_from o.0 d.source.text c m) is.0) (sym (same_found d.source.found d.source.opens)) (subst (λ t. ArchiveFits (options_from head t c m) is.0) (sym (same_text d.source.found d.source.text d.source.opens d.source.metadata)) fits))
+      is.2 (subst (λ o. ArchiveFits (part_options o.0 d.source.text part) is.0) (sym (same_found d.source.found d.source.opens)) (subst (λ t. ArchiveFits (part_options head t part) is.0) (sym (same_text d.source.found d.source.text d.source.opens d.source.metadata)) fits))
 
-  no_many : (s : Source b) → most < count_met b s.found c m → ⊥
-  no_many s more = let few : count_met b s.found c m ≤ most = subst (λ o. count_met b o c m ≤ most) (sym (same_found s.found s.opens)) can.few in omega (arith, few, more)
+  no_many : (s : Source b) → most < part_count b s.found part → ⊥
+  no_many s more = let few : part_count b s.found part ≤ most = subst (λ o. part_count b o part ≤ most) (sym (same_found s.found s.opens)) can.few in omega (arith, few, more)
 
   no_fault : (before now : ℕ) (e : PmtError) → (Rose before now → ⊥) → ReadCauses before now e → e ≡ errors.Reading causes.Fault → ⊥
   no_fault before now e calm cause is = calm (subst (ReadCauses before now) is cause)
 
-  ends_well : (result : Result ArchivePlaces ExtractError) (before now old new : ℕ) → Causes c m most (Some []) before now old new result → Answers (Some []) b c m most result → (Rose before now → ⊥) → (Rose old new → ⊥) → IsDoneOrWanting result
+  ends_well : (result : Result ArchivePlaces ExtractError) (before now old new : ℕ) → PartCauses part most (Some []) before now old new result → PartAnswers (Some []) b part most result → (Rose before now → ⊥) → (Rose old new → ⊥) → IsDoneOrWanting result
   ends_well (Ok p) before now old new cause is calm quiet = tt
   ends_well (Err (InvalidZoom tile asked)) before now old new cause is calm quiet = cause.2 can.zoom
   ends_well (Err (MediumNotEmpty n)) before now old new cause is calm quiet = omega (arith, cause.1, cause.2)
@@ -145,5 +147,9 @@ module _ (b : List ℕ) (c : Coord) (m most : ℕ) (can : CanExtract b c m most)
   ends_well (Err MediumFault) before now old new cause is calm quiet = quiet cause.1
   ends_well (Err OutOfMemory) before now old new cause is calm quiet = tt
 
+pub parts_end_well : (b : List ℕ) (part : TilePart) (most : ℕ) (result : Result ArchivePlaces ExtractError) → PartEndsWell b part most result
+parts_end_well b part most result before now old new order can cause is calm quiet = ends_well b part most order can result before now old new cause is calm quiet
+
+-- the same of a tile and its descendants
 pub all_end_well : (b : List ℕ) (c : Coord) (m most : ℕ) (result : Result ArchivePlaces ExtractError) → EndsWell b c m most result
-all_end_well b c m most result before now old new can cause is calm quiet = ends_well b c m most can result before now old new cause is calm quiet
+all_end_well b c m most result before now old new can cause is calm quiet = ends_well b (subtree c m) most (apart c m) can result before now old new cause is calm quiet

@@ -1,11 +1,10 @@
 -- The tiles of the part that is extracted, by the parts of the tile entries that are met.
-use Rattle.tile_extract.proofs.Common.{and_parts, ap, archive_map, archive_tile, AreOrdered, arith, Bool, clip_all, clips_inside, clips_none, Coord, covering, covering_behind, covers_here}
-use Rattle.tile_extract.proofs.Common.{covers_later, cut, empty_held, Entry, Err, false, filled, has_id, Header, held, if◌then◌else◌, in_intervals, inl, inr, intervals, IsPartOf, length, List}
+use Rattle.tile_extract.proofs.Common.{and_parts, ap, archive_map, archive_tile, AreApart, AreOrdered, arith, Bool, clip_all, clips_inside, clips_none, TilePart, covering, covering_behind, covers_here}
+use Rattle.tile_extract.proofs.Common.{covers_later, cut, empty_held, Entry, Err, false, filled, has_id, Header, held, if◌then◌else◌, in_intervals, inl, inr, IsPartOf, length, List}
 use Rattle.tile_extract.proofs.Common.{MAX_TILE_ID, met_of, nat_eq, nat_le, nat_lt, nat_tests, None, none_below, none_past, Ok, Opened, opened, Option, parts, parts_none, parts_of, parts_ordered}
 use Rattle.tile_extract.proofs.Common.{parts_outside, PmtError, range_of, refl, Result, Some, sym, true, Within, ℕ, [], ◌++◌, ◌+◌, ◌<◌, ◌∙◌, ◌∷◌, ◌≡◌}
 use Rattle.pm_format.specs.declared.error.PmtError.TheVariants as errors
 use Rattle.pm_format.specs.declared.error.ReadCause.TheVariants as causes
-use Rattle.tile_extract.proofs.IntervalLemmas.{apart}
 use Rattle.pm_walk.proofs.OrderLemmas.{walked_ordered}
 use Rattle.pm_format.proofs.SearchLemmas.{le_or}
 use Rattle.pm_walk.proofs.WholeLemmas.{tile_found}
@@ -41,25 +40,25 @@ parts_held h b t is low (e ∷ es) end o lies = by_test (has_id t e) refl (nat_e
         ap (held h b) (covering_behind t (parts_of is e) (parts is es) (none_of (nat_eq e.length 0) has)) ∙ rest ∙ sym (ap (held h b) (covers_later t e es has))
 
 -- the part that is cut out of an archive is what the parts lead to
-pub cut_held : (b : List ℕ) (o : Opened) (c : Coord) (m t : ℕ) → opened b ≡ Ok o → (met_of b o c m).refusal ≡ None
-    → cut (archive_map b) c m t ≡ held o.0 b (covering t (parts (intervals c m) (met_of b o c m).entries))
-cut_held b o c m t opens fine = by_test (in_intervals t (intervals c m)) refl
+pub cut_held : (b : List ℕ) (o : Opened) (part : TilePart) (t : ℕ) → opened b ≡ Ok o → (met_of b o part).refusal ≡ None
+    → cut (archive_map b) part t ≡ held o.0 b (covering t (parts part.intervals (met_of b o part).entries))
+cut_held b o part t opens fine = by_test (in_intervals t part.intervals) refl
   where
-    by_test : (x : Bool) → in_intervals t (intervals c m) ≡ x → (if x then archive_map b t else None) ≡ held o.0 b (covering t (parts (intervals c m) (met_of b o c m).entries))
-    by_test false lies = sym (ap (held o.0 b) (parts_outside t (intervals c m) 0 (met_of b o c m).entries None (walked_ordered Within 6 o.0 b (intervals c m) 0 None o.1 fine refl) lies))
+    by_test : (x : Bool) → in_intervals t part.intervals ≡ x → (if x then archive_map b t else None) ≡ held o.0 b (covering t (parts part.intervals (met_of b o part).entries))
+    by_test false lies = sym (ap (held o.0 b) (parts_outside t part.intervals 0 (met_of b o part).entries None (walked_ordered Within 6 o.0 b part.intervals 0 None o.1 fine refl) lies))
     by_test true lies =
         elim (le_or t MAX_TILE_ID) [
           | inl le ↦
               let test : nat_le t MAX_TILE_ID ≡ true = grind (arith, nat_tests) in
-              ap (λ y. if y then filled (archive_tile b t) else None) test ∙ tile_found Within (intervals c m) b o t opens fine lies
-              ∙ sym (parts_held o.0 b t (intervals c m) 0 (met_of b o c m).entries None (walked_ordered Within 6 o.0 b (intervals c m) 0 None o.1 fine refl) lies)
+              ap (λ y. if y then filled (archive_tile b t) else None) test ∙ tile_found Within part.intervals b o t opens fine lies
+              ∙ sym (parts_held o.0 b t part.intervals 0 (met_of b o part).entries None (walked_ordered Within 6 o.0 b part.intervals 0 None o.1 fine refl) lies)
           | inr past ↦
               let test : nat_le t MAX_TILE_ID ≡ false = grind (arith, nat_tests) in
               ap (λ y. if y then filled (archive_tile b t) else None) test
-              ∙ sym (parts_held o.0 b t (intervals c m) 0 (met_of b o c m).entries None (walked_ordered Within 6 o.0 b (intervals c m) 0 None o.1 fine refl) lies
-              ∙ ap (held o.0 b) (none_past t 0 (met_of b o c m).entries None (walked_ordered Within 6 o.0 b (intervals c m) 0 None o.1 fine refl) past))
+              ∙ sym (parts_held o.0 b t part.intervals 0 (met_of b o part).entries None (walked_ordered Within 6 o.0 b part.intervals 0 None o.1 fine refl) lies
+              ∙ ap (held o.0 b) (none_past t 0 (met_of b o part).entries None (walked_ordered Within 6 o.0 b part.intervals 0 None o.1 fine refl) past))
         ]
 
 -- the parts that are met are in order
-pub parts_in_order : (b : List ℕ) (o : Opened) (c : Coord) (m : ℕ) → (met_of b o c m).refusal ≡ None → AreOrdered 0 (parts (intervals c m) (met_of b o c m).entries) None
-parts_in_order b o c m fine = parts_ordered (intervals c m) 0 (met_of b o c m).entries None (apart c m) (walked_ordered Within 6 o.0 b (intervals c m) 0 None o.1 fine refl)
+pub parts_in_order : (b : List ℕ) (o : Opened) (part : TilePart) → AreApart 0 part.intervals → (met_of b o part).refusal ≡ None → AreOrdered 0 (parts part.intervals (met_of b o part).entries) None
+parts_in_order b o part order fine = parts_ordered part.intervals 0 (met_of b o part).entries None order (walked_ordered Within 6 o.0 b part.intervals 0 None o.1 fine refl)

@@ -1,6 +1,6 @@
 -- What an archive says beside its tiles lies within its types.
-use Rattle.tile_extract.proofs.Common.{All, ap, arith, Bool, bytes_eq, codes, Coord, dir_of, drop, Entry, Err, false, FitsSigned, Header, if◌then◌else◌, IsValid, length, List, nat_lt, None, Ok}
-use Rattle.tile_extract.proofs.Common.{Opened, opened, Option, options_from, OptionsFit, PmtError, refl, Result, root_decoded, root_labelled, root_placed, slice_get, slice_index, Some, subst, suc}
+use Rattle.tile_extract.proofs.Common.{All, ap, arith, Bool, bytes_eq, codes, TilePart, dir_of, drop, Entry, Err, false, FitsSigned, Header, if◌then◌else◌, HasZooms, length, List, nat_lt, None, Ok}
+use Rattle.tile_extract.proofs.Common.{Opened, opened, Option, part_options, OptionsFit, PmtError, refl, Result, root_decoded, root_labelled, root_placed, slice_get, slice_index, Some, subst, suc}
 use Rattle.tile_extract.proofs.Common.{sym, take, true, w32, zero, ℕ, ℤ, [], ◌+◌, ◌<◌, ◌^◌, ◌∙◌, ◌∷◌, ◌≡◌}
 use Rattle.std.proofs.lemmas.List.Elements.{All-head, All-tail, All-take}
 use Rattle.std.specs.Int.{Width, cast_signed}
@@ -76,8 +76,8 @@ byte_fits (x ∷ b) zero all = All-head (λ byte. byte < 256) x b all
 byte_fits (x ∷ b) (suc at) all = byte_fits b at (All-tail (λ byte. byte < 256) x b all)
 
 -- the options that are taken from an archive fit
-pub options_fit : (b : List ℕ) (o : Opened) (text : List ℕ) (c : Coord) (m : ℕ) → All (λ byte. byte < 256) b → opened b ≡ Ok o → IsValid c m → OptionsFit (options_from o.0 text c m)
-options_fit b o text c m all is zoom =
+pub options_fit : (b : List ℕ) (o : Opened) (text : List ℕ) (part : TilePart) → All (λ byte. byte < 256) b → opened b ≡ Ok o → HasZooms part → OptionsFit (part_options o.0 text part)
+options_fit b o text part all is zoom =
     let r = head_read (take ROOT_END b) o.0 (opened_parts b o is).0 in
     let center : o.0.center_zoom < 2 ^ 8 = subst (λ z. z < 2 ^ 8) (sym (ap (λ h. h.center_zoom) r.is)) (byte_fits (take ROOT_END b) 118 (All-take (λ byte. byte < 256) ROOT_END b all)) in
     let degrees = λ (f : Header → ℤ) (n : ℕ) (at : f (fields (take ROOT_END b) r.directories r.tiles r.type) ≡ cast_signed w32 n). subst (FitsSigned w32) (sym (ap f r.is ∙ at)) (signed_fits w32 n) in

@@ -14,5 +14,9 @@ pub mod SoundLemmas
 pub mod CompleteLemmas
 pub mod PlanToldLemmas
 pub mod RunLemmas
+pub mod GatheringLemmas
+pub mod AreaLemmas
+pub mod QuadrantLemmas
+pub mod NumberLemmas
 pub mod FitLemmas
 pub mod FewLemmas

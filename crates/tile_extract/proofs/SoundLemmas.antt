@@ -1,5 +1,5 @@
 -- The walk of a sound archive isn't refused, and comes to tiles that are there.
-use Rattle.tile_extract.proofs.Common.{and_from, ap, arith, Bool, clip, clip_all, Coord, EachEntry, Entry, entry, entry_walk, false, fits_depth, HasData, Header, if◌then◌else◌, intervals, is_below}
+use Rattle.tile_extract.proofs.Common.{and_from, ap, arith, Bool, clip, clip_all, TilePart, EachEntry, Entry, entry, entry_walk, false, fits_depth, HasData, Header, if◌then◌else◌, is_below}
 use Rattle.tile_extract.proofs.Common.{is_met, leaf_of, List, max, MAX_TILE_ID, met_of, min, nat_eq, nat_le, nat_tests, None, not, nothing_met, Ok, Option, parts, parts_of, refl, rises, Some, Sound}
 use Rattle.tile_extract.proofs.Common.{SoundDirectory, stands, stays_within, subst, suc, sym, then_walk, tile_by, to_le, to_lt, true, walk_each, Walked, walked, Within, zero, ℕ, [], ◌&&◌, ◌++◌, ◌+◌}
 use Rattle.tile_extract.proofs.Common.{◌-◌, ◌<◌, ◌^◌, ◌∙◌, ◌∷◌, ◌≡◌, ◌≢◌, ◌≤◌}
@@ -120,8 +120,8 @@ sound_well (suc n) h b is low limit last es at most s short =
         (ap (λ t. if t then not (nat_eq (suc n) 0) else true) zero_run ∙ ap not (is_tile (suc n) (λ z. absurd (omega (arith, z)))), by_met deeper e end m ends top leaf.0 run leaf.1 leaf.2 (is_met is e.tile_id end) refl)
 
 -- that of a sound archive
-pub archive_well : (b : List ℕ) (s : Sound b) (c : Coord) (m : ℕ) → GoesWell s.found.0 b (met_of b s.found c m)
-archive_well b s c m = sound_well 6 s.found.0 b (intervals c m) 0 None (MAX_TILE_ID + 1) s.found.1 tt (omega arith) s.root (root_short b s.found s.opens)
+pub archive_well : (b : List ℕ) (s : Sound b) (part : TilePart) → GoesWell s.found.0 b (met_of b s.found part)
+archive_well b s part = sound_well 6 s.found.0 b part.intervals 0 None (MAX_TILE_ID + 1) s.found.1 tt (omega arith) s.root (root_short b s.found s.opens)
 
 -- parts of such entries
 clip_there : (h : Header) (b : List ℕ) (e : Entry) (i : ℕ × ℕ) → HasData h b e → e.length < 2 ^ 32 → AreThere h b (clip e i)

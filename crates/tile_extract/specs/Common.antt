@@ -25,7 +25,11 @@ pub use Rattle.pm_writer.specs.Pieces.{IsHidden}
 pub use Rattle.pm_writer.specs.Places.{places_of, places_read}
 pub use Rattle.pm_writer.specs.Writing.{add_to, data_end, has_failed, Writes}
 pub use Rattle.pm_writer.specs.declared.places.ArchivePlaces.{ArchivePlaces}
+pub use Rattle.std.specs.List.{filter, list_any}
 pub use Rattle.std.specs.FinMap.{entries, FinMap, get}
 pub use Rattle.std.specs.Ordering.{nat_cmp}
 pub use Rattle.std.specs.Str.{IsUtf8}
 pub use Rattle.tile_ids.specs.Coord.{Coord, IsCoord}
+pub use Rattle.tile_ids.specs.Hilbert.{id_of, number_of, pyramid}
+unfoldable pub use Rattle.tile_ids.specs.Hilbert.{coord_of}
+pub use Rattle.tile_ids.specs.declared.id.TheConstants.{MAX_TILE_ID}

@@ -1,8 +1,12 @@
 pub mod Common
+pub mod Part
+pub mod Boxes
+pub mod Gathering
 pub mod Cut
 pub mod Met
 pub mod Written
 pub mod Extract
+pub mod Subtree
 pub mod Opening
 pub mod Completeness
 pub mod Words

@@ -1,16 +1,42 @@
 // What is tested before the tiles of an archive are sought.
 ghost use Rattle.std.specs.Prelude.{◌≡◌, ◌≤◌, ◌+◌, IfOk, IfErr, IfSome};
 ghost use Rattle.tile_extract.specs.Common.{opened, ReadsOnly};
-ghost use Rattle.tile_extract.specs.Extract.{IsValid};
+ghost use Rattle.tile_extract.specs.Extract.{HasZooms};
 ghost use Rattle.tile_extract.specs.Opening.{MediumTested, SourceCauses, SourceRead, opening_reads};
+ghost use Rattle.tile_extract.specs.Subtree.{IsValid};
 
-use crate::ExtractError;
 use crate::writing::of_reader;
+use crate::{ExtractError, TilePart};
 use base_values::TextVal;
 use pm_format::{Backend, Medium};
 use pm_reader::ReaderState;
 use std::alloc::Global;
 use tile_ids::TileCoord;
+
+// Whether the greatest zoom is the least one or a deeper one, up to 31.
+fn test_zooms(min_zoom: u8, max_zoom: u8) -> Result<(), ExtractError>
+    ensures ok { IfOk result (λ _. (min_zoom ≤ max_zoom) × (max_zoom ≤ 31)) }
+    ensures err { IfErr result (λ e. (e ≡ ExtractError.InvalidZoom min_zoom max_zoom)
+        × ((min_zoom ≤ max_zoom) × (max_zoom ≤ 31) → ⊥)) }
+{
+    if max_zoom < min_zoom || 31 < max_zoom {
+        return Err(ExtractError::InvalidZoom {
+            tile: min_zoom,
+            asked: max_zoom,
+        });
+    }
+    Ok(())
+}
+
+/// The same of the zooms of a part.
+pub(crate) fn test_part(part: &TilePart) -> Result<(), ExtractError>
+    ensures ok { IfOk result (λ _. HasZooms part.now) }
+    ensures err { IfErr result
+        (λ e. (e ≡ ExtractError.InvalidZoom part.now.min_zoom part.now.max_zoom)
+        × (HasZooms part.now → ⊥)) }
+{
+    test_zooms(part.min_zoom, part.max_zoom)
+}
 
 /// Whether the greatest zoom is the tile's or a deeper one, up to 31.
 pub(crate) fn test_zoom(root: TileCoord, max_zoom: u8) -> Result<(), ExtractError>
@@ -18,14 +44,7 @@ pub(crate) fn test_zoom(root: TileCoord, max_zoom: u8) -> Result<(), ExtractErro
     ensures err { IfErr result
         (λ e. (e ≡ ExtractError.InvalidZoom root.z max_zoom) × (IsValid root max_zoom → ⊥)) }
 {
-    let tile = root.z();
-    if max_zoom < tile || 31 < max_zoom {
-        return Err(ExtractError::InvalidZoom {
-            tile,
-            asked: max_zoom,
-        });
-    }
-    Ok(())
+    test_zooms(root.z(), max_zoom)
 }
 
 /// Whether a medium is empty.

@@ -2,7 +2,8 @@
 ghost use Rattle.std.specs.Prelude.{◌≡◌, ◌≢◌, ◌+◌, ◌≤◌, [], Some, IfSome};
 ghost use Rattle.tile_extract.specs.Common.{KeepsMedium, ReadsOnly, Rose};
 ghost use Rattle.tile_extract.specs.Completeness.{CanExtract, IsDoneOrWanting};
-ghost use Rattle.tile_extract.specs.Extract.{Answers, Causes, Leaves, LeavesUncompared, LeavesUnread, reads_at_most};
+ghost use Rattle.tile_extract.specs.Extract.{LeavesUnread};
+ghost use Rattle.tile_extract.specs.Subtree.{Answers, Causes, Leaves, LeavesUncompared, reads_at_most};
 ghost use Rattle.tile_extract.specs.TopCall.{IsFor, OfExtract};
 ghost use Rattle.tile_extract.specs.Words.{asked_in};
 

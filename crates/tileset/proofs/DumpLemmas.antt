@@ -74,3 +74,10 @@ gains_start held (Some b) = subst (Gains held held) (sym (hex_dump-none 0 [] (om
 
 pub moved : (t u : Option (List ℕ)) (P : List ℕ → Type 0) → u ≡ t → IfSome u P → IfSome t P
 moved t u P e p = subst (λ x. IfSome x P) e p
+
+-- all lines are a front of them
+pub front_all : (first now : Option (List ℕ)) (told : Option (List ℕ)) (at n : ℕ) → IfSome told (λ b. n ≡ length b) → n ≤ at → IfSome told (λ b. Gains first now (hex_dump 0 (take at b))) → IfSome told (λ b. GainsFront first now (hex_dump 0 b))
+front_all first now None at n l e h = tt
+front_all first now (Some b) at n l e h =
+    let whole : hex_dump 0 (take at b) ≡ hex_dump 0 b = ap (hex_dump 0) (take_all at b (omega arith)) in
+    (length (hex_dump 0 b), omega arith, subst (Gains first now) (whole ∙ sym (take_all (length (hex_dump 0 b)) (hex_dump 0 b) (omega arith))) h)

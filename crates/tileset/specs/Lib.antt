@@ -5,6 +5,7 @@ pub mod HexDump
 pub mod OutcomeText
 pub mod Outcomes
 pub mod Places
+pub mod Printed
 pub mod RefusalText
 pub mod Report
 pub mod Run

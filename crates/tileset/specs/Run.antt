@@ -10,6 +10,7 @@ use Rattle.mb_loaded.specs.Aggregate.{aggregate}
 use Rattle.tile_bridge.specs.ReadingBack.{IsReadBack}
 use Rattle.tile_bridge.specs.declared.error.ConvertError.TheVariants as refusals
 use Rattle.tileset.specs.Dump.{IsOtherRange}
+use Rattle.tileset.specs.Printed.{IsOfDue, Prints}
 use Rattle.tileset.specs.Report.{bulk_text, file_text, report_text}
 use Rattle.byte_streams.specs.declared.input.TheConstants.{MAX_INPUT}
 use Rattle.tileset.specs.declared.outcome.Outcome.{Outcome}
@@ -221,6 +222,16 @@ LeavesOutput given left old new MediumFault = (new ≡ old) ⊎ SomeBegun given 
 LeavesOutput given left old new OutOfMemory = (new ≡ old) ⊎ SomeBegun given left old new
 LeavesOutput given left old new (ReadBack e) = (new ≡ old) ⊎ SomeBegun given left old new
 LeavesOutput given left old new _ = new ≡ old
+
+-- What the sink gained after Done, whatever the medium tells: the lines of a report that is of the script's set.
+abbrev pub PrintedBy : Command → Script → Option (List ℕ) → Option (List ℕ) → Option (List ℕ) → Outcome → Type 0
+PrintedBy asked s medium old new Done = (r : ConvertReport) × IsOfDue (converted s) s.options.writer medium r × Prints asked s.queries r old new
+PrintedBy asked s medium old new _ = Unit {0}
+
+-- the same of a run
+abbrev pub PrintsReport : Given → Option (List ℕ) → Option (List ℕ) → Outcome → Type 0
+PrintsReport given old new Done = (s : Script) × (is : IsScript given s) × PrintedBy is.asked s given.medium old new Done
+PrintsReport given old new _ = Unit {0}
 
 -- the outcome of an attempt
 abbrev pub outcome_of : {T : Type 0} → Result T Outcome → Outcome

@@ -4,6 +4,7 @@ ghost use Rattle.tileset.specs.Common.{ConvertCauses, ConvertLeaves, HasAggregat
 ghost use Rattle.mb_store.specs.MemStore.{told_of};
 ghost use Rattle.tileset_script.specs.Section.{NeverFails};
 ghost use Rattle.tileset.specs.Converting.{IsNoStoreFault, options_for};
+ghost use Rattle.tileset.specs.Printed.{IsOfDue};
 
 use mb_store::MemStore;
 use pm_format::Medium;
@@ -39,6 +40,9 @@ pub(crate) fn convert_stores<M: Medium>(
     ensures leaves { ConvertLeaves options.writer (Some (outcome (told_of base)
         (map told_of patches.items) options.force options.verify)) coords.now result
         (M.told medium.old) (M.told medium.new) }
+    ensures reported { IfOk result (IsOfDue (outcome (told_of base)
+        (map told_of patches.items) options.force options.verify) options.writer
+        (M.told medium.old)) }
     ensures aggregate { IfOk result (HasAggregate (Some (outcome (told_of base)
         (map told_of patches.items) options.force options.verify))) }
     ensures stores { IfErr result IsNoStoreFault }

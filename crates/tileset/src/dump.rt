@@ -3,6 +3,7 @@ ghost use Rattle.std.specs.Prelude.{◌≡◌, ◌≤◌, ◌<◌, ◌+◌, ◌^
 ghost use Rattle.tileset.specs.Common.{Gains, GainsFront, KeepsMedium, KeepsSink, Rose};
 ghost use Rattle.tileset.specs.Dump.{DumpCauses, HasLength};
 ghost use Rattle.tileset.specs.HexDump.{hex_dump};
+ghost use Rattle.tileset.specs.Printed.{Grows};
 
 use crate::hex_dump::push_hex_dump;
 use crate::{Outcome, Sink, write_all};
@@ -27,6 +28,7 @@ fn write_piece<O: Sink, M: Medium>(
         (O.held output.new) (hex_dump at (take size (drop at b))))) }
     ensures front { IfSome (M.told medium.old) (λ b. GainsFront (O.held output.old)
         (O.held output.new) (hex_dump at (take size (drop at b)))) }
+    ensures grows { Grows (O.held output.old) (O.held output.new) }
     ensures told { M.told medium.new ≡ M.told medium.old }
     ensures causes { DumpCauses (M.told medium.old) result }
     ensures output_fault { IsErrOf result Outcome.OutputFault
@@ -56,6 +58,7 @@ pub(crate) fn write_dump<O: Sink, M: Medium>(
         (O.held output.new) (hex_dump 0 b))) }
     ensures front { IfSome (M.told medium.old) (λ b. GainsFront (O.held output.old)
         (O.held output.new) (hex_dump 0 b)) }
+    ensures grows { Grows (O.held output.old) (O.held output.new) }
     ensures told { M.told medium.new ≡ M.told medium.old }
     ensures causes { DumpCauses (M.told medium.old) result }
     ensures output_fault { IsErrOf result Outcome.OutputFault

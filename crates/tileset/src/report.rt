@@ -1,7 +1,8 @@
 // The report on a written archive.
-ghost use Rattle.std.specs.Prelude.{◌≡◌, IfSome, IfErr, OnOk, IsErrOf};
+ghost use Rattle.std.specs.Prelude.{◌≡◌, ◌++◌, List, ℕ, IfSome, IfErr, OnOk, IsErrOf};
 ghost use Rattle.tileset.specs.Common.{Gains, GainsFront, KeepsMedium, KeepsSink, Rose};
 ghost use Rattle.tileset.specs.Places.{places_text};
+ghost use Rattle.tileset.specs.Printed.{Prints};
 ghost use Rattle.tileset.specs.Report.{report_text};
 ghost use Rattle.tileset.specs.Run.{IsReported, LinesCauses, ReportCauses, command_text};
 ghost use Rattle.tileset.specs.Summary.{summary};
@@ -50,6 +51,8 @@ fn write_hex_report<O: Sink, M: Medium>(
         (O.held output.new) (report_text queries.now report.now.aggregate b))) }
     ensures front { IfSome (M.told medium.old) (λ b. GainsFront (O.held output.old)
         (O.held output.new) (report_text queries.now report.now.aggregate b)) }
+    ensures printed { OnOk result ((dump : List ℕ) × Gains (O.held output.old)
+        (O.held output.new) (summary queries.now report.now ++ dump)) }
     ensures told { M.told medium.new ≡ M.told medium.old }
     ensures causes { IfErr result (ReportCauses (M.told medium.old)) }
     ensures output_fault { IsErrOf result Outcome.OutputFault
@@ -100,6 +103,8 @@ pub(crate) fn write_report<O: Sink, M: Medium>(
         (O.held output.new) (command_text command queries.now report.now.aggregate b))) }
     ensures front { IfSome (M.told medium.old) (λ b. GainsFront (O.held output.old)
         (O.held output.new) (command_text command queries.now report.now.aggregate b)) }
+    ensures printed { OnOk result (Prints command queries.now report.now (O.held output.old)
+        (O.held output.new)) }
     ensures told { M.told medium.new ≡ M.told medium.old }
     ensures causes { IfErr result (ReportCauses (M.told medium.old)) }
     ensures output_fault { IsErrOf result Outcome.OutputFault

@@ -1,7 +1,7 @@
 // The whole converter as one call.
 ghost use Rattle.std.specs.Prelude.{◌≡◌, ◌⊎◌, Ok, IsErrOf};
 ghost use Rattle.tileset.specs.Common.{command, KeepsMedium, KeepsSink, KeepsSource, Rose, Script, script_text, ScriptNeverFails};
-ghost use Rattle.tileset.specs.Run.{AnsweredBy, Causes, Gives, IsReadFor, IsUntaken, IsValid, LeavesMedium, LeavesOutput, LeftBy, Taken, WrittenBy, answer, answer_script, given_of, outcome_of};
+ghost use Rattle.tileset.specs.Run.{AnsweredBy, Causes, Gives, IsReadFor, IsUntaken, IsValid, LeavesMedium, LeavesOutput, LeftBy, PrintedBy, PrintsReport, Taken, WrittenBy, answer, answer_script, given_of, outcome_of};
 
 use crate::converting::convert_stores;
 use crate::load::script_for;
@@ -39,6 +39,9 @@ pub fn run<I: Source, O: Sink, M: Medium>(
         (M.told medium.new) result }
     ensures output { LeavesOutput (given_of words.now (I.left input.old) (M.told medium.old))
         (M.told medium.new) (O.held output.old) (O.held output.new) result }
+    // After Done the lines of the output come of the script's set, whatever tells.
+    ensures printed { PrintsReport (given_of words.now (I.left input.old) (M.told medium.old))
+        (O.held output.old) (O.held output.new) result }
     ensures read { result ≡ Outcome.Done → IsReadFor (command words.now) (I.left input.new) }
     ensures untaken { IsUntaken (command words.now) (I.left input.old) (I.left input.new)
         (I.taken input.old) (I.taken input.new) }
@@ -77,6 +80,8 @@ fn convert_script<O: Sink, M: Medium>(
         (outcome_of result) }
     ensures output { WrittenBy command (script_text script) (M.told medium.old)
         (M.told medium.new) (O.held output.old) (O.held output.new) (outcome_of result) }
+    ensures printed { PrintedBy command (script_text script) (M.told medium.old)
+        (O.held output.old) (O.held output.new) (outcome_of result) }
     ensures output_fault { IsErrOf result Outcome.OutputFault
         → Rose (O.faults output.old) (O.faults output.new) }
     ensures medium_fault { IsErrOf result Outcome.MediumFault
@@ -112,6 +117,8 @@ fn attempt<I: Source, O: Sink, M: Medium>(
         (M.told medium.new) (outcome_of result) }
     ensures output { LeavesOutput (given_of words.now (I.left input.old) (M.told medium.old))
         (M.told medium.new) (O.held output.old) (O.held output.new) (outcome_of result) }
+    ensures printed { PrintsReport (given_of words.now (I.left input.old) (M.told medium.old))
+        (O.held output.old) (O.held output.new) (outcome_of result) }
     ensures read { outcome_of result ≡ Outcome.Done
         → IsReadFor (command words.now) (I.left input.new) }
     ensures untaken { IsUntaken (command words.now) (I.left input.old) (I.left input.new)

@@ -5,6 +5,7 @@
 #![tactic(auto)]
 
 mod answers;
+mod changing;
 mod counted;
 mod fields;
 mod hindered;
@@ -44,8 +45,17 @@ impl Rows for Cases {
             "versions" => other::versions(alloc, out, &mut fields),
             "stores" => stores::answer(alloc, out, &mut fields),
             "hindered" => hindered::answer(alloc, out, &mut fields, Options::Script),
-            "said" => said::answer(alloc, out, &mut fields),
+            "said" => said::answer(alloc, out, &mut fields, Options::Set),
+            "streamed" => said::answer(alloc, out, &mut fields, Options::Streamed),
+            "hashed" => said::answer(alloc, out, &mut fields, Options::Hashed),
+            "streamed-said" => said::answer(alloc, out, &mut fields, Options::StreamedSet),
+            "changing" => changing::answer(alloc, out, &mut fields),
             "hindered-said" => hindered::answer(alloc, out, &mut fields, Options::Set),
+            "hindered-streamed" => hindered::answer(alloc, out, &mut fields, Options::Streamed),
+            "hindered-hashed" => hindered::answer(alloc, out, &mut fields, Options::Hashed),
+            "hindered-streamed-said" => {
+                hindered::answer(alloc, out, &mut fields, Options::StreamedSet)
+            }
             "asked" => said::asked(alloc, out, &mut fields),
             "views" => views::answer(alloc, out, &mut fields),
             "turned" => turned::answer(alloc, out, &mut fields),

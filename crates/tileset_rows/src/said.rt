@@ -10,6 +10,7 @@ use set_conversion::{
 use std::alloc::Global;
 use std::fmt::Write;
 use tile_bridge::{ConvertError, ConvertReport};
+use tile_streaming::StreamReport;
 use tileset::Outcome;
 use tileset_script::ParsedScript;
 
@@ -39,7 +40,20 @@ fn said_printed(alloc: Global, out: &mut String, outcome: ConversionOutcome) -> 
 
 fn said_done(alloc: Global, out: &mut String, report: ConvertReport) -> Option<()> {
     say_tiles(alloc, out, report.answers.as_slice())?;
-    said_printed(alloc, out, ConversionOutcome::Done(report))
+    let ConvertReport {
+        answers,
+        aggregate,
+        places,
+    } = report;
+    said_printed(
+        alloc,
+        out,
+        ConversionOutcome::Done(StreamReport {
+            answers,
+            aggregate: Some(aggregate),
+            places,
+        }),
+    )
 }
 
 fn said_end(
@@ -60,10 +74,16 @@ fn say_medium(alloc: Global, out: &mut String, medium: &MemMedium) -> Option<()>
     say_bytes(alloc, out, medium.as_bytes(), 64)
 }
 
-fn shown(alloc: Global, out: &mut String, script: ParsedScript, medium: MemMedium) -> Option<()> {
+fn shown(
+    alloc: Global,
+    out: &mut String,
+    script: ParsedScript,
+    options: Options,
+    medium: MemMedium,
+) -> Option<()> {
     let mut medium = medium;
     let ParsedScript {
-        options,
+        options: given,
         mut base,
         mut patches,
         queries,
@@ -74,8 +94,8 @@ fn shown(alloc: Global, out: &mut String, script: ParsedScript, medium: MemMediu
         &mut base,
         &mut patches,
         coords,
+        given,
         options,
-        Options::Set,
         &mut medium,
     );
     said_end(alloc, out, answer)?;
@@ -85,11 +105,16 @@ fn shown(alloc: Global, out: &mut String, script: ParsedScript, medium: MemMediu
 }
 
 /// A case of a script and what the medium holds at first: the tiles that are asked for, the status and the text on the archive, or the refusal; what the tables of the base then hold, and the medium.
-pub fn answer(alloc: Global, out: &mut String, fields: &mut Fields) -> Option<()> {
+pub fn answer(
+    alloc: Global,
+    out: &mut String,
+    fields: &mut Fields,
+    options: Options,
+) -> Option<()> {
     let script = bytes_of(alloc, fields.next())?;
     let held = hex::decode(alloc, fields.next()).ok()?;
     let script = script_of(alloc, script.as_slice())?;
-    shown(alloc, out, script, MemMedium::from_bytes(held))
+    shown(alloc, out, script, options, MemMedium::from_bytes(held))
 }
 
 // Appends flags by their names, and the number of files.
@@ -97,6 +122,7 @@ fn say_asked(out: &mut String, flags: ConversionFlags, files: &[TextVal]) -> Opt
     let names = [
         ("force", flags.force),
         ("verify", flags.verify),
+        ("hash", flags.hash),
         ("overwrite", flags.overwrite),
         ("strict", flags.strict),
     ];

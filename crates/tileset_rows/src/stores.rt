@@ -1,6 +1,7 @@
 // A conversion over stores of its own, after which the base is shown.
 use crate::answers::{said_outcome, say, say_bytes};
 use crate::fields::{Fields, bytes_of};
+use base_values::TextVal;
 use mb_store::{Row, TileStore};
 use mb_tables::{Cell, TableName};
 use pm_format::{Medium, MemMedium};
@@ -9,6 +10,7 @@ use std::alloc::Global;
 use std::fmt::Write;
 use tile_bridge::{ConvertError, ConvertOptions, ConvertReport, convert};
 use tile_ids::TileCoord;
+use tile_streaming::{StreamError, StreamReport, convert_streamed};
 use tileset::{MAX_INPUT, Outcome};
 use tileset_script::{ParsedScript, ScriptOptions, parse_script};
 
@@ -86,9 +88,40 @@ pub enum Options {
     Script,
     /// Those that the set says of itself, beside the script's two flags.
     Set,
+    /// The script's, for a conversion of the base alone that holds no contents.
+    Streamed,
+    /// The same, and the hash of all tiles is wanted for itself.
+    Hashed,
+    /// Those that the base says of itself, for such a conversion.
+    StreamedSet,
 }
 
-/// `tile_bridge::convert`, with nothing said of it.
+/// The answer of a conversion that holds no contents in the words of one that does: without a hash an empty text, and the fault of a last store where the base changed.
+pub fn whole(
+    alloc: Global,
+    answer: Result<StreamReport, StreamError>,
+) -> Result<ConvertReport, ConvertError> {
+    match answer {
+        Ok(
+            StreamReport {
+                answers,
+                aggregate,
+                places,
+            },
+        ) => Ok(ConvertReport {
+            answers,
+            aggregate: match aggregate {
+                Some(text) => text,
+                None => TextVal::new(String::new(alloc)),
+            },
+            places,
+        }),
+        Err(StreamError::Convert(error)) => Err(error),
+        Err(StreamError::StoreChanged) => Err(ConvertError::StoreFault { place: u64::MAX }),
+    }
+}
+
+/// A conversion, with nothing said of it.
 pub fn converted<S: TileStore, P: TileStore, M: Medium>(
     alloc: Global,
     base: &mut S,
@@ -104,6 +137,19 @@ pub fn converted<S: TileStore, P: TileStore, M: Medium>(
         Options::Set => {
             let said = OptionsOfSet::new(given.force, given.verify);
             convert(alloc, base, patches, coords, &said, medium)
+        }
+        Options::Streamed => {
+            let answer = convert_streamed(alloc, base, coords, &given, false, medium);
+            whole(alloc, answer)
+        }
+        Options::Hashed => {
+            let answer = convert_streamed(alloc, base, coords, &given, true, medium);
+            whole(alloc, answer)
+        }
+        Options::StreamedSet => {
+            let said = OptionsOfSet::new(given.force, given.verify);
+            let answer = convert_streamed(alloc, base, coords, &said, false, medium);
+            whole(alloc, answer)
         }
     }
 }

@@ -1,87 +1,87 @@
-use Rattle.tile_extract.proofs.Common.{ap, Err, header_of, IfSome, Ok, options_from, root_of, ShowsNone, subst, sym, WritesParts, ◌∙◌}
+use Rattle.tile_extract.proofs.Common.{ap, Err, header_of, IfSome, Ok, part_options, root_of, ShowsNone, subst, sym, WritesParts, ◌∙◌}
 use Rattle.tile_extract.proofs.DoneLemmas.{err_answers, err_leaves, err_uncompared, ok_answers, ok_leaves}
 use Rattle.tile_extract.proofs.PlanLemmas.{collect_causes, early_leaves}
 use Rattle.tile_extract.proofs.PlanToldLemmas.{answered, planned, uncollected}
 use Rattle.tile_extract.proofs.extraction.extract_into.Goals as goal
 
-pub returns-in-Err-collect-clause-answers : goal.returns-in-Err-collect-clause-answers
-returns-in-Err-collect-clause-answers g c =
+pub returns-in-Err-collect_intervals-clause-answers : goal.returns-in-Err-collect_intervals-clause-answers
+returns-in-Err-collect_intervals-clause-answers g c =
     let told = g.B.Backend.told c.args.source.now in
     let again = g.B.Backend.told c.read_source.new.source in
-    answered c.args.root c.args.max_zoom c.args.max_tiles c.in-Err-collect.error told (g.M.Backend.told c.args.medium.now)
-    (uncollected c.args.root c.args.max_zoom c.args.max_tiles _ _ c.in-Ok.read.0 c.in-Ok.read.1 c.in-Err-collect.error told again c.read_source.ensures.kept.told c.in-Ok.ensures.answer c.in-Err-collect.ensures.causes c.in-Err-collect.ensures.refused)
+    answered c.args.part.now c.args.max_tiles c.in-Err-collect_intervals.error told (g.M.Backend.told c.args.medium.now)
+    (uncollected c.args.part.now c.args.max_tiles _ _ c.in-Ok.read.0 c.in-Ok.read.1 c.in-Err-collect_intervals.error told again c.read_source.ensures.kept.told c.in-Ok.ensures.answer c.in-Err-collect_intervals.ensures.causes c.in-Err-collect_intervals.ensures.refused)
 
-pub returns-in-Err-collect-clause-leaves : goal.returns-in-Err-collect-clause-leaves
-returns-in-Err-collect-clause-leaves g c =
+pub returns-in-Err-collect_intervals-clause-leaves : goal.returns-in-Err-collect_intervals-clause-leaves
+returns-in-Err-collect_intervals-clause-leaves g c =
     let told = g.B.Backend.told c.args.source.now in
     let again = g.B.Backend.told c.read_source.new.source in
     let before = g.B.Backend.faults c.read_source.new.source in
-    let now = g.B.Backend.faults c.collect.new.source in
+    let now = g.B.Backend.faults c.collect_intervals.new.source in
     let held = g.M.Backend.told c.args.medium.now in
     let faults = g.M.Backend.faults c.args.medium.now in
-    early_leaves told c.args.root c.args.max_zoom c.args.max_tiles (g.B.Backend.faults c.args.source.now) now faults faults c.in-Err-collect.error held
-    (collect_causes c.args.max_tiles (g.B.Backend.faults c.args.source.now) before now faults faults c.in-Err-collect.error c.read_source.ensures.kept.faults c.in-Err-collect.ensures.causes)
-    (uncollected c.args.root c.args.max_zoom c.args.max_tiles _ _ c.in-Ok.read.0 c.in-Ok.read.1 c.in-Err-collect.error told again c.read_source.ensures.kept.told c.in-Ok.ensures.answer c.in-Err-collect.ensures.causes c.in-Err-collect.ensures.refused)
+    early_leaves told c.args.part.now c.args.max_tiles (g.B.Backend.faults c.args.source.now) now faults faults c.in-Err-collect_intervals.error held
+    (collect_causes c.args.max_tiles (g.B.Backend.faults c.args.source.now) before now faults faults c.in-Err-collect_intervals.error c.read_source.ensures.kept.faults c.in-Err-collect_intervals.ensures.causes)
+    (uncollected c.args.part.now c.args.max_tiles _ _ c.in-Ok.read.0 c.in-Ok.read.1 c.in-Err-collect_intervals.error told again c.read_source.ensures.kept.told c.in-Ok.ensures.answer c.in-Err-collect_intervals.ensures.causes c.in-Err-collect_intervals.ensures.refused)
     c.requires.empty
 
 pub returns-in-Ok-write_parts-clause-answers : goal.returns-in-Ok-write_parts-clause-answers
 returns-in-Ok-write_parts-clause-answers g c =
     let told = g.B.Backend.told c.args.source.now in
-    let again = g.B.Backend.told c.collect.new.source in
+    let again = g.B.Backend.told c.collect_intervals.new.source in
     let h = header_of c.in-Ok.read.0 in
     let held = g.M.Backend.told c.write_parts.new.medium in
-    let items = c.in-Ok-collect.parts.items in
-    ok_answers c.args.root c.args.max_zoom c.args.max_tiles h (root_of c.in-Ok.read.0) c.in-Ok.read.1 items told again held (g.M.Backend.told c.args.medium.now) c.options_from-options.result c.in-Ok-write_parts.written
-    (c.options_from-options.ensures ∙ ap (λ k. options_from k c.in-Ok.read.1 c.args.root c.args.max_zoom) c.get_header.ensures) (c.collect.ensures.kept.told ∙ c.read_source.ensures.kept.told) (sym c.write_parts.ensures.medium_kept.tells)
-    (planned c.args.root c.args.max_zoom c.args.max_tiles c.in-Ok.read.0 c.in-Ok.read.1 items told (g.B.Backend.told c.read_source.new.source) c.read_source.ensures.kept.told c.in-Ok.ensures.answer c.in-Ok-collect.ensures.collected)
-    (subst (λ l. WritesParts c.options_from-options.result h again l held (Ok c.in-Ok-write_parts.written)) c.deref.ensures.value c.in-Ok-write_parts.ensures.written)
+    let items = c.in-Ok-collect_intervals.parts.items in
+    ok_answers c.args.part.now c.args.max_tiles h (root_of c.in-Ok.read.0) c.in-Ok.read.1 items told again held (g.M.Backend.told c.args.medium.now) c.part_options-options.result c.in-Ok-write_parts.written
+    (c.part_options-options.ensures ∙ ap (λ k. part_options k c.in-Ok.read.1 c.args.part.now) c.get_header.ensures) (c.collect_intervals.ensures.kept.told ∙ c.read_source.ensures.kept.told) (sym c.write_parts.ensures.medium_kept.tells)
+    (planned c.args.part.now c.args.max_tiles c.in-Ok.read.0 c.in-Ok.read.1 items told (g.B.Backend.told c.read_source.new.source) c.read_source.ensures.kept.told c.in-Ok.ensures.answer c.in-Ok-collect_intervals.ensures.collected)
+    (subst (λ l. WritesParts c.part_options-options.result h again l held (Ok c.in-Ok-write_parts.written)) c.deref.ensures.value c.in-Ok-write_parts.ensures.written)
 
 pub returns-in-Ok-write_parts-clause-leaves : goal.returns-in-Ok-write_parts-clause-leaves
 returns-in-Ok-write_parts-clause-leaves g c =
     let told = g.B.Backend.told c.args.source.now in
-    let again = g.B.Backend.told c.collect.new.source in
+    let again = g.B.Backend.told c.collect_intervals.new.source in
     let h = header_of c.in-Ok.read.0 in
     let held = g.M.Backend.told c.write_parts.new.medium in
-    let items = c.in-Ok-collect.parts.items in
-    ok_leaves c.args.root c.args.max_zoom c.args.max_tiles h (root_of c.in-Ok.read.0) c.in-Ok.read.1 items told again held c.options_from-options.result c.in-Ok-write_parts.written
-    (c.options_from-options.ensures ∙ ap (λ k. options_from k c.in-Ok.read.1 c.args.root c.args.max_zoom) c.get_header.ensures) (c.collect.ensures.kept.told ∙ c.read_source.ensures.kept.told) (record { ordered = c.in-Ok-collect.ensures.ordered; few = c.in-Ok-collect.ensures.few; within = c.in-Ok-collect.ensures.within })
-    (planned c.args.root c.args.max_zoom c.args.max_tiles c.in-Ok.read.0 c.in-Ok.read.1 items told (g.B.Backend.told c.read_source.new.source) c.read_source.ensures.kept.told c.in-Ok.ensures.answer c.in-Ok-collect.ensures.collected)
-    (subst (λ l. WritesParts c.options_from-options.result h again l held (Ok c.in-Ok-write_parts.written)) c.deref.ensures.value c.in-Ok-write_parts.ensures.written)
+    let items = c.in-Ok-collect_intervals.parts.items in
+    ok_leaves c.args.part.now c.args.max_tiles h (root_of c.in-Ok.read.0) c.in-Ok.read.1 items told again held c.part_options-options.result c.in-Ok-write_parts.written
+    (c.part_options-options.ensures ∙ ap (λ k. part_options k c.in-Ok.read.1 c.args.part.now) c.get_header.ensures) (c.collect_intervals.ensures.kept.told ∙ c.read_source.ensures.kept.told) (record { ordered = c.in-Ok-collect_intervals.ensures.ordered; few = c.in-Ok-collect_intervals.ensures.few; within = c.in-Ok-collect_intervals.ensures.within })
+    (planned c.args.part.now c.args.max_tiles c.in-Ok.read.0 c.in-Ok.read.1 items told (g.B.Backend.told c.read_source.new.source) c.read_source.ensures.kept.told c.in-Ok.ensures.answer c.in-Ok-collect_intervals.ensures.collected)
+    (subst (λ l. WritesParts c.part_options-options.result h again l held (Ok c.in-Ok-write_parts.written)) c.deref.ensures.value c.in-Ok-write_parts.ensures.written)
 
 pub returns-clause-answers : goal.returns-clause-answers
 returns-clause-answers g c =
     let told = g.B.Backend.told c.args.source.now in
-    let again = g.B.Backend.told c.collect.new.source in
+    let again = g.B.Backend.told c.collect_intervals.new.source in
     let h = header_of c.in-Ok.read.0 in
     let held = g.M.Backend.told c.write_parts.new.medium in
-    let items = c.in-Ok-collect.parts.items in
-    err_answers c.args.root c.args.max_zoom c.args.max_tiles h (root_of c.in-Ok.read.0) c.in-Ok.read.1 items told again held (g.M.Backend.told c.args.medium.now) _ _ _ _ c.options_from-options.result c.in-Err-write_parts.error
-    (c.options_from-options.ensures ∙ ap (λ k. options_from k c.in-Ok.read.1 c.args.root c.args.max_zoom) c.get_header.ensures) (c.collect.ensures.kept.told ∙ c.read_source.ensures.kept.told) (sym c.write_parts.ensures.medium_kept.tells)
-    (planned c.args.root c.args.max_zoom c.args.max_tiles c.in-Ok.read.0 c.in-Ok.read.1 items told (g.B.Backend.told c.read_source.new.source) c.read_source.ensures.kept.told c.in-Ok.ensures.answer c.in-Ok-collect.ensures.collected) c.in-Err-write_parts.ensures.causes
-    (subst (λ l. WritesParts c.options_from-options.result h again l held (Err c.in-Err-write_parts.error)) c.deref.ensures.value c.in-Err-write_parts.ensures.written)
+    let items = c.in-Ok-collect_intervals.parts.items in
+    err_answers c.args.part.now c.args.max_tiles h (root_of c.in-Ok.read.0) c.in-Ok.read.1 items told again held (g.M.Backend.told c.args.medium.now) _ _ _ _ c.part_options-options.result c.in-Err-write_parts.error
+    (c.part_options-options.ensures ∙ ap (λ k. part_options k c.in-Ok.read.1 c.args.part.now) c.get_header.ensures) (c.collect_intervals.ensures.kept.told ∙ c.read_source.ensures.kept.told) (sym c.write_parts.ensures.medium_kept.tells)
+    (planned c.args.part.now c.args.max_tiles c.in-Ok.read.0 c.in-Ok.read.1 items told (g.B.Backend.told c.read_source.new.source) c.read_source.ensures.kept.told c.in-Ok.ensures.answer c.in-Ok-collect_intervals.ensures.collected) c.in-Err-write_parts.ensures.causes
+    (subst (λ l. WritesParts c.part_options-options.result h again l held (Err c.in-Err-write_parts.error)) c.deref.ensures.value c.in-Err-write_parts.ensures.written)
 
 pub returns-clause-leaves : goal.returns-clause-leaves
 returns-clause-leaves g c =
     let told = g.B.Backend.told c.args.source.now in
-    let again = g.B.Backend.told c.collect.new.source in
+    let again = g.B.Backend.told c.collect_intervals.new.source in
     let h = header_of c.in-Ok.read.0 in
     let held = g.M.Backend.told c.write_parts.new.medium in
-    let items = c.in-Ok-collect.parts.items in
-    err_leaves c.args.root c.args.max_zoom c.args.max_tiles h (root_of c.in-Ok.read.0) c.in-Ok.read.1 items told again held _ _ _ _ c.options_from-options.result c.in-Err-write_parts.error
-    (c.options_from-options.ensures ∙ ap (λ k. options_from k c.in-Ok.read.1 c.args.root c.args.max_zoom) c.get_header.ensures) (c.collect.ensures.kept.told ∙ c.read_source.ensures.kept.told) (record { ordered = c.in-Ok-collect.ensures.ordered; few = c.in-Ok-collect.ensures.few; within = c.in-Ok-collect.ensures.within })
-    (planned c.args.root c.args.max_zoom c.args.max_tiles c.in-Ok.read.0 c.in-Ok.read.1 items told (g.B.Backend.told c.read_source.new.source) c.read_source.ensures.kept.told c.in-Ok.ensures.answer c.in-Ok-collect.ensures.collected) c.in-Err-write_parts.ensures.causes
-    (subst (λ l. WritesParts c.options_from-options.result h again l held (Err c.in-Err-write_parts.error)) c.deref.ensures.value c.in-Err-write_parts.ensures.written)
-    (subst (λ l. IfSome held (ShowsNone c.options_from-options.result h again l)) c.deref.ensures.value c.in-Err-write_parts.ensures.shown)
+    let items = c.in-Ok-collect_intervals.parts.items in
+    err_leaves c.args.part.now c.args.max_tiles h (root_of c.in-Ok.read.0) c.in-Ok.read.1 items told again held _ _ _ _ c.part_options-options.result c.in-Err-write_parts.error
+    (c.part_options-options.ensures ∙ ap (λ k. part_options k c.in-Ok.read.1 c.args.part.now) c.get_header.ensures) (c.collect_intervals.ensures.kept.told ∙ c.read_source.ensures.kept.told) (record { ordered = c.in-Ok-collect_intervals.ensures.ordered; few = c.in-Ok-collect_intervals.ensures.few; within = c.in-Ok-collect_intervals.ensures.within })
+    (planned c.args.part.now c.args.max_tiles c.in-Ok.read.0 c.in-Ok.read.1 items told (g.B.Backend.told c.read_source.new.source) c.read_source.ensures.kept.told c.in-Ok.ensures.answer c.in-Ok-collect_intervals.ensures.collected) c.in-Err-write_parts.ensures.causes
+    (subst (λ l. WritesParts c.part_options-options.result h again l held (Err c.in-Err-write_parts.error)) c.deref.ensures.value c.in-Err-write_parts.ensures.written)
+    (subst (λ l. IfSome held (ShowsNone c.part_options-options.result h again l)) c.deref.ensures.value c.in-Err-write_parts.ensures.shown)
 
 pub returns-clause-uncompared : goal.returns-clause-uncompared
 returns-clause-uncompared g c =
     let told = g.B.Backend.told c.args.source.now in
-    let again = g.B.Backend.told c.collect.new.source in
+    let again = g.B.Backend.told c.collect_intervals.new.source in
     let h = header_of c.in-Ok.read.0 in
     let held = g.M.Backend.told c.write_parts.new.medium in
-    let items = c.in-Ok-collect.parts.items in
-    err_uncompared c.args.root c.args.max_zoom c.args.max_tiles h (root_of c.in-Ok.read.0) c.in-Ok.read.1 items told again held (g.M.Backend.told c.args.medium.now) _ _ _ _
-    (g.M.Backend.reads c.args.medium.now) (g.M.Backend.reads c.write_parts.new.medium) c.options_from-options.result c.in-Err-write_parts.error
-    (c.options_from-options.ensures ∙ ap (λ k. options_from k c.in-Ok.read.1 c.args.root c.args.max_zoom) c.get_header.ensures) (c.collect.ensures.kept.told ∙ c.read_source.ensures.kept.told) (sym c.write_parts.ensures.medium_kept.tells)
-    (planned c.args.root c.args.max_zoom c.args.max_tiles c.in-Ok.read.0 c.in-Ok.read.1 items told (g.B.Backend.told c.read_source.new.source) c.read_source.ensures.kept.told c.in-Ok.ensures.answer c.in-Ok-collect.ensures.collected) c.in-Err-write_parts.ensures.causes
-    (subst (λ l. WritesParts c.options_from-options.result h again l held (Err c.in-Err-write_parts.error)) c.deref.ensures.value c.in-Err-write_parts.ensures.written)
+    let items = c.in-Ok-collect_intervals.parts.items in
+    err_uncompared c.args.part.now c.args.max_tiles h (root_of c.in-Ok.read.0) c.in-Ok.read.1 items told again held (g.M.Backend.told c.args.medium.now) _ _ _ _
+    (g.M.Backend.reads c.args.medium.now) (g.M.Backend.reads c.write_parts.new.medium) c.part_options-options.result c.in-Err-write_parts.error
+    (c.part_options-options.ensures ∙ ap (λ k. part_options k c.in-Ok.read.1 c.args.part.now) c.get_header.ensures) (c.collect_intervals.ensures.kept.told ∙ c.read_source.ensures.kept.told) (sym c.write_parts.ensures.medium_kept.tells)
+    (planned c.args.part.now c.args.max_tiles c.in-Ok.read.0 c.in-Ok.read.1 items told (g.B.Backend.told c.read_source.new.source) c.read_source.ensures.kept.told c.in-Ok.ensures.answer c.in-Ok-collect_intervals.ensures.collected) c.in-Err-write_parts.ensures.causes
+    (subst (λ l. WritesParts c.part_options-options.result h again l held (Err c.in-Err-write_parts.error)) c.deref.ensures.value c.in-Err-write_parts.ensures.written)

@@ -1,6 +1,8 @@
 use Rattle.tileset.proofs.Common.{ConvertCauses, ConvertLeaves, ConvertOptions, HasAggregate, IfOk, map, outcome, Some, subst, told_of}
 use Rattle.tile_bridge.proofs.LeavesLemmas.{stated_aggregate, stated_leaves}
 use Rattle.tileset.proofs.ConvertingLemmas.{due_told, no_store_fault}
+use Rattle.tileset.proofs.PrintedLemmas.{stated_report}
+use Rattle.tileset.specs.Printed.{IsOfDue}
 use Rattle.tileset.proofs.converting.convert_stores.Goals as goal
 
 pub returns-clause-causes : goal.returns-clause-causes
@@ -26,3 +28,10 @@ returns-clause-aggregate g c =
 
 pub returns-clause-stores : goal.returns-clause-stores
 returns-clause-stores g c = no_store_fault c.convert_owned.result c.args.patches.items c.requires.patches c.convert_owned.ensures.store_fault
+
+pub returns-clause-reported : goal.returns-clause-reported
+returns-clause-reported g c =
+    let o = c.convert_options-options.result in
+    let old = g.M.Backend.told c.args.medium.now in
+    subst (λ (o : ConvertOptions). IfOk c.convert_owned.result (IsOfDue (outcome (told_of c.args.base) (map told_of c.args.patches.items) o.force o.verify) o.writer old)) c.convert_options-options.ensures
+    (stated_report o _ _ _ _ _ _ _ _ _ _ _ (due_told c.args.base c.args.patches.items o) c.convert_owned.ensures.leaves)

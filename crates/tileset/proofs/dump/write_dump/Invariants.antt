@@ -1,5 +1,6 @@
 -- the lines of what was written so far
 use Rattle.tileset.proofs.Common.{Gains, hex_dump, IfSome, KeepsMedium, KeepsSink, take, ◌%◌, ◌-◌, ◌<◌, ◌≡◌, ◌≤◌}
+use Rattle.tileset.specs.Printed.{Grows}
 use Rattle.tileset.proofs.dump.write_dump.Given as goal
 
 abbrev pub invariant-loop-at : goal.invariant-loop-at
@@ -8,6 +9,7 @@ invariant-loop-at g l =
     let o = g.O.Sink in
     record {
       held : IfSome (m.told l.fn.medium) (λ b. Gains (o.held l.fn.output) (o.held l.output) (hex_dump 0 (take l.at b)));
+      grows : Grows (o.held l.fn.output) (o.held l.output);
       told : m.told l.medium ≡ m.told l.fn.medium;
       aligned : l.at < l.length → l.at % 32 ≡ 0;
       within : l.at ≤ l.length;

@@ -1,5 +1,6 @@
 use Rattle.tileset.proofs.Common.{Given, IsScript, rules, script_text}
 use Rattle.tileset.proofs.AnswerLemmas.{exact_by, exact_unread}
+use Rattle.tileset.proofs.PrintedLemmas.{printed_by}
 use Rattle.tileset.proofs.RunLemmas.{causes_by, medium_by, output_by}
 use Rattle.tileset.proofs.top_call.attempt.Goals as goal
 
@@ -35,3 +36,10 @@ returns-clause-output g c =
     let s = script_text c.in_ok-script.script in
     let is : IsScript given s = record { asked = c.in-Some.command; words = search rules; script = c.in_ok-script.ensures.script } in
     output_by given s _ _ _ _ is c.convert_script.ensures.output
+
+pub returns-clause-printed : goal.returns-clause-printed
+returns-clause-printed g c =
+    let given : Given = record { words = c.args.words.now; input = g.I.Source.left c.args.input.now; medium = g.M.Backend.told c.args.medium.now } in
+    let s = script_text c.in_ok-script.script in
+    let is : IsScript given s = record { asked = c.in-Some.command; words = search rules; script = c.in_ok-script.ensures.script } in
+    printed_by given s _ _ _ is c.convert_script.ensures.printed

@@ -1,5 +1,7 @@
 use Rattle.tileset.proofs.RunLemmas.{archive_left, done_output, reported_causes, reported_medium, reported_output, text_moved}
-use Rattle.tileset.proofs.Common.{Gains, GainsFront, script_text}
+use Rattle.tileset.proofs.Common.{Gains, GainsFront, script_text, subst}
+use Rattle.tileset.proofs.PrintedLemmas.{unprinted}
+use Rattle.tileset.specs.Printed.{Prints}
 use Rattle.tileset.proofs.top_call.convert_script.Goals as goal
 
 pub returns-in_err-write_report-clause-causes : goal.returns-in_err-write_report-clause-causes
@@ -36,3 +38,12 @@ returns-clause-output g c =
     let new = g.O.Sink.held c.write_report.new.output in
     done_output c.args.command s c.in_ok-report.report (g.M.Backend.told c.args.medium.now) next old new c.in_ok-report.ensures.aggregate
     (text_moved c.args.command (Gains old new) told next c.as_slice-queries.result.now s.queries c.in_ok-report.report.aggregate c.as_slice-queries.ensures.value c.in_ok-write_report.ensures.told c.in_ok-write_report.ensures.all)
+
+pub returns-in_err-write_report-clause-printed : goal.returns-in_err-write_report-clause-printed
+returns-in_err-write_report-clause-printed g c =
+    unprinted c.args.command (script_text c.args.script) (g.M.Backend.told c.args.medium.now) (g.O.Sink.held c.args.output.now) (g.O.Sink.held c.write_report.new.output) (g.M.Backend.told c.convert_stores.new.medium) c.in_err-write_report.field-0.0 c.from_residual-in_err-write_report.result
+    c.in_err-write_report.ensures.causes c.from_residual-in_err-write_report.ensures.1
+
+pub returns-clause-printed : goal.returns-clause-printed
+returns-clause-printed g c =
+    (c.in_ok-report.report, c.in_ok-report.ensures.reported, subst (λ q. Prints c.args.command q c.in_ok-report.report (g.O.Sink.held c.args.output.now) (g.O.Sink.held c.write_report.new.output)) c.as_slice-queries.ensures.value c.in_ok-write_report.ensures.printed)

@@ -14,23 +14,23 @@ returns-then-not-is_autocommit-clause-leaves g c =
 pub returns-else-not-self-clause-once : goal.returns-else-not-self-clause-once
 returns-else-not-self-clause-once g c = nothing_once g.S.Store _ _ _ (nothing_yet g.S.Store c.args.self.now.connection)
 
-pub returns-in_err-make-clause-leaves : goal.returns-in_err-make-clause-leaves
-returns-in_err-make-clause-leaves g c =
+pub returns-in-Err-clause-leaves : goal.returns-in-Err-clause-leaves
+returns-in-Err-clause-leaves g c =
     let outside : c.args.self.now.connection.in_transaction ≡ false = search rules in
     let is : c.args.self.now.is_made ≡ false = search rules in
-    leaves_failed g.S.Store c.args.self.now.layout c.args.self.now.is_made c.args.self.now.is_made c.args.self.now.connection c.make.new.connection outside is refl (c.in_err-make.ensures.rests outside)
+    leaves_failed g.S.Store c.args.self.now.layout c.args.self.now.is_made c.args.self.now.is_made c.args.self.now.connection c.make.new.connection outside is refl (c.in-Err.ensures.rests outside)
 
-pub returns-in_ok-make-clause-ready : goal.returns-in_ok-make-clause-ready
-returns-in_ok-make-clause-ready g c =
+pub returns-in-Ok-clause-ready : goal.returns-in-Ok-clause-ready
+returns-in-Ok-clause-ready g c =
     let outside : c.args.self.now.connection.in_transaction ≡ false = search rules in
     let is : c.args.self.now.is_made ≡ false = search rules in
-    ready_now g.S.Store c.args.self.now.layout c.args.self.now.is_made c.args.self.now.connection c.make.new.connection is (c.make.ensures.ended outside) c.in_ok-make.ensures.prepared
+    ready_now g.S.Store c.args.self.now.layout c.args.self.now.is_made c.args.self.now.connection c.make.new.connection is (c.make.ensures.ended outside) c.in-Ok.ensures.prepared
 
-pub returns-in_ok-make-clause-leaves : goal.returns-in_ok-make-clause-leaves
-returns-in_ok-make-clause-leaves g c =
+pub returns-in-Ok-clause-leaves : goal.returns-in-Ok-clause-leaves
+returns-in-Ok-clause-leaves g c =
     let outside : c.args.self.now.connection.in_transaction ≡ false = search rules in
     let is : c.args.self.now.is_made ≡ false = search rules in
-    let ready = ready_now g.S.Store c.args.self.now.layout c.args.self.now.is_made c.args.self.now.connection c.make.new.connection is (c.make.ensures.ended outside) c.in_ok-make.ensures.prepared in
+    let ready = ready_now g.S.Store c.args.self.now.layout c.args.self.now.is_made c.args.self.now.connection c.make.new.connection is (c.make.ensures.ended outside) c.in-Ok.ensures.prepared in
     leaves_ready g.S.Store c.args.self.now.layout c.args.self.now.is_made true c.args.self.now.connection c.make.new.connection c.make.new.connection outside refl ready c.make.ensures.once (inl refl)
 
 pub returns-else-not-self-clause-ready : goal.returns-else-not-self-clause-ready

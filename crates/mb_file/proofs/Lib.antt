@@ -1,0 +1,4 @@
+mod FaultLemmas
+mod FindLemmas
+mod MetadataLemmas
+mod PageLemmas

@@ -1,0 +1,14 @@
+-- The pages of a database and its log, without the bytes that are reserved at their end.
+use Rattle.std.specs.Prelude.{ℕ, List, take}
+use Rattle.sqlite_disk.specs.declared.Disk.{Ghosts}
+use Rattle.sqlite_pager.specs.Pager.{current, visible}
+use Rattle.sqlite_pages.specs.PageMap.{PageMap}
+use Rattle.sqlite_pool.specs.Stored.{trimmed}
+use Rattle.mb_file.specs.declared.pages.FilePages.{FilePages}
+
+module _ {D : Type 0} {g : Ghosts D} where
+  abbrev pub pages_of : FilePages D g → PageMap
+  pages_of it = trimmed it.usable (visible it.pager)
+
+  abbrev pub current_of : FilePages D g → List ℕ
+  current_of it = take it.usable (current it.pager)

@@ -1,0 +1,25 @@
+//! A tile set read from the pages of a SQLite file, so that no table of it is held in memory.
+#![tactic(auto)]
+
+mod catalog;
+mod columns;
+mod cursor;
+mod error;
+mod fault;
+mod file;
+mod header;
+mod listing;
+mod metadata;
+mod numbers;
+mod opening;
+mod pages;
+mod record;
+mod scan;
+mod set_table;
+mod source;
+mod store;
+
+pub use error::FileError;
+pub use fault::FileFault;
+pub use file::SetFile;
+pub use store::FileSet;

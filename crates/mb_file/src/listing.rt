@@ -1,0 +1,122 @@
+// A table of a set: its rows in the order of their rowids, and by their keys.
+ghost use Rattle.std.specs.Prelude.{◌≡◌, ◌≤◌, true, All, IfOk, IfSome, length};
+ghost use Rattle.mb_tables.specs.Key.{has_key};
+ghost use Rattle.mb_tables.specs.Table.{width};
+
+use crate::FileFault;
+use crate::numbers::number_of_key;
+use crate::scan::Scan;
+use crate::set_table::SetTable;
+use crate::source::Source;
+use mb_tables::{Row, RowKey, TableName};
+use sqlite_disk::Disk;
+use std::alloc::Global;
+
+#[derive(Drop)]
+pub(crate) struct Listing {
+    table: TableName,
+    of: SetTable,
+    scan: Scan,
+    // Whether the numbers of its rows are in order.
+    is_sorted: bool,
+}
+
+impl Listing {
+    pub(crate) fn new(alloc: Global, table: TableName, of: SetTable) -> Listing {
+        Listing {
+            table,
+            of,
+            scan: Scan::new(alloc),
+            is_sorted: false,
+        }
+    }
+
+    pub(crate) fn is_of(&self, table: TableName) -> bool {
+        self.table == table
+    }
+
+    // The rows from a place on, at most so many.
+    pub(crate) fn page<D: Disk>(
+        &mut self,
+        alloc: Global,
+        source: &mut Source<D>,
+        table: TableName,
+        from: u64,
+        limit: u64,
+    ) -> Result<Vec<Row>, FileFault>
+        ensures widths { IfOk result (λ rows. All (λ row. length row ≡ width table) rows.items) }
+        ensures limit { IfOk result (λ rows. length rows.items ≤ limit) }
+    {
+        self.scan.page(alloc, source, table, &self.of, from, limit)
+    }
+
+    // How many rows it has.
+    pub(crate) fn count<D: Disk>(
+        &mut self,
+        alloc: Global,
+        source: &mut Source<D>,
+    ) -> Result<u64, FileFault> {
+        self.scan.complete(alloc, source, self.table, &self.of)?;
+        Ok(self.scan.count)
+    }
+
+    // The bytes of their cells.
+    pub(crate) fn size<D: Disk>(
+        &mut self,
+        alloc: Global,
+        source: &mut Source<D>,
+    ) -> Result<u64, FileFault> {
+        self.scan.complete(alloc, source, self.table, &self.of)?;
+        Ok(self.scan.size)
+    }
+
+    // The first row with a key among those of its number.
+    fn look_up<D: Disk>(
+        &self,
+        alloc: Global,
+        source: &mut Source<D>,
+        table: TableName,
+        key: &RowKey,
+    ) -> Result<Option<Row>, FileFault>
+        ensures wide { IfOk result (λ row. IfSome row (λ row. length row ≡ width table)) }
+        ensures keyed { IfOk result
+            (λ row. IfSome row (λ row. has_key table key.now row ≡ true)) }
+    {
+        let Some(number) = number_of_key(source.secret, key) else {
+            return Ok(None);
+        };
+        let numbered = self.scan.numbered.as_slice();
+        let first = numbered.partition_point(|item| item.number < number);
+        for at in first..numbered.len() {
+            let item = numbered[at];
+            if item.number != number {
+                return Ok(None);
+            }
+            let row = self.of.row_at(alloc, source, table, item.rowid)?;
+            if key.is_of(table, row.cells()) {
+                return Ok(Some(row));
+            }
+        }
+        Ok(None)
+    }
+
+    // The first row with a key.
+    pub(crate) fn find<D: Disk>(
+        &mut self,
+        alloc: Global,
+        source: &mut Source<D>,
+        table: TableName,
+        key: &RowKey,
+    ) -> Result<Option<Row>, FileFault>
+        ensures wide { IfOk result (λ row. IfSome row (λ row. length row ≡ width table)) }
+        ensures keyed { IfOk result
+            (λ row. IfSome row (λ row. has_key table key.now row ≡ true)) }
+    {
+        self.scan.complete(alloc, source, table, &self.of)?;
+        if !self.is_sorted {
+            self.scan.numbered.sort_unstable();
+            self.is_sorted = true;
+        }
+        self.look_up(alloc, source, table, key)
+    }
+}

@@ -1,0 +1,115 @@
+// The metadata of a set, which is held in memory.
+ghost use Rattle.std.specs.Prelude.{◌≡◌, true};
+ghost use Rattle.mb_store.specs.MemStore.{told_of};
+ghost use Rattle.mb_tables.specs.Described.{is_table};
+
+use crate::FileError;
+use crate::catalog::Listed;
+use crate::columns::{Columns, columns_by};
+use crate::cursor::Cursor;
+use crate::record::{answer_of, spelled};
+use crate::source::Source;
+use mb_reading::{Answer, Step, row_of};
+use mb_store::{MbtError, MbtType, MemStore};
+use mb_tables::TableName;
+use sqlite_disk::Disk;
+use sqlite_value::row::Row;
+use sqlite_value::value::ValueRef;
+use std::alloc::Global;
+
+// Adds the row of a name and a value, where it is one and its name is new.
+fn taken(alloc: Global, names: &mut MemStore, answer: Answer<'_>) -> Result<Step, FileError>
+    requires described { is_table (told_of names.old).descriptions TableName.Metadata ≡ true }
+    ensures described { is_table (told_of names.new).descriptions TableName.Metadata ≡ true }
+{
+    let table = TableName::Metadata;
+    let Some(row) = row_of(alloc, table, answer)? else {
+        return Ok(Step::Odd);
+    };
+    match names.push_row(table, row) {
+        Ok(()) => Ok(Step::Added),
+        Err(MbtError::DuplicateRow(_)) => Ok(Step::Repeated),
+        Err(_) => Err(FileError::OutOfMemory),
+    }
+}
+
+// The name and the value of a record, and the text that SQLite spells the value in where it is a number.
+fn values_of(
+    alloc: Global,
+    columns: &Columns,
+    rowid: i64,
+    record: &[u8],
+) -> Result<Row, FileError> {
+    let answer = answer_of(columns, rowid, record);
+    let mut values = Row::new(alloc);
+    values.push(answer.first)?;
+    values.push(answer.second)?;
+    if let Some(text) = spelled(answer.second) {
+        values.push(ValueRef::Text(text.as_slice()))?;
+    }
+    Ok(values)
+}
+
+// Adds the row of such values, where it is one and its name is new.
+fn add(alloc: Global, names: &mut MemStore, values: &Row) -> Result<Step, FileError>
+    requires described { is_table (told_of names.old).descriptions TableName.Metadata ≡ true }
+    ensures described { is_table (told_of names.new).descriptions TableName.Metadata ≡ true }
+{
+    let answer = Answer {
+        first: values.get(0),
+        second: values.get(1),
+        third: values.get(2),
+        fourth: ValueRef::Null,
+        fifth: ValueRef::Null,
+    };
+    taken(alloc, names, answer)
+}
+
+// How a row without a place is counted: its values tell nothing of it.
+const NOTHING: Answer<'static> = Answer {
+    first: ValueRef::Null,
+    second: ValueRef::Null,
+    third: ValueRef::Null,
+    fourth: ValueRef::Null,
+    fifth: ValueRef::Null,
+};
+
+// Reads all rows of the metadata.
+fn fill<D: Disk>(
+    alloc: Global,
+    source: &mut Source<D>,
+    names: &mut MemStore,
+    listed: &Listed,
+) -> Result<(), FileError>
+    requires described { is_table (told_of names.old).descriptions TableName.Metadata ≡ true }
+    ensures described { is_table (told_of names.new).descriptions TableName.Metadata ≡ true }
+{
+    let table = TableName::Metadata;
+    let columns = columns_by(alloc, table, listed.text.as_slice())?;
+    let mut cursor = Cursor::new(alloc);
+    'rows: for _ in 0..u64::MAX {
+        if !cursor.advance(&mut source.pages, &mut source.scratch, listed.root)? {
+            return Ok(());
+        }
+        let values = values_of(alloc, &columns, cursor.rowid(), cursor.record())?;
+        let step = add(alloc, names, &values)?;
+        source.left_out = source.left_out.counted(table, NOTHING, step);
+    }
+    Err(FileError::Damaged)
+}
+
+// The metadata of a set, none where its database lists no such table.
+#[tactic(auto, using(crate::proofs::MetadataLemmas::has_names))]
+pub(crate) fn metadata<D: Disk>(
+    alloc: Global,
+    source: &mut Source<D>,
+    listed: Option<&Listed>,
+) -> Result<MemStore, FileError> {
+    let Ok(mut names) = MemStore::with_layout(alloc, MbtType::Flat) else {
+        return Err(FileError::OutOfMemory);
+    };
+    if let Some(listed) = listed {
+        fill(alloc, source, &mut names, listed)?;
+    }
+    Ok(names)
+}

@@ -1,0 +1,53 @@
+// Keys of rows as numbers, so that a list of rows by their keys takes 16 bytes a row.
+ghost use Rattle.std.specs.Prelude.{◌≡◌};
+
+use mb_tables::{Cell, Row, RowKey};
+use sqlite_disk::digest_of;
+
+// A row by its key.
+#[derive(Clone, Copy, Debug, PartialEq, Eq, PartialOrd, Ord)]
+pub(crate) struct Numbered {
+    // The number of its key.
+    pub(crate) number: u64,
+    pub(crate) rowid: i64,
+}
+
+// The number of a place of zoom 0 to 30, its column and row below two to the zoom; None of another one. No two places have one number.
+pub(crate) fn place_number(zoom: i64, column: i64, row: i64) -> Option<u64> {
+    let zoom = u32::try_from(zoom).ok()?;
+    let column = u64::try_from(column).ok()?;
+    let row = u64::try_from(row).ok()?;
+    if zoom > 30 {
+        return None;
+    }
+    let side = 1u64 << zoom;
+    if column >= side || row >= side {
+        return None;
+    }
+    side.checked_add(column)?
+        .checked_mul(1_073_741_824)?
+        .checked_add(row)
+}
+
+// The number of a row's key, None where a cell of it is null. Two texts may have one number.
+pub(crate) fn number_of_row(secret: u64, row: &Row) -> Option<u64> {
+    match row.cells() {
+        [Cell::Int(zoom), Cell::Int(column), Cell::Int(line), _, ..] => {
+            place_number(*zoom, *column, *line)
+        }
+        [Cell::Int(id), _] => Some(id.cast_unsigned()),
+        [Cell::Text(id), _] => Some(digest_of(secret, id.as_str().as_bytes())),
+        _ => None,
+    }
+}
+
+// The number of a key, None where no row has it.
+pub(crate) fn number_of_key(secret: u64, key: &RowKey) -> Option<u64> {
+    match key {
+        RowKey::Tile { zoom, column, row } => {
+            place_number(i64::from(*zoom), i64::from(*column), i64::from(*row))
+        }
+        RowKey::IntId(id) => Some(id.cast_unsigned()),
+        RowKey::TextId(id) => Some(digest_of(secret, id.as_str().as_bytes())),
+    }
+}

@@ -1,0 +1,101 @@
+// The parts of a set: its layout, its tables and its metadata, by the catalog.
+use crate::FileError;
+use crate::catalog::{Catalog, read_catalog};
+use crate::columns::columns_by;
+use crate::listing::Listing;
+use crate::metadata::metadata;
+use crate::set_table::SetTable;
+use crate::source::Source;
+use mb_reading::{first_layout, is_there};
+use mb_store::MemStore;
+use mb_tables::{MbtType, TableName};
+use sqlite_disk::Disk;
+use std::alloc::Global;
+
+// The table of a set that its database lists as one.
+fn listing(alloc: Global, catalog: &Catalog, table: TableName) -> Result<Listing, FileError> {
+    let Some(listed) = catalog.table(table) else {
+        return Err(if table == TableName::Tiles {
+            FileError::View
+        } else {
+            FileError::Table { table }
+        });
+    };
+    let columns = columns_by(alloc, table, listed.text.as_slice())?;
+    let root = listed.root;
+    Ok(Listing::new(alloc, table, SetTable { root, columns }))
+}
+
+// The table of contents, where the layout has one.
+fn contents(
+    alloc: Global,
+    catalog: &Catalog,
+    layout: MbtType,
+) -> Result<Option<Listing>, FileError> {
+    match layout.normalized_schema() {
+        Some(schema) => Ok(Some(listing(alloc, catalog, schema.contents())?)),
+        None => Ok(None),
+    }
+}
+
+// What a set has beside its pages.
+#[derive(Drop)]
+pub(crate) struct Parts {
+    pub(crate) layout: MbtType,
+    pub(crate) tiles: Listing,
+    pub(crate) contents: Option<Listing>,
+    pub(crate) names: MemStore,
+}
+
+// The tables of a layout.
+fn tables(
+    alloc: Global,
+    catalog: &Catalog,
+    layout: MbtType,
+    names: MemStore,
+) -> Result<Parts, FileError> {
+    let contents = contents(alloc, catalog, layout)?;
+    let tiles = listing(alloc, catalog, layout.tile_table())?;
+    Ok(Parts {
+        layout,
+        tiles,
+        contents,
+        names,
+    })
+}
+
+// The metadata that a catalog lists.
+fn names<D: Disk>(
+    alloc: Global,
+    source: &mut Source<D>,
+    catalog: &Catalog,
+) -> Result<MemStore, FileError> {
+    let table = TableName::Metadata;
+    let listed = catalog.table(table);
+    if listed.is_none() && is_there(catalog.master.as_slice(), table) {
+        return Err(FileError::Table { table });
+    }
+    metadata(alloc, source, listed)
+}
+
+// The parts of the set that a catalog lists.
+fn listed_parts<D: Disk>(
+    alloc: Global,
+    source: &mut Source<D>,
+    catalog: &Catalog,
+) -> Result<Parts, FileError> {
+    let Some(layout) = first_layout(alloc, catalog.master.as_slice())? else {
+        return Err(FileError::NotASet);
+    };
+    let names = names(alloc, source, catalog)?;
+    tables(alloc, catalog, layout, names)
+}
+
+// The parts of the set that pages have.
+pub(crate) fn read_parts<D: Disk>(
+    alloc: Global,
+    source: &mut Source<D>,
+) -> Result<Parts, FileError> {
+    let catalog = read_catalog(alloc, &mut source.pages, &mut source.scratch)?;
+    listed_parts(alloc, source, &catalog)
+}

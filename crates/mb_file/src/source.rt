@@ -1,0 +1,30 @@
+// What the tables of a set are read from.
+use crate::pages::FilePages;
+use mb_reading::LeftOut;
+use sqlite_btree::Scratch;
+use sqlite_disk::Disk;
+use std::alloc::Global;
+
+#[derive(Drop)]
+pub(crate) struct Source<D: Disk> {
+    pub(crate) pages: FilePages<D>,
+    pub(crate) scratch: Scratch,
+    // Room for a record.
+    pub(crate) record: Vec<u8>,
+    // The key under which digests of ids are taken.
+    pub(crate) secret: u64,
+    // The rows that were read and left out.
+    pub(crate) left_out: LeftOut,
+}
+
+impl<D: Disk> Source<D> {
+    pub(crate) fn new(alloc: Global, pages: FilePages<D>, secret: u64) -> Source<D> {
+        Source {
+            pages,
+            scratch: Scratch::new(alloc),
+            record: Vec::new(alloc),
+            secret,
+            left_out: LeftOut::NOTHING,
+        }
+    }
+}

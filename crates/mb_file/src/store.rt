@@ -1,0 +1,265 @@
+// A set of a file as a store.
+ghost use Rattle.std.specs.Prelude.{◌≡◌, ◌≤◌, [], false, true, All, Err, IfOk, IfSome, IsErrOf, length};
+ghost use Rattle.base_values.specs.Counts.{Rose};
+ghost use Rattle.mb_tables.specs.Key.{has_key};
+ghost use Rattle.mb_tables.specs.Schema.{set_tables};
+ghost use Rattle.mb_tables.specs.Table.{width};
+
+use crate::fault::Faults;
+use crate::listing::Listing;
+use crate::opening::{Parts, read_parts};
+use crate::pages::FilePages;
+use crate::source::Source;
+use crate::{FileError, FileFault};
+use mb_reading::LeftOut;
+use mb_store::{Changes, MemStore, StoreError, TileStore};
+use mb_tables::{MbtType, Row, RowKey, TableDesc, TableName, set_tables};
+use sqlite_disk::{Disk, Files};
+use std::alloc::Global;
+
+/// A tile set that is read from the pages of a database and its log. It tells no tables.
+///
+/// Its rows are those of the tables of its layout, in the order of their rowids; those of tiles that have no place of zoom 0 to 30 are left out and counted. Of its tables nothing is held in memory but 16
+/// bytes a row, once it was read: the number of its key, and its rowid. The metadata is held.
+#[derive(Drop)]
+pub struct FileSet<D: Disk> {
+    alloc: Global,
+    source: Source<D>,
+    layout: MbtType,
+    names: MemStore,
+    tiles: Listing,
+    contents: Option<Listing>,
+    faults: Faults,
+}
+
+impl<D: Disk + Drop> FileSet<D> {
+    /// Opens the set of a file and its log, of whose pages so many are kept in memory. Nothing but the log is written. It reads the header, the catalog and the metadata.
+    ///
+    /// `NotASet` where nothing is named `tiles`, and no tables of a layout are there; `View` where `tiles` is a view of no known form; `Table` where a table is a view, or of a form that isn't read;
+    /// `Column` where it lacks a column; `Encoding` where texts are in UTF-16; `Header` and `Damaged` where it isn't a sound database; `Unread` where the file can't be read.
+    pub fn open(
+        alloc: Global,
+        files: Files<D>,
+        cache_pages: usize,
+    ) -> Result<FileSet<D>, FileError> {
+        let secret = files.log.key();
+        let pages = FilePages::open(alloc, files, cache_pages)?;
+        let mut source = Source::new(alloc, pages, secret);
+        match read_parts(alloc, &mut source) {
+            Ok(parts) => Ok(FileSet::of_parts(alloc, source, parts)),
+            Err(error) => Err(error),
+        }
+    }
+}
+
+impl<D: Disk> FileSet<D> {
+    // The set of its parts.
+    fn of_parts(alloc: Global, source: Source<D>, parts: Parts) -> FileSet<D> {
+        let Parts {
+            layout,
+            tiles,
+            contents,
+            names,
+        } = parts;
+        FileSet {
+            alloc,
+            source,
+            layout,
+            names,
+            tiles,
+            contents,
+            faults: Faults::NONE,
+        }
+    }
+
+    /// The layout of its tables.
+    pub fn layout(&self) -> MbtType
+        ensures { result ≡ self.now.layout }
+    {
+        self.layout
+    }
+
+    /// The rows that were left out of those that were read so far: of all rows once each table was read to its end.
+    pub fn left_out(&self) -> LeftOut
+        ensures { result ≡ self.now.source.left_out }
+    {
+        self.source.left_out
+    }
+
+    /// Why the last fault came, None before the first one.
+    pub fn last_fault(&self) -> Option<FileFault>
+        ensures { result ≡ self.now.faults.last }
+    {
+        self.faults.last
+    }
+
+    // How many rows a table has.
+    fn counted(&mut self, alloc: Global, table: TableName) -> Result<u64, FileFault>
+        ensures faults { self.new.faults ≡ self.old.faults }
+    {
+        if table == TableName::Metadata {
+            return Ok(self.names.count_rows(table)?);
+        }
+        if self.tiles.is_of(table) {
+            return self.tiles.count(alloc, &mut self.source);
+        }
+        match &mut self.contents {
+            Some(contents) if contents.is_of(table) => contents.count(alloc, &mut self.source),
+            _ => Ok(0),
+        }
+    }
+
+    // The rows of a table from a place on, at most so many.
+    fn page(
+        &mut self,
+        alloc: Global,
+        table: TableName,
+        from: u64,
+        limit: u64,
+    ) -> Result<Vec<Row>, FileFault>
+        ensures widths { IfOk result (λ rows. All (λ row. length row ≡ width table) rows.items) }
+        ensures limit { IfOk result (λ rows. length rows.items ≤ limit) }
+        ensures faults { self.new.faults ≡ self.old.faults }
+    {
+        if table == TableName::Metadata {
+            return Ok(self.names.rows(alloc, table, from, limit)?);
+        }
+        if self.tiles.is_of(table) {
+            return self.tiles.page(alloc, &mut self.source, table, from, limit);
+        }
+        match &mut self.contents {
+            Some(contents) if contents.is_of(table) => {
+                contents.page(alloc, &mut self.source, table, from, limit)
+            }
+            _ => Ok(Vec::new(alloc)),
+        }
+    }
+
+    // The first row of a table with a key.
+    fn found(
+        &mut self,
+        alloc: Global,
+        table: TableName,
+        key: &RowKey,
+    ) -> Result<Option<Row>, FileFault>
+        ensures widths { IfOk result (λ row. IfSome row (λ row. length row ≡ width table)) }
+        ensures keyed { IfOk result
+            (λ row. IfSome row (λ row. has_key table key.now row ≡ true)) }
+        ensures faults { self.new.faults ≡ self.old.faults }
+    {
+        if table == TableName::Metadata {
+            return Ok(self.names.find(alloc, table, key)?);
+        }
+        if self.tiles.is_of(table) {
+            return self.tiles.find(alloc, &mut self.source, table, key);
+        }
+        match &mut self.contents {
+            Some(contents) if contents.is_of(table) => {
+                contents.find(alloc, &mut self.source, table, key)
+            }
+            _ => Ok(None),
+        }
+    }
+
+    // The bytes of all cells.
+    fn sized(&mut self, alloc: Global) -> Result<u64, FileFault>
+        ensures faults { self.new.faults ≡ self.old.faults }
+    {
+        let names = self.names.live_size()?;
+        let tiles = self.tiles.size(alloc, &mut self.source)?;
+        let contents = match &mut self.contents {
+            Some(contents) => contents.size(alloc, &mut self.source)?,
+            None => 0,
+        };
+        Ok(names.saturating_add(tiles).saturating_add(contents))
+    }
+}
+
+impl<D: Disk> TileStore for FileSet<D> {
+    ghost use Rattle.std.proofs.lemmas.Bool.{false≢true};
+    ghost use Rattle.mb_store.specs.Store.{no_rows};
+
+    ghost tells = { λ _. false };
+
+    ghost told = { λ _. no_rows [] };
+
+    ghost faults = { λ s. s.faults.count };
+
+    ghost steady = { λ _. ⊥ };
+
+    /// The descriptions of the layout's tables and views and of its metadata.
+    fn describe(&mut self, alloc: Global) -> Result<Vec<TableDesc>, StoreError>
+        ensures described { IfOk result
+            (λ tables. tables.items ≡ set_tables self.old.layout) }
+        ensures layout { self.new.layout ≡ self.old.layout }
+        ensures faults { self.old.faults.count ≤ self.new.faults.count }
+        ensures fault { IsErrOf result StoreError.Fault →
+            Rose self.old.faults.count self.new.faults.count }
+    {
+        Ok(set_tables(alloc, self.layout)?)
+    }
+
+    /// How many rows a table has. It reads each row that wasn't read yet.
+    fn count_rows(&mut self, table: TableName) -> Result<u64, StoreError> {
+        let answer = self.counted(self.alloc, table);
+        self.faults.counted(answer)
+    }
+
+    /// The rows in the order of their rowids. Pages in order take time in their own rows; another page passes over all rows before it.
+    fn rows(
+        &mut self,
+        alloc: Global,
+        table: TableName,
+        from: u64,
+        limit: u64,
+    ) -> Result<Vec<Row>, StoreError> {
+        let answer = self.page(alloc, table, from, limit);
+        self.faults.counted(answer)
+    }
+
+    /// The first row of a table with a key, in the order of rowids. The first call reads each row that wasn't read yet; each further one reads one row.
+    fn find(
+        &mut self,
+        alloc: Global,
+        table: TableName,
+        key: &RowKey,
+    ) -> Result<Option<Row>, StoreError>
+        ensures widths { IfOk result (λ row. IfSome row (λ row. length row ≡ width table)) }
+        ensures keyed { IfOk result
+            (λ row. IfSome row (λ row. has_key table key.now row ≡ true)) }
+        ensures faults { self.old.faults.count ≤ self.new.faults.count }
+        ensures fault { IsErrOf result StoreError.Fault →
+            Rose self.old.faults.count self.new.faults.count }
+    {
+        let answer = self.found(alloc, table, key);
+        self.faults.counted(answer)
+    }
+
+    /// A fault: the set is only read.
+    fn create(&mut self, _alloc: Global, _tables: &[TableDesc]) -> Result<(), StoreError>
+        ensures refused { result ≡ Err StoreError.Fault }
+        ensures faults { self.old.faults.count ≤ self.new.faults.count }
+        ensures fault { IsErrOf result StoreError.Fault →
+            Rose self.old.faults.count self.new.faults.count }
+    {
+        self.faults.counted(Err(FileFault::ReadOnly))
+    }
+
+    /// A fault: the set is only read.
+    fn commit(&mut self, _alloc: Global, _changes: &Changes) -> Result<(), StoreError>
+        ensures refused { result ≡ Err StoreError.Fault }
+        ensures faults { self.old.faults.count ≤ self.new.faults.count }
+        ensures fault { IsErrOf result StoreError.Fault →
+            Rose self.old.faults.count self.new.faults.count }
+    {
+        self.faults.counted(Err(FileFault::ReadOnly))
+    }
+
+    /// The bytes of all texts and blobs, and 8 for each other cell, over all rows. It reads each row that wasn't read yet.
+    fn live_size(&mut self) -> Result<u64, StoreError> {
+        let answer = self.sized(self.alloc);
+        self.faults.counted(answer)
+    }
+
+    ghost sound = { λ _ tells. absurd (false≢true tells) };
+}

@@ -1,0 +1,6 @@
+-- the rest is shorter
+use Rattle.tile_command.proofs.Common.{length}
+use Rattle.tile_command.proofs.words.+asked_after.Given as goal
+
+abbrev pub decreases-asked_after : goal.decreases-asked_after
+decreases-asked_after l = length l.words.now

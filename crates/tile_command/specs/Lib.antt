@@ -1,0 +1,9 @@
+pub mod Common
+pub mod Choices
+pub mod Copier
+pub mod Document
+pub mod HeaderLines
+pub mod Status
+pub mod Subcommand
+pub mod SummaryLines
+pub mod Words

@@ -1,0 +1,4 @@
+use Rattle.tile_streaming.proofs.seen_rows.SeenRows.none.Goals as goal
+
+pub returns : goal.returns
+returns c = λ layout a. record { findings = c.none.ensures layout a; marks = c.in_ok-marks.ensures.items }

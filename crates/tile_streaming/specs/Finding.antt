@@ -1,0 +1,37 @@
+-- The contents that tables have for a mark.
+use Rattle.std.specs.Prelude.{ℕ, ◌≡◌, ◌%◌, ◌&&◌, ◌^◌, nat_eq, nat_le, Bool, true, List, length, find, Option, Some}
+use Rattle.tile_streaming.specs.Common.{Cache, Cell, cell_at, cell_bytes, coord_of, has_key, is_gzip, MbtType, option_map, Place, place_at, Tables, tile_key, tile_table, xxh3_64}
+use Rattle.std.specs.Bool.{beq}
+use Rattle.tile_streaming.specs.declared.mark.Mark.{Mark}
+
+-- the place that has an id
+abbrev pub place_with : ℕ → Place
+place_with id = place_at (coord_of id)
+
+-- the cell of the contents in a row of a layout that keeps them with their tiles
+abbrev pub content_cell : MbtType → List Cell → Cell
+content_cell Cache row = cell_at 6 row
+content_cell _ row = cell_at 3 row
+
+-- its bytes, none where it is null
+abbrev pub row_bytes : MbtType → List Cell → List ℕ
+row_bytes layout row = cell_bytes (content_cell layout row)
+
+-- the row that tables have for an id, and its bytes
+abbrev pub row_told : MbtType → Tables → ℕ → Option (List Cell)
+row_told layout t id = find (has_key (tile_table layout) (tile_key (place_with id))) (t.rows (tile_table layout))
+
+abbrev pub bytes_told : MbtType → Tables → ℕ → Option (List ℕ)
+bytes_told layout t id = option_map (row_bytes layout) (row_told layout t id)
+
+-- whether a mark is of so many bytes
+abbrev pub has_size : Mark → ℕ → Bool
+has_size m n = nat_eq (n % 2 ^ 32) m.length && beq (nat_le (2 ^ 32) n) m.is_long
+
+-- whether bytes have the length and the digest of a mark, and begin as gzip begins where it says so
+abbrev pub fits : Mark → List ℕ → Bool
+fits m bytes = (has_size m (length bytes) && nat_eq (xxh3_64 bytes) m.digest) && beq (is_gzip bytes) m.gzip
+
+-- tables have such bytes for a mark
+abbrev pub IsStored : MbtType → Tables → Mark → Type 0
+IsStored layout t m = (bytes : List ℕ) × (bytes_told layout t m.id ≡ Some bytes) × (fits m bytes ≡ true)

@@ -1,0 +1,13 @@
+pub mod Adding
+pub mod Common
+pub mod Finding
+pub mod Hashing
+pub mod Marks
+pub mod MarkFacts
+pub mod Sizing
+pub mod Spots
+pub mod Streaming
+pub mod Written
+pub mod RowMarks
+pub mod RowTests
+pub mod Seen

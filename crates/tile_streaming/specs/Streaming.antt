@@ -1,0 +1,88 @@
+-- What a conversion that holds no contents answers, and what it leaves.
+use Rattle.std.specs.Prelude.{ℕ, ◌≡◌, ◌≢◌, ◌<◌, ◌⊎◌, Bool, true, false, List, [], length, Option, None, Result, Ok, Err, OnOk, IfOk, IfSome, unwrap_or}
+use Rattle.tile_streaming.specs.Common.{ConvertCauses, ConvertError, ConvertOptions, ConvertReport, Coord, due, HasPlaces, IsDue, IsEmpty, IsHidden, IsPlain, IsReadBack, Options, Rose, SetLeaves, State, Tables}
+use Rattle.tile_bridge.specs.declared.error.ConvertError.TheVariants.{MediumFault, MediumNotEmpty, OutOfMemory, ReadBack, StoreFault, UnsupportedCompression}
+use Rattle.pm_format.specs.declared.compression.Compression.TheVariants as compression
+use Rattle.tile_streaming.specs.Hashing.{HasHash}
+use Rattle.tile_streaming.specs.Marks.{IsMarkedAs, IsMarkedSet}
+use Rattle.tile_streaming.specs.declared.error.StreamError.{StreamError}
+use Rattle.tile_streaming.specs.declared.error.StreamError.TheVariants.{Convert, StoreChanged}
+use Rattle.tile_streaming.specs.declared.mark.MarkedSet.{MarkedSet}
+use Rattle.tile_streaming.specs.declared.report.StreamReport.{StreamReport}
+
+-- the outcome of a base without patches, where it tells
+abbrev pub due_of : {S : Type 0} → (S → Bool) → (S → Tables) → S → ConvertOptions → Option (Result State ConvertError)
+due_of tells told base o = due tells told tells told base [] o
+
+-- the report in the words of `convert`, with no hash where none was made
+abbrev pub as_report : StreamReport → ConvertReport
+as_report r = record { answers = r.answers; aggregate = unwrap_or r.aggregate []; places = r.places }
+
+-- the answer in these words; what a changed store leaves is what want of memory leaves
+abbrev pub as_convert : Result StreamReport StreamError → Result ConvertReport ConvertError
+as_convert (Ok r) = Ok (as_report r)
+as_convert (Err (Convert e)) = Err e
+as_convert (Err StoreChanged) = Err OutOfMemory
+
+-- When each answer comes: that of `convert` as there. A store changed only where it tells nothing, behind the tests of the medium and of the label.
+abbrev pub StreamCauses : Options → Option (Result State ConvertError) → Bool → Option (List ℕ) → Result StreamReport StreamError → Type 0
+StreamCauses o due tells told (Ok r) = ConvertCauses o due told (Ok (as_report r))
+StreamCauses o due tells told (Err (Convert e)) = ConvertCauses o due told (Err e)
+StreamCauses o due tells told (Err StoreChanged) = (tells ≡ false) × IsEmpty told × IsPlain o
+
+-- the conversion ended before anything was written
+pub record IsUnwritten (result : Result StreamReport StreamError) (old new : Option (List ℕ)) : Type 0 where
+  pub refused : OnOk result ⊥
+  pub medium : new ≡ old
+
+-- when each answer comes once the set is at hand
+abbrev pub StreamEnds : Bool → Option (List ℕ) → Result StreamReport StreamError → Type 0
+StreamEnds tells told (Ok r) = Unit {0}
+StreamEnds tells told (Err StoreChanged) = tells ≡ false
+StreamEnds tells told (Err (Convert (StoreFault place))) = Unit {0}
+StreamEnds tells told (Err (Convert MediumFault)) = Unit {0}
+StreamEnds tells told (Err (Convert (ReadBack e))) = (told ≡ None) × IsReadBack e
+StreamEnds tells told (Err (Convert OutOfMemory)) = Unit {0}
+StreamEnds tells told (Err (Convert _)) = ⊥
+
+-- once a store failed or changed, no reader opens what was written
+abbrev pub HidesRest : Option (List ℕ) → Result StreamReport StreamError → Type 0
+HidesRest new (Err StoreChanged) = IfSome new IsHidden
+HidesRest new (Err (Convert (StoreFault place))) = IfSome new IsHidden
+HidesRest new _ = Unit {0}
+
+-- The set was at hand, and the medium empty. The options are those that the state gives, which is the one that is due, where the store tells. The medium holds the archive of this state and these options, or no part
+-- of it; and the report is of both.
+pub record IsOfState (gives : State → Options → Type 0) (due : Option (Result State ConvertError)) (tells : Bool) (coords : List Coord) (result : Result StreamReport StreamError) (old new : Option (List ℕ)) : Type 0 where
+  pub state : State
+  pub options : Options
+  pub is_due : IsDue due state
+  pub given : gives state options
+  pub empty : IsEmpty old
+  pub ended : StreamEnds tells old result
+  pub medium : SetLeaves options state.tiles coords (as_convert result) old new
+  pub hidden : HidesRest new result
+  pub aggregate_is : IfOk result (λ r. IfSome r.aggregate (HasHash tells state))
+  pub places : IfOk result (λ r. HasPlaces options state.tiles old (as_report r))
+
+-- What a conversion leaves, whichever way it ends.
+abbrev pub StreamLeaves : (State → Options → Type 0) → Option (Result State ConvertError) → Bool → List Coord → Result StreamReport StreamError → Option (List ℕ) → Option (List ℕ) → Type 0
+StreamLeaves gives due tells coords result old new = IsUnwritten result old new ⊎ IsOfState gives due tells coords result old new
+
+-- the options of a set that is held by its marks: these, whichever state it is held of
+abbrev pub IsHeldWith : MarkedSet → Options → State → Options → Type 0
+IsHeldWith m w state options = IsMarkedAs state m × (options ≡ w)
+
+-- the marks are those of tables that the store tells, or where it tells nothing of some tables that its answers could be of
+pub record IsMarkedFrom (tells : Bool) (told : Tables) (m : MarkedSet) : Type 0 where
+  pub tables : Tables
+  pub are_told : tells ≡ true → tables ≡ told
+  pub marked : IsMarkedSet tables m
+
+-- what is tested of the medium and of the label of directories
+abbrev pub TestCauses : {A : Type 0} → Options → Option (List ℕ) → ℕ → ℕ → Result A ConvertError → Type 0
+TestCauses o told medium medium_now (Ok _) = IsEmpty told × IsPlain o
+TestCauses o told medium medium_now (Err MediumFault) = Rose medium medium_now
+TestCauses o told medium medium_now (Err (MediumNotEmpty n)) = (0 < n) × IfSome told (λ bytes. n ≡ length bytes)
+TestCauses o told medium medium_now (Err (UnsupportedCompression label)) = IsEmpty told × (label ≡ o.internal_compression) × (label ≢ compression.None)
+TestCauses o told medium medium_now (Err _) = ⊥

@@ -1,0 +1,156 @@
+// The conversion of a set of which marks are held, and one content at a time.
+ghost use Rattle.std.specs.Prelude.{◌≡◌, ◌+◌, ◌∷◌, ◌||◌, [], ℕ, false, is_some, IfOk, IfSome, IsErrOf, unwrap_or};
+ghost use Rattle.tile_streaming.specs.Common.{answered, GrewFrom, IsEmpty, IsPlain, KeepsMedium, ReadsOnly, Rose, RoseAt};
+ghost use Rattle.tile_streaming.specs.Hashing.{IsHashOf, IsRight};
+ghost use Rattle.tile_streaming.specs.Sizing.{overflow_of};
+ghost use Rattle.tile_streaming.specs.Streaming.{due_of, IsHeldWith, IsMarkedFrom, StreamCauses, StreamLeaves};
+
+use crate::error::of_reader;
+use crate::sizing::mark_overflows;
+use crate::verifying::hash_for;
+use crate::writing::write_marked;
+use crate::{MarkedSet, StreamError, StreamOptions, StreamReport};
+use base_values::TextVal;
+use mb_store::TileStore;
+use pm_format::Medium;
+use pm_writer::PmTilesWriter;
+use std::alloc::Global;
+use tile_bridge::{ConvertError, ConvertOptions, read_answers};
+use tile_ids::TileCoord;
+
+// The conversion of a set whose marks are held, by the options of its archive.
+fn convert_held<S: TileStore, M: Medium>(
+    alloc: Global,
+    base: &mut S,
+    set: &MarkedSet,
+    coords: &[TileCoord],
+    asked: &ConvertOptions,
+    writer: &PmTilesWriter,
+    aggregate: Option<TextVal>,
+    medium: &mut M,
+) -> Result<StreamReport, StreamError>
+    requires marked { IsMarkedFrom (S.tells base.old) (S.told base.old) set.now }
+    requires right { IsRight asked.now.verify (S.tells base.old) (S.told base.old) }
+    requires hashed { IfSome aggregate (IsHashOf (S.tells base.old) (S.told base.old) set.now) }
+    requires empty { IsEmpty (M.told medium.old) }
+    requires label { IsPlain asked.now.writer }
+    requires plain { IsPlain writer.now }
+    requires size { overflow_of set.now.marks.items ≡ false }
+    ensures causes { StreamCauses asked.now.writer (due_of S.tells S.told base.old asked.now)
+        (S.tells base.old) (M.told medium.old) result }
+    ensures leaves { StreamLeaves (IsHeldWith set.now writer.now)
+        (due_of S.tells S.told base.old asked.now) (S.tells base.old) coords.now result
+        (M.told medium.old) (M.told medium.new) }
+    ensures aggregate { IfOk result (λ report. report.aggregate ≡ aggregate) }
+    ensures store_fault { (place : ℕ)
+        → IsErrOf result (StreamError.Convert (ConvertError.StoreFault place))
+        → RoseAt place (S.faults base.old ∷ []) (S.faults base.new ∷ []) }
+    ensures reads { IfOk result (λ report. GrewFrom (M.reads medium.old) (M.reads medium.new)
+        (answered report.answers + 1)) }
+    ensures fault { IsErrOf result (StreamError.Convert ConvertError.MediumFault)
+        → Rose (M.faults medium.old) (M.faults medium.new) }
+    ensures base_kept { ReadsOnly S.told S.tells S.faults S.steady base.old base.new }
+    ensures medium_kept { KeepsMedium M.told M.versions M.reads M.faults M.steady
+        medium.old medium.new }
+{
+    writer.fits();
+    let places = write_marked(alloc, base, set, writer, medium)?;
+    match read_answers(alloc, medium, coords) {
+        Ok(answers) => Ok(StreamReport {
+            answers,
+            aggregate,
+            places,
+        }),
+        Err(error) => Err(of_reader(error)),
+    }
+}
+
+// The writer of an archive: the one that was made for its set, or the one that was asked for.
+fn chosen<'a>(asked: &'a ConvertOptions, made: &'a Option<PmTilesWriter>) -> &'a PmTilesWriter
+    ensures writer { result.now ≡ unwrap_or made.now asked.now.writer }
+    ensures plain { IsPlain asked.now.writer → IfSome made.now IsPlain → IsPlain result.now }
+{
+    match made {
+        Some(writer) => writer,
+        None => &asked.writer,
+    }
+}
+
+// Converts a set whose marks are held, and whose hash is there where it was asked for.
+fn convert_hashed<S: TileStore, O: StreamOptions, M: Medium>(
+    alloc: Global,
+    base: &mut S,
+    set: &MarkedSet,
+    coords: &[TileCoord],
+    options: &O,
+    aggregate: Option<TextVal>,
+    medium: &mut M,
+) -> Result<StreamReport, StreamError>
+    requires marked { IsMarkedFrom (S.tells base.old) (S.told base.old) set.now }
+    requires right { IsRight (O.asks options.now).verify (S.tells base.old) (S.told base.old) }
+    requires hashed { IfSome aggregate (IsHashOf (S.tells base.old) (S.told base.old) set.now) }
+    requires empty { IsEmpty (M.told medium.old) }
+    requires plain { IsPlain (O.asks options.now).writer }
+    ensures causes { StreamCauses (O.asks options.now).writer
+        (due_of S.tells S.told base.old (O.asks options.now)) (S.tells base.old)
+        (M.told medium.old) result }
+    ensures leaves { StreamLeaves (O.gives options.now)
+        (due_of S.tells S.told base.old (O.asks options.now)) (S.tells base.old) coords.now result
+        (M.told medium.old) (M.told medium.new) }
+    ensures aggregate { IfOk result (λ report. report.aggregate ≡ aggregate) }
+    ensures store_fault { (place : ℕ)
+        → IsErrOf result (StreamError.Convert (ConvertError.StoreFault place))
+        → RoseAt place (S.faults base.old ∷ []) (S.faults base.new ∷ []) }
+    ensures reads { IfOk result (λ report. GrewFrom (M.reads medium.old) (M.reads medium.new)
+        (answered report.answers + 1)) }
+    ensures fault { IsErrOf result (StreamError.Convert ConvertError.MediumFault)
+        → Rose (M.faults medium.old) (M.faults medium.new) }
+    ensures base_kept { ReadsOnly S.told S.tells S.faults S.steady base.old base.new }
+    ensures medium_kept { KeepsMedium M.told M.versions M.reads M.faults M.steady
+        medium.old medium.new }
+{
+    if mark_overflows(&set.marks) {
+        return Err(StreamError::Convert(ConvertError::IndexEntryOverflow));
+    }
+    let made = options.made_for_marked(alloc, set)?;
+    let asked = options.asked();
+    let writer = chosen(asked, &made);
+    convert_held(alloc, base, set, coords, asked, writer, aggregate, medium)
+}
+
+/// Converts a set whose marks are held, with each content read again and one of them in memory. Where its hash is to be
+/// verified, or wanted for itself (`hash`), each is read once more before, in the order of places.
+pub(crate) fn convert_marked<S: TileStore, O: StreamOptions, M: Medium>(
+    alloc: Global,
+    base: &mut S,
+    set: &MarkedSet,
+    coords: &[TileCoord],
+    options: &O,
+    hash: bool,
+    medium: &mut M,
+) -> Result<StreamReport, StreamError>
+    requires marked { IsMarkedFrom (S.tells base.old) (S.told base.old) set.now }
+    requires empty { IsEmpty (M.told medium.old) }
+    requires plain { IsPlain (O.asks options.now).writer }
+    ensures causes { StreamCauses (O.asks options.now).writer
+        (due_of S.tells S.told base.old (O.asks options.now)) (S.tells base.old)
+        (M.told medium.old) result }
+    ensures leaves { StreamLeaves (O.gives options.now)
+        (due_of S.tells S.told base.old (O.asks options.now)) (S.tells base.old) coords.now result
+        (M.told medium.old) (M.told medium.new) }
+    ensures aggregate { IfOk result
+        (λ report. is_some report.aggregate ≡ (O.asks options.now).verify || hash) }
+    ensures store_fault { (place : ℕ)
+        → IsErrOf result (StreamError.Convert (ConvertError.StoreFault place))
+        → RoseAt place (S.faults base.old ∷ []) (S.faults base.new ∷ []) }
+    ensures reads { IfOk result (λ report. GrewFrom (M.reads medium.old) (M.reads medium.new)
+        (answered report.answers + 1)) }
+    ensures fault { IsErrOf result (StreamError.Convert ConvertError.MediumFault)
+        → Rose (M.faults medium.old) (M.faults medium.new) }
+    ensures base_kept { ReadsOnly S.told S.tells S.faults S.steady base.old base.new }
+    ensures medium_kept { KeepsMedium M.told M.versions M.reads M.faults M.steady
+        medium.old medium.new }
+{
+    let aggregate = hash_for(alloc, base, set, options.asked().verify, hash)?;
+    convert_hashed(alloc, base, set, coords, options, aggregate, medium)
+}

@@ -1,0 +1,111 @@
+// The contents of a mark, read again from the store.
+ghost use Rattle.std.specs.Prelude.{◌≡◌, true, IfOk, Some};
+ghost use Rattle.mb_tables.specs.declared.cell.Cell.TheVariants.{Null};
+ghost use Rattle.tile_streaming.specs.Common.{cell_bytes, FaultsCounted, place_at, ReadsOnly, Rose, tile_key};
+ghost use Rattle.tile_streaming.specs.Finding.{fits, has_size, row_bytes, row_told};
+ghost use Rattle.tile_streaming.specs.Written.{FindCauses, IsChanged};
+
+use crate::{Mark, StreamError};
+use mb_lists::cell_at;
+use mb_store::{Cell, MbtType, Row, RowKey, TileStore};
+use set_options::is_gzip;
+use std::alloc::Global;
+use tile_hash::xxh3_64;
+use tile_ids::{TileCoord, TileId, invert_y_value};
+
+// The key of the row of a coordinate.
+fn key_at(coord: TileCoord) -> RowKey
+    ensures { result ≡ tile_key (place_at coord) }
+{
+    let zoom = coord.z();
+    RowKey::Tile {
+        zoom,
+        column: coord.x(),
+        row: invert_y_value(zoom, coord.y()),
+    }
+}
+
+// The row that a store has for an id.
+fn find_row<S: TileStore>(
+    alloc: Global,
+    store: &mut S,
+    layout: MbtType,
+    id: TileId,
+) -> Result<Option<Row>, StreamError>
+    ensures answer { S.tells store.old ≡ true
+        → IfOk result (λ row. row ≡ row_told layout (S.told store.old) id) }
+    ensures causes { FindCauses ⊥ (S.faults store.old) (S.faults store.new) result }
+    ensures kept { ReadsOnly S.told S.tells S.faults S.steady store.old store.new }
+{
+    let key = key_at(TileCoord::from(id));
+    Ok(store.find(alloc, layout.tile_table(), &key)?)
+}
+
+// The bytes of a cell, none where it has none.
+fn bytes_of(cell: &Cell) -> &[u8]
+    ensures { result.now ≡ cell_bytes cell.now }
+{
+    match cell {
+        Cell::Blob(blob) => blob.as_bytes(),
+        _ => &[],
+    }
+}
+
+/// The bytes of the tile of a row, none where its contents are null. `null` stands for a cell that is missing.
+pub(crate) fn row_bytes<'a>(layout: MbtType, row: &'a Row, null: &'a Cell) -> &'a [u8]
+    requires { null.now ≡ Null }
+    ensures { result.now ≡ row_bytes layout row.now }
+{
+    match layout {
+        MbtType::Cache => bytes_of(cell_at(row, 6, null)),
+        _ => bytes_of(cell_at(row, 3, null)),
+    }
+}
+
+// Whether a mark is of so many bytes.
+fn has_size(mark: &Mark, length: u64) -> bool
+    ensures { result ≡ has_size mark.now length }
+{
+    length % (1 << 32) == mark.length as u64 && (length >= 1 << 32) == mark.is_long
+}
+
+// Whether bytes have the length and the digest of a mark, and begin as gzip begins where it says so.
+fn is_of(mark: &Mark, bytes: &[u8]) -> bool
+    ensures { result ≡ fits mark.now bytes.now }
+{
+    has_size(mark, bytes.len() as u64)
+        && xxh3_64(bytes) == mark.digest
+        && is_gzip(bytes) == mark.gzip
+}
+
+// Whether a row has the contents of a mark.
+fn has_contents(layout: MbtType, mark: &Mark, row: &Row) -> bool
+    ensures { result ≡ fits mark.now (row_bytes layout row.now) }
+{
+    let null = Cell::Null;
+    is_of(mark, row_bytes(layout, row, &null))
+}
+
+/// The row that a store has for a mark, with the contents that the mark is of. `StoreChanged` comes where there is no
+/// such row.
+pub(crate) fn marked_row<S: TileStore>(
+    alloc: Global,
+    store: &mut S,
+    layout: MbtType,
+    mark: &Mark,
+) -> Result<Row, StreamError>
+    ensures found { IfOk result (λ row. fits mark.now (row_bytes layout row) ≡ true) }
+    ensures answer { S.tells store.old ≡ true
+        → IfOk result (λ row. row_told layout (S.told store.old) mark.now.id ≡ Some row) }
+    ensures causes { FindCauses (IsChanged (S.tells store.old) (S.told store.old) layout mark.now)
+        (S.faults store.old) (S.faults store.new) result }
+    ensures kept { ReadsOnly S.told S.tells S.faults S.steady store.old store.new }
+{
+    let Some(row) = find_row(alloc, store, layout, mark.id)? else {
+        return Err(StreamError::StoreChanged);
+    };
+    if !has_contents(layout, mark, &row) {
+        return Err(StreamError::StoreChanged);
+    }
+    Ok(row)
+}

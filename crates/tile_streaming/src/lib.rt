@@ -1,0 +1,31 @@
+//! Conversions that hold no contents: a mark of each tile, and one content at a time.
+#![tactic(auto)]
+
+mod converting;
+mod described;
+mod error;
+mod finding;
+mod hashing;
+mod mark;
+mod mark_facts;
+mod marking;
+mod names;
+mod options;
+mod ordering;
+mod reading;
+mod report;
+mod row_marks;
+mod row_tests;
+mod seen_rows;
+mod sizing;
+mod spots;
+mod streaming;
+mod verifying;
+mod writing;
+
+pub use error::StreamError;
+pub use mark::{Mark, MarkedSet};
+pub use marking::read_marks;
+pub use options::StreamOptions;
+pub use report::StreamReport;
+pub use streaming::convert_streamed;

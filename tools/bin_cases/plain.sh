@@ -1,0 +1,136 @@
+# Cases of tools/check_bin: archives as other tools write them, with directories in gzip, made plain.
+# shellcheck disable=SC2034,SC2154
+
+plain=$bin/pmtiles-plain
+compressed() { python3 "$top/tools/checks/compressed_archive.py" "$@"; }
+alone() { [ "$(ls -A "$1" | tr '\n' ' ')" = "$2 " ]; }
+is_sound() { case $("$bin/tile_verify" "$1") in sound*) ;; *) false ;; esac; }
+grid() {
+    printf 'option %s\n' 'type png' 'metadata t{"name":"grid","tilestats":{"half":0.5}}' 'bounds -1 -900000000 1800000000 1234567'
+    printf 'base flat\nrow tiles i0 i0 i0 x30\nrow tiles i5 i1 i2 x35\nrow tiles i30 i0 i0 x33\n'
+    awk 'BEGIN { for (x = 0; x < 128; x++) for (y = 0; y < 128; y++) printf "row tiles i7 i%d i%d x%s\n", x, y, x < 64 ? "3131" : sprintf("%02x%02x", x, y) }'
+}
+
+if ! command -v python3 >/dev/null; then
+    skips 'the command python3 is missing, so no archive is made plain'
+else
+    fresh 'an archive with its directories in gzip, and the same one plain'
+    "$bin/mbtiles-to-pmtiles" "$top/examples/places.mbtiles" first.pmtiles >/dev/null
+    compressed first.pmtiles other.pmtiles
+    run "$bin/tile_verify" other.pmtiles
+    status 1
+    run "$plain" other.pmtiles plain.pmtiles
+    status 0
+    prints '^74 tiles in 74 entries$'
+    holds [ ! -s err ]
+    holds same plain.pmtiles "$top/examples/places.mbtiles"
+    holds cmp -s first.pmtiles plain.pmtiles
+    # one that is plain comes out as it was
+    run "$plain" plain.pmtiles again.pmtiles
+    status 0
+    holds cmp -s plain.pmtiles again.pmtiles
+    run "$plain" other.pmtiles plain.pmtiles
+    status 1
+    says 'plain.pmtiles is there; --overwrite replaces it'
+    run "$plain" --overwrite --no-verify other.pmtiles plain.pmtiles
+    status 0
+    holds cmp -s first.pmtiles plain.pmtiles
+    ends
+
+    for leaf in 4096 500 7; do
+        fresh "an archive of runs whose leaves of $leaf entries lie in gzip, one below another"
+        grid >script
+        feed script "$bin/tileset" convert file first.pmtiles
+        compressed first.pmtiles other.pmtiles $leaf
+        run "$plain" other.pmtiles plain.pmtiles
+        status 0
+        holds is_sound plain.pmtiles
+        "$bin/pmtiles-to-mbtiles" plain.pmtiles back.mbtiles
+        holds same first.pmtiles back.mbtiles
+        cp same first
+        holds same plain.pmtiles back.mbtiles
+        holds cmp -s same first
+        ends
+    done
+
+    fresh 'an archive without tiles made plain'
+    "$bin/tileset" convert file first.pmtiles <<<'base flat' >/dev/null
+    compressed first.pmtiles other.pmtiles
+    run "$plain" other.pmtiles plain.pmtiles
+    status 0
+    holds cmp -s first.pmtiles plain.pmtiles
+    ends
+
+    fresh 'what is refused is not made plain, and leaves nothing'
+    "$bin/mbtiles-to-pmtiles" "$top/examples/places.mbtiles" first.pmtiles >/dev/null
+    compressed first.pmtiles other.pmtiles 10
+    mkdir to
+    size=$(stat -c %s other.pmtiles)
+    # cut off at its end, in its directories, in its header
+    for left in $((size - 1)) $((size / 2)) 300 127 126 0; do
+        head -c "$left" other.pmtiles >broken.pmtiles
+        run "$plain" broken.pmtiles to/made.pmtiles
+        status 1
+        holds nothing_in to
+    done
+    # each byte of the header and of the directories changed by itself: an archive of the same tiles, or a refusal
+    "$bin/pmtiles-to-mbtiles" first.pmtiles set.mbtiles
+    for at in $(seq 0 13 700); do
+        cp other.pmtiles broken.pmtiles
+        printf '\377' | dd of=broken.pmtiles bs=1 seek="$at" conv=notrunc status=none
+        run "$plain" --overwrite --no-verify broken.pmtiles to/made.pmtiles
+        case $got in
+        0)
+            holds same to/made.pmtiles set.mbtiles
+            rm to/made.pmtiles
+            ;;
+        1) holds nothing_in to ;;
+        *) problem="$problem; status $got at byte $at" ;;
+        esac
+    done
+    ends
+
+    fresh 'words and files of pmtiles-plain'
+    "$bin/mbtiles-to-pmtiles" "$top/examples/places.mbtiles" first.pmtiles >/dev/null
+    compressed first.pmtiles other.pmtiles
+    run "$plain" --help
+    status 0
+    prints '^usage: pmtiles-plain'
+    run "$plain" --version
+    prints '^pmtiles-plain [0-9.]*$'
+    for words in '' 'one' 'one two three' '--any one two'; do
+        # shellcheck disable=SC2086
+        run "$plain" $words
+        status 2
+        says 'usage: pmtiles-plain'
+    done
+    run "$plain" none.pmtiles out.pmtiles
+    status 3
+    says 'there is no file none.pmtiles'
+    run "$plain" . out.pmtiles
+    status 6
+    run "$plain" other.pmtiles none/out.pmtiles
+    status 6
+    run "$plain" "$top/examples/places.mbtiles" out.pmtiles
+    status 1
+    says 'is no PMTiles archive of version 3'
+    # a link is followed, and a name with a dash is a file
+    ln -s first.pmtiles link.pmtiles
+    run "$plain" --overwrite --no-verify -- other.pmtiles link.pmtiles
+    status 0
+    holds [ -L link.pmtiles ]
+    cp other.pmtiles ./-other
+    run "$plain" --no-verify -- -other -plain
+    status 0
+    holds cmp -s first.pmtiles ./-plain
+    # a compression whose command isn't there
+    if ! command -v brotli >/dev/null; then
+        cp other.pmtiles brotli.pmtiles
+        printf '\003' | dd of=brotli.pmtiles bs=1 seek=97 conv=notrunc status=none
+        run "$plain" brotli.pmtiles out.pmtiles
+        status 10
+        says 'brotli'
+        holds [ ! -e out.pmtiles ]
+    fi
+    ends
+fi
