@@ -14,8 +14,8 @@ from models.names import TABLES
 
 def pages_of(statements):
     """What a reading by pages shows: the rows in the order of their rowids, how many of the tiles are found by their
-    places, and how many were left out. None where a table is a view or of a form that isn't read, a place stands twice,
-    or a value is of another kind."""
+    places, and how many were left out; a fault, where a table has rows and none of them has a place. None where a table
+    is a view or of a form that isn't read, a place stands twice, or a value is of another kind."""
     file = File(statements)
     layout = file.layout()
     if not layout or not all(map(file.has, layout)) or 'metadata' in file.kinds and not file.has('metadata'):
@@ -32,6 +32,8 @@ def pages_of(statements):
                 if found is None:
                     file.left.add(table, row)
             tables[table] = [found for _, found in read if found is not None]
+            if read and not tables[table]:
+                return 'fault'
     except (Odd, ValueError):
         return None
     places = [tuple(found[:3]) for found in tables[layout[-1]]]

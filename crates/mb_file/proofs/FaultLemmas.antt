@@ -2,7 +2,7 @@
 use Rattle.std.proofs.Common.{Err, IfOk, Ok, Result, subst, sym}
 use Rattle.mb_file.specs.Faults.{IsCounted}
 use Rattle.mb_file.specs.declared.fault.FileFault.{FileFault}
-use Rattle.mb_file.specs.declared.fault.FileFault.TheVariants.{Cell, Damaged, OutOfMemory, ReadOnly, Unread}
+use Rattle.mb_file.specs.declared.fault.FileFault.TheVariants.{Cell, Damaged, OutOfMemory, Outside, ReadOnly, Unread}
 use Rattle.mb_file.specs.declared.fault.Faults.{Faults}
 use Rattle.mb_store.specs.declared.store.StoreError.{StoreError}
 
@@ -13,3 +13,4 @@ counted_ok P (Err Damaged) before now result counted ok = subst (λ r. IfOk r P)
 counted_ok P (Err Unread) before now result counted ok = subst (λ r. IfOk r P) (sym counted.0) tt
 counted_ok P (Err (Cell table kind)) before now result counted ok = subst (λ r. IfOk r P) (sym counted.0) tt
 counted_ok P (Err ReadOnly) before now result counted ok = subst (λ r. IfOk r P) (sym counted.0) tt
+counted_ok P (Err (Outside table)) before now result counted ok = subst (λ r. IfOk r P) (sym counted.0) tt

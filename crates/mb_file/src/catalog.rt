@@ -4,16 +4,19 @@ ghost use Rattle.std.specs.Prelude.{◌≡◌};
 use crate::FileError;
 use crate::cursor::Cursor;
 use crate::record::field;
+use mb_reading::is_there;
 use mb_tables::TableName;
 use sqlite_btree::Scratch;
 use sqlite_exec::work::FromRow;
 use sqlite_pages::Pages;
+use sqlite_syntax::names_object;
+use sqlite_trees::sound::{bytes_of, fits_kind, is_text_only, is_virtual};
 use sqlite_value::row::Row;
 use sqlite_value::value::ValueRef;
 use std::alloc::Global;
 
 // The page with the root of the catalog.
-const ROOT: u32 = 1;
+pub(crate) const ROOT: u32 = 1;
 
 // The kinds of what has rows.
 const TABLE: &str = "table";
@@ -74,6 +77,30 @@ fn page_at(record: &[u8], at: usize) -> Option<u32> {
     }
 }
 
+// A value of a record, null behind its last one.
+fn value_at(record: &[u8], at: usize) -> ValueRef<'_> {
+    field(record, at).unwrap_or(ValueRef::Null)
+}
+
+// Whether SQLite takes a record of the catalog: its kind, its names and its text fit one another, and its page is one of so many, or 0.
+fn is_sound(alloc: Global, record: &[u8], pages: usize) -> Result<bool, FileError> {
+    let (kind, name) = (value_at(record, 0), value_at(record, 1));
+    let text = value_at(record, 4);
+    if !fits_kind(kind, name, value_at(record, 2), text) {
+        return Ok(false);
+    }
+    let is_page = match page_at(record, 3) {
+        Some(page) => (page as usize) <= pages,
+        None => false,
+    };
+    // An index without a text is one that SQLite made by itself.
+    let is_own = matches!(text, ValueRef::Null);
+    if !is_page || is_own || is_virtual(kind, text) && !is_text_only(kind) {
+        return Ok(is_page);
+    }
+    Ok(names_object(alloc, bytes_of(kind), bytes_of(name), bytes_of(text))?)
+}
+
 impl Catalog {
     // Adds what a record of the catalog lists, where it is a table or a view of a set.
     fn add(&mut self, alloc: Global, record: &[u8]) -> Result<(), FileError> {
@@ -86,6 +113,9 @@ impl Catalog {
             return Ok(());
         };
         let text = text_at(record, 4);
+        if is_there(self.master.as_slice(), table) {
+            return Err(FileError::Damaged);
+        }
         let mut row = Row::new(alloc);
         row.push(ValueRef::Text(kind))?;
         row.push(ValueRef::Text(table.name().as_bytes()))?;
@@ -107,11 +137,12 @@ impl Catalog {
     }
 }
 
-// Reads the catalog.
+// Reads the catalog of a database of so many pages.
 pub(crate) fn read_catalog<P: Pages>(
     alloc: Global,
     pages: &mut P,
     scratch: &mut Scratch,
+    count: usize,
 ) -> Result<Catalog, FileError> {
     let mut catalog = Catalog {
         master: Vec::new(alloc),
@@ -121,6 +152,9 @@ pub(crate) fn read_catalog<P: Pages>(
     for _ in 0..u64::MAX {
         if !cursor.advance(pages, scratch, ROOT)? {
             return Ok(catalog);
+        }
+        if !is_sound(alloc, cursor.record(), count)? {
+            return Err(FileError::Damaged);
         }
         catalog.add(alloc, cursor.record())?;
     }

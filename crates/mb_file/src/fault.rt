@@ -27,6 +27,12 @@ pub enum FileFault {
         /// The kind of the value behind the place, null where the row has no place.
         kind: ValueKind,
     },
+    /// The table has rows, and no row of it has a place of zoom 0 to 30.
+    #[error("no row of the table {table} has a place of zoom 0 to 30; give another file")]
+    Outside {
+        /// The table.
+        table: TableName,
+    },
     /// The set is only read.
     #[error("it is only read; write into a copy")]
     ReadOnly,

@@ -2,6 +2,7 @@
 #![tactic(auto)]
 
 mod catalog;
+mod checking;
 mod columns;
 mod cursor;
 mod error;

@@ -5,6 +5,7 @@ ghost use Rattle.mb_tables.specs.Described.{is_table};
 
 use crate::FileError;
 use crate::catalog::Listed;
+use crate::checking::test_tree;
 use crate::columns::{Columns, columns_by};
 use crate::cursor::Cursor;
 use crate::record::{answer_of, spelled};
@@ -109,6 +110,7 @@ pub(crate) fn metadata<D: Disk>(
         return Err(FileError::OutOfMemory);
     };
     if let Some(listed) = listed {
+        test_tree(alloc, source, listed.root)?;
         fill(alloc, source, &mut names, listed)?;
     }
     Ok(names)

@@ -1,6 +1,7 @@
 // The parts of a set: its layout, its tables and its metadata, by the catalog.
 use crate::FileError;
-use crate::catalog::{Catalog, read_catalog};
+use crate::catalog::{Catalog, ROOT, read_catalog};
+use crate::checking::test_tree;
 use crate::columns::columns_by;
 use crate::listing::Listing;
 use crate::metadata::metadata;
@@ -12,8 +13,13 @@ use mb_tables::{MbtType, TableName};
 use sqlite_disk::Disk;
 use std::alloc::Global;
 
-// The table of a set that its database lists as one.
-fn listing(alloc: Global, catalog: &Catalog, table: TableName) -> Result<Listing, FileError> {
+// The table of a set that its database lists as one, once it is a sound tree.
+fn listing<D: Disk>(
+    alloc: Global,
+    source: &mut Source<D>,
+    catalog: &Catalog,
+    table: TableName,
+) -> Result<Listing, FileError> {
     let Some(listed) = catalog.table(table) else {
         return Err(if table == TableName::Tiles {
             FileError::View
@@ -23,17 +29,19 @@ fn listing(alloc: Global, catalog: &Catalog, table: TableName) -> Result<Listing
     };
     let columns = columns_by(alloc, table, listed.text.as_slice())?;
     let root = listed.root;
+    test_tree(alloc, source, root)?;
     Ok(Listing::new(alloc, table, SetTable { root, columns }))
 }
 
 // The table of contents, where the layout has one.
-fn contents(
+fn contents<D: Disk>(
     alloc: Global,
+    source: &mut Source<D>,
     catalog: &Catalog,
     layout: MbtType,
 ) -> Result<Option<Listing>, FileError> {
     match layout.normalized_schema() {
-        Some(schema) => Ok(Some(listing(alloc, catalog, schema.contents())?)),
+        Some(schema) => Ok(Some(listing(alloc, source, catalog, schema.contents())?)),
         None => Ok(None),
     }
 }
@@ -48,14 +56,15 @@ pub(crate) struct Parts {
 }
 
 // The tables of a layout.
-fn tables(
+fn tables<D: Disk>(
     alloc: Global,
+    source: &mut Source<D>,
     catalog: &Catalog,
     layout: MbtType,
     names: MemStore,
 ) -> Result<Parts, FileError> {
-    let contents = contents(alloc, catalog, layout)?;
-    let tiles = listing(alloc, catalog, layout.tile_table())?;
+    let contents = contents(alloc, source, catalog, layout)?;
+    let tiles = listing(alloc, source, catalog, layout.tile_table())?;
     Ok(Parts {
         layout,
         tiles,
@@ -88,7 +97,7 @@ fn listed_parts<D: Disk>(
         return Err(FileError::NotASet);
     };
     let names = names(alloc, source, catalog)?;
-    tables(alloc, catalog, layout, names)
+    tables(alloc, source, catalog, layout, names)
 }
 
 // The parts of the set that pages have.
@@ -96,6 +105,8 @@ pub(crate) fn read_parts<D: Disk>(
     alloc: Global,
     source: &mut Source<D>,
 ) -> Result<Parts, FileError> {
-    let catalog = read_catalog(alloc, &mut source.pages, &mut source.scratch)?;
+    test_tree(alloc, source, ROOT)?;
+    let pages = source.taken.len().saturating_sub(1);
+    let catalog = read_catalog(alloc, &mut source.pages, &mut source.scratch, pages)?;
     listed_parts(alloc, source, &catalog)
 }

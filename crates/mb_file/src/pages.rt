@@ -6,12 +6,12 @@ ghost use Rattle.sqlite_pool.specs.Report.{reported};
 ghost use Rattle.sqlite_wal.specs.PageSize.{bytes_of};
 
 use crate::FileError;
-use crate::header::usable_size;
+use crate::header::{states_count, usable_size};
 use sqlite_disk::{Disk, Files};
 use sqlite_pager::{Options, Pager};
 use sqlite_pages::{Error, Pages};
 use sqlite_wal::{PageSize, probe_page_size};
-use std::alloc::Global;
+use std::alloc::{AllocError, Global};
 
 // Pages without the bytes that are reserved at their end.
 #[derive(Drop)]
@@ -89,7 +89,12 @@ fn recover<D: Disk>(pager: &mut Pager<D>) -> Result<usize, FileError>
     if let Err(error) = pager.load(1) {
         return Err(refused(error));
     }
-    usable_size(pager.loaded())
+    let usable = usable_size(pager.loaded())?;
+    if states_count(pager.loaded(), pager.page_count()) {
+        Ok(usable)
+    } else {
+        Err(FileError::Damaged)
+    }
 }
 
 // A pager of files that can be used.
@@ -131,6 +136,22 @@ impl<D: Disk + Drop> FilePages<D> {
             Ok(usable) => Ok(FilePages { pager, usable }),
             Err(error) => Err(error),
         }
+    }
+}
+
+// The page that holds the byte by which SQLite locks a file. No tree has it.
+const LOCK: usize = 0x4000_0000;
+
+impl<D: Disk> FilePages<D> {
+    // A flag for each page, set where no tree can have it.
+    pub(crate) fn taken(&self, alloc: Global) -> Result<Vec<bool>, AllocError> {
+        let lock = LOCK / self.pager.page_size().max(1) + 1;
+        let mut taken = Vec::new(alloc);
+        taken.push(true)?;
+        for before in 0..self.pager.page_count() as usize {
+            taken.push(before + 1 == lock)?;
+        }
+        Ok(taken)
     }
 }
 

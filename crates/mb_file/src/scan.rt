@@ -20,6 +20,8 @@ pub(crate) struct Scan {
     position: u64,
     // The least rowid that no row had so far, None once all rows were read.
     unseen: Option<i64>,
+    // Whether a row was read, of the set or not.
+    any: bool,
     // How many rows of the set were read so far, and the bytes of their cells.
     pub(crate) count: u64,
     pub(crate) size: u64,
@@ -33,6 +35,7 @@ impl Scan {
             cursor: Cursor::new(alloc),
             position: 0,
             unseen: Some(i64::MIN),
+            any: false,
             count: 0,
             size: 0,
             numbered: Vec::new(alloc),
@@ -73,6 +76,7 @@ impl Scan {
     ) -> Result<Option<Row>, FileFault>
         ensures wide { IfOk result (λ row. IfSome row (λ row. length row ≡ width table)) }
     {
+        self.any = true;
         let rowid = self.cursor.rowid();
         let is_new = self.is_new(rowid);
         let answer = of.answer(rowid, self.cursor.record());
@@ -92,6 +96,15 @@ impl Scan {
         Ok(Some(row))
     }
 
+    // The end of the table, where some of its rows is one of the set, or it has none.
+    fn end(&mut self, table: TableName) -> Result<(), FileFault> {
+        if self.any && self.count == 0 {
+            return Err(FileFault::Outside { table });
+        }
+        self.unseen = None;
+        Ok(())
+    }
+
     // The next row, None past the last one.
     fn next_row<D: Disk>(
         &mut self,
@@ -107,7 +120,7 @@ impl Scan {
                 .cursor
                 .advance(&mut source.pages, &mut source.scratch, of.root)?
             {
-                self.unseen = None;
+                self.end(table)?;
                 return Ok(None);
             }
             if let Some(row) = self.take(alloc, source, table, of)? {

@@ -3,12 +3,14 @@ use crate::pages::FilePages;
 use mb_reading::LeftOut;
 use sqlite_btree::Scratch;
 use sqlite_disk::Disk;
-use std::alloc::Global;
+use std::alloc::{AllocError, Global};
 
 #[derive(Drop)]
 pub(crate) struct Source<D: Disk> {
     pub(crate) pages: FilePages<D>,
     pub(crate) scratch: Scratch,
+    // A flag for each page, set where it belongs to a tree that was tested, or no tree can have it.
+    pub(crate) taken: Vec<bool>,
     // Room for a record.
     pub(crate) record: Vec<u8>,
     // The key under which digests of ids are taken.
@@ -17,14 +19,20 @@ pub(crate) struct Source<D: Disk> {
     pub(crate) left_out: LeftOut,
 }
 
-impl<D: Disk> Source<D> {
-    pub(crate) fn new(alloc: Global, pages: FilePages<D>, secret: u64) -> Source<D> {
-        Source {
+impl<D: Disk + Drop> Source<D> {
+    pub(crate) fn new(
+        alloc: Global,
+        pages: FilePages<D>,
+        secret: u64,
+    ) -> Result<Source<D>, AllocError> {
+        let taken = pages.taken(alloc)?;
+        Ok(Source {
             pages,
+            taken,
             scratch: Scratch::new(alloc),
             record: Vec::new(alloc),
             secret,
             left_out: LeftOut::NOTHING,
-        }
+        })
     }
 }

@@ -33,7 +33,7 @@ pub struct FileSet<D: Disk> {
 }
 
 impl<D: Disk + Drop> FileSet<D> {
-    /// Opens the set of a file and its log, of whose pages so many are kept in memory. Nothing but the log is written. It reads the header, the catalog and the metadata.
+    /// Opens the set of a file and its log, of whose pages so many are kept in memory. Nothing but the log is written. It reads the header, the catalog and the metadata, and tests that each table of the set is a sound tree, by a pass over its pages.
     ///
     /// `NotASet` where nothing is named `tiles`, and no tables of a layout are there; `View` where `tiles` is a view of no known form; `Table` where a table is a view, or of a form that isn't read;
     /// `Column` where it lacks a column; `Encoding` where texts are in UTF-16; `Header` and `Damaged` where it isn't a sound database; `Unread` where the file can't be read.
@@ -44,7 +44,7 @@ impl<D: Disk + Drop> FileSet<D> {
     ) -> Result<FileSet<D>, FileError> {
         let secret = files.log.key();
         let pages = FilePages::open(alloc, files, cache_pages)?;
-        let mut source = Source::new(alloc, pages, secret);
+        let mut source = Source::new(alloc, pages, secret)?;
         match read_parts(alloc, &mut source) {
             Ok(parts) => Ok(FileSet::of_parts(alloc, source, parts)),
             Err(error) => Err(error),

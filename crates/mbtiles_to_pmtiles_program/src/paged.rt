@@ -112,8 +112,12 @@ pub fn convert_pages(
     path: &str,
     medium: &mut FileMedium,
 ) -> Paged {
+    let step = begin_step(rt, TOOL, "reading", path);
     match SetFile::open(rt, path) {
-        Ok(mut file) => convert_file(rt, flags, path, &mut file, medium),
+        Ok(mut file) => {
+            step.end(rt, TOOL);
+            convert_file(rt, flags, path, &mut file, medium)
+        }
         Err(_) => Paged::Refused,
     }
 }
