@@ -725,6 +725,36 @@ def streams():
         changing(script, 9, None, "0||1")
 
 
+def across_pages():
+    """Sets at the borders of pages of 1,024 rows, which end with a short page, an empty one or a whole one, of tiles and of
+    contents: each tile is there once. Then refusals on two pages, of which the first in the order of tests is answered."""
+    def tiles(count):
+        return {(6, k // 64, k % 64): b"%d" % k for k in range(count)}
+
+    for layout, counts in [("flat", [1023, 1024, 1025, 2048]), ("normalized", [1025]), ("dedup-id", [1024, 1025])]:
+        for count in counts:
+            streamed(text(store("base", layout, tiles(count)), "query 6 0 63", "query 6 15 0", "query 6 16 63"))
+    streamed(text(store("base", "dedup-id", tiles(1025)), "query 6 16 63"), name="hashed")
+    # rows stand in the order of their places: the last one of the first page, and the first one of the second
+    first, second = 1 + 1023, 1 + 1024
+
+    def with_words(layout, *changes):
+        lines = store("base", layout, tiles(1030))
+        assert " i6 i15 i63 " in lines[first] and " i6 i16 i0 " in lines[second]
+        for at, column, word in changes:
+            words = lines[at].split(" ")
+            lines[at] = " ".join([*words[:column], word, *words[column + 1:]])
+        return text(lines, "query 0 0 0")
+
+    # the columns are those of the line, whose first words are `row` and the table: 3 is that of a tile, 5 has bytes or an id, 6 a digest
+    for changes in [[(first, 5, "ta")], [(first, 5, "ta"), (second, 5, "tb")]]:
+        streamed(with_words("flat", *changes))
+    for changes in [[(first, 6, "tA"), (second, 3, "i64")], [(first, 6, "tA"), (second, 6, "tB")]]:
+        streamed(with_words("flat-with-hash", *changes))
+    for changes in [[(first, 5, "i99999")], [(first, 5, "i99999"), (second, 5, "i99998")], [(first, 5, "i99999"), (second, 5, "ta")], [(second, 5, "n")], [(first, 5, "i99999"), (second, 3, "i64")]]:
+        streamed(with_words("dedup-id", *changes))
+
+
 # Places of several zooms, whose ids stand in another order, with contents that are null or have no byte, and digests that
 # end in other zooms, columns and rows.
 APART = {(0, 0, 0): b"0", (1, 0, 0): b"11", (1, 0, 1): b"1", (1, 1, 0): None, (1, 1, 1): b"", (2, 3, 0): b"0", (3, 0, 7): b"one", (10, 5, 1000): b"two" * 50, (10, 5, 1001): b"\x00", (30, 2 ** 30 - 1, 0): b"last", (30, 0, 2 ** 30 - 1): b"first"}
@@ -845,6 +875,7 @@ def main():
     many_rows()
     bases()
     streams()
+    across_pages()
     hashes()
     says()
     streams_by_itself()

@@ -22,16 +22,14 @@ pub(crate) struct SeenRows {
 }
 
 impl SeenRows {
-    /// No rows, with room for the marks of so many.
-    pub fn none(alloc: Global, count: u64) -> Result<SeenRows, OutOfMemory>
-        ensures { (layout : MbtType) (a : HashAlgorithm)
-            → IfOk result (SeesRows layout a []) }
+    /// No rows.
+    pub fn none(alloc: Global) -> SeenRows
+        ensures { (layout : MbtType) (a : HashAlgorithm) → SeesRows layout a [] result }
     {
-        let marks = Vec::with_capacity(alloc, count as usize)?;
-        Ok(SeenRows {
+        SeenRows {
             findings: Findings::none(),
-            marks,
-        })
+            marks: Vec::new(alloc),
+        }
     }
 
     /// Takes more rows.
