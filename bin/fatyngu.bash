@@ -6,11 +6,12 @@ _fatyngu_options() {
     serve) echo --http --address ;;
     validate) echo --agg-hash ;;
     hash) echo --update ;;
-    copy) echo --copy --mbtiles-type --on-duplicate --min-zoom --max-zoom --zoom-levels --hash-algorithm --skip-agg-tiles-hash --validate ;;
+    copy) echo --copy --mbtiles-type --on-duplicate --min-zoom --max-zoom --zoom-levels --hash-algorithm --box --bbox --skip-agg-tiles-hash --validate ;;
     patch) echo --force ;;
     pack | unpack) echo --scheme ;;
     convert) echo --force --verify --hash --overwrite --strict --by-script ;;
     plain) echo --overwrite --no-verify ;;
+    extract) echo --bbox --tile --minzoom --maxzoom --overwrite --max-tiles ;;
     esac
 }
 
@@ -24,7 +25,7 @@ _fatyngu_values() {
     --agg-hash) echo verify update off ;;
     --scheme) echo xyz tms ;;
     --address) echo 127.0.0.1 ::1 0.0.0.0 ;;
-    --url | --http | --min-zoom | --max-zoom | --zoom-levels) echo ;;
+    --url | --http | --min-zoom | --max-zoom | --zoom-levels | --bbox | --box | --tile | --minzoom | --maxzoom | --max-tiles) echo ;;
     *) return 1 ;;
     esac
 }

@@ -33,9 +33,10 @@ def printed(text):
         fail(5, UNWRITTEN)
 
 
-def words_of(given, usage, flags=(), options=()):
+def words_of(given, usage, flags=(), options=(), lists=()):
     """The words beside options, and the options with their values, as the program reads its words: options begin with
-    two dashes, stand in front of `--`, and each once. Other words end the run."""
+    two dashes, stand in front of `--`, and each once, but for those of lists, whose values are a list. Other words end
+    the run."""
     places = []
     found = {}
     rest = iter(given)
@@ -44,6 +45,10 @@ def words_of(given, usage, flags=(), options=()):
             places += rest
         elif not word.startswith('--'):
             places.append(word)
+        elif word in lists:
+            found.setdefault(word, []).append(next(rest, None))
+            if found[word][-1] is None:
+                fail(2, usage)
         elif word in found or word not in (*flags, *options):
             fail(2, usage)
         else:

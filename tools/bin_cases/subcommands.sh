@@ -423,12 +423,6 @@ holds [ ! -e bare ]
 holds no_rest
 ends
 
-# wait_or_kill PROCESS SECONDS: kills a run after some time, if it is still there
-wait_or_kill() {
-    sleep "$2"
-    kill -KILL "$1" 2>/dev/null
-    wait "$1" 2>/dev/null
-}
 fresh 'writing runs that are killed'
 set_of old.mbtiles "with recursive n(v) as (values (0) union all select v + 1 from n where v < 4999) insert into tiles select 8, v % 256, v / 256, randomblob(200) from n; insert into metadata values ('name', 'old')"
 "$real" old.mbtiles 'create unique index i on tiles (zoom_level, tile_column, tile_row)'

@@ -44,8 +44,9 @@ pub fn remove_log(rt: &HostRuntime, path: &str) {
     }
 }
 
-// Puts a file that is whole at its path.
-fn put(rt: &HostRuntime, beside: &Beside, path: &str, is_new: bool) -> u8 {
+/// Puts a file that is whole at its path, in the place of what is there or where nothing is; the status, of which
+/// standard error says the cause.
+pub fn put(rt: &HostRuntime, beside: &Beside, path: &str, is_new: bool) -> u8 {
     let put = if is_new {
         put_beside(rt, TOOL, beside, path)
     } else {

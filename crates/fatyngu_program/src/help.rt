@@ -91,6 +91,8 @@ Copies a set into a new file, or into one that is there.
 --on-duplicate override | ignore | abort       copies into a DST that is there,
              and says what counts where both have a tile or a name
 --min-zoom Z, --max-zoom Z, --zoom-levels Z,.. the zooms that are copied
+--box 'XMIN YMIN XMAX YMAX'   copies the tiles whose lower left corner lies in a
+             box of columns and rows of zoom 30, as the program mbtiles does
 --hash-algorithm md5 | fnv1a | fnv1a-decimal | xxh64 | xxh3
                                                the digests of a new DST
 --skip-agg-tiles-hash                          stores no hash of all tiles
@@ -116,6 +118,19 @@ Writes the tiles of a set into files z/x/y.extension in a folder that is new or
 empty. Rows are counted from the top, but with tms.
 ";
 
+const EXTRACT: &str = "usage: fatyngu extract IN.pmtiles OUT.pmtiles BOX .. [OPTIONS]
+
+Writes the archive of the tiles that an archive has in boxes. A BOX is one word
+of five numbers parted by spaces, 'Z XMIN YMIN XMAX YMAX': a zoom from 0 to 30,
+the least column and row, and the greatest ones. Rows are counted from the top.
+Boxes of zooms that IN doesn't say are left out; there may be 4000 boxes. OUT is
+written beside its place, as OUT.new, and put there once it is whole. It has the
+metadata of IN, and the zooms of its boxes.
+
+--overwrite    replaces OUT where it is there; without it that is refused
+--max-tiles N  how many tiles OUT may have, 10000000 where nothing is said
+";
+
 /// The text of a subcommand.
 pub fn help_of(subcommand: Subcommand) -> &'static str {
     match subcommand {
@@ -132,6 +147,7 @@ pub fn help_of(subcommand: Subcommand) -> &'static str {
         Subcommand::Patch => PATCH,
         Subcommand::Pack => PACK,
         Subcommand::Unpack => UNPACK,
+        Subcommand::Extract => EXTRACT,
     }
 }
 

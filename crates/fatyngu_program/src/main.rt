@@ -4,6 +4,7 @@
 mod beside;
 mod copying;
 mod editing;
+mod extracting;
 mod filling;
 mod help;
 mod looking;
@@ -34,6 +35,7 @@ serve FILE            answers requests for an archive's tiles, a line each
 meta get SET NAME     the text under a name of the metadata
 meta set SET NAME [VALUE]
 meta all SET          all names and their texts
+extract IN OUT BOX .. the archive of the tiles that one has in boxes
 copy SRC DST          copies a set
 patch BASE PATCH      puts a patch on a set
 pack FOLDER OUT       makes a set of files z/x/y.extension
@@ -61,6 +63,7 @@ fn run_making(rt: &HostRuntime, subcommand: Subcommand, asked: &Asked) -> u8 {
         Subcommand::Patch => editing::patch(rt, asked),
         Subcommand::Pack => trees::pack_folder(rt, asked),
         Subcommand::Unpack => trees::unpack_set(rt, asked),
+        Subcommand::Extract => extracting::extract(rt, asked),
         Subcommand::MetaSet => editing::set(rt, asked),
         _ => status::USAGE,
     }

@@ -49,6 +49,11 @@ agg_hash_of (Some word) =
     else (if bytes_eq word (codes "update") then Some Update
     else (if bytes_eq word (codes "off") then Some Off else None))
 
+-- ten millions of tiles, where no word says it
+abbrev pub max_tiles_of : Option (List ℕ) → Option ℕ
+max_tiles_of None = Some 10000000
+max_tiles_of (Some word) = number_to 18446744073709551615 word
+
 abbrev pub zoom_of : List ℕ → Option ℕ
 zoom_of word = number_to 30 word
 

@@ -2,8 +2,9 @@
 use Rattle.std.specs.Prelude.{◌≡◌, ◌&&◌, ◌||◌, ℕ, Bool, true, false, List, [], ◌∷◌, Option, Some, None, codes, if◌then◌else◌, is_some, option_map, refl}
 use Rattle.std.specs.Option.{option_and_then}
 use Rattle.mb_copy.specs.declared.copy_type.CopyType.TheVariants.{All}
+use Rattle.tile_command.specs.Boxes.{place_box_of}
 use Rattle.tile_command.specs.Choices.{algorithm_of, copy_of, layout_of, mode_of, zoom_of, zooms_of}
-use Rattle.tile_command.specs.Common.{CopyDuplicateMode, CopyType, HashAlgorithm, MbtilesCopier, MbtTypeCli}
+use Rattle.tile_command.specs.Common.{CopyDuplicateMode, CopyType, HashAlgorithm, MbtilesCopier, MbtTypeCli, TileBox}
 use Rattle.tile_command.specs.Words.{value_in}
 
 -- options with their values
@@ -37,6 +38,10 @@ zoom_said name options = said_any zoom_of (value_in options name)
 abbrev pub levels_said : Options → Option (List ℕ)
 levels_said options = said zooms_of [] (value_in options (codes "--zoom-levels"))
 
+-- the boxes that are copied: one, where a word says it
+abbrev pub boxes_said : Options → Option (List TileBox)
+boxes_said options = said (λ w. option_map (λ b. b ∷ []) (place_box_of w)) [] (value_in options (codes "--box"))
+
 abbrev pub has : Options → List ℕ → Bool
 has options name = is_some (value_in options name)
 
@@ -44,7 +49,7 @@ has options name = is_some (value_in options name)
 abbrev pub has_both : Options → Bool
 has_both options = has options (codes "--zoom-levels") && (has options (codes "--min-zoom") || has options (codes "--max-zoom"))
 
--- a copy of these, without a list of zooms
+-- a copy of these, without a list of zooms and boxes
 abbrev pub copier : Options → CopyType → Option MbtTypeCli → Option CopyDuplicateMode → Option HashAlgorithm → Option ℕ → Option ℕ → MbtilesCopier
 copier options copy layout mode algorithm least greatest = record {
   copy = copy;
@@ -67,11 +72,11 @@ copy_with options =
     option_and_then (λ least. option_map (copier options copy layout mode algorithm least) (zoom_said (codes "--max-zoom") options)) (zoom_said (codes "--min-zoom") options)) (algorithm_said options))
     (mode_said options)) (layout_said options)) (copy_said options)
 
-abbrev pub with_levels : List ℕ → MbtilesCopier → MbtilesCopier
-with_levels levels c = record c { zoom_levels = levels }
+abbrev pub with_lists : List ℕ → List TileBox → MbtilesCopier → MbtilesCopier
+with_lists levels boxes c = record c { zoom_levels = levels; bbox = boxes }
 
 -- one whose values are all of their options, with zooms by a list or by bounds
 abbrev pub copier_of : Options → Option MbtilesCopier
 copier_of options =
     if has_both options then None
-    else option_and_then (λ levels. option_map (with_levels levels) (copy_with options)) (levels_said options)
+    else option_and_then (λ levels. option_and_then (λ boxes. option_map (with_lists levels boxes) (copy_with options)) (boxes_said options)) (levels_said options)

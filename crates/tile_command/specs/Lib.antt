@@ -1,4 +1,5 @@
 pub mod Common
+pub mod Boxes
 pub mod Choices
 pub mod Copier
 pub mod Document

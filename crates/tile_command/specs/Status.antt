@@ -7,6 +7,8 @@ use Rattle.mb_tables.specs.declared.error.MbtError.TheVariants as sets
 use Rattle.pm_format.specs.declared.error.PmtError.{PmtError}
 use Rattle.pm_format.specs.declared.error.PmtError.TheVariants as archives
 use Rattle.pm_format.specs.declared.error.ReadCause.TheVariants as causes
+use Rattle.tile_command.specs.Common.{ExtractError}
+use Rattle.tile_extract.specs.declared.error.ExtractError.TheVariants as extracts
 use Rattle.pm_format.specs.declared.status.TheConstants.{REFUSED, NO_INPUT, INPUT_FAULT, FAULT, OUT_OF_MEMORY, OTHER_FORM}
 
 abbrev pub read_status : ReadError → ℕ
@@ -33,6 +35,12 @@ source_status (archives.Reading causes.Fault) = INPUT_FAULT
 source_status archives.OutOfMemory = OUT_OF_MEMORY
 source_status e = REFUSED
 
+abbrev pub part_status : ExtractError → ℕ
+part_status (extracts.Archive e) = source_status e
+part_status extracts.MediumFault = FAULT
+part_status extracts.OutOfMemory = OUT_OF_MEMORY
+part_status e = REFUSED
+
 pub no_set : read_status reads.NotASet ≡ 3
 no_set = refl
 
@@ -41,3 +49,6 @@ a_set_of_another_kind = refl
 
 pub a_part_past_the_end : source_status (archives.Reading causes.PastEnd) ≡ 1
 a_part_past_the_end = refl
+
+pub a_source_that_fails : part_status (extracts.Archive (archives.Reading causes.Fault)) ≡ 4
+a_source_that_fails = refl

@@ -19,7 +19,8 @@ making_of word =
     if bytes_eq word (codes "copy") then Some sub.Copy
     else (if bytes_eq word (codes "patch") then Some sub.Patch
     else (if bytes_eq word (codes "pack") then Some sub.Pack
-    else (if bytes_eq word (codes "unpack") then Some sub.Unpack else None)))
+    else (if bytes_eq word (codes "unpack") then Some sub.Unpack
+    else (if bytes_eq word (codes "extract") then Some sub.Extract else None))))
 
 abbrev pub meta_of : List ℕ → Option Subcommand
 meta_of word =
@@ -47,6 +48,7 @@ has_flag sub.Show word = bytes_eq word (codes "--metadata") || (bytes_eq word (c
 has_flag sub.Hash word = bytes_eq word (codes "--update")
 has_flag sub.Copy word = bytes_eq word (codes "--skip-agg-tiles-hash") || bytes_eq word (codes "--validate")
 has_flag sub.Patch word = bytes_eq word (codes "--force")
+has_flag sub.Extract word = bytes_eq word (codes "--overwrite")
 has_flag s word = false
 
 -- the options that a value follows
@@ -56,9 +58,10 @@ has_option sub.Validate word = bytes_eq word (codes "--agg-hash")
 has_option sub.Copy word =
     bytes_eq word (codes "--copy") || (bytes_eq word (codes "--mbtiles-type") || (bytes_eq word (codes "--on-duplicate")
     || (bytes_eq word (codes "--min-zoom") || (bytes_eq word (codes "--max-zoom")
-    || (bytes_eq word (codes "--zoom-levels") || bytes_eq word (codes "--hash-algorithm"))))))
+    || (bytes_eq word (codes "--zoom-levels") || (bytes_eq word (codes "--hash-algorithm") || bytes_eq word (codes "--box")))))))
 has_option sub.Pack word = bytes_eq word (codes "--scheme")
 has_option sub.Unpack word = bytes_eq word (codes "--scheme")
+has_option sub.Extract word = bytes_eq word (codes "--max-tiles")
 has_option s word = false
 
 -- how many other words there are, at least and at most
@@ -76,6 +79,7 @@ places sub.Unpack = (2, 2)
 places sub.MetaSet = (2, 3)
 places sub.Tile = (4, 4)
 places sub.Serve = (1, 5)
+places sub.Extract = (3, 4002)
 
 pub behind_meta : subcommand_of (codes "meta" ∷ codes "get" ∷ codes "a" ∷ []) ≡ Some (sub.MetaGet, codes "a" ∷ [])
 behind_meta = refl

@@ -1,6 +1,6 @@
 // What the values of options stand for.
 ghost use Rattle.std.specs.Prelude.{◌≡◌, ◌∷◌, ◌++◌, [], None, Some, IfOk, MatchOption, option_copied};
-ghost use Rattle.tile_command.specs.Choices.{agg_hash_of, algorithm_of, copy_of, layout_of, mode_of, scheme_of, zoom_of, zooms_after, zooms_of};
+ghost use Rattle.tile_command.specs.Choices.{agg_hash_of, algorithm_of, copy_of, layout_of, max_tiles_of, mode_of, scheme_of, zoom_of, zooms_after, zooms_of};
 ghost use Rattle.tile_command.specs.Common.{parted};
 
 use base_values::OutOfMemory;
@@ -83,6 +83,16 @@ pub fn agg_hash_of(word: Option<&str>) -> Option<AggHashType>
         Some("update") => Some(AggHashType::Update),
         Some("off") => Some(AggHashType::Off),
         Some(_) => None,
+    }
+}
+
+/// How many tiles there may be at most, from 0 to `u64::MAX`, by the word; ten millions, where there is none.
+pub fn max_tiles_of(word: Option<&str>) -> Option<u64>
+    ensures { result ≡ max_tiles_of (option_copied word.entry) }
+{
+    match word {
+        None => Some(10_000_000),
+        Some(number) => parse_number(number.as_bytes(), u64::MAX),
     }
 }
 

@@ -1,11 +1,12 @@
 // The copy that the words of `copy` ask for.
 ghost use Rattle.std.specs.Prelude.{◌≡◌, None, Some, IfOk, MatchOption};
-ghost use Rattle.tile_command.specs.Copier.{algorithm_said, copier_of, copy_said, copy_with, has_both, layout_said, levels_said, mode_said, zoom_said};
+ghost use Rattle.tile_command.specs.Copier.{algorithm_said, boxes_said, copier_of, copy_said, copy_with, has_both, layout_said, levels_said, mode_said, zoom_said};
 
 use crate::Asked;
+use crate::boxes::place_box_of;
 use crate::choices::{algorithm_of, copy_of, layout_of, mode_of, zoom_of, zooms_of};
 use base_values::OutOfMemory;
-use mb_copy::{CopyDuplicateMode, CopyType, MbtilesCopier, ZoomLevels};
+use mb_copy::{BoxList, CopyDuplicateMode, CopyType, MbtilesCopier, TileBox, ZoomLevels};
 use mb_store::MbtTypeCli;
 use std::alloc::Global;
 use tile_hash::HashAlgorithm;
@@ -71,6 +72,22 @@ fn levels_said(alloc: Global, asked: &Asked) -> Result<Option<Vec<u8>>, OutOfMem
     }
 }
 
+// The boxes that are copied; none, where no word says one.
+fn boxes_said(alloc: Global, asked: &Asked) -> Result<Option<Vec<TileBox>>, OutOfMemory>
+    ensures { IfOk result (λ r. MatchOption r (boxes_said asked.now.options.items ≡ None)
+        (λ boxes. boxes_said asked.now.options.items ≡ Some boxes.items)) }
+{
+    let mut boxes = Vec::new(alloc);
+    let Some(word) = asked.value("--box") else {
+        return Ok(Some(boxes));
+    };
+    match place_box_of(word.as_bytes()) {
+        Some(tile_box) => boxes.push(tile_box)?,
+        None => return Ok(None),
+    }
+    Ok(Some(boxes))
+}
+
 // Whether words give a list of zooms, and a bound of zooms too.
 fn has_both(asked: &Asked) -> bool
     ensures { result ≡ has_both asked.now.options.items }
@@ -78,7 +95,7 @@ fn has_both(asked: &Asked) -> bool
     asked.has("--zoom-levels") && (asked.has("--min-zoom") || asked.has("--max-zoom"))
 }
 
-// A copy without its zooms.
+// A copy without its lists of zooms and boxes.
 fn copy_with(alloc: Global, asked: &Asked) -> Option<MbtilesCopier>
     ensures { result ≡ copy_with asked.now.options.items }
 {
@@ -105,9 +122,13 @@ pub fn copier_of(alloc: Global, asked: &Asked) -> Result<Option<MbtilesCopier>, 
     let Some(levels) = levels_said(alloc, asked)? else {
         return Ok(None);
     };
+    let Some(boxes) = boxes_said(alloc, asked)? else {
+        return Ok(None);
+    };
     let Some(mut copier) = copy_with(alloc, asked) else {
         return Ok(None);
     };
     copier.zoom_levels = ZoomLevels::new(levels);
+    copier.bbox = BoxList::new(boxes);
     Ok(Some(copier))
 }

@@ -1,10 +1,11 @@
 // The statuses that the tools end with.
 ghost use Rattle.std.specs.Prelude.{◌≡◌};
-ghost use Rattle.tile_command.specs.Status.{read_status, set_status, source_status};
+ghost use Rattle.tile_command.specs.Status.{part_status, read_status, set_status, source_status};
 
 use mb_reading::ReadError;
 use mb_store::MbtError;
 use pm_format::{PmtError, ReadCause, status};
+use tile_extract::ExtractError;
 
 /// The status for a set that isn't read: 3 where there is none, 4 where its file can't be read, 10 where it is in a
 /// form that isn't read, 7 for want of memory,
@@ -41,6 +42,19 @@ pub fn source_status(error: &PmtError) -> u8
     match error {
         PmtError::Reading(ReadCause::Fault) => status::INPUT_FAULT,
         PmtError::OutOfMemory => status::OUT_OF_MEMORY,
+        _ => status::REFUSED,
+    }
+}
+
+/// The status for a part of an archive that isn't extracted: 6 where the file that is written failed, 7 for want of
+/// memory, that of the refusal of the archive, and 1 for the others.
+pub fn part_status(error: &ExtractError) -> u8
+    ensures { result ≡ part_status error.now }
+{
+    match error {
+        ExtractError::Archive(error) => source_status(error),
+        ExtractError::MediumFault => status::FAULT,
+        ExtractError::OutOfMemory => status::OUT_OF_MEMORY,
         _ => status::REFUSED,
     }
 }

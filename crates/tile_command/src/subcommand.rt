@@ -33,6 +33,8 @@ pub enum Subcommand {
     Unpack,
     /// Requests for tiles of an archive, which are answered line by line.
     Serve,
+    /// An archive of the tiles of boxes.
+    Extract,
 }
 
 // The subcommands that look at a file.
@@ -59,6 +61,7 @@ fn making_of(word: &str) -> Option<Subcommand>
         "patch" => Some(Subcommand::Patch),
         "pack" => Some(Subcommand::Pack),
         "unpack" => Some(Subcommand::Unpack),
+        "extract" => Some(Subcommand::Extract),
         _ => None,
     }
 }
@@ -104,6 +107,7 @@ impl Subcommand {
             Subcommand::Hash => word == "--update",
             Subcommand::Copy => matches!(word, "--skip-agg-tiles-hash" | "--validate"),
             Subcommand::Patch => word == "--force",
+            Subcommand::Extract => word == "--overwrite",
             _ => false,
         }
     }
@@ -124,8 +128,10 @@ impl Subcommand {
                     | "--max-zoom"
                     | "--zoom-levels"
                     | "--hash-algorithm"
+                    | "--box"
             ),
             Subcommand::Pack | Subcommand::Unpack => word == "--scheme",
+            Subcommand::Extract => word == "--max-tiles",
             _ => false,
         }
     }
@@ -148,6 +154,7 @@ impl Subcommand {
             Subcommand::MetaSet => (2, 3),
             Subcommand::Tile => (4, 4),
             Subcommand::Serve => (1, 5),
+            Subcommand::Extract => (3, 4002),
         }
     }
 }
