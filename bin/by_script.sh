@@ -1,8 +1,9 @@
-# Makes an archive of .mbtiles files by way of a script, for bin/mbtiles-to-pmtiles --by-script, which has set `force`, `verify`, `overwrite` and `strict`. The words are
-# the sets and OUT.
+# Makes an archive of .mbtiles files by way of a script, for bin/mbtiles-to-pmtiles --by-script, which has set `force`,
+# `verify`, `overwrite` and `strict`. The words are the sets and OUT.
 #
-# Only the table or view `tiles` of each file is read, and the stored hashes of tiles alone where --verify asks for them and they have the form of digests. The three lines at the end
-# are those of the other way; what the archive has is compared with the files before it is put in place.
+# Only the table or view `tiles` of each file is read, and the stored hashes of tiles alone where --verify asks for them
+# and they have the form of digests. The three lines at the end are those of the other way; what the archive has is
+# compared with the files before it is put in place.
 # shellcheck disable=SC2154
 . "$here/sets.sh"
 
@@ -155,12 +156,7 @@ reported() {
 }
 [ "$(reported addressed)" = "${said%% *}" ] || fail 1 "the archive has $(reported addressed) tiles and the sets have ${said%% *}; nothing is left of it"
 sync "$room/out" || fail 6 "$shown_out can't be synced to its disk"
-if [ -n "$overwrite" ]; then
-    mv -fT "$room/out" "$out"
-else
-    ln -T "$room/out" "$out" 2>/dev/null || { [ ! -e "$out" ] && mv -T "$room/out" "$out"; } || fail 1 "$shown_out came meanwhile, and stays as it is"
-fi || fail 6 "$shown_out can't be put in place"
-sync "$folder" || fail 6 "$shown_out is in its place, but its folder can't be synced to its disk"
+put_in_place "$room/out" "$out" "$shown_out"
 echo "tiles $(reported addressed), contents $(reported contents)"
 echo "bytes $(reported length)"
 [ -z "$hash$verify" ] && [ "$sets" = 1 ] || echo "aggregate $(reported aggregate)"

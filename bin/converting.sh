@@ -10,7 +10,8 @@ esac
 folder=${out%/*}
 folder=${folder:-/}
 
-# The file that the program writes beside OUT: which one it is, by the numbers of its file system and its own, while the program has it open.
+# The file that the program writes beside OUT: which one it is, by the numbers of its file system and its own, while
+# the program has it open.
 written() {
     for open in "/proc/$converter/fd/"*; do
         [ "$open" -ef "$out.new" ] || continue
@@ -44,8 +45,9 @@ trap 'exit 130' INT
 trap 'exit 131' QUIT
 trap 'exit 143' TERM
 
-# bytes_to_read FILE.. OUT: how many bytes the program reads of sets. A set without patches is read three times, page by page, and once more for the hash. With patches a file above the
-# 8 MiB that the program keeps is read five times while it is opened, and once for its rows.
+# bytes_to_read FILE.. OUT: how many bytes the program reads of sets. A set without patches is read three times, page by
+# page, and once more for the hash. With patches a file above the 8 MiB that the program keeps is read five times while
+# it is opened, and once for its rows.
 bytes_to_read() {
     bytes=0
     [ $# -gt 2 ] || {
@@ -62,7 +64,8 @@ bytes_to_read() {
     echo "$bytes"
 }
 
-# follow PROCESS BYTES: shows each second how much the program has read of so many bytes, and then how long OUT.new is. The cursor stays in front, so that the next line covers it.
+# follow PROCESS BYTES: shows each second how much the program has read of so many bytes, and then how long OUT.new is.
+# The cursor stays in front, so that the next line covers it.
 follow() {
     while sleep 1 && kill -0 "$1" 2>/dev/null; do
         # a build before it shows by itself how far it is

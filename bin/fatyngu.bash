@@ -6,7 +6,7 @@ _fatyngu_options() {
     serve) echo --http --address ;;
     validate) echo --agg-hash ;;
     hash) echo --update ;;
-    copy) echo --copy --mbtiles-type --on-duplicate --min-zoom --max-zoom --zoom-levels --hash-algorithm --box --bbox --skip-agg-tiles-hash --validate ;;
+    copy) echo --copy --mbtiles-type --on-duplicate --min-zoom --max-zoom --zoom-levels --hash-algorithm --box --bbox --apply-patch --force --skip-agg-tiles-hash --validate ;;
     patch) echo --force ;;
     pack | unpack) echo --scheme ;;
     convert) echo --force --verify --hash --overwrite --strict --by-script ;;

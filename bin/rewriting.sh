@@ -1,8 +1,9 @@
-# Has sqlite3 rewrite sets whose files are in a form that the program doesn't read, and converts what comes of it; for bin/converting.sh, which has run the program. The words are the
-# sets and OUT.
+# Has sqlite3 rewrite sets whose files are in a form that the program doesn't read, and converts what comes of it; for
+# bin/converting.sh, which has run the program. The words are the sets and OUT.
 #
-# Each set becomes a plain file with its tiles and its metadata, value by value as SQLite reads them, in one read transaction. These files stand in a folder of their own beside
-# OUT, which is gone in the end. What the program says of them is said of the user's files.
+# Each set becomes a plain file with its tiles and its metadata, value by value as SQLite reads them, in one read
+# transaction. These files stand in a folder of their own beside OUT, which is gone in the end. What the program says of
+# them is said of the user's files.
 # shellcheck disable=SC2154
 command -v sqlite3 >/dev/null ||
     fail 1 "a set's file is in a form that isn't read directly; the command sqlite3 (package sqlite3) would rewrite it, and is missing"
@@ -16,7 +17,8 @@ fail_room() {
     fail 6 "$folder has no room for the sets that are rewritten, which need as much as their tiles have, or can't be written"
 }
 
-# copying FILE METADATA WIDE: the statements that copy what a set has. A cell stays as it is, since no column has a type.
+# copying FILE METADATA WIDE: the statements that copy what a set has. A cell stays as it is,
+# since no column has a type.
 copying() {
     cat <<SQL
 .bail on
@@ -88,7 +90,8 @@ narrow() {
     rm "$2"
 }
 
-# name_files SET.. OUT ROOM: puts the names of the user's files in the place of those that were rewritten, in what the program says
+# name_files SET.. OUT ROOM: puts the names of the user's files in the place of those that were rewritten,
+# in what the program says
 name_files() {
     LC_ALL=C awk 'BEGIN { n = ARGC - 1; for (i = 1; i <= n; i++) { name[i] = ARGV[i]; ARGV[i] = "" } }
         {

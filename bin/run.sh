@@ -1,6 +1,7 @@
-# Runs the program of a tool. Where it isn't built yet, or is older than its sources, its crates are proved and built first, those that don't wait for each
-# other side by side, and standard error shows how far that is. A start after an interrupt goes on with the crates that are left. mbtiles-to-pmtiles starts this as a
-# command of its own, with `here` and `tool` handed on.
+# Runs the program of a tool. Where it isn't built yet, or is older than its sources, its crates are proved and built
+# first, those that don't wait for each other side by side, and standard error shows how far that is. A start after
+# an interrupt goes on with the crates that are left. mbtiles-to-pmtiles starts this as a command of its own, with
+# `here` and `tool` handed on.
 # shellcheck disable=SC2154
 . "$here/crates.sh"
 built=$out/$program
@@ -62,7 +63,8 @@ below() {
     done
 }
 
-# Ends what was started: background commands of a script don't hear an interrupt by themselves. All are stopped first, so that none starts another meanwhile.
+# Ends what was started: background commands of a script don't hear an interrupt by themselves. All are stopped first,
+# so that none starts another meanwhile.
 stop() {
     trap '' INT TERM HUP
     say 'stopped; the next start goes on with what is left'

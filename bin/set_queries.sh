@@ -1,6 +1,7 @@
-# The queries that `sets.sh` has sqlite3 answer on an .mbtiles file, which is attached as `s`. Each function prints some of them.
-# shellcheck disable=SC2154
-# an expression: the whole number in a column, or null; a text spells one in at most nine digits, without a zero in front
+# The queries that `sets.sh` has sqlite3 answer on an .mbtiles file, which is attached as `s`. Each
+# function prints some of them.
+# shellcheck disable=SC2154 an expression: the whole number in a column, or null; a text spells one in at most nine
+#            digits, without a zero in front
 whole() {
     echo "case typeof($1) when 'integer' then $1
         when 'real' then case when $1 = cast($1 as integer) then cast($1 as integer) end

@@ -1,4 +1,5 @@
-# Reads .mbtiles files by the command sqlite3, one process and one read transaction for each. Facts on the set come first, then its rows.
+# Reads .mbtiles files by the command sqlite3, one process and one read transaction for each. Facts on the set
+# come first, then its rows.
 #
 # A fact is a line of words; texts in it are hexadecimal, and `-` stands for null:
 #   warn WORDS, refuse WORDS, none         what is said of the file, why it is refused, that it has no tiles table
@@ -7,7 +8,8 @@
 #   layout NAME                            the layout that its rows are printed in
 #   format TEXT, bounds W S E N, center LON LAT [ZOOM]     from the metadata, in ten millionths of a degree
 #   plain NAME VALUE                       a row of the metadata
-#   row NAME JSON, json NAME JSON          what the archive's metadata gets from a row, and from an object in the row `json`
+#   row NAME JSON, json NAME JSON          what the archive's metadata gets from a row, and from an
+#                                          object in the row `json`
 # shellcheck disable=SC2154
 most=${FATYNGU_MOST:-268435456}
 . "$here/set_queries.sh"
@@ -34,7 +36,8 @@ fail_room() {
     fail 1 "$work can't be written; its disk may be full, and TMPDIR names another one"
 }
 
-# start_set FILE DATABASE LAYOUT: starts to read a file. Facts and rows come on file descriptor 3, and coordinates are kept in the database.
+# start_set FILE DATABASE LAYOUT: starts to read a file. Facts and rows come on file descriptor 3, and coordinates
+# are kept in the database.
 start_set() {
     mkfifo "$work/lines" || fail_room
     keeps=1
@@ -46,7 +49,8 @@ start_set() {
     rm "$work/lines"
 }
 
-# read_facts FILE: reads the facts into the folder's file `facts`, and says what is to be said. The file `left` is there where anything is left out.
+# read_facts FILE: reads the facts into the folder's file `facts`, and says what is to be said. The file `left` is there
+# where anything is left out.
 read_facts() {
     ended=
     : >"$work/found"
@@ -118,8 +122,8 @@ end_set() {
     explain "$1" "$work/errors"
 }
 
-# print_options TYPE ZOOMS FACTS..: the options of what comes of a base and its patches, from their facts in order. TYPE may be empty; ZOOMS are two numbers,
-# or empty. Warnings go to standard error.
+# print_options TYPE ZOOMS FACTS..: the options of what comes of a base and its patches, from their facts in order. TYPE
+# may be empty; ZOOMS are two numbers, or empty. Warnings go to standard error.
 print_options() {
     asked=$1
     zooms=$2

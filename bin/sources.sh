@@ -19,7 +19,8 @@ test_sources() {
     done
 }
 
-# uri FILE: what SQLite opens a file by for reading alone. Each byte of the path is spelled out, so that none means something else.
+# uri FILE: what SQLite opens a file by for reading alone. Each byte of the path is spelled out, so that
+# none means something else.
 uri() {
     case $1 in
     /*) printf 'file:' ;;

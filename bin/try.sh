@@ -1,11 +1,13 @@
-# Runs the program of a tool, built once with checks in place of proofs: a quick look, which is much slower than the proved program.
+# Runs the program of a tool, built once with checks in place of proofs: a quick look, which is much slower
+# than the proved program.
 # shellcheck disable=SC2154
 tool=${tool%-unproved}
 . "$here/crates.sh"
 built=$out/unproved
 
-# `rt try` builds the program in a room of its own, runs it and removes it. The build is kept by a second name, which it gets as soon as it is there and has until the end; it is whole once
-# it runs. The converter has work for some seconds then, and the others none.
+# `rt try` builds the program in a room of its own, runs it and removes it. The build is kept by a second name, which it
+# gets as soon as it is there and has until the end; it is whole once it runs. The converter has work for some seconds
+# then, and the others none.
 build() {
     room=$(mktemp -d)
     trap 'kill "${trying-}" 2>/dev/null || true; rm -rf "$room"' EXIT

@@ -5,10 +5,7 @@
 value_of() { "$real" "$1" "select value from metadata where name = '$2'"; }
 names_are() { [ "$("$real" "$1" "select group_concat(name, ' ') from (select name from metadata order by name)")" = "$2" ]; }
 is_flat() { [ "$("$real" "$1" "select group_concat(type || ' ' || name, ', ') from (select type, name from sqlite_master where type <> 'index' order by name)")" = 'table metadata, table tiles' ]; }
-is_whole() { [ "$("$real" "$1" 'pragma integrity_check; pragma journal_mode')" = "ok
-delete" ]; }
 no_rest_of() { [ -z "$(find . -name "$1.new*")" ] && [ ! -e "$1-wal" ] && [ ! -e "$1-journal" ]; }
-back=$bin/pmtiles-to-mbtiles
 
 # a center in the middle of the bounds at the least zoom is what an archive has of a set that says none
 fresh 'an archive of a set of another tool, and back'
@@ -90,21 +87,20 @@ holds names_are none.mbtiles 'maxzoom minzoom'
 ends
 
 fresh 'refused archives leave no database'
-archive=$top/crates/tile_extract_program/data/two_tiles.pmtiles
 echo no >bad
 run "$back" bad made.mbtiles
 status 1
 says 'pmtiles-to-mbtiles: bad: .*PMTiles'
-head -c 16386 "$archive" >short
+head -c 16386 "$two_tiles" >short
 run "$back" short made.mbtiles
 status 1
 says 'pmtiles-to-mbtiles: short: '
-cp "$archive" gzip
+cp "$two_tiles" gzip
 printf '\002' | dd of=gzip bs=1 seek=97 conv=notrunc 2>/dev/null
 run "$back" gzip made.mbtiles
 status 1
 says 'unsupported compression.*plain'
-{ head -c 16384 "$archive"; printf '[]'; tail -c +16387 "$archive"; } >list
+{ head -c 16384 "$two_tiles"; printf '[]'; tail -c +16387 "$two_tiles"; } >list
 run "$back" list made.mbtiles
 status 1
 says 'list: invalid metadata'
@@ -119,7 +115,7 @@ mkfifo pipe
 run timeout 20 "$back" pipe made.mbtiles
 status 4
 says 'pipe: no regular file'
-for words in "" "$archive" "$archive made.mbtiles ten" "$archive made.mbtiles 01" "$archive made.mbtiles 1 2"; do
+for words in "" "$two_tiles" "$two_tiles made.mbtiles ten" "$two_tiles made.mbtiles 01" "$two_tiles made.mbtiles 1 2"; do
     # shellcheck disable=SC2086
     run "$back" $words
     status 2
@@ -131,31 +127,30 @@ holds no_rest_of made.mbtiles
 ends
 
 fresh 'places where no database is made'
-archive=$top/crates/tile_extract_program/data/two_tiles.pmtiles
 ln -s nowhere dangling
 mkdir folder
 mkfifo pipe
 : >empty
 for path in dangling folder pipe empty /dev/null; do
-    run timeout 20 "$back" "$archive" $path
+    run timeout 20 "$back" "$two_tiles" $path
     status 1
     says "$path is there"
 done
 holds [ ! -e nowhere ]
 holds [ ! -s empty ]
-run "$back" "$archive" none/made.mbtiles
+run "$back" "$two_tiles" none/made.mbtiles
 status 6
 says 'none/made.mbtiles: .*No such file'
 prints '^store fault$'
 mkdir made.mbtiles.new
-run "$back" "$archive" made.mbtiles
+run "$back" "$two_tiles" made.mbtiles
 status 1
 says 'made.mbtiles.new is there'
 holds [ ! -e made.mbtiles ]
 rmdir made.mbtiles.new
 for log in made.mbtiles-wal made.mbtiles-journal; do
     echo before >$log
-    run "$back" "$archive" made.mbtiles
+    run "$back" "$two_tiles" made.mbtiles
     status 1
     says "$log is there"
     holds [ "$(cat $log)" = before ]
@@ -163,21 +158,20 @@ for log in made.mbtiles-wal made.mbtiles-journal; do
     rm $log
 done
 echo before >made.mbtiles.new-wal
-run "$back" "$archive" made.mbtiles
+run "$back" "$two_tiles" made.mbtiles
 status 0
-holds same "$archive" made.mbtiles
+holds same "$two_tiles" made.mbtiles
 holds no_rest_of made.mbtiles
 mkdir 'a folder'
-run "$back" "$archive" 'a folder/x y.mbtiles'
+run "$back" "$two_tiles" 'a folder/x y.mbtiles'
 status 0
-holds same "$archive" 'a folder/x y.mbtiles'
+holds same "$two_tiles" 'a folder/x y.mbtiles'
 ends
 
 fresh 'a database beside closed streams'
-archive=$top/crates/tile_extract_program/data/two_tiles.pmtiles
-run bash -c 'exec "$0" "$1" made.mbtiles <&- >&- 2>&-' "$here/crates/pmtiles_to_mbtiles_program/out/pmtiles_to_mbtiles_program" "$archive"
+run bash -c 'exec "$0" "$1" made.mbtiles <&- >&- 2>&-' "$here/crates/pmtiles_to_mbtiles_program/out/pmtiles_to_mbtiles_program" "$two_tiles"
 status 0
-holds same "$archive" made.mbtiles
+holds same "$two_tiles" made.mbtiles
 run bash -c 'exec "$0" --help >/dev/full' "$back"
 status 5
 ends

@@ -1,17 +1,14 @@
-# Cases of tools/check_bin: parts of archives that bin/fatyngu extract cuts out by boxes. Which tiles a box has is worked
-# out by Python from the degrees of each tile.
+# Cases of tools/check_bin: parts of archives that bin/fatyngu extract cuts out by boxes. Which tiles a box has is
+# worked out by Python from the degrees of each tile.
 # shellcheck disable=SC2034,SC2154
 
-fatyngu=$bin/fatyngu
 program=$here/crates/fatyngu_program/out/fatyngu_program
-places=$top/examples/places.mbtiles
 # box_tiles WORDS..: the part has the tiles of the boxes, as many as the last word says
 box_tiles() {
     python3 "$top/tools/checks/box_tiles.py" "${@:1:$#-1}" >boxed 2>&1 || { problem="$problem; $(tail -n 1 boxed | cut -c1-200)"; return; }
     [ "$(cat boxed)" = "${*: -1}" ] || problem="$problem; $(cat boxed) tiles and not ${*: -1}"
 }
 is_quiet() { [ ! -s out ] && [ ! -s err ]; }
-nothing_new() { [ -z "$(find . -name '*.new')" ]; }
 # an archive of all tiles of zooms 0 to 6, with contents of their own
 wide=$room/wide.pmtiles
 if [ ! -e "$wide" ]; then

@@ -1,8 +1,6 @@
 # Cases of tools/check_bin: sets and patches to an archive.
 # shellcheck disable=SC2034,SC2154
 
-md5_of() { printf '%b' "$1" | md5sum | cut -d' ' -f1 | tr a-f A-F; }
-
 for way in '' --by-script; do
     fresh "a set of another tool${way:+, $way}"
     run "$bin/mbtiles-to-pmtiles" $way "$top/examples/places.mbtiles" places.pmtiles
@@ -202,12 +200,7 @@ fresh 'a command by script that is ended'
 set_of a.mbtiles "$one"
 echo '"$real" "$@"; sleep 20' | instead sqlite3
 mkdir to
-env --default-signal PATH="$t/path:$PATH" "$bin/mbtiles-to-pmtiles" --by-script a.mbtiles to/made.pmtiles >out 2>err </dev/null &
-made=$!
-sleep 1
-kill -TERM $made
-wait $made
-got=$?
+ended TERM : PATH="$t/path:$PATH" "$bin/mbtiles-to-pmtiles" --by-script a.mbtiles to/made.pmtiles
 status 143
 holds nothing_in to
 ends
@@ -226,13 +219,7 @@ ends_by_signals bin/mbtiles-to-pmtiles a.mbtiles to/made.pmtiles
 mkdir to
 # a file that another run made meanwhile stays
 printf '#!/bin/bash\nexec sleep 20\n' >bin/mbtiles_to_pmtiles_program
-env --default-signal bin/mbtiles-to-pmtiles a.mbtiles to/made.pmtiles >out 2>err </dev/null &
-made=$!
-sleep 1
-echo other >to/made.pmtiles.new
-kill -TERM $made
-wait $made
-got=$?
+ended TERM 'echo other >to/made.pmtiles.new' bin/mbtiles-to-pmtiles a.mbtiles to/made.pmtiles
 status 143
 holds [ "$(cat to/made.pmtiles.new)" = other ]
 ends

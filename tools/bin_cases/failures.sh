@@ -30,12 +30,11 @@ holds [ ! -e new ]
 ends
 
 fresh 'a failed extraction leaves no file'
-archive=$top/crates/tile_extract_program/data/two_tiles.pmtiles
-run "$bin/tile_extract" "$archive" part 1 0 0 1 0
+run "$bin/tile_extract" "$two_tiles" part 1 0 0 1 0
 status 1
 says 'more than 0 tiles'
 holds [ ! -e part ]
-run "$bin/tile_extract" "$archive" part 3 0 0 1 10
+run "$bin/tile_extract" "$two_tiles" part 3 0 0 1 10
 status 1
 says 'invalid zoom'
 holds [ ! -e part ]
@@ -48,15 +47,15 @@ run "$bin/tile_extract" missing part 0 0 0 0 1
 status 6
 says 'tile_extract: missing: No such file'
 holds [ ! -e part ]
-run "$bin/tile_extract" "$archive" /dev/null 1 0 0 1 10
+run "$bin/tile_extract" "$two_tiles" /dev/null 1 0 0 1 10
 status 6
 says '/dev/null: no regular file'
 echo before >part
-run "$bin/tile_extract" "$archive" part 1 0 0 1 10
+run "$bin/tile_extract" "$two_tiles" part 1 0 0 1 10
 status 1
 says 'part: the file has 7 bytes'
 holds [ "$(cat part)" = before ]
-run "$bin/tile_extract" "$archive" other 1 0 0 1 ten
+run "$bin/tile_extract" "$two_tiles" other 1 0 0 1 ten
 status 2
 says 'tile_extract --help'
 holds [ ! -e other ]

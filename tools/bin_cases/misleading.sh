@@ -2,16 +2,12 @@
 # Each set is converted as SQLite reads its `tiles`, or refused in words.
 # shellcheck disable=SC2034,SC2154
 
-convert=$bin/mbtiles-to-pmtiles
 program=$here/crates/mbtiles_to_pmtiles_program/out/mbtiles_to_pmtiles_program
 names='create table metadata (name text, value text)'
-columns='zoom_level integer, tile_column integer, tile_row integer, tile_data blob'
-three="insert into tiles (zoom_level, tile_column, tile_row, tile_data) values (0, 0, 0, x'01'), (1, 1, 0, x'02'), (1, 0, 1, x'02')"
 hashes="create table tiles_with_hash ($columns, tile_hash text)"
 normal="create table map (zoom_level integer, tile_column integer, tile_row integer, tile_id text); create table images (tile_id text, tile_data blob);
     create unique index m on map (zoom_level, tile_column, tile_row); create unique index i on images (tile_id)"
 shallow="create table tiles_shallow (zoom_level integer, tile_column integer, tile_row integer, tile_data_id integer); create table tiles_data (tile_data_id integer primary key, tile_data blob)"
-digest() { printf '%b' "$1" | md5sum | cut -d' ' -f1 | tr a-f A-F; }
 
 # right_or_refused: what a run came to
 right_or_refused() {
@@ -48,16 +44,16 @@ must() {
 must 'a table of tiles beside an empty one with hashes' "create table tiles ($columns); $three; $hashes"
 must 'a table of tiles beside empty map and images' "create table tiles ($columns); $three; $normal"
 must 'a table of tiles beside empty places and contents' "create table tiles ($columns); $three; $shallow"
-must 'a table of tiles beside map and images of one row' "create table tiles ($columns); $three; $normal; insert into images values ('$(digest '\x09')', x'09'); insert into map values (0, 0, 0, '$(digest '\x09')')"
-must 'a table of tiles beside one with hashes of one row' "create table tiles ($columns); $three; $hashes; insert into tiles_with_hash values (0, 0, 0, x'09', '$(digest '\x09')')"
+must 'a table of tiles beside map and images of one row' "create table tiles ($columns); $three; $normal; insert into images values ('$(md5_of '\x09')', x'09'); insert into map values (0, 0, 0, '$(md5_of '\x09')')"
+must 'a table of tiles beside one with hashes of one row' "create table tiles ($columns); $three; $hashes; insert into tiles_with_hash values (0, 0, 0, x'09', '$(md5_of '\x09')')"
 misleads 'a view of another table beside empty map and images' "create table my_tiles ($columns); create view tiles as select * from my_tiles; $normal;
     insert into my_tiles values (0, 0, 0, x'01'), (1, 1, 0, x'02'), (1, 0, 1, x'02')"
 misleads 'a view of another table beside an empty one with hashes' "create table my_tiles ($columns); create view tiles as select * from my_tiles; $hashes; insert into my_tiles values (0, 0, 0, x'01')"
-some="insert into images values ('$(digest '\x01')', x'01'), ('$(digest '\x02')', x'02'); insert into map values (0, 0, 0, '$(digest '\x01')'), (1, 1, 0, '$(digest '\x02')'), (3, 1, 2, '$(digest '\x02')'), (4, 1, 2, '$(digest '\x01')')"
+some="insert into images values ('$(md5_of '\x01')', x'01'), ('$(md5_of '\x02')', x'02'); insert into map values (0, 0, 0, '$(md5_of '\x01')'), (1, 1, 0, '$(md5_of '\x02')'), (3, 1, 2, '$(md5_of '\x02')'), (4, 1, 2, '$(md5_of '\x01')')"
 misleads 'a view of the zooms below 3' "$normal; $some; create view tiles as select zoom_level, tile_column, tile_row, tile_data from map join images on map.tile_id = images.tile_id where zoom_level < 3"
 misleads 'a view that turns rows over' "$normal; $some; create view tiles as select zoom_level, tile_column, (1 << zoom_level) - 1 - tile_row as tile_row, tile_data from map join images on map.tile_id = images.tile_id"
 misleads 'a view that swaps rows and columns' "$normal; $some; create view tiles as select zoom_level, tile_row as tile_column, tile_column as tile_row, tile_data from map join images on map.tile_id = images.tile_id"
-misleads 'a view of a table with hashes that leaves rows out' "$hashes; insert into tiles_with_hash values (0, 0, 0, x'01', '$(digest '\x01')'), (1, 0, 0, x'02', '$(digest '\x02')');
+misleads 'a view of a table with hashes that leaves rows out' "$hashes; insert into tiles_with_hash values (0, 0, 0, x'01', '$(md5_of '\x01')'), (1, 0, 0, x'02', '$(md5_of '\x02')');
     create view tiles as select zoom_level, tile_column, tile_row, tile_data from tiles_with_hash where zoom_level = 0"
 misleads 'a view of places and contents that leaves rows out' "$shallow; insert into tiles_data values (1, x'01'); insert into tiles_shallow values (0, 0, 0, 1), (1, 0, 0, 1), (2, 0, 0, 1);
     create view tiles as select zoom_level, tile_column, tile_row, tile_data from tiles_shallow join tiles_data on tiles_shallow.tile_data_id = tiles_data.tile_data_id limit 2"

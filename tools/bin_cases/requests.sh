@@ -1,15 +1,10 @@
 # Cases of tools/check_bin: requests for tiles that are answered line by line. What an archive has is read by Python.
 # shellcheck disable=SC2034,SC2154
 
-fatyngu=$bin/fatyngu
 program=$here/crates/fatyngu_program/out/fatyngu_program
-places=$top/examples/places.mbtiles
-one=$top/crates/tile_verify_program/data/one_tile.pmtiles
-served() { python3 "$top/tools/checks/served_tiles.py" "$@"; }
-answered() { served "$@" >answered 2>&1 || problem="$problem; $(tail -n 1 answered | cut -c1-200)"; }
 
 fresh 'requests by lines'
-for words in "$one 1" "$one 64 1000000 4096" "$one 0 1 1 1" "$one 1 1 0 1" "$one 1 4294967296 1 1" "$one a 1 1 1" "$one 1 1 1 1 1" '' "$one --limits 1"; do
+for words in "$one_tile 1" "$one_tile 64 1000000 4096" "$one_tile 0 1 1 1" "$one_tile 1 1 0 1" "$one_tile 1 4294967296 1 1" "$one_tile a 1 1 1" "$one_tile 1 1 1 1 1" '' "$one_tile --limits 1"; do
     # shellcheck disable=SC2086
     run "$fatyngu" serve $words
     status 2
@@ -19,14 +14,14 @@ done
 printf 'GET 0 0 0\nGET 0 0 0' >asked
 for limits in '' '1 0 1 0' '4294967295 4294967295 4294967295 18446744073709551615'; do
     # shellcheck disable=SC2086
-    feed asked "$fatyngu" serve "$one" $limits
+    feed asked "$fatyngu" serve "$one_tile" $limits
     status 0
     holds [ "$(wc -l <out)" = 2 ]
     cp out first
-    feed asked "$bin/tile_serve" "$one" 64 65536 1000 1000000
+    feed asked "$bin/tile_serve" "$one_tile" 64 65536 1000 1000000
     holds cmp -s out first
 done
-run "$fatyngu" serve "$one"
+run "$fatyngu" serve "$one_tile"
 status 0
 holds [ ! -s out ]
 run "$fatyngu" serve missing
@@ -40,19 +35,19 @@ run "$fatyngu" serve "$places"
 status 1
 says 'archive of the PMTiles format'
 holds [ ! -s out ]
-head -c 100 "$one" >short
+head -c 100 "$one_tile" >short
 run "$fatyngu" serve short
 status 1
 for place in "$fatyngu" "$program"; do
-    run bash -c 'exec "$0" serve "$1" <&-' "$place" "$one"
+    run bash -c 'exec "$0" serve "$1" <&-' "$place" "$one_tile"
     status 4
     says "standard input can't be read"
-    feed asked bash -c 'exec "$0" serve "$1" >&-' "$place" "$one"
+    feed asked bash -c 'exec "$0" serve "$1" >&-' "$place" "$one_tile"
     status 5
     says "standard output can't be written"
-    feed asked bash -c 'exec "$0" serve "$1" >/dev/full' "$place" "$one"
+    feed asked bash -c 'exec "$0" serve "$1" >/dev/full' "$place" "$one_tile"
     status 5
-    run bash -c '(cat "$1"; sleep 1; cat "$1") | "$0" serve "$2" | head -n 1 >/dev/null; exit ${PIPESTATUS[1]}' "$place" asked "$one"
+    run bash -c '(cat "$1"; sleep 1; cat "$1") | "$0" serve "$2" | head -n 1 >/dev/null; exit ${PIPESTATUS[1]}' "$place" asked "$one_tile"
     status 5
 done
 ends

@@ -2,10 +2,7 @@
 # that are refused in words.
 # shellcheck disable=SC2034,SC2154
 
-convert=$bin/mbtiles-to-pmtiles
 names="create table metadata (name text, value text); insert into metadata values ('format', 'png'), ('name', 'a set'), ('bounds', '-1,-2,3,4')"
-columns='zoom_level integer, tile_column integer, tile_row integer, tile_data blob'
-three="insert into tiles (zoom_level, tile_column, tile_row, tile_data) values (0, 0, 0, x'01'), (1, 1, 0, x'02'), (1, 0, 1, x'02')"
 nothing_left() { [ -z "$(find . -name '*.new' -o -name '.mbtiles-to-*')" ]; }
 
 # read_all_the_same NAME SQL: a set of three tiles that is converted, whatever its form
@@ -92,12 +89,7 @@ unset SLEEPS
 # sqlite3 that doesn't end, one that loses a row, and one that finds no room
 echo 'case "$*" in *:memory:* | *file:*) exec "$real" "$@" ;; esac; sleep 20' | instead sqlite3
 mkdir to
-env --default-signal PATH="$t/path:$PATH" bin/mbtiles-to-pmtiles a.mbtiles to/made.pmtiles >out 2>err </dev/null &
-made=$!
-sleep 1
-kill -TERM $made
-wait $made
-got=$?
+ended TERM : PATH="$t/path:$PATH" bin/mbtiles-to-pmtiles a.mbtiles to/made.pmtiles
 status 143
 holds nothing_in to
 echo 'case "$*" in *file:*) exec "$real" "$@" ;; esac; sed "s/from s.tiles;/from s.tiles limit 0;/" | "$real" "$@"' | instead sqlite3

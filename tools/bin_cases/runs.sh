@@ -1,10 +1,8 @@
 # Cases of tools/check_bin: runs that meet, runs that are stopped, and what is synced before it has its name.
 # shellcheck disable=SC2034,SC2154
 
-back=$bin/pmtiles-to-mbtiles
 program=$here/crates/mbtiles_to_pmtiles_program/out/mbtiles_to_pmtiles_program
 many="with recursive n(v) as (values (0) union all select v + 1 from n where v < 19999) insert into tiles select 8, v % 256, v / 256, randomblob(600) from n"
-archive=$top/crates/tile_extract_program/data/two_tiles.pmtiles
 # waits until a file is there, or a process is gone
 wait_for() {
     for _ in $(seq 2000); do
@@ -28,10 +26,10 @@ wait_for_lock() {
 fresh 'what a stopped run left is made anew'
 set_of a.mbtiles "$one"
 for place in program wrapper; do
-    [ $place = wrapper ] && convert=$bin/mbtiles-to-pmtiles || convert=$program
+    [ $place = wrapper ] && converter=$bin/mbtiles-to-pmtiles || converter=$program
     rm -f made.pmtiles
     echo left >made.pmtiles.new
-    run "$convert" a.mbtiles made.pmtiles
+    run "$converter" a.mbtiles made.pmtiles
     status 0
     says 'made.pmtiles.new was left by a run that was stopped'
     holds same made.pmtiles a.mbtiles
@@ -49,10 +47,10 @@ run "$program" --overwrite a.mbtiles made.pmtiles
 status 0
 holds cmp -s whole made.pmtiles
 echo left >made.mbtiles.new
-run "$back" "$archive" made.mbtiles
+run "$back" "$two_tiles" made.mbtiles
 status 0
 says 'made.mbtiles.new was left by a run that was stopped'
-holds same "$archive" made.mbtiles
+holds same "$two_tiles" made.mbtiles
 holds [ ! -e made.mbtiles.new ]
 ends
 
@@ -77,17 +75,17 @@ fresh 'two runs with one place'
 set_of a.mbtiles "$many"
 set_of b.mbtiles "$one"
 for place in program wrapper; do
-    [ $place = wrapper ] && convert=$bin/mbtiles-to-pmtiles || convert=$program
+    [ $place = wrapper ] && converter=$bin/mbtiles-to-pmtiles || converter=$program
     rm -f made.pmtiles
     "$program" a.mbtiles made.pmtiles >first.out 2>&1 </dev/null &
     made=$!
     if wait_for_lock made.pmtiles.new $made; then
         kill -STOP $made
         if [ ! -e made.pmtiles ]; then
-            run "$convert" b.mbtiles made.pmtiles
+            run "$converter" b.mbtiles made.pmtiles
             status 1
             says 'made.pmtiles.new is written by another run'
-            run "$convert" --overwrite b.mbtiles made.pmtiles
+            run "$converter" --overwrite b.mbtiles made.pmtiles
             status 1
             holds [ -e made.pmtiles.new ]
         fi
@@ -108,7 +106,7 @@ if command -v flock >/dev/null; then
         flock $out.new sleep 30 &
         held=$!
         sleep 0.3
-        if [ $out = made.pmtiles ]; then run "$bin/mbtiles-to-pmtiles" a.mbtiles $out; else run "$back" "$archive" $out; fi
+        if [ $out = made.pmtiles ]; then run "$bin/mbtiles-to-pmtiles" a.mbtiles $out; else run "$back" "$two_tiles" $out; fi
         status 1
         says "$out.new is written by another run"
         holds [ -e $out.new ]
@@ -134,14 +132,14 @@ if command -v strace >/dev/null && strace -o "$room/traced" true 2>/dev/null; th
     traced "$program" --overwrite a.mbtiles made.pmtiles
     status 0
     holds eval 'calls | grep -q "fsync rename[at2]* fsync $"'
-    traced "$here/crates/pmtiles_to_mbtiles_program/out/pmtiles_to_mbtiles_program" "$archive" made.mbtiles
+    traced "$here/crates/pmtiles_to_mbtiles_program/out/pmtiles_to_mbtiles_program" "$two_tiles" made.mbtiles
     status 0
     holds eval 'calls | grep -q "fsync link[at]* fsync $"'
     cp "$top/examples/one_tile.script" script
     run strace -f -e trace=fsync -o trace bash -c '"$0" convert file new.pmtiles <script' "$here/crates/tileset_program/out/tileset_program"
     status 0
     holds eval 'calls | grep -q "fsync fsync $"'
-    traced "$here/crates/tile_extract_program/out/tile_extract_program" "$archive" part 0 0 0 1 10
+    traced "$here/crates/tile_extract_program/out/tile_extract_program" "$two_tiles" part 0 0 0 1 10
     status 0
     holds eval 'calls | grep -q "fsync fsync $"'
     traced "$bin/mbtiles-to-pmtiles" --by-script a.mbtiles scripted.pmtiles

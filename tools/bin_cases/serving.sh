@@ -2,11 +2,6 @@
 # by Python.
 # shellcheck disable=SC2034,SC2154
 
-fatyngu=$bin/fatyngu
-places=$top/examples/places.mbtiles
-one=$top/crates/tile_verify_program/data/one_tile.pmtiles
-served() { python3 "$top/tools/checks/served_tiles.py" "$@"; }
-answered() { served "$@" >answered 2>&1 || problem="$problem; $(tail -n 1 answered | cut -c1-200)"; }
 # answers URL WORDS: the status of an answer, and its text
 answers() {
     served status "$1" >answered 2>&1
@@ -60,7 +55,7 @@ ends_serving HUP
 ends
 
 fresh 'a server that asks for a word'
-for words in "$one --http" "$one --http x" "$one --http 65536" "$one --http -1" '--http 0' "$one 1 --http 0" "$one --address ::1" "$one --http 0 --http 0" "$one --http 0 --map"; do
+for words in "$one_tile --http" "$one_tile --http x" "$one_tile --http 65536" "$one_tile --http -1" '--http 0' "$one_tile 1 --http 0" "$one_tile --address ::1" "$one_tile --http 0 --http 0" "$one_tile --http 0 --map"; do
     # shellcheck disable=SC2086
     run timeout 20 "$fatyngu" serve $words
     status 2
@@ -75,13 +70,13 @@ status 3
 run timeout 20 "$fatyngu" serve "$places" --http 0
 status 1
 says 'fatyngu convert makes one'
-run timeout 20 "$fatyngu" serve "$one" 0 1 1 1 --http 0
+run timeout 20 "$fatyngu" serve "$one_tile" 0 1 1 1 --http 0
 status 2
-run timeout 20 "$fatyngu" serve "$one" --http 0 --address no.such.host.invalid
+run timeout 20 "$fatyngu" serve "$one_tile" --http 0 --address no.such.host.invalid
 status 1
 says 'port 0 of no.such.host.invalid: '
 for stream in '>&-' '>/dev/full'; do
-    run timeout 20 bash -c "exec \"\$0\" serve \"\$1\" --http 0 $stream" "$fatyngu" "$one"
+    run timeout 20 bash -c "exec \"\$0\" serve \"\$1\" --http 0 $stream" "$fatyngu" "$one_tile"
     status 5
     says "standard output can't be written"
     holds [ "$(wc -l <err)" = 1 ]
@@ -89,23 +84,23 @@ done
 ends
 
 fresh 'a port that is in use'
-serve "$one" --http 0
+serve "$one_tile" --http 0
 port=${url%/}
 port=${port##*:}
-run timeout 20 "$fatyngu" serve "$one" --http "$port"
+run timeout 20 "$fatyngu" serve "$one_tile" --http "$port"
 status 1
 says "port $port of 127.0.0.1: Address already in use"
 holds [ ! -s out ]
 answers "${url}about.json" '200 {'
 ends_serving TERM
 # the port is free again at once
-serve "$one" --http "$port"
+serve "$one_tile" --http "$port"
 holds [ "$url" = "http://127.0.0.1:$port/" ]
 ends_serving TERM
 ends
 
 fresh 'a program that is killed'
-serve "$one" --http 0
+serve "$one_tile" --http 0
 answers "${url}0/0/0.exe" 404
 answers "${url}0/0/0" '200 '
 child=$(below $server)
@@ -124,7 +119,7 @@ holds is_gone "$child"
 ends
 
 fresh 'an archive that is broken behind its header'
-head -c $(($(stat -c %s "$one") - 1)) "$one" >cut.pmtiles
+head -c $(($(stat -c %s "$one_tile") - 1)) "$one_tile" >cut.pmtiles
 serve cut.pmtiles --http 0
 answers "${url}0/0/0" '500 the archive is broken on the way to this tile: PastEnd'
 answers "${url}about.json" '200 '

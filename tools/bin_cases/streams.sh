@@ -18,13 +18,7 @@ for number in 1:HUP:129 2:INT:130 15:TERM:143; do
     fresh "a script that is ended by $signal"
     set_of a.mbtiles "$one"
     echo '"$real" "$@"; sleep 20' | instead sqlite3
-    # a command in the background would ignore INT
-    env --default-signal PATH="$t/path:$PATH" "$bin/mbtiles-script" a.mbtiles >out 2>err </dev/null &
-    made=$!
-    sleep 1
-    kill -"$signal" "$made"
-    wait "$made"
-    got=$?
+    ended "$signal" : PATH="$t/path:$PATH" "$bin/mbtiles-script" a.mbtiles
     status "${number##*:}"
     holds last_is_failed
     ends

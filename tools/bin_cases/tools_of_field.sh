@@ -2,7 +2,6 @@
 # with a log of writes beside it, and with a write that was cut off.
 # shellcheck disable=SC2034,SC2154
 
-convert=$bin/mbtiles-to-pmtiles
 # some 40 tiles, of which several have one content, into a table
 rows_of() { echo "with recursive n(v) as (values (0) union all select v + 1 from n where v < 39) insert into $1 (zoom_level, tile_column, tile_row, $2) select 5, v % 8, v / 8, $3 from n"; }
 content="cast('content ' || (v % 7) || hex(zeroblob(150 + 10 * (v % 7))) as blob)"
@@ -122,5 +121,79 @@ for maker in Planetiler 'Planetiler, not compact' 'GDAL, images' 'GDAL, vectors'
         says "$file .*journal"
     done
     holds [ ! -e made.pmtiles ]
+    ends
+done
+
+# The subcommands of fatyngu on such sets, each answer held against sqlite3 and Python.
+is_sound() { [ "$(ask "$1" 'pragma integrity_check')" = ok ]; }
+# what is read of a set
+reads_set() {
+    run "$fatyngu" summary a.mbtiles
+    status 0
+    prints "^5 $(ask a.mbtiles "select count(*) || ' ' || sum(length(tile_data)) || ' ' || min(length(tile_data)) || ' ' || max(length(tile_data)) from tiles")\$"
+    run "$fatyngu" hash a.mbtiles
+    status 0
+    ! command -v python3 >/dev/null || holds [ "$(cat out)" = "$("$top/tools/checks/aggregate_hash.py" a.mbtiles)" ]
+    run "$fatyngu" validate a.mbtiles --agg-hash off
+    status 0
+    for place in '0 31' '7 31' '3 29' '7 27'; do
+        run "$fatyngu" tile a.mbtiles 5 "${place% *}" "${place#* }"
+        status 0
+        holds [ "$(od -An -v -tx1 out | tr -d ' \n' | tr a-f A-F)" = "$(ask a.mbtiles "select hex(tile_data) from tiles where tile_column = ${place% *} and tile_row = 31 - ${place#* }")" ]
+    done
+    run "$fatyngu" tile a.mbtiles 5 8 31
+    status 1
+    run "$fatyngu" meta get a.mbtiles format
+    status 0
+    holds [ "$(cat out)" = "$(ask a.mbtiles "select value from metadata where name = 'format'")" ]
+}
+# what is made of it
+copies_set() {
+    run "$fatyngu" copy a.mbtiles b.mbtiles
+    status 0
+    holds [ "$(tiles_of b.mbtiles)" = "$(tiles_of a.mbtiles)" ]
+    holds is_sound b.mbtiles
+    run "$fatyngu" validate b.mbtiles
+    status 0
+    run "$fatyngu" unpack a.mbtiles files
+    status 0
+    holds [ "$(find files -type f | wc -l)" = 40 ]
+    run "$fatyngu" pack files c.mbtiles
+    status 0
+    holds [ "$(tiles_of c.mbtiles)" = "$(tiles_of a.mbtiles)" ]
+    run "$fatyngu" convert --hash a.mbtiles made.pmtiles
+    status 0
+    holds same made.pmtiles a.mbtiles
+    run "$fatyngu" import made.pmtiles d.mbtiles
+    status 0
+    holds [ "$(tiles_of d.mbtiles)" = "$(tiles_of a.mbtiles)" ]
+    run "$fatyngu" copy --apply-patch change.mbtiles --force a.mbtiles e.mbtiles
+    status 0
+    holds [ "$(tiles_of e.mbtiles)" = "$1" ]
+}
+# what is changed in its file
+changes_set() {
+    run "$fatyngu" meta set a.mbtiles attribution 'two words'
+    status 0
+    holds [ "$(ask a.mbtiles "select value from metadata where name = 'attribution'")" = 'two words' ]
+    run "$fatyngu" hash --update a.mbtiles
+    status 0
+    run "$fatyngu" validate a.mbtiles
+    status 0
+    run "$fatyngu" patch a.mbtiles change.mbtiles --force
+    status 0
+    holds [ "$(tiles_of a.mbtiles)" = "$1" ]
+    holds is_sound a.mbtiles
+}
+for maker in 'GDAL, images' 'GDAL, vectors' tilemaker tippecanoe 'tippecanoe, flat' mbutil MapTiler; do
+    fresh "the subcommands on a file as $maker makes it"
+    "$real" a.mbtiles "$(tables_of "$maker")" >/dev/null
+    set_of change.mbtiles "insert into tiles values (5, 0, 0, null), (5, 1, 0, x'1F8B05'), (6, 1, 1, x'1F8B06')"
+    wanted=$({ tiles_of a.mbtiles | grep -v '^5|0|0|\|^5|1|0|'; echo '5|1|0|1F8B05'; echo '6|1|1|1F8B06'; } | sort -t'|' -n -k1,1 -k2,2 -k3,3)
+    before=$(cksum a.mbtiles)
+    reads_set
+    copies_set "$wanted"
+    holds [ "$(cksum a.mbtiles)" = "$before" ]
+    changes_set "$wanted"
     ends
 done

@@ -1,13 +1,14 @@
-# Lines of boxes of tiles and of the parts of archives that they are, for tools/cases/archive_rows.py. The wanted answers
-# are those of tools/models/boxes.py and tools/models/extraction.py.
+# Lines of boxes of tiles and of the parts of archives that they are, for tools/cases/archive_rows.py. The wanted
+# answers are those of tools/models/boxes.py and tools/models/extraction.py.
 import random
 
 from cases.archive_program import refused, row
-from cases.extract_cases import Held, begin, hold, random_archive, say_held, wide_tree
+from cases.extract_cases import Held, begin, each_fails, hold, line, wide_tree
+from cases.random_archives import random_archive
 from cases.sample_archives import CYCLE, OF_ZOOM_ONE, ONE, some_leaves, tree
 from models import boxes as by_tiles
 from models import pmtiles as pm
-from models.extraction import ALL, U32, Run, label, spans
+from models.extraction import ALL, U32, label, spans
 
 LAST = U32 - 1
 
@@ -84,6 +85,7 @@ def random_boxes():
     intervals([(12, 100, 2000, 399, 2255)])
     intervals([(31, 2 ** 30 - 70, 2 ** 30 - 70, 2 ** 30 + 70, 2 ** 30 + 70)])
 
+
 def said_boxes():
     """Those of boxes that are of a zoom that the header says."""
     chance = random.Random(3)
@@ -99,13 +101,9 @@ def said_boxes():
 
 
 def run(boxes, most, medium_fails=0, source_fails=0):
-    """An extraction by boxes of what is held: the places or the error, byte 97 of the medium, and how often the source
-    was read."""
-    done = Run(Held.data, Held.begun, source_fails, medium_fails)
-    said = done.result(lambda: done.extract_part(lambda: by_tiles.intervals(boxes), *by_tiles.zooms(boxes), most))
-    row(f'extract from {source_fails} boxes {medium_fails} {most}' + numbers(boxes), said, label(done.held), done.source.calls)
-    say_held(done)
-    return done
+    """An extraction by boxes of what is held."""
+    return line(f'extract from {source_fails} boxes {medium_fails} {most}' + numbers(boxes),
+                lambda done: done.extract_part(lambda: by_tiles.intervals(boxes), *by_tiles.zooms(boxes), most), medium_fails, source_fails)
 
 
 def by_ids(pairs, zooms, most, medium_fails=0, source_fails=0):
@@ -115,20 +113,7 @@ def by_ids(pairs, zooms, most, medium_fails=0, source_fails=0):
     if any(not end < first <= last for end, (first, last) in zip(ends, pairs)):
         row(call, '"not apart"', label(Held.begun), 0)
         return None
-    done = Run(Held.data, Held.begun, source_fails, medium_fails)
-    said = done.result(lambda: done.extract_part(lambda: pairs, *zooms, most))
-    row(call, said, label(done.held), done.source.calls)
-    say_held(done)
-    return done
-
-
-def faults(call):
-    """Each call of the medium failing, then each of the source, and the first ones that don't come."""
-    whole = call(0, 0)
-    for n in range(1, whole.medium.calls + 2):
-        call(n, 0)
-    for n in range(1, whole.source.calls + 2):
-        call(0, n)
+    return line(call, lambda done: done.extract_part(lambda: pairs, *zooms, most), medium_fails, source_fails)
 
 
 def known_parts():
@@ -181,13 +166,13 @@ def parts_of_many():
 def failing():
     hold(OF_ZOOM_ONE)
     for boxes in ([(1, 0, 0, 1, 1), (0, 0, 0, 0, 0)], [(1, 1, 0, 1, 0)]):
-        faults(lambda m, s: run(boxes, 10, m, s))
-    faults(lambda m, s: run([(1, 0, 0, 1, 1)], 0, m, s))
-    faults(lambda m, s: by_ids([(0, 4)], (1, 0), 10, m, s))
+        each_fails(lambda m, s: run(boxes, 10, m, s))
+    each_fails(lambda m, s: run([(1, 0, 0, 1, 1)], 0, m, s))
+    each_fails(lambda m, s: by_ids([(0, 4)], (1, 0), 10, m, s))
     hold(tree(*some_leaves(), most=(5, 2)))
     for boxes in ([(3, 2, 1, 5, 4), (4, 3, 3, 9, 9)], [(4, 0, 7, 15, 8)]):
-        faults(lambda m, s: run(boxes, 300, m, s))
-    faults(lambda m, s: by_ids([(4, 9), (30, 30), (90, 200)], (1, 4), 300, m, s))
+        each_fails(lambda m, s: run(boxes, 300, m, s))
+    each_fails(lambda m, s: by_ids([(4, 9), (30, 30), (90, 200)], (1, 4), 300, m, s))
 
 
 def random_parts():

@@ -1,102 +1,8 @@
 # Calls of caches, for tools/cases/cache_rows.py. Their answers are those of tools/models/caches.py.
 import random
 
-from models.caches import Cache, CacheRefused, StoreCalls, row_of
-from models.shown import flag, option
-
-def dash(value):
-    return '-' if value is None else str(value)
-
-
-class Lines:
-    """The lines of a store and of its cache."""
-
-    def __init__(self, rows, kind, made=True):
-        self.rows, self.kind = rows, kind
-        self.store = StoreCalls()
-        self.cache = Cache(self.store, made)
-        rows.row(f'new {kind}')
-
-    def result(self, call, answer, show=str):
-        """A line whose answer is printed with Ok or Err."""
-        try:
-            said = f'Ok({show(answer())})'
-        except CacheRefused as refusal:
-            said = f'Err({refusal})'
-        self.rows.row(call, said)
-        return said
-
-    def plain(self, call, answer, show):
-        """A line whose refusal is printed alone."""
-        try:
-            said = show(answer())
-        except CacheRefused as refusal:
-            said = str(refusal)
-        self.rows.row(call, said)
-        return said
-
-    def open(self):
-        return self.plain('open', self.cache.open, lambda _: 'true')
-
-    def call(self, name, *given, how=''):
-        """A call of the open cache, or of one that is opened for it (`once `, `over `)."""
-        cache = self.cache
-        if how:
-            try:
-                cache.open()
-            except CacheRefused as refusal:
-                return self.rows.row(how + self.line(name, given), str(refusal))
-        line = how + self.line(name, given)
-        if name == 'set':
-            return self.result(line, lambda: cache.set(*given), lambda _: '()')
-        if name == 'update':
-            return self.result(line, lambda: cache.update(*given), flag)
-        if name == 'get':
-            return self.plain(line, lambda: cache.get(*given), self.tile)
-        if name == 'tile':
-            return self.plain(line, lambda: cache.get(*given), lambda tile: 'none' if tile is None else f'x{tile[3].hex()}')
-        if name == 'expired':
-            return self.result(line, lambda: cache.purge_expired(*given))
-        if name == 'size':
-            return self.result(line, lambda: cache.purge_to_size(*given))
-        assert name == 'meta'
-        return self.plain(line, cache.zooms, lambda zooms: f'unknown {option(zooms[0])} {option(zooms[1])}')
-
-    def line(self, name, given):
-        if name == 'set':
-            z, x, y, data, fetched, expires, tag = given
-            return f"set {z} {x} {y} x{data.hex()} {dash(fetched)} {dash(expires)} {'-' if tag is None else 't' + tag}"
-        if name == 'update':
-            z, x, y, fetched, expires, tag = given
-            return f"update {z} {x} {y} {dash(fetched)} {dash(expires)} {'-' if tag is None else 't' + tag}"
-        return ' '.join([name, *map(str, given)])
-
-    @staticmethod
-    def tile(tile):
-        if tile is None:
-            return 'none'
-        fetched, expires, tag, data = tile
-        return f"x{data.hex()} {dash(fetched)} {dash(expires)} {'-' if tag is None else 't' + tag}"
-
-    def say_rows(self):
-        """The rows, in memory in the order of their keys, in a database as they came."""
-        self.store.ask(2)
-        tiles = self.cache.tiles.items()
-        shown = ''.join(row_of(place, tile) + ' ; ' for place, tile in (tiles if self.kind == 'database' else sorted(tiles)))
-        self.rows.rows.append(('rows', shown))
-
-    def say_size(self):
-        self.store.ask()
-        self.rows.row('live', f'Ok({self.cache.live_size()})')
-
-    def fail(self, *numbers):
-        self.store.failing = set(numbers)
-        self.rows.row(' '.join(['fail', *map(str, numbers)]))
-
-    def push(self, place, tile):
-        self.store.ask()
-        self.cache.tiles[place] = tile
-        self.rows.row(f'push tile_cache {row_of(place, tile)}', 'Ok(())')
+from cases.cache_lines import Lines
+from models.shown import flag
 
 
 def first_tile(rows, kind, made):
@@ -145,15 +51,11 @@ def expiry(rows, kind, made):
     lines.call('expired', 50)
     for x, expires in enumerate((50, 200, None)):
         lines.call('set', 2, x, 0, bytes([x]), 1, expires, None)
-    for now in (50, 100, 100, 51, 201, 2 ** 63 - 1, 2 ** 63 - 1):
-        lines.call('expired', now)
-        lines.say_rows()
+    lines.each('expired', (50, 100, 100, 51, 201, 2 ** 63 - 1, 2 ** 63 - 1))
     # the lowest and the greatest moments, and one that moves by an update
     for x, expires in enumerate((-2 ** 63, -1, 0, 2 ** 63 - 1)):
         lines.call('set', 3, x, 0, bytes([x]), 1, expires, 't')
-    for now in (-2 ** 63, -2 ** 63 + 1, -1, 0):
-        lines.call('expired', now)
-        lines.say_rows()
+    lines.each('expired', (-2 ** 63, -2 ** 63 + 1, -1, 0))
     lines.call('update', 3, 2, 0, 1, 1000, None)
     lines.call('expired', 500)
     lines.call('update', 3, 2, 0, 1, 499, None)
@@ -185,9 +87,7 @@ def sizes(rows, kind, made):
     random.Random(5).shuffle(keys)
     for i, key in enumerate(keys):
         lines.call('set', *key, bytes(i % 7), None, (None, 7, 7, -3)[i % 4], 'tag' * (i % 3))
-    for most in (5000, 2500, 1000, 0):
-        lines.call('size', most)
-        lines.say_rows()
+    lines.each('size', (5000, 2500, 1000, 0))
     # just one round, and one entry more
     for count in (64, 65, 128, 129):
         for i in range(count):
@@ -236,10 +136,8 @@ def nulls(rows):
     lines.call('update', 1, 1, 0, 6, None, None)
     lines.say_rows()
     lines.say_size()
-    lines.call('expired', 62)
-    lines.say_rows()
-    lines.call('size', 0)
-    lines.say_rows()
+    lines.each('expired', (62,))
+    lines.each('size', (0,))
 
 
 def moments(rows):

@@ -3,6 +3,7 @@
 import random
 
 from cases.patch_cases import bsdiff, held, named, say_rows, some_set
+from cases.refused_sets import GONE, OUTSIDE, WRONG_HASH, WRONG_ID, odd_algorithm, odd_name
 from models.aggregates import aggregate, data, hash_refusal
 from models.hashes import digest
 from models.names import AFTER, AGG, ALGORITHMS, BEFORE, CONTENT_TABLES, LAYOUTS, TILE_TABLES
@@ -139,15 +140,7 @@ def layouts(rows):
 
 
 def refusals(rows):
-    computed = digest('md5', b'\x01')
-    for layout, pushes, refusal in (
-            ('flat', [('tiles', 'i31', 'i0', 'i0', 'x30')], bad_index('i31', 'i0', 'i0')),
-            ('flat', [('tiles', 'i0', 'i0', 'i0', 'ttext')], bad_index('i0', 'i0', 'i0')),
-            ('flat', [('metadata', 'tname', 'i1')], 'InvalidDataFormat'),
-            ('flat', named(('hash_algorithm', 'crc32')), f'UnsupportedHashAlgorithm {{ algorithm: {text("crc32")} }}'),
-            ('flat-with-hash', [('tiles_with_hash', 'i0', 'i0', 'i0', 'x01', 'tabc')], f'IncorrectTileHash {{ stored: {text("ABC")}, computed: {text(computed)} }}'),
-            ('normalized', [('images', 'tabc', 'x01')], f'IncorrectTileHash {{ stored: {text("ABC")}, computed: {text(computed)} }}'),
-            ('normalized', [('map', 'i0', 'i0', 'i0', 'tgone')], f'MissingTileReference {{ tile_id: {text("gone")}, table: Images }}')):
+    for layout, pushes, refusal in (OUTSIDE, ('flat', [('tiles', 'i0', 'i0', 'i0', 'ttext')], bad_index('i0', 'i0', 'i0')), odd_name('flat'), odd_algorithm('crc32'), WRONG_HASH, WRONG_ID, GONE):
         refused_case(rows, layout, pushes, refusal)
     # nothing described, and a flat set without its unique index
     rows.row('store new')

@@ -2,99 +2,19 @@
 # each; the tables of the destination are printed after a copy.
 import random
 
-from cases.insert_cases import SAME_FNV, SAME_MD5
+from cases.copy_lines import COPIES, LAYOUTS, MODES, ONE, TYPES, Cases, at_times, other_of, some_boxes, some_zooms, zooms_of
+from cases.insert_cases import SAME_FNV, SAME_MD5, WRITTEN
 from cases.patch_cases import named, some_set
-from models import shown
+from cases.refused_sets import GONE, OUTSIDE, odd_name
 from models.aggregates import aggregate
 from models.copied import SIDE, Copier, Set, copy, kind
 from models.hashes import digest
-from models.held_sets import cell_word
-from models.names import AFTER, AGG, BEFORE, CONTENT_TABLES, TILE_TABLES
+from models.names import AFTER, AGG, ALGORITHMS, BEFORE
 from models.shown import flag
-from models.tables import bad_index, show_row
 
-LAYOUTS = list(TILE_TABLES)
-TYPES = [*LAYOUTS, 'dedup-id-with-view']
-WRITTEN = [layout for layout in LAYOUTS if layout != 'dedup-id']
-MODES = ('override', 'ignore', 'abort')
-COPIES = ('all', 'metadata', 'tiles')
-ONE, TWO, HELLO = (digest('md5', data) for data in (b'\x01', b'\x02', b'hello'))
-
-
-class Cases:
-    """The two kept stores, made anew by a line where they differ from those that stand."""
-
-    def __init__(self, rows):
-        self.rows = rows
-
-    def make(self, place, of):
-        if of.layout is None:
-            return self.rows.row(f'{place} none')
-        pushes = ''.join(f" {name} {' '.join(map(cell_word, cells))}" for name, *cells in of.pushes)
-        self.rows.row(f'{place} new {of.layout} {len(of.pushes)}{pushes}')
-        if of.differences:
-            self.rows.row(f'{place} differences', 'Ok(())')
-
-    def say(self, place, of):
-        """All rows of the tables that can have some."""
-        if of.layout is None:
-            return self.rows.row(f'{place} tables')
-        self.rows.row(f"{place} rows {' '.join(of.tables)}", *(f"{name} Ok([{', '.join(map(show_row, cells))}])" for name, cells in of.tables.items()))
-
-    def say_metadata(self, place, of):
-        cells = of.tables['metadata']
-        self.rows.row(f'{place} rows metadata', f"metadata Ok([{', '.join(map(show_row, cells))}])")
-
-    def say_tables(self, place, of):
-        self.rows.row(f'{place} tables', *(f'{name} {word}' for name, word in of.described()))
-
-    def run(self, copier, source, target):
-        """A copy between stores that stand, and the rows of the destination."""
-        answer = copy(copier, source, target)
-        self.rows.row(' '.join(['run', *copier.words()]), answer)
-        self.say('dst', target)
-        return answer
-
-    def case(self, copier, source, target, is_there=False):
-        """The same of stores that are made; the source only where another one stands."""
-        if not is_there:
-            self.make('src', source)
-        self.make('dst', target)
-        was_none = target.layout is None
-        answer = self.run(copier, source, target)
-        if was_none and target.layout is not None:
-            self.say_tables('dst', target)
-        return answer
-
-
-def zooms_of(layout):
-    """A set with tiles of zooms 0 to 3, one of them null where the layout has such rows, names, and what else a
-    layout can have."""
-    one, two = ('x01', 't' + ONE), ('x02', 't' + TWO)
-    places = [((0, 0, 0), one), ((1, 0, 1), two), ((1, 1, 0), ('n', 'n')), ((2, 3, 0), one), ((3, 0, 7), two)]
-    names = named(('name', 'town'), ('format', None), ('hash_algorithm', 'MD5'), (AGG, 'old'))
-    if layout in CONTENT_TABLES:
-        numbers = layout == 'dedup-id'
-        ids = {'x01': 'i1' if numbers else 't' + ONE.lower(), 'x02': 'i2' if numbers else 't' + TWO, 'n': 'i3' if numbers else 'tnull'}
-        contents = [(CONTENT_TABLES[layout], ids[cell], cell) for cell in ('x01', 'x02', 'n')] + [(CONTENT_TABLES[layout], 'n', 'x09')]
-        tiles = [(TILE_TABLES[layout], *(f'i{n}' for n in place), ids[cell]) for place, (cell, _) in places] + [(TILE_TABLES[layout], 'i3', 'i7', 'i7', 'n')]
-        return names + contents + tiles
-    rest = {'flat': lambda n, cell, name: [cell], 'flat-with-hash': lambda n, cell, name: [cell, name], 'cache': lambda n, cell, name: [f'i{n}', f'i{n + 50}' if n % 2 else 'n', 'tv' if n else 'n', cell]}[layout]
-    return names + [(TILE_TABLES[layout], *(f'i{n}' for n in place), *rest(n, cell, name)) for n, (place, (cell, name)) in enumerate(places)]
-
-
-def other_of(layout):
-    """A set that has some of the places and the names of those sets, and others."""
-    three = digest('md5', b'\x03')
-    places = [((1, 0, 1), 'x03'), ((1, 1, 0), 'x01'), ((2, 0, 0), 'n'), ((2, 3, 0), 'n')]
-    names = named(('name', 'city'), ('center', '1,2,3')) + [('metadata', 'n', 'tnobody')]
-    if layout in CONTENT_TABLES:
-        numbers = layout == 'dedup-id'
-        ids = {'x03': 'i3' if numbers else 't' + three, 'x01': 'i1' if numbers else 't' + ONE, 'n': 'i9' if numbers else 'tnone'}
-        tiles = [(TILE_TABLES[layout], *(f'i{n}' for n in place), ids[cell]) for place, cell in places] + [(TILE_TABLES[layout], 'i3', 'i0', 'i7', 'n'), (TILE_TABLES[layout], 'i40', 'n', 'o', 'n')]
-        return names + [(CONTENT_TABLES[layout], ids[cell], cell) for cell in ('x03', 'x01', 'n')] + tiles
-    rest = {'flat': lambda cell: [cell], 'flat-with-hash': lambda cell: [cell, 'n'], 'cache': lambda cell: ['i7', 'i8', 'tw', cell]}[layout]
-    return names + [(TILE_TABLES[layout], *(f'i{n}' for n in place), *rest(cell)) for place, cell in places]
+HELLO = digest('md5', b'hello')
+# the layouts that a command line can name
+WORDS = ('flat', 'flat-with-hash', 'normalized', 'cache')
 
 
 def labels(rows):
@@ -138,7 +58,7 @@ def into_nothing(cases):
             for skip in (False, True):
                 for asked in [None, *TYPES]:
                     cases.case(Copier(copy=copies, skip=skip, type=asked), source, Set(None), True)
-        for word in ('flat', 'flat-with-hash', 'normalized', 'cache'):
+        for word in WORDS:
             cases.case(Copier(cli=word), source, Set(None), True)
             cases.case(Copier(cli=word, type='flat', mode='ignore', max=1), source, Set(None), True)
         for mode in MODES:
@@ -225,7 +145,7 @@ def algorithms(cases):
     for name in ('Md5', 'fnv1a', 'FNV1A-DECIMAL', 'xxh64', 'XXH3'):
         source = Set('cache', zooms_of('cache')[:2] + zooms_of('cache')[4:] + named(('hash_algorithm', name)))
         cases.make('src', source)
-        for wanted in (None, 'md5', 'fnv1a', 'fnv1a-decimal', 'xxh64', 'xxh3'):
+        for wanted in (None, *ALGORITHMS):
             for asked in ('flat-with-hash', 'normalized', 'cache'):
                 cases.case(Copier(hash=wanted, type=asked), source, Set(None), True)
             # a destination that is described keeps its own
@@ -241,7 +161,7 @@ def kinds(cases):
         for asked in TYPES:
             cases.case(Copier(type=asked, mode='override'), source, Set(other), True)
             cases.case(Copier(type=asked, cli='flat', mode='abort'), source, Set(other, other_of(other)), True)
-        for word in ('flat', 'flat-with-hash', 'normalized', 'cache'):
+        for word in WORDS:
             cases.case(Copier(cli=word, mode='ignore'), source, Set(other), True)
 
 
@@ -293,10 +213,10 @@ def collisions(cases):
 
 def order_of_refusals(cases):
     """Of two refusals the first of the list is answered."""
-    bad = Set('flat', [('tiles', 'i31', 'i0', 'i0', 'x30')], bad_index('i31', 'i0', 'i0'))
+    bad = Set(*OUTSIDE)
     unhashed = Set('flat', [('tiles', 'i0', 'i0', 'i0', 'x30'), *named(('name', 'a'))])
-    worse = Set('dedup-id', [('metadata', 'tname', 'i1')], 'InvalidDataFormat')
-    gone = Set('normalized', [('map', 'i0', 'i0', 'i0', 'tgone')], f'MissingTileReference {{ tile_id: {shown.text("gone")}, table: Images }}')
+    worse = Set(*odd_name('dedup-id'))
+    gone = Set(*GONE)
     numbers = Set('dedup-id', [('tiles_data', 'i7', 'x01'), ('tiles_shallow', 'i0', 'i0', 'i0', 'i7')])
     taken = Set('normalized', [('images', 't' + digest('md5', b'0'), 'n'), ('map', 'i0', 'i0', 'i0', 't' + digest('md5', b'0')), *named(('name', 'b'))])
     for source in (bad, unhashed, numbers, Set('flat')):
@@ -316,32 +236,21 @@ def faults(cases):
         for other in (None, 'flat', 'normalized', 'flat-with-hash', 'cache'):
             target = lambda: Set(other, other_of(other) if other else ())
             copier = Copier(mode='override') if other else Copier(type='flat')
-            words = ' '.join(['run', *copier.words()])
             for call in range(1, source.load_calls() + 1):
-                of = target()
-                cases.make('src', source)
-                cases.make('dst', of)
-                cases.rows.row(f'src fail {len(source.pushes) + call}')
-                cases.rows.row(words, 'Err(StoreFault)')
-                cases.say('dst', of)
-                cases.rows.row('src fail')
-                cases.run(copier, source, of)
+                stores = source, target()
+                cases.fail('src', call, copier, *stores)
+                cases.go_on('src', copier, *stores)
             # the destination is asked what it describes; then it is loaded, or its tables are made; then comes the
             # commit
             last = 2 + target().load_calls() if other else 3
             for call in range(1, last + 1):
                 of = target()
-                cases.make('src', source)
-                cases.make('dst', of)
-                cases.rows.row(f'dst fail {len(of.pushes) + call}')
-                cases.rows.row(words, 'Err(StoreFault)')
+                cases.fail('dst', call, copier, source, of)
                 if other is None and call == 3:
                     of = Set('flat')
                     cases.say_tables('dst', of)
-                    cases.rows.row(words, 'Err(DestinationFileExists)')
-                cases.say('dst', of)
-                cases.rows.row('dst fail')
-                cases.run(copier if of.layout is None or other else Copier(mode='abort'), source, of)
+                    cases.rows.row(cases.line(copier), 'Err(DestinationFileExists)')
+                cases.go_on('dst', copier if of.layout is None or other else Copier(mode='abort'), source, of)
             cases.say('src', source)
 
 
@@ -352,23 +261,12 @@ def random_copies(cases):
         source = Set(layout, some_set(chance, layout, chance.sample([('name', 'town'), ('format', None), (AGG, 'A'), ('hash_algorithm', 'md5'), (BEFORE, 'B'), (AFTER, 'C')], chance.randrange(4))))
         target = Set(other, some_set(chance, other, chance.sample([('name', 'city'), ('format', 'png'), (AGG, 'B'), ('center', None)], chance.randrange(3))) if other else ())
         fields = {'mode': chance.choice([None, *MODES, *MODES]), 'copy': chance.choice([None, *COPIES]), 'skip': chance.random() < 0.3, 'force': chance.random() < 0.3, 'validate': chance.random() < 0.1}
-        if chance.random() < 0.3:
-            fields['type'] = chance.choice(TYPES)
-        if chance.random() < 0.3:
-            fields['cli'] = chance.choice(['flat', 'flat-with-hash', 'normalized', 'cache'])
+        at_times(chance, fields, type=(0.3, lambda: chance.choice(TYPES)), cli=(0.3, lambda: chance.choice(WORDS)))
         if other and fields.get('type') and chance.random() < 0.7:
             fields['type'] = next(t for t in TYPES if kind(t) == kind(other))
-        if chance.random() < 0.3:
-            fields['hash'] = chance.choice(['md5', 'fnv1a', 'fnv1a-decimal', 'xxh64', 'xxh3'])
-        if chance.random() < 0.3:
-            fields['min'] = chance.randrange(4)
-        if chance.random() < 0.3:
-            fields['max'] = chance.randrange(4)
-        if chance.random() < 0.2:
-            fields['zooms'] = chance.sample(range(4), chance.randrange(1, 3))
-        if chance.random() < 0.3:
-            edges = [0, SIDE // 4 - 1, SIDE // 4, SIDE // 2 - 1, SIDE // 2, SIDE - 1]
-            fields['box'] = [tuple(chance.choice(edges) for _ in range(4)) for _ in range(chance.randrange(1, 4))]
+        edges = [0, SIDE // 4 - 1, SIDE // 4, SIDE // 2 - 1, SIDE // 2, SIDE - 1]
+        at_times(chance, fields, hash=(0.3, lambda: chance.choice([*ALGORITHMS])), min=(0.3, lambda: chance.randrange(4)), max=(0.3, lambda: chance.randrange(4)),
+                 zooms=(0.2, lambda: some_zooms(chance)), box=(0.3, lambda: some_boxes(chance, edges, 4)))
         copier = Copier(**fields)
         cases.case(copier, source, target)
         if chance.random() < 0.3:
@@ -386,7 +284,7 @@ def large(cases):
         cases.make('dst', target)
         answer = copy(copier, source, target)
         assert answer == 'Ok(())'
-        cases.rows.row(' '.join(['run', *copier.words()]), answer)
+        cases.rows.row(cases.line(copier), answer)
         cases.say_metadata('dst', target)
 
 

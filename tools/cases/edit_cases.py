@@ -104,14 +104,16 @@ def each_layout(rows):
             [('put', 'hash_algorithm', 'tmd5'), ('set', *none, 'x0203')],
         ):
             edit_case(rows, layout, pushes, *edits)
-    edit_case(rows, 'flat', sets['flat'], ('put', 'hash_algorithm', 'tXxh64'), ('set', 1, 0, 0, 'x0203'))
+
+
+def other_sets(rows):
+    """Other algorithms; sets of numbers as ids, whose tiles go and whose names change; and what is no edit."""
+    edit_case(rows, 'flat', [('tiles', 'i1', 'i0', 'i0', 'x01'), ('tiles', 'i1', 'i1', 'i0', 'n')], ('put', 'hash_algorithm', 'tXxh64'), ('set', 1, 0, 0, 'x0203'))
     edit_case(rows, 'flat-with-hash', named(('hash_algorithm', 'xxh3')), ('set', 1, 0, 0, 'x0203'), ('set', 2, 3, 3, 'x'))
     edit_case(rows, 'normalized', named(('hash_algorithm', 'fnv1a-decimal')), ('set', 1, 0, 0, 'x0203'), ('set', 2, 3, 3, 'x0203'), ('clear', 1, 0, 0))
-    # sets of numbers as ids: tiles go, and names change
     numbers = [('tiles_data', 'i7', 'x01'), ('tiles_data', 'i-3', 'n'), ('tiles_shallow', 'i2', 'i3', 'i0', 'i-3'), ('tiles_shallow', 'i2', 'i0', 'i3', 'i7')]
     for edits in ([('clear', 2, 0, 0)], [('clear', 2, 0, 0), ('drop',)], [('clear', 2, 3, 3), ('clear', 2, 1, 1), ('drop',), ('put', 'name', 'tn')]):
         edit_case(rows, 'dedup-id', numbers, *edits)
-    # what is no edit
     s = held(rows, 'flat', [])
     for call in ('edit', 'edit 1', 'edit 1 set 0 0 0 n', 'edit 1 set 0 0 1 x', 'edit 1 put name i5', 'edit 1 put name x00', 'edit 1 clear 32 0 0', 'edit 1 move 0 0 0'):
         rows.refused(call)
@@ -141,4 +143,5 @@ def random_edits(rows):
 
 def write(rows):
     each_layout(rows)
+    other_sets(rows)
     random_edits(rows)

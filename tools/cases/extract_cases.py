@@ -1,14 +1,14 @@
 # Lines of extractions, and the archive that crates/tile_extract_program reads, for tools/cases/archive_rows.py. The
 # wanted answers are those of tools/models/extraction.py.
-import hashlib
-import os
 import random
 
 from cases import archive_program
 from cases.archive_program import row
-from cases.rows import Rows, word
-from cases.sample_archives import CYCLE, OF_ZOOM_ONE, ONE, TREES, root_of, some_leaves, tree
+from cases.random_archives import random_archive
+from cases.rows import Rows, size_and_digest, word
+from cases.sample_archives import CYCLE, HOSTILE, OF_ZOOM_ONE, ONE, TREES, root_of, some_leaves, tree
 from models import pmtiles as pm
+from models import readers
 from models.extraction import ALL, U32, Run, asked, clipped, label, spans
 
 # Rows.
@@ -31,7 +31,7 @@ def begin(data):
 
 def say_held(run):
     if run.held is not None:
-        row('extract digest', len(run.held), 'x' + hashlib.md5(run.held).hexdigest().upper().encode().hex())
+        row('extract digest', *size_and_digest(run.held))
 
 
 def run(words, medium_fails=0, source_fails=0):
@@ -44,25 +44,35 @@ def run(words, medium_fails=0, source_fails=0):
     return done
 
 
+def line(call, extraction, medium_fails=0, source_fails=0):
+    """A line of a call: its result, byte 97 of the medium, and how often the source was read."""
+    done = Run(Held.data, Held.begun, source_fails, medium_fails)
+    said = done.result(lambda: extraction(done))
+    row(call, said, label(done.held), done.source.calls)
+    say_held(done)
+    return done
+
+
 def extract(words):
     """The same by the call that takes a tile and numbers."""
-    done = Run(Held.data, Held.begun, 0, 0)
-    said = done.result(lambda: done.extract(*asked(words.split())))
-    row(f'extract from 0 tile 0 {words}', said, label(done.held), done.source.calls)
-    say_held(done)
+    line(f'extract from 0 tile 0 {words}', lambda done: done.extract(*asked(words.split())))
 
 
 def part(run, at, length):
     row(f'extract part {at} {length}', 'x' + run.held[at:at + length].hex())
 
 
-def faults(words):
+def each_fails(call):
     """Each call of the medium failing, then each of the source, and the first ones that don't come."""
-    whole = run(words)
-    for call in range(1, whole.medium.calls + 2):
-        run(words, medium_fails=call)
-    for call in range(1, whole.source.calls + 2):
-        run(words, source_fails=call)
+    whole = call(0, 0)
+    for n in range(1, whole.medium.calls + 2):
+        call(n, 0)
+    for n in range(1, whole.source.calls + 2):
+        call(0, n)
+
+
+def faults(words):
+    each_fails(lambda medium, source: run(words, medium, source))
 
 
 def known_archives():
@@ -107,13 +117,10 @@ WORDS = ('0 0 0 0 10', '0 0 0 1 3', '1 0 0 1 10', '2 3 0 5 100', '0 0 0 31 50', 
 
 
 def hostile():
-    for spelled, fields in [('0100010101', {'root_offset': 126}), ('0100010101', {'root_length': ALL}), ('0200010101', {}), ('0100010100', {}), ('02ffffffffffffffffff0101010101010100', {}),
-                            ('0100010201', {}), ('0100010102', {'data_offset': ALL}), ('020000010101010101', {}), ('01d5aad5aad5aad5aa55010101', {}),
-                            ('80808080808080808010', {}), ('00', {}), ('0100000101', {'leaf_offset': ALL}), ('0100000102', {'leaf_offset': ALL}), ('0100010101', {'data_offset': ALL}),
-                            ('0100000101', {}), ('0100ffffffff0f0101', {}), ('01d4aad5aad5aad5aa55010101', {}), ('01d4aad5aad5aad5aa55020101', {}), ('01d5aad5aad5aad5aa55000101', {}),
-                            ('01ffffffffffffffffff01000101', {}), ('01ffffffffffffffffff01010101', {}), ('01ffffffffffffffffff01010001', {}), ('01d5aad5aad5aad5aa55010001', {}), ('0100010001', {}),
-                            ('0100010101', {'metadata_offset': ALL}), ('0100010101', {'metadata_length': ALL}), ('0100010101', {'metadata_length': 4}), ('020000010101010101', {'metadata_length': 4}),
-                            ('0100010101', {'metadata_length': 0}), ('0100010101', {'internal': 2}), ('0100010101', {'internal': 0}), ('0100010101', {'tile': 2, 'type': 1})]:
+    for spelled, fields in HOSTILE + [('01d4aad5aad5aad5aa55010101', {}), ('01d4aad5aad5aad5aa55020101', {}), ('01d5aad5aad5aad5aa55000101', {}), ('01ffffffffffffffffff01000101', {}),
+                                      ('01ffffffffffffffffff01010101', {}), ('01ffffffffffffffffff01010001', {}), ('01d5aad5aad5aad5aa55010001', {}), ('0100010001', {}),
+                                      ('0100010101', {'metadata_offset': ALL}), ('0100010101', {'metadata_length': ALL}), ('0100010101', {'metadata_length': 4}), ('020000010101010101', {'metadata_length': 4}),
+                                      ('0100010101', {'metadata_length': 0}), ('0100010101', {'internal': 2}), ('0100010101', {'internal': 0}), ('0100010101', {'tile': 2, 'type': 1})]:
         hold(root_of(bytes.fromhex(spelled), ONE, **fields))
         for words in WORDS:
             run(words)
@@ -165,7 +172,7 @@ def broken_trees():
     leaves, contents = some_leaves()
     for most in ((), (3,), (1, 1, 1, 1, 1)):
         whole = tree(leaves, contents, most=most)
-        h, root = pm.opened(whole)
+        h, root = readers.opened(whole)
         for at in (0, 4, 9):
             place = h['leaf_offset'] + sum(len(pm.directory(leaf)) for leaf in leaves[:at])
             for piece in (b'\xff' * 10, b'\0', pm.directory(leaves[at][:1]), b'\7\0', b'\7' + pm.varint(leaves[at][0][0]) + b'\0'):
@@ -201,7 +208,7 @@ def wide_tree():
     data = tree(pm.cut(pm.entries_of(adds, {d: (i * 4, len(d)) for i, d in enumerate(sorted({d for _, d in adds}))}), 16),
                 b''.join(d.ljust(4) for d in sorted({d for _, d in adds})), most=(16,))
     for t, d in random.Random(3).sample(adds, 50):
-        assert pm.archive_tile(data, t) == d
+        assert readers.archive_tile(data, t) == d
     return data
 
 
@@ -233,49 +240,6 @@ def failing():
     faults('0 0 0 1 10')
 
 
-def some_directory(chance, leaf_room, data_room):
-    entries, at = [], chance.choice([0, 0, 1, 5])
-    for _ in range(chance.randrange(1, 5)):
-        run = chance.choice([0, 0, 1, 1, 2, 5])
-        room = leaf_room if run == 0 else data_room
-        offset = chance.randrange(room + 1)
-        length = chance.choice([0, 1, 2, 5, 9, 13, GREAT]) if chance.random() < 0.2 else chance.randrange(max(1, room - offset + 1))
-        entries.append((at, offset, length, run))
-        at += max(run, chance.choice([0, 1, 1, 2, 4]))
-    return entries
-
-
-def random_archive(chance):
-    """An archive whose leaves lie over one another, with places past the end, or with a byte changed."""
-    kinds = [some_directory(chance, 40, 12) for _ in range(3)]
-    leaves = b''.join(map(pm.directory, kinds))
-    places = [(sum(len(pm.directory(d)) for d in kinds[:i]), len(pm.directory(kinds[i]))) for i in range(3)]
-    root, t = [], 0
-    for _ in range(chance.randrange(1, 6)):
-        if chance.random() < 0.5:
-            i = chance.randrange(3)
-            t = max(t, kinds[i][0][0] - chance.randrange(2))
-            root.append((t, *places[i], 0))
-            t += chance.choice([3, 6, 9, 12])
-        else:
-            root.append((t, chance.randrange(12), chance.randrange(1, 9), chance.randrange(1, 4)))
-            t += chance.randrange(1, 5)
-    spelled = pm.directory(root)
-    data = bytes(chance.randrange(48, 52) for _ in range(12))
-    h = pm.default_header()
-    h.update(root_length=len(spelled), metadata_length=2, data_offset=16386, data_length=12, leaf_offset=16398, leaf_length=len(leaves))
-    if chance.random() < 0.1:
-        h[chance.choice(pm.PLACES)] = chance.choice([0, 127, 16384, 16390, 2 ** 60, ALL])
-    front = pm.header(h) + spelled
-    whole = front + bytes(pm.FRONT - len(front)) + b'{}' + data + leaves
-    if chance.random() < 0.3:
-        at = chance.choice([chance.randrange(127), chance.randrange(127, 127 + len(spelled)), chance.randrange(16398, len(whole))])
-        whole = whole[:at] + bytes([chance.randrange(256)]) + whole[at + 1:]
-    if chance.random() < 0.1:
-        whole = whole[:chance.randrange(16380, len(whole))]
-    return whole
-
-
 def random_archives():
     chance = random.Random(12)
     for _ in range(150):
@@ -290,8 +254,7 @@ def stored_run():
     """The run of the program, over an archive in its folder data/."""
     program = Rows('tile_extract_program')
     program.write_data('two_tiles.pmtiles', OF_ZOOM_ONE)
-    with open(os.path.join(program.crate, 'args'), 'w') as file:
-        file.write('two_tiles.pmtiles\npart.pmtiles\n1\n0\n0\n1\n10\n')
+    program.write_text('args', 'two_tiles.pmtiles\npart.pmtiles\n1\n0\n0\n1\n10\n')
 
 
 def write():

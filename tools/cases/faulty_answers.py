@@ -1,12 +1,14 @@
 # What a reader, a view, an import, a check, an extraction and a server answer of the bytes of an archive, for
 # tools/cases/faulty_cases.py: by the definitions of the format, and by the models of the scripts beside it.
-import hashlib
-
-from cases.import_cases import Quiet, rows_text, tile_text
+from cases.import_cases import Quiet, rows_text
+from cases.rows import answered, tile_word
 from models import extraction
 from models import pmtiles as pm
+from models import readers
 from models import servers
 from models import shown
+from models import verifiers
+from models.hashes import md5
 from models.imported import coord, imported
 
 
@@ -25,25 +27,14 @@ class Asked:
         yield 'ask serve' + ''.join(f' t{n}' for n in self.limits)
 
 
-def md5(data):
-    return hashlib.md5(data).hexdigest().upper()
-
-
-def metadata(data):
-    try:
-        return shown.quoted(pm.metadata(data))
-    except pm.ArchiveRefused as refusal:
-        return str(refusal)
-
-
 def by_view(data, asked):
     """The metadata and the tiles."""
-    return ' '.join([metadata(data), *(tile_text(lambda: pm.archive_tile(data, t)) for t in asked.ids)])
+    return ' '.join([answered(lambda: readers.metadata(data), shown.quoted), *(answered(lambda: readers.archive_tile(data, t), tile_word) for t in asked.ids)])
 
 
 def entries(data, asked):
     """The entries along the levels, and why there are no more."""
-    return ''.join((e if isinstance(e, str) else '.'.join(map(str, e))) + ' ' for e in pm.walk(data, asked.leaves))
+    return ''.join((e if isinstance(e, str) else '.'.join(map(str, e))) + ' ' for e in readers.walk(data, asked.leaves))
 
 
 def by_import(data, asked):
@@ -56,7 +47,7 @@ def by_import(data, asked):
 
 def by_check(data):
     """The status and the line."""
-    found, _ = pm.check(data)
+    found, _ = verifiers.check(data)
     status, word = (0, 'sound') if isinstance(found[3], int) else (1, 'broken')
     return f"{status} {shown.quoted(' '.join(map(str, (word, *found))) + chr(10))}"
 
@@ -81,7 +72,7 @@ def by_server(data, asked):
 def answers(data, asked):
     """The six of them."""
     try:
-        pm.opened(data)
+        readers.opened(data)
     except pm.ArchiveRefused as refusal:
         line = shown.quoted('opening ' + str(refusal).split('(')[0] + '\n')
         return [str(refusal), str(refusal), f'Err(Archive({refusal}))', f'1 {line}', f'1 Refused(Archive({refusal})) None', f'1 Refused(Opening({refusal})) ""']

@@ -27,13 +27,6 @@ class Leaf:
         self.first, self.entries, self.place = first, entries, place
 
 
-def numbers_of(entries):
-    """The numbers of a directory: how many entries, and the four columns. Entries are (id, offset, length, run)."""
-    ids = [0] + [e[0] for e in entries]
-    ends = [None] + [e[1] + e[2] for e in entries]
-    return [len(entries), *(one - last for last, one in zip(ids, ids[1:])), *(e[3] for e in entries), *(e[2] for e in entries), *(0 if e[1] == end else e[1] + 1 for e, end in zip(entries, ends))]
-
-
 def spelled(numbers):
     """Numbers as varints, where they aren't bytes already."""
     return b''.join(n if isinstance(n, bytes) else pm.varint(n) for n in numbers)
@@ -65,7 +58,7 @@ class Base:
         return e.first, (e.number - 1) * ROOM, len(self.spelled(e.number)), 0
 
     def numbers(self, k):
-        return numbers_of([self.row(e) for e in self.directories[k]])
+        return pm.numbers([self.row(e) for e in self.directories[k]])
 
     def spelled(self, k):
         numbers = self.numbers(k)

@@ -6,10 +6,11 @@ databases of tools/cases/reading_cases.py hold.
 import random
 
 from cases import reading_cases
-from cases.reading_cases import FLAT, STATEMENTS, File, Left, Odd, cells, words_of
+from cases.reading_cases import FLAT, STATEMENTS, spelled
 from cases.rows import Rows
 from models.held_sets import say_rows
 from models.names import TABLES
+from models.read_databases import File, Left, Odd, cells, words_of
 
 
 def pages_of(statements):
@@ -45,7 +46,7 @@ def pages_of(statements):
 def paged(rows, *statements):
     answer = pages_of(statements)
     if answer is not None:
-        rows.row("paged " + ";".join(statement.replace(" ", "~") for statement in statements), answer)
+        rows.row('paged ' + spelled(statements), answer)
 
 
 def paged_cases(rows):
@@ -61,7 +62,7 @@ def paged_cases(rows):
     other = FLAT.replace('tiles', 'other', 1)
     for answer, statements in [('NotASet', ['CREATE TABLE other (a)']), ('View', [other, view]),
                                ('Column', ['CREATE TABLE tiles (zoom_level, tile_column, tile_row)'])]:
-        rows.row('paged ' + ';'.join(statement.replace(' ', '~') for statement in statements), answer)
+        rows.row('paged ' + spelled(statements), answer)
 
 
 def main():

@@ -62,11 +62,7 @@ class Plan:
 
 def spelled(entries):
     """A directory whose ids may fall: they pass u64 then."""
-    ids = [0] + [e[0] for e in entries]
-    ends = [None] + [e[1] + e[2] for e in entries]
-    numbers = [len(entries), *((one - last) % 2 ** 64 for last, one in zip(ids, ids[1:])), *(e[3] for e in entries), *(e[2] for e in entries),
-               *(0 if e[1] == end else e[1] + 1 for e, end in zip(entries, ends))]
-    return b''.join(map(pm.varint, numbers))
+    return b''.join(pm.varint(n % 2 ** 64) for n in pm.numbers(entries))
 
 
 def laid(entries, leaf_part):

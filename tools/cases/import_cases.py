@@ -1,21 +1,21 @@
 # Rows that import archives into sets, for tools/cases/import_rows.py. The tables are printed after each of them.
-import hashlib
 import random
 
+from cases import insert_cases
 from cases import sample_archives
 from cases.insert_cases import SAME_FNV, SAME_MD5, WRITTEN
 from cases.patch_cases import named, some_set
-from cases.rows import word
+from cases.refused_sets import GONE, OUTSIDE, odd_name
+from cases.rows import answered, size_and_digest, tile_word, word
+from cases.sample_archives import CYCLE, HOSTILE, OF_ZOOM_ONE, ONE, root_of
 from models import pmtiles as pm
+from models import readers
 from models import shown
 from models.hashes import digest
 from models.held_sets import Held, blob
 from models.imported import DEEP, Reads, imported
 from models.names import TABLES
-from models.tables import bad_index
 
-ONE, OF_ZOOM_ONE, CYCLE = sample_archives.ONE, sample_archives.OF_ZOOM_ONE, sample_archives.CYCLE
-root_of = sample_archives.root_of
 ALL = 2 ** 64 - 1
 
 
@@ -67,22 +67,13 @@ def import_and_back(rows):
 
 
 def export(rows, data):
-    rows.row('export', len(data), 'x' + hashlib.md5(data).hexdigest().upper().encode().hex())
-
-
-def tile_text(call):
-    """The tile at id 0, as a reader and a view show it."""
-    try:
-        found = call()
-        return 'none' if found is None else 'x' + found.hex()
-    except pm.ArchiveRefused as refusal:
-        return str(refusal)
+    rows.row('export', *size_and_digest(data))
 
 
 def three_ways(rows, data, most=10):
     """Opening and the tile at id 0, by a reader and by a view, and an import into an empty flat set."""
     hold(rows, data)
-    text = tile_text(lambda: pm.archive_tile(data, 0))
+    text = answered(lambda: readers.archive_tile(data, 0), tile_word)
     rows.row('tiles 0', text, text)
     return text, run(rows, Set(rows, 'flat', []), data, most)
 
@@ -102,19 +93,11 @@ def one_changed_field(rows):
 
 def hostile(rows):
     """The cases that each have one fault, with what is opened, looked up and imported."""
-    for root, fields, wanted in (('0100010101', {'root_offset': 126}, ('InvalidHeader', 'Err(Archive(InvalidHeader))')),
-                                 ('0100010101', {'root_length': ALL}, ('InvalidHeader', 'Err(Archive(InvalidHeader))')),
-                                 ('0200010101', {}, ('InvalidEntry', 'Err(Archive(InvalidEntry))')),
-                                 ('0100010100', {}, ('InvalidEntry', 'Err(Archive(InvalidEntry))')),
-                                 ('02ffffffffffffffffff0101010101010100', {}, ('InvalidEntry', 'Err(Archive(InvalidEntry))')),
-                                 ('0100010201', {}, ('Reading(PastEnd)', 'Err(Archive(Reading(PastEnd)))')),
-                                 ('0100010102', {'data_offset': ALL}, ('Reading(PastEnd)', 'Err(Archive(Reading(PastEnd)))')),
-                                 ('020000010101010101', {}, ('x30', 'Err(Archive(InvalidEntry))')),
-                                 ('01d5aad5aad5aad5aa55010101', {}, ('none', 'Err(InvalidTileId(6148914691236517205))'))):
-        data = root_of(bytes.fromhex(root), ONE)
-        h = pm.read_header(data)
-        h.update(fields)
-        assert three_ways(rows, pm.header(h) + data[127:]) == wanted, root
+    refusals = ['InvalidHeader'] * 2 + ['InvalidEntry'] * 3 + ['Reading(PastEnd)'] * 2
+    answers = [(refusal, f'Err(Archive({refusal}))') for refusal in refusals]
+    answers += [('x30', 'Err(Archive(InvalidEntry))'), ('none', 'Err(InvalidTileId(6148914691236517205))')]
+    for (root, fields), wanted in zip(HOSTILE, answers):
+        assert three_ways(rows, root_of(bytes.fromhex(root), **fields)) == wanted, root
     assert three_ways(rows, CYCLE) == ('none', 'Err(Archive(InvalidEntry))')
 
 
@@ -144,7 +127,7 @@ def trees(rows):
                 rows.row('import medium 1000 0', imported(held, data, 1000), counted(data))
     leaves, contents = sample_archives.some_leaves()
     whole = sample_archives.tree(leaves, contents, most=(3,))
-    h, root = pm.opened(whole)
+    h, root = readers.opened(whole)
     for at in (0, 4, 9, 11):
         place = h['leaf_offset'] + sum(len(pm.directory(leaf)) for leaf in leaves[:at])
         for piece in (b'\xff' * 10, b'\0', pm.directory(leaves[at][:1]), b'\7\0', b'\7' + pm.varint(leaves[at][0][0]) + b'\0'):
@@ -168,15 +151,8 @@ class Quiet(Held):
 def sets_before(rows):
     """Sets that have rows: those of other places stay, and so does the metadata; a tile over bytes, over null, over
     times and over a row without an id."""
-    one, two = digest('md5', b'\x01'), digest('md5', b'\x02')
-    sets = {
-        'flat': [('tiles', 'i1', 'i0', 'i0', 'x01'), ('tiles', 'i1', 'i1', 'i0', 'n'), ('tiles', 'i0', 'i0', 'i0', 'x07')],
-        'flat-with-hash': [('tiles_with_hash', 'i1', 'i0', 'i0', 'x01', 't' + one.lower()), ('tiles_with_hash', 'i1', 'i1', 'i0', 'n', 'tany'), ('tiles_with_hash', 'i1', 'i1', 'i1', 'x02', 'n')],
-        'cache': [('tile_cache', 'i1', 'i0', 'i0', 'i5', 'i6', 'tv', 'x01'), ('tile_cache', 'i1', 'i1', 'i0', 'i7', 'n', 'n', 'n')],
-    }
-    for layout in ('normalized', 'normalized-with-view'):
-        sets[layout] = [('images', 't' + one.lower(), 'x01'), ('images', 't' + two, 'x02'), ('images', 'n', 'x09'), ('images', 'tnull', 'n'), ('map', 'i1', 'i0', 'i0', 't' + one.lower()),
-                        ('map', 'i1', 'i1', 'i0', 'tnull'), ('map', 'i1', 'i0', 'i1', 'n'), ('map', 'i40', 'n', 'o', 'n')]
+    sets = insert_cases.sets_before()
+    sets['flat'].append(('tiles', 'i0', 'i0', 'i0', 'x07'))
     archives = [pm.archive(adds)[0] for adds in ([], [(0, b'0')], [(t, b'%d' % t) for t in range(5)], [(1, b'\x02'), (2, b'\x02'), (3, b'\x01')], [(t, b'same') for t in range(1, 21)], [(DEEP - 1, b'end'), (DEEP - 2, b'end')])]
     for data in archives:
         hold(rows, data)
@@ -234,12 +210,8 @@ def refused_sets(rows):
     numbers = [('tiles_data', 'i7', 'x01'), ('tiles_shallow', 'i1', 'i0', 'i0', 'i7')]
     for data in (OF_ZOOM_ONE, CYCLE, ONE[:126]):
         hold(rows, data)
-        for layout, pushes, refusal in (
-                ('flat', [('tiles', 'i31', 'i0', 'i0', 'x30')], bad_index('i31', 'i0', 'i0')),
-                ('dedup-id', [('metadata', 'tname', 'i1')], 'InvalidDataFormat'),
-                ('dedup-id', numbers, 'UnsupportedCopyOperation'),
-                ('dedup-id-with-view', numbers, 'UnsupportedCopyOperation'),
-                ('normalized', [('map', 'i0', 'i0', 'i0', 'tgone')], f'MissingTileReference {{ tile_id: {shown.text("gone")}, table: Images }}')):
+        numbered = [(layout, numbers, 'UnsupportedCopyOperation') for layout in ('dedup-id', 'dedup-id-with-view')]
+        for layout, pushes, refusal in (OUTSIDE, odd_name('dedup-id'), *numbered, GONE):
             held = Set(rows, 'dedup-id' if layout == 'dedup-id-with-view' else layout, pushes, 'new')
             rows.row('import bytes 0', f'Err(Store({refusal}))')
             rows.row('import medium 0 1', f'Err(Store({refusal}))', 0)

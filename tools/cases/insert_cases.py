@@ -3,12 +3,11 @@ import random
 
 from cases.patch_cases import named, some_set
 from cases.read_cases import tile_answers
-from models import shown
+from cases.refused_sets import GONE, OUTSIDE, odd_name
 from models.hashes import digest
 from models.held_sets import Held
 from models.inserted import insert
 from models.names import TILE_TABLES
-from models.tables import bad_index
 
 MODES = ('override', 'ignore', 'abort')
 WRITTEN = [layout for layout in TILE_TABLES if layout != 'dedup-id']
@@ -54,7 +53,8 @@ def first_tile(rows):
         put(rows, held, 'abort', [])
 
 
-def each_layout(rows):
+def sets_before():
+    """A set of each layout: tiles with bytes and with null, contents that no tile has, and places without an id."""
     one, two = digest('md5', b'\x01'), digest('md5', b'\x02')
     sets = {
         'flat': [('tiles', 'i1', 'i0', 'i0', 'x01'), ('tiles', 'i1', 'i1', 'i0', 'n')],
@@ -64,7 +64,11 @@ def each_layout(rows):
     for layout in ('normalized', 'normalized-with-view'):
         sets[layout] = [('images', 't' + one.lower(), 'x01'), ('images', 't' + two, 'x02'), ('images', 'n', 'x09'), ('images', 'tnull', 'n'), ('map', 'i1', 'i0', 'i0', 't' + one.lower()),
                         ('map', 'i1', 'i1', 'i0', 'tnull'), ('map', 'i1', 'i0', 'i1', 'n'), ('map', 'i40', 'n', 'o', 'n')]
-    for layout, pushes in sets.items():
+    return sets
+
+
+def each_layout(rows):
+    for layout, pushes in sets_before().items():
         pushes = pushes + [*named(('name', 'town'), ('agg_tiles_hash', 'stays')), ('metadata', 'n', 'tnobody')]
         # new places, the lowest and the highest, and no bytes
         case(rows, layout, pushes, [(2, 3, 0, b'new'), (0, 0, 0, b''), (30, 2 ** 30 - 1, 0, b'end'), (30, 0, 2 ** 30 - 1, b'end')])
@@ -126,10 +130,7 @@ def collisions(rows):
 
 def refusals(rows):
     """The first refusal of loading comes before all others."""
-    for layout, pushes, refusal in (
-            ('flat', [('tiles', 'i31', 'i0', 'i0', 'x30')], bad_index('i31', 'i0', 'i0')),
-            ('dedup-id', [('metadata', 'tname', 'i1')], 'InvalidDataFormat'),
-            ('normalized', [('map', 'i0', 'i0', 'i0', 'tgone')], f'MissingTileReference {{ tile_id: {shown.text("gone")}, table: Images }}')):
+    for layout, pushes, refusal in (OUTSIDE, odd_name('dedup-id'), GONE):
         for mode in MODES:
             held = Held(rows, layout, pushes)
             rows.row(line(mode, [(99, 0, 0, b'')]), f'Err({refusal})')

@@ -7,7 +7,6 @@ from models.hashes import digest
 from models.held_sets import Held, say_cell, tile_row
 from models.names import ALGORITHMS, CONTENT_TABLES, LAYOUTS, TILE_TABLES
 from models.patches import remove
-from models.shown import option
 from models.tables import show
 
 
@@ -52,7 +51,7 @@ def fields(held, z, x, y):
     """The times of a cache's row, where there is one."""
     key = [f'i{z}', f'i{x}', f'i{2 ** z - 1 - y}']
     row = next((r for r in held.tables.get('tile_cache', []) if list(r[:3]) == key), None)
-    return option(None if row is None else f'({", ".join(map(show, row[3:6]))})')
+    return shown.option(None if row is None else f'({", ".join(map(show, row[3:6]))})')
 
 
 def shown_set(held, algorithm):

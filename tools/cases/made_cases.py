@@ -1,24 +1,22 @@
 # Rows on sets that are made of archives with what these say of themselves, for tools/cases/import_rows.py. What the
 # metadata of a set is to have is worked out by Python's json and decimal. Where an archive is the one of its set and
 # of what the set says, the archive that is made of the set again has to be the same.
-import hashlib
 import json
 import random
-from decimal import Decimal
 
 from cases import sample_archives
+from cases.archive_names import WORLD, said
 from cases.import_cases import Set, counted, export, hold
 from cases.option_cases import bounds, center, center_of, in_order
 from cases.patch_cases import named
+from cases.rows import size_and_digest
 from models import pmtiles as pm
 from models import shown
+from models.hashes import md5
 from models.held_sets import spelled
-from models.imported import Ends, imported, of_archive
-from models.names import CONTENT_TABLES, LEFT_OUT, TILE_TABLES, TYPES, TYPE_WORDS
+from models.imported import Ends, imported
 
-WORDS = {kind: words[0] for kind, words in TYPE_WORDS.items()}
 GZIP = b'\x1f\x8b\x08'
-WORLD = [-1800000000, -850511290, 1800000000, 850511290]
 NUMBERS = (0, 1, -1, 5, -5, 10, -10, 100, 1234567, -1234567, 1000000, 9999999, 10000000, -10000000, 10000001, 85000000, -850511287, 850511290, 899999999, 900000000, -900000000, 1799999999, 1800000000, -1800000000,
            1800000001, -1800000001, 2147483647, -2147483648)
 TEXTS = ['{}', ' { } ', '{"name":"town"}', '{"name":""}', '{"name":"a","name":"b"}', '{"name":null}', '{"name":1}', '{"name":{"en":"town"}}', '{"version":"1","type":"overlay","legend":"l","template":"t","description":"d","attribution":"\\u00a9 x"}',
@@ -26,49 +24,6 @@ TEXTS = ['{}', ' { } ', '{"name":"town"}', '{"name":""}', '{"name":"a","name":"b
          '{"b":{"d":1,"c":2},"a":"\\u00e9\\n"}', '{"a":[],"b":{},"c":true,"d":false,"e":-7,"f":18446744073709551615}', '{"":"empty","é":"é","with \\"quotes\\"":"\\u0001\\u007f"}',
          '{"bounds":[1,2,3,4],"center":[1,2,3],"minzoom":0,"maxzoom":"5","format":"gif","json":"{}","scheme":"xyz"}', '{"hash_algorithm":"sha1","agg_tiles_hash":"0","agg_tiles_hash_before_apply":"1","agg_tiles_hash_after_apply":"2"}',
          '{"json":{"a":1}}', '{"Format":"x","formats":"y"}', '', ' ', '[]', '[{"name":"a"}]', 'null', '"name"', '1', 'x', '{', '{"a":1,}', "{'a':1}", '{"a":1} x', '{"a":NaN}', *('{"a":' * n + '1' + '}' * n for n in (126, 127, 128))]
-
-
-def degrees(number):
-    """The shortest decimal of ten millionths."""
-    text = format(Decimal(number).scaleb(-7), 'f')
-    return text.rstrip('0').rstrip('.') if '.' in text else text
-
-
-def members(text):
-    """The members of an object of JSON, or the refusal of any other text."""
-    of = shown.members(text)
-    if of is None:
-        raise Ends('Archive(InvalidMetadata)')
-    return of
-
-
-def is_unsaid(h):
-    """Whether a set says no center: its own is the middle of bounds that it can say, at its least zoom; those of the
-    world are at zoom 0 too."""
-    sides = [h[side] for side in pm.DEGREES]
-    west, south, east, north = sides
-    sayable = abs(west) <= 180 * 10 ** 7 and abs(east) <= 180 * 10 ** 7 and -90 * 10 ** 7 <= south <= north <= 90 * 10 ** 7
-    middle = center_of(sides, None, h['min_zoom'])
-    return sayable and middle[:2] == (h['center_lon'], h['center_lat']) and (h['center_zoom'] == h['min_zoom'] or h['center_zoom'] == 0 and sides == WORLD)
-
-
-def said(data):
-    """What an archive says of itself, by the names of a set."""
-    h, _ = of_archive(lambda: pm.opened(data))
-    of = members(of_archive(lambda: pm.metadata(data)))
-    names = {n: v for n, v in of.items() if isinstance(v, str) and n not in LEFT_OUT}
-    kept = {n: v for n, v in of.items() if n not in names}
-    if kept:
-        names['json'] = in_order(kept)
-    if h['type'] != 0:
-        names['format'] = WORDS[TYPES[h['type']]]
-    sides = [h[side] for side in pm.DEGREES]
-    if sides != WORLD:
-        names['bounds'] = ','.join(map(degrees, sides))
-    if not is_unsaid(h):
-        names['center'] = f"{degrees(h['center_lon'])},{degrees(h['center_lat'])},{h['center_zoom']}"
-    names['minzoom'], names['maxzoom'] = str(h['min_zoom']), str(h['max_zoom'])
-    return names
 
 
 def status(answer):
@@ -87,12 +42,9 @@ class Bare(Set):
     """The kept store that has the tables of a layout and no view."""
 
     def __init__(self, rows, layout, pushes):
-        self.rows, self.layout, self.asked = rows, layout, len(pushes) + 1
-        names = ['metadata', TILE_TABLES[layout], *([CONTENT_TABLES[layout]] if layout in CONTENT_TABLES else [])]
-        self.tables = {name: [] for name in names}
-        for name, *cells in pushes:
-            self.add(name, cells)
-        rows.row(f"set tables {len(names)} {' '.join(names)} {spelled(pushes)}")
+        super().__init__(rows, layout, pushes, None)
+        self.asked += 1
+        rows.row(f"set tables {len(self.tables)} {' '.join(self.tables)} {spelled(pushes)}")
 
 
 def say_names(rows, *names):
@@ -129,7 +81,7 @@ def back(rows, data):
     h.update(zip(pm.DEGREES, extent or WORLD))
     h['center_lon'], h['center_lat'], h['center_zoom'] = center_of(extent, at, h['min_zoom'])
     data = pm.header(h) + data[127:]
-    rows.row('made back', len(data), 'x' + hashlib.md5(data).hexdigest().upper().encode().hex())
+    rows.row('made back', *size_and_digest(data))
 
 
 def archive(adds, text='{}', **options):
@@ -209,7 +161,7 @@ def refused(rows):
             assert run(rows, held, archive([(1, b'a'), (2, b'b')], text), 1) == f'Err(Archive({refusal}))'
     held = Set(rows, 'dedup-id', named(('name', 'old')))
     assert run(rows, held, archive([(1, b'a'), (2, b'b')]), 1) == 'Err(Store(UnsupportedCopyOperation))'
-    collided = named(('name', 'old')) + [('images', 't' + hashlib.md5(b'a').hexdigest().upper(), 'n')]
+    collided = named(('name', 'old')) + [('images', 't' + md5(b'a'), 'n')]
     assert run(rows, Set(rows, 'normalized', collided), archive([(1, b'a')], '{"name":"new"}')).startswith('Err(Store(IdCollision')
 
 
@@ -230,7 +182,7 @@ def without_views(rows):
     data = archive([(0, b'a'), (3, b'b')], '{"name":"new","type":"overlay"}', type=2)
     old = named(('name', 'old'), ('legend', 'old'))
     cached = [('tile_cache', 'i1', 'i0', 'i0', 'i5', 'i9', 'ttag', 'x63'), ('tile_cache', 'i2', 'i0', 'i0', 'n', 'n', 'n', 'x64')]
-    id_of = 't' + hashlib.md5(b'c').hexdigest().upper()
+    id_of = 't' + md5(b'c')
     for layout, pushes in (('cache', cached), ('normalized', [('map', 'i1', 'i0', 'i0', id_of), ('images', id_of, 'x63')]), ('flat-with-hash', []), ('flat', [])):
         held = Bare(rows, layout, old + pushes)
         assert run(rows, held, data) == 'Ok(2)'

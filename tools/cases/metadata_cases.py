@@ -4,14 +4,13 @@ import json
 import random
 
 from cases.patch_cases import named
+from cases.refused_sets import GONE, WRONG_HASH, odd_algorithm, odd_name
 from cases.rows import text_word
 from models import shown
 from models.described_sets import parsed, put_by, said, updated, zoom_of
-from models.hashes import digest
 from models.held_sets import Held
 from models.names import TILE_TABLES
 from models.patches import remove
-from models.shown import option
 from models.tables import bad_index
 
 NAMES = ('name', 'version', 'description', 'attribution', 'legend', 'template', 'type', 'agg_tiles_hash', 'bounds', 'center', 'scheme', 'format', 'generator', 'compression', 'agg_tiles_hash_before_apply',
@@ -35,14 +34,14 @@ def get(rows, held, file_name='set'):
 
 def value_answer(held, name):
     text = held.state().names.get(name)
-    return f'Ok({option(None if text is None else shown.text(text))})'
+    return f'Ok({shown.option(None if text is None else shown.text(text))})'
 
 
 def zoom_answer(held, name):
     text = held.state().names.get(name)
     if text is not None and zoom_of(text) is None:
         return f'Err(InvalidZoomValue("{name}", {shown.text(text)}))'
-    return f'Ok({option(None if text is None else zoom_of(text))})'
+    return f'Ok({shown.option(None if text is None else zoom_of(text))})'
 
 
 def ask(rows, held, *names):
@@ -142,13 +141,8 @@ def refused(rows, refusal):
 
 def refusals(rows):
     """The first refusal of loading comes from each call, and nothing is changed."""
-    computed = digest('md5', b'\x01')
-    for layout, pushes, refusal in (
-            ('flat', [*tiles_at(31), *named(('minzoom', '1'))], bad_index('i31', 'i0', 'i0')),
-            ('flat', [('metadata', 'tname', 'i1')], 'InvalidDataFormat'),
-            ('flat', named(('hash_algorithm', '')), f'UnsupportedHashAlgorithm {{ algorithm: {shown.text("")} }}'),
-            ('flat-with-hash', [('tiles_with_hash', 'i0', 'i0', 'i0', 'x01', 'tabc')], f'IncorrectTileHash {{ stored: {shown.text("ABC")}, computed: {shown.text(computed)} }}'),
-            ('normalized', [('map', 'i0', 'i0', 'i0', 'tgone')], f'MissingTileReference {{ tile_id: {shown.text("gone")}, table: Images }}')):
+    outside = 'flat', [*tiles_at(31), *named(('minzoom', '1'))], bad_index('i31', 'i0', 'i0')
+    for layout, pushes, refusal in (outside, odd_name('flat'), odd_algorithm(''), WRONG_HASH, GONE):
         held = Held(rows, layout, pushes)
         refused(rows, refusal)
         held.say()

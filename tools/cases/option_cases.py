@@ -10,7 +10,6 @@ from cases.rows import text_word
 from models import shown
 from models.held_sets import Held, data_of, tile_row
 from models.names import LEFT_OUT, MEDIA_TYPES, TILE_TABLES, TYPE_WORDS
-from models.shown import option
 
 TYPES = {word: kind for kind, words in TYPE_WORDS.items() for word in (*words, *MEDIA_TYPES[kind])}
 BLANKS = ' \t\n\x0c\r'
@@ -86,11 +85,11 @@ def said(names, filled):
 
 
 def shown_bounds(of):
-    return option(of and 'SetBounds {{ west: {}, south: {}, east: {}, north: {} }}'.format(*of))
+    return shown.option(of and 'SetBounds {{ west: {}, south: {}, east: {}, north: {} }}'.format(*of))
 
 
 def shown_center(of):
-    return option(of and f'SetCenter {{ longitude: {of[0]}, latitude: {of[1]}, zoom: {option(of[2])} }}')
+    return shown.option(of and f'SetCenter {{ longitude: {of[0]}, latitude: {of[1]}, zoom: {shown.option(of[2])} }}')
 
 
 def options(held):

@@ -2,39 +2,24 @@
 # by a line each; the tables of the destination are printed after a copy.
 import random
 
-from cases.copy_cases import COPIES, LAYOUTS, MODES, TYPES, Cases, other_of, zooms_of
+from cases.copy_lines import COPIES, LAYOUTS, MODES, TYPES, Cases, at_times, other_of, some_boxes, some_zooms, zooms_of
 from cases.insert_cases import SAME_FNV, SAME_MD5
 from cases.patch_cases import named, some_set
+from cases.refused_sets import OUTSIDE, odd_name
 from models import shown
 from models.aggregates import aggregate
 from models.copied import SIDE, Copier, Set, copy_patched, made, patched
-from models.names import AFTER, AGG, BEFORE
-from models.tables import bad_index
+from models.names import AFTER, AGG, ALGORITHMS, BEFORE
 
 WANTED = ['flat', 'flat-with-hash', 'normalized', 'normalized-with-view']
 
 
 class PatchCases(Cases):
     """The three kept stores."""
-
-    def run(self, copier, source, patch, target):
-        """A copy with a patch between stores that stand, and the rows of the destination."""
-        answer = copy_patched(copier, source, patch, target)
-        self.rows.row(' '.join(['patched', *copier.words()]), answer)
-        self.say('dst', target)
-        return answer
+    places, word, copy = ('src', 'patch', 'dst'), 'patched', staticmethod(copy_patched)
 
     def case(self, copier, source, patch, target=None, stands=()):
-        """The same of stores that are made, but for those that stand."""
-        target = target or Set(None)
-        for place, of in (('src', source), ('patch', patch), ('dst', target)):
-            if place not in stands:
-                self.make(place, of)
-        was_none = target.layout is None
-        answer = self.run(copier, source, patch, target)
-        if was_none and target.layout is not None:
-            self.say_tables('dst', target)
-        return answer
+        return self.run_made(copier, source, patch, target or Set(None), stands=stands)
 
 
 def hash_after(copier, source, patch):
@@ -156,11 +141,11 @@ def collisions(cases):
 def order_of_refusals(cases):
     """Of two refusals the first of the list is answered."""
     tile = ('tiles', 'i0', 'i0', 'i0', 'x30')
-    bad = Set('flat', [('tiles', 'i31', 'i0', 'i0', 'x30')], bad_index('i31', 'i0', 'i0'))
+    bad = Set(*OUTSIDE)
     nothing = aggregate('md5', {})
     patches = [bad, Set('flat', [tile]), Set('flat', [tile], differences=True), Set('flat', [*named((AGG, nothing))], differences=True), Set('flat', named((AGG, nothing), (AFTER, 'B'))),
                Set('flat', named((AGG, nothing), (BEFORE, 'A'), (AFTER, 'B'))), Set('cache', named((BEFORE, 'A'), (AFTER, nothing)))]
-    sources = [Set('normalized', [('metadata', 'tname', 'i1')], 'InvalidDataFormat'), Set('flat', [tile]), Set('flat', [tile, *named((AGG, '4A7D1ED414474E4033AC29CCB8653D9B'))]), Set('cache', named((AGG, nothing), (BEFORE, 'C'))),
+    sources = [Set(*odd_name('normalized')), Set('flat', [tile]), Set('flat', [tile, *named((AGG, '4A7D1ED414474E4033AC29CCB8653D9B'))]), Set('cache', named((AGG, nothing), (BEFORE, 'C'))),
                Set('dedup-id', named((AGG, nothing))), Set('flat', named((AGG, 'other')))]
     for source in sources:
         cases.make('src', source)
@@ -176,33 +161,22 @@ def faults(cases):
     """Each call of each of the three stores fails in turn. The destination stands as it was, or has its tables alone;
     then the copy is made."""
     copier = Copier(type='flat', force=True)
-    words = ' '.join(['patched', *copier.words()])
     for layout in ('flat', 'normalized', 'cache'):
         for other in ('flat', 'normalized', 'cache'):
             source, patch = Set(layout, zooms_of(layout)), Set(other, other_of(other))
             for place, of in (('src', source), ('patch', patch)):
                 for call in range(1, of.load_calls() + 1):
-                    target = Set(None)
-                    for name, one in (('src', source), ('patch', patch), ('dst', target)):
-                        cases.make(name, one)
-                    cases.rows.row(f'{place} fail {len(of.pushes) + call}')
-                    cases.rows.row(words, 'Err(StoreFault)')
-                    cases.say('dst', target)
-                    cases.rows.row(f'{place} fail')
-                    cases.run(copier, source, patch, target)
+                    stores = source, patch, Set(None)
+                    cases.fail(place, call, copier, *stores)
+                    cases.go_on(place, copier, *stores)
             # the destination is asked what it describes; its tables are made; then comes the commit
             for call in range(1, 4):
                 target = Set(None)
-                for name, one in (('src', source), ('patch', patch), ('dst', target)):
-                    cases.make(name, one)
-                cases.rows.row(f'dst fail {call}')
-                cases.rows.row(words, 'Err(StoreFault)')
+                cases.fail('dst', call, copier, source, patch, target)
                 if call == 3:
                     target = Set('flat')
                     cases.say_tables('dst', target)
-                cases.say('dst', target)
-                cases.rows.row('dst fail')
-                cases.run(copier, source, patch, target)
+                cases.go_on('dst', copier, source, patch, target)
             cases.say('src', source)
             cases.say('patch', patch)
 
@@ -214,14 +188,8 @@ def random_patches(cases):
         source = Set(layout, some_set(chance, layout, [*chance.sample([('name', 'town'), ('format', None), ('hash_algorithm', 'md5')], chance.randrange(3)), *([(AGG, 'A')] if chance.random() < 0.8 else [])]))
         fields = {'copy': chance.choice([None, None, *COPIES]), 'skip': chance.random() < 0.2, 'force': chance.random() < 0.5, 'mode': chance.choice([None, *MODES])}
         fields['type'] = chance.choice([None, *WANTED, *WANTED, *TYPES])
-        if chance.random() < 0.3:
-            fields['hash'] = chance.choice(['md5', 'fnv1a', 'fnv1a-decimal', 'xxh64', 'xxh3'])
-        if chance.random() < 0.2:
-            fields['zooms'] = chance.sample(range(4), chance.randrange(1, 3))
-        if chance.random() < 0.2:
-            fields['max'] = chance.randrange(4)
-        if chance.random() < 0.2:
-            fields['box'] = [tuple(chance.choice([0, SIDE // 4, SIDE // 2 - 1, SIDE // 2, SIDE - 1]) for _ in range(4)) for _ in range(chance.randrange(1, 3))]
+        at_times(chance, fields, hash=(0.3, lambda: chance.choice([*ALGORITHMS])), zooms=(0.2, lambda: some_zooms(chance)), max=(0.2, lambda: chance.randrange(4)),
+                 box=(0.2, lambda: some_boxes(chance, [0, SIDE // 4, SIDE // 2 - 1, SIDE // 2, SIDE - 1], 3)))
         copier = Copier(**fields)
         names = chance.sample([('name', 'city'), ('format', 'png'), ('center', None), (AGG, 'Z')], chance.randrange(4))
         tiles = some_set(chance, other, names)

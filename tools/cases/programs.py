@@ -10,10 +10,12 @@ import os
 import shutil
 import sqlite3
 
+from cases.archive_names import degrees
 from cases.made_cases import DESCRIBED
 from cases.rows import TOP, Rows
 from cases.tileset_rows import ONE_TILE, adds_of, archive, options_said, report_of, told
 from models import pmtiles
+from models import readers
 from models.mbtiles import script_of
 from models.names import COMPRESSIONS, TYPES as TILE_TYPES
 from models.scripts import parsed
@@ -57,15 +59,9 @@ def converted_files(script, path, patches):
     return told(state, dict(archive(options_said(state), adds_of(state.tiles))[1]))
 
 
-def degrees(number):
-    """Ten millionths of a degree as degrees, without zeros at the end."""
-    whole, rest = divmod(abs(number), 10 ** 7)
-    return ('-' if number < 0 else '') + (f'{whole}.{rest:07}'.rstrip('0').rstrip('.'))
-
-
 def shown(data):
     """What is printed of the header of an archive."""
-    h, _ = pmtiles.opened(data)
+    h, _ = readers.opened(data)
     bounds = ','.join(degrees(h[name]) for name in pmtiles.DEGREES)
     center = f"{degrees(h['center_lon'])},{degrees(h['center_lat'])},{h['center_zoom']}"
     yield f"version {h['version']}"

@@ -3,13 +3,12 @@
 import random
 
 from cases.patch_cases import named, some_set
+from cases.refused_sets import OUTSIDE, WRONG_HASH, WRONG_ID, odd_algorithm, odd_name
 from cases.rows import text_word
 from models import shown
 from models.hashes import digest
 from models.held_sets import Held, blob, data_of, is_coord, row_cells
 from models.names import LAYOUTS, TILE_TABLES
-from models.shown import option
-from models.tables import bad_index
 
 # numbers that are a coordinate, that are one of no set, and that are none
 FIXED = [(0, 0, 0), (1, 0, 1), (1, 1, 1), (1, 0, 0), (30, 1073741823, 0), (31, 0, 0), (32, 0, 0), (255, 4294967295, 4294967295), (1, 2, 0), (1, 0, 2), (0, 0, 1), (0, 1, 0)]
@@ -31,7 +30,7 @@ def tile_answers(held, z, x, y):
     data = data_of(tiles[place]) if there else None
     if data is None:
         return 'Ok(None)', 'Ok(None)', f'Ok({str(there).lower()})'
-    return f'Ok(Some({blob(data)}))', f'Ok(Some(({blob(data)}, {option(maybe_text(stored_hash(held, place)))})))', 'Ok(true)'
+    return f'Ok(Some({blob(data)}))', f'Ok(Some(({blob(data)}, {shown.option(maybe_text(stored_hash(held, place)))})))', 'Ok(true)'
 
 
 def maybe_text(text):
@@ -93,14 +92,8 @@ def refusals(rows):
         held()
         for call in ('tile 0 0 0', 'hash 0 0 0', 'has 0 0 0', 'tile 32 0 0', 'hash 32 0 0', 'has 32 0 0', 'zooms'):
             rows.row('read ' + call, *refusal)
-    computed = digest('md5', b'\x01')
-    for layout, pushes, refusal in (
-            ('flat', [('tiles', 'i31', 'i0', 'i0', 'x30')], bad_index('i31', 'i0', 'i0')),
-            ('flat', [('metadata', 'tname', 'i1')], 'InvalidDataFormat'),
-            ('flat', named(('hash_algorithm', 'crc32')), f'UnsupportedHashAlgorithm {{ algorithm: {shown.text("crc32")} }}'),
-            ('flat-with-hash', [('tiles_with_hash', 'i0', 'i0', 'i0', 'x01', 'tabc')], f'IncorrectTileHash {{ stored: {shown.text("ABC")}, computed: {shown.text(computed)} }}'),
-            ('normalized', [('images', 'tabc', 'x01')], f'IncorrectTileHash {{ stored: {shown.text("ABC")}, computed: {shown.text(computed)} }}'),
-            ('dedup-id', [('tiles_shallow', 'i0', 'i0', 'i0', 'i8')], f'MissingTileReference {{ tile_id: {shown.text("8")}, table: TilesData }}')):
+    number = 'dedup-id', [('tiles_shallow', 'i0', 'i0', 'i0', 'i8')], f'MissingTileReference {{ tile_id: {shown.text("8")}, table: TilesData }}'
+    for layout, pushes, refusal in (OUTSIDE, odd_name('flat'), odd_algorithm('crc32'), WRONG_HASH, WRONG_ID, number):
         case(lambda: Held(rows, layout, pushes), f'Err({refusal})')
     case(lambda: rows.row('set none'), 'Err(InvalidDataFormat)')
     for word in ('bare', 'plain'):

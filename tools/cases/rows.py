@@ -3,6 +3,10 @@ import functools
 import os
 import re
 
+from models import shown
+from models.hashes import md5
+from models.pmtiles import ArchiveRefused
+
 TOP = os.path.dirname(os.path.dirname(os.path.dirname(os.path.abspath(__file__))))
 
 
@@ -20,11 +24,13 @@ class Rows:
         self.rows.append((call, ''.join(f'{a} ' for a in answers) + 'refused'))
 
     def write(self):
-        with open(os.path.join(self.crate, 'stdin'), 'w') as file:
-            file.writelines(call + '\n' for call, _ in self.rows)
-        with open(os.path.join(self.crate, 'stdout'), 'w') as file:
-            file.writelines(f'{call} = {answer}\n' for call, answer in self.rows)
+        self.write_text('stdin', ''.join(call + '\n' for call, _ in self.rows))
+        self.write_text('stdout', ''.join(f'{call} = {answer}\n' for call, answer in self.rows))
         print(len(self.rows), 'rows')
+
+    def write_text(self, name, text):
+        with open(os.path.join(self.crate, name), 'w') as file:
+            file.write(text)
 
     def write_data(self, name, data):
         os.makedirs(os.path.join(self.crate, 'data'), exist_ok=True)
@@ -57,6 +63,47 @@ def entry(e):
     return f'DirEntry {{ tile_id: {e[0]}, offset: {e[1]}, length: {e[2]}, run_length: {e[3]} }}'
 
 
+def listed(entries):
+    return '[' + ', '.join(map(entry, entries)) + ']'
+
+
 def extent(h):
     bounds = ', '.join(f'{name}: {h[name]}' for name in ('min_lon', 'min_lat', 'max_lon', 'max_lat'))
     return f'Whole {{ {bounds} }}', f"Whole {{ lon: {h['center_lon']}, lat: {h['center_lat']}, zoom: {h['center_zoom']} }}"
+
+
+def document(h, sources, said):
+    """The debug text of the document of a header, with what metadata says."""
+    bounds, center = map(shown.option, extent(h))
+    return shown.document(sources, {'minzoom': f"Some({h['min_zoom']})", 'maxzoom': f"Some({h['max_zoom']})", 'bounds': bounds, 'center': center}, said)
+
+
+def size_and_digest(data):
+    """How many bytes there are, and the text of their MD5 as a word."""
+    return len(data), word(md5(data).encode())
+
+
+def tile_word(data):
+    return 'none' if data is None else 'x' + data.hex()
+
+
+def answered(call, show=str):
+    try:
+        return show(call())
+    except ArchiveRefused as refusal:
+        return str(refusal)
+
+
+def result(call, show):
+    try:
+        return f'Ok({show(call())})'
+    except ArchiveRefused as refusal:
+        return f'Err({refusal})'
+
+
+def write_rows(name, *modules):
+    """The input and the wanted output of a program, whose lines modules write one after another."""
+    rows = Rows(name)
+    for module in modules:
+        module.write(rows)
+    rows.write()

@@ -1,36 +1,44 @@
 # Archives that the cases of several programs read: of one tile, of trees of directories, and with another root.
 from models import pmtiles as pm
 
-def root_of(entries_or_bytes, data, **fields):
+
+ONE = pm.archive([(0, b'0')])[0]
+OF_ZOOM_ONE = pm.archive([(0, b'0'), (1, b'0')])[0]
+
+
+def root_of(entries_or_bytes, data=ONE, **fields):
     """An archive with another root, and other fields of its header."""
     root = entries_or_bytes if isinstance(entries_or_bytes, bytes) else pm.directory(entries_or_bytes)
     h = pm.read_header(data)
     h.update(root_length=len(root))
     h.update(fields)
-    front = pm.header(h) + root
-    return front + bytes(pm.FRONT - len(front)) + data[pm.FRONT:]
+    return pm.front(h, root) + data[pm.FRONT:]
 
 
-ONE = pm.archive([(0, b'0')])[0]
-OF_ZOOM_ONE = pm.archive([(0, b'0'), (1, b'0')])[0]
 CYCLE = root_of([(0, 0, 5, 0)], ONE[:pm.FRONT] + pm.directory([(0, 0, 5, 0)]), leaf_offset=pm.FRONT)
+# roots that break a rule, with fields of their headers
+HOSTILE = [('0100010101', {'root_offset': 126}), ('0100010101', {'root_length': 2 ** 64 - 1}), ('0200010101', {}), ('0100010100', {}),
+           ('02ffffffffffffffffff0101010101010100', {}), ('0100010201', {}), ('0100010102', {'data_offset': 2 ** 64 - 1}), ('020000010101010101', {}),
+           ('01d5aad5aad5aad5aa55010101', {}), ('80808080808080808010', {}), ('00', {}), ('0100000101', {'leaf_offset': 2 ** 64 - 1}),
+           ('0100000102', {'leaf_offset': 2 ** 64 - 1}), ('0100010101', {'data_offset': 2 ** 64 - 1}), ('0100000101', {}), ('0100ffffffff0f0101', {})]
+TWICE = root_of(bytes.fromhex('020000010101010101'))
 
 
 def tree(leaves, contents, most=None, text=b'{}', **fields):
     """An archive whose root names leaves of entries, through one more directory for each number of `most`, which is
     how many names it may have."""
-    h = pm.default_header()
     leaf_part, level = b''.join(map(pm.directory, leaves)), pm.named(0, leaves)
     for size in most or ():
         level = pm.cut(level, size)
         names, leaf_part = pm.named(len(leaf_part), level), leaf_part + b''.join(map(pm.directory, level))
         level = names
-    root = pm.directory(level)
-    data_offset = pm.FRONT + len(text)
-    h.update(root_length=len(root), metadata_length=len(text), data_offset=data_offset, data_length=len(contents), leaf_offset=data_offset + len(contents), leaf_length=len(leaf_part))
-    h.update(fields)
-    front = pm.header(h) + root
-    return front + bytes(pm.FRONT - len(front)) + text + contents + leaf_part
+    return pm.whole(pm.directory(level), leaf_part, contents, text, **fields)[0]
+
+
+def nested(depth):
+    """An archive whose root leads through so many leaves, one below another, to the tiles 0 and 3."""
+    entries = [(0, 0, 1, 1), (3, 1, 1, 2)]
+    return tree([entries], b'ab', most=(1,) * (depth - 1)) if depth else pm.whole(pm.directory(entries), b'', b'ab')[0]
 
 
 def some_leaves(count=12, size=7):

@@ -1,12 +1,13 @@
 # Lines of a server of tiles, and the run that crates/tile_serve_program stores, for tools/cases/archive_rows.py. The
 # wanted answers are worked out from the definition of a reply, by tools/models/servers.py, a server in plain python
 # that keeps lists.
-import os
 import random
 
 from cases.archive_program import hold, row
 from cases.rows import Rows
+from cases.sample_archives import ONE, tree
 from models import pmtiles as pm
+from models import readers
 from models import shown
 from models.servers import Fault, Server, reply, spelled, tag_of
 
@@ -52,22 +53,9 @@ def replies(data, requests):
     return ''.join(reply(data, line) + '\n' for line in (lines[:-1] if lines[-1] == '' else lines))
 
 
-ONE, HELLO = pm.archive([(0, b'0')])[0], pm.archive([(0, b'hello')])[0]
+HELLO = pm.archive([(0, b'hello')])[0]
 TAG = '9555E8555C62DCFD'
 TABLE = ['GET 0 0 0', 'GET 0 0 0 ' + TAG, 'GET 1 0 0', 'GET 0 1 0']
-
-
-def leafy(leaves, contents, deeper=0):
-    """An archive whose root names leaves of entries (id, offset, length, run), maybe through so many more directories
-    of one entry."""
-    h = pm.default_header()
-    part, names = b''.join(map(pm.directory, leaves)), pm.named(0, leaves)
-    for _ in range(deeper):
-        names, part = pm.named(len(part), [names]), part + pm.directory(names)
-    root = pm.directory(names)
-    h.update(root_length=len(root), metadata_length=2, data_offset=pm.FRONT + 2, data_length=len(contents), leaf_offset=pm.FRONT + 2 + len(contents), leaf_length=len(part))
-    front = pm.header(h) + root
-    return front + bytes(pm.FRONT - len(front)) + b'{}' + contents + part
 
 
 def some_leaves():
@@ -83,9 +71,7 @@ def some_leaves():
     return leaves, contents
 
 
-LEAFY = leafy(*some_leaves())
-DEEP = leafy(*some_leaves(), deeper=2)
-TOO_DEEP = leafy(*some_leaves(), deeper=7)
+LEAFY, DEEP, TOO_DEEP = (tree(*some_leaves(), most=(4,) * deeper) for deeper in (0, 2, 7))
 
 
 def line_of(t, tag=''):
@@ -128,7 +114,7 @@ def bounds():
         for data in (LEAFY, DEEP):
             serve(data, limits, [line_of(t) for t in ids])
     serve(TOO_DEEP, (9, 100, 1, 1), [line_of(1)], counted=False)
-    data = pm.archive_tile(LEAFY, 2)
+    data = readers.archive_tile(LEAFY, 2)
     serve(LEAFY, (1, 8, 1, 100), [line_of(2), line_of(2, tag_of(data)), line_of(2, tag_of(data)[::-1]), line_of(3, tag_of(data)), line_of(2, tag_of(data))])
 
 
@@ -139,7 +125,7 @@ def faults():
     serve(LEAFY, (1, 8, 2, 100), asked, (2, 3, 4, 5))
     broken = LEAFY[:-3]
     serve(broken, (4, 100, 4, 100), [line_of(49), line_of(1), line_of(50)], counted=False)
-    h, _ = pm.opened(LEAFY)
+    h, _ = readers.opened(LEAFY)
     spoilt = LEAFY[:h['leaf_offset']] + b'\xff' * 8 + LEAFY[h['leaf_offset'] + 8:]
     serve(spoilt, (4, 100, 4, 100), [line_of(1), line_of(17), line_of(2)], counted=False)
 
@@ -175,7 +161,7 @@ def random_requests():
         asked = []
         for _ in range(chance.randint(5, 30)):
             t = chance.choice(known[:6] if chance.random() < 0.4 else known + list(range(70)))
-            tile = pm.archive_tile(data, t)
+            tile = readers.archive_tile(data, t)
             tag = tag_of(tile) if tile and chance.random() < 0.3 else chance.choice(['', '', '0123456789ABCDEF'])
             asked.append(spelled_ids[t] + (' ' + tag if tag else ''))
         serve(data, limits, asked)
@@ -187,8 +173,7 @@ def stored_run():
     program.write_data('one_tile.pmtiles', HELLO)
     requests = '\n'.join(TABLE) + '\n'
     for name, text in [('stdin', requests), ('stdout', replies(HELLO, requests)), ('args', 'one_tile.pmtiles\n4\n100\n4\n100\n')]:
-        with open(os.path.join(program.crate, name), 'w') as file:
-            file.write(text)
+        program.write_text(name, text)
 
 
 def write():

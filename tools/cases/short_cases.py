@@ -1,18 +1,18 @@
 # Lines of calls over a backend that tells nothing, one of whose reads is answered by two numbers in place of bytes,
 # for tools/cases/archive_rows.py: how many bytes were asked for, or are said to be, and how many came. Whoever reads
 # hands on both. The wanted answers are worked out by the models of the other scripts, which count their reads.
-import hashlib
-
 from cases import archive_program
 from cases import sample_archives
 from cases import serve_cases
-from cases.archive_program import hold, row
-from cases.rows import entry, extent
+from cases.archive_program import hold, row, said_of_check
+from cases.rows import answered, document, entry, listed, tile_word
 from models import extraction
 from models import pmtiles as pm
+from models import readers
 from models import servers
 from models import shown
-from models.shown import option
+from models import verifiers
+from models.hashes import md5
 
 U64 = 2 ** 64
 GREAT = U64 - 1
@@ -82,12 +82,9 @@ WAYS = {'none': (1, 0, 1, 0), 'idle': (1, 0, 1, 0), 'map': (GREAT, GREAT, 1, 0),
 
 def tile_of(reader, t):
     try:
-        data = reader.tile(t)
-        return 'none' if data is None else 'x' + data.hex()
+        return answered(lambda: reader.tile(t), tile_word)
     except Short as short:
         return short.error()
-    except pm.ArchiveRefused as refusal:
-        return str(refusal)
 
 
 def tiles(data, way, ids):
@@ -114,7 +111,7 @@ def sweep(data, first, end):
             reads.calls = reads.at
             return [error]
         there = [bytes.fromhex(f[1:]) for f in found if f.startswith('x')]
-        return [len(there), shown.text(hashlib.md5(b''.join(there)).hexdigest().upper())]
+        return [len(there), shown.text(md5(b''.join(there)))]
     rows_of(f'read map sweep {first} {end}', answers, NUMBERS[:3])
 
 
@@ -127,10 +124,10 @@ def walks(data, budget):
             except Short as short:
                 raise pm.ArchiveRefused(short.error())
         reads.read()
-        return [f'Err({i})' if isinstance(i, str) else f'Ok({entry(i)})' for i in pm.walk(data, budget, read)]
+        return [f'Err({i})' if isinstance(i, str) else f'Ok({entry(i)})' for i in readers.walk(data, budget, read)]
     rows_of(f'read none entries {budget}', items, NUMBERS[:3])
     count = len(items(Reads(0, None, 0))) + 2
-    rows_of(f'state walk {budget} {count}', lambda reads: (list(map(option, items(reads))) + ['None'] * count)[:count], NUMBERS[:3])
+    rows_of(f'state walk {budget} {count}', lambda reads: (list(map(shown.option, items(reads))) + ['None'] * count)[:count], NUMBERS[:3])
 
 
 def of_range(words, length, right, wrong, turns=1):
@@ -149,20 +146,17 @@ def of_range(words, length, right, wrong, turns=1):
 
 
 def ranges(data):
-    h, root = pm.opened(data)
-    text = pm.metadata(data)
-    said = {'minzoom': f"Some({h['min_zoom']})", 'maxzoom': f"Some({h['max_zoom']})"}
-    said['bounds'], said['center'] = map(option, extent(h))
-    document = shown.document(['u'], said, shown.said(text))
+    h, root = readers.opened(data)
+    text = readers.metadata(data)
+    said = document(h, ['u'], shown.said(text))
     for call in ('read none', 'read map', 'state'):
         of_range(f'{call} metadata', h['metadata_length'], f'Ok({shown.text(text)})', lambda short: f'Err({short.error()})')
-        of_range(f'{call} document tu', h['metadata_length'], f'Ok({document})', lambda short: f'Err({short.error()})')
+        of_range(f'{call} document tu', h['metadata_length'], f'Ok({said})', lambda short: f'Err({short.error()})')
     for call, turns in (('state', 2), ('read none', 1)):
-        of_range(f'{call} part contents 0 2', 2, 'x' + pm.part(data, h['data_offset'], 0, 2).hex(), Short.error, turns)
+        of_range(f'{call} part contents 0 2', 2, 'x' + readers.part(data, h['data_offset'], 0, 2).hex(), Short.error, turns)
         name = next((e for e in root if e[3] == 0), None)
         if name:
-            listed = '[' + ', '.join(map(entry, pm.leaf(data, h, name))) + ']'
-            of_range(f'{call} part directory {name[1]} {name[2]}', name[2], listed, Short.error, turns)
+            of_range(f'{call} part directory {name[1]} {name[2]}', name[2], listed(readers.leaf(data, h, name)), Short.error, turns)
 
 # Checks, servers and extractions.
 
@@ -172,21 +166,15 @@ def checks(data):
     def found(reads):
         try:
             reads.read()
-            return checked(pm.check(data, reads.read))
+            return said_of_check(*verifiers.check(data, reads.read))
         except Short as short:
-            return f'Err({short.named()})', 1, shown.text('short {} {}\n'.format(*short.args))
+            return f'Err({short.named()})', 'short {} {}\n'.format(*short.args)
+
+    def run(reads):
+        line = found(reads)[1]
+        return [0 if line.startswith('sound') else 1, shown.text(line)]
     rows_of('verify report', lambda reads: found(reads)[:1])
-    rows_of('verify run', lambda reads: found(reads)[1:])
-
-
-def checked(found):
-    numbers, leaves = found
-    line = ' '.join(map(str, numbers)) + '\n'
-    if isinstance(numbers[3], int):
-        named = ', '.join(f'{n}: {c}' for n, c in zip(('directories', 'addressed', 'entries', 'contents'), numbers))
-        return f'Ok(VerifyReport {{ {named} }})', 0, shown.text('sound ' + line)
-    place = 'Place {{ depth: {}, offset: {}, index: {} }}'.format(*numbers)
-    return f'Err(Broken {{ place: {place}, reason: {numbers[3]}, directories: {leaves} }})', 1, shown.text('broken ' + line)
+    rows_of('verify run', run)
 
 
 def serves(data, limits, lines):

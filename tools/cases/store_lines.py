@@ -1,8 +1,9 @@
 # Lines of a store of crates/set_rows: rows in the order of their keys, equal keys in order of arrival.
 from models.names import KEYS, TABLES, VARIANTS
-from models.patches import order
+from models.patches import insert_row, order
 from models.shown import option
 from models.tables import key_cells, layout_tables, show_row, size, spelled_changes, table
+
 
 class StoreLines:
     """Rows by their tables, in the order of keys, and a line for each call."""
@@ -23,8 +24,7 @@ class StoreLines:
         if 'n' not in cells[:KEYS[name]] and any(self.key(name, r) == key for r in rows):
             return self.out.row(call, f'Err(DuplicateRow({VARIANTS[name]}))')
         self.out.row(call, 'Ok(())')
-        at = next((i for i, r in enumerate(rows) if self.key(name, r) > key), len(rows))
-        rows.insert(at, cells)
+        insert_row(rows, KEYS[name], cells)
 
     def rows(self, name, first, limit):
         part = self.tables.get(name, [])[first:first + limit]
@@ -47,9 +47,8 @@ class StoreLines:
         self.out.row(call, 'Err(Fault)' if fault else 'Ok(())')
         for name, words, cells in [] if fault else calls:
             self.remove(name, key_cells(words))
-            rows = self.tables[name]
             if cells:
-                rows.insert(next((i for i, r in enumerate(rows) if self.key(name, r) > self.key(name, cells)), len(rows)), cells)
+                insert_row(self.tables[name], KEYS[name], cells)
 
     def put(self, name, words, *cells):
         self.commit((name, words, cells))
@@ -82,3 +81,13 @@ def some_cells(chance, name):
         plain = {'INTEGER': f'i{chance.randrange(-1, 3)}', 'TEXT': 't' + chance.choice(['', 'a', 'b', 'ab']), 'BLOB': 'x' + chance.choice(['', '00', 'ff01'])}[kind]
         cells.append(plain if chance.random() < 0.9 else chance.choice(['n', 'o', 'i5', 'tz', 'x7f']))
     return cells
+
+
+def some_changes(chance, count, choose):
+    """Changes by chance of tables that are chosen: rows that are put or taken away."""
+    calls = []
+    for _ in range(count):
+        name = choose()
+        words, cells = some_key(chance, name)
+        calls.append((name, words, None if chance.random() < 0.4 else [*cells, *some_cells(chance, name)[KEYS[name]:]]))
+    return calls

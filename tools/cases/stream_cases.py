@@ -3,11 +3,10 @@ import random
 import sqlite3
 
 from cases.patch_cases import named, some_set
-from models import shown
+from cases.refused_sets import GONE, OUTSIDE, WRONG_HASH, odd_name
 from models.hashes import digest
 from models.held_sets import Held, data_of, summed
 from models.names import CONTENT_TABLES, DATA_COLUMNS, TILE_TABLES
-from models.tables import bad_index
 
 
 def listed(held, given=None):
@@ -97,12 +96,7 @@ def large(rows):
 
 
 def refusals(rows):
-    computed = digest('md5', b'\x01')
-    for layout, pushes, refusal in (
-            ('flat', [('tiles', 'i31', 'i0', 'i0', 'x30')], bad_index('i31', 'i0', 'i0')),
-            ('cache', [('metadata', 'tname', 'i1')], 'InvalidDataFormat'),
-            ('flat-with-hash', [('tiles_with_hash', 'i0', 'i0', 'i0', 'x01', 'tabc')], f'IncorrectTileHash {{ stored: {shown.text("ABC")}, computed: {shown.text(computed)} }}'),
-            ('normalized', [('map', 'i0', 'i0', 'i0', 'tgone')], f'MissingTileReference {{ tile_id: {shown.text("gone")}, table: Images }}')):
+    for layout, pushes, refusal in (OUTSIDE, odd_name('cache'), WRONG_HASH, GONE):
         held = Held(rows, layout, pushes)
         for call in ('coords', 'tiles', 'coords_digest', 'tiles_digest'):
             rows.row('stream ' + call, refusal)

@@ -746,7 +746,8 @@ def across_pages():
             lines[at] = " ".join([*words[:column], word, *words[column + 1:]])
         return text(lines, "query 0 0 0")
 
-    # the columns are those of the line, whose first words are `row` and the table: 3 is that of a tile, 5 has bytes or an id, 6 a digest
+    # the columns are those of the line, whose first words are `row` and the table: 3 is that of a tile, 5 has
+    # bytes or an id, 6 a digest
     for changes in [[(first, 5, "ta")], [(first, 5, "ta"), (second, 5, "tb")]]:
         streamed(with_words("flat", *changes))
     for changes in [[(first, 6, "tA"), (second, 3, "i64")], [(first, 6, "tA"), (second, 6, "tB")]]:
@@ -755,8 +756,8 @@ def across_pages():
         streamed(with_words("dedup-id", *changes))
 
 
-# Places of several zooms, whose ids stand in another order, with contents that are null or have no byte, and digests that
-# end in other zooms, columns and rows.
+# Places of several zooms, whose ids stand in another order, with contents that are null or have no byte, and digests
+# that end in other zooms, columns and rows.
 APART = {(0, 0, 0): b"0", (1, 0, 0): b"11", (1, 0, 1): b"1", (1, 1, 0): None, (1, 1, 1): b"", (2, 3, 0): b"0", (3, 0, 7): b"one", (10, 5, 1000): b"two" * 50, (10, 5, 1001): b"\x00", (30, 2 ** 30 - 1, 0): b"last", (30, 0, 2 ** 30 - 1): b"first"}
 
 
@@ -803,7 +804,8 @@ def hashes():
             label = "none" if number < 5 else "0"
             changing(script, number, None, f"{changed}|{label}")
             changing(script, number, (3, 0, 0), f"{changed}|{label}")
-        # by place for the hash: 0/0/0, 1/0/0, 1/0/1 and 1/1/1, rows from the bottom; by id for the archive: 1/0/1 before 1/0/0
+        # by place for the hash: 0/0/0, 1/0/0, 1/0/1 and 1/1/1, rows from the bottom; by id for the
+        # archive: 1/0/1 before 1/0/0
         for number, place in [(2, (1, 0, 0)), (3, (1, 0, 1)), (6, (1, 0, 1)), (7, (1, 0, 0)), (1, (1, 1, 1)), (4, (0, 0, 0)), (8, (0, 0, 0))]:
             changing(script, number, place, "0||1")
         for number, place in [(2, (1, 0, 1)), (3, (1, 0, 0)), (6, (1, 0, 0)), (7, (1, 0, 1))]:
@@ -819,7 +821,8 @@ def streams_by_itself():
         given = parsed(script.encode())
         if not isinstance(given, int) and len(given.stores) == 1:
             streamed(script, name="streamed-said")
-    # the label of vector tiles is that of all of them, the last and those of many pages too; the zooms are the outermost
+    # the label of vector tiles is that of all of them, the last and those of many pages too;
+    # the zooms are the outermost
     gzip, other = b"\x1f\x8b", b"\x1f"
     for tiles in [{(7, k, 0): gzip for k in range(40)} | {(7, 40, 0): other}, {(2, 0, 0): other, (9, 1, 1): gzip, (9, 1, 2): b""}, {(9, k % 500, k // 500): gzip for k in range(1030)} | {(12, 0, 0): other}]:
         for layout in ("flat", "flat-with-hash", "cache"):

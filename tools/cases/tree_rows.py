@@ -1,14 +1,13 @@
 # Writes the input and the wanted output of crates/tree_rows: trees of files that are packed and unpacked. The wanted
-# answers are worked out by tools/models/trees.py. Run it at the top of the repository: python3
-# tools/cases/tree_rows.py
+# answers are worked out by tools/models/trees.py.
 import random
 
+from cases import folder_cases
 from cases.patch_cases import named, some_set
 from cases.rows import Rows
 from models import shown
-from models.trees import FORMATS, KeptStore, Tree, files_of, pack, path_word, unpack
+from models.trees import FORMATS, KeptStore, Tree, files_of, pack, unpack
 
-ROWS = Rows('tree_rows')
 SCHEMES = ('xyz', 'tms')
 
 # paths that are no tile's, paths that are a tile's, and paths that are refused
@@ -20,9 +19,8 @@ LEADING = ('any/3/4/5.pbf', 'a/b/c/3/4/5.pbf', '/3/4/5.pbf', '//3/4/5.pbf', './3
            '999/4/5.png', 'z/4/5.png', '5.png', '3/4/5.txt', 'metadata.json', '3/4/5.pbf/6', '3/4/5/6.pbf', '2/3/4/5.pbf')
 
 
-def packed_row():
+def packed_row(rows):
     """A tree with a folder in front, packed, and unpacked again."""
-    rows = ROWS
     for scheme, word in (('xyz', 'xyz'), ('xyz', 'default'), ('tms', 'tms')):
         tree, store = Tree(rows, {'any/3/4/5.pbf': b'hello'}), KeptStore(rows)
         pack(rows, tree, store, scheme, word)
@@ -33,44 +31,43 @@ def packed_row():
         pack(rows, Tree(rows, {path: b'1'}), KeptStore(rows), 'xyz')
 
 
-def alone(files, scheme='xyz'):
-    pack(ROWS, Tree(ROWS, files), KeptStore(ROWS), scheme)
+def alone(rows, files, scheme='xyz'):
+    pack(rows, Tree(rows, files), KeptStore(rows), scheme)
 
 
-def odd_paths():
+def odd_paths(rows):
     for part in PARTS:
-        alone({f'{part}/0/0.png': b'1'})
-        alone({f'30/{part}/0.png': b'1'})
-        alone({f'30/0/{part}.png': b'1'})
-        alone({f'30/0/{part}': b'1'})
+        alone(rows, {f'{part}/0/0.png': b'1'})
+        alone(rows, {f'30/{part}/0.png': b'1'})
+        alone(rows, {f'30/0/{part}.png': b'1'})
+        alone(rows, {f'30/0/{part}': b'1'})
     for name in NAMES:
         for zoom in ('3', '31'):
-            alone({f'{zoom}/4/{name}': b'1'}, 'tms')
+            alone(rows, {f'{zoom}/4/{name}': b'1'}, 'tms')
     for path in LEADING:
-        alone({path: b'1'})
+        alone(rows, {path: b'1'})
     for zoom in (0, 1, 2, 29, 30, 31, 32, 33, 63, 64, 255):
         for column, row in ((0, 0), (2 ** zoom - 1, 0), (0, 2 ** zoom - 1), (2 ** zoom, 0), (0, 2 ** zoom), (2 ** 32 - 1, 2 ** 32 - 1)):
             for scheme in SCHEMES:
-                alone({f'{zoom}/{column}/{row}.png': b'1'}, scheme)
+                alone(rows, {f'{zoom}/{column}/{row}.png': b'1'}, scheme)
 
 
-def tests_in_order():
+def tests_in_order(rows):
     """The first path that is refused, and of its tests the first."""
     for files in (('3/4/5.png', '3/4/6.jpg'), ('3/4/5.jpg', '3/4/6.png'), ('3/4/5.png', '3/4/6.PNG', '3/4/7.gif'), ('3/4/5.mvt', '3/4/6.pbf'), ('3/4/5.jpg', '3/4/6.jpeg'),
                   ('3/4/5.gif', '3/4/6.png'), ('3/4/5.png', '3/9/6.gif'), ('3/4/5.png', '3/9/6.jpg'), ('3/4/5.png', '3/9/6.png'), ('3/9/5.png', '3/4/6.gif'), ('3/9/5.png', '3/4/6.jpg'), ('10/0/0.png', '3/9/0.png'),
                   ('3/4/5.png', 'a/3/4/5.png'), ('3/4/5.png', '3/4/05.png'), ('3/4/5.png', '3/4/+5.png', '31/0/0.png'), ('3/4/5.png', 'a/3/4/5.png', '31/0/0.png'), ('a/5.gif', '3/4/5.png'),
                   ('3/4/5.png', '3/4/2.png'), ('1/0/0.png', '1/0/1.png', '1/1/0.png', '1/1/1.png'), ('10/0/0.png', '2/0/0.png', '30/0/0.png'), ('B/3/4/5.png', 'a/3/4/5.jpg'), ('a/3/4/5.jpg', 'B/3/4/5.png'), ()):
         for scheme in SCHEMES:
-            alone({path: path.encode() for path in files}, scheme)
+            alone(rows, {path: path.encode() for path in files}, scheme)
     for word in FORMATS:
-        alone({f'3/4/5.{word}': b'', f'3/4/6.{word.upper()}': b'\0' * 3})
+        alone(rows, {f'3/4/5.{word}': b'', f'3/4/6.{word.upper()}': b'\0' * 3})
 
 
 FLAT = [('tiles', 'i3', 'i4', 'i2', 'x01'), ('tiles', 'i1', 'i0', 'i0', 'n')]
 
 
-def into_sets():
-    rows = ROWS
+def into_sets(rows):
     one = {'3/4/5.png': b'new'}
     sets = [[], FLAT, FLAT[:1], [*FLAT, *named(('format', 'jpg'), ('minzoom', '0'), ('maxzoom', '9'), ('name', 'town'))], named(('minzoom', '3'), ('maxzoom', '3')), named(('minzoom', '+3'), ('maxzoom', 'x')),
             named(('minzoom', '03'), ('maxzoom', None)), named(('minzoom', '256'), ('maxzoom', '')), named(('format', None)), [('metadata', 'n', 'tnobody')], named(('hash_algorithm', 'xxh3')), named(('agg_tiles_hash', 'stays'))]
@@ -92,8 +89,7 @@ def into_sets():
             tree.say()
 
 
-def out_of_sets():
-    rows = ROWS
+def out_of_sets(rows):
     chance = random.Random(45)
     for layout in ('flat', 'flat-with-hash', 'normalized', 'normalized-with-view', 'dedup-id', 'cache'):
         for text in (None, '', 'png', 'PNG', 'jpeg', 'JPEG', 'jpg', 'webp', 'avif', 'mvt', 'pbf', 'mlt', 'gif', 'json', '.png', 'png ', 'image/png'):
@@ -108,9 +104,8 @@ def out_of_sets():
     unpack(rows, Tree(rows, {'a': b''}), KeptStore(rows), 'xyz')
 
 
-def there_and_back():
+def there_and_back(rows):
     """What was packed is unpacked to the same files, by their last three parts."""
-    rows = ROWS
     chance = random.Random(46)
     for _ in range(30):
         kind = chance.choice(['png', 'pbf', 'webp'])
@@ -126,8 +121,7 @@ def there_and_back():
             pack(rows, Tree(rows, files), store, scheme)
 
 
-def failing_trees():
-    rows = ROWS
+def failing_packs(rows):
     files = {'1/0/0.png': b'a', '1/0/1.png': b'b', 'readme': b'', '1/1/1.png': b'c'}
     tiles = 3
     for pushes in (None, FLAT):
@@ -150,7 +144,10 @@ def failing_trees():
             rows.row('tree pack xyz', f'Err({answer})')
         else:
             pack(rows, tree, store, 'xyz')
-    # as many files are written as calls succeed
+
+
+def failing_calls(rows):
+    """As many files are written as calls succeed."""
     pushes = [('tiles', 'i1', f'i{c}', f'i{r}', f'x0{c}0{r}') for c in (0, 1) for r in (0, 1)] + [('tiles', 'i0', 'i0', 'i0', 'n'), *named(('format', 'png'))]
     for scheme in SCHEMES:
         for call in range(1, 7):
@@ -172,8 +169,7 @@ def failing_trees():
     tree.say()
 
 
-def failing_stores():
-    rows = ROWS
+def failing_stores(rows):
     files = {'1/0/0.png': b'a', 'readme': b''}
     # of nothing: what is described, the making of the tables, and the commit
     for call, tables in ((1, ()), (2, ()), (3, ('metadata', 'tiles'))):
@@ -204,118 +200,13 @@ def failing_stores():
             unpack(rows, tree, store, 'xyz')
 
 
-def written(rows, tree, path, data):
-    rows.row(f'folder write {path_word(path)} x{data.hex()}', 'Ok(())')
-    tree.files[path] = data
-
-
-def beside(rows, tree):
-    """What has one of the names beside a file stays, after Ok and after a refusal, and no file is left beside."""
-    there = 'made/here/8/1'
-    rows.row(f'link folder {there}/.2.png.part1')
-    rows.row(f'link file {there}/.2.png.part')
-    rows.row(f'link made nowhere {there}/.2.png.part2')
-    written(rows, tree, '8/1/2.png', b'beside')
-    tree.files['8/1/.2.png.part'] = b'1'
-    tree.say()
-    rows.row(f'link there {there}/.2.png.part1', 'true')
-    rows.row(f'link is_link {there}/.2.png.part2', 'true')
-    rows.row(f'link there {there}/nowhere', 'false')
-    # a folder has the name that the file is to have
-    rows.row(f'link folder {there}/3.png')
-    rows.row(f'link file {there}/.3.png.part')
-    rows.row('folder write t8/1/3.png x01', 'Err(Fault)')
-    rows.row('folder write t8/1/3.png x01', 'Err(Fault)')
-    tree.files['8/1/.3.png.part'] = b'1'
-    tree.say()
-    # all names are taken but one, and then all
-    for number in ('', *range(1, 99)):
-        rows.row(f'link file {there}/.4.png.part{number}')
-        tree.files[f'8/1/.4.png.part{number}'] = b'1'
-    written(rows, tree, '8/1/4.png', b'last name')
-    rows.row(f'link file {there}/.4.png.part99')
-    tree.files['8/1/.4.png.part99'] = b'1'
-    rows.row('folder write t8/1/4.png x01', 'Err(Fault)')
-    tree.say()
-
-
-def folders():
-    rows = ROWS
-    # a root that is missing, and one that is a file
-    rows.row('folder open made/here')
-    rows.row('folder all', 'Fault')
-    store = KeptStore(rows)
-    rows.row('folder pack xyz', 'Err(TreeFault)')
-    rows.row('set tables')
-    rows.row('link file plain')
-    rows.row('folder open plain')
-    rows.row('folder all', 'Fault')
-    rows.row('folder write ta x01', 'Err(Fault)')
-    # files, in folders that are made, one in place of another
-    rows.row('folder open made/here')
-    tree = Tree(rows, {}, 'folder')
-    written(rows, tree, '3/4/5.png', b'hello')
-    tree.say()
-    written(rows, tree, '3/4/5.png', b'again')
-    written(rows, tree, '10/0/0.png', b'')
-    written(rows, tree, '9/0/0.png', bytes(range(256)) * 40)
-    written(rows, tree, 'readme', b'no tile')
-    written(rows, tree, '3/4.png', b'no tile')
-    written(rows, tree, '\u00e9t\u00e9/a b', b'1')
-    tree.say()
-    for root in ('made/here/', './made/here', 'made//here'):
-        rows.row(f'folder open {root}')
-        tree.say()
-    # nothing outside the root, and no name that stands for a folder
-    for path in ('', '/', '../a', 'a/../b', './a', 'a//b', 'a/', '/a', '..', '.', '3', '3/4', 'readme/a', '3/4/5.png/6'):
-        rows.row(f'folder write {path_word(path)} x01', 'Err(Fault)')
-    tree.say()
-    # links to files are read, those to folders aren't followed, and nothing is written through them
-    rows.row('link folder other/folder')
-    rows.row('link file other/folder/file')
-    rows.row('link made ../../other/folder/file made/here/to_file')
-    rows.row('link made ../../other/folder made/here/to_folder')
-    rows.row('link made .. made/here/up')
-    rows.row('link made nowhere made/here/to_nothing')
-    rows.row('link made to_itself made/here/to_itself')
-    tree.files['to_file'] = b'1'
-    tree.say()
-    for path in ('to_folder/x', 'up/x', 'to_nothing/x', 'to_itself/x'):
-        rows.row(f'folder write {path_word(path)} x01', 'Err(Fault)')
-    rows.row('link there other/folder/x', 'false')
-    rows.row('link there made/x', 'false')
-    # a link is replaced, and what it leads to stays
-    written(rows, tree, 'to_file', b'own')
-    rows.row('link is_link made/here/to_file', 'false')
-    rows.row('link made ../../other/folder/file made/here/.to_nothing.part')
-    written(rows, tree, 'to_nothing', b'own')
-    rows.row('link is_link made/here/.to_nothing.part', 'true')
-    tree.files['.to_nothing.part'] = b'1'
-    tree.say()
-    rows.row('folder open other')
-    Tree(rows, {'folder/file': b'1'}, 'folder').say()
-    rows.row('folder open made/here')
-    beside(rows, tree)
-    # packed, and unpacked into another folder
-    rows.row('folder open made/here')
-    store = KeptStore(rows)
-    pack(rows, tree, store, 'xyz')
-    rows.row('folder open unpacked')
-    unpack(rows, Tree(rows, {}, 'folder'), store, 'tms')
-    rows.row('link there unpacked/3/4/2.png', 'true')
-    # the folder in which the program runs
-    rows.row('folder open -')
-    rows.row('folder write t3/4/5.png x09', 'Ok(())')
-    rows.row('link there 3/4/5.png', 'true')
-    rows.row('folder write t3/4 x09', 'Err(Fault)')
-
-
 def main():
-    for cases in (packed_row, odd_paths, tests_in_order, into_sets, out_of_sets, there_and_back, failing_trees, failing_stores, folders):
-        cases()
+    rows = Rows('tree_rows')
+    for cases in (packed_row, odd_paths, tests_in_order, into_sets, out_of_sets, there_and_back, failing_packs, failing_calls, failing_stores, folder_cases.write):
+        cases(rows)
     for call in ('tree', 'tree pack', 'tree pack up', 'tree unpack', 'tree write ta', 'tree new', 'tree new 1 ta', 'tree fail x', 'folder', 'set', 'set new', 'link', 'link there', 'other'):
-        ROWS.refused(call)
-    ROWS.write()
+        rows.refused(call)
+    rows.write()
 
 
 if __name__ == '__main__':

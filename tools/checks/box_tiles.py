@@ -3,13 +3,14 @@
 # degrees a box has a part of, with equal bytes, and no others; the header and the metadata have to be the same but for
 # the zooms. The degrees of a tile's corners are computed from its place, other than in bin/degree_boxes.py, which goes
 # from degrees to places. A box whose west is greater than its east crosses the antimeridian. Prints how many tiles
-# there are. Archives are read by `tools/models/pmtiles.py`.
+# there are. Archives are read by `tools/models/readers.py`.
 import math
 import os
 import sys
 
 sys.path.append(os.path.dirname(os.path.dirname(os.path.abspath(__file__))))
 from models import pmtiles as pm  # noqa: E402
+from models import readers  # noqa: E402
 
 SAME = ['type', 'tile', 'min_lon', 'min_lat', 'max_lon', 'max_lat', 'center_zoom', 'center_lon', 'center_lat']
 
@@ -46,13 +47,13 @@ def read(path):
     """The bytes of an archive and its header."""
     with open(path, 'rb') as file:
         data = file.read()
-    return data, pm.opened(data)[0]
+    return data, readers.opened(data)[0]
 
 
 def tiles_of(data, h):
     """The ids of an archive's tiles, with their bytes."""
-    return {t: pm.part(data, h['data_offset'], offset, length)
-            for first, offset, length, run in pm.walk(data, 1 << 40) for t in range(first, first + run)}
+    return {t: readers.part(data, h['data_offset'], offset, length)
+            for first, offset, length, run in readers.walk(data, 1 << 40) for t in range(first, first + run)}
 
 
 def wanted(tiles, h, zooms, boxes):
@@ -76,7 +77,7 @@ def main(source, part, least, greatest, *boxes):
     assert found == due, f'{len(found)} tiles in the part, {len(due)} in the boxes, {sum(found.get(t) != due[t] for t in due)} differ or are missing'
     assert (part_h['min_zoom'], part_h['max_zoom']) == (max(zooms[0], h['min_zoom']), min(zooms[1], h['max_zoom'])), 'other zooms'
     assert [part_h[name] for name in SAME] == [h[name] for name in SAME], 'another header'
-    assert pm.metadata(part_data) == pm.metadata(data), 'other metadata'
+    assert readers.metadata(part_data) == readers.metadata(data), 'other metadata'
     print(len(found))
 
 

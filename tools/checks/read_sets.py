@@ -1,4 +1,4 @@
-"""The tiles of sets as Python's sqlite3 reads them, and of archives as pmtiles.py does, for the scripts that compare
+"""The tiles of sets as Python's sqlite3 reads them, and of archives as readers.py does, for the scripts that compare
 what bin/mbtiles-to-pmtiles makes."""
 import concurrent.futures
 import os
@@ -8,6 +8,7 @@ import sys
 
 sys.path.append(os.path.dirname(os.path.dirname(os.path.abspath(__file__))))
 from models import pmtiles as pm  # noqa: E402
+from models import readers  # noqa: E402
 
 
 class Twice(Exception):
@@ -50,8 +51,8 @@ def archived(path):
     """The tiles of an archive by their ids."""
     with open(path, 'rb') as file:
         data = file.read()
-    header, _ = pm.opened(data)
-    return {first + at: pm.part(data, header['data_offset'], offset, length) for first, offset, length, run in pm.walk(data, 1 << 40) for at in range(run)}
+    header, _ = readers.opened(data)
+    return {first + at: readers.part(data, header['data_offset'], offset, length) for first, offset, length, run in readers.walk(data, 1 << 40) for at in range(run)}
 
 
 def converted(command, path, *flags):

@@ -1,13 +1,17 @@
-// Has a program of this repository lack memory: each call by which it asks for some has a number, and calls of chosen numbers are refused.
+// Has a program of this repository lack memory: each call by which it asks for some has a number, and calls of
+// chosen numbers are refused.
 //
-// It is loaded before the program (LD_PRELOAD) and puts jumps to its own functions over the two through which a Rattle program takes all its memory, rattle_alloc and
-// rattle_realloc. tools/checks/refused_memory.py finds their places and sets these variables:
+// It is loaded before the program (LD_PRELOAD) and puts jumps to its own functions over the two through which a
+// Rattle program takes all its memory, rattle_alloc and rattle_realloc. tools/checks/refused_memory.py finds their
+// places and sets these variables:
 //
 //     REFUSED_ALLOC, REFUSED_REALLOC  the places of the two in the program, hexadecimal
 //     REFUSED_COUNT                   a file that gets the number of calls at the end
-//     REFUSED_FIRST, REFUSED_LAST     numbers of calls: for each of them the program is run once, with that call refused
+//     REFUSED_FIRST, REFUSED_LAST     numbers of calls: for each of them the program is run
+//                                     once, with that call refused
 //     REFUSED_ON                      where it is 1, all calls behind that one are refused too
-//     REFUSED_FOLDER                  each run is in a folder of its own in this one, by its number: it reads the file `stdin` of this folder, and leaves `stdout` and, in `status`, what wait said
+//     REFUSED_FOLDER                  each run is in a folder of its own in this one, by its number: it reads the file
+//                                     `stdin` of this folder, and leaves `stdout` and, in `status`, what wait said
 //     REFUSED_SECONDS                 how long a run may take
 #define _GNU_SOURCE
 #include <fcntl.h>

@@ -1,7 +1,7 @@
 # Compares an archive with the sets that it was made of: same_tiles.py ARCHIVE BASE.mbtiles [PATCH.mbtiles ..] Each
 # tile of the sets, after the patches, has to be in the archive with equal bytes, and no other. Prints how many there
 # are, the zooms of the header and the metadata. It reads the sets by python's sqlite3 and the archive by
-# `tools/models/pmtiles.py`.
+# `tools/models/readers.py`.
 import json
 import os
 import sqlite3
@@ -9,6 +9,7 @@ import sys
 
 sys.path.append(os.path.dirname(os.path.dirname(os.path.abspath(__file__))))
 from models import pmtiles as pm  # noqa: E402
+from models import readers  # noqa: E402
 
 with open(sys.argv[1], 'rb') as file:
     data = file.read()
@@ -30,10 +31,10 @@ for name in sys.argv[2:]:
             tiles.pop(key, None)
             if content:
                 tiles[key] = bytes(content)
-h, _ = pm.opened(data)
+h, _ = readers.opened(data)
 found = {}
-for offset_id, offset, length, run in pm.walk(data, 1 << 40):
+for offset_id, offset, length, run in readers.walk(data, 1 << 40):
     for t in range(offset_id, offset_id + run):
-        found[t] = pm.part(data, h['data_offset'], offset, length)
+        found[t] = readers.part(data, h['data_offset'], offset, length)
 assert found == tiles, f'{len(found)} tiles in the archive, {len(tiles)} in the sets, {sum(found.get(t) != tiles[t] for t in tiles)} differ or are missing'
-print(len(tiles), h['min_zoom'], h['max_zoom'], h['type'], h['tile'], json.dumps(json.loads(pm.metadata(data)), sort_keys=True))
+print(len(tiles), h['min_zoom'], h['max_zoom'], h['type'], h['tile'], json.dumps(json.loads(readers.metadata(data)), sort_keys=True))

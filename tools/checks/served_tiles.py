@@ -1,4 +1,4 @@
-# Asks servers of tiles for what an archive has, which it reads by `tools/models/pmtiles.py`.
+# Asks servers of tiles for what an archive has, which it reads by `tools/models/readers.py`.
 #
 # served_tiles.py make PNG GZIP           writes an archive of pictures and one of tiles in gzip
 # served_tiles.py lines ARCHIVE WORDS ..  starts a command, and asks for each tile once the reply before is there
@@ -17,6 +17,7 @@ import zlib
 
 sys.path.append(os.path.dirname(os.path.dirname(os.path.abspath(__file__))))
 from models import pmtiles as pm  # noqa: E402
+from models import readers  # noqa: E402
 from models.hashes import digest  # noqa: E402
 
 TYPES = {1: ('application/vnd.mapbox-vector-tile', 'mvt'), 2: ('image/png', 'png')}
@@ -56,12 +57,12 @@ def tiles_of(path):
     """The bytes of an archive, its header, and its tiles by their places."""
     with open(path, 'rb') as file:
         data = file.read()
-    h, _ = pm.opened(data)
+    h, _ = readers.opened(data)
     found = {}
     for z in range(DEEPEST + 2):
         for x in range(1 << z):
             for y in range(1 << z):
-                tile = pm.archive_tile(data, pm.tile_id(z, x, y))
+                tile = readers.archive_tile(data, pm.tile_id(z, x, y))
                 if tile:
                     found[z, x, y] = tile
     return data, h, found
@@ -130,7 +131,7 @@ def ask_tile(url, place, tile, wanted):
 def ask_documents(url, data, h, tiles, ending):
     """The documents, and the counts of the grids."""
     status, got, body = ask(url + 'metadata.json')
-    assert (status, got['Content-Type'], body.decode().rstrip('\n')) == (200, 'application/json', pm.metadata(data)), body
+    assert (status, got['Content-Type'], body.decode().rstrip('\n')) == (200, 'application/json', readers.metadata(data)), body
     status, got, body = ask(url + 'tiles.json')
     document = json.loads(body)
     assert (status, got['Content-Type'], document['tiles']) == (200, 'application/json', [f'{url}{{z}}/{{x}}/{{y}}.{ending}']), body

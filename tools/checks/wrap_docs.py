@@ -46,7 +46,8 @@ def wrapped(text):
 
 
 def main():
-    paths = sys.argv[1:] or [f"{TOP}/{path}" for path in ["README.md", "CONTRIBUTING.md", "CHANGELOG.md", *glob.glob("docs/*.md", root_dir=TOP)]]
+    kinds = ("*.md", "docs/*.md", "crates/*/README.md", "examples/*.md")
+    paths = sys.argv[1:] or [f"{TOP}/{path}" for kind in kinds for path in sorted(glob.glob(kind, root_dir=TOP))]
     for path in paths:
         with open(path, encoding="utf-8") as file:
             before = file.read()

@@ -5,15 +5,16 @@ import collections
 from models import shown
 from models.aggregates import aggregate, hash_refusal
 from models.hashes import digest
+from models.held_sets import Tables
 from models.names import AFTER, AGG, BEFORE, CONTENT_TABLES, KEYS, LAYOUTS, TILE_TABLES
-from models.patches import State, order, put_row
+from models.patches import State, insert_row
 from models.tables import layout_tables, table
 
 FIELDS = ('copy', 'type', 'cli', 'mode', 'min', 'max', 'zooms', 'box', 'skip', 'hash', 'force', 'validate')
 SIDE = 2 ** 30
 
 
-class Set:
+class Set(Tables):
     """A store: its layout, None where nothing is described, the rows of its tables, the refusal of loading it, if
     there is one, and whether a table of binary differences is described too."""
 
@@ -22,23 +23,11 @@ class Set:
         self.tables = {} if layout is None else empty_tables(layout)
         self.pushes = pushes
         for name, *cells in pushes:
-            key = [order(c) for c in cells[:KEYS[name]]]
-            held = self.tables[name]
-            held.insert(next((i for i, r in enumerate(held) if [order(c) for c in r[:KEYS[name]]] > key), len(held)), tuple(cells))
-
-    def state(self):
-        return State(self.layout, self.tables)
-
-    def put(self, name, cells):
-        put_row(self.tables[name], KEYS[name], order, cells)
+            insert_row(self.tables[name], KEYS[name], cells)
 
     def described(self):
         """The names and the kinds of the tables, in the order in which they are described."""
         return [] if self.layout is None else [(name, 'Table' if is_table else 'View') for name, is_table, _, _ in [table('metadata')] + layout_tables(self.layout)]
-
-    def load_calls(self):
-        """How many calls loading makes: the descriptions, and the number and the rows of each table."""
-        return 1 + 2 * len(self.tables)
 
 
 def empty_tables(layout):
@@ -152,12 +141,15 @@ def remove_place(held, layout, place):
     rows[:] = [r for r in rows if tuple(r[:3]) != key]
 
 
+def own_refusal(copier, of):
+    """The refusal of loading a set, or of its hash where that is tested, or None."""
+    return of.refusal or (hash_refusal(of.state()) if copier.validate else None)
+
+
 def copy_refusal(copier, source, target):
     """The first refusal of loading and of the tests that come before what is put, or None."""
-    if source.refusal:
-        return source.refusal
-    if copier.validate and hash_refusal(source.state()):
-        return hash_refusal(source.state())
+    if own_refusal(copier, source):
+        return own_refusal(copier, source)
     if target.layout is None:
         return None
     if copier.mode is None:
@@ -220,10 +212,8 @@ def copy(copier, source, target):
 
 def patch_refusal(copier, patch):
     """The first refusal of loading a patch and of its own tests, or None."""
-    if patch.refusal:
-        return patch.refusal
-    if copier.validate and hash_refusal(patch.state()):
-        return hash_refusal(patch.state())
+    if own_refusal(copier, patch):
+        return own_refusal(copier, patch)
     if patch.differences:
         return 'UnsupportedPatchType'
     if not copier.force and patch.state().names.get(AFTER) is None:
@@ -235,11 +225,9 @@ def patch_refusal(copier, patch):
 
 def patched_refusal(copier, source, target):
     """The same of a source that is to be patched, and of the destination."""
-    if source.refusal:
-        return source.refusal
+    if own_refusal(copier, source):
+        return own_refusal(copier, source)
     state = source.state()
-    if copier.validate and hash_refusal(state):
-        return hash_refusal(state)
     if not copier.force and state.names.get(AGG) is None:
         return 'CannotDiffFileWithoutHash'
     if not copier.force and (state.names.get(BEFORE) is not None or state.names.get(AFTER) is not None):

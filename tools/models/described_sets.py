@@ -4,7 +4,6 @@ import json
 import re
 
 from models import shown
-from models.shown import option
 
 FIELDS = ('name', 'version', 'description', 'attribution', 'legend', 'template')
 
@@ -67,16 +66,16 @@ def said(state, file_name):
             value = value if value[0] else []
     tiles = span(state.tiles)
     low, high = within(zooms, tiles)
-    document = {name: option(shown.text(text)) for name, text in found.items()}
-    document.update(minzoom=option(low), maxzoom=option(high), other=other)
+    document = {name: shown.option(shown.text(text)) for name, text in found.items()}
+    document.update(minzoom=shown.option(low), maxzoom=shown.option(high), other=other)
     for name in ('bounds', 'center'):
         if name in names:
             document[name] = f'Some(Text({shown.text(names[name])}))'
     if shown.layers(layers) is not None:
-        document['vector_layers'] = option(shown.layers([with_zooms(layer, tiles) for layer in layers]))
+        document['vector_layers'] = shown.option(shown.layers([with_zooms(layer, tiles) for layer in layers]))
     hashed = names.get('agg_tiles_hash')
-    return (shown.text(file_name), option(shown.text(names['type']) if 'type' in names else None), shown.document([], {}, document),
-            option(shown.value(value[0]) if value else None), option(None if hashed is None else shown.text(hashed)))
+    return (shown.text(file_name), shown.option(shown.text(names['type']) if 'type' in names else None), shown.document([], {}, document),
+            shown.option(shown.value(value[0]) if value else None), shown.option(None if hashed is None else shown.text(hashed)))
 
 
 def compact(value):

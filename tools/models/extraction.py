@@ -1,12 +1,12 @@
 # A part of an archive, as that below a tile, by its definition: the archive that an extraction makes, its outcome, and
 # how often it asks its source and its medium.
 from models import pmtiles as pm
+from models import readers
+from models import shown
 
 U32, U64 = 2 ** 32, 2 ** 64
 ALL = U64 - 1
 LABELS = {'tile', 'type', 'min_lon', 'min_lat', 'max_lon', 'max_lat', 'center_zoom', 'center_lon', 'center_lat'}
-PLACES = ('length', 'root_length', 'leaf_offset', 'leaf_length', 'leaves', 'uppers', 'data_offset', 'data_length', 'addressed', 'entries', 'contents')
-START = ['0', '0']
 
 
 class Ends(Exception):
@@ -90,7 +90,7 @@ def walk(source, data, h, entries, low, limit, depth, wanted):
             yield e
         elif is_met(wanted, e[0], end):
             source.read(h['leaf_offset'], e[1], e[2])
-            leaf = of_archive(lambda: pm.leaf(data, h, e))
+            leaf = of_archive(lambda: readers.leaf(data, h, e))
             yield from walk(source, data, h, leaf, e[0], end, depth + 1, wanted)
 
 
@@ -120,9 +120,9 @@ class Run:
         self.held = None
 
     def parts(self, wanted, most):
-        h, root = of_archive(lambda: pm.opened(self.data))
+        h, root = of_archive(lambda: readers.opened(self.data))
         self.source.read(0, h['metadata_offset'], h['metadata_length'])
-        text = of_archive(lambda: pm.metadata(self.data)).encode()
+        text = of_archive(lambda: readers.metadata(self.data)).encode()
         parts = clipped(list(walk(self.source, self.data, h, root, 0, None, 0, wanted)), wanted)
         if sum(p[3] for p in parts) > most:
             refused(f'TooManyTiles({most})')
@@ -133,7 +133,7 @@ class Run:
         adds, known = [], pm.Contents()
         for first, offset, length, run in parts:
             self.source.read(h['data_offset'], offset, length)
-            content = of_archive(lambda: pm.part(self.data, h['data_offset'], offset, length))
+            content = of_archive(lambda: readers.part(self.data, h['data_offset'], offset, length))
             for i in range(run):
                 for call in known.calls(content):
                     self.write() if call == 'write' else self.medium.call()
@@ -160,7 +160,7 @@ class Run:
         for _ in ('leaves', 'root', 'header', 'label of directories'):
             self.write()
         self.held = archive
-        return 'ArchivePlaces { ' + ', '.join(f'{n}: {places[n]}' for n in PLACES) + ' }'
+        return shown.places(places)
 
     def result(self, call):
         """The text of a result."""
@@ -178,6 +178,7 @@ class Run:
             return f'Done({self.extract(*found)})', 0
         except Ends as end:
             return end.args
+
 
 def label(held):
     """Byte 97, where there is one."""

@@ -134,10 +134,14 @@ def xxh3(data):
     return middle(data) if len(data) <= 240 else long(data)
 
 
+def md5(data):
+    return hashlib.md5(data).hexdigest().upper()
+
+
 @functools.lru_cache(4096)
 def digest(algorithm, data):
     """The text of some bytes under an algorithm."""
     if algorithm == 'md5':
-        return hashlib.md5(data).hexdigest().upper()
+        return md5(data)
     number = {'fnv1a': fnv1a, 'fnv1a-decimal': fnv1a, 'xxh64': xxh64, 'xxh3': xxh3}[algorithm](data)
     return str(number) if algorithm == 'fnv1a-decimal' else f'{number:016X}'

@@ -1,11 +1,9 @@
 # The store that crates/mbtiles_rows keeps, and what its tables hold, for tools/cases/mbtiles_rows.py: how the store
 # is made in one line, which of its calls fail, and how its rows are printed.
-import hashlib
-
 from models import shown
-from models.hashes import digest
+from models.hashes import digest, md5
 from models.names import CONTENT_TABLES, KEYS, TABLES, TILE_TABLES
-from models.patches import State, order, put_row
+from models.patches import State, insert_row, order, put_row
 
 
 def is_plain(text):
@@ -31,12 +29,26 @@ def say_rows(tables, name):
 
 def summed(text):
     """A long text by its digest."""
-    return hashlib.md5(text.encode()).hexdigest().upper()
+    return md5(text.encode())
 
 
-class Held:
+class Tables:
+    """The rows of a layout's tables, in the order of their keys."""
+
+    def put(self, name, cells):
+        put_row(self.tables[name], KEYS[name], order, cells)
+
+    def state(self):
+        return State(self.layout, self.tables)
+
+    def load_calls(self):
+        """How many calls loading makes: the descriptions, and the number and the rows of each table."""
+        return 1 + 2 * len(self.tables)
+
+
+class Held(Tables):
     """The kept store: its layout, the rows of its tables in the order of their keys, and how often it was asked
-    before the next call."""
+    before the next call. A line makes it, where there is a word for that."""
 
     def __init__(self, rows, layout, pushes, word='new'):
         self.rows, self.layout = rows, layout
@@ -45,7 +57,8 @@ class Held:
         for name, *cells in pushes:
             self.add(name, cells)
         self.asked = len(pushes)
-        rows.row(f'set {word} {layout} {spelled(pushes)}')
+        if word:
+            rows.row(f'set {word} {layout} {spelled(pushes)}')
 
     def add(self, name, cells):
         """One row more, behind those of its key."""
@@ -53,13 +66,7 @@ class Held:
         key = [order(c) for c in cells[:KEYS[name]]]
         held = self.tables[name]
         assert 'n' in cells[:KEYS[name]] or all([order(c) for c in r[:KEYS[name]]] != key for r in held), cells
-        held.insert(next((i for i, r in enumerate(held) if [order(c) for c in r[:KEYS[name]]] > key), len(held)), tuple(cells))
-
-    def put(self, name, cells):
-        put_row(self.tables[name], KEYS[name], order, cells)
-
-    def state(self):
-        return State(self.layout, self.tables)
+        insert_row(held, KEYS[name], cells)
 
     def fail(self, call):
         """The call of this number, from here on, fails."""
@@ -73,10 +80,6 @@ class Held:
     def say_digests(self):
         """How many rows each table has, and their digest."""
         self.rows.row('set digest', *(piece for name in TABLES if self.tables.get(name) for piece in (name, len(self.tables[name]), summed(say_rows(self.tables, name)))))
-
-    def load_calls(self):
-        """How many calls loading makes: the descriptions, and the number and the rows of each table."""
-        return 1 + 2 * len(self.tables)
 
 
 def tile_row(layout, algorithm, place, data):

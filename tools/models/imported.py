@@ -1,6 +1,7 @@
 # What importing an archive makes of the tables of a set, or the first refusal, by the rules of imports, for
 # tools/cases/import_cases.py and tools/cases/hostile_archives.py.
 from models import pmtiles as pm
+from models import readers
 from models import shown
 from models.held_sets import tile_row
 from models.inserted import collision
@@ -34,7 +35,7 @@ class Reads:
         """A range, which is asked for where its end is within u64."""
         if base + offset + length < 2 ** 64:
             self.call(length)
-        return of_archive(lambda: pm.part(data, base, offset, length))
+        return of_archive(lambda: readers.part(data, base, offset, length))
 
 
 def of_archive(call):
@@ -114,7 +115,7 @@ class Walk:
 def tiles_of(data, most, reads):
     """The tiles of an archive by zoom, column and row from the bottom."""
     reads.call()
-    header, root = of_archive(lambda: pm.opened(data))
+    header, root = of_archive(lambda: readers.opened(data))
     walk = Walk(data, header, most, reads)
     walk.directory(root, 0, None, 0)
     tiles = {}
@@ -123,7 +124,7 @@ def tiles_of(data, most, reads):
             z, x, y = coord(t)
             tiles[z, x, 2 ** z - 1 - y] = content
     for (z, x, y), content in tiles.items():
-        assert pm.archive_tile(data, pm.tile_id(z, x, 2 ** z - 1 - y)) == content
+        assert readers.archive_tile(data, pm.tile_id(z, x, 2 ** z - 1 - y)) == content
     return tiles
 
 

@@ -73,6 +73,11 @@ def order(cell):
     return {'n': (0,), 'i': (1, int(value) if kind == 'i' else 0), 't': (2, value.encode()), 'x': (3, bytes.fromhex(value) if kind == 'x' else b''), 'o': (4,)}[kind]
 
 
+def insert_row(rows, width, cells):
+    """One row more, behind those of its key. The rows are in the order of their keys."""
+    rows.insert(bisect_right(rows, [order(c) for c in cells[:width]], key=lambda r: [order(c) for c in r[:width]]), tuple(cells))
+
+
 def put_row(rows, width, order, cells):
     """One row in place of those of its key. The rows are in the order of their keys."""
     own, place = list(cells[:width]), [order(c) for c in cells[:width]]

@@ -1,12 +1,11 @@
 # PMTiles version 3 by its definition, in plain python: ids, varints, directories, headers, and archives that are
-# written and read. The scripts beside it compute from it what the rows programs must print. Nothing here is taken
-# from a program of this repository. tools/cases/tileset_rows.py lays ids and archives out a second time, and holds
-# each archive against the one that is made here.
+# written. The scripts beside it compute from it what the rows programs must print. Nothing here is taken from a
+# program of this repository. tools/cases/tileset_rows.py lays ids and archives out a second time, and holds each
+# archive against the one that is made here.
 import functools
 import struct
 
 from models.hashes import xxh3
-from models.names import COMPRESSIONS
 
 FRONT = 16384
 
@@ -106,14 +105,17 @@ def read_directory(data):
     return list(zip(ids, offsets, lengths, runs))
 
 
-def directory(entries):
-    """The count, and four columns: ids by their rises, runs, lengths, and offsets, of which one at the end of the
-    last entry is 0."""
+def numbers(entries):
+    """The numbers of a directory: the count, and four columns: ids by their rises, runs, lengths, and offsets, of which
+    one at the end of the last entry is 0."""
     ids = [0] + [e[0] for e in entries]
     ends = [None] + [e[1] + e[2] for e in entries]
-    numbers = [len(entries), *(one - last for last, one in zip(ids, ids[1:])), *(e[3] for e in entries), *(e[2] for e in entries),
-               *(0 if e[1] == end else e[1] + 1 for e, end in zip(entries, ends))]
-    return b''.join([SMALL[n] if 0 <= n < 128 else varint(n) for n in numbers])
+    return [len(entries), *(one - last for last, one in zip(ids, ids[1:])), *(e[3] for e in entries), *(e[2] for e in entries),
+            *(0 if e[1] == end else e[1] + 1 for e, end in zip(entries, ends))]
+
+
+def directory(entries):
+    return b''.join([SMALL[n] if 0 <= n < 128 else varint(n) for n in numbers(entries)])
 
 
 def scan(entries, t):
@@ -169,147 +171,6 @@ def read_header(data):
     h['center_zoom'] = data[118]
     h['center_lon'], h['center_lat'] = struct.unpack_from('<ii', data, 119)
     return h
-
-# Archives that are read.
-
-
-@functools.lru_cache(maxsize=4)
-def opened(data):
-    front = data[:FRONT]
-    if len(front) < 127:
-        raise ArchiveRefused('InvalidHeader')
-    h = read_header(front)
-    end = h['root_offset'] + h['root_length']
-    if h['root_offset'] < 127 or end > len(front):
-        raise ArchiveRefused('InvalidHeader')
-    if h['internal'] != 1:
-        raise ArchiveRefused(f"UnsupportedCompression({COMPRESSIONS[h['internal']]})")
-    return h, read_directory(front[h['root_offset']:end])
-
-
-def part(data, base, offset, length):
-    at = base + offset
-    if at + length >= 2 ** 64 or at + length > len(data):
-        raise ArchiveRefused('Reading(PastEnd)')
-    return data[at:at + length]
-
-
-def leaf(data, h, e):
-    return read_directory(part(data, h['leaf_offset'], e[1], e[2]))
-
-
-def look_up(data, t):
-    """The tile, and how many leaves were read on the way."""
-    h, entries = opened(data)
-    found = scan(entries, t)
-    hops = 0
-    while found and found[3] == 0:
-        if hops == 6:
-            return None, hops
-        found = scan(leaf(data, h, found), t)
-        hops += 1
-    if not found:
-        return None, hops
-    return part(data, h['data_offset'], found[1], found[2]), hops
-
-
-def archive_tile(data, t):
-    return look_up(data, t)[0]
-
-
-def walk(data, budget, read=lambda length: None):
-    """Items of a walk along the levels: entries, or the text of a refusal as the last one. `read` is called before
-    each read of a leaf, with its length."""
-    h, level = opened(data)
-    items, spent = [], 0
-    while level:
-        following = []
-        for e in level:
-            if e[3] > 0:
-                items.append(e)
-                continue
-            if spent == budget:
-                return items + ['BudgetSpent']
-            spent += 1
-            try:
-                read(e[2])
-                following += leaf(data, h, e)
-            except ArchiveRefused as refusal:
-                return items + [str(refusal)]
-        level = following
-    return items
-
-
-def metadata(data):
-    h, _ = opened(data)
-    text = part(data, h['metadata_offset'], 0, h['metadata_length'])
-    try:
-        return text.decode('utf-8')
-    except UnicodeDecodeError:
-        raise ArchiveRefused('InvalidMetadataUtf8Encoding')
-
-# Archives that are checked.
-
-
-class Broken(Exception):
-    """The first broken part: the depth and offset of its directory, its index there, and why."""
-
-
-def broken_id(entries, low, limit):
-    """The first entry that fails a test of ids and runs, by its index, and why."""
-    last, run = None, None
-    for i, e in enumerate(entries):
-        if last is not None and e[0] <= last:
-            return i, 'IdsFall'
-        if last is not None and last + run > e[0]:
-            return i, 'RunOverlaps'
-        if not low <= e[0] < limit:
-            return i, 'OutsideRange'
-        if e[3] > 0 and e[0] + e[3] - 1 > LAST:
-            return i, 'PastMaxId'
-        if e[0] + e[3] > limit:
-            return i, 'OutsideRange'
-        last, run = e[0], e[3]
-    return None
-
-
-def check_directory(data, h, entries, place, low, limit, met, read):
-    depth, offset = place
-    found = broken_id(entries, low, limit)
-    if found:
-        raise Broken(depth, offset, *found)
-    for i, e in enumerate(entries):
-        if e[3] > 0:
-            met['tiles'].append(e)
-            read(0)
-            try:
-                part(data, h['data_offset'], e[1], e[2])
-            except ArchiveRefused:
-                raise Broken(depth, offset, i, 'TilePastEnd')
-            continue
-        if depth == 6:
-            raise Broken(depth, offset, i, 'TooDeep')
-        read(e[2])
-        try:
-            below = leaf(data, h, e)
-        except ArchiveRefused as refusal:
-            met['leaves'] += str(refusal) == 'InvalidEntry'
-            raise Broken(depth, offset, i, 'NotDecoded' if str(refusal) == 'InvalidEntry' else 'LeafPastEnd')
-        met['leaves'] += 1
-        check_directory(data, h, below, (depth + 1, e[1]), e[0], entries[i + 1][0] if i + 1 < len(entries) else limit, met, read)
-
-
-def check(data, read=lambda length: None):
-    """The numbers of a sound archive, its refusal or its first broken part, and how many leaves were read. `read` is called before each read of a range, with its length: a tile's end is tested by
-    a read of no bytes."""
-    h, root = opened(data)
-    met = {'leaves': 0, 'tiles': []}
-    try:
-        check_directory(data, h, root, (0, 0), 0, LAST + 1, met, read)
-    except Broken as broken:
-        return broken.args, met['leaves']
-    tiles = met['tiles']
-    return (met['leaves'], sum(e[3] for e in tiles), len(tiles), len({e[1:3] for e in tiles})), met['leaves']
 
 # Archives that are written.
 
@@ -379,32 +240,35 @@ class Contents:
         return reads + ['write']
 
 
+def front(h, root):
+    """The first bytes of an archive: its header, its root and the room behind that."""
+    return (header(h) + root).ljust(FRONT, b'\0')
+
+
+def whole(root, leaf_part, contents, text=b'{}', /, **fields):
+    """An archive by its parts, which lie one behind another, and its header."""
+    h, data_offset = default_header(), FRONT + len(text)
+    h.update(root_length=len(root), metadata_length=len(text), data_offset=data_offset, data_length=len(contents), leaf_offset=data_offset + len(contents), leaf_length=len(leaf_part))
+    h.update(fields)
+    return front(h, root) + text + contents + leaf_part, h
+
+
 def archive(adds, metadata_text=b'{}', most=4096, **options):
     """The bytes of the archive of adds (id, bytes) with distinct ids, of at most so many entries in a leaf, and its
     places."""
     adds = [(t, d) for t, d in adds if d]
-    places, contents, data = {}, 0, b''
-    parts, length = [], 0
+    places, length = {}, 0
     for _, content in adds:
         if content not in places:
             places[content] = (length, len(content))
-            parts.append(content)
             length += len(content)
-            contents += 1
-    data = b''.join(parts)
+    data = b''.join(places)
     entries = entries_of(adds, places)
     root, leaves, uppers = laid(entries, most)
     root, leaf_part = directory(root), b''.join(map(directory, leaves + uppers))
-    h = default_header()
-    h.update(options)
     ids = [t for t, _ in adds]
-    data_offset = FRONT + len(metadata_text)
-    h.update(root_length=len(root), metadata_length=len(metadata_text), data_offset=data_offset, data_length=len(data),
-             leaf_offset=data_offset + len(data) if leaves else 0, leaf_length=len(leaf_part),
-             addressed=len(adds), entries=len(entries), contents=contents,
-             clustered=1 if all(a < b for a, b in zip(ids, ids[1:])) else 0)
-    front = header(h) + root
-    out = front + bytes(FRONT - len(front)) + metadata_text + data + leaf_part
+    out, h = whole(root, leaf_part, data, metadata_text, **options, **({} if leaves else {'leaf_offset': 0}), addressed=len(adds), entries=len(entries), contents=len(places),
+                   clustered=1 if all(a < b for a, b in zip(ids, ids[1:])) else 0)
     h['leaves'], h['uppers'] = len(leaves), len(uppers)
     h['length'] = len(out)
     return out, h

@@ -2,6 +2,7 @@
 # archive is read.
 from models import hashes
 from models import pmtiles as pm
+from models import readers
 
 def spelled(text):
     return text.replace(' ', '_').replace('\n', '/')
@@ -41,15 +42,20 @@ def tile_reply(data, tag):
     return f'304 {tag}' if tag == tag_of(data) else f'200 {tag_of(data)} {data.hex()}'
 
 
-def reply(data, line):
-    """The reply by the bytes of the archive alone."""
+def replied(line, tile):
+    """The reply to a line, whose tile is asked for by its id."""
     asked = request(line)
     if not asked:
         return '400'
     try:
-        return tile_reply(pm.archive_tile(data, asked[0]), asked[1])
+        return tile_reply(tile(asked[0]), asked[1])
     except pm.ArchiveRefused as refusal:
         return '500 ' + ('InvalidEntry' if str(refusal) == 'InvalidEntry' else 'PastEnd')
+
+
+def reply(data, line):
+    """The reply by the bytes of the archive alone."""
+    return replied(line, lambda t: readers.archive_tile(data, t))
 
 
 class Fault(Exception):
@@ -64,7 +70,7 @@ class Server:
         self.most_directories, self.most_entries, self.most_tiles, self.most_bytes = limits
         self.directories, self.tiles = [], []
         self.read()
-        self.header, self.root = pm.opened(data)
+        self.header, self.root = readers.opened(data)
 
     def read(self, length=None):
         """A read of a range of so many bytes, or that of opening."""
@@ -79,7 +85,7 @@ class Server:
                 self.directories.insert(0, self.directories.pop(i))
                 return held[1]
         self.read(e[2])
-        entries = pm.leaf(self.data, self.header, e)
+        entries = readers.leaf(self.data, self.header, e)
         if len(entries) <= self.most_entries:
             self.directories = [(place, entries)] + self.directories[:self.most_directories - 1]
             while sum(len(d) for _, d in self.directories) > self.most_entries:
@@ -98,7 +104,7 @@ class Server:
         if not found or found[3] == 0:
             return None
         self.read(found[2])
-        data = pm.part(self.data, self.header['data_offset'], found[1], found[2])
+        data = readers.part(self.data, self.header['data_offset'], found[1], found[2])
         if data and len(data) <= self.most_bytes:
             self.tiles = [(t, data)] + self.tiles[:self.most_tiles - 1]
             while self.held() > self.most_bytes:
@@ -109,10 +115,4 @@ class Server:
         return sum(len(d) for _, d in self.tiles)
 
     def answer(self, line):
-        asked = request(line)
-        if not asked:
-            return '400'
-        try:
-            return tile_reply(self.tile(asked[0]), asked[1])
-        except pm.ArchiveRefused as refusal:
-            return '500 ' + ('InvalidEntry' if str(refusal) == 'InvalidEntry' else 'PastEnd')
+        return replied(line, self.tile)

@@ -45,6 +45,12 @@ def option(x):
     return 'None' if x is None else f'Some({x})'
 
 
+def places(of):
+    """Where the parts of an archive that was written lie, and how much is in them."""
+    names = ('length', 'root_length', 'leaf_offset', 'leaf_length', 'leaves', 'uppers', 'data_offset', 'data_length', 'addressed', 'entries', 'contents')
+    return 'ArchivePlaces { ' + ', '.join(f'{n}: {of[n]}' for n in names) + ' }'
+
+
 def flag(x):
     return 'true' if x else 'false'
 

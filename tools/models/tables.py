@@ -2,7 +2,6 @@
 # loaded sets.
 from models import shown
 from models.names import KEYS, LAYOUTS, NORMALIZED, PLACE, TABLES
-from models.shown import flag, option
 
 # Descriptions: (name, whether it is a table, columns, indexes (unique, columns)).
 
@@ -47,7 +46,7 @@ def has(tables, name, as_view=False):
 
 def layout_of(tables):
     if has(tables, 'map') and has(tables, 'images'):
-        return NORMALIZED.format(flag(has(tables, 'tiles_with_hash', True)), 'Hash'), 'map'
+        return NORMALIZED.format(shown.flag(has(tables, 'tiles_with_hash', True)), 'Hash'), 'map'
     if has(tables, 'tiles_shallow') and has(tables, 'tiles_data'):
         return NORMALIZED.format('false', 'DedupId'), 'tiles_shallow'
     for name, text in (('tiles_with_hash', 'FlatWithHash'), ('tiles', 'Flat'), ('tile_cache', 'Cache')):
@@ -75,7 +74,7 @@ def layout_answers(tables):
 
 
 def table_answers(tables):
-    return [flag(a) for a in (has(tables, 'tiles'), has(tables, 'tiles_with_hash'), has(tables, 'tiles_with_hash', True), has(tables, 'map') and has(tables, 'images'),
+    return [shown.flag(a) for a in (has(tables, 'tiles'), has(tables, 'tiles_with_hash'), has(tables, 'tiles_with_hash', True), has(tables, 'map') and has(tables, 'images'),
                               has(tables, 'tiles_shallow') and has(tables, 'tiles_data'), has(tables, 'tile_cache'))]
 
 
@@ -86,7 +85,7 @@ def texts(of):
 def debug(tables):
     def one(t):
         columns = ', '.join(f'ColumnDesc {{ name: {shown.text(n)}, type_name: {shown.text(k)} }}' for n, k in t[2])
-        indexes = ', '.join(f'IndexDesc {{ unique: {flag(u)}, columns: TextList {{ texts: {texts(c)} }} }}' for u, c in t[3])
+        indexes = ', '.join(f'IndexDesc {{ unique: {shown.flag(u)}, columns: TextList {{ texts: {texts(c)} }} }}' for u, c in t[3])
         return (f"TableDesc {{ name: {shown.text(t[0])}, kind: {'Table' if t[1] else 'View'}, columns: ColumnList {{ columns: [{columns}] }}, "
                 f'indexes: IndexList {{ indexes: [{indexes}] }} }}')
     return '[' + ', '.join(map(one, tables)) + ']'
@@ -122,7 +121,7 @@ def place_pieces(z, c, r):
 
 def loaded(layout, tiles, names, algorithm='Md5', patch_type='None'):
     return (LAYOUTS[layout], algorithm, patch_type,
-            *(piece for (z, c, r), contents, name in tiles for piece in (place_pieces(z, c, r), show(contents), option(name and show(name)), 'true')),
+            *(piece for (z, c, r), contents, name in tiles for piece in (place_pieces(z, c, r), show(contents), shown.option(name and show(name)), 'true')),
             *(piece for name, value in names for piece in (name, show(value))))
 
 

@@ -8,6 +8,7 @@ use pm_format::status;
 use program_words::{
     Beside, Put, Taken, put_beside, put_over, remove_beside, remove_made, take_beside,
 };
+use sqlite::{Error, ErrorCode};
 use std::fs;
 
 // Says why the file beside a path wasn't filled.
@@ -17,6 +18,10 @@ fn say_unfilled(rt: &HostRuntime, path: &str, is_new: bool, error: &Unfilled) ->
     }
     match error {
         Unfilled::Set(error) => refused(rt, path, error),
+        Unfilled::Database(Error::SqliteFailure(ErrorCode::DiskFull)) => {
+            let _ = eprintln!(rt; "{TOOL}: {path}: the file can't be written: the disk is full");
+            status::FAULT
+        }
         Unfilled::Database(error) if !is_new => {
             let _ = eprintln!(rt;
                 "{TOOL}: {path} is a database of a form that isn't written here, or the disk is full ({error}); fatyngu copy makes a plain set of it"

@@ -4,7 +4,7 @@ use crate::beside::make_set;
 use crate::editing::edit_silently;
 use crate::filling::Edit;
 use crate::reading::read_set;
-use crate::saying::{out_of_memory, refused, usage};
+use crate::saying::{out_of_memory, refused, refused_patch, usage};
 use mb_copy::MbtilesCopier;
 use mb_load::load;
 use mb_store::{MbtResult, MbtType, MemStore};
@@ -39,6 +39,45 @@ fn copy_anew(
     }
 }
 
+// What a patch makes of a set, in memory.
+fn patched(
+    alloc: Global,
+    (source, patch): (MemStore, MemStore),
+    copier: &MbtilesCopier,
+) -> MbtResult<MemStore> {
+    let (mut source, mut patch) = (source, patch);
+    let mut made = MemStore::new(alloc);
+    copier.run_with_patch(alloc, &mut source, &mut made, &mut patch)?;
+    Ok(made)
+}
+
+// A copy of all that a set has.
+fn whole_copy(alloc: Global, copier: &MbtilesCopier) -> MbtilesCopier {
+    let mut whole = MbtilesCopier::new(alloc);
+    whole.skip_agg_tiles_hash = copier.skip_agg_tiles_hash;
+    whole
+}
+
+// Copies what a patch makes of a set into a new file.
+fn copy_patched(
+    rt: &HostRuntime,
+    (from, patch, to): (&str, &str, &str),
+    copier: &MbtilesCopier,
+) -> u8 {
+    let source = match read_set(rt, from, true) {
+        Ok(source) => source,
+        Err(status) => return status,
+    };
+    let brought = match read_set(rt, patch, true) {
+        Ok(brought) => brought,
+        Err(status) => return status,
+    };
+    match patched(rt.alloc(), (source, brought), copier) {
+        Ok(made) => copy_anew(rt, (from, to), made, whole_copy(rt.alloc(), copier)),
+        Err(error) => refused_patch(rt, from, patch, &error),
+    }
+}
+
 // Copies a set into a file, which is there or not.
 fn copy_files(rt: &HostRuntime, (from, to): (&str, &str), copier: MbtilesCopier) -> u8 {
     let is_new = fs::symlink_metadata(rt, to).is_err();
@@ -55,6 +94,25 @@ fn copy_files(rt: &HostRuntime, (from, to): (&str, &str), copier: MbtilesCopier)
     }
 }
 
+// Copies a set with a patch, or without.
+fn copy_with(
+    rt: &HostRuntime,
+    (from, to): (&str, &str),
+    patch: Option<&str>,
+    copier: MbtilesCopier,
+) -> u8 {
+    let Some(patch) = patch else {
+        return copy_files(rt, (from, to), copier);
+    };
+    if fs::symlink_metadata(rt, to).is_ok() {
+        let _ = eprintln!(rt;
+            "{TOOL}: {to} is there; what --apply-patch makes goes into a new file"
+        );
+        return status::REFUSED;
+    }
+    copy_patched(rt, (from, patch, to), &copier)
+}
+
 /// Copies a set, by the words.
 pub fn copy(rt: &HostRuntime, asked: &Asked) -> u8 {
     let (from, to) = (asked.word(0), asked.word(1));
@@ -65,7 +123,7 @@ pub fn copy(rt: &HostRuntime, asked: &Asked) -> u8 {
         return status::REFUSED;
     }
     match copier_of(rt.alloc(), asked) {
-        Ok(Some(copier)) => copy_files(rt, (from, to), copier),
+        Ok(Some(copier)) => copy_with(rt, (from, to), asked.value("--apply-patch"), copier),
         Ok(None) => usage(rt, Subcommand::Copy),
         Err(_) => out_of_memory(rt),
     }

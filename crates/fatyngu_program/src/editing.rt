@@ -7,12 +7,12 @@ use crate::saying::{out_of_memory, print_made, refused};
 use base_values::{OutOfMemory, TextVal};
 use mb_store::{MbtResult, MbtType, MemStore, TileStore, detect_type};
 use pm_format::status;
-use program_words::{Beside, Taken, take_over};
+use program_words::{Beside, Taken, keep_access, take_over};
 use sqlite::{Files, Unknown};
 use sqlite_std_file::{OpenError, open};
 use std::alloc::Global;
-use std::fs::{File, Metadata};
-use std::os::unix::fs::{FileExt, MetadataExt, fchown};
+use std::fs::File;
+use std::os::unix::fs::FileExt;
 use std::{fs, io};
 use tile_command::Asked;
 
@@ -26,22 +26,13 @@ fn layout_of(alloc: Global, store: MemStore) -> MbtResult<MbtType> {
     detect_type(tables.as_slice())
 }
 
-// Gives a copy the mode of a file, and its owner and group where they are others.
-fn copy_access(found: &Metadata, to: &File) -> io::Result<()> {
-    let made = to.metadata()?;
-    if made.uid() != found.uid() || made.gid() != found.gid() {
-        fchown(to, Some(found.uid()), Some(found.gid()))?;
-    }
-    to.set_permissions(found.permissions())
-}
-
-// Copies a file into the one beside it, and tells which journal it has.
+// Copies a file into the one beside it, and tells which journal it has. The copy has to have the owner of the file.
 fn copy_file(rt: &HostRuntime, from: &mut File, beside: &Beside) -> io::Result<Journal> {
     let mut journal = [0u8; 2];
     from.read_at(&mut journal, 18)?;
     let mut to = File::options().write(true).open(rt, beside.path())?;
     io::copy(from, &mut to)?;
-    copy_access(&from.metadata()?, &to)?;
+    keep_access(&from.metadata()?, &to)?;
     Ok(journal)
 }
 

@@ -97,6 +97,9 @@ Copies a set into a new file, or into one that is there.
                                                the digests of a new DST
 --skip-agg-tiles-hash                          stores no hash of all tiles
 --validate   refuses an SRC whose stored hash of all tiles isn't there or wrong
+--apply-patch PATCH   copies what PATCH makes of SRC into a new DST, where the
+             hashes of SRC and of the copy are those that PATCH says
+--force      takes PATCH whatever hashes it and SRC have
 ";
 
 const PATCH: &str = "usage: fatyngu patch BASE PATCH [--force]

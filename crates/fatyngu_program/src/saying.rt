@@ -66,7 +66,8 @@ fn advice_on(error: &MbtError) -> &'static str {
         MbtError::DiffingDiffFile
         | MbtError::PatchFileHasNoHashes
         | MbtError::PatchFileHasNoBeforeHash
-        | MbtError::AggHashMismatchWithDiff { .. } => {
+        | MbtError::AggHashMismatchWithDiff { .. }
+        | MbtError::AggHashMismatchAfterApply { .. } => {
             "; --force takes the patch whatever its hashes"
         }
         MbtError::NoFormatInMetadata => "; fatyngu meta set SET format png says that tiles are png",
@@ -87,5 +88,18 @@ pub fn refused(rt: &HostRuntime, path: &str, error: &MbtError) -> u8 {
     }
     let advice = advice_on(error);
     let _ = eprintln!(rt; "{TOOL}: {path}: {error}{advice}");
+    set_status(error)
+}
+
+/// Says why a copy with a patch is refused.
+pub fn refused_patch(rt: &HostRuntime, path: &str, patch: &str, error: &MbtError) -> u8 {
+    if matches!(error, MbtError::OutOfMemory) {
+        return out_of_memory(rt);
+    }
+    let advice = match error {
+        MbtError::UnsupportedCopyOperation => "; give another --mbtiles-type",
+        other => advice_on(other),
+    };
+    let _ = eprintln!(rt; "{TOOL}: {path} with the patch {patch}: {error}{advice}");
     set_status(error)
 }

@@ -2,11 +2,14 @@
 use crate::destination::tried_write;
 use crate::folder::{FileId, open_folder, sync_folder};
 use crate::locked::{Unmade, make_locked};
-use std::fs::File;
+use crate::over::keep_access;
+use std::fs::{File, Metadata, Permissions};
 use std::io::ErrorKind;
+use std::os::unix::fs::PermissionsExt;
 use std::{fs, io};
 
-/// A file that was made beside the place where it is wanted. Its lock tells other runs that it is written, and goes with the process.
+/// A file that was made beside the place where it is wanted. Its lock tells other runs that it is written,
+/// and goes with the process.
 #[derive(Drop)]
 pub struct Beside {
     path: String,
@@ -19,6 +22,16 @@ impl Beside {
     /// The path of the file.
     pub fn path(&self) -> &str {
         self.path.as_str()
+    }
+
+    /// Lets nobody but its owner read the file or write it.
+    pub(crate) fn hide(&self) -> io::Result<()> {
+        self.file.set_permissions(Permissions::from_mode(0o600))
+    }
+
+    /// Gives the file the access of another one, whose place it takes.
+    pub(crate) fn keep_access(&self, found: &Metadata) -> io::Result<()> {
+        keep_access(found, &self.file)
     }
 
     /// Whether the file is still the one at its path.
@@ -57,8 +70,9 @@ pub enum Put {
     Failed,
 }
 
-/// Makes an empty file beside a path, `PATH.new`, where nothing is at the path, also as a link to nothing. One that a stopped run left at `PATH.new` is made anew; one that another
-/// run writes stays. Standard error says why none is made.
+/// Makes an empty file beside a path, `PATH.new`, where nothing is at the path, also as a link to nothing.
+/// One that a stopped run left at `PATH.new` is made anew; one that another run writes stays. Standard
+/// error says why none is made.
 pub fn take_beside(rt: &HostRuntime, tool: &str, path: &str) -> Taken {
     match fs::symlink_metadata(rt, path) {
         Ok(_) => {
@@ -119,7 +133,8 @@ fn name_new(rt: &HostRuntime, beside: &Beside, path: &str) -> io::Result<()> {
     }
 }
 
-/// Puts a file at a path where nothing is, under that name alone, once its bytes are synced, and syncs its folder. Standard error says why it isn't put there.
+/// Puts a file at a path where nothing is, under that name alone, once its bytes are synced, and syncs its folder.
+/// Standard error says why it isn't put there.
 pub fn put_beside(rt: &HostRuntime, tool: &str, beside: &Beside, path: &str) -> Put {
     let named = name_new(rt, beside, path);
     put_named(rt, tool, beside, path, named)
@@ -158,7 +173,8 @@ fn synced(rt: &HostRuntime, tool: &str, beside: &Beside, path: &str) -> Put {
     }
 }
 
-/// Removes the file that was made beside a path, where it is still the one there. Standard error says where it can't be removed.
+/// Removes the file that was made beside a path, where it is still the one there. Standard error says
+/// where it can't be removed.
 pub fn remove_beside(rt: &HostRuntime, tool: &str, beside: &Beside) {
     if beside.is_there(rt) {
         remove_made(rt, tool, beside.path());
@@ -176,7 +192,8 @@ pub fn remove_made(rt: &HostRuntime, tool: &str, path: &str) {
     }
 }
 
-/// Says on standard error why a file beside a path can't be written, as a further write to it tells. Bytes are added to it.
+/// Says on standard error why a file beside a path can't be written, as a further write to it
+/// tells. Bytes are added to it.
 pub fn say_beside_fault(rt: &HostRuntime, tool: &str, path: &str, beside: &str) {
     let _ = match tried_write(rt, beside) {
         Err(error) => eprintln!(rt; "{tool}: {path}: the file can't be written: {error}"),

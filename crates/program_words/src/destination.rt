@@ -17,8 +17,8 @@ pub enum Before {
 
 /// Makes the file at a path, or takes a regular one that is there. Nothing is changed in one that is there.
 ///
-/// Standard error says why a path isn't taken: one that leads to no file that can be made, to anything but a regular file, or to the
-/// file that standard input or output is.
+/// Standard error says why a path isn't taken: one that leads to no file that can be made, to anything but a regular
+/// file, or to the file that standard input or output is.
 pub fn take_destination(rt: &HostRuntime, tool: &str, path: &str) -> Option<Before> {
     match File::create_new(rt, path).and_then(|file| file.metadata()) {
         Ok(made) => Some(Before::Nothing(FileId::of(&made))),
@@ -64,7 +64,8 @@ pub(crate) fn is_file(rt: &HostRuntime, path: &str, found: &Metadata) -> bool {
     }
 }
 
-/// Has the system write the bytes of a file that was taken, and its name, to its disk. Whether it did; standard error says why not.
+/// Has the system write the bytes of a file that was taken, and its name, to its disk. Whether it did;
+/// standard error says why not.
 pub fn sync_destination(rt: &HostRuntime, tool: &str, path: &str) -> bool {
     let synced = match sync_file(rt, path) {
         Ok(()) => open_folder(rt, path).and_then(|folder| sync_folder(&folder)),
@@ -81,7 +82,8 @@ fn sync_file(rt: &HostRuntime, path: &str) -> io::Result<()> {
     file.sync_all()
 }
 
-/// Leaves the path of a run that failed as it was before: a file that was made is removed where it is still the one there, and one that was empty is emptied.
+/// Leaves the path of a run that failed as it was before: a file that was made is removed where it is still the one
+/// there, and one that was empty is emptied.
 pub fn leave_destination(rt: &HostRuntime, tool: &str, path: &str, before: Before) {
     let left = match before {
         Before::Nothing(made) if made.is_at(rt, path) => fs::remove_file(rt, path),
@@ -94,7 +96,8 @@ pub fn leave_destination(rt: &HostRuntime, tool: &str, path: &str, before: Befor
     }
 }
 
-/// Says on standard error why a file that was taken can't be written, as a further write to it tells. Bytes may be added to it.
+/// Says on standard error why a file that was taken can't be written, as a further write to it tells.
+/// Bytes may be added to it.
 pub fn say_medium_fault(rt: &HostRuntime, tool: &str, path: &str, before: Before) {
     let cause = match before {
         Before::Full => File::options().append(true).open(rt, path).map(|_| ()),

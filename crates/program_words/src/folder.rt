@@ -42,7 +42,8 @@ pub(crate) fn open_folder(rt: &HostRuntime, path: &str) -> io::Result<File> {
     File::open(rt, folder_of(path))
 }
 
-/// Has the system write the names in a folder to its disk. A file system that has no such call for folders keeps them by itself.
+/// Has the system write the names in a folder to its disk. A file system that has no such call for
+/// folders keeps them by itself.
 pub(crate) fn sync_folder(folder: &File) -> io::Result<()> {
     match folder.sync_all() {
         Err(error) if error.kind() == ErrorKind::InvalidInput => Ok(()),

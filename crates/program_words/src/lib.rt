@@ -1,4 +1,5 @@
-//! What the programs share: the words of the command line, the printing of texts, the standard streams, the file of an archive and the steps on the way to it.
+//! What the programs share: the words of the command line, the printing of texts, the standard streams, the file of an
+//! archive and the steps on the way to it.
 #![tactic(auto)]
 
 mod beside;
@@ -23,7 +24,7 @@ pub use destination::{
     Before, leave_destination, say_medium_fault, sync_destination, take_destination,
 };
 pub use folder::FileId;
-pub use over::{are_one_file, put_over, take_over};
+pub use over::{are_one_file, keep_access, put_over, take_over};
 use pm_format::status;
 pub use said::{
     say_input_fault, say_not_empty, say_opening, say_out_of_memory, say_output_fault,
@@ -39,7 +40,8 @@ pub use streams::{HeldStreams, hold_streams};
 /// The line of a run that memory ran out for. It stands here since making it may find no memory either.
 pub const OUT_OF_MEMORY: &str = "out of memory\n";
 
-/// The words after the program's name, where each of them is a text; refused where memory runs out. Standard error says why none are given.
+/// The words after the program's name, where each of them is a text; refused where memory runs out. Standard error
+/// says why none are given.
 pub fn words_of(rt: &HostRuntime, tool: &str) -> Result<Option<Vec<TextVal>>, AllocError> {
     let words = given_words(rt, rt.alloc());
     match &words {

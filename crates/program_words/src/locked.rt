@@ -1,4 +1,5 @@
-// A new file under a lock that lasts as long as the process that made it: a file that nobody holds is what a stopped run left.
+// A new file under a lock that lasts as long as the process that made it: a file that nobody holds is
+// what a stopped run left.
 use crate::folder::FileId;
 use std::fs::{File, TryLockError};
 use std::io::ErrorKind;
@@ -15,8 +16,8 @@ pub(crate) enum Unmade {
     Failed(io::Error),
 }
 
-/// Makes an empty file at a path and locks it. One that is there is removed first where nobody holds its lock, which standard error says; then the new one is another file, so that
-/// further names of the old one keep what they have.
+/// Makes an empty file at a path and locks it. One that is there is removed first where nobody holds its lock, which
+/// standard error says; then the new one is another file, so that further names of the old one keep what they have.
 pub(crate) fn make_locked(
     rt: &HostRuntime,
     tool: &str,
@@ -29,7 +30,8 @@ pub(crate) fn make_locked(
     }
 }
 
-// Locks a file that was made. Where the file system knows no locks it stays without one: then one that is there is never replaced.
+// Locks a file that was made. Where the file system knows no locks it stays without one: then one that is
+// there is never replaced.
 fn own(rt: &HostRuntime, path: &str, file: File) -> Result<(File, FileId), Unmade> {
     if matches!(file.try_lock(), Err(TryLockError::WouldBlock)) {
         return Err(Unmade::Held);

@@ -4,7 +4,8 @@ use pm_format::{PmtError, ReadCause, status};
 use std::fs;
 use std::fs::File;
 
-/// Says why a file can't be opened or read. What is no regular file isn't opened, since that may wait for another program.
+/// Says why a file can't be opened or read. What is no regular file isn't opened, since that may
+/// wait for another program.
 pub fn say_source_fault(rt: &HostRuntime, tool: &str, path: &str) {
     let opened = match fs::metadata(rt, path) {
         Ok(found) if !found.is_file() => {

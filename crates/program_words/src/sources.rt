@@ -15,7 +15,8 @@ pub enum SourceFile {
     Unreadable,
 }
 
-/// What is at a path, also through links. What is no regular file isn't opened, since that may wait for another program.
+/// What is at a path, also through links. What is no regular file isn't opened, since that may
+/// wait for another program.
 pub fn source_file(rt: &HostRuntime, path: &str) -> SourceFile {
     let opened = match fs::metadata(rt, path) {
         Ok(found) if found.is_file() => File::open(rt, path),

@@ -4,7 +4,8 @@ use Rattle.std.specs.Option.{option_and_then, option_map}
 use Rattle.tile_command.specs.Common.{number_to, TileBox, words_of, ZoomBox}
 unfoldable use Rattle.tile_command.specs.Common.{parted}
 
--- the least and the greatest number that two words spell: the greatest is no more than a last one, and the least is no more than the greatest
+-- the least and the greatest number that two words spell: the greatest is no more than a last one, and the least is
+-- no more than the greatest
 abbrev pub span_of : ℕ → List ℕ → List ℕ → Option (ℕ × ℕ)
 span_of last least greatest = option_and_then (λ g. option_map (λ l. (l, g)) (number_to g least)) (number_to last greatest)
 
@@ -45,7 +46,8 @@ boxes_of words = boxes_after [] words
 abbrev pub sides : ℕ → ℕ → ℕ → ℕ → ℕ
 sides last least greatest length = if nat_eq least 0 && nat_eq greatest last then 0 else length + 1
 
--- how many tiles lie along the sides of a box: its rows for left and right, and its columns for top and bottom; zooms above 31 have no tiles
+-- how many tiles lie along the sides of a box: its rows for left and right, and its columns for top and bottom;
+-- zooms above 31 have no tiles
 abbrev pub outline_of : ZoomBox → ℕ
 outline_of b =
     let last = 2 ^ min b.zoom 31 - 1 in

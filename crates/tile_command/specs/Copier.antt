@@ -5,13 +5,14 @@ use Rattle.mb_copy.specs.declared.copy_type.CopyType.TheVariants.{All}
 use Rattle.tile_command.specs.Boxes.{place_box_of}
 use Rattle.tile_command.specs.Choices.{algorithm_of, copy_of, layout_of, mode_of, zoom_of, zooms_of}
 use Rattle.tile_command.specs.Common.{CopyDuplicateMode, CopyType, HashAlgorithm, MbtilesCopier, MbtTypeCli, TileBox}
-use Rattle.tile_command.specs.Words.{value_in}
+use Rattle.tile_command.specs.Asked.{value_in}
 
 -- options with their values
 abbrev pub Options : Type 0
 Options = List (List ℕ × List ℕ)
 
--- what the value of an option stands for, and something else where it isn't there; none where the value stands for nothing
+-- what the value of an option stands for, and something else where it isn't there; none where the
+-- value stands for nothing
 abbrev pub said : {A : Type 0} → (List ℕ → Option A) → A → Option (List ℕ) → Option A
 said read other None = Some other
 said read other (Some word) = read word
@@ -62,7 +63,7 @@ copier options copy layout mode algorithm least greatest = record {
   bbox = [];
   skip_agg_tiles_hash = has options (codes "--skip-agg-tiles-hash");
   hash_algorithm = algorithm;
-  force = false;
+  force = has options (codes "--force");
   validate = has options (codes "--validate");
 }
 

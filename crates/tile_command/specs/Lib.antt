@@ -1,4 +1,5 @@
 pub mod Common
+pub mod Asked
 pub mod Boxes
 pub mod Choices
 pub mod Copier

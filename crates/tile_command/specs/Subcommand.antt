@@ -46,7 +46,7 @@ subcommand_of (word ∷ words) =
 abbrev pub has_flag : Subcommand → List ℕ → Bool
 has_flag sub.Show word = bytes_eq word (codes "--metadata") || (bytes_eq word (codes "--tilejson") || bytes_eq word (codes "--entries"))
 has_flag sub.Hash word = bytes_eq word (codes "--update")
-has_flag sub.Copy word = bytes_eq word (codes "--skip-agg-tiles-hash") || bytes_eq word (codes "--validate")
+has_flag sub.Copy word = bytes_eq word (codes "--skip-agg-tiles-hash") || (bytes_eq word (codes "--validate") || bytes_eq word (codes "--force"))
 has_flag sub.Patch word = bytes_eq word (codes "--force")
 has_flag sub.Extract word = bytes_eq word (codes "--overwrite")
 has_flag s word = false
@@ -58,7 +58,8 @@ has_option sub.Validate word = bytes_eq word (codes "--agg-hash")
 has_option sub.Copy word =
     bytes_eq word (codes "--copy") || (bytes_eq word (codes "--mbtiles-type") || (bytes_eq word (codes "--on-duplicate")
     || (bytes_eq word (codes "--min-zoom") || (bytes_eq word (codes "--max-zoom")
-    || (bytes_eq word (codes "--zoom-levels") || (bytes_eq word (codes "--hash-algorithm") || bytes_eq word (codes "--box")))))))
+    || (bytes_eq word (codes "--zoom-levels") || (bytes_eq word (codes "--hash-algorithm")
+    || (bytes_eq word (codes "--box") || bytes_eq word (codes "--apply-patch"))))))))
 has_option sub.Pack word = bytes_eq word (codes "--scheme")
 has_option sub.Unpack word = bytes_eq word (codes "--scheme")
 has_option sub.Extract word = bytes_eq word (codes "--max-tiles")

@@ -1,30 +1,16 @@
 -- The words behind a subcommand: its options, and all others by their places.
-use Rattle.std.specs.Prelude.{◌≡◌, ◌++◌, ◌&&◌, ℕ, Bool, true, false, List, [], ◌∷◌, Option, Some, None, codes, if◌then◌else◌, is_none, is_some, length, nat_eq, nat_le, slice_get, unwrap_or, refl}
+use Rattle.std.specs.Prelude.{◌≡◌, ◌++◌, ◌&&◌, ℕ, Bool, true, false, List, [], ◌∷◌, Option, Some, None, codes, if◌then◌else◌, is_none, is_some, length, nat_eq, nat_le, refl}
 use Rattle.std.specs.Option.{option_and_then}
+use Rattle.tile_command.specs.Asked.{asked, AskedWords, value_in}
 use Rattle.tile_command.specs.Common.{bytes_eq}
 use Rattle.tile_command.specs.Subcommand.{has_flag, has_option, places}
 use Rattle.tile_command.specs.declared.subcommand.Subcommand.{Subcommand}
 use Rattle.tile_command.specs.declared.subcommand.Subcommand.TheVariants as sub
 
--- the words beside options, and the options with their values
-pub record AskedWords : Type 0 where
-  pub places : List (List ℕ)
-  pub options : List (List ℕ × List ℕ)
-
-abbrev pub asked : List (List ℕ) → List (List ℕ × List ℕ) → AskedWords
-asked places options = record { places = places; options = options }
-
 -- whether a word begins with two dashes, and has more
 abbrev pub is_option : List ℕ → Bool
 is_option (a ∷ b ∷ c ∷ word) = nat_eq a 45 && nat_eq b 45
 is_option _ = false
-
-abbrev pub value_in : List (List ℕ × List ℕ) → List ℕ → Option (List ℕ)
-value_in [] name = None
-value_in (o ∷ os) name = if bytes_eq o.0 name then Some o.1 else value_in os name
-
-abbrev pub word_at : ℕ → List (List ℕ) → List ℕ
-word_at place words = unwrap_or (slice_get words place) []
 
 -- words behind others
 abbrev pub with_places : List (List ℕ) → List (List ℕ) → List (List ℕ)

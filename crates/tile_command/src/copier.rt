@@ -108,6 +108,7 @@ fn copy_with(alloc: Global, asked: &Asked) -> Option<MbtilesCopier>
     copier.max_zoom = zoom_said(asked, "--max-zoom")?;
     copier.skip_agg_tiles_hash = asked.has("--skip-agg-tiles-hash");
     copier.validate = asked.has("--validate");
+    copier.force = asked.has("--force");
     Some(copier)
 }
 

@@ -1,6 +1,7 @@
 //! The command line of `fatyngu`, and what its subcommands print.
 #![tactic(auto)]
 
+mod asked;
 mod boxes;
 mod choices;
 mod copier;
@@ -12,6 +13,7 @@ mod subcommand;
 mod summary_lines;
 mod words;
 
+pub use asked::Asked;
 pub use boxes::{boxes_of, is_outlined_within};
 pub use choices::{agg_hash_of, max_tiles_of, scheme_of};
 pub use copier::copier_of;
@@ -21,4 +23,4 @@ pub use layout::layout_for;
 pub use status::{part_status, read_status, set_status, source_status};
 pub use subcommand::{Subcommand, subcommand_of};
 pub use summary_lines::summary_text;
-pub use words::{Asked, asked_of};
+pub use words::asked_of;

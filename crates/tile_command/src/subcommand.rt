@@ -105,7 +105,7 @@ impl Subcommand {
         match self {
             Subcommand::Show => matches!(word, "--metadata" | "--tilejson" | "--entries"),
             Subcommand::Hash => word == "--update",
-            Subcommand::Copy => matches!(word, "--skip-agg-tiles-hash" | "--validate"),
+            Subcommand::Copy => matches!(word, "--skip-agg-tiles-hash" | "--validate" | "--force"),
             Subcommand::Patch => word == "--force",
             Subcommand::Extract => word == "--overwrite",
             _ => false,
@@ -129,6 +129,7 @@ impl Subcommand {
                     | "--zoom-levels"
                     | "--hash-algorithm"
                     | "--box"
+                    | "--apply-patch"
             ),
             Subcommand::Pack | Subcommand::Unpack => word == "--scheme",
             Subcommand::Extract => word == "--max-tiles",

@@ -1,39 +1,18 @@
 // The words behind a subcommand: its options, and all others by their places.
-ghost use Rattle.std.specs.Prelude.{◌≡◌, ◌++◌, ◌∷◌, [], None, Some, IfOk, MatchOption, is_some, option_map};
-ghost use Rattle.tile_command.specs.Words.{asked, asked_after, asked_in, draft, ended, ends_options, fits, is_option, value_in, with_name, with_places, with_word, word_at};
+ghost use Rattle.std.specs.Prelude.{◌≡◌, ◌++◌, ◌∷◌, [], None, Some, IfOk, MatchOption};
+ghost use Rattle.tile_command.specs.Asked.{asked};
+ghost use Rattle.tile_command.specs.Words.{asked_after, asked_in, draft, ended, ends_options, fits, is_option, with_name, with_places, with_word};
 
 use crate::Subcommand;
+use crate::asked::{Asked, value_in};
 use base_values::{OutOfMemory, TextVal};
 use std::alloc::Global;
-
-/// The words behind a subcommand.
-#[derive(Debug, Drop)]
-pub struct Asked {
-    /// Those beside its options, in their order.
-    pub places: Vec<TextVal>,
-    /// Its options with their values, each option once; one that stands alone has an empty value.
-    pub options: Vec<(TextVal, TextVal)>,
-}
 
 // Whether a word begins with two dashes, and has more.
 fn is_option(word: &[u8]) -> bool
     ensures { result ≡ is_option word.now }
 {
     matches!(word, [b'-', b'-', _, ..])
-}
-
-// The value of an option among options.
-fn value_in<'a>(options: &'a [(TextVal, TextVal)], name: &str) -> Option<&'a str>
-    ensures { option_map (λ v. v.now) result ≡ value_in options.now name.now }
-{
-    let [option, rest @ ..] = options else {
-        return None;
-    };
-    if option.0.as_str() == name {
-        Some(option.1.as_str())
-    } else {
-        value_in(rest, name)
-    }
 }
 
 // A word behind others.
@@ -276,30 +255,4 @@ pub fn asked_of(
         pending: None,
     };
     asked_after(alloc, subcommand, draft, words)
-}
-
-impl Asked {
-    /// The word at a place from 0 on, and no text where there is none.
-    pub fn word(&self, place: usize) -> &str
-        ensures { result.now ≡ word_at place self.now.places.items }
-    {
-        match self.places.get(place) {
-            Some(word) => word.as_str(),
-            None => "",
-        }
-    }
-
-    /// The value of an option, if it is there.
-    pub fn value(&self, name: &str) -> Option<&str>
-        ensures { option_map (λ v. v.now) result ≡ value_in self.now.options.items name.now }
-    {
-        value_in(self.options.as_slice(), name)
-    }
-
-    /// Whether an option is there.
-    pub fn has(&self, name: &str) -> bool
-        ensures { result ≡ is_some (value_in self.now.options.items name.now) }
-    {
-        self.value(name).is_some()
-    }
 }
