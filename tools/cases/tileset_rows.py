@@ -696,7 +696,8 @@ def streamed(script, held=b"", name="streamed"):
 
 
 def changing(script, number, other, wanted):
-    """A conversion of a store that shows another row, or none, where one is sought a second time."""
+    """A conversion of a store that shows another row, or none, where one is sought a second time: that of a place, or of an
+    id of contents."""
     case(["changing", escaped(script.encode()), str(number), *(map(str, other or []))], wanted)
 
 
@@ -723,6 +724,37 @@ def streams():
         changing(script, 1, (1, 0, 0), f"{changed}|0")
         changing(script, 1, (1, 1, 1), "0||1")
         changing(script, 9, None, "0||1")
+    changing_contents()
+
+
+def changing_contents():
+    """The same of sets whose contents stand in a table of their own: a row of a tile is sought, and then its contents."""
+    changed = f"1|refused: StoreFault {2 ** 64 - 1}"
+    for layout in ("normalized", "normalized-with-view", "dedup-id"):
+        tiles = {(0, 0, 0): b"0", (1, 0, 0): b"11", (1, 0, 1): b"1", (1, 1, 1): b"0", (2, 0, 0): None, (2, 0, 1): b""}
+        lines = store("base", layout, tiles, [])
+        # a row that names no contents is none of a tile
+        places, contents = ("tiles_shallow", "tiles_data") if layout == "dedup-id" else ("map", "images")
+        lines.insert(1, f"row {places} i3 i0 i0 n")
+        script = text(lines, "query 0 0 0")
+        ids = {line.split(" ")[3]: line.split(" ")[2] for line in lines if line.startswith(f"row {contents} ")}
+
+        def id_of(word):
+            return ["number" if layout == "dedup-id" else "text", ids[word][1:]]
+
+        # by rising id: 0/0/0, then 1/0/0 from the top, which is row 1 from the bottom; tiles
+        # without bytes aren't sought
+        order = [((0, 0, 0), "x30"), ((1, 0, 1), "x31"), ((1, 0, 0), "x3131"), ((1, 1, 1), "x30")]
+        for at, (place, content) in enumerate(order):
+            row, held = 2 * at + 1, 2 * at + 2
+            # no row, one that names nothing, one of no place, and contents that aren't there
+            for number, other in [(row, None), (row, (3, 0, 0)), (row, (5, 0, 0)), (held, None), (held, place)]:
+                changing(script, number, other, f"{changed}|0")
+            for other, found in [*order, ((2, 0, 0), "n"), ((2, 0, 1), "x")]:
+                ends = "0||1" if found == content else f"{changed}|0"
+                changing(script, row, other, ends)
+                changing(script, held, id_of(found), ends)
+        changing(script, 2 * len(order) + 1, None, "0||1")
 
 
 def across_pages():
@@ -799,6 +831,7 @@ def hashes():
         hindered(script, "hindered-hashed")
         hindered(text(store("base", layout, few), "query 0 0 0"), "hindered-hashed")
         if layout not in ("flat", "flat-with-hash", "cache"):
+            changing_hashed_contents(script, layout)
             continue
         for number in range(1, 9):
             label = "none" if number < 5 else "0"
@@ -811,6 +844,21 @@ def hashes():
         for number, place in [(2, (1, 0, 1)), (3, (1, 0, 0)), (6, (1, 0, 0)), (7, (1, 0, 1))]:
             changing(script, number, place, f"{changed}|{'none' if number < 5 else '0'}")
         changing(script, 9, None, "0||1")
+
+
+def changing_hashed_contents(script, layout):
+    """The same of a set whose contents stand in a table of their own: by place for the hash, then by id for the archive, and
+    of each tile its row and its contents."""
+    changed = f"1|refused: StoreFault {2 ** 64 - 1}"
+    by_place = [((0, 0, 0), "x30"), ((1, 0, 0), "x3131"), ((1, 0, 1), "x31"), ((1, 1, 1), "x30")]
+    order = [*by_place, by_place[0], by_place[2], by_place[1], by_place[3]]
+    for at, (place, content) in enumerate(order):
+        label = "none" if at < len(by_place) else "0"
+        for number in [2 * at + 1, 2 * at + 2]:
+            changing(script, number, None, f"{changed}|{label}")
+        for other, found in by_place:
+            changing(script, 2 * at + 1, other, "0||1" if found == content else f"{changed}|{label}")
+    changing(script, 2 * len(order) + 1, None, "0||1")
 
 
 def streams_by_itself():

@@ -26,9 +26,9 @@ there once it is whole. Lines at the end say how many tiles and different conten
 OUT has, its bytes, and, where it was made, the aggregate hash of its tiles. On a
 terminal each step is told.
 
-A set without patches whose tiles stand in one table takes some 100 bytes of memory
-a tile, whatever its tiles weigh; with patches, of a set with tables of its own for
-contents, and where its file isn't understood page by page, all tiles are held in
+A set without patches takes some 100 bytes of memory a tile, whatever its tiles
+weigh, and one with a table of its own for contents holds their ids too; with
+patches, and where its file isn't understood page by page, all tiles are held in
 memory.
 
 --force      takes patches without the hashes that chain them; without it each

@@ -60,15 +60,12 @@ module _ (tells tells_now : Bool) (t now : Tables) (o : ConvertOptions) (same : 
   leaves_moved gives coords r old new h = subst (λ b. StreamLeaves gives (due_by b t o) b coords r old new) same (subst (λ x. StreamLeaves gives (due_by tells_now x o) tells_now coords r old new) told h)
 
 -- marks that are there
-pub marked_of : (tells tells_now : Bool) (t now : Tables) (read : Option MarkedSet) (m : MarkedSet) → tells_now ≡ tells → now ≡ t → read ≡ Some m → (tells ≡ true → IsMarked t (Ok read)) → (x : Tables) × IsMarked x (Ok read) → IsMarkedFrom tells_now now m
-marked_of tells tells_now t now read m same told is answer own = subst (λ b. IsMarkedFrom b now m) (sym same) (subst (λ x. IsMarkedFrom tells x m) (sym told) (by tells (subst (λ r. tells ≡ true → IsMarked t (Ok r)) is answer)))
+pub marked_of : (tells tells_now : Bool) (t now : Tables) (m : MarkedSet) → tells_now ≡ tells → now ≡ t → (tells ≡ true → IsMarked t (Ok m)) → (x : Tables) × IsMarked x (Ok m) → IsMarkedFrom tells_now now m
+marked_of tells tells_now t now m same told answer own = subst (λ b. IsMarkedFrom b now m) (sym same) (subst (λ x. IsMarkedFrom tells x m) (sym told) (by tells answer))
   where
-    some : (x : Tables) × IsMarkedSet x m
-    some = (own.0, subst (λ r. IsMarked own.0 (Ok r)) is own.1)
-
     by : (b : Bool) → (b ≡ true → IsMarkedSet t m) → IsMarkedFrom b t m
     by true h = record { tables = t; are_told = λ _. refl; marked = h refl }
-    by false h = record { tables = some.0; are_told = λ u. absurd (false≢true u); marked = some.1 }
+    by false h = record { tables = own.0; are_told = λ u. absurd (false≢true u); marked = own.1 }
 
 -- a count that rose since, rose from before
 pub rose_more : (place a b c : ℕ) → a ≤ b → RoseAt place (b ∷ []) (c ∷ []) → RoseAt place (a ∷ []) (c ∷ [])

@@ -75,7 +75,7 @@ module _ (tells : Bool) (t : Tables) (m : MarkedSet) (sound : tells ≡ true →
   ranged = ranged_all es held.ranged
 
   stored : tells ≡ true → (e : Place × Option (List ℕ)) → Has e es → bytes_told m.layout t (address e.0) ≡ Some (bytes_of e.1)
-  stored u e h = subst (λ l. bytes_told l t (address e.0) ≡ Some (bytes_of e.1)) (sym held.layout) (told_row t s (sound u) (due u) held.plain e h (ranged e h))
+  stored u e h = subst (λ l. bytes_told l t (address e.0) ≡ Some (bytes_of e.1)) (sym held.layout) (told_row t s (sound u) (due u) e h (ranged e h))
 
   -- without tiles
   pub none_hashed : length marks ≡ 0 → (text : List ℕ) → text ≡ digest m.algorithm [] → HasHash tells s text

@@ -4,6 +4,7 @@ pub mod DueLemmas
 pub mod HashLemmas
 pub mod HashedLemmas
 pub mod KeyLemmas
+pub mod KnownLemmas
 pub mod MarkLemmas
 pub mod MemberLemmas
 pub mod OutlineLemmas
@@ -14,9 +15,9 @@ pub mod SpotLemmas
 pub mod StepLemmas
 pub mod StoredLemmas
 pub mod StreamLemmas
+pub mod TableLemmas
 pub mod TileLemmas
 pub mod VerifyLemmas
-pub mod WholeLemmas
 pub mod WrittenLemmas
 pub mod EntryLemmas
 pub mod FaultLemmas

@@ -1,5 +1,5 @@
 -- The tiles of marks and contents, and the tiles that marks are of.
-use Rattle.tile_streaming.proofs.Common.{address, address_within, All, AllByRecursion, and_from, and_parts, ap, AreMarksOf, arith, Bool, bytes_of, bytes_told, entries, entries_sorted, Equal, eq_by_cmp, false, get_or, Greater, Has, has_back, inl, inr, InRange, is_lt, is_sorted, IsDistinct, IsNonDecreasingBy, IsPermutation, IsPermutation-map, IsPermutation-refl, IsPermutation-sym, IsPermutation-trans}
+use Rattle.tile_streaming.proofs.Common.{address, address_within, AllByRecursion, and_from, and_parts, ap, AreMarksOf, arith, Bool, bytes_of, bytes_told, entries, entries_sorted, Equal, eq_by_cmp, false, get_or, Greater, Has, has_back, inl, inr, is_lt, is_sorted, IsDistinct, IsNonDecreasingBy, IsPermutation, IsPermutation-map, IsPermutation-sym, IsPermutation-trans}
 use Rattle.tile_streaming.proofs.Common.{length, Less, List, map, Mark, mark_of, MAX_TILE_ID, MbtType, nat_cmp, nat_le, one_tie, Option, Ordering, Place, place_cmp, place_with, places_total, refl, same_Some, Some, sorted_true, subst, suc, sym, Tables, TileSet, true, zero, ℕ, [], ◌&&◌, ◌<◌, ◌^◌, ◌∙◌, ◌∷◌, ◌≡◌, ◌≢◌, ◌≤◌}
 use Rattle.mb_store.proofs.RowsPut.{same_sorted}
 use Rattle.std.proofs.Common.{Contains, ◌%◌}

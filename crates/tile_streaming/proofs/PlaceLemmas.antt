@@ -1,29 +1,24 @@
 -- Marks of the tiles of rows, and which of them have one id.
-use Rattle.tile_streaming.proofs.Common.{address, ap, are_distinct, Cell, cell_at, cons_option, Coord, coord_in, coord_placed, eq_by_cmp, filter_map, index_law, InRange, is_normalized, List}
+use Rattle.tile_streaming.proofs.Common.{address, ap, are_distinct, Cell, cell_at, cons_option, Coord, coord_in, coord_placed, eq_by_cmp, filter_map, in_has_place, index_law, InRange, List}
 use Rattle.tile_streaming.proofs.Common.{list_any, map, mark_of, marks_in, MbtType, nat_cmp, None, none-some, not, number_in, one_tie, Option, option_map, Place, place_at, place_cmp, place_is, place_of, refl}
-use Rattle.tile_streaming.proofs.Common.{Some, same_Some, subst, sym, tile_has_place, tile_in, tile_of, false, false≢true, ℕ, [], ◌&&◌, ◌||◌, ◌∙◌, ◌∷◌, ◌≡◌}
-use Rattle.mb_tables.specs.declared.kind.MbtType.TheVariants.{Cache, Flat, FlatWithHash, Normalized}
+use Rattle.tile_streaming.proofs.Common.{Some, same_Some, subst, sym, tile_in, ℕ, [], ◌&&◌, ◌||◌, ◌∙◌, ◌∷◌, ◌≡◌}
 use Rattle.tile_streaming.specs.declared.mark.Mark.{Mark}
 
 -- a tile of a set, with its place
 abbrev pub Tile : Type 0
 Tile = Place × Option (List ℕ)
 
--- marks of the tiles that are given of rows
-given_marks : (f g : List Cell → Option Tile) → ((row : List Cell) → f row ≡ g row) → (rows : List (List Cell)) → filter_map (λ row. option_map mark_of (f row)) rows ≡ map mark_of (filter_map g rows)
-given_marks f g same [] = refl
-given_marks f g same (row ∷ rows) = ap (cons_option (option_map mark_of (f row))) (given_marks f g same rows) ∙ (ap (λ o. cons_option (option_map mark_of o) (map mark_of (filter_map g rows))) (same row) ∙ one (g row))
+-- rows give the marks of their tiles
+given_marks : (f : List Cell → Option Tile) (rows : List (List Cell)) → filter_map (λ row. option_map mark_of (f row)) rows ≡ map mark_of (filter_map f rows)
+given_marks f [] = refl
+given_marks f (row ∷ rows) = ap (cons_option (option_map mark_of (f row))) (given_marks f rows) ∙ one (f row)
   where
-    one : (o : Option Tile) → cons_option (option_map mark_of o) (map mark_of (filter_map g rows)) ≡ map mark_of (cons_option o (filter_map g rows))
+    one : (o : Option Tile) → cons_option (option_map mark_of o) (map mark_of (filter_map f rows)) ≡ map mark_of (cons_option o (filter_map f rows))
     one None = refl
     one (Some e) = refl
 
--- rows that have their contents give the marks of their tiles
-pub marks_given : (layout : MbtType) → is_normalized layout ≡ false → (rows : List (List Cell)) → marks_in layout rows ≡ map mark_of (filter_map (tile_in layout []) rows)
-marks_given Flat h rows = given_marks (λ row. tile_of row (cell_at 3 row)) (tile_in Flat []) (λ row. refl) rows
-marks_given FlatWithHash h rows = given_marks (λ row. tile_of row (cell_at 3 row)) (tile_in FlatWithHash []) (λ row. refl) rows
-marks_given (Normalized view schema) h rows = absurd (false≢true (sym h))
-marks_given Cache h rows = given_marks (λ row. tile_of row (cell_at 6 row)) (tile_in Cache []) (λ row. refl) rows
+pub marks_given : (layout : MbtType) (contents rows : List (List Cell)) → marks_in layout contents rows ≡ map mark_of (filter_map (tile_in layout contents) rows)
+marks_given layout contents rows = given_marks (tile_in layout contents) rows
 
 -- a tile's place is in range
 placed : (row : List Cell) (p : Place) → place_of row ≡ Some p → InRange p
@@ -48,11 +43,8 @@ in_range f each (row ∷ rows) = by (f row) refl (in_range f each rows)
     by None e rest = rest
     by (Some t) e rest = (each row t e, rest)
 
-tiles_in_range : (layout : MbtType) → is_normalized layout ≡ false → (rows : List (List Cell)) → AreInRange (filter_map (tile_in layout []) rows)
-tiles_in_range (Normalized view schema) h rows = absurd (false≢true (sym h))
-tiles_in_range Flat h rows = in_range (tile_in Flat []) (λ row e is. placed row e.0 (tile_has_place row (cell_at 3 row) e is)) rows
-tiles_in_range FlatWithHash h rows = in_range (tile_in FlatWithHash []) (λ row e is. placed row e.0 (tile_has_place row (cell_at 3 row) e is)) rows
-tiles_in_range Cache h rows = in_range (tile_in Cache []) (λ row e is. placed row e.0 (tile_has_place row (cell_at 6 row) e is)) rows
+tiles_in_range : (layout : MbtType) (contents rows : List (List Cell)) → AreInRange (filter_map (tile_in layout contents) rows)
+tiles_in_range layout contents rows = in_range (tile_in layout contents) (λ row e is. placed row e.0 (in_has_place layout contents row e is)) rows
 
 -- ids tie where places do
 abbrev ids : List Tile → List ℕ
@@ -70,5 +62,5 @@ ids_apart [] h = refl
 ids_apart (e ∷ es) h = ap (λ b. not b && are_distinct nat_cmp (ids es)) (any_tie e.0 h.0 es h.1) ∙ ap (λ b. not (list_any (eq_by_cmp place_cmp e.0) (places es)) && b) (ids_apart es h.1)
 
 -- no two marks of rows have one id exactly where no place stands twice
-pub marks_apart : (layout : MbtType) → is_normalized layout ≡ false → (rows : List (List Cell)) (marks : List Mark) → marks ≡ marks_in layout rows → are_distinct nat_cmp (map (λ m. m.id) marks) ≡ are_distinct place_cmp (places (filter_map (tile_in layout []) rows))
-marks_apart layout flat rows marks is = ap (λ l. are_distinct nat_cmp (map (λ (m : Mark). m.id) l)) (is ∙ marks_given layout flat rows) ∙ ids_apart (filter_map (tile_in layout []) rows) (tiles_in_range layout flat rows)
+pub marks_apart : (layout : MbtType) (contents rows : List (List Cell)) (marks : List Mark) → marks ≡ marks_in layout contents rows → are_distinct nat_cmp (map (λ m. m.id) marks) ≡ are_distinct place_cmp (places (filter_map (tile_in layout contents) rows))
+marks_apart layout contents rows marks is = ap (λ l. are_distinct nat_cmp (map (λ (m : Mark). m.id) l)) (is ∙ marks_given layout contents rows) ∙ ids_apart (filter_map (tile_in layout contents) rows) (tiles_in_range layout contents rows)

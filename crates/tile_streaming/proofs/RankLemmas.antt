@@ -1,5 +1,5 @@
 -- The number of a place rises in the order of places.
-use Rattle.tile_streaming.proofs.Common.{ap, arith, Bool, eq_by_cmp, Equal, false, false≢true, Greater, InRange, is_eq, Less, nat_cmp, nat_cmp-IsAntisymmetric, Ordering, Place, place_cmp, places_total, refl, subst, suc, sym, zero, ℕ, ◌*◌, ◌+◌, ◌<◌, ◌^◌, ◌∙◌, ◌≡◌, ◌≤◌}
+use Rattle.tile_streaming.proofs.Common.{ap, arith, eq_by_cmp, Equal, false, false≢true, Greater, InRange, is_eq, Less, nat_cmp, nat_cmp-IsAntisymmetric, Ordering, Place, place_cmp, places_total, refl, subst, suc, sym, ℕ, ◌*◌, ◌+◌, ◌<◌, ◌^◌, ◌∙◌, ◌≡◌, ◌≤◌}
 use Rattle.std.proofs.Common.{lit<}
 use Rattle.std.proofs.Math.Nat.{pow-le-pow_right, pow-succ'}
 use Rattle.std.proofs.lemmas.Bool.Decides.{nat_tests}

@@ -1,5 +1,5 @@
 -- Spots and the marks at them.
-use Rattle.tile_streaming.proofs.Common.{All, All-cons, All-get_or, All-nil, ap, append_assoc, arith, get_or, IsNonDecreasingBy, IsPermutation, IsPermutation-map, length, length-append, length-map, List, map, Mark, refl, subst, suc, sym, take, take_more, ℕ, [], ◌++◌, ◌+◌, ◌<◌, ◌∙◌, ◌∷◌, ◌≡◌, ◌≤◌}
+use Rattle.tile_streaming.proofs.Common.{All, All-cons, All-get_or, All-nil, ap, append_assoc, arith, get_or, IsNonDecreasingBy, IsPermutation, IsPermutation-map, length, length-append, length-map, List, Mark, refl, subst, suc, sym, take, take_more, ℕ, [], ◌++◌, ◌+◌, ◌<◌, ◌∙◌, ◌∷◌, ◌≡◌, ◌≤◌}
 use Rattle.std.proofs.Common.{◌-◌}
 use Rattle.std.proofs.lemmas.List.{get_or-append_right, get_or-map, length-take-le}
 use Rattle.std.proofs.lemmas.List.Sorted.{All-permutation}

@@ -42,6 +42,10 @@ medium_rose A tells s sn m mn e c is = subst (λ x. StepCauses {A = A} (tells �
 pub error_of : {A : Type 0} (e x : StreamError) → ◌≡◌ {A = Result A StreamError} (Err e) (Err x) → e ≡ x
 error_of e x h = cc
 
+-- the word of the conversion, in that of this one
+pub same_word : (e x : ConvertError) → Convert e ≡ Convert x → e ≡ x
+same_word e x h = cc
+
 -- reading back has no fault of a store
 pub no_store : (e : PmtError) (place : ℕ) → of_read_error e ≡ StoreFault place → ⊥
 no_store errors.OutOfMemory place h = absurd (cc)
@@ -114,7 +118,7 @@ module _ (tells : Bool) (t : Tables) (o : ConvertOptions) (w : Options) (m : Mar
   can contents lengths = can_write first.tiles marks from.marked.held.marks (state_ranged from.tables first from.marked.due) w fit metadata size contents lengths
 
   pub stored_all : tells ≡ true → All (IsStored m.layout t) marks
-  stored_all u = all_stored t m.layout first marks (sound u) (told_state u) from.marked.held.plain from.marked.held.layout from.marked.held.marks
+  stored_all u = all_stored t m.layout first marks (sound u) (told_state u) from.marked.held.layout from.marked.held.marks
 
   -- the state whose tiles were read
   record StateOfRead (contents : List (List ℕ)) : Type 0 where
@@ -137,7 +141,7 @@ module _ (tells : Bool) (t : Tables) (o : ConvertOptions) (w : Options) (m : Mar
         held = from.marked.held;
         told = told_state;
         adds = told_adds tells t m.layout first.tiles marks from.marked.held.marks ranged size contents read u
-            (λ e h. subst (λ l. bytes_told l t (address e.0) ≡ Some (bytes_of e.1)) (sym from.marked.held.layout) (told_row t first (sound u) (told_state u) from.marked.held.plain e h (ranged e h)));
+            (λ e h. subst (λ l. bytes_told l t (address e.0) ≡ Some (bytes_of e.1)) (sym from.marked.held.layout) (told_row t first (sound u) (told_state u) e h (ranged e h)));
       }
       by false u =
           let tiles = read_tiles tells t m.layout first.tiles marks from.marked.held.marks ranged size contents read in
@@ -148,7 +152,6 @@ module _ (tells : Bool) (t : Tables) (o : ConvertOptions) (w : Options) (m : Mar
               layout = from.marked.held.layout;
               algorithm = from.marked.held.algorithm;
               names = from.marked.held.names;
-              plain = from.marked.held.plain;
               ranged = all_ranged (entries tiles) (read_ranged tells t m.layout first.tiles marks from.marked.held.marks ranged size contents read);
               marks = read_marks tells t m.layout first.tiles marks from.marked.held.marks ranged size contents read;
             };

@@ -3,31 +3,36 @@ pub use Rattle.base_values.specs.Counts.{Rose}
 pub use Rattle.byte_media.specs.Kept.{KeepsMedium}
 pub use Rattle.mb_constraints.specs.Algorithm.{algorithm_of, algorithm_unknown}
 pub use Rattle.mb_constraints.specs.Described.{index_missing, metadata_missing}
-pub use Rattle.mb_constraints.specs.Hashes.{wrong_tile_hash}
+pub use Rattle.mb_constraints.specs.Hashes.{wrong_content_hash, wrong_id, wrong_tile_hash}
+pub use Rattle.mb_constraints.specs.References.{missing_reference, reference_missing}
 pub use Rattle.mb_constraints.specs.TileRows.{tile_bad, tile_in}
+pub use Rattle.mb_lists.specs.Contents.{content_rows, id_twice}
 pub use Rattle.mb_lists.specs.Entries.{place_at}
-pub use Rattle.mb_lists.specs.FromRows.{AreIndexed}
+pub use Rattle.mb_lists.specs.FromRows.{AreIndexed, content_from, rows_kept}
 pub use Rattle.mb_lists.specs.Metadata.{name_twice, names_of, text_at}
 pub use Rattle.mb_lists.specs.Places.{address, InRange}
+pub use Rattle.mb_lists.specs.declared.entries.Content.{Content}
 pub use Rattle.mb_load.specs.LoadingOrder.{row_refusals}
 pub use Rattle.mb_load.specs.StateOf.{state_of}
 pub use Rattle.mb_loaded.specs.Aggregate.{bytes_of, hash_of, in_hexadecimal, tile_text}
 unfoldable pub use Rattle.mb_loaded.specs.Aggregate.{aggregate}
 pub use Rattle.mb_loaded.specs.Changing.{tile_key}
+pub use Rattle.mb_loaded.specs.PutRows.{id_key}
 pub use Rattle.mb_loaded.specs.State.{State}
 pub use Rattle.mb_store.specs.Kept.{FaultsCounted, Keeps, ReadsOnly}
-pub use Rattle.mb_tables.specs.CellKinds.{has_tile_kinds, name_kind_wrong}
+pub use Rattle.mb_tables.specs.Cell.{is_null}
+pub use Rattle.mb_tables.specs.CellKinds.{has_tile_kinds, is_id, name_kind_wrong}
 pub use Rattle.mb_tables.specs.Detection.{layout_of}
 pub use Rattle.mb_tables.specs.Key.{has_key}
 pub use Rattle.mb_tables.specs.Kind.{is_normalized, tile_table}
 pub use Rattle.mb_tables.specs.Refusals.{first_refusal, first_refused, is_free, Tests, then}
 pub use Rattle.mb_tables.specs.Table.{Tables}
-pub use Rattle.mb_tables.specs.Tiles.{cell_at, contents_of, Place, tile_of, TileSet}
+pub use Rattle.mb_tables.specs.Tiles.{cell_at, content_of, contents_of, Place, tile_of, TileSet}
 pub use Rattle.mb_tables.specs.declared.cell.Cell.{Cell}
 pub use Rattle.mb_tables.specs.declared.error.MbtError.{MbtError}
 pub use Rattle.mb_tables.specs.declared.error.MbtError.TheVariants.{InvalidDataFormat, StoreFault}
 pub use Rattle.mb_tables.specs.declared.kind.MbtType.{MbtType}
-pub use Rattle.mb_tables.specs.declared.kind.MbtType.TheVariants.{Cache}
+pub use Rattle.mb_tables.specs.declared.kind.MbtType.TheVariants.{Cache, Normalized}
 pub use Rattle.mb_tables.specs.declared.table.TableName.TheVariants.{Metadata}
 pub use Rattle.pm_format.specs.Options.{Options}
 pub use Rattle.pm_format.specs.declared.error.PmtError.{PmtError}

@@ -1,5 +1,6 @@
 pub mod Adding
 pub mod Common
+pub mod Contents
 pub mod Finding
 pub mod Hashing
 pub mod Marks

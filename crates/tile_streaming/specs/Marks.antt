@@ -1,8 +1,8 @@
 -- Marks of tiles: what is held of them while their contents stay in the store.
-use Rattle.std.specs.Prelude.{ℕ, ◌≡◌, ◌%◌, ◌^◌, All, false, true, List, length, map, nat_le, Option, Some, None, Result, Ok, Err}
+use Rattle.std.specs.Prelude.{ℕ, ◌≡◌, ◌%◌, ◌^◌, All, false, List, length, map, nat_le, Option, Result, Ok, Err}
 use Rattle.std.specs.List.Sorted.{IsNonDecreasingBy, IsPermutation}
 use Rattle.tile_hash.specs.Xxh3.{xxh3_64}
-use Rattle.tile_streaming.specs.Common.{address, bytes_of, entries, InRange, is_free, is_gzip, is_normalized, layout_of, MbtError, MbtType, Place, State, state_of, Tables, TileSet}
+use Rattle.tile_streaming.specs.Common.{address, bytes_of, entries, InRange, is_free, is_gzip, MbtError, Place, State, state_of, Tables, TileSet}
 use Rattle.tile_streaming.specs.declared.mark.Mark.{Mark}
 use Rattle.tile_streaming.specs.declared.mark.MarkedSet.{MarkedSet}
 
@@ -25,12 +25,11 @@ pub record AreMarksOf (tiles : TileSet) (marks : List Mark) : Type 0 where
   pub same : IsPermutation (map mark_of (entries tiles)) marks
   pub rising : IsNonDecreasingBy (λ m. m.id) marks
 
--- a set is what is held of a state of a layout whose rows have their contents: its metadata, and the marks of its tiles
+-- a set is what is held of a state: its metadata, and the marks of its tiles
 pub record IsMarkedAs (s : State) (m : MarkedSet) : Type 0 where
   pub layout : m.layout ≡ s.layout
   pub algorithm : m.algorithm ≡ s.algorithm
   pub names : m.names ≡ s.metadata
-  pub plain : is_normalized s.layout ≡ false
   pub ranged : All (λ e. InRange e.0) (entries s.tiles)
   pub marks : AreMarksOf s.tiles m.marks.items
 
@@ -40,13 +39,7 @@ pub record IsMarkedSet (t : Tables) (m : MarkedSet) : Type 0 where
   pub due : state_of t ≡ Ok state
   pub held : IsMarkedAs state m
 
--- tables of a normalised layout
-abbrev pub AreNormalised : Option MbtType → Type 0
-AreNormalised None = ⊥
-AreNormalised (Some layout) = is_normalized layout ≡ true
-
--- what is due of tables that are read for their marks: the marked set, none where the tables are normalised, or the refusal of loading, unless memory or the store was wanting
-abbrev pub IsMarked : Tables → Result (Option MarkedSet) MbtError → Type 0
-IsMarked t (Ok (Some m)) = IsMarkedSet t m
-IsMarked t (Ok None) = AreNormalised (layout_of t.descriptions)
+-- what is due of tables that are read for their marks: the marked set, or the refusal of loading, unless memory or the store was wanting
+abbrev pub IsMarked : Tables → Result MarkedSet MbtError → Type 0
+IsMarked t (Ok m) = IsMarkedSet t m
 IsMarked t (Err e) = is_free e ≡ false → state_of t ≡ Err e

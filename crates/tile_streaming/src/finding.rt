@@ -1,13 +1,14 @@
 // The contents of a mark, read again from the store.
 ghost use Rattle.std.specs.Prelude.{◌≡◌, true, IfOk, Some};
 ghost use Rattle.mb_tables.specs.declared.cell.Cell.TheVariants.{Null};
-ghost use Rattle.tile_streaming.specs.Common.{cell_bytes, FaultsCounted, place_at, ReadsOnly, Rose, tile_key};
-ghost use Rattle.tile_streaming.specs.Finding.{fits, has_size, row_bytes, row_told};
+ghost use Rattle.tile_streaming.specs.Common.{cell_bytes, FaultsCounted, id_key, place_at, ReadsOnly, Rose, tile_key};
+ghost use Rattle.tile_streaming.specs.Finding.{fits, has_size, named_told, row_bytes, row_told, tile_told};
 ghost use Rattle.tile_streaming.specs.Written.{FindCauses, IsChanged};
 
 use crate::{Mark, StreamError};
+use base_values::OutOfMemory;
 use mb_lists::cell_at;
-use mb_store::{Cell, MbtType, Row, RowKey, TileStore};
+use mb_store::{Cell, MbtType, Row, RowKey, TableName, TileStore};
 use set_options::is_gzip;
 use std::alloc::Global;
 use tile_hash::xxh3_64;
@@ -25,7 +26,53 @@ fn key_at(coord: TileCoord) -> RowKey
     }
 }
 
-// The row that a store has for an id.
+// The key of an id, a text or a number.
+fn id_key(alloc: Global, id: &Cell) -> Result<Option<RowKey>, OutOfMemory>
+    ensures { IfOk result (λ key. key ≡ id_key id.now) }
+{
+    match id {
+        Cell::Text(text) => Ok(Some(RowKey::TextId(text.try_clone(alloc)?))),
+        Cell::Int(number) => Ok(Some(RowKey::IntId(*number))),
+        _ => Ok(None),
+    }
+}
+
+// The row of a tile that a store has for the id of its place.
+fn find_tile<S: TileStore>(
+    alloc: Global,
+    store: &mut S,
+    layout: MbtType,
+    id: TileId,
+) -> Result<Option<Row>, StreamError>
+    ensures answer { S.tells store.old ≡ true
+        → IfOk result (λ row. row ≡ tile_told layout (S.told store.old) id) }
+    ensures causes { FindCauses ⊥ (S.faults store.old) (S.faults store.new) result }
+    ensures kept { ReadsOnly S.told S.tells S.faults S.steady store.old store.new }
+{
+    let key = key_at(TileCoord::from(id));
+    Ok(store.find(alloc, layout.tile_table(), &key)?)
+}
+
+// The row of the contents that the row of a tile names.
+fn find_named<S: TileStore>(
+    alloc: Global,
+    store: &mut S,
+    table: TableName,
+    row: &Row,
+) -> Result<Option<Row>, StreamError>
+    ensures answer { S.tells store.old ≡ true
+        → IfOk result (λ found. found ≡ named_told table (S.told store.old) row.now) }
+    ensures causes { FindCauses ⊥ (S.faults store.old) (S.faults store.new) result }
+    ensures kept { ReadsOnly S.told S.tells S.faults S.steady store.old store.new }
+{
+    let null = Cell::Null;
+    let Some(key) = id_key(alloc, cell_at(row, 3, &null))? else {
+        return Ok(None);
+    };
+    Ok(store.find(alloc, table, &key)?)
+}
+
+// The row that a store has for an id, or none where it has none with contents.
 fn find_row<S: TileStore>(
     alloc: Global,
     store: &mut S,
@@ -37,8 +84,14 @@ fn find_row<S: TileStore>(
     ensures causes { FindCauses ⊥ (S.faults store.old) (S.faults store.new) result }
     ensures kept { ReadsOnly S.told S.tells S.faults S.steady store.old store.new }
 {
-    let key = key_at(TileCoord::from(id));
-    Ok(store.find(alloc, layout.tile_table(), &key)?)
+    let found = find_tile(alloc, store, layout, id)?;
+    let Some(schema) = layout.normalized_schema() else {
+        return Ok(found);
+    };
+    match found {
+        Some(row) => find_named(alloc, store, schema.contents(), &row),
+        None => Ok(None),
+    }
 }
 
 // The bytes of a cell, none where it has none.
@@ -51,13 +104,14 @@ fn bytes_of(cell: &Cell) -> &[u8]
     }
 }
 
-/// The bytes of the tile of a row, none where its contents are null. `null` stands for a cell that is missing.
+/// The bytes of the contents in a row that has them, none where they are null. `null` stands for a cell that is missing.
 pub(crate) fn row_bytes<'a>(layout: MbtType, row: &'a Row, null: &'a Cell) -> &'a [u8]
     requires { null.now ≡ Null }
     ensures { result.now ≡ row_bytes layout row.now }
 {
     match layout {
         MbtType::Cache => bytes_of(cell_at(row, 6, null)),
+        MbtType::Normalized { .. } => bytes_of(cell_at(row, 1, null)),
         _ => bytes_of(cell_at(row, 3, null)),
     }
 }
@@ -86,7 +140,7 @@ fn has_contents(layout: MbtType, mark: &Mark, row: &Row) -> bool
     is_of(mark, row_bytes(layout, row, &null))
 }
 
-/// The row that a store has for a mark, with the contents that the mark is of. `StoreChanged` comes where there is no
+/// The row that has the contents that a mark is of: of a tile, or of a normalised set that of its contents. `StoreChanged` comes where there is no
 /// such row.
 pub(crate) fn marked_row<S: TileStore>(
     alloc: Global,

@@ -1,6 +1,8 @@
 //! Conversions that hold no contents: a mark of each tile, and one content at a time.
 #![tactic(auto)]
 
+mod content_marks;
+mod contents;
 mod converting;
 mod described;
 mod error;

@@ -1,5 +1,5 @@
-// The conversion of a set that holds no contents, and what it leaves to the one that holds all of them.
-ghost use Rattle.std.specs.Prelude.{◌≡◌, ◌+◌, ◌∷◌, ◌||◌, [], ℕ, is_some, true, IfOk, IsErrOf, None, Some, cond};
+// The conversion of a set that holds no contents.
+ghost use Rattle.std.specs.Prelude.{◌≡◌, ◌+◌, ◌∷◌, ◌||◌, [], ℕ, is_some, true, IfOk, IsErrOf};
 ghost use Rattle.tile_streaming.specs.Common.{answered, GrewFrom, IsEmpty, IsPlain, Keeps, KeepsMedium, Rose, RoseAt};
 ghost use Rattle.byte_media.specs.Kept as media;
 ghost use Rattle.tile_streaming.specs.Streaming.{due_of, StreamCauses, StreamLeaves, TestCauses};
@@ -8,72 +8,11 @@ use crate::converting::convert_marked;
 use crate::error::of_store;
 use crate::marking::read_marks;
 use crate::{StreamError, StreamOptions, StreamReport};
-use mb_store::{MemStore, TileStore};
+use mb_store::TileStore;
 use pm_format::{Compression, Medium};
 use std::alloc::Global;
-use tile_bridge::{ConvertError, ConvertOptions, ConvertReport, convert};
+use tile_bridge::{ConvertError, ConvertOptions};
 use tile_ids::TileCoord;
-
-// Whether the hash of all tiles is asked for.
-fn wants_hash(options: &ConvertOptions, hash: bool) -> bool
-    ensures { result ≡ options.now.verify || hash }
-{
-    options.verify || hash
-}
-
-// The report of a conversion that holds all contents, with the hash where it was asked for.
-fn streamed(report: ConvertReport, hash: bool) -> StreamReport
-    ensures answers { result.answers ≡ report.answers }
-    ensures aggregate { result.aggregate ≡ cond hash (Some report.aggregate) None }
-    ensures places { result.places ≡ report.places }
-{
-    let ConvertReport {
-        answers,
-        aggregate,
-        places,
-    } = report;
-    StreamReport {
-        answers,
-        aggregate: if hash { Some(aggregate) } else { None },
-        places,
-    }
-}
-
-// The conversion that holds all contents.
-fn convert_whole<S: TileStore, O: StreamOptions, M: Medium>(
-    alloc: Global,
-    base: &mut S,
-    coords: &[TileCoord],
-    options: &O,
-    hash: bool,
-    medium: &mut M,
-) -> Result<StreamReport, StreamError>
-    ensures causes { StreamCauses (O.asks options.now).writer
-        (due_of S.tells S.told base.old (O.asks options.now)) (S.tells base.old)
-        (M.told medium.old) result }
-    ensures leaves { StreamLeaves (O.gives options.now)
-        (due_of S.tells S.told base.old (O.asks options.now)) (S.tells base.old) coords.now result
-        (M.told medium.old) (M.told medium.new) }
-    ensures aggregate { IfOk result
-        (λ report. is_some report.aggregate ≡ (O.asks options.now).verify || hash) }
-    ensures store_fault { (place : ℕ)
-        → IsErrOf result (StreamError.Convert (ConvertError.StoreFault place))
-        → RoseAt place (S.faults base.old ∷ []) (S.faults base.new ∷ []) }
-    ensures reads { IfOk result (λ report. GrewFrom (M.reads medium.old) (M.reads medium.new)
-        (answered report.answers + 1)) }
-    ensures fault { IsErrOf result (StreamError.Convert ConvertError.MediumFault)
-        → Rose (M.faults medium.old) (M.faults medium.new) }
-    ensures told { S.tells base.old ≡ true → S.told base.new ≡ S.told base.old }
-    ensures base_kept { Keeps S.tells S.faults S.steady base.old base.new }
-    ensures medium_kept { KeepsMedium M.told M.versions M.reads M.faults M.steady
-        medium.old medium.new }
-{
-    let mut patches: Vec<MemStore> = Vec::new(alloc);
-    match convert(alloc, base, &mut patches, coords, options, medium) {
-        Ok(report) => Ok(streamed(report, wants_hash(options.asked(), hash))),
-        Err(error) => Err(StreamError::Convert(error)),
-    }
-}
 
 // What is tested before a store is read: the medium is empty, and directories are labelled `None`.
 fn test_medium<M: Medium>(options: &ConvertOptions, medium: &mut M) -> Result<(), ConvertError>
@@ -124,13 +63,9 @@ fn convert_tested<S: TileStore, O: StreamOptions, M: Medium>(
     ensures medium_kept { KeepsMedium M.told M.versions M.reads M.faults M.steady
         medium.old medium.new }
 {
-    let read = match read_marks(alloc, base) {
-        Ok(read) => read,
-        Err(error) => return Err(of_store(error)),
-    };
-    match read {
-        Some(set) => convert_marked(alloc, base, &set, coords, options, hash, medium),
-        None => convert_whole(alloc, base, coords, options, hash, medium),
+    match read_marks(alloc, base) {
+        Ok(set) => convert_marked(alloc, base, &set, coords, options, hash, medium),
+        Err(error) => Err(of_store(error)),
     }
 }
 
@@ -138,8 +73,8 @@ fn convert_tested<S: TileStore, O: StreamOptions, M: Medium>(
 /// the memory of marks: 24 bytes for each tile, and the contents of one.
 ///
 /// The medium is asked for its length, and the label of directories is tested; then the rows are read and tested by
-/// pages; then each content is read again, in the order of the archive, and added. Where contents stand in a table of
-/// their own, `convert` is called, and all contents are held.
+/// pages, those of the contents of a normalised set first; then the contents of each tile are read again, in the order
+/// of the archive, and added. Of a normalised set the ids of contents are held too, with a mark of 16 bytes each.
 ///
 /// The hash of all tiles is reported where it is to be verified (`verify` of the options), and where it is wanted for
 /// itself (`hash`). It needs the contents by place, so that each is read once more before the archive, in the memory of

@@ -2,6 +2,7 @@
 use crate::answers::said_outcome;
 use crate::fields::{Fields, bytes_of};
 use crate::stores::{options_of, script_of, whole};
+use base_values::TextVal;
 use mb_store::{Changes, MemStore, Row, RowKey, StoreError, TableDesc, TableName, TileStore};
 use pm_format::MemMedium;
 use std::alloc::Global;
@@ -82,12 +83,24 @@ impl TileStore for Changing {
     ghost sound = { λ _ tells. absurd (false≢true tells) };
 }
 
-// The key that three numbers are, or none where there are none.
-fn key_of(fields: &mut Fields) -> Option<RowKey> {
-    let zoom = fields.next().parse::<u8>().ok()?;
+// The key of a place, of which the zoom is read.
+fn place_of(zoom: &str, fields: &mut Fields) -> Option<RowKey> {
+    let zoom = zoom.parse::<u8>().ok()?;
     let column = fields.next().parse::<u32>().ok()?;
     let row = fields.next().parse::<u32>().ok()?;
     Some(RowKey::Tile { zoom, column, row })
+}
+
+// The key that three numbers are, or a word for its kind and an id; none where there are none.
+fn key_of(alloc: Global, fields: &mut Fields) -> Option<RowKey> {
+    match fields.next() {
+        "text" => {
+            let id = String::from_str(alloc, fields.next()).ok()?;
+            Some(RowKey::TextId(TextVal::new(id)))
+        }
+        "number" => Some(RowKey::IntId(fields.next().parse::<i64>().ok()?)),
+        zoom => place_of(zoom, fields),
+    }
 }
 
 // Appends how a conversion over a changing store ends, and what stands at byte 97 of the medium.
@@ -124,11 +137,11 @@ fn say_changed(
     }
 }
 
-/// A case of a script, the number of a row that is sought, and the three numbers of the row that is found in its place, if any: how the conversion ends, and byte 97 of the medium.
+/// A case of a script, the number of a row that is sought, and the key of the row that is found in its place, if any: three numbers, or `text` or `number` and an id. How the conversion ends, and byte 97 of the medium.
 pub fn answer(alloc: Global, out: &mut String, fields: &mut Fields) -> Option<()> {
     let script = bytes_of(alloc, fields.next())?;
     let changed = fields.next().parse::<u64>().ok()?;
-    let other = key_of(fields);
+    let other = key_of(alloc, fields);
     let script = script_of(alloc, script.as_slice())?;
     say_changed(alloc, out, script, changed, other)
 }

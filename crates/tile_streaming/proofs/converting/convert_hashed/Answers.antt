@@ -1,4 +1,4 @@
-use Rattle.tile_streaming.proofs.Common.{ap, ConvertOptions, due_of, Err, IsHeldWith, Options, overflow_of, Result, State, StreamCauses, StreamError, StreamLeaves, StreamReport, subst, sym, unwrap_or, ◌∙◌}
+use Rattle.tile_streaming.proofs.Common.{ap, ConvertOptions, due_of, IsHeldWith, overflow_of, StreamCauses, StreamLeaves, subst, sym, unwrap_or, ◌∙◌}
 use Rattle.tile_streaming.proofs.DueLemmas.{overflow_due}
 use Rattle.tile_streaming.proofs.SizeLemmas.{overflow_same}
 use Rattle.tile_streaming.proofs.StreamLemmas.{given_leaves, told_first}

@@ -1,9 +1,8 @@
 use Rattle.tile_streaming.proofs.Common.{ArchivePlaces, due_of, Err, IsHeldWith, Ok, refl, Result, Rose, RoseAt, StreamCauses, StreamError, StreamLeaves, StreamReport, subst, sym, [], ◌∙◌, ◌∷◌, ◌≡◌}
 use Rattle.tile_streaming.proofs.StepLemmas.{same_error}
-use Rattle.tile_streaming.proofs.StreamLemmas.{can, error_of, medium_rose, no_store, part_left, step_causes, step_ends, store_rose, stored_all, unread_causes, unread_left, whole_causes, whole_left}
+use Rattle.tile_streaming.proofs.StreamLemmas.{can, error_of, medium_rose, no_store, part_left, same_word, step_causes, step_ends, store_rose, stored_all, unread_causes, unread_left, whole_causes, whole_left}
 use Rattle.tile_bridge.specs.ReadingBack.{of_read_error}
 use Rattle.tile_bridge.specs.declared.error.ConvertError.TheVariants.{MediumFault, StoreFault}
-use Rattle.tile_streaming.proofs.WholeLemmas.{same_word}
 use Rattle.tile_streaming.specs.declared.error.StreamError.TheVariants.{Convert}
 use Rattle.tile_streaming.proofs.converting.convert_held.Goals as goal
 

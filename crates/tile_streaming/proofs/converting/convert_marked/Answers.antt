@@ -1,4 +1,4 @@
-use Rattle.tile_streaming.proofs.Common.{ap, Bool, ConvertOptions, due_of, Err, IfSome, inl, IsMarkedFrom, List, Option, refl, Result, Rose, RoseAt, StreamCauses, StreamError, StreamLeaves, StreamReport, subst, sym, Tables, ℕ, [], ◌∙◌, ◌∷◌, ◌||◌, ◌≡◌}
+use Rattle.tile_streaming.proofs.Common.{ap, ConvertOptions, due_of, Err, IfSome, inl, IsMarkedFrom, List, Option, refl, Result, Rose, RoseAt, StreamCauses, StreamError, StreamLeaves, StreamReport, subst, ℕ, [], ◌∙◌, ◌∷◌, ◌||◌, ◌≡◌}
 use Rattle.tile_bridge.specs.declared.error.ConvertError.TheVariants.{MediumFault, StoreFault}
 use Rattle.tile_streaming.proofs.DueLemmas.{causes_moved, leaves_moved, rose_more}
 use Rattle.tile_streaming.proofs.StepLemmas.{same_error}

@@ -26,7 +26,7 @@ hash_spots-requires-clause-stored g c = λ u.
     let from = c.requires.marked in
     let held = from.marked.held in
     subst (λ (l : List Mark). All (IsStored c.args.set.now.layout tables) l) (sym c.as_slice-marks.ensures.value)
-    (all_stored tables c.args.set.now.layout from.marked.state c.args.set.now.marks.items (g.met.S.TileStore.sound c.args.store.now u) (told_first _ _ c.args.set.now from u) held.plain held.layout held.marks)
+    (all_stored tables c.args.set.now.layout from.marked.state c.args.set.now.marks.items (g.met.S.TileStore.sound c.args.store.now u) (told_first _ _ c.args.set.now from u) held.layout held.marks)
 
 pub returns-clause-hash : goal.returns-clause-hash
 returns-clause-hash g c = λ s held due.

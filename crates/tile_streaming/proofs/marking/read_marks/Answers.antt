@@ -1,6 +1,6 @@
 use Rattle.mb_load.proofs.StateLemmas.{no_fault}
-use Rattle.tile_streaming.proofs.Common.{ap, Err, err_from_is_err_and, is_free, IsMarked, Ok, store_free, subst, sym, ◌∙◌}
-use Rattle.tile_streaming.proofs.MarkedLemmas.{free_own, normal_at, normal_own, own_marked, refused_at, refused_own, told_marked}
+use Rattle.tile_streaming.proofs.Common.{ap, Err, err_from_is_err_and, is_free, store_free, sym, ◌∙◌}
+use Rattle.tile_streaming.proofs.MarkedLemmas.{free_own, own_marked, refused_at, refused_own, told_marked}
 use Rattle.tile_streaming.proofs.marking.read_marks.Goals as goal
 
 pub returns-in_err-descriptions-clause-own : goal.returns-in_err-descriptions-clause-own
@@ -23,28 +23,10 @@ returns-in_err-layout-clause-fault g c =
     let p = err_from_is_err_and c.from_residual-in_err-layout.result c.from_residual-in_err-layout.ensures.1 in
     λ h. no_fault c.from_residual-in_err-layout.result p.0 _ p.1 p.2 c.in_err-layout.ensures.unfaulted h
 
-pub returns-then-is_normalized-clause-answer : goal.returns-then-is_normalized-clause-answer
-returns-then-is_normalized-clause-answer g c t = normal_at (g.S.TileStore.told c.args.store.now) c.deref.result.now c.in_ok-layout.layout (c.deref.ensures.value ∙ c.in_ok-descriptions.ensures.answer t) c.in_ok-layout.ensures.layout (sym c.is_normalized.ensures ∙ c.if-is_normalized.true)
-
-pub returns-then-is_normalized-clause-own : goal.returns-then-is_normalized-clause-own
-returns-then-is_normalized-clause-own g c = normal_own c.deref.result.now c.in_ok-layout.layout c.in_ok-layout.ensures.layout (sym c.is_normalized.ensures ∙ c.if-is_normalized.true)
-
-pub returns-in_err-marked-clause-answer : goal.returns-in_err-marked-clause-answer
-returns-in_err-marked-clause-answer g c t =
-    let p = err_from_is_err_and c.from_residual-in_err-marked.result c.from_residual-in_err-marked.ensures.1 in
-    subst (IsMarked (g.S.TileStore.told c.args.store.now)) (sym (p.1 ∙ ap Err p.2))
-    (told_marked c.in_ok-layout.layout (sym c.is_normalized.ensures ∙ c.if-is_normalized.false) c.deref.result.now (record { is_layout = c.in_ok-layout.ensures.layout; metadata = c.in_ok-layout.ensures.metadata; index = c.in_ok-layout.ensures.index }) _ _ (g.S.TileStore.told c.args.store.now) _ (c.in_ok-descriptions.ensures.kept.tells ∙ t) c.in_ok-descriptions.ensures.kept.told (c.deref.ensures.value ∙ c.in_ok-descriptions.ensures.answer t) c.in_err-marked.ensures.marked)
-
-pub returns-in_err-marked-clause-own : goal.returns-in_err-marked-clause-own
-returns-in_err-marked-clause-own g c =
-    let p = err_from_is_err_and c.from_residual-in_err-marked.result c.from_residual-in_err-marked.ensures.1 in
-    let u = own_marked c.in_ok-layout.layout (sym c.is_normalized.ensures ∙ c.if-is_normalized.false) c.deref.result.now (record { is_layout = c.in_ok-layout.ensures.layout; metadata = c.in_ok-layout.ensures.metadata; index = c.in_ok-layout.ensures.index }) _ _ _ c.in_err-marked.ensures.marked in
-    (u.0, subst (IsMarked u.0) (sym (p.1 ∙ ap Err p.2)) u.1)
-
 pub returns-clause-answer : goal.returns-clause-answer
 returns-clause-answer g c t =
-    told_marked c.in_ok-layout.layout (sym c.is_normalized.ensures ∙ c.if-is_normalized.false) c.deref.result.now (record { is_layout = c.in_ok-layout.ensures.layout; metadata = c.in_ok-layout.ensures.metadata; index = c.in_ok-layout.ensures.index }) _ _ (g.S.TileStore.told c.args.store.now) (Ok c.in_ok-marked.marked) (c.in_ok-descriptions.ensures.kept.tells ∙ t) c.in_ok-descriptions.ensures.kept.told (c.deref.ensures.value ∙ c.in_ok-descriptions.ensures.answer t) c.in_ok-marked.ensures.marked
+    told_marked c.in_ok-layout.layout c.deref.result.now (record { is_layout = c.in_ok-layout.ensures.layout; metadata = c.in_ok-layout.ensures.metadata; index = c.in_ok-layout.ensures.index }) _ _ (g.S.TileStore.told c.args.store.now) c.marked_set.result (c.in_ok-descriptions.ensures.kept.tells ∙ t) c.in_ok-descriptions.ensures.kept.told (c.deref.ensures.value ∙ c.in_ok-descriptions.ensures.answer t) c.marked_set.ensures.marked
 
 pub returns-clause-own : goal.returns-clause-own
 returns-clause-own g c =
-    own_marked c.in_ok-layout.layout (sym c.is_normalized.ensures ∙ c.if-is_normalized.false) c.deref.result.now (record { is_layout = c.in_ok-layout.ensures.layout; metadata = c.in_ok-layout.ensures.metadata; index = c.in_ok-layout.ensures.index }) _ _ (Ok c.in_ok-marked.marked) c.in_ok-marked.ensures.marked
+    own_marked c.in_ok-layout.layout c.deref.result.now (record { is_layout = c.in_ok-layout.ensures.layout; metadata = c.in_ok-layout.ensures.metadata; index = c.in_ok-layout.ensures.index }) _ _ c.marked_set.result c.marked_set.ensures.marked

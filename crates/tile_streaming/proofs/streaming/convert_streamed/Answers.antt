@@ -1,7 +1,6 @@
 use Rattle.tile_streaming.proofs.Common.{ConvertOptions, due_of, Err, IsEmpty, StreamCauses, StreamLeaves, subst, sym}
 use Rattle.tile_streaming.proofs.DueLemmas.{test_no_store, test_refused, test_rose}
-use Rattle.tile_streaming.proofs.WholeLemmas.{same_word}
-use Rattle.tile_streaming.proofs.StreamLemmas.{error_of}
+use Rattle.tile_streaming.proofs.StreamLemmas.{error_of, same_word}
 use Rattle.tile_streaming.specs.declared.error.StreamError.TheVariants.{Convert}
 use Rattle.tile_streaming.proofs.streaming.convert_streamed.Goals as goal
 

@@ -1,39 +1,25 @@
 use Rattle.tile_streaming.proofs.Common.{ap, due_of, Err, refusal_at, RoseAt, StreamCauses, StreamError, subst, sym, [], ◌∙◌, ◌∷◌}
 use Rattle.tile_streaming.proofs.DueLemmas.{causes_moved, leaves_moved, marked_of, marks_refused, no_medium, rose_more, store_error}
-use Rattle.tile_streaming.proofs.WholeLemmas.{same_word}
-use Rattle.tile_streaming.proofs.StreamLemmas.{error_of}
+use Rattle.tile_streaming.proofs.StreamLemmas.{error_of, same_word}
 use Rattle.tile_streaming.proofs.streaming.convert_tested.Goals as goal
 
 pub convert_marked-requires-clause-marked : goal.convert_marked-requires-clause-marked
 convert_marked-requires-clause-marked g c =
-    marked_of (g.S.TileStore.tells c.args.base.now) (g.S.TileStore.tells c.read_marks.new.store) (g.S.TileStore.told c.args.base.now) (g.S.TileStore.told c.read_marks.new.store) c.in-Ok.read _ c.read_marks.ensures.kept.tells c.read_marks.ensures.kept.told
-    c.in-Some.is c.in-Ok.ensures.answer c.in-Ok.ensures.own
+    marked_of (g.S.TileStore.tells c.args.base.now) (g.S.TileStore.tells c.read_marks.new.store) (g.S.TileStore.told c.args.base.now) (g.S.TileStore.told c.read_marks.new.store) c.in-Ok.set c.read_marks.ensures.kept.tells c.read_marks.ensures.kept.told
+    c.in-Ok.ensures.answer c.in-Ok.ensures.own
 
-pub returns-in-Some-clause-causes : goal.returns-in-Some-clause-causes
-returns-in-Some-clause-causes g c =
+pub returns-in-Ok-clause-causes : goal.returns-in-Ok-clause-causes
+returns-in-Ok-clause-causes g c =
     causes_moved (g.S.TileStore.tells c.args.base.now) (g.S.TileStore.tells c.read_marks.new.store) (g.S.TileStore.told c.args.base.now) (g.S.TileStore.told c.read_marks.new.store) (g.O.ArchiveOptions.asks c.args.options.now) c.read_marks.ensures.kept.tells c.read_marks.ensures.kept.told
     (g.O.ArchiveOptions.asks c.args.options.now).writer (g.M.Backend.told c.args.medium.now) c.convert_marked.result c.convert_marked.ensures.causes
 
-pub returns-in-Some-clause-leaves : goal.returns-in-Some-clause-leaves
-returns-in-Some-clause-leaves g c =
+pub returns-in-Ok-clause-leaves : goal.returns-in-Ok-clause-leaves
+returns-in-Ok-clause-leaves g c =
     leaves_moved (g.S.TileStore.tells c.args.base.now) (g.S.TileStore.tells c.read_marks.new.store) (g.S.TileStore.told c.args.base.now) (g.S.TileStore.told c.read_marks.new.store) (g.O.ArchiveOptions.asks c.args.options.now) c.read_marks.ensures.kept.tells c.read_marks.ensures.kept.told
     (g.O.ArchiveOptions.gives c.args.options.now) c.args.coords.now c.convert_marked.result (g.M.Backend.told c.args.medium.now) (g.M.Backend.told c.convert_marked.new.medium) c.convert_marked.ensures.leaves
 
-pub returns-in-Some-clause-store_fault : goal.returns-in-Some-clause-store_fault
-returns-in-Some-clause-store_fault g c = λ place h. rose_more place (g.S.TileStore.faults c.args.base.now) (g.S.TileStore.faults c.read_marks.new.store) (g.S.TileStore.faults c.convert_marked.new.base) c.read_marks.ensures.kept.faults (c.convert_marked.ensures.store_fault place h)
-
-pub returns-in-None-clause-causes : goal.returns-in-None-clause-causes
-returns-in-None-clause-causes g c =
-    causes_moved (g.S.TileStore.tells c.args.base.now) (g.S.TileStore.tells c.read_marks.new.store) (g.S.TileStore.told c.args.base.now) (g.S.TileStore.told c.read_marks.new.store) (g.O.ArchiveOptions.asks c.args.options.now) c.read_marks.ensures.kept.tells c.read_marks.ensures.kept.told
-    (g.O.ArchiveOptions.asks c.args.options.now).writer (g.M.Backend.told c.args.medium.now) c.convert_whole.result c.convert_whole.ensures.causes
-
-pub returns-in-None-clause-leaves : goal.returns-in-None-clause-leaves
-returns-in-None-clause-leaves g c =
-    leaves_moved (g.S.TileStore.tells c.args.base.now) (g.S.TileStore.tells c.read_marks.new.store) (g.S.TileStore.told c.args.base.now) (g.S.TileStore.told c.read_marks.new.store) (g.O.ArchiveOptions.asks c.args.options.now) c.read_marks.ensures.kept.tells c.read_marks.ensures.kept.told
-    (g.O.ArchiveOptions.gives c.args.options.now) c.args.coords.now c.convert_whole.result (g.M.Backend.told c.args.medium.now) (g.M.Backend.told c.convert_whole.new.medium) c.convert_whole.ensures.leaves
-
-pub returns-in-None-clause-store_fault : goal.returns-in-None-clause-store_fault
-returns-in-None-clause-store_fault g c = λ place h. rose_more place (g.S.TileStore.faults c.args.base.now) (g.S.TileStore.faults c.read_marks.new.store) (g.S.TileStore.faults c.convert_whole.new.base) c.read_marks.ensures.kept.faults (c.convert_whole.ensures.store_fault place h)
+pub returns-in-Ok-clause-store_fault : goal.returns-in-Ok-clause-store_fault
+returns-in-Ok-clause-store_fault g c = λ place h. rose_more place (g.S.TileStore.faults c.args.base.now) (g.S.TileStore.faults c.read_marks.new.store) (g.S.TileStore.faults c.convert_marked.new.base) c.read_marks.ensures.kept.faults (c.convert_marked.ensures.store_fault place h)
 
 pub returns-in-Err-clause-causes : goal.returns-in-Err-clause-causes
 returns-in-Err-clause-causes g c =
