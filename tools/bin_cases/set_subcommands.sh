@@ -147,3 +147,25 @@ status 0
 holds [ "$(ask b.mbtiles "select value from metadata where name = 'name'; pragma journal_mode")" = "b
 wal" ]
 ends
+
+fresh 'a set that is verified'
+cp "$places" a.mbtiles
+run "$fatyngu" verify a.mbtiles
+status 0
+prints '^valid'
+run "$fatyngu" hash --update a.mbtiles
+run "$fatyngu" verify a.mbtiles
+status 0
+"$real" a.mbtiles "update tiles set tile_data = x'00' where zoom_level = 0"
+run "$fatyngu" verify a.mbtiles
+status 1
+says 'aggregate hash mismatch'
+run "$fatyngu" verify missing.mbtiles
+status 6
+: >empty
+run "$fatyngu" verify empty
+status 1
+mkdir folder
+run "$fatyngu" verify folder
+[ "$got" != 0 ] || problem="$problem; a folder is verified"
+ends

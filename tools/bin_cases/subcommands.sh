@@ -148,3 +148,19 @@ for file in "$places" made.pmtiles; do
     status 2
 done
 ends
+
+fresh 'the examples of README'
+ln -s "$bin" bin
+ln -s "$top/examples" examples
+grep '^| `bin/' "$top/README.md" | sed 's/^.*| `\(.*\)` |$/\1/' >listed
+holds [ "$(wc -l <listed)" -gt 15 ]
+while read -r line; do
+    case $line in
+    # it runs until it is ended, and has cases of its own
+    *--http*) continue ;;
+    *plain* | *--map* | *--bbox*) command -v python3 >/dev/null || continue ;;
+    esac
+    run bash -c "$line"
+    [ "$got" = 0 ] || problem="$problem; status $got of $line"
+done <listed
+ends

@@ -126,6 +126,7 @@ done
 
 # The subcommands of fatyngu on such sets, each answer held against sqlite3 and Python.
 is_sound() { [ "$(ask "$1" 'pragma integrity_check')" = ok ]; }
+sum_of_tiles() { tiles_of "$1" | cksum; }
 # what is read of a set
 reads_set() {
     run "$fatyngu" summary a.mbtiles
@@ -151,7 +152,7 @@ reads_set() {
 copies_set() {
     run "$fatyngu" copy a.mbtiles b.mbtiles
     status 0
-    holds [ "$(tiles_of b.mbtiles)" = "$(tiles_of a.mbtiles)" ]
+    holds [ "$(sum_of_tiles b.mbtiles)" = "$(sum_of_tiles a.mbtiles)" ]
     holds is_sound b.mbtiles
     run "$fatyngu" validate b.mbtiles
     status 0
@@ -160,16 +161,16 @@ copies_set() {
     holds [ "$(find files -type f | wc -l)" = 40 ]
     run "$fatyngu" pack files c.mbtiles
     status 0
-    holds [ "$(tiles_of c.mbtiles)" = "$(tiles_of a.mbtiles)" ]
+    holds [ "$(sum_of_tiles c.mbtiles)" = "$(sum_of_tiles a.mbtiles)" ]
     run "$fatyngu" convert --hash a.mbtiles made.pmtiles
     status 0
     holds same made.pmtiles a.mbtiles
     run "$fatyngu" import made.pmtiles d.mbtiles
     status 0
-    holds [ "$(tiles_of d.mbtiles)" = "$(tiles_of a.mbtiles)" ]
+    holds [ "$(sum_of_tiles d.mbtiles)" = "$(sum_of_tiles a.mbtiles)" ]
     run "$fatyngu" copy --apply-patch change.mbtiles --force a.mbtiles e.mbtiles
     status 0
-    holds [ "$(tiles_of e.mbtiles)" = "$1" ]
+    holds [ "$(sum_of_tiles e.mbtiles)" = "$1" ]
 }
 # what is changed in its file
 changes_set() {
@@ -182,18 +183,29 @@ changes_set() {
     status 0
     run "$fatyngu" patch a.mbtiles change.mbtiles --force
     status 0
-    holds [ "$(tiles_of a.mbtiles)" = "$1" ]
+    holds [ "$(sum_of_tiles a.mbtiles)" = "$1" ]
     holds is_sound a.mbtiles
 }
 for maker in 'GDAL, images' 'GDAL, vectors' tilemaker tippecanoe 'tippecanoe, flat' mbutil MapTiler; do
     fresh "the subcommands on a file as $maker makes it"
     "$real" a.mbtiles "$(tables_of "$maker")" >/dev/null
     set_of change.mbtiles "insert into tiles values (5, 0, 0, null), (5, 1, 0, x'1F8B05'), (6, 1, 1, x'1F8B06')"
-    wanted=$({ tiles_of a.mbtiles | grep -v '^5|0|0|\|^5|1|0|'; echo '5|1|0|1F8B05'; echo '6|1|1|1F8B06'; } | sort -t'|' -n -k1,1 -k2,2 -k3,3)
+    wanted=$({ tiles_of a.mbtiles | grep -v '^5|0|0|\|^5|1|0|'; echo '5|1|0|1F8B05'; echo '6|1|1|1F8B06'; } | sort -t'|' -n -k1,1 -k2,2 -k3,3 | cksum)
     before=$(cksum a.mbtiles)
     reads_set
     copies_set "$wanted"
     holds [ "$(cksum a.mbtiles)" = "$before" ]
-    changes_set "$wanted"
+    # ids that are no digests can't be made for what is written
+    if [ "$maker" = tippecanoe ]; then
+        for words in 'meta set a.mbtiles attribution x' 'hash --update a.mbtiles' 'patch a.mbtiles change.mbtiles --force'; do
+            # shellcheck disable=SC2086
+            run "$fatyngu" $words
+            status 6
+            says 'fatyngu copy makes a plain set of it'
+        done
+        holds [ "$(cksum a.mbtiles)" = "$before" ]
+    else
+        changes_set "$wanted"
+    fi
     ends
 done
