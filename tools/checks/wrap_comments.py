@@ -1,6 +1,6 @@
 #!/usr/bin/env python3
 """Wraps comments that have a line of more than 120 columns: runs of lines that begin with `///`, `//!`, `//`, `--` or `#`.
-Without names it takes those of the scripts. Items of lists and empty lines of comments stay apart, and so does code.
+Without names it takes those of the scripts and of the crates. Items of lists and empty lines of comments stay apart, and so does code.
 
     tools/checks/wrap_comments.py [--check] [FILE ..]
 """
@@ -12,7 +12,7 @@ import textwrap
 from specs import TOP
 
 WIDTH = 120
-FILES = (".ci/run", "bin/*", "tools/*.sh", "tools/*.py", "tools/check*", "tools/make_cases")
+FILES = (".ci/run", "bin/*", "tools/*.sh", "tools/*.py", "tools/check*", "tools/make_cases", "crates/*.rt", "crates/*.antt")
 COMMENT = re.compile(r"( *)(///|//!|//|--|#)( +|$)(.*)")
 ITEM = re.compile(r"(?:[-*] |\d+\. )")
 # what begins a paragraph of its own in a script

@@ -42,7 +42,8 @@ fn mode(word: &str) -> Option<Mode> {
     }
 }
 
-// What the medium answers, the number, and then how many contents and the contents themselves. Their places, and how often was read.
+// What the medium answers, the number, and then how many contents and the contents themselves. Their
+// places, and how often was read.
 pub fn answer(alloc: Global, out: &mut String, words: &mut Words) -> Option<()> {
     let mut medium = Mute::new(alloc, mode(words.next()?)?);
     let mut contents = Contents::new(alloc);

@@ -49,7 +49,8 @@ fn of_tile<B: Backend>(
     )
 }
 
-// The call, and which call of the medium fails, 0 for none. After its answer, byte 97 of the medium, where there is one.
+// The call, and which call of the medium fails, 0 for none. After its answer, byte 97 of the
+// medium, where there is one.
 pub fn over<B: Backend>(
     alloc: Global,
     out: &mut String,

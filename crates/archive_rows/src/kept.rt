@@ -5,7 +5,8 @@ use pm_writer::PmTilesWriter;
 use rows_shared::Counted;
 use std::alloc::Global;
 
-// The medium of most calls, the options of a writer, two caches, what each medium of an extraction has at first, and the medium of the last one.
+// The medium of most calls, the options of a writer, two caches, what each medium of an extraction has at first, and
+// the medium of the last one.
 #[derive(Drop)]
 pub struct Kept {
     pub backend: Counted,

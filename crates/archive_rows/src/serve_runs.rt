@@ -27,7 +27,8 @@ fn said_outcome(out: &mut String, outcome: ServeOutcome) -> Option<()> {
     said(out, outcome)
 }
 
-// Which call of the output fails and which of the input, 0 for none, the input, and the words of the run. The answer is its status, its outcome and the output.
+// Which call of the output fails and which of the input, 0 for none, the input, and the words of the run. The answer is
+// its status, its outcome and the output.
 pub fn answer<B: Backend>(
     alloc: Global,
     out: &mut String,

@@ -32,7 +32,8 @@ fn raised(alloc: Global, bytes: &[u8], at: usize, step: u8) -> Option<TextVal> {
     verify_line(alloc, &outcome).ok()
 }
 
-// Raises each byte from a place to before another by each number from 1 to a last one: the digest of the lines in a row.
+// Raises each byte from a place to before another by each number from 1 to a last one: the
+// digest of the lines in a row.
 pub fn changes(alloc: Global, out: &mut String, bytes: &[u8], words: &mut Words) -> Option<()> {
     let first = number::<usize>(words)?;
     let end = number::<usize>(words)?;

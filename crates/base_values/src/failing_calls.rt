@@ -5,7 +5,8 @@ ghost use Rattle.base_values.specs.FailingCalls.{next_fails, called};
 
 use std::alloc::Global;
 
-/// The calls of an object in memory that fail, by their numbers from 1, how many were made, and how many of them failed.
+/// The calls of an object in memory that fail, by their numbers from 1, how many were made, and
+/// how many of them failed.
 #[derive(Debug, Drop)]
 pub struct FailingCalls {
     /// The numbers of the calls that fail.

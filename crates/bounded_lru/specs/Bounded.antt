@@ -41,7 +41,8 @@ module _ {V : Type 0} where
     light None es = es
     light (Some room) es = light_front room es
 
-    -- a pair stands in front, in place of one of its key, and the last ones are given up until the rest is within the bounds
+    -- a pair stands in front, in place of one of its key, and the last ones are given up until the
+    -- rest is within the bounds
     abbrev pub with_pair : Bounded V → ℕ → V → Bounded V
     with_pair b k v = bounded (light b.limit (take b.capacity ((k, v) ∷ remove_entry (nat_eq k) b.pairs))) b.capacity b.limit
 

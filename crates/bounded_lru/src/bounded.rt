@@ -11,7 +11,8 @@ use std::alloc::Global;
 use std::marker::Model;
 use std::num::NonZeroUsize;
 
-/// Values by numbers, of which those that were used last are kept: at most so many, and of at most so much weight together where there is a limit.
+/// Values by numbers, of which those that were used last are kept: at most so many, and of at most so much weight
+/// together where there is a limit.
 #[derive(Drop)]
 pub struct BoundedLru<V: Weigh> {
     pairs: LruCache<u64, V>,
@@ -36,7 +37,8 @@ impl<V: Weigh> Model for BoundedLru<V> {
 }
 
 impl<V: Weigh> BoundedLru<V> {
-    /// Nothing yet, and later at most so many pairs, which weigh no more than the limit together. The capacity is to be at least 1. Room is made only as pairs come.
+    /// Nothing yet, and later at most so many pairs, which weigh no more than the limit together. The capacity is to be
+    /// at least 1. Room is made only as pairs come.
     pub fn new(
         alloc: Global,
         capacity: usize,
@@ -87,8 +89,9 @@ impl<V: Weigh> BoundedLru<V> {
 }
 
 impl<V: Weigh + Drop> BoundedLru<V> {
-    /// Puts a value at a key, in front of the others, and gives up the last of these until the rest is within the bounds. `Ok(false)` comes exactly for a value that weighs more than
-    /// the limit. It changes nothing, as want of memory doesn't.
+    /// Puts a value at a key, in front of the others, and gives up the last of these until the rest is within
+    /// the bounds. `Ok(false)` comes exactly for a value that weighs more than the limit. It changes nothing,
+    /// as want of memory doesn't.
     pub fn insert(&mut self, key: u64, value: V) -> Result<bool, OutOfMemory>
         ensures puts { Puts V.weight self.old self.new key value result }
         ensures within { IsWithin V.weight self.new }

@@ -1,4 +1,5 @@
-//! Pairs of a number and a value, of which those that were used last are kept: at most so many, and of at most so much weight together.
+//! Pairs of a number and a value, of which those that were used last are kept: at most so many, and of at most
+//! so much weight together.
 #![tactic(auto)]
 
 mod bounded;

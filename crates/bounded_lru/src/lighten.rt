@@ -6,7 +6,8 @@ ghost use Rattle.bounded_lru.specs.Bounded.{light_front, weight_of as weight_of_
 use crate::Weigh;
 use lru::LruCache;
 
-/// Gives up the last pairs until those behind the first one weigh no more than this. `others` is what they weigh before, and the answer is what they weigh then.
+/// Gives up the last pairs until those behind the first one weigh no more than this. `others` is what they weigh
+/// before, and the answer is what they weigh then.
 pub(crate) fn lighten<V: Weigh + Drop>(pairs: &mut LruCache<u64, V>, others: u64, room: u64) -> u64
     requires some { 0 < length pairs.old.entries }
     requires weight { others ≡ weight_of_pairs V.weight (drop 1 pairs.old.entries) }

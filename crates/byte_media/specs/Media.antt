@@ -9,8 +9,9 @@ use Rattle.byte_media.specs.declared.medium.WriteFault.{WriteFault}
 use Rattle.byte_media.specs.declared.medium.WriteFault.TheVariants as writes
 use Rattle.byte_media.specs.declared.medium.MediumFault.{MediumFault}
 
--- Over told bytes: the bytes from the offset, as many as asked and there; PastEnd only where the offset is above their length; Short never.
--- So where the offset is above their length only PastEnd is left, but for want of memory and a fault.
+-- Over told bytes: the bytes from the offset, as many as asked and there; PastEnd only where the offset is
+-- above their length; Short never. So where the offset is above their length only PastEnd is left, but for
+-- want of memory and a fault.
 abbrev pub ReadAnswers : List ℕ → ℕ → ℕ → Result BackendResponse ReadFault → Type 0
 ReadAnswers bytes offset n (Ok r) = (offset ≤ length bytes) × (r.bytes ≡ take n (drop offset bytes))
 ReadAnswers bytes offset n (Err PastEnd) = length bytes < offset

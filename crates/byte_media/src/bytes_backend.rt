@@ -5,7 +5,8 @@ use crate::{Backend, BackendResponse, ReadFault};
 use bytes::Bytes;
 use std::alloc::Global;
 
-/// A backend over bytes in memory. It tells them, answers parts of them without copying, never fails and has no version texts.
+/// A backend over bytes in memory. It tells them, answers parts of them without copying, never fails
+/// and has no version texts.
 #[derive(Drop)]
 pub struct BytesBackend {
     bytes: Bytes,

@@ -15,12 +15,13 @@ const ROOM: usize = 262_144;
 
 /// A medium over a file. It tells nothing, and counts its faults.
 ///
-/// A piece that begins where the last one ended is gathered, up to 262,144 bytes. What is gathered is written before any other piece,
-/// which is written through at once, by `len` and by `flush`, where the medium is dropped, and before a read, but for two kinds:
-/// a read of gathered bytes alone is answered from memory, and one that ends at or before the first of them reads the file as it is.
-/// So pieces reach the file in their order, and one that doesn't begin where the last one ended has reached it when `write_at` answers.
-/// Where gathered bytes can't be written, that call fails and they are gone. The file then has what reached it before and perhaps a front of
-/// them, and each later call fails, so that nothing is written behind what is missing.
+/// A piece that begins where the last one ended is gathered, up to 262,144 bytes. What is gathered is written before
+/// any other piece, which is written through at once, by `len` and by `flush`, where the medium is dropped, and before
+/// a read, but for two kinds: a read of gathered bytes alone is answered from memory, and one that ends at or before
+/// the first of them reads the file as it is. So pieces reach the file in their order, and one that doesn't begin where
+/// the last one ended has reached it when `write_at` answers. Where gathered bytes can't be written, that call fails
+/// and they are gone. The file then has what reached it before and perhaps a front of them, and each later call fails,
+/// so that nothing is written behind what is missing.
 pub struct FileMedium {
     backend: FileBackend,
     gathered: Vec<u8>,
@@ -30,7 +31,8 @@ pub struct FileMedium {
 }
 
 impl FileMedium {
-    /// Opens a file for reading and writing. One that is missing is created, and nothing is cut. `MediumFault` says that the system refused to.
+    /// Opens a file for reading and writing. One that is missing is created, and nothing is cut. `MediumFault` says
+    /// that the system refused to.
     pub fn open(rt: &HostRuntime, path: &str) -> Result<FileMedium, MediumFault>
         ensures faults { IfOk result (λ file. ⟦<FileMedium as Backend>⟧.faults file ≡ 0) }
         ensures reads { IfOk result (λ file. ⟦<FileMedium as Backend>⟧.reads file ≡ 0) }
@@ -129,7 +131,8 @@ impl FileMedium {
         Ok(Some(BackendResponse::new(bytes)))
     }
 
-    // Writes what is gathered before a read, unless that ends before it. A read that is hindered by that is counted here.
+    // Writes what is gathered before a read, unless that ends before it. A read that is hindered
+    // by that is counted here.
     fn begin_read(&mut self, offset: u64, count: u64) -> Result<(), ReadFault>
         ensures fault { IfErr result (λ fault. fault ≡ ReadFault.Fault) }
         ensures cause { OnErr result (Rose self.old.backend.faults self.new.backend.faults) }

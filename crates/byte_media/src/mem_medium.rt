@@ -9,7 +9,8 @@ use base_values::{FailingCalls, OutOfMemory, TextVal};
 use bytes::Bytes;
 use std::alloc::{AllocError, Global};
 
-/// A medium whose bytes lie in memory. It tells them, fails only where it is made to, and gives version texts where it has some.
+/// A medium whose bytes lie in memory. It tells them, fails only where it is made to, and gives version
+/// texts where it has some.
 #[derive(Drop)]
 pub struct MemMedium {
     bytes: Vec<u8>,
@@ -70,8 +71,8 @@ impl MemMedium {
         self.failing.fail_at(calls);
     }
 
-    /// Gives read number n, counted from 1 over all reads of this medium, the n-th of these version texts, or the last one beyond
-    /// them. With none a read has no version text.
+    /// Gives read number n, counted from 1 over all reads of this medium, the n-th of these version texts, or the last
+    /// one beyond them. With none a read has no version text.
     pub fn set_versions(&mut self, versions: Vec<TextVal>)
         ensures told { held self.new ≡ held self.old }
         ensures versions { version_texts self.new ≡ versions.items }

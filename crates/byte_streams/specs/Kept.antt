@@ -1,7 +1,8 @@
 -- What calls keep of a source and of a sink.
 use Rattle.std.specs.Prelude.{ℕ, ◌≡◌, ◌≤◌, List, Option, is_some}
 
--- Whether the source tells what is left of it stays; its counts of bytes taken and of faults don't fall; and where no call of it fails, that stays, and so does its count of faults.
+-- Whether the source tells what is left of it stays; its counts of bytes taken and of faults don't fall; and where no
+-- call of it fails, that stays, and so does its count of faults.
 pub record KeepsSource {I : Type 0} (left : I → Option (List ℕ)) (taken failed : I → ℕ) (steady : I → Type 0) (old new : I) : Type 0 where
   pub tells : is_some (left new) ≡ is_some (left old)
   pub counted : taken old ≤ taken new

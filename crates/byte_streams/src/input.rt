@@ -41,7 +41,8 @@ impl From<OutOfMemory> for InputError {
 }
 
 #[tactic(auto, using(crate::proofs::StreamsLemmas::reading))]
-/// Hands all the bytes that are left to a taker that has taken none, where they aren't too many: piece by piece, as they come.
+/// Hands all the bytes that are left to a taker that has taken none, where they aren't too many:
+/// piece by piece, as they come.
 pub fn take_input<S: Source, T: InputTaker>(source: &mut S, taker: &mut T) -> Result<(), InputError>
     requires { T.took taker.old [] }
     // What was left is taken, and nothing is left.

@@ -1,4 +1,5 @@
-//! Where bytes come from and go to: the traits of sources and sinks, both in memory and over streams of std, and the calls that read or write all of one.
+//! Where bytes come from and go to: the traits of sources and sinks, both in memory and over streams of std, and the
+//! calls that read or write all of one.
 #![tactic(auto)]
 
 mod input;

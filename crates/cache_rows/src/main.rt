@@ -1,4 +1,5 @@
-//! Reads calls of caches from standard input, one a line, and prints each line with its answer: calls of mb_cache over a store in memory and over a database in memory.
+//! Reads calls of caches from standard input, one a line, and prints each line with its answer: calls of mb_cache over
+//! a store in memory and over a database in memory.
 #![tactic(auto)]
 
 mod moments;

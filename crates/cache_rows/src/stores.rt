@@ -14,7 +14,8 @@ fn database(alloc: Global) -> Option<SqliteStore<sqlite::MemStore>> {
     Some(SqliteStore::adopt(alloc, connection, MbtType::Cache))
 }
 
-/// A new store: in memory with no tables (`memory`), in memory with those of a layout (`layout`), or in a database (`database`). No cache is open then.
+/// A new store: in memory with no tables (`memory`), in memory with those of a layout (`layout`), or in a database
+/// (`database`). No cache is open then.
 pub fn new(alloc: Global, kept: &mut Kept, words: &mut Words) -> Option<()> {
     kept.database = None;
     match words.next()? {

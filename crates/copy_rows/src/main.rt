@@ -1,4 +1,5 @@
-//! Reads copies of tile sets from standard input, one call a line, and prints each line with its answer: calls of mb_copy over three stores in memory.
+//! Reads copies of tile sets from standard input, one call a line, and prints each line with its answer: calls of
+//! mb_copy over three stores in memory.
 #![tactic(auto)]
 
 mod copiers;

@@ -1,4 +1,5 @@
-//! Reads sets by the pages of databases from standard input, one a line, and prints each line with its answer: calls of mb_file.
+//! Reads sets by the pages of databases from standard input, one a line, and prints each line with its
+//! answer: calls of mb_file.
 #![tactic(auto)]
 
 mod paged;

@@ -48,7 +48,8 @@ fn found(alloc: Global, set: &mut FileSet<Memory>, table: TableName) -> Option<u
     Some(count)
 }
 
-// Appends the rows of a set, how many are found, and the counts of those that are left out; why there is none at a fault.
+// Appends the rows of a set, how many are found, and the counts of those that are left out; why
+// there is none at a fault.
 fn say_set(alloc: Global, out: &mut String, set: FileSet<Memory>) -> Option<()> {
     let mut set = set;
     let table = set.layout().tile_table();

@@ -61,7 +61,8 @@ fn fields(alloc: Global, out: &mut String, words: &mut Words) -> Option<()> {
     say_extent(out, &header)
 }
 
-// The header of a writer, with the length of its root and its metadata, where its data begins and how long that is, and its counts.
+// The header of a writer, with the length of its root and its metadata, where its data begins and how long
+// that is, and its counts.
 fn written(alloc: Global, out: &mut String, words: &mut Words) -> Option<()> {
     let compression = Compression::from_byte(number(words)?).ok()?;
     let tile_type = TileType::from_byte(number(words)?).ok()?;

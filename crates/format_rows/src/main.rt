@@ -1,4 +1,5 @@
-//! Reads calls of tile_ids, tile_hash, tile_json and pm_format from standard input, one a line, and prints each line with its answer.
+//! Reads calls of tile_ids, tile_hash, tile_json and pm_format from standard input, one a line, and prints
+//! each line with its answer.
 #![tactic(auto)]
 
 mod backends;

@@ -11,7 +11,8 @@ use base_values::OutOfMemory;
 use std::alloc::Global;
 use std::simd::prelude::*;
 
-// Reads the thirty-two digits behind those of so many bytes, and says whether they all are. Where one isn't, nothing is written.
+// Reads the thirty-two digits behind those of so many bytes, and says whether they all are. Where one
+// isn't, nothing is written.
 #[inline(always)]
 fn read_block(digits: &[u8], at: usize, bytes: &mut [u8]) -> bool
     requires from { 2 * at + 32 ≤ length digits.now }
@@ -69,7 +70,8 @@ fn decode_into(digits: &[u8], bytes: &mut [u8]) -> bool
     true
 }
 
-/// The bytes that an even number of hexadecimal digits of either case spell, two digits a byte; None where their number is odd or another byte is among them.
+/// The bytes that an even number of hexadecimal digits of either case spell, two digits a byte; None where their number
+/// is odd or another byte is among them.
 pub fn decode(alloc: Global, digits: &[u8]) -> Result<Option<Vec<u8>>, OutOfMemory>
     ensures { IfOk result (λ bytes. option_map (λ b. b.items) bytes ≡ decoded digits.now) }
 {

@@ -1,4 +1,5 @@
-//! Many hexadecimal digits: their bytes, and the digits of bytes, sixteen at a time. What the crate `hex` decodes and encodes, in a small part of its time.
+//! Many hexadecimal digits: their bytes, and the digits of bytes, sixteen at a time. What the crate `hex` decodes and
+//! encodes, in a small part of its time.
 #![tactic(auto)]
 
 mod block;

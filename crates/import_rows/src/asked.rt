@@ -5,7 +5,8 @@ use std::alloc::Global;
 use std::fmt::Write;
 use tile_ids::{TileCoord, TileId};
 
-/// How many leaves a walk may read, the ids that are looked up and their requests, the most tiles of an import, and the words of an extraction and of a server.
+/// How many leaves a walk may read, the ids that are looked up and their requests, the most tiles of an import, and the
+/// words of an extraction and of a server.
 #[derive(Drop)]
 pub struct Asked {
     pub leaves: u64,

@@ -1,4 +1,5 @@
-//! Reads imports of archives into tile sets from standard input, one a line, and prints each line with its answer: calls of tile_import and set_import, and of a reader, a view, a check, an extraction and a server of the same bytes.
+//! Reads imports of archives into tile sets from standard input, one a line, and prints each line with its answer:
+//! calls of tile_import and set_import, and of a reader, a view, a check, an extraction and a server of the same bytes.
 #![tactic(auto)]
 
 mod archives;
@@ -16,7 +17,8 @@ use rows_shared::{Rows, Words, bytes, run};
 use std::alloc::Global;
 use std::io;
 
-// What is kept from line to line: a store, the bytes of an archive, what is asked of archives, and what was said of the last one.
+// What is kept from line to line: a store, the bytes of an archive, what is asked of archives, and what
+// was said of the last one.
 #[derive(Drop)]
 struct Kept {
     store: MemStore,

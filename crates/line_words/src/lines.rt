@@ -21,7 +21,8 @@ pub fn next_line(bytes: &[u8]) -> Option<(&[u8], &[u8])>
     }
 }
 
-/// The first line that ends in a line feed, and what follows it; None where there is no line feed. It is the first line of these bytes whatever comes behind them.
+/// The first line that ends in a line feed, and what follows it; None where there is no line feed. It is the first line
+/// of these bytes whatever comes behind them.
 pub fn next_whole_line(bytes: &[u8]) -> Option<(&[u8], &[u8])>
     ensures lines { MatchOption result (HasNo 10 bytes.now (length bytes.now))
         (λ r. (more : List ℕ) → lines_of (bytes.now ++ more) ≡ r.0.now ∷ lines_of

@@ -42,7 +42,8 @@ not_found : (es : List Tile) (p : Place) → ((k : ℕ) (e : Tile) → slice_get
 not_found [] p h = refl
 not_found (x ∷ es) p h = ap (λ b. cond b (Some x.1) (find place_cmp p es)) (h zero x refl) ∙ not_found es p (λ k e at. h (suc k) e at)
 
--- Where a place is sought: what stands before the first index is below it, and what stands from the second on is above it.
+-- Where a place is sought: what stands before the first index is below it, and what stands from
+-- the second on is above it.
 pub record Between (tiles : TileSet) (p : Place) (low high : ℕ) : Type 0 where
   pub order : low ≤ high
   pub within : high ≤ len tiles

@@ -3,7 +3,8 @@ use Rattle.mb_access.proofs.Common.{ent, Err, Lft, Logic, MbtError, MutBor, MutR
 use Rattle.mb_access.proofs.Common.{◌∷◌, ◌≡◌}
 use Rattle.mb_access.specs.contracts.stream_state.StreamState as S-type
 
--- What is read of it is what it was made of, it is owned where that is, and what it answers to have loaded is what the state has.
+-- What is read of it is what it was made of, it is owned where that is, and what it answers to have
+-- loaded is what the state has.
 pub record Keeps {M : Type 1} {𝓤 : Ura M} (𝓛 : Logic 𝓤) (R V : RattleType) (κ : Lft) : Type 1 where
   pub make : MutBor R.Denot → StreamState → V.Denot
   pub store : V.Denot → MutBor R.Denot

@@ -1,4 +1,5 @@
--- How a stream is made of a store: the store is lent to `StreamState::start`, and held again where that succeeds. What a refusal leaves is what `start` left. Assumes `Logic`.
+-- How a stream is made of a store: the store is lent to `StreamState::start`, and held again where that succeeds. What
+-- a refusal leaves is what `start` left. Assumes `Logic`.
 use Rattle.mb_access.proofs.Common.{a_type, addr, addr_of, aggregate, alloc_all, alone, and_then, and_tt, AreAllLeft, Args, arm, assign, at_exit, at_ret, await, beside, bounded, by, by_result, call}
 use Rattle.mb_access.proofs.Common.{Callee, calls_at, Clauses, Closed, closing, copy, dcons, deref, Dict, dnil, emp, Ended, enter, Env, env, erased, Err, err_of, err_out, exec, fact, fact_i, field}
 use Rattle.mb_access.proofs.Common.{first, fjoin, fld, flft, Fn, framed, free_all, fres, fsplit, fsplit3, ftrue, get_in, get_tag, GName, Goes-dropped, Goes-spent_ref, heard, holds, id⊢, IfOk}

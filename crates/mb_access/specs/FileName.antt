@@ -2,8 +2,8 @@
 use Rattle.std.specs.Prelude.{◌≡◌, ℕ, codes, List, refl, unwrap_or}
 use Rattle.std.specs.Path.{path_file_name, path_file_stem, rsplit_once, split_last_component, trim_trailing}
 
--- what stands after the last slash, up to its last dot where that isn't first, an ending slash or slash and dot cut as often as there is one; unknown where
--- nothing, a dot or two dots stand there
+-- what stands after the last slash, up to its last dot where that isn't first, an ending slash or slash and dot cut as
+-- often as there is one; unknown where nothing, a dot or two dots stand there
 abbrev pub file_name : List ℕ → List ℕ
 file_name path = unwrap_or (path_file_stem path) (codes "unknown")
 

@@ -1,4 +1,5 @@
--- What a call that is refused says of the store, and what a stream that isn't made leaves of the store that it would have borrowed.
+-- What a call that is refused says of the store, and what a stream that isn't made leaves of the store
+-- that it would have borrowed.
 use Rattle.std.specs.Prelude.{◌≢◌, ◌<◌, ◌-◌, ◌^◌, ℕ, Bool, Err, Result}
 use Rattle.mb_access.specs.Common.{FaultsCounted, MbtError, ReadsOnly, StoreFault, Tables}
 

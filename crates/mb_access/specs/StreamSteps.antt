@@ -30,7 +30,8 @@ abbrev pub IsRowOf : State → List Cell → Option ℕ → Type 0
 IsRowOf s row None = tile_by_row s row ≡ None
 IsRowOf s row (Some i) = (i < len s.tiles) × (tile_by_row s row ≡ slice_get (entries s.tiles) i)
 
--- a page after so many rows: 1024, or an eighth of these where that is more, so that a store that walks to a page from the front walks nine times the table at most
+-- a page after so many rows: 1024, or an eighth of these where that is more, so that a store that walks to a page from
+-- the front walks nine times the table at most
 abbrev pub page_size : ℕ → ℕ
 page_size from = max (from / 8) 1024
 
@@ -60,7 +61,8 @@ left_of t s = take s.left (filter_map (tile_by_row s.set.state) (rows_left t s))
 abbrev pub AreAllLeft : Tables → Tables → StreamState → Type 0
 AreAllLeft told now s = left_of now s ≡ pairs_of (set_of s).layout told
 
--- Of the tiles that were still to come the first is given, by its index among those of the set, by its coordinate, or whole, and the others are still to come; nothing is given where there was none. An error ends the stream.
+-- Of the tiles that were still to come the first is given, by its index among those of the set, by its coordinate, or
+-- whole, and the others are still to come; nothing is given where there was none. An error ends the stream.
 abbrev pub GivesIndex : TileSet → List Tile → Option (Result ℕ MbtError) → List Tile → Type 0
 GivesIndex tiles items None rest = (items ≡ []) × (rest ≡ [])
 GivesIndex tiles items (Some (Ok i)) rest =

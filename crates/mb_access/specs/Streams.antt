@@ -6,8 +6,9 @@ use Rattle.mb_access.specs.declared.stream_state.StreamState.{StreamState}
 use Rattle.mb_access.specs.declared.streams.Coords.{Coords}
 use Rattle.mb_access.specs.declared.streams.Tiles.{Tiles}
 
--- What a call for the next coordinate gives, by what the store tells, whether it does, its count of faults, and whether it is steady. Over a store that tells, the
--- first of the tiles to come is given; over any store, a coordinate is one of the set that was loaded, fewer are to come after each item, and none after an error or the end.
+-- What a call for the next coordinate gives, by what the store tells, whether it does, its count of faults, and whether
+-- it is steady. Over a store that tells, the first of the tiles to come is given; over any store, a coordinate is one
+-- of the set that was loaded, fewer are to come after each item, and none after an error or the end.
 pub record StreamsCoord {S : Type 0} (holds : S → Tables) (shows : S → Bool) (failed : S → ℕ)
     (unfailing : S → Type 0) (s : Coords S StreamState)
     (item : Option (Result Coord MbtError)) (t : Coords S StreamState) : Type 0 where

@@ -135,9 +135,9 @@ fn hashed(
     }
 }
 
-/// The bytes of the tile at a zoom, a column from the left and a row from the top, as `get_tile` answers them, with the digest that the store has for them: the
-/// hash of the row in a flat set with hashes, the id of the contents in a normalised set by hash. There is no digest where that cell is null, and in the other
-/// layouts.
+/// The bytes of the tile at a zoom, a column from the left and a row from the top, as `get_tile` answers them, with the
+/// digest that the store has for them: the hash of the row in a flat set with hashes, the id of the contents in a
+/// normalised set by hash. There is no digest where that cell is null, and in the other layouts.
 ///
 /// It answers the refusals of `load`. The store holds what it held, whatever the answer.
 pub fn get_tile_and_hash<S: TileStore>(

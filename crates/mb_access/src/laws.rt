@@ -12,8 +12,8 @@ ghost use Rattle.mb_lists.specs.Keyed.{are_distinct};
 
 use mb_store::TileStore;
 
-/// The tiles of tables that load, in the order of their rows, are the tiles of the set: no place stands there twice, what stands at a place is what the set has there,
-/// and there are as many as in the set.
+/// The tiles of tables that load, in the order of their rows, are the tiles of the set: no place stands there twice,
+/// what stands at a place is what the set has there, and there are as many as in the set.
 pub fn rows_have_each_tile_once()
     ensures once { (t : Tables) (s : State) → state_of t ≡ Ok s
         → are_distinct place_cmp (map (λ (e : Tile). e.0) (pairs_of s.layout t)) ≡ true }
@@ -23,8 +23,8 @@ pub fn rows_have_each_tile_once()
         → length (pairs_of s.layout t) ≡ len s.tiles }
 {}
 
-/// What a stream of a store that tells gives, call after call, is a front of what was to come, in its order; it is all of that where the end comes without an error
-/// before.
+/// What a stream of a store that tells gives, call after call, is a front of what was to come, in its order; it is all
+/// of that where the end comes without an error before.
 pub fn streams_give_all_in_order<S: TileStore>()
     ensures coords { (s t : Coords S StreamState) (xs : List CoordItem)
         → S.tells s.store.now ≡ true → Yields (StreamsCoord S.told S.tells S.faults S.steady) s xs t

@@ -51,8 +51,8 @@ impl Mbtiles {
         self.path.as_str()
     }
 
-    /// The name of the file: what stands after the last `/`, up to its last `.` where that isn't first. An ending `/` or `/.` is cut before, as long as there is
-    /// one. It is `unknown` where nothing, `.` or `..` stands there.
+    /// The name of the file: what stands after the last `/`, up to its last `.` where that isn't first. An ending `/`
+    /// or `/.` is cut before, as long as there is one. It is `unknown` where nothing, `.` or `..` stands there.
     pub fn filename(&self) -> &str
         ensures { result.now ≡ file_name self.now }
     {

@@ -26,7 +26,8 @@ impl Mbtiles {
         described::detect_type(alloc, store)
     }
 
-    /// The name of the table of the set's places, where no index of it has the columns of a place among its own, by the descriptions of its tables.
+    /// The name of the table of the set's places, where no index of it has the columns of a place among its own, by the
+    /// descriptions of its tables.
     pub fn missing_tile_index<S: TileStore>(
         &self,
         alloc: Global,

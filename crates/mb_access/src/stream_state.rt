@@ -12,7 +12,8 @@ use mb_store::{Cell, MbtError, MbtResult, MbtType, Row, StoreError, TileStore};
 use std::alloc::Global;
 use tile_ids::TileCoord;
 
-/// What a stream of a set's tiles owns beside the store that it borrows: the set as it was loaded, a page of rows, and how far it came.
+/// What a stream of a set's tiles owns beside the store that it borrows: the set as it was loaded, a page of
+/// rows, and how far it came.
 #[derive(Drop)]
 pub struct StreamState {
     pub(crate) alloc: Global,
@@ -36,7 +37,8 @@ fn is_tile_row(layout: MbtType, row: &Row) -> bool
     }
 }
 
-// The index of the tile of a row among those of a loaded set, where the row is one of a tile, and the set has a tile there. It is tried first at `likely`.
+// The index of the tile of a row among those of a loaded set, where the row is one of a tile, and the set has a tile
+// there. It is tried first at `likely`.
 fn index_by_row(set: &Loaded, likely: usize, row: &Row) -> Option<usize>
     ensures { IsRowOf set.now.state row.now result }
 {
@@ -47,7 +49,8 @@ fn index_by_row(set: &Loaded, likely: usize, row: &Row) -> Option<usize>
     index_of(set, likely, coord)
 }
 
-// The index at which the tile of the next row is tried first: the one behind that of this row, so that rows in the order of their places need no search.
+// The index at which the tile of the next row is tried first: the one behind that of this row, so that rows in the
+// order of their places need no search.
 fn likely_after(index: Option<usize>, likely: usize) -> usize {
     match index {
         Some(index) => index.saturating_add(1),
@@ -63,10 +66,11 @@ fn page_size(from: u64) -> u64
 }
 
 impl StreamState {
-    /// Loads a set, and begins a stream along the rows of its places, of as many as the store counts. It answers the refusals of `load`; the store holds what it
-    /// held, whatever the answer.
+    /// Loads a set, and begins a stream along the rows of its places, of as many as the store counts. It answers the
+    /// refusals of `load`; the store holds what it held, whatever the answer.
     ///
-    /// Over a store that tells, all tiles of the set are to come, in the order of the told rows. Over any store at most as many come as were loaded.
+    /// Over a store that tells, all tiles of the set are to come, in the order of the told rows. Over any store at most
+    /// as many come as were loaded.
     pub fn start<S: TileStore>(alloc: Global, store: &mut S) -> MbtResult<StreamState>
         ensures answer { IsBegun Ok (S.tells store.old) (S.told store.old) (loaded_by result) }
         ensures items { S.tells store.old ≡ true
@@ -173,7 +177,8 @@ impl StreamState {
         None
     }
 
-    /// The coordinate of the next tile, null ones included, or an error, after which none comes: want of memory, or `StoreFault` where the store's count of faults rose.
+    /// The coordinate of the next tile, null ones included, or an error, after which none comes: want of memory, or
+    /// `StoreFault` where the store's count of faults rose.
     ///
     /// Rows are read a page at a time. The store holds what it held, and is to be the one that was loaded.
     pub fn next_coord<S: TileStore>(&mut self, store: &mut S) -> Option<MbtResult<TileCoord>>

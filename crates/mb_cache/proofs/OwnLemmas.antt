@@ -1,4 +1,5 @@
--- What a step of opening a cache that is refused answers: over the tables that are told, and over some tables where nothing is told.
+-- What a step of opening a cache that is refused answers: over the tables that are told, and over some
+-- tables where nothing is told.
 use Rattle.mb_cache.proofs.Common.{Agrees, ap, AreEntries, Bool, Cache, Cell, cond, described_answer, Entry, Err, false, false≢true, Flat, InvalidDataFormat, is_cache_layout, is_free, is_keyed}
 use Rattle.mb_cache.proofs.Common.{is_metadata, layout_of, List, list_any, made, MbtError, Metadata, None, NotACacheFile, NoUniquenessConstraint, Null, Ok, OnOk, open_answer, OpensAs, Other, refl}
 use Rattle.mb_cache.proofs.Common.{Result, row_refusal, Some, store_free, StoreFault, subst, sym, TableDesc, Tables, TileCache, true, [], ◌∙◌, ◌∷◌, ◌≡◌}

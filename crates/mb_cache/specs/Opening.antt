@@ -50,7 +50,8 @@ LeftOrBegun old new = (new ≡ old) ⊎ (new ≡ begun_with old)
 abbrev pub described_answer : List TableDesc → Result (Unit {0}) MbtError
 described_answer ds = cond (is_cache_layout (layout_of ds)) (cond (list_any is_metadata ds) (cond (is_keyed ds TileCache) (Ok tt) (Err NoUniquenessConstraint)) (Err InvalidDataFormat)) (Err NotACacheFile)
 
--- what opening tables gives: the entries of a cache that agree with them, or the refusal that is due, unless memory or the store was wanting
+-- what opening tables gives: the entries of a cache that agree with them, or the refusal that is due, unless memory
+-- or the store was wanting
 abbrev pub OpensAs : Tables → Result (List Entry) MbtError → Type 0
 OpensAs t (Ok es) = Agrees t es
 OpensAs t (Err e) = is_free e ≡ false → open_answer t ≡ Err e

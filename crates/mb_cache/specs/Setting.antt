@@ -30,7 +30,8 @@ abbrev pub SetsTile : Option Coord → CacheEntryMeta → List ℕ → Tables �
 SetsTile None m bytes old new = ⊥
 SetsTile (Some c) m bytes old new = Commits (put_row (place_at c) (meta_row (place_at c) m (Blob bytes))) old new
 
--- where there is a row of the place, its contents stay, and all else of it is new; else nothing is changed. The answer says whether there is
+-- where there is a row of the place, its contents stay, and all else of it is new; else nothing is changed. The
+-- answer says whether there is
 abbrev pub SetsMeta : Place → CacheEntryMeta → Option (List Cell) → Bool → Tables → Tables → Type 0
 SetsMeta p m None is old new = (is ≡ false) × (new ≡ old)
 SetsMeta p m (Some row) is old new = (is ≡ true) × Commits (put_row p (meta_row p m (cell_at 6 row))) old new
@@ -56,7 +57,8 @@ is_replaced (Some old) new e = not (eq_by_cmp entry_cmp old new) && eq_by_cmp en
 abbrev pub taken_back : Bool → Entry → List Entry → List Entry
 taken_back added e es = cond added (remove_key (is_at (entry_cmp e)) es) es
 
--- entries of a cache after a row was put at a place: that of its expiry is there, and the old one of the place is gone, if there was one
+-- entries of a cache after a row was put at a place: that of its expiry is there, and the old one of the place
+-- is gone, if there was one
 pub record ReplacesEntry (p : Place) (expires : Option UnixSeconds) (old : Option Entry) (es fs : List Entry) : Type 0 where
   pub members : (e : Entry) → has_entry fs e ≡ ((eq_by_cmp entry_cmp e (entry_at p (moment_cell expires)) || has_entry es e) && not (is_replaced old (entry_at p (moment_cell expires)) e))
   pub ordered : IsStrictlySortedBy entry_cmp fs
@@ -65,7 +67,8 @@ pub record ReplacesEntry (p : Place) (expires : Option UnixSeconds) (old : Optio
 abbrev pub old_entry : Place → Option (List Cell) → Option Entry
 old_entry p row = option_map (λ row. entry_at p (cell_at 4 row)) row
 
--- what memory has gained and lost where a tile was put, also over a store that tells nothing: then the old entry is that of some row, or of none
+-- what memory has gained and lost where a tile was put, also over a store that tells nothing: then the old entry is
+-- that of some row, or of none
 abbrev pub SetsEntry : Option Coord → CacheEntryMeta → List Entry → List Entry → Type 0
 SetsEntry None m es fs = ⊥
 SetsEntry (Some c) m es fs = (row : Option (List Cell)) × ReplacesEntry (place_at c) m.expires (old_entry (place_at c) row) es fs

@@ -5,7 +5,8 @@ use Rattle.mb_cache.specs.State.{row_at, without}
 use Rattle.mb_cache.specs.declared.entries.Entry.{Entry}
 use Rattle.mb_cache.specs.Common.{Cell, live_size_of, row_size, Tables}
 
--- the entries that go, in their order: before each round of 64 of them the live size of what is left has to be above a number. So many of a round that has begun are still to go
+-- the entries that go, in their order: before each round of 64 of them the live size of what is left has to be above a
+-- number. So many of a round that has begun are still to go
 unfoldable pub going : ℕ → ℕ → List Entry → Tables → List Entry
 going most left [] t = []
 going most zero (e ∷ es) t = cond (nat_lt most (live_size_of t)) (e ∷ going most 63 es (without (e ∷ []) t)) []

@@ -10,8 +10,8 @@ pub record IsCacheSet (t : Tables) : Type 0 where
   pub layout : layout_of t.descriptions ≡ Some Cache
   pub passes : first_refusal (refusals Cache t) ≡ None
 
--- the tables load, and describe a cache whose index keeps its places apart, each row is one that loading accepts, and the entries are those of the rows, each once, in the order
--- in which they are thrown out
+-- the tables load, and describe a cache whose index keeps its places apart, each row is one that loading accepts, and
+-- the entries are those of the rows, each once, in the order in which they are thrown out
 pub record Agrees (t : Tables) (es : List Entry) : Type 0 where
   pub set : IsCacheSet t
   pub table : is_table t.descriptions TileCache ≡ true

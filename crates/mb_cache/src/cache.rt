@@ -35,8 +35,9 @@ impl<S: TileStore, C: Drop> Drop for MbtilesCache<'_, S, C> {
 impl<'a, S: TileStore> MbtilesCache<'a, S> {
     /// The cache of a store: `CacheState::open`, and then `over`.
     ///
-    /// After an error a store that tells what it holds holds what it held, or has its new tables without rows; the count of faults didn't fall, and rose where `StoreFault` came (`rests`).
-    /// Whoever needs this for a proof calls `CacheState::open`.
+    /// After an error a store that tells what it holds holds what it held, or has its new tables without rows; the
+    /// count of faults didn't fall, and rose where `StoreFault` came (`rests`). Whoever needs this for a proof
+    /// calls `CacheState::open`.
     pub fn open_cache(alloc: Global, store: &'a mut S) -> MbtResult<Self>
         ensures* rests { sem 𝓛 (RestsIfErr S.row store.entry (λ c. c.store.ghost_name) result
             (LeftByOpening S.tells S.told S.faults S.steady store.old result)) }
@@ -165,7 +166,8 @@ impl<'a, S: TileStore> MbtilesCache<'a, S> {
         self.state.purge_expired(self.store, now)
     }
 
-    /// Throws tiles out by rounds while the store holds more than so many bytes, as `CacheState::purge_cache_to_size` does.
+    /// Throws tiles out by rounds while the store holds more than so many bytes, as
+    /// `CacheState::purge_cache_to_size` does.
     pub fn purge_cache_to_size(&mut self, max_bytes: u64) -> MbtResult<u64>
         requires { S.tells self.old.store.now ≡ true →
             Agrees (S.told self.old.store.now) self.old.state }

@@ -8,8 +8,8 @@ use mb_store::{Cell, RowKey};
 use std::cmp::Ordering;
 use tile_ids::{TileCoord, invert_y_value};
 
-/// A tile of a cache, without its contents: 24 bytes. Entries are ordered by their expiries, those that never expire last, and then by zoom, column and row from the
-/// bottom.
+/// A tile of a cache, without its contents: 24 bytes. Entries are ordered by their expiries, those that never expire
+/// last, and then by zoom, column and row from the bottom.
 #[derive(Clone, Copy, Debug)]
 pub(crate) struct Entry {
     // 0 where the tile expires, and 1 where it never does

@@ -1,4 +1,5 @@
-//! A cache of tiles in a set of the layout Cache: each with the moment when it came, the moment when it expires and a tag, thrown out by age and by size.
+//! A cache of tiles in a set of the layout Cache: each with the moment when it came, the moment when it expires and a
+//! tag, thrown out by age and by size.
 #![tactic(auto)]
 
 mod cache;

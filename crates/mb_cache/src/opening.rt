@@ -82,12 +82,13 @@ fn load_state<S: TileStore>(alloc: Global, store: &mut S) -> MbtResult<CacheStat
 }
 
 impl CacheState {
-    /// Opens the cache of a store, without borrowing it any longer. It creates the tables of the layout Cache and of metadata in a store that describes nothing,
-    /// answers `NotACacheFile` where the first layout whose tables are described isn't Cache, and else the refusals of loading. Rows are read in pages of 64, each of
-    /// which is let go before the next: beside the entries, a place of 12 bytes for each row is in memory until the call returns.
+    /// Opens the cache of a store, without borrowing it any longer. It creates the tables of the layout Cache and of
+    /// metadata in a store that describes nothing, answers `NotACacheFile` where the first layout whose tables are
+    /// described isn't Cache, and else the refusals of loading. Rows are read in pages of 64, each of which is let go
+    /// before the next: beside the entries, a place of 12 bytes for each row is in memory until the call returns.
     ///
-    /// Refused, the store holds what it held, or has its new tables without rows. A store that tells nothing is answered as some tables are that its answers could be
-    /// of, with the entries of these.
+    /// Refused, the store holds what it held, or has its new tables without rows. A store that tells nothing is
+    /// answered as some tables are that its answers could be of, with the entries of these.
     pub fn open<S: TileStore>(alloc: Global, store: &mut S) -> MbtResult<CacheState>
         ensures answer { S.tells store.old ≡ true →
             Answers (open_answer (S.told store.old)) (done result) }

@@ -57,7 +57,8 @@ fn read_page<S: TileStore>(
     Ok(left_after(left, asked, page.len() as u64))
 }
 
-/// What all rows of a cache come to, as many as the store counts. A page that is shorter than was asked for is the last one.
+/// What all rows of a cache come to, as many as the store counts. A page that is shorter than was
+/// asked for is the last one.
 pub(crate) fn read_rows<S: TileStore>(alloc: Global, store: &mut S) -> MbtResult<SeenRows>
     ensures seen { S.tells store.old ≡ true →
         IfOk result (SeesRows ((S.told store.old).rows TileCache)) }

@@ -33,7 +33,8 @@ fn expired(
 }
 
 impl CacheState {
-    /// Throws out exactly the tiles that have an expiry below a moment, null ones included, in one commit, and answers how many they were. Refused, nothing is changed.
+    /// Throws out exactly the tiles that have an expiry below a moment, null ones included, in one commit, and answers
+    /// how many they were. Refused, nothing is changed.
     pub fn purge_expired<S: TileStore>(&mut self, store: &mut S, now: UnixSeconds) -> MbtResult<u64>
         requires { S.tells store.old ≡ true → Agrees (S.told store.old) self.old }
         ensures count { S.tells store.old ≡ true →

@@ -68,8 +68,9 @@ fn cached_of(row: Row) -> Option<CachedTile>
 }
 
 impl CacheState {
-    /// The tile at a zoom, a column from the left and a row from the top, with what is kept beside its bytes: one row of the store. None where the cache has no tile
-    /// there or null, and where the three are no coordinate of zoom 0 to 30, which asks the store nothing. A tile of no bytes is an answer. An expiry isn't looked at.
+    /// The tile at a zoom, a column from the left and a row from the top, with what is kept beside its bytes: one row
+    /// of the store. None where the cache has no tile there or null, and where the three are no coordinate of zoom 0 to
+    /// 30, which asks the store nothing. A tile of no bytes is an answer. An expiry isn't looked at.
     pub fn get_cached<S: TileStore>(
         &self,
         store: &mut S,
@@ -111,7 +112,8 @@ impl CacheState {
         }
     }
 
-    /// What the set says of itself, as a set without a file's name says it: its `id` is `unknown`. It loads the set, and answers the refusals of loading.
+    /// What the set says of itself, as a set without a file's name says it: its `id` is `unknown`. It loads the set,
+    /// and answers the refusals of loading.
     pub fn get_metadata<S: TileStore>(&self, store: &mut S) -> MbtResult<Metadata>
         ensures answer { IsBegun (metadata_answer (codes "unknown")) (S.tells store.old)
             (S.told store.old) result }

@@ -70,8 +70,8 @@ fn take_back(entries: &mut BTreeSet<Entry>, added: bool, entry: Entry)
     }
 }
 
-// A row is put in one commit, and its entry takes the place of the old one. The new entry is added before the commit, since that may find no memory, and taken back
-// where the commit is refused.
+// A row is put in one commit, and its entry takes the place of the old one. The new entry is added before the commit,
+// since that may find no memory, and taken back where the commit is refused.
 fn put<S: TileStore>(
     alloc: Global,
     store: &mut S,
@@ -115,9 +115,11 @@ fn put<S: TileStore>(
 }
 
 impl CacheState {
-    /// Keeps a tile at a zoom, a column from the left and a row from the top: its bytes, and what is kept beside them, in place of what the cache had there. It is one
-    /// commit of one row, after one row is read for the old expiry. `InvalidTileIndex` comes exactly where the three are no coordinate of zoom 0 to 30, with these
-    /// numbers. Refused, nothing is changed. Memory gains the entry of the new expiry and loses that of the row that was found, also over a store that tells nothing.
+    /// Keeps a tile at a zoom, a column from the left and a row from the top: its bytes, and what is kept beside them,
+    /// in place of what the cache had there. It is one commit of one row, after one row is read for the old expiry.
+    /// `InvalidTileIndex` comes exactly where the three are no coordinate of zoom 0 to 30, with these numbers. Refused,
+    /// nothing is changed. Memory gains the entry of the new expiry and loses that of the row that was found, also over
+    /// a store that tells nothing.
     pub fn set_cached<S: TileStore>(
         &mut self,
         store: &mut S,
@@ -156,8 +158,9 @@ impl CacheState {
         )
     }
 
-    /// Keeps other times and another tag of the tile at a zoom, a column from the left and a row from the top, and leaves its contents, which may be null. Whether
-    /// there is such a tile; where there is none, and where the three are no coordinate of zoom 0 to 30, nothing is changed. Refused, nothing is changed.
+    /// Keeps other times and another tag of the tile at a zoom, a column from the left and a row from the top, and
+    /// leaves its contents, which may be null. Whether there is such a tile; where there is none, and where the three
+    /// are no coordinate of zoom 0 to 30, nothing is changed. Refused, nothing is changed.
     pub fn update_cached_meta<S: TileStore>(
         &mut self,
         store: &mut S,

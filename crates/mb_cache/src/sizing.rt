@@ -64,7 +64,8 @@ fn next_round(alloc: Global, entries: &BTreeSet<Entry>) -> Result<Vec<Entry>, Ou
     Ok(round)
 }
 
-// Throws out the next round in one commit, and answers the sizes of its rows, at most the greatest count. Refused, nothing is changed.
+// Throws out the next round in one commit, and answers the sizes of its rows, at most the greatest count.
+// Refused, nothing is changed.
 fn evict_round<S: TileStore>(
     alloc: Global,
     store: &mut S,
@@ -90,7 +91,8 @@ fn evict_round<S: TileStore>(
     Ok(size)
 }
 
-// The live size behind a commit that took rows of a size from a store of a live size. The greatest count may stand for more, so that the store is asked then.
+// The live size behind a commit that took rows of a size from a store of a live size. The greatest count may stand for
+// more, so that the store is asked then.
 fn size_after<S: TileStore>(store: &mut S, size: u64, gone: u64) -> MbtResult<u64>
     ensures known { size < 2 ^ 64 - 1 → result ≡ Ok (size - gone) }
     ensures asked { S.tells store.old ≡ true → size ≡ 2 ^ 64 - 1 →
@@ -139,9 +141,10 @@ fn evict_rounds<S: TileStore>(
 }
 
 impl CacheState {
-    /// Throws tiles out, null ones included, by rounds of 64 or of all that are left, each in one commit, while the live size of the store is above a number of bytes
-    /// and tiles are left. They go by rising expiry, those that never expire last, and then by zoom, column and row from the bottom. It answers how many went. Refused,
-    /// the rounds stand that were made, each whole, in their order.
+    /// Throws tiles out, null ones included, by rounds of 64 or of all that are left, each in one commit, while the
+    /// live size of the store is above a number of bytes and tiles are left. They go by rising expiry, those that never
+    /// expire last, and then by zoom, column and row from the bottom. It answers how many went. Refused, the rounds
+    /// stand that were made, each whole, in their order.
     pub fn purge_cache_to_size<S: TileStore>(
         &mut self,
         store: &mut S,

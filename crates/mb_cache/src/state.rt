@@ -4,8 +4,8 @@ use std::alloc::Global;
 use std::collections::BTreeSet;
 use std::marker::Model;
 
-/// What a cache owns beside the store that it borrows: of each tile when it expires and where it stands, 24 bytes in a set in the order in which tiles are thrown out.
-/// Contents stay in the store.
+/// What a cache owns beside the store that it borrows: of each tile when it expires and where it stands, 24 bytes in a
+/// set in the order in which tiles are thrown out. Contents stay in the store.
 ///
 /// Each call takes the store that the state was opened over, to which nobody else writes.
 #[derive(Drop)]

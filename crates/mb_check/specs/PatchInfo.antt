@@ -3,7 +3,8 @@ use Rattle.std.specs.Prelude.{Result, Ok}
 use Rattle.mb_check.specs.declared.patch_info.PatchFileInfo.{PatchFileInfo}
 use Rattle.mb_check.specs.Common.{after_hash, agg_hash, before_hash, MbtError, State}
 
--- its layout, its hash of all tiles and those of before and after a patch, and the kind of the patches that its tables describe
+-- its layout, its hash of all tiles and those of before and after a patch, and the kind of the patches
+-- that its tables describe
 abbrev pub patch_info : State → PatchFileInfo
 patch_info s = record {
   mbt_type = s.layout;

@@ -29,7 +29,8 @@ sizes_at zoom es = filter_map (size_at zoom) es
 abbrev pub known : List (Option ℕ) → List ℕ
 known sizes = filter_map (λ size. size) sizes
 
--- what is told of a zoom by the sizes of its tiles, if it has tiles: the least and the greatest are 0 where all are null
+-- what is told of a zoom by the sizes of its tiles, if it has tiles: the least and the greatest
+-- are 0 where all are null
 abbrev pub info_of : ℕ → List (Option ℕ) → Option ZoomInfo
 info_of zoom [] = None
 info_of zoom (s ∷ ss) = Some (record {

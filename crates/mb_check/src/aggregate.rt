@@ -68,7 +68,8 @@ pub fn get_hash_algorithm<S: TileStore>(alloc: Global, store: &mut S) -> MbtResu
     Ok(set.algorithm())
 }
 
-/// The hash of all tiles that a set's metadata has under `agg_tiles_hash`, as it is stored. None where there is none, or null.
+/// The hash of all tiles that a set's metadata has under `agg_tiles_hash`, as it is stored. None
+/// where there is none, or null.
 ///
 /// It answers the refusals of `load`. The store holds what it held, whatever the answer.
 pub fn get_agg_tiles_hash<S: TileStore>(alloc: Global, store: &mut S) -> MbtResult<Option<TextVal>>
@@ -80,9 +81,10 @@ pub fn get_agg_tiles_hash<S: TileStore>(alloc: Global, store: &mut S) -> MbtResu
     stored_hash(alloc, &set)
 }
 
-/// The hash of all tiles of a set by an algorithm, whatever is stored: of the zoom, the column and the row of each tile in decimal and its bytes, one tile after
-/// another in the order of zoom, column and row counted from the bottom. Null adds no bytes. In hexadecimal, also for `Fnv1aDecimal`; a set without tiles has the
-/// digest of no bytes, which is decimal for that algorithm.
+/// The hash of all tiles of a set by an algorithm, whatever is stored: of the zoom, the column and the row of each tile
+/// in decimal and its bytes, one tile after another in the order of zoom, column and row counted from the bottom. Null
+/// adds no bytes. In hexadecimal, also for `Fnv1aDecimal`; a set without tiles has the digest of no bytes, which is
+/// decimal for that algorithm.
 ///
 /// It answers the refusals of `load`. The store holds what it held, whatever the answer.
 pub fn calc_agg_tiles_hash<S: TileStore>(
@@ -98,10 +100,11 @@ pub fn calc_agg_tiles_hash<S: TileStore>(
     hash_by(alloc, &set, algorithm)
 }
 
-/// The hash of all tiles of a set by its own algorithm, which has to be the one that its metadata has under `agg_tiles_hash`.
+/// The hash of all tiles of a set by its own algorithm, which has to be the one that its metadata
+/// has under `agg_tiles_hash`.
 ///
-/// It answers the refusals of `load`; then `AggHashValueNotFound` where none is stored, or null; then `AggHashMismatch` with both where they differ. The store
-/// holds what it held, whatever the answer.
+/// It answers the refusals of `load`; then `AggHashValueNotFound` where none is stored, or null; then `AggHashMismatch`
+/// with both where they differ. The store holds what it held, whatever the answer.
 pub fn check_agg_tiles_hashes<S: TileStore>(alloc: Global, store: &mut S) -> MbtResult<TextVal>
     ensures answer { IsBegun checked_answer (S.tells store.old) (S.told store.old) result }
     ensures kept { ReadsOnly S.told S.tells S.faults S.steady store.old store.new }

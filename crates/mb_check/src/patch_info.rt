@@ -58,8 +58,9 @@ pub fn examine_diff<S: TileStore>(alloc: Global, store: &mut S) -> MbtResult<Pat
     info_of(alloc, &set)
 }
 
-/// The test of a set that is to be patched. `CannotDiffFileWithoutHash` where it has no hash of all tiles, `DiffingDiffFile` where it is itself a patch: it has
-/// that hash, and one of before or after a patch. None where forced. It takes no memory.
+/// The test of a set that is to be patched. `CannotDiffFileWithoutHash` where it has no hash of all tiles,
+/// `DiffingDiffFile` where it is itself a patch: it has that hash, and one of before or after a patch. None where
+/// forced. It takes no memory.
 pub fn assert_hashes(info: &PatchFileInfo, force: bool) -> MbtResult<()>
     ensures { result ≡ refused_by
         (unless_forced force
@@ -75,8 +76,8 @@ pub fn assert_hashes(info: &PatchFileInfo, force: bool) -> MbtResult<()>
     )
 }
 
-/// The test of a patch. `PatchFileHasNoHashes` where it has no hash of all tiles after it, `PatchFileHasNoBeforeHash` where it has that one and none of before it.
-/// None where forced. It takes no memory.
+/// The test of a patch. `PatchFileHasNoHashes` where it has no hash of all tiles after it, `PatchFileHasNoBeforeHash`
+/// where it has that one and none of before it. None where forced. It takes no memory.
 pub fn validate_diff_info(info: &PatchFileInfo, force: bool) -> MbtResult<()>
     ensures { result ≡ refused_by
         (unless_forced force (patch_refused (is_some info.now.agg_tiles_hash_before_apply)

@@ -4,7 +4,8 @@ ghost use Rattle.mb_check.specs.Sizes.{greatest_with, info_by, least_with, no_si
 
 use crate::ZoomInfo;
 
-/// The sizes of tiles so far: how many tiles there are, null ones included, the least and the greatest size, and the sum. Counts and sums stop at the greatest `u64`.
+/// The sizes of tiles so far: how many tiles there are, null ones included, the least and the greatest size, and the
+/// sum. Counts and sums stop at the greatest `u64`.
 #[derive(Clone, Copy, Debug)]
 pub(crate) struct Sizes {
     tile_count: u64,

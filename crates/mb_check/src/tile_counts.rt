@@ -9,7 +9,8 @@ pub struct Summary {
     pub mbt_type: MbtType,
     /// How many tiles it has.
     pub tile_count: u64,
-    /// The least of the least sizes of its zooms in bytes; a zoom with only null has size 0. None where there are no tiles.
+    /// The least of the least sizes of its zooms in bytes; a zoom with only null has size 0. None
+    /// where there are no tiles.
     pub min_tile_size: Option<u64>,
     /// The greatest of the greatest sizes of its zooms in bytes.
     pub max_tile_size: Option<u64>,

@@ -30,11 +30,11 @@ fn with_hash(alloc: Global, set: Loaded, hash: &TextVal) -> Result<Loaded, OutOf
     edits.settle()
 }
 
-/// Stores the computed hash of all tiles under `agg_tiles_hash` and the name of its algorithm, which is that of the set, under `hash_algorithm`, in one commit. It
-/// gives the hash.
+/// Stores the computed hash of all tiles under `agg_tiles_hash` and the name of its algorithm, which is that of the
+/// set, under `hash_algorithm`, in one commit. It gives the hash.
 ///
-/// It answers the refusals of `load`; refused, the store holds what it held. After Ok the set loads again, as it was but for these two names; all other rows
-/// stay as they were.
+/// It answers the refusals of `load`; refused, the store holds what it held. After Ok the set loads again, as it was
+/// but for these two names; all other rows stay as they were.
 pub fn update_agg_tiles_hash<S: TileStore>(alloc: Global, store: &mut S) -> MbtResult<TextVal>
     ensures answer { IsBegun own_hash_answer (S.tells store.old) (S.told store.old) result }
     ensures updated { S.tells store.old ≡ true

@@ -67,11 +67,11 @@ fn load_alone<S: TileStore>(alloc: Global, store: &mut S) -> MbtResult<TextVal>
     Ok(TextVal::new(String::new(alloc)))
 }
 
-/// Tests the rows of a set, each stored digest, and then its hash of all tiles as is wanted: `check_agg_tiles_hashes`, `update_agg_tiles_hash`, or nothing. It gives
-/// the hash, and no text where nothing is done with it.
+/// Tests the rows of a set, each stored digest, and then its hash of all tiles as is wanted: `check_agg_tiles_hashes`,
+/// `update_agg_tiles_hash`, or nothing. It gives the hash, and no text where nothing is done with it.
 ///
-/// It answers the refusals of `load`; to verify, `AggHashValueNotFound` and `AggHashMismatch` follow. Refused, the store holds what it held; it does so always but
-/// for an update.
+/// It answers the refusals of `load`; to verify, `AggHashValueNotFound` and `AggHashMismatch` follow. Refused, the
+/// store holds what it held; it does so always but for an update.
 pub fn validate<S: TileStore>(
     alloc: Global,
     store: &mut S,

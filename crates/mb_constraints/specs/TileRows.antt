@@ -6,7 +6,8 @@ use Rattle.mb_constraints.specs.Common.{Cache, Cell, cell_at, content_of, first_
 use Rattle.mb_constraints.specs.Common.{tile_of, unless}
 use Rattle.mb_lists.specs.declared.dates.Dates.{Dates}
 
--- the contents of a row: its own, or those of its id among these contents. A row without an id is no row of a tile, and has none
+-- the contents of a row: its own, or those of its id among these contents. A row without an id is no
+-- row of a tile, and has none
 abbrev pub contents_in : MbtType → List (List Cell) → List Cell → Option Cell
 contents_in (Normalized view schema) contents row = cond (is_null (cell_at 3 row)) None (Some (content_of contents (cell_at 3 row)))
 contents_in Cache contents row = Some (cell_at 6 row)

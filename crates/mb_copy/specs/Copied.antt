@@ -33,7 +33,8 @@ text_entries name None = []
 abbrev pub stored_aggregate : MbtilesCopier → HashAlgorithm → TileSet → List (List ℕ × Option (List ℕ))
 stored_aggregate c a tiles = text_entries (codes "agg_tiles_hash") (cond (stores_aggregate c) (Some (aggregate a tiles)) None)
 
--- the name of the set's own algorithm as an entry of metadata, where metadata is copied, the set was made, or the hash is stored
+-- the name of the set's own algorithm as an entry of metadata, where metadata is copied, the set was
+-- made, or the hash is stored
 abbrev pub stored_algorithm : MbtilesCopier → Bool → HashAlgorithm → List (List ℕ × Option (List ℕ))
 stored_algorithm c made a = text_entries (codes "hash_algorithm") (cond (copies_metadata c.copy || made || stores_aggregate c) (Some (name_of a)) None)
 

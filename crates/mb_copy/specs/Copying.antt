@@ -15,7 +15,8 @@ abbrev pub has_any : List TableDesc → Bool
 has_any [] = false
 has_any (d ∷ ds) = true
 
--- the answer of a copy of a set into a destination: by its tables, and by whether it describes anything, as it tells them, or as its answers could be of
+-- the answer of a copy of a set into a destination: by its tables, and by whether it describes anything, as it tells
+-- them, or as its answers could be of
 pub record IsPutInto (c : MbtilesCopier) (source : State) (tells : Bool) (told : Tables) (answer : Result (Unit {0}) MbtError) : Type 0 where
   pub target : Tables
   pub described : Bool
@@ -37,7 +38,8 @@ pub record IsAnswered (c : MbtilesCopier) (source_tells : Bool) (source_told : T
 pub record IsPut (c : MbtilesCopier) (made : Bool) (source base : State) (old new : Tables) : Type 0 where
   -- they load again, as the set with the copies
   pub again : state_of new ≡ Ok (copied c made source base)
-  -- under each key that was put stands its row, with the digest of its bytes where the layout has one; all other rows are as before
+  -- under each key that was put stands its row, with the digest of its bytes where the layout has one; all
+  -- other rows are as before
   pub rows : IsCommitted (held_copied c made source (fresh base)) old new
   -- one commit made of them exactly what the set with the copies asks for, also of rows without a place or a name
   pub commits : MakesChanges (held_copied c made source (fresh base)) old new
@@ -70,7 +72,8 @@ pub record IsCopiedBy (c : MbtilesCopier) (tells : Bool) (told old new : Tables)
   pub valid : invalid c.validate source ≡ None
   pub copied : IsCopied c source (has_any old.descriptions) old new
 
--- the tables of a destination after a refusal: as they were; or made, where there were none and then memory or the store was wanting
+-- the tables of a destination after a refusal: as they were; or made, where there were none and then memory
+-- or the store was wanting
 pub record AreMade (c : MbtilesCopier) (source : State) (old new : Tables) (e : MbtError) : Type 0 where
   pub free : is_free e ≡ true
   pub none : old.descriptions ≡ []

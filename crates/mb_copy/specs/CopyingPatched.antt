@@ -6,7 +6,8 @@ use Rattle.mb_copy.specs.PatchOrder.{may_be_patch, may_be_patched, may_copy_patc
 use Rattle.mb_copy.specs.PatchedSource.{source_patched}
 use Rattle.mb_copy.specs.declared.copier.MbtilesCopier.{MbtilesCopier}
 
--- the answer of a copy of a set with a patch into a destination: by whether that describes anything, as it tells it, or as its answers could be of
+-- the answer of a copy of a set with a patch into a destination: by whether that describes anything, as it tells it, or
+-- as its answers could be of
 pub record IsPutPatched (c : MbtilesCopier) (source patch : State) (tells : Bool) (told : Tables) (answer : Result (Unit {0}) MbtError) : Type 0 where
   pub described : Bool
   pub is_described : tells ≡ true → described ≡ has_any told.descriptions

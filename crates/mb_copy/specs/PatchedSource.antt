@@ -7,7 +7,8 @@ use Rattle.mb_edit.specs.Put.{state_put}
 abbrev pub is_hash_name : List ℕ → Bool
 is_hash_name name = bytes_eq name (codes "agg_tiles_hash") || bytes_eq name (codes "agg_tiles_hash_before_apply") || bytes_eq name (codes "agg_tiles_hash_after_apply")
 
--- metadata after a patch: the values of the patch over the others, without the names for which it has null, and without those hashes
+-- metadata after a patch: the values of the patch over the others, without the names for which it has null,
+-- and without those hashes
 abbrev pub names_patched : Names → Names → Names
 names_patched names patch = retain_keys (over (entries patch) names) (λ name. not (is_null_at (get patch name)) && not (is_hash_name name))
 

@@ -8,8 +8,8 @@ use mb_loaded::Loaded;
 use mb_store::{MbtError, MbtResult, TileStore, init_mbtiles_schema};
 use std::alloc::Global;
 
-/// Makes the tables of a set's layout in a store that describes nothing, and commits the set to them, which is one that tables without rows could have been loaded as. Refused, the
-/// store describes nothing still, or has the tables alone.
+/// Makes the tables of a set's layout in a store that describes nothing, and commits the set to them, which is one that
+/// tables without rows could have been loaded as. Refused, the store describes nothing still, or has the tables alone.
 pub(crate) fn commit_anew<D: TileStore>(alloc: Global, dst: &mut D, next: &Loaded) -> MbtResult<()>
     requires none { D.tells dst.old ≡ true → (D.told dst.old).descriptions ≡ [] }
     requires layout { started_as next.now.state.layout ≡ next.now.state.layout }

@@ -53,7 +53,8 @@ fn put_over(
     Ok(completed(alloc, copier, made, set, put)?)
 }
 
-/// A set into which a source is copied, or the first refusal of the tests of what is put; whether the set was made for the copy.
+/// A set into which a source is copied, or the first refusal of the tests of what is put; whether the
+/// set was made for the copy.
 pub(crate) fn copied(
     alloc: Global,
     copier: &MbtilesCopier,

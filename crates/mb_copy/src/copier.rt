@@ -11,7 +11,8 @@ use tile_hash::HashAlgorithm;
 pub struct MbtilesCopier {
     /// Whether tiles, metadata, or both are copied.
     pub copy: CopyType,
-    /// The layout of a destination that is made, as a command line gives it; `Normalized` is that with digests and a view of them.
+    /// The layout of a destination that is made, as a command line gives it; `Normalized` is that with
+    /// digests and a view of them.
     pub dst_type_cli: Option<MbtTypeCli>,
     /// The layout of a destination that is made, before `dst_type_cli`. Where neither is given, that of the source.
     pub dst_type: Option<MbtType>,

@@ -91,7 +91,8 @@ fn copied_after(
     Ok(next)
 }
 
-/// Copies a source, of which a hash of all tiles may be expected, into a destination that describes nothing: makes its tables, and then all rows in one commit.
+/// Copies a source, of which a hash of all tiles may be expected, into a destination that describes nothing: makes its
+/// tables, and then all rows in one commit.
 pub(crate) fn copy_anew<D: TileStore>(
     alloc: Global,
     copier: &MbtilesCopier,
@@ -140,27 +141,33 @@ fn copy_into<D: TileStore>(
 }
 
 impl MbtilesCopier {
-    /// Copies a set into a store: its tiles of the wanted zooms and boxes, and its metadata but for `hash_algorithm`, by the fields of the copier. What counts where
-    /// the destination has a tile or a name too is its mode.
+    /// Copies a set into a store: its tiles of the wanted zooms and boxes, and its metadata but for `hash_algorithm`,
+    /// by the fields of the copier. What counts where the destination has a tile or a name too is its mode.
     ///
-    /// A destination that describes nothing gets the tables of the wanted layout, with digests as ids in place of numbers, and the wanted algorithm; mode `Override` holds
-    /// where none is given. Another one keeps its layout and its algorithm. Null is copied as null, but a normalised set then has no tile there. A cache gets
-    /// the times of a cache, and null from other sets. Where tiles are copied, the hash of all tiles is computed and stored, unless `skip_agg_tiles_hash` says no; the
-    /// destination's algorithm is stored where metadata or that hash is, and where the destination was made. Contents that no tile has any more stay.
+    /// A destination that describes nothing gets the tables of the wanted layout, with digests as ids in place of
+    /// numbers, and the wanted algorithm; mode `Override` holds where none is given. Another one keeps its layout and
+    /// its algorithm. Null is copied as null, but a normalised set then has no tile there. A cache gets the times of a
+    /// cache, and null from other sets. Where tiles are copied, the hash of all tiles is computed and stored, unless
+    /// `skip_agg_tiles_hash` says no; the destination's algorithm is stored where metadata or that hash is, and where
+    /// the destination was made. Contents that no tile has any more stay.
     ///
     /// It answers the first of these that holds:
     ///
-    /// 1. The refusals of loading the source; with `validate`, `AggHashValueNotFound` or `AggHashMismatch` where its stored hash isn't there, or isn't the computed one.
+    /// 1. The refusals of loading the source; with `validate`, `AggHashValueNotFound` or `AggHashMismatch` where its
+    ///    stored hash isn't there, or isn't the computed one.
     /// 2. `DestinationFileExists`: the destination describes something, and no mode is given.
     /// 3. The refusals of loading a destination that describes something.
     /// 4. `MismatchedTargetType`: it is of another kind than is asked for.
     /// 5. `UnsupportedCopyOperation`: its ids are numbers.
     /// 6. `DuplicateValues`, in mode `Abort`: a tile that is copied, null or not, or a name is there already.
-    /// 7. `IdCollision`: contents that are put have the id of others in a normalised set, with the id of the first such tile.
+    /// 7. `IdCollision`: contents that are put have the id of others in a normalised set, with the
+    ///    id of the first such tile.
     ///
-    /// The source is only read. Refused, the destination holds what it held; or only its tables were made, where memory or the store was wanting. After Ok it loads again as
-    /// the set with the copies, and all rows under other keys than those that were put are as before, in their order; the rows are
-    /// one commit. A store that tells nothing is answered as is due of some tables. `StoreFault` comes only where the count of faults of one of the two stores rose.
+    /// The source is only read. Refused, the destination holds what it held; or only its tables were made, where
+    /// memory or the store was wanting. After Ok it loads again as the set with the copies, and all rows under
+    /// other keys than those that were put are as before, in their order; the rows are one commit. A store that
+    /// tells nothing is answered as is due of some tables. `StoreFault` comes only where the count of faults of
+    /// one of the two stores rose.
     pub fn run<S: TileStore, D: TileStore>(
         &self,
         alloc: Global,

@@ -69,29 +69,38 @@ fn copy_patched<D: TileStore>(
 }
 
 impl MbtilesCopier {
-    /// Copies a set with a patch into a store that describes nothing: of the tiles and the metadata that the patch makes of those of the source, what the fields of the copier
-    /// say. A tile has the bytes of the patch where that has bytes, and is gone where that has null; each name has the text of the patch, and is gone where the patch has
-    /// null. Only then are tiles chosen, so that one that the patch removes isn't copied. The hashes of all tiles, of the source and of before and after the patch, aren't copied; that of the
-    /// copy is computed and stored as by `run`.
+    /// Copies a set with a patch into a store that describes nothing: of the tiles and the metadata that the
+    /// patch makes of those of the source, what the fields of the copier say. A tile has the bytes of the patch
+    /// where that has bytes, and is gone where that has null; each name has the text of the patch, and is gone
+    /// where the patch has null. Only then are tiles chosen, so that one that the patch removes isn't copied. The
+    /// hashes of all tiles, of the source and of before and after the patch, aren't copied; that of the copy is
+    /// computed and stored as by `run`.
     ///
-    /// The destination gets the tables of the wanted layout, and the wanted algorithm, as by `run`. The algorithm of the patch isn't compared with that of the source, nor the
-    /// hash that it says the source has with that of the source.
+    /// The destination gets the tables of the wanted layout, and the wanted algorithm, as by `run`. The
+    /// algorithm of the patch isn't compared with that of the source, nor the hash that it says the source has
+    /// with that of the source.
     ///
     /// It answers the first of these that holds:
     ///
-    /// 1. The refusals of loading the patch; with `validate`, `AggHashValueNotFound` or `AggHashMismatch` where its stored hash isn't there, or isn't the computed one.
+    /// 1. The refusals of loading the patch; with `validate`, `AggHashValueNotFound` or `AggHashMismatch` where its
+    ///    stored hash isn't there, or isn't the computed one.
     /// 2. `UnsupportedPatchType`: the patch describes a table of binary differences.
-    /// 3. `PatchFileHasNoHashes`, `PatchFileHasNoBeforeHash`: the patch has no hash of all tiles after it, or that one alone; not with `force`.
+    /// 3. `PatchFileHasNoHashes`, `PatchFileHasNoBeforeHash`: the patch has no hash of all tiles after it, or that one
+    ///    alone; not with `force`.
     /// 4. The refusals of loading the source, and with `validate` those of its stored hash.
-    /// 5. `CannotDiffFileWithoutHash`, `DiffingDiffFile`: the source has no hash of all tiles, or is itself a patch; not with `force`.
+    /// 5. `CannotDiffFileWithoutHash`, `DiffingDiffFile`: the source has no hash of all tiles, or is itself a
+    ///    patch; not with `force`.
     /// 6. `UnsupportedCopyOperation`: a cache is wanted, or a layout whose ids are numbers.
     /// 7. `NonEmptyTargetFile`: the destination describes something.
-    /// 8. `IdCollision`: contents that are put have the id of others in a normalised set, with the id of the first such tile.
-    /// 9. `AggHashMismatchAfterApply`: the hash that the patch says isn't the computed one, where that is stored, with both hashes; not with `force`.
+    /// 8. `IdCollision`: contents that are put have the id of others in a normalised set, with the
+    ///    id of the first such tile.
+    /// 9. `AggHashMismatchAfterApply`: the hash that the patch says isn't the computed one, where that is stored, with
+    ///    both hashes; not with `force`.
     ///
-    /// The source and the patch are only read. Refused, the destination holds what it held; or only its tables were made, where memory or the store was wanting. After Ok it loads
-    /// again as the copy; the rows are one commit. A store that tells nothing is answered as is due of some tables. `StoreFault` comes only where the count
-    /// of faults of one of the three stores rose.
+    /// The source and the patch are only read. Refused, the destination holds what it held; or only its tables were
+    /// made, where memory or the store was wanting. After Ok it loads again as the copy; the rows are one commit. A
+    /// store that tells nothing is answered as is due of some tables. `StoreFault` comes only where the count of faults
+    /// of one of the three stores rose.
     pub fn run_with_patch<S: TileStore, D: TileStore, P: TileStore>(
         &self,
         alloc: Global,

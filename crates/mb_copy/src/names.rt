@@ -101,7 +101,8 @@ fn algorithm_to_store(
     Ok(None)
 }
 
-/// A set with the names that are put over its own, the computed hash of all its tiles and the name of its algorithm over them, as far as these are stored.
+/// A set with the names that are put over its own, the computed hash of all its tiles and the name of its algorithm
+/// over them, as far as these are stored.
 pub(crate) fn with_names(
     alloc: Global,
     copier: &MbtilesCopier,

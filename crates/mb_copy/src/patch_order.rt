@@ -63,7 +63,8 @@ fn test_same_hash(alloc: Global, after: TextVal, computed: &TextVal) -> MbtResul
     })
 }
 
-/// The test that the hash of all tiles of a set into which a source was copied is the expected one, where it is computed and one is expected.
+/// The test that the hash of all tiles of a set into which a source was copied is the expected one, where it is
+/// computed and one is expected.
 pub(crate) fn test_expected(
     alloc: Global,
     copier: &MbtilesCopier,

@@ -51,7 +51,8 @@ fn clear_hashes(set: &mut Editing) -> Result<(), OutOfMemory>
     Ok(())
 }
 
-/// A source with the tiles and the metadata of a patch over its own, and without the hashes by which patches are kept in order. Each of the patch's contents is copied once.
+/// A source with the tiles and the metadata of a patch over its own, and without the hashes by which patches are kept
+/// in order. Each of the patch's contents is copied once.
 pub(crate) fn patched_source(
     alloc: Global,
     source: Loaded,

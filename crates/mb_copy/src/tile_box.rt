@@ -1,7 +1,7 @@
 // A box of tiles.
 
-/// A box of columns and rows of zoom 30, each from 0 to below 2^30, both ends included; rows are counted from the top. A box with an end below its
-/// beginning, or with a number past the zoom, holds nothing.
+/// A box of columns and rows of zoom 30, each from 0 to below 2^30, both ends included; rows are counted from the top.
+/// A box with an end below its beginning, or with a number past the zoom, holds nothing.
 #[derive(Clone, Copy, Debug, PartialEq, Eq)]
 pub struct TileBox {
     /// The first column.

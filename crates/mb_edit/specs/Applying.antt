@@ -14,7 +14,8 @@ applied force base patch = then (state_of base) (λ s. then (state_of patch) (λ
 abbrev pub stands_in : {A : Type 0} → FinMap place_cmp A → List Cell → Bool
 stands_in m row = is_some (option_and_then (get m) (place_of row))
 
--- the row of bytes that are put at a place: with their digest where the layout has one, and with their id in a normalised set
+-- the row of bytes that are put at a place: with their digest where the layout has one, and with
+-- their id in a normalised set
 abbrev pub put_row : MbtType → HashAlgorithm → Place → List ℕ → List Cell
 put_row layout a p bytes = front p ++ cells_for layout a (Some bytes) (id_for layout a bytes) (dates_for layout)
 
@@ -29,7 +30,8 @@ pub record IsApplied (force : Bool) (old patch new : Tables) : Type 0 where
   -- they load again, as the set after the patch
   pub again : state_of new ≡ Ok next
   pub descriptions : new.descriptions ≡ old.descriptions
-  -- the rows of places that the patch doesn't name stay, in their order, and so do contents of a null id, values of a null name and other tables
+  -- the rows of places that the patch doesn't name stay, in their order, and so do contents of a null id, values of a
+  -- null name and other tables
   pub kept : filter (λ row. not (stands_in other.tiles row)) (new.rows (tile_table base.layout)) ≡ filter (λ row. not (stands_in other.tiles row)) (old.rows (tile_table base.layout))
   pub null_ids : filter (λ row. is_null (cell_at 0 row)) (new.rows (content_table base.layout)) ≡ filter (λ row. is_null (cell_at 0 row)) (old.rows (content_table base.layout))
   pub null_names : filter (λ row. is_null (cell_at 0 row)) (new.rows Metadata) ≡ filter (λ row. is_null (cell_at 0 row)) (old.rows Metadata)
@@ -48,8 +50,8 @@ pub record IsAppliedBy (force : Bool) (tells : Bool) (told old new : Tables) : T
 abbrev pub answer_of : Result State MbtError → Result (Unit {0}) MbtError
 answer_of r = then r (λ next. Ok tt)
 
--- the answer that is due of a set and a patch: of what they tell, and of some tables that their answers could be of, where they tell nothing. Only want of memory
--- and a fault of a store may come in its place
+-- the answer that is due of a set and a patch: of what they tell, and of some tables that their answers could be of,
+-- where they tell nothing. Only want of memory and a fault of a store may come in its place
 pub record IsAnsweredBy (force : Bool) (base_tells : Bool) (base_told : Tables) (patch_tells : Bool) (patch_told : Tables) (answer : Result (Unit {0}) MbtError) : Type 0 where
   pub base : Tables
   pub is_base : base_tells ≡ true → base ≡ base_told

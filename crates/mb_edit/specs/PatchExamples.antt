@@ -48,7 +48,8 @@ for_another = simp (text_found) refl
 pub for_another_forced : may_patch true (set_of Flat (agg ∷ [])) (set_of Flat (before (codes "C") ∷ after ∷ [])) ≡ None
 for_another_forced = refl
 
--- a patch without a digest after it, one with that alone, where null counts as none, and a set without one, or that is itself a patch
+-- a patch without a digest after it, one with that alone, where null counts as none, and a set without one,
+-- or that is itself a patch
 pub no_hashes : may_patch false (set_of Flat (agg ∷ [])) (set_of Flat (before (codes "A") ∷ [])) ≡ Some PatchFileHasNoHashes
 no_hashes = simp (text_found) refl
 
@@ -78,7 +79,8 @@ other_algorithm = refl
 pub names_land : filter_map landed (agg ∷ before (codes "A") ∷ after ∷ (codes "name", None) ∷ []) ≡ (codes "agg_tiles_hash", Some (codes "B")) ∷ (codes "name", None) ∷ []
 names_land = refl
 
--- contents whose digest is their first byte: none that collide, the same contents twice, null in the set, others in the set, and others in the patch
+-- contents whose digest is their first byte: none that collide, the same contents twice, null in the set, others in the
+-- set, and others in the patch
 abbrev first_byte : List ℕ → List ℕ
 first_byte bytes = take 1 bytes
 

@@ -11,7 +11,8 @@ over es m = from_entries (es ++ entries m)
 abbrev pub put_entry : {A : Type 0} → (List ℕ → Option A) → Place × Option (List ℕ) → Option (Place × A)
 put_entry given e = option_and_then (λ bytes. option_map (λ a. (e.0, a)) (given bytes)) e.1
 
--- what a set has at each place after a patch: at a place of the patch what is given by its bytes, and nothing where it has null; elsewhere what it had
+-- what a set has at each place after a patch: at a place of the patch what is given by its bytes, and nothing where it
+-- has null; elsewhere what it had
 abbrev pub patched_by : {A : Type 0} → (List ℕ → Option A) → TileSet → FinMap place_cmp A → FinMap place_cmp A
 patched_by given patch m = over (filter_map (put_entry given) (entries patch)) (retain_keys m (λ place. not (contains_key patch place)))
 

@@ -17,7 +17,8 @@ put_refusals s tiles =
 abbrev pub may_put : State → TileSet → Option MbtError
 may_put s tiles = first_refusal (put_refusals s tiles)
 
--- a set with these tiles over its own; a place of null has no tile. New contents stand under their ids, over those that there are, and none go
+-- a set with these tiles over its own; a place of null has no tile. New contents stand under their ids, over those
+-- that there are, and none go
 abbrev pub state_put : State → TileSet → State
 state_put s tiles = record s {
   tiles = patched s.tiles tiles;

@@ -23,7 +23,8 @@ pub record ArePut (tiles : TileSet) (s : State) (old new : Tables) : Type 0 wher
   -- they load again
   pub again : state_of new ≡ Ok (state_put s tiles)
   pub descriptions : new.descriptions ≡ old.descriptions
-  -- rows of other places stay in their order, and so do those of contents under other ids, whether a tile has these or not, and all rows of other tables
+  -- rows of other places stay in their order, and so do those of contents under other ids, whether a tile has these or
+  -- not, and all rows of other tables
   pub kept : filter (λ row. not (stands_in tiles row)) (new.rows (tile_table s.layout)) ≡ filter (λ row. not (stands_in tiles row)) (old.rows (tile_table s.layout))
   pub contents : filter (λ row. not (begins_with_any (ids_put s.layout s.algorithm tiles) row)) (new.rows (content_table s.layout)) ≡ filter (λ row. not (begins_with_any (ids_put s.layout s.algorithm tiles) row)) (old.rows (content_table s.layout))
   pub others : (table : TableName) → is_tile_table s.layout table ≡ false → new.rows table ≡ old.rows table

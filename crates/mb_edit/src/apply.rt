@@ -11,11 +11,12 @@ use std::alloc::Global;
 
 /// Applies a whole-tile patch to a store, in one commit: the set that `patch_loaded` makes of what both hold.
 ///
-/// It answers the first refusal of these: that of loading the set, that of loading the patch, that of `patch_loaded`. Refused, both stores hold what they
-/// held; the patch does so always. After Ok the tables load again as the patched set. Rows of places that the patch doesn't name stay as they
-/// were, also stored digests; rows of bytes that it puts carry the digest of these, where the layout has one. A store that tells nothing is
-/// answered as tables are that its answers could be of, at Ok too: a patch that tells its tables then loads and passes its tests.
-/// `StoreFault` comes only where the count of faults of one of the two stores rose.
+/// It answers the first refusal of these: that of loading the set, that of loading the patch, that of `patch_loaded`.
+/// Refused, both stores hold what they held; the patch does so always. After Ok the tables load again as the patched
+/// set. Rows of places that the patch doesn't name stay as they were, also stored digests; rows of bytes that it puts
+/// carry the digest of these, where the layout has one. A store that tells nothing is answered as tables are that its
+/// answers could be of, at Ok too: a patch that tells its tables then loads and passes its tests. `StoreFault` comes
+/// only where the count of faults of one of the two stores rose.
 pub fn apply_patch<S: TileStore, P: TileStore>(
     alloc: Global,
     base: &mut S,

@@ -12,7 +12,8 @@ use mb_store::{Cell, MbtError, MbtResult};
 use std::alloc::Global;
 use std::collections::BTreeMap;
 
-/// What is known of the contents that are put under an id: the index of a tile of the patch that has them, and whether they collide.
+/// What is known of the contents that are put under an id: the index of a tile of the patch that has them,
+/// and whether they collide.
 #[derive(Clone, Copy, Debug, PartialEq, Eq)]
 pub(crate) struct Mark {
     pub index: usize,
@@ -152,7 +153,8 @@ fn test_given(alloc: Global, base: &Loaded, patch: &Loaded, ids: &GivenIds) -> M
     Ok(())
 }
 
-/// The test of the ids of contents that a patch puts, where the set has ids, and the ids that the set gives the patch's tiles. Each of the patch's contents is digested once.
+/// The test of the ids of contents that a patch puts, where the set has ids, and the ids that the set gives the patch's
+/// tiles. Each of the patch's contents is digested once.
 pub(crate) fn test_ids(alloc: Global, base: &Loaded, patch: &Loaded) -> MbtResult<GivenIds>
     ensures tests { Tests
         (id_collides base.now.state.layout base.now.state.algorithm base.now.state.contents

@@ -7,7 +7,8 @@ ghost use Rattle.mb_edit.specs.PutTables.{ArePut};
 ghost use Rattle.mb_load.specs.Committing.{MakesChanges};
 ghost use Rattle.mb_store.specs.Store.{IsSound};
 
-/// A patched set has at each place the bytes of the patch where that has bytes, no tile where it has null, else what it had.
+/// A patched set has at each place the bytes of the patch where that has bytes, no tile where it
+/// has null, else what it had.
 pub fn patched_at_each_place()
     ensures { (tiles patch : TileSet) (place : Place) → get (patched tiles patch) place ≡ patched_at
         (λ bytes. Some (Some bytes)) (get patch place) (get tiles place) }

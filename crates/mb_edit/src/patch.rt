@@ -102,21 +102,26 @@ fn patch_all(
     Ok(patched)
 }
 
-/// A loaded set after a whole-tile patch: where the patch has bytes the tile has these, where it has null there is no tile, and the
-/// other tiles stay. Digests and ids are by the algorithm of the set; contents of a normalised set that no tile has any more go.
+/// A loaded set after a whole-tile patch: where the patch has bytes the tile has these, where it has null there is no
+/// tile, and the other tiles stay. Digests and ids are by the algorithm of the set; contents of a normalised set that
+/// no tile has any more go.
 ///
-/// Each name of the patch's metadata replaces that of the set, but for `agg_tiles_hash` and `agg_tiles_hash_before_apply`;
-/// `agg_tiles_hash_after_apply` replaces `agg_tiles_hash`. Afterwards each name that the patch has null for is gone.
+/// Each name of the patch's metadata replaces that of the set, but for `agg_tiles_hash` and
+/// `agg_tiles_hash_before_apply`; `agg_tiles_hash_after_apply` replaces `agg_tiles_hash`. Afterwards each name that the
+/// patch has null for is gone.
 ///
 /// Refused, it gives nothing back. The first of these that holds is answered:
 ///
 /// 1. `UnsupportedPatchType`: the patch describes a table of binary differences.
-/// 2. `PatchFileHasNoHashes`, `PatchFileHasNoBeforeHash`: the patch has no digest of all tiles after it, or that one alone; not where forced.
+/// 2. `PatchFileHasNoHashes`, `PatchFileHasNoBeforeHash`: the patch has no digest of all tiles after it, or that one
+///    alone; not where forced.
 /// 3. `UnsupportedCopyOperation`: the set is a cache, or has ids that are numbers.
-/// 4. `CannotDiffFileWithoutHash`, `DiffingDiffFile`: the set has no digest of all tiles, or is itself a patch; not where forced.
+/// 4. `CannotDiffFileWithoutHash`, `DiffingDiffFile`: the set has no digest of all tiles, or is itself a
+///    patch; not where forced.
 /// 5. `AggHashMismatchWithDiff`: the patch is meant for a set of another digest, with both digests; not where forced.
 /// 6. `UnsupportedHashAlgorithm`: the patch has another algorithm than the set, with the name of the patch's.
-/// 7. `IdCollision`: contents that are put have the id of others in a normalised set, with the id of the first such tile.
+/// 7. `IdCollision`: contents that are put have the id of others in a normalised set, with the
+///    id of the first such tile.
 pub fn patch_loaded(alloc: Global, base: Loaded, patch: &Loaded, force: bool) -> MbtResult<Loaded>
     ensures answer { IfOk result (λ h. step force base.state patch.now.state ≡ Ok h.state) }
     ensures refused { IfErr result

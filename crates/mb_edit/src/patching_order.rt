@@ -27,7 +27,8 @@ pub fn test_whole_tiles(patch: &Loaded) -> MbtResult<()>
     Ok(())
 }
 
-/// The test that sets of a layout can be patched, `UnsupportedCopyOperation` if not: those that are no caches, and whose ids are no numbers.
+/// The test that sets of a layout can be patched, `UnsupportedCopyOperation` if not: those that are no caches, and
+/// whose ids are no numbers.
 pub fn test_patchable(layout: MbtType) -> MbtResult<()>
     ensures answer { result ≡ refused_by (unless (can_be_patched layout)
         MbtError.UnsupportedCopyOperation) }
@@ -52,7 +53,8 @@ fn has_text(set: &Loaded, name: &str) -> bool
     set.text(name).is_some()
 }
 
-/// The test of the digests of all tiles that a patch has: `PatchFileHasNoHashes`, `PatchFileHasNoBeforeHash`. Forced, it passes.
+/// The test of the digests of all tiles that a patch has: `PatchFileHasNoHashes`,
+/// `PatchFileHasNoBeforeHash`. Forced, it passes.
 pub fn test_hashes_of_patch(patch: &Loaded, force: bool) -> MbtResult<()>
     ensures answer { result ≡ refused_by (unless_forced force
         (patch_refused (is_some (before_hash patch.now.state.metadata))

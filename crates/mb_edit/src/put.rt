@@ -40,14 +40,16 @@ fn move_all(base: Loaded, tiles: Loaded, ids: &GivenIds) -> Result<Loaded, OutOf
     base.edit().move_tiles(tiles, ids)?.settle()
 }
 
-/// A loaded set with the tiles of another one over its own: where that has bytes the tile has these, where it has null there is no tile, and the other tiles
-/// stay. Digests and ids are by the algorithm of the set. Contents of a normalised set stay, also where no tile has them any more. The metadata stays, and of
-/// the other set nothing but its tiles counts.
+/// A loaded set with the tiles of another one over its own: where that has bytes the tile has these, where it
+/// has null there is no tile, and the other tiles stay. Digests and ids are by the algorithm of the set.
+/// Contents of a normalised set stay, also where no tile has them any more. The metadata stays, and of the other
+/// set nothing but its tiles counts.
 ///
 /// Refused, it gives nothing back. The first of these that holds is answered:
 ///
 /// 1. `UnsupportedCopyOperation`: the set has ids that are numbers.
-/// 2. `IdCollision`: contents that are put have the id of others in a normalised set, with the id of the first such tile.
+/// 2. `IdCollision`: contents that are put have the id of others in a normalised set, with the
+///    id of the first such tile.
 pub fn put_tiles(alloc: Global, base: Loaded, tiles: &Loaded) -> MbtResult<Loaded>
     ensures refused { IfErr result
         (λ e. is_free e ≡ false → may_put base.state tiles.now.state.tiles ≡ Some e) }
@@ -65,8 +67,8 @@ pub fn put_tiles(alloc: Global, base: Loaded, tiles: &Loaded) -> MbtResult<Loade
     Ok(put)
 }
 
-/// A loaded set with the tiles of another one over its own, as `put_tiles` gives it, with the same refusals. The other set is let go: each of its contents is moved, so
-/// that none is held twice.
+/// A loaded set with the tiles of another one over its own, as `put_tiles` gives it, with the same refusals. The other
+/// set is let go: each of its contents is moved, so that none is held twice.
 pub fn move_tiles(alloc: Global, base: Loaded, tiles: Loaded) -> MbtResult<Loaded>
     ensures refused { IfErr result (λ e. is_free e ≡ false
         → may_put base.state tiles.state.tiles ≡ Some e) }

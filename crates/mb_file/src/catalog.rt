@@ -82,7 +82,8 @@ fn value_at(record: &[u8], at: usize) -> ValueRef<'_> {
     field(record, at).unwrap_or(ValueRef::Null)
 }
 
-// Whether SQLite takes a record of the catalog: its kind, its names and its text fit one another, and its page is one of so many, or 0.
+// Whether SQLite takes a record of the catalog: its kind, its names and its text fit one another, and its page
+// is one of so many, or 0.
 fn is_sound(alloc: Global, record: &[u8], pages: usize) -> Result<bool, FileError> {
     let (kind, name) = (value_at(record, 0), value_at(record, 1));
     let text = value_at(record, 4);

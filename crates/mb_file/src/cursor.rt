@@ -24,7 +24,8 @@ impl Cursor {
         }
     }
 
-    // Takes the next row, and says whether there was one. Its rowid is above all before; a row of another one is damage.
+    // Takes the next row, and says whether there was one. Its rowid is above all before; a row
+    // of another one is damage.
     pub(crate) fn advance<P: Pages>(
         &mut self,
         pages: &mut P,

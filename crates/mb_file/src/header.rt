@@ -30,7 +30,8 @@ fn has_form(page: &[u8]) -> bool
         && get_u32(page, 44) <= NEWEST
 }
 
-// Whether the count of pages that the header states, if it states one for this state of the file, is the count that there are.
+// Whether the count of pages that the header states, if it states one for this state of the file, is
+// the count that there are.
 pub(crate) fn states_count(page: &[u8], count: u32) -> bool {
     if page.len() < 512 {
         return false;

@@ -12,7 +12,8 @@ pub(crate) struct Numbered {
     pub(crate) rowid: i64,
 }
 
-// The number of a place of zoom 0 to 30, its column and row below two to the zoom; None of another one. No two places have one number.
+// The number of a place of zoom 0 to 30, its column and row below two to the zoom; None of another one. No
+// two places have one number.
 pub(crate) fn place_number(zoom: i64, column: i64, row: i64) -> Option<u64> {
     let zoom = u32::try_from(zoom).ok()?;
     let column = u64::try_from(column).ok()?;

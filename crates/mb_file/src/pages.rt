@@ -121,7 +121,8 @@ fn pager_of<D: Disk + Drop>(
 }
 
 impl<D: Disk + Drop> FilePages<D> {
-    // The pages that a file and its log stand for, of which at most so many are kept in memory once they are read. Nothing but the log is written.
+    // The pages that a file and its log stand for, of which at most so many are kept in memory once they are read.
+    // Nothing but the log is written.
     pub(crate) fn open(
         alloc: Global,
         mut files: Files<D>,

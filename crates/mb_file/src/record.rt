@@ -27,7 +27,8 @@ fn as_real(value: ValueRef<'_>) -> ValueRef<'_> {
     }
 }
 
-// The value of a row in a column: the rowid of its key, else what the record has there, else the default of the column, which was added to the table later.
+// The value of a row in a column: the rowid of its key, else what the record has there, else the default of the column,
+// which was added to the table later.
 fn value_in<'a>(column: &'a Column, rowid: i64, record: &'a [u8]) -> ValueRef<'a> {
     if column.is_key {
         return ValueRef::Int(rowid);

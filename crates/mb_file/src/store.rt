@@ -19,8 +19,9 @@ use std::alloc::Global;
 
 /// A tile set that is read from the pages of a database and its log. It tells no tables.
 ///
-/// Its rows are those of the tables of its layout, in the order of their rowids; those of tiles that have no place of zoom 0 to 30 are left out and counted. Of its tables nothing is held in memory but 16
-/// bytes a row, once it was read: the number of its key, and its rowid. The metadata is held.
+/// Its rows are those of the tables of its layout, in the order of their rowids; those of tiles that have no place of
+/// zoom 0 to 30 are left out and counted. Of its tables nothing is held in memory but 16 bytes a row, once it was read:
+/// the number of its key, and its rowid. The metadata is held.
 #[derive(Drop)]
 pub struct FileSet<D: Disk> {
     alloc: Global,
@@ -33,10 +34,14 @@ pub struct FileSet<D: Disk> {
 }
 
 impl<D: Disk + Drop> FileSet<D> {
-    /// Opens the set of a file and its log, of whose pages so many are kept in memory. Nothing but the log is written. It reads the header, the catalog and the metadata, and tests that each table of the set is a sound tree, by a pass over its pages.
+    /// Opens the set of a file and its log, of whose pages so many are kept in memory. Nothing but the log is
+    /// written. It reads the header, the catalog and the metadata, and tests that each table of the set is a sound
+    /// tree, by a pass over its pages.
     ///
-    /// `NotASet` where nothing is named `tiles`, and no tables of a layout are there; `View` where `tiles` is a view of no known form; `Table` where a table is a view, or of a form that isn't read;
-    /// `Column` where it lacks a column; `Encoding` where texts are in UTF-16; `Header` and `Damaged` where it isn't a sound database; `Unread` where the file can't be read.
+    /// `NotASet` where nothing is named `tiles`, and no tables of a layout are there; `View` where `tiles` is a view
+    /// of no known form; `Table` where a table is a view, or of a form that isn't read; `Column` where it lacks a
+    /// column; `Encoding` where texts are in UTF-16; `Header` and `Damaged` where it isn't a sound database; `Unread`
+    /// where the file can't be read.
     pub fn open(
         alloc: Global,
         files: Files<D>,
@@ -205,7 +210,8 @@ impl<D: Disk> TileStore for FileSet<D> {
         self.faults.counted(answer)
     }
 
-    /// The rows in the order of their rowids. Pages in order take time in their own rows; another page passes over all rows before it.
+    /// The rows in the order of their rowids. Pages in order take time in their own rows; another page passes
+    /// over all rows before it.
     fn rows(
         &mut self,
         alloc: Global,
@@ -217,7 +223,8 @@ impl<D: Disk> TileStore for FileSet<D> {
         self.faults.counted(answer)
     }
 
-    /// The first row of a table with a key, in the order of rowids. The first call reads each row that wasn't read yet; each further one reads one row.
+    /// The first row of a table with a key, in the order of rowids. The first call reads each row that wasn't read yet;
+    /// each further one reads one row.
     fn find(
         &mut self,
         alloc: Global,
@@ -255,7 +262,8 @@ impl<D: Disk> TileStore for FileSet<D> {
         self.faults.counted(Err(FileFault::ReadOnly))
     }
 
-    /// The bytes of all texts and blobs, and 8 for each other cell, over all rows. It reads each row that wasn't read yet.
+    /// The bytes of all texts and blobs, and 8 for each other cell, over all rows. It reads each
+    /// row that wasn't read yet.
     fn live_size(&mut self) -> Result<u64, StoreError> {
         let answer = self.sized(self.alloc);
         self.faults.counted(answer)

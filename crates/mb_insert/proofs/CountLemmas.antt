@@ -25,8 +25,8 @@ below : (c : Bool) (n m k : ℕ) → n < m → k ≡ cond c n (n + 1) → k < su
 below true n m k h e = let put : k ≡ n = e in omega arith
 below false n m k h e = let put : k ≡ n + 1 = e in omega arith
 
--- one more tile: whether the set has its place (a), whether it has one of the others (x), whether its place comes again (y), whether the others differ (z), and
--- whether its place is among those that are put (c)
+-- one more tile: whether the set has its place (a), whether it has one of the others (x), whether its place comes again
+-- (y), whether the others differ (z), and whether its place is among those that are put (c)
 step : (a x y z c : Bool) (n m k : ℕ) → IsCount (x || not z) n m → k ≡ cond c n (n + 1) → (x ≡ false → c ≡ y) → IsCount (a || x || not (not y && z)) (cond (not a) k n) (suc m)
 step true x y z c n m k h e same = let le : n ≤ m = at_most (x || not z) n m h in omega arith
 step false true y z c n m k h e same = below c n m k h e

@@ -33,8 +33,8 @@ over_it tiles ts = same_map places_total places_antisymmetric _ _ (λ p.
     ∙ (solid_found p (reverse ts) (get tiles p)
     ∙ sym (get-over places_total (map entry_of (reverse ts)) tiles p))))
 
--- what is found of the tiles of places at which a set has none: whether it has the place of the first (a), whether that is the place (e), and whether it has
--- the place (c)
+-- what is found of the tiles of places at which a set has none: whether it has the place of the first (a), whether that
+-- is the place (e), and whether it has the place (c)
 neither : (c : Bool) (o : Held_at) → o ≡ None → o ≡ cond c None o
 neither true o h = h
 neither false o h = refl

@@ -23,7 +23,8 @@ entry_of t = (place_in t, Some t.tile_data)
 abbrev pub is_missing : TileSet → NewTile → Bool
 is_missing tiles t = not (contains_key tiles (place_in t))
 
--- the tiles that a mode puts into a set, where the first of a place counts: all from the last to the first, or those of places at which the set has none
+-- the tiles that a mode puts into a set, where the first of a place counts: all from the last to the first, or those of
+-- places at which the set has none
 abbrev pub chosen : CopyDuplicateMode → TileSet → List NewTile → List NewTile
 chosen Override tiles batch = reverse batch
 chosen _ tiles batch = filter (is_missing tiles) batch

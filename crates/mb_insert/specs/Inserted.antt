@@ -10,8 +10,8 @@ use Rattle.mb_load.specs.Committing.{MakesChanges}
 use Rattle.mb_loaded.specs.Held.{fresh}
 use Rattle.mb_load.specs.StateOf.{state_of}
 
--- no test refused the batch, the tables load again with it, of their rows those alone changed that it puts, and one commit made of the tables exactly what the set
--- with it asks for
+-- no test refused the batch, the tables load again with it, of their rows those alone changed that it puts, and one
+-- commit made of the tables exactly what the set with it asks for
 pub record IsInserted (mode : CopyDuplicateMode) (batch : List NewTile) (old new : Tables) : Type 0 where
   pub base : State
   pub loaded : state_of old ≡ Ok base

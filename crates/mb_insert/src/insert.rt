@@ -39,20 +39,23 @@ fn insert_loaded(
     Ok(put)
 }
 
-/// Inserts a batch of tiles into a set, in one commit. In mode `Override` the tiles are put over those of the set, and the last of the batch counts at a place; in
-/// mode `Ignore` they are put where the set has none, and the first of the batch counts; in mode `Abort` no place may be there already. A null counts as there.
+/// Inserts a batch of tiles into a set, in one commit. In mode `Override` the tiles are put over those of the set, and
+/// the last of the batch counts at a place; in mode `Ignore` they are put where the set has none, and the first of the
+/// batch counts; in mode `Abort` no place may be there already. A null counts as there.
 ///
 /// It answers the refusals of `load`, and then the first of these that holds:
 ///
 /// 1. `UnsupportedCopyOperation`: the set has ids that are numbers.
-/// 2. `InvalidTileIndex`: the first tile of the batch whose numbers are no coordinate of zoom 0 to 30, with these numbers.
+/// 2. `InvalidTileIndex`: the first tile of the batch whose numbers are no coordinate of zoom 0
+///    to 30, with these numbers.
 /// 3. `DuplicateValues`, in mode `Abort`: a coordinate of the batch is in the set, or twice in the batch.
-/// 4. `IdCollision`: contents that are put have the id of others in a normalised set, with the id of the first such tile.
+/// 4. `IdCollision`: contents that are put have the id of others in a normalised set, with the
+///    id of the first such tile.
 ///
-/// Refused, the store holds what it held. After Ok the tables load again as the set with the batch. Rows of places that aren't put stay, and so do contents that
-/// no tile has any more, and all metadata. Rows of bytes that are put carry the digest of these, where the layout has one, and in
-/// a cache no times. A store that tells nothing is answered as is due of some tables. `StoreFault` comes only where the store's
-/// count of faults rose.
+/// Refused, the store holds what it held. After Ok the tables load again as the set with the batch. Rows of places that
+/// aren't put stay, and so do contents that no tile has any more, and all metadata. Rows of bytes that are put carry
+/// the digest of these, where the layout has one, and in a cache no times. A store that tells nothing is answered as is
+/// due of some tables. `StoreFault` comes only where the store's count of faults rose.
 pub fn insert_tiles<S: TileStore>(
     alloc: Global,
     store: &mut S,

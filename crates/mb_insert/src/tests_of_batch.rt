@@ -54,7 +54,8 @@ fn test_all_put(tiles: &Loaded, batch: &[NewTile]) -> MbtResult<()>
     Err(MbtError::DuplicateValues)
 }
 
-/// The test that no place of a batch is in the set or twice in the batch, where the mode asks for it, by the tiles that are put.
+/// The test that no place of a batch is in the set or twice in the batch, where the mode asks for it,
+/// by the tiles that are put.
 pub(crate) fn test_duplicates(
     mode: CopyDuplicateMode,
     tiles: &Loaded,

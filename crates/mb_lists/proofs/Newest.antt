@@ -119,7 +119,8 @@ module _ {K X : Type 0} {R : K → K → Ordering} (total : IsTotalOrder R) (key
           none_found : All (λ x. at_key R key q x ≡ false) ys → find (at_key R key q) ys ≡ None
           none_found all = find_none (at_key R key q) ys (λ k x at. ap (at_key R key q) (sym (get_or_from_slice_get ys k x x at)) ∙ all k x (slice_get_within ys k x at))
 
--- the latest of each key, in a list that is reversed, sorted stably, cleared of neighbours of one key, and put in any order
+-- the latest of each key, in a list that is reversed, sorted stably, cleared of neighbours of one
+-- key, and put in any order
 module _ {K X : Type 0} {R : K → K → Ordering} (total : IsTotalOrder R) (anti : IsAntisymmetric R) (key : X → K) where
   pub newest_stands : (xs rs ys zs ws : List X) → rs ≡ reverse xs → IsPermutation rs ys → IsStableBy (λ x y. is_lt (R (key x) (key y))) rs ys → IsSortedBy (λ x y. is_lt (R (key x) (key y))) ys → zs ≡ dedup (λ x y. eq_by_cmp R (key x) (key y)) ys → IsPermutation zs ws → Apart R key ws → StandsAs R key (newest R key xs) ws
   newest_stands xs rs ys zs ws turned p stable up kept q apart = record {

@@ -82,7 +82,8 @@ content_value contents i = option_and_then (λ c. unless_removed c.standing (Som
 abbrev pub is_content_gone : List Content → ℕ → Bool
 is_content_gone contents i = is_removed (content_at contents i).standing
 
--- what the entries mean: tiles with the indexes of their contents, contents, the order of those that have an id, and names
+-- what the entries mean: tiles with the indexes of their contents, contents, the order of those
+-- that have an id, and names
 abbrev pub names_held : List StoredName → Names
 names_held names = from_entries (entries_by name_of name_value names)
 
@@ -102,7 +103,8 @@ AreNamesInOrder live names = IsInOrder (slice_cmp nat_cmp) name_of is_name_gone 
 abbrev pub AreContentsInOrder : List Content → ℕ → List ℕ → Type 0
 AreContentsInOrder contents live order = IsInOrder cell_cmp (id_at contents) (is_content_gone contents) live order
 
--- the order of ids as edits leave it: the latest listing of an id counts, and so the latest of the tiles of a place and of the values of a name
+-- the order of ids as edits leave it: the latest listing of an id counts, and so the latest of the tiles of a place
+-- and of the values of a name
 abbrev pub newest_ids : List Content → List ℕ → List ℕ
 newest_ids contents order = newest cell_cmp (id_at contents) order
 

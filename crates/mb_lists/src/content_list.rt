@@ -122,7 +122,8 @@ impl ContentList {
         Ok(Some(ContentList { items, order, live }))
     }
 
-    /// Puts the indexes of contents of different ids in the order of these, the marks behind, and answers how many aren't marks.
+    /// Puts the indexes of contents of different ids in the order of these, the marks behind, and
+    /// answers how many aren't marks.
     pub fn settle(items: &[Content], order: &mut Vec<usize>) -> usize
         requires { Apart cell_cmp (id_at items.now) order.old.items }
         ensures order { AreContentsInOrder items.now result order.new.items }

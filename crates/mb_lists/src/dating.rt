@@ -46,8 +46,8 @@ fn last_contents(tiles: &[StoredTile], coord: TileCoord) -> Option<usize>
     None
 }
 
-/// Adds a tile at a coordinate with the contents of the last one there, and with these times; none where no tile is there. It looks back from the
-/// last tile on.
+/// Adds a tile at a coordinate with the contents of the last one there, and with these times; none where no tile is
+/// there. It looks back from the last tile on.
 pub fn push_dated(
     tiles: &mut Vec<StoredTile>,
     coord: TileCoord,
@@ -72,7 +72,8 @@ pub fn push_dated(
 }
 
 impl TileList {
-    /// Gives the tile at a coordinate other times in the place of its own, if it has any, and counts it as put. It takes no memory.
+    /// Gives the tile at a coordinate other times in the place of its own, if it has any, and counts it as
+    /// put. It takes no memory.
     pub fn redate(&mut self, coord: TileCoord, dates: Dates)
         requires { AreInOrder self.old.live self.old.items.items }
         ensures order { AreInOrder self.new.live self.new.items.items }

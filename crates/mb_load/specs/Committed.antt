@@ -13,8 +13,9 @@ is_set_table layout table = table_eq table (tile_table layout) || (is_normalized
 abbrev pub rows_under : Tables → TableName → RowKey → List (List Cell)
 rows_under t table key = filter (has_key table key) (t.rows table)
 
--- the tables hold the present state. Rows of places, ids and names that weren't edited, rows of contents with a null id and all other tables are as before; under
--- each key that was edited stands its row, with the digest of its bytes where the layout has one, or none
+-- the tables hold the present state. Rows of places, ids and names that weren't edited, rows of contents with a null id
+-- and all other tables are as before; under each key that was edited stands its row, with the digest of its bytes where
+-- the layout has one, or none
 pub record IsCommitted (h : Held) (old new : Tables) : Type 0 where
   pub descriptions : new.descriptions ≡ old.descriptions
   pub loaded : IsLoadedFrom new (fresh h.state)

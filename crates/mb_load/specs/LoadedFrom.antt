@@ -17,8 +17,8 @@ pub record IsContentOf (layout : MbtType) (a : HashAlgorithm) (id cell : Cell) :
   pub kind : is_id layout id ≡ true
   pub digest : wrong_content_hash layout a (id ∷ cell ∷ []) ≡ None
 
--- a state that tables of its layout can hold: a normalised set, and no other, has the id of each tile, whose contents are the tile; a cache, and no other, has
--- the times of each tile
+-- a state that tables of its layout can hold: a normalised set, and no other, has the id of each tile, whose contents
+-- are the tile; a cache, and no other, has the times of each tile
 pub record IsLoadable (s : State) : Type 0 where
   pub on_board : AllOnBoard s
   pub placed : (p : Place) → contains_key s.ids p ≡ (is_normalized s.layout && contains_key s.tiles p)
@@ -42,7 +42,8 @@ pub record FitsPlace (s : State) (p : Place) (rows : List (List Cell)) : Type 0 
   pub id : found (at_place (id_in s.layout)) p rows ≡ get s.ids p
   pub dates : found (at_place (dates_in s.layout)) p rows ≡ get s.dates p
 
--- a row of the tile table that no test of its own cells refuses; no contents are here, so that the place alone of a row with an id is tested
+-- a row of the tile table that no test of its own cells refuses; no contents are here, so that the place alone of a
+-- row with an id is tested
 pub record IsGoodRow (layout : MbtType) (a : HashAlgorithm) (row : List Cell) : Type 0 where
   pub kinds : has_tile_kinds layout row ≡ true
   pub place : bad_tile layout [] row ≡ None
@@ -54,7 +55,8 @@ pub record IsGoodContent (layout : MbtType) (a : HashAlgorithm) (row : List Cell
   pub kind : is_id layout (cell_at 0 row) ≡ true
   pub digest : wrong_content_hash layout a row ≡ None
 
--- tables that a set was loaded from: but for what was edited since, the rows of each key are as the set has them, and no test of loading refuses a row
+-- tables that a set was loaded from: but for what was edited since, the rows of each key are as the set has them, and
+-- no test of loading refuses a row
 pub record IsLoadedFrom (t : Tables) (h : Held) : Type 0 where
   pub layout : layout_of t.descriptions ≡ Some h.state.layout
   pub patch_type : patch_type_of t.descriptions ≡ h.state.patch_type

@@ -30,9 +30,10 @@ pub fn changes_of_tables()
         → AreChangesOf h changes → AreOfTables t.descriptions changes }
 {}
 
-/// Tables that a set was loaded from are so of the edited set, too: after bytes were put at a place of zoom 0 to 30 of a layout that can be
-/// edited, where no other contents stand under their digest, and after the same bytes were put at several such places; after null was put
-/// at one of a layout without ids; after a tile of a cache got times of their kinds; and after each other edit.
+/// Tables that a set was loaded from are so of the edited set, too: after bytes were put at a place of zoom 0 to 30 of
+/// a layout that can be edited, where no other contents stand under their digest, and after the same bytes were put at
+/// several such places; after null was put at one of a layout without ids; after a tile of a cache got times of their
+/// kinds; and after each other edit.
 pub fn edits_stay_loaded()
     ensures put { (t : Tables) (h : Held) (p : Place) (bytes : List ℕ) → IsOnBoard p
         → is_editable h.state.layout ≡ true → IsFree h.state bytes → IsLoadedFrom t h
@@ -71,13 +72,15 @@ pub fn loads_from_tables()
     ensures whole { (t : Tables) (s : State) → state_of t ≡ Ok s → IsLoadable s × NamesAlgorithm s }
 {}
 
-/// Tables that a set was loaded from, with nothing edited since, load to the same state, where its metadata names its algorithm.
+/// Tables that a set was loaded from, with nothing edited since, load to the same state, where its
+/// metadata names its algorithm.
 pub fn loads_again()
     ensures { (t : Tables) (s : State) → IsSound t → IsLoadedFrom t (fresh s) → NamesAlgorithm s
         → state_of t ≡ Ok s }
 {}
 
-/// Tables without rows are tables that the empty set was loaded from, by whatever algorithm, so that its changes put each row that it gets.
+/// Tables without rows are tables that the empty set was loaded from, by whatever algorithm, so that its changes
+/// put each row that it gets.
 pub fn empty_from_tables()
     ensures { (t : Tables) (layout : MbtType) (a : HashAlgorithm) → AreEmpty layout t
         → IsLoadedFrom t (fresh (empty_state layout a)) }

@@ -1,4 +1,5 @@
-//! Loading tile sets: the order of the tests that a store of tables must pass, what the tables hold, and the commit of a loaded set.
+//! Loading tile sets: the order of the tests that a store of tables must pass, what the tables hold, and
+//! the commit of a loaded set.
 #![tactic(auto)]
 
 mod commit;

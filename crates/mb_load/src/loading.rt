@@ -32,17 +32,22 @@ fn layout_in(tables: &[TableDesc]) -> MbtResult<MbtType>
 
 /// Loads a set: what its tables hold, or the first refusal of the tests of loading, in their order.
 ///
-/// 1. `InvalidDataFormat`: the tables are of no layout, or there is no table `metadata` with columns `name` and `value`.
-/// 2. `NoUniquenessConstraint`: no unique index of exactly the columns of a place keeps the tiles apart; then an id of contents twice.
-/// 3. `InvalidDataFormat`: a name, value, digest, id, fetched, expires or etag that is neither null nor of its kind, or a name twice.
+/// 1. `InvalidDataFormat`: the tables are of no layout, or there is no table `metadata` with
+///    columns `name` and `value`.
+/// 2. `NoUniquenessConstraint`: no unique index of exactly the columns of a place keeps the tiles apart; then
+///    an id of contents twice.
+/// 3. `InvalidDataFormat`: a name, value, digest, id, fetched, expires or etag that is neither null nor of
+///    its kind, or a name twice.
 /// 4. `UnsupportedHashAlgorithm`: the stored algorithm is none of the five, with its name as it is stored.
-/// 5. `InvalidTileIndex`: the first row of a tile whose place is none of zoom 0 to 30, or whose contents are neither bytes nor null.
+/// 5. `InvalidTileIndex`: the first row of a tile whose place is none of zoom 0 to 30, or whose contents
+///    are neither bytes nor null.
 /// 6. `MissingTileReference`: the first row of a tile whose contents aren't there.
 /// 7. `IncorrectTileHash`: the first stored digest, in upper case, that isn't that of its bytes.
-/// 8. `NoUniquenessConstraint`: a place stands twice, as only in a store that breaks its own index or changes while it is read.
+/// 8. `NoUniquenessConstraint`: a place stands twice, as only in a store that breaks its own index or
+///    changes while it is read.
 ///
-/// A store that tells nothing is refused, or loaded, as tables are that its answers could be of. `StoreFault` comes only where the
-/// store's count of faults rose. The store holds what it held, whatever the answer.
+/// A store that tells nothing is refused, or loaded, as tables are that its answers could be of. `StoreFault` comes
+/// only where the store's count of faults rose. The store holds what it held, whatever the answer.
 pub fn load<S: TileStore>(alloc: Global, store: &mut S) -> MbtResult<Loaded>
     ensures answer { S.tells store.old ≡ true → Loads (state_of (S.told store.old)) result }
     ensures own { (t : Tables) × Loads (state_of t) result }
@@ -66,8 +71,9 @@ pub fn load<S: TileStore>(alloc: Global, store: &mut S) -> MbtResult<Loaded>
     )
 }
 
-/// Loads a set as `load` does, out of a store in memory that is let go: the texts and bytes of its rows are moved, so that they stand in memory once. The refusals of `load` are these,
-/// but that no fault comes: none of the store's calls is made that can fail.
+/// Loads a set as `load` does, out of a store in memory that is let go: the texts and bytes of its rows are moved, so
+/// that they stand in memory once. The refusals of `load` are these, but that no fault comes: none of the store's
+/// calls is made that can fail.
 pub fn load_owned(alloc: Global, store: MemStore) -> MbtResult<Loaded>
     ensures answer { Loads (state_of (told_of store)) result }
     ensures loaded { IfOk result (IsLoadedFrom (told_of store)) }

@@ -74,7 +74,8 @@ abbrev pub name_edited : Edited → RowKey → Bool
 name_edited e (TextId name) = contains_key e.names name
 name_edited e _ = false
 
--- the changes of a table are those of the edited keys, and each puts the row of its key, or removes it where there is none
+-- the changes of a table are those of the edited keys, and each puts the row of its key, or
+-- removes it where there is none
 pub record Covers (edited : RowKey → Bool) (row : RowKey → Option (List Cell)) (table : TableName) (changes : List Change) : Type 0 where
   pub made : (key : RowKey) → edited key ≡ true → (i : ℕ) × (c : Change) × (slice_get changes i ≡ Some c) × (table_eq c.table table ≡ true) × (c.key ≡ key)
   pub only : All (λ c. table_eq c.table table ≡ true → (edited c.key ≡ true) × (c.row ≡ row c.key)) changes

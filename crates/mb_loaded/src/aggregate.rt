@@ -33,7 +33,8 @@ fn bytes_of(cell: &Cell) -> &[u8]
     }
 }
 
-// Hashes the zoom, column and row of a tile in decimal, the row counted from the bottom, and its bytes, if they aren't null.
+// Hashes the zoom, column and row of a tile in decimal, the row counted from the bottom, and its
+// bytes, if they aren't null.
 #[tactic(auto, using(crate::proofs::AggregateLemmas::four_parts))]
 fn hash_tile(stream: &mut HashStream, coord: TileCoord, cell: &Cell)
     ensures { (a : HashAlgorithm) (m : List ℕ) (contents : Option (List ℕ))
@@ -49,9 +50,10 @@ fn hash_tile(stream: &mut HashStream, coord: TileCoord, cell: &Cell)
 }
 
 impl Loaded {
-    /// The hash of all tiles by the algorithm of the set: of their numbers in decimal and their bytes, one tile after another in the order of zoom, column and row
-    /// counted from the bottom. Null adds no bytes. In hexadecimal, also for `Fnv1aDecimal`; a set without tiles has the digest of no bytes, which is decimal for that algorithm.
-    /// It fails only for want of memory, of which it takes no more than the text needs.
+    /// The hash of all tiles by the algorithm of the set: of their numbers in decimal and their bytes, one tile after
+    /// another in the order of zoom, column and row counted from the bottom. Null adds no bytes. In hexadecimal, also
+    /// for `Fnv1aDecimal`; a set without tiles has the digest of no bytes, which is decimal for that algorithm. It
+    /// fails only for want of memory, of which it takes no more than the text needs.
     pub fn aggregate(&self, alloc: Global) -> Result<TextVal, OutOfMemory>
         ensures { IfOk result
             (λ text. text ≡ aggregate self.now.state.algorithm self.now.state.tiles) }

@@ -9,8 +9,8 @@ use mb_lists::{NameList, RowTiles, TileList};
 use mb_store::{MbtType, PatchType};
 use tile_hash::HashAlgorithm;
 
-/// The set of these tiles with their contents, and of these names; none where two tiles have one place. Tiles come in any order, as they were loaded; contents and
-/// names are in order.
+/// The set of these tiles with their contents, and of these names; none where two tiles have one place. Tiles come in
+/// any order, as they were loaded; contents and names are in order.
 pub fn set_of(
     layout: MbtType,
     algorithm: HashAlgorithm,

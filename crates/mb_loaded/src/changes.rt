@@ -168,8 +168,9 @@ pub(crate) fn add_names(
 }
 
 impl Loaded {
-    /// The changes that turn the tables that were loaded into tables of the present state: for each place, id and name that was edited, its row
-    /// or none. Rows of bytes have their digest, where the layout has one. All other rows stay as they are.
+    /// The changes that turn the tables that were loaded into tables of the present state: for each place, id and
+    /// name that was edited, its row or none. Rows of bytes have their digest, where the layout has one. All
+    /// other rows stay as they are.
     pub fn changes(&self, alloc: Global) -> Result<Changes, OutOfMemory>
         ensures { IfOk result (λ changes. AreChangesOf self.now changes) }
     {

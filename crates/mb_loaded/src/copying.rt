@@ -14,8 +14,8 @@ use std::alloc::{AllocError, Global};
 use tile_hash::HashAlgorithm;
 use tile_ids::TileCoord;
 
-/// The lists of an opened set to which tiles of another come. For each of the other set's contents there is one more than the index of their copy, and 0 while there
-/// is none.
+/// The lists of an opened set to which tiles of another come. For each of the other set's contents there is one more
+/// than the index of their copy, and 0 while there is none.
 #[derive(Drop)]
 pub(crate) struct Copying {
     pub layout: MbtType,
@@ -151,8 +151,9 @@ pub(crate) fn no_copies(alloc: Global, count: usize) -> Result<Vec<usize>, Alloc
 }
 
 impl Editing {
-    /// Puts the tiles of another set, from the last to the first: bytes at their coordinate, under the ids that the set's layout gives them, and null clears it. Each of the
-    /// other set's contents is copied once, however many of its tiles have them, and none is digested.
+    /// Puts the tiles of another set, from the last to the first: bytes at their coordinate, under the ids that the
+    /// set's layout gives them, and null clears it. Each of the other set's contents is copied once, however many of
+    /// its tiles have them, and none is digested.
     pub fn put_tiles(self, other: &Loaded, ids: &GivenIds) -> Result<Editing, OutOfMemory>
         requires { ids.now ≡ ids_given self.state.layout self.state.algorithm
             other.now.state.tiles }

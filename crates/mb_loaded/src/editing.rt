@@ -15,7 +15,8 @@ use std::marker::Model;
 use tile_hash::HashAlgorithm;
 use tile_ids::TileCoord;
 
-/// A loaded set that takes edits in any order, each in the time of a push: what was put last counts. `settle` puts all in order again.
+/// A loaded set that takes edits in any order, each in the time of a push: what was put last counts. `settle`
+/// puts all in order again.
 #[derive(Drop)]
 pub struct Editing {
     pub(crate) layout: MbtType,
@@ -74,7 +75,8 @@ impl Loaded {
 }
 
 impl Editing {
-    /// Puts bytes at a coordinate: in a normalised set under their digest by the set's algorithm, in a cache without times.
+    /// Puts bytes at a coordinate: in a normalised set under their digest by the set's algorithm,
+    /// in a cache without times.
     pub fn set_tile(&mut self, coord: TileCoord, bytes: BlobVal) -> Result<(), OutOfMemory>
         ensures ok { OnOk result (self.new ≡ with_tile self.old (place_at coord) bytes) }
         ensures err { OnErr result (self.new ≡ self.old) }
@@ -119,8 +121,9 @@ impl Editing {
         Ok(())
     }
 
-    /// Gives the tile at a coordinate of a cache other times: when it was fetched and when it expires, numbers or null, and its version, a text or
-    /// null. It looks back from the last edit to the latest one at the coordinate, so that the tile that was put last is found at once.
+    /// Gives the tile at a coordinate of a cache other times: when it was fetched and when it expires, numbers or null,
+    /// and its version, a text or null. It looks back from the last edit to the latest one at the coordinate, so that
+    /// the tile that was put last is found at once.
     pub fn set_cache_fields(
         &mut self,
         coord: TileCoord,

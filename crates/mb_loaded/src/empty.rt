@@ -11,8 +11,8 @@ use std::alloc::Global;
 use tile_hash::HashAlgorithm;
 
 impl Loaded {
-    /// A set of a layout and an algorithm, without tiles and metadata, as tables of the layout without rows are loaded. Its layout is none whose ids are
-    /// numbers, so that tiles can be put. It takes no memory.
+    /// A set of a layout and an algorithm, without tiles and metadata, as tables of the layout without rows are loaded.
+    /// Its layout is none whose ids are numbers, so that tiles can be put. It takes no memory.
     pub fn empty(alloc: Global, layout: MbtType, algorithm: HashAlgorithm) -> Loaded
         requires { is_editable layout ≡ true }
         ensures { result ≡ fresh (empty_state layout algorithm) }

@@ -11,8 +11,8 @@ use std::alloc::Global;
 use std::marker::Model;
 use tile_hash::HashAlgorithm;
 
-/// The ids that a layout gives the tiles of a set, in the order of their places: one id for each of the set's contents, however many tiles have them. Null for null,
-/// and in layouts without ids.
+/// The ids that a layout gives the tiles of a set, in the order of their places: one id for each of the set's contents,
+/// however many tiles have them. Null for null, and in layouts without ids.
 #[derive(Drop)]
 pub struct GivenIds {
     ids: Vec<Cell>,
@@ -86,8 +86,8 @@ fn content_indexes(alloc: Global, tiles: &[StoredTile]) -> Result<Vec<usize>, Ou
 }
 
 impl Loaded {
-    /// The ids that a layout gives the tiles by an algorithm: in a normalised one the digests of their bytes. Each of the contents is digested once, however many tiles
-    /// have them, and none for a layout without ids.
+    /// The ids that a layout gives the tiles by an algorithm: in a normalised one the digests of their bytes. Each of
+    /// the contents is digested once, however many tiles have them, and none for a layout without ids.
     pub fn ids_for(
         &self,
         alloc: Global,

@@ -76,7 +76,8 @@ fn is_last(last: &[usize], index: usize, tile: &StoredTile) -> bool
     }
 }
 
-// The changes of all tiles, which go as their rows are made. Of the contents those that have an id are there afterwards.
+// The changes of all tiles, which go as their rows are made. Of the contents those that have an
+// id are there afterwards.
 fn add_tiles(
     alloc: Global,
     changes: &mut Changes,
@@ -185,8 +186,9 @@ fn add_contents(
 }
 
 impl Loaded {
-    /// The changes that turn the tables that were loaded into tables of the present state, as `changes` gives them. The set is let go: each of its contents is moved into
-    /// the row of the last tile that is put with them, or into their own row where they have an id, so that the contents are not held twice. Its list of tiles goes as their rows are
+    /// The changes that turn the tables that were loaded into tables of the present state, as `changes` gives them. The
+    /// set is let go: each of its contents is moved into the row of the last tile that is put with them, or into their
+    /// own row where they have an id, so that the contents are not held twice. Its list of tiles goes as their rows are
     /// made, and so do contents without an id at the end of theirs.
     pub fn into_changes(self, alloc: Global) -> Result<Changes, OutOfMemory>
         ensures { IfOk result (λ changes. AreChangesOf self changes) }

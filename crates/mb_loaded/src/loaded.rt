@@ -9,8 +9,8 @@ use std::marker::Model;
 use tile_hash::HashAlgorithm;
 use tile_ids::TileCoord;
 
-/// A set of tiles as it was loaded: its tiles in the order of their places, its metadata in the order of the names' bytes, and in a
-/// normalised set its contents by id.
+/// A set of tiles as it was loaded: its tiles in the order of their places, its metadata in the order of the names'
+/// bytes, and in a normalised set its contents by id.
 #[derive(Drop)]
 pub struct Loaded {
     pub(crate) layout: MbtType,
@@ -96,7 +96,8 @@ impl Loaded {
         self.tiles.live
     }
 
-    /// The tile at an index below `tile_count`, in the order of zoom, column and row counted from the bottom, with its bytes or null.
+    /// The tile at an index below `tile_count`, in the order of zoom, column and row counted from the
+    /// bottom, with its bytes or null.
     pub fn tile_at(&self, index: usize) -> (TileCoord, &Cell)
         requires { index < len self.now.state.tiles }
         ensures { IfSome (slice_get (entries self.now.state.tiles) index)
@@ -116,8 +117,8 @@ impl Loaded {
         }
     }
 
-    /// When the tile of a row of a cache was fetched, when it expires, and its version: numbers or null, and a text or null. None where there is no tile, and in the
-    /// other layouts.
+    /// When the tile of a row of a cache was fetched, when it expires, and its version: numbers or null, and a text or
+    /// null. None where there is no tile, and in the other layouts.
     pub fn cache_fields(&self, coord: TileCoord) -> Option<(&Cell, &Cell, &Cell)>
         ensures { option_map
             (λ cells. record { fetched = cells.0.now; expires = cells.1.now; etag = cells.2.now })
@@ -129,8 +130,8 @@ impl Loaded {
         }
     }
 
-    /// The contents of an id of a normalised set, whether a tile has it or not: a cell of any kind where none has it. None for an id
-    /// without contents, and in the other layouts.
+    /// The contents of an id of a normalised set, whether a tile has it or not: a cell of any kind where none has it.
+    /// None for an id without contents, and in the other layouts.
     pub fn content(&self, id: &Cell) -> Option<&Cell>
         ensures { option_copied result ≡ get self.now.state.contents id.now }
     {

@@ -124,7 +124,8 @@ fn make_room(
 }
 
 impl Editing {
-    /// Puts the tiles of another set, as `put_tiles` does, and lets that set go: each of its contents is moved, however many of its tiles have them.
+    /// Puts the tiles of another set, as `put_tiles` does, and lets that set go: each of its contents is moved, however
+    /// many of its tiles have them.
     pub fn move_tiles(self, other: Loaded, ids: &GivenIds) -> Result<Editing, OutOfMemory>
         requires { ids.now ≡ ids_given self.state.layout self.state.algorithm other.state.tiles }
         ensures { IfOk result (λ set. set ≡ tiles_put self other.state.tiles) }

@@ -11,7 +11,8 @@ use mb_lists::{Content, Standing, StoredTile};
 use mb_store::{Cell, MbtType};
 use tile_ids::TileCoord;
 
-// Adds a tile at each of these coordinates, with the contents at an index, in a cache without times. Refused, some of them stand behind those that there were.
+// Adds a tile at each of these coordinates, with the contents at an index, in a cache without times. Refused, some of
+// them stand behind those that there were.
 fn push_tiles(
     tiles: &mut Vec<StoredTile>,
     layout: MbtType,
@@ -35,7 +36,8 @@ fn push_tiles(
     Ok(())
 }
 
-// Adds a tile at each of these coordinates, with the contents at an index, in a cache without times. Refused, all is as it was.
+// Adds a tile at each of these coordinates, with the contents at an index, in a cache without times.
+// Refused, all is as it was.
 fn put_at_each(
     tiles: &mut Vec<StoredTile>,
     layout: MbtType,
@@ -55,8 +57,9 @@ fn put_at_each(
 }
 
 impl Editing {
-    /// Puts the same bytes at each of these coordinates, from the first to the last: in a normalised set under their digest by the set's algorithm, in a cache
-    /// without times. However many coordinates there are, the bytes are kept once and digested once.
+    /// Puts the same bytes at each of these coordinates, from the first to the last: in a normalised set under their
+    /// digest by the set's algorithm, in a cache without times. However many coordinates there are, the bytes are
+    /// kept once and digested once.
     pub fn set_tiles(&mut self, coords: &[TileCoord], bytes: BlobVal) -> Result<(), OutOfMemory>
         ensures ok { OnOk result
             (self.new ≡ with_tiles self.old (map place_at coords.now) bytes) }

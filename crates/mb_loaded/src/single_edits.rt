@@ -13,8 +13,8 @@ use mb_store::Cell;
 use tile_ids::TileCoord;
 
 impl Loaded {
-    /// Puts bytes at a coordinate: in a normalised set under their digest by the set's algorithm, in a cache without times. It takes the
-    /// time of a walk over what stands behind the place; for many edits there is `edit`.
+    /// Puts bytes at a coordinate: in a normalised set under their digest by the set's algorithm, in a cache without
+    /// times. It takes the time of a walk over what stands behind the place; for many edits there is `edit`.
     pub fn set_tile(&mut self, coord: TileCoord, bytes: BlobVal) -> Result<(), OutOfMemory>
         ensures ok { OnOk result (self.new ≡ with_tile self.old (place_at coord) bytes) }
         ensures err { OnErr result (self.new ≡ self.old) }
@@ -41,8 +41,8 @@ impl Loaded {
         Ok(())
     }
 
-    /// Puts null at a coordinate of a set without ids, in a cache without times. It takes the time of a walk over what stands behind the
-    /// place; for many edits there is `edit`.
+    /// Puts null at a coordinate of a set without ids, in a cache without times. It takes the time of a walk over what
+    /// stands behind the place; for many edits there is `edit`.
     pub fn set_null(&mut self, coord: TileCoord) -> Result<(), OutOfMemory>
         ensures ok { OnOk result (self.new ≡ with_null self.old (place_at coord)) }
         ensures err { OnErr result (self.new ≡ self.old) }
@@ -60,8 +60,8 @@ impl Loaded {
         Ok(())
     }
 
-    /// Gives the tile at a coordinate of a cache other times: when it was fetched and when it expires, numbers or null, and its version, a text or
-    /// null. It takes no memory.
+    /// Gives the tile at a coordinate of a cache other times: when it was fetched and when it expires, numbers or null,
+    /// and its version, a text or null. It takes no memory.
     pub fn set_cache_fields(&mut self, coord: TileCoord, fetched: Cell, expires: Cell, etag: Cell)
         requires layout { self.old.state.layout ≡ Cache }
         requires there { contains_key self.old.state.tiles (place_at coord) ≡ true }

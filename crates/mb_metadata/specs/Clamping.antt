@@ -2,7 +2,8 @@
 use Rattle.std.specs.Prelude.{◌≡◌, refl, ℕ, min, max, List, map, Option, Some, None, option_map, unwrap_or}
 use Rattle.mb_metadata.specs.Common.{TileJson, VectorLayer}
 
--- The least and the greatest zoom of the tiles, and the least and the greatest that are said. Where one isn't said, that of the tiles is taken for it.
+-- The least and the greatest zoom of the tiles, and the least and the greatest that are said. Where one isn't said,
+-- that of the tiles is taken for it.
 abbrev pub minzoom_within : Option (ℕ × ℕ) → Option ℕ → Option ℕ → Option ℕ
 minzoom_within None p q = p
 minzoom_within (Some tiles) p q = Some (min tiles.0 (min (unwrap_or q tiles.1) (unwrap_or p tiles.0)))

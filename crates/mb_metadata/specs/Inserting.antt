@@ -66,7 +66,8 @@ then_extents edits t =
     (codes "minzoom") (option_map decimal t.minzoom))
     (codes "maxzoom") (option_map decimal t.maxzoom)
 
--- the edits of a document: what has no field of its own, the fields, and the layers. Of two edits of one name the later counts
+-- the edits of a document: what has no field of its own, the fields, and the layers. Of two edits of
+-- one name the later counts
 abbrev pub document_edits : TileJson → List NameEdit
 document_edits t = then_put (then_extents (then_texts (other_edits t.other) t) t) (codes "json") (option_map layers_text t.vector_layers)
 

@@ -60,11 +60,13 @@ pub record IsFresh (t : Tables) (h : Held) : Type 0 where
 
 -- tables of a set after edits of its metadata
 pub record AreEdited (s : State) (edits : List NameEdit) (old new : Tables) : Type 0 where
-  -- they hold the set with the metadata after the edits. They load as it where that names the algorithm of the set, as it does where the edits don't name it
+  -- they hold the set with the metadata after the edits. They load as it where that names the algorithm of the set, as
+  -- it does where the edits don't name it
   pub holds : IsLoadedFrom new (fresh (state_edited s edits))
   pub again : NamesAlgorithm (state_edited s edits) → state_of new ≡ Ok (state_edited s edits)
   pub unnamed : is_edited edits (Text (codes "hash_algorithm")) ≡ false → state_of new ≡ Ok (state_edited s edits)
-  -- under the name of each edit stands its row, or none; all other rows stay, in their order, and so do the descriptions
+  -- under the name of each edit stands its row, or none; all other rows stay, in their order,
+  -- and so do the descriptions
   pub put : (name : List ℕ) → is_edited edits (Text name) ≡ true → rows_under new Metadata (TextId name) ≡ option_to_list (name_row (names_edited s.metadata edits) name)
   pub kept : filter (λ row. not (is_edited edits (cell_at 0 row))) (new.rows Metadata) ≡ filter (λ row. not (is_edited edits (cell_at 0 row))) (old.rows Metadata)
   pub others : (table : TableName) → table_eq table Metadata ≡ false → new.rows table ≡ old.rows table

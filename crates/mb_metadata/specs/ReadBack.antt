@@ -16,7 +16,8 @@ said_after id s t = metadata_of id (state_edited s (insert_edits t s))
 abbrev pub document_after : List ℕ → State → TileJson → TileJson
 document_after id s t = (said_after id s t).tilejson
 
--- How the text of a name is read: by the text that a field puts there, by what `other` puts there, and by what the set said before.
+-- How the text of a name is read: by the text that a field puts there, by what `other` puts there, and by
+-- what the set said before.
 pub record IsRead (put : Option (List ℕ)) (beside : Option Data) (before after : Option (List ℕ)) : Type 0 where
   -- a text that isn't empty is read as it was put, whatever `other` has there
   pub same : (text : List ℕ) → put ≡ Some text → text ≢ [] → after ≡ Some text

@@ -13,12 +13,14 @@ update_zoom_words Reset = codes "reset"
 update_zoom_words GrowOnly = codes "grow-only"
 update_zoom_words Skip = codes "skip"
 
--- whether the range grows where a computed zoom takes the place of a stored one: it is below the least, or above the greatest
+-- whether the range grows where a computed zoom takes the place of a stored one: it is below the
+-- least, or above the greatest
 abbrev pub grows : Bool → ℕ → ℕ → Bool
 grows false stored computed = nat_lt computed stored
 grows true stored computed = nat_lt stored computed
 
--- whether the computed zoom is stored, as the least or the greatest: where none is stored always, and else as the mode says
+-- whether the computed zoom is stored, as the least or the greatest: where none is stored always,
+-- and else as the mode says
 abbrev pub is_set : UpdateZoomType → Bool → Option ℕ → ℕ → Bool
 is_set mode is_max None computed = true
 is_set Reset is_max (Some stored) computed = not (nat_eq stored computed)

@@ -14,7 +14,8 @@ fn minzoom_within(tiles: Option<(u8, u8)>, minzoom: Option<u8>, maxzoom: Option<
     Some(least.min(maxzoom.unwrap_or(greatest).min(minzoom.unwrap_or(least))))
 }
 
-// The greatest zoom: the greatest that is said, but none outside the tiles. That which is said where there are no tiles.
+// The greatest zoom: the greatest that is said, but none outside the tiles. That which is said
+// where there are no tiles.
 fn maxzoom_within(tiles: Option<(u8, u8)>, minzoom: Option<u8>, maxzoom: Option<u8>) -> Option<u8>
     ensures { result ≡ maxzoom_within tiles minzoom maxzoom }
 {

@@ -105,7 +105,8 @@ fn document_edits(alloc: Global, document: &TileJson) -> Result<Vec<NameEdit>, O
     Ok(edits)
 }
 
-/// A loaded set with what a document says in its metadata, as `insert_metadata` puts it into that of a store. Nothing is committed. Only want of memory refuses it.
+/// A loaded set with what a document says in its metadata, as `insert_metadata` puts it into that of a store. Nothing
+/// is committed. Only want of memory refuses it.
 ///
 /// No number of the given values of JSON is held as a float by `serde_json`.
 pub fn with_document(
@@ -120,13 +121,16 @@ pub fn with_document(
     Ok(after_edits(set, edits)?)
 }
 
-/// Puts what a document says into the metadata of a set, in one commit: each entry of `other` under its name, a text as it is and another value as its compact JSON;
-/// then the texts `name`, `version`, `description`, `attribution`, `legend` and `template`; `bounds` and `center`, as their numbers parted by commas or as their
-/// text; `minzoom` and `maxzoom` in decimal; and under `json` the compact JSON of an object with the list `vector_layers`. A field that isn't there puts
-/// nothing, and a field counts over an entry of `other` of its name. In the object of a layer each field that is there counts over an entry of its `other`.
+/// Puts what a document says into the metadata of a set, in one commit: each entry of `other` under its name, a text as
+/// it is and another value as its compact JSON; then the texts `name`, `version`, `description`, `attribution`,
+/// `legend` and `template`; `bounds` and `center`, as their numbers parted by commas or as their text; `minzoom` and
+/// `maxzoom` in decimal; and under `json` the compact JSON of an object with the list `vector_layers`. A field that
+/// isn't there puts nothing, and a field counts over an entry of `other` of its name. In the object of a layer each
+/// field that is there counts over an entry of its `other`.
 ///
-/// No number of the given values of JSON is held as a float by `serde_json`. It answers the refusals of `load`; refused, the store holds what it held. All other
-/// rows stay as they were. Where `other` has `hash_algorithm`, the set may load no more.
+/// No number of the given values of JSON is held as a float by `serde_json`. It answers the refusals of `load`;
+/// refused, the store holds what it held. All other rows stay as they were. Where `other` has `hash_algorithm`,
+/// the set may load no more.
 pub fn insert_metadata<S: TileStore>(
     alloc: Global,
     store: &mut S,

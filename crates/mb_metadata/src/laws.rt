@@ -8,8 +8,9 @@ ghost use Rattle.mb_metadata.specs.Others.{has_field, others_said};
 ghost use Rattle.mb_metadata.specs.ReadBack.{AreBoundsRead, IsCenterRead, IsOtherRead, IsReadAt, document_after, said_after};
 ghost use Rattle.mb_metadata.specs.Zooms.{span, zooms_of};
 
-/// After `insert_metadata` of a document `get_metadata` reads each of its texts as it was put, whatever `other` has under the name of the field. An empty text is
-/// read as none. Without a text a field is read from the entry of its name in `other`, and where there is none, as before.
+/// After `insert_metadata` of a document `get_metadata` reads each of its texts as it was put, whatever `other` has
+/// under the name of the field. An empty text is read as none. Without a text a field is read from the entry of its
+/// name in `other`, and where there is none, as before.
 pub fn texts_are_read_back()
     ensures name { (id : List ℕ) (s : State) (t : TileJson)
         → IsReadAt s t (codes "name") t.name (document_after id s t).name }
@@ -25,7 +26,8 @@ pub fn texts_are_read_back()
         → IsReadAt s t (codes "template") t.template (document_after id s t).template }
 {}
 
-/// The same of bounds and center, which are read as the texts that stand for them: a text as it was put, whole numbers as these numbers parted by commas.
+/// The same of bounds and center, which are read as the texts that stand for them: a text as it was put, whole numbers
+/// as these numbers parted by commas.
 pub fn extents_are_read_as_texts()
     ensures bounds { (id : List ℕ) (s : State) (t : TileJson)
         → AreBoundsRead s t (document_after id s t).bounds }
@@ -45,8 +47,9 @@ pub fn zooms_are_read_back()
         ≡ maxzoom_within (span (zooms_of s.tiles)) (Some p) (Some q) }
 {}
 
-/// What `other` has under a name without a field is read there again: a text as it was put, another value as the text of its compact JSON. Other names are read as
-/// before. `type` and `agg_tiles_hash` fill their fields beside the document.
+/// What `other` has under a name without a field is read there again: a text as it was put, another value as
+/// the text of its compact JSON. Other names are read as before. `type` and `agg_tiles_hash` fill their
+/// fields beside the document.
 pub fn others_are_read_back()
     ensures other { (id : List ℕ) (s : State) (t : TileJson) (name : List ℕ)
         → has_field name ≡ false
@@ -58,7 +61,8 @@ pub fn others_are_read_back()
         → IsReadAt s t (codes "agg_tiles_hash") None (said_after id s t).agg_tiles_hash }
 {}
 
-/// The tables that `insert_metadata` leaves load again where `other` doesn't name `hash_algorithm`, as the set of which the other laws speak.
+/// The tables that `insert_metadata` leaves load again where `other` doesn't name `hash_algorithm`, as the set of
+/// which the other laws speak.
 pub fn inserted_tables_load()
     ensures { (t : TileJson) (old new : Tables) (s : State)
         → state_of old ≡ Ok s → EditsNames (insert_edits t) old new

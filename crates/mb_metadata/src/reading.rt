@@ -78,17 +78,20 @@ fn answer_of(alloc: Global, set: &Loaded, id: &str) -> MbtResult<Metadata>
     Ok(metadata_of(alloc, set, id)?)
 }
 
-/// What the set says of itself, `id` being the name of its file. Empty and null values say nothing. Each other one goes by its name:
+/// What the set says of itself, `id` being the name of its file. Empty and null values say nothing. Each
+/// other one goes by its name:
 ///
-/// - `name`, `version`, `description`, `attribution`, `legend`, `template`, `bounds` and `center` are texts of the document; `type` and `agg_tiles_hash` have
-///   fields beside it; `scheme` is passed over.
+/// - `name`, `version`, `description`, `attribution`, `legend`, `template`, `bounds` and `center` are texts of the
+///   document; `type` and `agg_tiles_hash` have fields beside it; `scheme` is passed over.
 /// - `minzoom` and `maxzoom` are numbers from 0 to 255, and None where the text is none.
-/// - `json` is a value of JSON, and None where the text isn't JSON, nested at most 127 deep, in which no number is held as a float. `vector_layers` is taken out
-///   of an object, and fills its field where it is a list of layers; an object that has no member then is None.
+/// - `json` is a value of JSON, and None where the text isn't JSON, nested at most 127 deep, in which no number is held
+///   as a float. `vector_layers` is taken out of an object, and fills its field where it is a list of layers; an object
+///   that has no member then is None.
 /// - All others are texts in `other`.
 ///
-/// Where the set has tiles, let a and b be their least and greatest zoom, p and q what is said for both, a and b where it isn't: the least zoom is then the least
-/// of a, q and p, and the greatest zoom the greatest of a, q and p, but at most b. Each layer has its zooms so by what it says itself.
+/// Where the set has tiles, let a and b be their least and greatest zoom, p and q what is said for both, a and b where
+/// it isn't: the least zoom is then the least of a, q and p, and the greatest zoom the greatest of a, q and p, but at
+/// most b. Each layer has its zooms so by what it says itself.
 ///
 /// It answers the refusals of `load`. The store holds what it held, whatever the answer.
 pub fn get_metadata<S: TileStore>(alloc: Global, store: &mut S, id: &str) -> MbtResult<Metadata>

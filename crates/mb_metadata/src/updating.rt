@@ -100,7 +100,8 @@ fn update_edits(
     zoom_edits(alloc, set, mode, zooms_in(set))
 }
 
-/// A loaded set whose metadata names the zooms of its tiles, as `update_metadata` stores them. Only want of memory refuses it.
+/// A loaded set whose metadata names the zooms of its tiles, as `update_metadata` stores them. Only
+/// want of memory refuses it.
 pub fn with_zooms(
     alloc: Global,
     set: Loaded,
@@ -112,12 +113,14 @@ pub fn with_zooms(
     Ok(after_edits(set, edits)?)
 }
 
-/// Stores the least and the greatest zoom of a set's tiles, null ones included, under `minzoom` and `maxzoom` of its metadata, in one commit. Under each of the two a
-/// zoom that isn't there, or a text that spells none, is replaced in every mode, and an equal one stays. Another one is replaced by `Reset`, by `GrowOnly`
-/// where the range grows, and by `Skip` never. Where the set has no tile, `Reset` removes both names, and the other modes change nothing. Where nothing changes
-/// nothing is committed.
+/// Stores the least and the greatest zoom of a set's tiles, null ones included, under `minzoom` and `maxzoom` of its
+/// metadata, in one commit. Under each of the two a zoom that isn't there, or a text that spells none, is replaced in
+/// every mode, and an equal one stays. Another one is replaced by `Reset`, by `GrowOnly` where the range grows, and by
+/// `Skip` never. Where the set has no tile, `Reset` removes both names, and the other modes change nothing. Where
+/// nothing changes nothing is committed.
 ///
-/// It answers the refusals of `load`; refused, the store holds what it held. After Ok the set loads again; all other rows stay as they were.
+/// It answers the refusals of `load`; refused, the store holds what it held. After Ok the set loads again; all
+/// other rows stay as they were.
 pub fn update_metadata<S: TileStore>(
     alloc: Global,
     store: &mut S,

@@ -88,10 +88,11 @@ pub fn get_metadata_value<S: TileStore>(
     value_in(alloc, &set, key)
 }
 
-/// The zoom, 0 to 255, that the text under a name of a set's metadata spells, as std reads a `u8`. None where the name isn't there, or null stands under it.
+/// The zoom, 0 to 255, that the text under a name of a set's metadata spells, as std reads a `u8`. None where the name
+/// isn't there, or null stands under it.
 ///
-/// It answers the refusals of `load`, and then `InvalidZoomValue` with the name and the text exactly where that text spells none. The store holds what it
-/// held, whatever the answer.
+/// It answers the refusals of `load`, and then `InvalidZoomValue` with the name and the text exactly where that text
+/// spells none. The store holds what it held, whatever the answer.
 pub fn get_metadata_zoom_value<S: TileStore>(
     alloc: Global,
     store: &mut S,
@@ -106,8 +107,9 @@ pub fn get_metadata_zoom_value<S: TileStore>(
     zoom_value_in(alloc, &set, zoom_name)
 }
 
-/// Puts a text under a name of a set's metadata, in the place of what it had there, in one commit. Under `hash_algorithm` too it changes nothing else: where the
-/// text is no name of an algorithm, or that of another one, the set may load no more.
+/// Puts a text under a name of a set's metadata, in the place of what it had there, in one commit. Under
+/// `hash_algorithm` too it changes nothing else: where the text is no name of an algorithm, or that of another one,
+/// the set may load no more.
 ///
 /// It answers the refusals of `load`; refused, the store holds what it held. All other rows stay as they were.
 pub fn set_metadata_value<S: TileStore>(
@@ -129,7 +131,8 @@ pub fn set_metadata_value<S: TileStore>(
     Ok(())
 }
 
-/// Removes a name of a set's metadata with what it has there, a text or null, in one commit. Where the name isn't there nothing is committed.
+/// Removes a name of a set's metadata with what it has there, a text or null, in one commit. Where the name isn't
+/// there nothing is committed.
 ///
 /// It answers the refusals of `load`; refused, the store holds what it held. All other rows stay as they were.
 pub fn delete_metadata_value<S: TileStore>(alloc: Global, store: &mut S, key: &str) -> MbtResult<()>

@@ -4,12 +4,14 @@ ghost use Rattle.mb_metadata.specs.Updating.{grows, is_set, update_zoom_words};
 
 use std::fmt;
 
-/// How an update of metadata treats zooms that are stored. Where none is stored, or a text that spells none, the computed one is stored in each mode.
+/// How an update of metadata treats zooms that are stored. Where none is stored, or a text that spells none, the
+/// computed one is stored in each mode.
 #[derive(Clone, Copy, Debug, PartialEq, Eq)]
 pub enum UpdateZoomType {
     /// The computed zoom is stored.
     Reset,
-    /// The computed zoom is stored where the range grows: where it is below the stored least, or above the stored greatest.
+    /// The computed zoom is stored where the range grows: where it is below the stored least, or
+    /// above the stored greatest.
     GrowOnly,
     /// A stored zoom stays.
     Skip,

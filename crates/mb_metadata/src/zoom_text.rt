@@ -4,7 +4,8 @@ ghost use Rattle.mb_metadata.specs.ZoomText.{zoom_at, zoom_of};
 
 use mb_loaded::Loaded;
 
-/// The number of a zoom, 0 to 255, as std reads it from a text: decimal digits, and a plus in front of them or none. None for any other text.
+/// The number of a zoom, 0 to 255, as std reads it from a text: decimal digits, and a plus in front of them or none.
+/// None for any other text.
 pub fn zoom_of(text: &str) -> Option<u8>
     ensures { result ≡ zoom_of text.now }
 {

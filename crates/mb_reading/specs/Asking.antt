@@ -42,7 +42,8 @@ is_input _ = false
 unfoldable pub ReadsTable : Bool → TableName → State → Read → Read → Type 0
 ReadsTable has table s t u = MatchBool has ((rows : List Row) × Shows (rows_text table) s rows × (u ≡ read_on table t rows) × Fits table t.0 rows) (u ≡ t)
 
--- a table is none of its layout: its statement isn't understood, or an answer has a value that no set has there, or a key twice
+-- a table is none of its layout: its statement isn't understood, or an answer has a value that no set
+-- has there, or a key twice
 unfoldable pub IsUnfit : Bool → TableName → State → Read → Type 0
 IsUnfit has table s t =
     (has ≡ true) × (may_lack table ≡ true)

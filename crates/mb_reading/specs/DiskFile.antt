@@ -1,4 +1,5 @@
--- A database file or its log as `sqlite` sees it: of a file that is only read nothing is said, so that what is shown of it holds nothing; of another disk what that disk says.
+-- A database file or its log as `sqlite` sees it: of a file that is only read nothing is said, so that what is shown of
+-- it holds nothing; of another disk what that disk says.
 use Rattle.std.specs.Prelude.{◌≡◌, ℕ, Bool, true, false, IsTrue, List, [], refl}
 use Rattle.mb_reading.specs.Common.{Tally}
 use Rattle.mb_reading.specs.ReadOnly.{counted}

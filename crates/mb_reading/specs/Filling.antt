@@ -63,7 +63,8 @@ noted table x answer = (taken table x.0 answer, counted table answer (step_of ta
 abbrev pub read_on : TableName → Read → List Row → Read
 read_on table x answers = fold (noted table) x answers
 
--- the tables of whose own layout a set may be none: `tiles` is read of any set, and a row of the metadata may be left out
+-- the tables of whose own layout a set may be none: `tiles` is read of any set, and a row of the
+-- metadata may be left out
 abbrev pub may_lack : TableName → Bool
 may_lack Tiles = false
 may_lack Metadata = false
@@ -124,7 +125,8 @@ abbrev pub has_contents : MbtType → Bool
 has_contents (Normalized view schema) = true
 has_contents _ = false
 
--- these are tables of a layout with the rows of some answers: of the metadata, if there is one, of the contents, if the layout has a table of them, and of the tiles
+-- these are tables of a layout with the rows of some answers: of the metadata, if there is one, of the contents, if the
+-- layout has a table of them, and of the tiles
 unfoldable pub IsRead : MbtType → Read → Type 0
 IsRead layout t =
     (has_names : Bool) × (names : Read) × (contents : Read) × IsFilled has_names Metadata (start layout) names

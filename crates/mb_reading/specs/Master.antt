@@ -55,6 +55,7 @@ abbrev pub behind_view : List Row → Option MbtType → MbtType
 behind_view master None = Flat
 behind_view master (Some layout) = cond (list_any (views layout) master) layout Flat
 
--- the layout in which a set is read first: a table `tiles` as itself, a view by what it has, and without either by the tables; None where there is no set
+-- the layout in which a set is read first: a table `tiles` as itself, a view by what it has, and without either by the
+-- tables; None where there is no set
 unfoldable pub first_layout : List Row → Option MbtType
 first_layout master = cond (is_own master Tiles) (Some Flat) (cond (is_there master Tiles) (Some (behind_view master (named_layout master))) (named_layout master))

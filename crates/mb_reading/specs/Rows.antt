@@ -18,7 +18,8 @@ abbrev pub pair_of : Option Cell → Option Cell → Option (List Cell)
 pair_of (Some first) (Some second) = Some (first ∷ second ∷ [])
 pair_of _ _ = None
 
--- the row that an answer on a table is read as, None where it has a value that no set has there. The table of a cache isn't read.
+-- the row that an answer on a table is read as, None where it has a value that no set has there. The
+-- table of a cache isn't read.
 abbrev pub row_in : TableName → Row → Option (List Cell)
 row_in Tiles r = option_map (placed_row r) (data_cell (column r 3))
 row_in TilesWithHash r = hashed_row r (data_cell (column r 3)) (digest_cell (column r 4))

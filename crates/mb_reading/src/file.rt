@@ -37,15 +37,19 @@ fn read_files(alloc: Global, files: FilesToRead, cache_pages: usize) -> Result<S
     read_set(alloc, &mut connection)
 }
 
-/// Reads the set of a file into a store in memory. The file is opened for reading alone, and nothing is written to it or beside it: the database is read where it lies, without a lock, and the log of
-/// SQLite beside it is copied into memory.
+/// Reads the set of a file into a store in memory. The file is opened for reading alone, and nothing is
+/// written to it or beside it: the database is read where it lies, without a lock, and the log of SQLite
+/// beside it is copied into memory.
 ///
-/// Links are followed first, as SQLite follows them, and the log and the rollback journal are those beside the file that the path leads to.
+/// Links are followed first, as SQLite follows them, and the log and the rollback journal are those beside the
+/// file that the path leads to.
 ///
-/// `Missing` where there is no such file; `NotRegular` where it isn't a regular one, which isn't opened; `Unnamed` where its links lead to no name of it; `Unread` where it can't be read; `NotADatabase`
-/// where it isn't empty and doesn't begin as a database of SQLite; `Beside` where a log or a rollback journal is there and can't be read; `Unfinished` where a rollback journal stands beside it before or
-/// after; `Changed` where the file or its log is another one after the reading than before; `Unopened` with the cause where it is no database that is understood; and the refusals of `read_set`. A file
-/// that changed is told as `Changed`, whatever else was met.
+/// `Missing` where there is no such file; `NotRegular` where it isn't a regular one, which isn't opened; `Unnamed`
+/// where its links lead to no name of it; `Unread` where it can't be read; `NotADatabase` where it isn't empty and
+/// doesn't begin as a database of SQLite; `Beside` where a log or a rollback journal is there and can't be read;
+/// `Unfinished` where a rollback journal stands beside it before or after; `Changed` where the file or its log is
+/// another one after the reading than before; `Unopened` with the cause where it is no database that is understood; and
+/// the refusals of `read_set`. A file that changed is told as `Changed`, whatever else was met.
 pub fn read_file(rt: &HostRuntime, path: &str) -> Result<SetRead, ReadError>
     ensures told { IfOk result (λ set. IsSet (read_of set)) }
     ensures unfailing { IfOk result (λ set. NeverFails set.store) }

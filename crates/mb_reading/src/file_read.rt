@@ -1,4 +1,5 @@
-// A file that is opened for reading alone. The database is read where it lies; the log beside it is copied into memory, since opening a database may write the log.
+// A file that is opened for reading alone. The database is read where it lies; the log beside it is copied into memory,
+// since opening a database may write the log.
 use crate::read_only::ReadOnly;
 use crate::stamps::{Paths, Stamp, Stamps, stamps_of, test_journal, test_still};
 use crate::{BesideFile, DiskFile, ReadError};
@@ -68,7 +69,8 @@ fn test_head(file: &File, stamp: Stamp) -> Result<(), ReadError> {
     }
 }
 
-// A file to read, whose digests are taken under a key, and how many pages are to be kept of it. A short one is copied into memory.
+// A file to read, whose digests are taken under a key, and how many pages are to be kept of it. A short
+// one is copied into memory.
 fn db_of(
     rt: &HostRuntime,
     path: &str,
@@ -143,12 +145,16 @@ pub struct FileRead {
 }
 
 impl FileRead {
-    /// Opens a file for reading alone: the file and its log, and how many of its pages are to be kept in memory. Its links are followed first, as SQLite follows them, and the log and the rollback journal
-    /// are those beside the file that the path leads to. Nothing is written to it or beside it, and no lock is taken; a short file, and the log, are copied into memory.
+    /// Opens a file for reading alone: the file and its log, and how many of its pages are to be kept in memory. Its
+    /// links are followed first, as SQLite follows them, and the log and the rollback journal are those beside the
+    /// file that the path leads to. Nothing is written to it or beside it, and no lock is taken; a short file, and the
+    /// log, are copied into memory.
     ///
-    /// `Missing` where there is no such file; `NotRegular` where it isn't a regular one, which isn't opened; `Unnamed` where its links lead to no name of it; `Unread` where it can't be read; `NotADatabase`
-    /// where it isn't empty and doesn't begin as a database of SQLite; `Beside` where a log or a rollback journal is there and can't be read; `Unfinished` where a rollback journal stands beside it;
-    /// `Changed` where the file that is opened is another one than the path led to.
+    /// `Missing` where there is no such file; `NotRegular` where it isn't a regular one, which isn't opened;
+    /// `Unnamed` where its links lead to no name of it; `Unread` where it can't be read; `NotADatabase` where it
+    /// isn't empty and doesn't begin as a database of SQLite; `Beside` where a log or a rollback journal is there and
+    /// can't be read; `Unfinished` where a rollback journal stands beside it; `Changed` where the file that is opened
+    /// is another one than the path led to.
     pub fn open(rt: &HostRuntime, path: &str) -> Result<(FileRead, FilesToRead, usize), ReadError> {
         let paths = Paths::new(rt, path)?;
         let before = stamps_of(rt, &paths)?;
@@ -156,7 +162,8 @@ impl FileRead {
         Ok((FileRead { paths, before }, files, pages))
     }
 
-    /// The test that neither the file nor its log changed since, and that no rollback journal stands beside it: `Changed`, `Unfinished`, or the refusal of what can't be read now.
+    /// The test that neither the file nor its log changed since, and that no rollback journal stands beside it:
+    /// `Changed`, `Unfinished`, or the refusal of what can't be read now.
     pub fn test_still(&self, rt: &HostRuntime) -> Result<(), ReadError> {
         test_still(rt, &self.paths, self.before)
     }

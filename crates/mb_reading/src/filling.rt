@@ -135,7 +135,8 @@ fn last_kind(answer: &sqlite::Row) -> ValueKind {
     }
 }
 
-// The test of what became of an answer. A name of the metadata that stands again, or isn't one, is passed over, and so is the same tile again.
+// The test of what became of an answer. A name of the metadata that stands again, or isn't one, is passed over, and
+// so is the same tile again.
 fn test_step(
     alloc: Global,
     store: &mut MemStore,

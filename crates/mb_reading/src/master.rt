@@ -44,7 +44,8 @@ fn names_own(table: TableName, answer: &sqlite::Row) -> bool
     is_text(answer, 0, "table") && names_it(table, answer)
 }
 
-/// Whether a table or a view of the name is there. Each answer is the kind of one, its name in lower case and the text that makes it.
+/// Whether a table or a view of the name is there. Each answer is the kind of one, its name in lower case
+/// and the text that makes it.
 pub fn is_there(master: &[sqlite::Row], table: TableName) -> bool
     ensures { result ≡ is_there master.now table }
 {
@@ -58,7 +59,8 @@ fn is_own(master: &[sqlite::Row], table: TableName) -> bool
     master.iter().any(|answer| names_own(table, answer))
 }
 
-// Adds the description of a table or view that is there. Its columns aren't asked for: the statement that reads it is refused where it lacks one.
+// Adds the description of a table or view that is there. Its columns aren't asked for: the statement that reads it is
+// refused where it lacks one.
 #[tactic(auto, unfolding(crate::specs::Master::described))]
 fn describe(
     alloc: Global,
@@ -157,8 +159,8 @@ fn behind_view(
     }
 }
 
-/// The layout in which a set is read first: a table `tiles` as itself, a view by what it has, and without either by the tables. Each answer is the kind of a table or view, its name in lower case and
-/// the text that makes it.
+/// The layout in which a set is read first: a table `tiles` as itself, a view by what it has, and without either by the
+/// tables. Each answer is the kind of a table or view, its name in lower case and the text that makes it.
 #[tactic(auto, unfolding(crate::specs::Master::first_layout))]
 pub fn first_layout(alloc: Global, master: &[sqlite::Row]) -> Result<Option<MbtType>, OutOfMemory>
     ensures { IfOk result (λ layout. layout ≡ first_layout master.now) }

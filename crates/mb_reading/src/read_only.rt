@@ -10,7 +10,8 @@ use std::fs::File;
 use std::io::{self, ErrorKind};
 use std::os::unix::fs::FileExt;
 
-/// A file that is read, with the key under which digests of its pages are taken, how many calls failed, and how many of them found other bytes than before.
+/// A file that is read, with the key under which digests of its pages are taken, how many calls failed, and how many of
+/// them found other bytes than before.
 #[derive(Drop)]
 pub struct ReadOnly {
     file: File,

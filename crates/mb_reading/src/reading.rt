@@ -31,7 +31,8 @@ fn content_table(layout: MbtType) -> TableName
     }
 }
 
-// The refusal of a statement on a table, unless it lacks a column and is another one than `tiles`, behind which a view may stand.
+// The refusal of a statement on a table, unless it lacks a column and is another one than `tiles`,
+// behind which a view may stand.
 fn test_lacking(table: TableName, cause: Error) -> Result<(), ReadError>
     ensures named { OnOk result (may_lack table ≡ true) }
     ensures input { OnOk result (is_input cause ≡ true) }
@@ -198,15 +199,16 @@ fn read_all<S: Alter>(alloc: Global, connection: &mut Connection<S>) -> Result<S
     Ok(store)
 }
 
-/// Reads a set of a database into a store in memory, by one statement for each table, whose rows go into the store one after another. A connection
-/// inside a transaction is a `Fault`. The store has the tables of the layout that the set is read in: that which `detect_type` finds by the
-/// names of its tables, and `Flat`, through the table or view `tiles`, for a set of no such layout, for a cache, and where one of its own tables
-/// lacks a column, has a key twice, or has a value that isn't of its column.
+/// Reads a set of a database into a store in memory, by one statement for each table, whose rows go into the store one
+/// after another. A connection inside a transaction is a `Fault`. The store has the tables of the layout that the set
+/// is read in: that which `detect_type` finds by the names of its tables, and `Flat`, through the table or view
+/// `tiles`, for a set of no such layout, for a cache, and where one of its own tables lacks a column, has a key twice,
+/// or has a value that isn't of its column.
 ///
 /// Rows of tiles outside the grid of zooms 0 to 30 are left out and counted, and so are rows of the metadata whose name
-/// or value is no text, or whose name stood before. `NotASet`
-/// where nothing has the name `tiles`; `OutsideGrid` where all rows are left out; `Cell` where `tile_data` of `tiles` is a number; `Twice`
-/// where two of its rows of one place differ; `Fault` with the table where the database refuses a statement.
+/// or value is no text, or whose name stood before. `NotASet` where nothing has the name `tiles`; `OutsideGrid` where
+/// all rows are left out; `Cell` where `tile_data` of `tiles` is a number; `Twice` where two of its rows of one place
+/// differ; `Fault` with the table where the database refuses a statement.
 pub fn read_set<S: Alter>(
     alloc: Global,
     connection: &mut Connection<S>,

@@ -152,7 +152,8 @@ fn name_row(alloc: Global, answer: Answer<'_>) -> Result<Option<Row>, OutOfMemor
     pair_of(alloc, name, value)
 }
 
-/// The row of a table that the values of its set's columns are read as; of the metadata the third one is the text that SQLite spells the second in. None where a value is one that no set has there.
+/// The row of a table that the values of its set's columns are read as; of the metadata the third one is the text that
+/// SQLite spells the second in. None where a value is one that no set has there.
 pub fn row_of(
     alloc: Global,
     table: TableName,

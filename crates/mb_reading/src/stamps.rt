@@ -6,7 +6,8 @@ use std::io::{ErrorKind, Read};
 use std::os::unix::fs::MetadataExt;
 use std::{fs, io};
 
-// The paths of a file, and of the log and the rollback journal beside it. SQLite follows links first and makes these names of the path that it comes to.
+// The paths of a file, and of the log and the rollback journal beside it. SQLite follows links first and makes these
+// names of the path that it comes to.
 #[derive(Drop)]
 pub(crate) struct Paths {
     pub(crate) file: String,
@@ -101,7 +102,8 @@ fn stamp_beside(
 }
 
 impl Paths {
-    // The paths of the file that a path leads to. What isn't a regular file isn't opened, and the path that the links come to has to lead to the same file.
+    // The paths of the file that a path leads to. What isn't a regular file isn't opened, and the path that the links
+    // come to has to lead to the same file.
     pub(crate) fn new(rt: &HostRuntime, path: &str) -> Result<Paths, ReadError> {
         let given = stamp_of(rt, path)?;
         let name = resolved(rt, path)?;
@@ -142,7 +144,8 @@ fn first_byte(rt: &HostRuntime, path: &str) -> io::Result<Option<u8>> {
     }
 }
 
-// The test that no rollback journal stands beside a file: one that is empty or begins with a zero has nothing to play back.
+// The test that no rollback journal stands beside a file: one that is empty or begins with a zero
+// has nothing to play back.
 pub(crate) fn test_journal(rt: &HostRuntime, paths: &Paths) -> Result<(), ReadError> {
     let file = BesideFile::Journal;
     if stamp_beside(rt, paths.journal.as_str(), file)?.is_none() {

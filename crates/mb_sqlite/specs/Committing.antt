@@ -15,7 +15,8 @@ CommitsNothing g old new = Survives (state g old) (state g new) (λ _. ⊥)
 abbrev pub KeepsCommitted : {S : Type 0} → Ghosts S → Held S → Held S → Type 0
 KeepsCommitted g old new = HasCleanDisk (state g new) → KeepsCommit (state g old) (state g new)
 
--- there is one state of the tables that is committed, which a transaction ended in: a crash leaves it, or what it could leave before
+-- there is one state of the tables that is committed, which a transaction ended in: a crash leaves it, or
+-- what it could leave before
 pub record CommitsOnce {S : Type 0} (g : Ghosts S) (EndsIn : Held S → Type 0) (old new : Held S) : Type 0 where
   pub made : Trees
   pub survives : Survives (state g old) (state g new) (λ db. (db ≡ made) × ((end : Held S) × EndsIn end × (db ≡ (state g end).now.trees)))
@@ -35,8 +36,9 @@ pub record OnceReady {S : Type 0} (g : Ghosts S) (layout : MbtType) (is_made : B
 abbrev pub Idles : {S : Type 0} → Ghosts S → Held S → Held S → Type 0
 Idles g new ready = (new ≡ ready) ⊎ Rests g ready new
 
--- What a call leaves that commits no changes, by whether the tables were held for made before it, and whether they are after it. A connection inside a transaction stays as it is. Else the
--- tables are made, where they weren't yet, and it shows what was committed last; where they couldn't be made, it shows what was committed before.
+-- What a call leaves that commits no changes, by whether the tables were held for made before it, and whether they are
+-- after it. A connection inside a transaction stays as it is. Else the tables are made, where they weren't yet, and it
+-- shows what was committed last; where they couldn't be made, it shows what was committed before.
 unfoldable pub Leaves : {S : Type 0} → Ghosts S → MbtType → Bool → Bool → Held S → Held S → Type 0
 Leaves g layout was is old new = MatchBool old.in_transaction ((new ≡ old) × (is ≡ was)) (MatchBool is (OnceReady g layout was old (Idles g new)) ((was ≡ false) × Rests g old new))
 
@@ -57,7 +59,8 @@ pub record RefusesChanges {S : Type 0} (g : Ghosts S) (layout : MbtType) (change
   pub kept : KeepsCommitted g ready new
   pub rests : Rests g ready new
 
--- The tables couldn't be made, or the connection was inside a transaction; or the changes couldn't be made, and no cursor is kept.
+-- The tables couldn't be made, or the connection was inside a transaction; or the changes couldn't be
+-- made, and no cursor is kept.
 abbrev pub RefusesCommit : {S : Type 0} → Ghosts S → MbtType → List Change → Bool → Bool → Held S → Held S → Option Cursor → Option Cursor → Type 0
 RefusesCommit g layout changes was is old new cursor next =
     (CommitsOnce g (AreMade g layout (begun old)) old new × Leaves g layout was is old new × (next ≡ cursor)) ⊎ (OnceReady g layout was old (RefusesChanges g layout changes new) × (is ≡ true) × (next ≡ None))

@@ -4,7 +4,8 @@ use Rattle.mb_sqlite.specs.Common.{Cell, Ghosts, Held, table_eq, TableName}
 use Rattle.mb_sqlite.specs.Reading.{ArePaged}
 use Rattle.mb_sqlite.specs.declared.cursor.Cursor.{Cursor}
 
--- the `rowid` behind which the rows of a table from a number on are read, if there is one, and how many are passed over first
+-- the `rowid` behind which the rows of a table from a number on are read, if there is one, and how
+-- many are passed over first
 abbrev pub cursor_start : Option Cursor → TableName → ℕ → Option ℤ × ℕ
 cursor_start None table from = (None, from)
 cursor_start (Some c) table from = cond (table_eq c.table table && not (nat_lt from c.number)) (Some c.rowid, from - c.number) (None, from)

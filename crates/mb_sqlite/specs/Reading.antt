@@ -15,7 +15,8 @@ abbrev pub is_above : Option ℤ → ℤ → Bool
 is_above None n = true
 is_above (Some m) n = int_lt m n
 
--- the `rowid`s of answers on a table rise, from above one, if one is given, to the last; so no row is in two pages in a row
+-- the `rowid`s of answers on a table rise, from above one, if one is given, to the last; so no row
+-- is in two pages in a row
 abbrev pub RisesTo : TableName → Option ℤ → List Row → Option ℤ → Type 0
 RisesTo table from [] last = last ≡ from
 RisesTo table from (answer ∷ answers) last = (n : ℤ) × (column answer (width table) ≡ sql.Int n) × (is_above from n ≡ true) × RisesTo table (Some n) answers last
@@ -49,11 +50,13 @@ module _ {S : Type 0} (g : Ghosts S) (table : TableName) (old new : Held S) wher
   AreShown from passed most found = MatchOption from (Shown (first_page_text table) (sql.Int (sql_number most) ∷ sql.Int (sql_number passed) ∷ []) (state g old) (state g new) found)
       (λ n. Shown (page_text table) (sql.Int (sql_number most) ∷ sql.Int (sql_number passed) ∷ sql.Int n ∷ []) (state g old) (state g new) found)
 
-  -- it shows these answers, of which the first ones, at most so many, are read; and the last one's `rowid`. The answer after them, if there is one, is behind it.
+  -- it shows these answers, of which the first ones, at most so many, are read; and the last one's `rowid`. The answer
+  -- after them, if there is one, is behind it.
   abbrev pub AreRead : Option ℤ × ℕ → ℕ → List Row → Option ℤ → Type 0
   AreRead start limit found last = AreShown start.0 start.1 (limit + 1) found × RisesTo table start.0 (take limit found) last × (beyond : Option ℤ) × RisesTo table last (take 1 (drop limit found)) beyond
 
-  -- it shows these rows of the table: behind a `rowid`, if one is given, after so many, at most so many; and the last one's `rowid`
+  -- it shows these rows of the table: behind a `rowid`, if one is given, after so many, at most so many;
+  -- and the last one's `rowid`
   abbrev pub ArePaged : Option ℤ × ℕ → ℕ → List (List Cell) → Option ℤ → Type 0
   ArePaged start limit rows last = (found : List Row) × AllZip (IsRowOf table) (take limit found) rows × AreRead start limit found last
 

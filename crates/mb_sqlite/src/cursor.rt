@@ -12,7 +12,8 @@ pub(crate) struct Cursor {
     pub(crate) rowid: i64,
 }
 
-// The `rowid` behind which the rows of a table from a number on are read, if there is one, and how many are passed over first.
+// The `rowid` behind which the rows of a table from a number on are read, if there is one, and how
+// many are passed over first.
 pub(crate) fn start_of(cursor: Option<Cursor>, table: TableName, from: u64) -> (Option<i64>, u64)
     ensures { result ≡ cursor_start cursor table from }
 {
@@ -24,7 +25,8 @@ pub(crate) fn start_of(cursor: Option<Cursor>, table: TableName, from: u64) -> (
     }
 }
 
-// The cursor behind so many rows from a number on, of which the last one has this `rowid`. Where there is none, the earlier cursor stays.
+// The cursor behind so many rows from a number on, of which the last one has this `rowid`. Where there is none,
+// the earlier cursor stays.
 pub(crate) fn moved(
     cursor: Option<Cursor>,
     table: TableName,

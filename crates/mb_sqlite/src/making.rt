@@ -82,7 +82,8 @@ fn make_missing<S: Alter>(
     Ok(made)
 }
 
-// Makes the tables and views of a layout that aren't there, in one transaction. Where none is missing, nothing is written.
+// Makes the tables and views of a layout that aren't there, in one transaction. Where none is
+// missing, nothing is written.
 #[tactic(auto, using(crate::proofs::CommitLemmas::nothing_yet, crate::proofs::CommitLemmas::nothing_once, crate::proofs::CommitLemmas::undone_nothing))]
 pub(crate) fn make<S: Alter>(connection: &mut Connection<S>, layout: MbtType) -> Result<(), Failure>
     ensures once { CommitsOnce S.Store (AreMade S.Store layout (begun connection.old))

@@ -72,7 +72,8 @@ fn is_above(from: Option<i64>, number: i64) -> bool
     }
 }
 
-// The `rowid` of an answer on a table. One that isn't above the row's before it is a fault: a column of that name hides the number.
+// The `rowid` of an answer on a table. One that isn't above the row's before it is a fault: a column of
+// that name hides the number.
 pub(crate) fn rowid_after(
     from: Option<i64>,
     table: TableName,
@@ -88,8 +89,8 @@ pub(crate) fn rowid_after(
     Ok(number)
 }
 
-// The first rows of an answer, at most so many, and the `rowid` of the last one, that before them where there is none. Each is above the
-// one before it, and so is the one after them.
+// The first rows of an answer, at most so many, and the `rowid` of the last one, that before them where there is none.
+// Each is above the one before it, and so is the one after them.
 fn rows_of(
     alloc: Global,
     table: TableName,
@@ -118,7 +119,8 @@ fn rows_of(
     Ok((rows, last))
 }
 
-// The rows of a table behind a `rowid`, if one is given, but for the first ones, at most so many; and the last one's `rowid`.
+// The rows of a table behind a `rowid`, if one is given, but for the first ones, at most so many;
+// and the last one's `rowid`.
 pub(crate) fn page<S: Alter>(
     alloc: Global,
     transaction: &mut Transaction<'_, S>,

@@ -17,8 +17,8 @@ use sqlite::{Alter, Transaction};
 // The rows that are read at once.
 const PIECE: u64 = 1000;
 
-// A size and that of the first rows of an answer, at most so many, and the `rowid` of the last one, that before them where there is none. The
-// size is at most the greatest count.
+// A size and that of the first rows of an answer, at most so many, and the `rowid` of the last one, that before them
+// where there is none. The size is at most the greatest count.
 fn with_rows(
     size: u64,
     table: TableName,
@@ -48,7 +48,8 @@ fn with_rows(
     Ok((sum, last))
 }
 
-// A size and that of the next rows of a table, behind a `rowid`, if one is given, the `rowid` of the last one, and whether there are none.
+// A size and that of the next rows of a table, behind a `rowid`, if one is given, the `rowid` of the last one,
+// and whether there are none.
 fn with_piece<S: Alter>(
     size: u64,
     transaction: &mut Transaction<'_, S>,

@@ -97,7 +97,8 @@ pub(crate) fn count_of(table: TableName) -> &'static str
     }
 }
 
-// Rows in the order in which they are stored, each with its number in the table: at most the first value, after as many as the second.
+// Rows in the order in which they are stored, each with its number in the table: at most the first value,
+// after as many as the second.
 pub(crate) fn first_page_of(table: TableName) -> &'static str
     ensures { result.now ≡ first_page_text table }
 {
@@ -121,7 +122,8 @@ pub(crate) fn first_page_of(table: TableName) -> &'static str
     }
 }
 
-// Rows in the order in which they are stored, each with its number in the table: those with a number above the third value, at most the first, after as many as the second.
+// Rows in the order in which they are stored, each with its number in the table: those with a number above the third
+// value, at most the first, after as many as the second.
 pub(crate) fn page_of(table: TableName) -> &'static str
     ensures { result.now ≡ page_text table }
 {

@@ -19,8 +19,9 @@ use std::alloc::Global;
 
 /// A tile set in a database, as an MBTiles file (MBTiles 1.3). It tells no tables.
 ///
-/// Its tables are those of a layout and its metadata. The first call makes those that aren't there. Each call but `commit` only reads, in a
-/// transaction that is rolled back; `commit` is one transaction. A connection that a call finds inside a transaction is a fault of that call.
+/// Its tables are those of a layout and its metadata. The first call makes those that aren't there. Each call but
+/// `commit` only reads, in a transaction that is rolled back; `commit` is one transaction. A connection that a call
+/// finds inside a transaction is a fault of that call.
 ///
 /// Numbers, texts, blobs and NULL are cells as they are. A real, and a text that isn't UTF-8, is `Cell::Other`.
 pub struct SqliteStore<S: Alter> {
@@ -46,8 +47,8 @@ impl<S: Alter + Drop> Drop for SqliteStore<S> {
 }
 
 impl<S: Alter> SqliteStore<S> {
-    /// The store over a connection, with the tables of the layout and its metadata. It runs no statement and takes no memory: the first call
-    /// of the store makes the tables that aren't there.
+    /// The store over a connection, with the tables of the layout and its metadata. It runs no statement and takes no
+    /// memory: the first call of the store makes the tables that aren't there.
     pub fn adopt(alloc: Global, connection: Connection<S>, layout: MbtType) -> SqliteStore<S>
         ensures connection { result.connection ≡ connection }
         ensures layout { result.layout ≡ layout }
@@ -161,7 +162,8 @@ impl<S: Alter> TileStore for SqliteStore<S> {
         counted(&mut self.faults, answer)
     }
 
-    /// The rows in the order of their `rowid`. Pages in order take time in their own rows; another page passes over all rows before it.
+    /// The rows in the order of their `rowid`. Pages in order take time in their own rows; another page passes
+    /// over all rows before it.
     fn rows(
         &mut self,
         alloc: Global,
@@ -227,7 +229,8 @@ impl<S: Alter> TileStore for SqliteStore<S> {
         counted(&mut self.faults, answer)
     }
 
-    /// Makes the tables of the layout that aren't there, whichever of them are asked for. A name that the layout doesn't have is a fault.
+    /// Makes the tables of the layout that aren't there, whichever of them are asked for. A name that the layout
+    /// doesn't have is a fault.
     fn create(&mut self, alloc: Global, tables: &[TableDesc]) -> Result<(), StoreError>
         ensures named { OnOk result (are_named (set_tables self.old.layout) tables.now ≡ true) }
         ensures once { MakesOnce S.Store self.old self.new }
@@ -248,7 +251,8 @@ impl<S: Alter> TileStore for SqliteStore<S> {
         Ok(())
     }
 
-    /// Makes all changes in one transaction. A change of a table that the layout doesn't have, and a row with a `Cell::Other`, is a fault.
+    /// Makes all changes in one transaction. A change of a table that the layout doesn't have, and a row with a
+    /// `Cell::Other`, is a fault.
     fn commit(&mut self, alloc: Global, changes: &Changes) -> Result<(), StoreError>
         ensures once { ChangesOnce S.Store self.old self.new changes.now }
         ensures changed { OnOk result (CommitsChanges S.Store self.old self.new changes.now) }
@@ -271,7 +275,8 @@ impl<S: Alter> TileStore for SqliteStore<S> {
         }
     }
 
-    /// The bytes of all texts and blobs, and 8 for each other cell, over all rows of the layout's tables; at most the greatest `u64`.
+    /// The bytes of all texts and blobs, and 8 for each other cell, over all rows of the layout's tables; at
+    /// most the greatest `u64`.
     fn live_size(&mut self) -> Result<u64, StoreError>
         ensures survives { OnlyMakes S.Store self.old self.new }
         ensures once { MakesOnce S.Store self.old self.new }

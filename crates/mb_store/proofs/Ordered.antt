@@ -16,7 +16,8 @@ module _ {X : Type 0} (xs : List X) (i : ℕ) (x : X) (within : i ≤ length xs)
       let next : k ≡ (k - 1) + 1 = omega arith in
       ap (λ n. get_or (insert xs i x) n d) next ∙ get_or-insert_above xs i x d (k - 1) (omega arith) within
 
-  -- what holds of all pairs still does with an element put in, where it holds of the element and those before and after it
+  -- what holds of all pairs still does with an element put in, where it holds of the element and
+  -- those before and after it
   pub AllPairs-insert : (R : X → X → Type 0) → AllPairs R xs → ((k : ℕ) (d : X) → k < i → R (get_or xs k d) x) → ((k : ℕ) (d : X) → i ≤ k → k < length xs → R x (get_or xs k d)) → AllPairs R (insert xs i x)
   AllPairs-insert R pairs before after j k d less far =
       elim (cases_lt k i) [

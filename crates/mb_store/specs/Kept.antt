@@ -2,7 +2,8 @@
 use Rattle.std.specs.Prelude.{◌≡◌, ℕ, ◌≤◌, Bool, IsErrOf, Result}
 use Rattle.base_values.specs.Counts.{Rose}
 
--- of any call: whether it tells stays; its count of faults doesn't fall, and stands where its calls don't fail, which stays so
+-- of any call: whether it tells stays; its count of faults doesn't fall, and stands where its calls
+-- don't fail, which stays so
 pub record Keeps {S : Type 0} (shows : S → Bool) (failed : S → ℕ) (unfailing : S → Type 0) (before now : S) : Type 0 where
   pub tells : shows now ≡ shows before
   pub faults : failed before ≤ failed now

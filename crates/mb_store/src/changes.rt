@@ -13,8 +13,8 @@ use std::alloc::Global;
 use std::collections::BTreeMap;
 use std::marker::Model;
 
-/// The changes that one commit makes, in order of arrival: for each table and key at most one. A later change of a key takes the
-/// place of the earlier.
+/// The changes that one commit makes, in order of arrival: for each table and key at most one. A later change of a key
+/// takes the place of the earlier.
 #[derive(Debug, Drop)]
 pub struct Changes {
     changes: Vec<Change>,

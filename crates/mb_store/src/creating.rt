@@ -22,7 +22,8 @@ pub fn create_flat_tables<S: TileStore>(alloc: Global, store: &mut S) -> MbtResu
     Ok(())
 }
 
-/// Creates the table `tiles_with_hash` and the view `tiles`, each where its name isn't described yet. Refused, the store stands as it was.
+/// Creates the table `tiles_with_hash` and the view `tiles`, each where its name isn't described yet. Refused,
+/// the store stands as it was.
 pub fn create_flat_with_hash_tables<S: TileStore>(alloc: Global, store: &mut S) -> MbtResult<()>
     ensures ok { S.tells store.old ≡ true
         → OnOk result
@@ -37,8 +38,8 @@ pub fn create_flat_with_hash_tables<S: TileStore>(alloc: Global, store: &mut S) 
     Ok(())
 }
 
-/// Creates the tables `map` and `images` and the view `tiles`, each where its name isn't described yet. Refused, the store stands as it
-/// was.
+/// Creates the tables `map` and `images` and the view `tiles`, each where its name isn't described yet. Refused,
+/// the store stands as it was.
 pub fn create_normalized_tables<S: TileStore>(alloc: Global, store: &mut S) -> MbtResult<()>
     ensures ok { S.tells store.old ≡ true
         → OnOk result
@@ -58,7 +59,8 @@ pub fn create_normalized_tables<S: TileStore>(alloc: Global, store: &mut S) -> M
     Ok(())
 }
 
-/// Creates the table `tile_cache` and the view `tiles`, each where its name isn't described yet. Refused, the store stands as it was.
+/// Creates the table `tile_cache` and the view `tiles`, each where its name isn't described yet. Refused,
+/// the store stands as it was.
 pub fn create_cache_tables<S: TileStore>(alloc: Global, store: &mut S) -> MbtResult<()>
     ensures ok { S.tells store.old ≡ true
         → OnOk result
@@ -132,8 +134,8 @@ fn started_as(layout: MbtType) -> MbtType
     }
 }
 
-/// Creates the table `metadata` and the tables and views of a layout, each where its name isn't described yet. Both normalised schemas
-/// get `map` and `images`. Refused, the store stands as it was.
+/// Creates the table `metadata` and the tables and views of a layout, each where its name isn't described yet. Both
+/// normalised schemas get `map` and `images`. Refused, the store stands as it was.
 pub fn init_mbtiles_schema<S: TileStore>(
     alloc: Global,
     store: &mut S,

@@ -1,4 +1,5 @@
-// Rows that are pushed into one table, gathered in a list beside the table's ordered set. The list is sorted once, when the rows are taken.
+// Rows that are pushed into one table, gathered in a list beside the table's ordered set. The list is sorted once,
+// when the rows are taken.
 ghost use Rattle.std.specs.Prelude.{◌≡◌, ◌<◌, ◌++◌, ◌↔◌, [], ◌∷◌, false, true, length, vec_capacity, vec_len, IfErr, OnErr, OnOk};
 ghost use Rattle.mb_store.specs.Common.{width};
 ghost use Rattle.mb_store.specs.Errors.{IsRowError, RefusesTwice};

@@ -23,7 +23,8 @@ pub(crate) fn same_table(table: TableName, other: TableName) -> bool
     table.number() == other.number()
 }
 
-// Whether a row of a table can be gathered: the list is open for this table and its hash set has room where these numbers begin, or nothing is gathered and the table has no rows, so that it is opened.
+// Whether a row of a table can be gathered: the list is open for this table and its hash set has room where these
+// numbers begin, or nothing is gathered and the table has no rows, so that it is opened.
 fn opens(
     tables: &MemTables,
     gathered: &mut Gathered,
@@ -82,7 +83,8 @@ fn is_among(row: &StoredRow, list: &[StoredRow]) -> bool
     list.iter().any(|other| row.compare_keys(other).is_eq())
 }
 
-// Whether a table that is keyed or not has a row of this one's key, in its ordered set or among the gathered rows, which are its own.
+// Whether a table that is keyed or not has a row of this one's key, in its ordered set or among the gathered
+// rows, which are its own.
 fn stands(
     tables: &MemTables,
     gathered: &Gathered,
@@ -217,7 +219,8 @@ fn push_ordered(
     }
 }
 
-// Gathers a row, or adds it at its place in the ordered set of its table. It is refused where the table is keyed and has its key. Refused, all rows stay.
+// Gathers a row, or adds it at its place in the ordered set of its table. It is refused where the table is keyed and
+// has its key. Refused, all rows stay.
 pub(crate) fn push(
     tables: &mut MemTables,
     gathered: &mut Gathered,

@@ -19,8 +19,9 @@ use crate::{
 use base_values::{FailingCalls, OutOfMemory};
 use std::alloc::Global;
 
-/// A store of tables in memory. The rows of a table stand in the order of their keys, rows of equal keys in order of arrival. A row is found, and goes to its place, by
-/// a number of comparisons that grows as the logarithm of the number of rows; so does each change of a commit. Rows of places that are pushed into an empty table are sorted once.
+/// A store of tables in memory. The rows of a table stand in the order of their keys, rows of equal keys in order of
+/// arrival. A row is found, and goes to its place, by a number of comparisons that grows as the logarithm of the number
+/// of rows; so does each change of a commit. Rows of places that are pushed into an empty table are sorted once.
 #[derive(Debug, Drop)]
 pub struct MemStore {
     descriptions: Vec<TableDesc>,
@@ -74,8 +75,9 @@ impl MemStore {
         }
     }
 
-    /// Adds a row to a table, before the first row of a greater key. `DuplicateRow` comes exactly where a unique index of exactly the
-    /// table's key columns is described, no cell of the row's key is null, and the table has a row of this key. Refused, the store stands as it was.
+    /// Adds a row to a table, before the first row of a greater key. `DuplicateRow` comes exactly where a unique index
+    /// of exactly the table's key columns is described, no cell of the row's key is null, and the table has a row of
+    /// this key. Refused, the store stands as it was.
     pub fn push_row(&mut self, table: TableName, row: Row) -> MbtResult<()>
         requires described { is_table (told_of self.old).descriptions table ≡ true }
         requires wide { length row ≡ width table }
@@ -109,8 +111,8 @@ impl MemStore {
         self.descriptions.as_slice()
     }
 
-    /// Takes the rows of a table, in the order of their keys: their texts and bytes are moved. The table has no rows then, also where memory is wanting for the list of the rows.
-    /// It is none of the calls that can fail.
+    /// Takes the rows of a table, in the order of their keys: their texts and bytes are moved. The table has no rows
+    /// then, also where memory is wanting for the list of the rows. It is none of the calls that can fail.
     pub fn take_rows(&mut self, alloc: Global, table: TableName) -> Result<Vec<Row>, OutOfMemory>
         ensures rows { IfOk result (λ rows. rows.items ≡ (told_of self.old).rows table) }
         ensures widths { IfOk result (λ rows. All (λ row. length row ≡ width table) rows.items) }
@@ -129,7 +131,8 @@ impl MemStore {
         taking::in_order(&self.tables, &self.gathered, table);
     }
 
-    /// From here on the calls of a store with these numbers fail, counted from 1 over all calls that this store has been asked.
+    /// From here on the calls of a store with these numbers fail, counted from 1 over all calls that
+    /// this store has been asked.
     pub fn fail_at(&mut self, calls: Vec<u64>)
         ensures told { told_of self.new ≡ told_of self.old }
         ensures faults { faults_of self.new ≡ faults_of self.old }

@@ -1,4 +1,5 @@
-// How full the groups of a hash set are. The kit's hash has a fixed seed, and its set looks through one group of entries after another; so numbers could be picked of which each is looked for behind all others.
+// How full the groups of a hash set are. The kit's hash has a fixed seed, and its set looks through one group of
+// entries after another; so numbers could be picked of which each is looked for behind all others.
 use std::alloc::{AllocError, Global};
 use std::collections::HashSet;
 use std::hash::BuildHasher;
@@ -8,7 +9,8 @@ const GROUP_LOAD: usize = 9;
 
 const GROUP_ROOM: u8 = 12;
 
-// The groups that are looked through for one place at most. Among a million numbers that weren't picked one needs some 25.
+// The groups that are looked through for one place at most. Among a million numbers that weren't
+// picked one needs some 25.
 const MOST_GROUPS: usize = 64;
 
 // How many numbers each group of a set of this capacity holds, as the set itself puts them there.

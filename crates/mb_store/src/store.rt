@@ -67,7 +67,8 @@ impl From<StoreError> for MbtError {
 
 /// A store of tables, as a database or tables in memory.
 ///
-/// A store may tell contracts what it holds. Whether it tells never changes. It counts its faults, and the count never falls.
+/// A store may tell contracts what it holds. Whether it tells never changes. It counts its faults,
+/// and the count never falls.
 pub trait TileStore {
     /// Whether the store tells what it holds.
     ghost tells: { Self → Bool };
@@ -95,7 +96,8 @@ pub trait TileStore {
         ensures kept { ReadsOnly told tells faults steady self.old self.new }
         ensures fault { FaultsCounted faults self.old self.new result StoreError.Fault };
 
-    /// The rows of a table from a place on, as many as there are, up to a limit. An undescribed table and a view have none.
+    /// The rows of a table from a place on, as many as there are, up to a limit. An undescribed
+    /// table and a view have none.
     fn rows(
         &mut self,
         alloc: Global,
@@ -131,8 +133,8 @@ pub trait TileStore {
         ensures kept { Keeps tells faults steady self.old self.new }
         ensures fault { FaultsCounted faults self.old self.new result StoreError.Fault };
 
-    /// Makes all changes at once: the rows of each key are removed, and the row that is put takes their place. The changed tables are
-    /// described as tables, not views. Refused, the store stands as it was.
+    /// Makes all changes at once: the rows of each key are removed, and the row that is put takes their place. The
+    /// changed tables are described as tables, not views. Refused, the store stands as it was.
     fn commit(&mut self, alloc: Global, changes: &Changes) -> Result<(), StoreError>
         requires { tells self.old ≡ true → AreOfTables (told self.old).descriptions changes.now }
         ensures ok { tells self.old ≡ true
@@ -148,6 +150,7 @@ pub trait TileStore {
         ensures kept { ReadsOnly told tells faults steady self.old self.new }
         ensures fault { FaultsCounted faults self.old self.new result StoreError.Fault };
 
-    /// What is told has distinct names, rows of the tables' widths that meet the unique indexes of the keys, and none in a view.
+    /// What is told has distinct names, rows of the tables' widths that meet the unique indexes of the
+    /// keys, and none in a view.
     ghost sound: { (s : Self) → tells s ≡ true → IsSound (told s) };
 }

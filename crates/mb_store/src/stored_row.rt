@@ -17,9 +17,10 @@ pub(crate) enum StoredCells {
     All(Row),
 }
 
-// A row and the number of its arrival. Stored rows are ordered by the cells of their keys, and those of equal keys by their arrival. Where the
-// key is three small numbers, as that of a place, they lie in the stored row itself, so that two such rows are compared without a look at their cells. So does
-// the only cell behind them, as that of a tile's contents: such a row takes no memory of its own but that of this cell.
+// A row and the number of its arrival. Stored rows are ordered by the cells of their keys, and those of equal keys by
+// their arrival. Where the key is three small numbers, as that of a place, they lie in the stored row itself, so that
+// two such rows are compared without a look at their cells. So does the only cell behind them, as that of a tile's
+// contents: such a row takes no memory of its own but that of this cell.
 #[derive(Debug, Drop)]
 pub(crate) struct StoredRow {
     numbers: (u32, u32, u32),

@@ -152,7 +152,8 @@ pub(crate) fn add(table: TableName, row: StoredRow, rows: &mut TableRows) -> Res
     Ok(())
 }
 
-// Adds a row to rows that all have the number 0, as it has, or refuses it where one has its key: its place and its equal are found by one search.
+// Adds a row to rows that all have the number 0, as it has, or refuses it where one has its key: its place and its
+// equal are found by one search.
 fn add_first(table: TableName, row: StoredRow, rows: &mut TableRows) -> MbtResult<()>
     requires wide { length row.0 ≡ width table }
     requires first { row.1 ≡ 0 }
@@ -242,7 +243,8 @@ fn put(table: TableName, row: StoredRow, rows: &mut TableRows) -> Result<(), Sto
     }
 }
 
-// Puts the rows of a list at their places, the last first. Where memory is wanting those that are left stay in the list.
+// Puts the rows of a list at their places, the last first. Where memory is wanting those that
+// are left stay in the list.
 pub(crate) fn put_all(
     table: TableName,
     list: &mut Vec<StoredRow>,

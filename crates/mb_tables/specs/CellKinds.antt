@@ -29,7 +29,8 @@ is_id (Normalized view Hash) id = is_text id
 is_id (Normalized view DedupId) id = is_number id
 is_id _ id = true
 
--- whether the cells of a tile row beside its place and its contents are of their kinds: a digest, an id, or fetched, expires and etag
+-- whether the cells of a tile row beside its place and its contents are of their kinds: a digest, an id, or
+-- fetched, expires and etag
 abbrev pub has_tile_kinds : MbtType → List Cell → Bool
 has_tile_kinds Flat row = true
 has_tile_kinds FlatWithHash row = is_text (cell_at 4 row)

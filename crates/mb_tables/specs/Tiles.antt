@@ -53,7 +53,8 @@ contents_of (Blob bytes) = Some (Some bytes)
 contents_of Null = Some None
 contents_of _ = None
 
--- the tile of a row that begins with a place, where its contents are this cell. None where the place or the contents are none
+-- the tile of a row that begins with a place, where its contents are this cell. None where the place
+-- or the contents are none
 abbrev pub tile_of : List Cell → Cell → Option (Place × Option (List ℕ))
 tile_of row cell = both (place_of row) (contents_of cell)
   where

@@ -102,9 +102,9 @@ fn layout_of(tables: &[TableDesc]) -> Option<MbtType>
     }
 }
 
-/// The layout of a tile set with these tables: the first whose tables are described, with their columns by name and type. Refused as
-/// `InvalidDataFormat` where there is none, and as `NoUniquenessConstraint` where no unique index of exactly the columns of a place is
-/// described for its tiles.
+/// The layout of a tile set with these tables: the first whose tables are described, with their columns by name and
+/// type. Refused as `InvalidDataFormat` where there is none, and as `NoUniquenessConstraint` where no unique index of
+/// exactly the columns of a place is described for its tiles.
 pub fn detect_type(tables: &[TableDesc]) -> MbtResult<MbtType>
     ensures { result ≡ detected tables.now }
 {
@@ -139,8 +139,8 @@ fn has_tile_index(tables: &[TableDesc], table: TableName) -> bool
     tables.iter().any(|d| d.name.as_str() == name && has_place_index(d.indexes.as_slice()))
 }
 
-/// The name of the table of a tile set's places, where no index of it, unique or not, has the columns of a place among its own. Refused
-/// as `InvalidDataFormat` where the tables are of no layout.
+/// The name of the table of a tile set's places, where no index of it, unique or not, has the columns of a place among
+/// its own. Refused as `InvalidDataFormat` where the tables are of no layout.
 pub fn missing_tile_index(tables: &[TableDesc]) -> MbtResult<Option<&'static str>>
     ensures answer { IfOk result (λ name. IfSome (layout_of tables.now)
         (λ layout. option_copied name ≡ missing_index tables.now layout)) }

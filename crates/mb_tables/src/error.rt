@@ -9,7 +9,8 @@ use thiserror::Error;
 /// Why a call on a tile set is refused.
 #[derive(Debug, Drop, Error)]
 pub enum MbtError {
-    /// The tables are those of no layout, there is no metadata table, a cell is of a wrong kind, or a metadata name stands twice.
+    /// The tables are those of no layout, there is no metadata table, a cell is of a wrong kind, or a
+    /// metadata name stands twice.
     #[error("invalid data format")]
     InvalidDataFormat,
     /// No unique index keeps the tiles of the set apart by their places, or an id of contents stands twice.
@@ -27,7 +28,8 @@ pub enum MbtError {
         /// The name as it is stored.
         algorithm: TextVal,
     },
-    /// A row of a tile has no place of zoom 0 to 30, or contents that are neither bytes nor null: the cells of its place.
+    /// A row of a tile has no place of zoom 0 to 30, or contents that are neither bytes nor
+    /// null: the cells of its place.
     #[error("invalid tile index")]
     InvalidTileIndex {
         /// The cell of the zoom.
@@ -67,7 +69,8 @@ pub enum MbtError {
     /// The set that is to be patched has no digest of all tiles, and the patch isn't forced.
     #[error("cannot patch a set without an aggregate hash")]
     CannotDiffFileWithoutHash,
-    /// The set that is to be patched is itself a patch: it has a digest of all tiles before or after it, and the patch isn't forced.
+    /// The set that is to be patched is itself a patch: it has a digest of all tiles before or after it,
+    /// and the patch isn't forced.
     #[error("cannot patch a patch")]
     DiffingDiffFile,
     /// The patch has no digest of all tiles after it, and isn't forced.

@@ -8,7 +8,8 @@ use base_values::{OutOfMemory, TextVal};
 use std::alloc::Global;
 use std::cmp::Ordering;
 
-/// The key of a row: a place, a text id or a number. It is the key of a row whose key cells are these, whatever the table.
+/// The key of a row: a place, a text id or a number. It is the key of a row whose key cells are
+/// these, whatever the table.
 #[derive(Debug, Drop)]
 pub enum RowKey {
     /// A place of a tile set, its row counted from the bottom.

@@ -30,7 +30,8 @@ any_after tiles t (u ∷ us) =
     ap₂ (λ a b. a || b) (has_after tiles t (place_in u)) (any_after tiles t us)
     ∙ four (eq_by_cmp place_cmp (place_in t) (place_in u)) (contains_key tiles (place_in u)) (list_any (eq_by_cmp place_cmp (place_in t)) (map place_in us)) (list_any (λ u. contains_key tiles (place_in u)) us)
 
--- one more tile: whether its place is there (a), whether one of the others is (x), whether its place comes again (y), and whether the others differ (z)
+-- one more tile: whether its place is there (a), whether one of the others is (x), whether its place comes again (y),
+-- and whether the others differ (z)
 step : (a x y z : Bool) (n m k l : ℕ) → IsCount ((y || x) || not z) n (k + l) → k ≡ cond a m (m + 1) → IsCount ((a || x) || not (not y && z)) n (m + suc l)
 step true x y z n m k l h e = let le : n ≤ k + l = at_most ((y || x) || not z) n (k + l) h in let same : k ≡ m = e in omega arith
 step false true true z n m k l h e = let lt : n < k + l = h in let more : k ≡ m + 1 = e in omega arith

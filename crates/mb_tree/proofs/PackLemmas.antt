@@ -1,4 +1,5 @@
--- A set with the tiles of files: that it was loaded from the tables of its base, and what its tables hold after the commit.
+-- A set with the tiles of files: that it was loaded from the tables of its base, and what its
+-- tables hold after the commit.
 use Rattle.mb_tree.proofs.Common.{Abort, algorithm_by, All, All-cons, All-head, All-nil, All-tail, and_parts, ap, AreAllRead, arith, as_given, bad_coord, base_of, batch_of, Bool, cell_eq, codes, cond}
 use Rattle.mb_tree.proofs.Common.{cons_option, contains_key, decimal, digest, duplicates, DuplicateValues, edits_loaded, empty_files, false, false≢true, File, FileFormat, Files, filter_map}
 use Rattle.mb_tree.proofs.Common.{first_format, first_refusal, first_refused, Flat, format_word, fresh, from_with_name, from_with_tile, get-insert, get_other, has_duplicates, Held, held_packed, holds}

@@ -33,7 +33,8 @@ made_by (d ∷ ds) t = t
 unfoldable pub made : Tables → Tables
 made t = made_by t.descriptions t
 
--- the set of a store, and whether its tables are yet to be made: that of what the store tells, and of some tables that its answers could be of, where it tells nothing
+-- the set of a store, and whether its tables are yet to be made: that of what the store tells, and of some tables that
+-- its answers could be of, where it tells nothing
 pub record IsBaseOf (tells : Bool) (told : Tables) (answer : Result Base MbtError) : Type 0 where
   pub tables : Tables
   pub is_told : tells ≡ true → tables ≡ told

@@ -35,7 +35,8 @@ held_packed scheme files h = with_zooms (with_format (tiles_in h (batch_of schem
 abbrev pub packed : TileScheme → List File → State → State
 packed scheme files s = (held_packed scheme files (fresh s)).state
 
--- the answer that is due of what a store and a tree tell, and of some tables and paths that their answers could be of, where they tell nothing
+-- the answer that is due of what a store and a tree tell, and of some tables and paths that their answers could be
+-- of, where they tell nothing
 pub record IsPacking (scheme : TileScheme) (shows : Bool) (files : Files) (tells : Bool) (told : Tables) (answer : Result (Unit {0}) MbtError) : Type 0 where
   pub paths : List (List ℕ)
   pub listed : shows ≡ true → paths ≡ paths_of files
@@ -43,8 +44,8 @@ pub record IsPacking (scheme : TileScheme) (shows : Bool) (files : Files) (tells
   pub is_told : tells ≡ true → tables ≡ told
   pub answers : Gives (then (base_of tables) (packing scheme paths)) answer
 
--- no test refused the files, the tables load again with their tiles, and one commit made of the tables that were there, or that were made for it, exactly what the
--- set with these asks for
+-- no test refused the files, the tables load again with their tiles, and one commit made of the tables that were there,
+-- or that were made for it, exactly what the set with these asks for
 pub record IsPacked (scheme : TileScheme) (shows : Bool) (told : Files) (old new : Tables) : Type 0 where
   pub files : List File
   pub read : shows ≡ true → files ≡ entries told
@@ -55,6 +56,7 @@ pub record IsPacked (scheme : TileScheme) (shows : Bool) (told : Files) (old new
   pub committed : IsCommitted (held_packed scheme files (fresh base)) (made old) new
   pub commits : MakesChanges (held_packed scheme files (fresh base)) (made old) new
 
--- a refusal leaves the tables. Want of memory and a fault of the store may leave those made that nothing was described of
+-- a refusal leaves the tables. Want of memory and a fault of the store may leave those made that
+-- nothing was described of
 abbrev pub IsLeft : Tables → Tables → MbtError → Type 0
 IsLeft old new e = (new ≡ old) ⊎ ((is_free e ≡ true) × (new ≡ made old))

@@ -38,8 +38,8 @@ first_format (path ∷ paths) = format_or (tile_path path) (first_format paths)
 abbrev pub as_given : TilePath → NewTile
 as_given t = record { z = t.zoom; x = t.column; y = t.row; tile_data = [] }
 
--- the refusal of each test of a tile's path, in the order of the tests: an extension that names no format, another format than the first one, and numbers
--- that are no coordinate of zoom 0 to 30
+-- the refusal of each test of a tile's path, in the order of the tests: an extension that names no format, another
+-- format than the first one, and numbers that are no coordinate of zoom 0 to 30
 abbrev pub tile_refusals : Option FileFormat → List ℕ → TilePath → List (Option MbtError)
 tile_refusals first path t =
     unless (is_some t.format) (UnsupportedFileExtension path)

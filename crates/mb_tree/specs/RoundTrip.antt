@@ -10,7 +10,8 @@ use Rattle.mb_tree.specs.Unpacked.{path_text}
 use Rattle.mb_tree.specs.declared.scheme.TileScheme.{TileScheme}
 use Rattle.mb_tree.specs.declared.tile_path.TilePath.{TilePath}
 
--- the path of a tile in plain spelling: its last three parts, the numbers without a plus or zeros in front, and the word of its format. None where there is no format
+-- the path of a tile in plain spelling: its last three parts, the numbers without a plus or zeros in front, and the
+-- word of its format. None where there is no format
 abbrev pub plain_of : TilePath → Option (List ℕ)
 plain_of t = option_map (λ format. path_text format t.zoom t.column t.row) t.format
 

@@ -59,7 +59,8 @@ abbrev pub IsWritten : List File → Files → Files → Result (Unit {0}) MbtEr
 IsWritten files old new (Ok _) = new ≡ written old files
 IsWritten files old new (Err e) = IsFront files old new
 
--- the answer that is due of what a store tells, and of some tables that its answers could be of, where it tells nothing; and what a tree that tells its files has then
+-- the answer that is due of what a store tells, and of some tables that its answers could be of, where it tells
+-- nothing; and what a tree that tells its files has then
 pub record IsUnpacking (scheme : TileScheme) (tells : Bool) (told : Tables) (shows : Bool) (old new : Files) (answer : Result (Unit {0}) MbtError) : Type 0 where
   pub tables : Tables
   pub is_told : tells ≡ true → tables ≡ told

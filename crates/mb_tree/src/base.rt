@@ -62,7 +62,8 @@ fn old_set<S: TileStore>(alloc: Global, store: &mut S) -> MbtResult<Base>
     Ok(Base { set, is_new: false })
 }
 
-/// The set that a store's tiles are packed into: what its tables hold, where it describes anything, and else no tiles and no metadata.
+/// The set that a store's tiles are packed into: what its tables hold, where it describes anything, and else
+/// no tiles and no metadata.
 pub(crate) fn base_of<S: TileStore>(alloc: Global, store: &mut S) -> MbtResult<Base>
     ensures answer { IsBaseOf (S.tells store.old) (S.told store.old) result }
     ensures new { S.tells store.old ≡ true →

@@ -10,18 +10,19 @@ use std::alloc::Global;
 
 /// A tree of the files below a folder, its root. It tells nothing, and counts its faults.
 ///
-/// Files are listed in all folders below the root. A symbolic link to a file counts as that file, and one to a folder isn't followed, so that there are no cycles. Names that
-/// aren't UTF-8, links to nothing, and what is neither a file nor a folder are passed over. A root that is missing or no folder is a fault of `list`, and an entry that is gone
+/// Files are listed in all folders below the root. A symbolic link to a file counts as that file, and one to a folder
+/// isn't followed, so that there are no cycles. Names that aren't UTF-8, links to nothing, and what is neither a file
+/// nor a folder are passed over. A root that is missing or no folder is a fault of `list`, and an entry that is gone
 /// when it is read is a fault too.
 ///
-/// A file that is written is whole or not there: its bytes go to a file that is made beside it, are put on the disk, and that
-/// file is renamed. It has the first of the names `.NAME.part`, `.NAME.part1`, .. `.NAME.part99` that nothing has; there is a
-/// fault where all are taken, and what has one of them stays. Refused, it is gone again. At last the folder is put on the disk
-/// with its names; where that alone fails, the fault comes with the file in its place. A run that is stopped may leave the file
-/// beside.
+/// A file that is written is whole or not there: its bytes go to a file that is made beside it, are put on the disk,
+/// and that file is renamed. It has the first of the names `.NAME.part`, `.NAME.part1`, .. `.NAME.part99` that nothing
+/// has; there is a fault where all are taken, and what has one of them stays. Refused, it is gone again. At last the
+/// folder is put on the disk with its names; where that alone fails, the fault comes with the file in its place. A run
+/// that is stopped may leave the file beside.
 ///
-/// Folders that are missing are made, the root too. Nothing is written outside the root: a path with a part that is empty, `.`
-/// or `..` is a fault, and so is one through a symbolic link.
+/// Folders that are missing are made, the root too. Nothing is written outside the root: a path with a part that is
+/// empty, `.` or `..` is a fault, and so is one through a symbolic link.
 #[derive(Drop)]
 pub struct FolderTree {
     runtime: HostRuntime,

@@ -104,8 +104,8 @@ fn put_file(rt: &HostRuntime, alloc: Global, path: &str, bytes: &[u8]) -> Result
     done(written)
 }
 
-/// Puts a file at a path below a root, with the folders that are missing. No file is written to or removed that this call
-/// didn't make, but the one at the path, which is replaced.
+/// Puts a file at a path below a root, with the folders that are missing. No file is written to or removed that this
+/// call didn't make, but the one at the path, which is replaced.
 pub(crate) fn write_file(
     rt: &HostRuntime,
     alloc: Global,

@@ -22,8 +22,8 @@ fn is_name(word: &str, name: &str) -> bool
 }
 
 impl FileFormat {
-    /// The format that a word names, as the extension of a file and in metadata: ASCII case aside one of `png`, `jpg` and `jpeg`, `webp`, `avif`, `pbf` and `mvt`,
-    /// and `mlt`.
+    /// The format that a word names, as the extension of a file and in metadata: ASCII case aside one of `png`, `jpg`
+    /// and `jpeg`, `webp`, `avif`, `pbf` and `mvt`, and `mlt`.
     #[tactic(auto, unfolding(crate::specs::Format::format_of))]
     pub(crate) fn of_word(word: &str) -> Option<FileFormat>
         ensures { result ≡ format_of word.now }

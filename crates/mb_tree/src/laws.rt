@@ -11,9 +11,10 @@ ghost use Rattle.mb_tree.specs.Unpacked.{files_of, path_text, unpacked, unpackin
 ghost use Rattle.mb_tree.specs.declared.format.FileFormat.{FileFormat};
 ghost use Rattle.mb_tree.specs.declared.scheme.TileScheme.{TileScheme};
 
-/// What `unpack` does with tables after `pack` of a tree with a tile, under the same scheme. It isn't refused. Its files are those of the tiles that were there before, under
-/// the extension of the tree's format, and those of the tree's tiles, each under its plain path and with its bytes. Under
-/// another scheme the rows in all these paths are counted from the other edge.
+/// What `unpack` does with tables after `pack` of a tree with a tile, under the same scheme. It isn't refused. Its
+/// files are those of the tiles that were there before, under the extension of the tree's format, and those of the
+/// tree's tiles, each under its plain path and with its bytes. Under another scheme the rows in all these paths are
+/// counted from the other edge.
 pub fn packed_is_unpacked()
     ensures answer { (scheme : TileScheme) (tree : Files) (old new : Tables) (format : FileFormat)
         → IsPacked scheme true tree old new → first_format (paths_of tree) ≡ Some format
@@ -45,8 +46,9 @@ pub fn no_tile_is_unpacked()
         → unpacked other (state_of new) ≡ unpacked other (Ok base) }
 {}
 
-/// A tree that is packed into tables without tiles, and unpacked into an empty tree under the same scheme, comes back: the file of each tile under its plain path, with
-/// its bytes, and no other file. Where the paths of tiles are plain already, these are the tree's own files. Tables that describe nothing have no tiles.
+/// A tree that is packed into tables without tiles, and unpacked into an empty tree under the same scheme, comes back:
+/// the file of each tile under its plain path, with its bytes, and no other file. Where the paths of tiles are plain
+/// already, these are the tree's own files. Tables that describe nothing have no tiles.
 pub fn unpacked_as_it_was()
     ensures tree { (scheme : TileScheme) (tree : Files) (old new : Tables)
         → IsPacked scheme true tree old new → HasNoTiles old
@@ -58,7 +60,8 @@ pub fn unpacked_as_it_was()
     ensures nothing { (old : Tables) → old.descriptions ≡ [] → HasNoTiles old }
 {}
 
-/// A path as `unpack` writes it is read as the tile that it was made of, and is its own plain path; whatever folder it is put into, its last three parts are its plain path.
+/// A path as `unpack` writes it is read as the tile that it was made of, and is its own plain path; whatever folder it
+/// is put into, its last three parts are its plain path.
 pub fn paths_are_plain()
     ensures read { (format : FileFormat) (zoom column row : ℕ)
         → zoom < 2 ^ 8 → column < 2 ^ 32 → row < 2 ^ 32

@@ -10,7 +10,8 @@ use base_values::{BlobVal, FailingCalls, OutOfMemory, TextVal};
 use std::alloc::Global;
 use std::collections::BTreeMap;
 
-/// A tree of files in memory. A file is found, and put, by a number of comparisons that grows as the logarithm of the number of files.
+/// A tree of files in memory. A file is found, and put, by a number of comparisons that grows as the
+/// logarithm of the number of files.
 #[derive(Debug, Drop)]
 pub struct MemTree {
     files: BTreeMap<TextVal, BlobVal>,
@@ -84,7 +85,8 @@ impl MemTree {
         }
     }
 
-    /// From here on the calls of the tree with these numbers fail, counted from 1 over all calls that this tree has been asked.
+    /// From here on the calls of the tree with these numbers fail, counted from 1 over all calls that
+    /// this tree has been asked.
     pub fn fail_at(&mut self, calls: Vec<u64>)
         ensures told { told_of self.new ≡ told_of self.old }
         ensures faults { faults_of self.new ≡ faults_of self.old }

@@ -37,20 +37,23 @@ fn pack_loaded<T: TileTree>(
     Ok(with_names(alloc, set, first_format(paths))?)
 }
 
-/// Packs the tiles of a tree of files into a flat set, in one commit. A file is that of a tile where the last three parts of its path, parted by `/`, are a zoom, a column, and a row
-/// up to the last dot; what stands before them doesn't matter, and other files are passed over. Beside the tiles the commit puts their format under `format`, where
+/// Packs the tiles of a tree of files into a flat set, in one commit. A file is that of a tile where the last three
+/// parts of its path, parted by `/`, are a zoom, a column, and a row up to the last dot; what stands before them
+/// doesn't matter, and other files are passed over. Beside the tiles the commit puts their format under `format`, where
 /// there is a tile, and under `minzoom` and `maxzoom` what `update_metadata` of `mb_metadata` does with `Reset`.
 ///
-/// A store that describes nothing gets the tables of a flat set; any other is loaded. It answers the refusals of `load`, and then the first of these that holds:
+/// A store that describes nothing gets the tables of a flat set; any other is loaded. It answers the refusals of
+/// `load`, and then the first of these that holds:
 ///
 /// 1. `MismatchedTargetType`: the set isn't flat.
-/// 2. In the order of the paths, for each tile: `UnsupportedFileExtension` where its extension is missing or names no known format, with the path;
-///    `InconsistentTileFormats` where its format isn't that of the first one, with the path; `InvalidTileIndex` where its numbers are no coordinate of zoom 0 to 30, with the
-///    row as the path has it.
+/// 2. In the order of the paths, for each tile: `UnsupportedFileExtension` where its extension is missing or names no
+///    known format, with the path; `InconsistentTileFormats` where its format isn't that of the first one, with the
+///    path; `InvalidTileIndex` where its numbers are no coordinate of zoom 0 to 30, with the row as the path has it.
 /// 3. `DuplicateValues`: a tile is in the set, a null too, or comes twice.
 ///
-/// The tree is listed once, and each file of a tile is read once. Refused, the store holds what it held, but for tables that were made of nothing where memory ended or the store
-/// failed then. `TreeFault` comes only where the tree's count of faults rose, and `StoreFault` only where the store's did.
+/// The tree is listed once, and each file of a tile is read once. Refused, the store holds what it held, but for tables
+/// that were made of nothing where memory ended or the store failed then. `TreeFault` comes only where the tree's count
+/// of faults rose, and `StoreFault` only where the store's did.
 pub fn pack<T: TileTree, S: TileStore>(
     alloc: Global,
     tree: &mut T,

@@ -85,8 +85,8 @@ fn tile_named(zoom: &str, column: &str, name: &str) -> Option<TilePath>
     })
 }
 
-/// What a path says of a tile, where its last three parts, parted by `/`, are a zoom, a column, and a row up to the last dot, each as std reads a number. What stands
-/// before them doesn't matter. None for any other path.
+/// What a path says of a tile, where its last three parts, parted by `/`, are a zoom, a column, and a row up to the
+/// last dot, each as std reads a number. What stands before them doesn't matter. None for any other path.
 #[tactic(auto, unfolding(crate::specs::TilePath::tile_path))]
 pub(crate) fn read_path(path: &str) -> Option<TilePath>
     ensures { result ≡ tile_path path.now }

@@ -64,7 +64,8 @@ impl From<TreeError> for MbtError {
 
 /// A tree of files, as a folder or files in memory. A path is a text of names parted by `/`.
 ///
-/// A tree may tell contracts which files it has. Whether it tells never changes. It counts its faults, and the count never falls.
+/// A tree may tell contracts which files it has. Whether it tells never changes. It counts its faults,
+/// and the count never falls.
 pub trait TileTree {
     /// Whether the tree tells which files it has.
     ghost tells: { Self → Bool };

@@ -99,12 +99,14 @@ fn write_tiles<T: TileTree>(
     Ok(())
 }
 
-/// Unpacks a set into a tree: each tile that isn't null becomes the file `zoom/column/row.extension` with its bytes, the row as the scheme counts it, in the order of zoom, column
-/// and row counted from the bottom. Files at other paths stay.
+/// Unpacks a set into a tree: each tile that isn't null becomes the file `zoom/column/row.extension` with its
+/// bytes, the row as the scheme counts it, in the order of zoom, column and row counted from the bottom.
+/// Files at other paths stay.
 ///
-/// It answers the refusals of `load`, and then, before any file is written, `NoFormatInMetadata` where the metadata has no text under `format`, and
-/// `UnknownFormatInMetadata` with that text where it is none of a known format. Where the tree fails, or memory ends, the files that were written so far stand, a front of
-/// all of them. The store holds what it held. `TreeFault` comes only where the tree's count of faults rose, and `StoreFault` only where the store's did.
+/// It answers the refusals of `load`, and then, before any file is written, `NoFormatInMetadata` where the metadata has
+/// no text under `format`, and `UnknownFormatInMetadata` with that text where it is none of a known format. Where the
+/// tree fails, or memory ends, the files that were written so far stand, a front of all of them. The store holds what
+/// it held. `TreeFault` comes only where the tree's count of faults rose, and `StoreFault` only where the store's did.
 pub fn unpack<S: TileStore, T: TileTree>(
     alloc: Global,
     store: &mut S,

@@ -1,4 +1,5 @@
-// A store over a database in memory, which is kept: it gives its rows by their numbers, in another order than that of places.
+// A store over a database in memory, which is kept: it gives its rows by their numbers, in another
+// order than that of places.
 use crate::{reads, streams};
 use mb_sqlite::SqliteStore;
 use mb_store::TileStore;

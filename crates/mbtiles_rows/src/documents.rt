@@ -100,7 +100,8 @@ fn any_center(alloc: Global, words: &mut Words) -> Option<Option<TileCenter>> {
     }
 }
 
-// A document: the members of a text of JSON, then the template, the two zooms, the bounds and the center, each a word or `-` for none.
+// A document: the members of a text of JSON, then the template, the two zooms, the bounds and the center,
+// each a word or `-` for none.
 fn document(alloc: Global, words: &mut Words) -> Option<TileJson> {
     let mut document = with_members(alloc, words)?;
     document.template = any_text(alloc, words)?;

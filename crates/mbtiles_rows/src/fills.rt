@@ -96,7 +96,8 @@ fn fill_contents(
     Some(())
 }
 
-/// A set of a layout: how many tiles, and how many contents they have by the rest of their number. The places are those of zoom 13 in a mixed order.
+/// A set of a layout: how many tiles, and how many contents they have by the rest of their number. The places are those
+/// of zoom 13 in a mixed order.
 pub fn fill(alloc: Global, store: &mut MemStore, words: &mut Words) -> Option<()> {
     let layout = layout(words)?;
     let count = number::<u16>(words)?;

@@ -1,4 +1,5 @@
-//! Reads calls of tile sets from standard input, one a line, and prints each line with its answer: calls of mb_access, mb_insert, mb_metadata, mb_load and set_options, and patches of mb_edit.
+//! Reads calls of tile sets from standard input, one a line, and prints each line with its answer: calls of mb_access,
+//! mb_insert, mb_metadata, mb_load and set_options, and patches of mb_edit.
 #![tactic(auto)]
 
 mod archive_options;

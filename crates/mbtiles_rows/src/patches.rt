@@ -28,7 +28,8 @@ fn push_name(alloc: Global, patch: &mut MemStore, name: &str, value: &str) -> Op
     push_cells(alloc, patch, TableName::Metadata, cells)
 }
 
-// A normalised set whose tiles, so many from 6/0/63 on along the rows, have one content of so many bytes. It is a patch of a set whose digest is A, and gives the digest B.
+// A normalised set whose tiles, so many from 6/0/63 on along the rows, have one content of so many bytes. It is a patch
+// of a set whose digest is A, and gives the digest B.
 fn one_content(alloc: Global, places: u16, size: u32) -> Option<MemStore> {
     let mut patch = MemStore::with_layout(alloc, NORMALIZED).ok()?;
     let bytes = counted(alloc, size)?;

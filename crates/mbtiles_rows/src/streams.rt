@@ -1,4 +1,5 @@
-// The tiles of a set in the order of its rows: all of them, or how many there are and the digest of what would be printed.
+// The tiles of a set in the order of its rows: all of them, or how many there are and the digest
+// of what would be printed.
 use crate::printed::say_digest;
 use base_values::BlobVal;
 use mb_access::{Coords, Tiles, stream_coords, stream_tiles};

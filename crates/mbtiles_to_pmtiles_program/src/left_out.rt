@@ -93,7 +93,8 @@ fn say_metadata<S: TileStore>(
     Ok(is_whole)
 }
 
-/// Tells what of a set that was read is left out of its archive, a line for the rows of tiles and one for each thing of the metadata. Whether nothing is.
+/// Tells what of a set that was read is left out of its archive, a line for the rows of tiles and one for each thing of
+/// the metadata. Whether nothing is.
 pub fn say_left_out<S: TileStore>(
     rt: &HostRuntime,
     path: &str,

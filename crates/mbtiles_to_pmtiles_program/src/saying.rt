@@ -76,7 +76,8 @@ fn say_store(rt: &HostRuntime, sets: &[TextVal], place: u64, error: &MbtError) {
     let _ = eprintln!(rt; "{TOOL}: {name} is refused: {error}{advice}");
 }
 
-/// Says what a conversion of sets ended with whose archive is written to a file beside its place; nothing where it was said before.
+/// Says what a conversion of sets ended with whose archive is written to a file beside its place; nothing
+/// where it was said before.
 pub fn say_outcome(
     rt: &HostRuntime,
     sets: &[TextVal],

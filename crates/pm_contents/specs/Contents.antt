@@ -1,4 +1,5 @@
--- The different contents so far, found by their digests and their bytes. The digest of bytes is what a function of them says, `name`.
+-- The different contents so far, found by their digests and their bytes. The digest of bytes is what a
+-- function of them says, `name`.
 use Rattle.std.specs.Prelude.{◌≡◌, ◌≢◌, ◌+◌, ℕ, List, length, take, drop, flat_map, nat_eq, Option, Some, None, IfSome, if◌then◌else◌}
 use Rattle.std.specs.declared.cmp.Ordering.{Ordering}
 use Rattle.pm_contents.specs.Common.{btree_map_len, bytes_eq, get, slice_cmp}
@@ -28,12 +29,14 @@ place_by c cs x (Some s) = if bytes_eq (in_span (flat_map (λ c. c) cs) s) x the
 abbrev pub place_of : (List ℕ → ℕ) → Contents → List (List ℕ) → List ℕ → Option ℕ
 place_of name c cs x = place_by c cs x (first_of c (name x))
 
--- nothing has to be read to find bytes of this digest and length: no content has the digest, or the first one that has it is of another length
+-- nothing has to be read to find bytes of this digest and length: no content has the digest, or the first one that
+-- has it is of another length
 abbrev pub IsUnasked : Contents → ℕ → ℕ → Type 0
 IsUnasked c digest size = IfSome (first_of c digest) (λ s. s.length ≢ size)
 
--- The contents are as many and as long as these, and what is found is one of them: the first of a digest has this digest, and another one the length of the bytes that it was put for, which it is itself or
--- which its mark stands for. What is found without a read is what it is among them.
+-- The contents are as many and as long as these, and what is found is one of them: the first of a digest has this
+-- digest, and another one the length of the bytes that it was put for, which it is itself or which its mark stands for.
+-- What is found without a read is what it is among them.
 pub record Holds (name : List ℕ → ℕ) (c : Contents) (cs : List (List ℕ)) : Type 0 where
   pub firsts : (digest : ℕ) → IfSome (first_of c digest) (λ s. IsAt cs s.place (λ z. (length z ≡ s.length) × (name z ≡ digest)))
   pub others : (x : List ℕ) → IfSome (get content_cmp c.others x) (λ place. IsAt cs place (λ z. (length z ≡ length x) × (IsBytes z → z ≡ x)))

@@ -26,7 +26,8 @@ IsSought name c x (sought.Known place) = Unit {0}
 IsSought name c x (sought.First digest) = (digest ≡ name x) × (first_of c digest ≡ None)
 IsSought name c x (sought.Other content) = (content ≡ x) × (get content_cmp c.others x ≡ None) × ((s : Span) × (first_of c (name x) ≡ Some s))
 
--- What bytes are taken for, as they were found: for bytes of their length and digest alone, or for a mark of their length; new ones for themselves or a mark; and for themselves where nothing has to be read.
+-- What bytes are taken for, as they were found: for bytes of their length and digest alone, or for a mark of their
+-- length; new ones for themselves or a mark; and for themselves where nothing has to be read.
 pub record FoundAs (name : List ℕ → ℕ) (c : Contents) (cs : List (List ℕ)) (x : List ℕ) (s : Sought) (taken : List ℕ) : Type 0 where
   pub found : found_in cs taken ≡ place_sought s
   pub size : length taken ≡ length x

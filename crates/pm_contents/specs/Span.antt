@@ -6,7 +6,8 @@ use Rattle.byte_media.specs.declared.backend.ReadFault.{ReadFault}
 use Rattle.byte_media.specs.declared.backend.ReadFault.TheVariants as reads
 use Rattle.byte_media.specs.declared.medium.WriteFault.TheVariants as writes
 
--- whether they are the bytes that were read; a range that the medium doesn't have is another content, and a fault is that of a write
+-- whether they are the bytes that were read; a range that the medium doesn't have is another content, and a
+-- fault is that of a write
 abbrev pub same_by : Result BackendResponse ReadFault → List ℕ → Result Bool WriteFault
 same_by (Ok response) x = Ok (bytes_eq response.bytes x)
 same_by (Err reads.PastEnd) x = Ok false

@@ -17,9 +17,10 @@ use std::alloc::{AllocError, Global};
 use std::collections::btree_map::Entry;
 use std::collections::{BTreeMap, HashMap};
 
-/// The different contents, which lie on a medium one behind another in order of first add. The first content of each digest is found by it, and compared by reading it back. Others of its
-/// digest are found in an ordered map, so that among contents that were picked to share a digest one is found by as many comparisons as the logarithm of their number. The caller says what
-/// the digests are: in contracts they come from a function, `name`.
+/// The different contents, which lie on a medium one behind another in order of first add. The first content of each
+/// digest is found by it, and compared by reading it back. Others of its digest are found in an ordered map, so that
+/// among contents that were picked to share a digest one is found by as many comparisons as the logarithm of their
+/// number. The caller says what the digests are: in contracts they come from a function, `name`.
 #[derive(Drop)]
 pub struct Contents {
     firsts: HashMap<u64, Span>,
@@ -55,8 +56,9 @@ impl Contents {
         self.firsts.len() as u64 + self.others.len() as u64
     }
 
-    /// What bytes of this digest are found as. The first content of the digest, where it has as many bytes, is read back from the medium, on which the contents lie from a place on. A range
-    /// that the medium doesn't have, and a read that ends early, are another content; of a medium that tells nothing this is tested only.
+    /// What bytes of this digest are found as. The first content of the digest, where it has as many bytes, is read
+    /// back from the medium, on which the contents lie from a place on. A range that the medium doesn't have, and a
+    /// read that ends early, are another content; of a medium that tells nothing this is tested only.
     pub fn seek<M: Medium>(
         &self,
         alloc: Global,
@@ -166,7 +168,8 @@ impl Contents {
         Ok(place)
     }
 
-    // Writes bytes behind the contents, one of which has their digest, and puts them among those that aren't the first of theirs.
+    // Writes bytes behind the contents, one of which has their digest, and puts them among those that
+    // aren't the first of theirs.
     fn put_other<M: Medium>(
         &mut self,
         medium: &mut M,
@@ -216,8 +219,8 @@ impl Contents {
         }
     }
 
-    /// Where bytes begin that were sought. New ones are written behind the contents on the medium, and put there. Memory is taken before anything is written. Refused, the contents
-    /// are as before.
+    /// Where bytes begin that were sought. New ones are written behind the contents on the medium, and put there.
+    /// Memory is taken before anything is written. Refused, the contents are as before.
     pub fn put<M: Medium>(
         &mut self,
         medium: &mut M,

@@ -1,4 +1,5 @@
-//! The different contents of an archive that is written: each once, found by its digest and compared by reading it back.
+//! The different contents of an archive that is written: each once, found by its digest and
+//! compared by reading it back.
 #![tactic(auto)]
 
 mod content;

@@ -14,7 +14,8 @@ pub(crate) struct Span {
     pub(crate) length: u64,
 }
 
-// Whether bytes are those that a medium answered. A range that it doesn't have is another content, and a fault is that of a write.
+// Whether bytes are those that a medium answered. A range that it doesn't have is another content, and a
+// fault is that of a write.
 fn is_same(answer: Result<BackendResponse, ReadFault>, bytes: &[u8]) -> Result<bool, WriteFault>
     ensures { result ≡ same_by answer bytes.now }
 {
@@ -27,7 +28,8 @@ fn is_same(answer: Result<BackendResponse, ReadFault>, bytes: &[u8]) -> Result<b
 }
 
 impl Span {
-    /// Whether a medium, on which the contents lie from a place on, answers these bytes for the span. Only a span of as many bytes is read.
+    /// Whether a medium, on which the contents lie from a place on, answers these bytes for the span. Only a span
+    /// of as many bytes is read.
     pub(crate) fn has<M: Medium>(
         self,
         alloc: Global,

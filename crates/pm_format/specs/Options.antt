@@ -5,7 +5,8 @@ use Rattle.pm_format.specs.declared.compression.Compression.TheVariants as compr
 use Rattle.pm_format.specs.declared.tile_type.TileType.{TileType}
 use Rattle.pm_format.specs.declared.tile_type.TileType.TheVariants as tile_type
 
--- labels, type, zooms, degrees in ten millionths, the metadata, and how many entries a directory of tile entries below the root has at most
+-- labels, type, zooms, degrees in ten millionths, the metadata, and how many entries a directory of tile entries
+-- below the root has at most
 pub record Options : Type 0 where
   pub internal_compression : Compression
   pub tile_compression : Compression

@@ -6,8 +6,8 @@ use Rattle.pm_format.specs.Directory.{Entry}
 use Rattle.pm_format.specs.Opened.{Opened, opened}
 use Rattle.pm_format.specs.LookUp.{range_of, leaf_of}
 
--- ids strictly rise between two limits, no run passes the next id or the upper limit, and a fact holds of each entry and the
--- id where its range ends
+-- ids strictly rise between two limits, no run passes the next id or the upper limit, and a fact holds of each entry
+-- and the id where its range ends
 abbrev pub EachEntry : (Entry → ℕ → Type 0) → ℕ → ℕ → List Entry → Type 0
 EachEntry P low limit [] = Unit {0}
 EachEntry P low limit (e ∷ []) = (low ≤ e.tile_id) × (e.tile_id < limit) × (e.tile_id + e.run_length ≤ limit) × P e limit

@@ -10,8 +10,8 @@ use Rattle.pm_format.specs.Opened.{opened}
 use Rattle.pm_format.specs.Options.{Options}
 use Rattle.pm_format.specs.Sound.{SoundDirectory}
 
--- what the bytes consist of: the entries of the root, of each directory of tile entries below it and of each upper directory between them, and the contents in
--- their order
+-- what the bytes consist of: the entries of the root, of each directory of tile entries below it and of each upper
+-- directory between them, and the contents in their order
 pub record Parts : Type 0 where
   pub root : List Entry
   pub leaves : List (List Entry)
@@ -36,7 +36,8 @@ data_part p = flat_map (λ c. c) p.contents
 abbrev pub leaf_part : Parts → List ℕ
 leaf_part p = flat_map dir_bytes (below_root p)
 
--- the header of the parts, with the options: the root behind it, the metadata at the end of the front, the data behind them, then the directories below the root
+-- the header of the parts, with the options: the root behind it, the metadata at the end of the front, the data behind
+-- them, then the directories below the root
 abbrev pub header_of : Options → Bool → Parts → Header
 header_of o clustered p = record {
   version = 3;

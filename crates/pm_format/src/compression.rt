@@ -24,7 +24,8 @@ impl Compression {
     ghost use Rattle.pm_format.specs.Header.{compressions, compression_byte};
     ghost use Rattle.pm_format.specs.Compression.{encoding_text};
 
-    /// The label that a byte of a header stands for: 0 to 4 in the order of the variants. `InvalidCompression` for any other byte.
+    /// The label that a byte of a header stands for: 0 to 4 in the order of the variants.
+    /// `InvalidCompression` for any other byte.
     pub fn from_byte(byte: u8) -> Result<Compression, PmtError>
         ensures { result ≡ ok_or (slice_get compressions byte) PmtError.InvalidCompression }
     {
@@ -51,7 +52,8 @@ impl Compression {
         }
     }
 
-    /// The name of a compression in HTTP (RFC 9110, content codings), none where the bytes are plain or their compression isn't known.
+    /// The name of a compression in HTTP (RFC 9110, content codings), none where the bytes are plain or their
+    /// compression isn't known.
     pub fn content_encoding(self) -> Option<&'static str>
         ensures { option_copied result ≡ encoding_text self }
     {

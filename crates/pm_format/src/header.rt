@@ -15,7 +15,8 @@ use writing::put_header;
 /// How many bytes a header has.
 pub const HEADER_SIZE: usize = 127;
 
-/// Where the front of an archive, its header and its root, ends at the latest. What is written here has its metadata there.
+/// Where the front of an archive, its header and its root, ends at the latest. What is written
+/// here has its metadata there.
 pub const ROOT_END: u64 = 16_384;
 
 /// How many bytes a root behind the header has at most.
@@ -112,11 +113,13 @@ impl Header {
         }
     }
 
-    /// The header that the first `HEADER_SIZE` bytes spell, little endian; further bytes are ignored, and the version isn't tested.
+    /// The header that the first `HEADER_SIZE` bytes spell, little endian; further bytes are ignored, and
+    /// the version isn't tested.
     ///
-    /// The first of these that holds is answered: `InvalidHeader` for fewer than 7 bytes, `UnsupportedPmTilesVersion` where the
-    /// first seven aren't `PMTiles` but begin with `PM`, `InvalidMagicNumber` where they begin otherwise, `InvalidHeader` for fewer
-    /// than `HEADER_SIZE` bytes, `InvalidCompression` for a label of directories and then of tiles above 4, `InvalidTileType` for a type above 6.
+    /// The first of these that holds is answered: `InvalidHeader` for fewer than 7 bytes, `UnsupportedPmTilesVersion`
+    /// where the first seven aren't `PMTiles` but begin with `PM`, `InvalidMagicNumber` where they begin otherwise,
+    /// `InvalidHeader` for fewer than `HEADER_SIZE` bytes, `InvalidCompression` for a label of directories and then of
+    /// tiles above 4, `InvalidTileType` for a type above 6.
     pub fn try_from_bytes(bytes: &[u8]) -> Result<Header, PmtError>
         ensures { result ≡ head bytes.now }
     {

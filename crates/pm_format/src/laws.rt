@@ -3,7 +3,8 @@ ghost use Rattle.std.specs.Prelude.{◌≡◌, ◌<◌, ◌^◌, ◌++◌, All, 
 ghost use Rattle.pm_format.specs.Directory.{DirFits, Entry, dir_bytes, dir_of};
 ghost use Rattle.pm_format.specs.Varint.{IsShort, SpellsU64, u64_at, varint};
 
-/// What is written as a directory is read again, whatever follows it: fewer than 2^64 entries whose ids don't fall and are within u64, with lengths and runs within u32, offsets below the end of u64 and ends within u64.
+/// What is written as a directory is read again, whatever follows it: fewer than 2^64 entries whose ids don't fall and
+/// are within u64, with lengths and runs within u32, offsets below the end of u64 and ends within u64.
 pub fn directory_read_again()
     ensures { (es : List Entry) (rest : List ℕ) → length es < 2 ^ 64 → DirFits 0 es
         → dir_of (dir_bytes es ++ rest) ≡ Some es }

@@ -28,7 +28,8 @@ impl TileType {
     ghost use Rattle.pm_format.specs.Header.{tile_types, tile_type_byte};
     ghost use Rattle.pm_format.specs.TileType.{media_type_text};
 
-    /// The type that a byte of a header stands for: 0 to 6 in the order of the variants. `InvalidTileType` for any other byte.
+    /// The type that a byte of a header stands for: 0 to 6 in the order of the variants.
+    /// `InvalidTileType` for any other byte.
     pub fn from_byte(byte: u8) -> Result<TileType, PmtError>
         ensures { result ≡ ok_or (slice_get tile_types byte) PmtError.InvalidTileType }
     {

@@ -26,7 +26,8 @@ pub fn write_varint(out: &mut Vec<u8>, value: u64) -> Result<(), OutOfMemory>
     Ok(())
 }
 
-/// The u64 that is spelled at a place, padded or not, and the place after it. `InvalidEntry` where the bytes end within the spelling, it is longer than ten bytes, or the number is above u64.
+/// The u64 that is spelled at a place, padded or not, and the place after it. `InvalidEntry` where the bytes end within
+/// the spelling, it is longer than ten bytes, or the number is above u64.
 pub fn read_varint_u64(bytes: &[u8], at: usize) -> Result<(u64, usize), PmtError>
     requires { at ≤ length bytes.now }
     ensures found { IfOk result (λ r. u64_at (drop at bytes.now) ≡ Some (r.0, drop r.1 bytes.now)) }
@@ -37,7 +38,8 @@ pub fn read_varint_u64(bytes: &[u8], at: usize) -> Result<(u64, usize), PmtError
     read_number(bytes, at, 9, 1)
 }
 
-/// The u32 that is spelled at a place, padded or not, and the place after it. `InvalidEntry` where the bytes end within the spelling, it is longer than five bytes, or the number is above u32.
+/// The u32 that is spelled at a place, padded or not, and the place after it. `InvalidEntry` where the bytes end within
+/// the spelling, it is longer than five bytes, or the number is above u32.
 pub fn read_varint_u32(bytes: &[u8], at: usize) -> Result<(u32, usize), PmtError>
     requires { at ≤ length bytes.now }
     ensures found { IfOk result (λ r. u32_at (drop at bytes.now) ≡ Some (r.0, drop r.1 bytes.now)) }

@@ -4,7 +4,8 @@ use Rattle.pm_reader.specs.Common.{BackendResponse, PmtError, range_of, Rose}
 use Rattle.pm_format.specs.declared.error.PmtError.TheVariants as errors
 use Rattle.pm_format.specs.declared.error.ReadCause.TheVariants as causes
 
--- Over told bytes: the wanted answer is given. Want of memory and a fault may come in its place, and a wrong number of bytes never does.
+-- Over told bytes: the wanted answer is given. Want of memory and a fault may come in its place, and a wrong
+-- number of bytes never does.
 abbrev pub Gives : {A : Type 0} → Result A PmtError → Result A PmtError → Type 0
 Gives wanted (Ok x) = wanted ≡ Ok x
 Gives wanted (Err errors.OutOfMemory) = Unit {0}
@@ -12,7 +13,8 @@ Gives wanted (Err (errors.Reading causes.Fault)) = Unit {0}
 Gives wanted (Err (errors.UnexpectedNumberOfBytesReturned asked got)) = ⊥
 Gives wanted (Err e) = wanted ≡ Err e
 
--- Told or not: a refusal is one of the bytes, their end, a wrong number of bytes, want of memory, or a fault, which comes only where the count of faults rose.
+-- Told or not: a refusal is one of the bytes, their end, a wrong number of bytes, want of memory, or a fault, which
+-- comes only where the count of faults rose.
 abbrev pub LookUpCauses : {A : Type 0} → ℕ → ℕ → Result A PmtError → Type 0
 LookUpCauses before now (Ok _) = Unit {0}
 LookUpCauses before now (Err errors.InvalidEntry) = Unit {0}

@@ -3,7 +3,8 @@ use Rattle.std.specs.Prelude.{◌≡◌, ◌⊎◌, ℕ, zero, suc, ◌+◌, ◌
 use Rattle.pm_reader.specs.Common.{Entry, Header, leaf_of}
 use Rattle.pm_reader.specs.Caches.{Held}
 
--- the entries of the leaf that an entry names; none where it names no leaf, or one that doesn't lie in the bytes or doesn't decode
+-- the entries of the leaf that an entry names; none where it names no leaf, or one that doesn't lie in
+-- the bytes or doesn't decode
 abbrev pub entries_below : Header → List ℕ → Entry → List Entry
 entries_below h b e = elim (nat_eq e.run_length 0) [ false ↦ [] | true ↦ elim (leaf_of h b e) [ Err r ↦ [] | Ok leaf ↦ leaf ] ]
 
@@ -27,7 +28,8 @@ HasOneLength h b root = (e f : Entry) → IsLeafEntry h b root e → IsLeafEntry
 abbrev pub HoldsLeaves : Header → List ℕ → List Entry → Held → Type 0
 HoldsLeaves h b root held = (e : Entry) (d : List Entry) → IsLeafEntry h b root e → held (h.leaf_offset + e.offset) ≡ Some d → leaf_of h b e ≡ Ok d
 
--- a cache changes no answer: it holds no wrong leaf, and each leaf offset is used with one length, or nothing will be held
+-- a cache changes no answer: it holds no wrong leaf, and each leaf offset is used with one
+-- length, or nothing will be held
 pub record IsTrusted (h : Header) (b : List ℕ) (root : List Entry) (held : Held) (idle : Type 0) : Type 0 where
   pub leaves : HoldsLeaves h b root held
   pub lengths : HasOneLength h b root ⊎ idle

@@ -37,7 +37,8 @@ IsLimited c l = ((uses_of c).capacity ≡ l.directories) × ((uses_of c).limit �
 abbrev pub PutsRecent : Bounded (List Entry) → Bounded (List Entry) → ℕ → List Entry → Type 0
 PutsRecent old new at d = (fits length old.limit d ≡ true) × (new ≡ with_pair length old at d)
 
--- After a call with a fetcher: where a directory was held, or the fetcher refused, it stays so; else the fetched directory was put, or it was too long or there was no memory, and it stays so.
+-- After a call with a fetcher: where a directory was held, or the fetcher refused, it stays so; else the fetched
+-- directory was put, or it was too long or there was no memory, and it stays so.
 abbrev pub FetchLeaves : Option (List Entry) → (Result (List Entry) PmtError → Type 0) → ℕ → Type 0 → (List Entry → Type 0) → Result (Option Entry) PmtError → Type 0
 FetchLeaves (Some held) gave t same puts result = same
 FetchLeaves None gave t same puts (Err e) = same

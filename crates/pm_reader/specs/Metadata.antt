@@ -16,7 +16,8 @@ IsTextOf bytes (Err errors.InvalidMetadataUtf8Encoding) = ¬ (IsUtf8 bytes)
 IsTextOf bytes (Err errors.OutOfMemory) = Unit {0}
 IsTextOf bytes (Err _) = ⊥
 
--- Over told bytes: the metadata's bytes where they are there and are UTF-8, else why not. Want of memory and a fault may come in their place.
+-- Over told bytes: the metadata's bytes where they are there and are UTF-8, else why not. Want of memory and a fault
+-- may come in their place.
 abbrev pub MetadataAnswers : Result (List ℕ) PmtError → Result (List ℕ) PmtError → Type 0
 MetadataAnswers range (Ok text) = (range ≡ Ok text) × IsUtf8 text
 MetadataAnswers range (Err errors.InvalidMetadataUtf8Encoding) = (bytes : List ℕ) × (range ≡ Ok bytes) × ¬ (IsUtf8 bytes)
@@ -24,7 +25,8 @@ MetadataAnswers range (Err (errors.SourceModified a b)) = ⊥
 MetadataAnswers range (Err errors.BudgetSpent) = ⊥
 MetadataAnswers range (Err e) = Gives range (Err e)
 
--- Told or not: a refusal is one of the text, the end of the bytes, a wrong number of bytes, want of memory, or a fault, which comes only where the count of faults rose.
+-- Told or not: a refusal is one of the text, the end of the bytes, a wrong number of bytes, want of memory, or a fault,
+-- which comes only where the count of faults rose.
 abbrev pub MetadataCauses : {A : Type 0} → ℕ → ℕ → Result A PmtError → Type 0
 MetadataCauses before now (Ok _) = Unit {0}
 MetadataCauses before now (Err errors.InvalidMetadataUtf8Encoding) = Unit {0}

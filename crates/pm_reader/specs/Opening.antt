@@ -58,7 +58,8 @@ IsOpenFailure errors.OutOfMemory = Unit {0}
 IsOpenFailure (errors.Reading causes.Fault) = Unit {0}
 IsOpenFailure e = IsOpenRefusal e
 
--- Told or not: a refusal is one of the bytes, want of memory, or a fault, which comes only where the count of faults rose.
+-- Told or not: a refusal is one of the bytes, want of memory, or a fault, which comes only where
+-- the count of faults rose.
 abbrev pub OpenCauses : {A : Type 0} → ℕ → ℕ → Result A PmtError → Type 0
 OpenCauses before now (Ok _) = Unit {0}
 OpenCauses before now (Err errors.OutOfMemory) = Unit {0}

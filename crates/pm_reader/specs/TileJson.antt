@@ -12,7 +12,8 @@ IsDocumentOf wanted (Err errors.InvalidMetadata) = wanted ≡ None
 IsDocumentOf wanted (Err errors.OutOfMemory) = Unit {0}
 IsDocumentOf wanted (Err _) = ⊥
 
--- Over told bytes: the document with what the metadata says, `InvalidMetadata` where the metadata is a text that can't be read so, else why there is no such text.
+-- Over told bytes: the document with what the metadata says, `InvalidMetadata` where the metadata is a text that can't
+-- be read so, else why there is no such text.
 abbrev pub DocumentAnswers : Result (List ℕ) PmtError → TileJson → Result TileJson PmtError → Type 0
 DocumentAnswers range x (Ok y) = (text : List ℕ) × (range ≡ Ok text) × IsUtf8 text × (tilejson_in x text ≡ Some y)
 DocumentAnswers range x (Err errors.InvalidMetadata) = (text : List ℕ) × (range ≡ Ok text) × IsUtf8 text × (tilejson_in x text ≡ None)

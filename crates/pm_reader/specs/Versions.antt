@@ -12,14 +12,16 @@ Agree (Some a) (Some b) = a ≡ b
 Agree None b = Unit {0}
 Agree (Some a) None = Unit {0}
 
--- a response is answered by its bytes, or refused exactly where both texts are given and differ; want of memory may come in place of that refusal
+-- a response is answered by its bytes, or refused exactly where both texts are given and differ; want of memory may
+-- come in place of that refusal
 abbrev pub IsCompared : Option (List ℕ) → BackendResponse → Result (List ℕ) PmtError → Type 0
 IsCompared opened r (Ok bytes) = (bytes ≡ r.bytes) × Agree opened r.data_version_string
 IsCompared opened r (Err (errors.SourceModified a b)) = (opened ≡ Some a) × (r.data_version_string ≡ Some b) × (a ≢ b)
 IsCompared opened r (Err errors.OutOfMemory) = Unit {0}
 IsCompared opened r (Err _) = ⊥
 
--- Over told bytes: the wanted answer is given, or another text for a tile that is there. Want of memory and a fault may come in its place.
+-- Over told bytes: the wanted answer is given, or another text for a tile that is there. Want of memory and a
+-- fault may come in its place.
 abbrev pub GivesUnmodified : Result (Option (List ℕ)) PmtError → Result (Option (List ℕ)) PmtError → Result (Option (List ℕ)) PmtError → Type 0
 GivesUnmodified tile wanted (Ok found) = wanted ≡ Ok found
 GivesUnmodified tile wanted (Err (errors.SourceModified a b)) = (bytes : List ℕ) × (tile ≡ Ok (Some bytes))
@@ -27,8 +29,8 @@ GivesUnmodified tile wanted (Err errors.InvalidMetadataUtf8Encoding) = ⊥
 GivesUnmodified tile wanted (Err errors.BudgetSpent) = ⊥
 GivesUnmodified tile wanted (Err e) = Gives wanted (Err e)
 
--- With the text of the opening, the texts of each read where they are told, and the number of the last read: a tile is answered only where the texts agree, and
--- refused as modified only where they are the two that differ.
+-- With the text of the opening, the texts of each read where they are told, and the number of the last read: a tile is
+-- answered only where the texts agree, and refused as modified only where they are the two that differ.
 abbrev pub ComparesTexts : Option (List ℕ) → Option (ℕ → Option (List ℕ)) → ℕ → Result (Option (List ℕ)) PmtError → Type 0
 ComparesTexts opened versions number (Ok None) = Unit {0}
 ComparesTexts opened versions number (Ok (Some bytes)) = IfSome versions (λ text. Agree opened (text number))

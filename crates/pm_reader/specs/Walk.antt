@@ -8,8 +8,8 @@ use Rattle.pm_reader.specs.Levels.{entries_below}
 abbrev pub Item : Type 0
 Item = Result Entry PmtError
 
--- Along entries: a tile entry is an item; a leaf entry gives nothing where its leaf is there and decodes, else its refusal as the last item; and the leaf
--- entry after so many others gives BudgetSpent as the last item.
+-- Along entries: a tile entry is an item; a leaf entry gives nothing where its leaf is there and decodes, else its
+-- refusal as the last item; and the leaf entry after so many others gives BudgetSpent as the last item.
 unfoldable pub along : Header → List ℕ → ℕ → List Entry → List Item
 along h b budget [] = []
 along h b budget (e ∷ es) = elim (nat_eq e.run_length 0) [
@@ -29,6 +29,7 @@ abbrev pub walk_opened : List ℕ → ℕ → Result Opened PmtError → List It
 walk_opened b budget (Err e) = []
 walk_opened b budget (Ok o) = along o.0 b budget (levels (suc budget) o.0 b o.1)
 
--- the walk with a budget of leaves; an entry of level n lies behind n leaf entries at least, so that deeper levels than the budget aren't reached
+-- the walk with a budget of leaves; an entry of level n lies behind n leaf entries at least, so that deeper levels than
+-- the budget aren't reached
 abbrev pub walk : List ℕ → ℕ → List Item
 walk b budget = walk_opened b budget (opened b)

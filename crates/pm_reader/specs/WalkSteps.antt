@@ -36,7 +36,8 @@ left_of b s = cond s.ended [] (queued s.budget s.header b (queue_of s))
 abbrev pub left_at_most : WalkState → ℕ
 left_at_most s = cond s.ended 0 (length (queue_of s) + 2 ^ 64 * s.budget)
 
--- Over told bytes: the first of the items that were left is given, and the others are left. Want of memory and a fault may come in its place, and end the walk.
+-- Over told bytes: the first of the items that were left is given, and the others are left. Want of memory and a fault
+-- may come in its place, and end the walk.
 abbrev pub Yields : List Item → Option Item → List Item → Type 0
 Yields items None rest = (items ≡ []) × (rest ≡ [])
 Yields items (Some (Ok e)) rest = items ≡ Ok e ∷ rest
@@ -59,7 +60,8 @@ refused_units (Some (Ok e)) = 0
 refused_units (Some (Err errors.BudgetSpent)) = 0
 refused_units (Some (Err e)) = 1
 
--- each unit was spent on one read, but that of a leaf that was refused, which took one at most; and the budget is spent only at no unit
+-- each unit was spent on one read, but that of a leaf that was refused, which took one at most; and the budget
+-- is spent only at no unit
 pub record Spends (budget left before now : ℕ) (item : Option Item) : Type 0 where
   pub fewer : left ≤ budget
   pub reads : GrewBetween before now (budget - left - refused_units item) (budget - left)

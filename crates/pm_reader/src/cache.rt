@@ -51,7 +51,8 @@ pub trait DirectoryCache {
     /// No more is held than these limits allow, and no more will be.
     ghost keeps_to: { Self → CacheLimits → Type 0 };
 
-    /// What is known of an id: `NotCached` exactly where nothing is held at the offset, else what the held directory has for it.
+    /// What is known of an id: `NotCached` exactly where nothing is held at the offset, else what the
+    /// held directory has for it.
     fn get_dir_entry(&mut self, offset: u64, tile_id: TileId) -> DirCacheResult
         ensures answer { result ≡ answer_of (held self.old offset) tile_id }
         ensures adds { AddsNone (held self.old) (held self.new) }
@@ -65,7 +66,8 @@ pub trait DirectoryCache {
         ensures idle { idle self.old → idle self.new }
         ensures limits { (l : CacheLimits) → keeps_to self.old l → keeps_to self.new l };
 
-    /// What the held directory has for an id. Where nothing is held at the offset, the fetcher is called, and its directory answers; the only refusal is the fetcher's.
+    /// What the held directory has for an id. Where nothing is held at the offset, the fetcher is called, and its
+    /// directory answers; the only refusal is the fetcher's.
     fn get_dir_entry_or_insert<F: FnOnce() -> PmtResult<Directory>>(
         &mut self,
         offset: u64,

@@ -5,8 +5,9 @@ use crate::DirectoryCache;
 use crate::walk::WalkState;
 use pm_format::{Backend, DirEntry, PmtResult};
 
-/// The entries of tiles of an archive: those of the root, then those of the leaves that it names, and so on. Each leaf spends a unit of a budget and is read once at most. An
-/// error ends the walk: that of a leaf, or `BudgetSpent` where a leaf comes next and no unit is left.
+/// The entries of tiles of an archive: those of the root, then those of the leaves that it names, and so on. Each leaf
+/// spends a unit of a budget and is read once at most. An error ends the walk: that of a leaf, or `BudgetSpent` where a
+/// leaf comes next and no unit is left.
 pub struct Entries<'a, B: Backend, C: DirectoryCache, S = WalkState> {
     pub(crate) backend: &'a mut B,
     pub(crate) cache: C,

@@ -6,8 +6,8 @@ ghost use Rattle.pm_reader.specs.Opening.{root_range};
 use pm_format::{Compression, Directory, Header, PmtError, PmtResult};
 use std::alloc::Global;
 
-/// The header and the root that the front of an archive has. The refusals are those of the header, then of the root's place, of the label of directories, and of
-/// the root's bytes.
+/// The header and the root that the front of an archive has. The refusals are those of the header, then of the root's
+/// place, of the label of directories, and of the root's bytes.
 pub(crate) fn open_front(alloc: Global, front: &[u8]) -> PmtResult<(Header, Directory)>
     ensures found { IfOk result (λ r. opened_front front.now ≡ Ok (r.0, r.1)) }
     ensures refused { IfErr result
@@ -18,8 +18,8 @@ pub(crate) fn open_front(alloc: Global, front: &[u8]) -> PmtResult<(Header, Dire
     Ok((header, root))
 }
 
-/// The header that the front of an archive has, and the bytes in which its root is to be. The refusals are those of the header, then of the root's place, and of
-/// the label of directories.
+/// The header that the front of an archive has, and the bytes in which its root is to be. The refusals are those of the
+/// header, then of the root's place, and of the label of directories.
 pub(crate) fn find_root<'b>(front: &'b [u8]) -> PmtResult<(Header, &'b [u8])>
     ensures found { IfOk result (λ r. opened_front front.now ≡ root_decoded r.0 (dir_of r.1.now)) }
     ensures refused { IfErr result (λ e. opened_front front.now ≡ Err e) }

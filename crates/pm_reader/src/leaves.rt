@@ -14,7 +14,8 @@ use pm_format::{Backend, DirEntry, Directory, Header, PmtError, PmtResult, ReadC
 use std::alloc::Global;
 use tile_ids::TileId;
 
-/// The leaf that an entry leads to. `Reading(PastEnd)` comes where it passes the end of the bytes or u64, and `InvalidEntry` where it doesn't decode.
+/// The leaf that an entry leads to. `Reading(PastEnd)` comes where it passes the end of the bytes or u64, and
+/// `InvalidEntry` where it doesn't decode.
 pub(crate) fn read_leaf<B: Backend>(
     alloc: Global,
     backend: &mut B,
@@ -69,7 +70,8 @@ impl ReaderState {
         }
     }
 
-    /// The tile entry that is reached from what a directory has for an id, through at most so many leaves; none where there is none, or a leaf entry is left.
+    /// The tile entry that is reached from what a directory has for an id, through at most so many leaves; none where
+    /// there is none, or a leaf entry is left.
     pub(crate) fn follow<B: Backend, C: DirectoryCache>(
         &self,
         backend: &mut B,

@@ -59,9 +59,10 @@ impl ReaderState {
 }
 
 impl ReaderState {
-    /// The contents of a tile, cut from what was read; none where there is no tile. A leaf that doesn't decode is `InvalidEntry`. A range past the end of the bytes or
-    /// u64 is `Reading(PastEnd)`. `UnexpectedNumberOfBytesReturned` comes only over a backend that tells no bytes, and `Reading(Fault)` only where the backend's count
-    /// of faults rose. Version texts aren't compared. The backend is to be the one that was opened.
+    /// The contents of a tile, cut from what was read; none where there is no tile. A leaf that doesn't decode is
+    /// `InvalidEntry`. A range past the end of the bytes or u64 is `Reading(PastEnd)`.
+    /// `UnexpectedNumberOfBytesReturned` comes only over a backend that tells no bytes, and `Reading(Fault)` only where
+    /// the backend's count of faults rose. Version texts aren't compared. The backend is to be the one that was opened.
     pub fn get_tile_unversioned<B: Backend>(
         &self,
         backend: &mut B,
@@ -85,7 +86,8 @@ impl ReaderState {
         }
     }
 
-    /// The same, with a cache, which holds leaves of this archive alone. It changes no answer where it is idle, or each leaf offset of the archive is used with one length.
+    /// The same, with a cache, which holds leaves of this archive alone. It changes no answer where it is idle, or each
+    /// leaf offset of the archive is used with one length.
     pub fn get_cached_tile<B: Backend, C: DirectoryCache>(
         &self,
         backend: &mut B,

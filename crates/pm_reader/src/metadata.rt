@@ -13,8 +13,8 @@ use std::alloc::Global;
 use std::str;
 
 impl ReaderState {
-    /// The metadata of the archive, as it stands there. `InvalidMetadataUtf8Encoding` comes exactly where it isn't UTF-8, and `Reading(PastEnd)` where its range passes
-    /// the end of the bytes or u64.
+    /// The metadata of the archive, as it stands there. `InvalidMetadataUtf8Encoding` comes exactly where it isn't
+    /// UTF-8, and `Reading(PastEnd)` where its range passes the end of the bytes or u64.
     pub fn get_metadata<B: Backend>(&self, backend: &mut B) -> PmtResult<TextVal>
         ensures answer { IfSome (B.told backend.old)
             (λ b. MetadataAnswers (metadata_read b (header_of self.now)) result) }

@@ -12,7 +12,8 @@ use bytes::Bytes;
 use pm_format::{Backend, Directory, Header, PmtResult};
 use std::alloc::Global;
 
-/// The directory at a place of the leaf part. `Reading(PastEnd)` comes where its range passes the end of the bytes or u64, and `InvalidEntry` where no front of it is a directory.
+/// The directory at a place of the leaf part. `Reading(PastEnd)` comes where its range passes the end of the bytes or
+/// u64, and `InvalidEntry` where no front of it is a directory.
 pub(crate) fn read_directory_at<B: Backend>(
     alloc: Global,
     backend: &mut B,
@@ -33,11 +34,13 @@ pub(crate) fn read_directory_at<B: Backend>(
 }
 
 impl ReaderState {
-    /// The directory at this offset of the leaf part, in so many bytes; what follows it there is ignored. It is read by one call at most, without a cache.
+    /// The directory at this offset of the leaf part, in so many bytes; what follows it there is ignored. It is read by
+    /// one call at most, without a cache.
     ///
-    /// `Reading(PastEnd)` comes exactly where the range passes the end of the bytes or u64, and `InvalidEntry` exactly where no front of its bytes is a directory.
-    /// `UnexpectedNumberOfBytesReturned` comes only over a backend that tells no bytes, and `Reading(Fault)` only where the backend's count of faults rose. Version
-    /// texts aren't compared.
+    /// `Reading(PastEnd)` comes exactly where the range passes the end of the bytes or u64, and `InvalidEntry`
+    /// exactly where no front of its bytes is a directory. `UnexpectedNumberOfBytesReturned` comes only over a
+    /// backend that tells no bytes, and `Reading(Fault)` only where the backend's count of faults rose.
+    /// Version texts aren't compared.
     pub fn read_directory<B: Backend>(
         &self,
         backend: &mut B,
@@ -54,10 +57,12 @@ impl ReaderState {
         read_directory_at(self.alloc, backend, &self.header, offset, length)
     }
 
-    /// So many bytes at this offset of the data part, cut from what was read by one call at most. No bytes at a place test that the archive reaches to it.
+    /// So many bytes at this offset of the data part, cut from what was read by one call at most. No bytes at a place
+    /// test that the archive reaches to it.
     ///
-    /// `Reading(PastEnd)` comes exactly where the range passes the end of the bytes or u64. `UnexpectedNumberOfBytesReturned` comes only over a backend that tells no
-    /// bytes, and `Reading(Fault)` only where the backend's count of faults rose. Version texts aren't compared.
+    /// `Reading(PastEnd)` comes exactly where the range passes the end of the bytes or u64.
+    /// `UnexpectedNumberOfBytesReturned` comes only over a backend that tells no bytes, and `Reading(Fault)` only where
+    /// the backend's count of faults rose. Version texts aren't compared.
     pub fn read_contents<B: Backend>(
         &self,
         backend: &mut B,
@@ -80,7 +85,8 @@ impl ReaderState {
 }
 
 impl<'a, B: Backend, C: DirectoryCache> PmTilesReader<'a, B, C> {
-    /// The directory at this offset of the leaf part, in so many bytes. Refusals are those of `ReaderState::read_directory`.
+    /// The directory at this offset of the leaf part, in so many bytes. Refusals are those of
+    /// `ReaderState::read_directory`.
     pub fn read_directory(&mut self, offset: u64, length: u32) -> PmtResult<Directory>
         requires tied { IsTied B.told C.held C.idle self.old }
         ensures tied { IsTied B.told C.held C.idle self.new }

@@ -7,7 +7,8 @@ ghost use Rattle.pm_reader.specs.Reads.{GrewBetween, ReadsOnly, reads_done};
 use pm_format::{Backend, BackendResponse, PmtError, PmtResult, ReadCause};
 use std::alloc::Global;
 
-/// Exactly the bytes of a range, whose place is counted from a base. `Reading(PastEnd)` comes where it passes the end of the bytes or u64.
+/// Exactly the bytes of a range, whose place is counted from a base. `Reading(PastEnd)` comes where it passes the
+/// end of the bytes or u64.
 pub(crate) fn read_range<B: Backend>(
     alloc: Global,
     backend: &mut B,

@@ -44,8 +44,9 @@ impl<B: Backend, C: DirectoryCache + Drop, S: Drop> Drop for PmTilesReader<'_, B
 impl<'a, B: Backend> PmTilesReader<'a, B, NoCache> {
     /// Opens the archive of a backend, to be read without a cache: `ReaderState::open`, and then `PmTilesReader::over`.
     ///
-    /// An error is one that `open` answers: over told bytes exactly their first refusal, want of memory, or `Reading(Fault)`, which doesn't come over a backend whose
-    /// calls don't fail. After an error the backend was read once, and tells the bytes and version texts that it told; its count of faults didn't fall, and rose where
+    /// An error is one that `open` answers: over told bytes exactly their first refusal, want of memory, or
+    /// `Reading(Fault)`, which doesn't come over a backend whose calls don't fail. After an error the backend was read
+    /// once, and tells the bytes and version texts that it told; its count of faults didn't fall, and rose where
     /// `Reading(Fault)` came (`rests`). Whoever needs this for a proof calls `open`.
     pub fn try_from_source(alloc: Global, backend: &'a mut B) -> PmtResult<Self>
         ensures* rests { sem 𝓛 (RestsIfErr B.row backend.entry
@@ -97,10 +98,12 @@ impl<'a, B: Backend, C: DirectoryCache> PmTilesReader<'a, B, C> {
         }
     }
 
-    /// Opens the archive of a backend, to be read with this cache, which is to hold nothing: `ReaderState::open`, and then `over`.
+    /// Opens the archive of a backend, to be read with this cache, which is to hold nothing:
+    /// `ReaderState::open`, and then `over`.
     ///
-    /// An error is one that `open` answers: over told bytes exactly their first refusal, want of memory, or `Reading(Fault)`, which doesn't come over a backend whose
-    /// calls don't fail. After an error the backend was read once, and tells the bytes and version texts that it told; its count of faults didn't fall, and rose where
+    /// An error is one that `open` answers: over told bytes exactly their first refusal, want of memory, or
+    /// `Reading(Fault)`, which doesn't come over a backend whose calls don't fail. After an error the backend was read
+    /// once, and tells the bytes and version texts that it told; its count of faults didn't fall, and rose where
     /// `Reading(Fault)` came (`rests`). Whoever needs this for a proof calls `open`.
     pub fn try_from_cached_source(alloc: Global, backend: &'a mut B, cache: C) -> PmtResult<Self>
     where
@@ -149,7 +152,8 @@ impl<'a, B: Backend, C: DirectoryCache> PmTilesReader<'a, B, C> {
         self.state.root()
     }
 
-    /// The contents of a tile; none where there is none. Refusals are those of `ReaderState::get_tile_unversioned`. Version texts aren't compared.
+    /// The contents of a tile; none where there is none. Refusals are those of `ReaderState::get_tile_unversioned`.
+    /// Version texts aren't compared.
     pub fn get_tile_unversioned(&mut self, tile_id: TileId) -> PmtResult<Option<Bytes>>
         requires tied { IsTied B.told C.held C.idle self.old }
         ensures tied { IsTied B.told C.held C.idle self.new }
@@ -175,8 +179,9 @@ impl<'a, B: Backend, C: DirectoryCache> PmTilesReader<'a, B, C> {
             .get_cached_tile(self.backend, &mut self.cache, tile_id)
     }
 
-    /// The contents of a tile, as `get_tile_unversioned` gives them, and `SourceModified` in place of a tile with the version text of the opening and that of this read.
-    /// Where the backend tells its texts, this refusal comes for a tile exactly where both were given and differ.
+    /// The contents of a tile, as `get_tile_unversioned` gives them, and `SourceModified` in place of a tile with the
+    /// version text of the opening and that of this read. Where the backend tells its texts, this refusal comes for a
+    /// tile exactly where both were given and differ.
     pub fn get_tile(&mut self, tile_id: TileId) -> PmtResult<Option<Bytes>>
         requires tied { IsTied B.told C.held C.idle self.old }
         ensures tied { IsTied B.told C.held C.idle self.new }

@@ -12,7 +12,8 @@ use std::alloc::Global;
 /// How many bytes of an archive are read when it is opened: the header and the root lie in them.
 pub(crate) const FRONT: usize = 16_384;
 
-/// What a reader owns beside the backend that it borrows: the header, the root, and the version text that the backend gave when they were read.
+/// What a reader owns beside the backend that it borrows: the header, the root, and the version text that the backend
+/// gave when they were read.
 #[derive(Drop)]
 pub struct ReaderState {
     pub(crate) alloc: Global,
@@ -22,11 +23,13 @@ pub struct ReaderState {
 }
 
 impl ReaderState {
-    /// Opens the archive of a backend, without borrowing it any longer: reads its first 16,384 bytes once, and takes the header and the root from them.
+    /// Opens the archive of a backend, without borrowing it any longer: reads its first 16,384 bytes once, and takes
+    /// the header and the root from them.
     ///
-    /// The first of these that holds is answered: `Reading(Fault)`, which comes only where the backend's count of faults rose; `InvalidHeader` for fewer than 127
-    /// bytes; the refusals of `Header::try_from_bytes`; `InvalidHeader` for a root that begins before byte 127 or ends past the bytes read;
-    /// `UnsupportedCompression` for directories that aren't labelled `None`; `InvalidEntry` for a root that doesn't decode.
+    /// The first of these that holds is answered: `Reading(Fault)`, which comes only where the backend's count of
+    /// faults rose; `InvalidHeader` for fewer than 127 bytes; the refusals of `Header::try_from_bytes`; `InvalidHeader`
+    /// for a root that begins before byte 127 or ends past the bytes read; `UnsupportedCompression` for directories
+    /// that aren't labelled `None`; `InvalidEntry` for a root that doesn't decode.
     pub fn open<B: Backend>(alloc: Global, backend: &mut B) -> PmtResult<ReaderState>
         ensures answer { IfSome (B.told backend.old) (λ b. OpenAnswers b result) }
         ensures open { IfOk result (λ s. IsOpen (B.told backend.new) s) }

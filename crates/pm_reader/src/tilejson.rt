@@ -14,8 +14,8 @@ use pm_format::{Backend, PmtError, PmtResult};
 use tile_json::{DocumentError, TileJson};
 
 impl ReaderState {
-    /// What the archive says of itself: `Header::get_tilejson` of these sources, with what the metadata says. Refusals are those of `get_metadata`, and
-    /// `InvalidMetadata` exactly where `TileJson::with_metadata` refuses the text.
+    /// What the archive says of itself: `Header::get_tilejson` of these sources, with what the metadata says. Refusals
+    /// are those of `get_metadata`, and `InvalidMetadata` exactly where `TileJson::with_metadata` refuses the text.
     pub fn parse_tilejson<B: Backend>(
         &self,
         backend: &mut B,

@@ -15,8 +15,9 @@ use pm_format::{Backend, Compression, PmtError, PmtResult};
 use tile_ids::TileId;
 
 impl ReaderState {
-    /// The contents of a tile, as `get_tile_unversioned` gives them, and `SourceModified` in place of a tile with the version text of the opening and that of this read.
-    /// Where the backend tells its texts, this refusal comes for a tile exactly where both were given and differ.
+    /// The contents of a tile, as `get_tile_unversioned` gives them, and `SourceModified` in place of a tile with the
+    /// version text of the opening and that of this read. Where the backend tells its texts, this refusal comes for a
+    /// tile exactly where both were given and differ.
     pub fn get_tile<B: Backend>(&self, backend: &mut B, tile_id: TileId) -> PmtResult<Option<Bytes>>
         requires open { IsOpen (B.told backend.old) self.now }
         ensures open { IsOpen (B.told backend.new) self.now }
@@ -36,7 +37,8 @@ impl ReaderState {
         self.find_unmodified(backend, &mut cache, tile_id)
     }
 
-    /// The same, with a cache, which holds leaves of this archive alone. It changes no answer where it is idle, or each leaf offset of the archive is used with one length.
+    /// The same, with a cache, which holds leaves of this archive alone. It changes no answer where it is idle, or each
+    /// leaf offset of the archive is used with one length.
     pub fn get_unmodified_tile<B: Backend, C: DirectoryCache>(
         &self,
         backend: &mut B,
@@ -66,7 +68,8 @@ impl ReaderState {
         self.find_unmodified(backend, cache, tile_id)
     }
 
-    /// A tile as `get_tile` gives it, and `UnsupportedCompression` for one that is found exactly where tiles aren't labelled `None`.
+    /// A tile as `get_tile` gives it, and `UnsupportedCompression` for one that is found exactly where
+    /// tiles aren't labelled `None`.
     pub fn get_tile_decompressed<B: Backend>(
         &self,
         backend: &mut B,

@@ -34,7 +34,8 @@ impl ReaderState {
         })
     }
 
-    /// The contents of a tile, `SourceModified` in place of one where both version texts were given and differ; none where there is no tile.
+    /// The contents of a tile, `SourceModified` in place of one where both version texts were given and differ;
+    /// none where there is no tile.
     pub(crate) fn find_unmodified<B: Backend, C: DirectoryCache>(
         &self,
         backend: &mut B,

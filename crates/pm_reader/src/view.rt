@@ -18,10 +18,12 @@ use std::marker::Model;
 use std::str;
 use tile_ids::TileId;
 
-/// An archive in bytes that are borrowed, as those of a mapped file. It takes no memory and copies nothing: each tile and the metadata are slices of the bytes.
+/// An archive in bytes that are borrowed, as those of a mapped file. It takes no memory and copies nothing: each tile
+/// and the metadata are slices of the bytes.
 ///
-/// A slice lives as long as the bytes do, and longer than the view if need be. One that is kept past its bytes doesn't compile: the borrow checker refuses it. A look-up reads
-/// each directory on its way from the front, in time linear in its entries; a reader with a cache searches decoded directories by halves.
+/// A slice lives as long as the bytes do, and longer than the view if need be. One that is kept past its bytes doesn't
+/// compile: the borrow checker refuses it. A look-up reads each directory on its way from the front, in time linear in
+/// its entries; a reader with a cache searches decoded directories by halves.
 #[derive(Drop)]
 pub struct ArchiveView<'b> {
     bytes: &'b [u8],
@@ -44,9 +46,10 @@ impl<'b> Model for ArchiveView<'b> {
 impl<'b> ArchiveView<'b> {
     /// Opens the archive in these bytes: the header and the root are looked for in the first 16,384 of them.
     ///
-    /// The first of these that holds is answered: `InvalidHeader` for fewer than 127 bytes; the refusals of `Header::try_from_bytes`; `InvalidHeader` for a root that
-    /// begins before byte 127 or ends past the first 16,384; `UnsupportedCompression` for directories that aren't labelled `None`; `InvalidEntry` for a root that
-    /// doesn't decode.
+    /// The first of these that holds is answered: `InvalidHeader` for fewer than 127 bytes; the refusals of
+    /// `Header::try_from_bytes`; `InvalidHeader` for a root that begins before byte 127 or ends past the
+    /// first 16,384; `UnsupportedCompression` for directories that aren't labelled `None`; `InvalidEntry` for
+    /// a root that doesn't decode.
     pub fn open(bytes: &'b [u8]) -> PmtResult<ArchiveView<'b>>
         ensures answer { result ≡ viewed bytes.now (opened bytes.now) }
         ensures refusal { IfErr result IsOpenRefusal }
@@ -66,8 +69,8 @@ impl<'b> ArchiveView<'b> {
         &self.header
     }
 
-    /// The metadata of the archive, as it stands there. `InvalidMetadataUtf8Encoding` comes exactly where it isn't UTF-8, and `Reading(PastEnd)` where its range passes
-    /// the end of the bytes or u64.
+    /// The metadata of the archive, as it stands there. `InvalidMetadataUtf8Encoding` comes exactly where it isn't
+    /// UTF-8, and `Reading(PastEnd)` where its range passes the end of the bytes or u64.
     pub fn metadata(&self) -> PmtResult<&'b str>
         ensures answer { text_behind result ≡ metadata_of self.now }
         ensures refusal { IfErr result IsTextRefusal }
@@ -83,7 +86,8 @@ impl<'b> ArchiveView<'b> {
         text(bytes)
     }
 
-    /// The contents of a tile; none where there is no tile. A leaf that doesn't decode is `InvalidEntry`. A range past the end of the bytes or u64 is `Reading(PastEnd)`.
+    /// The contents of a tile; none where there is no tile. A leaf that doesn't decode is `InvalidEntry`. A range past
+    /// the end of the bytes or u64 is `Reading(PastEnd)`.
     pub fn get_tile(&self, tile_id: TileId) -> PmtResult<Option<&'b [u8]>>
         ensures answer { tile_behind result ≡ archive_tile self.now tile_id }
         ensures refusal { IfErr result IsTileRefusal }

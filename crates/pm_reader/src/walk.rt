@@ -13,7 +13,8 @@ use pm_format::{Backend, DirEntry, Directory, Header, PmtError, PmtResult};
 use std::alloc::Global;
 use std::collections::VecDeque;
 
-/// What a walk owns beside the backend that it borrows: the directory that it is in, those that follow, and the units that are left.
+/// What a walk owns beside the backend that it borrows: the directory that it is in, those that follow, and
+/// the units that are left.
 #[derive(Drop)]
 pub struct WalkState {
     pub(crate) alloc: Global,
@@ -106,8 +107,10 @@ impl WalkState {
         Ok(())
     }
 
-    /// The next item of the walk: an entry of a tile, or an error, after which the walk ends. A unit that is spent takes one read of a leaf, or at most one where that leaf
-    /// is refused. `BudgetSpent` comes only where no unit is left and a leaf entry is next. Leaves are read once each, and not kept. The backend is to be the one that was opened.
+    /// The next item of the walk: an entry of a tile, or an error, after which the walk ends. A unit that is
+    /// spent takes one read of a leaf, or at most one where that leaf is refused. `BudgetSpent` comes only where
+    /// no unit is left and a leaf entry is next. Leaves are read once each, and not kept. The backend is to be
+    /// the one that was opened.
     pub fn next_item<B: Backend>(&mut self, backend: &mut B) -> Option<PmtResult<DirEntry>>
         ensures items { IfSome (B.told backend.old)
             (λ b. Yields (left_of b self.old) result (left_of b self.new)) }

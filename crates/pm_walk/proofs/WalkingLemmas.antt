@@ -88,7 +88,8 @@ refused_through ext is w v mid old new f (Archive (errors.UnexpectedNumberOfByte
 refused_through ext is w v mid old new f TooManyTiles r = stops_through ext (room_after mid.room (pieces ext is w.entries)) (room_after old.room (pieces ext is v.entries)) f.none r
 refused_through ext is w v mid old new f x r = let p = f.refusal x r.0 in (p.0, r.1 ∙ p.1)
 
--- What was walked of a directory's entries: these tile entries and so many reads, and what is left makes the rest of the whole.
+-- What was walked of a directory's entries: these tile entries and so many reads, and what is left
+-- makes the rest of the whole.
 pub record SoFar (ext : Extent) (h : Header) (b : List ℕ) (is : List (ℕ × ℕ)) (left low : ℕ) (limit : Option ℕ) (es : List Entry) (before : Option Entry) (rest : List Entry) (old now : Collected) (first reads : ℕ) : Type 0 where
   pub seen : List Entry
   pub leaves : ℕ

@@ -68,7 +68,8 @@ abbrev pub KeepsContents : Extent → Option (List ℕ) → Header → Collected
 KeepsContents Within told h c = Unit {0}
 KeepsContents Whole told h c = AreContentsOf told h c.parts c.contents
 
--- As long as there is room, the parts lie in the intervals, and their tiles and those that there is room for are no more than these.
+-- As long as there is room, the parts lie in the intervals, and their tiles and those that there is room
+-- for are no more than these.
 abbrev pub KeepsTo : Extent → List (ℕ × ℕ) → ℕ → Collected → Type 0
 KeepsTo k is most c = IfSome c.room (λ room. KeepWithin k is c.parts × (tile_count c.parts + room ≤ most))
 
@@ -87,7 +88,8 @@ StopsWith k room (Archive errors.OutOfMemory) = Unit {0}
 StopsWith k room TooManyTiles = Unit {0}
 StopsWith k room x = HasRoom k room
 
--- Over told bytes: a walk's refusal is answered, behind all that it comes to before. A fault and want of memory may come in its place, and a wrong number of bytes never does.
+-- Over told bytes: a walk's refusal is answered, behind all that it comes to before. A fault and want of memory may
+-- come in its place, and a wrong number of bytes never does.
 abbrev pub Refuses : Extent → Walked → List (ℕ × ℕ) → Collected → Collected → WalkError → Type 0
 Refuses k w is old new (Archive errors.OutOfMemory) = Unit {0}
 Refuses k w is old new (Archive (errors.Reading causes.Fault)) = Unit {0}
@@ -100,7 +102,8 @@ abbrev pub Walks : Extent → Walked → List (ℕ × ℕ) → Collected → Col
 Walks k w is old new (Ok x) = (w.refusal ≡ None) × Collects old (pieces k is w.entries) new
 Walks k w is old new (Err x) = Refuses k w is old new x
 
--- Over told bytes, an entry that is met: it leads to nothing that is still to be walked, to a leaf that is, or to a refusal.
+-- Over told bytes, an entry that is met: it leads to nothing that is still to be walked, to a leaf
+-- that is, or to a refusal.
 abbrev pub Meets : Extent → Header → List ℕ → List (ℕ × ℕ) → ℕ → Entry → Option ℕ → Collected → Collected → Result (Option (List Entry)) WalkError → Type 0
 Meets k h b is left e end old new (Ok None) = Walks k (entry_walk k (below k left h b is) h b is e end) is old new (Ok tt)
 Meets k h b is left e end old new (Ok (Some leaf)) = (e.run_length ≡ 0) × (meets k is e.tile_id end ≡ true) × (leaf_of h b e ≡ Ok leaf) × (new ≡ old)
@@ -117,7 +120,8 @@ pub record IsMetLeaf (k : Extent) (is : List (ℕ × ℕ)) (left : ℕ) (e : Ent
   pub met : meets k is e.tile_id end ≡ true
   pub kept : new ≡ old
 
--- Told or not, why a walk is refused: for what a directory is refused for, a fault only where the count of faults rose; for the ids of a run only where the whole is walked.
+-- Told or not, why a walk is refused: for what a directory is refused for, a fault only where the count of faults rose;
+-- for the ids of a run only where the whole is walked.
 abbrev pub StopCauses : Extent → ℕ → ℕ → WalkError → Type 0
 StopCauses k before now (Archive e) = LookUpCauses {A = Unit {0}} before now (Err e)
 StopCauses k before now TooManyTiles = Unit {0}

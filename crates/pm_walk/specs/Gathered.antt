@@ -20,8 +20,9 @@ pub record IsGathered {T : Type 0} (holds : T → List Entry → List (List ℕ)
   pub within : KeepWithin k is all.parts
   pub contents : KeepsContents k told h all
 
--- These entries, with these contents beside them, are what was given: over told bytes all tile entries of the archive that have bytes, and what it has in the range of each; in any case entries in order
--- with no tile of zoom 31, no more tiles than the limit, and contents for each.
+-- These entries, with these contents beside them, are what was given: over told bytes all tile entries of the archive
+-- that have bytes, and what it has in the range of each; in any case entries in order with no tile of zoom 31, no more
+-- tiles than the limit, and contents for each.
 pub record AreGiven (told : Option (List ℕ)) (h : Header) (root : List Entry) (most : ℕ) (es : List Entry) (cs : List (List ℕ)) : Type 0 where
   pub gathered : IfSome told (λ b. Gathers Whole (all_walked b (h, root)) [] most (Ok es))
   pub contents : AreContentsOf told h es cs

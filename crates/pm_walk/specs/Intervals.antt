@@ -14,7 +14,8 @@ abbrev pub AreApart : ℕ → List (ℕ × ℕ) → Type 0
 AreApart low [] = Unit {0}
 AreApart low (i ∷ is) = (low ≤ i.0) × (i.0 ≤ i.1) × AreApart (i.1 + 1) is
 
--- the end of a range of ids, where it has one: whether an id lies below it, and whether a run that ends at one stays within it
+-- the end of a range of ids, where it has one: whether an id lies below it, and whether a run that
+-- ends at one stays within it
 abbrev pub is_below : Option ℕ → ℕ → Bool
 is_below None n = true
 is_below (Some end) n = nat_lt n end

@@ -26,7 +26,8 @@ rises (Some d) id = nat_lt d.tile_id id
 abbrev pub fits_depth : ℕ → Entry → Bool
 fits_depth left e = if nat_eq e.run_length 0 then not (nat_eq left 0) else true
 
--- The tests of an entry: its id is above that of the entry before, lies in its directory's range, its run doesn't pass the end of its own range, and it isn't a leaf too many.
+-- The tests of an entry: its id is above that of the entry before, lies in its directory's range, its run doesn't pass
+-- the end of its own range, and it isn't a leaf too many.
 abbrev pub stands : ℕ → Option Entry → ℕ → Option ℕ → Option ℕ → Entry → Bool
 stands left before low limit end e =
     rises before e.tile_id && nat_le low e.tile_id && is_below limit e.tile_id && stays_within end (e.tile_id + e.run_length) && fits_depth left e
@@ -48,8 +49,8 @@ nothing_met = record { refusal = None; entries = []; reads = 0 }
 abbrev pub refuses : WalkError → Walked
 refuses x = record { refusal = Some x; entries = []; reads = 0 }
 
--- The tests of a tile entry that a set of tiles asks for: its contents lie in the archive, each id of its run is that of a tile, and unless it is empty none is that of a tile of zoom 31. The refusal
--- has the first id that isn't.
+-- The tests of a tile entry that a set of tiles asks for: its contents lie in the archive, each id of its run is that
+-- of a tile, and unless it is empty none is that of a tile of zoom 31. The refusal has the first id that isn't.
 abbrev pub run_refusal : Entry → Option WalkError
 run_refusal e =
     if nat_le (e.tile_id + e.run_length) (MAX_TILE_ID + 1)

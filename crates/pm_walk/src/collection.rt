@@ -104,12 +104,16 @@ fn no_parts(alloc: Global) -> PartList
     }
 }
 
-/// The parts of the tile entries of an archive that opened that lie in intervals, in order of their ids: offsets count from the data part, lengths are bytes. Entries without a byte are left out.
+/// The parts of the tile entries of an archive that opened that lie in intervals, in order of their ids: offsets count
+/// from the data part, lengths are bytes. Entries without a byte are left out.
 ///
-/// The intervals are given by their first and last ids, in order and apart; leaves that can't have one of these ids aren't read. The directories are walked in order, and each leaf is read once, and
-/// walked whole, where its entry stands. The first failing test at the first failing entry is answered. These are: `InvalidEntry` where an entry's id isn't above that before it, lies outside its
-/// directory's range, or its run passes the end of its own range, and for a leaf behind six others; `PastEnd` where a leaf passes the end; `InvalidEntry` for a leaf that doesn't decode, and for a
-/// tile entry whose run passes the ids of tiles. `TooManyTiles` comes where no other refusal does. `Archive(Reading(Fault))` comes only where the count of faults rose.
+/// The intervals are given by their first and last ids, in order and apart; leaves that can't have one of these ids
+/// aren't read. The directories are walked in order, and each leaf is read once, and walked whole, where its entry
+/// stands. The first failing test at the first failing entry is answered. These are: `InvalidEntry` where an entry's id
+/// isn't above that before it, lies outside its directory's range, or its run passes the end of its own range, and for
+/// a leaf behind six others; `PastEnd` where a leaf passes the end; `InvalidEntry` for a leaf that doesn't decode, and
+/// for a tile entry whose run passes the ids of tiles. `TooManyTiles` comes where no other refusal does.
+/// `Archive(Reading(Fault))` comes only where the count of faults rose.
 pub fn collect<B: Backend>(
     alloc: Global,
     state: &ReaderState,
@@ -141,11 +145,14 @@ pub fn collect<B: Backend>(
     }
 }
 
-/// Gives the tile entries of a whole archive that opened, with their contents, in order of their ids, to what takes them, and answers what has taken all. Entries without a byte are left out.
+/// Gives the tile entries of a whole archive that opened, with their contents, in order of their ids, to what takes
+/// them, and answers what has taken all. Entries without a byte are left out.
 ///
-/// The directories are walked as by `collect`, but all of them. A tile entry is tested, in this order, for `PastEnd`, `InvalidTileId`, `TooDeep` and `TooManyTiles`, for the last two unless it is
-/// empty. Each costs one read: its contents are read once it has passed the other tests, and given away at once; where it fails one of them or is empty, no bytes are read at the end of its range. So what
-/// is given has at most so many tiles, also where the walk is refused behind it, and what has taken a part of the entries is let go then. Where it wants memory, the walk ends.
+/// The directories are walked as by `collect`, but all of them. A tile entry is tested, in this order, for `PastEnd`,
+/// `InvalidTileId`, `TooDeep` and `TooManyTiles`, for the last two unless it is empty. Each costs one read: its
+/// contents are read once it has passed the other tests, and given away at once; where it fails one of them or is
+/// empty, no bytes are read at the end of its range. So what is given has at most so many tiles, also where the walk is
+/// refused behind it, and what has taken a part of the entries is let go then. Where it wants memory, the walk ends.
 pub fn take_entries<B: Backend, T: TakesEntries + Drop>(
     state: &ReaderState,
     backend: &mut B,

@@ -9,12 +9,14 @@ use base_values::OutOfMemory;
 use bytes::Bytes;
 use pm_format::DirEntry;
 
-/// What takes the tile entries of a walk, one after another in order of their ids, each as soon as it has passed its tests.
+/// What takes the tile entries of a walk, one after another in order of their ids, each as soon as
+/// it has passed its tests.
 pub trait TakesEntries {
     /// These entries, with these contents beside them, were given to it, and it holds what it makes of them.
     ghost holds: { Self → List Entry → List (List ℕ) → Type 0 };
 
-    /// Takes a tile entry, whose run is one of tiles, and its contents. Where a part of an archive is walked, the contents aren't read, and none are given.
+    /// Takes a tile entry, whose run is one of tiles, and its contents. Where a part of an archive is walked, the
+    /// contents aren't read, and none are given.
     fn take_entry(&mut self, entry: DirEntry, contents: Bytes) -> Result<(), OutOfMemory>
         requires run { entry.run_length ≢ 0 }
         requires within { entry.tile_id + entry.run_length ≤ MAX_TILE_ID + 1 }
@@ -22,7 +24,8 @@ pub trait TakesEntries {
             (holds self.new (es ++ entry ∷ []) (cs ++ contents ∷ [])) };
 }
 
-/// What takes the parts that are met, and for how many more tiles there is room. There is none once it didn't suffice; then parts are missing.
+/// What takes the parts that are met, and for how many more tiles there is room. There is none once it didn't
+/// suffice; then parts are missing.
 #[derive(Drop)]
 pub(crate) struct Collecting<T> {
     pub taker: T,

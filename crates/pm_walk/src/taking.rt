@@ -31,8 +31,8 @@ fn refusal_behind(room: Option<u64>, entry: DirEntry) -> Option<WalkError>
     Some(WalkError::TooManyTiles)
 }
 
-// The contents of a tile entry of the whole that passes its tests, or none where it is empty. They are read in the place of the test of its range; where there are none, or where another test
-// fails, no bytes are read at its end.
+// The contents of a tile entry of the whole that passes its tests, or none where it is empty. They are read in the
+// place of the test of its range; where there are none, or where another test fails, no bytes are read at its end.
 fn read_whole<B: Backend>(
     state: &ReaderState,
     backend: &mut B,
@@ -112,7 +112,8 @@ fn take_parts<T: TakesEntries>(
     }
 }
 
-/// A tile entry, tested and collected: where a part is walked, the parts of a run of tiles; where the whole is walked, the entry with its contents.
+/// A tile entry, tested and collected: where a part is walked, the parts of a run of tiles; where the whole is walked,
+/// the entry with its contents.
 pub(crate) fn take<B: Backend, T: TakesEntries>(
     extent: Extent,
     state: &ReaderState,

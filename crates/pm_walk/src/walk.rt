@@ -60,7 +60,8 @@ fn end_of(others: &[DirEntry], limit: Option<u64>) -> Option<u64>
     }
 }
 
-// An entry that passes its tests: the leaf that it leads to, still to be walked, or none where it is a tile or its leaf isn't met.
+// An entry that passes its tests: the leaf that it leads to, still to be walked, or none where it is a
+// tile or its leaf isn't met.
 fn meet<B: Backend, T: TakesEntries>(
     extent: Extent,
     state: &ReaderState,
@@ -99,7 +100,8 @@ fn meet<B: Backend, T: TakesEntries>(
     }
 }
 
-/// Walks a directory and the leaves below it that are met, at most so many deep: each entry is tested, a tile is collected, and a leaf that is met is read and walked whole before the next entry.
+/// Walks a directory and the leaves below it that are met, at most so many deep: each entry is tested, a tile is
+/// collected, and a leaf that is met is read and walked whole before the next entry.
 pub(crate) fn walk<B: Backend, T: TakesEntries>(
     extent: Extent,
     state: &ReaderState,

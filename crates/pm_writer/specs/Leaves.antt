@@ -16,7 +16,8 @@ pieces size es = cut (length es) size es
 abbrev pub fits_root : List Entry → Bool
 fits_root es = nat_le (length (dir_bytes es)) MAX_ROOT
 
--- upper directories, lying from a place on, of the first size whose root fits; each size is the one before and its fifth
+-- upper directories, lying from a place on, of the first size whose root fits; each size is the
+-- one before and its fifth
 abbrev pub uppers_by : ℕ → ℕ → ℕ → List Entry → List (List Entry)
 uppers_by zero place size es = pieces size es
 uppers_by (suc n) place size es =
@@ -43,7 +44,8 @@ below_layout l = l.leaves ++ l.uppers
 abbrev pub end_of : List (List Entry) → ℕ
 end_of ls = length (flat_map dir_bytes ls)
 
--- a root that names leaves, where their entries fit it, else one that names upper directories of these entries, of no smaller size than this
+-- a root that names leaves, where their entries fit it, else one that names upper directories of these entries, of
+-- no smaller size than this
 abbrev pub named_leaves : ℕ → List (List Entry) → Layout
 named_leaves size ls =
     let us = found_uppers (end_of ls) size (root_of 0 ls) in

@@ -47,7 +47,8 @@ places_opened b (Ok o) = Some (record {
 abbrev pub places_read : List ℕ → Option ArchivePlaces
 places_read b = places_opened b (opened b)
 
--- those of directories behind data, with the counts of tiles, entries and contents, as they are kept while an archive is finished
+-- those of directories behind data, with the counts of tiles, entries and contents, as they are kept
+-- while an archive is finished
 abbrev pub places_with : Directories → ℕ → ℕ → ℕ → ℕ → ℕ → ArchivePlaces
 places_with d data_offset data_length addressed entries contents = record {
   length = data_offset + data_length + length d.below.items;

@@ -5,7 +5,8 @@ use Rattle.pm_format.specs.declared.compression.Compression.TheVariants as compr
 use Rattle.pm_writer.specs.Causes.{CreateCauses}
 use Rattle.pm_writer.specs.Pieces.{IsHidden}
 
--- By the label of directories: a refusal for the label leaves the medium, and after each error the label's byte is 0 or missing, the counts don't fall, and what tells goes on to tell.
+-- By the label of directories: a refusal for the label leaves the medium, and after each error the label's byte is 0 or
+-- missing, the counts don't fall, and what tells goes on to tell.
 pub record LeftByCreate {A M V : Type 0} (label : Compression) (told : M → Option (List ℕ)) (texts : M → Option V) (failed read : M → ℕ) (steady : M → Type 0) (old : M) (result : Result A PmtError) (new : M) : Type 0 where
   pub causes : CreateCauses label (failed old) (failed new) result
   pub hidden : IfSome (told new) IsHidden

@@ -8,7 +8,8 @@ Rising [] = Unit {0}
 Rising (e ∷ []) = Unit {0}
 Rising (e ∷ f ∷ es) = (e.tile_id < f.tile_id) × Rising (f ∷ es)
 
--- an entry names one of the directories that lie one behind another from a place on: it has the place and length of its bytes
+-- an entry names one of the directories that lie one behind another from a place on: it has the
+-- place and length of its bytes
 pub record Names (place : ℕ) (ls : List (List Entry)) (e : Entry) (l : List Entry) : Type 0 where
   pub before : List (List Entry)
   pub after : List (List Entry)

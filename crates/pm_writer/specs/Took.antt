@@ -1,9 +1,11 @@
--- What data is taken for, as a writer compares it with what its medium answers: a medium that tells nothing may answer other bytes than were written.
+-- What data is taken for, as a writer compares it with what its medium answers: a medium that tells nothing may answer
+-- other bytes than were written.
 use Rattle.std.specs.Prelude.{◌≡◌, ◌≢◌, ℕ, List, [], ◌∷◌, length, All, Option, Some, None}
 use Rattle.pm_writer.specs.Common.{IsBytes, xxh3_64}
 use Rattle.pm_contents.specs.Span.{Stood}
 
--- the data itself where the medium tells its bytes, and else data of its length and digest, or a mark of its length that no data is equal to
+-- the data itself where the medium tells its bytes, and else data of its length and digest, or a mark of its length
+-- that no data is equal to
 abbrev pub Took : Option (List ℕ) → List ℕ → List ℕ → Type 0
 Took (Some bytes) given taken = taken ≡ given
 Took None given taken = (length taken ≡ length given) × (IsBytes taken → xxh3_64 taken ≡ xxh3_64 given)

@@ -55,7 +55,8 @@ has_failed s = s.failed
 abbrev pub room : WriterState → ℕ
 room s = vec_capacity s.adds.entries - vec_len s.adds.entries
 
--- the told bytes hold the contents of these adds at their places, unless the medium failed; and no part of an archive is shown
+-- the told bytes hold the contents of these adds at their places, unless the medium failed; and no
+-- part of an archive is shown
 pub record Writes (o : Options) (told : Option (List ℕ)) (s : WriterState) (adds : List (ℕ × List ℕ)) : Type 0 where
   pub of : IsWriterOf o s
   pub hidden : IfSome told IsHidden

@@ -144,14 +144,19 @@ impl WriterState {
         self.add_sought(medium, id, bytes, size, sought)
     }
 
-    /// Adds the bytes of the tile with this id as they are. Empty data is no tile: it changes nothing, and neither a fault nor want of memory comes.
+    /// Adds the bytes of the tile with this id as they are. Empty data is no tile: it changes nothing, and neither a
+    /// fault nor want of memory comes.
     ///
-    /// The data is compared with a content of its digest and length that the medium answers, where there is one, by one read. A medium that tells its bytes answers what was written, and the data is
-    /// taken for itself; one that doesn't may answer other bytes, and the data is then taken for the data of that content, or for a new content that no data is equal to.
+    /// The data is compared with a content of its digest and length that the medium answers, where there is one, by
+    /// one read. A medium that tells its bytes answers what was written, and the data is taken for itself; one that
+    /// doesn't may answer other bytes, and the data is then taken for the data of that content, or for a new content
+    /// that no data is equal to.
     ///
-    /// `Failed` comes exactly after an earlier fault of the medium in this writer, and `IndexEntryOverflow` only where what the data is taken for has 2^32 bytes or more, or its end would pass u64; then the answer
-    /// is never Ok. `Reading(Fault)`, only where the medium's count of faults rose, and `OutOfMemory` may come in the place of the last one, for data of fewer than 2^32 bytes.
-    /// After each of them the writer and its medium mean what they did, and no part of an archive is shown.
+    /// `Failed` comes exactly after an earlier fault of the medium in this writer, and `IndexEntryOverflow` only where
+    /// what the data is taken for has 2^32 bytes or more, or its end would pass u64; then the answer is never Ok.
+    /// `Reading(Fault)`, only where the medium's count of faults rose, and `OutOfMemory` may come in the place of the
+    /// last one, for data of fewer than 2^32 bytes. After each of them the writer and its medium mean what they did,
+    /// and no part of an archive is shown.
     pub fn add_raw_tile_by_id<M: Medium>(
         &mut self,
         medium: &mut M,
@@ -175,7 +180,8 @@ impl WriterState {
         self.add_raw_tile_with_digest(medium, id, xxh3_64(bytes), bytes)
     }
 
-    /// Adds the bytes of the tile with this id as they are: `add_raw_tile_by_id` for a caller that has their XXH3 digest.
+    /// Adds the bytes of the tile with this id as they are: `add_raw_tile_by_id` for a caller
+    /// that has their XXH3 digest.
     pub fn add_raw_tile_with_digest<M: Medium>(
         &mut self,
         medium: &mut M,
@@ -231,7 +237,8 @@ impl WriterState {
         self.add_raw_tile_by_id(medium, TileId::from(coord), bytes)
     }
 
-    /// Adds a plain tile: as `add_raw_tile`, but `UnsupportedCompression` is answered, behind `Failed`, exactly where tiles aren't labelled `None`.
+    /// Adds a plain tile: as `add_raw_tile`, but `UnsupportedCompression` is answered, behind `Failed`, exactly where
+    /// tiles aren't labelled `None`.
     pub fn add_tile<M: Medium>(
         &mut self,
         medium: &mut M,

@@ -143,7 +143,8 @@ impl Adds {
         self.contents.seek(alloc, medium, from, digest, bytes)
     }
 
-    /// Adds bytes that were sought. New ones are written behind the others on the medium. Memory is taken before anything is written. Refused, the adds are as before.
+    /// Adds bytes that were sought. New ones are written behind the others on the medium. Memory is taken before
+    /// anything is written. Refused, the adds are as before.
     pub(crate) fn add<M: Medium>(
         &mut self,
         medium: &mut M,

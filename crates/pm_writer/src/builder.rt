@@ -9,7 +9,8 @@ use base_values::TextVal;
 use pm_format::{Compression, TileType};
 use std::marker::Model;
 
-/// What is written beside the tiles: labels, type, zooms, degrees and metadata. Made by `new`, changed by the setters, and used by `create`.
+/// What is written beside the tiles: labels, type, zooms, degrees and metadata. Made by `new`, changed by the
+/// setters, and used by `create`.
 #[derive(Drop)]
 pub struct PmTilesWriter {
     settings: Settings,
@@ -30,8 +31,9 @@ impl Model for PmTilesWriter {
 }
 
 impl PmTilesWriter {
-    /// A writer of tiles of this type. Directories are labelled `None`, and tiles `Gzip` for Mvt and else `None`. The zooms are 0 to 22, the bounds are
-    /// the whole world of the Mercator projection, the center is at zoom 0 and degrees 0, the metadata is `{}`, and a leaf has at most 4,096 entries.
+    /// A writer of tiles of this type. Directories are labelled `None`, and tiles `Gzip` for Mvt and else `None`. The
+    /// zooms are 0 to 22, the bounds are the whole world of the Mercator projection, the center is at zoom 0 and
+    /// degrees 0, the metadata is `{}`, and a leaf has at most 4,096 entries.
     pub fn new(tile_type: TileType) -> PmTilesWriter
         ensures { result ≡ default_options tile_type }
     {
@@ -149,7 +151,8 @@ impl PmTilesWriter {
         self.settings.internal_compression
     }
 
-    /// That zooms and degrees lie within their types, a leaf has from 16 to 65,536 entries at most and the metadata has fewer than 2^63 bytes, whatever the setters were given. It does nothing.
+    /// That zooms and degrees lie within their types, a leaf has from 16 to 65,536 entries at most and the metadata has
+    /// fewer than 2^63 bytes, whatever the setters were given. It does nothing.
     pub fn fits(&self)
         ensures options { OptionsFit self.now }
         ensures metadata { length self.now.metadata < 2 ^ 63 }

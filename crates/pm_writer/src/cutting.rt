@@ -11,7 +11,8 @@ use base_values::OutOfMemory;
 use pm_format::{AsWide, DirEntry, MAX_ROOT, PmtError, PmtResult, WideEntry, encode_entries};
 use std::alloc::Global;
 
-/// The bytes of the root, those of the directories below it one behind another, and how many of these have tile entries and how many don't.
+/// The bytes of the root, those of the directories below it one behind another, and how many of these have tile
+/// entries and how many don't.
 #[derive(Drop)]
 pub(crate) struct Directories {
     pub(crate) root: Vec<u8>,
@@ -48,8 +49,8 @@ fn flat_root(alloc: Global, entries: &[DirEntry]) -> Result<Option<Vec<u8>>, Out
     root_bytes(alloc, entries)
 }
 
-// Upper directories of these entries, from a place of the leaf part on, of the first size whose root fits, and the bytes of this root. Each size is the one before
-// and its fifth.
+// Upper directories of these entries, from a place of the leaf part on, of the first size whose root fits, and the
+// bytes of this root. Each size is the one before and its fifth.
 fn best_uppers(
     alloc: Global,
     names: &[WideEntry],
@@ -75,7 +76,8 @@ fn best_uppers(
 }
 
 impl Directories {
-    // The bytes of the root with those of two levels. `IndexEntryOverflow` exactly where a directory has 2^32 bytes or more.
+    // The bytes of the root with those of two levels. `IndexEntryOverflow` exactly where a
+    // directory has 2^32 bytes or more.
     fn join(root: Vec<u8>, leaves: Level, uppers: Level) -> PmtResult<Directories>
         ensures are { (l : Layout) → IsLaid root.items leaves uppers l
             → IfOk result (λ d. AreDirectories d l) }
@@ -122,7 +124,8 @@ impl Directories {
         }
     }
 
-    /// Those of sorted entries, at most so many in a leaf. `IndexEntryOverflow` exactly where a directory has 2^32 bytes or more.
+    /// Those of sorted entries, at most so many in a leaf. `IndexEntryOverflow` exactly where a
+    /// directory has 2^32 bytes or more.
     pub(crate) fn build(alloc: Global, entries: Vec<DirEntry>, most: u32) -> PmtResult<Directories>
         requires fits { DirFits 0 entries.items }
         requires some { 5 ≤ most }

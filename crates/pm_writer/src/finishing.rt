@@ -37,8 +37,9 @@ fn addressed_tiles(entries: &[DirEntry]) -> u64
 }
 
 impl WriterState {
-    // The parts of the archive of the adds. The first of these that holds is answered: `OverlappingEntries` with the least id that has two adds, exactly where
-    // there is one; `IndexEntryOverflow` exactly where a directory has 2^32 bytes or more, or the archive would end past u64; `OutOfMemory`.
+    // The parts of the archive of the adds. The first of these that holds is answered: `OverlappingEntries` with the
+    // least id that has two adds, exactly where there is one; `IndexEntryOverflow` exactly where a directory has 2^32
+    // bytes or more, or the archive would end past u64; `OutOfMemory`.
     fn assemble(self) -> PmtResult<Assembled>
         requires { (o : Options) × (adds : List (ℕ × List ℕ)) × IsStateOf o self adds }
         ensures is { (o : Options) (adds : List (ℕ × List ℕ)) → IsStateOf o self adds
@@ -87,13 +88,15 @@ impl WriterState {
         })
     }
 
-    /// Finishes the archive: the leaves behind the contents, the upper directories behind these, the root at 127, the header at 0 with its label of directories left out, and last this label.
-    /// The medium then holds the one archive of the adds, and the places are its own.
+    /// Finishes the archive: the leaves behind the contents, the upper directories behind these, the root at 127, the
+    /// header at 0 with its label of directories left out, and last this label. The medium then holds the one archive
+    /// of the adds, and the places are its own.
     ///
-    /// The first of these that holds is answered: `Failed` exactly after an earlier fault of the medium in this writer; `OverlappingEntries` with the least id that
-    /// has two non-empty adds, exactly where there is one; `IndexEntryOverflow` exactly where a directory has 2^32 bytes or more, or the archive would end past u64;
-    /// `Reading(Fault)` only where the medium's count of faults rose; `OutOfMemory`. After each of them byte 97 of the medium, the label of directories, is 0, or the
-    /// whole archive stands.
+    /// The first of these that holds is answered: `Failed` exactly after an earlier fault of the medium in this writer;
+    /// `OverlappingEntries` with the least id that has two non-empty adds, exactly where there is one;
+    /// `IndexEntryOverflow` exactly where a directory has 2^32 bytes or more, or the archive would end past u64;
+    /// `Reading(Fault)` only where the medium's count of faults rose; `OutOfMemory`. After each of them byte 97 of the
+    /// medium, the label of directories, is 0, or the whole archive stands.
     pub fn finalize<M: Medium>(self, medium: &mut M) -> PmtResult<ArchivePlaces>
         requires writes { WritesSome (M.told medium.old) self }
         ensures bytes { WhereWrites (M.told medium.old) self

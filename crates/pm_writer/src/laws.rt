@@ -47,7 +47,8 @@ pub fn every_root_fits()
         → length (dir_bytes (laid size es).root) ≤ MAX_ROOT }
 {}
 
-/// Every directory is below 2^32 bytes, and no directory of tile entries below the root has more entries than the options say.
+/// Every directory is below 2^32 bytes, and no directory of tile entries below the root has more
+/// entries than the options say.
 pub fn directories_are_bounded()
     ensures bytes { (o : Options) (adds : List (ℕ × List ℕ)) → IsArchivable o adds
         → AllShort ((parts_of o adds).root ∷ below_root (parts_of o adds)) }
@@ -55,7 +56,8 @@ pub fn directories_are_bounded()
         → AllAtMost o.max_leaf_entries (parts_of o adds).leaves }
 {}
 
-/// The tile entries that the bytes of an archive have, in its root and in the directories that this leads to, are the entries of its adds, as many as its header says.
+/// The tile entries that the bytes of an archive have, in its root and in the directories that this leads to, are the
+/// entries of its adds, as many as its header says.
 pub fn entries_are_read()
     ensures entries { (o : Options) (adds : List (ℕ × List ℕ)) → IsArchivable o adds
         → entries_read (archive o adds) ≡ entries_of_adds adds }
@@ -64,8 +66,9 @@ pub fn entries_are_read()
         (λ found. found.0.n_tile_entries ≡ length (entries_read (archive o adds))) }
 {}
 
-/// No tile entry of any list for the same tiles covers the first ids of two tile entries of the archive's bytes: a list of tile entries whose ids strictly
-/// rise, whose runs are from 1 to 4,294,967,295 and don't overlap, and which gives these tiles and no others over some data, whatever the data is.
+/// No tile entry of any list for the same tiles covers the first ids of two tile entries of the archive's bytes: a list
+/// of tile entries whose ids strictly rise, whose runs are from 1 to 4,294,967,295 and don't overlap, and which gives
+/// these tiles and no others over some data, whatever the data is.
 pub fn least_entries()
     ensures { (o : Options) (adds : List (ℕ × List ℕ)) (fs : List Entry) (bytes : List ℕ)
         → IsArchivable o adds → RisingAdds adds → Tiles fs → Gives fs bytes (tile_in adds)
@@ -87,8 +90,8 @@ pub fn one_archive()
         → ((t : ℕ) → tile_in xs t ≡ tile_in ys t) → archive o xs ≡ archive o ys }
 {}
 
-/// Finite maps that answer alike have one archive, and the archive of adds by strictly rising id is that of each map that has them.
-/// It has exactly the tiles of its map, which therefore determine it.
+/// Finite maps that answer alike have one archive, and the archive of adds by strictly rising id is that of each map
+/// that has them. It has exactly the tiles of its map, which therefore determine it.
 pub fn archive_is_canonical()
     ensures entries { (adds : List (ℕ × List ℕ)) → is_sorted nat_cmp adds ≡ true
         → entries (from_entries {R = nat_cmp} adds) ≡ adds }
@@ -116,8 +119,8 @@ pub fn runs_count_adds()
         → sum_by (λ e. e.run_length) (entries_of_adds adds) ≡ length adds }
 {}
 
-/// The archive of adds is well formed, where it can be written: its parts are the entries and contents of the adds, and it is
-/// clustered exactly where the ids of the adds rise.
+/// The archive of adds is well formed, where it can be written: its parts are the entries and contents of the adds, and
+/// it is clustered exactly where the ids of the adds rise.
 pub fn archive_is_well_formed()
     ensures parts { (o : Options) (adds : List (ℕ × List ℕ)) → IsArchivable o adds
         → ConsistsOf (archive o adds) o (rising (ids_of adds)) (parts_of o adds) }
@@ -150,7 +153,8 @@ pub fn two_leaves_at_most()
         → hops (archive o adds) t ≤ 2 }
 {}
 
-/// Few and short adds are neither refused by `IndexEntryOverflow` when they are added, each behind those before it, nor when the archive is finished.
+/// Few and short adds are neither refused by `IndexEntryOverflow` when they are added, each behind those before it, nor
+/// when the archive is finished.
 pub fn few_adds_fit()
     ensures archive { (o : Options) (adds : List (ℕ × List ℕ)) → OptionsFit o → AreFew o adds
         → ArchiveFits o adds }
@@ -161,7 +165,8 @@ pub fn few_adds_fit()
         → AddFits o (take i adds) (get_or adds i d).0 (get_or adds i d).1 }
 {}
 
-/// Adds by strictly rising id, as the entries of a finite map are: no id is twice, the archive is clustered, and it gives what is found among the adds.
+/// Adds by strictly rising id, as the entries of a finite map are: no id is twice, the archive is clustered, and it
+/// gives what is found among the adds.
 pub fn rising_adds_are_distinct()
     ensures distinct { (adds : List (ℕ × List ℕ)) → is_sorted nat_cmp adds ≡ true → Distinct adds }
     ensures clustered { (adds : List (ℕ × List ℕ)) → is_sorted nat_cmp adds ≡ true
@@ -177,7 +182,8 @@ pub fn rising_adds_are_distinct()
         → is_sorted nat_cmp adds ≡ true → WellFormed (archive o adds) o true }
 {}
 
-/// Bytes open only where byte 97, the label of directories, is 1. So hidden bytes don't, and of bytes that are hidden or a whole archive only the archive does.
+/// Bytes open only where byte 97, the label of directories, is 1. So hidden bytes don't, and of bytes that are hidden
+/// or a whole archive only the archive does.
 pub fn only_labelled_bytes_open()
     ensures label { (b : List ℕ) → OnOk (opened b) (slice_index b 97 ≡ 1) }
     ensures hidden { (b : List ℕ) → IsHidden b → OnOk (opened b) ⊥ }
@@ -190,8 +196,9 @@ pub fn places_are_read()
         → places_read (archive o adds) ≡ Some (places_of o adds) }
 {}
 
-/// What fits is refused by a fault of the medium, whose count of faults then rose, and by want of memory alone: the beginning of a writer whose directories
-/// are labelled `None`, an add that fits to a writer that didn't fail, and the end of an archive of distinct ids that fits.
+/// What fits is refused by a fault of the medium, whose count of faults then rose, and by want of memory alone: the
+/// beginning of a writer whose directories are labelled `None`, an add that fits to a writer that didn't fail, and the
+/// end of an archive of distinct ids that fits.
 pub fn only_faults_refuse_what_fits()
     ensures start { (label : Compression) (before now : ℕ) (e : PmtError)
         → label ≡ compression.None → CreateCauses {A = Unit {0}} label before now (Err e)

@@ -9,7 +9,8 @@ use base_values::OutOfMemory;
 use pm_format::{AsWide, WideEntry, encode_entries};
 use std::alloc::Global;
 
-/// Directories of a level: their bytes one behind another, and the entries that name them, whose sizes may still be too long.
+/// Directories of a level: their bytes one behind another, and the entries that name them, whose
+/// sizes may still be too long.
 #[derive(Drop)]
 pub(crate) struct Level {
     pub(crate) bytes: Vec<u8>,

@@ -25,8 +25,9 @@ pub(crate) fn put<M: Medium>(medium: &mut M, offset: u64, piece: &[u8]) -> PmtRe
     }
 }
 
-/// Finishes an archive whose contents end at a place: the directories below the root behind them, the root at 127, the header with 0 in place of its label of
-/// directories, and last this label. So until the last byte no reader takes the bytes for an archive.
+/// Finishes an archive whose contents end at a place: the directories below the root behind them, the root at 127,
+/// the header with 0 in place of its label of directories, and last this label. So until the last byte no reader
+/// takes the bytes for an archive.
 pub(crate) fn write_parts<M: Medium>(
     medium: &mut M,
     end: u64,

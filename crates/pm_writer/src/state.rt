@@ -28,7 +28,8 @@ pub struct WriterState {
 }
 
 impl WriterState {
-    /// Makes room for the entries of so many more adds, so that entries aren't moved as they come. After Ok there is room for them; what the writer means stays, also after `OutOfMemory`.
+    /// Makes room for the entries of so many more adds, so that entries aren't moved as they come. After Ok there is
+    /// room for them; what the writer means stays, also after `OutOfMemory`.
     pub fn reserve(&mut self, additional: usize) -> Result<(), OutOfMemory>
         ensures same { (o : Options) (told : Option (List ℕ)) (adds : List (ℕ × List ℕ))
             → Writes o told self.old adds → Writes o told self.new adds }
@@ -47,10 +48,12 @@ fn zero_bytes(alloc: Global, count: usize) -> Result<Vec<u8>, AllocError>
 }
 
 impl PmTilesWriter {
-    /// Begins an archive on an empty medium, without borrowing it any longer: 16,384 zeros, where the header and the root will be, and the metadata behind them.
+    /// Begins an archive on an empty medium, without borrowing it any longer: 16,384 zeros, where the header and the
+    /// root will be, and the metadata behind them.
     ///
-    /// `UnsupportedCompression` comes exactly where directories aren't labelled `None`; then the medium is as before. `Reading(Fault)` comes only where the medium's
-    /// count of faults rose. After each answer byte 97 of the medium, the label of directories, is 0 or missing.
+    /// `UnsupportedCompression` comes exactly where directories aren't labelled `None`; then the medium is as before.
+    /// `Reading(Fault)` comes only where the medium's count of faults rose. After each answer byte 97 of the medium,
+    /// the label of directories, is 0 or missing.
     pub fn start<M: Medium>(&self, alloc: Global, medium: &mut M) -> PmtResult<WriterState>
         requires empty { IfSome (M.told medium.old) (λ b. b ≡ []) }
         ensures begun { IfOk result (λ s. Writes self.now (M.told medium.new) s []) }

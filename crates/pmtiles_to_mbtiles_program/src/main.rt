@@ -67,7 +67,8 @@ fn of_database(error: Error) -> ImportError {
     }
 }
 
-// Says in the header of a closed database that it has no log (SQLite's file format, bytes 18 and 19), so that it is read where nothing can be written.
+// Says in the header of a closed database that it has no log (SQLite's file format, bytes 18 and 19), so that it is
+// read where nothing can be written.
 fn leave_log(rt: &HostRuntime, path: &str) -> io::Result<()> {
     let mut file = File::options().read(true).write(true).open(rt, path)?;
     file.seek(SeekFrom::Start(18))?;

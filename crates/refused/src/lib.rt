@@ -1,4 +1,5 @@
-//! Calls that promise what other crates' public calls promise: an edit that makes one of them mean something else must be refused.
+//! Calls that promise what other crates' public calls promise: an edit that makes one of them mean
+//! something else must be refused.
 #![tactic(auto)]
 
 mod archives;

@@ -1,4 +1,5 @@
-//! Calls that promise what the public calls of conversions promise: an edit that makes one of them mean something else must be refused.
+//! Calls that promise what the public calls of conversions promise: an edit that makes one of them mean
+//! something else must be refused.
 #![tactic(auto)]
 
 mod conversion;

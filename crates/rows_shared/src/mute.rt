@@ -16,7 +16,8 @@ pub enum Mode {
     Past,
     /// A byte less.
     Short,
-    /// What was written there, but for one read, which is answered by two numbers: how many bytes were asked for, or said to be, and how many came.
+    /// What was written there, but for one read, which is answered by two numbers: how many bytes were asked for, or
+    /// said to be, and how many came.
     Numbers {
         read: u64,
         asked: Option<u64>,

@@ -44,7 +44,8 @@ fn add_piece(alloc: Global, bytes: &mut Vec<u8>, piece: &str) -> Option<()> {
     add_repeated(bytes, decoded.as_slice(), count.parse::<u32>().ok()?)
 }
 
-/// The next word as bytes: pieces parted by commas, each `x` and hexadecimal digits, the same with `*` and how many times over, or `n` and how many counted bytes.
+/// The next word as bytes: pieces parted by commas, each `x` and hexadecimal digits, the same with `*` and how many
+/// times over, or `n` and how many counted bytes.
 pub fn bytes(alloc: Global, words: &mut Words) -> Option<Vec<u8>> {
     let mut bytes = Vec::new(alloc);
     for piece in words.next()?.split(',') {

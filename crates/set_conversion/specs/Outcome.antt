@@ -33,7 +33,8 @@ status OutOfMemory = OUT_OF_MEMORY
 status (ReadBack e) = READ_BACK
 status OtherForm = OTHER_FORM
 
--- the lines on an archive: how many tiles and different contents it has, how long it is, and the aggregate hash of its tiles where there is one
+-- the lines on an archive: how many tiles and different contents it has, how long it is, and the aggregate hash of its
+-- tiles where there is one
 abbrev pub report_lines : Option (List ℕ) → ℕ → ℕ → ℕ → List ℕ
 report_lines None addressed contents total =
     codes "tiles " ++ (decimal addressed ++ (codes ", contents " ++ (decimal contents ++ (codes "\nbytes " ++ (decimal total ++ codes "\n")))))

@@ -36,7 +36,8 @@ abbrev pub with_files : List (List ℕ) → List (List ℕ) → List (List ℕ)
 with_files files [] = files
 with_files files (word ∷ words) = with_files (files ++ (word ∷ [])) words
 
--- what words ask for that stand behind these flags and files: flags anywhere in front of `--`, and behind it files alone
+-- what words ask for that stand behind these flags and files: flags anywhere in front of `--`,
+-- and behind it files alone
 abbrev pub asked_after : ConversionFlags → List (List ℕ) → List (List ℕ) → Option Asked
 asked_after flags files [] = enough flags files
 asked_after flags files (word ∷ words) =

@@ -30,8 +30,8 @@ fn report_lines(alloc: Global, report: &StreamReport) -> Result<String, OutOfMem
     })
 }
 
-/// The text that is printed of an outcome: a line with how many tiles and different contents the archive has, one with its
-/// bytes, and one with the aggregate hash of its tiles where that was made; nothing where it isn't `Done`.
+/// The text that is printed of an outcome: a line with how many tiles and different contents the archive has, one with
+/// its bytes, and one with the aggregate hash of its tiles where that was made; nothing where it isn't `Done`.
 pub fn conversion_text(alloc: Global, outcome: &ConversionOutcome) -> Result<TextVal, OutOfMemory>
     ensures { IfOk result (λ t. t ≡ text outcome.now) }
 {

@@ -16,8 +16,8 @@ use std::marker::Model;
 use tile_bridge::{ArchiveOptions, ConvertOptions};
 use tile_streaming::{MarkedSet, StreamOptions};
 
-/// A conversion with the options that its set says of itself: type and label of the tiles, their zooms, bounds, center and metadata, as
-/// `set_options::SetOptions::of_set` reads them.
+/// A conversion with the options that its set says of itself: type and label of the tiles, their zooms, bounds, center
+/// and metadata, as `set_options::SetOptions::of_set` reads them.
 #[derive(Drop)]
 pub struct OptionsOfSet {
     asked: ConvertOptions,
@@ -32,7 +32,8 @@ impl Model for OptionsOfSet {
 }
 
 impl OptionsOfSet {
-    /// With `force` patches are taken without the hashes that chain them; with `verify` the stored aggregate hash of the resulting set has to be there and right.
+    /// With `force` patches are taken without the hashes that chain them; with `verify` the stored aggregate hash of
+    /// the resulting set has to be there and right.
     pub fn new(force: bool, verify: bool) -> OptionsOfSet
         ensures { result ≡ asked_before force verify }
     {

@@ -127,10 +127,10 @@ fn asked_after(
     }
 }
 
-/// The flags and the files that words ask for: `--force`, `--verify`, `--hash`, `--overwrite` and `--strict` anywhere in front of
-/// `--`, and the file of the base, those of its patches in their order, and that of the archive. Words behind `--` are
-/// files, also where they begin with a dash, and a dash alone is one anywhere. None for other words: without two files at
-/// least, or where another word in front of `--` begins with a dash.
+/// The flags and the files that words ask for: `--force`, `--verify`, `--hash`, `--overwrite` and `--strict` anywhere
+/// in front of `--`, and the file of the base, those of its patches in their order, and that of the archive. Words
+/// behind `--` are files, also where they begin with a dash, and a dash alone is one anywhere. None for other words:
+/// without two files at least, or where another word in front of `--` begins with a dash.
 pub fn asked_of(
     alloc: Global,
     words: &[TextVal],

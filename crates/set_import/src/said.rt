@@ -43,8 +43,9 @@ fn document_of<B: Backend>(
     }
 }
 
-/// Opens an archive, and reads what it says of itself. The first of these that holds is answered, within `Archive`: the refusal of opening; that of the metadata's range and
-/// of its UTF-8; `InvalidMetadata` where it isn't an object of JSON.
+/// Opens an archive, and reads what it says of itself. The first of these that holds is answered, within
+/// `Archive`: the refusal of opening; that of the metadata's range and of its UTF-8; `InvalidMetadata` where it
+/// isn't an object of JSON.
 pub(crate) fn said_document<B: Backend>(
     alloc: Global,
     backend: &mut B,

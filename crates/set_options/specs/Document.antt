@@ -41,8 +41,8 @@ with_any names name (Some text) = insert names name (string text)
 abbrev pub names_of : TileType → JsonMap → Option (List ℕ) → JsonMap
 names_of kind names json = with_any (with_any names (codes "format") (format_of kind)) (codes "json") json
 
--- zooms as the header says them, bounds and center where a set has to say them, and these names; the texts of the metadata
--- stand among the names, and fill no fields
+-- zooms as the header says them, bounds and center where a set has to say them, and these names; the texts of the
+-- metadata stand among the names, and fill no fields
 abbrev pub document_of : Header → JsonMap → Option (List ℕ) → TileJson
 document_of h names json = record (tilejson_of h []) {
   bounds = bounds_said h;
@@ -55,7 +55,8 @@ abbrev pub IsJsonOf : Members → Option (List ℕ) → Type 0
 IsJsonOf kept None = is_bare (object kept) ≡ true
 IsJsonOf kept (Some text) = (is_bare (object kept) ≡ false) × IsTextOf text (object kept)
 
--- The document of a header and of the members of the metadata. Its text of `json` is a fact and not a function, since nothing says which digits a number has that is held as a float.
+-- The document of a header and of the members of the metadata. Its text of `json` is a fact and not a function, since
+-- nothing says which digits a number has that is held as a float.
 pub record IsOfMembers (h : Header) (ms : Members) (t : TileJson) : Type 0 where
   pub json : Option (List ℕ)
   pub is_json : IsJsonOf (kept_in ms) json

@@ -61,7 +61,8 @@ is_at_first_zoom h b = nat_eq h.center_zoom h.min_zoom || (nat_eq h.center_zoom 
 unfoldable pub is_middle_of : Header → SetBounds → Bool
 is_middle_of h b = is_at h (middle_of b h.min_zoom) && is_at_first_zoom h b
 
--- A set without a center has the middle of its bounds, at its least zoom. Of the world's bounds none is said at zoom 0 either, with which a header begins.
+-- A set without a center has the middle of its bounds, at its least zoom. Of the world's bounds none is said at zoom 0
+-- either, with which a header begins.
 unfoldable pub has_own_center : Header → Bool
 has_own_center h = not (are_sayable (bounds_of h) && is_middle_of h (bounds_of h))
 

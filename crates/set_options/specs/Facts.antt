@@ -40,7 +40,8 @@ no_facts = record { zooms = None; gzip = false; plain = false }
 abbrev pub facts_of : TileSet → TileFacts
 facts_of tiles = fold with_tile no_facts (entries tiles)
 
--- Vector tiles are gzip where all of them begin so, uncompressed where none does, and unknown where some do. Others are as they are.
+-- Vector tiles are gzip where all of them begin so, uncompressed where none does, and unknown where some
+-- do. Others are as they are.
 abbrev pub label_of : TileType → TileFacts → Compression
 label_of types.Mvt f = cond f.plain (cond f.gzip labels.Unknown labels.None) labels.Gzip
 label_of _ f = labels.None

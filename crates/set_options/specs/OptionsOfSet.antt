@@ -44,7 +44,8 @@ abbrev pub with_center_zoom : Option ℕ → Options → Options
 with_center_zoom None o = o
 with_center_zoom (Some zoom) o = record o { center_zoom = zoom }
 
--- the center of a set that says none, at its least zoom: the middle of its bounds, and degrees 0, the middle of the world, where it says none either
+-- the center of a set that says none, at its least zoom: the middle of its bounds, and degrees 0, the middle of the
+-- world, where it says none either
 abbrev pub unsaid_center : Option SetBounds → ℕ → SetCenter
 unsaid_center None zoom = record { longitude = pos 0; latitude = pos 0; zoom = Some zoom }
 unsaid_center (Some b) zoom = middle_of b zoom

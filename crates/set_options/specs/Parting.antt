@@ -1,4 +1,5 @@
--- The members of an archive's metadata in two parts: the texts that become names of a set, and what the name `json` keeps.
+-- The members of an archive's metadata in two parts: the texts that become names of a set, and
+-- what the name `json` keeps.
 use Rattle.std.specs.Prelude.{◌≡◌, ℕ, List, codes, cond, refl}
 use Rattle.set_options.specs.Common.{array, boolean, Data, empty, insert, JsonMap, member, Members, no_members, null, Num, number, object, put, string}
 use Rattle.set_options.specs.ArchiveJson.{is_left_out}

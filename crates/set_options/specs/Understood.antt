@@ -9,7 +9,8 @@ abbrev pub is_known : TileType → Bool
 is_known types.Unknown = false
 is_known _ = true
 
--- `format` names a type of tiles, `bounds` and `center` are in form, `json` is an object; nothing is asked of other names
+-- `format` names a type of tiles, `bounds` and `center` are in form, `json` is an object;
+-- nothing is asked of other names
 abbrev pub is_understood : List ℕ → List ℕ → Bool
 is_understood name value =
     if bytes_eq name (codes "format") then is_known (type_of (Some value))

@@ -9,7 +9,8 @@ use mb_store::Cell;
 use serde_json::{Map, Value};
 use std::alloc::Global;
 
-/// Whether a name of a set's metadata says nothing beside the tiles of its archive: the header says it, `json` stands for it, or it is of the set alone.
+/// Whether a name of a set's metadata says nothing beside the tiles of its archive: the header says it, `json` stands
+/// for it, or it is of the set alone.
 pub fn is_left_out(name: &str) -> bool
     ensures { result ≡ is_left_out name.now }
 {

@@ -101,8 +101,9 @@ fn minus(size: u32) -> i32
     }
 }
 
-/// The ten millionths of a degree that a word spells: digits, a point with digits behind it or none, and `-` or `+` in front or none. They lie between -180 and 180
-/// degrees, and the nearest ten millionth is taken. None for any other word.
+/// The ten millionths of a degree that a word spells: digits, a point with digits behind it or none, and `-`
+/// or `+` in front or none. They lie between -180 and 180 degrees, and the nearest ten millionth is taken.
+/// None for any other word.
 pub(crate) fn degrees_of(word: &[u8]) -> Option<i32>
     ensures { result ≡ degrees_of word.now }
 {

@@ -160,18 +160,21 @@ fn object_in(alloc: Global, text: &str) -> Result<Map<String, Value>, DocumentEr
     }
 }
 
-/// What an archive says of itself, by its header and the text of its metadata, as the document that `mb_metadata::insert_metadata` puts into a set. `Invalid` comes exactly
-/// where the text isn't an object of JSON, nested at most 127 deep.
+/// What an archive says of itself, by its header and the text of its metadata, as the document that
+/// `mb_metadata::insert_metadata` puts into a set. `Invalid` comes exactly where the text isn't an object of JSON,
+/// nested at most 127 deep.
 ///
-/// - `minzoom` and `maxzoom` are those of the header, `bounds` and `center` its degrees as decimals, parted by commas, the
-///   center with its zoom;
-/// - bounds of the world, with which a header begins, are none; a center is none where it is the middle of bounds that a
-///   set can say, at the least zoom, or in the bounds of the world at zoom 0;
-/// - `format` is the word for its type of tiles: `pbf`, `png`, `jpg`, `webp`, `avif` or `mlt`, and none where the type isn't known;
+/// - `minzoom` and `maxzoom` are those of the header, `bounds` and `center` its degrees as decimals, parted by commas,
+///   the center with its zoom;
+/// - bounds of the world, with which a header begins, are none; a center is none where it is the middle of bounds that
+///   a set can say, at the least zoom, or in the bounds of the world at zoom 0;
+/// - `format` is the word for its type of tiles: `pbf`, `png`, `jpg`, `webp`, `avif` or `mlt`, and none
+///   where the type isn't known;
 /// - a member of the metadata that is a text stands under its name, unless `set_options::is_left_out` names it;
 /// - all other members stand in the object under `json`, where there are any.
 ///
-/// So a set that has no other names says the same of its archive again, but for zooms and label, which are those of its tiles.
+/// So a set that has no other names says the same of its archive again, but for zooms and label,
+/// which are those of its tiles.
 pub fn document_of_archive(
     alloc: Global,
     header: &Header,

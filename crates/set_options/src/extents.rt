@@ -121,8 +121,8 @@ fn bounds_at(west: &[u8], south: &[u8], east: &[u8], north: &[u8]) -> Option<Set
     bounds_within(west, south, east, latitude_of(north)?)
 }
 
-/// The bounds that a text says: west, south, east and north in degrees, parted by commas, blanks around them or none. None for any other text, for latitudes past 90
-/// degrees, and for a south above the north.
+/// The bounds that a text says: west, south, east and north in degrees, parted by commas, blanks around them or none.
+/// None for any other text, for latitudes past 90 degrees, and for a south above the north.
 #[tactic(auto, using(crate::proofs::ExtentLemmas::too_many))]
 pub(crate) fn bounds_in(text: &[u8]) -> Option<SetBounds>
     ensures { result ≡ bounds_in text.now }
@@ -155,8 +155,9 @@ fn center_at(longitude: &[u8], latitude: &[u8], zoom: Option<u8>) -> Option<SetC
     })
 }
 
-/// The center that a text says: longitude and latitude in degrees, and a zoom or none, parted by commas, blanks around them or none. A zoom that is no number from 0 to
-/// 30 says none. None for any other text, and for a latitude past 90 degrees.
+/// The center that a text says: longitude and latitude in degrees, and a zoom or none, parted by commas, blanks
+/// around them or none. A zoom that is no number from 0 to 30 says none. None for any other text, and for a
+/// latitude past 90 degrees.
 #[tactic(auto, using(crate::proofs::ExtentLemmas::too_many))]
 pub(crate) fn center_in(text: &[u8]) -> Option<SetCenter>
     ensures { result ≡ center_in text.now }

@@ -1,4 +1,5 @@
-//! What an archive says beside its tiles, by what its set says of itself, and the way back: an archive's document for a set.
+//! What an archive says beside its tiles, by what its set says of itself, and the way back: an
+//! archive's document for a set.
 #![tactic(auto)]
 
 mod archive_json;

@@ -79,11 +79,12 @@ impl SetOptions {
     /// What a loaded set says of its archive:
     ///
     /// - the type of tiles by the text under `format`, a word or a media type, ASCII case and blanks around it aside;
-    /// - the label of vector tiles by their first two bytes: `Gzip` where all of them begin as gzip begins, `None` where none does, `Unknown` where some do; that of
-    ///   others `None`;
+    /// - the label of vector tiles by their first two bytes: `Gzip` where all of them begin as gzip begins, `None`
+    ///   where none does, `Unknown` where some do; that of others `None`;
     /// - the zooms of the tiles of at least one byte;
     /// - bounds and center by the texts under these names, to the nearest ten millionth of a degree;
-    /// - as metadata the members of the object of JSON under `json`, and over them the texts of all names but those that are said otherwise.
+    /// - as metadata the members of the object of JSON under `json`, and over them the texts of all names but those
+    ///   that are said otherwise.
     pub fn of_set(alloc: Global, set: &Loaded) -> Result<SetOptions, OutOfMemory>
         ensures { IfOk result (IsSaidBy set.now.state) }
     {

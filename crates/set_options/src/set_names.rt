@@ -71,8 +71,8 @@ impl Model for SetNames {
 }
 
 impl SetNames {
-    /// The names of rows of metadata. `InvalidDataFormat` where a cell is of another kind than its column asks for, or a
-    /// name stands twice.
+    /// The names of rows of metadata. `InvalidDataFormat` where a cell is of another kind than its column asks
+    /// for, or a name stands twice.
     pub fn of_rows(alloc: Global, rows: Vec<Row>) -> MbtResult<SetNames>
         ensures tests { Tests (option_or (name_kind_wrong rows.items) (name_twice rows.items))
             result }

@@ -37,8 +37,8 @@ fn says_object(alloc: Global, text: &str) -> Result<bool, OutOfMemory>
 
 /// Whether a row of a set's metadata is in a form that its name asks for, so that an archive takes what it says:
 /// `format` names a known type of tiles, `bounds` and `center` are numbers in their ranges, as `SetOptions` reads them,
-/// and `json` is an object of JSON, nested at most 127 deep. Nothing is asked of other names. Of a center in form a zoom
-/// that is no number from 0 to 30 is left out alone.
+/// and `json` is an object of JSON, nested at most 127 deep. Nothing is asked of other names. Of a center in form a
+/// zoom that is no number from 0 to 30 is left out alone.
 pub fn is_understood(alloc: Global, name: &str, value: &str) -> Result<bool, OutOfMemory>
     ensures { IfOk result (λ r. r ≡ is_understood name.now value.now) }
 {

@@ -1,4 +1,5 @@
-//! Reads calls of mb_tables, mb_store, mb_load, mb_edit and mb_check from standard input, one a line, and prints each line with its answer.
+//! Reads calls of mb_tables, mb_store, mb_load, mb_edit and mb_check from standard input, one a line, and prints
+//! each line with its answer.
 #![tactic(auto)]
 
 mod changes;

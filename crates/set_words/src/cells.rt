@@ -28,7 +28,8 @@ fn spelled(alloc: Global, digits: &str) -> Option<TextVal> {
     owned(alloc, text)
 }
 
-/// A cell: `n`, `o`, `i` and a number, `t` and a text, `u` and the hexadecimal digits of a text, or `x` and hexadecimal digits.
+/// A cell: `n`, `o`, `i` and a number, `t` and a text, `u` and the hexadecimal digits of a text, or
+/// `x` and hexadecimal digits.
 pub fn cell(alloc: Global, word: &str) -> Option<Cell> {
     if let Some(digits) = word.strip_prefix('i') {
         return Some(Cell::Int(digits.parse::<i64>().ok()?));

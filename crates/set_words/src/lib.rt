@@ -1,4 +1,5 @@
-//! What the programs of rows over tile sets share: cells, rows, keys, tables and layouts by their words, and rows and changes that go into a store in memory.
+//! What the programs of rows over tile sets share: cells, rows, keys, tables and layouts by their words, and rows and
+//! changes that go into a store in memory.
 #![tactic(auto)]
 
 mod cells;

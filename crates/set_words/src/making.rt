@@ -37,7 +37,8 @@ pub fn fail(alloc: Global, store: &mut MemStore, words: &mut Words) -> Option<()
     Some(())
 }
 
-/// A store by its word: `new` of a layout, with rows, `none` without tables, or `fail`, the same store whose calls of some numbers fail.
+/// A store by its word: `new` of a layout, with rows, `none` without tables, or `fail`, the same store whose
+/// calls of some numbers fail.
 pub fn make(alloc: Global, store: &mut MemStore, call: &str, words: &mut Words) -> Option<()> {
     match call {
         "new" => new(alloc, store, words),

@@ -9,7 +9,8 @@ use Rattle.tile_bridge.specs.declared.error.ConvertError.TheVariants.{MediumFaul
 use Rattle.tile_bridge.specs.declared.options.ConvertOptions.{ConvertOptions}
 use Rattle.tile_bridge.specs.declared.report.ConvertReport.{ConvertReport}
 
--- The base after its patches. A patch that tells has the tables that it tells; one that tells nothing has some tables that its answers could be of.
+-- The base after its patches. A patch that tells has the tables that it tells; one that tells nothing has some tables
+-- that its answers could be of.
 pub record IsBaseAfter (o : ConvertOptions) (tells : List Bool) (told : List Tables) (old new : Tables) : Type 0 where
   pub patches : List Tables
   pub are_told : AreToldBy tells told patches
@@ -27,7 +28,8 @@ pub record IsBaseDone (o : ConvertOptions) (tells : List Bool) (told : List Tabl
 abbrev pub IsKeptOrPatched : ConvertOptions → Bool → List Bool → List Tables → Tables → Tables → Type 0
 IsKeptOrPatched o base_tells tells told old new = (new ≡ old) ⊎ (base_tells ≡ true → IsBaseAfter o tells told old new)
 
--- What the base holds afterwards, where it tells: all patches after Ok, none after a refusal and a store's fault, and all or none of them after the medium's fault, `ReadBack` and want of memory.
+-- What the base holds afterwards, where it tells: all patches after Ok, none after a refusal and a store's fault, and
+-- all or none of them after the medium's fault, `ReadBack` and want of memory.
 abbrev pub BaseLeaves : ConvertOptions → Bool → List Bool → List Tables → List Coord → Result ConvertReport ConvertError → Option (List ℕ) → Tables → Tables → Type 0
 BaseLeaves o base_tells tells told coords (Ok r) medium old new = base_tells ≡ true → IsBaseDone o tells told coords r medium old new
 BaseLeaves o base_tells tells told coords (Err MediumFault) medium old new = IsKeptOrPatched o base_tells tells told old new

@@ -16,8 +16,8 @@ pub record HoldsExactly (b : List ℕ) (tiles : TileSet) : Type 0 where
   pub each : (p : Place) (bytes : List ℕ) → get (solid tiles) p ≡ Some (Some bytes) → archive_map b (address p) ≡ Some bytes
   pub only : (id : ℕ) (bytes : List ℕ) → archive_map b id ≡ Some bytes → (p : Place) × (get (solid tiles) p ≡ Some (Some bytes)) × (address p ≡ id)
 
--- The bytes are a well-formed archive with the options, which has exactly the tiles, and they are the one archive of these options and of the map of
--- these tiles by their ids.
+-- The bytes are a well-formed archive with the options, which has exactly the tiles, and they are the one archive of
+-- these options and of the map of these tiles by their ids.
 pub record IsArchiveOf (b : List ℕ) (o : Options) (tiles : TileSet) : Type 0 where
   pub formed : WellFormed b o true
   pub holds : HoldsExactly b tiles
@@ -31,7 +31,8 @@ pub record IsConverted (b : List ℕ) (o : Options) (tiles : TileSet) (coords : 
   pub answers : r.answers ≡ map (λ c. archive_map b (id_of c)) coords
   pub places : places_read b ≡ Some r.places
 
--- The places of the report are those of the archive of the tiles, or over a medium that tells nothing of what the writer takes their bytes for.
+-- The places of the report are those of the archive of the tiles, or over a medium that tells nothing of what the
+-- writer takes their bytes for.
 pub record HasPlaces (o : Options) (tiles : TileSet) (told : Option (List ℕ)) (r : ConvertReport) : Type 0 where
   pub adds : List (ℕ × List ℕ)
   pub are : AreAddsOf adds tiles

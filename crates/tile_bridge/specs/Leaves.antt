@@ -18,8 +18,9 @@ pub record IsUntouched (result : Result ConvertReport ConvertError) (old new : O
   pub medium : new ≡ old
   pub store : base_now ≡ base
 
--- The set was at hand, and the medium empty. The options are those that the state gives to which base and patches come. The base holds this state, where it tells; the medium holds
--- the archive of this state and these options, or no part of it; and the report is of both.
+-- The set was at hand, and the medium empty. The options are those that the state gives to which base and patches come.
+-- The base holds this state, where it tells; the medium holds the archive of this state and these options, or no part
+-- of it; and the report is of both.
 pub record IsOfSet (gives : State → Options → Type 0) (due : Option (Result State ConvertError)) (o : ConvertOptions) (base_tells : Bool) (tells : List Bool) (told : List Tables) (coords : List Coord)
     (result : Result ConvertReport ConvertError) (old new : Option (List ℕ)) (base base_now : Tables) : Type 0 where
   pub state : State

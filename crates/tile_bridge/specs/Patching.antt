@@ -71,7 +71,8 @@ is_patched_at patches p = list_any (λ t. has_place p (state_of t)) patches
 abbrev pub is_patched_row : List Tables → List Cell → Bool
 is_patched_row patches row = option_map_or (is_patched_at patches) (place_of row) false
 
--- the rows that stand under the key of a place that patches have: none, or that of the bytes, with their digest where the layout has one, and with their id in a normalised set
+-- the rows that stand under the key of a place that patches have: none, or that of the bytes, with their digest where
+-- the layout has one, and with their id in a normalised set
 abbrev pub rows_put : State → Place → List (List Cell)
 rows_put s p = by (get s.tiles p)
   where
@@ -79,8 +80,8 @@ rows_put s p = by (get s.tiles p)
     by (Some (Some bytes)) = put_row s.layout s.algorithm p bytes ∷ []
     by _ = []
 
--- Tables after patches. They hold the state; rows of other places, rows of contents with a null id, of metadata with a null name, and of other tables stay.
--- Contents with an id are those that a tile has.
+-- Tables after patches. They hold the state; rows of other places, rows of contents with a null id, of metadata with a
+-- null name, and of other tables stay. Contents with an id are those that a tile has.
 pub record IsPatched (patches : List Tables) (s : State) (old new : Tables) : Type 0 where
   pub again : state_of new ≡ Ok s
   pub descriptions : new.descriptions ≡ old.descriptions

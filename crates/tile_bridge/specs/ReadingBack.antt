@@ -21,8 +21,8 @@ answered (a ∷ answers) = answered_by a + answered answers
 abbrev pub GrewFrom : ℕ → ℕ → ℕ → Type 0
 GrewFrom before now n = min (before + n) (2 ^ 64 - 1) ≤ now
 
--- What is wrong with an archive that is read back, or with what is read of it: its end, another number of bytes than was asked for, or what bytes may be refused
--- for where they are opened. No version texts are compared.
+-- What is wrong with an archive that is read back, or with what is read of it: its end, another number of bytes than
+-- was asked for, or what bytes may be refused for where they are opened. No version texts are compared.
 abbrev pub IsReadBack : PmtError → Type 0
 IsReadBack (errors.Reading causes.PastEnd) = Unit {0}
 IsReadBack (errors.UnexpectedNumberOfBytesReturned asked got) = asked ≢ got

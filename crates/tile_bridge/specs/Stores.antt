@@ -48,14 +48,16 @@ due_patches force place s tells ts = cond (list_all (λ t. t) tells) (Some (all_
 abbrev pub NoneFell : List ℕ → List ℕ → Type 0
 NoneFell before now = (place : ℕ) → slice_index before place ≤ slice_index now place
 
--- Stores that were only read: they hold what they held, none of their counts of faults fell, and where no call of them fails the counts stand.
+-- Stores that were only read: they hold what they held, none of their counts of faults fell, and where no call of
+-- them fails the counts stand.
 pub record AreOnlyRead {P : Type 0} (tell : P → Bool) (tables : P → Tables) (failed : P → ℕ) (calm : P → Type 0) (old new : List P) : Type 0 where
   pub told : map tables new ≡ map tables old
   pub tells : map tell new ≡ map tell old
   pub faults : NoneFell (map failed old) (map failed new)
   pub steady : All calm old → All calm new × (map failed new ≡ map failed old)
 
--- One of the stores at a place failed, and the patches were let go: in a state of theirs in which they were only read the count at this place had risen. The base, at place 0, has no count.
+-- One of the stores at a place failed, and the patches were let go: in a state of theirs in which they were only read
+-- the count at this place had risen. The base, at place 0, has no count.
 pub record HasFailed {P : Type 0} (tell : P → Bool) (tables : P → Tables) (failed : P → ℕ) (calm : P → Type 0) (old : List P) (place : ℕ) : Type 0 where
   pub now : List P
   pub read : AreOnlyRead tell tables failed calm old now

@@ -83,8 +83,9 @@ pub(crate) fn convert_set<M: Medium>(
     }
 }
 
-/// Converts a base and its patches to an archive, and reads the tiles at the coordinates from it. The medium is asked for its length, and the label of directories is tested, as far as it is
-/// asked for; then base and patches are loaded and tested, and the options are made, where the set gives them; then the base is patched, and the archive written.
+/// Converts a base and its patches to an archive, and reads the tiles at the coordinates from it. The medium is asked
+/// for its length, and the label of directories is tested, as far as it is asked for; then base and patches are loaded
+/// and tested, and the options are made, where the set gives them; then the base is patched, and the archive written.
 pub fn convert<S: TileStore, P: TileStore, O: ArchiveOptions, M: Medium>(
     alloc: Global,
     base: &mut S,

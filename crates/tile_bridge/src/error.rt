@@ -38,7 +38,8 @@ pub enum ConvertError {
     /// The medium failed, and its count of faults rose.
     #[error("medium fault")]
     MediumFault,
-    /// A medium that tells no bytes gave something else back than what was written to it: why the archive can't be opened, or not read.
+    /// A medium that tells no bytes gave something else back than what was written to it: why the archive
+    /// can't be opened, or not read.
     #[error("read back")]
     ReadBack(PmtError),
     /// Memory ran out.

@@ -16,8 +16,9 @@ use pm_format::{Compression, Medium};
 use std::alloc::Global;
 use tile_ids::TileCoord;
 
-/// Converts as `convert` does, out of a base in memory and patches that are let go: the bytes of the base's rows are moved into the set that is loaded, and no store stands beside the
-/// archive while it is written. So no patch is stored in the base.
+/// Converts as `convert` does, out of a base in memory and patches that are let go: the bytes of the base's rows
+/// are moved into the set that is loaded, and no store stands beside the archive while it is written. So no
+/// patch is stored in the base.
 ///
 /// The answers are those of `convert`, but that `StoreFault` never has the place of the base.
 pub fn convert_owned<P: TileStore + Drop, O: ArchiveOptions, M: Medium>(

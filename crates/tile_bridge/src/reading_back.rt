@@ -55,10 +55,12 @@ fn read_answer<B: Backend>(
     Ok(filled_tile(alloc, found)?)
 }
 
-/// The tiles that the archive of a backend has at coordinates, each None where it has no byte there. Leaves are held once they are read.
+/// The tiles that the archive of a backend has at coordinates, each None where it has no byte there. Leaves are
+/// held once they are read.
 ///
-/// Over a well-formed archive that the backend tells, no refusal comes but `Reading(Fault)`, which comes only where the count of faults rose, and want of memory. The opening
-/// is one read, and so is each answer of at least one byte at least.
+/// Over a well-formed archive that the backend tells, no refusal comes but `Reading(Fault)`, which comes only
+/// where the count of faults rose, and want of memory. The opening is one read, and so is each answer of at
+/// least one byte at least.
 pub fn read_answers<B: Backend>(
     alloc: Global,
     backend: &mut B,

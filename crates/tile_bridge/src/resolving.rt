@@ -50,7 +50,8 @@ fn hash_of(alloc: Global, set: &Loaded, verify: bool) -> Result<TextVal, Convert
     Ok(set.aggregate(alloc)?)
 }
 
-// What is tested of a set before it is converted: its stored aggregate hash, where that is to be verified, and its size. Gives the aggregate hash.
+// What is tested of a set before it is converted: its stored aggregate hash, where that is to be verified, and its
+// size. Gives the aggregate hash.
 fn test_set(alloc: Global, set: &Loaded, verify: bool) -> Result<TextVal, ConvertError>
     ensures state { IfOk result (λ text. tested verify set.now.state ≡ Ok set.now.state) }
     ensures aggregate { IfOk result (λ text. text ≡ aggregate set.now.state.algorithm
@@ -66,7 +67,8 @@ fn test_set(alloc: Global, set: &Loaded, verify: bool) -> Result<TextVal, Conver
     Ok(aggregate)
 }
 
-/// The set that is converted and its aggregate hash: the base is loaded, its patches follow in their order, and what comes of them is tested.
+/// The set that is converted and its aggregate hash: the base is loaded, its patches follow in their order, and what
+/// comes of them is tested.
 pub(crate) fn resolve<S: TileStore, P: TileStore>(
     alloc: Global,
     base: &mut S,

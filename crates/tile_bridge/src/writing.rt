@@ -16,7 +16,8 @@ use std::alloc::Global;
 // How many adds are looked at together.
 const BLOCK: usize = 64;
 
-// Whether an add goes on the run of the one before it. The first bytes are compared before the ids, which tell most often, so that the contents of a block are asked for side by side.
+// Whether an add goes on the run of the one before it. The first bytes are compared before the ids, which tell most
+// often, so that the contents of a block are asked for side by side.
 fn goes_on(set: &Loaded, before: &Add, add: &Add) -> bool
     requires before { before.now.index < len set.now.state.tiles }
     requires add { add.now.index < len set.now.state.tiles }
@@ -39,8 +40,8 @@ fn count_entries(set: &Loaded, adds: &[Add]) -> usize
     count
 }
 
-// Makes room for the entries of all adds before the first, and for those of each block before it, where there is none. It reads the contents of the block on the way, so that they come from
-// memory side by side and not one after another.
+// Makes room for the entries of all adds before the first, and for those of each block before it, where there is none.
+// It reads the contents of the block on the way, so that they come from memory side by side and not one after another.
 fn make_room(
     state: &mut WriterState,
     set: &Loaded,
@@ -90,8 +91,9 @@ fn add_all<M: Medium>(
 
 /// Writes the archive of a set's adds with options to an empty medium. The options label directories `None`.
 ///
-/// `Reading(Fault)` comes only where the medium's count of faults rose, and no other refusal comes but `OutOfMemory`. After each of them no part of an
-/// archive is shown: the label of directories isn't written, or the whole archive stands. Over a medium that tells nothing the places are those of what the writer takes the adds for.
+/// `Reading(Fault)` comes only where the medium's count of faults rose, and no other refusal comes but `OutOfMemory`.
+/// After each of them no part of an archive is shown: the label of directories isn't written, or the whole archive
+/// stands. Over a medium that tells nothing the places are those of what the writer takes the adds for.
 pub(crate) fn write_archive<M: Medium>(
     alloc: Global,
     options: &PmTilesWriter,

@@ -9,8 +9,8 @@ use Rattle.tile_extract.specs.declared.error.ExtractError.{ExtractError}
 use Rattle.tile_extract.specs.declared.error.ExtractError.TheVariants.{OutOfMemory}
 use Rattle.tile_extract.specs.declared.part.TilePart.{TilePart}
 
--- The archive is sound and its metadata a text that lies in it, the zooms are valid, there are no more tiles than the limit, and of the new archive neither the data nor the whole ends past u64 and no directory has
--- 2^32 bytes or more.
+-- The archive is sound and its metadata a text that lies in it, the zooms are valid, there are no more tiles than the
+-- limit, and of the new archive neither the data nor the whole ends past u64 and no directory has 2^32 bytes or more.
 pub record PartCanExtract (b : List ℕ) (part : TilePart) (most : ℕ) : Type 0 where
   pub zoom : HasZooms part
   pub sound : Sound b
@@ -29,7 +29,8 @@ IsDoneOrWanting (Ok p) = Unit {0}
 IsDoneOrWanting (Err OutOfMemory) = Unit {0}
 IsDoneOrWanting (Err e) = ⊥
 
--- An extraction to an empty medium that tells its bytes, over a source that tells its own, ends so where no count of faults rose. The intervals are in order and apart.
+-- An extraction to an empty medium that tells its bytes, over a source that tells its own, ends so where no count of
+-- faults rose. The intervals are in order and apart.
 abbrev pub PartEndsWell : List ℕ → TilePart → ℕ → Result ArchivePlaces ExtractError → Type 0
 PartEndsWell b part most result =
     (before now old new : ℕ) → AreApart 0 part.intervals → PartCanExtract b part most → PartCauses part most (Some []) before now old new result → PartAnswers (Some []) b part most result

@@ -32,7 +32,8 @@ pub record Source (b : List ℕ) : Type 0 where
   pub metadata : metadata_read b found.0 ≡ Ok text
   pub utf8 : IsUtf8 text
 
--- A refusal before the archive is begun: of opening, of the metadata, or of the first directory or entry that is met. A fault may come in its place, and a wrong number of bytes never does.
+-- A refusal before the archive is begun: of opening, of the metadata, or of the first directory or entry that is met. A
+-- fault may come in its place, and a wrong number of bytes never does.
 abbrev pub IsEarly : List ℕ → TilePart → PmtError → Type 0
 IsEarly b part (errors.Reading causes.Fault) = Unit {0}
 IsEarly b part (errors.UnexpectedNumberOfBytesReturned asked got) = ⊥
@@ -79,7 +80,8 @@ pub record IsExtracted (held : Option (List ℕ)) (b : List ℕ) (part : TilePar
   pub fits : IsArchivable (part_options due.source.found.0 due.source.text part) adds
   pub places : p ≡ places_of (part_options due.source.found.0 due.source.text part) adds
 
--- Over told bytes: when each answer comes, once the zoom is valid and the medium empty, by what the medium tells, if it does.
+-- Over told bytes: when each answer comes, once the zoom is valid and the medium empty, by what the
+-- medium tells, if it does.
 abbrev pub PartAnswers : Option (List ℕ) → List ℕ → TilePart → ℕ → Result ArchivePlaces ExtractError → Type 0
 PartAnswers held b part most (Ok p) = IsExtracted held b part most p
 PartAnswers held b part most (Err (Archive e)) = IsEarly b part e ⊎ IsLate held b part most e
@@ -87,7 +89,8 @@ PartAnswers held b part most (Err (TooManyTiles n)) = (n ≡ most) × ((s : Sour
 PartAnswers held b part most (Err IndexEntryOverflow) = Overflows held b part most
 PartAnswers held b part most (Err e) = Unit {0}
 
--- Told or not: why an archive isn't read. A fault comes where the count of faults rose, other numbers of bytes only where they differ.
+-- Told or not: why an archive isn't read. A fault comes where the count of faults rose, other numbers of
+-- bytes only where they differ.
 abbrev pub ReadCauses : ℕ → ℕ → PmtError → Type 0
 ReadCauses before now (errors.Reading causes.Fault) = Rose before now
 ReadCauses before now (errors.Reading causes.PastEnd) = Unit {0}
@@ -95,7 +98,8 @@ ReadCauses before now (errors.UnexpectedNumberOfBytesReturned asked got) = asked
 ReadCauses before now errors.InvalidMetadataUtf8Encoding = Unit {0}
 ReadCauses before now e = IsOpenRefusal e
 
--- Told or not: when each answer comes once the zoom is valid and the medium empty, by the counts of faults of the source and the medium.
+-- Told or not: when each answer comes once the zoom is valid and the medium empty, by the counts of faults of
+-- the source and the medium.
 abbrev pub IntoCauses : ℕ → ℕ → ℕ → ℕ → ℕ → Result ArchivePlaces ExtractError → Type 0
 IntoCauses most before now old new (Ok p) = Unit {0}
 IntoCauses most before now old new (Err (Archive e)) = ReadCauses before now e
@@ -116,7 +120,8 @@ PartCauses part most held before now old new (Err (MediumNotEmpty n)) = HasZooms
 PartCauses part most held before now old new (Err MediumFault) = HasZooms part × Rose old new
 PartCauses part most held before now old new result = HasZooms part × IsEmpty held × IntoCauses most before now old new result
 
--- The bytes are the one archive of some tiles, no more than the limit and in the intervals, and of options that have its zooms; where the source tells its bytes, those of the part that was asked for.
+-- The bytes are the one archive of some tiles, no more than the limit and in the intervals, and of options that have
+-- its zooms; where the source tells its bytes, those of the part that was asked for.
 pub record IsExtract (source : Option (List ℕ)) (part : TilePart) (most : ℕ) (b : List ℕ) : Type 0 where
   pub options : Options
   pub least : options.min_zoom ≡ part.min_zoom
@@ -137,7 +142,8 @@ pub record IsDone (source : Option (List ℕ)) (part : TilePart) (most : ℕ) (p
   pub formed : WellFormed b extract.options true
   pub places : places_read b ≡ Some p
 
--- a refusal that a tile has, or may have as well as what is read before it: the end of the bytes, a fault, or a wrong number of bytes
+-- a refusal that a tile has, or may have as well as what is read before it: the end of the bytes, a fault,
+-- or a wrong number of bytes
 abbrev pub MayBeTile : PmtError → Type 0
 MayBeTile (errors.Reading cause) = Unit {0}
 MayBeTile (errors.UnexpectedNumberOfBytesReturned asked got) = Unit {0}
@@ -168,7 +174,8 @@ IntoLeaves source part most result new = IfSome new (IntoBytes source part most 
 abbrev pub PartLeaves : Option (List ℕ) → TilePart → ℕ → Result ArchivePlaces ExtractError → Option (List ℕ) → Option (List ℕ) → Type 0
 PartLeaves source part most result old new = BothTold (LeavesBytes source part most result) old new
 
--- Over told bytes: a walk's refusal is answered. A fault and want of memory may come in its place, and a wrong number of bytes never does.
+-- Over told bytes: a walk's refusal is answered. A fault and want of memory may come in its place, and a wrong
+-- number of bytes never does.
 abbrev pub Refuses : Walked → PmtError → Type 0
 Refuses w errors.OutOfMemory = Unit {0}
 Refuses w (errors.Reading causes.Fault) = Unit {0}
@@ -201,7 +208,8 @@ pub record AreKept (is : List (ℕ × ℕ)) (most : ℕ) (ps : List Entry) : Typ
   pub few : tile_count ps ≤ most
   pub within : AllLieIn is ps
 
--- how often the source is read: once when it is opened, once for its metadata, once for each leaf that is met and once for each part
+-- how often the source is read: once when it is opened, once for its metadata, once for each leaf that is
+-- met and once for each part
 abbrev pub reads_opened : List ℕ → TilePart → Result Opened PmtError → ℕ
 reads_opened b part (Ok o) = 2 + (met_of b o part).reads + length (parts_met b o part)
 reads_opened b part (Err e) = 1

@@ -4,7 +4,8 @@ use Rattle.tile_extract.specs.Boxes.{in_boxes}
 use Rattle.tile_extract.specs.Common.{Coord, id_of, in_intervals, IsCoord, pyramid}
 use Rattle.tile_extract.specs.declared.zoom_box.ZoomBox.{ZoomBox}
 
--- intervals of at least one id, in order, from an id on and below an end, with an id between each two that lies in none of them
+-- intervals of at least one id, in order, from an id on and below an end, with an id between each two
+-- that lies in none of them
 abbrev pub PartedBelow : ℕ → List (ℕ × ℕ) → ℕ → Type 0
 PartedBelow low [] end = Unit {0}
 PartedBelow low (i ∷ is) end = (low ≤ i.0) × (i.0 ≤ i.1) × (i.1 < end) × PartedBelow (i.1 + 2) is end

@@ -15,7 +15,8 @@ MediumTested held old new (Err (MediumNotEmpty n)) = (0 < n) × IfSome held (λ 
 MediumTested held old new (Err MediumFault) = Rose old new
 MediumTested held old new (Err e) = ⊥
 
--- Over told bytes: a refusal of opening or of the metadata. A fault may come in its place, and a wrong number of bytes never does.
+-- Over told bytes: a refusal of opening or of the metadata. A fault may come in its place, and a wrong
+-- number of bytes never does.
 abbrev pub IsUnread : List ℕ → PmtError → Type 0
 IsUnread b (errors.Reading causes.Fault) = Unit {0}
 IsUnread b (errors.UnexpectedNumberOfBytesReturned asked got) = ⊥

@@ -8,7 +8,8 @@ use Rattle.tile_extract.specs.declared.part.TilePart.{TilePart}
 abbrev pub cut : (ℕ → Option (List ℕ)) → TilePart → ℕ → Option (List ℕ)
 cut tiles part id = if in_intervals id part.intervals then tiles id else None
 
--- Labels, type, degrees, centre and metadata of an archive, and some zooms. Directories are labelled plain, as those of each archive that opens.
+-- Labels, type, degrees, centre and metadata of an archive, and some zooms. Directories are labelled plain, as those of
+-- each archive that opens.
 abbrev pub options_with_zooms : Header → List ℕ → ℕ → ℕ → Options
 options_with_zooms h text least greatest = record {
   internal_compression = compression.None;

@@ -59,7 +59,8 @@ PutsParts takes o h b [] done r = r ≡ Ok done
 PutsParts takes o h b (p ∷ ps) done r =
     PutsFound (λ bytes. (mid : Result Adds ExtractError) × PutsAll takes o bytes done (ids_of p) mid × PutsNext (λ more. PutsParts takes o h b ps more r) r mid) r (range_of b (h.data_offset + p.offset) p.length)
 
--- What parts come to on a medium: one result where it tells its bytes, and else that of some data of the same lengths, for which the contents are taken.
+-- What parts come to on a medium: one result where it tells its bytes, and else that of some data of the same lengths,
+-- for which the contents are taken.
 abbrev pub ComesTo : Option (List ℕ) → Options → Header → List ℕ → List Entry → Result Adds ExtractError → Type 0
 ComesTo (Some held) o h b ps r = put_parts o h b ps [] ≡ r
 ComesTo None o h b ps r = PutsParts (Took None) o h b ps [] r
@@ -73,7 +74,8 @@ Rises low (a ∷ adds) = (low ≤ a.0) × Rises (a.0 + 1) adds
 abbrev pub EndsBy : Adds → ℕ → Type 0
 EndsBy adds end = (more : Adds) → Rises end more → Rises 0 (adds ++ more)
 
--- What adding the same bytes at ids leaves, each taken for some data. A fault and want of memory may come in the place of each answer.
+-- What adding the same bytes at ids leaves, each taken for some data. A fault and want of memory may come in
+-- the place of each answer.
 abbrev pub Puts : Options → List ℕ → Adds → List ℕ → Option (List ℕ) → WriterState → Result Unit ExtractError → Type 0
 Puts o bytes done ids told s (Ok x) = (more : Adds) × PutsAll (Took told) o bytes done ids (Ok more) × Writes o told s more
 Puts o bytes done ids told s (Err IndexEntryOverflow) = PutsAll (Took told) o bytes done ids (Err IndexEntryOverflow)
@@ -81,7 +83,8 @@ Puts o bytes done ids told s (Err MediumFault) = Unit {0}
 Puts o bytes done ids told s (Err OutOfMemory) = Unit {0}
 Puts o bytes done ids told s (Err e) = ⊥
 
--- Over told bytes of the source: a refusal is that of the parts. A fault may come in its place, and a wrong number of bytes never does.
+-- Over told bytes of the source: a refusal is that of the parts. A fault may come in its place, and a wrong
+-- number of bytes never does.
 abbrev pub PartsRefuse : (Result Adds ExtractError → Type 0) → ExtractError → Type 0
 PartsRefuse comes (Archive (errors.Reading causes.Fault)) = Unit {0}
 PartsRefuse comes (Archive (errors.UnexpectedNumberOfBytesReturned asked got)) = ⊥
@@ -162,7 +165,8 @@ WritesParts o h source ps told (Err IndexEntryOverflow) = IfSome source (PartsOv
 WritesParts o h source ps told (Err (Archive e)) = IfSome source (λ b. PartsRefuse (ComesTo told o h b ps) (Archive e)) × IfSome told IsHidden
 WritesParts o h source ps told (Err e) = Unit {0}
 
--- Told or not, why: a fault of the source or the medium comes where its count of faults rose, other numbers of bytes only where they differ, and no other refusal comes.
+-- Told or not, why: a fault of the source or the medium comes where its count of faults rose, other numbers of bytes
+-- only where they differ, and no other refusal comes.
 abbrev pub WriteCauses : {A : Type 0} → ℕ → ℕ → ℕ → ℕ → Result A ExtractError → Type 0
 WriteCauses before now old new (Ok x) = Unit {0}
 WriteCauses before now old new (Err (Archive (errors.Reading causes.Fault))) = Rose before now

@@ -37,9 +37,11 @@ fn add_zoom(
     add_quadrant(found, near.as_slice(), zoom, 0, 0)
 }
 
-/// The ids of the tiles of boxes, as intervals with an id between each two that is of no such tile. Boxes may be of several zooms, in any order, and may overlap.
+/// The ids of the tiles of boxes, as intervals with an id between each two that is of no such tile. Boxes may be of
+/// several zooms, in any order, and may overlap.
 ///
-/// The quadrants of each zoom are gone through along the Hilbert curve: one that no box meets is left, and one that a box covers is taken, as a whole. So time grows with the number of tiles along the sides of the boxes.
+/// The quadrants of each zoom are gone through along the Hilbert curve: one that no box meets is left, and one that a
+/// box covers is taken, as a whole. So time grows with the number of tiles along the sides of the boxes.
 pub fn box_intervals(alloc: Global, boxes: &[ZoomBox]) -> Result<IdIntervals, OutOfMemory>
     ensures are { IfOk result (λ found. (id : ℕ) → in_intervals id found ≡ boxes_hold boxes.now id) }
     ensures parted { IfOk result (λ found. AreParted 0 found) }
@@ -74,7 +76,8 @@ fn zooms_of(boxes: &[ZoomBox]) -> (u8, u8)
     }
 }
 
-/// The part of an archive that the tiles of boxes are, by the ids as `box_intervals` gives them. Its zooms are the least and the greatest of the boxes', 0 where there is no box.
+/// The part of an archive that the tiles of boxes are, by the ids as `box_intervals` gives them. Its zooms are the
+/// least and the greatest of the boxes', 0 where there is no box.
 pub fn box_part(alloc: Global, boxes: &[ZoomBox]) -> Result<TilePart, OutOfMemory>
     ensures are { IfOk result
         (λ part. (id : ℕ) → in_intervals id part.intervals ≡ boxes_hold boxes.now id) }

@@ -37,7 +37,8 @@ fn options_with_zooms(header: &Header, metadata: TextVal, least: u8, greatest: u
         .metadata(metadata)
 }
 
-/// What the archive of a part says beside its tiles: its zooms are those of the part, and the rest is as in the archive that it comes from.
+/// What the archive of a part says beside its tiles: its zooms are those of the part, and the rest is as in the
+/// archive that it comes from.
 pub fn part_options(header: &Header, metadata: TextVal, part: &TilePart) -> PmTilesWriter
     ensures { result ≡ part_options header.now metadata part.now }
 {
@@ -69,8 +70,9 @@ fn of_walk(error: WalkError, max_tiles: u64) -> ExtractError
     }
 }
 
-/// The tile entries of an archive that lie in intervals of ids, clipped to them, in order of their ids: offsets count from the data part, lengths are bytes. Refused with `TooManyTiles` where they have more
-/// tiles than the limit, and with `Archive` where a directory on the way is broken.
+/// The tile entries of an archive that lie in intervals of ids, clipped to them, in order of their ids: offsets count
+/// from the data part, lengths are bytes. Refused with `TooManyTiles` where they have more tiles than the limit, and
+/// with `Archive` where a directory on the way is broken.
 pub fn collect_intervals<B: Backend>(
     alloc: Global,
     state: &ReaderState,

@@ -53,15 +53,19 @@ fn extract_into<B: Backend, M: Medium>(
     }
 }
 
-/// Writes to an empty medium the archive of the tiles that an archive has at the ids of a part. It says beside its tiles what the other one says, but for the zooms, which are those of the part.
+/// Writes to an empty medium the archive of the tiles that an archive has at the ids of a part. It says beside its
+/// tiles what the other one says, but for the zooms, which are those of the part.
 ///
-/// The first of these that holds is answered: `InvalidZoom` where the greatest zoom is below the least one or above 31; `MediumNotEmpty` where the medium has bytes; `Archive` where the source doesn't
-/// open, where its metadata isn't there or isn't UTF-8, and where a directory that leads to one of the ids fails a test; `TooManyTiles` where there are more tiles than the limit; `Archive` where a
-/// tile passes the end of the source; `IndexEntryOverflow` where the data ends past u64 or a directory of the new archive has 2^32 bytes or more. Until the tiles are written the medium is unchanged, and
-/// after a later refusal it shows no part of an archive.
+/// The first of these that holds is answered: `InvalidZoom` where the greatest zoom is below the least one or above 31;
+/// `MediumNotEmpty` where the medium has bytes; `Archive` where the source doesn't open, where its metadata isn't there
+/// or isn't UTF-8, and where a directory that leads to one of the ids fails a test; `TooManyTiles` where there are more
+/// tiles than the limit; `Archive` where a tile passes the end of the source; `IndexEntryOverflow` where the data ends
+/// past u64 or a directory of the new archive has 2^32 bytes or more. Until the tiles are written the medium is
+/// unchanged, and after a later refusal it shows no part of an archive.
 ///
-/// The source isn't read before the zooms and the medium are tested. Each directory that leads to one of the ids is read once, and so is each part of a tile entry. `Archive(Reading(Fault))` comes only
-/// where the source's count of faults rose, and `MediumFault` only where the medium's did.
+/// The source isn't read before the zooms and the medium are tested. Each directory that leads to one of the ids is
+/// read once, and so is each part of a tile entry. `Archive(Reading(Fault))` comes only where the source's count of
+/// faults rose, and `MediumFault` only where the medium's did.
 pub fn extract_intervals<B: Backend, M: Medium>(
     alloc: Global,
     source: &mut B,
@@ -100,16 +104,20 @@ pub fn extract_intervals<B: Backend, M: Medium>(
     }
 }
 
-/// Writes to an empty medium the archive of the tiles that an archive has among a tile and its descendants down to a zoom. It says beside its tiles what the other one says, but for the zooms,
-/// which are the tile's and the one that is asked for.
+/// Writes to an empty medium the archive of the tiles that an archive has among a tile and its descendants
+/// down to a zoom. It says beside its tiles what the other one says, but for the zooms, which are the tile's
+/// and the one that is asked for.
 ///
-/// The first of these that holds is answered: `InvalidZoom` where the zoom is below the tile's or above 31; `MediumNotEmpty` where the medium has bytes; `Archive` where the source doesn't
-/// open, where its metadata isn't there or isn't UTF-8, and where a directory that leads to one of the tiles' ids fails a test; `TooManyTiles` where there are more tiles than the limit;
-/// `Archive` where a tile passes the end of the source; `IndexEntryOverflow` where the data ends past u64 or a directory of the new archive has 2^32 bytes or more. Until the tiles are
-/// written the medium is unchanged, and after a later refusal it shows no part of an archive.
+/// The first of these that holds is answered: `InvalidZoom` where the zoom is below the tile's or above 31;
+/// `MediumNotEmpty` where the medium has bytes; `Archive` where the source doesn't open, where its metadata isn't there
+/// or isn't UTF-8, and where a directory that leads to one of the tiles' ids fails a test; `TooManyTiles` where there
+/// are more tiles than the limit; `Archive` where a tile passes the end of the source; `IndexEntryOverflow` where the
+/// data ends past u64 or a directory of the new archive has 2^32 bytes or more. Until the tiles are written the medium
+/// is unchanged, and after a later refusal it shows no part of an archive.
 ///
-/// The source isn't read before the zoom and the medium are tested. Each directory that leads to one of the ids is read once, and so is each part of a tile entry. `Archive(Reading(Fault))` comes only where the source's count of faults rose, and
-/// `MediumFault` only where the medium's did.
+/// The source isn't read before the zoom and the medium are tested. Each directory that leads to one of the ids is read
+/// once, and so is each part of a tile entry. `Archive(Reading(Fault))` comes only where the source's count of faults
+/// rose, and `MediumFault` only where the medium's did.
 pub fn extract<B: Backend, M: Medium>(
     alloc: Global,
     source: &mut B,

@@ -1,4 +1,5 @@
-//! Archives of a part of an archive: its tiles whose ids lie in intervals, as those of a tile and its descendants down to a zoom.
+//! Archives of a part of an archive: its tiles whose ids lie in intervals, as those of a tile and its
+//! descendants down to a zoom.
 #![tactic(auto)]
 
 mod boxes;

@@ -19,7 +19,8 @@ pub enum ExtractOutcome {
     OutOfMemory,
 }
 
-/// The status that a program ends with: 0 for `Done`, 1 or, where the source or the medium failed, 6 for `Refused`, 2 for `Usage` and 7 for `OutOfMemory`.
+/// The status that a program ends with: 0 for `Done`, 1 or, where the source or the medium failed, 6 for `Refused`, 2
+/// for `Usage` and 7 for `OutOfMemory`.
 pub fn extract_status(outcome: &ExtractOutcome) -> u8
     ensures { result ≡ status outcome.now }
 {

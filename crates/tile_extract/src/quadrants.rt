@@ -73,8 +73,9 @@ fn is_taken(boxes: &[ZoomBox], area: &ZoomBox, zoom: u8, level: u8) -> bool
     level == zoom || any_covers(boxes, area)
 }
 
-/// Adds the ids that boxes have among the descendants at a zoom of the tile of a level that has this number: none where no box meets them, all where a box covers them, and else those of its four children, in
-/// the order of the curve. All boxes are of the zoom.
+/// Adds the ids that boxes have among the descendants at a zoom of the tile of a level that has this number: none
+/// where no box meets them, all where a box covers them, and else those of its four children, in the order of the
+/// curve. All boxes are of the zoom.
 pub(crate) fn add_quadrant(
     found: &mut Vec<(u64, u64)>,
     boxes: &[ZoomBox],

@@ -13,9 +13,11 @@ use base_values::TextVal;
 use pm_format::{Backend, Medium};
 use std::alloc::Global;
 
-/// Writes the archive of a tile and its descendants as `extract` does, for words that are the tile's zoom, column and row, the greatest zoom, and how many tiles there may be.
+/// Writes the archive of a tile and its descendants as `extract` does, for words that are the tile's zoom, column and
+/// row, the greatest zoom, and how many tiles there may be.
 ///
-/// `Usage` comes exactly where the words are others, and then neither the source nor the medium is touched. Each other outcome comes where `extract` answers so.
+/// `Usage` comes exactly where the words are others, and then neither the source nor the medium is touched. Each other
+/// outcome comes where `extract` answers so.
 pub fn run_extract<B: Backend, M: Medium>(
     alloc: Global,
     words: &[TextVal],
@@ -35,7 +37,8 @@ pub fn run_extract<B: Backend, M: Medium>(
         (λ a. OfExtract
         (λ r. Leaves (B.told source.old) a.root a.max_zoom a.max_tiles r
         (M.told medium.old) (M.told medium.new)) result) }
-    // Where the source can be extracted, the medium tells that it is empty and no count rose, it is Done, or memory ran out.
+    // Where the source can be extracted, the medium tells that it is empty and no count rose, it is
+    // Done, or memory ran out.
     ensures complete { IfSome (asked_in words.now)
         (λ a. IfSome (B.told source.old)
         (λ b. CanExtract b a.root a.max_zoom a.max_tiles → M.told medium.old ≡ Some []

@@ -38,7 +38,8 @@ fn parse_five(
     Some((root, greatest as u8, most))
 }
 
-/// The tile, the greatest zoom (0 to 255) and the limit of tiles (0 to `u64::MAX`) that words ask for, if they are five numbers: the tile's zoom (0 to 31), column and row, and then these two.
+/// The tile, the greatest zoom (0 to 255) and the limit of tiles (0 to `u64::MAX`) that words ask for, if they are five
+/// numbers: the tile's zoom (0 to 31), column and row, and then these two.
 pub(crate) fn parse_words(words: &[TextVal]) -> Option<(TileCoord, u8, u64)>
     ensures { MatchOption result (asked_in words.now ≡ None)
         (λ r. asked_in words.now ≡ Some (asked r.0 r.1 r.2)) }

@@ -5,7 +5,8 @@ ghost use Rattle.tile_extract.specs.Common.{list_any};
 
 use tile_ids::TileCoord;
 
-/// The tiles of a zoom in some columns and rows, both ends included. Rows are counted from the top. Where a least number is above the greatest one, or no tile has the zoom, it has none.
+/// The tiles of a zoom in some columns and rows, both ends included. Rows are counted from the top. Where a least
+/// number is above the greatest one, or no tile has the zoom, it has none.
 #[derive(Clone, Copy, Debug, PartialEq, Eq)]
 pub struct ZoomBox {
     /// The zoom.

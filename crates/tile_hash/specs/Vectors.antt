@@ -1,4 +1,5 @@
--- Published values, computed from the definitions: the digests of no bytes and of "hello", and those of other lengths that the program xxhsum gives.
+-- Published values, computed from the definitions: the digests of no bytes and of "hello", and those of other lengths
+-- that the program xxhsum gives.
 use Rattle.std.specs.Prelude.{◌≡◌, ℕ, ◌%◌, List, [], codes, map, refl}
 use Rattle.std.specs.List.{range_with_len}
 use Rattle.tile_hash.specs.Words.{rotl, xor_shifted, word32, word64}

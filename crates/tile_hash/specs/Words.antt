@@ -1,4 +1,5 @@
--- Numbers of 64 bits, as the xxHash specification writes them: sums and products are modulo 2 ^ 64, and words are read low byte first.
+-- Numbers of 64 bits, as the xxHash specification writes them: sums and products are modulo 2 ^ 64, and words
+-- are read low byte first.
 use Rattle.std.specs.Prelude.{ℕ, ◌+◌, ◌*◌, ◌/◌, ◌%◌, ◌^◌, List, [], ◌∷◌, slice_index, bit_xor}
 use Rattle.tile_hash.specs.Common.{from_le_bytes, rotate_left, w32, w64}
 

@@ -13,7 +13,8 @@ unfoldable pub taken : List ℕ → List ℕ → ℕ → ℕ → ℕ → List �
 taken v b at number zero = v
 taken v b at number (suc n) = stripe_taken (taken v b at number n) b (at + 64 * n) ((number + n) % 16)
 
--- the pieces that the stream was given are these bytes together: it has taken some stripes, the last of which it keeps with the bytes behind it
+-- the pieces that the stream was given are these bytes together: it has taken some stripes, the last of which it keeps
+-- with the bytes behind it
 pub record HasTaken (s : Xxh3Stream) (bytes : List ℕ) : Type 0 where
   pub total : s.total ≡ length bytes % 2 ^ 64
   pub within : s.used ≤ length bytes

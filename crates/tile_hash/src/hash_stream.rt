@@ -73,7 +73,8 @@ impl HashStream {
         }
     }
 
-    /// The digest of all pieces together, the text that `HashAlgorithm::hash` gives these bytes. It fails only for want of memory.
+    /// The digest of all pieces together, the text that `HashAlgorithm::hash` gives these bytes. It fails
+    /// only for want of memory.
     pub fn finish(self, alloc: Global) -> Result<TextVal, OutOfMemory>
         ensures { (a : HashAlgorithm) (bytes : List ℕ) → HasTaken a self bytes
             → IfOk result (λ text. text ≡ digest a bytes) }

@@ -41,7 +41,8 @@ abbrev pub natural : Option ℤ → Option ℕ
 natural (Some (pos n)) = Some n
 natural number = None
 
--- the coordinate of a stored zoom, column and row counted from the bottom: the zoom is 0 to 30, the others are below two to the zoom
+-- the coordinate of a stored zoom, column and row counted from the bottom: the zoom is 0 to 30, the others
+-- are below two to the zoom
 abbrev pub index_of : Option ℕ → Option ℕ → Option ℕ → Option Coord
 index_of (Some z) (Some x) (Some y) =
     elim (nat_le z 30) [

@@ -30,7 +30,8 @@ impl Model for TileCoord {
 }
 
 impl TileCoord {
-    /// The coordinate, or `InvalidCoordinate` where the zoom is above 31 or the column or row isn't below two to the zoom.
+    /// The coordinate, or `InvalidCoordinate` where the zoom is above 31 or the column or row
+    /// isn't below two to the zoom.
     pub fn new(z: u8, x: u32, y: u32) -> Result<TileCoord, TileError>
         ensures valid { IsOk result ↔ IsCoord (record { z = z; x = x; y = y }) }
         ensures value { IfOk result (λ c. c ≡ record { z = z; x = x; y = y }) }
@@ -83,7 +84,8 @@ impl From<TileId> for TileCoord {
     }
 }
 
-/// The row of a zoom of 0 to 31 that is counted from the top where `y` is counted from the bottom, and the other way round.
+/// The row of a zoom of 0 to 31 that is counted from the top where `y` is counted from the bottom,
+/// and the other way round.
 pub fn invert_y_value(zoom: u8, y: u32) -> u32
     requires zoom { zoom ≤ 31 }
     requires row { y < 2 ^ zoom }
@@ -106,7 +108,8 @@ fn natural_value(number: Option<i64>) -> Option<u64>
 
 /// The coordinate of a stored zoom, column and row, the row counted from the bottom.
 ///
-/// Some exactly where all three are there, the zoom is 0 to 30, and the column and row are 0 to two to the zoom less one.
+/// Some exactly where all three are there, the zoom is 0 to 30, and the column and row are 0 to
+/// two to the zoom less one.
 pub fn parse_tile_index(z: Option<i64>, x: Option<i64>, y: Option<i64>) -> Option<TileCoord>
     ensures value { result ≡ tile_index z x y }
     ensures within { IfSome result (λ c. c.z ≤ 30) }

@@ -1,6 +1,8 @@
-// The number of a tile along the Hilbert curve of its zoom, two bits of the column and the row at a time, and the way back.
+// The number of a tile along the Hilbert curve of its zoom, two bits of the column and the row at
+// a time, and the way back.
 //
-// An odd zoom begins one level higher: there the curve first runs through a quarter that is the whole zoom with columns and rows exchanged.
+// An odd zoom begins one level higher: there the curve first runs through a quarter that is the whole zoom with
+// columns and rows exchanged.
 ghost use Rattle.std.specs.Prelude.{◌≡◌, ◌≤◌, ◌<◌, ◌+◌, ◌*◌, ◌^◌};
 ghost use Rattle.tile_ids.specs.Hilbert.{hilbert, pyramid};
 

@@ -1,4 +1,5 @@
-//! Laws of ids and of the curve, over the definitions that the conversions are proved by. None of these functions does anything.
+//! Laws of ids and of the curve, over the definitions that the conversions are proved by. None of these
+//! functions does anything.
 ghost use Rattle.std.specs.Prelude.{◌≡◌, ◌+◌, ◌-◌, ◌*◌, ◌^◌, ◌<◌, ◌≤◌, ◌↔◌, ℕ, ℤ, Option, slice_index};
 ghost use Rattle.tile_ids.specs.Coord.{Coord, IsCoord, IsChild, IsIndexOf, ShareSide, inverted_y, tile_index};
 ghost use Rattle.tile_ids.specs.Hilbert.{number_of, id_of, coord_of, pyramid};
@@ -37,7 +38,8 @@ pub fn each_id_has_a_coordinate()
     ensures { (id : ℕ) → id ≤ MAX_TILE_ID → IsCoord (coord_of id) × (id_of (coord_of id) ≡ id) }
 {}
 
-/// An id of a zoom lies between the first and the last id of a tile's descendants there exactly where its tile is a descendant.
+/// An id of a zoom lies between the first and the last id of a tile's descendants there exactly where
+/// its tile is a descendant.
 pub fn subtree_intervals_hold_descendants()
     ensures { (c : Coord) (zoom : ℕ) (ids : ℕ × ℕ)
         → IsCoord c → IsInterval c zoom ids → HoldsDescendants c zoom ids }
@@ -50,7 +52,8 @@ pub fn consecutive_ids_share_a_side()
         → ShareSide (c.x, c.y) (d.x, d.y) }
 {}
 
-/// The number of a child within its zoom is four times its parent's and 0, 1, 2 or 3 more, and each of the four is one child's.
+/// The number of a child within its zoom is four times its parent's and 0, 1, 2 or 3 more, and each of
+/// the four is one child's.
 pub fn children_have_four_numbers()
     ensures within { (c d : Coord)
         → IsCoord c → IsCoord d → IsChild c d

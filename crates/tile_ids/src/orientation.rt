@@ -1,7 +1,8 @@
 // The curve through the 16 squares of a square, four by four, by tables: two levels of the curve in one step.
 //
-// An entry less its last four bits is 16 times the orientation in which the curve runs through the sixteenth. The part of either table for that orientation begins there, so that
-// nothing but one reading of a table stands between two steps.
+// An entry less its last four bits is 16 times the orientation in which the curve runs through the sixteenth.
+// The part of either table for that orientation begins there, so that nothing but one reading of a table
+// stands between two steps.
 ghost use Rattle.std.specs.Prelude.{◌/◌, ◌%◌, ◌<◌};
 ghost use Rattle.tile_ids.specs.Orientation.{IsSixteenth};
 
@@ -29,7 +30,8 @@ const PLACES: [u8; 64] = [
     63, 46, 42, 27, 39, 51, 50, 6, 37, 49, 48, 4, 24, 9, 13, 60,
 ];
 
-/// The entry for the sixteenth in this column and row, where the curve runs as the entry before says: 16 times the orientation in the sixteenth, and its number.
+/// The entry for the sixteenth in this column and row, where the curve runs as the entry before says: 16 times the
+/// orientation in the sixteenth, and its number.
 pub(crate) fn number_entry(before: u8, column: u32, row: u32) -> u8
     requires before { before < 64 }
     requires column { column < 4 }
@@ -40,7 +42,8 @@ pub(crate) fn number_entry(before: u8, column: u32, row: u32) -> u8
     NUMBERS[(before / 16 * 16) as usize + (4 * column + row) as usize]
 }
 
-/// The entry for the sixteenth of this number, where the curve runs as the entry before says: 16 times the orientation in the sixteenth, 4 times its column, and its row.
+/// The entry for the sixteenth of this number, where the curve runs as the entry before says: 16 times the orientation
+/// in the sixteenth, 4 times its column, and its row.
 pub(crate) fn place_entry(before: u8, number: u64) -> u8
     requires before { before < 64 }
     requires number { number < 16 }

@@ -17,8 +17,8 @@ abbrev pub of_store_error : MbtError → ImportError
 of_store_error stores.OutOfMemory = OutOfMemory
 of_store_error e = Store e
 
--- The answer that is due of a loaded set and of what an archive gives: the set is asked first whether tiles can be put into it, then the archive is read, and then the set is asked whether
--- it takes these tiles.
+-- The answer that is due of a loaded set and of what an archive gives: the set is asked first whether tiles can be put
+-- into it, then the archive is read, and then the set is asked whether it takes these tiles.
 abbrev pub put_due : TileSet → Option MbtError → Result ℕ ImportError
 put_due tiles (Some e) = Err (Store e)
 put_due tiles None = Ok (len tiles)
@@ -41,7 +41,8 @@ abbrev pub Answers : Result ℕ ImportError → Result ℕ ImportError → Type 
 Answers due (Ok n) = due ≡ Ok n
 Answers due (Err e) = is_free e ≡ false → due ≡ Err e
 
--- The answer is that of the tables and the bytes that are told; of a store or a backend that tells nothing, that of some tables, or of something that an archive may give.
+-- The answer is that of the tables and the bytes that are told; of a store or a backend that tells nothing, that of
+-- some tables, or of something that an archive may give.
 pub record IsAnswered (most : ℕ) (told : Option (List ℕ)) (tells : Bool) (store : Tables) (answer : Result ℕ ImportError) : Type 0 where
   pub tables : Tables
   pub is_store : tells ≡ true → tables ≡ store
@@ -49,7 +50,8 @@ pub record IsAnswered (most : ℕ) (told : Option (List ℕ)) (tells : Bool) (st
   pub is_archive : IfSome told (λ b. IsRead most b found)
   pub answers : Answers (import_due (state_of tables) found) answer
 
--- told or not, why an archive can't be read: a fault only where the count of faults rose, other numbers of bytes only where they differ
+-- told or not, why an archive can't be read: a fault only where the count of faults rose, other numbers of
+-- bytes only where they differ
 abbrev pub ArchiveCauses : ℕ → ℕ → PmtError → Type 0
 ArchiveCauses before now (errors.Reading causes.Fault) = Rose before now
 ArchiveCauses before now (errors.Reading causes.PastEnd) = Unit {0}
@@ -76,8 +78,9 @@ ImportCauses most before now old new (Ok n) = n ≤ most
 ImportCauses most before now old new (Err (Store e)) = StoreCauses old new e
 ImportCauses most before now old new (Err e) = ReadCauses most before now e
 
--- Tables that held a set, and hold it with as many tiles as were answered over its own: those of the archive, where it tells its bytes. They load again as exactly that set; rows of other places stay, and
--- so do all descriptions and metadata.
+-- Tables that held a set, and hold it with as many tiles as were answered over its own: those of the archive,
+-- where it tells its bytes. They load again as exactly that set; rows of other places stay, and so do all
+-- descriptions and metadata.
 pub record IsImported (told : Option (List ℕ)) (old new : Tables) (n : ℕ) : Type 0 where
   pub tiles : TileSet
   pub are : IfSome told (λ b. HasTilesOf b tiles)

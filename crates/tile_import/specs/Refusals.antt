@@ -22,7 +22,8 @@ of_walk_error most (walks.InvalidTileId id) = InvalidTileId id
 of_walk_error most (walks.TooDeep id) = InvalidTileIndex (coord_of id)
 of_walk_error most walks.TooManyTiles = TooManyTiles most
 
--- Too many tiles are told at the entry that has one too many, behind all its other tests: so where the entries that come before the refusal of the walk have too many.
+-- Too many tiles are told at the entry that has one too many, behind all its other tests: so where the entries that
+-- come before the refusal of the walk have too many.
 abbrev pub walk_refusal : ℕ → Walked → Option ImportError
 walk_refusal most w = if nat_le (tile_count (full w.entries)) most then option_map (of_walk_error most) w.refusal else Some (TooManyTiles most)
 

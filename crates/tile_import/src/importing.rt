@@ -10,21 +10,28 @@ use mb_store::TileStore;
 use pm_format::Backend;
 use std::alloc::Global;
 
-/// Imports an archive into a set: its tiles of at least one byte are put over those of the set, each at the coordinate of its id, in one commit. It answers how many there are.
+/// Imports an archive into a set: its tiles of at least one byte are put over those of the set, each at the coordinate
+/// of its id, in one commit. It answers how many there are.
 ///
 /// The first of these that holds is answered:
 ///
 /// 1. `Store` with a refusal of `load`, or with `UnsupportedCopyOperation` where the set has ids that are numbers.
 /// 2. `Archive` with a refusal of opening the archive.
-/// 3. At the first entry that fails a test, a leaf being walked whole before the next entry: `Archive(InvalidEntry)` where its id isn't above that before it, lies outside its directory's range, or
-///    its run passes the end of its own range, and for a leaf behind six others; `Archive(Reading(PastEnd))` where its bytes pass the end of the archive or u64; `Archive(InvalidEntry)` for a leaf that
-///    doesn't decode; and for a tile entry `InvalidTileId` with its first id above `MAX_TILE_ID`, `InvalidTileIndex` with its first tile of zoom 31, unless it is empty, and `TooManyTiles` where the
-///    runs of the non-empty entries up to this one sum above the limit.
-/// 4. `Store` with `IdCollision`: contents that are put have the id of others in a normalised set, with the id of the first such tile.
+/// 3. At the first entry that fails a test, a leaf being walked whole before the next entry: `Archive(InvalidEntry)`
+///    where its id isn't above that before it, lies outside its directory's range, or its run passes the end of its own
+///    range, and for a leaf behind six others; `Archive(Reading(PastEnd))` where its bytes pass the end of the archive
+///    or u64; `Archive(InvalidEntry)` for a leaf that doesn't decode; and for a tile entry `InvalidTileId` with its
+///    first id above `MAX_TILE_ID`, `InvalidTileIndex` with its first tile of zoom 31, unless it is empty, and
+///    `TooManyTiles` where the runs of the non-empty entries up to this one sum above the limit.
+/// 4. `Store` with `IdCollision`: contents that are put have the id of others in a normalised set, with the
+///    id of the first such tile.
 ///
-/// Refused, the store holds what it held. After Ok the tables load again as the set with the tiles over its own; rows of other places, metadata and descriptions stay, and rows that were put carry
-/// their digest, where the layout has one. The tiles are made in memory as the archive is walked, those of a run once the limit has room for all of them, and no list of entries is kept. The archive is read once to open it, and once for each leaf and each tile entry. `Archive(Reading(Fault))` and `Store(StoreFault)` come
-/// only where the backend's, or the store's, count of faults rose.
+/// Refused, the store holds what it held. After Ok the tables load again as the set with the tiles over its own;
+/// rows of other places, metadata and descriptions stay, and rows that were put carry their digest, where the
+/// layout has one. The tiles are made in memory as the archive is walked, those of a run once the limit has room
+/// for all of them, and no list of entries is kept. The archive is read once to open it, and once for each leaf and
+/// each tile entry. `Archive(Reading(Fault))` and `Store(StoreFault)` come only where the backend's, or the
+/// store's, count of faults rose.
 pub fn import<B: Backend, S: TileStore>(
     alloc: Global,
     backend: &mut B,

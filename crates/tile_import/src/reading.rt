@@ -75,11 +75,13 @@ fn read_opened<B: Backend>(
     }
 }
 
-/// Opens an archive, walks all of it and makes its tiles of at least one byte as it comes to them, as a flat set of their own, which is let go where the archive is refused. The tiles of a run are made
-/// once the limit has room for all of them.
+/// Opens an archive, walks all of it and makes its tiles of at least one byte as it comes to them, as a flat
+/// set of their own, which is let go where the archive is refused. The tiles of a run are made once the limit
+/// has room for all of them.
 ///
-/// The first of these that holds is answered: the refusal of opening; at the first entry that fails a test, in order of the directories, the refusal of that test, `TooManyTiles` where the non-empty
-/// entries up to this one have more tiles than the limit.
+/// The first of these that holds is answered: the refusal of opening; at the first entry that fails a test, in
+/// order of the directories, the refusal of that test, `TooManyTiles` where the non-empty entries up to this one
+/// have more tiles than the limit.
 pub(crate) fn read_archive<B: Backend>(
     alloc: Global,
     backend: &mut B,

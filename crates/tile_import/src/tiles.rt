@@ -48,7 +48,8 @@ fn put_run(
     tiles.set_tiles(coords.as_slice(), contents)
 }
 
-/// The tiles of an archive, as a flat set of their own in the making: the contents of each tile entry stand at the coordinate of each id of its run.
+/// The tiles of an archive, as a flat set of their own in the making: the contents of each tile entry stand at the
+/// coordinate of each id of its run.
 #[derive(Drop)]
 pub(crate) struct MadeTiles {
     alloc: Global,

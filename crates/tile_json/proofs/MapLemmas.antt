@@ -1,4 +1,5 @@
--- A finite map that is seen through the list of its entries, and what an edit of the list at the place of a key does to it.
+-- A finite map that is seen through the list of its entries, and what an edit of the list at the
+-- place of a key does to it.
 use Rattle.tile_json.proofs.Common.{ap, Bool, empty_of_len, entries, entries-from_sorted, entries-insert, false, find, FinMap, from_sorted, get-entries, get_or, insert, is_sorted, is_sorted-put, IsAt}
 use Rattle.tile_json.proofs.Common.{IsGap, IsTotalOrder, len-entries, length, List, None, Ordering, put, refl, same_entries_map, set, Some, subst, sym, T, true, ℕ, [], ◌<◌, ◌∙◌, ◌≡◌, ◌≤◌}
 use Rattle.std.specs.FinMap as map

@@ -9,7 +9,8 @@ use Rattle.tile_json.specs.declared.document.TileJson.{TileJson}
 abbrev pub with_other : TileJson → List ℕ → Data → TileJson
 with_other x name d = record x { other = insert x.other name d }
 
--- Texts of five names fill their fields. The zooms are those of the header, so that texts of their names are passed over.
+-- Texts of five names fill their fields. The zooms are those of the header, so that texts of
+-- their names are passed over.
 abbrev pub with_text : TileJson → List ℕ → List ℕ → TileJson
 with_text x name text =
     if bytes_eq name (codes "description") then record x { description = Some text } else

@@ -4,7 +4,8 @@ ghost use Rattle.tile_json.specs.Common.{has_float, items_have_float, items_view
 
 use serde_json::{Map, Value};
 
-/// Whether a number of the value is held as a float: one with a fraction or an exponent, or one that no integer of 64 bits holds.
+/// Whether a number of the value is held as a float: one with a fraction or an exponent, or one that no
+/// integer of 64 bits holds.
 #[cycle(floats)]
 pub fn has_float(value: &Value) -> bool
     ensures { result ≡ has_float (view value.now) }

@@ -12,7 +12,8 @@ use serde_json::Value;
 use std::alloc::Global;
 
 impl JsonVal {
-    /// The value that a text of JSON is. `Invalid` comes exactly where the text isn't JSON, nested at most 127 deep, in which no number is held as a float.
+    /// The value that a text of JSON is. `Invalid` comes exactly where the text isn't JSON, nested at most 127 deep, in
+    /// which no number is held as a float.
     pub fn from_text(alloc: Global, text: &str) -> Result<JsonVal, DocumentError>
         ensures { Answers (whole_data text.now) result }
     {

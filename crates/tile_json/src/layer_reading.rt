@@ -17,8 +17,9 @@ impl LayerList {
     ghost use Rattle.tile_json.specs.Errors.{Answers};
     ghost use Rattle.tile_json.specs.LayerReading.{layers_of};
 
-    /// The layers that a value of JSON lists (TileJSON 3.0.0, `vector_layers`). `Invalid` comes exactly where it isn't a list of objects, each with a text `id` and an
-    /// object `fields` of texts, in which `description` is a text, and `minzoom` and `maxzoom` are 0 to 255, if they are there and aren't null.
+    /// The layers that a value of JSON lists (TileJSON 3.0.0, `vector_layers`). `Invalid` comes exactly where it isn't
+    /// a list of objects, each with a text `id` and an object `fields` of texts, in which `description` is a text, and
+    /// `minzoom` and `maxzoom` are 0 to 255, if they are there and aren't null.
     pub fn from_json(alloc: Global, value: Value) -> Result<LayerList, DocumentError>
         ensures { Answers (layers_of (view value)) result }
     {

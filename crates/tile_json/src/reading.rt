@@ -11,8 +11,9 @@ use serde_json::{Map, Value};
 use std::alloc::Global;
 
 impl TileJson {
-    /// The document with what the metadata of an archive says, a text of JSON. `Invalid` comes exactly where the text isn't an object of JSON, nested at most 127 deep, in
-    /// which no number is held as a float, or where `vector_layers` is neither a text nor a list of layers.
+    /// The document with what the metadata of an archive says, a text of JSON. `Invalid` comes exactly where the text
+    /// isn't an object of JSON, nested at most 127 deep, in which no number is held as a float, or where
+    /// `vector_layers` is neither a text nor a list of layers.
     pub fn with_metadata(self, alloc: Global, text: &str) -> Result<TileJson, DocumentError>
         ensures { Answers (tilejson_in self text.now) result }
     {

@@ -45,7 +45,8 @@ impl<V: Drop> TextMap<V> {
         }
     }
 
-    /// Puts a value at a name, in place of the one that is there. Refused, it changes nothing; a name that is there isn't refused.
+    /// Puts a value at a name, in place of the one that is there. Refused, it changes nothing; a name
+    /// that is there isn't refused.
     pub fn insert(&mut self, name: TextVal, value: V) -> Result<(), OutOfMemory>
         ensures ok { OnOk result (self.new ≡ map.insert self.old name value) }
         ensures err { OnErr result (self.new ≡ self.old) }

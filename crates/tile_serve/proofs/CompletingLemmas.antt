@@ -1,4 +1,5 @@
--- Where the words are limits, the input is short, the archive opens and no count rose, a run is done, or memory ran out.
+-- Where the words are limits, the input is short, the archive opens and no count rose, a run is
+-- done, or memory ran out.
 use Rattle.tile_serve.proofs.Common.{arith, Done, Err, IfSome, inl, InputFault, InputTooLong, inr, is_some, IsFor, IsOk, IsShort, IsUniform, IsUnmodifiedRun, length, List, MAX_INPUT, None, Ok, opened}
 use Rattle.tile_serve.proofs.Common.{OpeningCauses, OpensFor, Option, OutOfMemory, OutputFault, PmtError, refl, Refused, RefusesOpening, Result, Rose, ServeError, ServeLimits, ServeOutcome, Some}
 use Rattle.tile_serve.proofs.Common.{SourceCauses, true, Usage, ℕ, ◌<◌, ◌≡◌, ◌⊎◌}

@@ -28,7 +28,8 @@ taken (Err (errors.SourceModified opened read)) = Err (Modified opened read)
 taken (Err (errors.UnexpectedNumberOfBytesReturned asked got)) = Err (Short asked got)
 taken (Err _) = Err OutOfMemory
 
--- Over told bytes: what the archive has is found. Want of memory, a fault, and another text for a tile that is there may come in its place.
+-- Over told bytes: what the archive has is found. Want of memory, a fault, and another text for a tile that is
+-- there may come in its place.
 abbrev pub Finds : Result (Option (List ℕ)) PmtError → Result Found ServeError → Type 0
 Finds tile (Ok found) = found ≡ found_in tile
 Finds tile (Err (Opening e)) = ⊥
@@ -37,7 +38,8 @@ Finds tile (Err (Modified opened read)) = IsThere tile
 Finds tile (Err (Short asked got)) = ⊥
 Finds tile (Err OutOfMemory) = Unit {0}
 
--- Over told bytes: the reply of a server without caches. Want of memory, a fault, and another text for a tile that is there may come in its place.
+-- Over told bytes: the reply of a server without caches. Want of memory, a fault, and another text for a tile that is
+-- there may come in its place.
 abbrev pub Answers : List ℕ → List ℕ → Result (List ℕ) ServeError → Type 0
 Answers b line (Ok text) = text ≡ reply b line
 Answers b line (Err (Opening e)) = ⊥
@@ -46,7 +48,8 @@ Answers b line (Err (Modified opened read)) = (r : Request) × (request_of line 
 Answers b line (Err (Short asked got)) = ⊥
 Answers b line (Err OutOfMemory) = Unit {0}
 
--- Told or not: a fault comes only where the count of faults rose, and two numbers only where no bytes are told, and they differ.
+-- Told or not: a fault comes only where the count of faults rose, and two numbers only where no bytes
+-- are told, and they differ.
 abbrev pub Causes : {A : Type 0} → Option (List ℕ) → ℕ → ℕ → Result A ServeError → Type 0
 Causes told before now (Ok x) = Unit {0}
 Causes told before now (Err (Opening e)) = ⊥
@@ -55,7 +58,8 @@ Causes told before now (Err (Modified opened read)) = Unit {0}
 Causes told before now (Err (Short asked got)) = (told ≡ None) × (asked ≢ got)
 Causes told before now (Err OutOfMemory) = Unit {0}
 
--- With the text of the opening, the texts of each read where they are told, and the number of the last read: it is modified only where these are the two that differ.
+-- With the text of the opening, the texts of each read where they are told, and the number of the last read: it is
+-- modified only where these are the two that differ.
 abbrev pub HasTexts : {A : Type 0} → Option (List ℕ) → Option (ℕ → Option (List ℕ)) → ℕ → Result A ServeError → Type 0
 HasTexts opened versions number (Err (Modified a b)) = (opened ≡ Some a) × (a ≢ b) × IfSome versions (λ text. text number ≡ Some b)
 HasTexts opened versions number _ = Unit {0}
@@ -86,7 +90,8 @@ abbrev pub IsUnmodified : {A : Type 0} → Result A ServeError → Type 0
 IsUnmodified (Err (Modified a b)) = ⊥
 IsUnmodified _ = Unit {0}
 
--- What is held after a line: after a reply exactly what the reply leaves, and want of memory may leave it or what was held before.
+-- What is held after a line: after a reply exactly what the reply leaves, and want of memory may leave it
+-- or what was held before.
 abbrev pub LeavesTiles : List ℕ → Option Request → Bounded (List ℕ) → Bounded (List ℕ) → Result (List ℕ) ServeError → Type 0
 LeavesTiles b asked old new (Ok text) = new ≡ tiles_after b asked old
 LeavesTiles b asked old new (Err OutOfMemory) = (new ≡ old) ⊎ (new ≡ tiles_after b asked old)

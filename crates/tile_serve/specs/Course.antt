@@ -12,7 +12,8 @@ use Rattle.tile_serve.specs.declared.outcome.ServeOutcome.TheVariants.{Done, Ref
 abbrev pub Texts : Type 0
 Texts = Option (ℕ → Option (List ℕ))
 
--- what lines begin with: the text of the opening, those of all reads, the tiles that are held, and the number of the last read
+-- what lines begin with: the text of the opening, those of all reads, the tiles that are held, and
+-- the number of the last read
 pub record Course : Type 0 where
   pub opened : Option (List ℕ)
   pub texts : Texts
@@ -22,7 +23,8 @@ pub record Course : Type 0 where
 abbrev pub course : Option (List ℕ) → Texts → Bounded (List ℕ) → ℕ → Course
 course opened texts tiles reads = record { opened = opened; texts = texts; tiles = tiles; reads = reads }
 
--- A line is answered once: by no more reads than its look-up takes, and where a range was read for it, its text isn't another one than that of the opening.
+-- A line is answered once: by no more reads than its look-up takes, and where a range was read for it, its text isn't
+-- another one than that of the opening.
 pub record IsAnswered (b : List ℕ) (c : Course) (line : List ℕ) (tiles : Bounded (List ℕ)) (before now : ℕ) : Type 0 where
   pub reads : ReadsFor b (request_of line) before now
   pub agrees : IsReadFor b (request_of line) tiles → IfSome c.texts (λ text. Agree c.opened (text now))
@@ -38,7 +40,8 @@ abbrev pub tiles_behind : List ℕ → List (List ℕ) → Bounded (List ℕ) �
 tiles_behind b [] tiles = tiles
 tiles_behind b (line ∷ lines) tiles = tiles_behind b lines (tiles_after b (request_of line) tiles)
 
--- one line: once it is answered, its tile is held; one that isn't answered was read for, by no more reads than its look-up takes
+-- one line: once it is answered, its tile is held; one that isn't answered was read for, by no more
+-- reads than its look-up takes
 abbrev pub Goes : List ℕ → Course → List ℕ → Bounded (List ℕ) → Bounded (List ℕ) → ℕ → ℕ → ServeOutcome → Type 0
 Goes b c line tiles held before now Done = IsAnswered b c line tiles before now × (held ≡ tiles_after b (request_of line) tiles)
 Goes b c line tiles held before now (Refused e) = ReadsFor b (request_of line) before now × (is_read (request_of line) tiles ≡ true)

@@ -14,7 +14,8 @@ abbrev pub limits_of_four : List ℕ → List ℕ → List ℕ → List ℕ → 
 limits_of_four directories entries tiles bytes =
     option_and_then (λ d. option_and_then (λ e. option_and_then (λ t. option_map (λ s. limits d e t s) (number_to 18446744073709551615 bytes)) (count_from_one tiles)) (number_to 4294967295 entries)) (count_from_one directories)
 
--- four numbers: how many directories and tiles there may be, at least one each, and how many entries and bytes they may have
+-- four numbers: how many directories and tiles there may be, at least one each, and how many
+-- entries and bytes they may have
 abbrev pub limits_in : List (List ℕ) → Option ServeLimits
 limits_in (directories ∷ entries ∷ tiles ∷ bytes ∷ []) = limits_of_four directories entries tiles bytes
 limits_in _ = None

@@ -10,7 +10,8 @@ use Rattle.tile_serve.specs.Request.{Request, request_of}
 use Rattle.tile_serve.specs.declared.found.Found.{Found}
 use Rattle.tile_serve.specs.declared.found.Found.TheVariants.{Tile, Missing, InvalidEntry, PastEnd}
 
--- what a look-up comes to: no entry and no byte are the same, and a look-up of an archive has no other refusals than these two
+-- what a look-up comes to: no entry and no byte are the same, and a look-up of an archive has no
+-- other refusals than these two
 abbrev pub found_in : Result (Option (List ℕ)) PmtError → Found
 found_in (Ok None) = Missing
 found_in (Ok (Some [])) = Missing

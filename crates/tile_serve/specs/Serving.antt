@@ -20,7 +20,8 @@ WritesLine b line old new OutputFault = GainsFront old new (reply b line)
 WritesLine b line old new OutOfMemory = GainsFront old new (reply b line)
 WritesLine b line old new _ = ⊥
 
--- A line isn't answered. The lines before it were, their replies were written, and what was read since is for this line.
+-- A line isn't answered. The lines before it were, their replies were written, and what was
+-- read since is for this line.
 pub record RefusedAt (b : List ℕ) (c : Course) (requests : List ℕ) (now : ℕ) (old new : Option (List ℕ)) (e : ServeError) : Type 0 where
   pub before : List (List ℕ)
   pub line : List ℕ
@@ -45,7 +46,8 @@ WritesLines b c requests now old new _ = ⊥
 abbrev pub WritesOpened : ServeLimits → Texts → ℕ → ℕ → List ℕ → List ℕ → Option (List ℕ) → Option (List ℕ) → ServeOutcome → Type 0
 WritesOpened limits texts before now b requests old new o = (c : Course) × IsBegun limits texts before c × WritesLines b c requests now old new o
 
--- By a run, with its limits, the texts of reads and two counts of reads: the replies, or a front of them. Where there is no server, or no request was read, nothing was written.
+-- By a run, with its limits, the texts of reads and two counts of reads: the replies, or a front of them. Where there
+-- is no server, or no request was read, nothing was written.
 abbrev pub Writes : ServeLimits → Texts → ℕ → ℕ → List ℕ → List ℕ → Option (List ℕ) → Option (List ℕ) → ServeOutcome → Type 0
 Writes limits texts before now b requests old new Done = WritesOpened limits texts before now b requests old new Done
 Writes limits texts before now b requests old new (Refused (serve.Opening e)) = new ≡ old
@@ -69,7 +71,8 @@ abbrev pub LinesTexts : Option (List ℕ) → Texts → ℕ → ServeOutcome →
 LinesTexts opened texts number (Refused (serve.Modified a b)) = (opened ≡ Some a) × (a ≢ b) × IfSome texts (λ text. text number ≡ Some b)
 LinesTexts opened texts number _ = Unit {0}
 
--- Another text ended a run: that of the first read, which opened the archive, and that of the last one, and they differ.
+-- Another text ended a run: that of the first read, which opened the archive, and that of the
+-- last one, and they differ.
 abbrev pub RunTexts : Texts → ℕ → ℕ → ServeOutcome → Type 0
 RunTexts texts before now (Refused (serve.Modified a b)) = (a ≢ b)
     × IfSome texts (λ text. (first : ℕ) × Grew before first 1 × (first ≤ now) × (text first ≡ Some a) × (text now ≡ Some b))

@@ -24,7 +24,8 @@ pub record Serves (b : List ℕ) (s : ServerState) : Type 0 where
   pub reads : ReadsFrom b s.reader (held_by_use s.directories) ⊥
   pub tiles : UsesOneLength b → AreTiles b (tiles_of s).pairs
 
--- The same of bytes and version texts that may be told. The text of the opening is that of some read, and what is held is within its bounds.
+-- The same of bytes and version texts that may be told. The text of the opening is that of some read, and what is
+-- held is within its bounds.
 pub record IsServing (told : Option (List ℕ)) (versions : Option (ℕ → Option (List ℕ))) (s : ServerState) : Type 0 where
   pub archive : IfSome told (λ b. Serves b s)
   pub opened : IfSome versions (λ text. (n : ℕ) × (opened_as s ≡ text n))

@@ -12,7 +12,8 @@ use Rattle.tile_serve.specs.declared.found.Found.TheVariants.{Tile, Missing, Inv
 abbrev pub AreTiles : List ℕ → List (ℕ × List ℕ) → Type 0
 AreTiles b pairs = (e : ℕ × List ℕ) → Contains pairs e → found_at b e.0 ≡ Tile e.1
 
--- a tile that isn't longer than the limit is put in front, and the last ones are given up until the rest is within the bounds
+-- a tile that isn't longer than the limit is put in front, and the last ones are given up until the
+-- rest is within the bounds
 abbrev pub with_tile : Bounded (List ℕ) → ℕ → List ℕ → Bounded (List ℕ)
 with_tile old t bytes = if fits length old.limit bytes then with_pair length old t bytes else old
 
@@ -31,7 +32,8 @@ is_held old t = is_some (lookup (nat_eq t) old.pairs)
 abbrev pub tiles_asked : Bounded (List ℕ) → ℕ → Found → Bounded (List ℕ)
 tiles_asked old t found = if is_held old t then used old t else with_found old t found
 
--- What is held after an id was looked for: after want of memory a held tile may be the latest used, and another error leaves all as it was.
+-- What is held after an id was looked for: after want of memory a held tile may be the latest used, and another
+-- error leaves all as it was.
 abbrev pub LeavesFound : Bounded (List ℕ) → Bounded (List ℕ) → ℕ → Result Found ServeError → Type 0
 LeavesFound old new t (Ok found) = new ≡ tiles_asked old t found
 LeavesFound old new t (Err OutOfMemory) = (new ≡ old) ⊎ (new ≡ used old t)

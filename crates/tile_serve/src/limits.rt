@@ -33,7 +33,8 @@ fn parse_count(word: &TextVal) -> Option<usize>
     Some(number as usize)
 }
 
-/// The limits that words spell, if they are four numbers: how many directories (1 to 4,294,967,295), entries of these (0 to 4,294,967,295), tiles (1 to 4,294,967,295) and bytes of these (0 to `u64::MAX`).
+/// The limits that words spell, if they are four numbers: how many directories (1 to 4,294,967,295), entries of these
+/// (0 to 4,294,967,295), tiles (1 to 4,294,967,295) and bytes of these (0 to `u64::MAX`).
 pub(crate) fn limits_of(words: &[TextVal]) -> Option<ServeLimits>
     ensures value { result ≡ limits_in words.now }
     ensures within { IfSome result IsLimits }

@@ -59,7 +59,8 @@ impl From<SinkFault> for ServeOutcome {
     }
 }
 
-/// The status that a program ends with: 0 for `Done`, 1 or, where the backend failed, 6 for `Refused`, 2 for `Usage`, 4 for `InputFault`, 5 for `OutputFault`, 7 for `OutOfMemory` and 8 for `InputTooLong`.
+/// The status that a program ends with: 0 for `Done`, 1 or, where the backend failed, 6 for `Refused`, 2 for `Usage`, 4
+/// for `InputFault`, 5 for `OutputFault`, 7 for `OutOfMemory` and 8 for `InputTooLong`.
 pub fn serve_status(outcome: &ServeOutcome) -> u8
     ensures { result ≡ status outcome.now }
 {

@@ -59,7 +59,8 @@ fn parse_words(words: &[u8]) -> Option<(TileId, &[u8])>
     Some((parse_id(zoom, column, row)?, &[]))
 }
 
-/// The id that a line asks for, and the tag that it has, which is empty where it has none. None for a line that is no request.
+/// The id that a line asks for, and the tag that it has, which is empty where it has none. None for a
+/// line that is no request.
 pub(crate) fn parse_request(line: &[u8]) -> Option<(TileId, &[u8])>
     ensures { MatchOption result (request_of line.now ≡ None)
         (λ r. request_of line.now ≡ Some (asked r.0 r.1.now)) }

@@ -83,9 +83,11 @@ impl ServerState {
         })
     }
 
-    /// Opens the archive of a backend, without borrowing it any longer: one read. The limits are to allow a directory and a tile.
+    /// Opens the archive of a backend, without borrowing it any longer: one read. The limits are to
+    /// allow a directory and a tile.
     ///
-    /// `Opening` is the first refusal of opening, as `ReaderState::open` gives it; a fault in it comes only where the backend's count of faults rose.
+    /// `Opening` is the first refusal of opening, as `ReaderState::open` gives it; a fault in it comes only where the
+    /// backend's count of faults rose.
     pub fn open<B: Backend>(
         alloc: Global,
         backend: &mut B,
@@ -213,11 +215,14 @@ impl ServerState {
         }
     }
 
-    /// The reply to a line, which has no line feed: `400` for one that is no request; else `404` where there is no entry or no byte, `500` and `InvalidEntry` or `PastEnd` where a leaf
-    /// doesn't decode or a range passes the end, `304` and the tag where the line has it, and `200`, the tag and the bytes in hexadecimal where not. The backend is to be the one that was opened.
+    /// The reply to a line, which has no line feed: `400` for one that is no request; else `404` where there is no
+    /// entry or no byte, `500` and `InvalidEntry` or `PastEnd` where a leaf doesn't decode or a range passes the end,
+    /// `304` and the tag where the line has it, and `200`, the tag and the bytes in hexadecimal where not. The backend
+    /// is to be the one that was opened.
     ///
-    /// `Fault` comes only where the backend's count of faults rose, `Modified` in place of a tile that is there, where the opening and the last read both gave version texts and they
-    /// differ, and `Short` only over a backend that tells no bytes. After an error later lines are answered as before.
+    /// `Fault` comes only where the backend's count of faults rose, `Modified` in place of a tile that is there, where
+    /// the opening and the last read both gave version texts and they differ, and `Short` only over a backend that
+    /// tells no bytes. After an error later lines are answered as before.
     pub fn answer<B: Backend>(
         &mut self,
         backend: &mut B,

@@ -70,7 +70,8 @@ impl TileCache {
         Ok(Some(kept.bytes().clone()?))
     }
 
-    /// Puts a tile in front of the others, unless it is longer than the limit, and gives up the last of these until the rest is within the bounds.
+    /// Puts a tile in front of the others, unless it is longer than the limit, and gives up the last of these until the
+    /// rest is within the bounds.
     pub(crate) fn put(&mut self, id: TileId, bytes: Bytes) -> Result<(), OutOfMemory>
         ensures ok { OnOk result (self.new ≡ with_tile self.old id bytes) }
         ensures err { OnErr result (self.new ≡ self.old) }

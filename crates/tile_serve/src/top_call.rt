@@ -85,11 +85,13 @@ fn attempt<B: Backend, I: Source, O: Sink>(
     serve_requests(alloc, limits, source, output, requests.as_slice())
 }
 
-/// Serves the requests of an input: tests the words, which are the four limits, reads the input to its end, opens the archive of the backend, and writes the reply to each line before it
-/// answers the next one.
+/// Serves the requests of an input: tests the words, which are the four limits, reads the input to its end, opens the
+/// archive of the backend, and writes the reply to each line before it answers the next one.
 ///
-/// `Usage`, `InputFault`, `InputTooLong` and `Refused` with `Opening` come before anything is written. `Refused` has the first error of opening or answering other than want of memory, and
-/// then the replies to the lines before are written. `Modified` has the version texts of the first and of the last read. After `OutputFault` and `OutOfMemory` a front of all replies is written.
+/// `Usage`, `InputFault`, `InputTooLong` and `Refused` with `Opening` come before anything is written. `Refused` has
+/// the first error of opening or answering other than want of memory, and then the replies to the lines before are
+/// written. `Modified` has the version texts of the first and of the last read. After `OutputFault` and `OutOfMemory` a
+/// front of all replies is written.
 pub fn run_serve<B: Backend, I: Source, O: Sink>(
     alloc: Global,
     words: &[TextVal],
@@ -106,7 +108,8 @@ pub fn run_serve<B: Backend, I: Source, O: Sink>(
     ensures texts { RunTexts (B.versions source.old) (B.reads source.old) (B.reads source.new)
         result }
     ensures opens { IfSome (B.told source.old) (λ b. OpensFor (opened b) result) }
-    // Where the words are limits, the input is within its limit, the archive opens, its version texts don't differ and no count rose, it is Done, or memory ran out.
+    // Where the words are limits, the input is within its limit, the archive opens, its version texts don't differ and
+    // no count rose, it is Done, or memory ran out.
     ensures complete { is_some (limits_in words.now) ≡ true → IsShort (I.left input.old)
         → is_some (I.left input.old) ≡ true
         → is_some (B.told source.old) ≡ true → IfSome (B.told source.old) (λ b. IsOk (opened b))

@@ -79,7 +79,8 @@ module _ (tells : Bool) (t : Tables) (layout : MbtType) (tiles : TileSet) (marks
     pub told_adds : AreAddsOf adds tiles
     told_adds = record { rising = marks_rise tiles marks are ranged contents; low = adds_low tiles marks are ranged contents; filled = adds_filled tiles marks are ranged contents; each = each_told; only = only_told }
 
-  -- where it tells nothing, there are tiles of the same marks: those of which something was read, and of no byte as they were
+  -- where it tells nothing, there are tiles of the same marks: those of which something was read,
+  -- and of no byte as they were
   abbrev with_read : Tile → List ℕ → Tile
   with_read e [] = e
   with_read e (byte ∷ bytes) = (e.0, content_at adds (address e.0))

@@ -4,7 +4,8 @@ use Rattle.tile_streaming.specs.Common.{add_to, cons_option, is_gzip, MbtType, O
 use Rattle.tile_streaming.specs.Finding.{bytes_told}
 use Rattle.tile_streaming.specs.declared.mark.Mark.{Mark}
 
--- What was read for a mark: bytes of its length, and unless they are none, of its digest, and with its beginning; then a store that tells has them there.
+-- What was read for a mark: bytes of its length, and unless they are none, of its digest, and with its beginning; then
+-- a store that tells has them there.
 pub record IsRead (tells : Bool) (told : Tables) (layout : MbtType) (m : Mark) (bytes : List ℕ) : Type 0 where
   pub size : length bytes ≡ m.length
   pub digest : 0 < m.length → xxh3_64 bytes ≡ m.digest

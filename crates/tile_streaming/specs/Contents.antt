@@ -54,7 +54,8 @@ pub record SeesContents (layout : MbtType) (a : HashAlgorithm) (contents : List 
   pub items : seen.items.items ≡ map content_from (hollow_rows contents)
   pub marks : seen.marks.items ≡ marks_by_row contents
 
--- the rows of contents that a store tells, or some that its answers could be of where it tells nothing; a layout that isn't normalised has none
+-- the rows of contents that a store tells, or some that its answers could be of where it tells nothing; a layout that
+-- isn't normalised has none
 pub record AreContents (layout : MbtType) (tells : Bool) (told : Tables) (contents : List (List Cell)) : Type 0 where
   pub are_told : tells ≡ true → contents ≡ content_rows layout told
   pub none : is_normalized layout ≡ false → contents ≡ []

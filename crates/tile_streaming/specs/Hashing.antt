@@ -19,7 +19,8 @@ abbrev pub tiles_with : List Mark → List (List ℕ) → List (Place × Option 
 tiles_with (m ∷ marks) (bytes ∷ contents) = (place_with m.id, Some bytes) ∷ tiles_with marks contents
 tiles_with _ _ = []
 
--- What was read for a mark, however long: bytes that have this mark, and then a store that tells has them there; or none, where the mark is of none.
+-- What was read for a mark, however long: bytes that have this mark, and then a store that tells has them there; or
+-- none, where the mark is of none.
 pub record IsReadAgain (tells : Bool) (told : Tables) (layout : MbtType) (m : Mark) (bytes : List ℕ) : Type 0 where
   pub mark : bytes ≢ [] → mark_with m.id bytes ≡ m
   pub same : bytes ≢ [] → tells ≡ true → bytes_told layout told m.id ≡ Some bytes
@@ -72,7 +73,8 @@ IsHashRefusal tells told m AggHashValueNotFound = stored_hash m ≡ None
 IsHashRefusal tells told m (AggHashMismatch computed stored) = (stored_hash m ≡ Some stored) × (bytes_eq stored computed ≡ false) × IsHashOf tells told m computed
 IsHashRefusal tells told m _ = ⊥
 
--- Why there is no hash: a fault of the store, only where its count rose, want of memory, a store that changed and tells nothing, or where the hash is to be verified, its refusal.
+-- Why there is no hash: a fault of the store, only where its count rose, want of memory, a store that changed and tells
+-- nothing, or where the hash is to be verified, its refusal.
 abbrev pub HashCauses : {A : Type 0} → Bool → Bool → Tables → MarkedSet → ℕ → ℕ → Result A StreamError → Type 0
 HashCauses verify tells told m store store_now (Ok _) = Unit {0}
 HashCauses verify tells told m store store_now (Err StoreChanged) = tells ≡ false

@@ -5,7 +5,8 @@ use Rattle.tile_streaming.specs.Common.{cell_at, is_id, reference_missing, then,
 use Rattle.tile_streaming.specs.declared.names.Named.{Named}
 use Rattle.tile_streaming.specs.declared.row_tests.Findings.{Findings}
 
--- Whether all cells are of their kinds, the first bad row of a tile, the first whose contents aren't there, and the first wrong digest: of contents, else of rows of tiles, since no layout has both.
+-- Whether all cells are of their kinds, the first bad row of a tile, the first whose contents aren't there, and the
+-- first wrong digest: of contents, else of rows of tiles, since no layout has both.
 pub record AreFindings (layout : MbtType) (a : HashAlgorithm) (contents rows : List (List Cell)) (f : Findings) : Type 0 where
   pub kinds : f.kinds ≡ (list_all (λ row. is_id layout (cell_at 0 row)) contents && list_all (has_tile_kinds layout) rows)
   pub bad : f.bad ≡ tile_bad layout contents rows
@@ -26,6 +27,7 @@ abbrev pub unless_found : {A : Type 0} → Option MbtError → A → Result A Mb
 unless_found (Some refusal) x = Err refusal
 unless_found None x = Ok x
 
--- what metadata names, unless it is refused: cells that aren't of their kinds come before the metadata, and it before a bad row, contents that are missing and a digest
+-- what metadata names, unless it is refused: cells that aren't of their kinds come before the metadata, and it before a
+-- bad row, contents that are missing and a digest
 abbrev pub settled : Findings → Result Named MbtError → Result Named MbtError
 settled f named = cond f.kinds (then named (unless_found (option_or f.bad (option_or f.missing f.hash)))) (Err InvalidDataFormat)

@@ -24,7 +24,8 @@ as_convert (Ok r) = Ok (as_report r)
 as_convert (Err (Convert e)) = Err e
 as_convert (Err StoreChanged) = Err OutOfMemory
 
--- When each answer comes: that of `convert` as there. A store changed only where it tells nothing, behind the tests of the medium and of the label.
+-- When each answer comes: that of `convert` as there. A store changed only where it tells nothing, behind the tests of
+-- the medium and of the label.
 abbrev pub StreamCauses : Options → Option (Result State ConvertError) → Bool → Option (List ℕ) → Result StreamReport StreamError → Type 0
 StreamCauses o due tells told (Ok r) = ConvertCauses o due told (Ok (as_report r))
 StreamCauses o due tells told (Err (Convert e)) = ConvertCauses o due told (Err e)
@@ -51,8 +52,9 @@ HidesRest new (Err StoreChanged) = IfSome new IsHidden
 HidesRest new (Err (Convert (StoreFault place))) = IfSome new IsHidden
 HidesRest new _ = Unit {0}
 
--- The set was at hand, and the medium empty. The options are those that the state gives, which is the one that is due, where the store tells. The medium holds the archive of this state and these options, or no part
--- of it; and the report is of both.
+-- The set was at hand, and the medium empty. The options are those that the state gives, which is the one that
+-- is due, where the store tells. The medium holds the archive of this state and these options, or no part of it;
+-- and the report is of both.
 pub record IsOfState (gives : State → Options → Type 0) (due : Option (Result State ConvertError)) (tells : Bool) (coords : List Coord) (result : Result StreamReport StreamError) (old new : Option (List ℕ)) : Type 0 where
   pub state : State
   pub options : Options
@@ -73,7 +75,8 @@ StreamLeaves gives due tells coords result old new = IsUnwritten result old new 
 abbrev pub IsHeldWith : MarkedSet → Options → State → Options → Type 0
 IsHeldWith m w state options = IsMarkedAs state m × (options ≡ w)
 
--- the marks are those of tables that the store tells, or where it tells nothing of some tables that its answers could be of
+-- the marks are those of tables that the store tells, or where it tells nothing of some tables
+-- that its answers could be of
 pub record IsMarkedFrom (tells : Bool) (told : Tables) (m : MarkedSet) : Type 0 where
   pub tables : Tables
   pub are_told : tells ≡ true → tables ≡ told

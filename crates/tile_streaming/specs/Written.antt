@@ -10,7 +10,8 @@ use Rattle.tile_streaming.specs.declared.error.StreamError.{StreamError}
 use Rattle.tile_streaming.specs.declared.error.StreamError.TheVariants.{Convert, StoreChanged}
 use Rattle.tile_streaming.specs.declared.mark.Mark.{Mark}
 
--- why a row isn't found: a fault of the store, only where its count rose, want of memory, or what is said of a changed store
+-- why a row isn't found: a fault of the store, only where its count rose, want of memory, or what
+-- is said of a changed store
 abbrev pub FindCauses : {A : Type 0} → Type 0 → ℕ → ℕ → Result A StreamError → Type 0
 FindCauses changed store store_now (Ok _) = Unit {0}
 FindCauses changed store store_now (Err StoreChanged) = changed
@@ -29,7 +30,8 @@ AddsCauses medium medium_now (Err _) = ⊥
 abbrev pub IsChanged : Bool → Tables → MbtType → Mark → Type 0
 IsChanged tells told layout m = tells ≡ true → IfSome (bytes_told layout told m.id) (λ bytes. fits m bytes ≡ false)
 
--- Why a step ends: a fault of the store or of the medium, only where its count rose, want of memory, or a store that changed.
+-- Why a step ends: a fault of the store or of the medium, only where its count rose, want of memory,
+-- or a store that changed.
 abbrev pub StepCauses : {A : Type 0} → Type 0 → ℕ → ℕ → ℕ → ℕ → Result A StreamError → Type 0
 StepCauses changed store store_now medium medium_now (Ok _) = Unit {0}
 StepCauses changed store store_now medium medium_now (Err StoreChanged) = changed
@@ -53,7 +55,8 @@ pub record HasWritten (o : Options) (tells : Bool) (tables : Tables) (layout : M
   pub took : TookAll old (adds_of marks contents) taken
   pub places : p ≡ places_of o taken
 
--- What a medium that was empty holds: the archive, or after a refusal no part of it. Once a store failed or changed no reader opens it.
+-- What a medium that was empty holds: the archive, or after a refusal no part of it. Once a store failed or
+-- changed no reader opens it.
 abbrev pub WrittenLeaves : Options → Bool → Tables → MbtType → List Mark → Option (List ℕ) → Option (List ℕ) → Result ArchivePlaces StreamError → Type 0
 WrittenLeaves o tells tables layout marks old new (Ok p) = HasWritten o tells tables layout marks old new p
 WrittenLeaves o tells tables layout marks old new (Err StoreChanged) = IfSome new IsHidden

@@ -104,7 +104,8 @@ fn bytes_of(cell: &Cell) -> &[u8]
     }
 }
 
-/// The bytes of the contents in a row that has them, none where they are null. `null` stands for a cell that is missing.
+/// The bytes of the contents in a row that has them, none where they are null. `null` stands
+/// for a cell that is missing.
 pub(crate) fn row_bytes<'a>(layout: MbtType, row: &'a Row, null: &'a Cell) -> &'a [u8]
     requires { null.now ≡ Null }
     ensures { result.now ≡ row_bytes layout row.now }
@@ -140,8 +141,8 @@ fn has_contents(layout: MbtType, mark: &Mark, row: &Row) -> bool
     is_of(mark, row_bytes(layout, row, &null))
 }
 
-/// The row that has the contents that a mark is of: of a tile, or of a normalised set that of its contents. `StoreChanged` comes where there is no
-/// such row.
+/// The row that has the contents that a mark is of: of a tile, or of a normalised set that of its contents.
+/// `StoreChanged` comes where there is no such row.
 pub(crate) fn marked_row<S: TileStore>(
     alloc: Global,
     store: &mut S,

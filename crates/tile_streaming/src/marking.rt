@@ -27,8 +27,8 @@ fn marked_set<S: TileStore>(alloc: Global, store: &mut S, layout: MbtType) -> Mb
     rows.settle(layout, named)
 }
 
-/// The marks of a set, or the first refusal of the tests of loading, in their order. Rows are read by pages, those of the
-/// contents of a normalised set first, and the contents of a page are let go with it.
+/// The marks of a set, or the first refusal of the tests of loading, in their order. Rows are read by pages, those of
+/// the contents of a normalised set first, and the contents of a page are let go with it.
 ///
 /// The refusals, and what of a store that tells nothing, are those of `mb_load::load`.
 pub fn read_marks<S: TileStore>(alloc: Global, store: &mut S) -> MbtResult<MarkedSet>

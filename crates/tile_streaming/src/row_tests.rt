@@ -266,8 +266,8 @@ impl Findings {
         self.see_hash(alloc, layout, algorithm, page)
     }
 
-    /// What metadata names, or the first refusal, in this order: of the kinds of cells, of the metadata, of a bad row, of
-    /// contents that aren't there, of a digest.
+    /// What metadata names, or the first refusal, in this order: of the kinds of cells, of the metadata, of a bad row,
+    /// of contents that aren't there, of a digest.
     pub fn settle(self, named: MbtResult<Named>) -> MbtResult<Named>
         ensures { result ≡ settled self named }
     {

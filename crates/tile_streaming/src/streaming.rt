@@ -80,9 +80,9 @@ fn convert_tested<S: TileStore, O: StreamOptions, M: Medium>(
 /// itself (`hash`). It needs the contents by place, so that each is read once more before the archive, in the memory of
 /// 16 bytes more for each tile. That memory is let go before the archive is begun.
 ///
-/// The answers are those of `convert`. `StoreChanged` comes only over a store that tells nothing: the second time it had
-/// no row for a tile, or contents of another length, digest or beginning. Over such a store the contents that are hashed
-/// and those that are written were answered by two calls: both have the marks that were read.
+/// The answers are those of `convert`. `StoreChanged` comes only over a store that tells nothing: the second time it
+/// had no row for a tile, or contents of another length, digest or beginning. Over such a store the contents that are
+/// hashed and those that are written were answered by two calls: both have the marks that were read.
 pub fn convert_streamed<S: TileStore, O: StreamOptions, M: Medium>(
     alloc: Global,
     base: &mut S,

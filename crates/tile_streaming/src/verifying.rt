@@ -51,8 +51,8 @@ fn verified_hash<S: TileStore>(
     }
 }
 
-/// The hash of a marked set, where it is to be verified or wanted for itself. Where it is to be verified, the stored one
-/// has to be there and the same: else `AggHashValueNotFound` or `AggHashMismatch` comes at place 0.
+/// The hash of a marked set, where it is to be verified or wanted for itself. Where it is to be verified, the stored
+/// one has to be there and the same: else `AggHashValueNotFound` or `AggHashMismatch` comes at place 0.
 pub(crate) fn hash_for<S: TileStore>(
     alloc: Global,
     store: &mut S,

@@ -97,7 +97,8 @@ broken_leaf inner mid read es Fault adds breaks = tt
 broken_leaf inner mid read es OutOfMemory adds breaks = tt
 broken_leaf inner mid read es x adds breaks = absurd breaks
 
--- what was walked of a directory's entries: so many leaves and tiles, no break, and what is left makes the rest of the whole
+-- what was walked of a directory's entries: so many leaves and tiles, no break, and what is left
+-- makes the rest of the whole
 pub record SoFar (h : Header) (b : List ℕ) (at : Spot) (left limit : ℕ) (es rest : List Entry) (old now : Met) (before reads : ℕ) : Type 0 where
   pub leaves : ℕ
   pub tiles : ℕ

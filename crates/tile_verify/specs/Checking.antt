@@ -9,7 +9,8 @@ use Rattle.tile_verify.specs.declared.error.VerifyError.{VerifyError}
 use Rattle.tile_verify.specs.declared.error.VerifyError.TheVariants.{Opening, Broken, Fault, Short, OutOfMemory}
 use Rattle.tile_verify.specs.declared.report.VerifyReport.{VerifyReport}
 
--- Over told bytes: they are sound and the report is theirs, they don't open, or the first break is this one. A fault and want of memory may come in its place.
+-- Over told bytes: they are sound and the report is theirs, they don't open, or the first break is this one. A fault
+-- and want of memory may come in its place.
 abbrev pub Answers : List ℕ → Result VerifyReport VerifyError → Type 0
 Answers b (Ok r) = Sound b × ((o : Opened) → opened b ≡ Ok o → r ≡ report_of b o)
 Answers b (Err (Opening (errors.Reading causes.Fault))) = Unit {0}
@@ -29,7 +30,8 @@ Causes before now (Err Fault) = Rose before now
 Causes before now (Err (Short asked got)) = asked ≢ got
 Causes before now (Err OutOfMemory) = Unit {0}
 
--- Told or not, how often it reads: opening once, and what is refused by opening no more. A fault or a wrong number of bytes behind it comes with another read.
+-- Told or not, how often it reads: opening once, and what is refused by opening no more. A fault or a wrong number of
+-- bytes behind it comes with another read.
 abbrev pub ReadsMade : {A : Type 0} → ℕ → ℕ → Result A VerifyError → Type 0
 ReadsMade before now (Err (Opening e)) = Grew before now 1
 ReadsMade before now (Err Fault) = min (before + 2) (2 ^ 64 - 1) ≤ now

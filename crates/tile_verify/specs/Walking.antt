@@ -20,7 +20,8 @@ IsBreak w before (Err (Short asked got)) = ⊥
 IsBreak w before (Err (Opening e)) = ⊥
 IsBreak w before _ = Unit {0}
 
--- Over told bytes: a walk is intact and its tile entries are met, or its break is answered. A fault and want of memory may come in its place.
+-- Over told bytes: a walk is intact and its tile entries are met, or its break is answered. A fault and want of
+-- memory may come in its place.
 abbrev pub Walks : Walked → List Entry → Met → Met → Result Unit VerifyError → Type 0
 Walks w es old new (Ok x) = (w.broken ≡ None) × Adds old w.directories es new
 Walks w es old new (Err e) = IsBreak w old.directories (Err e)
@@ -45,7 +46,8 @@ WalkReads before now (Err Fault) = Rose before now
 WalkReads before now (Err (Short asked got)) = Rose before now
 WalkReads before now result = before ≤ now
 
--- Over told bytes, an entry that is met: a tile whose contents lie in the bytes, a leaf, which may stand below and is still to be walked, or a break.
+-- Over told bytes, an entry that is met: a tile whose contents lie in the bytes, a leaf, which may stand below and is
+-- still to be walked, or a break.
 abbrev pub Meets : Header → List ℕ → Spot → ℕ → Entry → ℕ → Met → Met → Result (Option (List Entry)) VerifyError → Type 0
 Meets h b at index e left old new (Ok None) = (e.run_length ≢ 0) × ((tile_walk h b (place at index) e).broken ≡ None) × Adds old 0 (e ∷ []) new
 Meets h b at index e left old new (Ok (Some leaf)) = (e.run_length ≡ 0) × (leaf_of h b e ≡ Ok leaf) × Adds old 1 [] new

@@ -10,11 +10,14 @@ use pm_reader::{MAX_LEAVES, ReaderState};
 use std::alloc::Global;
 use tile_ids::MAX_TILE_ID;
 
-/// Checks that an archive is sound: it opens; each directory reached from its root lies in it and decodes, at most six leaves deep; in each, ids strictly rise within the
-/// directory's range, and no run passes the next id, the end of that range or the last id of zoom 31; and each tile lies in it.
+/// Checks that an archive is sound: it opens; each directory reached from its root lies in it and decodes, at most six
+/// leaves deep; in each, ids strictly rise within the directory's range, and no run passes the next id, the end of that
+/// range or the last id of zoom 31; and each tile lies in it.
 ///
-/// `Opening` comes exactly where it doesn't open, `Broken` exactly where a part of it is broken, with the first such part. `Fault`, and a fault in `Opening`, come only where the
-/// source's count of faults rose, and `Short` only over a source that tells no bytes. `Opening` comes after one read, `Fault` and `Short` after two at least. Each directory is read once, and the end of each tile is tested by a read of no bytes.
+/// `Opening` comes exactly where it doesn't open, `Broken` exactly where a part of it is broken, with the first such
+/// part. `Fault`, and a fault in `Opening`, come only where the source's count of faults rose, and `Short` only over a
+/// source that tells no bytes. `Opening` comes after one read, `Fault` and `Short` after two at least. Each directory
+/// is read once, and the end of each tile is tested by a read of no bytes.
 pub fn verify<B: Backend>(alloc: Global, source: &mut B) -> Result<VerifyReport, VerifyError>
     ensures answer { IfSome (B.told source.old) (λ b. Answers b result) }
     ensures causes { Causes (B.faults source.old) (B.faults source.new) result }

@@ -7,7 +7,8 @@ use base_values::{OutOfMemory, TextVal};
 use pm_format::{archive_status, status};
 use std::alloc::Global;
 
-/// The status that a program ends with: 0 for `Done`, 1 or, where the source failed, 6 for `Refused`, 2 for `Usage` and 7 for `OutOfMemory`.
+/// The status that a program ends with: 0 for `Done`, 1 or, where the source failed, 6 for `Refused`, 2 for `Usage`
+/// and 7 for `OutOfMemory`.
 pub fn verify_status(outcome: &VerifyOutcome) -> u8
     ensures { result ≡ status outcome.now }
 {

@@ -52,7 +52,8 @@ fn addressed(tiles: &[(u64, u32, u32)]) -> u64
     sum
 }
 
-// How often the range changes from one part to the next, the first one counted: in the order of ranges, how many different ones there are.
+// How often the range changes from one part to the next, the first one counted: in the order of ranges, how many
+// different ones there are.
 fn count_changes(parts: &[(u64, u32, u32)]) -> u64
     ensures { result ≡ length (dedup same_range (map range_of_part parts.now)) }
 {

@@ -5,7 +5,8 @@ ghost use Rattle.tile_verify.specs.FirstBreak.{entry_break, limits_break};
 use crate::Reason;
 use pm_format::DirEntry;
 
-// The first test that an entry fails, behind another one and between two limits: no id below the first, none from the second on.
+// The first test that an entry fails, behind another one and between two limits: no id below the first,
+// none from the second on.
 fn entry_reason(before: Option<DirEntry>, low: u64, limit: u64, entry: DirEntry) -> Option<Reason>
     ensures { result ≡ entry_break before low limit entry }
 {

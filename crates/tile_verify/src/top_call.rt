@@ -11,7 +11,8 @@ use std::alloc::Global;
 
 /// Checks an archive as `verify` does, where there are no words: the words after the archive's own.
 ///
-/// `Usage` comes exactly where there are words, and then the source isn't touched. Each other outcome comes where `verify` answers so.
+/// `Usage` comes exactly where there are words, and then the source isn't touched. Each other outcome comes
+/// where `verify` answers so.
 pub fn run_verify<B: Backend>(alloc: Global, words: &[TextVal], source: &mut B) -> VerifyOutcome
     ensures words { IsFor words.now result }
     ensures answer { IfSome (B.told source.old) (λ b. OfCheck (Answers b) result) }

@@ -170,7 +170,8 @@ fn meet<B: Backend>(
     }
 }
 
-/// Walks a directory and the leaves below it, at most so many deep, each of which is read once: first its ids and runs are tested, and then what its entries lead to.
+/// Walks a directory and the leaves below it, at most so many deep, each of which is read once: first its ids and runs
+/// are tested, and then what its entries lead to.
 pub(crate) fn walk<B: Backend>(
     state: &ReaderState,
     met: &mut Met,

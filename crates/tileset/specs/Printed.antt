@@ -14,15 +14,16 @@ use Rattle.tileset_script.specs.declared.words.Command.TheVariants.{ConvertHex, 
 abbrev pub Grows : Option (List ℕ) → Option (List ℕ) → Type 0
 Grows old new = (bytes : List ℕ) × Gains old new bytes
 
--- The report is of the set that is due: its hash is the set's, and its places are those of the set's archive, or over a medium that tells nothing of what the writer took the bytes of
--- the tiles for.
+-- The report is of the set that is due: its hash is the set's, and its places are those of the set's archive, or over a
+-- medium that tells nothing of what the writer took the bytes of the tiles for.
 pub record IsOfDue (due : Result State ConvertError) (o : Options) (medium : Option (List ℕ)) (r : ConvertReport) : Type 0 where
   pub final : State
   pub set : due ≡ Ok final
   pub hash : r.aggregate ≡ aggregate final.algorithm final.tiles
   pub places : HasPlaces o final.tiles medium r
 
--- the lines of a command on a report: the answers, the hash and the numbers, or the places of an archive that is made of two numbers
+-- the lines of a command on a report: the answers, the hash and the numbers, or the places of an archive
+-- that is made of two numbers
 abbrev pub lines_on : Command → List Coord → ConvertReport → List ℕ
 lines_on ConvertHex queries r = summary queries r
 lines_on ConvertFile queries r = summary queries r

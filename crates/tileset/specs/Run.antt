@@ -47,7 +47,8 @@ pub record IsScript (given : Given) (s : Script) : Type 0 where
 abbrev pub converted : Script → Result State ConvertError
 converted s = outcome s.base s.patches s.options.force s.options.verify
 
--- The answer, in the order of the tests: words, input, script, medium, label of directories, set. None where what decides it isn't told.
+-- The answer, in the order of the tests: words, input, script, medium, label of directories, set. None where
+-- what decides it isn't told.
 abbrev pub answer_set : Result State ConvertError → Outcome
 answer_set (Ok final) = Done
 answer_set (Err e) = Refused e
@@ -101,7 +102,8 @@ IsTold ConvertHex input s = TellsScript input s
 IsTold ConvertFile input s = TellsScript input s
 IsTold (Bulk tiles repeat leaf) input s = s ≡ bulk_script tiles repeat leaf
 
--- the words are a command whose script is told, its directories are plain, its set can be converted, and the medium is empty
+-- the words are a command whose script is told, its directories are plain, its set can be
+-- converted, and the medium is empty
 pub record IsValid (given : Given) (s : Script) : Type 0 where
   pub asked : Command
   pub words : command given.words ≡ Some asked
@@ -115,7 +117,8 @@ pub record IsValid (given : Given) (s : Script) : Type 0 where
 abbrev pub SomeScript : Given → (Script → Type 0) → Type 0
 SomeScript given P = (s : Script) × IsScript given s × P s
 
--- When each refusal of a script's conversion comes; never another of its errors. The refusal of a store is none of a fault or of want of memory.
+-- When each refusal of a script's conversion comes; never another of its errors. The refusal of a store is none of a
+-- fault or of want of memory.
 abbrev pub RefusedBy : Script → Option (List ℕ) → ConvertError → Type 0
 RefusedBy s medium (refusals.MediumNotEmpty n) = (0 < n) × IfSome medium (λ bytes. n ≡ length bytes)
 RefusedBy s medium (refusals.UnsupportedCompression label) = IsEmpty medium × (label ≡ s.options.writer.internal_compression) × (label ≢ compression.None)
@@ -161,13 +164,14 @@ abbrev pub Taken : ℕ → ℕ → Outcome → Type 0
 Taken before now InputTooLong = now < 2 ^ 64 - 1 → before + MAX_INPUT < now
 Taken before now _ = now ≤ before + MAX_INPUT
 
--- the medium holds the archive of the script: well formed, with the script's options, and with exactly the tiles of at least one byte that the base has after its
--- patches, each under its id
+-- the medium holds the archive of the script: well formed, with the script's options, and with exactly the tiles of at
+-- least one byte that the base has after its patches, each under its id
 abbrev pub HoldsArchive : Script → Option (List ℕ) → Option (List ℕ) → Type 0
 HoldsArchive s old new = BothTold (λ before b. (final : State) × (converted s ≡ Ok final) × IsArchiveOf b s.options.writer final.tiles) old new
 
--- What the medium holds in the end, where there is a script. After Done and after a fault of the sink it is the archive of the script. After a fault of the
--- medium and want of memory a medium that was empty shows no part: no reader opens its bytes, or the whole archive stands.
+-- What the medium holds in the end, where there is a script. After Done and after a fault of the sink it is the archive
+-- of the script. After a fault of the medium and want of memory a medium that was empty shows no part: no reader opens
+-- its bytes, or the whole archive stands.
 abbrev pub LeftBy : Script → Option (List ℕ) → Option (List ℕ) → Outcome → Type 0
 LeftBy s old new Done = HoldsArchive s old new
 LeftBy s old new OutputFault = HoldsArchive s old new
@@ -183,7 +187,8 @@ LeavesMedium given new MediumFault = SomeScript given (λ s. LeftBy s given.medi
 LeavesMedium given new OutOfMemory = (new ≡ given.medium) ⊎ SomeScript given (λ s. LeftBy s given.medium new OutOfMemory)
 LeavesMedium given new _ = new ≡ given.medium
 
--- the text that a command writes on the way to Done, on queries, the aggregate hash of the set, and the bytes of the archive
+-- the text that a command writes on the way to Done, on queries, the aggregate hash of the set, and
+-- the bytes of the archive
 abbrev pub command_text : Command → List Coord → List ℕ → List ℕ → List ℕ
 command_text ConvertHex queries hash b = report_text queries hash b
 command_text ConvertFile queries hash b = file_text queries hash b
@@ -193,7 +198,8 @@ command_text (Bulk tiles repeat leaf) queries hash b = bulk_text (is_some leaf) 
 abbrev pub text_of : Command → Script → State → List ℕ → List ℕ
 text_of asked s final b = command_text asked s.queries (aggregate final.algorithm final.tiles) b
 
--- The text was begun: the script can be converted, the medium holds its archive, and the sink gained a front of the text on the bytes that the medium holds.
+-- The text was begun: the script can be converted, the medium holds its archive, and the sink gained a front of the
+-- text on the bytes that the medium holds.
 pub record HasBegun (asked : Command) (s : Script) (medium left old new : Option (List ℕ)) : Type 0 where
   pub convertible : IsConvertible s medium
   pub archive : HoldsArchive s medium left
@@ -201,7 +207,8 @@ pub record HasBegun (asked : Command) (s : Script) (medium left old new : Option
   pub set : converted s ≡ Ok final
   pub front : IfSome left (λ b. GainsFront old new (text_of asked s final b))
 
--- What the sink gained in the end, where there is a script, what the medium held and what it holds then: the text, a front of it, or nothing.
+-- What the sink gained in the end, where there is a script, what the medium held and what it holds then: the text, a
+-- front of it, or nothing.
 abbrev pub WrittenBy : Command → Script → Option (List ℕ) → Option (List ℕ) → Option (List ℕ) → Option (List ℕ) → Outcome → Type 0
 WrittenBy asked s medium left old new Done = (final : State) × (converted s ≡ Ok final) × IfSome left (λ b. Gains old new (text_of asked s final b))
 WrittenBy asked s medium left old new OutputFault = HasBegun asked s medium left old new

@@ -24,8 +24,8 @@ fn convert_options(options: ScriptOptions) -> ConvertOptions
     }
 }
 
-/// Converts a base in memory after its patches, of which none fails: writes the archive to the medium, and answers the coordinates from it. Base and patches are let go before
-/// the archive is written.
+/// Converts a base in memory after its patches, of which none fails: writes the archive to the medium, and answers the
+/// coordinates from it. Base and patches are let go before the archive is written.
 pub(crate) fn convert_stores<M: Medium>(
     alloc: Global,
     base: MemStore,

@@ -44,7 +44,8 @@ fn bulk_writer(leaf_entries: Option<u32>) -> PmTilesWriter
     }
 }
 
-// The script of two numbers: a set that is made from them, no other option than how many entries a leaf may have, and no queries.
+// The script of two numbers: a set that is made from them, no other option than how many entries a leaf
+// may have, and no queries.
 fn bulk(
     alloc: Global,
     tiles: u64,

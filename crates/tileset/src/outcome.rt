@@ -13,7 +13,8 @@ use tileset_script::ScriptError;
 pub enum Outcome {
     /// The archive and the report are written, and the input was read to its end.
     Done,
-    /// The conversion is refused: the medium wasn't empty, directories have a label that can't be written, or the base or a patch is refused.
+    /// The conversion is refused: the medium wasn't empty, directories have a label that can't be written, or the
+    /// base or a patch is refused.
     Refused(ConvertError),
     /// The words are no command.
     Usage,
@@ -32,7 +33,8 @@ pub enum Outcome {
     OutOfMemory,
     /// The input has more than 268,435,456 bytes.
     InputTooLong,
-    /// A medium that tells no bytes gave something else back than what was written to it: why the archive can't be opened, or not read.
+    /// A medium that tells no bytes gave something else back than what was written to it: why the archive
+    /// can't be opened, or not read.
     ReadBack(PmtError),
 }
 

@@ -55,7 +55,8 @@ fn data_lines(alloc: Global, places: &ArchivePlaces) -> Result<String, OutOfMemo
     Ok(format!(in alloc; "data-offset {offset}\ndata-length {length}\n")?)
 }
 
-/// What an archive counts and where its parts lie, ten lines, and one more where the number of upper directories is wanted. Places and lengths are in bytes.
+/// What an archive counts and where its parts lie, ten lines, and one more where the number of upper directories is
+/// wanted. Places and lengths are in bytes.
 pub(crate) fn places_text(
     alloc: Global,
     places: &ArchivePlaces,

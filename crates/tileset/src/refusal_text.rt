@@ -161,7 +161,8 @@ fn fields_of(alloc: Global, error: &MbtError) -> Result<String, OutOfMemory>
     }
 }
 
-/// The name of a refusal, and its fields in their order, each after a space. Texts are shown as they are, and cells as a script spells them.
+/// The name of a refusal, and its fields in their order, each after a space. Texts are shown as they are, and cells
+/// as a script spells them.
 pub(crate) fn store_text(alloc: Global, error: &MbtError) -> Result<String, OutOfMemory>
     ensures { IfOk result (λ text. string_bytes text ≡ store_text error.now) }
 {

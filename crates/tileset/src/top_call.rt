@@ -12,9 +12,10 @@ use pm_format::Medium;
 use std::alloc::Global;
 use tileset_script::{ParsedScript, command_of};
 
-/// Runs the command that the words are: reads a script from the input, writes the archive of its base after its patches to the medium, and the report to the
-/// output. It tests the words, the input, the script, the medium, the label of directories, the base, each patch in turn and what comes of them, in this order, and writes to the
-/// output only on the way to Done.
+/// Runs the command that the words are: reads a script from the input, writes the archive of its base after its
+/// patches to the medium, and the report to the output. It tests the words, the input, the script, the medium, the
+/// label of directories, the base, each patch in turn and what comes of them, in this order, and writes to the output
+/// only on the way to Done.
 pub fn run<I: Source, O: Sink, M: Medium>(
     alloc: Global,
     words: &[TextVal],

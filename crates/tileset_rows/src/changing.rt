@@ -137,7 +137,8 @@ fn say_changed(
     }
 }
 
-/// A case of a script, the number of a row that is sought, and the key of the row that is found in its place, if any: three numbers, or `text` or `number` and an id. How the conversion ends, and byte 97 of the medium.
+/// A case of a script, the number of a row that is sought, and the key of the row that is found in its place, if any:
+/// three numbers, or `text` or `number` and an id. How the conversion ends, and byte 97 of the medium.
 pub fn answer(alloc: Global, out: &mut String, fields: &mut Fields) -> Option<()> {
     let script = bytes_of(alloc, fields.next())?;
     let changed = fields.next().parse::<u64>().ok()?;

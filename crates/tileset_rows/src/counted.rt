@@ -63,7 +63,8 @@ fn is_hidden_or(bytes: &[u8], whole: &[u8]) -> bool {
     bytes == whole || bytes.get(LABEL).is_none_or(|label| *label == 0)
 }
 
-// Whether a run ends as it must where a call of an object fails: nothing or a proper front is written, and no part of the archive is shown.
+// Whether a run ends as it must where a call of an object fails: nothing or a proper front is written, and no part
+// of the archive is shown.
 fn is_wanted(object: Object, ended: &Ended, whole: &Ended) -> bool {
     let written = ended.output.as_bytes();
     let held = ended.medium.as_bytes();
@@ -91,7 +92,8 @@ fn is_same(ended: &Ended, whole: &Ended) -> bool {
         && ended.medium.as_bytes() == whole.medium.as_bytes()
 }
 
-// What the end of a run comes to: the same as without a failing call, another one, a wanted one, or one that isn't wanted.
+// What the end of a run comes to: the same as without a failing call, another one, a wanted one,
+// or one that isn't wanted.
 #[derive(Clone, Copy)]
 enum Turn {
     Same,

@@ -49,7 +49,8 @@ fn hinder(
     }
 }
 
-// Appends how a conversion ends in which this call of an object fails, and what the base then holds; gives whether it is done.
+// Appends how a conversion ends in which this call of an object fails, and what the base then holds;
+// gives whether it is done.
 fn say_hindered(
     alloc: Global,
     out: &mut String,
@@ -64,8 +65,9 @@ fn say_hindered(
     shown(alloc, out, script, options, medium)
 }
 
-/// A case of an object and a script: each call of the object fails in a conversion of its own, until none is left. Ends that follow each other and are the same stand once.
-/// The calls that reading the script makes come first, and fail in no conversion.
+/// A case of an object and a script: each call of the object fails in a conversion of its own, until none is left.
+/// Ends that follow each other and are the same stand once. The calls that reading the script makes come first,
+/// and fail in no conversion.
 pub fn answer(
     alloc: Global,
     out: &mut String,

@@ -49,7 +49,8 @@ impl Failing {
     }
 }
 
-/// A run over new objects in memory whose calls don't fail: where the words and the script are valid it is done, or memory runs out.
+/// A run over new objects in memory whose calls don't fail: where the words and the script are valid it is
+/// done, or memory runs out.
 pub fn run_calm(alloc: Global, words: &[TextVal], script: Vec<u8>) -> Ended
     ensures { (s : Script)
         → IsValid (record { words = words.now; input = Some script.items; medium = Some [] }) s

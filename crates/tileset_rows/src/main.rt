@@ -1,7 +1,7 @@
 //! Reads a case of the converter from each line of standard input, and prints how it ends.
 //!
-//! The fields of a line are parted by `|`. Texts in them have `\n` for a line feed, `\\` for a backslash and `\x` with two hexadecimal digits for other bytes.
-//! `tools/cases/tileset_rows.py` writes the lines and what must be printed.
+//! The fields of a line are parted by `|`. Texts in them have `\n` for a line feed, `\\` for a backslash and `\x` with
+//! two hexadecimal digits for other bytes. `tools/cases/tileset_rows.py` writes the lines and what must be printed.
 #![tactic(auto)]
 
 mod answers;

@@ -40,7 +40,8 @@ fn script_of(alloc: Global, fields: &mut Fields) -> Option<String> {
     Some(script)
 }
 
-/// A case of words, the first lines of a script, a zoom, how many columns and rows of it have tiles, and the last lines.
+/// A case of words, the first lines of a script, a zoom, how many columns and rows of it have
+/// tiles, and the last lines.
 pub fn answer(alloc: Global, out: &mut String, fields: &mut Fields) -> Option<()> {
     let words = words_of(alloc, fields.next())?;
     let script = script_of(alloc, fields)?.into_bytes();

@@ -1,4 +1,5 @@
-// The top call with nothing said of it: a line here is a test, and a caller that takes no clause is proved in little time.
+// The top call with nothing said of it: a line here is a test, and a caller that takes no clause
+// is proved in little time.
 use base_values::TextVal;
 use pm_format::Medium;
 use std::alloc::Global;

@@ -1,4 +1,5 @@
-// Conversions with the options that a set says of itself, over stores of a script's rows, and the words that ask for them.
+// Conversions with the options that a set says of itself, over stores of a script's rows, and the
+// words that ask for them.
 use crate::answers::{said_outcome, say, say_bytes};
 use crate::fields::{Fields, bytes_of, words_of};
 use crate::stores::{Options, converted, say_store, script_of};
@@ -104,7 +105,8 @@ fn shown(
     say_medium(alloc, out, &medium)
 }
 
-/// A case of a script and what the medium holds at first: the tiles that are asked for, the status and the text on the archive, or the refusal; what the tables of the base then hold, and the medium.
+/// A case of a script and what the medium holds at first: the tiles that are asked for, the status and the text on the
+/// archive, or the refusal; what the tables of the base then hold, and the medium.
 pub fn answer(
     alloc: Global,
     out: &mut String,

@@ -1,4 +1,5 @@
-// A medium that keeps nothing of what is written, and tells nothing. It opens as the front of another one, and ranges are read one byte short.
+// A medium that keeps nothing of what is written, and tells nothing. It opens as the front of another one, and ranges
+// are read one byte short.
 ghost use Rattle.std.specs.Prelude.{None};
 
 use bytes::Bytes;

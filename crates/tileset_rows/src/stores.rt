@@ -96,7 +96,8 @@ pub enum Options {
     StreamedSet,
 }
 
-/// The answer of a conversion that holds no contents in the words of one that does: without a hash an empty text, and the fault of a last store where the base changed.
+/// The answer of a conversion that holds no contents in the words of one that does: without a hash an empty text, and
+/// the fault of a last store where the base changed.
 pub fn whole(
     alloc: Global,
     answer: Result<StreamReport, StreamError>,
@@ -154,7 +155,8 @@ pub fn converted<S: TileStore, P: TileStore, M: Medium>(
     }
 }
 
-/// Appends how a conversion over a script's stores ends, and what the tables of the base then hold; gives whether it is done.
+/// Appends how a conversion over a script's stores ends, and what the tables of the base then hold;
+/// gives whether it is done.
 pub fn shown(
     alloc: Global,
     out: &mut String,

@@ -53,7 +53,8 @@ fn say_run(
     Some(matches!(ended.outcome, Outcome::Done))
 }
 
-/// A case of words, a script and ids: each call of the medium fails in a run of its own, until none is left. Ends that follow each other and are the same stand once.
+/// A case of words, a script and ids: each call of the medium fails in a run of its own, until none is left. Ends that
+/// follow each other and are the same stand once.
 pub fn answer(alloc: Global, out: &mut String, fields: &mut Fields) -> Option<()> {
     let words = words_of(alloc, fields.next())?;
     let script = bytes_of(alloc, fields.next())?;

@@ -13,7 +13,8 @@ abbrev pub blob_of : Result (List ℕ) FromHexError → Option Cell
 blob_of (Ok bytes) = Some (Blob bytes)
 blob_of (Err e) = None
 
--- `n` for null; `o` for a value of any other kind; `i` and a whole number of 64 bits; `x` and an even number of hexadecimal digits; or `t` and a text
+-- `n` for null; `o` for a value of any other kind; `i` and a whole number of 64 bits; `x` and an even number of
+-- hexadecimal digits; or `t` and a text
 abbrev pub cell_of : List ℕ → Option Cell
 cell_of [] = None
 cell_of (b ∷ word) =

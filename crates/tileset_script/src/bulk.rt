@@ -40,8 +40,8 @@ fn row_at(alloc: Global, coord: TileCoord, number: u64) -> Result<Row, OutOfMemo
     Ok(Row::new(cells))
 }
 
-/// The base of `bulk`: a flat set with a tile for each id below a number, whose contents are the decimal text of its id by `repeat`, rounded
-/// down. No call of the store fails.
+/// The base of `bulk`: a flat set with a tile for each id below a number, whose contents are the decimal text of its id
+/// by `repeat`, rounded down. No call of the store fails.
 pub fn bulk_base(alloc: Global, tiles: u64, repeat: u64) -> Result<MemStore, OutOfMemory>
     requires tiles { tiles ≤ 100000 }
     requires repeat { 0 < repeat }

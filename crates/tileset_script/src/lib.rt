@@ -1,4 +1,5 @@
-//! What turns words and bytes into a script: commands, lines and their cells, options, the base and the patches with their rows, queries, and the set of `bulk`.
+//! What turns words and bytes into a script: commands, lines and their cells, options, the base and the patches with
+//! their rows, queries, and the set of `bulk`.
 #![tactic(auto)]
 
 mod bulk;

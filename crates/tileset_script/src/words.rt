@@ -18,7 +18,8 @@ pub const MAX_BULK_REPEAT: u64 = 1_000_000;
 pub enum Command {
     /// `convert hex`: the script is the input, and the archive is printed in hexadecimal.
     ConvertHex,
-    /// `convert file PATH`: the script is the input, and the archive is what the medium holds. The path is its caller's to open.
+    /// `convert file PATH`: the script is the input, and the archive is what the medium holds. The path
+    /// is its caller's to open.
     ConvertFile,
     /// `bulk N K`, `bulk N K L`: the set is made from two numbers, and where the parts of its archive lie is printed.
     Bulk {

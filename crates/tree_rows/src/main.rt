@@ -1,4 +1,5 @@
-//! Reads calls of trees of files from standard input, one a line, and prints each line with its answer: trees in memory and below a folder, and the set that is packed of them and unpacked into them.
+//! Reads calls of trees of files from standard input, one a line, and prints each line with its answer: trees in memory
+//! and below a folder, and the set that is packed of them and unpacked into them.
 #![tactic(auto)]
 
 mod folders;

@@ -1,4 +1,5 @@
--- The parts of a body that a proof by hand names: what follows the first n statements, the first statement, and the k-th arm of a switch.
+-- The parts of a body that a proof by hand names: what follows the first n statements, the first statement, and
+-- the k-th arm of a switch.
 use Prim.Native.Nat.{ℕ, zero, suc}
 use Rattle.base_values.proofs.Common.{any_q, arm, Arms, assign, block, Body, call, call_v, cond, default, exit, lend_static, Logic, loop, no_default, Post, post, return, seq, skip, switch}
 use Rattle.base_values.proofs.Common.{unreachable, Ura}

@@ -1,5 +1,6 @@
 -- A `&mut` that a call borrows for less than its own lifetime, and has again afterwards. Assumes `Logic`.
---     Loan, lends_within      the loan under a new name, the token of its lifetime, and the way back from what the call leaves
+--     Loan, lends_within      the loan under a new name, the token of its lifetime, and the way back
+--                             from what the call leaves
 --     gives_back              the reference again, at the last value of the loan
 use Rattle.base_values.proofs.Common.{all, all_e, apply∗, assume, await, by, done, each, ent, fdead, flft, frame, fres, GName, later, Lft, Lifetime, Logic, move, MutBor, MutRef, pick, qed, RattleType}
 use Rattle.base_values.proofs.Common.{raw, sem, sep, Share, show, split, SProp, updating, Ura, use1, use2, use3, vptr, wand, !, [], ‵, ◌$◌, ◌∵◌, ◌∷◌, ◌⊛◌}

@@ -8,7 +8,8 @@ use crate::{DirEntry, PmtError, read_varint_u32, read_varint_u64};
 use std::alloc::Global;
 
 impl Directory {
-    /// The directory that a front of the bytes spells; bytes after it are ignored. `InvalidEntry` where none is there, which is tested before memory is taken where four times the count is more than the bytes left after it.
+    /// The directory that a front of the bytes spells; bytes after it are ignored. `InvalidEntry` where none is there,
+    /// which is tested before memory is taken where four times the count is more than the bytes left after it.
     pub fn decode(alloc: Global, bytes: &[u8]) -> Result<Directory, PmtError>
         ensures found { IfOk result (λ d. dir_of bytes.now ≡ Some d) }
         ensures none { IsErrOf result PmtError.InvalidEntry → dir_of bytes.now ≡ None }
@@ -138,7 +139,8 @@ fn read_entries(
     Ok(entries)
 }
 
-/// The offset that a number of a directory's last column stands for, after an entry with this end; none for 0 where no entry is before it, or that one's end passes u64.
+/// The offset that a number of a directory's last column stands for, after an entry with this end; none for 0 where no
+/// entry is before it, or that one's end passes u64.
 pub fn offset_by(end: Option<u64>, number: u64) -> Option<u64>
     ensures { result ≡ offset_of end number }
 {

@@ -8,7 +8,8 @@ use base_values::OutOfMemory;
 use std::alloc::Global;
 
 impl Directory {
-    /// The bytes of the directory, each number by its short spelling. Every offset is to be below `u64::MAX`, and every offset plus length within u64.
+    /// The bytes of the directory, each number by its short spelling. Every offset is to be below `u64::MAX`, and every
+    /// offset plus length within u64.
     pub fn encode(&self, alloc: Global) -> Result<Vec<u8>, OutOfMemory>
         requires { All IsPlaced self.now }
         ensures { IfOk result (λ v. v.items ≡ dir_bytes self.now) }
@@ -17,7 +18,8 @@ impl Directory {
     }
 }
 
-/// The bytes of the directory of these entries, as `encode` gives them. The ids are not to fall, every offset is to be below `u64::MAX`, and every offset plus length within u64.
+/// The bytes of the directory of these entries, as `encode` gives them. The ids are not to fall, every offset is to be
+/// below `u64::MAX`, and every offset plus length within u64.
 pub fn encode_entries<E: AsWide>(alloc: Global, entries: &[E]) -> Result<Vec<u8>, OutOfMemory>
     requires { IsWritable 0 (map E.entry entries.now) }
     ensures { IfOk result (λ v. v.items ≡ dir_bytes (map E.entry entries.now)) }

@@ -10,7 +10,8 @@ use std::sync::ledger::{Blank, Ledger};
 use tile_ids::TileId;
 
 impl Directory {
-    /// The last entry whose id is at most the given one, where it covers it: a leaf entry covers all ids up to the next entry, another one its run.
+    /// The last entry whose id is at most the given one, where it covers it: a leaf entry covers all ids up to the next
+    /// entry, another one its run.
     pub fn find_tile_id(&self, tile_id: TileId) -> Option<&DirEntry>
         ensures { option_copied result ≡ scan self.now tile_id }
     {

@@ -12,15 +12,16 @@ use pm_format::{DirEntry, Directory, PmtResult};
 use std::alloc::Global;
 use tile_ids::TileId;
 
-/// Keeps the directories that were used last: as many as its capacity, and, where it has a limit of entries, of no more entries together than this. Each call makes the
-/// directory that it was asked for the last used.
+/// Keeps the directories that were used last: as many as its capacity, and, where it has a limit of entries, of no more
+/// entries together than this. Each call makes the directory that it was asked for the last used.
 #[derive(Drop)]
 pub struct LruDirCache {
     directories: BoundedLru<KeptDirectory>,
 }
 
 impl LruDirCache {
-    /// A cache that holds nothing yet, and will hold at most so many directories. The capacity is to be at least 1. Room is made only as directories come.
+    /// A cache that holds nothing yet, and will hold at most so many directories. The capacity is to be at least 1.
+    /// Room is made only as directories come.
     pub fn new(alloc: Global, capacity: usize) -> Result<LruDirCache, OutOfMemory>
         requires { 1 ≤ capacity }
         ensures { IfOk result (λ c. uses_of c ≡ bounded [] capacity None) }
@@ -30,7 +31,8 @@ impl LruDirCache {
         })
     }
 
-    /// The same, where the directories that are held have at most so many entries together. A longer directory is never held.
+    /// The same, where the directories that are held have at most so many entries together. A longer
+    /// directory is never held.
     pub fn with_entry_limit(
         alloc: Global,
         capacity: usize,

@@ -6,8 +6,9 @@ ghost use Rattle.pm_reader.specs.Rows.{AreWithin, after, covered, found_in, rows
 use super::cursors::{Cursors, next_entry};
 use pm_format::{DirEntry, PmtError, PmtResult, read_varint_u32, read_varint_u64};
 
-/// What the directory that a front of the bytes spells has for an id: the last entry that begins at it or before it, where that leads to a leaf or its run has the id.
-/// Bytes after the directory are ignored. `InvalidEntry` where none is there. No memory is taken.
+/// What the directory that a front of the bytes spells has for an id: the last entry that begins at it or before it,
+/// where that leads to a leaf or its run has the id. Bytes after the directory are ignored. `InvalidEntry` where none
+/// is there. No memory is taken.
 pub(crate) fn find_in(bytes: &[u8], id: u64) -> PmtResult<Option<DirEntry>>
     ensures answer { result ≡ found_in id (dir_of bytes.now) }
     ensures refusal { IfErr result (λ e. e ≡ PmtError.InvalidEntry) }

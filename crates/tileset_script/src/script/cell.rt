@@ -8,8 +8,9 @@ use line_words::parse_integer;
 use mb_store::Cell;
 use std::alloc::Global;
 
-/// The cell that a word spells, or None: `n` is Null, `o` a value of any other kind, `i` and a whole number of 64 bits an Int, `x` and an even number of hexadecimal
-/// digits a Blob, `t` and a text with `%` and two hexadecimal digits for other bytes a Text.
+/// The cell that a word spells, or None: `n` is Null, `o` a value of any other kind, `i` and a whole number of 64
+/// bits an Int, `x` and an even number of hexadecimal digits a Blob, `t` and a text with `%` and two hexadecimal
+/// digits for other bytes a Text.
 pub(crate) fn parse_cell(alloc: Global, word: &[u8]) -> Result<Option<Cell>, OutOfMemory>
     ensures { IfOk result (λ cell. cell ≡ cell_of word.now) }
 {

@@ -98,7 +98,8 @@ impl ScriptReader {
         }
     }
 
-    // Takes a piece of the text behind those before, of which the part of a line is copied once. Behind a bad line nothing more is looked at.
+    // Takes a piece of the text behind those before, of which the part of a line is copied once. Behind a bad line
+    // nothing more is looked at.
     fn take_piece(&mut self, piece: &[u8]) -> Result<(), OutOfMemory>
         ensures { (bytes : List ℕ) → length (bytes ++ piece.now) < 2 ^ 63 → HasRead bytes self.old
             → OnOk result (HasRead (bytes ++ piece.now) self.new) }
@@ -111,7 +112,8 @@ impl ScriptReader {
         self.take_next(back)
     }
 
-    /// The script that the bytes spell that were taken, or the number of its first bad line. No call of its stores fails.
+    /// The script that the bytes spell that were taken, or the number of its first bad line. No
+    /// call of its stores fails.
     pub fn finish(self) -> Result<ParsedScript, ScriptError>
         ensures reads { (bytes : List ℕ) → length bytes < 2 ^ 63 → HasRead bytes self
             → Reads bytes result }

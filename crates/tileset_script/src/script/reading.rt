@@ -23,7 +23,8 @@ fn take_line(alloc: Global, draft: &mut Draft, line: &[u8]) -> Result<bool, OutO
     }
 }
 
-/// Takes the lines of a text that end in a line feed, and answers what is behind them; or None at a bad line, whose number it is then.
+/// Takes the lines of a text that end in a line feed, and answers what is behind them; or None at a bad line,
+/// whose number it is then.
 pub(crate) fn take_lines<'a>(
     alloc: Global,
     draft: &mut Draft,
@@ -78,7 +79,8 @@ pub(crate) fn end(
     finish(draft, number.saturating_add(1))
 }
 
-/// The script that an input spells, or the number of its first bad line. No call of its stores fails. Rows take the time of sorting them.
+/// The script that an input spells, or the number of its first bad line. No call of its stores fails. Rows take
+/// the time of sorting them.
 pub fn parse_script(alloc: Global, input: &[u8]) -> Result<ParsedScript, ScriptError>
     requires small { length input.now < 2 ^ 63 }
     ensures reads { Reads input.now result }

@@ -77,7 +77,8 @@ fn unescape(alloc: Global, word: &[u8]) -> Result<Option<Vec<u8>>, OutOfMemory>
     Ok(Some(bytes))
 }
 
-/// The text that a word spells, or None: `t`, and UTF-8 in the bytes 21 to 7E, where `%` and two hexadecimal digits stand for a byte.
+/// The text that a word spells, or None: `t`, and UTF-8 in the bytes 21 to 7E, where `%` and two hexadecimal
+/// digits stand for a byte.
 pub(crate) fn parse_text(alloc: Global, word: &[u8]) -> Result<Option<TextVal>, OutOfMemory>
     ensures { IfOk result (λ text. text ≡ text_of word.now) }
 {

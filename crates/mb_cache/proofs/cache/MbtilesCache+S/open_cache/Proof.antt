@@ -1,4 +1,5 @@
--- The store is lent to `CacheState::open`, and held again where that succeeds. What a refusal leaves is what that call left. Assumes `Logic`.
+-- The store is lent to `CacheState::open`, and held again where that succeeds. What a refusal leaves is what that
+-- call left. Assumes `Logic`.
 use Rattle.mb_cache.proofs.Common.{Err, IfErr-at_err, List, lit<, Ok, refl, ℕ, [], ◌++◌, ◌∷◌, ◌≡◌}
 use base.Fml.{Lft, Share, GName, Incl-trans, ftrue, flft, fres}
 use base.Logic.{SProp, emp, id⊢}

@@ -1,4 +1,5 @@
--- The backend is lent to `open_with`, and held again where that succeeds. What a refusal leaves is what `open_with` left. Assumes `Logic`.
+-- The backend is lent to `open_with`, and held again where that succeeds. What a refusal leaves is what
+-- `open_with` left. Assumes `Logic`.
 use Rattle.pm_reader.proofs.Common.{a_type, addr, after, agg, alloc_all, alone, and_then, and_tt, ap, Args, arm_body, as_fields, at_exit, at_ret, await, Back, beside, bounded, by, by_result, calls_at}
 use Rattle.pm_reader.proofs.Common.{dcons, dnil, emp, enter, Env, env, Err, err_of, err_out, exec, fact, fact_i, feq_i, first, fjoin, fld, flft, Fn, fpack, framed, free_all, fres, fsplit, fsplit3}
 use Rattle.pm_reader.proofs.Common.{ftrue, get, get_in, get_tag, gives_back, GName, Goes-dropped, Goes-spent_ref, head, heard, holds, id⊢, in_variant, Incl-trans, inst_fn, join, lands_as, Lasts}

@@ -1,4 +1,5 @@
--- `create` lends the medium to `start`, and holds it again where that succeeds. What a refusal leaves is what `start` left. Assumes `Logic`.
+-- `create` lends the medium to `start`, and holds it again where that succeeds. What a refusal leaves is what
+-- `start` left. Assumes `Logic`.
 use Rattle.pm_writer.proofs.Common.{Err, IfSome, List, lit<, Ok, refl, ℕ, [], ◌++◌, ◌∷◌, ◌≡◌}
 use base.Fml.{Lft, Share, GName, Incl-trans, ftrue, flft, fres}
 use base.Logic.{SProp, emp, id⊢}

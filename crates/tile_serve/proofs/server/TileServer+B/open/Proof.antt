@@ -1,4 +1,5 @@
--- The backend is lent to `ServerState::open`, and held again where that succeeds. What a refusal leaves is what that call left. Assumes `Logic`.
+-- The backend is lent to `ServerState::open`, and held again where that succeeds. What a refusal leaves is what that
+-- call left. Assumes `Logic`.
 use Rattle.tile_serve.proofs.Common.{Err, IfErr-at_err, IsLimits, List, lit<, Ok, refl, ℕ, [], ◌++◌, ◌∷◌, ◌≡◌}
 use base.Fml.{Lft, Share, GName, Incl-trans, ftrue, flft, fres}
 use base.Logic.{SProp, emp, id⊢}
