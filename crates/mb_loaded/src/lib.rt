@@ -24,3 +24,4 @@ pub use assembling::set_of;
 pub use editing::Editing;
 pub use given_ids::GivenIds;
 pub use loaded::Loaded;
+pub use put_rows::id_key;

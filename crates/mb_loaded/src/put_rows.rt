@@ -34,8 +34,8 @@ pub(crate) fn place_key(coord: TileCoord) -> RowKey
     }
 }
 
-/// The key of an id, a text or a number.
-pub(crate) fn id_key(alloc: Global, id: &Cell) -> Result<Option<RowKey>, OutOfMemory>
+/// The key of the row of contents with an id: a text or an integer. None for other cells, which are no ids.
+pub fn id_key(alloc: Global, id: &Cell) -> Result<Option<RowKey>, OutOfMemory>
     ensures { IfOk result (λ key. key ≡ id_key id.now) }
 {
     match id {

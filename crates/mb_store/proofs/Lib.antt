@@ -16,3 +16,4 @@ pub mod GatheredLemmas
 pub mod GatheringLemmas
 pub mod HeldLemmas
 mod ReadingLemmas
+pub mod FaultLemmas

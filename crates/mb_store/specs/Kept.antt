@@ -1,5 +1,5 @@
 -- What calls keep of a store.
-use Rattle.std.specs.Prelude.{◌≡◌, ℕ, ◌≤◌, Bool, IsErrOf, Result}
+use Rattle.std.specs.Prelude.{◌≡◌, ℕ, ◌≤◌, Bool, IsErrOf, OnOk, Result}
 use Rattle.base_values.specs.Counts.{Rose}
 
 -- of any call: whether it tells stays; its count of faults doesn't fall, and stands where its calls
@@ -18,6 +18,7 @@ pub record ReadsOnly {S T : Type 0} (holds : S → T) (shows : S → Bool) (fail
   pub steady : unfailing before → unfailing now
   pub calm : unfailing before → failed now ≡ failed before
 
--- a fault is answered only where the count of faults rose
-abbrev pub FaultsCounted : {S A E : Type 0} → (S → ℕ) → S → S → Result A E → E → Type 0
-FaultsCounted failed before now result fault = IsErrOf result fault → Rose (failed before) (failed now)
+-- a fault is answered only where the count of faults rose, and at Ok the count stands
+pub record FaultsCounted {S A E : Type 0} (failed : S → ℕ) (before now : S) (result : Result A E) (fault : E) : Type 0 where
+  pub rose : IsErrOf result fault → Rose (failed before) (failed now)
+  pub still : OnOk result (failed now ≡ failed before)

@@ -1,13 +1,13 @@
 // The contents of a mark, read again from the store.
 ghost use Rattle.std.specs.Prelude.{◌≡◌, true, IfOk, Some};
 ghost use Rattle.mb_tables.specs.declared.cell.Cell.TheVariants.{Null};
-ghost use Rattle.tile_streaming.specs.Common.{cell_bytes, FaultsCounted, id_key, place_at, ReadsOnly, Rose, tile_key};
+ghost use Rattle.tile_streaming.specs.Common.{cell_bytes, FaultsCounted, place_at, ReadsOnly, Rose, tile_key};
 ghost use Rattle.tile_streaming.specs.Finding.{fits, has_size, named_told, row_bytes, row_told, tile_told};
 ghost use Rattle.tile_streaming.specs.Written.{FindCauses, IsChanged};
 
 use crate::{Mark, StreamError};
-use base_values::OutOfMemory;
 use mb_lists::cell_at;
+use mb_loaded::id_key;
 use mb_store::{Cell, MbtType, Row, RowKey, TableName, TileStore};
 use set_options::is_gzip;
 use std::alloc::Global;
@@ -23,17 +23,6 @@ fn key_at(coord: TileCoord) -> RowKey
         zoom,
         column: coord.x(),
         row: invert_y_value(zoom, coord.y()),
-    }
-}
-
-// The key of an id, a text or a number.
-fn id_key(alloc: Global, id: &Cell) -> Result<Option<RowKey>, OutOfMemory>
-    ensures { IfOk result (λ key. key ≡ id_key id.now) }
-{
-    match id {
-        Cell::Text(text) => Ok(Some(RowKey::TextId(text.try_clone(alloc)?))),
-        Cell::Int(number) => Ok(Some(RowKey::IntId(*number))),
-        _ => Ok(None),
     }
 }
 
