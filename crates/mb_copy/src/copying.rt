@@ -1,5 +1,5 @@
 // Copying one store into another.
-ghost use Rattle.std.specs.Prelude.{◌≡◌, ◌⊎◌, [], IfErr, IfOk, OnErr, OnOk, false, true};
+ghost use Rattle.std.specs.Prelude.{◌≡◌, ◌⊎◌, [], IfErr, IfOk, IsErrOf, OnErr, OnOk, false, true};
 ghost use Rattle.mb_copy.specs.Common.{Answers, FaultsCounted, fresh, IsBegun, Keeps, ReadsOnly, refused_by, Rose, Tests};
 ghost use Rattle.mb_copy.specs.Clearing.{IsSource};
 ghost use Rattle.mb_copy.specs.CopyOrder.{made_state, may_copy, may_copy_over, over_answer};
@@ -184,8 +184,11 @@ impl MbtilesCopier {
             (D.told dst.new)) }
         ensures source_kept { ReadsOnly S.told S.tells S.faults S.steady src.old src.new }
         ensures kept { Keeps D.tells D.faults D.steady dst.old dst.new }
-        ensures fault { FaultsCounted S.faults src.old src.new result MbtError.StoreFault
+        ensures fault { IsErrOf result MbtError.StoreFault
+            → Rose (S.faults src.old) (S.faults src.new)
             ⊎ Rose (D.faults dst.old) (D.faults dst.new) }
+        ensures source_still { OnOk result (S.faults src.new ≡ S.faults src.old) }
+        ensures still { OnOk result (D.faults dst.new ≡ D.faults dst.old) }
     {
         let source = load(alloc, src)?;
         test_valid(alloc, self.validate, &source)?;

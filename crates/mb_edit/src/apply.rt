@@ -1,6 +1,6 @@
 // Applying a patch to a store.
-ghost use Rattle.mb_store.specs.Kept.{FaultsCounted, Keeps, ReadsOnly};
-ghost use Rattle.std.specs.Prelude.{◌≡◌, ◌⊎◌, true, OnOk, OnErr};
+ghost use Rattle.mb_store.specs.Kept.{Keeps, ReadsOnly};
+ghost use Rattle.std.specs.Prelude.{◌≡◌, ◌⊎◌, true, IsErrOf, OnOk, OnErr};
 ghost use Rattle.mb_edit.specs.Applying.{IsAnsweredBy, IsAppliedBy};
 ghost use Rattle.base_values.specs.Counts.{Rose};
 
@@ -31,8 +31,11 @@ pub fn apply_patch<S: TileStore, P: TileStore>(
     ensures refused { OnErr result (S.told base.new ≡ S.told base.old) }
     ensures patch_kept { ReadsOnly P.told P.tells P.faults P.steady patch.old patch.new }
     ensures kept { Keeps S.tells S.faults S.steady base.old base.new }
-    ensures fault { FaultsCounted S.faults base.old base.new result MbtError.StoreFault
+    ensures fault { IsErrOf result MbtError.StoreFault
+        → Rose (S.faults base.old) (S.faults base.new)
         ⊎ Rose (P.faults patch.old) (P.faults patch.new) }
+    ensures patch_still { OnOk result (P.faults patch.new ≡ P.faults patch.old) }
+    ensures still { OnOk result (S.faults base.new ≡ S.faults base.old) }
 {
     let set = load(alloc, base)?;
     let other = load(alloc, patch)?;
