@@ -167,7 +167,7 @@ impl MbtilesCopier {
     /// memory or the store was wanting. After Ok it loads again as the set with the copies, and all rows under
     /// other keys than those that were put are as before, in their order; the rows are one commit. A store that
     /// tells nothing is answered as is due of some tables. `StoreFault` comes only where the count of faults of
-    /// one of the two stores rose.
+    /// one of the two stores rose, and at Ok both counts stand.
     pub fn run<S: TileStore, D: TileStore>(
         &self,
         alloc: Global,

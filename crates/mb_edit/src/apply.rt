@@ -16,7 +16,7 @@ use std::alloc::Global;
 /// set. Rows of places that the patch doesn't name stay as they were, also stored digests; rows of bytes that it puts
 /// carry the digest of these, where the layout has one. A store that tells nothing is answered as tables are that its
 /// answers could be of, at Ok too: a patch that tells its tables then loads and passes its tests. `StoreFault` comes
-/// only where the count of faults of one of the two stores rose.
+/// only where the count of faults of one of the two stores rose, and at Ok both counts stand.
 pub fn apply_patch<S: TileStore, P: TileStore>(
     alloc: Global,
     base: &mut S,
