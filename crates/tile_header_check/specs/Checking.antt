@@ -1,7 +1,7 @@
 -- What a check of a header answers, and why.
 use Rattle.std.specs.Prelude.{◌≡◌, ℕ, List, map, Option, Some, None, option_map, Result, Ok, Err}
 use Rattle.std.specs.Option.{option_or}
-use Rattle.tile_header_check.specs.Common.{Answers, Causes, Grew, Header, ids_of, Met, metadata_read, Opened, opened, part_of, report_by, report_of, Rose, Sound, tiles_of, VerifyError, VerifyReport}
+use Rattle.tile_header_check.specs.Common.{Answers, Causes, Grew, Header, ids_of, Met, metadata_read, Opened, opened, part_of, report_by, report_of, Rose, Sound, StandsUnsound, tiles_of, VerifyError, VerifyReport}
 use Rattle.tile_header_check.specs.Clustering.{clustered_fault}
 use Rattle.tile_header_check.specs.Metadata.{metadata_fault}
 use Rattle.tile_header_check.specs.Tiles.{counts_fault, zooms_fault}
@@ -30,6 +30,11 @@ HeaderAnswers b (Err (Said f)) = Sound b × ((o : Opened) → opened b ≡ Ok o 
 abbrev pub HeaderCauses : ℕ → ℕ → Result VerifyReport HeaderError → Type 0
 HeaderCauses before now (Err (Unsound e)) = Causes {A = Unit {0}} before now (Err e)
 HeaderCauses before now result = Unit {0}
+
+-- told or not: the count of faults stands, but where a fault or want of memory is answered
+abbrev pub HeaderStands : ℕ → ℕ → Result VerifyReport HeaderError → Type 0
+HeaderStands before now (Err (Unsound e)) = StandsUnsound before now e
+HeaderStands before now result = now ≡ before
 
 -- told or not, how often it reads: opening once, and what is refused by opening no more
 abbrev pub HeaderReads : ℕ → ℕ → Result VerifyReport HeaderError → Type 0

@@ -12,7 +12,7 @@ pub use Rattle.serde_json.specs.Data.{array, boolean, Data, null, number, object
 pub use Rattle.serde_json.specs.Read.{read}
 pub use Rattle.serde_json.specs.View.{view}
 pub use Rattle.tile_ids.specs.Hilbert.{zoom_up_to}
-pub use Rattle.tile_verify.specs.Checking.{Answers, Causes, reads_at_most}
+pub use Rattle.tile_verify.specs.Checking.{Answers, Causes, FaultsStand, reads_at_most, StandsUnsound}
 pub use Rattle.tile_verify.specs.Tiles.{capped, ids_of, part_of, report_by, report_of, tiles_of}
 pub use Rattle.tile_verify.specs.Walking.{WalkCauses}
 pub use Rattle.tile_verify.specs.declared.error.VerifyError.{VerifyError}

@@ -1,7 +1,7 @@
 // The check of what a header says.
 ghost use Rattle.std.specs.Prelude.{◌≡◌, ◌+◌, ◌≤◌, IfSome};
 ghost use Rattle.tile_header_check.specs.Common.{opened, reads_at_most, ReadsOnly};
-ghost use Rattle.tile_header_check.specs.Checking.{HeaderAnswers, HeaderCauses, HeaderReads, TilesTested};
+ghost use Rattle.tile_header_check.specs.Checking.{HeaderAnswers, HeaderCauses, HeaderReads, HeaderStands, TilesTested};
 
 use crate::clustering::clustered_fault;
 use crate::metadata::metadata_fault;
@@ -42,6 +42,7 @@ fn test_tiles(alloc: Global, header: &Header, met: Met) -> Result<VerifyReport, 
 pub fn check_header<B: Backend>(alloc: Global, source: &mut B) -> Result<VerifyReport, HeaderError>
     ensures answer { IfSome (B.told source.old) (λ b. HeaderAnswers b result) }
     ensures causes { HeaderCauses (B.faults source.old) (B.faults source.new) result }
+    ensures still { HeaderStands (B.faults source.old) (B.faults source.new) result }
     ensures kept { ReadsOnly B.told B.versions B.faults B.steady source.old source.new }
     ensures made { HeaderReads (B.reads source.old) (B.reads source.new) result }
     ensures reads { IfSome (B.told source.old)

@@ -1,6 +1,6 @@
 // What a header says of metadata.
 ghost use Rattle.std.specs.Prelude.{◌≡◌, ◌≤◌, ◌+◌, IfOk, IfSome};
-ghost use Rattle.tile_header_check.specs.Common.{header_of, metadata_read, read, ReadsOnly, view, WalkCauses};
+ghost use Rattle.tile_header_check.specs.Common.{FaultsStand, header_of, metadata_read, read, ReadsOnly, view, WalkCauses};
 ghost use Rattle.tile_header_check.specs.Metadata.{MetadataTests, metadata_fault, object_fault, shape_fault};
 
 use crate::MetadataFault;
@@ -41,6 +41,7 @@ pub(crate) fn metadata_fault<B: Backend>(
     ensures answer { IfSome (B.told source.old)
         (λ b. MetadataTests (metadata_fault (metadata_read b (header_of state.now))) result) }
     ensures causes { WalkCauses (B.faults source.old) (B.faults source.new) result }
+    ensures still { FaultsStand (B.faults source.old) (B.faults source.new) result }
     ensures kept { ReadsOnly B.told B.versions B.faults B.steady source.old source.new }
     ensures counted { B.reads source.old ≤ B.reads source.new }
     ensures reads { B.reads source.new ≤ B.reads source.old + 1 }

@@ -1,7 +1,7 @@
 // The check of a whole archive.
 ghost use Rattle.std.specs.Prelude.{◌+◌, ◌≤◌, IfSome};
 ghost use Rattle.tile_verify.specs.Common.{header_of, opened, ReadsOnly, root_of};
-ghost use Rattle.tile_verify.specs.Checking.{Answers, Causes, MeetsAll, ReadsMade, reads_at_most};
+ghost use Rattle.tile_verify.specs.Checking.{Answers, Causes, FaultsStand, MeetsAll, ReadsMade, reads_at_most};
 ghost use Rattle.tile_verify.specs.FirstBreak.{walk_of};
 ghost use Rattle.tile_verify.specs.Walking.{ReadsIn, WalkCauses, WalkReads};
 
@@ -25,6 +25,7 @@ pub fn walk_all<B: Backend>(
     ensures answer { IfSome (B.told source.old)
         (λ b. MeetsAll b (header_of state.now, root_of state.now) result) }
     ensures causes { WalkCauses (B.faults source.old) (B.faults source.new) result }
+    ensures still { FaultsStand (B.faults source.old) (B.faults source.new) result }
     ensures kept { ReadsOnly B.told B.versions B.faults B.steady source.old source.new }
     ensures made { WalkReads (B.reads source.old) (B.reads source.new) result }
     ensures reads { IfSome (B.told source.old) (λ b. ReadsIn
@@ -63,6 +64,7 @@ pub fn walk_all<B: Backend>(
 pub fn verify<B: Backend>(alloc: Global, source: &mut B) -> Result<VerifyReport, VerifyError>
     ensures answer { IfSome (B.told source.old) (λ b. Answers b result) }
     ensures causes { Causes (B.faults source.old) (B.faults source.new) result }
+    ensures still { FaultsStand (B.faults source.old) (B.faults source.new) result }
     ensures kept { ReadsOnly B.told B.versions B.faults B.steady source.old source.new }
     ensures made { ReadsMade (B.reads source.old) (B.reads source.new) result }
     ensures reads { IfSome (B.told source.old)
