@@ -169,3 +169,88 @@ mkdir folder
 run "$fatyngu" verify folder
 [ "$got" != 0 ] || problem="$problem; a folder is verified"
 ends
+
+fresh 'an archive whose header is verified'
+# changed FILE AT BYTES: a copy of the file, as other.pmtiles, with other bytes from a place on
+changed() {
+    cp "$1" other.pmtiles
+    printf "$3" | dd of=other.pmtiles bs=1 seek="$2" conv=notrunc status=none
+}
+# right: the archive is sound, and its header says what is so
+right() {
+    run "$fatyngu" verify other.pmtiles
+    status 0
+    prints '^sound '
+    holds [ "$(wc -l <out)" = 1 ]
+    holds [ ! -s err ]
+}
+# wrong LINE: it is sound, and this is the first thing that its header says wrong
+wrong() {
+    run "$fatyngu" verify other.pmtiles
+    status 1
+    prints '^sound '
+    prints "^header $1\$"
+    holds [ "$(wc -l <out)" = 2 ]
+    says 'other.pmtiles: the header is wrong: '
+}
+"$fatyngu" convert "$places" made.pmtiles >/dev/null 2>&1
+cp made.pmtiles other.pmtiles
+right
+changed made.pmtiles 72 '\113'
+wrong 'addressed tiles 75, found 74'
+changed made.pmtiles 72 '\0'
+right
+changed made.pmtiles 80 '\111'
+wrong 'tile entries 73, found 74'
+changed made.pmtiles 88 '\1'
+wrong 'tile contents 1, found 74'
+changed made.pmtiles 100 '\1'
+wrong 'min zoom 1, found 0'
+changed made.pmtiles 101 '\26'
+wrong 'max zoom 22, found 4'
+changed made.pmtiles 39 '\1'
+wrong 'metadata PastEnd'
+changed made.pmtiles 16384 '['
+wrong 'metadata NotJson'
+changed made.pmtiles 16384 '\377'
+wrong 'metadata NotUtf8'
+changed made.pmtiles 32 '\2\0\0\0\0\0\0\0'
+printf '[]' | dd of=other.pmtiles bs=1 seek=16384 conv=notrunc status=none
+wrong 'metadata NotAnObject'
+# of several the first
+printf '\26' | dd of=other.pmtiles bs=1 seek=101 conv=notrunc status=none
+wrong 'max zoom 22, found 4'
+# the first of two contents behind the second, where the header says that they are clustered and where it doesn't
+changed "$described" 134 '\3\1'
+wrong 'clustered, tile entry 0 at 2 and not at 0'
+printf '\0' | dd of=other.pmtiles bs=1 seek=96 conv=notrunc status=none
+right
+# a part says the zooms that were asked for
+rm other.pmtiles
+run "$fatyngu" extract made.pmtiles other.pmtiles 1/0/0
+wrong 'max zoom 30, found 4'
+rm other.pmtiles
+run "$fatyngu" extract made.pmtiles other.pmtiles 1/0/0 4
+right
+# one that isn't sound has no line of its header
+head -c 100 made.pmtiles >other.pmtiles
+run "$fatyngu" verify other.pmtiles
+status 1
+holds [ "$(cat out)" = 'opening InvalidHeader' ]
+run "$program" header other.pmtiles
+status 1
+holds [ "$(cat out)" = 'opening InvalidHeader' ]
+run "$program" header missing.pmtiles
+status 6
+run "$program" header made.pmtiles
+status 0
+holds [ ! -s out ]
+changed made.pmtiles 101 '\26'
+run bash -c 'exec "$0" header other.pmtiles >/dev/full' "$program"
+status 5
+for words in header 'header a b' 'header a --b'; do
+    # shellcheck disable=SC2086
+    run "$program" $words
+    status 2
+done
+ends

@@ -36,7 +36,7 @@ told_met None h root whole old new r same first w = tt
 told_met (Some b) h root whole old new r same first w =
     met_all b (h, whole) old new r first (subst (λ es. Walks (walked 6 h b root_spot 0 (MAX_TILE_ID + 1) es) (tiles_below 6 h b es) old new r) same w)
 
-sound : (b : List ℕ) (s : ReaderState) (met : Met) (r : VerifyReport) → opened b ≡ Ok (header_of s, root_of s) → MeetsAll b (header_of s, root_of s) (Ok met) → r ≡ report_by met.directories met.tiles.items → Answers b (Ok r)
+pub sound : (b : List ℕ) (s : ReaderState) (met : Met) (r : VerifyReport) → opened b ≡ Ok (header_of s, root_of s) → MeetsAll b (header_of s, root_of s) (Ok met) → r ≡ report_by met.directories met.tiles.items → Answers b (Ok r)
 sound b s met r opens m is =
     let o : Opened = (header_of s, root_of s) in (
       sound_from_walk b o opens m.0,
