@@ -19,3 +19,16 @@ pub use Rattle.std.specs.Cmp.Lexicographic.{nat_list_cmp_total, slice_cmp}
 pub use Rattle.std.specs.FinMap.{entries-insert, get, get-empty, get-insert, len, len-empty, len-entries, put}
 pub use Rattle.std.specs.Prelude.{All, codes, IfSome, option_copied, slice_get}
 pub use Rattle.tile_json.specs.declared.document.TileJson.{TileJson}
+pub use Rattle.mb_lists.specs.Entries.{IsName, name_value}
+pub use Rattle.mb_lists.specs.Keyed.{entries_by}
+pub use Rattle.mb_loaded.specs.FromLast.{from_last}
+pub use Rattle.mb_loaded.specs.Held.{Held}
+pub use Rattle.set_options.specs.SetNames.{name_put, names_put, stored_name}
+pub use Rattle.std.proofs.Common.{get_or, map, T}
+pub use Rattle.std.proofs.lemmas.Bool.{and_parts}
+pub use Rattle.std.proofs.lemmas.List.{drop_all, length-map, map-append, take_more}
+pub use Rattle.std.proofs.lemmas.List.Elements.{All-cons, All-nil}
+pub use Rattle.std.proofs.lemmas.List.Sorted.{IsPermutation-refl}
+pub use Rattle.std.proofs.lemmas.Option.{get_or_from_slice_get, none-some, slice_get-get_or}
+pub use Rattle.std.specs.FinMap.{entries_sorted, from_entries, get-entries, get-from_entries, is_sorted, same_map}
+pub use Rattle.std.specs.Ordering.{is_lt}

@@ -1,13 +1,14 @@
 // The names of a set, with their texts or null.
-ghost use Rattle.std.specs.Prelude.{◌≡◌, ◌<◌, IfOk, IfSome, option_copied, slice_get};
+ghost use Rattle.std.specs.Prelude.{◌≡◌, ◌<◌, IfOk, IfSome, map, OnOk, option_copied, slice_get};
 ghost use Rattle.mb_lists.specs.Metadata.{name_twice, names_of};
 ghost use Rattle.mb_tables.specs.CellKinds.{name_kind_wrong};
 ghost use Rattle.mb_tables.specs.Refusals.{Tests};
 ghost use Rattle.set_options.specs.Common.{entries, len, Names, option_and_then, option_or, text_at, text_cell, text_of};
+ghost use Rattle.set_options.specs.SetNames.{name_put, names_put, stored_name};
 
-use base_values::TextVal;
-use mb_lists::{NameList, StoredName};
-use mb_loaded::Loaded;
+use base_values::{OutOfMemory, TextVal};
+use mb_lists::{NameList, Standing, StoredName};
+use mb_loaded::{Editing, Loaded};
 use mb_store::{Cell, MbtResult, Row};
 use std::alloc::Global;
 use std::marker::Model;
@@ -87,6 +88,73 @@ impl SetNames {
         ensures { option_copied result ≡ text_at self.now name.now }
     {
         text_in(self.list.get(name))
+    }
+}
+
+// A name of a loaded set at an index, with its text or null.
+fn stored_at(alloc: Global, set: &Loaded, index: usize) -> Result<StoredName, OutOfMemory>
+    requires { index < len set.now.state.metadata }
+    ensures { IfOk result (λ name. IfSome (slice_get (entries set.now.state.metadata) index)
+        (λ e. name ≡ stored_name e)) }
+{
+    let (name, value) = set.metadata_at(index);
+    Ok(StoredName {
+        name: TextVal::new(String::from_str(alloc, name)?),
+        value: value.try_clone(alloc)?,
+        standing: Standing::Kept,
+    })
+}
+
+// All names of a loaded set, in the order of their bytes.
+fn all_stored(alloc: Global, set: &Loaded) -> Result<Vec<StoredName>, OutOfMemory>
+    ensures { IfOk result
+        (λ names. names.items ≡ map stored_name (entries set.now.state.metadata)) }
+{
+    let mut names = Vec::with_capacity(alloc, set.metadata_count())?;
+    for index in 0..set.metadata_count() {
+        names.push(stored_at(alloc, set, index)?)?;
+    }
+    Ok(names)
+}
+
+// Puts the name at an index into a set that is edited.
+fn put_name(
+    alloc: Global,
+    names: &SetNames,
+    index: usize,
+    set: &mut Editing,
+) -> Result<(), OutOfMemory>
+    requires { index < len names.now }
+    ensures { OnOk result (IfSome (slice_get (entries names.now) index)
+        (λ e. set.new ≡ name_put set.old e)) }
+{
+    let (name, value) = names.name_at(index);
+    let name = TextVal::new(String::from_str(alloc, name)?);
+    set.set_metadata(name, value.try_clone(alloc)?)
+}
+
+impl SetNames {
+    /// The names of a loaded set.
+    pub fn of_set(alloc: Global, set: &Loaded) -> Result<SetNames, OutOfMemory>
+        ensures { IfOk result (λ names. names ≡ set.now.state.metadata) }
+    {
+        let items = all_stored(alloc, set)?;
+        let live = items.len();
+        Ok(SetNames {
+            list: NameList { items, live },
+        })
+    }
+
+    /// Puts all of them into a set that is edited, from the last to the first.
+    pub fn put_into(&self, alloc: Global, set: &mut Editing) -> Result<(), OutOfMemory>
+        ensures { OnOk result (set.new ≡ names_put set.old self.now) }
+    {
+        let mut left = self.name_count();
+        while left > 0 {
+            left -= 1;
+            put_name(alloc, self, left, set)?;
+        }
+        Ok(())
     }
 }
 

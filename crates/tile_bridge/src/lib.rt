@@ -15,6 +15,7 @@ mod writing;
 
 pub use conversion::convert;
 pub use error::ConvertError;
+pub use loading::{load_at, of_store};
 pub use options::{ArchiveOptions, ConvertOptions};
 pub use owned::convert_owned;
 pub use reading_back::read_answers;

@@ -11,7 +11,7 @@ use mb_store::{MbtError, MemStore, TileStore};
 use std::alloc::Global;
 
 /// The conversion's word for the error of the store at a place: 0 is the base, k the k-th patch.
-pub(crate) fn of_store(place: u64, error: MbtError) -> ConvertError
+pub fn of_store(place: u64, error: MbtError) -> ConvertError
     ensures { result ≡ refusal_at place error }
 {
     match error {
@@ -21,8 +21,8 @@ pub(crate) fn of_store(place: u64, error: MbtError) -> ConvertError
     }
 }
 
-/// Loads the store at a place.
-pub(crate) fn load_at<S: TileStore>(
+/// Loads the store at a place: 0 is the base, k the k-th patch.
+pub fn load_at<S: TileStore>(
     alloc: Global,
     store: &mut S,
     place: u64,
