@@ -1,7 +1,8 @@
 # Cases of tools/check_bin: the subcommands of bin/fatyngu that look into a set, check its hash or write its metadata.
 # What the set has is asked of sqlite3, or worked out by Python.
-# shellcheck disable=SC2034,SC2154
+# shellcheck disable=SC2034,SC2059,SC2154
 
+program=$here/crates/fatyngu_program/out/fatyngu_program
 
 fresh 'a set by its zooms, and its hash'
 run "$fatyngu" summary "$places"
@@ -171,21 +172,21 @@ run "$fatyngu" verify folder
 ends
 
 fresh 'an archive whose header is verified'
-# changed FILE AT BYTES: a copy of the file, as other.pmtiles, with other bytes from a place on
-changed() {
+# with_bytes FILE AT BYTES: a copy of the file, as other.pmtiles, with other bytes from a place on
+with_bytes() {
     cp "$1" other.pmtiles
     printf "$3" | dd of=other.pmtiles bs=1 seek="$2" conv=notrunc status=none
 }
-# right: the archive is sound, and its header says what is so
-right() {
+# right_header: the archive is sound, and its header says what is so
+right_header() {
     run "$fatyngu" verify other.pmtiles
     status 0
     prints '^sound '
     holds [ "$(wc -l <out)" = 1 ]
     holds [ ! -s err ]
 }
-# wrong LINE: it is sound, and this is the first thing that its header says wrong
-wrong() {
+# wrong_header LINE: it is sound, and this is the first thing that its header says wrong
+wrong_header() {
     run "$fatyngu" verify other.pmtiles
     status 1
     prints '^sound '
@@ -195,43 +196,43 @@ wrong() {
 }
 "$fatyngu" convert "$places" made.pmtiles >/dev/null 2>&1
 cp made.pmtiles other.pmtiles
-right
-changed made.pmtiles 72 '\113'
-wrong 'addressed tiles 75, found 74'
-changed made.pmtiles 72 '\0'
-right
-changed made.pmtiles 80 '\111'
-wrong 'tile entries 73, found 74'
-changed made.pmtiles 88 '\1'
-wrong 'tile contents 1, found 74'
-changed made.pmtiles 100 '\1'
-wrong 'min zoom 1, found 0'
-changed made.pmtiles 101 '\26'
-wrong 'max zoom 22, found 4'
-changed made.pmtiles 39 '\1'
-wrong 'metadata PastEnd'
-changed made.pmtiles 16384 '['
-wrong 'metadata NotJson'
-changed made.pmtiles 16384 '\377'
-wrong 'metadata NotUtf8'
-changed made.pmtiles 32 '\2\0\0\0\0\0\0\0'
+right_header
+with_bytes made.pmtiles 72 '\113'
+wrong_header 'addressed tiles 75, found 74'
+with_bytes made.pmtiles 72 '\0'
+right_header
+with_bytes made.pmtiles 80 '\111'
+wrong_header 'tile entries 73, found 74'
+with_bytes made.pmtiles 88 '\1'
+wrong_header 'tile contents 1, found 74'
+with_bytes made.pmtiles 100 '\1'
+wrong_header 'min zoom 1, found 0'
+with_bytes made.pmtiles 101 '\26'
+wrong_header 'max zoom 22, found 4'
+with_bytes made.pmtiles 39 '\1'
+wrong_header 'metadata PastEnd'
+with_bytes made.pmtiles 16384 '['
+wrong_header 'metadata NotJson'
+with_bytes made.pmtiles 16384 '\377'
+wrong_header 'metadata NotUtf8'
+with_bytes made.pmtiles 32 '\2\0\0\0\0\0\0\0'
 printf '[]' | dd of=other.pmtiles bs=1 seek=16384 conv=notrunc status=none
-wrong 'metadata NotAnObject'
+wrong_header 'metadata NotAnObject'
 # of several the first
 printf '\26' | dd of=other.pmtiles bs=1 seek=101 conv=notrunc status=none
-wrong 'max zoom 22, found 4'
+wrong_header 'max zoom 22, found 4'
 # the first of two contents behind the second, where the header says that they are clustered and where it doesn't
-changed "$described" 134 '\3\1'
-wrong 'clustered, tile entry 0 at 2 and not at 0'
+with_bytes "$described" 134 '\3\1'
+wrong_header 'clustered, tile entry 0 at 2 and not at 0'
 printf '\0' | dd of=other.pmtiles bs=1 seek=96 conv=notrunc status=none
-right
+right_header
 # a part says the zooms that were asked for
 rm other.pmtiles
 run "$fatyngu" extract made.pmtiles other.pmtiles 1/0/0
-wrong 'max zoom 30, found 4'
+wrong_header 'max zoom 30, found 4'
 rm other.pmtiles
 run "$fatyngu" extract made.pmtiles other.pmtiles 1/0/0 4
-right
+right_header
 # one that isn't sound has no line of its header
 head -c 100 made.pmtiles >other.pmtiles
 run "$fatyngu" verify other.pmtiles
@@ -245,7 +246,7 @@ status 6
 run "$program" header made.pmtiles
 status 0
 holds [ ! -s out ]
-changed made.pmtiles 101 '\26'
+with_bytes made.pmtiles 101 '\26'
 run bash -c 'exec "$0" header other.pmtiles >/dev/full' "$program"
 status 5
 for words in header 'header a b' 'header a --b'; do
