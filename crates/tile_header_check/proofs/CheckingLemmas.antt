@@ -6,7 +6,6 @@ use Rattle.pm_reader.specs.declared.state.ReaderState.{ReaderState}
 use Rattle.tile_header_check.specs.declared.fault.HeaderError.TheVariants.{Unsound, Header as Said}
 use Rattle.tile_header_check.specs.declared.fault.HeaderFault.TheVariants.{Metadata}
 use Rattle.tile_verify.proofs.CheckingLemmas.{sound}
-use Rattle.tile_verify.proofs.ReadsLemmas.{opened_once}
 use Rattle.tile_verify.proofs.SoundLemmas.{same_opened, sound_from_walk}
 use Rattle.tile_verify.specs.declared.error.VerifyError.TheVariants as verify
 
@@ -109,10 +108,3 @@ told_reads (Some b) last s r start before then now same opens g w more =
     counted : (r : Result Met VerifyError) → ReadsIn {A = Met} (walk_of b (found s)) before then r → Ends r then now → now ≤ start + (2 + (walk_of b (found s)).directories + (walk_of b (found s)).tiles)
     counted (Ok m) w more = omega (arith, g.most, w, more)
     counted (Err e) w more = omega (arith, g.most, w, more)
-
--- a walk behind the read that opens
-pub made_walked : (start before now faults failed : ℕ) (e : VerifyError) → Grew start before 1 → WalkCauses {A = Met} faults failed (Err e) → WalkReads {A = Met} before now (Err e) → HeaderReads start now (Err (Unsound e))
-made_walked start before now faults failed (verify.Opening e) g c r = absurd c
-made_walked start before now faults failed verify.Fault g c r = opened_once start before now g (omega (arith, r))
-made_walked start before now faults failed (verify.Short asked got) g c r = opened_once start before now g (omega (arith, r))
-made_walked start before now faults failed e g c r = opened_once start before now g r

@@ -1,5 +1,6 @@
 -- What metadata that was read, or couldn't be, says.
-use Rattle.tile_header_check.proofs.Common.{ap, Bool, Err, false, Header, IfSome, List, metadata_fault, metadata_read, MetadataAnswers, MetadataFault, MetadataTests, None, object_fault, Ok, Option, PmtError, read, refl, Result, Some, sym, true, ℕ, ◌∙◌, ◌≡◌}
+use Rattle.tile_header_check.proofs.Common.{ap, Bool, Err, false, FaultsStand, Header, if◌then◌else◌, IfSome, List, metadata_fault, metadata_read, MetadataAnswers, MetadataCauses, MetadataFault, MetadataTests, None, object_fault, Ok, Option, PmtError, read, refl, Result, Some, subst, sym}
+use Rattle.tile_header_check.proofs.Common.{StandsAtError, true, unread, VerifyError, WalkCauses, ℕ, ◌∙◌, ◌≡◌}
 use Rattle.pm_format.specs.declared.error.PmtError.TheVariants as errors
 use Rattle.pm_format.specs.declared.error.ReadCause.TheVariants as causes
 use Rattle.std.specs.Str.{IsUtf8, is_utf8}
@@ -29,10 +30,33 @@ pub told_text : (told : Option (List ℕ)) (h : Header) (text : List ℕ) (fault
 told_text None h text fault is a = tt
 told_text (Some b) h text fault is a = is ∙ sym (text_read (metadata_read b h) text a.0 a.1)
 
-pub told_no_text : (told : Option (List ℕ)) (h : Header) → IfSome told (λ b. MetadataAnswers (metadata_read b h) (Err errors.InvalidMetadataUtf8Encoding)) → IfSome told (λ b. MetadataTests (metadata_fault (metadata_read b h)) (Ok (Some NotUtf8)))
-told_no_text None h a = tt
-told_no_text (Some b) h a = sym (no_text (metadata_read b h) a.0 a.1 a.2)
+pub told_unread : (told : Option (List ℕ)) (h : Header) (e : PmtError) (r : Result (Option MetadataFault) VerifyError) → r ≡ unread e → IfSome told (λ b. MetadataAnswers (metadata_read b h) (Err e)) → IfSome told (λ b. MetadataTests (metadata_fault (metadata_read b h)) r)
+told_unread None h e r is a = tt
+told_unread (Some b) h e r is a = subst (λ x. MetadataTests (metadata_fault (metadata_read b h)) x) (sym is) (tests e a)
+  where
+    tests : (e : PmtError) → MetadataAnswers (metadata_read b h) (Err e) → MetadataTests (metadata_fault (metadata_read b h)) (unread e)
+    tests errors.InvalidMetadataUtf8Encoding a = sym (no_text (metadata_read b h) a.0 a.1 a.2)
+    tests (errors.Reading causes.PastEnd) a = sym (past_end (metadata_read b h) (errors.Reading causes.PastEnd) a)
+    tests (errors.Reading causes.Fault) a = tt
+    tests (errors.UnexpectedNumberOfBytesReturned asked got) a = absurd a
+    tests e a = tt
 
-pub told_past_end : (told : Option (List ℕ)) (h : Header) → IfSome told (λ b. MetadataAnswers (metadata_read b h) (Err (errors.Reading causes.PastEnd))) → IfSome told (λ b. MetadataTests (metadata_fault (metadata_read b h)) (Ok (Some PastEnd)))
-told_past_end None h a = tt
-told_past_end (Some b) h a = sym (past_end (metadata_read b h) (errors.Reading causes.PastEnd) a)
+pub unread_causes : (before now : ℕ) (e : PmtError) (r : Result (Option MetadataFault) VerifyError) → r ≡ unread e → MetadataCauses {A = List ℕ} before now (Err e) → WalkCauses before now r
+unread_causes before now e r is c = subst (λ x. WalkCauses before now x) (sym is) (causes_of e c)
+  where
+    causes_of : (e : PmtError) → MetadataCauses {A = List ℕ} before now (Err e) → WalkCauses before now (unread e)
+    causes_of errors.InvalidMetadataUtf8Encoding c = tt
+    causes_of (errors.Reading causes.PastEnd) c = tt
+    causes_of (errors.Reading causes.Fault) c = c
+    causes_of (errors.UnexpectedNumberOfBytesReturned asked got) c = c
+    causes_of e c = tt
+
+pub unread_still : (before now : ℕ) (e : PmtError) (r : Result (Option MetadataFault) VerifyError) → r ≡ unread e → StandsAtError before now e → FaultsStand before now r
+unread_still before now e r is s = subst (λ x. FaultsStand before now x) (sym is) (stands e s)
+  where
+    stands : (e : PmtError) → StandsAtError before now e → FaultsStand before now (unread e)
+    stands errors.InvalidMetadataUtf8Encoding s = s
+    stands (errors.Reading causes.PastEnd) s = s
+    stands (errors.Reading causes.Fault) s = tt
+    stands (errors.UnexpectedNumberOfBytesReturned asked got) s = s
+    stands e s = tt

@@ -1,5 +1,5 @@
 -- Contents that are clustered (PMTiles specification version 3, header).
-use Rattle.std.specs.Prelude.{◌≡◌, ◌≤◌, ◌<◌, ℕ, ◌+◌, Bool, true, false, cond, List, [], ◌∷◌, ◌++◌, length, get_or, nat_eq, if◌then◌else◌, Option, Some, None, refl}
+use Rattle.std.specs.Prelude.{◌≡◌, ◌≤◌, ◌<◌, ℕ, ◌+◌, Bool, true, false, List, [], ◌∷◌, ◌++◌, length, get_or, nat_eq, if◌then◌else◌, Option, Some, None, refl}
 use Rattle.std.specs.List.{list_any}
 use Rattle.tile_header_check.specs.Common.{capped}
 use Rattle.tile_header_check.specs.declared.fault.HeaderFault.{HeaderFault}
@@ -31,18 +31,14 @@ RiseTo end ns = ((i j : ℕ) → i ≤ j → j < length ns → get_or ns i 0 ≤
 
 -- what one more tile entry leaves of where they end and begin
 abbrev pub Lays : ℕ → List ℕ → ℕ × ℕ × ℕ → Bool → ℕ → List ℕ → Type 0
-Lays end begins part fits new_end new_begins = laid end begins part ≡ cond fits (Some (new_end, new_begins)) None
+Lays end begins part fits new_end new_begins = laid end begins part ≡ (if fits then Some (new_end, new_begins) else None)
 
 -- two contents of which the first is used again
 pub used_again : first_unlaid 0 0 [] ((0, 2, 1) ∷ (2, 3, 1) ∷ (0, 2, 1) ∷ (5, 1, 1) ∷ []) ≡ None
-unfolding first_unlaid
-
-unfolding laid
+unfolding first_unlaid laid
 used_again = refl
 
 -- a gap before the second
 pub gap : first_unlaid 0 0 [] ((0, 2, 1) ∷ (3, 3, 1) ∷ []) ≡ Some (Clustered 1 2 3)
-unfolding first_unlaid
-
-unfolding laid
+unfolding first_unlaid laid
 gap = refl

@@ -4,6 +4,8 @@ use Rattle.std.specs.Str.{is_utf8}
 use Rattle.tile_header_check.specs.Common.{array, boolean, Data, null, number, object, PmtError, read, string, VerifyError}
 use Rattle.tile_header_check.specs.declared.fault.MetadataFault.{MetadataFault}
 use Rattle.tile_header_check.specs.declared.fault.MetadataFault.TheVariants.{PastEnd, NotUtf8, NotJson, NotAnObject}
+use Rattle.pm_format.specs.declared.error.PmtError.TheVariants as errors
+use Rattle.pm_format.specs.declared.error.ReadCause.TheVariants as causes
 use Rattle.tile_verify.specs.declared.error.VerifyError.TheVariants as verify
 
 -- what keeps a value of JSON from being an object
@@ -20,6 +22,14 @@ object_fault (Some d) = shape_fault d
 unfoldable pub metadata_fault : Result (List ℕ) PmtError → Option MetadataFault
 metadata_fault (Err e) = Some PastEnd
 metadata_fault (Ok text) = if is_utf8 text then object_fault (read text) else Some NotUtf8
+
+-- what the refusal of metadata stands for; there is no other but want of memory
+abbrev pub unread : PmtError → Result (Option MetadataFault) VerifyError
+unread errors.InvalidMetadataUtf8Encoding = Ok (Some NotUtf8)
+unread (errors.Reading causes.PastEnd) = Ok (Some PastEnd)
+unread (errors.Reading causes.Fault) = Err verify.Fault
+unread (errors.UnexpectedNumberOfBytesReturned asked got) = Err (verify.Short asked got)
+unread e = Err verify.OutOfMemory
 
 -- Over told bytes: what is due is answered. A fault and want of memory may come in its place.
 abbrev pub MetadataTests : Option MetadataFault → Result (Option MetadataFault) VerifyError → Type 0

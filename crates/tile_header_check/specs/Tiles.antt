@@ -17,7 +17,7 @@ counts_fault h r =
     (miscount TileContents h.n_tile_contents r.contents))
 
 -- the zoom of an id
-abbrev pub zoom_of : ℕ → ℕ
+unfoldable pub zoom_of : ℕ → ℕ
 zoom_of id = zoom_up_to 31 id
 
 -- a zoom that isn't the one that was found, where there are tiles
@@ -38,4 +38,5 @@ unfolding miscount
 one_too_many = refl
 
 pub second_zoom : zoom_of 5 ≡ 2
+unfolding zoom_of
 second_zoom = refl

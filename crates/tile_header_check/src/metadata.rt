@@ -1,7 +1,7 @@
 // What a header says of metadata.
 ghost use Rattle.std.specs.Prelude.{◌≡◌, ◌≤◌, ◌+◌, IfOk, IfSome};
 ghost use Rattle.tile_header_check.specs.Common.{FaultsStand, header_of, metadata_read, read, ReadsOnly, view, WalkCauses};
-ghost use Rattle.tile_header_check.specs.Metadata.{MetadataTests, metadata_fault, object_fault, shape_fault};
+ghost use Rattle.tile_header_check.specs.Metadata.{MetadataTests, metadata_fault, object_fault, shape_fault, unread};
 
 use crate::MetadataFault;
 use base_values::OutOfMemory;
@@ -32,6 +32,21 @@ fn object_fault(alloc: Global, text: &str) -> Result<Option<MetadataFault>, OutO
     }
 }
 
+// What the refusal of metadata stands for: what is wrong with it, or why that isn't known.
+fn unread(error: PmtError) -> Result<Option<MetadataFault>, VerifyError>
+    ensures { result ≡ unread error }
+{
+    match error {
+        PmtError::InvalidMetadataUtf8Encoding => Ok(Some(MetadataFault::NotUtf8)),
+        PmtError::Reading(ReadCause::PastEnd) => Ok(Some(MetadataFault::PastEnd)),
+        PmtError::Reading(ReadCause::Fault) => Err(VerifyError::Fault),
+        PmtError::UnexpectedNumberOfBytesReturned(asked, got) => {
+            Err(VerifyError::Short { asked, got })
+        }
+        _ => Err(VerifyError::OutOfMemory),
+    }
+}
+
 /// What is wrong with the metadata of an archive that opened, if anything, by one read at most.
 pub(crate) fn metadata_fault<B: Backend>(
     alloc: Global,
@@ -51,13 +66,6 @@ pub(crate) fn metadata_fault<B: Backend>(
             Ok(fault) => Ok(fault),
             Err(_) => Err(VerifyError::OutOfMemory),
         },
-        Err(PmtError::InvalidMetadataUtf8Encoding) => Ok(Some(MetadataFault::NotUtf8)),
-        Err(PmtError::Reading(ReadCause::PastEnd)) => Ok(Some(MetadataFault::PastEnd)),
-        Err(PmtError::Reading(ReadCause::Fault)) => Err(VerifyError::Fault),
-        Err(PmtError::UnexpectedNumberOfBytesReturned(asked, got)) => {
-            Err(VerifyError::Short { asked, got })
-        }
-        Err(PmtError::OutOfMemory) => Err(VerifyError::OutOfMemory),
-        Err(_) => unreachable!(),
+        Err(error) => unread(error),
     }
 }

@@ -27,6 +27,7 @@ pub(crate) fn counts_fault(header: &Header, report: &VerifyReport) -> Option<Hea
     None
 }
 
+#[tactic(auto, unfolding(crate::specs::Tiles::zoom_of))]
 // The zoom of an id.
 fn zoom_of(id: u64) -> u8
     ensures { result ≡ zoom_of id }
