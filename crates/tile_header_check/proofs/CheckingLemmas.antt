@@ -1,7 +1,7 @@
 -- The check of a header, over bytes that may be told.
-use Rattle.tile_header_check.proofs.Common.{Answers, ap, arith, Err, Grew, header_fault, header_of, HeaderAnswers, HeaderError, HeaderFault, HeaderReads, IfSome, ids_of, IsMetOf, IsOpen, List, map, MeetsAll, Met, metadata_fault, metadata_read, MetadataFault}
-use Rattle.tile_header_check.proofs.Common.{MetadataTests, None, Ok, Opened, opened, option_map, option_or, Option, part_of, ReadsIn, reads_at_most, refl, report_by, report_of, Result, root_of, Rose, Some, Sound, subst, sym, tiles_fault, tiles_of, TilesTested, VerifyError, VerifyReport}
-use Rattle.tile_header_check.proofs.Common.{walk_of, WalkCauses, WalkReads, ℕ, ◌+◌, ◌∙◌, ◌≡◌, ◌≤◌}
+use Rattle.tile_header_check.proofs.Common.{ap, Err, header_fault, header_of, HeaderAnswers, HeaderError, HeaderFault, IfSome, ids_of, IsMetOf, IsOpen, List, map, MeetsAll, Met, metadata_fault, metadata_read, MetadataFault}
+use Rattle.tile_header_check.proofs.Common.{MetadataTests, None, Ok, Opened, opened, option_map, option_or, Option, part_of, report_by, report_of, root_of, Some, subst, sym, tiles_fault, tiles_of, TilesTested, VerifyReport}
+use Rattle.tile_header_check.proofs.Common.{ℕ, ◌∙◌, ◌≡◌}
 use Rattle.pm_reader.specs.declared.state.ReaderState.{ReaderState}
 use Rattle.tile_header_check.specs.declared.fault.HeaderError.TheVariants.{Unsound, Header as Said}
 use Rattle.tile_header_check.specs.declared.fault.HeaderFault.TheVariants.{Metadata}
@@ -73,38 +73,3 @@ pub told_right : (told last after : Option (List ℕ)) (s : ReaderState) (met : 
 told_right None last after s met r w t m = tt
 told_right (Some b) last after s met r w t m =
     let a = at_last b last after s met w in (sound b s met r a.0 a.1 t.0, at_any b (found s) None a.0 (tested b last after s met r None w t m))
-
--- metadata that can't be tested
-pub told_untested : (told last after : Option (List ℕ)) (s : ReaderState) (met : Met) (e : VerifyError) → IsWalked told last after s met
-    → IfSome after (λ c. MetadataTests (metadata_fault (metadata_read c (header_of s))) (Err e)) → IfSome told (λ b. HeaderAnswers b (Err (Unsound e)))
-told_untested None last after s met e w m = tt
-told_untested (Some b) last after s met verify.Fault w m = tt
-told_untested (Some b) last after s met verify.OutOfMemory w m = tt
-told_untested (Some b) last after s met e w m = absurd (subst (λ o. IfSome o (λ c. MetadataTests (metadata_fault (metadata_read c (header_of s))) (Err e))) (w.kept ∙ w.same) m)
-
--- a walk that is refused
-refused : (b : List ℕ) (s : ReaderState) (e : VerifyError) → opened b ≡ Ok (found s) → MeetsAll b (found s) (Err e) → HeaderAnswers b (Err (Unsound e))
-refused b s (verify.Broken at why n) opens m = (found s, opens, m.0, m.1)
-refused b s verify.Fault opens m = tt
-refused b s verify.OutOfMemory opens m = tt
-refused b s e opens m = absurd m
-
-pub told_refused : (told last : Option (List ℕ)) (s : ReaderState) (e : VerifyError) → last ≡ told → IsOpen last s → IfSome last (λ b. MeetsAll b (found s) (Err e)) → IfSome told (λ b. HeaderAnswers b (Err (Unsound e)))
-told_refused None last s e same opens m = tt
-told_refused (Some b) last s e same opens m = refused b s e (subst (λ a. IsOpen a s) same opens) (subst (λ a. IfSome a (λ c. MeetsAll c (found s) (Err e))) same m)
-
--- how often it reads: once more behind a walk that isn't refused, at most
-abbrev pub Ends : Result Met VerifyError → ℕ → ℕ → Type 0
-Ends (Ok m) then now = now ≤ then + 1
-Ends (Err e) then now = now ≡ then
-
-pub told_reads : (told last : Option (List ℕ)) (s : ReaderState) (r : Result Met VerifyError) (start before then now : ℕ) → last ≡ told → IsOpen last s → Grew start before 1
-    → IfSome last (λ b. ReadsIn {A = Met} (walk_of b (found s)) before then r) → Ends r then now → IfSome told (λ b. now ≤ start + reads_at_most b (opened b))
-told_reads None last s r start before then now same opens g w more = tt
-told_reads (Some b) last s r start before then now same opens g w more =
-    subst (λ o. now ≤ start + reads_at_most b o) (sym (subst (λ a. IsOpen a s) same opens))
-    (counted r (subst (λ a. IfSome a (λ c. ReadsIn {A = Met} (walk_of c (found s)) before then r)) same w) more)
-  where
-    counted : (r : Result Met VerifyError) → ReadsIn {A = Met} (walk_of b (found s)) before then r → Ends r then now → now ≤ start + (2 + (walk_of b (found s)).directories + (walk_of b (found s)).tiles)
-    counted (Ok m) w more = omega (arith, g.most, w, more)
-    counted (Err e) w more = omega (arith, g.most, w, more)

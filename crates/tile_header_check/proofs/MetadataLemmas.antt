@@ -1,6 +1,6 @@
 -- What metadata that was read, or couldn't be, says.
-use Rattle.tile_header_check.proofs.Common.{ap, Bool, Err, false, FaultsStand, Header, if◌then◌else◌, IfSome, List, metadata_fault, metadata_read, MetadataAnswers, MetadataCauses, MetadataFault, MetadataTests, None, object_fault, Ok, Option, PmtError, read, refl, Result, Some, subst, sym}
-use Rattle.tile_header_check.proofs.Common.{StandsAtError, true, unread, VerifyError, WalkCauses, ℕ, ◌∙◌, ◌≡◌}
+use Rattle.tile_header_check.proofs.Common.{ap, Bool, Err, false, Header, if◌then◌else◌, IfSome, List, metadata_fault, metadata_read, MetadataAnswers, MetadataFault, MetadataTests, None, object_fault, Ok, Option, PmtError, read, refl, Result, Some, subst, sym}
+use Rattle.tile_header_check.proofs.Common.{true, unread, VerifyError, ℕ, ◌∙◌, ◌≡◌}
 use Rattle.pm_format.specs.declared.error.PmtError.TheVariants as errors
 use Rattle.pm_format.specs.declared.error.ReadCause.TheVariants as causes
 use Rattle.std.specs.Str.{IsUtf8, is_utf8}
@@ -40,23 +40,3 @@ told_unread (Some b) h e r is a = subst (λ x. MetadataTests (metadata_fault (me
     tests (errors.Reading causes.Fault) a = tt
     tests (errors.UnexpectedNumberOfBytesReturned asked got) a = absurd a
     tests e a = tt
-
-pub unread_causes : (before now : ℕ) (e : PmtError) (r : Result (Option MetadataFault) VerifyError) → r ≡ unread e → MetadataCauses {A = List ℕ} before now (Err e) → WalkCauses before now r
-unread_causes before now e r is c = subst (λ x. WalkCauses before now x) (sym is) (causes_of e c)
-  where
-    causes_of : (e : PmtError) → MetadataCauses {A = List ℕ} before now (Err e) → WalkCauses before now (unread e)
-    causes_of errors.InvalidMetadataUtf8Encoding c = tt
-    causes_of (errors.Reading causes.PastEnd) c = tt
-    causes_of (errors.Reading causes.Fault) c = c
-    causes_of (errors.UnexpectedNumberOfBytesReturned asked got) c = c
-    causes_of e c = tt
-
-pub unread_still : (before now : ℕ) (e : PmtError) (r : Result (Option MetadataFault) VerifyError) → r ≡ unread e → StandsAtError before now e → FaultsStand before now r
-unread_still before now e r is s = subst (λ x. FaultsStand before now x) (sym is) (stands e s)
-  where
-    stands : (e : PmtError) → StandsAtError before now e → FaultsStand before now (unread e)
-    stands errors.InvalidMetadataUtf8Encoding s = s
-    stands (errors.Reading causes.PastEnd) s = s
-    stands (errors.Reading causes.Fault) s = tt
-    stands (errors.UnexpectedNumberOfBytesReturned asked got) s = s
-    stands e s = tt

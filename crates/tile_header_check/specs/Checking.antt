@@ -1,7 +1,7 @@
 -- What a check of a header answers, and why.
 use Rattle.std.specs.Prelude.{◌≡◌, ℕ, List, map, Option, Some, None, option_map, Result, Ok, Err}
 use Rattle.std.specs.Option.{option_or}
-use Rattle.tile_header_check.specs.Common.{Answers, Causes, Grew, Header, ids_of, Met, metadata_read, Opened, opened, part_of, report_by, report_of, Rose, Sound, StandsUnsound, tiles_of, VerifyError, VerifyReport}
+use Rattle.tile_header_check.specs.Common.{Answers, Causes, Grew, Header, ids_of, Met, metadata_read, Opened, opened, part_of, report_by, report_of, Rose, Sound, StandsUnsound, tiles_of, VerifyReport}
 use Rattle.tile_header_check.specs.Clustering.{clustered_fault}
 use Rattle.tile_header_check.specs.Metadata.{metadata_fault}
 use Rattle.tile_header_check.specs.Tiles.{counts_fault, zooms_fault}

@@ -8,7 +8,7 @@ pub use Rattle.pm_format.specs.declared.header.Header.{Header}
 pub use Rattle.pm_reader.specs.Metadata.{metadata_read}
 pub use Rattle.pm_reader.specs.Opening.{header_of}
 pub use Rattle.pm_reader.specs.Reads.{ReadsOnly}
-pub use Rattle.serde_json.specs.Data.{array, boolean, Data, null, number, object, string}
+pub use Rattle.serde_json.specs.Data.{Data, object}
 pub use Rattle.serde_json.specs.Read.{read}
 pub use Rattle.serde_json.specs.View.{view}
 pub use Rattle.tile_ids.specs.Hilbert.{zoom_up_to}

@@ -1,7 +1,7 @@
 -- What a header says of metadata: where an object of JSON is.
 use Rattle.std.specs.Prelude.{◌≡◌, ℕ, List, if◌then◌else◌, Option, Some, None, Result, Ok, Err}
 use Rattle.std.specs.Str.{is_utf8}
-use Rattle.tile_header_check.specs.Common.{array, boolean, Data, null, number, object, PmtError, read, string, VerifyError}
+use Rattle.tile_header_check.specs.Common.{Data, object, PmtError, read, VerifyError}
 use Rattle.tile_header_check.specs.declared.fault.MetadataFault.{MetadataFault}
 use Rattle.tile_header_check.specs.declared.fault.MetadataFault.TheVariants.{PastEnd, NotUtf8, NotJson, NotAnObject}
 use Rattle.pm_format.specs.declared.error.PmtError.TheVariants as errors

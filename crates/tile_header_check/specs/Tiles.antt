@@ -1,5 +1,5 @@
 -- What a header says of tiles: counts and zooms (PMTiles specification version 3, header).
-use Rattle.std.specs.Prelude.{ℕ, ◌||◌, nat_eq, if◌then◌else◌, Option, Some, None, option_map, ◌≡◌, refl}
+use Rattle.std.specs.Prelude.{ℕ, ◌||◌, nat_eq, if◌then◌else◌, Option, Some, None, ◌≡◌, refl}
 use Rattle.std.specs.Option.{option_or}
 use Rattle.tile_header_check.specs.Common.{Header, VerifyReport, zoom_up_to}
 use Rattle.tile_header_check.specs.declared.fault.HeaderFault.{HeaderFault}

@@ -1,4 +1,4 @@
-use Rattle.tile_header_check.proofs.Common.{get_or, length, List, list_any, nat_eq, subst, sym, ℕ, ◌<◌, ◌∙◌, ◌≡◌, ◌≤◌}
+use Rattle.tile_header_check.proofs.Common.{get_or, length, list_any, nat_eq, subst, sym, ℕ, ◌<◌, ◌∙◌, ◌≡◌, ◌≤◌}
 use Rattle.std.proofs.lemmas.List.Sorted.{searched}
 use Rattle.tile_header_check.proofs.ClusteringLemmas.{has_found}
 use Rattle.tile_header_check.proofs.clustering.Laid.has.Goals as goal
