@@ -28,7 +28,7 @@ returns-in-Err g t c =
     let x = told_stopped (g.B.Backend.told c.args.backend.now) (g.B.Backend.told c.loop-entry.backend) (header_of c.args.state.now) c.args.at c.args.left c.args.low c.args.limit c.entries-entries.result.now c.loop-entry.rest.now c.args.directory.now
     c.in-Some-split_first.entry.now c.in-Some-split_first.others.now c.args.met.now c.loop-entry.met c.meet.new.met c.args.met.now (g.B.Backend.reads c.args.backend.now) (g.B.Backend.reads c.loop-entry.backend) (g.B.Backend.reads c.meet.new.backend) _ c.meet.result c.in-Err.error
     i.3.told i.2 c.in-Some-split_first.ensures.cases.0 refl c.in-Err.is i.1 i.4 c.meet.ensures.answer c.meet.ensures.reads in
-    record { answer = x.0; causes = grind (arith, common_steps); still = subst (λ n. StandsUnsound n _ c.in-Err.error) i.6 c.in-Err.ensures.still; made = made_later _ _ _ c.in-Err.error c.loop-entry.invariant.5 c.in-Err.ensures.made; kept = reads_then _ _ _ _ _ _ _ i.3 c.meet.ensures.kept; reads = x.1 }
+    record { answer = x.0; causes = grind (arith, common_steps); still = subst (λ n. StandsUnsound n (g.B.Backend.faults c.meet.new.backend) c.in-Err.error) i.6 c.in-Err.ensures.still; made = made_later _ _ _ c.in-Err.error c.loop-entry.invariant.5 c.in-Err.ensures.made; kept = reads_then _ _ _ _ _ _ _ i.3 c.meet.ensures.kept; reads = x.1 }
 
 pub returns-in-Err-walk : goal.returns-in-Err-walk
 returns-in-Err-walk g t c =
@@ -53,7 +53,7 @@ returns-in-Err-walk g t c =
       walks = c.in-Err-walk.ensures.answer;
       more = c.in-Err-walk.ensures.reads;
     } in
-    record { answer = x.0; causes = grind (arith, common_steps); still = subst (λ n. StandsUnsound n _ c.in-Err-walk.error) (c.in-Ok-Some.ensures.still ∙ i.6) c.in-Err-walk.ensures.still; made = made_later _ _ _ c.in-Err-walk.error (omega (arith, c.loop-entry.invariant.5, c.in-Ok-Some.ensures.made)) c.in-Err-walk.ensures.made; kept = reads_then _ _ _ _ _ _ _ (reads_then _ _ _ _ _ _ _ i.3 c.meet.ensures.kept) c.walk.ensures.kept; reads = x.1 }
+    record { answer = x.0; causes = grind (arith, common_steps); still = subst (λ n. StandsUnsound n (g.B.Backend.faults c.walk.new.backend) c.in-Err-walk.error) (c.in-Ok-Some.ensures.still ∙ i.6) c.in-Err-walk.ensures.still; made = made_later _ _ _ c.in-Err-walk.error (omega (arith, c.loop-entry.invariant.5, c.in-Ok-Some.ensures.made)) c.in-Err-walk.ensures.made; kept = reads_then _ _ _ _ _ _ _ (reads_then _ _ _ _ _ _ _ i.3 c.meet.ensures.kept) c.walk.ensures.kept; reads = x.1 }
 
 pub returns : goal.returns
 returns g t c =
