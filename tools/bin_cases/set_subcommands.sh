@@ -1,7 +1,8 @@
 # Cases of tools/check_bin: the subcommands of bin/fatyngu that look into a set, check its hash or write its metadata.
 # What the set has is asked of sqlite3, or worked out by Python.
-# shellcheck disable=SC2034,SC2154
+# shellcheck disable=SC2034,SC2059,SC2154
 
+program=$here/crates/fatyngu_program/out/fatyngu_program
 
 fresh 'a set by its zooms, and its hash'
 run "$fatyngu" summary "$places"
@@ -168,4 +169,89 @@ status 1
 mkdir folder
 run "$fatyngu" verify folder
 [ "$got" != 0 ] || problem="$problem; a folder is verified"
+ends
+
+fresh 'an archive whose header is verified'
+# with_bytes FILE AT BYTES: a copy of the file, as other.pmtiles, with other bytes from a place on
+with_bytes() {
+    cp "$1" other.pmtiles
+    printf "$3" | dd of=other.pmtiles bs=1 seek="$2" conv=notrunc status=none
+}
+# right_header: the archive is sound, and its header says what is so
+right_header() {
+    run "$fatyngu" verify other.pmtiles
+    status 0
+    prints '^sound '
+    holds [ "$(wc -l <out)" = 1 ]
+    holds [ ! -s err ]
+}
+# wrong_header LINE: it is sound, and this is the first thing that its header says wrong
+wrong_header() {
+    run "$fatyngu" verify other.pmtiles
+    status 1
+    prints '^sound '
+    prints "^header $1\$"
+    holds [ "$(wc -l <out)" = 2 ]
+    says 'other.pmtiles: the header is wrong: '
+}
+"$fatyngu" convert "$places" made.pmtiles >/dev/null 2>&1
+cp made.pmtiles other.pmtiles
+right_header
+with_bytes made.pmtiles 72 '\113'
+wrong_header 'addressed tiles 75, found 74'
+with_bytes made.pmtiles 72 '\0'
+right_header
+with_bytes made.pmtiles 80 '\111'
+wrong_header 'tile entries 73, found 74'
+with_bytes made.pmtiles 88 '\1'
+wrong_header 'tile contents 1, found 74'
+with_bytes made.pmtiles 100 '\1'
+wrong_header 'min zoom 1, found 0'
+with_bytes made.pmtiles 101 '\26'
+wrong_header 'max zoom 22, found 4'
+with_bytes made.pmtiles 39 '\1'
+wrong_header 'metadata PastEnd'
+with_bytes made.pmtiles 16384 '['
+wrong_header 'metadata NotJson'
+with_bytes made.pmtiles 16384 '\377'
+wrong_header 'metadata NotUtf8'
+with_bytes made.pmtiles 32 '\2\0\0\0\0\0\0\0'
+printf '[]' | dd of=other.pmtiles bs=1 seek=16384 conv=notrunc status=none
+wrong_header 'metadata NotAnObject'
+# of several the first
+printf '\26' | dd of=other.pmtiles bs=1 seek=101 conv=notrunc status=none
+wrong_header 'max zoom 22, found 4'
+# the first of two contents behind the second, where the header says that they are clustered and where it doesn't
+with_bytes "$described" 134 '\3\1'
+wrong_header 'clustered, tile entry 0 at 2 and not at 0'
+printf '\0' | dd of=other.pmtiles bs=1 seek=96 conv=notrunc status=none
+right_header
+# a part says the zooms that were asked for
+rm other.pmtiles
+run "$fatyngu" extract made.pmtiles other.pmtiles 1/0/0
+wrong_header 'max zoom 30, found 4'
+rm other.pmtiles
+run "$fatyngu" extract made.pmtiles other.pmtiles 1/0/0 4
+right_header
+# one that isn't sound has no line of its header
+head -c 100 made.pmtiles >other.pmtiles
+run "$fatyngu" verify other.pmtiles
+status 1
+holds [ "$(cat out)" = 'opening InvalidHeader' ]
+run "$program" header other.pmtiles
+status 1
+holds [ "$(cat out)" = 'opening InvalidHeader' ]
+run "$program" header missing.pmtiles
+status 6
+run "$program" header made.pmtiles
+status 0
+holds [ ! -s out ]
+with_bytes made.pmtiles 101 '\26'
+run bash -c 'exec "$0" header other.pmtiles >/dev/full' "$program"
+status 5
+for words in header 'header a b' 'header a --b'; do
+    # shellcheck disable=SC2086
+    run "$program" $words
+    status 2
+done
 ends

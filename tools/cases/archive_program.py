@@ -31,6 +31,31 @@ def changed(data, at, piece):
     return data[:at] + piece + data[at + len(piece):]
 
 
+FIELDS = {'Clustered': ('entry', 'due', 'found')}
+LINES = {'AddressedTiles': 'header addressed tiles {}, found {}\n', 'TileEntries': 'header tile entries {}, found {}\n', 'TileContents': 'header tile contents {}, found {}\n',
+         'MinZoom': 'header min zoom {}, found {}\n', 'MaxZoom': 'header max zoom {}, found {}\n', 'Clustered': 'header clustered, tile entry {0} at {2} and not at {1}\n',
+         'Metadata': 'header metadata {}\n'}
+
+
+def said_of_header(numbers, fault):
+    """The result of a check of a header, and the line of what it says wrong, which is None where it is right."""
+    if fault is None:
+        return said_of_check(numbers, 0)[0], None
+    name, *cells = fault
+    fields = ', '.join(f'{n}: {c}' for n, c in zip(FIELDS.get(name, ('stated', 'found')), cells))
+    return f'Err(Header({name}' + (f'({cells[0]})' if name == 'Metadata' else f' {{ {fields} }}') + '))', LINES[name].format(*cells)
+
+
+def checked_header(data):
+    """What a check of a header answers, and its line."""
+    try:
+        return said_of_header(*verifiers.header_fault(data))
+    except pm.ArchiveRefused as refusal:
+        return f'Err(Unsound(Opening({refusal})))', None
+    except verifiers.Broken:
+        return f'Err(Unsound({checked(data)[0][4:-1]}))', None
+
+
 def said_of_check(found, leaves):
     """The result of a check, and its line."""
     line = ' '.join(map(str, found)) + '\n'
@@ -53,6 +78,10 @@ def checked(data):
 
 def check(data):
     row('verify report', checked(data)[0])
+
+
+def check_header(data):
+    row('verify header', checked_header(data)[0])
 
 
 def read_documents(data):
@@ -99,6 +128,7 @@ def archive(data, ids=(0, 1, 7), budgets=(0, 3)):
 
 def ask(data, ids, budgets):
     check(data)
+    check_header(data)
     try:
         readers.opened(data)
     except pm.ArchiveRefused as refusal:

@@ -4,7 +4,7 @@
 from cases import archive_program
 from cases import sample_archives
 from cases import serve_cases
-from cases.archive_program import hold, row, said_of_check
+from cases.archive_program import hold, row, said_of_check, said_of_header
 from cases.rows import answered, document, entry, listed, tile_word
 from models import extraction
 from models import pmtiles as pm
@@ -173,8 +173,17 @@ def checks(data):
     def run(reads):
         line = found(reads)[1]
         return [0 if line.startswith('sound') else 1, shown.text(line)]
+    def header(reads):
+        try:
+            reads.read()
+            return [said_of_header(*verifiers.header_fault(data, reads.read))[0]]
+        except Short as short:
+            return [f'Err(Unsound({short.named()}))']
+        except verifiers.Broken:
+            return [f'Err(Unsound({found(Reads(0, None, 0))[0][4:-1]}))']
     rows_of('verify report', lambda reads: found(reads)[:1])
     rows_of('verify run', run)
+    rows_of('verify header', header)
 
 
 def serves(data, limits, lines):

@@ -1,6 +1,11 @@
-# Archives that are checked: the numbers of a sound one, or the first broken part.
+# Archives that are checked: the numbers of a sound one, or the first broken part; and the first thing that the header
+# of a sound one says wrong.
+import json
+import math
+
 from models import pmtiles as pm
 from models import readers
+from models.shown import depth
 
 
 class Broken(Exception):
@@ -51,14 +56,85 @@ def check_directory(data, h, entries, place, low, limit, met, read):
         check_directory(data, h, below, (depth + 1, e[1]), e[0], entries[i + 1][0] if i + 1 < len(entries) else limit, met, read)
 
 
+def met_in(data, h, root, read, met):
+    """All that is met of a sound archive; else its first broken part is raised."""
+    check_directory(data, h, root, (0, 0), 0, pm.LAST + 1, met, read)
+    tiles = met['tiles']
+    return met['leaves'], sum(e[3] for e in tiles), len(tiles), len({e[1:3] for e in tiles})
+
+
 def check(data, read=lambda length: None):
     """The numbers of a sound archive, its refusal or its first broken part, and how many leaves were read. `read` is
     called before each read of a range, with its length: a tile's end is tested by a read of no bytes."""
     h, root = readers.opened(data)
     met = {'leaves': 0, 'tiles': []}
     try:
-        check_directory(data, h, root, (0, 0), 0, pm.LAST + 1, met, read)
+        return met_in(data, h, root, read, met), met['leaves']
     except Broken as broken:
         return broken.args, met['leaves']
+
+# Headers.
+
+
+def unclustered(tiles):
+    """The first tile entry whose contents neither begin where those before it end, from 0, nor where some of these
+    begin: its number, that end and its offset."""
+    end, begins = 0, set()
+    for number, (_, offset, length, _) in enumerate(tiles):
+        if offset == end:
+            begins.add(end)
+            end += length
+        elif offset not in begins:
+            return number, end, offset
+    return None
+
+
+def finite(digits):
+    """A number that a float holds."""
+    if math.isinf(float(digits)):
+        raise ValueError
+    return digits
+
+
+def shape_fault(text):
+    """Why a text is no object of JSON that nests at most 127 deep, in which each number is one that a float holds."""
+    try:
+        value = json.loads(text, parse_int=finite, parse_float=finite, parse_constant=lambda name: 1 // 0)
+        if depth(value) > 127:
+            return 'NotJson'
+    except (ValueError, ZeroDivisionError, RecursionError):
+        return 'NotJson'
+    return None if isinstance(value, dict) else 'NotAnObject'
+
+
+def metadata_fault(data, h, read):
+    read(h['metadata_length'])
+    try:
+        return shape_fault(readers.part(data, h['metadata_offset'], 0, h['metadata_length']).decode())
+    except UnicodeDecodeError:
+        return 'NotUtf8'
+    except pm.ArchiveRefused:
+        return 'PastEnd'
+
+
+def zoom_of(t):
+    return next(z for z in range(32) if t < pm.below(z + 1))
+
+
+def header_fault(data, read=lambda length: None):
+    """The numbers of a sound archive, and the first thing that its header says wrong: its name with what it states and
+    what was found, or None. `read` is called as by `check`, and then before the metadata is read."""
+    h, root = readers.opened(data)
+    met = {'leaves': 0, 'tiles': []}
+    numbers = met_in(data, h, root, read, met)
     tiles = met['tiles']
-    return (met['leaves'], sum(e[3] for e in tiles), len(tiles), len({e[1:3] for e in tiles})), met['leaves']
+    found = [(name, h[field], n) for name, field, n in zip(('AddressedTiles', 'TileEntries', 'TileContents'), ('addressed', 'entries', 'contents'), numbers[1:]) if h[field] not in (0, n)]
+    zooms = [zoom_of(t) for e in tiles for t in (e[0], e[0] + e[3] - 1)]
+    if tiles:
+        found += [(name, h[field], z) for name, field, z in (('MinZoom', 'min_zoom', min(zooms)), ('MaxZoom', 'max_zoom', max(zooms))) if h[field] != z]
+    if h['clustered'] == 1 and unclustered(tiles):
+        found.append(('Clustered', *unclustered(tiles)))
+    if found:
+        return numbers, found[0]
+    fault = metadata_fault(data, h, read)
+    return numbers, fault and ('Metadata', fault)

@@ -1,5 +1,5 @@
 //! Reads calls on archives from standard input, one a line, and prints each line with its answer: calls of pm_contents,
-//! pm_writer, pm_reader, tile_verify, tile_serve and tile_extract.
+//! pm_writer, pm_reader, tile_verify, tile_header_check, tile_serve and tile_extract.
 #![tactic(auto)]
 
 mod adds;

@@ -4,6 +4,7 @@ use pm_format::{Backend, MemMedium};
 use rows_shared::{Words, number, said, say, texts};
 use std::alloc::Global;
 use tile_hash::{HashAlgorithm, HashStream};
+use tile_header_check::{HeaderError, check_header, fault_line};
 use tile_verify::{VerifyOutcome, run_verify, verify, verify_line, verify_status};
 
 fn said_outcome(alloc: Global, out: &mut String, outcome: VerifyOutcome) -> Option<()> {
@@ -48,6 +49,14 @@ pub fn changes(alloc: Global, out: &mut String, bytes: &[u8], words: &mut Words)
     said(out, digest.finish(alloc).ok()?)
 }
 
+// The line of what the header says wrong, where that is all.
+fn fault<B: Backend>(alloc: Global, out: &mut String, backend: &mut B) -> Option<()> {
+    match check_header(alloc, backend) {
+        Err(HeaderError::Header(fault)) => said(out, fault_line(alloc, &fault).ok()?),
+        _ => None,
+    }
+}
+
 pub fn answer<B: Backend>(
     alloc: Global,
     out: &mut String,
@@ -56,6 +65,8 @@ pub fn answer<B: Backend>(
 ) -> Option<()> {
     match words.next()? {
         "report" => said(out, verify(alloc, backend)),
+        "header" => said(out, check_header(alloc, backend)),
+        "fault" => fault(alloc, out, backend),
         "run" => run(alloc, out, backend, words),
         _ => None,
     }

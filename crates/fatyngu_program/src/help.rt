@@ -134,6 +134,16 @@ metadata of IN, and the zooms of its boxes.
 --max-tiles N  how many tiles OUT may have, 10000000 where nothing is said
 ";
 
+const HEADER: &str = "usage: fatyngu_program header IN.pmtiles
+
+Tests what the header of an archive says, as fatyngu verify does behind
+tile_verify: how many ids have a tile, how many tile entries and how many
+different contents there are, where the header doesn't say 0; the least and the
+greatest zoom of the tiles; that contents lie in the order of ids, where it says
+so; and that the metadata is an object of JSON. Where all of it is so nothing is
+printed; else a line says what the header states, and what was found.
+";
+
 /// The text of a subcommand.
 pub fn help_of(subcommand: Subcommand) -> &'static str {
     match subcommand {
@@ -151,6 +161,7 @@ pub fn help_of(subcommand: Subcommand) -> &'static str {
         Subcommand::Pack => PACK,
         Subcommand::Unpack => UNPACK,
         Subcommand::Extract => EXTRACT,
+        Subcommand::Header => HEADER,
     }
 }
 

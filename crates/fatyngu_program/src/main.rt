@@ -2,6 +2,7 @@
 #![tactic(auto)]
 
 mod beside;
+mod checking;
 mod copying;
 mod editing;
 mod extracting;
@@ -32,6 +33,7 @@ summary SET           counts and sizes of a set's tiles, by zooms
 validate SET          tests a set and its hashes
 hash SET              the hash of all tiles
 serve FILE            answers requests for an archive's tiles, a line each
+header FILE           tests what an archive's header says
 meta get SET NAME     the text under a name of the metadata
 meta set SET NAME [VALUE]
 meta all SET          all names and their texts
@@ -80,6 +82,7 @@ fn run(rt: &HostRuntime, subcommand: Subcommand, asked: &Asked) -> u8 {
         Subcommand::MetaGet => looking::get(rt, asked.word(0), asked.word(1)),
         Subcommand::MetaAll => looking::all(rt, asked.word(0)),
         Subcommand::Serve => serving::serve(rt, asked),
+        Subcommand::Header => checking::check(rt, asked.word(0)),
         _ => run_making(rt, subcommand, asked),
     }
 }

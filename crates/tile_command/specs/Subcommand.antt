@@ -12,7 +12,8 @@ looking_of word =
     else (if bytes_eq word (codes "summary") then Some sub.Summary
     else (if bytes_eq word (codes "validate") then Some sub.Validate
     else (if bytes_eq word (codes "hash") then Some sub.Hash
-    else (if bytes_eq word (codes "serve") then Some sub.Serve else None)))))
+    else (if bytes_eq word (codes "serve") then Some sub.Serve
+    else (if bytes_eq word (codes "header") then Some sub.Header else None))))))
 
 abbrev pub making_of : List ℕ → Option Subcommand
 making_of word =
@@ -72,6 +73,7 @@ places sub.Summary = (1, 1)
 places sub.Validate = (1, 1)
 places sub.Hash = (1, 1)
 places sub.MetaAll = (1, 1)
+places sub.Header = (1, 1)
 places sub.MetaGet = (2, 2)
 places sub.Copy = (2, 2)
 places sub.Patch = (2, 2)

@@ -35,6 +35,8 @@ pub enum Subcommand {
     Serve,
     /// An archive of the tiles of boxes.
     Extract,
+    /// The tests of what an archive's header says.
+    Header,
 }
 
 // The subcommands that look at a file.
@@ -48,6 +50,7 @@ fn looking_of(word: &str) -> Option<Subcommand>
         "validate" => Some(Subcommand::Validate),
         "hash" => Some(Subcommand::Hash),
         "serve" => Some(Subcommand::Serve),
+        "header" => Some(Subcommand::Header),
         _ => None,
     }
 }
@@ -146,7 +149,8 @@ impl Subcommand {
             | Subcommand::Summary
             | Subcommand::Validate
             | Subcommand::Hash
-            | Subcommand::MetaAll => (1, 1),
+            | Subcommand::MetaAll
+            | Subcommand::Header => (1, 1),
             Subcommand::MetaGet
             | Subcommand::Copy
             | Subcommand::Patch

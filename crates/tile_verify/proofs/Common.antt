@@ -8,13 +8,13 @@ pub use Rattle.std.proofs.lemmas.List.{append-nil, append_assoc, get_or-map, len
 pub use Rattle.std.proofs.lemmas.Option.{none-some}
 pub use Rattle.std.specs.List.{dedup, dedup_from, list_any}
 pub use Rattle.tile_ids.specs.declared.id.TheConstants.{MAX_TILE_ID}
-pub use Rattle.tile_verify.specs.Checking.{Answers, ReadsMade}
+pub use Rattle.tile_verify.specs.Checking.{Answers, IsMetOf, MeetsAll, ReadsMade}
 pub use Rattle.tile_verify.specs.Common.{Entry, Grew, Header, header_of, leaf_of, Opened, PmtError, range_of, ReadsOnly, Rose, Sound}
 unfoldable pub use Rattle.tile_verify.specs.Common.{opened}
 pub use Rattle.tile_verify.specs.FirstBreak.{below, breaks, end_before, entry_break, entry_walk, falls, first_break, intact, leaf_read, leaf_walk, limits_break, one_deeper, overlaps, place, root_spot}
 pub use Rattle.tile_verify.specs.FirstBreak.{then_walk, tile_walk, two_turns, walk_each, walk_of, Walked}
 unfoldable pub use Rattle.tile_verify.specs.FirstBreak.{walked}
-pub use Rattle.tile_verify.specs.Tiles.{addressed_by, capped, counted, in_leaf, inside, part_of, range_cmp, range_of_part, report_by, report_of, run_of, same_range, tiles_at, tiles_of}
+pub use Rattle.tile_verify.specs.Tiles.{addressed_by, capped, counted, in_leaf, inside, part_of, range_cmp, range_of_part, report_by, report_of, run_of, same_range, tiles_at, tiles_of, with_run, with_runs}
 unfoldable pub use Rattle.tile_verify.specs.Tiles.{tiles_below}
 pub use Rattle.tile_verify.specs.Walking.{Adds, IsBreak, LeafRead, Meets, ReadsIn, WalkCauses, WalkReads, Walks}
 pub use Rattle.tile_verify.specs.declared.broken.Place.{Place}

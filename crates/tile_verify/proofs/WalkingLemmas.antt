@@ -2,7 +2,7 @@
 use Rattle.tile_verify.proofs.Common.{Adds, ap, append-nil, append_assoc, arith, below, breaks, Broken, capped, counted, end_before, Entry, entry_walk, Err, false, Fault, flat_map, Header, in_leaf}
 use Rattle.tile_verify.proofs.Common.{inside, intact, is_tile, IsBreak, leaf_of, leaf_read, leaf_walk, length, limits_break, List, map, map-append, Meets, Met, nat_eq, None, none-some, Ok, one_deeper}
 use Rattle.tile_verify.proofs.Common.{Option, OutOfMemory, part_of, Place, place, range_of, ReadsIn, Reason, refl, Some, Spot, subst, suc, sym, then_walk, tile_walk, tiles_at, tiles_below, true}
-use Rattle.tile_verify.proofs.Common.{two_turns, VerifyError, walk_each, Walked, walked, Walks, zero, ℕ, [], ◌++◌, ◌+◌, ◌-◌, ◌∙◌, ◌∷◌, ◌≡◌, ◌≤◌}
+use Rattle.tile_verify.proofs.Common.{two_turns, VerifyError, walk_each, Walked, walked, Walks, with_run, with_runs, zero, ℕ, [], ◌++◌, ◌+◌, ◌-◌, ◌∙◌, ◌∷◌, ◌≡◌, ◌≤◌}
 use Rattle.tile_verify.specs.FirstBreak as FirstBreak
 use Rattle.tile_verify.specs.declared.broken.Reason.TheVariants as reason
 use Rattle.tile_verify.proofs.MeetingLemmas.{leaf_met, tile_met}
@@ -77,10 +77,15 @@ broken_on w next whole d t old mid Fault is counts breaks = tt
 broken_on w next whole d t old mid OutOfMemory is counts breaks = tt
 broken_on w next whole d t old mid x is counts breaks = absurd breaks
 
+pub with_runs_append : (ids : Option (ℕ × ℕ)) (xs ys : List Entry) → with_runs ids (xs ++ ys) ≡ with_runs (with_runs ids xs) ys
+with_runs_append ids [] ys = refl
+with_runs_append ids (e ∷ es) ys = with_runs_append (with_run ids e) es ys
+
 pub adds_twice : (a b c : Met) (j k : ℕ) (xs ys : List Entry) → Adds a j xs b → Adds b k ys c → Adds a (j + k) (xs ++ ys) c
 adds_twice a b c j k xs ys v w = record {
   directories = w.directories ∙ ap (λ n. counted n k) v.directories ∙ counted_twice a.directories j k;
   tiles = w.tiles ∙ ap (λ l. l ++ map part_of ys) v.tiles ∙ append_assoc a.tiles.items (map part_of xs) (map part_of ys) ∙ ap (λ l. a.tiles.items ++ l) (sym (map-append part_of xs ys));
+  ids = w.ids ∙ ap (λ i. with_runs i ys) v.ids ∙ sym (with_runs_append a.ids xs ys);
 }
 
 -- a directory whose ids and runs are within their limits
@@ -115,7 +120,7 @@ begun h b at left limit es old before = record {
   seen = [];
   whole = (let p : 0 ≡ length es - length es = omega arith in ap (λ i. walk_each (entry_walk (below left h b) h b at) i limit es) p) ∙ after_none _;
   entries = refl;
-  adds = record { directories = refl; tiles = sym (append-nil old.tiles.items) };
+  adds = record { directories = refl; tiles = sym (append-nil old.tiles.items); ids = refl };
   taken = omega arith;
 }
 

@@ -1,14 +1,31 @@
 -- What a check answers, and why.
-use Rattle.std.specs.Prelude.{◌≡◌, ◌≢◌, ◌≤◌, ◌+◌, ◌-◌, ◌^◌, min, ℕ, List, Some, Result, Ok, Err}
+use Rattle.std.specs.Prelude.{◌≡◌, ◌≢◌, ◌≤◌, ◌+◌, ◌-◌, ◌^◌, map, min, None, ℕ, List, Some, Result, Ok, Err}
 use Rattle.tile_verify.specs.Common.{Grew, IsOpenRefusal, Opened, opened, PmtError, Rose, Sound}
 use Rattle.pm_format.specs.Faults.{StandsAtError}
 use Rattle.pm_format.specs.declared.error.PmtError.TheVariants as errors
 use Rattle.pm_format.specs.declared.error.ReadCause.TheVariants as causes
 use Rattle.tile_verify.specs.FirstBreak.{walk_of}
-use Rattle.tile_verify.specs.Tiles.{capped, report_of}
+use Rattle.tile_verify.specs.Tiles.{capped, ids_of, part_of, report_of, tiles_of}
 use Rattle.tile_verify.specs.declared.error.VerifyError.{VerifyError}
 use Rattle.tile_verify.specs.declared.error.VerifyError.TheVariants.{Opening, Broken, Fault, Short, OutOfMemory}
 use Rattle.tile_verify.specs.declared.report.VerifyReport.{VerifyReport}
+use Rattle.tile_verify.specs.declared.walk.Met.{Met}
+
+-- what a whole walk met: the leaves, the ranges and runs of the tile entries, and their least and greatest id
+pub record IsMetOf (b : List ℕ) (o : Opened) (met : Met) : Type 0 where
+  pub directories : met.directories ≡ capped (walk_of b o).directories
+  pub tiles : met.tiles.items ≡ map part_of (tiles_of b o)
+  pub ids : met.ids ≡ ids_of b o
+
+-- Over told bytes that open: no part is broken and all was met, or the first break is this one. A fault and want of
+-- memory may come in its place.
+abbrev pub MeetsAll : List ℕ → Opened → Result Met VerifyError → Type 0
+MeetsAll b o (Ok met) = ((walk_of b o).broken ≡ None) × IsMetOf b o met
+MeetsAll b o (Err (Opening e)) = ⊥
+MeetsAll b o (Err (Broken at why directories)) = ((walk_of b o).broken ≡ Some (at, why)) × (directories ≡ capped (walk_of b o).directories)
+MeetsAll b o (Err Fault) = Unit {0}
+MeetsAll b o (Err (Short asked got)) = ⊥
+MeetsAll b o (Err OutOfMemory) = Unit {0}
 
 -- Over told bytes: they are sound and the report is theirs, they don't open, or the first break is this one. A fault
 -- and want of memory may come in its place.

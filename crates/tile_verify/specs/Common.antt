@@ -7,5 +7,5 @@ unfoldable pub use Rattle.pm_format.specs.Opened.{opened}
 pub use Rattle.pm_format.specs.Sound.{Sound}
 pub use Rattle.pm_format.specs.declared.error.PmtError.{PmtError}
 pub use Rattle.pm_format.specs.declared.header.Header.{Header}
-pub use Rattle.pm_reader.specs.Opening.{header_of, IsOpenRefusal}
+pub use Rattle.pm_reader.specs.Opening.{header_of, IsOpenRefusal, root_of}
 pub use Rattle.pm_reader.specs.Reads.{ReadsOnly}

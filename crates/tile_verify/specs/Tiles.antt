@@ -1,5 +1,5 @@
 -- What a report counts: the tile entries of all directories, and their different ranges.
-use Rattle.std.specs.Prelude.{ℕ, zero, suc, ◌+◌, ◌^◌, ◌-◌, Bool, List, [], ◌∷◌, length, map, flat_map, sum_by, min, nat_eq, true, false, Option, None, Some, Result, Ok, Err}
+use Rattle.std.specs.Prelude.{ℕ, zero, suc, ◌+◌, ◌^◌, ◌-◌, Bool, List, [], ◌∷◌, length, map, flat_map, sum_by, max, min, nat_eq, true, false, Option, None, Some, Result, Ok, Err}
 use Rattle.std.specs.declared.cmp.Ordering.{Ordering}
 use Rattle.std.specs.Ordering.{eq_by_cmp, nat_cmp, ordering_then}
 use Rattle.std.specs.Set.{distinct_count}
@@ -48,6 +48,22 @@ capped n = min n (2 ^ 64 - 1)
 abbrev pub counted : ℕ → ℕ → ℕ
 counted n zero = n
 counted n (suc k) = capped (n + suc k)
+
+-- the last id of a run, and the least and the greatest id of runs
+abbrev pub last_id : Entry → ℕ
+last_id e = capped (e.tile_id + (e.run_length - 1))
+
+abbrev pub with_run : Option (ℕ × ℕ) → Entry → Option (ℕ × ℕ)
+with_run None e = Some (e.tile_id, last_id e)
+with_run (Some ids) e = Some (min ids.0 e.tile_id, max ids.1 (last_id e))
+
+abbrev pub with_runs : Option (ℕ × ℕ) → List Entry → Option (ℕ × ℕ)
+with_runs ids [] = ids
+with_runs ids (e ∷ es) = with_runs (with_run ids e) es
+
+-- those of all tiles of an archive, where it has one
+abbrev pub ids_of : List ℕ → Opened → Option (ℕ × ℕ)
+ids_of b o = with_runs None (tiles_of b o)
 
 -- a part's run, and its range
 abbrev pub run_of : ℕ × ℕ × ℕ → ℕ

@@ -2,7 +2,7 @@
 use Rattle.std.specs.Prelude.{◌≡◌, ◌≢◌, ◌+◌, ◌≤◌, ℕ, List, [], ◌∷◌, ◌++◌, map, Option, None, Some, Result, Ok, Err}
 use Rattle.tile_verify.specs.Common.{Entry, Header, leaf_of, Rose}
 use Rattle.tile_verify.specs.FirstBreak.{Walked, below, entry_walk, leaf_walk, place, tile_walk}
-use Rattle.tile_verify.specs.Tiles.{counted, part_of}
+use Rattle.tile_verify.specs.Tiles.{counted, part_of, with_runs}
 use Rattle.tile_verify.specs.declared.error.VerifyError.{VerifyError}
 use Rattle.tile_verify.specs.declared.error.VerifyError.TheVariants.{Opening, Broken, Fault, Short, OutOfMemory}
 use Rattle.tile_verify.specs.declared.walk.Met.{Met}
@@ -12,6 +12,7 @@ use Rattle.tile_verify.specs.declared.walk.Spot.{Spot}
 pub record Adds (old : Met) (leaves : ℕ) (es : List Entry) (new : Met) : Type 0 where
   pub directories : new.directories ≡ counted old.directories leaves
   pub tiles : new.tiles.items ≡ old.tiles.items ++ map part_of es
+  pub ids : new.ids ≡ with_runs old.ids es
 
 -- the break of a walk, and the leaves that were read until then
 abbrev pub IsBreak : Walked → ℕ → Result Unit VerifyError → Type 0

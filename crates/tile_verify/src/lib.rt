@@ -13,9 +13,10 @@ mod top_call;
 mod walk;
 
 pub use broken::{Place, Reason};
-pub use checking::verify;
+pub use checking::{verify, walk_all};
 pub use error::VerifyError;
 pub use outcome::VerifyOutcome;
 pub use outcome_text::{verify_line, verify_status};
 pub use report::VerifyReport;
 pub use top_call::run_verify;
+pub use walk::Met;

@@ -20,12 +20,13 @@ pub struct VerifyReport {
 
 impl Met {
     /// The report of all that was met.
-    pub(crate) fn report(self) -> VerifyReport
+    pub fn report(self) -> VerifyReport
         ensures { result ≡ report_by self.directories self.tiles.items }
     {
         let Met {
             directories,
             mut tiles,
+            ids: _,
         } = self;
         let addressed = addressed(&tiles);
         let entries = tiles.len() as u64;

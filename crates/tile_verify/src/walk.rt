@@ -1,8 +1,8 @@
 // The walk along all directories of an archive, each read once.
-ghost use Rattle.std.specs.Prelude.{◌≡◌, ◌≢◌, ◌<◌, ◌+◌, ◌≤◌, [], ◌∷◌, length, IfSome, IfOk, IfErr, OnOk};
+ghost use Rattle.std.specs.Prelude.{◌≡◌, ◌≢◌, ◌<◌, ◌+◌, ◌≤◌, [], ◌∷◌, None, Some, length, IfSome, IfOk, IfErr, OnOk};
 ghost use Rattle.tile_verify.specs.Common.{header_of, ReadsOnly};
 ghost use Rattle.tile_verify.specs.FirstBreak.{end_before, place, walked};
-ghost use Rattle.tile_verify.specs.Tiles.{tiles_below};
+ghost use Rattle.tile_verify.specs.Tiles.{tiles_below, with_run};
 ghost use Rattle.tile_verify.specs.Walking.{Adds, LeafRead, Meets, ReadsIn, TileRead, WalkCauses, WalkReads, Walks};
 ghost use Rattle.tile_verify.specs.Checking.{FaultsStand};
 
@@ -20,21 +20,38 @@ pub(crate) struct Spot {
     pub offset: u64,
 }
 
-/// What a walk met so far: how many leaves it read, and the offset, length and run of each tile entry.
+/// What a walk along the directories of an archive met so far.
 #[derive(Drop)]
-pub(crate) struct Met {
+pub struct Met {
+    /// How many leaves it read; past `u64::MAX` it is `u64::MAX`.
     pub directories: u64,
+    /// The offset, length and run of each tile entry, in the order of the walk.
     pub tiles: Vec<(u64, u32, u32)>,
+    /// The least and the greatest id of a tile, where there is one; past `u64::MAX` it is `u64::MAX`.
+    pub ids: Option<(u64, u64)>,
+}
+
+// The least and the greatest id of tiles, with those of one more run.
+fn with_run(ids: Option<(u64, u64)>, entry: DirEntry) -> (u64, u64)
+    ensures { with_run ids entry ≡ Some result }
+{
+    let first = entry.tile_id();
+    let last = first.saturating_add(u64::from(entry.run_length().saturating_sub(1)));
+    match ids {
+        Some((least, greatest)) => (least.min(first), greatest.max(last)),
+        None => (first, last),
+    }
 }
 
 impl Met {
     /// Nothing was met yet.
     pub(crate) fn new(alloc: Global) -> Met
-        ensures { (result.directories ≡ 0) × (result.tiles.items ≡ []) }
+        ensures { (result.directories ≡ 0) × (result.tiles.items ≡ []) × (result.ids ≡ None) }
     {
         Met {
             directories: 0,
             tiles: Vec::new(alloc),
+            ids: None,
         }
     }
 
@@ -68,6 +85,7 @@ impl Met {
     {
         self.tiles
             .push((entry.offset(), entry.length(), entry.run_length()))?;
+        self.ids = Some(with_run(self.ids, entry));
         Ok(())
     }
 }

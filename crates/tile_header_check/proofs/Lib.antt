@@ -1,0 +1,4 @@
+mod Common
+pub mod ClusteringLemmas
+pub mod MetadataLemmas
+pub mod CheckingLemmas
